@@ -1,0 +1,5 @@
+pub mod Order
+pub mod Stamp
+pub mod Clock
+pub mod Moment
+pub mod StampOrder

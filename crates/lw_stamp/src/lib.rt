@@ -1,0 +1,19 @@
+//! Stamps, the clock that issues them, and moments: what every crate above counts and orders by.
+//!
+//! A stamp names an operation. Its eight bytes are the CoAP token of an observation, and their hex
+//! text is the identifier of a registration.
+#![tactic(auto)]
+
+mod clock;
+pub mod laws;
+mod moment;
+mod no_memory;
+mod stamp;
+
+pub use clock::Clock;
+pub use moment::Moment;
+pub use no_memory::NoMemory;
+pub use stamp::Stamp;
+
+#[cfg(test)]
+mod tests;
