@@ -1,0 +1,6 @@
+pub mod Message
+pub mod Grammar
+pub mod Faults
+pub mod Fits
+pub mod Number
+pub mod Header

@@ -1,0 +1,11 @@
+//! CoAP messages as bytes (RFC 7252, section 3): `decode` and `encode`, by one grammar.
+//!
+//! Each message that fits has one spelling, and bytes that spell none have one first fault. `decode`
+//! walks the grammar whole before it takes any memory, so a fault never depends on memory.
+#![tactic(auto)]
+
+mod fault;
+mod message;
+
+pub use fault::Fault;
+pub use message::{CoapOption, Kind, Message};
