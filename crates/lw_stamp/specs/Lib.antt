@@ -1,4 +1,5 @@
 pub mod Order
+pub mod StampBytes
 pub mod Stamp
 pub mod Clock
 pub mod Moment

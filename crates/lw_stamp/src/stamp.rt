@@ -1,4 +1,6 @@
-ghost use Rattle.std.specs.Prelude.{◌≡◌, ◌≤◌, ◌<◌, ◌^◌, ◌↔◌, IsNone, Some};
+ghost use Rattle.std.specs.Prelude.{◌≡◌, ◌≤◌, ◌<◌, ◌^◌, ◌↔◌, IsNone, Some, take, drop};
+ghost use Rattle.std.specs.Int.{w16, w64, to_be_bytes};
+ghost use Rattle.lw_stamp.specs.StampBytes.{counter_in, node_in};
 
 use hex::FromHex;
 
@@ -9,11 +11,11 @@ use hex::FromHex;
 pub struct Stamp {
     pub counter: u64,
     pub node: u16,
-    pub ghost in_range: { (1 ≤ counter) × (counter < 2 ^ 48) },
+    pub ghost in_range: { (1 ≤ counter) × (counter < 2 ^ 48) × (node < 2 ^ 16) },
 }
 
 impl Stamp {
-    ghost use Rattle.lw_stamp.specs.Stamp.{stamp_bytes, counter_in, id_of};
+    ghost use Rattle.lw_stamp.specs.Stamp.{stamp_bytes, id_of};
 
     /// The token: six bytes of counter and two of node, big-endian.
     pub fn to_bytes(&self) -> [u8; 8]
@@ -29,12 +31,11 @@ impl Stamp {
         ensures some { (s : Stamp) → (result ≡ Some s) ↔ (stamp_bytes s ≡ bytes) }
         ensures none { IsNone result ↔ (counter_in bytes ≡ 0) }
     {
-        let [c0, c1, c2, c3, c4, c5, n0, n1] = bytes;
-        let counter = u64::from_be_bytes([0, 0, c0, c1, c2, c3, c4, c5]);
+        let counter = counter_of(&bytes);
         if counter == 0 {
             return None;
         }
-        let node = u16::from_be_bytes([n0, n1]);
+        let node = node_of(&bytes);
         Some(Stamp { counter, node })
     }
 
@@ -59,4 +60,21 @@ impl Stamp {
             None
         }
     }
+}
+
+fn counter_of(bytes: &[u8; 8]) -> u64
+    ensures value { result ≡ counter_in bytes.now }
+    ensures in_range { result < 2 ^ 48 }
+    ensures same { drop 2 (to_be_bytes w64 result) ≡ take 6 bytes.now }
+{
+    let [c0, c1, c2, c3, c4, c5, _, _] = *bytes;
+    u64::from_be_bytes([0, 0, c0, c1, c2, c3, c4, c5])
+}
+
+fn node_of(bytes: &[u8; 8]) -> u16
+    ensures value { result ≡ node_in bytes.now }
+    ensures same { to_be_bytes w16 result ≡ drop 6 bytes.now }
+{
+    let [_, _, _, _, _, _, n0, n1] = *bytes;
+    u16::from_be_bytes([n0, n1])
 }
