@@ -1,6 +1,9 @@
 -- Stamps, their bytes and their identifiers, forth and back.
 use Rattle.std.proofs.Common.{◌≡◌, ℕ, zero, suc, ◌+◌, ◌*◌, ◌/◌, ◌%◌, ◌^◌, ◌<◌, ◌≤◌, ◌↔◌, List, [], ◌∷◌, ◌++◌, length, get_or, take, drop, Option, Some, None, Result, Ok, Err, refl, sym, ap, subst, ◌∙◌, arith}
 use Rattle.std.specs.Int.{w16, w64, to_be_bytes, from_be_bytes}
+use Rattle.std.specs.Prelude.{Bool, true, false, nat_eq}
+use Rattle.std.specs.Result.{result_ok}
+use Rattle.std.specs.Cmp.Lexicographic.{pointwise}
 use Rattle.std.specs.Coded.{×_prop, le_prop}
 use Rattle.std.specs.Ordering.{nat_cmp, ordering_then}
 use Rattle.std.specs.Cmp.{nat_cmp_total}
@@ -9,6 +12,8 @@ use Rattle.std.proofs.lemmas.Map.Lookups.{exact_pairs, exact_unsigned}
 use Rattle.std.proofs.lemmas.List.{take-append-drop}
 use Rattle.std.proofs.lemmas.Nat.{be_bytes_2, be_bytes_8, from_be_bytes-to_be_bytes_2, from_be_bytes-to_be_bytes_8}
 use mathlib.Core.HLevel.{is_prop→PathP}
+use Rattle.std.proofs.lemmas.Slice.Eq.{bytes_eq-Decides}
+use Rattle.hex.specs.declared.error.FromHexError.{FromHexError}
 use Rattle.hex.specs.Hex.{encode_lower, decode_sized, IsBytes}
 use Rattle.hex.proofs.HexLemmas.{decode_sized-encode_lower}
 use Rattle.lw_stamp.specs.declared.stamp.Stamp.{Stamp}
@@ -21,6 +26,9 @@ use Rattle.lw_stamp.specs.StampOrder.{stamp_cmp}
 pub same_stamp : (a b : Stamp) → a.counter ≡ b.counter → a.node ≡ b.node → a ≡ b
 same_stamp a b h k =
     λ i. record { counter = h i; node = k i; in_range = is_prop→PathP (λ i. (1 ≤ h i) × (h i < 2 ^ 48) × (k i < 2 ^ 16)) (λ i. hlevel (×_prop, le_prop)) a.in_range b.in_range i }
+
+abbrev pub no_stamp : Option Stamp
+no_stamp = None
 
 abbrev pub some_stamp : Stamp → Option Stamp
 some_stamp s = Some s
@@ -92,5 +100,41 @@ fits_stamp s (suc (suc (suc (suc (suc (suc (suc (suc i)))))))) = omega arith
 pub id_decodes : (s : Stamp) → decode_sized (id_of s) 8 ≡ Ok (stamp_bytes s)
 id_decodes s = decode_sized-encode_lower (stamp_bytes s) 8 refl (fits_stamp s)
 
-no_stamp : Option Stamp
-no_stamp = None
+-- what decoding a text into eight bytes gives, where the text is the identifier of a stamp
+pub decoded : (text : List ℕ) (d : Result (List ℕ) FromHexError) (o : Option (List ℕ)) → d ≡ decode_sized text 8 → o ≡ result_ok d
+    → (s : Stamp) → text ≡ id_of s → o ≡ Some (stamp_bytes s)
+decoded text d o h k s e = k ∙ ap result_ok (h ∙ ap (λ (t : List ℕ). decode_sized t 8) e ∙ id_decodes s)
+
+-- a text that does not decode is no identifier
+pub not_decoded : (text : List ℕ) (d : Result (List ℕ) FromHexError) (o : Option (List ℕ)) (r : Option Stamp) → d ≡ decode_sized text 8 → o ≡ result_ok d
+    → o ≡ None → r ≡ None → (s : Stamp) → (r ≡ Some s) ↔ (text ≡ id_of s)
+not_decoded text d o r h k none refused s = (λ e. absurd cc, λ e. let some = decoded text d o h k s e in absurd cc)
+
+-- the stamp of the bytes that an identifier decodes to is its own
+pub read_back : (text bytes : List ℕ) (d : Result (List ℕ) FromHexError) (o : Option (List ℕ)) (r : Option Stamp) → d ≡ decode_sized text 8 → o ≡ result_ok d
+    → o ≡ Some bytes → ((s : Stamp) → (r ≡ Some s) ↔ (stamp_bytes s ≡ bytes)) → (s : Stamp) → text ≡ id_of s → r ≡ Some s
+read_back text bytes d o r h k was found s e = (found s).1 (let some = decoded text d o h k s e in cc)
+
+pub not_found : (text bytes : List ℕ) (d : Result (List ℕ) FromHexError) (o : Option (List ℕ)) (r q : Option Stamp) → d ≡ decode_sized text 8 → o ≡ result_ok d
+    → o ≡ Some bytes → ((s : Stamp) → (r ≡ Some s) ↔ (stamp_bytes s ≡ bytes)) → r ≡ None → q ≡ None → (s : Stamp) → (q ≡ Some s) ↔ (text ≡ id_of s)
+not_found text bytes d o r q h k was found none refused s =
+    (λ e. absurd cc, λ e. let some = read_back text bytes d o r h k was found s e in absurd cc)
+
+pub same_text : (text bytes : List ℕ) (d : Result (List ℕ) FromHexError) (o : Option (List ℕ)) (r : Option Stamp) (t : Stamp) → d ≡ decode_sized text 8 → o ≡ result_ok d
+    → o ≡ Some bytes → ((s : Stamp) → (r ≡ Some s) ↔ (stamp_bytes s ≡ bytes)) → r ≡ Some t → text ≡ id_of t
+    → (s : Stamp) → (some_stamp t ≡ some_stamp s) ↔ (text ≡ id_of s)
+same_text text bytes d o r t h k was found some same s =
+    (λ e. same ∙ ap id_of (some_is t s e), λ e. sym some ∙ read_back text bytes d o r h k was found s e)
+
+pub other_text : (text bytes : List ℕ) (d : Result (List ℕ) FromHexError) (o : Option (List ℕ)) (r : Option Stamp) (t : Stamp) → d ≡ decode_sized text 8 → o ≡ result_ok d
+    → o ≡ Some bytes → ((s : Stamp) → (r ≡ Some s) ↔ (stamp_bytes s ≡ bytes)) → r ≡ Some t → (text ≡ id_of t → ⊥)
+    → (s : Stamp) → (no_stamp ≡ some_stamp s) ↔ (text ≡ id_of s)
+other_text text bytes d o r t h k was found some other s =
+    (λ e. absurd cc, λ e. absurd (other (e ∙ ap id_of (some_is s t (sym (read_back text bytes d o r h k was found s e) ∙ some)))))
+
+-- texts that `==` tells apart differ, and texts that it does not are one
+pub texts_alike : (a b : List ℕ) (r : Bool) → r ≡ pointwise nat_eq a b → r ≡ true → a ≡ b
+texts_alike a b r h e = (bytes_eq-Decides a b).0 (sym h ∙ e)
+
+pub texts_differ : (a b : List ℕ) (r : Bool) → r ≡ pointwise nat_eq a b → r ≡ false → a ≡ b → ⊥
+texts_differ a b r h e same = let alike = (bytes_eq-Decides a b).1 same in cc
