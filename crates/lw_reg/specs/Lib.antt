@@ -1,4 +1,6 @@
 pub mod Addr
+pub mod AddrReading
+pub mod Orders
 pub mod BindingText
 pub mod Binding
 pub mod Version

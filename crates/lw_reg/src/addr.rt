@@ -20,10 +20,7 @@ impl Addr {
         ensures found { IfSome result (λ a. text.now ≡ text_of a) }
         ensures only { (a : Addrs) → IsAddr a → text.now ≡ text_of a → result ≡ Some a }
     {
-        match text.strip_prefix('[') {
-            Some(rest) => addr_text::v6(rest),
-            None => addr_text::v4(text),
-        }
+        addr_text::read(text)
     }
 
     /// `a.b.c.d:port` in decimal, or `[g:g:g:g:g:g:g:g]:port` with groups of four lower-case hex digits.

@@ -1,0 +1,62 @@
+-- The orders of what a registration shows.
+use Rattle.std.specs.Prelude.{ℕ, List}
+use Rattle.std.specs.declared.cmp.Ordering.{Ordering}
+use Rattle.std.specs.Cmp.Lexicographic.{slice_cmp}
+use Rattle.std.specs.Ordering.{nat_cmp, ordering_then}
+use Rattle.lw_reg.specs.declared.addr.Addr.{Addr}
+use Rattle.lw_reg.specs.declared.addr.Addr.TheVariants.{V4, V6}
+use Rattle.lw_reg.specs.declared.binding.Binding.{Binding}
+use Rattle.lw_reg.specs.declared.version.Version.{Version}
+use Rattle.lw_reg.specs.declared.version.Version.TheVariants.{V10, V11}
+use Rattle.lw_reg.specs.Binding.{binding_text}
+use Rattle.lw_reg.specs.contracts.addr.AddrOrd.TheImpl as addrs
+use Rattle.lw_reg.specs.contracts.binding.BindingOrd.TheImpl as bindings
+use Rattle.lw_reg.specs.contracts.text.TextOrd.TheImpl as texts
+use Rattle.lw_reg.specs.contracts.version.VersionOrd.TheImpl as versions
+
+-- 4 or 6
+abbrev pub family : Addr → ℕ
+family (V4 address port) = 4
+family (V6 address port) = 6
+
+abbrev pub bytes_of : Addr → List ℕ
+bytes_of (V4 address port) = address
+bytes_of (V6 address port) = address
+
+abbrev pub port_of : Addr → ℕ
+port_of (V4 address port) = port
+port_of (V6 address port) = port
+
+-- addresses: by family, then bytes, then port
+abbrev pub addr_cmp : Addr → Addr → Ordering
+addr_cmp a b = ordering_then (nat_cmp (family a) (family b)) (ordering_then (slice_cmp nat_cmp (bytes_of a) (bytes_of b)) (nat_cmp (port_of a) (port_of b)))
+
+-- texts: by their bytes
+abbrev pub text_cmp : List ℕ → List ℕ → Ordering
+text_cmp = slice_cmp nat_cmp
+
+-- bindings: by their texts
+abbrev pub binding_cmp : Binding → Binding → Ordering
+binding_cmp a b = text_cmp (binding_text a) (binding_text b)
+
+-- the number behind the dot
+abbrev pub minor : Version → ℕ
+minor V10 = 0
+minor V11 = 1
+
+-- versions: 1.0 below 1.1
+abbrev pub version_cmp : Version → Version → Ordering
+version_cmp a b = nat_cmp (minor a) (minor b)
+
+-- what each `cmp` gives
+abbrev pub derived_addr_cmp : Addr → Addr → Ordering
+derived_addr_cmp = (addrs.ghosts).cmp
+
+abbrev pub derived_binding_cmp : Binding → Binding → Ordering
+derived_binding_cmp = (bindings.ghosts).cmp
+
+abbrev pub given_text_cmp : List ℕ → List ℕ → Ordering
+given_text_cmp = (texts.ghosts).cmp
+
+abbrev pub derived_version_cmp : Version → Version → Ordering
+derived_version_cmp = (versions.ghosts).cmp
