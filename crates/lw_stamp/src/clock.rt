@@ -54,6 +54,10 @@ impl Clock {
 }
 
 impl Default for Clock {
+    ghost use Rattle.lw_stamp.specs.Clock.{counter_of};
+
+    ghost is_default = { λ clock. counter_of clock ≡ 0 };
+
     fn default() -> Clock {
         Clock::new()
     }

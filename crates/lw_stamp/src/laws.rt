@@ -9,5 +9,4 @@ ghost use Rattle.lw_stamp.specs.StampOrder.{stamp_cmp, derived_cmp};
 pub fn stamps_are_ordered()
     ensures by_parts { (a b : Stamp) → derived_cmp a b ≡ stamp_cmp a b }
     ensures total { IsExactOrder stamp_cmp }
-{
-}
+{}

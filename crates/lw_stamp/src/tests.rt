@@ -1,1 +1,119 @@
 use super::*;
+use std::alloc::AllocError;
+
+const LAST: u64 = (1 << 48) - 1;
+
+#[test]
+fn stamps_bytes_and_identifiers(rt: HostRuntime) {
+    let stamps: [([u8; 8], &[u8], Stamp); 3] = [
+        (
+            [0, 0, 0, 0, 0, 1, 0, 1],
+            b"0000000000010001",
+            Stamp {
+                counter: 1,
+                node: 1,
+            },
+        ),
+        (
+            [0, 0, 0, 0, 0, 2, 0, 1],
+            b"0000000000020001",
+            Stamp {
+                counter: 2,
+                node: 1,
+            },
+        ),
+        (
+            [0xff, 0xff, 0xff, 0xff, 0xff, 0xff, 0, 1],
+            b"ffffffffffff0001",
+            Stamp {
+                counter: LAST,
+                node: 1,
+            },
+        ),
+    ];
+    for (bytes, id, stamp) in stamps {
+        assert_eq!(rt; stamp.to_bytes(), bytes);
+        assert_eq!(rt; Stamp::from_bytes(bytes), Some(stamp));
+        assert_eq!(rt; stamp.id_text().as_slice(), id);
+        assert_eq!(rt; Stamp::read_id(id), Some(stamp));
+    }
+    assert_eq!(rt; Stamp::from_bytes([0, 0, 0, 0, 0, 0, 0, 1]), None);
+}
+
+#[test]
+fn texts_that_are_no_identifiers(rt: HostRuntime) {
+    let texts: [&[u8]; 7] = [
+        b"",
+        b"000000000001000",
+        b"00000000000100010",
+        b"FFFFFFFFFFFF0001",
+        b"000000000001000g",
+        b"0000000000000001",
+        b"0000000000 10001",
+    ];
+    for text in texts {
+        assert_eq!(rt; Stamp::read_id(text), None, "at {text:?}");
+    }
+}
+
+#[test]
+fn the_counter_comes_before_the_node(rt: HostRuntime) {
+    let early = Stamp {
+        counter: 1,
+        node: 9,
+    };
+    let late = Stamp {
+        counter: 2,
+        node: 1,
+    };
+    let later = Stamp {
+        counter: 2,
+        node: 2,
+    };
+    assert!(rt; early < late);
+    assert!(rt; late < later);
+    laws::stamps_are_ordered();
+}
+
+#[test]
+fn clocks_count_up(rt: HostRuntime) {
+    let mut clock = Clock::new();
+    assert_eq!(rt; clock, Clock::default());
+    assert_eq!(rt; clock.counter(), 0);
+    assert_eq!(rt;
+        clock.next(7),
+        Some(Stamp {
+            counter: 1,
+            node: 7
+        })
+    );
+    clock.raise(5);
+    assert_eq!(rt; clock.counter(), 5);
+    clock.raise(4);
+    assert_eq!(rt; clock.counter(), 5);
+    clock.raise(LAST - 1);
+    assert_eq!(rt;
+        clock.next(1),
+        Some(Stamp {
+            counter: LAST,
+            node: 1
+        })
+    );
+    assert_eq!(rt; clock.next(1), None);
+    assert_eq!(rt; clock.counter(), LAST);
+}
+
+#[test]
+fn moments_end_below_2_to_the_48(rt: HostRuntime) {
+    for ms in [0, 1, 281474976710655] {
+        assert_eq!(rt; Moment::new(ms).map(|moment| moment.ms()), Some(ms));
+    }
+    assert_eq!(rt; Moment::new(281474976710656), None);
+    assert_eq!(rt; Moment::new(u64::MAX), None);
+    assert_eq!(rt; Moment::START.ms(), 0);
+}
+
+#[test]
+fn refused_growth_is_no_memory(rt: HostRuntime) {
+    assert_eq!(rt; NoMemory::from(AllocError), NoMemory);
+}

@@ -1,5 +1,4 @@
-use Rattle.std.proofs.Common.{sym, ap, ◌∙◌}
-use Rattle.lw_stamp.specs.Stamp.{id_of}
+use Rattle.std.proofs.Common.{sym, ◌∙◌}
 use Rattle.lw_stamp.proofs.StampLemmas.{not_decoded, not_found, same_text, other_text, texts_alike, texts_differ}
 use Rattle.lw_stamp.proofs.stamp.Stamp.read_id.Goals as goal
 
@@ -14,9 +13,9 @@ returns-in_err-stamp c =
 pub returns-then-eq : goal.returns-then-eq
 returns-then-eq c =
     same_text c.args.text.now _ _ _ _ c.in_ok-stamp.stamp c.from_hex.ensures c.ok.ensures.value c.in_ok-ok.was c.from_bytes.ensures.some c.in_ok-stamp.was
-        (sym (sym (c.as_slice.ensures ∙ c.id_text.ensures) ∙ texts_alike _ _ _ c.eq.ensures c.if-eq.true))
+    (sym (sym (c.as_slice.ensures ∙ c.id_text.ensures) ∙ texts_alike _ _ _ c.eq.ensures c.if-eq.true))
 
 pub returns-else-eq : goal.returns-else-eq
 returns-else-eq c =
     other_text c.args.text.now _ _ _ _ c.in_ok-stamp.stamp c.from_hex.ensures c.ok.ensures.value c.in_ok-ok.was c.from_bytes.ensures.some c.in_ok-stamp.was
-        (λ same. texts_differ _ _ _ c.eq.ensures c.if-eq.false (c.as_slice.ensures ∙ c.id_text.ensures ∙ sym same))
+    (λ same. texts_differ _ _ _ c.eq.ensures c.if-eq.false (c.as_slice.ensures ∙ c.id_text.ensures ∙ sym same))
