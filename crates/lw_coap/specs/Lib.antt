@@ -4,3 +4,5 @@ pub mod Faults
 pub mod Fits
 pub mod Number
 pub mod Header
+pub mod Body
+pub mod Writing

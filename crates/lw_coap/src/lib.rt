@@ -5,7 +5,15 @@
 #![tactic(auto)]
 
 mod fault;
+mod header;
+mod limits;
 mod message;
+mod number;
+mod option;
+mod reading;
+mod writing;
 
 pub use fault::Fault;
+pub use header::peek_header;
 pub use message::{CoapOption, Kind, Message};
+pub use number::uint;

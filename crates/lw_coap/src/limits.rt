@@ -1,0 +1,10 @@
+//! The bounds of a message.
+
+/// The most bytes that a message has.
+pub const MAX_LENGTH: usize = 8192;
+
+/// The most bytes that a token has (RFC 7252, section 3).
+pub const MAX_TOKEN: usize = 8;
+
+/// The byte before a payload (RFC 7252, section 3).
+pub const PAYLOAD_MARKER: u8 = 0xff;

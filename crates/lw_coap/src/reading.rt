@@ -1,0 +1,82 @@
+ghost use Rattle.std.specs.Prelude.{◌≡◌, ◌≢◌, ℕ, ◌≤◌, ◌⊎◌, ◌↔◌, List, [], ◌++◌, length, IfOk, IfErr, MatchResult, IsTrue, Ok, Err};
+ghost use Rattle.lw_coap.specs.Message.{MessageContent, OptionContent};
+ghost use Rattle.lw_coap.specs.Grammar.{IsSpelling, IsPayload};
+ghost use Rattle.lw_coap.specs.Faults.{IsFault, IsOptionsFault, IsPartFault};
+ghost use Rattle.lw_coap.specs.Body.{IsBodyEnd, IsBody};
+
+use crate::fault::Fault;
+use crate::header::{Header, read_header};
+use crate::limits::PAYLOAD_MARKER;
+use crate::message::{CoapOption, Kind, Message};
+use crate::option::next_option;
+use std::alloc::Global;
+
+/// Header and token of a datagram, and the bytes behind them.
+#[derive(Clone, Copy)]
+struct Frame<'a> {
+    kind: Kind,
+    code: u8,
+    mid: u16,
+    token: &'a [u8],
+    body: &'a [u8],
+}
+
+fn is_body_end(bytes: &[u8]) -> bool
+    ensures { IsTrue result ↔ IsBodyEnd bytes.now }
+{
+    match bytes {
+        [] => true,
+        [first, ..] => *first == PAYLOAD_MARKER,
+    }
+}
+
+/// The payload of the bytes behind the last option.
+fn payload_in(bytes: &[u8]) -> Result<&[u8], Fault>
+    requires { IsBodyEnd bytes.now }
+    ensures payload { IfOk result (λ payload. IsPayload bytes.now payload.now) }
+    ensures fault { IfErr result (λ fault. (before : ℕ) → IsPartFault before bytes.now fault) }
+{
+    match bytes {
+        [] => Ok(bytes),
+        [_] => Err(Fault::EmptyPayload),
+        [_, payload @ ..] => Ok(payload),
+    }
+}
+
+/// Walks options and payload, and takes no memory.
+fn check_body(body: &[u8]) -> Result<(), Fault>
+    ensures whole { IfOk result (λ _. (options : List OptionContent) × (payload : List ℕ) × IsBody body.now options payload) }
+    ensures fault { IfErr result (IsOptionsFault body.now) }
+{
+    let mut number = 0;
+    let mut rest = body;
+    while !is_body_end(rest) {
+        let option = next_option(number, rest)?;
+        number = option.number;
+        rest = option.rest;
+    }
+    payload_in(rest)?;
+    Ok(())
+}
+
+/// Options and payload.
+fn read_body(alloc: Global, body: &[u8]) -> Result<(Vec<CoapOption>, Vec<u8>), Fault>
+    ensures found { IfOk result (λ x. IsBody body.now x.0.items x.1.items) }
+    ensures fault { IfErr result (λ fault. (fault ≡ Fault.NoMemory) ⊎ IsOptionsFault body.now fault) }
+{
+    let mut options = Vec::new(alloc);
+    let mut number = 0;
+    let mut rest = body;
+    while !is_body_end(rest) {
+        let option = next_option(number, rest)?;
+        let value = Vec::from_slice(alloc, option.value)?;
+        options.push(CoapOption {
+            number: option.number,
+            value,
+        })?;
+        number = option.number;
+        rest = option.rest;
+    }
+    let payload = Vec::from_slice(alloc, payload_in(rest)?)?;
+    Ok((options, payload))
+}

@@ -1,0 +1,65 @@
+ghost use Rattle.std.specs.Prelude.{◌≡◌, ◌+◌, ◌≤◌, ◌<◌, ◌++◌, length, OnOk, IfOk};
+ghost use Rattle.lw_coap.specs.Grammar.{IsSpelling};
+ghost use Rattle.lw_coap.specs.Fits.{Fits};
+ghost use Rattle.lw_coap.specs.Writing.{nibble_of, extension_of, option_bytes, payload_bytes, header_bytes, message_bytes};
+
+use crate::limits::PAYLOAD_MARKER;
+use crate::message::{CoapOption, Kind, Message};
+use lw_stamp::NoMemory;
+use std::alloc::Global;
+
+/// The nibble of a delta or a length.
+fn nibble(number: usize) -> u8
+    ensures value { result ≡ nibble_of number }
+    ensures below { result < 15 }
+{
+    if number < 13 {
+        number as u8
+    } else if number < 269 {
+        13
+    } else {
+        14
+    }
+}
+
+/// The bytes that extend the nibble of a delta or a length.
+fn put_extension(out: &mut Vec<u8>, number: usize) -> Result<(), NoMemory>
+    requires { number < 65536 }
+    ensures { OnOk result (out.new.items ≡ out.old.items ++ extension_of number) }
+{
+    if number < 13 {
+        return Ok(());
+    }
+    if number < 269 {
+        out.push((number - 13) as u8)?;
+        return Ok(());
+    }
+    out.extend_from_slice(&((number - 269) as u16).to_be_bytes())?;
+    Ok(())
+}
+
+/// An option, behind an option of the number before.
+fn put_option(out: &mut Vec<u8>, before: u16, option: &CoapOption) -> Result<(), NoMemory>
+    requires rising { before ≤ option.now.number }
+    requires small { length option.now.value < 65536 }
+    ensures { OnOk result (out.new.items ≡ out.old.items ++ option_bytes before option.now) }
+{
+    let delta = (option.number - before) as usize;
+    let len = option.value.len();
+    out.push(16 * nibble(delta) + nibble(len))?;
+    put_extension(out, delta)?;
+    put_extension(out, len)?;
+    out.extend_from_slice(&option.value)?;
+    Ok(())
+}
+
+fn put_payload(out: &mut Vec<u8>, payload: &[u8]) -> Result<(), NoMemory>
+    ensures { OnOk result (out.new.items ≡ out.old.items ++ payload_bytes payload.now) }
+{
+    if payload.is_empty() {
+        return Ok(());
+    }
+    out.push(PAYLOAD_MARKER)?;
+    out.extend_from_slice(payload)?;
+    Ok(())
+}
