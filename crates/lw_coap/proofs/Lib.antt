@@ -1,3 +1,5 @@
 pub mod Bytes
 pub mod OptionAt
 pub mod Walk
+pub mod Once
+pub mod PartOnce
