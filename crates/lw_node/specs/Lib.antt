@@ -1,0 +1,6 @@
+pub mod Marks
+pub mod Answers
+pub mod Register
+pub mod Node
+pub mod Meaning
+pub mod Run

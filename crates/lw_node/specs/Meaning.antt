@@ -1,0 +1,140 @@
+-- What a datagram means to a node (LwM2M 1.1 Core, section 6.2; RFC 7252, sections 4.2, 4.3 and 5.2):
+-- a reply or none, and an operation or none.
+use Rattle.std.specs.Prelude.{◌≡◌, ℕ, ◌+◌, ◌-◌, ◌^◌, ◌⊎◌, ◌==◌, nat_lt, Bool, false, if◌then◌else◌, List, [], ◌∷◌, codes, Option, Some, None}
+use Rattle.lw_stamp.specs.declared.stamp.Stamp.{Stamp}
+use Rattle.lw_stamp.specs.Stamp.{id_of}
+use Rattle.lw_coap.specs.declared.message.Kind.{Kind}
+use Rattle.lw_coap.specs.declared.message.Kind.TheVariants.{Con, Non, Ack, Rst}
+use Rattle.lw_coap.specs.declared.fault.Fault.{Fault}
+use Rattle.lw_coap.specs.Message.{OptionContent, MessageContent}
+use Rattle.lw_coap.specs.Grammar.{IsSpelling}
+use Rattle.lw_coap.specs.Faults.{IsFault}
+use Rattle.lw_coap.specs.Header.{HasHeader}
+use Rattle.lw_reg.specs.declared.addr.Addr.{Addr}
+use Rattle.lw_reg.specs.declared.binding.Binding.{Binding}
+use Rattle.lw_reg.specs.Binding.{binding_text}
+use Rattle.lw_node.specs.Marks.{Operation}
+use Rattle.lw_node.specs.Register.{AskedContent, IsRegister}
+use Rattle.lw_node.specs.Node.{NodeContent, after}
+
+-- where and when a datagram comes: the node's number and clock, the moment, and the source address
+pub record Arrival : Type 0 where
+  pub number : ℕ
+  pub clock : ℕ
+  pub now : ℕ
+  pub source : Addr
+
+-- a reply or none, and an operation or none
+pub record Effect : Type 0 where
+  pub reply : Option MessageContent
+  pub operation : Option Operation
+
+abbrev pub nothing : Effect
+nothing = record { reply = None; operation = None }
+
+abbrev pub replies : MessageContent → Effect
+replies message = record { reply = Some message; operation = None }
+
+-- an empty Reset with the message ID (RFC 7252, section 4.2)
+abbrev pub reset_of : ℕ → MessageContent
+reset_of mid = record { kind = Rst; code = 0; mid = mid; token = []; options = []; payload = [] }
+
+-- a confirmable request is answered in its acknowledgement, another in a non-confirmable message
+abbrev pub answer_kind : Kind → Kind
+answer_kind Con = Ack
+answer_kind Non = Non
+answer_kind Ack = Non
+answer_kind Rst = Non
+
+-- an answer to a request: with its token, and with its message ID
+abbrev pub answer_to : MessageContent → ℕ → List OptionContent → MessageContent
+answer_to request code options =
+    record { kind = answer_kind request.kind; code = code; mid = request.mid; token = request.token; options = options; payload = [] }
+
+-- 4.00 Bad Request, and 5.03 Service Unavailable
+abbrev pub bad_request : MessageContent → MessageContent
+bad_request request = answer_to request 128 []
+
+abbrev pub unavailable : MessageContent → MessageContent
+unavailable request = answer_to request 163 []
+
+-- 2.01 Created, with the Location-Path `rd` and the identifier (LwM2M 1.1 Transport, section 6.4.3)
+abbrev pub created : MessageContent → Stamp → MessageContent
+created request id =
+    answer_to request 65 (record { number = 8; value = codes "rd" } ∷ record { number = 8; value = id_of id } ∷ [])
+
+-- The registration that is made: version, lifetime and objects as asked for, the binding `U`, no queue
+-- mode, no SMS number, seen at this moment from the source address.
+pub record IsMade (arrival : Arrival) (asked : AskedContent) (made : Operation) : Type 0 where
+  pub endpoint : made.endpoint ≡ asked.endpoint
+  pub counter : made.id.counter ≡ arrival.clock + 1
+  pub node : made.id.node ≡ arrival.number
+  pub address : made.address ≡ arrival.source
+  pub seen : made.seen ≡ arrival.now
+  pub lifetime : made.lifetime ≡ asked.lifetime
+  pub version : made.version ≡ asked.version
+  pub binding : binding_text made.binding ≡ codes "U"
+  pub queue : made.queue ≡ false
+  pub sms : made.sms ≡ None
+  pub objects : made.objects ≡ asked.objects
+
+-- With the clock at its end a Register is refused; otherwise it is an operation with the next stamp.
+abbrev pub RegisterMeans : Arrival → MessageContent → AskedContent → Effect → Type 0
+RegisterMeans arrival request asked effect =
+    ((arrival.clock ≡ 2 ^ 48 - 1) × (effect ≡ replies (unavailable request)))
+    ⊎ ((made : Operation) × IsMade arrival asked made × (effect ≡ record { reply = Some (created request made.id); operation = Some made }))
+
+-- a request that is no Register is refused
+abbrev pub RequestMeans : Arrival → MessageContent → Effect → Type 0
+RequestMeans arrival request effect =
+    ((asked : AskedContent) × IsRegister request asked × RegisterMeans arrival request asked effect)
+    ⊎ (((asked : AskedContent) → ¬ IsRegister request asked) × (effect ≡ replies (bad_request request)))
+
+-- what a message is
+pub data Role : Type 0 where
+  Ignored : Role
+  Ping : Role
+  Request : Role
+  -- a response, or a code that is no request's and no response's: no reply is defined yet
+  Unanswered : Role
+
+-- by type and code: a code below 1.00 is that of a request, and 0.00 is that of an empty message
+abbrev pub role_of : Kind → ℕ → Role
+role_of Rst code = Ignored
+role_of Con code = if code == 0 then Ping else if nat_lt code 32 then Request else Unanswered
+role_of Non code = if code == 0 then Ignored else if nat_lt code 32 then Request else Unanswered
+role_of Ack code = if nat_lt code 32 then Ignored else Unanswered
+
+abbrev pub RoleMeans : Role → Arrival → MessageContent → Effect → Type 0
+RoleMeans Ignored arrival message effect = effect ≡ nothing
+RoleMeans Ping arrival message effect = effect ≡ replies (reset_of message.mid)
+RoleMeans Request arrival message effect = RequestMeans arrival message effect
+RoleMeans Unanswered arrival message effect = effect ≡ nothing
+
+-- the bytes spell no message, and no reply is owed: they have no header of a confirmable message
+abbrev pub IsSilent : List ℕ → Type 0
+IsSilent bytes = ((fault : Fault) × IsFault bytes fault) × ((code mid : ℕ) → ¬ HasHeader bytes Con code mid)
+
+-- A malformed confirmable message whose header can be read is reset, and any other is ignored (RFC 7252,
+-- section 4.2). A whole message means what its role says.
+abbrev pub DatagramMeans : Arrival → List ℕ → Effect → Type 0
+DatagramMeans arrival bytes effect =
+    ((message : MessageContent) × IsSpelling bytes message × RoleMeans (role_of message.kind message.code) arrival message effect)
+    ⊎ (((fault : Fault) × IsFault bytes fault × (code : ℕ) × (mid : ℕ) × HasHeader bytes Con code mid × (effect ≡ replies (reset_of mid)))
+        ⊎ (IsSilent bytes × (effect ≡ nothing)))
+
+-- the reply's bytes spell its message
+abbrev pub IsReply : Option (List ℕ) → Option MessageContent → Type 0
+IsReply None None = Unit {0}
+IsReply (Some bytes) (Some message) = IsSpelling bytes message
+IsReply _ _ = ⊥
+
+abbrev pub arrival_at : NodeContent → ℕ → Addr → Arrival
+arrival_at node now source = record { number = node.number; clock = node.clock; now = now; source = source }
+
+-- A node takes a datagram: the reply and the node after it are those of a meaning of the datagram.
+pub record Takes (old : NodeContent) (now : ℕ) (source : Addr) (bytes : List ℕ) (reply : Option (List ℕ)) (new : NodeContent) : Type 0 where
+  pub effect : Effect
+  pub meant : DatagramMeans (arrival_at old now source) bytes effect
+  pub replied : IsReply reply effect.reply
+  pub left : new ≡ after old effect.operation

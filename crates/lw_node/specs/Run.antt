@@ -1,0 +1,1 @@
+-- Whole runs of one node: datagrams and questions, one after another.
