@@ -93,5 +93,10 @@ v6_in text = do
   port ← number_in (2 ^ 16) rest
   Some (V6 (front.0 ++ back.0) port)
 
+-- an IPv6 address where a bracket was opened, else an IPv4 address
+abbrev pub by_bracket : List ℕ → Option (List ℕ) → Option Addr
+by_bracket text (Some rest) = v6_in rest
+by_bracket text None = v4_in text
+
 unfoldable pub addr_in : List ℕ → Option Addr
-addr_in text = elim (strip_at 91 text) [ Some rest ↦ v6_in rest | None ↦ v4_in text ]
+addr_in text = by_bracket text (strip_at 91 text)

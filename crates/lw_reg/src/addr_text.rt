@@ -1,6 +1,6 @@
 //! Reading an address from left to right.
 
-ghost use Rattle.std.specs.Prelude.{◌≡◌, ◌<◌, ◌^◌, ◌↔◌, IsTrue};
+ghost use Rattle.std.specs.Prelude.{◌≡◌, ◌<◌, ◌^◌, ◌++◌, ◌↔◌, IsTrue};
 ghost use Rattle.lw_reg.specs.AddrReading.{Gives, strip_at, cut_at, number_in, IsPlain, octet_then, v4_in, hex_value, byte_in, group_in, group_then, four_then, v6_in, addr_in};
 
 use crate::addr::Addr;
@@ -39,10 +39,19 @@ fn v6(text: &str) -> Option<Addr>
     let (front, rest) = four_groups_before(text, ':')?;
     let (back, rest) = four_groups_before(rest, ']')?;
     let port = port(strip(rest, ':')?)?;
+    Some(Addr::V6 {
+        address: joined(front, back),
+        port,
+    })
+}
+
+fn joined(front: [u8; 8], back: [u8; 8]) -> [u8; 16]
+    ensures { result ≡ front ++ back }
+{
     let mut address = [0; 16];
     address[..8].copy_from_slice(&front);
     address[8..].copy_from_slice(&back);
-    Some(Addr::V6 { address, port })
+    address
 }
 
 fn strip(text: &str, first: char) -> Option<&str>
