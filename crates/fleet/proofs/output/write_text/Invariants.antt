@@ -1,0 +1,10 @@
+-- What is gone from `rest` was appended.
+use Rattle.std.proofs.Common.{◌≡◌, ℕ, List, ◌++◌, length}
+use Rattle.std.specs.Io.KnownBytes.{Appends}
+use Rattle.fleet.proofs.output.write_text.Given as goal
+
+abbrev pub invariant-loop : goal.invariant-loop
+invariant-loop g l = (done : List ℕ) × (l.initial.rest ≡ done ++ l.rest) × Appends (g.W.Write.contents l.initial.writer) (g.W.Write.contents l.writer) done
+
+abbrev pub decreases-loop : goal.decreases-loop
+decreases-loop g l = length l.rest

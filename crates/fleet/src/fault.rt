@@ -1,0 +1,18 @@
+use thiserror::Error;
+
+/// What ends `fleet one` early. Each is shown as a line of its own on standard error.
+#[derive(Clone, Copy, Debug, PartialEq, Eq, Error)]
+pub enum OneFault {
+    #[error("address refused")]
+    AddressRefused,
+    #[error("read failed")]
+    ReadFailed,
+    #[error("script too long")]
+    TooLong,
+    #[error("hex refused")]
+    HexRefused,
+    #[error("write failed")]
+    WriteFailed,
+    #[error("no memory")]
+    NoMemory,
+}

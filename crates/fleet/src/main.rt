@@ -1,0 +1,10 @@
+//! The program `fleet`.
+#![tactic(auto)]
+
+mod fault;
+mod hex_line;
+mod line;
+mod output;
+
+
+fn main() {}
