@@ -1,15 +1,13 @@
 -- A binding is 1 to 8 letters (LwM2M 1.1 Core, section 6.2.1: the Register parameter `b`).
-use Rattle.std.specs.Prelude.{◌≡◌, ℕ, ◌-◌, ◌≤◌, Bool, ◌&&◌, IsTrue, List, ◌++◌, length, replicate, nat_lt, nat_le}
+use Rattle.std.specs.Prelude.{◌≡◌, ℕ, ◌-◌, ◌≤◌, IsTrue, List, ◌++◌, length, replicate, nat_lt}
+use Rattle.std.specs.Char.{is_ascii_uppercase}
 use Rattle.std.specs.List.{list_all, take_while}
 
--- the letters A to Z
-abbrev pub is_letter : ℕ → Bool
-is_letter c = nat_le 65 c && nat_le c 90
-
+-- one to eight letters A to Z
 pub record IsBindingText (text : List ℕ) : Type 0 where
   pub some : 1 ≤ length text
   pub most : length text ≤ 8
-  pub letters : IsTrue (list_all is_letter text)
+  pub letters : IsTrue (list_all is_ascii_uppercase text)
 
 -- the characters before the first zero
 abbrev pub text_in : List ℕ → List ℕ

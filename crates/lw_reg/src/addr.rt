@@ -1,6 +1,6 @@
 ghost use Rattle.std.specs.Prelude.{◌≡◌, Some, IfSome, IfOk, string_bytes};
 
-use crate::addr_text;
+use crate::{printing, reading};
 use lw_stamp::NoMemory;
 use std::alloc::Global;
 
@@ -20,7 +20,7 @@ impl Addr {
         ensures found { IfSome result (λ a. text.now ≡ text_of a) }
         ensures only { (a : Addrs) → IsAddr a → text.now ≡ text_of a → result ≡ Some a }
     {
-        addr_text::read(text)
+        reading::read(text)
     }
 
     /// `a.b.c.d:port` in decimal, or `[g:g:g:g:g:g:g:g]:port` with groups of four lower-case hex digits.
@@ -28,16 +28,8 @@ impl Addr {
         ensures { IfOk result (λ text. string_bytes text ≡ text_of self.now) }
     {
         match *self {
-            Addr::V4 { address, port } => {
-                let [a, b, c, d] = address;
-                Ok(format!(in alloc; "{a}.{b}.{c}.{d}:{port}")?)
-            }
-            Addr::V6 { address, port } => {
-                let [a, b, c, d, e, f, g, h, i, j, k, l, m, n, o, p] = address;
-                Ok(format!(in alloc;
-                    "[{a:02x}{b:02x}:{c:02x}{d:02x}:{e:02x}{f:02x}:{g:02x}{h:02x}:{i:02x}{j:02x}:{k:02x}{l:02x}:{m:02x}{n:02x}:{o:02x}{p:02x}]:{port}"
-                )?)
-            }
+            Addr::V4 { address, port } => Ok(printing::v4(alloc, address, port)?),
+            Addr::V6 { address, port } => Ok(printing::v6(alloc, address, port)?),
         }
     }
 }

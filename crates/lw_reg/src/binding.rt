@@ -1,5 +1,7 @@
-ghost use Rattle.std.specs.Prelude.{◌≡◌, ◌↔◌, IsSome, IfSome, codes};
-ghost use Rattle.lw_reg.specs.BindingText.{IsBindingText, IsPadded};
+ghost use Rattle.std.specs.Prelude.{◌≡◌, ◌-◌, ◌≤◌, ◌++◌, ◌↔◌, IsTrue, IsSome, IfSome, length, replicate};
+ghost use Rattle.std.specs.Char.{is_ascii_uppercase};
+ghost use Rattle.std.specs.List.{list_all};
+ghost use Rattle.lw_reg.specs.BindingText.{IsBindingText, IsPadded, text_in};
 
 /// A binding: 1 to 8 letters A to Z, ordered by its text.
 #[derive(Clone, Copy, Debug, PartialEq, Eq, PartialOrd, Ord)]
@@ -22,18 +24,47 @@ impl Binding {
         ensures value { IfSome result (λ b. binding_text b ≡ text.now) }
     {
         let bytes = text.as_bytes();
-        if bytes.is_empty() || bytes.len() > 8 || !bytes.iter().all(|c| c.is_ascii_uppercase()) {
-            return None;
+        if is_binding(bytes) {
+            Some(Binding {
+                letters: padded(bytes),
+            })
+        } else {
+            None
         }
-        let mut letters = [0; 8];
-        letters[..bytes.len()].copy_from_slice(bytes);
-        Some(Binding { letters })
     }
 
+    #[tactic(auto, using(crate::proofs::BindingLemmas::text_is_utf8))]
     pub fn as_str(&self) -> &str
         ensures { result.now ≡ binding_text self.now }
     {
-        let length = self.letters.iter().position(|c| *c == 0).unwrap_or(8);
+        let length = text_length(&self.letters);
         std::str::from_utf8(&self.letters[..length]).unwrap()
     }
+}
+
+fn is_binding(text: &[u8]) -> bool
+    ensures { IsTrue result ↔ IsBindingText text.now }
+{
+    !text.is_empty() && text.len() <= 8 && all_letters(text)
+}
+
+fn all_letters(text: &[u8]) -> bool
+    ensures { result ≡ list_all is_ascii_uppercase text.now }
+{
+    text.iter().all(|c| c.is_ascii_uppercase())
+}
+
+fn padded(text: &[u8]) -> [u8; 8]
+    requires { length text.now ≤ 8 }
+    ensures { result ≡ text.now ++ replicate (8 - length text.now) 0 }
+{
+    let mut letters = [0; 8];
+    letters[..text.len()].copy_from_slice(text);
+    letters
+}
+
+fn text_length(letters: &[u8]) -> usize
+    ensures { result ≡ length (text_in letters.now) }
+{
+    letters.iter().take_while(|c| **c > 0).count()
 }

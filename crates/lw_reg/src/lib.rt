@@ -4,7 +4,8 @@
 #![tactic(auto)]
 
 mod addr;
-mod addr_text;
+mod printing;
+mod reading;
 mod binding;
 pub mod laws;
 mod seen;
