@@ -1,18 +1,36 @@
-ghost use Rattle.std.specs.Prelude.{◌≡◌, ◌⊎◌, ◌↔◌, IfOk, IfErr, IsErr};
-ghost use Rattle.hex.specs.Hex.{decode_of};
+ghost use Rattle.std.specs.Prelude.{◌≡◌, ◌⊎◌, ◌↔◌, IfOk, IfErr, IsOk, IsErr, IsTrue};
+ghost use Rattle.std.specs.List.{AllPass};
+ghost use Rattle.hex.specs.Hex.{decode_of, is_hex_digit};
 
 use crate::fault::OneFault;
-use hex::FromHexError;
 use std::alloc::Global;
 
 /// The bytes that a line of hex digits spells, in either case.
 pub fn bytes_of_hex(alloc: Global, line: &[u8]) -> Result<Vec<u8>, OneFault>
     ensures bytes { IfOk result (λ bytes. decode_of line.now ≡ Ok bytes.items) }
-    ensures refused { result ≡ Err OneFault.HexRefused → IsErr (decode_of line.now) }
+    ensures refused { (result ≡ Err OneFault.HexRefused) ↔ IsErr (decode_of line.now) }
     ensures faults { IfErr result (λ e. (e ≡ OneFault.HexRefused) ⊎ (e ≡ OneFault.NoMemory)) }
 {
-    hex::decode(alloc, line).map_err(|error| match error {
-        FromHexError::OutOfMemory => OneFault::NoMemory,
-        _ => OneFault::HexRefused,
-    })
+    if !is_hex(line) {
+        return Err(OneFault::HexRefused);
+    }
+    hex::decode(alloc, line).map_err(|_| OneFault::NoMemory)
+}
+
+fn is_hex(line: &[u8]) -> bool
+    ensures { IsTrue result ↔ IsOk (decode_of line.now) }
+{
+    line.len().is_multiple_of(2) && has_only_digits(line)
+}
+
+fn has_only_digits(line: &[u8]) -> bool
+    ensures { IsTrue result ↔ AllPass is_hex_digit line.now }
+{
+    line.iter().all(|byte| is_digit(*byte))
+}
+
+fn is_digit(byte: u8) -> bool
+    ensures { result ≡ is_hex_digit byte }
+{
+    byte.is_ascii_hexdigit()
 }

@@ -3,6 +3,7 @@
 
 mod fault;
 mod hex_line;
+mod json;
 mod line;
 mod output;
 
