@@ -1,5 +1,5 @@
 -- The first bytes of a list, by what they stand for.
-use Rattle.std.proofs.Common.{◌≡◌, ◌≢◌, ℕ, zero, suc, ◌+◌, ◌-◌, ◌*◌, ◌/◌, ◌%◌, ◌<◌, ◌≤◌, ◌⊎◌, List, [], ◌∷◌, ◌++◌, length, get_or, take, drop, refl, ap, sym, ◌∙◌, arith, inl, inr}
+use Rattle.std.proofs.Common.{◌≡◌, ℕ, ◌+◌, ◌-◌, ◌*◌, ◌/◌, ◌%◌, ◌<◌, ◌≤◌, List, [], ◌∷◌, ◌++◌, length, get_or, take, drop, refl, ap, sym, arith, inl, inr}
 use Rattle.std.proofs.lemmas.List.{take_rest}
 use Rattle.lw_coap.specs.Grammar.{IsHeader, IsExtended}
 use Rattle.lw_coap.specs.Faults.{HasExtension, HasHead}

@@ -1,5 +1,5 @@
 -- Bytes are read in one way: whole options, and then what is no option.
-use Rattle.std.proofs.Common.{◌≡◌, ◌≢◌, ℕ, zero, suc, ◌+◌, ◌*◌, ◌<◌, ◌≤◌, ◌⊎◌, List, [], ◌∷◌, ◌++◌, length, refl, ap, sym, subst, ◌∙◌, arith, inl, inr, append_assoc, length-append}
+use Rattle.std.proofs.Common.{◌≡◌, ℕ, ◌+◌, ◌*◌, ◌≤◌, List, [], ◌∷◌, ◌++◌, length, refl, ap, sym, subst, ◌∙◌, arith, append_assoc}
 use Rattle.lw_coap.specs.Message.{OptionContent}
 use Rattle.lw_coap.specs.Grammar.{IsExtended, IsOptionHead, IsOption, AreOptions, number_after, IsPayload}
 

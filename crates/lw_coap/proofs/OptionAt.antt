@@ -1,11 +1,9 @@
 -- One option at the front of the bytes.
-use Rattle.std.proofs.Common.{◌≡◌, ◌≢◌, ℕ, zero, suc, ◌+◌, ◌-◌, ◌*◌, ◌/◌, ◌%◌, ◌<◌, ◌≤◌, ◌⊎◌, List, [], ◌∷◌, ◌++◌, length, get_or, take, drop, refl, ap, sym, ◌∙◌, arith, inl, inr, append_assoc, length-append}
+use Rattle.std.proofs.Common.{◌≡◌, ◌≢◌, ℕ, ◌+◌, ◌*◌, ◌/◌, ◌%◌, ◌<◌, ◌≤◌, ◌⊎◌, List, [], ◌∷◌, ◌++◌, length, get_or, take, drop, refl, ap, sym, ◌∙◌, arith, inl, inr, append_assoc, length-append}
 use Rattle.std.proofs.lemmas.List.{take-append-drop, length-take-le}
 use Rattle.std.proofs.lemmas.Bool.{cases_lt}
-use Rattle.lw_coap.specs.declared.fault.Fault.TheVariants.{OptionHead, Truncated}
-use Rattle.lw_coap.specs.Message.{OptionContent}
-use Rattle.lw_coap.specs.Grammar.{IsExtended, IsOptionHead, IsOption}
-use Rattle.lw_coap.specs.Faults.{HasExtension, HasReserved, IsCutHead, BeginsOption, IsPartFault}
+use Rattle.lw_coap.specs.Grammar.{IsExtended, IsOption}
+use Rattle.lw_coap.specs.Faults.{HasExtension, HasReserved, IsCutHead, BeginsOption}
 use Rattle.lw_coap.specs.Body.{IsBodyEnd}
 use Rattle.lw_coap.proofs.Bytes.{extension_counts}
 

@@ -1,12 +1,12 @@
 -- What stands behind whole options: a payload, or one fault.
-use Rattle.std.proofs.Common.{◌≡◌, ◌≢◌, ℕ, zero, suc, ◌+◌, ◌*◌, ◌<◌, ◌≤◌, ◌⊎◌, List, [], ◌∷◌, ◌++◌, length, refl, ap, sym, subst, ◌∙◌, arith, inl, inr, append_assoc, length-append}
+use Rattle.std.proofs.Common.{◌≡◌, ℕ, ◌+◌, ◌*◌, ◌<◌, ◌≤◌, ◌⊎◌, List, [], ◌∷◌, ◌++◌, length, refl, ap, sym, subst, ◌∙◌, arith, inl, inr, append_assoc, length-append}
 use Rattle.lw_coap.specs.declared.fault.Fault.{Fault}
 use Rattle.lw_coap.specs.declared.fault.Fault.TheVariants.{Short, Version, TokenLength, OptionHead, Truncated, EmptyPayload, EmptyMessage, TooLong, NoMemory}
 use Rattle.lw_coap.specs.Message.{OptionContent}
-use Rattle.lw_coap.specs.Grammar.{IsExtended, IsOptionHead, IsOption, AreOptions, number_after, IsPayload}
+use Rattle.lw_coap.specs.Grammar.{IsOption, AreOptions, number_after, IsPayload}
 use Rattle.lw_coap.specs.Faults.{HasExtension, HasReserved, IsCutHead, BeginsOption, IsPartFault, IsOptionsFault}
 use Rattle.lw_coap.proofs.Bytes.{extension_counts}
-use Rattle.lw_coap.proofs.Once.{cons_one, extended_small, head_one, options_one, NoOption}
+use Rattle.lw_coap.proofs.Once.{cons_one, head_one, options_one, NoOption}
 
 -- Either this is the fault, and P holds; or P does not, and a later one is.
 abbrev pub First : Fault → Type 0 → (Fault → Type 0) → Fault → Type 0

@@ -6,14 +6,18 @@
 
 mod fault;
 mod header;
+pub mod laws;
 mod limits;
 mod message;
 mod number;
 mod option;
 mod reading;
+mod size;
 mod writing;
 
 pub use fault::Fault;
 pub use header::peek_header;
 pub use message::{CoapOption, Kind, Message};
 pub use number::uint;
+pub use reading::decode;
+pub use writing::encode;

@@ -1,3 +1,7 @@
+ghost use Rattle.std.specs.Prelude.{◌≡◌, ◌<◌, ◌≤◌, ◌↔◌, length, IsTrue, IfSome, IfNone};
+
+use crate::limits::{HEADER_LENGTH, MAX_LENGTH, MAX_TOKEN};
+use crate::size::{bytes_of_options, bytes_of_payload};
 use std::marker::Model;
 
 /// The type of a message (RFC 7252, section 3).
@@ -11,6 +15,23 @@ pub enum Kind {
     Ack,
     /// Reset.
     Rst,
+}
+
+impl Kind {
+    ghost use Rattle.lw_coap.specs.Grammar.{kind_number};
+
+    /// The number of the type field.
+    pub(crate) fn number(self) -> u8
+        ensures value { result ≡ kind_number self }
+        ensures below { result < 4 }
+    {
+        match self {
+            Kind::Con => 0,
+            Kind::Non => 1,
+            Kind::Ack => 2,
+            Kind::Rst => 3,
+        }
+    }
 }
 
 /// An option of a message (RFC 7252, section 3.1).
@@ -55,4 +76,29 @@ impl Model for Message {
         options = a.options.items;
         payload = a.payload.items;
     } };
+}
+
+impl Message {
+    ghost use Rattle.lw_coap.specs.Fits.{Fits};
+
+    /// Whether the message has a spelling: a token of at most 8 bytes, option numbers that do not fall,
+    /// nothing but the header with code 0.00, and at most 8,192 bytes in all.
+    pub fn fits(&self) -> bool
+        ensures { IsTrue result ↔ Fits self.now }
+    {
+        if self.token.len() > MAX_TOKEN || self.payload.len() > MAX_LENGTH {
+            return false;
+        }
+        let Some(options) = bytes_of_options(&self.options) else {
+            return false;
+        };
+        let payload = bytes_of_payload(&self.payload);
+        let len = HEADER_LENGTH + self.token.len() + options + payload;
+        if len > MAX_LENGTH {
+            return false;
+        }
+        // The message ID is read for its range alone.
+        let _mid = self.mid;
+        self.code != 0 || len == HEADER_LENGTH
+    }
 }

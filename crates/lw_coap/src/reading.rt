@@ -1,11 +1,12 @@
 ghost use Rattle.std.specs.Prelude.{◌≡◌, ◌≢◌, ℕ, ◌≤◌, ◌⊎◌, ◌↔◌, List, [], ◌++◌, length, IfOk, IfErr, MatchResult, IsTrue, Ok, Err};
+ghost use Rattle.lw_coap.specs.declared.fault.Fault.{Fault};
 ghost use Rattle.lw_coap.specs.Message.{MessageContent, OptionContent};
 ghost use Rattle.lw_coap.specs.Grammar.{IsSpelling, IsPayload};
 ghost use Rattle.lw_coap.specs.Faults.{IsFault, IsOptionsFault, IsPartFault};
-ghost use Rattle.lw_coap.specs.Body.{IsBodyEnd, IsBody};
+ghost use Rattle.lw_coap.specs.Body.{IsBodyEnd, IsBody, IsFrame, Reads};
 
 use crate::fault::Fault;
-use crate::header::{Header, read_header};
+use crate::header::read_header;
 use crate::limits::PAYLOAD_MARKER;
 use crate::message::{CoapOption, Kind, Message};
 use crate::option::next_option;
@@ -79,4 +80,56 @@ fn read_body(alloc: Global, body: &[u8]) -> Result<(Vec<CoapOption>, Vec<u8>), F
     }
     let payload = Vec::from_slice(alloc, payload_in(rest)?)?;
     Ok((options, payload))
+}
+
+/// Header and token.
+fn read_frame(bytes: &[u8]) -> Result<Frame<'_>, Fault>
+    ensures found { IfOk result (λ f. IsFrame bytes.now f.kind f.code f.mid f.token.now f.body.now) }
+    ensures fault { IfErr result (IsFault bytes.now) }
+{
+    let header = read_header(bytes)?;
+    if header.rest.len() < header.token_length {
+        return Err(Fault::Truncated);
+    }
+    let (token, body) = header.rest.split_at(header.token_length);
+    Ok(Frame {
+        kind: header.kind,
+        code: header.code,
+        mid: header.mid,
+        token,
+        body,
+    })
+}
+
+/// The message, once the walk has found no fault.
+fn read(alloc: Global, bytes: &[u8]) -> Result<Message, Fault>
+    ensures { Reads bytes.now result }
+{
+    let frame = read_frame(bytes)?;
+    check_body(frame.body)?;
+    let token = Vec::from_slice(alloc, frame.token)?;
+    let (options, payload) = read_body(alloc, frame.body)?;
+    Ok(Message {
+        kind: frame.kind,
+        code: frame.code,
+        mid: frame.mid,
+        token,
+        options,
+        payload,
+    })
+}
+
+/// The message that the bytes spell, all of them. Each fault but `NoMemory` is found before any memory is
+/// taken.
+pub fn decode(alloc: Global, bytes: &[u8]) -> Result<Message, Fault>
+    // What is read is spelled so.
+    ensures found { IfOk result (λ message. IsSpelling bytes.now message) }
+    // What is spelled so is read, unless a growth is refused.
+    ensures only { (message : MessageContent) → IsSpelling bytes.now message → (result ≡ Ok message) ⊎ (result ≡ Err Fault.NoMemory) }
+    // Each other fault is answered exactly where it is the first.
+    ensures faults { (fault : Fault) → fault ≢ Fault.NoMemory → ((result ≡ Err fault) ↔ IsFault bytes.now fault) }
+    // Want of memory comes only in place of a message.
+    ensures memory { result ≡ Err Fault.NoMemory → (message : MessageContent) × IsSpelling bytes.now message }
+{
+    read(alloc, bytes)
 }

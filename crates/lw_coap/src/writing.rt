@@ -1,7 +1,7 @@
 ghost use Rattle.std.specs.Prelude.{◌≡◌, ◌+◌, ◌≤◌, ◌<◌, ◌++◌, length, OnOk, IfOk};
 ghost use Rattle.lw_coap.specs.Grammar.{IsSpelling};
-ghost use Rattle.lw_coap.specs.Fits.{Fits};
-ghost use Rattle.lw_coap.specs.Writing.{nibble_of, extension_of, option_bytes, payload_bytes, header_bytes, message_bytes};
+ghost use Rattle.lw_coap.specs.Fits.{AreRising, options_length, Fits};
+ghost use Rattle.lw_coap.specs.Writing.{nibble_of, extension_of, option_bytes, options_bytes, payload_bytes, header_bytes, message_bytes};
 
 use crate::limits::PAYLOAD_MARKER;
 use crate::message::{CoapOption, Kind, Message};
@@ -62,4 +62,49 @@ fn put_payload(out: &mut Vec<u8>, payload: &[u8]) -> Result<(), NoMemory>
     out.push(PAYLOAD_MARKER)?;
     out.extend_from_slice(payload)?;
     Ok(())
+}
+
+/// Options, one after another.
+fn put_options(out: &mut Vec<u8>, options: &[CoapOption]) -> Result<(), NoMemory>
+    requires rising { AreRising 0 options.now }
+    requires small { options_length 0 options.now ≤ 8192 }
+    ensures { OnOk result (out.new.items ≡ out.old.items ++ options_bytes 0 options.now) }
+{
+    let mut before = 0;
+    for option in options {
+        put_option(out, before, option)?;
+        before = option.number;
+    }
+    Ok(())
+}
+
+fn put_header(out: &mut Vec<u8>, message: &Message) -> Result<(), NoMemory>
+    requires { length message.now.token ≤ 8 }
+    ensures { OnOk result (out.new.items ≡ out.old.items ++ header_bytes message.now) }
+{
+    let token_length = message.token.len() as u8;
+    out.push(64 + 16 * message.kind.number() + token_length)?;
+    out.push(message.code)?;
+    out.extend_from_slice(&message.mid.to_be_bytes())?;
+    Ok(())
+}
+
+fn write(alloc: Global, message: &Message) -> Result<Vec<u8>, NoMemory>
+    requires { Fits message.now }
+    ensures { IfOk result (λ bytes. bytes.items ≡ message_bytes message.now) }
+{
+    let mut out = Vec::new(alloc);
+    put_header(&mut out, message)?;
+    out.extend_from_slice(&message.token)?;
+    put_options(&mut out, &message.options)?;
+    put_payload(&mut out, &message.payload)?;
+    Ok(out)
+}
+
+/// The one spelling of the message. `Message::fits` tells whether there is one.
+pub fn encode(alloc: Global, message: &Message) -> Result<Vec<u8>, NoMemory>
+    requires { Fits message.now }
+    ensures { IfOk result (λ bytes. IsSpelling bytes.items message.now) }
+{
+    write(alloc, message)
 }

@@ -1,6 +1,6 @@
-use Rattle.std.proofs.Common.{◌≡◌, ◌-◌, ◌/◌, ◌%◌, ◌<◌, ◌≤◌, ◌⊎◌, length, ℕ, get_or, take, drop, arith, refl, subst, inl, inr}
+use Rattle.std.proofs.Common.{◌-◌, ◌/◌, ◌%◌, ◌<◌, ◌⊎◌, length, ℕ, get_or, take, drop, arith, refl, subst, inl, inr}
 use Rattle.std.proofs.lemmas.Grind.{common_steps}
-use Rattle.lw_coap.specs.Grammar.{IsHeader, kind_number}
+use Rattle.lw_coap.specs.Grammar.{kind_number}
 use Rattle.lw_coap.specs.Faults.{HasHead}
 use Rattle.lw_coap.proofs.Bytes.{header_and_rest, head_at}
 use Rattle.lw_coap.proofs.header.read_header.Goals as goal

@@ -1,4 +1,4 @@
-use Rattle.std.proofs.Common.{◌≡◌, ℕ, ◌<◌, List, [], ◌∷◌, get_or, refl, arith, inl, inr}
+use Rattle.std.proofs.Common.{◌≡◌, [], ◌∷◌, get_or, refl, arith, inr}
 use Rattle.lw_coap.proofs.Bytes.{first_one, first_two}
 use Rattle.lw_coap.proofs.option.extended.Goals as goal
 

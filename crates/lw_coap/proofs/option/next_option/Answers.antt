@@ -1,7 +1,7 @@
-use Rattle.std.proofs.Common.{◌≡◌, ◌≢◌, ℕ, ◌-◌, ◌<◌, List, [], ◌∷◌, ◌++◌, length, get_or, take, drop, refl, arith, inl, inr}
+use Rattle.std.proofs.Common.{◌-◌, length, get_or, take, drop, arith, inl, inr}
 use Rattle.lw_coap.specs.Faults.{BeginsOption}
 use Rattle.lw_coap.proofs.Bytes.{first_one}
-use Rattle.lw_coap.proofs.OptionAt.{first_is, reserved, cut_delta, cut_length, begins, found}
+use Rattle.lw_coap.proofs.OptionAt.{cut_delta, cut_length, begins, found}
 use Rattle.lw_coap.proofs.option.next_option.Goals as goal
 
 pub returns-in_default-extended-clause-fault : goal.returns-in_default-extended-clause-fault

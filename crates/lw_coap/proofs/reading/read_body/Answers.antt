@@ -1,4 +1,4 @@
-use Rattle.std.proofs.Common.{◌≡◌, ◌++◌, ◌∷◌, [], inr}
+use Rattle.std.proofs.Common.{inr}
 use Rattle.std.proofs.lemmas.Result.{err_from_is_err_and}
 use Rattle.lw_coap.proofs.Walk.{walked_more, walked_fault}
 use Rattle.lw_coap.proofs.reading.read_body.Goals as goal

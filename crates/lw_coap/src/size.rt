@@ -1,0 +1,56 @@
+//! How many bytes the parts of a message take.
+
+ghost use Rattle.std.specs.Prelude.{◌≡◌, ◌<◌, ◌≤◌, length, IfSome, IfNone};
+ghost use Rattle.lw_coap.specs.Fits.{AreRising, extension_length, options_length, payload_length};
+
+use crate::limits::MAX_LENGTH;
+use crate::message::CoapOption;
+
+/// How many bytes extend the nibble of a number (RFC 7252, section 3.1).
+fn bytes_of_extension(number: usize) -> usize
+    ensures value { result ≡ extension_length number }
+    ensures below { result ≤ 2 }
+{
+    if number < 13 {
+        0
+    } else if number < 269 {
+        1
+    } else {
+        2
+    }
+}
+
+/// How many bytes the options take. There is no answer where their numbers fall, or past 8,192 bytes.
+pub(crate) fn bytes_of_options(options: &[CoapOption]) -> Option<usize>
+    ensures rising { IfSome result (λ len. AreRising 0 options.now) }
+    ensures value { IfSome result (λ len. len ≡ options_length 0 options.now) }
+    ensures within { IfSome result (λ len. len ≤ 8192) }
+    ensures none { IfNone result (AreRising 0 options.now → 8192 < options_length 0 options.now) }
+{
+    let mut before = 0;
+    let mut len = 0;
+    for option in options {
+        let size = option.value.len();
+        if option.number < before || size > MAX_LENGTH {
+            return None;
+        }
+        let delta = (option.number - before) as usize;
+        len += 1 + bytes_of_extension(delta) + bytes_of_extension(size) + size;
+        if len > MAX_LENGTH {
+            return None;
+        }
+        before = option.number;
+    }
+    Some(len)
+}
+
+/// How many bytes a payload takes, its marker counted.
+pub(crate) fn bytes_of_payload(payload: &[u8]) -> usize
+    requires { length payload.now ≤ 8192 }
+    ensures { result ≡ payload_length payload.now }
+{
+    match payload {
+        [] => 0,
+        _ => 1 + payload.len(),
+    }
+}
