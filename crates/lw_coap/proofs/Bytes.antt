@@ -53,8 +53,8 @@ header_and_rest bytes version kind mid fits h v k m = rw take_rest (header_at by
 pub head_at : (bytes : List ℕ) (version : ℕ) → IsBytes bytes → 4 ≤ length bytes → length bytes ≤ 8192 → get_or bytes 0 0 / 64 ≡ version
     → HasHead bytes version (get_or bytes 0 0 % 16) (get_or bytes 1 0) (take (length bytes - 4) (drop 4 bytes))
 head_at bytes version fits h within v = record {
-    kind = get_or bytes 0 0 / 16 % 4;
-    mid = 256 * get_or bytes 2 0 + get_or bytes 3 0;
-    header = header_and_rest bytes version (get_or bytes 0 0 / 16 % 4) (256 * get_or bytes 2 0 + get_or bytes 3 0) fits h (sym v) refl refl;
-    within = within;
-  }
+  kind = get_or bytes 0 0 / 16 % 4;
+  mid = 256 * get_or bytes 2 0 + get_or bytes 3 0;
+  header = header_and_rest bytes version (get_or bytes 0 0 / 16 % 4) (256 * get_or bytes 2 0 + get_or bytes 3 0) fits h (sym v) refl refl;
+  within = within;
+}

@@ -7,13 +7,13 @@ use Rattle.lw_coap.specs.Fits.{printed_length, AreRising, Fits}
 
 pub fits_with : (m : MessageContent) (n : ℕ) → length m.token ≤ 8 → m.code < 256 → m.mid < 65536 → AreRising 0 m.options → printed_length m ≡ n → n ≤ 8192 → (m.code ≡ 0 → n ≡ 4) → Fits m
 fits_with m n token code mid rising size within empty = record {
-    token = token;
-    code = code;
-    mid = mid;
-    options = rising;
-    empty = λ (e : m.code ≡ 0). size ∙ empty e;
-    within = omega (arith, size, within);
-  }
+  token = token;
+  code = code;
+  mid = mid;
+  options = rising;
+  empty = λ (e : m.code ≡ 0). size ∙ empty e;
+  within = omega (arith, size, within);
+}
 
 is_not : (b : Bool) → (b ≡ true → ⊥) → IsTrue (not b)
 is_not true h = absurd (h refl)

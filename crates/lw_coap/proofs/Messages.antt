@@ -65,7 +65,7 @@ one_message bytes m n h g =
     let e = header_one bytes 1 1 (kind_number m.kind) (kind_number n.kind) (length m.token) (length n.token) m.code n.code m.mid n.mid (m.token ++ (h.option_bytes ++ h.payload_bytes)) (n.token ++ (g.option_bytes ++ g.payload_bytes)) h.header g.header in
     let token = front_one m.token n.token (h.option_bytes ++ h.payload_bytes) (g.option_bytes ++ g.payload_bytes) e.token e.rest_is in
     let body = options_one 0 m.options n.options h.option_bytes g.option_bytes h.payload_bytes g.payload_bytes h.options g.options token.1
-      (payload_no_option (number_after 0 m.options) h.payload_bytes m.payload h.payload) (payload_no_option (number_after 0 n.options) g.payload_bytes n.payload g.payload) in
+    (payload_no_option (number_after 0 m.options) h.payload_bytes m.payload h.payload) (payload_no_option (number_after 0 n.options) g.payload_bytes n.payload g.payload) in
     let payload : m.payload ≡ n.payload = payload_one g.payload_bytes m.payload n.payload (subst (λ (b : List ℕ). IsPayload b m.payload) body.2 h.payload) g.payload in
     message_is m n (kind_one m.kind n.kind e.kind) e.code e.mid token.0 body.0 payload
 
@@ -144,7 +144,7 @@ body_staged : (bytes : List ℕ) (f : Fault) → IsBodyFault bytes f → Staged 
 body_staged bytes f b =
     let full : length (b.token ++ b.body) < length b.token → ⊥ = λ x. omega (arith, x, length-append b.token b.body) in
     headed bytes f 1 (length b.token) b.code (b.token ++ b.body) b.head
-      (inr (good_version 1 refl, inr ((λ (x : 8 < length b.token). omega (arith, x, b.token_fits)), inr (b.code_is, inr (full, (b.token, b.body, refl, refl, b.fault_is))))))
+    (inr (good_version 1 refl, inr ((λ (x : 8 < length b.token). omega (arith, x, b.token_fits)), inr (b.code_is, inr (full, (b.token, b.body, refl, refl, b.fault_is))))))
 
 staged : (bytes : List ℕ) (f : Fault) → IsFault bytes f → Staged bytes f
 staged bytes TooLong g = inl (refl, g)
@@ -155,7 +155,7 @@ staged bytes EmptyMessage g =
     headed bytes EmptyMessage 1 g.0 0 g.1 g.2 (inr (good_version 1 refl, inr ((λ (x : 8 < g.0). omega (arith, x, g.3)), inl (refl, refl))))
 staged bytes Truncated (inl g) =
     headed bytes Truncated 1 g.token_length g.code g.rest g.head
-      (inr (good_version 1 refl, inr ((λ (x : 8 < g.token_length). omega (arith, x, g.token_fits)), inr (g.code_is, inl (refl, g.cut)))))
+    (inr (good_version 1 refl, inr ((λ (x : 8 < g.token_length). omega (arith, x, g.token_fits)), inr (g.code_is, inl (refl, g.cut)))))
 staged bytes Truncated (inr g) = body_staged bytes Truncated g
 staged bytes OptionHead g = body_staged bytes OptionHead g
 staged bytes EmptyPayload g = body_staged bytes EmptyPayload g
@@ -169,9 +169,9 @@ behind_one t rest f g h k =
 header_stage_one : (v t c : ℕ) (rest : List ℕ) (f g : Fault) → WithHeader v t c rest f → WithHeader v t c rest g → f ≡ g
 header_stage_one v t c rest f g =
     first_one Version (v ≢ 1) (WithVersion t c rest) (WithVersion t c rest) f g
-      (λ a b. first_one TokenLength (8 < t) (WithToken t c rest) (WithToken t c rest) a b
-        (λ a' b'. first_one EmptyMessage (c ≡ 0) (WithCode t rest) (WithCode t rest) a' b'
-          (λ p q. first_one Truncated (length rest < t) (Behind t rest) (Behind t rest) p q (behind_one t rest))))
+    (λ a b. first_one TokenLength (8 < t) (WithToken t c rest) (WithToken t c rest) a b
+    (λ a' b'. first_one EmptyMessage (c ≡ 0) (WithCode t rest) (WithCode t rest) a' b'
+    (λ p q. first_one Truncated (length rest < t) (Behind t rest) (Behind t rest) p q (behind_one t rest))))
 
 headed_one : (bytes : List ℕ) (f g : Fault) → Headed bytes f → Headed bytes g → f ≡ g
 headed_one bytes f g h k =
@@ -182,37 +182,37 @@ headed_one bytes f g h k =
 pub one_fault : (bytes : List ℕ) (f g : Fault) → IsFault bytes f → IsFault bytes g → f ≡ g
 one_fault bytes f g h k =
     first_one TooLong (8192 < length bytes) (Within bytes) (Within bytes) f g
-      (λ a b. first_one Short (length bytes < 4) (Headed bytes) (Headed bytes) a b (headed_one bytes))
-      (staged bytes f h) (staged bytes g k)
+    (λ a b. first_one Short (length bytes < 4) (Headed bytes) (Headed bytes) a b (headed_one bytes))
+    (staged bytes f h) (staged bytes g k)
 
 -- ---- what reading gives
 
 pub whole_message : (bytes : List ℕ) (kind : Kind) (code mid : ℕ) (token body : List ℕ) (options : List OptionContent) (payload : List ℕ) → IsFrame bytes kind code mid token body → IsBody body options payload
     → IsSpelling bytes (record { kind = kind; code = code; mid = mid; token = token; options = options; payload = payload })
 whole_message bytes kind code mid token body options payload f b = record {
-    option_bytes = b.front;
-    payload_bytes = b.rest;
-    header = subst (λ (x : List ℕ). IsHeader bytes 1 (kind_number kind) (length token) code mid (token ++ x)) b.bytes_are f.header;
-    options = b.whole;
-    payload = b.payload_is;
-    token = f.token_fits;
-    empty = λ (e : code ≡ 0). omega (arith, head_long bytes 1 (kind_number kind) (length token) code mid (token ++ body) f.header, ap length (f.empty e).0, ap length (f.empty e).1, length-append token body);
-    within = f.within;
-  }
+  option_bytes = b.front;
+  payload_bytes = b.rest;
+  header = subst (λ (x : List ℕ). IsHeader bytes 1 (kind_number kind) (length token) code mid (token ++ x)) b.bytes_are f.header;
+  options = b.whole;
+  payload = b.payload_is;
+  token = f.token_fits;
+  empty = λ (e : code ≡ 0). omega (arith, head_long bytes 1 (kind_number kind) (length token) code mid (token ++ body) f.header, ap length (f.empty e).0, ap length (f.empty e).1, length-append token body);
+  within = f.within;
+}
 
 no_fault_in_nothing : (f : Fault) → IsOptionsFault [] f → ⊥
 no_fault_in_nothing f h = options_no_fault [] [] [] [] [] f refl refl refl h
 
 body_fault_of : (bytes : List ℕ) (kind : Kind) (code mid : ℕ) (token body : List ℕ) (f : Fault) → IsFrame bytes kind code mid token body → IsOptionsFault body f → IsBodyFault bytes f
 body_fault_of bytes kind code mid token body f h o = record {
-    code = code;
-    token = token;
-    body = body;
-    head = record { kind = kind_number kind; mid = mid; header = h.header; within = h.within };
-    token_fits = h.token_fits;
-    code_is = λ (e : code ≡ 0). no_fault_in_nothing f (subst (λ (b : List ℕ). IsOptionsFault b f) (h.empty e).1 o);
-    fault_is = o;
-  }
+  code = code;
+  token = token;
+  body = body;
+  head = record { kind = kind_number kind; mid = mid; header = h.header; within = h.within };
+  token_fits = h.token_fits;
+  code_is = λ (e : code ≡ 0). no_fault_in_nothing f (subst (λ (b : List ℕ). IsOptionsFault b f) (h.empty e).1 o);
+  fault_is = o;
+}
 
 pub body_fault : (bytes : List ℕ) (kind : Kind) (code mid : ℕ) (token body : List ℕ) (f : Fault) → IsFrame bytes kind code mid token body → IsOptionsFault body f → IsFault bytes f
 body_fault bytes kind code mid token body OptionHead h o = body_fault_of bytes kind code mid token body OptionHead h o

@@ -63,7 +63,7 @@ option_is o p n v = ap (λ (x : ℕ). record { number = x; value = o.value }) n 
 pub option_one : (before : ℕ) (a b x y : List ℕ) (o p : OptionContent) → IsOption before a o → IsOption before b p → a ++ x ≡ b ++ y → (a ≡ b) × (o ≡ p) × (x ≡ y)
 option_one before a b x y o p h k e =
     let whole : h.head ++ (o.value ++ x) ≡ k.head ++ (p.value ++ y) =
-      sym (append_assoc h.head o.value x) ∙ sym (ap (λ (s : List ℕ). s ++ x) h.bytes_are) ∙ e ∙ ap (λ (s : List ℕ). s ++ y) k.bytes_are ∙ append_assoc k.head p.value y in
+    sym (append_assoc h.head o.value x) ∙ sym (ap (λ (s : List ℕ). s ++ x) h.bytes_are) ∙ e ∙ ap (λ (s : List ℕ). s ++ y) k.bytes_are ∙ append_assoc k.head p.value y in
     let q = head_one h.head k.head (o.value ++ x) (p.value ++ y) h.delta k.delta (length o.value) (length p.value) h.head_is k.head_is whole in
     let v = front_one o.value p.value x y q.2 q.3 in
     let n : o.number ≡ p.number = omega (arith, h.number_is, k.number_is, q.1) in
@@ -85,7 +85,7 @@ options_one before (o ∷ os) [] a b x y h k e ends ends_too =
     absurd (ends_too h.0 (h.1 ++ x) o parts h.3)
 options_one before (o ∷ os) (p ∷ ps) a b x y h k e ends ends_too =
     let whole : h.0 ++ (h.1 ++ x) ≡ k.0 ++ (k.1 ++ y) =
-      sym (append_assoc h.0 h.1 x) ∙ sym (ap (λ (s : List ℕ). s ++ x) h.2) ∙ e ∙ ap (λ (s : List ℕ). s ++ y) k.2 ∙ append_assoc k.0 k.1 y in
+    sym (append_assoc h.0 h.1 x) ∙ sym (ap (λ (s : List ℕ). s ++ x) h.2) ∙ e ∙ ap (λ (s : List ℕ). s ++ y) k.2 ∙ append_assoc k.0 k.1 y in
     let first = option_one before h.0 k.0 (h.1 ++ x) (k.1 ++ y) o p h.3 k.3 whole in
     let kk : AreOptions o.number k.1 ps = subst (λ (q : OptionContent). AreOptions q.number k.1 ps) (sym first.1) k.4 in
     let nn : NoOption (number_after o.number ps) y = subst (λ (q : OptionContent). NoOption (number_after q.number ps) y) (sym first.1) ends_too in

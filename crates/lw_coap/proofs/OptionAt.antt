@@ -18,15 +18,15 @@ nibbles b = omega arith
 
 pub reserved : (bytes : List ℕ) (b : ℕ) (rest : List ℕ) → b < 256 → bytes ≡ (b ∷ []) ++ rest → b ≢ 255 → (b / 16 ≡ 15) ⊎ (b % 16 ≡ 15) → HasReserved bytes
 reserved bytes b rest fits e marker h = record {
-    delta_nibble = b / 16;
-    length_nibble = b % 16;
-    rest = rest;
-    bytes_are = e ∙ ap (λ (x : ℕ). x ∷ rest) (nibbles b);
-    delta_fits = omega arith;
-    length_fits = omega arith;
-    reserved = h;
-    no_marker = λ (k : 16 * (b / 16) + b % 16 ≡ 255). marker (nibbles b ∙ k);
-  }
+  delta_nibble = b / 16;
+  length_nibble = b % 16;
+  rest = rest;
+  bytes_are = e ∙ ap (λ (x : ℕ). x ∷ rest) (nibbles b);
+  delta_fits = omega arith;
+  length_fits = omega arith;
+  reserved = h;
+  no_marker = λ (k : 16 * (b / 16) + b % 16 ≡ 255). marker (nibbles b ∙ k);
+}
 
 some_extension : (nibble : ℕ) → nibble < 16 → nibble ≢ 15 → (count : ℕ) × HasExtension nibble count
 some_extension nibble lt h =
@@ -58,37 +58,38 @@ cut_delta bytes b rest count fits e low h lt =
 pub cut_length : (bytes : List ℕ) (b : ℕ) (rest delta_bytes after : List ℕ) (delta count : ℕ) → bytes ≡ (b ∷ []) ++ rest
     → IsExtended (b / 16) delta_bytes delta → rest ≡ delta_bytes ++ after → HasExtension (b % 16) count → length after < count → IsCutHead bytes
 cut_length bytes b rest delta_bytes after delta count e d parts h lt = record {
-    delta_nibble = b / 16;
-    length_nibble = b % 16;
-    rest = rest;
-    delta_count = length delta_bytes;
-    length_count = count;
-    bytes_are = e ∙ ap (λ (x : ℕ). x ∷ rest) (nibbles b);
-    delta_has = extension_counts (b / 16) delta_bytes delta d;
-    length_has = h;
-    cut = omega (arith, ap length parts, length-append delta_bytes after);
-  }
+  delta_nibble = b / 16;
+  length_nibble = b % 16;
+  rest = rest;
+  delta_count = length delta_bytes;
+  length_count = count;
+  bytes_are = e ∙ ap (λ (x : ℕ). x ∷ rest) (nibbles b);
+  delta_has = extension_counts (b / 16) delta_bytes delta d;
+  length_has = h;
+  cut = omega (arith, ap length parts, length-append delta_bytes after);
+}
 
 pub begins : (bytes : List ℕ) (b : ℕ) (rest delta_bytes after length_bytes last : List ℕ) (delta len : ℕ) → bytes ≡ (b ∷ []) ++ rest
     → IsExtended (b / 16) delta_bytes delta → rest ≡ delta_bytes ++ after → IsExtended (b % 16) length_bytes len → after ≡ length_bytes ++ last → BeginsOption bytes delta len last
 begins bytes b rest delta_bytes after length_bytes last delta len e d first l second = record {
-    head = b ∷ (delta_bytes ++ length_bytes);
-    head_is = record {
-      delta_nibble = b / 16;
-      length_nibble = b % 16;
-      delta_bytes = delta_bytes;
-      length_bytes = length_bytes;
-      bytes_are = ap (λ (x : ℕ). x ∷ (delta_bytes ++ length_bytes)) (nibbles b);
-      delta_is = d;
-      length_is = l;
-    };
-    bytes_are = e ∙ ap (λ (x : List ℕ). b ∷ x) (first ∙ ap (λ (x : List ℕ). delta_bytes ++ x) second ∙ sym (append_assoc delta_bytes length_bytes last));
-  }
+  head = b ∷ (delta_bytes ++ length_bytes);
+  head_is = record {
+    delta_nibble = b / 16;
+    length_nibble = b % 16;
+    delta_bytes = delta_bytes;
+    length_bytes = length_bytes;
+    bytes_are = ap (λ (x : ℕ). x ∷ (delta_bytes ++ length_bytes)) (nibbles b);
+    delta_is = d;
+    length_is = l;
+  };
+  bytes_are = e ∙ ap (λ (x : List ℕ). b ∷ x) (first ∙ ap (λ (x : List ℕ). delta_bytes ++ x) second ∙ sym (append_assoc delta_bytes length_bytes last));
+}
 
 pub found : (bytes : List ℕ) (before delta len number : ℕ) (rest : List ℕ) → BeginsOption bytes delta len rest → len ≤ length rest → number ≡ before + delta → number < 65536
     → (front : List ℕ) × IsOption before front (record { number = number; value = take len rest }) × (bytes ≡ front ++ drop len rest)
 found bytes before delta len number rest h le n lt =
-    let k : length (take len rest) ≡ len = length-take-le len rest le in
-    (h.head ++ take len rest,
-     record { head = h.head; delta = delta; head_is = rw k h.head_is; bytes_are = refl; number_is = n; in_range = lt },
-     h.bytes_are ∙ ap (λ (x : List ℕ). h.head ++ x) (sym (take-append-drop len rest)) ∙ sym (append_assoc h.head (take len rest) (drop len rest)))
+    let k : length (take len rest) ≡ len = length-take-le len rest le in (
+      h.head ++ take len rest,
+      record { head = h.head; delta = delta; head_is = rw k h.head_is; bytes_are = refl; number_is = n; in_range = lt },
+      h.bytes_are ∙ ap (λ (x : List ℕ). h.head ++ x) (sym (take-append-drop len rest)) ∙ sym (append_assoc h.head (take len rest) (drop len rest)),
+    )

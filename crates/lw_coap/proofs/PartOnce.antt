@@ -46,23 +46,23 @@ record Starts (bytes : List ℕ) : Type 0 where
 
 starts : (bytes : List ℕ) (delta len : ℕ) (rest : List ℕ) → BeginsOption bytes delta len rest → Starts bytes
 starts bytes delta len rest h = record {
-    delta_nibble = h.head_is.delta_nibble;
-    length_nibble = h.head_is.length_nibble;
-    rest = (h.head_is.delta_bytes ++ h.head_is.length_bytes) ++ rest;
-    delta_count = length h.head_is.delta_bytes;
-    length_count = length h.head_is.length_bytes;
-    bytes_are = h.bytes_are ∙ ap (λ (s : List ℕ). s ++ rest) h.head_is.bytes_are;
-    delta_has = extension_counts h.head_is.delta_nibble h.head_is.delta_bytes delta h.head_is.delta_is;
-    length_has = extension_counts h.head_is.length_nibble h.head_is.length_bytes len h.head_is.length_is;
-    enough = omega (arith, length-append (h.head_is.delta_bytes ++ h.head_is.length_bytes) rest, length-append h.head_is.delta_bytes h.head_is.length_bytes);
-  }
+  delta_nibble = h.head_is.delta_nibble;
+  length_nibble = h.head_is.length_nibble;
+  rest = (h.head_is.delta_bytes ++ h.head_is.length_bytes) ++ rest;
+  delta_count = length h.head_is.delta_bytes;
+  length_count = length h.head_is.length_bytes;
+  bytes_are = h.bytes_are ∙ ap (λ (s : List ℕ). s ++ rest) h.head_is.bytes_are;
+  delta_has = extension_counts h.head_is.delta_nibble h.head_is.delta_bytes delta h.head_is.delta_is;
+  length_has = extension_counts h.head_is.length_nibble h.head_is.length_bytes len h.head_is.length_is;
+  enough = omega (arith, length-append (h.head_is.delta_bytes ++ h.head_is.length_bytes) rest, length-append h.head_is.delta_bytes h.head_is.length_bytes);
+}
 
 option_begins : (before : ℕ) (bytes a x : List ℕ) (o : OptionContent) → bytes ≡ a ++ x → (h : IsOption before a o) → BeginsOption bytes h.delta (length o.value) (o.value ++ x)
 option_begins before bytes a x o e h = record {
-    head = h.head;
-    head_is = h.head_is;
-    bytes_are = e ∙ ap (λ (s : List ℕ). s ++ x) h.bytes_are ∙ append_assoc h.head o.value x;
-  }
+  head = h.head;
+  head_is = h.head_is;
+  bytes_are = e ∙ ap (λ (s : List ℕ). s ++ x) h.bytes_are ∙ append_assoc h.head o.value x;
+}
 
 begins_one : (bytes : List ℕ) (delta len : ℕ) (rest : List ℕ) (delta' len' : ℕ) (rest' : List ℕ) → BeginsOption bytes delta len rest → BeginsOption bytes delta' len' rest'
     → (delta ≡ delta') × (len ≡ len') × (rest ≡ rest')
@@ -157,9 +157,9 @@ begun_one before bytes f g h k =
 pub part_fault_one : (before : ℕ) (bytes : List ℕ) (f g : Fault) → IsPartFault before bytes f → IsPartFault before bytes g → f ≡ g
 part_fault_one before bytes f g h k =
     first_one EmptyPayload (bytes ≡ 255 ∷ []) (NoMarker before bytes) (NoMarker before bytes) f g
-      (λ a b. first_one OptionHead (HasReserved bytes) (NotReserved before bytes) (NotReserved before bytes) a b
-        (λ c d. first_one Truncated (IsCutHead bytes) (Begun before bytes) (Begun before bytes) c d (begun_one before bytes)))
-      (staged before bytes f h) (staged before bytes g k)
+    (λ a b. first_one OptionHead (HasReserved bytes) (NotReserved before bytes) (NotReserved before bytes) a b
+    (λ c d. first_one Truncated (IsCutHead bytes) (Begun before bytes) (Begun before bytes) c d (begun_one before bytes)))
+    (staged before bytes f h) (staged before bytes g k)
 
 -- ---- no option, no payload
 
@@ -225,12 +225,12 @@ payload_no_fault before bytes (b ∷ payload) f h k =
 pub options_fault_one : (body : List ℕ) (f g : Fault) → IsOptionsFault body f → IsOptionsFault body g → f ≡ g
 options_fault_one body f g h k =
     let e = options_one 0 h.options k.options h.front k.front h.rest k.rest h.whole k.whole (sym h.bytes_are ∙ k.bytes_are)
-      (fault_no_option (number_after 0 h.options) h.rest f h.next) (fault_no_option (number_after 0 k.options) k.rest g k.next) in
+    (fault_no_option (number_after 0 h.options) h.rest f h.next) (fault_no_option (number_after 0 k.options) k.rest g k.next) in
     let kk : IsPartFault (number_after 0 h.options) k.rest g = subst (λ (os : List OptionContent). IsPartFault (number_after 0 os) k.rest g) (sym e.0) k.next in
     part_fault_one (number_after 0 h.options) h.rest f g h.next (subst (λ (r : List ℕ). IsPartFault (number_after 0 h.options) r g) (sym e.2) kk)
 
 pub options_no_fault : (body : List ℕ) (os : List OptionContent) (front rest payload : List ℕ) (f : Fault) → body ≡ front ++ rest → AreOptions 0 front os → IsPayload rest payload → IsOptionsFault body f → ⊥
 options_no_fault body os front rest payload f parts whole p k =
     let e = options_one 0 os k.options front k.front rest k.rest whole k.whole (sym parts ∙ k.bytes_are)
-      (payload_no_option (number_after 0 os) rest payload p) (fault_no_option (number_after 0 k.options) k.rest f k.next) in
+    (payload_no_option (number_after 0 os) rest payload p) (fault_no_option (number_after 0 k.options) k.rest f k.next) in
     payload_no_fault (number_after 0 k.options) k.rest payload f (subst (λ (r : List ℕ). IsPayload r payload) e.2 p) k.next

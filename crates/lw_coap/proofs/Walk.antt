@@ -30,11 +30,11 @@ none_walked body = record { front = []; bytes_are = refl; whole = refl; number_i
 pub walked_more : (body : List ℕ) (options : List OptionContent) (number : ℕ) (rest front after : List ℕ) (o : OptionContent)
     → IsWalked body options number rest → IsOption number front o → rest ≡ front ++ after → IsWalked body (options ++ o ∷ []) o.number after
 walked_more body options number rest front after o w h parts = record {
-    front = w.front ++ front;
-    bytes_are = w.bytes_are ∙ ap (λ (x : List ℕ). w.front ++ x) parts ∙ sym (append_assoc w.front front after);
-    whole = options_push 0 options w.front front o w.whole (rw w.number_is at h);
-    number_is = sym (number_after-push 0 options o);
-  }
+  front = w.front ++ front;
+  bytes_are = w.bytes_are ∙ ap (λ (x : List ℕ). w.front ++ x) parts ∙ sym (append_assoc w.front front after);
+  whole = options_push 0 options w.front front o w.whole (rw w.number_is at h);
+  number_is = sym (number_after-push 0 options o);
+}
 
 pub walked_fault : (body : List ℕ) (options : List OptionContent) (number : ℕ) (rest : List ℕ) (fault : Fault) → IsWalked body options number rest → IsPartFault number rest fault → IsOptionsFault body fault
 walked_fault body options number rest fault w h = record { options = options; front = w.front; rest = rest; bytes_are = w.bytes_are; whole = w.whole; next = rw w.number_is at h }

@@ -45,21 +45,21 @@ extended_is n (a ∷ b ∷ c ∷ more) v h = absurd h
 
 option_written : (before : ℕ) (o : OptionContent) → before ≤ o.number → o.number < 65536 → length o.value < 65536 → IsOption before (option_bytes before o) o
 option_written before o rising fits small = record {
-    head = (16 * nibble_of (o.number - before) + nibble_of (length o.value)) ∷ (extension_of (o.number - before) ++ extension_of (length o.value));
-    delta = o.number - before;
-    head_is = record {
-      delta_nibble = nibble_of (o.number - before);
-      length_nibble = nibble_of (length o.value);
-      delta_bytes = extension_of (o.number - before);
-      length_bytes = extension_of (length o.value);
-      bytes_are = refl;
-      delta_is = extended_written (o.number - before) (omega arith);
-      length_is = extended_written (length o.value) (omega arith);
-    };
+  head = (16 * nibble_of (o.number - before) + nibble_of (length o.value)) ∷ (extension_of (o.number - before) ++ extension_of (length o.value));
+  delta = o.number - before;
+  head_is = record {
+    delta_nibble = nibble_of (o.number - before);
+    length_nibble = nibble_of (length o.value);
+    delta_bytes = extension_of (o.number - before);
+    length_bytes = extension_of (length o.value);
     bytes_are = refl;
-    number_is = omega arith;
-    in_range = fits;
-  }
+    delta_is = extended_written (o.number - before) (omega arith);
+    length_is = extended_written (length o.value) (omega arith);
+  };
+  bytes_are = refl;
+  number_is = omega arith;
+  in_range = fits;
+}
 
 option_is : (before : ℕ) (bytes : List ℕ) (o : OptionContent) → IsOption before bytes o → bytes ≡ option_bytes before o
 option_is before bytes o h =
@@ -69,15 +69,20 @@ option_is before bytes o h =
     let dn : h.head_is.delta_nibble ≡ nibble_of (o.number - before) = delta.0 ∙ ap nibble_of d in
     let db : h.head_is.delta_bytes ≡ extension_of (o.number - before) = delta.1 ∙ ap extension_of d in
     h.bytes_are ∙ ap (λ (x : List ℕ). x ++ o.value) (h.head_is.bytes_are
-      ∙ ap (λ (x : ℕ). (16 * x + h.head_is.length_nibble) ∷ (h.head_is.delta_bytes ++ h.head_is.length_bytes)) dn
-      ∙ ap (λ (x : ℕ). (16 * nibble_of (o.number - before) + x) ∷ (h.head_is.delta_bytes ++ h.head_is.length_bytes)) len.0
-      ∙ ap (λ (x : List ℕ). (16 * nibble_of (o.number - before) + nibble_of (length o.value)) ∷ (x ++ h.head_is.length_bytes)) db
-      ∙ ap (λ (x : List ℕ). (16 * nibble_of (o.number - before) + nibble_of (length o.value)) ∷ (extension_of (o.number - before) ++ x)) len.1)
+    ∙ ap (λ (x : ℕ). (16 * x + h.head_is.length_nibble) ∷ (h.head_is.delta_bytes ++ h.head_is.length_bytes)) dn
+    ∙ ap (λ (x : ℕ). (16 * nibble_of (o.number - before) + x) ∷ (h.head_is.delta_bytes ++ h.head_is.length_bytes)) len.0
+    ∙ ap (λ (x : List ℕ). (16 * nibble_of (o.number - before) + nibble_of (length o.value)) ∷ (x ++ h.head_is.length_bytes)) db
+    ∙ ap (λ (x : List ℕ). (16 * nibble_of (o.number - before) + nibble_of (length o.value)) ∷ (extension_of (o.number - before) ++ x)) len.1)
 
 option_counted : (before : ℕ) (o : OptionContent) → length (option_bytes before o) ≡ option_length before o
 option_counted before o =
-    omega (arith, length-append ((16 * nibble_of (o.number - before) + nibble_of (length o.value)) ∷ (extension_of (o.number - before) ++ extension_of (length o.value))) o.value,
-      length-append (extension_of (o.number - before)) (extension_of (length o.value)), extension_counted (o.number - before), extension_counted (length o.value))
+    omega (
+      arith,
+      length-append ((16 * nibble_of (o.number - before) + nibble_of (length o.value)) ∷ (extension_of (o.number - before) ++ extension_of (length o.value))) o.value,
+      length-append (extension_of (o.number - before)) (extension_of (length o.value)),
+      extension_counted (o.number - before),
+      extension_counted (length o.value),
+    )
 
 options_written : (before : ℕ) (os : List OptionContent) → AreRising before os → options_length before os ≤ 8192 → AreOptions before (options_bytes before os) os
 options_written before [] rising small = refl
@@ -124,8 +129,14 @@ kind_small Rst = omega arith
 
 message_counted : (m : MessageContent) → length (message_bytes m) ≡ printed_length m
 message_counted m =
-    omega (arith, length-append (header_bytes m) (m.token ++ (options_bytes 0 m.options ++ payload_bytes m.payload)), length-append m.token (options_bytes 0 m.options ++ payload_bytes m.payload),
-      length-append (options_bytes 0 m.options) (payload_bytes m.payload), options_counted 0 m.options, payload_counted m.payload)
+    omega (
+      arith,
+      length-append (header_bytes m) (m.token ++ (options_bytes 0 m.options ++ payload_bytes m.payload)),
+      length-append m.token (options_bytes 0 m.options ++ payload_bytes m.payload),
+      length-append (options_bytes 0 m.options) (payload_bytes m.payload),
+      options_counted 0 m.options,
+      payload_counted m.payload,
+    )
 
 pub written_spells : (m : MessageContent) → Fits m → IsSpelling (message_bytes m) m
 written_spells m fits =
@@ -157,10 +168,10 @@ spelling_is bytes m h =
     let high : h.header.high ≡ m.mid / 256 = omega (arith, h.header.mid_is, h.header.low_fits) in
     let low : h.header.low ≡ m.mid % 256 = omega (arith, h.header.mid_is, h.header.low_fits) in
     h.header.bytes_are
-      ∙ ap (λ (x : ℕ). (64 + 16 * kind_number m.kind + length m.token) ∷ m.code ∷ x ∷ h.header.low ∷ (m.token ++ (h.option_bytes ++ h.payload_bytes))) high
-      ∙ ap (λ (x : ℕ). (64 + 16 * kind_number m.kind + length m.token) ∷ m.code ∷ (m.mid / 256) ∷ x ∷ (m.token ++ (h.option_bytes ++ h.payload_bytes))) low
-      ∙ ap (λ (x : List ℕ). header_bytes m ++ (m.token ++ (x ++ h.payload_bytes))) (options_are 0 h.option_bytes m.options h.options)
-      ∙ ap (λ (x : List ℕ). header_bytes m ++ (m.token ++ (options_bytes 0 m.options ++ x))) (payload_is h.payload_bytes m.payload h.payload)
+    ∙ ap (λ (x : ℕ). (64 + 16 * kind_number m.kind + length m.token) ∷ m.code ∷ x ∷ h.header.low ∷ (m.token ++ (h.option_bytes ++ h.payload_bytes))) high
+    ∙ ap (λ (x : ℕ). (64 + 16 * kind_number m.kind + length m.token) ∷ m.code ∷ (m.mid / 256) ∷ x ∷ (m.token ++ (h.option_bytes ++ h.payload_bytes))) low
+    ∙ ap (λ (x : List ℕ). header_bytes m ++ (m.token ++ (x ++ h.payload_bytes))) (options_are 0 h.option_bytes m.options h.options)
+    ∙ ap (λ (x : List ℕ). header_bytes m ++ (m.token ++ (options_bytes 0 m.options ++ x))) (payload_is h.payload_bytes m.payload h.payload)
 
 pub spelling_one : (a b : List ℕ) (m : MessageContent) → IsSpelling a m → IsSpelling b m → a ≡ b
 spelling_one a b m h k = spelling_is a m h ∙ sym (spelling_is b m k)

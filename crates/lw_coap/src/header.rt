@@ -4,7 +4,7 @@ ghost use Rattle.lw_coap.specs.Faults.{IsFault};
 ghost use Rattle.lw_coap.specs.Header.{HasHeader, HasNoHeader};
 
 use crate::fault::Fault;
-use crate::limits::{MAX_LENGTH, MAX_TOKEN};
+use crate::limits::{MAX_LENGTH, MAX_TOKEN, VERSION};
 use crate::message::Kind;
 
 /// A header, and the bytes behind it.
@@ -43,7 +43,8 @@ pub(crate) fn read_header(bytes: &[u8]) -> Result<Header<'_>, Fault>
     let [first, code, high, low, rest @ ..] = bytes else {
         return Err(Fault::Short);
     };
-    if *first / 64 != 1 {
+    let version = *first / 64;
+    if version != VERSION {
         return Err(Fault::Version);
     }
     let token_length = (*first % 16) as usize;
@@ -71,7 +72,7 @@ pub fn peek_header(bytes: &[u8]) -> Option<(Kind, u8, u16)>
     let [first, code, high, low, ..] = bytes else {
         return None;
     };
-    if *first / 64 != 1 {
+    if *first / 64 != VERSION {
         return None;
     }
     let mid = u16::from_be_bytes([*high, *low]);

@@ -4,6 +4,7 @@
 //! walks the grammar whole before it takes any memory, so a fault never depends on memory.
 #![tactic(auto)]
 
+pub mod codes;
 mod fault;
 mod header;
 pub mod laws;
@@ -11,6 +12,7 @@ mod limits;
 mod message;
 mod number;
 mod option;
+pub mod option_numbers;
 mod reading;
 mod size;
 mod writing;
@@ -21,3 +23,6 @@ pub use message::{CoapOption, Kind, Message};
 pub use number::uint;
 pub use reading::decode;
 pub use writing::encode;
+
+#[cfg(test)]
+mod tests;

@@ -11,3 +11,6 @@ pub const MAX_TOKEN: usize = 8;
 
 /// The byte before a payload (RFC 7252, section 3).
 pub const PAYLOAD_MARKER: u8 = 0xff;
+
+/// The version of the protocol (RFC 7252, section 3).
+pub const VERSION: u8 = 1;

@@ -69,12 +69,12 @@ impl Model for Message {
     ghost Value = { MessageContent };
 
     ghost view = { λ a. record {
-        kind = a.kind;
-        code = a.code;
-        mid = a.mid;
-        token = a.token.items;
-        options = a.options.items;
-        payload = a.payload.items;
+      kind = a.kind;
+      code = a.code;
+      mid = a.mid;
+      token = a.token.items;
+      options = a.options.items;
+      payload = a.payload.items;
     } };
 }
 
