@@ -1,6 +1,7 @@
 -- What is read is printed so, and what is printed so is read.
-use Rattle.std.proofs.Common.{◌≡◌, ◌≢◌, ℕ, ◌+◌, ◌^◌, ◌<◌, ◌≤◌, List, [], ◌∷◌, ◌++◌, length, get_or, map, Option, Some, None, append_assoc, rules, refl, sym, ap, subst, ◌∙◌, arith}
+use Rattle.std.proofs.Common.{◌≡◌, ◌≢◌, ℕ, ◌+◌, ◌^◌, ◌<◌, ◌≤◌, List, [], ◌∷◌, ◌++◌, length, get_or, map, Option, Some, None, Result, Ok, Err, String, string_bytes, append_assoc, rules, refl, sym, ap, subst, ◌∙◌, arith}
 use Rattle.std.specs.Option.{IfSome}
+use Rattle.std.specs.Result.{IfOk}
 use Rattle.std.specs.Fmt.{decimal}
 use Rattle.std.proofs.lemmas.List.{take_at, drop_at, append-nil}
 use borrow.Rule.Slice.PartMut.{put_mid}
@@ -30,9 +31,9 @@ v4_in_text text a e =
     let third : q.0.1 ≡ decimal r.0.0 ++ (46 ∷ (decimal s.0.0 ++ (58 ∷ decimal n.0))) = (octet_then_text 46 q.0.1 r.0 r.1).0 ∙ ap (λ (t : List ℕ). decimal r.0.0 ++ (46 ∷ t)) last in
     let second : p.0.1 ≡ decimal q.0.0 ++ (46 ∷ (decimal r.0.0 ++ (46 ∷ (decimal s.0.0 ++ (58 ∷ decimal n.0))))) = (octet_then_text 46 p.0.1 q.0 q.1).0 ∙ ap (λ (t : List ℕ). decimal q.0.0 ++ (46 ∷ t)) third in
     (octet_then_text 46 text p.0 p.1).0
-        ∙ ap (λ (t : List ℕ). decimal p.0.0 ++ (46 ∷ t)) second
-        ∙ sym (v4_text p.0.0 q.0.0 r.0.0 s.0.0 n.0)
-        ∙ ap addr_text v
+    ∙ ap (λ (t : List ℕ). decimal p.0.0 ++ (46 ∷ t)) second
+    ∙ sym (v4_text p.0.0 q.0.0 r.0.0 s.0.0 n.0)
+    ∙ ap addr_text v
 
 v4_again : (a b c d port : ℕ) → a < 256 → b < 256 → c < 256 → d < 256 → port < 2 ^ 16 → v4_in (addr_text (V4 (a ∷ b ∷ c ∷ d ∷ []) port)) ≡ Some (V4 (a ∷ b ∷ c ∷ d ∷ []) port)
 unfolding v4_in
@@ -41,11 +42,13 @@ v4_again a b c d port fa fb fc fd fp =
     let r3 = decimal c ++ (46 ∷ r4) in
     let r2 = decimal b ++ (46 ∷ r3) in
     ap v4_in (v4_text a b c d port) ∙
-    rw (octet_then-decimal 46 a r2 fa (λ low high. omega arith),
-        octet_then-decimal 46 b r3 fb (λ low high. omega arith),
-        octet_then-decimal 46 c r4 fc (λ low high. omega arith),
-        octet_then-decimal 58 d (decimal port) fd (λ low high. omega arith),
-        number_in-decimal (2 ^ 16) port fp (omega arith)) refl
+    rw (
+      octet_then-decimal 46 a r2 fa (λ low high. omega arith),
+      octet_then-decimal 46 b r3 fb (λ low high. omega arith),
+      octet_then-decimal 46 c r4 fc (λ low high. omega arith),
+      octet_then-decimal 58 d (decimal port) fd (λ low high. omega arith),
+      number_in-decimal (2 ^ 16) port fp (omega arith),
+    ) refl
 
 v6_in_text : (text : List ℕ) (a : Addr) → v6_in text ≡ Some a → 91 ∷ text ≡ addr_text a
 unfolding v6_in
@@ -59,18 +62,26 @@ v6_in_text text a e =
     let y = four_then_text 93 p.0.1 q.0 q.1 in
     let port : q.0.1 ≡ 58 ∷ decimal n.0 = strip_at_parts 58 q.0.1 r.0 r.1 ∙ ap (λ (t : List ℕ). 58 ∷ t) (number_in_text (2 ^ 16) r.0 n.0 n.1).0 in
     let back : p.0.1 ≡ four_text y.first.0 y.first.1 y.second.0 y.second.1 y.third.0 y.third.1 y.fourth.0 y.fourth.1 (93 ∷ 58 ∷ decimal n.0) =
-        y.parts ∙ ap (λ (t : List ℕ). four_text y.first.0 y.first.1 y.second.0 y.second.1 y.third.0 y.third.1 y.fourth.0 y.fourth.1 (93 ∷ t)) port in
+    y.parts ∙ ap (λ (t : List ℕ). four_text y.first.0 y.first.1 y.second.0 y.second.1 y.third.0 y.third.1 y.fourth.0 y.fourth.1 (93 ∷ t)) port in
     let whole : text ≡ four_text x.first.0 x.first.1 x.second.0 x.second.1 x.third.0 x.third.1 x.fourth.0 x.fourth.1 (58 ∷ four_text y.first.0 y.first.1 y.second.0 y.second.1 y.third.0 y.third.1 y.fourth.0 y.fourth.1 (93 ∷ 58 ∷ decimal n.0)) =
-        x.parts ∙ ap (λ (t : List ℕ). four_text x.first.0 x.first.1 x.second.0 x.second.1 x.third.0 x.third.1 x.fourth.0 x.fourth.1 (58 ∷ t)) back in
+    x.parts ∙ ap (λ (t : List ℕ). four_text x.first.0 x.first.1 x.second.0 x.second.1 x.third.0 x.third.1 x.fourth.0 x.fourth.1 (58 ∷ t)) back in
     ap (λ (t : List ℕ). 91 ∷ t) whole
-        ∙ sym (ap (λ (z : List ℕ × List ℕ). addr_text (V6 (z.0 ++ z.1) n.0)) (λ i. (x.bytes i, y.bytes i)))
-        ∙ ap addr_text v
+    ∙ sym (ap (λ (z : List ℕ × List ℕ). addr_text (V6 (z.0 ++ z.1) n.0)) (λ i. (x.bytes i, y.bytes i)))
+    ∙ ap addr_text v
 
 list_4 : (address : List ℕ) → length address ≡ 4 → address ≡ get_or address 0 0 ∷ get_or address 1 0 ∷ get_or address 2 0 ∷ get_or address 3 0 ∷ []
 list_4 address whole = text_from_reads address (get_or address 0 0 ∷ get_or address 1 0 ∷ get_or address 2 0 ∷ get_or address 3 0 ∷ []) whole (search rules)
 
 list_16 : (address : List ℕ) → length address ≡ 16 → address ≡ get_or address 0 0 ∷ get_or address 1 0 ∷ get_or address 2 0 ∷ get_or address 3 0 ∷ get_or address 4 0 ∷ get_or address 5 0 ∷ get_or address 6 0 ∷ get_or address 7 0 ∷ get_or address 8 0 ∷ get_or address 9 0 ∷ get_or address 10 0 ∷ get_or address 11 0 ∷ get_or address 12 0 ∷ get_or address 13 0 ∷ get_or address 14 0 ∷ get_or address 15 0 ∷ []
 list_16 address whole = text_from_reads address (get_or address 0 0 ∷ get_or address 1 0 ∷ get_or address 2 0 ∷ get_or address 3 0 ∷ get_or address 4 0 ∷ get_or address 5 0 ∷ get_or address 6 0 ∷ get_or address 7 0 ∷ get_or address 8 0 ∷ get_or address 9 0 ∷ get_or address 10 0 ∷ get_or address 11 0 ∷ get_or address 12 0 ∷ get_or address 13 0 ∷ get_or address 14 0 ∷ get_or address 15 0 ∷ []) whole (search rules)
+
+-- what the pieces of an IPv4 address make
+pub v4_printed : {A E : Type 0} (address : List ℕ) (port : ℕ) → length address ≡ 4 → (r : Result (String A) E)
+    → IfOk r (λ text. string_bytes text ≡ decimal (get_or address 0 0) ++ (46 ∷ (decimal (get_or address 1 0) ++ (46 ∷ (decimal (get_or address 2 0) ++ (46 ∷ (decimal (get_or address 3 0) ++ (58 ∷ decimal port))))))))
+    → IfOk r (λ text. string_bytes text ≡ addr_text (V4 address port))
+v4_printed address port whole (Ok text) h =
+    h ∙ sym (ap (λ (l : List ℕ). addr_text (V4 l port)) (list_4 address whole) ∙ v4_text (get_or address 0 0) (get_or address 1 0) (get_or address 2 0) (get_or address 3 0) port)
+v4_printed address port whole (Err e) h = tt
 
 v6_again : (address : List ℕ) (port : ℕ) → IsHost 16 address port → (text : List ℕ) → 91 ∷ text ≡ addr_text (V6 address port) → v6_in text ≡ Some (V6 address port)
 unfolding v6_in
@@ -81,9 +92,11 @@ v6_again address port host text e =
     let printed : 91 ∷ text ≡ 91 ∷ front = e ∙ ap (λ (l : List ℕ). addr_text (V6 l port)) whole in
     let same : text ≡ front = cc in
     ap v6_in same ∙
-    rw (four_then-text 58 (get_or address 0 0) (get_or address 1 0) (get_or address 2 0) (get_or address 3 0) (get_or address 4 0) (get_or address 5 0) (get_or address 6 0) (get_or address 7 0) back colon (record { at_a = host.bytes 0; at_b = host.bytes 1; at_c = host.bytes 2; at_d = host.bytes 3; at_e = host.bytes 4; at_f = host.bytes 5; at_g = host.bytes 6; at_h = host.bytes 7 }),
-        four_then-text 93 (get_or address 8 0) (get_or address 9 0) (get_or address 10 0) (get_or address 11 0) (get_or address 12 0) (get_or address 13 0) (get_or address 14 0) (get_or address 15 0) (58 ∷ decimal port) bracket (record { at_a = host.bytes 8; at_b = host.bytes 9; at_c = host.bytes 10; at_d = host.bytes 11; at_e = host.bytes 12; at_f = host.bytes 13; at_g = host.bytes 14; at_h = host.bytes 15 }),
-        number_in-decimal (2 ^ 16) port host.port (omega arith)) (ap (λ (l : List ℕ). Some (V6 l port)) (sym whole))
+    rw (
+      four_then-text 58 (get_or address 0 0) (get_or address 1 0) (get_or address 2 0) (get_or address 3 0) (get_or address 4 0) (get_or address 5 0) (get_or address 6 0) (get_or address 7 0) back colon (record { at_a = host.bytes 0; at_b = host.bytes 1; at_c = host.bytes 2; at_d = host.bytes 3; at_e = host.bytes 4; at_f = host.bytes 5; at_g = host.bytes 6; at_h = host.bytes 7 }),
+      four_then-text 93 (get_or address 8 0) (get_or address 9 0) (get_or address 10 0) (get_or address 11 0) (get_or address 12 0) (get_or address 13 0) (get_or address 14 0) (get_or address 15 0) (58 ∷ decimal port) bracket (record { at_a = host.bytes 8; at_b = host.bytes 9; at_c = host.bytes 10; at_d = host.bytes 11; at_e = host.bytes 12; at_f = host.bytes 13; at_g = host.bytes 14; at_h = host.bytes 15 }),
+      number_in-decimal (2 ^ 16) port host.port (omega arith),
+    ) (ap (λ (l : List ℕ). Some (V6 l port)) (sym whole))
 
 by_first : (text : List ℕ) (a : Addr) (o : Option (List ℕ)) → strip_at 91 text ≡ o → by_bracket text o ≡ Some a → text ≡ addr_text a
 by_first text a (Some rest) is e = strip_at_parts 91 text rest is ∙ v6_in_text rest a e
@@ -118,6 +131,6 @@ addr_in-text (V4 address port) host =
     let printed = ap (λ (l : List ℕ). addr_text (V4 l port)) whole ∙ v4_text (get_or address 0 0) (get_or address 1 0) (get_or address 2 0) (get_or address 3 0) port in
     let none : strip_at 91 text ≡ None = rw printed (strip_at-other 91 (decimal (get_or address 0 0) ++ others) (λ (e : get_or (decimal (get_or address 0 0) ++ others) 0 0 ≡ 91). omega (arith, first, e))) in
     without_bracket text (V4 address port) none (ap (λ (l : List ℕ). v4_in (addr_text (V4 l port))) whole
-        ∙ v4_again (get_or address 0 0) (get_or address 1 0) (get_or address 2 0) (get_or address 3 0) port (host.bytes 0) (host.bytes 1) (host.bytes 2) (host.bytes 3) host.port
-        ∙ ap (λ (l : List ℕ). Some (V4 l port)) (sym whole))
+    ∙ v4_again (get_or address 0 0) (get_or address 1 0) (get_or address 2 0) (get_or address 3 0) port (host.bytes 0) (host.bytes 1) (host.bytes 2) (host.bytes 3) host.port
+    ∙ ap (λ (l : List ℕ). Some (V4 l port)) (sym whole))
 addr_in-text (V6 address port) host = behind_bracket _ (V6 address port) (v6_again address port host _ refl)

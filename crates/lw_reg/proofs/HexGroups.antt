@@ -80,9 +80,11 @@ group_then_text c text x e =
     let a = bind_some (cut_at c text) (λ y. group_in y.0 >>= λ g. Some (g, y.1)) x e in
     let b = bind_some (group_in a.0.0) (λ g. Some (g, a.0.1)) x a.2 in
     let g = group_in_text a.0.0 b.0 b.1 in
-    let v = some_is (b.0, a.0.1) x b.2 in
-    (cut_at_parts c text a.0 a.1 ∙ ap (λ (t : List ℕ). t ++ (c ∷ a.0.1)) g.0 ∙ ap (λ (y : (ℕ × ℕ) × List ℕ). (hex_text y.0.0 ++ hex_text y.0.1) ++ (c ∷ y.1)) v,
-     omega (arith, g.1, ap (λ (y : (ℕ × ℕ) × List ℕ). y.0.0) v), omega (arith, g.2, ap (λ (y : (ℕ × ℕ) × List ℕ). y.0.1) v))
+    let v = some_is (b.0, a.0.1) x b.2 in (
+      cut_at_parts c text a.0 a.1 ∙ ap (λ (t : List ℕ). t ++ (c ∷ a.0.1)) g.0 ∙ ap (λ (y : (ℕ × ℕ) × List ℕ). (hex_text y.0.0 ++ hex_text y.0.1) ++ (c ∷ y.1)) v,
+      omega (arith, g.1, ap (λ (y : (ℕ × ℕ) × List ℕ). y.0.0) v),
+      omega (arith, g.2, ap (λ (y : (ℕ × ℕ) × List ℕ). y.0.1) v),
+    )
 
 -- what may follow a group
 pub data IsMark : ℕ → Type 0 where
@@ -160,7 +162,9 @@ four_then-text mark a b c d e f g h rest is_mark fits =
     let last = (hex_text g ++ hex_text h) ++ (mark ∷ rest) in
     let third = (hex_text e ++ hex_text f) ++ (58 ∷ last) in
     let second = (hex_text c ++ hex_text d) ++ (58 ∷ third) in
-    rw (group_then-text 58 a b second colon fits.at_a fits.at_b,
-        group_then-text 58 c d third colon fits.at_c fits.at_d,
-        group_then-text 58 e f last colon fits.at_e fits.at_f,
-        group_then-text mark g h rest is_mark fits.at_g fits.at_h) refl
+    rw (
+      group_then-text 58 a b second colon fits.at_a fits.at_b,
+      group_then-text 58 c d third colon fits.at_c fits.at_d,
+      group_then-text 58 e f last colon fits.at_e fits.at_f,
+      group_then-text mark g h rest is_mark fits.at_g fits.at_h,
+    ) refl

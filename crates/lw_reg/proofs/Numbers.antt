@@ -83,7 +83,8 @@ number_in-plain {E} k text (Err e) small plain h =
     number_in-none (2 ^ k) text (λ n below same. p (
       rw same (digits_decimal own n (omega arith)),
       rw same (decimal_nonempty n (omega arith)),
-      rw (same, digits_value-decimal own n (omega arith)) below))
+      rw (same, digits_value-decimal own n (omega arith)) below,
+    ))
 
 -- ---- a number, then c
 

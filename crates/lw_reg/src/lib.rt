@@ -4,10 +4,10 @@
 #![tactic(auto)]
 
 mod addr;
-mod printing;
-mod reading;
 mod binding;
 pub mod laws;
+mod printing;
+mod reading;
 mod seen;
 mod text;
 mod version;

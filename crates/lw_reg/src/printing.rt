@@ -1,10 +1,12 @@
 //! Printing an address.
 
-ghost use Rattle.std.specs.Prelude.{◌≡◌, IfOk, string_bytes};
+ghost use Rattle.std.specs.Prelude.{◌≡◌, ◌++◌, IfOk, OnOk, string_bytes};
+ghost use Rattle.std.specs.List.{join_with_byte};
 ghost use Rattle.lw_reg.specs.declared.addr.Addr.TheVariants.{V4, V6};
-ghost use Rattle.lw_reg.specs.Addr.{addr_text};
+ghost use Rattle.lw_reg.specs.Addr.{addr_text, hex_text, groups};
 
 use std::alloc::{AllocError, Global};
+use std::fmt::Write;
 
 pub(crate) fn v4(alloc: Global, address: [u8; 4], port: u16) -> Result<String, AllocError>
     ensures { IfOk result (λ text. string_bytes text ≡ addr_text (V4 address port)) }
@@ -17,8 +19,36 @@ pub(crate) fn v6(alloc: Global, address: [u8; 16], port: u16) -> Result<String, 
     ensures { IfOk result (λ text. string_bytes text ≡ addr_text (V6 address port)) }
 {
     let [a, b, c, d, e, f, g, h, i, j, k, l, m, n, o, p] = address;
-    format!(
-        in alloc;
-        "[{a:02x}{b:02x}:{c:02x}{d:02x}:{e:02x}{f:02x}:{g:02x}{h:02x}:{i:02x}{j:02x}:{k:02x}{l:02x}:{m:02x}{n:02x}:{o:02x}{p:02x}]:{port}"
-    )
+    let mut text = String::from_str(alloc, "[")?;
+    push_groups(&mut text, [a, b, c, d, e, f, g, h])?;
+    text.push(':')?;
+    push_groups(&mut text, [i, j, k, l, m, n, o, p])?;
+    write!(text, "]:{port}")?;
+    Ok(text)
+}
+
+fn push_groups(text: &mut String, bytes: [u8; 8]) -> Result<(), AllocError>
+    ensures { OnOk result (string_bytes text.new ≡ string_bytes text.old ++ join_with_byte 58 (groups bytes)) }
+{
+    let [a, b, c, d, e, f, g, h] = bytes;
+    push_group(text, a, b)?;
+    text.push(':')?;
+    push_group(text, c, d)?;
+    text.push(':')?;
+    push_group(text, e, f)?;
+    text.push(':')?;
+    push_group(text, g, h)
+}
+
+fn push_group(text: &mut String, high: u8, low: u8) -> Result<(), AllocError>
+    ensures { OnOk result (string_bytes text.new ≡ string_bytes text.old ++ (hex_text high ++ hex_text low)) }
+{
+    push_byte(text, high)?;
+    push_byte(text, low)
+}
+
+fn push_byte(text: &mut String, byte: u8) -> Result<(), AllocError>
+    ensures { OnOk result (string_bytes text.new ≡ string_bytes text.old ++ hex_text byte) }
+{
+    write!(text, "{byte:02x}")
 }
