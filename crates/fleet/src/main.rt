@@ -1,11 +1,14 @@
 //! The program `fleet`.
 #![tactic(auto)]
 
+mod answer;
 mod fault;
 mod hex_line;
 mod json;
 mod line;
 mod output;
 
+#[cfg(test)]
+mod tests;
 
 fn main() {}

@@ -1,0 +1,204 @@
+use crate::answer::answer;
+use crate::fault::OneFault;
+use crate::hex_line::bytes_of_hex;
+use crate::json::{Shown, shown_text};
+use crate::line::{LONGEST_LINE, read_line};
+use crate::output::write_text;
+use std::io::{self, ErrorKind, Read, Write};
+use std::test::Fail;
+
+/// Gives its bytes a few at a time, and then ends or fails. Every other read is interrupted.
+#[derive(Drop)]
+struct FewBytes<'a> {
+    rest: &'a [u8],
+    most: usize,
+    fails: bool,
+    interrupts: bool,
+}
+
+impl<'a> FewBytes<'a> {
+    fn new(rest: &'a [u8], most: usize, fails: bool) -> FewBytes<'a> {
+        FewBytes {
+            rest,
+            most,
+            fails,
+            interrupts: false,
+        }
+    }
+}
+
+impl Read for FewBytes<'_> {
+    fn read(&mut self, buf: &mut [u8]) -> io::Result<usize> {
+        self.interrupts = !self.interrupts;
+        if self.interrupts {
+            return Err(io::Error::from(ErrorKind::Interrupted));
+        }
+        if self.rest.is_empty() && self.fails {
+            return Err(io::Error::from(ErrorKind::Other));
+        }
+        let count = self.most.min(buf.len()).min(self.rest.len());
+        let (front, rest) = self.rest.split_at(count);
+        buf[..count].copy_from_slice(front);
+        self.rest = rest;
+        Ok(count)
+    }
+}
+
+/// Takes a few bytes at a time while there is room, and then takes none or fails.
+#[derive(Drop)]
+struct FewWrites {
+    taken: Vec<u8>,
+    most: usize,
+    room: usize,
+    fails: bool,
+}
+
+impl Write for FewWrites {
+    fn write(&mut self, buf: &[u8]) -> io::Result<usize> {
+        let count = self.most.min(buf.len()).min(self.room);
+        if count == 0 && self.fails {
+            return Err(io::Error::from(ErrorKind::Other));
+        }
+        self.taken.extend_from_slice(&buf[..count])?;
+        self.room -= count;
+        Ok(count)
+    }
+
+    fn flush(&mut self) -> io::Result<()> {
+        Ok(())
+    }
+}
+
+#[test]
+fn lines_end_at_the_first_line_feed(rt: HostRuntime) -> Result<(), Fail> {
+    let inputs: [(&[u8], &[u8]); 5] = [
+        (b"", b""),
+        (b"\n40", b""),
+        (b"4000", b"4000"),
+        (b"4000\n50\n", b"4000"),
+        (b"40 \r\n", b"40 \r"),
+    ];
+    for (input, line) in inputs {
+        for most in [1, 3, 9999] {
+            let mut reader = FewBytes::new(input, most, false);
+            assert_eq!(rt; read_line(rt.alloc(), &mut reader)?.as_slice(), line);
+        }
+    }
+    let mut reader: &[u8] = b"4000\n50\n";
+    assert_eq!(rt; read_line(rt.alloc(), &mut reader)?.as_slice(), b"4000".as_slice());
+    Ok(())
+}
+
+#[test]
+fn a_read_may_fail_behind_the_line_alone(rt: HostRuntime) -> Result<(), Fail> {
+    let mut reader = FewBytes::new(b"4000", 1, true);
+    let read = read_line(rt.alloc(), &mut reader).map(|line| line.len());
+    assert_eq!(rt; read, Err(OneFault::ReadFailed));
+    let mut reader = FewBytes::new(b"4000\n", 1, true);
+    assert_eq!(rt; read_line(rt.alloc(), &mut reader)?.len(), 4);
+    Ok(())
+}
+
+#[test]
+fn the_longest_line(rt: HostRuntime) -> Result<(), Fail> {
+    let mut input = vec![in rt.alloc(); b'a'; 1_048_576]?;
+    let mut reader = input.as_slice();
+    assert_eq!(rt; read_line(rt.alloc(), &mut reader)?.len(), LONGEST_LINE);
+    input.push(b'\n')?;
+    let mut reader = input.as_slice();
+    assert_eq!(rt; read_line(rt.alloc(), &mut reader)?.len(), LONGEST_LINE);
+    let input = vec![in rt.alloc(); b'a'; 1_048_577]?;
+    let mut reader = input.as_slice();
+    let read = read_line(rt.alloc(), &mut reader).map(|line| line.len());
+    assert_eq!(rt; read, Err(OneFault::TooLong));
+    Ok(())
+}
+
+#[test]
+fn writes_go_on_until_one_takes_nothing(rt: HostRuntime) -> Result<(), Fail> {
+    for (room, fails, result) in [
+        (6, false, Ok(())),
+        (3, false, Err(OneFault::WriteFailed)),
+        (3, true, Err(OneFault::WriteFailed)),
+    ] {
+        for most in [1, 2, 99] {
+            let mut writer = FewWrites {
+                taken: Vec::new(rt.alloc()),
+                most,
+                room,
+                fails,
+            };
+            assert_eq!(rt; write_text(&mut writer, b"fleet\n"), result);
+            assert_eq!(rt; writer.taken.len(), room);
+            assert!(rt; b"fleet\n".starts_with(writer.taken.as_slice()));
+        }
+    }
+    Ok(())
+}
+
+#[test]
+fn hex_lines(rt: HostRuntime) -> Result<(), Fail> {
+    assert_eq!(rt; bytes_of_hex(rt.alloc(), b"")?.len(), 0);
+    assert_eq!(rt; bytes_of_hex(rt.alloc(), b"00fFA9")?.as_slice(), [0, 255, 169].as_slice());
+    let refused: [&[u8]; 4] = [b"0", b"00\r", b"0 0 ", b"0g"];
+    for line in refused {
+        let bytes = bytes_of_hex(rt.alloc(), line).map(|bytes| bytes.len());
+        assert_eq!(rt; bytes, Err(OneFault::HexRefused), "at {line:?}");
+    }
+    Ok(())
+}
+
+const SHOWN: Shown<'static> = Shown {
+    address: "127.0.0.1:5683",
+    binding: "U",
+    endpoint: "a",
+    id: "0000000000010001",
+    lifetime: 60,
+    version: "1.1",
+    objects: "</3/0>",
+    queue: false,
+    seen: 0,
+    sms: None,
+};
+
+#[test]
+fn registrations_as_json(rt: HostRuntime) -> Result<(), Fail> {
+    let text = shown_text(rt.alloc(), &SHOWN)?;
+    assert_eq!(rt; text.as_str(), "{\"address\":\"127.0.0.1:5683\",\"binding\":\"U\",\"endpoint\":\"a\",\"id\":\"0000000000010001\",\"lifetime\":60,\"lwm2m\":\"1.1\",\"objects\":\"</3/0>\",\"queue\":false,\"seen\":0,\"sms\":null}");
+    let other = Shown {
+        endpoint: "a\"b\n",
+        queue: true,
+        seen: 281474976710655,
+        sms: Some("+49"),
+        ..SHOWN
+    };
+    let text = shown_text(rt.alloc(), &other)?;
+    assert_eq!(rt; text.as_str(), "{\"address\":\"127.0.0.1:5683\",\"binding\":\"U\",\"endpoint\":\"a\\\"b\\n\",\"id\":\"0000000000010001\",\"lifetime\":60,\"lwm2m\":\"1.1\",\"objects\":\"</3/0>\",\"queue\":true,\"seen\":281474976710655,\"sms\":\"+49\"}");
+    Ok(())
+}
+
+#[test]
+fn answers(rt: HostRuntime) -> Result<(), Fail> {
+    assert_eq!(rt; answer(rt.alloc(), None, None)?.as_slice(), b"-\n".as_slice());
+    let reply: &[u8] = &[0x60, 0x80, 0, 0xab];
+    assert_eq!(rt; answer(rt.alloc(), Some(reply), None)?.as_slice(), b"608000ab\n".as_slice());
+    let text = answer(rt.alloc(), Some(&[]), Some(&SHOWN))?;
+    assert!(rt; text.starts_with(b"\n{\"address\":"));
+    assert!(rt; text.ends_with(b"\"sms\":null}\n"));
+    Ok(())
+}
+
+#[test]
+fn fault_lines(rt: HostRuntime) -> Result<(), Fail> {
+    for (fault, line) in [
+        (OneFault::AddressRefused, "address refused"),
+        (OneFault::ReadFailed, "read failed"),
+        (OneFault::TooLong, "script too long"),
+        (OneFault::HexRefused, "hex refused"),
+        (OneFault::WriteFailed, "write failed"),
+        (OneFault::NoMemory, "no memory"),
+    ] {
+        assert_eq!(rt; format!(in rt.alloc(); "{fault}")?.as_str(), line);
+    }
+    Ok(())
+}
