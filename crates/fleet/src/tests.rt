@@ -1,4 +1,5 @@
 use crate::answer::answer;
+use crate::command::read_options;
 use crate::fault::OneFault;
 use crate::hex_line::bytes_of_hex;
 use crate::json::{Shown, shown_text};
@@ -201,4 +202,54 @@ fn fault_lines(rt: HostRuntime) -> Result<(), Fail> {
         assert_eq!(rt; format!(in rt.alloc(); "{fault}")?.as_str(), line);
     }
     Ok(())
+}
+
+#[test]
+fn options(rt: HostRuntime) -> Result<(), Fail> {
+    let words: [&[&str]; 5] = [
+        &["fleet"],
+        &["fleet", "one"],
+        &["fleet", "one", "--node", "65535", "--now=281474976710655", "--from", "x"],
+        &["fleet", "one", "--node=007"],
+        &["fleet", "one", "--from="],
+    ];
+    let options = [
+        (1, 0, "127.0.0.1:5683"),
+        (1, 0, "127.0.0.1:5683"),
+        (65535, 281474976710655, "x"),
+        (7, 0, "127.0.0.1:5683"),
+        (1, 0, ""),
+    ];
+    for (words, (node, now, from)) in words.into_iter().zip(options) {
+        let read = read_options(rt.alloc(), words)?;
+        assert_eq!(rt; read.node, node);
+        assert_eq!(rt; read.now.ms(), now);
+        assert!(rt; read.from == from);
+    }
+    Ok(())
+}
+
+#[test]
+fn refused_options(rt: HostRuntime) {
+    let refused: [&[&str]; 13] = [
+        &["fleet", "--node", "1"],
+        &["fleet", "two"],
+        &["fleet", "one", "two"],
+        &["fleet", "one", "--node"],
+        &["fleet", "one", "--node", "65536"],
+        &["fleet", "one", "--node", "+1"],
+        &["fleet", "one", "--node=-1"],
+        &["fleet", "one", "--node", ""],
+        &["fleet", "one", "--now", "281474976710656"],
+        &["fleet", "one", "--now", "1 "],
+        &["fleet", "one", "--node", "1", "--node", "1"],
+        &["fleet", "one", "--from", "a", "--from=a"],
+        &["fleet", "one", "--port", "1"],
+    ];
+    for words in refused {
+        match read_options(rt.alloc(), words) {
+            Ok(_) => panic!(rt; "{words:?}"),
+            Err(error) => assert_eq!(rt; error.exit_code(), 2, "{words:?}"),
+        }
+    }
 }
