@@ -1,0 +1,5 @@
+pub mod Latest
+pub mod Shown
+pub mod Effects
+pub mod RegisterLinks
+pub mod RegisterOptions
