@@ -12,13 +12,13 @@ use Rattle.lw_reg.specs.Addr.{addr_text, IsHost, IsAddr}
 use Rattle.lw_reg.specs.AddrReading.{◌>>=◌, strip_at, number_in, octet_then, v4_in, four_then, v6_in, by_bracket, addr_in}
 use Rattle.lw_reg.proofs.Cuts.{bind_some, some_is, strip_at_parts, strip_at-first, strip_at-other}
 use Rattle.lw_reg.proofs.Numbers.{number_in_text, number_in-decimal, first_of_decimal, octet_then_text, octet_then-decimal}
-use Rattle.lw_reg.proofs.HexGroups.{four_text, AreBytes, ReadsFour, four_then_text, four_then-text, colon, bracket}
+use Rattle.lw_reg.proofs.HexGroups.{four_text, AreBytes, ReadsFour, none_below, more_below, eight_below, four_then_text, four_then-text, colon, bracket}
 
 -- the text of an IPv4 address, part by part
 v4_text : (a b c d port : ℕ) → addr_text (V4 (a ∷ b ∷ c ∷ d ∷ []) port) ≡ decimal a ++ (46 ∷ (decimal b ++ (46 ∷ (decimal c ++ (46 ∷ (decimal d ++ (58 ∷ decimal port)))))))
 v4_text a b c d port = simp append_assoc
 
-v4_in_text : (text : List ℕ) (a : Addr) → v4_in text ≡ Some a → text ≡ addr_text a
+v4_in_text : (text : List ℕ) (a : Addr) → v4_in text ≡ Some a → (text ≡ addr_text a) × IsAddr a
 unfolding v4_in
 v4_in_text text a e =
     let p = bind_some (octet_then 46 text) (λ p. octet_then 46 p.1 >>= λ q. octet_then 46 q.1 >>= λ r. octet_then 58 r.1 >>= λ s. number_in (2 ^ 16) s.1 >>= λ port. Some (V4 (p.0 ∷ q.0 ∷ r.0 ∷ s.0 ∷ []) port)) a e in
@@ -30,10 +30,20 @@ v4_in_text text a e =
     let last : r.0.1 ≡ decimal s.0.0 ++ (58 ∷ decimal n.0) = (octet_then_text 58 r.0.1 s.0 s.1).0 ∙ ap (λ (t : List ℕ). decimal s.0.0 ++ (58 ∷ t)) (number_in_text (2 ^ 16) s.0.1 n.0 n.1).0 in
     let third : q.0.1 ≡ decimal r.0.0 ++ (46 ∷ (decimal s.0.0 ++ (58 ∷ decimal n.0))) = (octet_then_text 46 q.0.1 r.0 r.1).0 ∙ ap (λ (t : List ℕ). decimal r.0.0 ++ (46 ∷ t)) last in
     let second : p.0.1 ≡ decimal q.0.0 ++ (46 ∷ (decimal r.0.0 ++ (46 ∷ (decimal s.0.0 ++ (58 ∷ decimal n.0))))) = (octet_then_text 46 p.0.1 q.0 q.1).0 ∙ ap (λ (t : List ℕ). decimal q.0.0 ++ (46 ∷ t)) third in
+    let whole =
     (octet_then_text 46 text p.0 p.1).0
     ∙ ap (λ (t : List ℕ). decimal p.0.0 ++ (46 ∷ t)) second
     ∙ sym (v4_text p.0.0 q.0.0 r.0.0 s.0.0 n.0)
-    ∙ ap addr_text v
+    ∙ ap addr_text v in
+    let in_range : IsHost 4 (p.0.0 ∷ q.0.0 ∷ r.0.0 ∷ s.0.0 ∷ []) n.0 = record {
+      whole = refl;
+      bytes = more_below p.0.0 (q.0.0 ∷ r.0.0 ∷ s.0.0 ∷ []) (octet_then_text 46 text p.0 p.1).1
+          (more_below q.0.0 (r.0.0 ∷ s.0.0 ∷ []) (octet_then_text 46 p.0.1 q.0 q.1).1
+          (more_below r.0.0 (s.0.0 ∷ []) (octet_then_text 46 q.0.1 r.0 r.1).1
+          (more_below s.0.0 [] (octet_then_text 58 r.0.1 s.0 s.1).1 none_below)));
+      port = (number_in_text (2 ^ 16) s.0.1 n.0 n.1).1;
+    } in
+    (whole, subst IsAddr v in_range)
 
 v4_again : (a b c d port : ℕ) → a < 256 → b < 256 → c < 256 → d < 256 → port < 2 ^ 16 → v4_in (addr_text (V4 (a ∷ b ∷ c ∷ d ∷ []) port)) ≡ Some (V4 (a ∷ b ∷ c ∷ d ∷ []) port)
 unfolding v4_in
@@ -50,7 +60,7 @@ v4_again a b c d port fa fb fc fd fp =
       number_in-decimal (2 ^ 16) port fp (omega arith),
     ) refl
 
-v6_in_text : (text : List ℕ) (a : Addr) → v6_in text ≡ Some a → 91 ∷ text ≡ addr_text a
+v6_in_text : (text : List ℕ) (a : Addr) → v6_in text ≡ Some a → (91 ∷ text ≡ addr_text a) × IsAddr a
 unfolding v6_in
 v6_in_text text a e =
     let p = bind_some (four_then 58 text) (λ front. four_then 93 front.1 >>= λ back. strip_at 58 back.1 >>= λ rest. number_in (2 ^ 16) rest >>= λ port. Some (V6 (front.0 ++ back.0) port)) a e in
@@ -65,9 +75,19 @@ v6_in_text text a e =
     y.parts ∙ ap (λ (t : List ℕ). four_text y.first.0 y.first.1 y.second.0 y.second.1 y.third.0 y.third.1 y.fourth.0 y.fourth.1 (93 ∷ t)) port in
     let whole : text ≡ four_text x.first.0 x.first.1 x.second.0 x.second.1 x.third.0 x.third.1 x.fourth.0 x.fourth.1 (58 ∷ four_text y.first.0 y.first.1 y.second.0 y.second.1 y.third.0 y.third.1 y.fourth.0 y.fourth.1 (93 ∷ 58 ∷ decimal n.0)) =
     x.parts ∙ ap (λ (t : List ℕ). four_text x.first.0 x.first.1 x.second.0 x.second.1 x.third.0 x.third.1 x.fourth.0 x.fourth.1 (58 ∷ t)) back in
+    let printed =
     ap (λ (t : List ℕ). 91 ∷ t) whole
     ∙ sym (ap (λ (z : List ℕ × List ℕ). addr_text (V6 (z.0 ++ z.1) n.0)) (λ i. (x.bytes i, y.bytes i)))
-    ∙ ap addr_text v
+    ∙ ap addr_text v in
+    let both : p.0.0 ++ q.0.0 ≡ x.first.0 ∷ x.first.1 ∷ x.second.0 ∷ x.second.1 ∷ x.third.0 ∷ x.third.1 ∷ x.fourth.0 ∷ x.fourth.1 ∷ y.first.0 ∷ y.first.1 ∷ y.second.0 ∷ y.second.1 ∷ y.third.0 ∷ y.third.1 ∷ y.fourth.0 ∷ y.fourth.1 ∷ [] =
+    λ i. x.bytes i ++ y.bytes i in
+    let in_range : IsHost 16 (x.first.0 ∷ x.first.1 ∷ x.second.0 ∷ x.second.1 ∷ x.third.0 ∷ x.third.1 ∷ x.fourth.0 ∷ x.fourth.1 ∷ y.first.0 ∷ y.first.1 ∷ y.second.0 ∷ y.second.1 ∷ y.third.0 ∷ y.third.1 ∷ y.fourth.0 ∷ y.fourth.1 ∷ []) n.0 = record {
+      whole = refl;
+      bytes = eight_below x.first.0 x.first.1 x.second.0 x.second.1 x.third.0 x.third.1 x.fourth.0 x.fourth.1 (y.first.0 ∷ y.first.1 ∷ y.second.0 ∷ y.second.1 ∷ y.third.0 ∷ y.third.1 ∷ y.fourth.0 ∷ y.fourth.1 ∷ []) x.below
+          (eight_below y.first.0 y.first.1 y.second.0 y.second.1 y.third.0 y.third.1 y.fourth.0 y.fourth.1 [] y.below none_below);
+      port = (number_in_text (2 ^ 16) r.0 n.0 n.1).1;
+    } in
+    (printed, subst IsAddr v (subst (λ (l : List ℕ). IsHost 16 l n.0) (sym both) in_range))
 
 list_4 : (address : List ℕ) → length address ≡ 4 → address ≡ get_or address 0 0 ∷ get_or address 1 0 ∷ get_or address 2 0 ∷ get_or address 3 0 ∷ []
 list_4 address whole = text_from_reads address (get_or address 0 0 ∷ get_or address 1 0 ∷ get_or address 2 0 ∷ get_or address 3 0 ∷ []) whole (search rules)
@@ -98,15 +118,23 @@ v6_again address port host text e =
       number_in-decimal (2 ^ 16) port host.port (omega arith),
     ) (ap (λ (l : List ℕ). Some (V6 l port)) (sym whole))
 
-by_first : (text : List ℕ) (a : Addr) (o : Option (List ℕ)) → strip_at 91 text ≡ o → by_bracket text o ≡ Some a → text ≡ addr_text a
-by_first text a (Some rest) is e = strip_at_parts 91 text rest is ∙ v6_in_text rest a e
+by_first : (text : List ℕ) (a : Addr) (o : Option (List ℕ)) → strip_at 91 text ≡ o → by_bracket text o ≡ Some a → (text ≡ addr_text a) × IsAddr a
+by_first text a (Some rest) is e =
+    let r = v6_in_text rest a e in
+    (strip_at_parts 91 text rest is ∙ r.0, r.1)
 by_first text a None is e = v4_in_text text a e
 
 -- what is read is printed so
 pub addr_in_text : (text : List ℕ) (r : Option Addr) → r ≡ addr_in text → IfSome r (λ a. text ≡ addr_text a)
 unfolding addr_in
 addr_in_text text None e = tt
-addr_in_text text (Some a) e = by_first text a (strip_at 91 text) refl (sym e)
+addr_in_text text (Some a) e = (by_first text a (strip_at 91 text) refl (sym e)).0
+
+-- what is read is in range
+pub addr_in_range : (text : List ℕ) (r : Option Addr) → r ≡ addr_in text → IfSome r IsAddr
+unfolding addr_in
+addr_in_range text None e = tt
+addr_in_range text (Some a) e = (by_first text a (strip_at 91 text) refl (sym e)).1
 
 without_bracket : (text : List ℕ) (a : Addr) → strip_at 91 text ≡ None → v4_in text ≡ Some a → addr_in text ≡ Some a
 unfolding addr_in

@@ -108,6 +108,16 @@ group_then-text c a b rest mark fa fb =
     let lacks : Lacks c (hex_text a ++ hex_text b) = lacks_four c _ _ _ _ (other_than_mark c (a / 16) mark (omega arith)) (other_than_mark c (a % 16) mark (omega arith)) (other_than_mark c (b / 16) mark (omega arith)) (other_than_mark c (b % 16) mark (omega arith)) in
     rw (cut_at-first c (hex_text a ++ hex_text b) rest lacks, byte_in-glyphs a fa, byte_in-glyphs b fb) refl
 
+abbrev pub HasBytes : List ℕ → Type 0
+HasBytes xs = (k : ℕ) → get_or xs k 0 < 256
+
+pub none_below : HasBytes []
+none_below k = omega arith
+
+pub more_below : (x : ℕ) (xs : List ℕ) → x < 256 → HasBytes xs → HasBytes (x ∷ xs)
+more_below x xs h t zero = h
+more_below x xs h t (suc k) = t k
+
 -- four groups with colons between them, and what follows
 abbrev pub four_text : (a b c d e f g h : ℕ) → List ℕ → List ℕ
 four_text a b c d e f g h tail = (hex_text a ++ hex_text b) ++ (58 ∷ ((hex_text c ++ hex_text d) ++ (58 ∷ ((hex_text e ++ hex_text f) ++ (58 ∷ ((hex_text g ++ hex_text h) ++ tail))))))
@@ -123,6 +133,11 @@ pub record AreBytes (a b c d e f g h : ℕ) : Type 0 where
   pub at_g : g < 256
   pub at_h : h < 256
 
+pub eight_below : (a b c d e f g h : ℕ) (tail : List ℕ) → AreBytes a b c d e f g h → HasBytes tail → HasBytes (a ∷ b ∷ c ∷ d ∷ e ∷ f ∷ g ∷ h ∷ tail)
+eight_below a b c d e f g h tail r t =
+    more_below a (b ∷ c ∷ d ∷ e ∷ f ∷ g ∷ h ∷ tail) r.at_a (more_below b (c ∷ d ∷ e ∷ f ∷ g ∷ h ∷ tail) r.at_b (more_below c (d ∷ e ∷ f ∷ g ∷ h ∷ tail) r.at_c (more_below d (e ∷ f ∷ g ∷ h ∷ tail) r.at_d (
+    more_below e (f ∷ g ∷ h ∷ tail) r.at_e (more_below f (g ∷ h ∷ tail) r.at_f (more_below g (h ∷ tail) r.at_g (more_below h tail r.at_h t)))))))
+
 pub record ReadsFour (c : ℕ) (text : List ℕ) (x : List ℕ × List ℕ) : Type 0 where
   pub first : ℕ × ℕ
   pub second : ℕ × ℕ
@@ -130,6 +145,7 @@ pub record ReadsFour (c : ℕ) (text : List ℕ) (x : List ℕ × List ℕ) : Ty
   pub fourth : ℕ × ℕ
   pub bytes : x.0 ≡ first.0 ∷ first.1 ∷ second.0 ∷ second.1 ∷ third.0 ∷ third.1 ∷ fourth.0 ∷ fourth.1 ∷ []
   pub parts : text ≡ four_text first.0 first.1 second.0 second.1 third.0 third.1 fourth.0 fourth.1 (c ∷ x.1)
+  pub below : AreBytes first.0 first.1 second.0 second.1 third.0 third.1 fourth.0 fourth.1
 
 pub four_then_text : (c : ℕ) (text : List ℕ) (x : List ℕ × List ℕ) → four_then c text ≡ Some x → ReadsFour c text x
 unfolding four_then
@@ -139,10 +155,14 @@ four_then_text c text x e =
     let r = bind_some (group_then 58 q.0.1) (λ third. group_then c third.1 >>= λ fourth. Some (p.0.0.0 ∷ p.0.0.1 ∷ q.0.0.0 ∷ q.0.0.1 ∷ third.0.0 ∷ third.0.1 ∷ fourth.0.0 ∷ fourth.0.1 ∷ [], fourth.1)) x q.2 in
     let s = bind_some (group_then c r.0.1) (λ fourth. Some (p.0.0.0 ∷ p.0.0.1 ∷ q.0.0.0 ∷ q.0.0.1 ∷ r.0.0.0 ∷ r.0.0.1 ∷ fourth.0.0 ∷ fourth.0.1 ∷ [], fourth.1)) x r.2 in
     let v = some_is (p.0.0.0 ∷ p.0.0.1 ∷ q.0.0.0 ∷ q.0.0.1 ∷ r.0.0.0 ∷ r.0.0.1 ∷ s.0.0.0 ∷ s.0.0.1 ∷ [], s.0.1) x s.2 in
-    let t1 = (group_then_text 58 text p.0 p.1).0 in
-    let t2 = (group_then_text 58 p.0.1 q.0 q.1).0 in
-    let t3 = (group_then_text 58 q.0.1 r.0 r.1).0 in
-    let t4 = (group_then_text c r.0.1 s.0 s.1).0 in
+    let g1 = group_then_text 58 text p.0 p.1 in
+    let t1 = g1.0 in
+    let g2 = group_then_text 58 p.0.1 q.0 q.1 in
+    let t2 = g2.0 in
+    let g3 = group_then_text 58 q.0.1 r.0 r.1 in
+    let t3 = g3.0 in
+    let g4 = group_then_text c r.0.1 s.0 s.1 in
+    let t4 = g4.0 in
     record {
       first = p.0.0;
       second = q.0.0;
@@ -154,6 +174,7 @@ four_then_text c text x e =
           ∙ ap (λ (t : List ℕ). (hex_text p.0.0.0 ++ hex_text p.0.0.1) ++ (58 ∷ ((hex_text q.0.0.0 ++ hex_text q.0.0.1) ++ (58 ∷ t)))) t3
           ∙ ap (λ (t : List ℕ). (hex_text p.0.0.0 ++ hex_text p.0.0.1) ++ (58 ∷ ((hex_text q.0.0.0 ++ hex_text q.0.0.1) ++ (58 ∷ ((hex_text r.0.0.0 ++ hex_text r.0.0.1) ++ (58 ∷ t)))))) t4
           ∙ ap (λ (y : List ℕ × List ℕ). four_text p.0.0.0 p.0.0.1 q.0.0.0 q.0.0.1 r.0.0.0 r.0.0.1 s.0.0.0 s.0.0.1 (c ∷ y.1)) v;
+      below = record { at_a = g1.1; at_b = g1.2; at_c = g2.1; at_d = g2.2; at_e = g3.1; at_f = g3.2; at_g = g4.1; at_h = g4.2 };
     }
 
 pub four_then-text : (mark a b c d e f g h : ℕ) (rest : List ℕ) → IsMark mark → AreBytes a b c d e f g h → four_then mark (four_text a b c d e f g h (mark ∷ rest)) ≡ Some (a ∷ b ∷ c ∷ d ∷ e ∷ f ∷ g ∷ h ∷ [], rest)

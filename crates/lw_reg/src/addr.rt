@@ -18,6 +18,7 @@ impl Addr {
     /// There is none for a text that is not the printing of an address.
     pub fn read(text: &str) -> Option<Addr>
         ensures found { IfSome result (λ a. text.now ≡ text_of a) }
+        ensures in_range { IfSome result IsAddr }
         ensures only { (a : Addrs) → IsAddr a → text.now ≡ text_of a → result ≡ Some a }
     {
         reading::read(text)

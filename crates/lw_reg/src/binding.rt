@@ -1,4 +1,4 @@
-ghost use Rattle.std.specs.Prelude.{◌≡◌, ◌-◌, ◌≤◌, ◌++◌, ◌↔◌, IsTrue, IsSome, IfSome, length, replicate};
+ghost use Rattle.std.specs.Prelude.{◌≡◌, ◌-◌, ◌≤◌, ◌++◌, ◌↔◌, IsTrue, codes, IsSome, IfSome, length, replicate};
 ghost use Rattle.std.specs.Char.{is_ascii_uppercase};
 ghost use Rattle.std.specs.List.{list_all};
 ghost use Rattle.lw_reg.specs.BindingText.{IsBindingText, IsPadded, text_in};
@@ -39,6 +39,16 @@ impl Binding {
     {
         let length = text_length(&self.letters);
         std::str::from_utf8(&self.letters[..length]).unwrap()
+    }
+}
+
+impl Default for Binding {
+    ghost use Rattle.lw_reg.specs.Binding.{binding_text};
+
+    fn default() -> Binding
+        ensures { binding_text result ≡ codes "U" }
+    {
+        Binding::U
     }
 }
 

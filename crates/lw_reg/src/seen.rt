@@ -27,7 +27,18 @@ impl Model for Seen {
 
     ghost Value = { Registration };
 
-    ghost view = { λ s. record { endpoint = s.endpoint; id = s.id; address = s.address; seen = ms_of s.seen; lifetime = s.lifetime; version = s.version; binding = s.binding; queue = s.queue; sms = s.sms; objects = s.objects } };
+    ghost view = { λ s. record {
+      endpoint = s.endpoint;
+      id = s.id;
+      address = s.address;
+      seen = ms_of s.seen;
+      lifetime = s.lifetime;
+      version = s.version;
+      binding = s.binding;
+      queue = s.queue;
+      sms = s.sms;
+      objects = s.objects;
+    } };
 }
 
 impl Seen {

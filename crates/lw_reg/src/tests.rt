@@ -113,6 +113,7 @@ fn bindings_have_one_to_eight_letters(rt: HostRuntime) -> Result<(), Fail> {
     }
     assert_eq!(rt; Binding::U.as_str(), "U");
     assert_eq!(rt; Binding::read("U"), Some(Binding::U));
+    assert_eq!(rt; Binding::default(), Binding::U);
     let queue = Binding::read("UQ").ok_or("a binding")?;
     assert!(rt; Binding::U < queue);
     assert!(rt; Binding::read("T").ok_or("a binding")? < Binding::U);

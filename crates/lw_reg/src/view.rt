@@ -29,7 +29,18 @@ impl<'a> Model for View<'a> {
 
     ghost Value = { Registration };
 
-    ghost view = { λ v. record { endpoint = v.endpoint.now; id = v.id; address = v.address; seen = ms_of v.seen; lifetime = v.lifetime; version = v.version; binding = v.binding; queue = v.queue; sms = option_map (λ s. s.now) v.sms; objects = v.objects.now } };
+    ghost view = { λ v. record {
+      endpoint = v.endpoint.now;
+      id = v.id;
+      address = v.address;
+      seen = ms_of v.seen;
+      lifetime = v.lifetime;
+      version = v.version;
+      binding = v.binding;
+      queue = v.queue;
+      sms = option_map (λ s. s.now) v.sms;
+      objects = v.objects.now;
+    } };
 }
 
 impl View<'_> {
