@@ -1,7 +1,7 @@
 -- Groups of hex digits as they are printed and read.
-use Rattle.std.proofs.Common.{◌≡◌, ◌≢◌, ℕ, zero, suc, ◌+◌, ◌-◌, ◌*◌, ◌/◌, ◌%◌, ◌^◌, ◌<◌, ◌≤◌, Bool, true, false, cond, ◌&&◌, eqb, ltb, leb, List, [], ◌∷◌, ◌++◌, length, get_or, Option, Some, None, refl, sym, ap, ◌∙◌, arith, inl, inr}
+use Rattle.std.proofs.Common.{◌≡◌, ◌≢◌, ℕ, zero, suc, ◌+◌, ◌-◌, ◌*◌, ◌/◌, ◌%◌, ◌<◌, ◌≤◌, false, ◌&&◌, leb, List, [], ◌∷◌, ◌++◌, get_or, Some, refl, sym, ap, ◌∙◌, arith, inl, inr}
 use Rattle.std.specs.Fmt.{digit_glyph}
-use Rattle.std.proofs.lemmas.Bool.{and_parts, and_from, and_left, and_right, ltb-true, leb-true, le-leb, lt-leb, lt-ltb, le-ltb, cases_Bool, cases_lt}
+use Rattle.std.proofs.lemmas.Bool.{and_parts, and_right, leb-true, le-leb, lt-leb, lt-ltb, le-ltb, cases_Bool, cases_lt}
 use Rattle.lw_reg.specs.Addr.{hex_text}
 use Rattle.lw_reg.specs.AddrReading.{◌>>=◌, cut_at, hex_value, byte_in, group_in, group_then, four_then}
 use Rattle.lw_reg.proofs.Cuts.{Lacks, bind_some, some_is, guard_some, cut_at-first, cut_at_parts}

@@ -1,5 +1,4 @@
-use Rattle.std.proofs.Common.{◌≡◌, ◌<◌, ◌∷◌, ◌++◌, rules, string_bytes, false, arith, []}
-use Rattle.std.specs.Fmt.{padded_integral, format_spec, digits, digit_glyph}
+use Rattle.std.proofs.Common.{◌<◌, rules, false}
 use Rattle.std.proofs.lemmas.Fmt.{hex_byte}
 use Rattle.lw_reg.proofs.printing.push_byte.Goals as goal
 

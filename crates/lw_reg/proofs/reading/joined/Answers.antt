@@ -1,4 +1,3 @@
-use Rattle.std.proofs.Common.{arith}
 use Rattle.lw_reg.proofs.Addresses.{joined_is}
 use Rattle.lw_reg.proofs.reading.joined.Goals as goal
 
