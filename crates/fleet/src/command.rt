@@ -1,18 +1,15 @@
-ghost use Rattle.std.specs.Prelude.{◌≡◌, IfOk, IsTrue, ◌↔◌};
-ghost use Rattle.std.specs.List.{AllPass};
-ghost use Rattle.std.specs.Char.{is_ascii_digit};
+ghost use Rattle.std.specs.Prelude.{◌≡◌, ◌↔◌, ◌<◌, ◌^◌, IfOk, IfErr, IfSome, IfNone, map, true, false};
+ghost use Rattle.std.specs.Option.{SomeIff};
+ghost use Rattle.std.specs.Str.Parse.{IsNumeral, digits_value};
+ghost use Rattle.clap.specs.Words.{app_of, rule_of, kind_of, takes, subcommand_rows_of};
+ghost use Rattle.fleet.specs.CommandLine.{fleet_app, given, given_rows, long_option, option_rows, IsGiven};
+ghost use Rattle.fleet.specs.declared.command.OneOptions.{OneOptions as Options};
 
 use clap::error::ErrorKind;
-use clap::{Arg, ArgMatches, Command, Error, value_parser};
+use clap::{Arg, ArgMatches, Command, Error};
 use lw_stamp::Moment;
 use std::alloc::{AllocError, Global};
 use std::convert::AsStr;
-
-const NODE: &str = "node";
-
-const NOW: &str = "now";
-
-const FROM: &str = "from";
 
 /// The options of `fleet one`.
 #[derive(Clone, Copy, Debug, PartialEq, Eq)]
@@ -25,78 +22,74 @@ pub struct OneOptions<'a> {
     pub from: &'a str,
 }
 
-impl OneOptions<'_> {
-    /// What holds where no option is given.
-    const DEFAULTS: OneOptions<'static> = OneOptions {
-        node: 1,
-        now: Moment::START,
-        from: "127.0.0.1:5683",
-    };
-}
-
 /// Reads the words of the command line, the program's name first. No word behind it means `one`.
-pub fn read_options<'a, S: AsStr>(
-    alloc: Global,
-    words: &'a [S],
-) -> Result<OneOptions<'a>, Error> {
+pub fn read_options<'a, S: AsStr>(alloc: Global, words: &'a [S]) -> Result<OneOptions<'a>, Error>
+    ensures given { IfOk result (IsGiven (given_rows (map S.text words.entry.now))) }
+    ensures refused { IfErr result (λ e. takes fleet_app (map S.text words.entry.now) ≡ true
+        → (o : Options) → IsGiven (given_rows (map S.text words.entry.now)) o
+        → kind_of e ≡ ErrorKind.OutOfMemory) }
+{
     let mut command = fleet_command(alloc)?;
     let matches = command.try_get_matches_from_mut(words)?;
-    let Some((_, one)) = matches.subcommand() else {
-        return Ok(OneOptions::DEFAULTS);
-    };
-    match one_options(one) {
+    match options_in(&matches) {
         Some(options) => Ok(options),
-        None => Err(command.error(ErrorKind::ValueValidation, "a number is written in digits alone")?),
+        None => Err(command.error(ErrorKind::ValueValidation, BAD_NUMBER)?),
     }
 }
 
-fn fleet_command<'a>(alloc: Global) -> Result<Command<'a>, AllocError> {
-    let node = Arg::new(alloc, NODE)
-        .long(NODE)
-        .value_name("N")
-        .help("The number of the node, 0 to 65535 [default: 1]")
-        .value_parser(value_parser!(u16));
-    let now = Arg::new(alloc, NOW)
-        .long(NOW)
-        .value_name("MS")
-        .help("The moment, 0 to 281474976710655 [default: 0]")
-        .value_parser(value_parser!(u64).range(..1 << 48));
-    let from = Arg::new(alloc, FROM)
-        .long(FROM)
-        .value_name("ADDR")
-        .help("Where the datagram comes from [default: 127.0.0.1:5683]");
+const BAD_NUMBER: &str =
+    "--node takes a number from 0 to 65535 and --now one from 0 to 281474976710655, in digits alone";
+
+fn fleet_command<'a>(alloc: Global) -> Result<Command<'a>, AllocError>
+    ensures { IfOk result (λ command. app_of command ≡ fleet_app) }
+{
     let one = Command::new(alloc, "one")
         .about("Takes one datagram, a line of hex on standard input, and prints the reply")
-        .arg(node)?
-        .arg(now)?
-        .arg(from)?;
+        .arg(option(alloc, "node", "N", "The number of the node [default: 1]"))?
+        .arg(option(alloc, "now", "MS", "The moment [default: 0]"))?
+        .arg(option(alloc, "from", "ADDR", "The client [default: 127.0.0.1:5683]"))?;
     Command::new(alloc, "fleet").subcommand(one)
 }
 
-/// There are none where a number is not written in digits alone.
-fn one_options<'a>(matches: &ArgMatches<'a>) -> Option<OneOptions<'a>> {
-    let defaults = OneOptions::DEFAULTS;
-    let node = match matches.get_str(NODE) {
-        Some(text) => u16::try_from(number(text)?).ok()?,
-        None => defaults.node,
-    };
-    let now = match matches.get_str(NOW) {
-        Some(text) => Moment::new(number(text)?)?,
-        None => defaults.now,
-    };
-    let from = matches.get_str(FROM).unwrap_or(defaults.from);
-    Some(OneOptions { node, now, from })
+fn option<'a>(alloc: Global, name: &'a str, value: &'a str, help: &'a str) -> Arg<'a>
+    ensures rule { rule_of result ≡ long_option name.entry.now }
+    ensures local { result.global ≡ false }
+{
+    Arg::new(alloc, name)
+        .long(name)
+        .value_name(value)
+        .help(help)
 }
 
-fn number(text: &str) -> Option<u64> {
-    if !has_only_digits(text) {
+/// There are none where a number is out of its range, or not written in digits alone.
+fn options_in<'a>(matches: &ArgMatches<'a>) -> Option<OneOptions<'a>>
+    ensures some { IfSome result (IsGiven (option_rows (subcommand_rows_of matches.now))) }
+    ensures none { IfNone result ((o : Options) → ¬ IsGiven (option_rows (subcommand_rows_of matches.now)) o) }
+{
+    let node = number(text_of(matches, "node", "1"))?;
+    let now = number(text_of(matches, "now", "0"))?;
+    Some(OneOptions {
+        node: u16::try_from(node).ok()?,
+        now: Moment::new(now)?,
+        from: text_of(matches, "from", "127.0.0.1:5683"),
+    })
+}
+
+fn text_of<'a>(matches: &ArgMatches<'a>, option: &str, default: &'a str) -> &'a str
+    ensures { result.now ≡ given option.now default.entry.now (option_rows (subcommand_rows_of matches.now)) }
+{
+    match matches.subcommand() {
+        Some((_, one)) => one.get_str(option).unwrap_or(default),
+        None => default,
+    }
+}
+
+/// The number that the digits write, if there are only digits and it fits.
+fn number(text: &str) -> Option<u64>
+    ensures { SomeIff result (IsNumeral 10 text.now × (digits_value 10 text.now < 2 ^ 64)) (digits_value 10 text.now) }
+{
+    if text.starts_with('+') {
         return None;
     }
     text.parse().ok()
-}
-
-fn has_only_digits(text: &str) -> bool
-    ensures { IsTrue result ↔ AllPass is_ascii_digit text.now }
-{
-    text.as_bytes().iter().all(|byte| byte.is_ascii_digit())
 }

@@ -1,0 +1,47 @@
+use Rattle.std.proofs.Common.{◌≡◌, ℕ, List, Option, Some, None, Result, Ok, Err, IfErr, Bool, true, map, refl, sym, ap, subst, ◌∙◌, rules}
+use Rattle.std.specs.Prelude.{IsErrAnd}
+use Rattle.clap.specs.Words.{App, Row, Text, app_of, is_simple, subcommand_of, takes, kind_of}
+use Rattle.clap.specs.declared.error.Error.{Error}
+use Rattle.clap.specs.declared.error.kind.ErrorKind.TheVariants.{OutOfMemory}
+use Rattle.clap.proofs.OnLiterals.{clap_on_literals}
+use Rattle.fleet.specs.CommandLine.{fleet_app, one_app, given_rows, option_rows, IsGiven}
+use Rattle.fleet.specs.declared.command.OneOptions.{OneOptions}
+use Rattle.fleet.proofs.command.read_options.Goals as goal
+
+fleet_is_simple : is_simple fleet_app ≡ true
+unfolding fleet_app one_app clap_on_literals
+fleet_is_simple = refl
+
+-- what is said of a refusal of these words
+abbrev IsCaused : List Text → Error → Type 0
+IsCaused words e = takes fleet_app words ≡ true → (o : OneOptions) → IsGiven (given_rows words) o → kind_of e ≡ OutOfMemory
+
+passed_on : (words : List Text) (r : Result OneOptions Error) (Q : Error → Type 0) → IsErrAnd r Q → ((e : Error) → Q e → IsCaused words e) → IfErr r (IsCaused words)
+passed_on words (Ok options) Q h f = tt
+passed_on words (Err e) Q h f = f e h
+
+pub returns-in_err-matches-clause-refused : goal.returns-in_err-matches-clause-refused
+returns-in_err-matches-clause-refused g c =
+    let words = map g.S.AsStr.text c.args.words.now in
+    let app_is = c.in_ok-command.ensures in
+    passed_on words _ _ c.from_residual-in_err-matches.ensures.1
+    (λ e same taken o given. cc (same, c.in_err-matches.ensures.passes (ap (λ (a : App). takes a words) app_is ∙ taken)))
+
+pub returns-in_err-error-in-None-clause-refused : goal.returns-in_err-error-in-None-clause-refused
+returns-in_err-error-in-None-clause-refused g c =
+    passed_on (map g.S.AsStr.text c.args.words.now) _ _ c.from_residual-in_err-error-in-None.ensures.1 (λ e memory taken o given. memory)
+
+-- what the parse found is what the words give
+rows_of_words : (words : List Text) (app : App) (found : Option (Text × List Row)) → app ≡ fleet_app
+    → (is_simple app ≡ true → found ≡ subcommand_of app words) → found ≡ subcommand_of fleet_app words
+rows_of_words words app found same parsed = parsed (ap is_simple same ∙ fleet_is_simple) ∙ ap (λ (a : App). subcommand_of a words) same
+
+pub returns-in-Some-clause-given : goal.returns-in-Some-clause-given
+returns-in-Some-clause-given g c =
+    let rows = rows_of_words (map g.S.AsStr.text c.args.words.now) _ _ c.in_ok-command.ensures (λ h. (c.in_ok-matches.ensures.ok.2 h).1) in
+    subst (λ s. IsGiven (option_rows s) c.in-Some.options) rows c.in-Some.ensures.some
+
+pub returns-clause-refused : goal.returns-clause-refused
+returns-clause-refused g c =
+    let rows = rows_of_words (map g.S.AsStr.text c.args.words.now) _ _ c.in_ok-command.ensures (λ h. (c.in_ok-matches.ensures.ok.2 h).1) in
+    λ taken o given. absurd (c.in-None.ensures.none o (subst (λ s. IsGiven (option_rows s) o) (sym rows) given))

@@ -1,0 +1,43 @@
+-- The command line of the program: the command `one` with its three options, in the words of `clap`.
+use Rattle.std.specs.Prelude.{◌≡◌, ◌<◌, ◌^◌, ℕ, List, [], ◌∷◌, Option, Some, None, codes, unwrap_or}
+use Rattle.std.specs.Str.Parse.{IsNumeral, digits_value}
+use Rattle.clap.specs.Words.{App, Row, Rule, Text, first_of, new_app, new_rule, subcommand_of, with_rule, with_subcommand}
+use Rattle.lw_stamp.specs.Moment.{ms_of}
+use Rattle.fleet.specs.declared.command.OneOptions.{OneOptions}
+
+-- an option that is given by its long name
+abbrev pub long_option : Text → Rule
+long_option name = record (new_rule name) { long = Some name; value_names = 1 }
+
+-- `one` with the options `--node`, `--now` and `--from`
+unfoldable pub one_app : App
+one_app = with_rule
+    (with_rule (with_rule (new_app (codes "one")) (long_option (codes "node"))) (long_option (codes "now")))
+    (long_option (codes "from"))
+
+unfoldable pub fleet_app : App
+fleet_app = with_subcommand (new_app (codes "fleet")) one_app.top
+
+-- what was given for the options of a command, and nothing where there was no command
+abbrev pub option_rows : Option (Text × List Row) → List Row
+option_rows None = []
+option_rows (Some command) = command.1
+
+-- the text that was given for an option, or else the text that stands for it
+abbrev pub given : Text → Text → List Row → Text
+given name default rows = unwrap_or (first_of name rows) default
+
+-- the text is one decimal digit or more, and they write the number
+abbrev pub Writes : Text → ℕ → Type 0
+Writes text number = IsNumeral 10 text × (digits_value 10 text ≡ number)
+
+-- the options are those that were given: the node 1, the moment 0 and a local address where they were not
+pub record IsGiven (rows : List Row) (options : OneOptions) : Type 0 where
+  pub node : Writes (given (codes "node") (codes "1") rows) options.node
+  pub node_fits : options.node < 2 ^ 16
+  pub now : Writes (given (codes "now") (codes "0") rows) (ms_of options.now)
+  pub from : options.from.now ≡ given (codes "from") (codes "127.0.0.1:5683") rows
+
+-- what the words of a command line give
+abbrev pub given_rows : List Text → List Row
+given_rows words = option_rows (subcommand_of fleet_app words)
