@@ -6,3 +6,4 @@ pub mod PartOnce
 pub mod Messages
 pub mod Written
 pub mod Fitting
+pub mod Total

@@ -1,6 +1,6 @@
 //! Laws of the message grammar, each the contract of a function that does nothing.
 
-ghost use Rattle.std.specs.Prelude.{◌≡◌, ℕ, List};
+ghost use Rattle.std.specs.Prelude.{◌≡◌, ℕ, ◌<◌, ◌⊎◌, List, slice_index};
 ghost use Rattle.lw_coap.specs.declared.fault.Fault.{Fault};
 ghost use Rattle.lw_coap.specs.Message.{MessageContent};
 ghost use Rattle.lw_coap.specs.Grammar.{IsSpelling};
@@ -19,8 +19,9 @@ pub fn spellings_are_one()
     ensures message { (bytes : List ℕ) (a b : MessageContent) → IsSpelling bytes a → IsSpelling bytes b → a ≡ b }
 {}
 
-/// Bytes that spell a message have no fault, and others have one first fault.
-pub fn faults_are_one()
+/// Bytes spell a message or have one first fault, never both.
+pub fn bytes_are_a_message_or_a_fault()
+    ensures some { (bytes : List ℕ) → ((i : ℕ) → slice_index bytes i < 256) → ((message : MessageContent) × IsSpelling bytes message) ⊎ ((fault : Fault) × IsFault bytes fault) }
     ensures apart { (bytes : List ℕ) (message : MessageContent) (fault : Fault) → IsSpelling bytes message → IsFault bytes fault → ⊥ }
     ensures one { (bytes : List ℕ) (a b : Fault) → IsFault bytes a → IsFault bytes b → a ≡ b }
 {}
