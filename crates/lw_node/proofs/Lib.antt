@@ -3,3 +3,4 @@ pub mod Shown
 pub mod Effects
 pub mod RegisterLinks
 pub mod RegisterOptions
+pub mod First

@@ -64,6 +64,11 @@ pub record IsFirst (P : Registration → Type 0) (r : Registration) : Type 0 whe
   pub fits : P r
   pub first : (other : Registration) → P other → AtMost text_cmp r.endpoint other.endpoint
 
+-- the answer is the first of those that fit, or none where none fits
+abbrev pub IsFirstAnswer : (Registration → Type 0) → Option Registration → Type 0
+IsFirstAnswer P None = (r : Registration) → ¬ P r
+IsFirstAnswer P (Some r) = IsFirst P r
+
 -- the least shown endpoint above the given one, or the least of all
 abbrev pub FirstAfter : Marks → ℕ → Option (List ℕ) → Option Registration → Type 0
-FirstAfter M now after = IsAnswer (IsFirst (λ r. IsAfter after r.endpoint × IsShown M now r))
+FirstAfter M now after = IsFirstAnswer (λ r. IsAfter after r.endpoint × IsShown M now r)

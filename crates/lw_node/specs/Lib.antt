@@ -1,5 +1,6 @@
 pub mod Marks
 pub mod Answers
+pub mod Lists
 pub mod Register
 pub mod Node
 pub mod Meaning

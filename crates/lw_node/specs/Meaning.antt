@@ -13,6 +13,8 @@ use Rattle.lw_coap.specs.Header.{HasHeader}
 use Rattle.lw_reg.specs.declared.addr.Addr.{Addr}
 use Rattle.lw_reg.specs.declared.binding.Binding.{Binding}
 use Rattle.lw_reg.specs.Binding.{binding_text}
+use Rattle.lw_node.specs.declared.role.Role.{Role}
+use Rattle.lw_node.specs.declared.role.Role.TheVariants.{Ignored, Ping, Request, Unanswered}
 use Rattle.lw_node.specs.Marks.{Operation}
 use Rattle.lw_node.specs.Register.{AskedContent, IsRegister}
 use Rattle.lw_node.specs.Node.{NodeContent, after}
@@ -65,12 +67,11 @@ created request id =
 
 -- The registration that is made: version, lifetime and objects as asked for, the binding `U`, no queue
 -- mode, no SMS number, seen at this moment from the source address.
-pub record IsMade (arrival : Arrival) (asked : AskedContent) (made : Operation) : Type 0 where
+pub record IsMade (asked : AskedContent) (id : Stamp) (now : ℕ) (source : Addr) (made : Operation) : Type 0 where
   pub endpoint : made.endpoint ≡ asked.endpoint
-  pub counter : made.id.counter ≡ arrival.clock + 1
-  pub node : made.id.node ≡ arrival.number
-  pub address : made.address ≡ arrival.source
-  pub seen : made.seen ≡ arrival.now
+  pub identifier : made.id ≡ id
+  pub address : made.address ≡ source
+  pub seen : made.seen ≡ now
   pub lifetime : made.lifetime ≡ asked.lifetime
   pub version : made.version ≡ asked.version
   pub binding : binding_text made.binding ≡ codes "U"
@@ -78,25 +79,25 @@ pub record IsMade (arrival : Arrival) (asked : AskedContent) (made : Operation) 
   pub sms : made.sms ≡ None
   pub objects : made.objects ≡ asked.objects
 
--- With the clock at its end a Register is refused; otherwise it is an operation with the next stamp.
+-- it is made with the next stamp of the node's clock, and the reply says where it is
+pub record IsCreated (arrival : Arrival) (request : MessageContent) (asked : AskedContent) (effect : Effect) : Type 0 where
+  pub id : Stamp
+  pub counter : id.counter ≡ arrival.clock + 1
+  pub node : id.node ≡ arrival.number
+  pub operation : Operation
+  pub made : IsMade asked id arrival.now arrival.source operation
+  pub effect_is : effect ≡ record { reply = Some (created request id); operation = Some operation }
+
+-- With the clock at its end a Register is refused; otherwise it is an operation.
 abbrev pub RegisterMeans : Arrival → MessageContent → AskedContent → Effect → Type 0
 RegisterMeans arrival request asked effect =
-    ((arrival.clock ≡ 2 ^ 48 - 1) × (effect ≡ replies (unavailable request)))
-    ⊎ ((made : Operation) × IsMade arrival asked made × (effect ≡ record { reply = Some (created request made.id); operation = Some made }))
+    ((arrival.clock ≡ 2 ^ 48 - 1) × (effect ≡ replies (unavailable request))) ⊎ IsCreated arrival request asked effect
 
 -- a request that is no Register is refused
 abbrev pub RequestMeans : Arrival → MessageContent → Effect → Type 0
 RequestMeans arrival request effect =
     ((asked : AskedContent) × IsRegister request asked × RegisterMeans arrival request asked effect)
     ⊎ (((asked : AskedContent) → ¬ IsRegister request asked) × (effect ≡ replies (bad_request request)))
-
--- what a message is
-pub data Role : Type 0 where
-  Ignored : Role
-  Ping : Role
-  Request : Role
-  -- a response, or a code that is no request's and no response's: no reply is defined yet
-  Unanswered : Role
 
 -- by type and code: a code below 1.00 is that of a request, and 0.00 is that of an empty message
 abbrev pub role_of : Kind → ℕ → Role
@@ -111,30 +112,59 @@ RoleMeans Ping arrival message effect = effect ≡ replies (reset_of message.mid
 RoleMeans Request arrival message effect = RequestMeans arrival message effect
 RoleMeans Unanswered arrival message effect = effect ≡ nothing
 
--- the bytes spell no message, and no reply is owed: they have no header of a confirmable message
-abbrev pub IsSilent : List ℕ → Type 0
-IsSilent bytes = ((fault : Fault) × IsFault bytes fault) × ((code mid : ℕ) → ¬ HasHeader bytes Con code mid)
+-- the bytes have no header of a confirmable message
+abbrev pub HasNoConfirmable : List ℕ → Type 0
+HasNoConfirmable bytes = (code mid : ℕ) → ¬ HasHeader bytes Con code mid
 
--- A malformed confirmable message whose header can be read is reset, and any other is ignored (RFC 7252,
--- section 4.2). A whole message means what its role says.
+-- A malformed confirmable message is reset where its header can be read; anything else is ignored
+-- (RFC 7252, section 4.2).
+abbrev pub MalformedMeans : List ℕ → Effect → Type 0
+MalformedMeans bytes effect =
+    ((code : ℕ) × (mid : ℕ) × HasHeader bytes Con code mid × (effect ≡ replies (reset_of mid)))
+    ⊎ (HasNoConfirmable bytes × (effect ≡ nothing))
+
+-- the bytes spell no message, and no reply is owed
+abbrev pub IsSilent : List ℕ → Type 0
+IsSilent bytes = ((fault : Fault) × IsFault bytes fault) × HasNoConfirmable bytes
+
+abbrev pub MessageMeans : Arrival → MessageContent → Effect → Type 0
+MessageMeans arrival message effect = RoleMeans (role_of message.kind message.code) arrival message effect
+
+-- a whole message means what its role says
 abbrev pub DatagramMeans : Arrival → List ℕ → Effect → Type 0
 DatagramMeans arrival bytes effect =
-    ((message : MessageContent) × IsSpelling bytes message × RoleMeans (role_of message.kind message.code) arrival message effect)
-    ⊎ (((fault : Fault) × IsFault bytes fault × (code : ℕ) × (mid : ℕ) × HasHeader bytes Con code mid × (effect ≡ replies (reset_of mid)))
-        ⊎ (IsSilent bytes × (effect ≡ nothing)))
+    ((message : MessageContent) × IsSpelling bytes message × MessageMeans arrival message effect)
+    ⊎ ((fault : Fault) × IsFault bytes fault × MalformedMeans bytes effect)
 
 -- the reply's bytes spell its message
 abbrev pub IsReply : Option (List ℕ) → Option MessageContent → Type 0
 IsReply None None = Unit {0}
 IsReply (Some bytes) (Some message) = IsSpelling bytes message
-IsReply _ _ = ⊥
+IsReply (Some bytes) None = ⊥
+IsReply None (Some message) = ⊥
 
 abbrev pub arrival_at : NodeContent → ℕ → Addr → Arrival
 arrival_at node now source = record { number = node.number; clock = node.clock; now = now; source = source }
 
--- A node takes a datagram: the reply and the node after it are those of a meaning of the datagram.
-pub record Takes (old : NodeContent) (now : ℕ) (source : Addr) (bytes : List ℕ) (reply : Option (List ℕ)) (new : NodeContent) : Type 0 where
+-- the reply and the node after it are those of an effect that is meant
+pub record Follows (Meant : Effect → Type 0) (old : NodeContent) (reply : Option (List ℕ)) (new : NodeContent) : Type 0 where
   pub effect : Effect
-  pub meant : DatagramMeans (arrival_at old now source) bytes effect
+  pub meant : Meant effect
   pub replied : IsReply reply effect.reply
   pub left : new ≡ after old effect.operation
+
+-- A node takes a datagram, a message, or a Register.
+abbrev pub Takes : NodeContent → ℕ → Addr → List ℕ → Option (List ℕ) → NodeContent → Type 0
+Takes old now source bytes reply new = Follows (DatagramMeans (arrival_at old now source) bytes) old reply new
+
+abbrev pub TakesMessage : NodeContent → ℕ → Addr → MessageContent → Option (List ℕ) → NodeContent → Type 0
+TakesMessage old now source message reply new = Follows (MessageMeans (arrival_at old now source) message) old reply new
+
+abbrev pub TakesRegister : NodeContent → ℕ → Addr → MessageContent → AskedContent → Option (List ℕ) → NodeContent → Type 0
+TakesRegister old now source request asked reply new = Follows (RegisterMeans (arrival_at old now source) request asked) old reply new
+
+-- what is answered to bytes that are no message
+pub record RepliesMalformed (bytes : List ℕ) (reply : Option (List ℕ)) : Type 0 where
+  pub effect : Effect
+  pub meant : MalformedMeans bytes effect
+  pub replied : IsReply reply effect.reply

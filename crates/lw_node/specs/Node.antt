@@ -21,3 +21,7 @@ after node (Some operation) =
 pub record IsIssued (node : NodeContent) : Type 0 where
   pub count : node.clock ≡ length node.operations
   pub each : (k : ℕ) → IfSome (slice_get node.operations k) (λ o. (o.id.counter ≡ k + 1) × (o.id.node ≡ node.number))
+
+-- what a node answers to a datagram: the reply's bytes, or none
+pub record TakenContent : Type 0 where
+  pub reply : Option (List ℕ)

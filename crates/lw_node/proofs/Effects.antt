@@ -1,0 +1,113 @@
+-- What a node does with a datagram is what the datagram means.
+use Rattle.std.proofs.Common.{◌≡◌, ℕ, ◌+◌, ◌*◌, ◌<◌, ◌≤◌, ◌-◌, ◌^◌, ◌⊎◌, Bool, true, false, cond, List, [], ◌∷◌, ◌++◌, length, get_or, Option, Some, None, Result, Ok, Err, refl, sym, ap, subst, ◌∙◌, arith, inl, inr}
+use Rattle.std.specs.Prelude.{IfOk}
+use Rattle.lw_stamp.specs.declared.no_memory.NoMemory.{NoMemory}
+use Rattle.lw_coap.specs.declared.message.Kind.{Kind}
+use Rattle.lw_coap.specs.declared.message.Kind.TheVariants.{Con, Non, Ack, Rst}
+use Rattle.lw_coap.specs.Message.{MessageContent}
+use Rattle.lw_coap.specs.Grammar.{kind_number, IsHeader}
+use Rattle.lw_coap.specs.Header.{HasHeader, HasNoHeader}
+use Rattle.lw_node.specs.declared.role.Role.{Role}
+use Rattle.lw_node.specs.declared.role.Role.TheVariants.{Ignored, Ping, Request, Unanswered}
+use Rattle.lw_node.specs.Marks.{Operation}
+use Rattle.lw_node.specs.Register.{AskedContent, IsRegister}
+use Rattle.lw_node.specs.Node.{NodeContent, TakenContent, IsIssued, after}
+use Rattle.lw_node.specs.Meaning.{Arrival, Effect, nothing, replies, reset_of, bad_request, unavailable, created, IsMade, IsCreated, RegisterMeans, RequestMeans, role_of, RoleMeans, MessageMeans, HasNoConfirmable, MalformedMeans, IsReply, Follows, RepliesMalformed}
+use Rattle.lw_node.proofs.Shown.{issued_more}
+
+-- what holds of each value holds of the one that is there
+pub if_ok : {T E : Type 0} (r : Result T E) (P Q : T → Type 0) → IfOk r P → ((t : T) → P t → Q t) → IfOk r Q
+if_ok (Ok t) P Q h f = f t h
+if_ok (Err e) P Q h f = tt
+
+-- a node of these parts
+abbrev pub inside : ℕ → ℕ → List Operation → NodeContent
+inside number clock operations = record { number = number; clock = clock; operations = operations }
+
+-- ---- a node that is left as it was
+
+pub follows_nothing : (P : Effect → Type 0) (old : NodeContent) → P nothing → Follows P old None old
+follows_nothing P old h = record { effect = nothing; meant = h; replied = tt; left = refl }
+
+pub follows_reply : (P : Effect → Type 0) (old : NodeContent) (message : MessageContent) → P (replies message)
+    → (t : TakenContent) → IsReply t.reply (Some message) → Follows P old t.reply old
+follows_reply P old message h t replied = record { effect = replies message; meant = h; replied = replied; left = refl }
+
+-- the same of an effect that is meant in another word
+pub follows_as : (P Q : Effect → Type 0) (old : NodeContent) (reply : Option (List ℕ)) (new : NodeContent) → ((e : Effect) → P e → Q e) → Follows P old reply new → Follows Q old reply new
+follows_as P Q old reply new f h = record { effect = h.effect; meant = f h.effect h.meant; replied = h.replied; left = h.left }
+
+-- ---- a node with one more operation
+
+pub left_after : (old : NodeContent) (number clock counter : ℕ) (os operations : List Operation) (o : Operation)
+    → inside number clock os ≡ old → counter ≡ clock + 1 → operations ≡ os ++ o ∷ []
+    → inside number counter operations ≡ after old (Some o)
+left_after old number clock counter os operations o is raised pushed =
+    (λ i. record { number = number; clock = raised i; operations = pushed i }) ∙ ap (λ (n : NodeContent). after n (Some o)) is
+
+pub issued_after : (number clock counter : ℕ) (os operations : List Operation) (o : Operation) → IsIssued (inside number clock os)
+    → counter ≡ clock + 1 → operations ≡ os ++ o ∷ [] → o.id.counter ≡ clock + 1 → o.id.node ≡ number
+    → IsIssued (inside number counter operations)
+issued_after number clock counter os operations o issued raised pushed stamp node =
+    subst IsIssued (sym (λ i. record { number = number; clock = raised i; operations = pushed i })) (issued_more (inside number clock os) o issued stamp node)
+
+-- ---- roles
+
+pub means_silent : (arrival : Arrival) (m : MessageContent) (r : Role) → r ≡ role_of m.kind m.code → (r ≡ Ignored) ⊎ (r ≡ Unanswered) → MessageMeans arrival m nothing
+means_silent arrival m r is (inl h) = subst (λ (x : Role). RoleMeans x arrival m nothing) (sym h ∙ is) refl
+means_silent arrival m r is (inr h) = subst (λ (x : Role). RoleMeans x arrival m nothing) (sym h ∙ is) refl
+
+pub means_ping : (arrival : Arrival) (m : MessageContent) (r : Role) → r ≡ role_of m.kind m.code → r ≡ Ping → MessageMeans arrival m (replies (reset_of m.mid))
+means_ping arrival m r is h = subst (λ (x : Role). RoleMeans x arrival m (replies (reset_of m.mid))) (sym h ∙ is) refl
+
+pub means_request : (arrival : Arrival) (m : MessageContent) (r : Role) (e : Effect) → r ≡ role_of m.kind m.code → r ≡ Request → RequestMeans arrival m e → MessageMeans arrival m e
+means_request arrival m r e is h meant = subst (λ (x : Role). RoleMeans x arrival m e) (sym h ∙ is) meant
+
+-- ---- bytes that are no message
+
+-- one kind alone is in a header
+kind_of_header : (a b : Kind) (bytes : List ℕ) (code mid other id : ℕ) → HasHeader bytes a code mid → HasHeader bytes b other id → kind_number a ≡ kind_number b
+kind_of_header a b bytes code mid other id x y =
+    let same = sym (x.2).bytes_are ∙ (y.2).bytes_are in
+    let first = ap (λ (bs : List ℕ). get_or bs 0 0) same in
+    let small = (x.2).token_length_fits in
+    let short = (y.2).token_length_fits in
+    omega (arith, first, small, short)
+
+pub no_confirmable_other : (k : Kind) (bytes : List ℕ) (code mid : ℕ) → HasHeader bytes k code mid → (k ≡ Con → ⊥) → HasNoConfirmable bytes
+no_confirmable_other Con bytes code mid h other = absurd (other refl)
+no_confirmable_other Non bytes code mid h other = λ c m g. let e = kind_of_header Non Con bytes code mid c m h g in let bad : 1 ≡ 0 = e in absurd (omega arith)
+no_confirmable_other Ack bytes code mid h other = λ c m g. let e = kind_of_header Ack Con bytes code mid c m h g in let bad : 2 ≡ 0 = e in absurd (omega arith)
+no_confirmable_other Rst bytes code mid h other = λ c m g. let e = kind_of_header Rst Con bytes code mid c m h g in let bad : 3 ≡ 0 = e in absurd (omega arith)
+
+no_confirmable_none : (bytes : List ℕ) → HasNoHeader bytes → HasNoConfirmable bytes
+no_confirmable_none bytes none = λ code mid h.
+    let header = h.2 in
+    let first : get_or bytes 0 0 ≡ 64 * 1 + 16 * 0 + h.0 = ap (λ (bs : List ℕ). get_or bs 0 0) header.bytes_are in
+    let long : length bytes ≡ 4 + length h.1 = ap length header.bytes_are ∙ omega arith in
+    let small = header.token_length_fits in
+    elim none [
+      | inl short ↦ omega (arith, short, long)
+      | inr other ↦ other (omega (arith, first, small))
+    ]
+
+-- what is answered to bytes that are no message
+pub malformed_none : (bytes : List ℕ) → HasNoConfirmable bytes → RepliesMalformed bytes None
+malformed_none bytes h = record { effect = nothing; meant = inr (h, refl); replied = tt }
+
+pub malformed_without : (bytes : List ℕ) → HasNoHeader bytes → RepliesMalformed bytes None
+malformed_without bytes h = malformed_none bytes (no_confirmable_none bytes h)
+
+pub malformed_other : (bytes : List ℕ) (k : Kind) (code mid : ℕ) → HasHeader bytes k code mid → (k ≡ Non) ⊎ ((k ≡ Ack) ⊎ (k ≡ Rst)) → RepliesMalformed bytes None
+malformed_other bytes k code mid h other = malformed_none bytes (no_confirmable_other k bytes code mid h (λ con. apart con other))
+  where
+    apart : k ≡ Con → (k ≡ Non) ⊎ ((k ≡ Ack) ⊎ (k ≡ Rst)) → ⊥
+    apart con (inl a) = let bad : Con ≡ Non = sym con ∙ a in cc
+    apart con (inr (inl a)) = let bad : Con ≡ Ack = sym con ∙ a in cc
+    apart con (inr (inr a)) = let bad : Con ≡ Rst = sym con ∙ a in cc
+
+pub confirmable : (bytes : List ℕ) (k : Kind) (code mid : ℕ) → HasHeader bytes k code mid → k ≡ Con → HasHeader bytes Con code mid
+confirmable bytes k code mid h is = subst (λ (x : Kind). HasHeader bytes x code mid) is h
+
+pub malformed_reset : (bytes : List ℕ) (code mid : ℕ) → HasHeader bytes Con code mid → (t : TakenContent) → IsReply t.reply (Some (reset_of mid)) → RepliesMalformed bytes t.reply
+malformed_reset bytes code mid h t replied = record { effect = replies (reset_of mid); meant = inl (code, mid, h, refl); replied = replied }

@@ -1,0 +1,163 @@
+ghost use Rattle.std.specs.Prelude.{◌≡◌, ◌≤◌, ◌↔◌, ◌∷◌, [], ◌++◌, IsOk, IfOk, OnErr, length};
+ghost use Rattle.lw_stamp.specs.Moment.{ms_of};
+ghost use Rattle.lw_node.specs.Marks.{left_by};
+ghost use Rattle.lw_node.specs.Answers.{ByEndpoint, FirstAfter};
+ghost use Rattle.lw_node.specs.Lists.{after_text};
+ghost use Rattle.lw_node.specs.Node.{fresh};
+ghost use Rattle.lw_node.specs.Meaning.{Takes, TakesMessage, TakesRegister, IsSilent, HasNoConfirmable, RepliesMalformed, IsMade};
+
+use crate::answers;
+use crate::register::{Asked, read_register};
+use crate::reply;
+use crate::role::Role;
+use crate::taken::Taken;
+use lw_coap::{Fault, Kind, Message, decode, peek_header};
+use lw_reg::{Addr, Binding, Seen, Text, View};
+use lw_stamp::{Clock, Moment, NoMemory, Stamp};
+use std::alloc::Global;
+use std::marker::Model;
+
+/// A server of the cluster: its number, its clock, and the operations that it issued.
+#[derive(Debug, Drop)]
+pub struct Node {
+    number: u16,
+    clock: Clock,
+    operations: Vec<Seen>,
+}
+
+impl Model for Node {
+    ghost use Rattle.lw_stamp.specs.Clock.{counter_of};
+    ghost use Rattle.lw_node.specs.Node.{NodeContent, IsIssued};
+
+    ghost Value = { NodeContent };
+
+    ghost view = { λ n. record { number = n.number; clock = counter_of n.clock; operations = n.operations.items } };
+
+    ghost invariant = { λ n. IsIssued (record { number = n.number; clock = counter_of n.clock; operations = n.operations.items }) };
+}
+
+impl Node {
+    /// A node that has taken nothing.
+    pub fn new(alloc: Global, number: u16) -> Node
+        ensures { result ≡ fresh number }
+    {
+        Node {
+            number,
+            clock: Clock::new(),
+            operations: Vec::new(alloc),
+        }
+    }
+
+    /// Takes a datagram that came at this moment from this address.
+    ///
+    /// `NoMemory` may come in place of any answer, save where bytes that are no message get no reply.
+    pub fn take(&mut self, now: Moment, from: Addr, bytes: &[u8]) -> Result<Taken, NoMemory>
+        ensures meaning { IfOk result (λ t. Takes self.old (ms_of now) from bytes.now t.reply self.new) }
+        ensures unchanged { OnErr result (self.new ≡ self.old) }
+        ensures silent { IsSilent bytes.now → IsOk result }
+    {
+        let alloc = *self.operations.allocator();
+        match decode(alloc, bytes) {
+            Ok(message) => self.take_message(now, from, &message),
+            Err(Fault::NoMemory) => Err(NoMemory),
+            Err(_) => malformed(alloc, bytes),
+        }
+    }
+
+    fn take_message(
+        &mut self,
+        now: Moment,
+        from: Addr,
+        message: &Message,
+    ) -> Result<Taken, NoMemory>
+        requires { length message.now.token ≤ 8 }
+        ensures meaning { IfOk result (λ t. TakesMessage self.old (ms_of now) from message.now t.reply self.new) }
+        ensures unchanged { OnErr result (self.new ≡ self.old) }
+    {
+        let alloc = *self.operations.allocator();
+        match Role::of(message.kind, message.code) {
+            Role::Ignored | Role::Unanswered => Ok(Taken { reply: None }),
+            Role::Ping => reply::reset(alloc, message.mid),
+            Role::Request => match read_register(message) {
+                Some(asked) => self.register(now, from, message, &asked),
+                None => reply::refusal(alloc, message, reply::BAD_REQUEST),
+            },
+        }
+    }
+
+    /// Makes the operation and the reply first, so that a refusal changes nothing.
+    fn register(
+        &mut self,
+        now: Moment,
+        from: Addr,
+        request: &Message,
+        asked: &Asked<'_>,
+    ) -> Result<Taken, NoMemory>
+        requires { length request.now.token ≤ 8 }
+        ensures meaning { IfOk result (λ t. TakesRegister self.old (ms_of now) from request.now asked.now t.reply self.new) }
+        ensures unchanged { OnErr result (self.new ≡ self.old) }
+    {
+        let alloc = *self.operations.allocator();
+        let mut clock = self.clock;
+        let Some(stamp) = clock.next(self.number) else {
+            return reply::refusal(alloc, request, reply::SERVICE_UNAVAILABLE);
+        };
+        let operation = make(alloc, stamp, now, from, asked)?;
+        let taken = reply::created(alloc, request, &stamp)?;
+        self.operations.push(operation)?;
+        self.clock = clock;
+        Ok(taken)
+    }
+
+    /// What is shown of the endpoint at this moment.
+    pub fn by_endpoint(&self, now: Moment, endpoint: &str) -> Option<View<'_>>
+        ensures { ByEndpoint (left_by self.now.operations) (ms_of now) endpoint.now result }
+    {
+        answers::shown(&self.operations, now, endpoint)
+    }
+
+    /// What is shown of the least endpoint above the given one by bytes, or of the least of all.
+    pub fn first_after(&self, now: Moment, after: Option<&str>) -> Option<View<'_>>
+        ensures { FirstAfter (left_by self.now.operations) (ms_of now) (after_text after.entry) result }
+    {
+        answers::first_shown(&self.operations, now, after)
+    }
+}
+
+/// The reply to bytes that are no message.
+fn malformed(alloc: Global, bytes: &[u8]) -> Result<Taken, NoMemory>
+    ensures reply { IfOk result (λ t. RepliesMalformed bytes.now t.reply) }
+    ensures silent { HasNoConfirmable bytes.now → IsOk result }
+{
+    let Some((kind, _, mid)) = peek_header(bytes) else {
+        return Ok(Taken { reply: None });
+    };
+    match kind {
+        Kind::Con => reply::reset(alloc, mid),
+        Kind::Non | Kind::Ack | Kind::Rst => Ok(Taken { reply: None }),
+    }
+}
+
+/// The registration that is asked for.
+fn make(
+    alloc: Global,
+    id: Stamp,
+    now: Moment,
+    from: Addr,
+    asked: &Asked<'_>,
+) -> Result<Seen, NoMemory>
+    ensures { IfOk result (λ made. IsMade asked.now id (ms_of now) from made) }
+{
+    Ok(Seen {
+        endpoint: Text::copy_of(alloc, asked.endpoint)?,
+        id,
+        address: from,
+        seen: now,
+        lifetime: asked.lifetime,
+        version: asked.version,
+        binding: Binding::U,
+        queue: false,
+        sms: None,
+        objects: Text::copy_of(alloc, asked.objects)?,
+    })
+}
