@@ -4,3 +4,4 @@ pub mod Effects
 pub mod RegisterLinks
 pub mod RegisterOptions
 pub mod First
+pub mod Runs
