@@ -96,6 +96,7 @@ none_about e (o ∷ os) h p m same = by_rest (latest_about e os) refl h (λ f. n
     by_own : (b : Bool) → bytes_eq o.endpoint e ≡ b → cond b (Some o) None ≡ no_operation → o.endpoint ≡ e → ⊥
     by_own true f g own = cc
     by_own false f g own = let hit = (bytes_eq-Decides o.endpoint e).1 own in cc
+
     by_rest : (x : Option Operation) → latest_about e os ≡ x → later x (cond (bytes_eq o.endpoint e) (Some o) None) ≡ None
         → (latest_about e os ≡ None → Contains os p → p.endpoint ≡ e → ⊥) → (o ≡ p) ⊎ Contains os p → ⊥
     by_rest (Some r) f g rest c = cc
@@ -112,12 +113,14 @@ latest_is e (o ∷ os) rises r h = by_rest (latest_about e os) refl h (latest_is
     by_own : (b : Bool) → bytes_eq o.endpoint e ≡ b → cond b (Some o) None ≡ some_operation r → (o ≡ r) × (o.endpoint ≡ e)
     by_own true f g = (some_is o r g, (bytes_eq-Decides o.endpoint e).0 f)
     by_own false f g = absurd cc
+
     alone : latest_about e os ≡ None → (o ≡ r) × (o.endpoint ≡ e) → IsLatest e (o ∷ os) r
     alone none own = record {
       member = subst (λ (q : Operation). Contains (o ∷ os) q) own.0 (here o os);
       same = subst (λ (q : Operation). q.endpoint ≡ e) own.0 own.1;
       last = λ p m same. elim (member_cases o os p m) [ inl is ↦ inl (sym is ∙ own.0) | inr behind ↦ absurd (none_about e os none p behind same) ];
     }
+
     behind : IsLatest e os r → IsLatest e (o ∷ os) r
     behind later_one = record {
       member = there o os r later_one.member;
@@ -127,6 +130,7 @@ latest_is e (o ∷ os) rises r h = by_rest (latest_about e os) refl h (latest_is
         | inr b ↦ later_one.last p b same
       ];
     }
+
     by_rest : (x : Option Operation) → latest_about e os ≡ x → later x (cond (bytes_eq o.endpoint e) (Some o) None) ≡ Some r
         → ((q : Operation) → latest_about e os ≡ Some q → IsLatest e os q) → IsLatest e (o ∷ os) r
     by_rest (Some q) f g rest = behind (rest r (f ∙ g))
@@ -142,6 +146,7 @@ one_of_stamp (o ∷ os) rises p q m n same = by_places (one_of_stamp os rises.1 
         let less = rises.0 b behind in
         let itself : stamp_cmp b.id b.id ≡ Less = subst (λ (s : Stamp). stamp_cmp s b.id ≡ Less) (ap (λ (x : Operation). x.id) is ∙ alike) less in
         irreflexive b.id itself
+
     by_places : (Contains os p → Contains os q → p.id ≡ q.id → p ≡ q) → (o ≡ p) ⊎ Contains os p → (o ≡ q) ⊎ Contains os q → p ≡ q
     by_places rest (inl a) (inl b) = sym a ∙ b
     by_places rest (inl a) (inr b) = absurd (apart p q a b same)
@@ -170,6 +175,7 @@ latest_same e (o ∷ os) r h = by_rest (latest_about e os) refl h (latest_same e
     by_own : (b : Bool) → bytes_eq o.endpoint e ≡ b → cond b (Some o) None ≡ some_operation r → r.endpoint ≡ e
     by_own true f g = ap (λ (q : Operation). q.endpoint) (sym (some_is o r g)) ∙ (bytes_eq-Decides o.endpoint e).0 f
     by_own false f g = absurd cc
+
     by_rest : (x : Option Operation) → latest_about e os ≡ x → later x (cond (bytes_eq o.endpoint e) (Some o) None) ≡ Some r
         → ((q : Operation) → latest_about e os ≡ Some q → q.endpoint ≡ e) → r.endpoint ≡ e
     by_rest (Some q) f g rest = rest r (f ∙ g)

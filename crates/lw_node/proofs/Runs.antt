@@ -29,7 +29,7 @@ pub run_place : (old mid new : NodeContent) (events : List Event) (i : ℕ) (out
 run_place old mid new events i outcomes more event outcome lt is pushed run step =
     let grown : take (i + 1) events ≡ take i events ++ event ∷ [] = take_more events i event lt ∙ ap (λ (e : Event). take i events ++ e ∷ []) (sym is) in
     subst (λ (es : List Event). Run old es more new) (sym grown)
-        (subst (λ (os : List Outcome). Run old (take i events ++ event ∷ []) os new) (sym pushed) (run_more old mid new (take i events) outcomes event outcome run step))
+    (subst (λ (os : List Outcome). Run old (take i events ++ event ∷ []) os new) (sym pushed) (run_more old mid new (take i events) outcomes event outcome run step))
 
 -- an answer that is shown, or whose copy found no memory, is a step
 pub first_step : (node : NodeContent) (event : Event) (now : Moment) (after : Option (Bor (List ℕ))) (answer : Option Registration) (outcome : Outcome)

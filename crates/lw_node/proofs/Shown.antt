@@ -97,14 +97,14 @@ latest_complete os rises e l r latest same complete =
     let base = complete.base in
     let based = one_of_stamp os rises base.0 l base.1 latest.member (base.3 ∙ id) in
     same_registration r l (same ∙ sym latest.same) id
-      (wrote (λ o. o.address) os rises l r.endpoint r.id _ r.address latest.member (sym id) complete.address.1)
-      (wrote (λ o. o.seen) os rises l r.endpoint r.id _ r.seen latest.member (sym id) complete.seen.1)
-      (wrote (λ o. o.lifetime) os rises l r.endpoint r.id _ r.lifetime latest.member (sym id) complete.lifetime.1)
-      (base.4.0 ∙ ap (λ (o : Operation). o.version) based)
-      (wrote (λ o. o.binding) os rises l r.endpoint r.id _ r.binding latest.member (sym id) complete.binding.1)
-      (base.4.1 ∙ ap (λ (o : Operation). o.queue) based)
-      (wrote (λ o. o.sms) os rises l r.endpoint r.id _ r.sms latest.member (sym id) complete.sms.1)
-      (wrote (λ o. o.objects) os rises l r.endpoint r.id _ r.objects latest.member (sym id) complete.objects.1)
+    (wrote (λ o. o.address) os rises l r.endpoint r.id _ r.address latest.member (sym id) complete.address.1)
+    (wrote (λ o. o.seen) os rises l r.endpoint r.id _ r.seen latest.member (sym id) complete.seen.1)
+    (wrote (λ o. o.lifetime) os rises l r.endpoint r.id _ r.lifetime latest.member (sym id) complete.lifetime.1)
+    (base.4.0 ∙ ap (λ (o : Operation). o.version) based)
+    (wrote (λ o. o.binding) os rises l r.endpoint r.id _ r.binding latest.member (sym id) complete.binding.1)
+    (base.4.1 ∙ ap (λ (o : Operation). o.queue) based)
+    (wrote (λ o. o.sms) os rises l r.endpoint r.id _ r.sms latest.member (sym id) complete.sms.1)
+    (wrote (λ o. o.objects) os rises l r.endpoint r.id _ r.objects latest.member (sym id) complete.objects.1)
 
 -- ---- shown
 
@@ -212,7 +212,7 @@ pushed number n (p ∷ os) o each counter node zero = each zero
 pushed number n (p ∷ os) o each counter node (suc k) =
     let moved : n + 1 + k + 1 ≡ n + suc k + 1 = omega arith in
     subst (λ (c : ℕ). IfSome (slice_get (os ++ o ∷ []) k) (λ q. (q.id.counter ≡ c) × (q.id.node ≡ number))) moved
-        (pushed number (n + 1) os o (issued_next number n p os each) (omega (arith, counter)) node k)
+    (pushed number (n + 1) os o (issued_next number n p os each) (omega (arith, counter)) node k)
 
 -- one more operation, with the next number of the clock
 pub issued_more : (node : NodeContent) (o : Operation) → IsIssued node → o.id.counter ≡ node.clock + 1 → o.id.node ≡ node.number → IsIssued (after node (Some o))

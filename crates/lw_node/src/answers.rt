@@ -27,8 +27,7 @@ pub fn latest<'a>(operations: &'a [Seen], endpoint: &str) -> Option<&'a Seen>
 pub fn is_in_time(now: Moment, operation: &Seen) -> bool
     ensures { IsTrue result ↔ IsInTime (ms_of now) operation.now }
 {
-    operation.lifetime == 0
-        || now.ms() < operation.seen.ms() + 1000 * u64::from(operation.lifetime)
+    operation.lifetime == 0 || now.ms() < operation.seen.ms() + 1000 * u64::from(operation.lifetime)
 }
 
 /// What is shown of the endpoint.
@@ -60,11 +59,7 @@ fn is_below(endpoint: &str, least: &Option<View<'_>>) -> bool
 }
 
 /// The least shown endpoint above the given one, or the least of all.
-pub fn first_shown<'a>(
-    operations: &'a [Seen],
-    now: Moment,
-    after: Option<&str>,
-) -> Option<View<'a>>
+pub fn first_shown<'a>(operations: &'a [Seen], now: Moment, after: Option<&str>) -> Option<View<'a>>
     ensures { IsFirstAnswer (IsCandidate operations.now operations.now (ms_of now) (after_text after.entry)) result }
 {
     let mut least = None;

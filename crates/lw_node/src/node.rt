@@ -6,11 +6,10 @@ ghost use Rattle.lw_node.specs.Lists.{after_text};
 ghost use Rattle.lw_node.specs.Node.{fresh};
 ghost use Rattle.lw_node.specs.Meaning.{Takes, TakesMessage, TakesRegister, IsSilent, HasNoConfirmable, RepliesMalformed, IsMade};
 
-use crate::answers;
 use crate::register::{Asked, read_register};
-use crate::reply;
 use crate::role::Role;
 use crate::taken::Taken;
+use crate::{answers, reply};
 use lw_coap::{Fault, Kind, Message, decode, peek_header};
 use lw_reg::{Addr, Binding, Seen, Text, View};
 use lw_stamp::{Clock, Moment, NoMemory, Stamp};

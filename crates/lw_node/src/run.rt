@@ -18,9 +18,15 @@ pub enum Event<'a> {
         datagram: &'a [u8],
     },
     /// What is shown of this endpoint?
-    ByEndpoint { now: Moment, endpoint: &'a str },
+    ByEndpoint {
+        now: Moment,
+        endpoint: &'a str,
+    },
     /// What is shown of the least endpoint above this one, or of the least of all?
-    FirstAfter { now: Moment, after: Option<&'a str> },
+    FirstAfter {
+        now: Moment,
+        after: Option<&'a str>,
+    },
 }
 
 /// What a call of a node gave.
@@ -69,11 +75,7 @@ fn step(alloc: Global, node: &mut Node, event: Event<'_>) -> Outcome
 
 /// The outcomes of events at a new node, one after another. `NoMemory` where there is no room for the
 /// outcomes; a call's own want of memory is an outcome.
-pub fn run_node(
-    alloc: Global,
-    number: u16,
-    events: &[Event<'_>],
-) -> Result<Vec<Outcome>, NoMemory>
+pub fn run_node(alloc: Global, number: u16, events: &[Event<'_>]) -> Result<Vec<Outcome>, NoMemory>
     ensures { IfOk result (λ outcomes. (last : NodeContent) × Run (fresh number) events.now outcomes.items last) }
 {
     let mut node = Node::new(alloc, number);

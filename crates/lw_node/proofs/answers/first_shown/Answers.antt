@@ -39,4 +39,4 @@ pub returns : goal.returns
 returns c =
     let os = c.args.operations.now in
     subst (λ (front : List Operation). IsFirstAnswer (IsCandidate front os (ms_of c.args.now) (after_text c.args.after)) c.loop-operation.least)
-        (take_past os c.loop-operation.operation-index c.loop-operation-test.false) c.loop-operation.invariant
+    (take_past os c.loop-operation.operation-index c.loop-operation-test.false) c.loop-operation.invariant

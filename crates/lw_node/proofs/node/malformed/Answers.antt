@@ -8,7 +8,7 @@ returns-in_default-clause-reply c = malformed_without c.args.bytes.now (c.in_def
 pub returns-in-Con-clause-reply : goal.returns-in-Con-clause-reply
 returns-in-Con-clause-reply c =
     if_ok c.reset.result _ _ c.reset.ensures
-        (malformed_reset c.args.bytes.now c.in-Some.field-0-1 c.in-Some.mid (confirmable c.args.bytes.now c.in-Some.kind c.in-Some.field-0-1 c.in-Some.mid c.in-Some.ensures.header c.in-Con.is))
+    (malformed_reset c.args.bytes.now c.in-Some.field-0-1 c.in-Some.mid (confirmable c.args.bytes.now c.in-Some.kind c.in-Some.field-0-1 c.in-Some.mid c.in-Some.ensures.header c.in-Con.is))
 
 pub returns-in-Con-clause-silent : goal.returns-in-Con-clause-silent
 returns-in-Con-clause-silent c =

@@ -13,4 +13,4 @@ returns c =
     let endpoint = c.args.endpoint.now in
     let kept = ap (λ (n : NodeContent). n.operations) c.self.view_is in
     answers_endpoint c.args.self.now.operations (subst Rises kept (issued_rises _ c.self.invariant)) now endpoint c.shown.result
-        (c.shown.ensures ∙ ap (λ (os : List Operation). shown_in os now endpoint) (c.deref.ensures.value ∙ kept))
+    (c.shown.ensures ∙ ap (λ (os : List Operation). shown_in os now endpoint) (c.deref.ensures.value ∙ kept))

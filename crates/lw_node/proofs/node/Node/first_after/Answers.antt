@@ -14,4 +14,4 @@ returns c =
     let after = after_text c.args.after in
     let kept = ap (λ (n : NodeContent). n.operations) c.self.view_is in
     answers_first c.args.self.now.operations (subst Rises kept (issued_rises _ c.self.invariant)) now after c.first_shown.result
-        (subst (λ (os : List Operation). IsFirstAnswer (IsCandidate os os now after) c.first_shown.result) (c.deref.ensures.value ∙ kept) c.first_shown.ensures)
+    (subst (λ (os : List Operation). IsFirstAnswer (IsCandidate os os now after) c.first_shown.result) (c.deref.ensures.value ∙ kept) c.first_shown.ensures)

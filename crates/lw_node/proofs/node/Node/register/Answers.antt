@@ -11,14 +11,14 @@ returns-in_default-clause-meaning c =
     let request = c.args.request.now in
     let ended = sym (ap (λ (n : NodeContent). n.clock) c.self.view_is) ∙ c.in_default.ensures.end.0 refl in
     if_ok c.refusal.result _ _ c.refusal.ensures
-        (follows_reply (RegisterMeans (arrival_at c.args.self.now (ms_of c.args.now) c.args.from) request c.args.asked.now) c.args.self.now (unavailable request) (inl (ended, refl)))
+    (follows_reply (RegisterMeans (arrival_at c.args.self.now (ms_of c.args.now) c.args.from) request c.args.asked.now) c.args.self.now (unavailable request) (inl (ended, refl)))
 
 pub invariant_of-self-2 : goal.invariant_of-self-2
 invariant_of-self-2 c =
     let made = c.in_ok-operation.ensures in
     let stamp = c.in-Some.ensures.stamp in
     issued_after _ _ _ _ _ c.in_ok-operation.operation c.self.invariant c.in-Some.ensures.raised c.in_ok-push.ensures.items
-        (ap (λ (s : Stamp). s.counter) made.identifier ∙ stamp.0) (ap (λ (s : Stamp). s.node) made.identifier ∙ stamp.1)
+    (ap (λ (s : Stamp). s.counter) made.identifier ∙ stamp.0) (ap (λ (s : Stamp). s.node) made.identifier ∙ stamp.1)
 
 pub returns-clause-meaning : goal.returns-clause-meaning
 returns-clause-meaning c =

@@ -19,7 +19,7 @@ returns-in-Ping-clause-meaning c =
     let role = c.of.ensures ∙ ap (λ (m : MessageContent). role_of m.kind m.code) c.message.view_is in
     let reply = follows_reply (MessageMeans arrival message) c.args.self.now (reset_of message.mid) (means_ping arrival message c.of.result role c.in-Ping.is) in
     if_ok c.reset.result _ _ c.reset.ensures
-        (λ t h. reply t (subst (λ (mid : ℕ). IsReply t.reply (Some (reset_of mid))) (ap (λ (m : MessageContent). m.mid) c.message.view_is) h))
+    (λ t h. reply t (subst (λ (mid : ℕ). IsReply t.reply (Some (reset_of mid))) (ap (λ (m : MessageContent). m.mid) c.message.view_is) h))
 
 pub returns-in-None-clause-meaning : goal.returns-in-None-clause-meaning
 returns-in-None-clause-meaning c =
@@ -27,5 +27,5 @@ returns-in-None-clause-meaning c =
     let message = c.args.message.now in
     let role = c.of.ensures ∙ ap (λ (m : MessageContent). role_of m.kind m.code) c.message.view_is in
     if_ok c.refusal.result _ _ c.refusal.ensures
-        (follows_reply (MessageMeans arrival message) c.args.self.now (bad_request message)
-            (means_request arrival message c.of.result _ role c.in-Request.is (inr (c.in-None.ensures.none, refl))))
+    (follows_reply (MessageMeans arrival message) c.args.self.now (bad_request message)
+    (means_request arrival message c.of.result _ role c.in-Request.is (inr (c.in-None.ensures.none, refl))))
