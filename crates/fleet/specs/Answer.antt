@@ -2,7 +2,7 @@
 use Rattle.std.specs.Prelude.{ℕ, List, [], ◌∷◌, ◌++◌, Option, Some, None, codes}
 use Rattle.hex.specs.Hex.{encode_lower}
 use Rattle.serde_json.specs.Written.{compact_text}
-use Rattle.fleet.specs.declared.json.Shown.{Shown}
+use Rattle.lw_reg.specs.Registration.{Registration}
 use Rattle.fleet.specs.Shown.{shown_json}
 
 -- the reply in lower-case hex, or a hyphen where there is none
@@ -11,10 +11,10 @@ reply_text None = codes "-"
 reply_text (Some bytes) = encode_lower bytes
 
 -- the line of a registration, if there is one
-abbrev pub shown_lines : Option Shown → List ℕ
+abbrev pub shown_lines : Option Registration → List ℕ
 shown_lines None = []
 shown_lines (Some shown) = compact_text (shown_json shown) ++ 10 ∷ []
 
 -- the line of the reply, and that of the registration
-abbrev pub answer_text : Option (List ℕ) → Option Shown → List ℕ
+abbrev pub answer_text : Option (List ℕ) → Option Registration → List ℕ
 answer_text reply shown = reply_text reply ++ 10 ∷ [] ++ shown_lines shown

@@ -1,7 +1,8 @@
 ghost use Rattle.std.specs.Prelude.{◌≡◌, ◌++◌, ◌∷◌, [], IfOk, option_map};
 ghost use Rattle.fleet.specs.Answer.{answer_text, reply_text, shown_lines};
 
-use crate::json::{Shown, shown_text};
+use crate::json::shown_text;
+use lw_reg::View;
 use lw_stamp::NoMemory;
 use std::alloc::Global;
 
@@ -10,7 +11,7 @@ use std::alloc::Global;
 pub fn answer(
     alloc: Global,
     reply: Option<&[u8]>,
-    shown: Option<&Shown<'_>>,
+    shown: Option<&View<'_>>,
 ) -> Result<Vec<u8>, NoMemory>
     ensures { IfOk result (λ text. text.items ≡ answer_text (option_map (λ bytes. bytes.now) reply.entry) (option_map (λ s. s.now) shown.entry)) }
 {

@@ -1,7 +1,7 @@
-ghost use Rattle.std.specs.Prelude.{◌≡◌, ◌↔◌, ◌<◌, ◌^◌, IfOk, IfErr, IfSome, IfNone, map, true, false};
+ghost use Rattle.std.specs.Prelude.{◌≡◌, ◌<◌, ◌^◌, [], IfOk, OnOk, IfErr, IfSome, IfNone, map, true, false};
 ghost use Rattle.std.specs.Option.{SomeIff};
 ghost use Rattle.std.specs.Str.Parse.{IsNumeral, digits_value};
-ghost use Rattle.clap.specs.Words.{app_of, rule_of, kind_of, takes, subcommand_rows_of};
+ghost use Rattle.clap.specs.Words.{app_of, rule_of, kind_of, fault_of, subcommand_rows_of};
 ghost use Rattle.fleet.specs.CommandLine.{fleet_app, given, given_rows, long_option, option_rows, IsGiven};
 ghost use Rattle.fleet.specs.declared.command.OneOptions.{OneOptions as Options};
 
@@ -25,7 +25,8 @@ pub struct OneOptions<'a> {
 /// Reads the words of the command line, the program's name first. No word behind it means `one`.
 pub fn read_options<'a, S: AsStr>(alloc: Global, words: &'a [S]) -> Result<OneOptions<'a>, Error>
     ensures given { IfOk result (IsGiven (given_rows (map S.text words.entry.now))) }
-    ensures refused { IfErr result (λ e. takes fleet_app (map S.text words.entry.now) ≡ true
+    ensures accepted { OnOk result (fault_of fleet_app (map S.text words.entry.now) ≡ []) }
+    ensures refused { IfErr result (λ e. fault_of fleet_app (map S.text words.entry.now) ≡ []
         → (o : Options) → IsGiven (given_rows (map S.text words.entry.now)) o
         → kind_of e ≡ ErrorKind.OutOfMemory) }
 {

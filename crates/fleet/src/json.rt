@@ -1,60 +1,63 @@
-ghost use Rattle.std.specs.Prelude.{◌≡◌, IfOk, string_bytes};
-ghost use Rattle.serde_json.specs.Written.{compact_text};
+ghost use Rattle.std.specs.Prelude.{◌≡◌, IfOk, option_map, string_bytes};
 ghost use Rattle.serde_json.specs.View.{view};
+ghost use Rattle.serde_json.specs.Written.{compact_text};
+ghost use Rattle.lw_reg.specs.Addr.{addr_text};
+ghost use Rattle.lw_stamp.specs.Stamp.{id_of};
 ghost use Rattle.fleet.specs.Shown.{shown_json, text_or_null};
 
+use lw_reg::View;
 use lw_stamp::NoMemory;
 use serde_json::{Value, json};
 use std::alloc::{AllocError, Global};
 
-/// What is shown of a registration, as texts and numbers.
-#[derive(Clone, Copy, Debug)]
-pub struct Shown<'a> {
-    pub address: &'a str,
-    pub binding: &'a str,
-    pub endpoint: &'a str,
-    pub id: &'a str,
-    /// In seconds.
-    pub lifetime: u32,
-    /// The version, `1.0` or `1.1`.
-    pub version: &'a str,
-    pub objects: &'a str,
-    pub queue: bool,
-    /// In milliseconds.
-    pub seen: u64,
-    pub sms: Option<&'a str>,
-}
-
-/// The JSON object, with no space between its members.
-pub fn shown_text(alloc: Global, shown: &Shown<'_>) -> Result<String, NoMemory>
+/// The JSON object of a registration, with no space between its members.
+pub fn shown_text(alloc: Global, shown: &View<'_>) -> Result<String, NoMemory>
     ensures { IfOk result (λ text. string_bytes text ≡ compact_text (shown_json shown.now)) }
 {
     let value = shown_value(alloc, shown)?;
     Ok(value.to_string(alloc)?)
 }
 
-fn shown_value(alloc: Global, shown: &Shown<'_>) -> Result<Value, AllocError>
+fn shown_value(alloc: Global, shown: &View<'_>) -> Result<Value, NoMemory>
+    ensures { IfOk result (λ value. view value ≡ shown_json shown.now) }
+{
+    let address = shown.address.print(alloc)?;
+    let id = hex::encode(alloc, shown.id.to_bytes())?;
+    let sms = text_value(alloc, shown.sms)?;
+    Ok(shown_object(alloc, shown, address, id, sms)?)
+}
+
+fn shown_object(
+    alloc: Global,
+    shown: &View<'_>,
+    address: String,
+    id: String,
+    sms: Value,
+) -> Result<Value, AllocError>
+    requires address { string_bytes address ≡ addr_text shown.now.address }
+    requires id { string_bytes id ≡ id_of shown.now.id }
+    requires sms { view sms ≡ text_or_null shown.now.sms }
     ensures { IfOk result (λ value. view value ≡ shown_json shown.now) }
 {
     json!(in alloc; {
-        "address": shown.address,
-        "binding": shown.binding,
+        "address": address,
+        "binding": shown.binding.as_str(),
         "endpoint": shown.endpoint,
-        "id": shown.id,
+        "id": id,
         "lifetime": shown.lifetime,
-        "lwm2m": shown.version,
+        "lwm2m": shown.version.as_str(),
         "objects": shown.objects,
         "queue": shown.queue,
-        "seen": shown.seen,
-        "sms": sms_value(alloc, shown.sms)?
+        "seen": shown.seen.ms(),
+        "sms": sms
     })
 }
 
-fn sms_value(alloc: Global, sms: Option<&str>) -> Result<Value, AllocError>
-    ensures { IfOk result (λ value. view value ≡ text_or_null sms.entry) }
+fn text_value(alloc: Global, text: Option<&str>) -> Result<Value, AllocError>
+    ensures { IfOk result (λ value. view value ≡ text_or_null (option_map (λ t. t.now) text.entry)) }
 {
-    match sms {
-        Some(number) => Value::try_from_str(alloc, number),
+    match text {
+        Some(text) => Value::try_from_str(alloc, text),
         None => Ok(Value::Null),
     }
 }

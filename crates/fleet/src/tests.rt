@@ -2,9 +2,11 @@ use crate::answer::answer;
 use crate::command::read_options;
 use crate::fault::OneFault;
 use crate::hex_line::bytes_of_hex;
-use crate::json::{Shown, shown_text};
+use crate::json::shown_text;
 use crate::line::{LONGEST_LINE, read_line};
 use crate::output::write_text;
+use lw_reg::{Addr, Binding, Version, View};
+use lw_stamp::{Moment, Stamp};
 use std::io::{self, ErrorKind, Read, Write};
 use std::test::Fail;
 
@@ -149,32 +151,37 @@ fn hex_lines(rt: HostRuntime) -> Result<(), Fail> {
     Ok(())
 }
 
-const SHOWN: Shown<'static> = Shown {
-    address: "127.0.0.1:5683",
-    binding: "U",
-    endpoint: "a",
-    id: "0000000000010001",
-    lifetime: 60,
-    version: "1.1",
-    objects: "</3/0>",
-    queue: false,
-    seen: 0,
-    sms: None,
-};
+fn registration(endpoint: &str) -> View<'_> {
+    View {
+        endpoint,
+        id: Stamp {
+            counter: 1,
+            node: 1,
+        },
+        address: Addr::V4 {
+            address: [127, 0, 0, 1],
+            port: 5683,
+        },
+        seen: Moment::START,
+        lifetime: 60,
+        version: Version::V11,
+        binding: Binding::U,
+        queue: false,
+        sms: None,
+        objects: "</3/0>",
+    }
+}
 
 #[test]
 fn registrations_as_json(rt: HostRuntime) -> Result<(), Fail> {
-    let text = shown_text(rt.alloc(), &SHOWN)?;
+    let text = shown_text(rt.alloc(), &registration("a"))?;
     assert_eq!(rt; text.as_str(), "{\"address\":\"127.0.0.1:5683\",\"binding\":\"U\",\"endpoint\":\"a\",\"id\":\"0000000000010001\",\"lifetime\":60,\"lwm2m\":\"1.1\",\"objects\":\"</3/0>\",\"queue\":false,\"seen\":0,\"sms\":null}");
-    let other = Shown {
-        endpoint: "a\"b\n",
-        queue: true,
-        seen: 281474976710655,
-        sms: Some("+49"),
-        ..SHOWN
-    };
+    let mut other = registration("a\"b\n");
+    other.version = Version::V10;
+    other.queue = true;
+    other.sms = Some("+49");
     let text = shown_text(rt.alloc(), &other)?;
-    assert_eq!(rt; text.as_str(), "{\"address\":\"127.0.0.1:5683\",\"binding\":\"U\",\"endpoint\":\"a\\\"b\\n\",\"id\":\"0000000000010001\",\"lifetime\":60,\"lwm2m\":\"1.1\",\"objects\":\"</3/0>\",\"queue\":true,\"seen\":281474976710655,\"sms\":\"+49\"}");
+    assert_eq!(rt; text.as_str(), "{\"address\":\"127.0.0.1:5683\",\"binding\":\"U\",\"endpoint\":\"a\\\"b\\n\",\"id\":\"0000000000010001\",\"lifetime\":60,\"lwm2m\":\"1.0\",\"objects\":\"</3/0>\",\"queue\":true,\"seen\":0,\"sms\":\"+49\"}");
     Ok(())
 }
 
@@ -183,7 +190,7 @@ fn answers(rt: HostRuntime) -> Result<(), Fail> {
     assert_eq!(rt; answer(rt.alloc(), None, None)?.as_slice(), b"-\n".as_slice());
     let reply: &[u8] = &[0x60, 0x80, 0, 0xab];
     assert_eq!(rt; answer(rt.alloc(), Some(reply), None)?.as_slice(), b"608000ab\n".as_slice());
-    let text = answer(rt.alloc(), Some(&[]), Some(&SHOWN))?;
+    let text = answer(rt.alloc(), Some(&[]), Some(&registration("a")))?;
     assert!(rt; text.starts_with(b"\n{\"address\":"));
     assert!(rt; text.ends_with(b"\"sms\":null}\n"));
     Ok(())

@@ -1,7 +1,8 @@
-use Rattle.std.proofs.Common.{◌≡◌, ℕ, List, Option, Some, None, Result, Ok, Err, IfErr, Bool, true, map, refl, sym, ap, subst, ◌∙◌, rules}
+use Rattle.std.proofs.Common.{◌≡◌, ℕ, List, Option, Some, None, Result, Ok, Err, IfErr, Bool, true, map, refl, sym, ap, subst, ◌∙◌, rules, [], inl, inr}
 use Rattle.std.specs.Prelude.{IsErrAnd}
-use Rattle.clap.specs.Words.{App, Row, Text, app_of, is_simple, subcommand_of, takes, kind_of}
+use Rattle.clap.specs.Words.{App, Row, Text, app_of, fault_of, is_simple, is_simple_and_free, subcommand_of, kind_of, FailsBy, HasKind, Kinds}
 use Rattle.clap.specs.declared.error.Error.{Error}
+use Rattle.clap.specs.declared.parser.matches.ArgMatches.{ArgMatches}
 use Rattle.clap.specs.declared.error.kind.ErrorKind.TheVariants.{OutOfMemory}
 use Rattle.clap.proofs.OnLiterals.{clap_on_literals}
 use Rattle.fleet.specs.CommandLine.{fleet_app, one_app, given_rows, option_rows, IsGiven}
@@ -12,9 +13,25 @@ fleet_is_simple : is_simple fleet_app ≡ true
 unfolding fleet_app one_app clap_on_literals
 fleet_is_simple = refl
 
+fleet_is_free : is_simple_and_free fleet_app ≡ true
+unfolding fleet_app one_app clap_on_literals
+fleet_is_free = refl
+
+-- what a parse of these words answers
+fails_by : (words : List Text) (app : App) (r : Result ArgMatches Error) → app ≡ fleet_app
+    → (is_simple_and_free app ≡ true → FailsBy (fault_of app words) r) → FailsBy (fault_of fleet_app words) r
+fails_by words app r same parsed =
+    subst (λ (a : App). FailsBy (fault_of a words) r) same (parsed (ap is_simple_and_free same ∙ fleet_is_free))
+
+no_kind : (kinds : Kinds) (e : Error) → HasKind kinds e → kinds ≡ [] → kind_of e ≡ OutOfMemory
+no_kind kinds e h none = elim (subst (λ k. HasKind k e) none h) [
+  | inl memory ↦ memory
+  | inr among ↦ absurd among
+]
+
 -- what is said of a refusal of these words
 abbrev IsCaused : List Text → Error → Type 0
-IsCaused words e = takes fleet_app words ≡ true → (o : OneOptions) → IsGiven (given_rows words) o → kind_of e ≡ OutOfMemory
+IsCaused words e = fault_of fleet_app words ≡ [] → (o : OneOptions) → IsGiven (given_rows words) o → kind_of e ≡ OutOfMemory
 
 passed_on : (words : List Text) (r : Result OneOptions Error) (Q : Error → Type 0) → IsErrAnd r Q → ((e : Error) → Q e → IsCaused words e) → IfErr r (IsCaused words)
 passed_on words (Ok options) Q h f = tt
@@ -23,9 +40,13 @@ passed_on words (Err e) Q h f = f e h
 pub returns-in_err-matches-clause-refused : goal.returns-in_err-matches-clause-refused
 returns-in_err-matches-clause-refused g c =
     let words = map g.S.AsStr.text c.args.words.now in
-    let app_is = c.in_ok-command.ensures in
+    let kinds = fails_by words _ (Err c.in_err-matches.field-0.0) c.in_ok-command.ensures c.in_err-matches.ensures.kinds in
     passed_on words _ _ c.from_residual-in_err-matches.ensures.1
-    (λ e same taken o given. cc (same, c.in_err-matches.ensures.passes (ap (λ (a : App). takes a words) app_is ∙ taken)))
+    (λ e same none o given. cc (same, no_kind _ c.in_err-matches.field-0.0 kinds none))
+
+pub returns-in-Some-clause-accepted : goal.returns-in-Some-clause-accepted
+returns-in-Some-clause-accepted g c =
+    fails_by (map g.S.AsStr.text c.args.words.now) _ (Ok c.in_ok-matches.matches) c.in_ok-command.ensures c.in_ok-matches.ensures.kinds
 
 pub returns-in_err-error-in-None-clause-refused : goal.returns-in_err-error-in-None-clause-refused
 returns-in_err-error-in-None-clause-refused g c =
