@@ -57,7 +57,7 @@ IsPayload bytes [] = bytes ≡ []
 IsPayload bytes (b ∷ payload) = bytes ≡ 255 ∷ b ∷ payload
 
 -- The bytes begin with a header: version, type and token length in one byte, the code, the message ID
--- most significant byte first (RFC 7252, section 3). No message is longer than 8,192 bytes.
+-- most significant byte first (RFC 7252, section 3).
 pub record IsHeader (bytes : List ℕ) (version kind token_length code mid : ℕ) (rest : List ℕ) : Type 0 where
   pub high : ℕ
   pub low : ℕ

@@ -1,4 +1,4 @@
-ghost use Rattle.std.specs.Prelude.{◌≡◌, ◌+◌, ◌*◌, ◌/◌, ◌%◌, ◌<◌, ◌≤◌, ◌↔◌, [], length, IsNone, IfSome, IfOk, IfErr, Some};
+ghost use Rattle.std.specs.Prelude.{◌≡◌, ◌/◌, ◌%◌, ◌≤◌, ◌↔◌, [], length, IsNone, IfSome, IfOk, IfErr};
 ghost use Rattle.lw_coap.specs.Grammar.{IsHeader, kind_number};
 ghost use Rattle.lw_coap.specs.Faults.{IsFault};
 ghost use Rattle.lw_coap.specs.Header.{HasHeader, HasNoHeader};

@@ -19,6 +19,7 @@ mod writing;
 
 pub use fault::Fault;
 pub use header::peek_header;
+pub use limits::{MAX_LENGTH, MAX_TOKEN};
 pub use message::{CoapOption, Kind, Message};
 pub use number::uint;
 pub use reading::decode;

@@ -1,4 +1,4 @@
-ghost use Rattle.std.specs.Prelude.{◌≡◌, ◌<◌, ◌≤◌, ◌↔◌, length, IsTrue, IfSome, IfNone};
+ghost use Rattle.std.specs.Prelude.{◌≡◌, ◌<◌, ◌↔◌, IsTrue};
 
 use crate::limits::{HEADER_LENGTH, MAX_LENGTH, MAX_TOKEN};
 use crate::size::{bytes_of_options, bytes_of_payload};

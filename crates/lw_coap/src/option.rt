@@ -1,4 +1,4 @@
-ghost use Rattle.std.specs.Prelude.{◌≡◌, ℕ, ◌+◌, ◌<◌, ◌⊎◌, List, ◌++◌, length, IfSome, IfNone, IfOk, IfErr};
+ghost use Rattle.std.specs.Prelude.{◌≡◌, ℕ, ◌<◌, List, ◌++◌, length, IfSome, IfNone, IfOk, IfErr};
 ghost use Rattle.lw_coap.specs.Grammar.{IsExtended, IsOption};
 ghost use Rattle.lw_coap.specs.Faults.{HasExtension, IsPartFault};
 ghost use Rattle.lw_coap.specs.Body.{IsBodyEnd};

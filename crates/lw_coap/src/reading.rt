@@ -1,4 +1,4 @@
-ghost use Rattle.std.specs.Prelude.{◌≡◌, ◌≢◌, ℕ, ◌≤◌, ◌⊎◌, ◌↔◌, List, [], ◌++◌, length, IfOk, IfErr, MatchResult, IsTrue, Ok, Err};
+ghost use Rattle.std.specs.Prelude.{◌≡◌, ◌≢◌, ℕ, ◌⊎◌, ◌↔◌, List, IfOk, IfErr, IsTrue, Ok, Err};
 ghost use Rattle.lw_coap.specs.declared.fault.Fault.{Fault};
 ghost use Rattle.lw_coap.specs.Message.{MessageContent, OptionContent};
 ghost use Rattle.lw_coap.specs.Grammar.{IsSpelling, IsPayload};
