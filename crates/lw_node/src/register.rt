@@ -1,6 +1,5 @@
-ghost use Rattle.std.specs.Prelude.{◌≡◌, ◌≢◌, ◌↔◌, ◌≤◌, ◌++◌, ℕ, List, [], ◌∷◌, codes, length, IsTrue, IsUtf8, IfSome, IfNone, MatchOption, option_copied};
+ghost use Rattle.std.specs.Prelude.{◌≡◌, ◌≢◌, ◌↔◌, ◌≤◌, ◌++◌, ℕ, List, [], ◌∷◌, codes, length, IsTrue, IsUtf8, IfSome, IfNone, option_copied};
 ghost use Rattle.std.specs.List.{AllByRecursion};
-ghost use Rattle.lw_coap.specs.Message.{OptionContent};
 ghost use Rattle.lw_reg.specs.declared.version.Version.{Version as Versions};
 ghost use Rattle.lw_node.specs.Register.{AskedContent, IsRegister, IsUnderstood, IsLinkFormat, IsLifetime, IsVersion, IsDigit, IsTargetCharacter, AreLinks, link, values_of, name_of, value_of, last_value, decimal_value};
 
