@@ -1,10 +1,10 @@
 -- Lines that are read a part at a time.
-use Rattle.std.proofs.Common.{◌≡◌, ℕ, ◌+◌, ◌<◌, ◌≤◌, List, [], ◌∷◌, ◌++◌, length, take, Bool, true, false, cond, Option, Some, None, IfSome, refl, sym, ap, ◌∙◌, subst, rules, arith, append_assoc, append-nil, length-append}
+use Rattle.std.proofs.Common.{◌≡◌, ℕ, ◌+◌, ◌<◌, ◌≤◌, List, [], ◌++◌, length, take, Bool, Option, Some, None, IfSome, refl, sym, ap, ◌∙◌, subst, arith, append_assoc, append-nil, length-append}
 use Rattle.std.proofs.lemmas.Bool.Decides.{nat_tests}
-use Rattle.std.proofs.lemmas.List.{take-append-le, length-take-le}
+use Rattle.std.proofs.lemmas.List.{take-append-le}
 use Rattle.std.proofs.Math.Seq.{take-append-add, take-length}
 use Rattle.std.specs.Prelude.{◌==◌, not, ⊤, position}
-use Rattle.std.specs.List.{prefix_len, position_or_len}
+use Rattle.std.specs.List.{prefix_len}
 use Rattle.std.specs.Io.KnownBytes.{Consumes, IsAtEnd}
 use Rattle.std.proofs.lemmas.List.Folds.{prefix_len-append, length-prefix_len}
 use Rattle.std.proofs.lemmas.List.Sums.{prefix_len-le-length}
@@ -60,7 +60,7 @@ line-grows : (xs ys : List ℕ) → length (line_of xs) ≤ length (line_of (xs 
 line-grows xs ys = elim (cases_lt (length (line_of xs)) (length xs)) [
   | inl h ↦ omega (arith, ap length (line-ended xs ys h))
   | inr h ↦ let open_at : length xs ≤ length (line_of xs) = omega arith in
-    omega (arith, ap length (line-open xs ys open_at), length-append xs (line_of ys), line-part xs)
+      omega (arith, ap length (line-open xs ys open_at), length-append xs (line_of ys), line-part xs)
 ]
 
 -- a chunk was read, and its part of the line was added
@@ -71,6 +71,7 @@ module _ (a b c : Option (List ℕ)) (line chunk part new : List ℕ) (begun : B
     where
       short : length (line_of chunk) < length chunk
       short = omega (arith, ap length is_part)
+
       ended : (a b c : Option (List ℕ)) → Begun a b line → Consumes b c chunk → IfSome a (λ bytes. line ++ line_of chunk ≡ line_of bytes)
       ended None b c begun took = tt
       ended (Some bytes) None c begun took = absurd begun
@@ -83,6 +84,7 @@ module _ (a b c : Option (List ℕ)) (line chunk part new : List ℕ) (begun : B
     where
       whole : length chunk ≤ length (line_of chunk)
       whole = omega (arith, ap length is_part)
+
       more : (a b c : Option (List ℕ)) → Begun a b line → Consumes b c chunk → Begun a c (line ++ line_of chunk)
       more None b c begun took = tt
       more (Some bytes) None c begun took = absurd begun
@@ -115,17 +117,18 @@ found bytes feed h = elim (cases_lt (prefix_len no_feed bytes) (length bytes)) [
   | inl short ↦ ap (λ k. take k bytes) (same feed (prefix_len no_feed bytes) (sym h ∙ grind (arith, nat_tests)))
   | inr whole ↦ absurd (clash feed (sym h ∙ grind (arith, nat_tests)))
 ]
-    where
-      same : (x y : ℕ) → Some x ≡ Some y → x ≡ y
-      same x y e = cc
-      clash : (x : ℕ) → Some x ≡ None → ⊥
-      clash x e = cc
+  where
+    same : (x y : ℕ) → Some x ≡ Some y → x ≡ y
+    same x y e = cc
+
+    clash : (x : ℕ) → Some x ≡ None → ⊥
+    clash x e = cc
 
 pub not_found : (bytes : List ℕ) → position (λ byte. byte == 10) bytes ≡ None → bytes ≡ line_of bytes
 not_found bytes h = elim (cases_lt (prefix_len no_feed bytes) (length bytes)) [
   | inl short ↦ absurd (clash (prefix_len no_feed bytes) (sym h ∙ grind (arith, nat_tests)))
   | inr whole ↦ sym (line-whole bytes (omega (arith, line-length bytes)))
 ]
-    where
-      clash : (x : ℕ) → None ≡ Some x → ⊥
-      clash x e = cc
+  where
+    clash : (x : ℕ) → None ≡ Some x → ⊥
+    clash x e = cc

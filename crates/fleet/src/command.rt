@@ -48,7 +48,12 @@ fn fleet_command<'a>(alloc: Global) -> Result<Command<'a>, AllocError>
         .about("Takes one datagram, a line of hex on standard input, and prints the reply")
         .arg(option(alloc, "node", "N", "The number of the node [default: 1]"))?
         .arg(option(alloc, "now", "MS", "The moment [default: 0]"))?
-        .arg(option(alloc, "from", "ADDR", "The client [default: 127.0.0.1:5683]"))?;
+        .arg(option(
+            alloc,
+            "from",
+            "ADDR",
+            "The client [default: 127.0.0.1:5683]",
+        ))?;
     Command::new(alloc, "fleet").subcommand(one)
 }
 

@@ -77,6 +77,5 @@ fn add_part(line: &mut Vec<u8>, part: &[u8]) -> Result<(), OneFault>
     if part.len() > LONGEST_LINE - line.len() {
         return Err(OneFault::TooLong);
     }
-    line.extend_from_slice(part)
-        .map_err(|_| OneFault::NoMemory)
+    line.extend_from_slice(part).map_err(|_| OneFault::NoMemory)
 }

@@ -8,7 +8,6 @@ mod hex_line;
 mod json;
 mod line;
 mod output;
-
 #[cfg(test)]
 mod tests;
 

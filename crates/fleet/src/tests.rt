@@ -88,7 +88,10 @@ fn lines_end_at_the_first_line_feed(rt: HostRuntime) -> Result<(), Fail> {
         }
     }
     let mut reader: &[u8] = b"4000\n50\n";
-    assert_eq!(rt; read_line(rt.alloc(), &mut reader)?.as_slice(), b"4000".as_slice());
+    assert_eq!(rt;
+        read_line(rt.alloc(), &mut reader)?.as_slice(),
+        b"4000".as_slice()
+    );
     Ok(())
 }
 
@@ -142,7 +145,10 @@ fn writes_go_on_until_one_takes_nothing(rt: HostRuntime) -> Result<(), Fail> {
 #[test]
 fn hex_lines(rt: HostRuntime) -> Result<(), Fail> {
     assert_eq!(rt; bytes_of_hex(rt.alloc(), b"")?.len(), 0);
-    assert_eq!(rt; bytes_of_hex(rt.alloc(), b"00fFA9")?.as_slice(), [0, 255, 169].as_slice());
+    assert_eq!(rt;
+        bytes_of_hex(rt.alloc(), b"00fFA9")?.as_slice(),
+        [0, 255, 169].as_slice()
+    );
     let refused: [&[u8]; 4] = [b"0", b"00\r", b"0 0 ", b"0g"];
     for line in refused {
         let bytes = bytes_of_hex(rt.alloc(), line).map(|bytes| bytes.len());
@@ -175,21 +181,33 @@ fn registration(endpoint: &str) -> View<'_> {
 #[test]
 fn registrations_as_json(rt: HostRuntime) -> Result<(), Fail> {
     let text = shown_text(rt.alloc(), &registration("a"))?;
-    assert_eq!(rt; text.as_str(), "{\"address\":\"127.0.0.1:5683\",\"binding\":\"U\",\"endpoint\":\"a\",\"id\":\"0000000000010001\",\"lifetime\":60,\"lwm2m\":\"1.1\",\"objects\":\"</3/0>\",\"queue\":false,\"seen\":0,\"sms\":null}");
+    assert_eq!(rt;
+        text.as_str(),
+        "{\"address\":\"127.0.0.1:5683\",\"binding\":\"U\",\"endpoint\":\"a\",\"id\":\"0000000000010001\",\"lifetime\":60,\"lwm2m\":\"1.1\",\"objects\":\"</3/0>\",\"queue\":false,\"seen\":0,\"sms\":null}"
+    );
     let mut other = registration("a\"b\n");
     other.version = Version::V10;
     other.queue = true;
     other.sms = Some("+49");
     let text = shown_text(rt.alloc(), &other)?;
-    assert_eq!(rt; text.as_str(), "{\"address\":\"127.0.0.1:5683\",\"binding\":\"U\",\"endpoint\":\"a\\\"b\\n\",\"id\":\"0000000000010001\",\"lifetime\":60,\"lwm2m\":\"1.0\",\"objects\":\"</3/0>\",\"queue\":true,\"seen\":0,\"sms\":\"+49\"}");
+    assert_eq!(rt;
+        text.as_str(),
+        "{\"address\":\"127.0.0.1:5683\",\"binding\":\"U\",\"endpoint\":\"a\\\"b\\n\",\"id\":\"0000000000010001\",\"lifetime\":60,\"lwm2m\":\"1.0\",\"objects\":\"</3/0>\",\"queue\":true,\"seen\":0,\"sms\":\"+49\"}"
+    );
     Ok(())
 }
 
 #[test]
 fn answers(rt: HostRuntime) -> Result<(), Fail> {
-    assert_eq!(rt; answer(rt.alloc(), None, None)?.as_slice(), b"-\n".as_slice());
+    assert_eq!(rt;
+        answer(rt.alloc(), None, None)?.as_slice(),
+        b"-\n".as_slice()
+    );
     let reply: &[u8] = &[0x60, 0x80, 0, 0xab];
-    assert_eq!(rt; answer(rt.alloc(), Some(reply), None)?.as_slice(), b"608000ab\n".as_slice());
+    assert_eq!(rt;
+        answer(rt.alloc(), Some(reply), None)?.as_slice(),
+        b"608000ab\n".as_slice()
+    );
     let text = answer(rt.alloc(), Some(&[]), Some(&registration("a")))?;
     assert!(rt; text.starts_with(b"\n{\"address\":"));
     assert!(rt; text.ends_with(b"\"sms\":null}\n"));
@@ -216,7 +234,15 @@ fn options(rt: HostRuntime) -> Result<(), Fail> {
     let words: [&[&str]; 5] = [
         &["fleet"],
         &["fleet", "one"],
-        &["fleet", "one", "--node", "65535", "--now=281474976710655", "--from", "x"],
+        &[
+            "fleet",
+            "one",
+            "--node",
+            "65535",
+            "--now=281474976710655",
+            "--from",
+            "x",
+        ],
         &["fleet", "one", "--node=007"],
         &["fleet", "one", "--from="],
     ];

@@ -1,8 +1,8 @@
-use Rattle.std.proofs.Common.{rules, ap, ap₂, refl, sym, codes, ◌≡◌, ◌∙◌}
+use Rattle.std.proofs.Common.{rules, ap, ap₂, codes, ◌≡◌, ◌∙◌}
 use Rattle.std.proofs.lemmas.Result.{IfOk-weaker}
-use Rattle.clap.specs.Words.{app_of, new_app, rule_of, with_rule, with_subcommand, App}
+use Rattle.clap.specs.Words.{app_of, new_app, with_rule, with_subcommand, App}
 use Rattle.clap.specs.Simple.{app_of_fields}
-use Rattle.fleet.specs.CommandLine.{fleet_app, one_app, long_option}
+use Rattle.fleet.specs.CommandLine.{fleet_app, one_app}
 use Rattle.fleet.proofs.command.fleet_command.Goals as goal
 
 pub returns : goal.returns

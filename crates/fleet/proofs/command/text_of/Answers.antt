@@ -1,6 +1,6 @@
-use Rattle.std.proofs.Common.{◌≡◌, ℕ, List, Option, Some, None, option_map, Bor, refl, sym, ap, ap₂, ◌∙◌, rules}
+use Rattle.std.proofs.Common.{◌≡◌, List, Option, Some, None, option_map, Bor, refl, ap, ◌∙◌}
 use Rattle.std.specs.Prelude.{unwrap_or}
-use Rattle.clap.specs.Words.{Row, Text, first_of, rows_of, found_of}
+use Rattle.clap.specs.Words.{Row, Text, first_of, found_of}
 use Rattle.clap.proofs.WalkLemmas.{first_value-rows}
 use Rattle.fleet.specs.CommandLine.{option_rows}
 use Rattle.fleet.proofs.command.text_of.Goals as goal

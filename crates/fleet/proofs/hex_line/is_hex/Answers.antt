@@ -1,4 +1,4 @@
-use Rattle.std.proofs.Common.{◌≡◌, ℕ, ◌%◌, ◌↔◌, List, length, IsTrue, IsOk, Result, Ok, Err, Bool, refl, sym, ap, subst, ◌∙◌, rules, arith}
+use Rattle.std.proofs.Common.{◌≡◌, ℕ, ◌%◌, ◌↔◌, List, length, IsOk, Result, Ok, Err, refl, sym, subst, rules}
 use Rattle.std.specs.List.{AllPass}
 use Rattle.hex.specs.declared.error.FromHexError.{FromHexError}
 use Rattle.hex.specs.Hex.{decode_of, is_hex_digit}

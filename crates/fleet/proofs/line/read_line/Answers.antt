@@ -1,4 +1,4 @@
-use Rattle.std.proofs.Common.{◌≡◌, ℕ, ◌+◌, ◌<◌, ◌≤◌, length, rules, arith, refl, inl, inr}
+use Rattle.std.proofs.Common.{arith, inl, inr}
 use Rattle.fleet.proofs.LineLemmas.{ends, goes_on, at_end, too_long}
 use Rattle.fleet.proofs.line.read_line.Goals as goal
 
@@ -21,6 +21,6 @@ returns-then-count-eq0-clause-line g c =
 pub loop-line-preserved : goal.loop-line-preserved
 loop-line-preserved g c =
     let read = c.in_ok-count.ensures in record {
-  begun = goes_on _ _ _ _ _ _ _ c.loop-line.invariant.begun read.bytes c.before_feed-part.ensures c.in_ok-add_part.ensures.added (omega arith);
-  fits = c.in_ok-add_part.ensures.fits;
-}
+      begun = goes_on _ _ _ _ _ _ _ c.loop-line.invariant.begun read.bytes c.before_feed-part.ensures c.in_ok-add_part.ensures.added (omega arith);
+      fits = c.in_ok-add_part.ensures.fits;
+    }

@@ -1,5 +1,5 @@
 -- What was read of the line is its front, and has room left.
-use Rattle.std.proofs.Common.{◌≡◌, ◌+◌, ◌-◌, ◌≤◌, vec_len}
+use Rattle.std.proofs.Common.{◌+◌, ◌-◌, ◌≤◌, vec_len}
 use Rattle.fleet.specs.declared.line.TheConstants.{LONGEST_LINE}
 use Rattle.fleet.proofs.LineLemmas.{Begun}
 use Rattle.fleet.proofs.line.read_line.Given as goal
