@@ -1,0 +1,34 @@
+ghost use Rattle.std.specs.Prelude.{◌≡◌, ◌↔◌, IsTrue, IsOk, OnOk, OnErr};
+ghost use Rattle.lw_join.specs.Join.{IsJoin};
+
+use lw_stamp::NoMemory;
+
+/// Values with an order in which any two have a least value above both: their join.
+pub trait Join: Drop {
+    /// The order.
+    ghost below: { Self → Self → Type 0 };
+
+    /// The join of two values.
+    ghost join: { Self → Self → Self };
+
+    /// Holds of a type whose joins are never refused.
+    ghost calm: { Type 0 };
+
+    fn le(&self, other: &Self) -> bool
+        ensures { IsTrue result ↔ below self.now other.now };
+
+    fn join_with(&mut self, other: Self) -> Result<(), NoMemory>
+        ensures ok { OnOk result (self.new ≡ join self.old other) }
+        ensures err { OnErr result (self.new ≡ self.old) }
+        ensures never_refused { calm → IsOk result };
+
+    ghost laws: { IsJoin below join };
+}
+
+/// A type whose joins take no memory.
+pub trait Calm: Join {
+    fn join_calm(&mut self, other: Self)
+        ensures { self.new ≡ Self.join self.old other };
+
+    ghost is_calm: { Self.calm };
+}

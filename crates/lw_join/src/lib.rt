@@ -1,0 +1,22 @@
+//! Values that only move up, and their joins: of two values, the least that is above both.
+//!
+//! Whatever order the values of a set arrive in, and however often, their join is one.
+#![tactic(auto)]
+
+mod exact;
+mod flag;
+mod join;
+pub mod laws;
+mod lex;
+mod lww;
+mod once;
+mod or_gone;
+mod pair;
+
+pub use exact::Exact;
+pub use flag::Flag;
+pub use join::{Calm, Join};
+pub use lex::Lex;
+pub use lww::Lww;
+pub use once::Once;
+pub use or_gone::OrGone;

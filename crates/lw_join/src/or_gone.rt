@@ -1,0 +1,57 @@
+use crate::join::{Calm, Join};
+use lw_stamp::NoMemory;
+
+/// A value, or gone for good, which is above every value.
+#[derive(Debug, PartialEq, Eq, Drop)]
+pub enum OrGone<J> {
+    Here(J),
+    Gone,
+}
+
+impl<J: Join> Join for OrGone<J> {
+    ghost use Rattle.lw_join.specs.OrGone.{gone_below, gone_join};
+    ghost use Rattle.lw_join.specs.OrGoneLaws.{gone_laws};
+
+    ghost below = { gone_below J.below };
+
+    ghost join = { gone_join J.join };
+
+    ghost calm = { J.calm };
+
+    ghost laws = { gone_laws J.laws };
+
+    fn le(&self, other: &OrGone<J>) -> bool {
+        match (self, other) {
+            (_, OrGone::Gone) => true,
+            (OrGone::Gone, OrGone::Here(_)) => false,
+            (OrGone::Here(x), OrGone::Here(y)) => x.le(y),
+        }
+    }
+
+    fn join_with(&mut self, other: OrGone<J>) -> Result<(), NoMemory> {
+        match other {
+            OrGone::Gone => {
+                *self = OrGone::Gone;
+                Ok(())
+            }
+            OrGone::Here(y) => match self {
+                OrGone::Gone => Ok(()),
+                OrGone::Here(x) => x.join_with(y),
+            },
+        }
+    }
+}
+
+impl<J: Calm> Calm for OrGone<J> {
+    ghost is_calm = { J.is_calm };
+
+    fn join_calm(&mut self, other: OrGone<J>) {
+        match other {
+            OrGone::Gone => *self = OrGone::Gone,
+            OrGone::Here(y) => match self {
+                OrGone::Gone => {}
+                OrGone::Here(x) => x.join_calm(y),
+            },
+        }
+    }
+}
