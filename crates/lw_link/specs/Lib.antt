@@ -1,0 +1,9 @@
+pub mod Link
+pub mod Characters
+pub mod Grammar
+pub mod Spelling
+pub mod Faults
+pub mod Printing
+pub mod WellFormed
+pub mod Machine
+pub mod Taking

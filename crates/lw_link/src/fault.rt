@@ -1,0 +1,43 @@
+ghost use Rattle.std.specs.Prelude.{◌≡◌};
+ghost use Rattle.lw_link.specs.declared.fault.LinkFault.TheVariants.{NoMemory as WantOfMemory};
+
+use lw_stamp::NoMemory;
+use std::alloc::{AllocError, AllocFailed};
+
+/// Why bytes were not read as links.
+#[derive(Clone, Copy, Debug, PartialEq, Eq)]
+pub enum LinkFault {
+    /// The bytes are not UTF-8.
+    NotText,
+    /// The text leaves the grammar behind this many bytes: the whole characters at its front that some list
+    /// begins with.
+    Grammar { place: usize },
+    /// More than 256 links, in the grammar.
+    TooMany,
+    /// A growth was refused. The bytes spell 1 to 256 links.
+    NoMemory,
+}
+
+impl From<NoMemory> for LinkFault {
+    ghost from_gives = { λ _ fault. fault ≡ WantOfMemory };
+
+    fn from(_error: NoMemory) -> LinkFault {
+        LinkFault::NoMemory
+    }
+}
+
+impl From<AllocError> for LinkFault {
+    ghost from_gives = { λ _ fault. fault ≡ WantOfMemory };
+
+    fn from(_error: AllocError) -> LinkFault {
+        LinkFault::NoMemory
+    }
+}
+
+impl<T: Drop> From<AllocFailed<T>> for LinkFault {
+    ghost from_gives = { λ _ fault. fault ≡ WantOfMemory };
+
+    fn from(_error: AllocFailed<T>) -> LinkFault {
+        LinkFault::NoMemory
+    }
+}

@@ -1,0 +1,59 @@
+ghost use Rattle.std.specs.Prelude.{◌≡◌, ◌≢◌, ◌≤◌, ◌↔◌, List, length, IfOk, MatchResult, Err};
+
+use crate::fault::LinkFault;
+use crate::printing::print;
+use crate::reading::read;
+use std::alloc::Global;
+use std::marker::Model;
+
+/// A text of at most 8,192 bytes that is the printing of 1 to 256 links. Contracts see its bytes.
+#[derive(Debug, Drop)]
+pub struct LinkText {
+    text: String,
+}
+
+impl Model for LinkText {
+    ghost use Rattle.std.specs.Prelude.{ℕ, List, ◌≤◌, length, string_bytes};
+    ghost use Rattle.lw_link.specs.WellFormed.{IsPrinting};
+
+    ghost Value = { List ℕ };
+
+    ghost view = { λ t. string_bytes t.text };
+
+    ghost invariant = { λ t. IsPrinting (string_bytes t.text) × (length (string_bytes t.text) ≤ 8192) };
+}
+
+impl LinkText {
+    ghost use Rattle.lw_link.specs.declared.fault.LinkFault.{LinkFault};
+    ghost use Rattle.lw_link.specs.Link.{LinkContent};
+    ghost use Rattle.lw_link.specs.Spelling.{Spells};
+    ghost use Rattle.lw_link.specs.Faults.{IsFault};
+    ghost use Rattle.lw_link.specs.Printing.{printing};
+    ghost use Rattle.lw_link.specs.WellFormed.{IsPrinting};
+
+    /// The printing of the links that the bytes spell. Each fault but `NoMemory` is found before any memory
+    /// is taken.
+    pub fn read(alloc: Global, bytes: &[u8]) -> Result<LinkText, LinkFault>
+        requires { length bytes.now ≤ 8192 }
+        // What is read is the printing of what is spelled.
+        ensures found { IfOk result (λ text. (links : List LinkContent) × Spells bytes.now links × (length links ≤ 256) × (text ≡ printing links)) }
+        // What is spelled is read, unless a growth is refused.
+        ensures only { (links : List LinkContent) → Spells bytes.now links → length links ≤ 256 → MatchResult result (λ text. text ≡ printing links) (λ fault. fault ≡ LinkFault.NoMemory) }
+        // Each other fault is answered exactly where it is that of the bytes.
+        ensures faults { (fault : LinkFault) → fault ≢ LinkFault.NoMemory → ((result ≡ Err fault) ↔ IsFault bytes.now fault) }
+        // Want of memory comes only in place of a text.
+        ensures memory { result ≡ Err LinkFault.NoMemory → (links : List LinkContent) × Spells bytes.now links × (length links ≤ 256) }
+    {
+        let links = read(alloc, bytes)?;
+        let text = print(alloc, &links)?;
+        Ok(LinkText { text })
+    }
+
+    pub fn as_str(&self) -> &str
+        ensures value { result.now ≡ self.now }
+        ensures printing { IsPrinting result.now }
+        ensures within { length result.now ≤ 8192 }
+    {
+        self.text.as_str()
+    }
+}

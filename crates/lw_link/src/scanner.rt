@@ -1,0 +1,43 @@
+ghost use Rattle.std.specs.Prelude.{◌≡◌, ℕ, List, [], ◌∷◌, MatchOption, chars};
+
+use std::marker::Model;
+use std::str::Chars;
+
+/// A text that is taken character by character. Contracts see the characters that are left.
+#[derive(Drop)]
+pub(crate) struct Scanner<'a> {
+    chars: Chars<'a>,
+}
+
+impl<'a> Model for Scanner<'a> {
+    ghost use Rattle.std.specs.Prelude.{ℕ, List, IsUtf8, chars};
+    ghost use Rattle.std.specs.Str.Iter.{chars_rest};
+
+    ghost Value = { List ℕ };
+
+    ghost view = { λ s. chars (chars_rest s.chars) };
+
+    ghost invariant = { λ s. IsUtf8 (chars_rest s.chars) };
+}
+
+impl<'a> Scanner<'a> {
+    pub(crate) fn new(text: &'a str) -> Scanner<'a>
+        ensures { result ≡ chars text.now }
+    {
+        Scanner { chars: text.chars() }
+    }
+
+    /// Takes the next character.
+    pub(crate) fn take(&mut self) -> Option<char>
+        ensures { MatchOption result ((self.old ≡ []) × (self.new ≡ [])) (λ c. self.old ≡ c ∷ self.new) }
+    {
+        self.chars.next()
+    }
+
+    /// The next character, which is left where it is.
+    pub(crate) fn peek(&self) -> Option<char>
+        ensures { MatchOption result (self.now ≡ []) (λ c. (rest : List ℕ) × (self.now ≡ c ∷ rest)) }
+    {
+        self.chars.as_str().chars().next()
+    }
+}
