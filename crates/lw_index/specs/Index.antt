@@ -1,0 +1,19 @@
+-- An index is a finite map from keys to sets of texts: the endpoints (LwM2M 1.1 Core, section 6.2.1) that have the key.
+-- It is seen as the list of its keys, each with its endpoints.
+use Rattle.std.specs.Prelude.{◌≡◌, ℕ, List, [], ◌∷◌, Contains, All, unwrap_or}
+use Rattle.std.specs.declared.cmp.Ordering.{Ordering}
+use Rattle.std.specs.declared.cmp.Ordering.TheVariants.{Equal}
+use Rattle.std.specs.Ordering.{is_eq}
+use Rattle.std.specs.Map.{lookup}
+
+-- the endpoints of the key: those of the entry whose key compares equal, and none where no entry has one
+abbrev pub endpoints_of : {K : Type 0} → (K → K → Ordering) → List (K × List (List ℕ)) → K → List (List ℕ)
+endpoints_of cmp index key = unwrap_or (lookup (λ k. is_eq (cmp key k)) index) []
+
+-- the endpoint is among those of the key
+abbrev pub Has : {K : Type 0} → (K → K → Ordering) → List (K × List (List ℕ)) → K → List ℕ → Type 0
+Has cmp index key endpoint = Contains (endpoints_of cmp index key) endpoint
+
+-- k and e are the pair of the key and the endpoint
+abbrev pub IsPair : {K : Type 0} → (K → K → Ordering) → K → List ℕ → K → List ℕ → Type 0
+IsPair cmp key endpoint k e = (cmp k key ≡ Equal) × (e ≡ endpoint)

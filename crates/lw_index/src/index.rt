@@ -1,0 +1,85 @@
+ghost use Rattle.std.specs.Prelude.{◌≡◌, ◌⊎◌, ◌↔◌, ℕ, List, [], OnOk, OnErr, IsOk};
+ghost use Rattle.std.specs.Cmp.Lexicographic.{slice_cmp};
+ghost use Rattle.std.specs.Ordering.{nat_cmp};
+ghost use Rattle.std.specs.List.Sorted.{IsStrictlySortedBy};
+ghost use Rattle.lw_index.specs.Index.{endpoints_of, Has, IsPair};
+
+use crate::endpoints::Endpoints;
+use lw_stamp::NoMemory;
+use std::alloc::Global;
+use std::collections::{BTreeMap, BTreeSet};
+use std::marker::Model;
+
+/// A map from each key to the endpoints that have it, of which there is at least one.
+///
+/// Keys that compare equal are one key.
+#[derive(Drop)]
+pub struct Index<K: Ord> {
+    alloc: Global,
+    sets: BTreeMap<K, BTreeSet<String>>,
+}
+
+impl<K: Ord> Model for Index<K> {
+    ghost use Rattle.std.specs.Prelude.{ℕ, List};
+    ghost use Rattle.lw_index.specs.Shown.{shown, HoldsNoEmpty};
+
+    ghost Value = { List (K × List (List ℕ)) };
+
+    ghost view = { λ index. shown index.sets.entries };
+
+    ghost invariant = { λ index. HoldsNoEmpty index.sets.entries };
+}
+
+impl<K: Ord + Drop> Index<K> {
+    pub fn new(alloc: Global) -> Index<K>
+        ensures { result ≡ [] }
+    {
+        Index {
+            alloc,
+            sets: BTreeMap::new(alloc),
+        }
+    }
+
+    /// Files the endpoint under the key.
+    pub fn add(&mut self, key: K, endpoint: &str) -> Result<(), NoMemory>
+        ensures added { OnOk result ((k : K) (e : List ℕ) → Has K.cmp self.new k e ↔ (Has K.cmp self.old k e ⊎ IsPair K.cmp key endpoint.now k e)) }
+        ensures present { Has K.cmp self.old key endpoint.now → IsOk result × (self.new ≡ self.old) }
+        ensures unchanged { OnErr result (self.new ≡ self.old) }
+    {
+        let Some(set) = self.sets.get_mut(&key) else {
+            let mut set = BTreeSet::new(self.alloc);
+            set.insert(String::from_str(self.alloc, endpoint)?)?;
+            self.sets.insert(key, set)?;
+            return Ok(());
+        };
+        if !set.contains(endpoint) {
+            set.insert(String::from_str(self.alloc, endpoint)?)?;
+        }
+        Ok(())
+    }
+
+    /// Takes the endpoint from the key. A key whose last endpoint goes is gone.
+    pub fn drop_one(&mut self, key: &K, endpoint: &str)
+        ensures dropped { (k : K) (e : List ℕ) → Has K.cmp self.new k e ↔ (Has K.cmp self.old k e × ((IsPair K.cmp key.now endpoint.now k e) → ⊥)) }
+        ensures absent { (Has K.cmp self.old key.now endpoint.now → ⊥) → self.new ≡ self.old }
+    {
+        let Some(set) = self.sets.get_mut(key) else {
+            return;
+        };
+        set.remove(endpoint);
+        if set.is_empty() {
+            self.sets.remove(key);
+        }
+    }
+
+    /// The endpoints of the key, rising by their bytes. There are none where the index lacks the key.
+    pub fn of(&self, key: &K) -> Endpoints<'_>
+        ensures endpoints { result ≡ endpoints_of K.cmp self.now key.now }
+        ensures rising { IsStrictlySortedBy (slice_cmp nat_cmp) result }
+    {
+        match self.sets.get(key) {
+            Some(set) => Endpoints { rest: Some(set.iter()) },
+            None => Endpoints { rest: None },
+        }
+    }
+}

@@ -1,0 +1,13 @@
+//! An index: from each key to the endpoints that have it.
+//!
+//! Many endpoints may have one key, as an address. Keys are ordered by their `Ord`, endpoints by their bytes.
+#![tactic(auto)]
+
+mod endpoints;
+mod index;
+
+pub use endpoints::Endpoints;
+pub use index::Index;
+
+#[cfg(test)]
+mod tests;

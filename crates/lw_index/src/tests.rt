@@ -1,0 +1,4 @@
+use super::*;
+use lw_stamp::Stamp;
+use std::test::Fail;
+
