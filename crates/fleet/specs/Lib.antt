@@ -2,3 +2,4 @@ pub mod Answer
 pub mod CommandLine
 pub mod Line
 pub mod Shown
+pub mod One

@@ -1,3 +1,7 @@
+ghost use Rattle.std.specs.Prelude.{◌≡◌};
+ghost use Rattle.fleet.specs.declared.fault.OneFault.TheVariants.{NoMemory as OutOfMemory};
+
+use lw_stamp::NoMemory;
 use thiserror::Error;
 
 /// What ends `fleet one` early. Each is shown as a line of its own on standard error.
@@ -15,4 +19,12 @@ pub enum OneFault {
     WriteFailed,
     #[error("no memory")]
     NoMemory,
+}
+
+impl From<NoMemory> for OneFault {
+    ghost from_gives = { λ _ fault. fault ≡ OutOfMemory };
+
+    fn from(_error: NoMemory) -> OneFault {
+        OneFault::NoMemory
+    }
 }

@@ -1,4 +1,4 @@
-//! The program `fleet`.
+//! The program `fleet`: `fleet one` takes one datagram at a new node and prints what the node answers.
 #![tactic(auto)]
 
 mod answer;
@@ -7,8 +7,46 @@ mod fault;
 mod hex_line;
 mod json;
 mod line;
+mod one;
 mod output;
+
+use std::process::ExitCode;
+use std::{env, io};
+
 #[cfg(test)]
 mod tests;
 
-fn main() {}
+/// What a refused command line ends with.
+const REFUSED: u8 = 2;
+
+fn words(rt: &HostRuntime) -> io::Result<Vec<String>> {
+    let mut words = Vec::new(rt.alloc());
+    for word in env::args(rt)? {
+        words.push(word)?;
+    }
+    Ok(words)
+}
+
+fn refused(rt: &HostRuntime, error: &clap::Error) -> io::Result<ExitCode> {
+    error.print(rt)?;
+    Ok(if error.use_stderr() {
+        ExitCode::from(REFUSED)
+    } else {
+        ExitCode::SUCCESS
+    })
+}
+
+fn main(rt: HostRuntime) -> io::Result<ExitCode> {
+    let words = words(&rt)?;
+    let options = match command::read_options(rt.alloc(), &words) {
+        Ok(options) => options,
+        Err(error) => return refused(&rt, &error),
+    };
+    match one::one(rt.alloc(), &options, &mut rt.reader(), &mut io::writer(&rt)) {
+        Ok(()) => Ok(ExitCode::SUCCESS),
+        Err(fault) => {
+            eprintln!(rt; "{fault}")?;
+            Ok(ExitCode::FAILURE)
+        }
+    }
+}

@@ -1,9 +1,10 @@
 use crate::answer::answer;
-use crate::command::read_options;
+use crate::command::{OneOptions, read_options};
 use crate::fault::OneFault;
 use crate::hex_line::bytes_of_hex;
 use crate::json::shown_text;
 use crate::line::{LONGEST_LINE, read_line};
+use crate::one::one;
 use crate::output::write_text;
 use lw_reg::{Addr, Binding, Version, View};
 use lw_stamp::{Moment, Stamp};
@@ -285,4 +286,82 @@ fn refused_options(rt: HostRuntime) {
             Err(error) => assert_eq!(rt; error.exit_code(), 2, "{words:?}"),
         }
     }
+}
+
+/// A Register of `a` and what a new node answers to it.
+const REGISTER: &[u8] =
+    b"4402000101020304b2726411283465703d61056c743d3630096c776d326d3d312e31ff3c2f332f303e\n";
+
+const ANSWER: &str = "64410001010203048272640d0330303030303030303030303130303031
+{\"address\":\"127.0.0.1:5683\",\"binding\":\"U\",\"endpoint\":\"a\",\"id\":\"0000000000010001\",\"lifetime\":60,\"lwm2m\":\"1.1\",\"objects\":\"</3/0>\",\"queue\":false,\"seen\":0,\"sms\":null}
+";
+
+const OPTIONS: OneOptions<'static> = OneOptions {
+    node: 1,
+    now: Moment::START,
+    from: "127.0.0.1:5683",
+};
+
+#[test]
+fn a_line_is_answered(rt: HostRuntime) -> Result<(), Fail> {
+    let upper =
+        b"4402000101020304B2726411283465703D61056C743D3630096C776D326D3D312E31FF3C2F332F303E";
+    let rows: [(&[u8], Result<(), OneFault>, &str); 9] = [
+        (REGISTER, Ok(()), ANSWER),
+        (upper, Ok(()), ANSWER),
+        (b"40000007", Ok(()), "70000007\n"),
+        (b"40010001\n", Ok(()), "60800001\n"),
+        (b"", Ok(()), "-\n"),
+        (b"\n40000007", Ok(()), "-\n"),
+        (b"4000000", Err(OneFault::HexRefused), ""),
+        (b"40000007\r\n", Err(OneFault::HexRefused), ""),
+        (b"40 000007\n", Err(OneFault::HexRefused), ""),
+    ];
+    for (input, result, output) in rows {
+        let mut reader = FewBytes::new(input, 7, false);
+        let mut writer = Vec::new(rt.alloc());
+        assert_eq!(rt; one(rt.alloc(), &OPTIONS, &mut reader, &mut writer), result);
+        assert_eq!(rt; writer.as_slice(), output.as_bytes());
+    }
+    Ok(())
+}
+
+#[test]
+fn a_refused_address_reads_nothing(rt: HostRuntime) {
+    for from in ["x", "127.0.0.1", "[::1]:5683", ""] {
+        let options = OneOptions { from, ..OPTIONS };
+        let mut reader = FewBytes::new(b"4", 1, true);
+        let mut writer = Vec::new(rt.alloc());
+        let result = one(rt.alloc(), &options, &mut reader, &mut writer);
+        assert_eq!(rt; result, Err(OneFault::AddressRefused));
+        assert_eq!(rt; reader.rest.len(), 1);
+        assert_eq!(rt; writer.len(), 0);
+    }
+}
+
+#[test]
+fn a_device_that_fails_is_told(rt: HostRuntime) -> Result<(), Fail> {
+    let mut reader = FewBytes::new(&REGISTER[..20], 3, true);
+    let mut writer = Vec::new(rt.alloc());
+    let result = one(rt.alloc(), &OPTIONS, &mut reader, &mut writer);
+    assert_eq!(rt; result, Err(OneFault::ReadFailed));
+    assert_eq!(rt; writer.len(), 0);
+    for (most, room, fails, result) in [
+        (1, 9999, false, Ok(())),
+        (1, 70, true, Err(OneFault::WriteFailed)),
+        (50, 70, false, Err(OneFault::WriteFailed)),
+        (50, 0, false, Err(OneFault::WriteFailed)),
+    ] {
+        let mut reader = REGISTER;
+        let mut writer = FewWrites {
+            taken: Vec::new(rt.alloc()),
+            most,
+            room,
+            fails,
+        };
+        assert_eq!(rt; one(rt.alloc(), &OPTIONS, &mut reader, &mut writer), result);
+        assert_eq!(rt; writer.taken.len(), room.min(ANSWER.len()));
+        assert!(rt; ANSWER.as_bytes().starts_with(writer.taken.as_slice()));
+    }
+    Ok(())
 }

@@ -1,0 +1,70 @@
+ghost use Rattle.std.specs.Prelude.{◌≡◌, ◌≢◌, ◌↔◌, ◌++◌, ℕ, List, Ok, OnOk, OnErr, IfOk, IfErr, IfSome, Err, IsErr, length, ◌<◌};
+ghost use Rattle.std.specs.Io.KnownBytes.{Appends, Keeps};
+ghost use Rattle.hex.specs.Hex.{decode_of};
+ghost use Rattle.lw_stamp.specs.Moment.{ms_of};
+ghost use Rattle.fleet.specs.Line.{line_of};
+ghost use Rattle.fleet.specs.One.{IsAddressText, IsAnswered, IsPrinted};
+
+use crate::answer::answer;
+use crate::command::OneOptions;
+use crate::fault::OneFault;
+use crate::hex_line::bytes_of_hex;
+use crate::line::{LONGEST_LINE, read_line};
+use crate::output::write_text;
+use lw_node::Node;
+use lw_reg::Addr;
+use lw_stamp::{Moment, NoMemory};
+use std::alloc::Global;
+use std::io::{Read, Write};
+
+/// Takes the datagram that a line of hex spells at a new node, and prints what the node answers.
+pub fn one<R: Read, W: Write>(
+    alloc: Global,
+    options: &OneOptions<'_>,
+    reader: &mut R,
+    writer: &mut W,
+) -> Result<(), OneFault>
+    // What is printed is the answer of a new node to the datagram that the first line spells.
+    ensures printed { OnOk result (IfSome (R.remaining reader.old) (λ bytes. (text : List ℕ)
+        × IsPrinted options.entry.now bytes text × Appends (W.contents writer.old) (W.contents writer.new) text)) }
+    // A writer that fails may have taken a front of it.
+    ensures front { result ≡ Err OneFault.WriteFailed → IfSome (R.remaining reader.old) (λ bytes. (text : List ℕ)
+        × IsPrinted options.entry.now bytes text × (front : List ℕ) × (back : List ℕ) × (text ≡ front ++ back)
+        × Appends (W.contents writer.old) (W.contents writer.new) front) }
+    // Any other fault comes before the first byte is written.
+    ensures nothing { IfErr result (λ e. e ≢ OneFault.WriteFailed → Keeps (W.contents writer.old) (W.contents writer.new)) }
+
+    ensures address_refused { (result ≡ Err OneFault.AddressRefused) ↔ (¬ IsAddressText options.entry.now.from.now) }
+    ensures hex_refused { result ≡ Err OneFault.HexRefused
+        → IfSome (R.remaining reader.old) (λ bytes. IsErr (decode_of (line_of bytes))) }
+    ensures too_long { result ≡ Err OneFault.TooLong
+        → IfSome (R.remaining reader.old) (λ bytes. LONGEST_LINE < length (line_of bytes)) }
+{
+    let Some(source) = Addr::read(options.from) else {
+        return Err(OneFault::AddressRefused);
+    };
+    let line = read_line(alloc, reader)?;
+    let datagram = bytes_of_hex(alloc, &line)?;
+    let text = answered(alloc, options.node, options.now, source, &datagram)?;
+    write_text(writer, &text)
+}
+
+/// What a new node answers to a datagram, and what it then shows.
+fn answered(
+    alloc: Global,
+    number: u16,
+    now: Moment,
+    source: Addr,
+    datagram: &[u8],
+) -> Result<Vec<u8>, NoMemory>
+    ensures { IfOk result (λ text. IsAnswered number (ms_of now) source datagram.now text.items) }
+{
+    let mut node = Node::new(alloc, number);
+    let taken = node.take(now, source, datagram)?;
+    let shown = node.first_after(now, None);
+    let reply = match &taken.reply {
+        Some(reply) => Some(reply.as_slice()),
+        None => None,
+    };
+    answer(alloc, reply, shown.as_ref())
+}
