@@ -246,3 +246,6 @@ fn is_target_character(c: u8) -> bool
 {
     matches!(c, b'!'..=b'~') && c != b'<' && c != b'>'
 }
+
+#[cfg(test)]
+mod tests;
