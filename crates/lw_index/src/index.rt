@@ -1,7 +1,8 @@
-ghost use Rattle.std.specs.Prelude.{◌≡◌, ◌⊎◌, ◌↔◌, ℕ, List, [], OnOk, OnErr, IsOk};
+ghost use Rattle.std.specs.Prelude.{◌≡◌, ◌≢◌, ◌⊎◌, ◌↔◌, ◌||◌, ℕ, List, [], OnOk, OnErr, IsOk, IsTrue, bytes_eq};
 ghost use Rattle.std.specs.Cmp.Lexicographic.{slice_cmp};
 ghost use Rattle.std.specs.Ordering.{nat_cmp};
 ghost use Rattle.std.specs.List.Sorted.{IsStrictlySortedBy};
+ghost use Rattle.std.specs.BTreeSet.{contains_text};
 ghost use Rattle.lw_index.specs.Index.{endpoints_of, Has, IsPair};
 
 use crate::endpoints::Endpoints;
@@ -46,16 +47,15 @@ impl<K: Ord + Drop> Index<K> {
         ensures present { Has K.cmp self.old key endpoint.now → IsOk result × (self.new ≡ self.old) }
         ensures unchanged { OnErr result (self.new ≡ self.old) }
     {
-        let Some(set) = self.sets.get_mut(&key) else {
-            let mut set = BTreeSet::new(self.alloc);
-            set.insert(String::from_str(self.alloc, endpoint)?)?;
-            self.sets.insert(key, set)?;
-            return Ok(());
-        };
-        if !set.contains(endpoint) {
-            set.insert(String::from_str(self.alloc, endpoint)?)?;
+        match self.sets.get_mut(&key) {
+            Some(set) => put(self.alloc, set, endpoint),
+            None => {
+                let mut set = BTreeSet::new(self.alloc);
+                put(self.alloc, &mut set, endpoint)?;
+                self.sets.insert(key, set)?;
+                Ok(())
+            }
         }
-        Ok(())
     }
 
     /// Takes the endpoint from the key. A key whose last endpoint goes is gone.
@@ -78,8 +78,24 @@ impl<K: Ord + Drop> Index<K> {
         ensures rising { IsStrictlySortedBy (slice_cmp nat_cmp) result }
     {
         match self.sets.get(key) {
-            Some(set) => Endpoints { rest: Some(set.iter()) },
+            Some(set) => Endpoints {
+                rest: Some(set.iter()),
+            },
             None => Endpoints { rest: None },
         }
     }
+}
+
+// Puts a copy of the endpoint into the set.
+fn put(alloc: Global, set: &mut BTreeSet<String>, endpoint: &str) -> Result<(), NoMemory>
+    ensures members { OnOk result ((e : List ℕ) → contains_text set.new e ≡ (contains_text set.old e || bytes_eq endpoint.now e)) }
+    ensures some { OnOk result (set.new.keys ≢ []) }
+    ensures present { IsTrue (contains_text set.old endpoint.now) → IsOk result × (set.new.keys ≡ set.old.keys) }
+    ensures unchanged { OnErr result (set.new.keys ≡ set.old.keys) }
+{
+    if set.contains(endpoint) {
+        return Ok(());
+    }
+    set.insert(String::from_str(alloc, endpoint)?)?;
+    Ok(())
 }

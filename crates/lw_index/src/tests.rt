@@ -1,4 +1,3 @@
 use super::*;
 use lw_stamp::Stamp;
 use std::test::Fail;
-
