@@ -29,6 +29,5 @@ pub use reading::read;
 pub use scan::is_printing;
 pub use text::Text;
 
-
 #[cfg(test)]
 mod tests;

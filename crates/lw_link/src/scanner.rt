@@ -6,7 +6,7 @@ use std::str::Chars;
 /// A text that is taken character by character. Contracts see the characters that are left.
 #[derive(Drop)]
 pub(crate) struct Scanner<'a> {
-    chars: Chars<'a>,
+    left: Chars<'a>,
 }
 
 impl<'a> Model for Scanner<'a> {
@@ -15,29 +15,29 @@ impl<'a> Model for Scanner<'a> {
 
     ghost Value = { List ℕ };
 
-    ghost view = { λ s. chars (chars_rest s.chars) };
+    ghost view = { λ s. chars (chars_rest s.left) };
 
-    ghost invariant = { λ s. IsUtf8 (chars_rest s.chars) };
+    ghost invariant = { λ s. IsUtf8 (chars_rest s.left) };
 }
 
 impl<'a> Scanner<'a> {
     pub(crate) fn new(text: &'a str) -> Scanner<'a>
         ensures { result ≡ chars text.now }
     {
-        Scanner { chars: text.chars() }
+        Scanner { left: text.chars() }
     }
 
     /// Takes the next character.
     pub(crate) fn take(&mut self) -> Option<char>
         ensures { MatchOption result ((self.old ≡ []) × (self.new ≡ [])) (λ c. self.old ≡ c ∷ self.new) }
     {
-        self.chars.next()
+        self.left.next()
     }
 
     /// The next character, which is left where it is.
     pub(crate) fn peek(&self) -> Option<char>
         ensures { MatchOption result (self.now ≡ []) (λ c. (rest : List ℕ) × (self.now ≡ c ∷ rest)) }
     {
-        self.chars.as_str().chars().next()
+        self.left.as_str().chars().next()
     }
 }
