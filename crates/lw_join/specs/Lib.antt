@@ -19,3 +19,9 @@ pub mod OrGone
 pub mod OrGoneLaws
 pub mod Pair
 pub mod PairLaws
+pub mod Entries
+pub mod EntriesLaws
+pub mod Ends
+pub mod Place
+pub mod Parts
+pub mod PartsLaws

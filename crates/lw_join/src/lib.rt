@@ -3,15 +3,19 @@
 //! Whatever order the values of a set arrive in, and however often, their join is one.
 #![tactic(auto)]
 
+mod entries;
 mod exact;
 mod flag;
+mod items;
 mod join;
 pub mod laws;
 mod lex;
 mod lww;
+mod merge;
 mod once;
 mod or_gone;
 mod pair;
+mod parts;
 
 pub use exact::Exact;
 pub use flag::Flag;
@@ -20,3 +24,4 @@ pub use lex::Lex;
 pub use lww::Lww;
 pub use once::Once;
 pub use or_gone::OrGone;
+pub use parts::Parts;

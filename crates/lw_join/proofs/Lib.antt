@@ -1,0 +1,4 @@
+pub mod Search
+pub mod Lookups
+pub mod Greatest
+pub mod JoinedParts

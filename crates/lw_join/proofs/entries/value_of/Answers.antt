@@ -1,0 +1,14 @@
+use Rattle.std.proofs.Common.{sym}
+use Rattle.lw_stamp.specs.Order.{IsExactOrder}
+use Rattle.lw_join.proofs.Lookups.{get_there, get_absent}
+use Rattle.lw_join.proofs.entries.value_of.Goals as goal
+
+pub returns-in-Ok : goal.returns-in-Ok
+returns-in-Ok g c =
+    let order : IsExactOrder g.K.Ord.cmp = record { total = g.met.K.Ord.total; exact = g.met.K.Exact.exact } in
+    sym (get_there order c.args.key.now c.args.entries.now c.in-Ok.i c.index-entries-i.result c.requires c.in-Ok.ensures.found)
+
+pub returns-in-Err : goal.returns-in-Err
+returns-in-Err g c =
+    let order : IsExactOrder g.K.Ord.cmp = record { total = g.met.K.Ord.total; exact = g.met.K.Exact.exact } in
+    sym (get_absent order c.args.key.now c.args.entries.now c.in-Err.field-0 c.in-Err.ensures.absent)

@@ -1,0 +1,84 @@
+//! The join of two maps, from the greatest key down, in time linear in their entries.
+ghost use Rattle.std.specs.Prelude.{◌≡◌, ◌+◌, ◌-◌, ◌<◌, ◌≤◌, [], ◌∷◌, ◌++◌, length, vec_len, vec_capacity, OnOk, OnErr, OnSome, IfSome, IfNone, reverse};
+ghost use Rattle.lw_join.specs.Entries.{Rises, entries_join};
+ghost use Rattle.lw_join.specs.Ends.{ends_cmp};
+
+use crate::exact::Exact;
+use crate::join::Calm;
+use lw_stamp::NoMemory;
+use std::cmp::Ordering;
+
+// The order of the last keys. No key is below every key.
+fn cmp_ends<K: Exact, J>(left: &[(K, J)], right: &[(K, J)]) -> Ordering
+    ensures { result ≡ ends_cmp K.cmp left.now right.now }
+{
+    match (left.last(), right.last()) {
+        (None, None) => Ordering::Equal,
+        (None, Some(_)) => Ordering::Less,
+        (Some(_), None) => Ordering::Greater,
+        (Some(x), Some(y)) => x.0.cmp(&y.0),
+    }
+}
+
+// Takes the entry of the greatest key, joined where both have it.
+fn pop_greatest<K: Exact, J: Calm>(
+    left: &mut Vec<(K, J)>,
+    right: &mut Vec<(K, J)>,
+) -> Option<(K, J)>
+    requires left { Rises K.cmp left.old.items }
+    requires right { Rises K.cmp right.old.items }
+    ensures last { IfSome result (λ e. entries_join K.cmp J.join left.old.items right.old.items ≡ entries_join K.cmp J.join left.new.items right.new.items ++ e ∷ []) }
+    ensures none { IfNone result (entries_join K.cmp J.join left.old.items right.old.items ≡ []) }
+    ensures left_rises { Rises K.cmp left.new.items }
+    ensures right_rises { Rises K.cmp right.new.items }
+    ensures fewer { OnSome result (vec_len left.new + vec_len right.new < vec_len left.old + vec_len right.old) }
+{
+    match cmp_ends(left, right) {
+        Ordering::Less => right.pop(),
+        Ordering::Greater => left.pop(),
+        Ordering::Equal => {
+            let (key, mut value) = left.pop()?;
+            let (_, other) = right.pop()?;
+            value.join_calm(other);
+            Some((key, value))
+        }
+    }
+}
+
+// Moves the join of the two into `joined`, the greatest key first.
+fn merge<K: Exact, J: Calm>(
+    left: &mut Vec<(K, J)>,
+    mut right: Vec<(K, J)>,
+    joined: &mut Vec<(K, J)>,
+)
+    requires left { Rises K.cmp left.old.items }
+    requires right { Rises K.cmp right.items }
+    requires empty { joined.old.items ≡ [] }
+    requires room { vec_len left.old + vec_len right ≤ vec_capacity joined.old }
+    ensures { joined.new.items ≡ reverse (entries_join K.cmp J.join left.old.items right.items) }
+{
+    while let Some(entry) = pop_greatest(left, &mut right) {
+        let _ = joined.push(entry);
+    }
+}
+
+// All room is made before anything changes.
+pub(crate) fn join_entries<K: Exact, J: Calm>(
+    into: &mut Vec<(K, J)>,
+    from: Vec<(K, J)>,
+) -> Result<(), NoMemory>
+    requires left { Rises K.cmp into.old.items }
+    requires right { Rises K.cmp from.items }
+    ensures ok { OnOk result (into.new.items ≡ entries_join K.cmp J.join into.old.items from.items) }
+    ensures err { OnErr result (into.new.items ≡ into.old.items) }
+{
+    if from.is_empty() {
+        return Ok(());
+    }
+    let room = into.len().checked_add(from.len()).ok_or(NoMemory)?;
+    let mut joined = Vec::with_capacity(*into.allocator(), room)?;
+    merge(into, from, &mut joined);
+    joined.reverse();
+    *into = joined;
+    Ok(())
+}
