@@ -10,7 +10,7 @@ use crate::register::{Asked, read_register};
 use crate::role::Role;
 use crate::taken::Taken;
 use crate::{answers, reply};
-use lw_coap::{Fault, Kind, Message, decode, peek_header};
+use lw_coap::{Fault, Kind, Message, codes, decode, peek_header};
 use lw_reg::{Addr, Binding, Seen, Text, View};
 use lw_stamp::{Clock, Moment, NoMemory, Stamp};
 use std::alloc::Global;
@@ -79,7 +79,7 @@ impl Node {
             Role::Ping => reply::reset(alloc, message.mid),
             Role::Request => match read_register(message) {
                 Some(asked) => self.register(now, from, message, &asked),
-                None => reply::refusal(alloc, message, reply::BAD_REQUEST),
+                None => reply::refusal(alloc, message, codes::BAD_REQUEST),
             },
         }
     }
@@ -99,7 +99,7 @@ impl Node {
         let alloc = *self.operations.allocator();
         let mut clock = self.clock;
         let Some(stamp) = clock.next(self.number) else {
-            return reply::refusal(alloc, request, reply::SERVICE_UNAVAILABLE);
+            return reply::refusal(alloc, request, codes::SERVICE_UNAVAILABLE);
         };
         let operation = make(alloc, stamp, now, from, asked)?;
         let taken = reply::created(alloc, request, &stamp)?;

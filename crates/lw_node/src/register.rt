@@ -3,18 +3,12 @@ ghost use Rattle.std.specs.List.{AllByRecursion};
 ghost use Rattle.lw_reg.specs.declared.version.Version.{Version as Versions};
 ghost use Rattle.lw_node.specs.Register.{AskedContent, IsRegister, IsUnderstood, IsLinkFormat, IsLifetime, IsVersion, IsDigit, IsTargetCharacter, AreLinks, link, values_of, name_of, value_of, last_value, decimal_value};
 
+use lw_coap::codes::POST;
+use lw_coap::option_numbers::{CONTENT_FORMAT, URI_PATH, URI_QUERY};
 use lw_coap::{CoapOption, Message, uint};
 use lw_reg::Version;
 use std::marker::Model;
 use std::str;
-
-const POST: u8 = 2;
-
-const URI_PATH: u16 = 11;
-
-const CONTENT_FORMAT: u16 = 12;
-
-const URI_QUERY: u16 = 15;
 
 const LINK_FORMAT: u32 = 40;
 

@@ -6,18 +6,11 @@ ghost use Rattle.lw_coap.specs.Fits.{Fits};
 ghost use Rattle.lw_node.specs.Meaning.{answer_to, answer_kind, reset_of, created as created_to, IsReply};
 
 use crate::taken::Taken;
+use lw_coap::codes::{CREATED, EMPTY};
+use lw_coap::option_numbers::LOCATION_PATH;
 use lw_coap::{CoapOption, Kind, Message, encode};
 use lw_stamp::{NoMemory, Stamp};
 use std::alloc::Global;
-
-/// 2.01 Created (RFC 7252, section 12.1.2).
-const CREATED: u8 = 0x41;
-/// 4.00 Bad Request.
-pub const BAD_REQUEST: u8 = 0x80;
-/// 5.03 Service Unavailable.
-pub const SERVICE_UNAVAILABLE: u8 = 0xa3;
-/// The number of the option Location-Path (RFC 7252, section 5.10).
-const LOCATION_PATH: u16 = 8;
 
 /// The bytes of a reply.
 pub fn taken(alloc: Global, reply: &Message) -> Result<Taken, NoMemory>
@@ -37,7 +30,7 @@ pub fn reset(alloc: Global, mid: u16) -> Result<Taken, NoMemory>
         alloc,
         &Message {
             kind: Kind::Rst,
-            code: 0,
+            code: EMPTY,
             mid,
             token: Vec::new(alloc),
             options: Vec::new(alloc),
