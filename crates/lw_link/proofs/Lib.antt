@@ -1,3 +1,5 @@
 pub mod Scanning
 pub mod Complete
 pub mod Sound
+pub mod Checks
+pub mod Scanned
