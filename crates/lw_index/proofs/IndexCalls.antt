@@ -1,15 +1,21 @@
 -- What a call that changes the set of one key does to what the index shows.
-use Rattle.std.proofs.Common.{◌≡◌, ◌≢◌, ◌⊎◌, ◌↔◌, ℕ, List, [], ◌∷◌, Option, Some, None, Bool, true, false, cond, ◌&&◌, ◌||◌, not, Result, Ok, Err, refl, sym, ap, ◌∙◌, subst}
-use Rattle.std.specs.Prelude.{OnOk, OnErr, String, string_bytes, bytes_eq}
+use Rattle.std.proofs.Common.{◌≡◌, ◌≢◌, ◌⊎◌, ◌↔◌, ℕ, List, [], ◌∷◌, Option, Some, None, Bool, true, false, cond, ◌&&◌, ◌||◌, not, Result, Ok, Err, map, length, refl, sym, ap, ◌∙◌, subst, arith}
+use Rattle.std.specs.Prelude.{OnOk, OnErr, String, string_bytes, bytes_eq, unwrap_or, option_map}
 use Rattle.std.specs.declared.cmp.Ordering.{Ordering}
-use Rattle.std.specs.Ordering.{is_eq}
+use Rattle.std.specs.declared.cmp.Ordering.TheVariants.{Less}
+use Rattle.std.specs.Bool.{OnFalse}
+use Rattle.std.specs.List.{AllByRecursion}
+use Rattle.std.specs.List.Sorted.{IsStrictlySortedBy}
+use Rattle.std.specs.String.{string_cmp}
+use Rattle.std.specs.Cmp.Lexicographic.{slice_cmp}
+use Rattle.std.specs.Ordering.{is_eq, nat_cmp}
 use Rattle.std.specs.Cmp.{IsTotalOrder}
 use Rattle.std.specs.Map.{lookup, set_value}
 use Rattle.std.specs.BTreeSet.{BTreeSet, contains_text}
 use Rattle.std.proofs.lemmas.Slice.Eq.{bytes_eq-Decides}
-use Rattle.lw_index.specs.Index.{Has, IsPair}
+use Rattle.lw_index.specs.Index.{endpoints_of, EachHasEndpoints, Has, IsPair}
 use Rattle.lw_index.specs.Shown.{shown, HoldsNoEmpty}
-use Rattle.lw_index.proofs.IndexLemmas.{held, has_held, added, dropped, set_shown, no_empty_set}
+use Rattle.lw_index.proofs.IndexLemmas.{true_or_not, held, texts, lookup_shown, has_held, held_has, at_same, added, dropped, set_shown, no_empty_set}
 
 pub on_ok : {T E : Type 0} (P Q : Type 0) (r : Result T E) → (P → Q) → OnOk r P → OnOk r Q
 on_ok P Q (Ok x) f h = f h
@@ -46,6 +52,17 @@ module _ {K Z : Type 0} (cmp : K → K → Ordering) where
     pub has_was : Has cmp old key bs → held was bs ≡ true
     has_was h = ap (λ (s : Option (BTreeSet (String Z))). held s bs) (sym found) ∙ has_held cmp es key bs (subst (λ (x : List (K × List (List ℕ))). Has cmp x key bs) (sym shows) h)
 
+    pub has_not : (Has cmp old key bs → ⊥) → held was bs ≡ false
+    has_not h =
+        true_or_not (held was bs)
+        (λ t. absurd (h (subst (λ (x : List (K × List (List ℕ))). Has cmp x key bs) shows (held_has cmp es key bs (ap (λ (s : Option (BTreeSet (String Z))). held s bs) found ∙ t)))))
+        (λ f. f)
+
+    pub listed : unwrap_or (option_map texts was) [] ≡ endpoints_of cmp old key
+    listed =
+        sym (ap (λ (s : Option (BTreeSet (String Z))). unwrap_or (option_map texts s) []) found)
+        ∙ sym (ap (λ (s : Option (List (List ℕ))). unwrap_or s []) (lookup_shown (λ q. is_eq (cmp key q)) es)) ∙ ap (λ (x : List (K × List (List ℕ))). endpoints_of cmp x key) shows
+
     module _ (o : IsTotalOrder cmp) (ns : List (K × BTreeSet (String Z))) (w : Option (BTreeSet (String Z))) (update : (q : K) → at ns q ≡ cond (is_eq (cmp key q)) w (at es q)) where
       pub more_has : ((e : List ℕ) → held w e ≡ (held was e || bytes_eq bs e)) → (k : K) (e : List ℕ) → Has cmp (shown ns) k e ↔ (Has cmp old k e ⊎ IsPair cmp key bs k e)
       more_has more =
@@ -61,3 +78,47 @@ module _ {K Z : Type 0} (cmp : K → K → Ordering) where
   pub same_has : (es ns : List (K × BTreeSet (String Z))) (old : List (K × List (List ℕ))) (key : K) (v w : BTreeSet (String Z)) → shown es ≡ old
       → at es key ≡ Some v → ns ≡ set_value (λ q. is_eq (cmp key q)) es w → w.keys ≡ v.keys → shown ns ≡ old
   same_has es ns old key v w shows found new same = ap shown new ∙ set_shown (λ q. is_eq (cmp key q)) v w es found same ∙ shows
+
+  -- an absent key is taken out as it stands
+  pub none_update : IsTotalOrder cmp → (es : List (K × BTreeSet (String Z))) (key : K) → at es key ≡ None → (q : K) → at es q ≡ cond (is_eq (cmp key q)) None (at es q)
+  none_update o es key found q =
+      true_or_not (is_eq (cmp key q))
+      (λ t. sym (at_same cmp o es key q t) ∙ found ∙ sym (ap (λ b. cond b None (at es q)) t))
+      (λ f. sym (ap (λ b. cond b None (at es q)) f))
+
+-- a value that was put and then taken out
+pub twice : {A : Type 0} (b : Bool) (x y r s t : A) → t ≡ cond b x s → s ≡ cond b y r → t ≡ cond b x r
+twice true x y r s t h k = h
+twice false x y r s t h k = h ∙ k
+
+pub none_left : {A : Type 0} (xs : List A) → length xs ≡ 0 → xs ≡ []
+none_left [] h = refl
+none_left (x ∷ xs) h = absurd (omega arith)
+
+pub some_left : {A : Type 0} (xs : List A) (b : Bool) → (b ≡ true) ↔ (length xs ≡ 0) → b ≡ false → xs ≢ []
+some_left xs b h f e = let t : b ≡ true = h.1 (ap length e) in cc
+
+pub unchanged_at : {P : Type 0} (r : Bool) → OnFalse r P → r ≡ false → P
+unchanged_at {P} r h f = subst (λ b. OnFalse b P) f h
+
+texts_above : {Z : Type 0} (x : String Z) (xs : List (String Z)) → AllByRecursion (λ y. string_cmp x y ≡ Less) xs → AllByRecursion (λ e. slice_cmp nat_cmp (string_bytes x) e ≡ Less) (map string_bytes xs)
+texts_above x [] h = tt
+texts_above x (y ∷ ys) h = (h.0, texts_above x ys h.1)
+
+-- strings in order are texts in order
+pub texts_rise : {Z : Type 0} (xs : List (String Z)) → IsStrictlySortedBy string_cmp xs → IsStrictlySortedBy (slice_cmp nat_cmp) (map string_bytes xs)
+unfolding IsStrictlySortedBy
+texts_rise [] h = tt
+texts_rise (x ∷ xs) h = (texts_above x xs h.0, texts_rise xs h.1)
+
+pub nothing_rises : IsStrictlySortedBy (slice_cmp nat_cmp) []
+unfolding IsStrictlySortedBy
+nothing_rises = tt
+
+some_texts : {Z : Type 0} (xs : List (String Z)) → xs ≢ [] → map string_bytes xs ≢ []
+some_texts [] h e = h refl
+some_texts (x ∷ xs) h e = absurd cc
+
+pub each_has : {K Z : Type 0} (es : List (K × BTreeSet (String Z))) → HoldsNoEmpty es → EachHasEndpoints (shown es)
+each_has [] h = tt
+each_has (p ∷ ps) h = (some_texts p.1.keys h.0, each_has ps h.1)

@@ -17,7 +17,7 @@ use Rattle.std.proofs.lemmas.Slice.Eq.{bytes_eq-Decides}
 use Rattle.lw_index.specs.Index.{Has, IsPair}
 use Rattle.lw_index.specs.Shown.{shown, HoldsNoEmpty}
 
-true_or_not : {A : Type 0} (b : Bool) → (b ≡ true → A) → (b ≡ false → A) → A
+pub true_or_not : {A : Type 0} (b : Bool) → (b ≡ true → A) → (b ≡ false → A) → A
 true_or_not true f g = f refl
 true_or_not false f g = g refl
 
@@ -33,7 +33,7 @@ any_map test f (x ∷ xs) = ap (λ b. test (f x) || b) (any_map test f xs)
 texts_are : IsEquivalence (eq_by_cmp (slice_cmp nat_cmp))
 texts_are = eq_by_cmp_equiv nat_list_cmp_total
 
-abbrev texts : {Z : Type 0} → BTreeSet (String Z) → List (List ℕ)
+abbrev pub texts : {Z : Type 0} → BTreeSet (String Z) → List (List ℕ)
 texts s = map string_bytes s.keys
 
 held_shown : {Z : Type 0} (o : Option (BTreeSet (String Z))) (e : List ℕ) → held o e ≡ true → Contains (unwrap_or (option_map texts o) []) e
@@ -48,7 +48,7 @@ mapped : {A B : Type 0} (f : A → B) (b : Bool) (x : A) (r : Option B) (s : Opt
 mapped f true x r s h = refl
 mapped f false x r s h = h
 
-lookup_shown : {K Z : Type 0} (test : K → Bool) (es : List (K × BTreeSet (String Z))) → lookup test (shown es) ≡ option_map texts (lookup test es)
+pub lookup_shown : {K Z : Type 0} (test : K → Bool) (es : List (K × BTreeSet (String Z))) → lookup test (shown es) ≡ option_map texts (lookup test es)
 lookup_shown test [] = refl
 lookup_shown test (p ∷ ps) = mapped texts (test p.0) p.1 _ _ (lookup_shown test ps)
 
@@ -71,7 +71,7 @@ module _ {K Z : Type 0} (cmp : K → K → Ordering) where
   held_has es k e h = subst (λ (o : Option (List (List ℕ))). Contains (unwrap_or o []) e) (sym (lookup_shown (λ q. is_eq (cmp k q)) es)) (held_shown (at es k) e h)
 
   -- keys that compare equal have one set
-  at_same : IsTotalOrder cmp → (es : List (K × BTreeSet (String Z))) (key k : K) → is_eq (cmp key k) ≡ true → at es key ≡ at es k
+  pub at_same : IsTotalOrder cmp → (es : List (K × BTreeSet (String Z))) (key k : K) → is_eq (cmp key k) ≡ true → at es key ≡ at es k
   at_same o es key k h i = lookup (λ q. is_eq (o.congr key k q ((Equal-is (cmp key k)).0 h) i)) es
 
   module _ (o : IsTotalOrder cmp) (es ns : List (K × BTreeSet (String Z))) (key : K) (bs : List ℕ) (w : Option (BTreeSet (String Z)))

@@ -1,6 +1,6 @@
 -- An index is a finite map from keys to sets of texts: the endpoints (LwM2M 1.1 Core, section 6.2.1) that have the key.
 -- It is seen as the list of its keys, each with its endpoints.
-use Rattle.std.specs.Prelude.{◌≡◌, ℕ, List, [], ◌∷◌, Contains, All, unwrap_or}
+use Rattle.std.specs.Prelude.{◌≡◌, ◌≢◌, ℕ, List, [], ◌∷◌, Contains, unwrap_or}
 use Rattle.std.specs.declared.cmp.Ordering.{Ordering}
 use Rattle.std.specs.declared.cmp.Ordering.TheVariants.{Equal}
 use Rattle.std.specs.Ordering.{is_eq}
@@ -17,3 +17,8 @@ Has cmp index key endpoint = Contains (endpoints_of cmp index key) endpoint
 -- k and e are the pair of the key and the endpoint
 abbrev pub IsPair : {K : Type 0} → (K → K → Ordering) → K → List ℕ → K → List ℕ → Type 0
 IsPair cmp key endpoint k e = (cmp k key ≡ Equal) × (e ≡ endpoint)
+
+-- each key has an endpoint
+abbrev pub EachHasEndpoints : {K : Type 0} → List (K × List (List ℕ)) → Type 0
+EachHasEndpoints [] = Unit {0}
+EachHasEndpoints (entry ∷ entries) = (entry.1 ≢ []) × EachHasEndpoints entries

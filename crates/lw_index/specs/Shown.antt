@@ -1,5 +1,5 @@
 -- What an index shows of its entries.
-use Rattle.std.specs.Prelude.{◌≡◌, ℕ, List, [], ◌∷◌, map, String, string_bytes}
+use Rattle.std.specs.Prelude.{◌≢◌, ℕ, List, [], ◌∷◌, map, String, string_bytes}
 use Rattle.std.specs.BTreeSet.{BTreeSet}
 
 -- each key with the bytes of its endpoints
@@ -9,4 +9,4 @@ shown {K} {Z} entries = map {B = K × List (List ℕ)} (λ (p : K × BTreeSet (S
 -- each key has an endpoint
 abbrev pub HoldsNoEmpty : {K Z : Type 0} → List (K × BTreeSet (String Z)) → Type 0
 HoldsNoEmpty [] = Unit {0}
-HoldsNoEmpty (p ∷ ps) = (p.1.keys ≡ [] → ⊥) × HoldsNoEmpty ps
+HoldsNoEmpty (p ∷ ps) = (p.1.keys ≢ []) × HoldsNoEmpty ps

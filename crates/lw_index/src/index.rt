@@ -3,7 +3,7 @@ ghost use Rattle.std.specs.Cmp.Lexicographic.{slice_cmp};
 ghost use Rattle.std.specs.Ordering.{nat_cmp};
 ghost use Rattle.std.specs.List.Sorted.{IsStrictlySortedBy};
 ghost use Rattle.std.specs.BTreeSet.{contains_text};
-ghost use Rattle.lw_index.specs.Index.{endpoints_of, Has, IsPair};
+ghost use Rattle.lw_index.specs.Index.{endpoints_of, EachHasEndpoints, Has, IsPair};
 
 use crate::endpoints::Endpoints;
 use lw_stamp::NoMemory;
@@ -76,6 +76,7 @@ impl<K: Ord + Drop> Index<K> {
     pub fn of(&self, key: &K) -> Endpoints<'_>
         ensures endpoints { result ≡ endpoints_of K.cmp self.now key.now }
         ensures rising { IsStrictlySortedBy (slice_cmp nat_cmp) result }
+        ensures no_empty_key { EachHasEndpoints self.now }
     {
         match self.sets.get(key) {
             Some(set) => Endpoints {
