@@ -22,4 +22,3 @@ module _ {K J A B : Type 0} {o : ord.Ghosts K} {e : partial_eq.Ghosts K} {p : pa
   pub unchanged_parts : (r : Result A B) (x z : Parts K J o e p) → OnErr r (z.entries ≡ x.entries) → OnErr r (z ≡ x)
   unchanged_parts (Ok a) x z err = err
   unchanged_parts (Err b) x z err = same_parts z x err
-

@@ -2,3 +2,4 @@ pub mod Search
 pub mod Lookups
 pub mod Greatest
 pub mod JoinedParts
+pub mod FacetLemmas

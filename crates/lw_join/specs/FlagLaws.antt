@@ -31,7 +31,6 @@ bool_least : (a b c : Bool) → bool_below a c → bool_below b c → bool_below
 bool_least true b c h k = h
 bool_least false b c h k = k
 
-
 pub flag_laws : IsJoin flag_below flag_join
 flag_laws = record {
   reflexive = λ x. bool_reflexive x.raised;

@@ -25,3 +25,4 @@ pub mod Ends
 pub mod Place
 pub mod Parts
 pub mod PartsLaws
+pub mod Facets

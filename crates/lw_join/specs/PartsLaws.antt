@@ -12,7 +12,7 @@ use Rattle.lw_join.specs.Options.{option_below, option_join}
 use Rattle.lw_join.specs.OptionLaws.{option_laws}
 use Rattle.lw_join.specs.Entries.{Rises, rises, get, entries_join}
 use Rattle.lw_join.specs.EntriesLaws.{Rises-prop, rises_true, Rises-join, get-join, same_entries}
-use Rattle.lw_join.specs.Parts.{parts_below, parts_join, made, made_by}
+use Rattle.lw_join.specs.Parts.{value_at, parts_below, parts_join, made, made_by}
 use Rattle.lw_join.specs.declared.parts.Parts.{Parts}
 
 module _ {K J : Type 0} (o : ord.Ghosts K) (e : partial_eq.Ghosts K) (p : partial_ord.Ghosts K) where
@@ -33,18 +33,23 @@ module _ {K J : Type 0} {o : ord.Ghosts K} {e : partial_eq.Ghosts K} {p : partia
   pub entries_joined : (order : IsExactOrder o.cmp) (join : J → J → J) (x y : Parts K J o e p) → (parts_join join x y).entries ≡ entries_join o.cmp join x.entries y.entries
   entries_joined order join x y = entries_made o e p (entries_join o.cmp join x.entries y.entries) (Rises-join order join x.entries y.entries x.rises)
 
-  module _ (order : IsExactOrder o.cmp) {below : J → J → Type 0} {join : J → J → J} (laws : IsJoin below join) where
-    joined : (x y : Parts K J o e p) (q : K) → get o.cmp (parts_join join x y).entries q ≡ option_join join (get o.cmp x.entries q) (get o.cmp y.entries q)
-    joined x y q = ap (λ es. get o.cmp es q) (entries_joined order join x y) ∙ get-join order join x.entries y.entries x.rises y.rises q
+  -- maps with the same value at each key are one
+  pub same_values : (order : IsExactOrder o.cmp) (x y : Parts K J o e p) → ((q : K) → value_at x q ≡ value_at y q) → x ≡ y
+  same_values order x y same = same_parts x y (same_entries order x.entries y.entries x.rises y.rises same)
 
+  -- the value at a key of a join
+  pub value_at-join : (order : IsExactOrder o.cmp) (join : J → J → J) (x y : Parts K J o e p) (q : K) → value_at (parts_join join x y) q ≡ option_join join (value_at x q) (value_at y q)
+  value_at-join order join x y q = ap (λ es. get o.cmp es q) (entries_joined order join x y) ∙ get-join order join x.entries y.entries x.rises y.rises q
+
+  module _ (order : IsExactOrder o.cmp) {below : J → J → Type 0} {join : J → J → J} (laws : IsJoin below join) where
     pub parts_laws : IsJoin {S = Parts K J o e p} (parts_below below) (parts_join join)
     parts_laws =
         let each = option_laws laws in
         record {
-          reflexive = λ x q. each.reflexive (get o.cmp x.entries q);
-          antisymmetric = λ x y h k. same_parts x y (same_entries order x.entries y.entries x.rises y.rises (λ q. each.antisymmetric (get o.cmp x.entries q) (get o.cmp y.entries q) (h q) (k q)));
-          transitive = λ x y z h k q. each.transitive (get o.cmp x.entries q) (get o.cmp y.entries q) (get o.cmp z.entries q) (h q) (k q);
-          above_left = λ x y q. subst (option_below below (get o.cmp x.entries q)) (sym (joined x y q)) (each.above_left (get o.cmp x.entries q) (get o.cmp y.entries q));
-          above_right = λ x y q. subst (option_below below (get o.cmp y.entries q)) (sym (joined x y q)) (each.above_right (get o.cmp x.entries q) (get o.cmp y.entries q));
-          least = λ x y z h k q. subst (λ w. option_below below w (get o.cmp z.entries q)) (sym (joined x y q)) (each.least (get o.cmp x.entries q) (get o.cmp y.entries q) (get o.cmp z.entries q) (h q) (k q));
+          reflexive = λ x q. each.reflexive (value_at x q);
+          antisymmetric = λ x y h k. same_values order x y (λ q. each.antisymmetric (value_at x q) (value_at y q) (h q) (k q));
+          transitive = λ x y z h k q. each.transitive (value_at x q) (value_at y q) (value_at z q) (h q) (k q);
+          above_left = λ x y q. subst (option_below below (value_at x q)) (sym (value_at-join order join x y q)) (each.above_left (value_at x q) (value_at y q));
+          above_right = λ x y q. subst (option_below below (value_at y q)) (sym (value_at-join order join x y q)) (each.above_right (value_at x q) (value_at y q));
+          least = λ x y z h k q. subst (λ w. option_below below w (value_at z q)) (sym (value_at-join order join x y q)) (each.least (value_at x q) (value_at y q) (value_at z q) (h q) (k q));
         }
