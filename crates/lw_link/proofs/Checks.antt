@@ -1,5 +1,6 @@
 -- Testing characters one after another.
-use Rattle.std.proofs.Common.{◌≡◌, ℕ, Bool, true, false, List, [], ◌∷◌, refl, subst, sym, ◌∙◌}
+use Rattle.std.proofs.Common.{◌≡◌, ℕ, suc, ◌+◌, ◌<◌, ◌≤◌, Bool, true, false, List, [], ◌∷◌, refl, ap, subst, sym, ◌∙◌, length, get_or, drop, add-one, drop-cons}
+use Rattle.std.specs.List.{AllByRecursion}
 use Rattle.std.proofs.lemmas.Bool.{both_ways}
 use Rattle.lw_link.specs.Characters.{Each}
 
@@ -22,3 +23,25 @@ same_stop p old new all c e t h k = both_ways (p c) t (subst (Each p) e (h.back 
 
 pub same_end : (p : ℕ → Bool) (old all : List ℕ) → old ≡ [] → IsSame p old all → Each p all
 same_end p old all e h = h.some (subst (Each p) (sym e) tt)
+
+-- the same, of a test that is a fact
+pub record IsSameAll {X : Type 0} (P : X → Type 0) (left all : List X) : Type 0 where
+  pub some : AllByRecursion P left → AllByRecursion P all
+  pub back : AllByRecursion P all → AllByRecursion P left
+
+next_is : {X : Type 0} (xs : List X) (i : ℕ) (x : X) → i < length xs → x ≡ get_or xs i x → drop i xs ≡ x ∷ drop (i + 1) xs
+next_is xs i x lt e = rw (add-one, drop-cons xs i x lt) (ap (λ y. y ∷ drop (suc i) xs) (sym e))
+
+pub all_more : {X : Type 0} (P : X → Type 0) (xs all : List X) (i : ℕ) (x : X) → i < length xs → x ≡ get_or xs i x → P x → IsSameAll P (drop i xs) all → IsSameAll P (drop (i + 1) xs) all
+all_more P xs all i x lt e t h =
+    let here : drop i xs ≡ x ∷ drop (i + 1) xs = next_is xs i x lt e in
+    record {
+      some = λ k. h.some (subst (AllByRecursion P) (sym here) (t, k));
+      back = λ k. (subst (AllByRecursion P) here (h.back k)).1;
+    }
+
+pub all_stop : {X : Type 0} (P : X → Type 0) (xs all : List X) (i : ℕ) (x : X) → i < length xs → x ≡ get_or xs i x → (P x → ⊥) → IsSameAll P (drop i xs) all → AllByRecursion P all → ⊥
+all_stop P xs all i x lt e t h k = t (subst (AllByRecursion P) (next_is xs i x lt e) (h.back k)).0
+
+pub all_end : {X : Type 0} (P : X → Type 0) (xs all : List X) (i : ℕ) → length xs ≤ i → IsSameAll P (drop i xs) all → AllByRecursion P all
+all_end P xs all i le h = h.some (subst (AllByRecursion P) (sym (drop-all xs i le)) tt)

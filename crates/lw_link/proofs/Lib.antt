@@ -3,3 +3,4 @@ pub mod Complete
 pub mod Sound
 pub mod Checks
 pub mod Scanned
+pub mod Walk

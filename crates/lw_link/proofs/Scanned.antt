@@ -128,3 +128,16 @@ pub scanned_whole : (k : Style) (text : List ℕ) (s : State) (links place : ℕ
 scanned_whole k text s links place old e end h =
     let seen : read_on k s old ≡ read_on k s [] = ap (read_on k s) e in
     (sym h.whole ∙ ap (λ (r : Rest). r.whole) seen ∙ end, omega (arith, h.count, ap (λ (r : Rest). length r.links) seen))
+
+pub scanned_next : (k : Style) (text : List ℕ) (s next : State) (links links_next place place_next : ℕ) (old new : List ℕ) (c : ℕ) → old ≡ c ∷ new
+    → next ≡ next_state k s c → next ≢ Stop → links_next ≡ links + opened s c → place_next ≡ place + len_utf8 c → IsScanned k text s links place old → IsScanned k text next links_next place_next new
+scanned_next k text s next links links_next place place_next old new c e n live l p h =
+    rw (n, l, p) (scanned_more k text s links place old new c e (λ f. live (n ∙ f)) h)
+
+pub opened_true : (s : State) (c : ℕ) (b : Bool) (n m : ℕ) → b ≡ opens_link s c → b ≡ true → n ≡ m + 1 → n ≡ m + opened s c
+opened_true s c b n m e t h = h ∙ ap (λ (x : Bool). m + cond x 1 0) (sym t ∙ e)
+
+pub opened_false : (s : State) (c : ℕ) (b : Bool) (n m : ℕ) → b ≡ opens_link s c → b ≡ false → n ≡ m → n ≡ m + opened s c
+opened_false s c b n m e t h =
+    let none : n ≡ m + cond false 1 0 = omega arith in
+    none ∙ ap (λ (x : Bool). m + cond x 1 0) (sym t ∙ e)

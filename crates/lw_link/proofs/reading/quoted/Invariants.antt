@@ -1,0 +1,14 @@
+use Rattle.std.proofs.Common.{◌≡◌, ◌≤◌, length, string_bytes}
+use Rattle.lw_link.specs.declared.style.Style.TheVariants.{Any}
+use Rattle.lw_link.specs.declared.state.State.TheVariants.{Quotation}
+use Rattle.lw_link.specs.Machine.{read_on}
+use Rattle.lw_link.specs.Taking.{with_text}
+use Rattle.lw_link.proofs.reading.quoted.Given as goal
+
+abbrev pub invariant-loop-c : goal.invariant-loop-c
+invariant-loop-c l =
+    (read_on Any Quotation l.fn.scanner ≡ with_text (string_bytes l.text) (read_on Any Quotation l.scanner))
+    × (length l.scanner ≤ length l.fn.scanner)
+
+abbrev pub decreases-loop-c : goal.decreases-loop-c
+decreases-loop-c l = length l.scanner
