@@ -90,8 +90,8 @@ module _ {K Z : Type 0} (cmp : K → K → Ordering) where
       added_to k e h =
           true_or_not (is_eq (cmp key k))
           (λ t. true_or_not (held (at es key) e)
-            (λ old. inl (sym (before k e t) ∙ old))
-            (λ new. inr (pair_at cmp o key k bs e t (ap (λ b. b || bytes_eq bs e) (sym new) ∙ sym (more e) ∙ sym (here k e t) ∙ h))))
+          (λ old. inl (sym (before k e t) ∙ old))
+          (λ new. inr (pair_at cmp o key k bs e t (ap (λ b. b || bytes_eq bs e) (sym new) ∙ sym (more e) ∙ sym (here k e t) ∙ h))))
           (λ f. inl (sym (apart k e f) ∙ h))
 
       or_true : (a b : Bool) → b ≡ true → (a || b) ≡ true
@@ -106,8 +106,10 @@ module _ {K Z : Type 0} (cmp : K → K → Ordering) where
           here k e q.0 ∙ more e ∙ or_true (held (at es key) e) (bytes_eq bs e) q.1
 
       pub added : (k : K) (e : List ℕ) → Has cmp (shown ns) k e ↔ (Has cmp (shown es) k e ⊎ IsPair cmp key bs k e)
-      added k e = (λ h. elim (added_to k e (has_held ns k e h)) [ inl old ↦ inl (held_has es k e old) | inr p ↦ inr p ],
-        λ h. held_has ns k e (elim h [ inl old ↦ added_from k e (inl (has_held es k e old)) | inr p ↦ added_from k e (inr p) ]))
+      added k e = (
+        λ h. elim (added_to k e (has_held ns k e h)) [ inl old ↦ inl (held_has es k e old) | inr p ↦ inr p ],
+        λ h. held_has ns k e (elim h [ inl old ↦ added_from k e (inl (has_held es k e old)) | inr p ↦ added_from k e (inr p) ]),
+      )
 
     module _ (less : (e : List ℕ) → held w e ≡ (held (at es key) e && not (bytes_eq bs e))) where
       both : (a b : Bool) → (a && not b) ≡ true → (a ≡ true) × (b ≡ false)
@@ -116,17 +118,18 @@ module _ {K Z : Type 0} (cmp : K → K → Ordering) where
       both false b h = absurd cc
 
       pub dropped : (k : K) (e : List ℕ) → Has cmp (shown ns) k e ↔ (Has cmp (shown es) k e × (IsPair cmp key bs k e → ⊥))
-      dropped k e =
-          (λ h. let is = has_held ns k e h in
-              true_or_not (is_eq (cmp key k))
-              (λ t. let parts = both (held (at es key) e) (bytes_eq bs e) (sym (less e) ∙ sym (here k e t) ∙ is) in
-                  (held_has es k e (sym (before k e t) ∙ parts.0), λ p. let q = at_pair cmp o key k bs e p in absurd cc))
-              (λ f. (held_has es k e (sym (apart k e f) ∙ is), λ p. let q = at_pair cmp o key k bs e p in absurd cc)),
-            λ h. held_has ns k e (true_or_not (is_eq (cmp key k))
-              (λ t. true_or_not (bytes_eq bs e)
-                (λ same. absurd (h.1 (pair_at cmp o key k bs e t same)))
-                (λ other. here k e t ∙ less e ∙ ap (λ a. a && not (bytes_eq bs e)) (before k e t ∙ has_held es k e h.0) ∙ ap not other))
-              (λ f. apart k e f ∙ has_held es k e h.0)))
+      dropped k e = (
+        λ h. let is = has_held ns k e h in
+            true_or_not (is_eq (cmp key k))
+            (λ t. let parts = both (held (at es key) e) (bytes_eq bs e) (sym (less e) ∙ sym (here k e t) ∙ is) in
+            (held_has es k e (sym (before k e t) ∙ parts.0), λ p. let q = at_pair cmp o key k bs e p in absurd cc))
+            (λ f. (held_has es k e (sym (apart k e f) ∙ is), λ p. let q = at_pair cmp o key k bs e p in absurd cc)),
+        λ h. held_has ns k e (true_or_not (is_eq (cmp key k))
+            (λ t. true_or_not (bytes_eq bs e)
+            (λ same. absurd (h.1 (pair_at cmp o key k bs e t same)))
+            (λ other. here k e t ∙ less e ∙ ap (λ a. a && not (bytes_eq bs e)) (before k e t ∙ has_held es k e h.0) ∙ ap not other))
+            (λ f. apart k e f ∙ has_held es k e h.0)),
+      )
 
 -- a set in place of one with its texts shows nothing new
 one_shown : {K Z : Type 0} (b : Bool) (k : K) (s v w : BTreeSet (String Z)) (ps qs : List (K × BTreeSet (String Z))) (r : Option (BTreeSet (String Z)))
@@ -166,9 +169,9 @@ no_empty_removed test w [] h = tt
 no_empty_removed test w (p ∷ ps) h =
     true_or_not (test p.0)
     (λ t. subst (λ b. HoldsNoEmpty (remove_entry test (cond b ((p.0, w) ∷ ps) (p ∷ set_value test ps w)))) (sym t)
-      (subst (λ b. HoldsNoEmpty (cond b ps ((p.0, w) ∷ remove_entry test ps))) (sym t) h.1))
+    (subst (λ b. HoldsNoEmpty (cond b ps ((p.0, w) ∷ remove_entry test ps))) (sym t) h.1))
     (λ f. subst (λ b. HoldsNoEmpty (remove_entry test (cond b ((p.0, w) ∷ ps) (p ∷ set_value test ps w)))) (sym f)
-      (subst (λ b. HoldsNoEmpty (cond b (set_value test ps w) (p ∷ remove_entry test (set_value test ps w)))) (sym f) (h.0, no_empty_removed test w ps h.1)))
+    (subst (λ b. HoldsNoEmpty (cond b (set_value test ps w) (p ∷ remove_entry test (set_value test ps w)))) (sym f) (h.0, no_empty_removed test w ps h.1)))
 
 or_swapped : (a b : Bool) → cond b true a ≡ (a || b)
 or_swapped true true = refl

@@ -9,4 +9,4 @@ pub returns-clause-members : goal.returns-clause-members
 returns-clause-members c = λ e.
     one_more _ (bytes_eq c.args.endpoint.now e) _
     (btree_set_updates_text (string_bytes c.in_ok-from_str.field-0) c.args.set.now c.insert.new.self _ c.in_ok-insert.ensures.updates e
-      ∙ ap (λ (bs : List ℕ). cond (bytes_eq bs e) true (contains_text c.args.set.now e)) c.in_ok-from_str.ensures.ok)
+    ∙ ap (λ (bs : List ℕ). cond (bytes_eq bs e) true (contains_text c.args.set.now e)) c.in_ok-from_str.ensures.ok)
