@@ -1,16 +1,14 @@
 -- Each kind of joined value tells of a set: one lemma a kind, to be put together as the types are.
 use Rattle.std.specs.Prelude.{◌||◌}
-use Rattle.std.proofs.Common.{◌≡◌, ◌↔◌, ◌⊎◌, Bool, true, false, Option, Some, None, refl, sym, ap, ◌∙◌, subst, inl, inr}
+use Rattle.std.proofs.Common.{◌≡◌, ◌↔◌, Bool, true, false, Option, Some, None, refl, sym, ap, ◌∙◌, subst, inl, inr}
 use Rattle.std.specs.declared.cmp.Ordering.{Ordering}
 use Rattle.std.specs.declared.cmp.Ordering.TheVariants.{Less, Equal, Greater}
-use Rattle.std.specs.Ordering.{is_eq, is_gt, max_by_ordering}
+use Rattle.std.specs.Ordering.{is_gt, max_by_ordering}
 use Rattle.std.specs.declared.cmp.Ord as ord
 use Rattle.std.specs.declared.cmp.PartialEq as partial_eq
 use Rattle.std.specs.declared.cmp.PartialOrd as partial_ord
 use mathlib.Core.Bool.{true≢false}
 use Rattle.lw_stamp.specs.Order.{IsExactOrder, AtMost, IsGreatest}
-use Rattle.lw_stamp.specs.StampOrder.{stamp_cmp}
-use Rattle.lw_stamp.specs.declared.stamp.Stamp.{Stamp}
 use Rattle.lw_stamp.proofs.StampLemmas.{stamp_order}
 use Rattle.lw_join.specs.Greater.{greater}
 use Rattle.lw_join.specs.GreaterLaws.{at_most_refl, at_most_trans, at_most_antisymm}
@@ -23,17 +21,14 @@ use Rattle.lw_join.specs.LwwLaws.{write_order}
 use Rattle.lw_join.specs.Lex.{lex_join, lex_pair, lex_of}
 use Rattle.lw_join.specs.OrGone.{gone_join}
 use Rattle.lw_join.specs.Pair.{pair_join}
-use Rattle.lw_join.specs.Entries.{get}
-use Rattle.lw_join.specs.EntriesLaws.{turned, same_key}
+use Rattle.lw_join.specs.EntriesLaws.{turned}
 use Rattle.lw_join.specs.Parts.{parts_join, value_at}
 use Rattle.lw_join.specs.PartsLaws.{value_at-join, same_values}
 use Rattle.lw_join.specs.declared.flag.Flag.{Flag}
 use Rattle.lw_join.specs.declared.once.Once.{Once}
 use Rattle.lw_join.specs.declared.lww.Lww.{Lww}
-use Rattle.lw_join.specs.declared.lex.Lex.{Lex}
 use Rattle.lw_join.specs.declared.or_gone.OrGone.{OrGone}
 use Rattle.lw_join.specs.declared.or_gone.OrGone.TheVariants.{Here, Gone}
-use Rattle.lw_join.specs.declared.parts.Parts.{Parts}
 use Rattle.lw_join.specs.Facets.{Either, IsFacet, TellsSome, Through, OptionTells, KeyedTells, HasTold, FlagTells, OnceTells, LwwTells, LexTells, GoneTells, PairTells, PartsTells}
 
 -- nothing in the left, nothing in the right

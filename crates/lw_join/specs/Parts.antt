@@ -3,6 +3,7 @@ use Rattle.std.specs.Prelude.{◌≡◌, List, [], Option, Bool, true, false, re
 use Rattle.std.specs.declared.cmp.Ord as ord
 use Rattle.std.specs.declared.cmp.PartialEq as partial_eq
 use Rattle.std.specs.declared.cmp.PartialOrd as partial_ord
+use Rattle.lw_join.specs.Options.{option_join}
 use Rattle.lw_join.specs.Entries.{rises, get, entries_below, entries_join}
 use Rattle.lw_join.specs.EntriesLaws.{Rises-from_test}
 use Rattle.lw_join.specs.declared.parts.Parts.{Parts}
@@ -31,3 +32,8 @@ module _ {K J : Type 0} {o : ord.Ghosts K} {e : partial_eq.Ghosts K} {p : partia
   -- the values of the left joined to those of the right, key by key
   abbrev pub parts_join : (J → J → J) → Parts K J o e p → Parts K J o e p → Parts K J o e p
   parts_join join x y = made (entries_join o.cmp join x.entries y.entries)
+
+  -- at each key `joined` has what `join` makes of the values there, and the value that there is where only one
+  -- of the two has the key
+  abbrev pub JoinsKeyByKey : (Parts K J o e p → Parts K J o e p → Parts K J o e p) → (J → J → J) → Type 0
+  JoinsKeyByKey joined join = (x y : Parts K J o e p) (q : K) → value_at (joined x y) q ≡ option_join join (value_at x q) (value_at y q)
