@@ -10,10 +10,10 @@ use Rattle.std.specs.String.{string_cmp}
 use Rattle.std.specs.Cmp.Lexicographic.{slice_cmp}
 use Rattle.std.specs.Ordering.{is_eq, nat_cmp}
 use Rattle.std.specs.Cmp.{IsTotalOrder}
-use Rattle.std.specs.Map.{lookup, set_value}
+use Rattle.std.specs.Map.{keys_of, lookup, set_value}
 use Rattle.std.specs.BTreeSet.{BTreeSet, contains_text}
 use Rattle.std.proofs.lemmas.Slice.Eq.{bytes_eq-Decides}
-use Rattle.lw_index.specs.Index.{endpoints_of, EachHasEndpoints, Has, IsPair}
+use Rattle.lw_index.specs.Index.{endpoints_of, EachHasEndpoints, Has, IsIndex, IsPair}
 use Rattle.lw_index.specs.Shown.{shown, HoldsNoEmpty}
 use Rattle.lw_index.proofs.IndexLemmas.{true_or_not, held, texts, lookup_shown, has_held, held_has, at_same, added, dropped, set_shown, no_empty_set}
 
@@ -119,6 +119,15 @@ some_texts : {Z : Type 0} (xs : List (String Z)) → xs ≢ [] → map string_by
 some_texts [] h e = h refl
 some_texts (x ∷ xs) h e = absurd cc
 
-pub each_has : {K Z : Type 0} (es : List (K × BTreeSet (String Z))) → HoldsNoEmpty es → EachHasEndpoints (shown es)
+each_has : {K Z : Type 0} (es : List (K × BTreeSet (String Z))) → HoldsNoEmpty es → EachHasEndpoints (shown es)
 each_has [] h = tt
 each_has (p ∷ ps) h = (some_texts p.1.keys h.0, each_has ps h.1)
+
+shown_keys : {K Z : Type 0} (es : List (K × BTreeSet (String Z))) → keys_of (shown es) ≡ keys_of es
+shown_keys [] = refl
+shown_keys {K} (p ∷ ps) = ap (λ (ks : List K). p.0 ∷ ks) (shown_keys ps)
+
+pub shows_index : {K Z : Type 0} (cmp : K → K → Ordering) (es : List (K × BTreeSet (String Z))) (old : List (K × List (List ℕ))) → shown es ≡ old
+    → IsStrictlySortedBy cmp (keys_of es) × HoldsNoEmpty es → IsIndex cmp old
+shows_index {K} cmp es old shows h =
+    subst (λ (x : List (K × List (List ℕ))). IsIndex cmp x) shows (record { keys_rise = subst (λ (ks : List K). IsStrictlySortedBy cmp ks) (sym (shown_keys es)) h.0; each_has = each_has es h.1 })

@@ -4,7 +4,8 @@ use Rattle.std.specs.Prelude.{◌≡◌, ◌≢◌, ℕ, List, [], ◌∷◌, Co
 use Rattle.std.specs.declared.cmp.Ordering.{Ordering}
 use Rattle.std.specs.declared.cmp.Ordering.TheVariants.{Equal}
 use Rattle.std.specs.Ordering.{is_eq}
-use Rattle.std.specs.Map.{lookup}
+use Rattle.std.specs.List.Sorted.{IsStrictlySortedBy}
+use Rattle.std.specs.Map.{keys_of, lookup}
 
 -- the endpoints of the key: those of the entry whose key compares equal, and none where no entry has one
 abbrev pub endpoints_of : {K : Type 0} → (K → K → Ordering) → List (K × List (List ℕ)) → K → List (List ℕ)
@@ -22,3 +23,8 @@ IsPair cmp key endpoint k e = (cmp k key ≡ Equal) × (e ≡ endpoint)
 abbrev pub EachHasEndpoints : {K : Type 0} → List (K × List (List ℕ)) → Type 0
 EachHasEndpoints [] = Unit {0}
 EachHasEndpoints (entry ∷ entries) = (entry.1 ≢ []) × EachHasEndpoints entries
+
+-- the keys rise, so each stands once, and each has an endpoint
+pub record IsIndex {K : Type 0} (cmp : K → K → Ordering) (index : List (K × List (List ℕ))) : Type 0 where
+  pub keys_rise : IsStrictlySortedBy cmp (keys_of index)
+  pub each_has : EachHasEndpoints index

@@ -3,7 +3,7 @@ ghost use Rattle.std.specs.Cmp.Lexicographic.{slice_cmp};
 ghost use Rattle.std.specs.Ordering.{nat_cmp};
 ghost use Rattle.std.specs.List.Sorted.{IsStrictlySortedBy};
 ghost use Rattle.std.specs.BTreeSet.{contains_text};
-ghost use Rattle.lw_index.specs.Index.{endpoints_of, EachHasEndpoints, Has, IsPair};
+ghost use Rattle.lw_index.specs.Index.{endpoints_of, Has, IsIndex, IsPair};
 
 use crate::endpoints::Endpoints;
 use lw_stamp::NoMemory;
@@ -22,13 +22,14 @@ pub struct Index<K: Ord> {
 
 impl<K: Ord> Model for Index<K> {
     ghost use Rattle.std.specs.Prelude.{ℕ, List};
+    ghost use Rattle.std.specs.BTreeMap.{IsOrdered};
     ghost use Rattle.lw_index.specs.Shown.{shown, HoldsNoEmpty};
 
     ghost Value = { List (K × List (List ℕ)) };
 
     ghost view = { λ index. shown index.sets.entries };
 
-    ghost invariant = { λ index. HoldsNoEmpty index.sets.entries };
+    ghost invariant = { λ index. IsOrdered K.cmp index.sets × HoldsNoEmpty index.sets.entries };
 }
 
 impl<K: Ord + Drop> Index<K> {
@@ -76,7 +77,7 @@ impl<K: Ord + Drop> Index<K> {
     pub fn of(&self, key: &K) -> Endpoints<'_>
         ensures endpoints { result ≡ endpoints_of K.cmp self.now key.now }
         ensures rising { IsStrictlySortedBy (slice_cmp nat_cmp) result }
-        ensures no_empty_key { EachHasEndpoints self.now }
+        ensures is_index { IsIndex K.cmp self.now }
     {
         match self.sets.get(key) {
             Some(set) => Endpoints {

@@ -7,10 +7,9 @@ use Rattle.lw_index.proofs.index.Index.add.Goals as goal
 
 pub invariant_of-self : goal.invariant_of-self
 invariant_of-self g c =
-    rw (c.get_mut.follows.holds c.put.new.set).0
-    (no_empty_set (λ q. is_eq (g.K.Ord.cmp c.args.key q)) c.put.new.set c.self.inside.sets.entries c.self.invariant
+    ((c.get_mut.follows.holds c.put.new.set).4, rw (c.get_mut.follows.holds c.put.new.set).0 (no_empty_set (λ q. is_eq (g.K.Ord.cmp c.args.key q)) c.put.new.set c.self.inside.sets.entries c.self.invariant.1
     (either_way _ _ _ c.put.result c.put.ensures.some c.put.ensures.unchanged (λ some. some)
-    (λ same. λ none. found_some (λ q. is_eq (g.K.Ord.cmp c.args.key q)) c.in-Some.set.now c.self.inside.sets.entries (sym c.in-Some.ensures.value) c.self.invariant (sym same ∙ none))))
+    (λ same. λ none. found_some (λ q. is_eq (g.K.Ord.cmp c.args.key q)) c.in-Some.set.now c.self.inside.sets.entries (sym c.in-Some.ensures.value) c.self.invariant.1 (sym same ∙ none)))))
 
 pub returns-in-Some-clause-added : goal.returns-in-Some-clause-added
 returns-in-Some-clause-added g c =
@@ -49,9 +48,8 @@ returns-in_ok-insert-in-None-clause-present g c = λ h.
 
 pub invariant_of-self-in-None : goal.invariant_of-self-in-None
 invariant_of-self-in-None g c =
-    rw c.in_ok-insert-in-None.ensures.entries
-    (no_empty_insert g.K.Ord.cmp c.args.key c.put-in-None.new.set c.get_mut.follows.lender-at-none.entries
-    (rw c.get_mut.follows.holds-at-none c.self.invariant) c.in_ok-put-in-None.ensures.some)
+    (c.in_ok-insert-in-None.ensures.ordered, rw c.in_ok-insert-in-None.ensures.entries (no_empty_insert g.K.Ord.cmp c.args.key c.put-in-None.new.set c.get_mut.follows.lender-at-none.entries
+    (rw c.get_mut.follows.holds-at-none c.self.invariant.1) c.in_ok-put-in-None.ensures.some))
 
 pub returns-in_ok-insert-in-None-clause-added : goal.returns-in_ok-insert-in-None-clause-added
 returns-in_ok-insert-in-None-clause-added g c =

@@ -17,14 +17,12 @@ returns-in_default-clause-dropped g c =
 
 pub invariant_of-self-then-is_empty : goal.invariant_of-self-then-is_empty
 invariant_of-self-then-is_empty g c =
-    rw (c.remove-then-is_empty.ensures.entries, (c.get_mut.follows.holds c.remove.new.self).0)
-    (no_empty_removed (λ q. is_eq (g.K.Ord.cmp c.args.key.now q)) c.remove.new.self c.self.inside.sets.entries c.self.invariant)
+    (c.remove-then-is_empty.ensures.ordered, rw (c.remove-then-is_empty.ensures.entries, (c.get_mut.follows.holds c.remove.new.self).0) (no_empty_removed (λ q. is_eq (g.K.Ord.cmp c.args.key.now q)) c.remove.new.self c.self.inside.sets.entries c.self.invariant.1))
 
 pub invariant_of-self-else-is_empty : goal.invariant_of-self-else-is_empty
 invariant_of-self-else-is_empty g c =
-    rw (c.get_mut.follows.holds c.remove.new.self).0
-    (no_empty_set (λ q. is_eq (g.K.Ord.cmp c.args.key.now q)) c.remove.new.self c.self.inside.sets.entries c.self.invariant
-    (some_left c.remove.new.self.keys c.is_empty.result c.is_empty.ensures c.if-is_empty.false))
+    ((c.get_mut.follows.holds c.remove.new.self).4, rw (c.get_mut.follows.holds c.remove.new.self).0 (no_empty_set (λ q. is_eq (g.K.Ord.cmp c.args.key.now q)) c.remove.new.self c.self.inside.sets.entries c.self.invariant.1
+    (some_left c.remove.new.self.keys c.is_empty.result c.is_empty.ensures c.if-is_empty.false)))
 
 pub returns-then-is_empty-clause-dropped : goal.returns-then-is_empty-clause-dropped
 returns-then-is_empty-clause-dropped g c =
@@ -42,7 +40,7 @@ returns-then-is_empty-clause-absent g c = λ h.
     let left = none_left c.remove.new.self.keys (c.is_empty.ensures.0 c.if-is_empty.true) in
     let not_there = has_not g.K.Ord.cmp c.self.inside.sets.entries c.args.self.now c.args.key.now c.args.endpoint.now c.self.view_is (Some c.in-Some.set.now) (sym c.in-Some.ensures.value) h in
     let same = unchanged_at c.remove.result c.remove.ensures.unchanged (c.remove.ensures.test ∙ not_there) in
-    absurd (found_some (λ q. is_eq (g.K.Ord.cmp c.args.key.now q)) c.in-Some.set.now c.self.inside.sets.entries (sym c.in-Some.ensures.value) c.self.invariant (sym same ∙ left))
+    absurd (found_some (λ q. is_eq (g.K.Ord.cmp c.args.key.now q)) c.in-Some.set.now c.self.inside.sets.entries (sym c.in-Some.ensures.value) c.self.invariant.1 (sym same ∙ left))
 
 pub returns-else-is_empty-clause-dropped : goal.returns-else-is_empty-clause-dropped
 returns-else-is_empty-clause-dropped g c =

@@ -1,6 +1,6 @@
 use Rattle.std.proofs.Common.{sym, ap, ◌∙◌, [], Some, None, List, map}
 use Rattle.std.specs.Prelude.{String, string_bytes}
-use Rattle.lw_index.proofs.IndexCalls.{listed, texts_rise, nothing_rises, each_has}
+use Rattle.lw_index.proofs.IndexCalls.{listed, texts_rise, nothing_rises, shows_index}
 use Rattle.lw_index.proofs.index.Index.of.Goals as goal
 
 pub returns-in-Some-clause-endpoints : goal.returns-in-Some-clause-endpoints
@@ -11,8 +11,8 @@ returns-in-Some-clause-endpoints g c =
 pub returns-in-Some-clause-rising : goal.returns-in-Some-clause-rising
 returns-in-Some-clause-rising g c = rw c.iter.ensures.rest (texts_rise c.in-Some.set.now.keys c.iter.ensures.ordered)
 
-pub returns-in-Some-clause-no_empty_key : goal.returns-in-Some-clause-no_empty_key
-returns-in-Some-clause-no_empty_key g c = rw (← c.self.view_is) (each_has c.self.inside.sets.entries c.self.invariant)
+pub returns-in-Some-clause-is_index : goal.returns-in-Some-clause-is_index
+returns-in-Some-clause-is_index g c = shows_index g.K.Ord.cmp c.self.inside.sets.entries c.args.self.now c.self.view_is c.self.invariant
 
 pub returns-in-None-clause-endpoints : goal.returns-in-None-clause-endpoints
 returns-in-None-clause-endpoints g c = listed g.K.Ord.cmp c.self.inside.sets.entries c.args.self.now c.args.key.now [] c.self.view_is None (sym c.in-None.ensures.value)
@@ -20,5 +20,5 @@ returns-in-None-clause-endpoints g c = listed g.K.Ord.cmp c.self.inside.sets.ent
 pub returns-in-None-clause-rising : goal.returns-in-None-clause-rising
 returns-in-None-clause-rising g c = nothing_rises
 
-pub returns-in-None-clause-no_empty_key : goal.returns-in-None-clause-no_empty_key
-returns-in-None-clause-no_empty_key g c = rw (← c.self.view_is) (each_has c.self.inside.sets.entries c.self.invariant)
+pub returns-in-None-clause-is_index : goal.returns-in-None-clause-is_index
+returns-in-None-clause-is_index g c = shows_index g.K.Ord.cmp c.self.inside.sets.entries c.args.self.now c.self.view_is c.self.invariant
