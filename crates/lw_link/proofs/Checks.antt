@@ -1,5 +1,6 @@
 -- Testing characters one after another.
 use Rattle.std.proofs.Common.{◌≡◌, ℕ, suc, ◌+◌, ◌<◌, ◌≤◌, Bool, true, false, List, [], ◌∷◌, refl, ap, subst, sym, ◌∙◌, length, get_or, drop, add-one, drop-cons}
+use Rattle.std.proofs.lemmas.List.{drop_all}
 use Rattle.std.specs.List.{AllByRecursion}
 use Rattle.std.proofs.lemmas.Bool.{both_ways}
 use Rattle.lw_link.specs.Characters.{Each}
@@ -44,4 +45,4 @@ pub all_stop : {X : Type 0} (P : X → Type 0) (xs all : List X) (i : ℕ) (x : 
 all_stop P xs all i x lt e t h k = t (subst (AllByRecursion P) (next_is xs i x lt e) (h.back k)).0
 
 pub all_end : {X : Type 0} (P : X → Type 0) (xs all : List X) (i : ℕ) → length xs ≤ i → IsSameAll P (drop i xs) all → AllByRecursion P all
-all_end P xs all i le h = h.some (subst (AllByRecursion P) (sym (drop-all xs i le)) tt)
+all_end P xs all i le h = h.some (subst (AllByRecursion P) (sym (drop_all i xs le)) tt)

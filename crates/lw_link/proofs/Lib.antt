@@ -4,3 +4,5 @@ pub mod Sound
 pub mod Checks
 pub mod Scanned
 pub mod Walk
+pub mod Places
+pub mod Parts

@@ -20,3 +20,11 @@ pub seen : (s t : Chars) (r : Option ℕ) (left : List ℕ) → IsUtf8 (chars_re
     → MatchOption r (left ≡ []) (λ c. (rest : List ℕ) × (left ≡ c ∷ rest))
 seen s t None left u h e = (taken s t None left u h e).0
 seen s t (Some c) left u h e = (chars (chars_rest t), taken s t (Some c) left u h e)
+
+tell : {c : ℕ} {rest : List ℕ} → c ∷ rest ≡ [] → ⊥
+tell e = cc
+
+-- what was seen is what is taken
+pub take_seen : (old new rest : List ℕ) (c : ℕ) (r : Option ℕ) → old ≡ c ∷ rest → MatchOption r ((old ≡ []) × (new ≡ [])) (λ d. old ≡ d ∷ new) → old ≡ c ∷ new
+take_seen old new rest c None e h = absurd (tell (sym e ∙ h.0))
+take_seen old new rest c (Some d) e h = cc

@@ -34,6 +34,11 @@ abbrev pub IsPastAttrs : List ℕ → Type 0
 IsPastAttrs [] = Unit {0}
 IsPastAttrs (c ∷ cs) = c ≢ 59
 
+-- the next character is no space
+abbrev pub IsPastSpaces : List ℕ → Type 0
+IsPastSpaces [] = Unit {0}
+IsPastSpaces (c ∷ cs) = c ≢ 32
+
 -- more text before what has begun
 abbrev pub with_text : List ℕ → Rest → Rest
 with_text text r = record { whole = r.whole; text = text ++ r.text; value = r.value; attrs = r.attrs; links = r.links }

@@ -6,7 +6,7 @@ ghost use Rattle.lw_link.specs.declared.style.Style.TheVariants.{Any};
 ghost use Rattle.lw_link.specs.declared.state.State.TheVariants.{Start, Closed, Comma, Semicolon, Name, Quotation};
 ghost use Rattle.lw_link.specs.Link.{LinkContent};
 ghost use Rattle.lw_link.specs.Machine.{read_on};
-ghost use Rattle.lw_link.specs.Taking.{HoldsText, IsLeft, TakesText, TakesQuoted, TakesValue, TakesAttr, TakesAttrs, TakesLink};
+ghost use Rattle.lw_link.specs.Taking.{HoldsText, IsLeft, IsPastSpaces, TakesText, TakesQuoted, TakesValue, TakesAttr, TakesAttrs, TakesLink};
 ghost use Rattle.lw_link.specs.Spelling.{Spells};
 ghost use Rattle.lw_link.specs.Faults.{IsFault};
 
@@ -23,6 +23,7 @@ use std::alloc::Global;
 fn spaces(scanner: &mut Scanner)
     ensures comma { read_on Any Comma scanner.old ≡ read_on Any Comma scanner.new }
     ensures semicolon { read_on Any Semicolon scanner.old ≡ read_on Any Semicolon scanner.new }
+    ensures past { IsPastSpaces scanner.new }
     ensures shorter { length scanner.new ≤ length scanner.old }
 {
     while let Some(' ') = scanner.peek() {
