@@ -12,10 +12,9 @@ use Rattle.std.specs.Ordering.{is_eq, nat_cmp}
 use Rattle.std.specs.Cmp.{IsTotalOrder}
 use Rattle.std.specs.Map.{keys_of, lookup, set_value}
 use Rattle.std.specs.BTreeSet.{BTreeSet, contains_text}
-use Rattle.std.proofs.lemmas.Slice.Eq.{bytes_eq-Decides}
 use Rattle.lw_index.specs.Index.{endpoints_of, EachHasEndpoints, Has, IsIndex, IsPair}
 use Rattle.lw_index.specs.Shown.{shown, HoldsNoEmpty}
-use Rattle.lw_index.proofs.IndexLemmas.{true_or_not, held, texts, lookup_shown, has_held, held_has, at_same, added, dropped, set_shown, no_empty_set}
+use Rattle.lw_index.proofs.IndexLemmas.{true_or_not, held, texts, lookup_shown, has_held, held_has, at_same, added, dropped, set_shown}
 
 pub on_ok : {T E : Type 0} (P Q : Type 0) (r : Result T E) → (P → Q) → OnOk r P → OnOk r Q
 on_ok P Q (Ok x) f h = f h

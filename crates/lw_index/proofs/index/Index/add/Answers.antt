@@ -1,4 +1,4 @@
-use Rattle.std.proofs.Common.{sym, ap, ◌∙◌, refl, List, [], ℕ, Some, None, Bool, ◌||◌, ◌≡◌, rules}
+use Rattle.std.proofs.Common.{sym, ap, ◌∙◌, Some, None, Bool, ◌||◌, rules}
 use Rattle.std.specs.Prelude.{bytes_eq}
 use Rattle.std.specs.Ordering.{is_eq}
 use Rattle.lw_index.proofs.IndexLemmas.{no_empty_set, no_empty_insert}
@@ -6,10 +6,12 @@ use Rattle.lw_index.proofs.IndexCalls.{on_ok, on_err, either_way, empty_has, fou
 use Rattle.lw_index.proofs.index.Index.add.Goals as goal
 
 pub invariant_of-self : goal.invariant_of-self
-invariant_of-self g c =
-    ((c.get_mut.follows.holds c.put.new.set).4, rw (c.get_mut.follows.holds c.put.new.set).0 (no_empty_set (λ q. is_eq (g.K.Ord.cmp c.args.key q)) c.put.new.set c.self.inside.sets.entries c.self.invariant.1
-    (either_way _ _ _ c.put.result c.put.ensures.some c.put.ensures.unchanged (λ some. some)
-    (λ same. λ none. found_some (λ q. is_eq (g.K.Ord.cmp c.args.key q)) c.in-Some.set.now c.self.inside.sets.entries (sym c.in-Some.ensures.value) c.self.invariant.1 (sym same ∙ none)))))
+invariant_of-self g c = (
+  (c.get_mut.follows.holds c.put.new.set).4,
+  rw (c.get_mut.follows.holds c.put.new.set).0 (no_empty_set (λ q. is_eq (g.K.Ord.cmp c.args.key q)) c.put.new.set c.self.inside.sets.entries c.self.invariant.1
+      (either_way _ _ _ c.put.result c.put.ensures.some c.put.ensures.unchanged (λ some. some)
+      (λ same. λ none. found_some (λ q. is_eq (g.K.Ord.cmp c.args.key q)) c.in-Some.set.now c.self.inside.sets.entries (sym c.in-Some.ensures.value) c.self.invariant.1 (sym same ∙ none)))),
+)
 
 pub returns-in-Some-clause-added : goal.returns-in-Some-clause-added
 returns-in-Some-clause-added g c =
@@ -47,9 +49,11 @@ returns-in_ok-insert-in-None-clause-present g c = λ h.
     absurd (let is = has_was g.K.Ord.cmp c.self.inside.sets.entries c.args.self.now c.args.key c.args.endpoint.now c.self.view_is None (sym c.in-None.ensures.value) h in cc)
 
 pub invariant_of-self-in-None : goal.invariant_of-self-in-None
-invariant_of-self-in-None g c =
-    (c.in_ok-insert-in-None.ensures.ordered, rw c.in_ok-insert-in-None.ensures.entries (no_empty_insert g.K.Ord.cmp c.args.key c.put-in-None.new.set c.get_mut.follows.lender-at-none.entries
-    (rw c.get_mut.follows.holds-at-none c.self.invariant.1) c.in_ok-put-in-None.ensures.some))
+invariant_of-self-in-None g c = (
+  c.in_ok-insert-in-None.ensures.ordered,
+  rw c.in_ok-insert-in-None.ensures.entries (no_empty_insert g.K.Ord.cmp c.args.key c.put-in-None.new.set c.get_mut.follows.lender-at-none.entries
+      (rw c.get_mut.follows.holds-at-none c.self.invariant.1) c.in_ok-put-in-None.ensures.some),
+)
 
 pub returns-in_ok-insert-in-None-clause-added : goal.returns-in_ok-insert-in-None-clause-added
 returns-in_ok-insert-in-None-clause-added g c =

@@ -1,4 +1,4 @@
-use Rattle.std.proofs.Common.{rules, ◌≡◌, sym, ap, ◌∙◌, refl, List, [], ℕ, Some, None, Bool, true, false, cond, not, ◌&&◌, length}
+use Rattle.std.proofs.Common.{rules, ◌≡◌, sym, ◌∙◌, refl, Some, None}
 use Rattle.std.specs.Prelude.{bytes_eq}
 use Rattle.std.specs.Ordering.{is_eq}
 use Rattle.std.specs.BTreeSet.{contains_text}
@@ -20,9 +20,11 @@ invariant_of-self-then-is_empty g c =
     (c.remove-then-is_empty.ensures.ordered, rw (c.remove-then-is_empty.ensures.entries, (c.get_mut.follows.holds c.remove.new.self).0) (no_empty_removed (λ q. is_eq (g.K.Ord.cmp c.args.key.now q)) c.remove.new.self c.self.inside.sets.entries c.self.invariant.1))
 
 pub invariant_of-self-else-is_empty : goal.invariant_of-self-else-is_empty
-invariant_of-self-else-is_empty g c =
-    ((c.get_mut.follows.holds c.remove.new.self).4, rw (c.get_mut.follows.holds c.remove.new.self).0 (no_empty_set (λ q. is_eq (g.K.Ord.cmp c.args.key.now q)) c.remove.new.self c.self.inside.sets.entries c.self.invariant.1
-    (some_left c.remove.new.self.keys c.is_empty.result c.is_empty.ensures c.if-is_empty.false)))
+invariant_of-self-else-is_empty g c = (
+  (c.get_mut.follows.holds c.remove.new.self).4,
+  rw (c.get_mut.follows.holds c.remove.new.self).0 (no_empty_set (λ q. is_eq (g.K.Ord.cmp c.args.key.now q)) c.remove.new.self c.self.inside.sets.entries c.self.invariant.1
+      (some_left c.remove.new.self.keys c.is_empty.result c.is_empty.ensures c.if-is_empty.false)),
+)
 
 pub returns-then-is_empty-clause-dropped : goal.returns-then-is_empty-clause-dropped
 returns-then-is_empty-clause-dropped g c =

@@ -1,5 +1,5 @@
-use Rattle.std.proofs.Common.{sym, ap, ◌∙◌, [], Some, None, List, map}
-use Rattle.std.specs.Prelude.{String, string_bytes}
+use Rattle.std.proofs.Common.{sym, ap, ◌∙◌, [], Some, None, map}
+use Rattle.std.specs.Prelude.{string_bytes}
 use Rattle.lw_index.proofs.IndexCalls.{listed, texts_rise, nothing_rises, shows_index}
 use Rattle.lw_index.proofs.index.Index.of.Goals as goal
 
