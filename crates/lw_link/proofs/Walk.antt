@@ -21,7 +21,7 @@ stopped [] = refl
 stopped (c ∷ cs) = stopped cs
 
 -- what holds a list goes on
-goes_on : (s : State) (c : ℕ) (cs : List ℕ) → (read_on Any s (c ∷ cs)).whole ≡ true → next_state Any s c ≢ Stop
+pub goes_on : (s : State) (c : ℕ) (cs : List ℕ) → (read_on Any s (c ∷ cs)).whole ≡ true → next_state Any s c ≢ Stop
 goes_on s c cs h stop =
     false≢true (sym (stopped cs) ∙ ap (λ (x : State). (read_on Any x cs).whole) (sym stop) ∙ sym (same_end Any s c (read_on Any (next_state Any s c) cs)) ∙ h)
 

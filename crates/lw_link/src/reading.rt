@@ -76,12 +76,10 @@ fn value(alloc: Global, scanner: &mut Scanner) -> Result<AttrValue, NoMemory>
     ensures taken { IfOk result (λ value. TakesValue value scanner.old scanner.new) }
     ensures shorter { length scanner.new ≤ length scanner.old }
 {
-    let Some('=') = scanner.peek() else {
+    if !scanner.take_if('=') {
         return Ok(AttrValue::Absent);
-    };
-    let _ = scanner.take();
-    if let Some('"') = scanner.peek() {
-        let _ = scanner.take();
+    }
+    if scanner.take_if('"') {
         return Ok(AttrValue::Quoted(quoted(alloc, scanner)?));
     }
     Ok(AttrValue::Plain(run_of(alloc, scanner, State::Word)?))
@@ -106,8 +104,7 @@ fn attrs(alloc: Global, scanner: &mut Scanner) -> Result<Vec<Attr>, NoMemory>
     ensures shorter { length scanner.new ≤ length scanner.old }
 {
     let mut attrs = Vec::new(alloc);
-    while let Some(';') = scanner.peek() {
-        let _ = scanner.take();
+    while scanner.take_if(';') {
         attrs.push(attr(alloc, scanner)?)?;
     }
     Ok(attrs)

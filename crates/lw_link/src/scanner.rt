@@ -1,4 +1,4 @@
-ghost use Rattle.std.specs.Prelude.{◌≡◌, ℕ, List, [], ◌∷◌, MatchOption, chars};
+ghost use Rattle.std.specs.Prelude.{◌≡◌, ℕ, List, [], ◌∷◌, MatchOption, MatchBool, chars};
 
 use std::marker::Model;
 use std::str::Chars;
@@ -39,5 +39,19 @@ impl<'a> Scanner<'a> {
         ensures { MatchOption result (self.now ≡ []) (λ c. (rest : List ℕ) × (self.now ≡ c ∷ rest)) }
     {
         self.left.as_str().chars().next()
+    }
+
+    /// Takes the character if it comes next.
+    pub(crate) fn take_if(&mut self, c: char) -> bool
+        ensures { MatchBool result (self.old ≡ c ∷ self.new) ((self.new ≡ self.old) × ((rest : List ℕ) → self.old ≡ c ∷ rest → ⊥)) }
+    {
+        let Some(next) = self.peek() else {
+            return false;
+        };
+        if next != c {
+            return false;
+        }
+        let _ = self.take();
+        true
     }
 }
