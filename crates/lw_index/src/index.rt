@@ -13,7 +13,8 @@ use std::marker::Model;
 
 /// A map from each key to the endpoints that have it, of which there is at least one.
 ///
-/// Keys that compare equal are one key.
+/// Keys that compare equal are one key. A call costs a descent of the tree of the keys and one of the tree
+/// of the key's endpoints, however many there are.
 #[derive(Drop)]
 pub struct Index<K: Ord> {
     alloc: Global,
@@ -42,7 +43,7 @@ impl<K: Ord + Drop> Index<K> {
         }
     }
 
-    /// Files the endpoint under the key.
+    /// Files the endpoint under the key. A pair that is there takes no memory.
     pub fn add(&mut self, key: K, endpoint: &str) -> Result<(), NoMemory>
         ensures added { OnOk result ((k : K) (e : List ℕ) → Has K.cmp self.new k e ↔ (Has K.cmp self.old k e ⊎ IsPair K.cmp key endpoint.now k e)) }
         ensures present { Has K.cmp self.old key endpoint.now → IsOk result × (self.new ≡ self.old) }
