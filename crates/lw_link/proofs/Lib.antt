@@ -6,3 +6,8 @@ pub mod Scanned
 pub mod Walk
 pub mod Places
 pub mod Parts
+pub mod Outcomes
+pub mod Printed
+pub mod Shortest
+pub mod Spelled
+pub mod Printings

@@ -1,4 +1,4 @@
-ghost use Rattle.std.specs.Prelude.{◌≡◌, ◌≢◌, ◌≤◌, ◌↔◌, List, length, IfOk, MatchResult, Err};
+ghost use Rattle.std.specs.Prelude.{◌≡◌, ◌≢◌, ◌≤◌, ◌↔◌, List, length, IfOk, IfErr, MatchResult, Err};
 
 use crate::fault::LinkFault;
 use crate::printing::print;
@@ -27,7 +27,7 @@ impl LinkText {
     ghost use Rattle.lw_link.specs.declared.fault.LinkFault.{LinkFault};
     ghost use Rattle.lw_link.specs.Link.{LinkContent};
     ghost use Rattle.lw_link.specs.Spelling.{Spells};
-    ghost use Rattle.lw_link.specs.Faults.{IsFault};
+    ghost use Rattle.lw_link.specs.Faults.{IsFault, IsRefused};
     ghost use Rattle.lw_link.specs.Printing.{printing};
     ghost use Rattle.lw_link.specs.WellFormed.{IsPrinting};
 
@@ -43,6 +43,14 @@ impl LinkText {
         ensures faults { (fault : LinkFault) → fault ≢ LinkFault.NoMemory → ((result ≡ Err fault) ↔ IsFault bytes.now fault) }
         // Want of memory comes only in place of a text.
         ensures memory { result ≡ Err LinkFault.NoMemory → (links : List LinkContent) × Spells bytes.now links × (length links ≤ 256) }
+    {
+        LinkText::read_checked(alloc, bytes)
+    }
+
+    fn read_checked(alloc: Global, bytes: &[u8]) -> Result<LinkText, LinkFault>
+        requires { length bytes.now ≤ 8192 }
+        ensures found { IfOk result (λ text. (links : List LinkContent) × Spells bytes.now links × (length links ≤ 256) × (text ≡ printing links)) }
+        ensures refused { IfErr result (IsRefused bytes.now) }
     {
         let links = read(alloc, bytes)?;
         let text = print(alloc, &links)?;

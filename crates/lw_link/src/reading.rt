@@ -1,6 +1,6 @@
 //! Reading a list that the grammar allows.
 
-ghost use Rattle.std.specs.Prelude.{◌≡◌, ◌≢◌, ◌≤◌, ◌↔◌, true, List, length, IfOk, MatchResult, Err, chars};
+ghost use Rattle.std.specs.Prelude.{◌≡◌, ◌≢◌, ◌≤◌, ◌↔◌, true, List, length, IfOk, IfErr, MatchResult, Err, chars};
 ghost use Rattle.lw_link.specs.declared.fault.LinkFault.{LinkFault};
 ghost use Rattle.lw_link.specs.declared.style.Style.TheVariants.{Any};
 ghost use Rattle.lw_link.specs.declared.state.State.TheVariants.{Start, Closed, Comma, Semicolon, Name, Quotation};
@@ -8,7 +8,7 @@ ghost use Rattle.lw_link.specs.Link.{LinkContent};
 ghost use Rattle.lw_link.specs.Machine.{read_on};
 ghost use Rattle.lw_link.specs.Taking.{HoldsText, IsLeft, IsPastSpaces, TakesText, TakesQuoted, TakesValue, TakesAttr, TakesAttrs, TakesLink};
 ghost use Rattle.lw_link.specs.Spelling.{Spells};
-ghost use Rattle.lw_link.specs.Faults.{IsFault};
+ghost use Rattle.lw_link.specs.Faults.{IsFault, IsRefused};
 
 use crate::fault::LinkFault;
 use crate::link::{Attr, AttrValue, Link};
@@ -140,6 +140,15 @@ fn links(alloc: Global, text: &str) -> Result<Vec<Link>, NoMemory>
     Ok(links)
 }
 
+/// The links, once the walk has found no fault.
+fn read_checked(alloc: Global, bytes: &[u8]) -> Result<Vec<Link>, LinkFault>
+    ensures found { IfOk result (λ links. Spells bytes.now links.items × (length links.items ≤ 256)) }
+    ensures refused { IfErr result (IsRefused bytes.now) }
+{
+    let text = check(bytes)?;
+    Ok(links(alloc, text)?)
+}
+
 /// The links that the bytes spell, 1 to 256. Each fault but `NoMemory` is found before any memory is taken.
 pub fn read(alloc: Global, bytes: &[u8]) -> Result<Vec<Link>, LinkFault>
     // What is read is spelled so.
@@ -151,6 +160,5 @@ pub fn read(alloc: Global, bytes: &[u8]) -> Result<Vec<Link>, LinkFault>
     // Want of memory comes only in place of links.
     ensures memory { result ≡ Err LinkFault.NoMemory → (links : List LinkContent) × Spells bytes.now links × (length links ≤ 256) }
 {
-    let text = check(bytes)?;
-    Ok(links(alloc, text)?)
+    read_checked(alloc, bytes)
 }
