@@ -71,7 +71,7 @@ attr_held : (k : Style) (front x : List ℕ) (attr : Attr) (attrs : List Attr) (
     → read_on k Semicolon (front ++ x) ≡ holding (attr ∷ attrs) links
 attr_held k front x attr attrs links h f =
     let here : read_on k Semicolon (front ++ x) ≡ holding ((record { name = encode_utf8_all (h.first ∷ h.more); value = attr.value }) ∷ attrs) links =
-      rw (h.chars_are, h.name_chars.0, append_assoc h.more h.rest x, name_text k h.more (h.rest ++ x) h.name_chars.1, value_held k h.rest x attr.value attrs links h.value_is f, append-nil) refl in
+    rw (h.chars_are, h.name_chars.0, append_assoc h.more h.rest x, name_text k h.more (h.rest ++ x) h.name_chars.1, value_held k h.rest x attr.value attrs links h.value_is f, append-nil) refl in
     here ∙ ap (λ (n : List ℕ). holding ((record { name = n; value = attr.value }) ∷ attrs) links) (sym h.name_is)
 
 end_semicolon : (k : Style) (s : State) (cs : List ℕ) → is_end s ≡ true → read_on k s (59 ∷ cs) ≡ fresh (read_on k Semicolon cs)
@@ -116,9 +116,9 @@ link_held : (k : Style) (front x : List ℕ) (link : LinkContent) (links : List 
     → (read_on k Start (front ++ x) ≡ holding [] (link ∷ links)) × (read_on k Comma (front ++ x) ≡ holding [] (link ∷ links))
 link_held k front x link links h f =
     let inner : read_on k Target ((h.front ++ 62 ∷ h.rest) ++ x) ≡ record { whole = true; text = encode_utf8_all h.front; value = Absent; attrs = link.attrs; links = links } =
-      rw (append_assoc h.front (62 ∷ h.rest) x, target_text k h.front (62 ∷ (h.rest ++ x)) h.target_chars, attrs_held k link.attrs h.rest x links h.attrs_are f Closed refl, append-nil) refl in
+    rw (append_assoc h.front (62 ∷ h.rest) x, target_text k h.front (62 ∷ (h.rest ++ x)) h.target_chars, attrs_held k link.attrs h.rest x links h.attrs_are f Closed refl, append-nil) refl in
     let named : holding [] ((record { target = encode_utf8_all h.front; attrs = link.attrs }) ∷ links) ≡ holding [] (link ∷ links) =
-      ap (λ (n : List ℕ). holding [] ((record { target = n; attrs = link.attrs }) ∷ links)) (sym h.target_is) in
+    ap (λ (n : List ℕ). holding [] ((record { target = n; attrs = link.attrs }) ∷ links)) (sym h.target_is) in
     (rw (h.chars_are, inner) named, rw (h.chars_are, inner) named)
 
 links_held : (k : Style) (links : List LinkContent) (b : List ℕ) → AreMore k b links → Holds k b [] links

@@ -87,7 +87,7 @@ pub value_plain : (old mid new text : List ℕ) → old ≡ 61 ∷ mid → (read
 value_plain old mid new text e whole other h =
     let seen : (read_on Any Equals mid).whole ≡ true = ap (λ (x : List ℕ). (read_on Any Name x).whole) (sym e) ∙ whole in
     let word : read_on Any Word mid ≡ ended_text text (read_on Any Closed new) =
-      h.same ∙ ap (with_text text) (word_left new h.left) ∙ text_closed text new in
+    h.same ∙ ap (with_text text) (word_left new h.left) ∙ text_closed text new in
     taken_value (Plain text) old new
     (ap (read_on Any Name) e ∙ ap (λ (r : Rest). with_value r.value r) (plain_read mid seen other) ∙ ap (λ (r : Rest). with_value (Plain r.text) r) word)
 
@@ -150,9 +150,9 @@ no_attrs (c ∷ cs) h past =
     let other : (c == 59) ≡ false = ne_eqb c 59 past in
     elim (cases_Bool (c == 44)) [
       | inl t ↦
-        let next : next_state Any Closed c ≡ Comma = rw (other, t) refl in
-        ap (λ (s : State). (read_on Any s cs).attrs) next
-        ∙ comma_attrs cs (read_on Any Comma cs) (whole_are Any cs Comma (ap (λ (s : State). (read_on Any s cs).whole) (sym next) ∙ h))
+          let next : next_state Any Closed c ≡ Comma = rw (other, t) refl in
+          ap (λ (s : State). (read_on Any s cs).attrs) next
+          ∙ comma_attrs cs (read_on Any Comma cs) (whole_are Any cs Comma (ap (λ (s : State). (read_on Any s cs).whole) (sym next) ∙ h))
       | inr t ↦ absurd (goes_on Closed c cs h (rw (other, t) refl))
     ]
 
@@ -234,7 +234,7 @@ link_taken old target spaces inner end attrs new list h t =
     let here : read_on Any Comma old ≡ with_link (read_on Any Target inner) = h.same ∙ ap (read_on Any Comma) h.opened in
     let inside = target_read old target spaces inner end attrs h in
     let links_are : (read_on Any Comma old).links ≡ (record { target = target; attrs = (read_on Any Closed attrs).attrs }) ∷ (read_on Any Closed attrs).links =
-      ap (λ (r : Rest). r.links) here ∙ ap (λ (r : Rest). (with_link r).links) inside in
+    ap (λ (r : Rest). r.links) here ∙ ap (λ (r : Rest). (with_link r).links) inside in
     let tail = t.links in
     let held = t.attrs_are in
     record {

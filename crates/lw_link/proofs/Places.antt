@@ -74,9 +74,11 @@ spelled cs u h =
 begun : (front : List ℕ) → all_scalars front ≡ true → run Any Start front ≢ Stop → Begins (encode_utf8_all front)
 begun front u live =
     let tail = completed (run Any Start front) live in
-    let cs = front ++ tail.0 in
-    (encode_utf8_all tail.0, (read_on Any Start cs).links,
-     subst (λ (x : List ℕ). Spells x (read_on Any Start cs).links) (encodes-append front tail.0) (spelled cs (scalars-append front tail.0 u tail.1) (whole-append Any Start front tail.0 ∙ tail.2)))
+    let cs = front ++ tail.0 in (
+      encode_utf8_all tail.0,
+      (read_on Any Start cs).links,
+      subst (λ (x : List ℕ). Spells x (read_on Any Start cs).links) (encodes-append front tail.0) (spelled cs (scalars-append front tail.0 u tail.1) (whole-append Any Start front tail.0 ∙ tail.2)),
+    )
 
 -- of two fronts of a text one goes on with the other
 fronts : (xs ys front : List ℕ) (c : ℕ) (more : List ℕ) → xs ++ ys ≡ front ++ c ∷ more → ((z : List ℕ) × (xs ≡ front ++ c ∷ z)) ⊎ ((z : List ℕ) × (front ≡ xs ++ z))
@@ -95,10 +97,10 @@ none_begins : (text front : List ℕ) (c : ℕ) (z : List ℕ) → IsUtf8 text �
 none_begins text front c z u e stop (rest, links, spells) =
     let cs : chars (text ++ rest) ≡ front ++ (c ∷ (z ++ chars rest)) = chars-append text rest u ∙ ap (λ (x : List ℕ). x ++ chars rest) e ∙ append_assoc front (c ∷ z) (chars rest) in
     false≢true (
-      sym (stops Any (run Any Start front) c (z ++ chars rest) stop)
-      ∙ sym (whole-append Any Start front (c ∷ (z ++ chars rest)))
-      ∙ ap (λ (x : List ℕ). (read_on Any Start x).whole) (sym cs)
-      ∙ ap (λ (r : Rest). r.whole) (list_held Any (chars (text ++ rest)) links spells.1)
+    sym (stops Any (run Any Start front) c (z ++ chars rest) stop)
+    ∙ sym (whole-append Any Start front (c ∷ (z ++ chars rest)))
+    ∙ ap (λ (x : List ℕ). (read_on Any Start x).whole) (sym cs)
+    ∙ ap (λ (r : Rest). r.whole) (list_held Any (chars (text ++ rest)) links spells.1)
     )
 
 longer_front : (bytes front rest : List ℕ) (further : ℕ) → IsUtf8 bytes → chars bytes ≡ front ++ rest → length (encode_utf8_all front) < further → further ≤ length bytes
@@ -110,14 +112,14 @@ longer_front bytes front rest further u e lt le v (inl (none, end)) h =
 longer_front bytes front rest further u e lt le v (inr (c, more, is, stop)) h =
     let text = take further bytes in
     let parts : chars text ++ chars (drop further bytes) ≡ front ++ c ∷ more =
-      sym (chars-append text (drop further bytes) v) ∙ ap chars (take-append-drop further bytes) ∙ e ∙ ap (λ (x : List ℕ). front ++ x) is in
+    sym (chars-append text (drop further bytes) v) ∙ ap chars (take-append-drop further bytes) ∙ e ∙ ap (λ (x : List ℕ). front ++ x) is in
     elim (fronts (chars text) (chars (drop further bytes)) front c more parts) [
       | inl (z, f) ↦ none_begins text front c z v f stop h
       | inr (z, f) ↦
-        let sum : length (encode_utf8_all front) ≡ length (encode_utf8_all (chars text)) + length (encode_utf8_all z) =
+          let sum : length (encode_utf8_all front) ≡ length (encode_utf8_all (chars text)) + length (encode_utf8_all z) =
           ap (λ (x : List ℕ). length (encode_utf8_all x)) f ∙ ap length (encodes-append (chars text) z) ∙ length-append (encode_utf8_all (chars text)) (encode_utf8_all z) in
-        let size : length (encode_utf8_all (chars text)) ≡ further = ap length (encodes-chars text v) ∙ length-take-le further bytes le in
-        absurd (omega (arith, sum, size, lt))
+          let size : length (encode_utf8_all (chars text)) ≡ further = ap length (encodes-chars text v) ∙ length-take-le further bytes le in
+          absurd (omega (arith, sum, size, lt))
     ]
 
 pub place_is : (bytes : List ℕ) (place : ℕ) → IsUtf8 bytes → Leaves Any (chars bytes) place → IsPlace bytes place

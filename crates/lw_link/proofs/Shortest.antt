@@ -66,7 +66,7 @@ one_byte c = omega (arith, length-encode c, len_utf8_bounds c)
 spaced : (c : ℕ) (cs gap front rest : List ℕ) → cs ≡ c ∷ (gap ++ (front ++ rest)) → 1 + (size front + size rest) ≤ size cs
 spaced c cs gap front rest e =
     let here : size cs ≡ length (encode_utf8 c) + (size gap + (size front + size rest)) =
-      ap size e ∙ size-cons c (gap ++ (front ++ rest)) ∙ ap (λ (n : ℕ). length (encode_utf8 c) + n) (size-append gap (front ++ rest) ∙ ap (λ (n : ℕ). size gap + n) (size-append front rest)) in
+    ap size e ∙ size-cons c (gap ++ (front ++ rest)) ∙ ap (λ (n : ℕ). length (encode_utf8 c) + n) (size-append gap (front ++ rest) ∙ ap (λ (n : ℕ). size gap + n) (size-append front rest)) in
     omega (arith, here, one_byte c)
 
 attrs_size : (attrs : List Attr) (cs : List ℕ) → AreAttrs Any cs attrs → all_scalars cs ≡ true → length (attrs_text attrs) ≤ size cs
@@ -83,7 +83,7 @@ link_size front link h u =
     let p = scalars-parts h.front (62 ∷ h.rest) (scalars-parts (60 ∷ []) (h.front ++ 62 ∷ h.rest) (ap all_scalars (sym h.chars_are) ∙ u)).1 in
     let attrs : length (attrs_text link.attrs) ≤ size h.rest = attrs_size link.attrs h.rest h.attrs_are (scalars-parts (62 ∷ []) h.rest p.1).1 in
     let here : size front ≡ 1 + (size h.front + (1 + size h.rest)) =
-      ap size h.chars_are ∙ size-cons 60 (h.front ++ 62 ∷ h.rest) ∙ ap (λ (n : ℕ). 1 + n) (size-append h.front (62 ∷ h.rest) ∙ ap (λ (n : ℕ). size h.front + n) (size-cons 62 h.rest)) in
+    ap size h.chars_are ∙ size-cons 60 (h.front ++ 62 ∷ h.rest) ∙ ap (λ (n : ℕ). 1 + n) (size-append h.front (62 ∷ h.rest) ∙ ap (λ (n : ℕ). size h.front + n) (size-cons 62 h.rest)) in
     let name : length link.target ≡ size h.front = ap length h.target_is in
     omega (arith, attrs, here, name, length-append link.target (62 ∷ attrs_text link.attrs))
 

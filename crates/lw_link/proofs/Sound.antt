@@ -46,21 +46,21 @@ regroup a b c d = simp append_assoc
 
 attr_after : (k : Style) (c : ℕ) (cs : List ℕ) (r : Rest) → (c == 59) ≡ true → Are k Semicolon cs r → After k (c ∷ cs) r.attrs r.links
 attr_after k c cs r t (gap, front, rest, attr, attrs, e, ok, is, (a, b, f, has, more), g) = (
-    59 ∷ (gap ++ (front ++ a)),
-    b,
-    both c 59 cs ((gap ++ (front ++ a)) ++ b) (is_char c 59 t) (e ∙ ap (λ (x : List ℕ). gap ++ (front ++ x)) f ∙ regroup gap front a b),
-    subst (λ (x : List Attr). AreAttrs k (59 ∷ (gap ++ (front ++ a))) x) (sym g) (gap, front, a, refl, ok, is, has),
-    more,
-  )
+  59 ∷ (gap ++ (front ++ a)),
+  b,
+  both c 59 cs ((gap ++ (front ++ a)) ++ b) (is_char c 59 t) (e ∙ ap (λ (x : List ℕ). gap ++ (front ++ x)) f ∙ regroup gap front a b),
+  subst (λ (x : List Attr). AreAttrs k (59 ∷ (gap ++ (front ++ a))) x) (sym g) (gap, front, a, refl, ok, is, has),
+  more,
+)
 
 link_after : (k : Style) (c : ℕ) (cs : List ℕ) (r : Rest) → (c == 44) ≡ true → Are k Comma cs r → After k (c ∷ cs) r.attrs r.links
 link_after k c cs r t (gap, front, rest, link, links, e, ok, is, more, g, none) = (
-    [],
-    c ∷ cs,
-    refl,
-    subst (λ (x : List Attr). AreAttrs k [] x) (sym none) refl,
-    subst (λ (x : List LinkContent). AreMore k (c ∷ cs) x) (sym g) (gap, front, rest, both c 44 cs (gap ++ (front ++ rest)) (is_char c 44 t) e, ok, is, more),
-  )
+  [],
+  c ∷ cs,
+  refl,
+  subst (λ (x : List Attr). AreAttrs k [] x) (sym none) refl,
+  subst (λ (x : List LinkContent). AreMore k (c ∷ cs) x) (sym g) (gap, front, rest, both c 44 cs (gap ++ (front ++ rest)) (is_char c 44 t) e, ok, is, more),
+)
 
 -- behind `;` or `,`
 after_separator : (k : Style) (c : ℕ) (cs : List ℕ) (r : Rest) → Are k (separated c) cs r → After k (c ∷ cs) r.attrs r.links
@@ -77,12 +77,12 @@ after_separator k c cs r =
 opened : (k : Style) (c : ℕ) (cs : List ℕ) (r : Rest) → (c == 60) ≡ true → Are k Target cs r
     → (front : List ℕ) × (rest : List ℕ) × (c ∷ cs ≡ front ++ rest) × IsLink k front (record { target = r.text; attrs = r.attrs }) × AreMore k rest r.links
 opened k c cs r t (front, rest, e, ok, text, (a, b, f, has, more)) = (
-    60 ∷ (front ++ 62 ∷ a),
-    b,
-    both c 60 cs ((front ++ 62 ∷ a) ++ b) (is_char c 60 t) (e ∙ ap (λ (x : List ℕ). front ++ 62 ∷ x) f ∙ sym (append_assoc front (62 ∷ a) b)),
-    record { front = front; rest = a; chars_are = refl; target_chars = ok; target_is = text; attrs_are = has },
-    more,
-  )
+  60 ∷ (front ++ 62 ∷ a),
+  b,
+  both c 60 cs ((front ++ 62 ∷ a) ++ b) (is_char c 60 t) (e ∙ ap (λ (x : List ℕ). front ++ 62 ∷ x) f ∙ sym (append_assoc front (62 ∷ a) b)),
+  record { front = front; rest = a; chars_are = refl; target_chars = ok; target_is = text; attrs_are = has },
+  more,
+)
 
 at_start : (k : Style) (c : ℕ) (cs : List ℕ) (r : Rest) → Are k (next_state k Start c) cs r → Are k Start (c ∷ cs) (before k Start c r)
 at_start k c cs r =
@@ -126,17 +126,17 @@ at_comma k c cs r =
 
 semicolon_name : (k : Style) (c : ℕ) (cs : List ℕ) (r : Rest) → is_name_char c ≡ true → Are k Name cs r → Are k Semicolon (c ∷ cs) (with_attr c r)
 semicolon_name k c cs r t (more, tail, rest, e, ok, text, value, h) = (
-    [],
-    c ∷ (more ++ tail),
-    rest,
-    record { name = encode_utf8 c ++ r.text; value = r.value },
-    r.attrs,
-    ap (λ (x : List ℕ). c ∷ x) (e ∙ sym (append_assoc more tail rest)),
-    tt,
-    record { first = c; more = more; rest = tail; chars_are = refl; name_chars = (t, ok); name_is = ap (λ (x : List ℕ). encode_utf8 c ++ x) text; value_is = value },
-    h,
-    refl,
-  )
+  [],
+  c ∷ (more ++ tail),
+  rest,
+  record { name = encode_utf8 c ++ r.text; value = r.value },
+  r.attrs,
+  ap (λ (x : List ℕ). c ∷ x) (e ∙ sym (append_assoc more tail rest)),
+  tt,
+  record { first = c; more = more; rest = tail; chars_are = refl; name_chars = (t, ok); name_is = ap (λ (x : List ℕ). encode_utf8 c ++ x) text; value_is = value },
+  h,
+  refl,
+)
 
 semicolon_space : (k : Style) (c : ℕ) (cs : List ℕ) (r : Rest) → is_space k c ≡ true → Are k Semicolon cs r → Are k Semicolon (c ∷ cs) r
 semicolon_space k c cs r t (gap, front, rest, attr, attrs, e, ok, is, h, g) =

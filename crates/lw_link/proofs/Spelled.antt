@@ -56,10 +56,11 @@ attr_spelled attr (((u, each), le), good) =
     let some = some_chars attr.name u le in
     let e : chars attr.name ≡ some.0 ∷ some.1 = some.2 in
     let value = value_spelled attr.value good in
-    let name : all_scalars (some.0 ∷ some.1) ≡ true = ap all_scalars (sym e) ∙ scalars-chars attr.name u in
-    (some.0 ∷ (some.1 ++ value.0),
-     record { first = some.0; more = some.1; rest = value.0; chars_are = refl; name_chars = subst (Each is_name_char) e each; name_is = sym (encodes-chars attr.name u) ∙ ap encode_utf8_all e; value_is = value.1 },
-     scalars-append (some.0 ∷ some.1) value.0 name value.2)
+    let name : all_scalars (some.0 ∷ some.1) ≡ true = ap all_scalars (sym e) ∙ scalars-chars attr.name u in (
+      some.0 ∷ (some.1 ++ value.0),
+      record { first = some.0; more = some.1; rest = value.0; chars_are = refl; name_chars = subst (Each is_name_char) e each; name_is = sym (encodes-chars attr.name u) ∙ ap encode_utf8_all e; value_is = value.1 },
+      scalars-append (some.0 ∷ some.1) value.0 name value.2,
+    )
 
 attrs_spelled : (attrs : List Attr) → AllByRecursion IsGoodAttr attrs → (front : List ℕ) × AreAttrs Printed front attrs × (all_scalars front ≡ true)
 attrs_spelled [] h = ([], refl, refl)
@@ -71,10 +72,11 @@ attrs_spelled (attr ∷ attrs) h =
 link_spelled : (link : LinkContent) → IsGoodLink link → (front : List ℕ) × IsLink Printed front link × (all_scalars front ≡ true)
 link_spelled link ((u, each), good) =
     let attrs = attrs_spelled link.attrs good in
-    let target = chars link.target in
-    (60 ∷ (target ++ 62 ∷ attrs.0),
-     record { front = target; rest = attrs.0; chars_are = refl; target_chars = each; target_is = sym (encodes-chars link.target u); attrs_are = attrs.1 },
-     scalars-append (60 ∷ []) (target ++ 62 ∷ attrs.0) refl (scalars-append target (62 ∷ attrs.0) (scalars-chars link.target u) (scalars-append (62 ∷ []) attrs.0 refl attrs.2)))
+    let target = chars link.target in (
+      60 ∷ (target ++ 62 ∷ attrs.0),
+      record { front = target; rest = attrs.0; chars_are = refl; target_chars = each; target_is = sym (encodes-chars link.target u); attrs_are = attrs.1 },
+      scalars-append (60 ∷ []) (target ++ 62 ∷ attrs.0) refl (scalars-append target (62 ∷ attrs.0) (scalars-chars link.target u) (scalars-append (62 ∷ []) attrs.0 refl attrs.2)),
+    )
 
 more_spelled : (links : List LinkContent) → AllByRecursion IsGoodLink links → (front : List ℕ) × AreMore Printed front links × (all_scalars front ≡ true)
 more_spelled [] h = ([], refl, refl)

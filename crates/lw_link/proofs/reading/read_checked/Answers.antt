@@ -20,5 +20,5 @@ returns-clause-found c =
     let bytes = c.args.bytes.now in
     let found = read_is bytes c.in_ok-text.ensures.text.1 c.in_ok-text.ensures.whole c.in_ok-text.ensures.links in
     let same : c.in_ok-links.field-0.items ≡ (read_on Any Start (chars bytes)).links =
-      c.in_ok-links.ensures ∙ ap (λ (x : List ℕ). (read_on Any Start (chars x)).links) c.in_ok-text.ensures.text.0 in
+    c.in_ok-links.ensures ∙ ap (λ (x : List ℕ). (read_on Any Start (chars x)).links) c.in_ok-text.ensures.text.0 in
     subst (λ (links : List LinkContent). Spells bytes links × (length links ≤ 256)) (sym same) found

@@ -12,9 +12,9 @@ loop-c-preserved c =
     let l = c.loop-c in
     let x = c.in-Some.c in
     let links : c.if-opens_link.links ≡ l.links + opened l.state x =
-      elim c.if-opens_link.branch [
-        | then-opens_link w ↦ opened_true l.state x c.opens_link.result c.if-opens_link.links l.links c.opens_link.ensures w.if-opens_link.true w.links-is
-        | else-opens_link w ↦ opened_false l.state x c.opens_link.result c.if-opens_link.links l.links c.opens_link.ensures w.if-opens_link.false w.links-is
-      ] in
+    elim c.if-opens_link.branch [
+      | then-opens_link w ↦ opened_true l.state x c.opens_link.result c.if-opens_link.links l.links c.opens_link.ensures w.if-opens_link.true w.links-is
+      | else-opens_link w ↦ opened_false l.state x c.opens_link.result c.if-opens_link.links l.links c.opens_link.ensures w.if-opens_link.false w.links-is
+    ] in
     scanned_next c.args.style c.args.text.now l.state c.next-next.result l.links c.if-opens_link.links l.place (l.place + c.len_utf8-place.result) l.scanner c.take.new.self x c.in-Some.ensures
     c.next-next.ensures c.in_default-next.not-Stop links (ap (λ (n : ℕ). l.place + n) c.len_utf8-place.ensures.value) l.invariant

@@ -1,0 +1,19 @@
+use Rattle.std.proofs.Common.{◌≡◌, ◌≤◌, ◌∙◌, List, length, ap, subst, sym, arith, string_bytes}
+use Rattle.lw_link.specs.Link.{LinkContent}
+use Rattle.lw_link.specs.Printing.{printing}
+use Rattle.lw_link.specs.WellFormed.{AreWellFormed}
+use Rattle.lw_link.proofs.Printings.{spelled_good, spelled_size}
+use Rattle.lw_link.proofs.link_text.LinkText.read_checked.Goals as goal
+
+pub print-requires : goal.print-requires
+print-requires c =
+    let found = c.in_ok-links.ensures.found in
+    subst AreWellFormed (sym c.deref.ensures.value) (spelled_good c.args.bytes.now c.in_ok-links.links.items found.0 found.1)
+
+pub invariant_of-result : goal.invariant_of-result
+invariant_of-result c =
+    let links = c.in_ok-links.links.items in
+    let found = c.in_ok-links.ensures.found in
+    let text : string_bytes c.in_ok-text.text ≡ printing links = c.in_ok-text.ensures ∙ ap printing c.deref.ensures.value in
+    let size : length (printing links) ≤ length c.args.bytes.now = spelled_size c.args.bytes.now links found.0 in
+    ((links, spelled_good c.args.bytes.now links found.0 found.1, text), omega (arith, c.requires, size, ap length text))
