@@ -1,12 +1,13 @@
 -- Each kind of joined value tells of a set: one lemma a kind, to be put together as the types are.
 use Rattle.std.specs.Prelude.{◌||◌}
-use Rattle.std.proofs.Common.{◌≡◌, ◌↔◌, Bool, true, false, Option, Some, None, refl, sym, ap, ◌∙◌, subst, inl, inr}
+use Rattle.std.proofs.Common.{◌≡◌, ◌↔◌, Bool, true, false, Option, Some, None, refl, sym, ap, ◌∙◌, subst, inl, inr, [], ◌∷◌, cond}
 use Rattle.std.specs.declared.cmp.Ordering.{Ordering}
 use Rattle.std.specs.declared.cmp.Ordering.TheVariants.{Less, Equal, Greater}
-use Rattle.std.specs.Ordering.{is_gt, max_by_ordering}
+use Rattle.std.specs.Ordering.{is_eq, is_gt, max_by_ordering}
 use Rattle.std.specs.declared.cmp.Ord as ord
 use Rattle.std.specs.declared.cmp.PartialEq as partial_eq
 use Rattle.std.specs.declared.cmp.PartialOrd as partial_ord
+use Rattle.std.specs.Cmp.{tied_itself}
 use mathlib.Core.Bool.{true≢false}
 use Rattle.lw_stamp.specs.Order.{IsExactOrder, AtMost, IsGreatest}
 use Rattle.lw_stamp.proofs.StampLemmas.{stamp_order}
@@ -21,14 +22,16 @@ use Rattle.lw_join.specs.LwwLaws.{write_order}
 use Rattle.lw_join.specs.Lex.{lex_join, lex_pair, lex_of}
 use Rattle.lw_join.specs.OrGone.{gone_join}
 use Rattle.lw_join.specs.Pair.{pair_join}
-use Rattle.lw_join.specs.EntriesLaws.{turned}
-use Rattle.lw_join.specs.Parts.{parts_join, value_at}
+use Rattle.lw_join.specs.Entries.{get}
+use Rattle.lw_join.specs.EntriesLaws.{turned, same_key}
+use Rattle.lw_join.specs.Parts.{entries_of, parts_join, value_at}
 use Rattle.lw_join.specs.PartsLaws.{value_at-join, same_values}
 use Rattle.lw_join.specs.declared.flag.Flag.{Flag}
 use Rattle.lw_join.specs.declared.once.Once.{Once}
 use Rattle.lw_join.specs.declared.lww.Lww.{Lww}
 use Rattle.lw_join.specs.declared.or_gone.OrGone.{OrGone}
 use Rattle.lw_join.specs.declared.or_gone.OrGone.TheVariants.{Here, Gone}
+use Rattle.lw_join.specs.declared.parts.Parts.{Parts}
 use Rattle.lw_join.specs.Facets.{Either, IsFacet, TellsSome, Through, OptionTells, KeyedTells, HasTold, FlagTells, OnceTells, LwwTells, LexTells, GoneTells, PairTells, PartsTells}
 
 -- nothing in the left, nothing in the right
@@ -250,3 +253,16 @@ parts_facet order {join} {R} r w =
       same = λ P Q x h g k. each.same (λ t. P (k, t)) (λ t. Q (k, t)) (value_at x k) (λ t. h (k, t)) (g k);
       one = λ P x y g h. same_values order x y (λ k. each.one (λ t. P (k, t)) (value_at x k) (value_at y k) (g k) (h k));
     }
+
+module _ {K T J : Type 0} {o : ord.Ghosts K} {e : partial_eq.Ghosts K} {p : partial_ord.Ghosts K} (R : (T → Type 0) → J → Type 0) (P : K × T → Type 0) (x : Parts K J o e p) where
+  -- the empty map tells of the empty set
+  pub parts_empty : entries_of x ≡ [] → ((k : K) (t : T) → ¬ P (k, t)) → PartsTells R P x
+  parts_empty empty none = λ q. subst (λ es. OptionTells R (λ t. P (q, t)) (get o.cmp es q)) (sym empty) (λ t. none q t)
+
+  -- a map of one entry tells of a set whose members have its key
+  pub parts_single : IsExactOrder o.cmp → (k : K) (a : J) → entries_of x ≡ (k, a) ∷ [] → ((q : K) (t : T) → P (q, t) → q ≡ k) → R (λ t. P (k, t)) a → PartsTells R P x
+  parts_single order k a one only told = λ q. subst (λ es. OptionTells R (λ t. P (q, t)) (get o.cmp es q)) (sym one) (go q (is_eq (o.cmp q k)) refl)
+    where
+      go : (q : K) (b : Bool) → is_eq (o.cmp q k) ≡ b → OptionTells R (λ t. P (q, t)) (cond b (Some a) None)
+      go q true h = subst (λ u. R (λ t. P (u, t)) a) (sym (same_key order q k h)) told
+      go q false h = λ t member. true≢false (sym (ap is_eq (tied_itself order.total k)) ∙ ap (λ u. is_eq (o.cmp u k)) (sym (only q t member)) ∙ h)

@@ -3,3 +3,4 @@ pub mod Lookups
 pub mod Greatest
 pub mod JoinedParts
 pub mod FacetLemmas
+pub mod LeastLemmas

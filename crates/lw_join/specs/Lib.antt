@@ -26,3 +26,4 @@ pub mod Place
 pub mod Parts
 pub mod PartsLaws
 pub mod Facets
+pub mod Least

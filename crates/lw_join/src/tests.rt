@@ -51,6 +51,8 @@ fn a_raised_flag_stays_raised(rt: HostRuntime) -> Result<(), Fail> {
         );
     }
     laws::joins_are_semilattices::<Flag>();
+    laws::joins_are_of_members::<Flag>();
+    laws::maps_join_key_by_key::<u16, Flag>();
     Ok(())
 }
 
