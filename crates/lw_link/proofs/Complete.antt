@@ -1,5 +1,5 @@
 -- What characters hold that spell links: the links, and a whole list.
-use Rattle.std.proofs.Common.{◌≡◌, ℕ, Bool, true, false, ◌==◌, List, [], ◌∷◌, ◌++◌, refl, ap, sym, ◌∙◌, append_assoc, inl, inr, encode_utf8_all}
+use Rattle.std.proofs.Common.{◌≡◌, ℕ, true, false, ◌==◌, List, [], ◌∷◌, ◌++◌, refl, ap, sym, ◌∙◌, append_assoc, inl, inr, encode_utf8_all}
 use Rattle.std.proofs.lemmas.Bool.{eqb-true}
 use Rattle.std.proofs.lemmas.List.{append-nil}
 use Rattle.lw_link.specs.declared.style.Style.{Style}
@@ -10,9 +10,9 @@ use Rattle.lw_link.specs.declared.link.Attr.{Attr}
 use Rattle.lw_link.specs.declared.link.AttrValue.{AttrValue}
 use Rattle.lw_link.specs.declared.link.AttrValue.TheVariants.{Absent, Plain, Quoted}
 use Rattle.lw_link.specs.Link.{LinkContent}
-use Rattle.lw_link.specs.Characters.{Each, is_target_char, is_name_char, is_plain_char, is_quoted_char, is_escaped_char, is_space}
+use Rattle.lw_link.specs.Characters.{Each, is_target_char, is_name_char, is_plain_char, is_space}
 use Rattle.lw_link.specs.Grammar.{IsItem, AreItems, IsValue, IsAttr, AreAttrs, IsLink, AreMore, IsList}
-use Rattle.lw_link.specs.Machine.{Rest, read_on, is_end, fresh, nothing, more_text}
+use Rattle.lw_link.specs.Machine.{Rest, read_on, is_end, fresh, more_text}
 use Rattle.lw_link.specs.Taking.{with_text}
 
 -- these attributes and links, and nothing begun

@@ -1,5 +1,5 @@
 -- What reading answers, and what the bytes are.
-use Rattle.std.proofs.Common.{◌≡◌, ◌≢◌, ℕ, ◌<◌, ◌≤◌, ◌↔◌, List, length, refl, ap, subst, sym, ◌∙◌, inl, inr, arith, chars, IsUtf8, Result, Ok, Err, MatchResult, IfOk, IfErr, true}
+use Rattle.std.proofs.Common.{◌≡◌, ◌≢◌, ℕ, ◌≤◌, ◌↔◌, List, length, refl, ap, subst, sym, ◌∙◌, inl, inr, arith, chars, IsUtf8, Result, Ok, Err, MatchResult, IfOk, IfErr, true}
 use Rattle.std.proofs.lemmas.Bool.{cases_order}
 use Rattle.lw_link.specs.declared.fault.LinkFault.{LinkFault}
 use Rattle.lw_link.specs.declared.fault.LinkFault.TheVariants.{NotText, Grammar, TooMany, NoMemory}

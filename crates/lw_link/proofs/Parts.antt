@@ -1,16 +1,16 @@
 -- What values, attributes and links take of the characters that are left.
-use Rattle.std.proofs.Common.{◌≡◌, ◌≢◌, ℕ, Bool, true, false, ◌==◌, cond, List, [], ◌∷◌, ◌++◌, refl, ap, subst, sym, ◌∙◌, append_assoc, inl, inr, encode_utf8, Option, Some, None, MatchOption}
+use Rattle.std.proofs.Common.{◌≡◌, ◌≢◌, ℕ, true, false, ◌==◌, List, [], ◌∷◌, ◌++◌, refl, ap, subst, sym, ◌∙◌, append_assoc, inl, inr, Option, Some, None, MatchOption}
 use Rattle.std.proofs.lemmas.List.{append-nil}
-use Rattle.std.proofs.lemmas.Bool.{eqb-true, eq-eqb, ne_eqb, false≢true, cases_Bool, false_from_ne_true}
+use Rattle.std.proofs.lemmas.Bool.{eqb-true, ne_eqb, false≢true, cases_Bool, false_from_ne_true}
 use Rattle.lw_link.specs.declared.style.Style.TheVariants.{Any}
 use Rattle.lw_link.specs.declared.state.State.{State}
-use Rattle.lw_link.specs.declared.state.State.TheVariants.{Start, Target, Closed, Comma, Semicolon, Name, Equals, Word, Quotation, Backslash, Stop}
+use Rattle.lw_link.specs.declared.state.State.TheVariants.{Start, Target, Closed, Comma, Semicolon, Name, Equals, Word, Quotation}
 use Rattle.lw_link.specs.declared.link.Attr.{Attr}
 use Rattle.lw_link.specs.declared.link.AttrValue.{AttrValue}
 use Rattle.lw_link.specs.declared.link.AttrValue.TheVariants.{Absent, Plain, Quoted}
 use Rattle.lw_link.specs.Link.{LinkContent}
 use Rattle.lw_link.specs.Characters.{is_target_char, is_name_char, is_plain_char}
-use Rattle.lw_link.specs.Machine.{Rest, read_on, next_state, separated, fresh, more_text, with_link, with_attr, with_value}
+use Rattle.lw_link.specs.Machine.{Rest, read_on, next_state, fresh, with_link, with_value}
 use Rattle.lw_link.specs.Taking.{IsLeft, IsPastAttrs, IsPastSpaces, with_text, ended_text, with_whole_attr, TakesText, TakesQuoted, TakesValue, TakesAttr, TakesAttrs, TakesLink}
 use Rattle.lw_link.proofs.Sound.{Are, whole_are}
 use Rattle.lw_link.proofs.Walk.{goes_on}

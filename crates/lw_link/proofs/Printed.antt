@@ -1,17 +1,16 @@
 -- The printed spelling of links: what it is, and which links have one.
-use Rattle.std.proofs.Common.{◌≡◌, ◌≢◌, ℕ, ◌+◌, ◌≤◌, Bool, true, false, not, ◌&&◌, ◌||◌, ◌==◌, cond, List, [], ◌∷◌, ◌++◌, length, refl, ap, subst, sym, ◌∙◌, append_assoc, inl, inr, arith, chars, IsUtf8, encode_utf8, encode_utf8_all, length-append}
+use Rattle.std.proofs.Common.{◌≡◌, ℕ, ◌≤◌, Bool, true, false, not, ◌&&◌, ◌||◌, ◌==◌, List, [], ◌∷◌, ◌++◌, length, refl, ap, subst, sym, ◌∙◌, inl, inr, arith, chars, encode_utf8, encode_utf8_all}
 use Rattle.std.specs.Str.{all_scalars}
 use Rattle.std.specs.List.{AllByRecursion}
-use Rattle.std.proofs.lemmas.Bool.{and_parts, and_from, or_cases, or_from, not-true, eqb-true, cases_Bool, or_parts}
-use Rattle.std.proofs.lemmas.List.{append-nil}
-use Rattle.std.proofs.lemmas.Str.{encodes-chars, encodes-append, scalars-chars, chars-encodes, length-le-encodes}
+use Rattle.std.proofs.lemmas.Bool.{and_parts, or_cases, not-true, eqb-true}
+use Rattle.std.proofs.lemmas.Str.{encodes-append, chars-encodes, length-le-encodes}
 use Rattle.lw_link.specs.declared.style.Style.{Style}
 use Rattle.lw_link.specs.declared.style.Style.TheVariants.{Any, Printed}
 use Rattle.lw_link.specs.declared.link.Attr.{Attr}
 use Rattle.lw_link.specs.declared.link.AttrValue.{AttrValue}
 use Rattle.lw_link.specs.declared.link.AttrValue.TheVariants.{Absent, Plain, Quoted}
 use Rattle.lw_link.specs.Link.{LinkContent}
-use Rattle.lw_link.specs.Characters.{Each, is_target_char, is_name_char, is_plain_char, is_shown, is_quoted_char, is_escaped_char, is_space}
+use Rattle.lw_link.specs.Characters.{Each, is_target_char, is_name_char, is_plain_char, is_shown, is_quoted_char, is_space}
 use Rattle.lw_link.specs.Grammar.{IsItem, AreItems, IsValue, IsAttr, AreAttrs, IsLink, AreMore, IsList}
 use Rattle.lw_link.specs.Printing.{escaped, escaped_all, value_text, attrs_text, link_text, more_text, printing}
 use Rattle.lw_link.specs.WellFormed.{IsTextOf, IsGoodValue, IsGoodAttr, IsGoodLink}

@@ -1,8 +1,8 @@
 -- Which bytes are printings.
-use Rattle.std.proofs.Common.{◌≡◌, ℕ, ◌≤◌, Bool, true, false, List, [], length, ap, subst, sym, ◌∙◌, arith, chars, IsUtf8, encode_utf8_all}
+use Rattle.std.proofs.Common.{◌≡◌, ℕ, ◌≤◌, true, List, [], length, ap, subst, sym, ◌∙◌, arith, chars, IsUtf8, encode_utf8_all}
 use Rattle.std.proofs.lemmas.Bool.{false≢true}
 use Rattle.std.proofs.lemmas.Str.{encodes-chars, scalars-chars}
-use Rattle.lw_link.specs.declared.style.Style.TheVariants.{Any, Printed}
+use Rattle.lw_link.specs.declared.style.Style.TheVariants.{Printed}
 use Rattle.lw_link.specs.declared.state.State.TheVariants.{Start}
 use Rattle.lw_link.specs.Link.{LinkContent}
 use Rattle.lw_link.specs.Grammar.{IsList}

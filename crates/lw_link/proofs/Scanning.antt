@@ -1,5 +1,5 @@
 -- What is left of a text behind its next character.
-use Rattle.std.proofs.Common.{◌≡◌, ℕ, List, [], ◌∷◌, length, MatchOption, chars, IsUtf8, Option, Some, None, ap, subst, sym, ◌∙◌}
+use Rattle.std.proofs.Common.{◌≡◌, ℕ, List, [], ◌∷◌, MatchOption, chars, IsUtf8, Option, Some, None, ap, subst, sym, ◌∙◌}
 use Rattle.std.specs.Str.Iter.{chars_rest, chars_steps}
 use Rattle.std.specs.declared.str.Chars.{Chars}
 use Rattle.std.proofs.lemmas.List.{nil_from_length}

@@ -1,5 +1,5 @@
 -- A printing is never longer than another spelling.
-use Rattle.std.proofs.Common.{◌≡◌, ℕ, ◌+◌, ◌≤◌, Bool, true, false, ◌||◌, ◌==◌, cond, List, [], ◌∷◌, ◌++◌, length, refl, ap, subst, sym, ◌∙◌, inl, inr, arith, chars, encode_utf8, encode_utf8_all, length-append}
+use Rattle.std.proofs.Common.{◌≡◌, ℕ, ◌+◌, ◌≤◌, true, false, ◌||◌, ◌==◌, cond, List, [], ◌∷◌, ◌++◌, length, ap, subst, sym, ◌∙◌, inl, inr, arith, chars, encode_utf8, encode_utf8_all, length-append}
 use Rattle.std.specs.Str.{all_scalars}
 use Rattle.std.proofs.lemmas.Str.{encodes-append, chars-encodes, length-encode, len_utf8_bounds}
 use Rattle.lw_link.specs.declared.style.Style.TheVariants.{Any}
@@ -7,7 +7,7 @@ use Rattle.lw_link.specs.declared.link.Attr.{Attr}
 use Rattle.lw_link.specs.declared.link.AttrValue.{AttrValue}
 use Rattle.lw_link.specs.declared.link.AttrValue.TheVariants.{Absent, Plain, Quoted}
 use Rattle.lw_link.specs.Link.{LinkContent}
-use Rattle.lw_link.specs.Grammar.{IsItem, AreItems, IsValue, IsAttr, AreAttrs, IsLink, AreMore, IsList}
+use Rattle.lw_link.specs.Grammar.{AreItems, IsValue, IsAttr, AreAttrs, IsLink, AreMore, IsList}
 use Rattle.lw_link.specs.Printing.{escaped, escaped_all, value_text, attrs_text, link_text, more_text, printing}
 use Rattle.lw_link.proofs.Places.{scalars-parts}
 use Rattle.lw_link.proofs.Printed.{plain_escape, items_scalars, behind, parts}

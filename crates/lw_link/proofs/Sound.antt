@@ -1,12 +1,11 @@
 -- What characters are that hold a whole list.
-use Rattle.std.proofs.Common.{◌≡◌, ℕ, Bool, true, false, ◌==◌, cond, List, [], ◌∷◌, ◌++◌, refl, ap, subst, sym, ◌∙◌, append_assoc, inl, inr, encode_utf8, encode_utf8_all}
+use Rattle.std.proofs.Common.{◌≡◌, ℕ, true, false, ◌==◌, cond, List, [], ◌∷◌, ◌++◌, refl, ap, subst, sym, ◌∙◌, append_assoc, inl, inr, encode_utf8, encode_utf8_all}
 use Rattle.std.proofs.lemmas.Bool.{eqb-true}
 use Rattle.lw_link.specs.declared.style.Style.{Style}
 use Rattle.lw_link.specs.declared.state.State.{State}
 use Rattle.lw_link.specs.declared.state.State.TheVariants.{Start, Target, Closed, Comma, Semicolon, Name, Equals, Word, Quotation, Backslash, Stop}
 use Rattle.lw_link.specs.declared.link.Attr.{Attr}
-use Rattle.lw_link.specs.declared.link.AttrValue.{AttrValue}
-use Rattle.lw_link.specs.declared.link.AttrValue.TheVariants.{Absent, Plain, Quoted}
+use Rattle.lw_link.specs.declared.link.AttrValue.TheVariants.{Plain, Quoted}
 use Rattle.lw_link.specs.Link.{LinkContent}
 use Rattle.lw_link.specs.Characters.{Each, is_target_char, is_name_char, is_plain_char, is_quoted_char, is_escaped_char, is_space}
 use Rattle.lw_link.specs.Grammar.{AreItems, IsValue, IsAttr, AreAttrs, IsLink, AreMore, IsList}

@@ -1,17 +1,17 @@
 -- Well formed links have a printed spelling.
-use Rattle.std.proofs.Common.{◌≡◌, ℕ, ◌+◌, ◌≤◌, Bool, true, false, not, ◌&&◌, ◌||◌, ◌==◌, cond, List, [], ◌∷◌, ◌++◌, length, refl, ap, subst, sym, ◌∙◌, inl, inr, arith, chars, IsUtf8, encode_utf8_all}
+use Rattle.std.proofs.Common.{◌≡◌, ℕ, ◌≤◌, true, false, not, ◌&&◌, ◌||◌, ◌==◌, List, [], ◌∷◌, ◌++◌, length, refl, ap, subst, sym, ◌∙◌, inl, inr, arith, chars, IsUtf8, encode_utf8_all}
 use Rattle.std.specs.Str.{all_scalars}
 use Rattle.std.specs.List.{AllByRecursion}
 use Rattle.std.proofs.lemmas.Bool.{and_from, cases_Bool, or_parts, not_from_false}
 use Rattle.std.proofs.lemmas.Str.{encodes-chars, scalars-chars, chars-encodes}
-use Rattle.lw_link.specs.declared.style.Style.TheVariants.{Any, Printed}
+use Rattle.lw_link.specs.declared.style.Style.TheVariants.{Printed}
 use Rattle.lw_link.specs.declared.link.Attr.{Attr}
 use Rattle.lw_link.specs.declared.link.AttrValue.{AttrValue}
 use Rattle.lw_link.specs.declared.link.AttrValue.TheVariants.{Absent, Plain, Quoted}
 use Rattle.lw_link.specs.Link.{LinkContent}
-use Rattle.lw_link.specs.Characters.{Each, is_target_char, is_name_char, is_plain_char, is_shown, is_quoted_char}
+use Rattle.lw_link.specs.Characters.{Each, is_name_char, is_plain_char, is_shown, is_quoted_char}
 use Rattle.lw_link.specs.Grammar.{AreItems, IsValue, IsAttr, AreAttrs, IsLink, AreMore, IsList}
-use Rattle.lw_link.specs.WellFormed.{IsTextOf, IsGoodValue, IsGoodAttr, IsGoodLink, AreWellFormed}
+use Rattle.lw_link.specs.WellFormed.{IsGoodValue, IsGoodAttr, IsGoodLink, AreWellFormed}
 use Rattle.lw_link.specs.Printing.{printing}
 use Rattle.lw_link.specs.Spelling.{Spells}
 use Rattle.lw_link.proofs.Places.{scalars-parts, scalars-append}

@@ -1,18 +1,13 @@
 -- What a part of a list takes of the characters that are left.
-use Rattle.std.proofs.Common.{◌≡◌, ◌≢◌, ℕ, Bool, true, false, ◌==◌, cond, List, [], ◌∷◌, ◌++◌, refl, ap, subst, sym, ◌∙◌, append_assoc, encode_utf8, inl, inr}
+use Rattle.std.proofs.Common.{◌≡◌, ◌≢◌, ℕ, true, false, ◌==◌, cond, List, [], ◌∷◌, ◌++◌, refl, ap, subst, sym, ◌∙◌, append_assoc, encode_utf8, inl, inr}
 use Rattle.std.proofs.lemmas.List.{append-nil}
 use Rattle.std.proofs.lemmas.Bool.{ne_eqb, false≢true, cases_Bool}
-use Rattle.lw_link.specs.declared.style.Style.{Style}
 use Rattle.lw_link.specs.declared.style.Style.TheVariants.{Any}
 use Rattle.lw_link.specs.declared.state.State.{State}
 use Rattle.lw_link.specs.declared.state.State.TheVariants.{Start, Target, Closed, Comma, Semicolon, Name, Equals, Word, Quotation, Backslash, Stop}
-use Rattle.lw_link.specs.declared.link.Attr.{Attr}
-use Rattle.lw_link.specs.declared.link.AttrValue.{AttrValue}
-use Rattle.lw_link.specs.declared.link.AttrValue.TheVariants.{Absent, Plain, Quoted}
-use Rattle.lw_link.specs.Link.{LinkContent}
-use Rattle.lw_link.specs.Characters.{is_target_char, is_name_char, is_plain_char, is_quoted_char, is_escaped_char, is_space}
-use Rattle.lw_link.specs.Machine.{Rest, read_on, next_state, separated, before, is_end, fresh, more_text, with_link, with_attr, with_value}
-use Rattle.lw_link.specs.Taking.{HoldsText, IsLeft, IsPastAttrs, with_text, ended_text, with_whole_attr, TakesText, TakesQuoted, TakesValue, TakesAttr, TakesAttrs, TakesLink}
+use Rattle.lw_link.specs.Characters.{is_target_char, is_name_char, is_plain_char, is_quoted_char, is_escaped_char}
+use Rattle.lw_link.specs.Machine.{Rest, read_on, next_state, separated, fresh, more_text}
+use Rattle.lw_link.specs.Taking.{HoldsText, IsLeft, with_text, ended_text, TakesQuoted}
 use Rattle.lw_link.proofs.Sound.{same_end}
 
 -- nothing holds a list behind a stop

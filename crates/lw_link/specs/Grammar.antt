@@ -2,7 +2,7 @@
 -- reading and printing. In the style Any they are the whole grammar, and in the style Printed what printing
 -- gives: no spaces, and a backslash before `"` and `\` alone. The texts of a link are the UTF-8 of their
 -- characters.
-use Rattle.std.specs.Prelude.{◌≡◌, ℕ, Bool, true, ◌⊎◌, List, [], ◌∷◌, ◌++◌, encode_utf8_all}
+use Rattle.std.specs.Prelude.{◌≡◌, ℕ, true, ◌⊎◌, List, [], ◌∷◌, ◌++◌, encode_utf8_all}
 use Rattle.lw_link.specs.declared.style.Style.{Style}
 use Rattle.lw_link.specs.declared.link.Attr.{Attr}
 use Rattle.lw_link.specs.declared.link.AttrValue.{AttrValue}

@@ -1,5 +1,5 @@
-use Rattle.std.proofs.Common.{◌≡◌, ◌∷◌, string_bytes, ap, sym, arith, length, rules}
-use Rattle.lw_link.proofs.Walk.{quoted_more, escaped_more, escape_ends, quoted_end, quoted_open}
+use Rattle.std.proofs.Common.{string_bytes, ap, arith, length, rules}
+use Rattle.lw_link.proofs.Walk.{quoted_more, escaped_more}
 use Rattle.lw_link.proofs.reading.quoted.Goals as goal
 
 pub loop-c-preserved-in-Continue-1 : goal.loop-c-preserved-in-Continue-1

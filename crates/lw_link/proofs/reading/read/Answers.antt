@@ -1,6 +1,5 @@
-use Rattle.lw_link.specs.Link.{LinkContent}
 use Rattle.lw_link.specs.Spelling.{Spells}
-use Rattle.std.proofs.Common.{◌≡◌, ◌≤◌, List, length}
+use Rattle.std.proofs.Common.{◌≡◌, ◌≤◌, length}
 use Rattle.lw_link.proofs.Outcomes.{answers, faults, memory, only, one_spelled}
 use Rattle.lw_link.proofs.reading.read.Goals as goal
 

@@ -1,4 +1,4 @@
-use Rattle.std.proofs.Common.{◌≡◌, ◌∷◌, string_bytes, ap, sym, arith, length, rules}
+use Rattle.std.proofs.Common.{◌≡◌, ◌∷◌, string_bytes, ap, arith, length, rules}
 use Rattle.lw_link.specs.declared.style.Style.TheVariants.{Any}
 use Rattle.lw_link.specs.Machine.{next_state}
 use Rattle.lw_link.proofs.Scanning.{take_seen}

@@ -1,5 +1,4 @@
-use Rattle.std.proofs.Common.{◌≡◌, ◌≤◌, ◌∙◌, List, length, ap, subst, sym, arith, string_bytes}
-use Rattle.lw_link.specs.Link.{LinkContent}
+use Rattle.std.proofs.Common.{◌≡◌, ◌≤◌, ◌∙◌, length, ap, subst, sym, arith, string_bytes}
 use Rattle.lw_link.specs.Printing.{printing}
 use Rattle.lw_link.specs.WellFormed.{AreWellFormed}
 use Rattle.lw_link.proofs.Printings.{spelled_good, spelled_size}

@@ -1,4 +1,4 @@
-use Rattle.std.proofs.Common.{chars, IsUtf8, ap, subst, sym, ◌∙◌, ◌≡◌}
+use Rattle.std.proofs.Common.{sym}
 use Rattle.lw_link.proofs.Scanning.{seen}
 use Rattle.lw_link.proofs.scanner.Scanner.peek.Goals as goal
 
