@@ -1,10 +1,11 @@
 ghost use Rattle.lw_stamp.specs.Order.{IsExact};
 ghost use Rattle.lw_join.specs.ExactOrders.{exact_moment};
 ghost use Rattle.lw_stamp.proofs.StampLemmas.{stamp_order};
+ghost use Rattle.lw_stamp.proofs.TextLemmas.{text_order};
 ghost use Rattle.std.proofs.lemmas.Map.Lookups.{exact_unsigned};
 ghost use Rattle.lw_join.specs.ExactOrders.{exact_bool, exact_option, exact_pair};
 
-use lw_stamp::{Moment, Stamp};
+use lw_stamp::{Moment, Stamp, Text};
 
 /// Values that compare equal are one value, as contracts see them.
 pub trait Exact: Ord + Drop {
@@ -37,6 +38,10 @@ impl Exact for Stamp {
 
 impl Exact for Moment {
     ghost exact = { exact_moment };
+}
+
+impl Exact for Text {
+    ghost exact = { text_order.exact };
 }
 
 impl<V: Exact> Exact for Option<V> {

@@ -1,5 +1,5 @@
 use super::*;
-use lw_stamp::{Moment, NoMemory, Stamp};
+use lw_stamp::{Moment, NoMemory, Stamp, Text};
 use std::alloc::Global;
 use std::test::Fail;
 
@@ -326,7 +326,7 @@ fn a_map_and_a_flag(rt: HostRuntime) -> Result<(), Fail> {
 }
 
 #[test]
-fn keys_compare_exactly(rt: HostRuntime) {
+fn keys_compare_exactly(rt: HostRuntime) -> Result<(), Fail> {
     assert!(rt; is_below_or_equal(&false, &true));
     assert!(rt; is_below_or_equal(&1u8, &2));
     assert!(rt; !is_below_or_equal(&3u16, &2));
@@ -336,4 +336,9 @@ fn keys_compare_exactly(rt: HostRuntime) {
     assert!(rt; is_below_or_equal(&Moment::START, &Moment::START));
     assert!(rt; is_below_or_equal(&None, &Some(1u8)));
     assert!(rt; !is_below_or_equal(&(1u8, true), &(1, false)));
+    let short = Text::copy_of(rt.alloc(), "a")?;
+    let long = Text::copy_of(rt.alloc(), "ab")?;
+    assert!(rt; is_below_or_equal(&short, &long));
+    assert!(rt; !is_below_or_equal(&long, &short));
+    Ok(())
 }

@@ -18,7 +18,6 @@ mod scan;
 mod scanner;
 mod state;
 mod style;
-mod text;
 
 pub use checking::well_formed;
 pub use fault::LinkFault;
@@ -27,7 +26,6 @@ pub use link_text::LinkText;
 pub use printing::print;
 pub use reading::read;
 pub use scan::is_printing;
-pub use text::Text;
 
 #[cfg(test)]
 mod tests;

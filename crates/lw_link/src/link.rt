@@ -1,4 +1,4 @@
-use crate::text::Text;
+use lw_stamp::Text;
 use std::marker::Model;
 
 /// The value of an attribute (RFC 6690, section 2). Printing keeps plain and quoted apart.

@@ -3,6 +3,7 @@ ghost use Rattle.std.specs.Prelude.{◌≡◌, ◌≢◌, ◌≤◌, ◌↔◌, 
 use crate::fault::LinkFault;
 use crate::printing::print;
 use crate::reading::read;
+use lw_stamp::NoMemory;
 use std::alloc::Global;
 use std::marker::Model;
 
@@ -63,5 +64,13 @@ impl LinkText {
         ensures within { length result.now ≤ 8192 }
     {
         self.text.as_str()
+    }
+
+    pub fn copy_of(&self, alloc: Global) -> Result<LinkText, NoMemory>
+        ensures { IfOk result (λ copy. copy ≡ self.now) }
+    {
+        Ok(LinkText {
+            text: String::from_str(alloc, self.text.as_str())?,
+        })
     }
 }

@@ -16,8 +16,7 @@ use crate::scan::check;
 use crate::scanner::Scanner;
 use crate::state::State;
 use crate::style::Style;
-use crate::text::Text;
-use lw_stamp::NoMemory;
+use lw_stamp::{NoMemory, Text};
 use std::alloc::Global;
 
 fn spaces(scanner: &mut Scanner)

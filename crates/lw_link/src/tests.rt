@@ -20,6 +20,8 @@ fn texts_are_kept_as_printed(rt: HostRuntime) -> Result<(), Fail> {
     let given = br#"</>;rt="oma.lwm2m,x";ct=110, </3/0>"#;
     let text = LinkText::read(rt.alloc(), given)?;
     assert_eq!(rt; text.as_str(), r#"</>;rt="oma.lwm2m,x";ct=110,</3/0>"#);
+    let copy = text.copy_of(rt.alloc())?;
+    assert_eq!(rt; copy.as_str(), r#"</>;rt="oma.lwm2m,x";ct=110,</3/0>"#);
     let escaped = LinkText::read(rt.alloc(), br#"</3/0>;x="a\"b\c""#)?;
     assert_eq!(rt; escaped.as_str(), r#"</3/0>;x="a\"bc""#);
     Ok(())

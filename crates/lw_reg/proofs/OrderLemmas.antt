@@ -7,7 +7,7 @@ use Rattle.std.proofs.lemmas.Map.Lookups.{exact_pairs, exact_unsigned, exact_byt
 use mathlib.Core.Bool.{true≢false}
 use Rattle.lw_stamp.specs.Order.{IsExact, IsExactOrder}
 use Rattle.lw_reg.specs.declared.addr.Addr.TheVariants.{V4, V6}
-use Rattle.lw_reg.specs.Orders.{family, bytes_of, port_of, addr_cmp, text_cmp}
+use Rattle.lw_reg.specs.Orders.{family, bytes_of, port_of, addr_cmp}
 
 exact_addr : IsExact addr_cmp
 exact_addr (V4 a p) (V4 b q) h = ap (λ (x : List ℕ × ℕ). V4 x.0 x.1) (exact_pairs (slice_cmp nat_cmp) nat_cmp exact_bytes exact_unsigned (a, p) (b, q) h)
@@ -20,6 +20,3 @@ addr_order = record {
   total = then_total (on_total family nat_cmp_total) (then_total (on_total bytes_of nat_list_cmp_total) (on_total port_of nat_cmp_total));
   exact = exact_addr;
 }
-
-pub text_order : IsExactOrder text_cmp
-text_order = record { total = nat_list_cmp_total; exact = exact_bytes }

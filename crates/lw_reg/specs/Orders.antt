@@ -1,8 +1,8 @@
 -- The orders of what a registration shows.
 use Rattle.std.specs.Prelude.{ℕ, List}
 use Rattle.std.specs.declared.cmp.Ordering.{Ordering}
-use Rattle.std.specs.Cmp.Lexicographic.{slice_cmp}
 use Rattle.std.specs.Ordering.{nat_cmp, ordering_then}
+use Rattle.lw_stamp.specs.TextOrder.{text_cmp}
 use Rattle.lw_reg.specs.declared.addr.Addr.{Addr}
 use Rattle.lw_reg.specs.declared.addr.Addr.TheVariants.{V4, V6}
 use Rattle.lw_reg.specs.declared.binding.Binding.{Binding}
@@ -11,7 +11,6 @@ use Rattle.lw_reg.specs.declared.version.Version.TheVariants.{V10, V11}
 use Rattle.lw_reg.specs.Binding.{binding_text}
 use Rattle.lw_reg.specs.contracts.addr.AddrOrd.TheImpl as addrs
 use Rattle.lw_reg.specs.contracts.binding.BindingOrd.TheImpl as bindings
-use Rattle.lw_reg.specs.contracts.text.TextOrd.TheImpl as texts
 use Rattle.lw_reg.specs.contracts.version.VersionOrd.TheImpl as versions
 
 -- 4 or 6
@@ -29,11 +28,7 @@ port_of (V6 address port) = port
 
 -- addresses: by family, then bytes, then port
 abbrev pub addr_cmp : Addr → Addr → Ordering
-addr_cmp a b = ordering_then (nat_cmp (family a) (family b)) (ordering_then (slice_cmp nat_cmp (bytes_of a) (bytes_of b)) (nat_cmp (port_of a) (port_of b)))
-
--- texts: by their bytes
-abbrev pub text_cmp : List ℕ → List ℕ → Ordering
-text_cmp = slice_cmp nat_cmp
+addr_cmp a b = ordering_then (nat_cmp (family a) (family b)) (ordering_then (text_cmp (bytes_of a) (bytes_of b)) (nat_cmp (port_of a) (port_of b)))
 
 -- bindings: by their texts
 abbrev pub binding_cmp : Binding → Binding → Ordering
@@ -54,9 +49,6 @@ derived_addr_cmp = (addrs.ghosts).cmp
 
 abbrev pub derived_binding_cmp : Binding → Binding → Ordering
 derived_binding_cmp = (bindings.ghosts).cmp
-
-abbrev pub given_text_cmp : List ℕ → List ℕ → Ordering
-given_text_cmp = (texts.ghosts).cmp
 
 abbrev pub derived_version_cmp : Version → Version → Ordering
 derived_version_cmp = (versions.ghosts).cmp

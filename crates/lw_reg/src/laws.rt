@@ -1,12 +1,12 @@
 //! Laws of what a registration shows, each the contract of a function that does nothing.
 
-ghost use Rattle.std.specs.Prelude.{◌≡◌, ℕ, List};
+ghost use Rattle.std.specs.Prelude.{◌≡◌};
 ghost use Rattle.lw_stamp.specs.Order.{IsExactOrder};
 ghost use Rattle.lw_reg.specs.declared.addr.Addr.{Addr};
 ghost use Rattle.lw_reg.specs.declared.binding.Binding.{Binding};
 ghost use Rattle.lw_reg.specs.declared.version.Version.{Version};
 ghost use Rattle.lw_reg.specs.Binding.{binding_text};
-ghost use Rattle.lw_reg.specs.Orders.{addr_cmp, text_cmp, binding_cmp, version_cmp, derived_addr_cmp, given_text_cmp, derived_binding_cmp, derived_version_cmp};
+ghost use Rattle.lw_reg.specs.Orders.{addr_cmp, binding_cmp, version_cmp, derived_addr_cmp, derived_binding_cmp, derived_version_cmp};
 
 /// IPv4 is below IPv6; then come the bytes, then the port.
 pub fn addresses_are_ordered()
@@ -23,12 +23,6 @@ pub fn bindings_are_ordered()
 /// Bindings with one text are one.
 pub fn bindings_have_texts_of_their_own()
     ensures { (a b : Binding) → binding_text a ≡ binding_text b → a ≡ b }
-{}
-
-/// Texts are ordered by their bytes.
-pub fn texts_are_ordered()
-    ensures by_bytes { (a b : List ℕ) → given_text_cmp a b ≡ text_cmp a b }
-    ensures total { IsExactOrder text_cmp }
 {}
 
 /// Version 1.0 is below 1.1.

@@ -133,19 +133,6 @@ fn versions_have_two_texts(rt: HostRuntime) {
 }
 
 #[test]
-fn texts_compare_by_bytes(rt: HostRuntime) -> Result<(), Fail> {
-    let a = Text::copy_of(rt.alloc(), "a")?;
-    let ab = Text::copy_of(rt.alloc(), "ab")?;
-    let b = Text::from(String::from_str(rt.alloc(), "b")?);
-    assert!(rt; a < ab);
-    assert!(rt; ab < b);
-    assert!(rt; a != b);
-    assert_eq!(rt; ab.as_str(), "ab");
-    assert_eq!(rt; b.into_string().as_str(), "b");
-    Ok(())
-}
-
-#[test]
 fn a_view_is_copied_field_by_field(rt: HostRuntime) -> Result<(), Fail> {
     let id = Stamp {
         counter: 1,

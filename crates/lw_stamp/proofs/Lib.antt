@@ -1,1 +1,2 @@
 pub mod StampLemmas
+pub mod TextLemmas

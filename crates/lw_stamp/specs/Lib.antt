@@ -4,3 +4,4 @@ pub mod Stamp
 pub mod Clock
 pub mod Moment
 pub mod StampOrder
+pub mod TextOrder

@@ -1,4 +1,4 @@
-//! Stamps, the clock that issues them, and moments: what every crate above counts and orders by.
+//! Stamps, the clock that issues them, moments and texts: what every crate above counts and orders by.
 //!
 //! A stamp names an operation. Its eight bytes are the CoAP token of an observation, and their hex
 //! text is the identifier of a registration.
@@ -9,11 +9,13 @@ pub mod laws;
 mod moment;
 mod no_memory;
 mod stamp;
+mod text;
 
 pub use clock::Clock;
 pub use moment::Moment;
 pub use no_memory::NoMemory;
 pub use stamp::Stamp;
+pub use text::Text;
 
 #[cfg(test)]
 mod tests;

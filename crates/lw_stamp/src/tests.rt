@@ -1,5 +1,6 @@
 use super::*;
 use std::alloc::AllocError;
+use std::test::Fail;
 
 const LAST: u64 = (1 << 48) - 1;
 
@@ -116,4 +117,18 @@ fn moments_end_below_2_to_the_48(rt: HostRuntime) {
 #[test]
 fn refused_growth_is_no_memory(rt: HostRuntime) {
     assert_eq!(rt; NoMemory::from(AllocError), NoMemory);
+}
+
+#[test]
+fn texts_compare_by_bytes(rt: HostRuntime) -> Result<(), Fail> {
+    let a = Text::copy_of(rt.alloc(), "a")?;
+    let ab = Text::copy_of(rt.alloc(), "ab")?;
+    let b = Text::from(String::from_str(rt.alloc(), "b")?);
+    assert!(rt; a < ab);
+    assert!(rt; ab < b);
+    assert!(rt; a != b);
+    assert_eq!(rt; ab.as_str(), "ab");
+    assert_eq!(rt; b.into_string().as_str(), "b");
+    laws::texts_are_ordered();
+    Ok(())
 }
