@@ -1,4 +1,5 @@
 pub mod Search
+pub mod MapLemmas
 pub mod Lookups
 pub mod Greatest
 pub mod JoinedParts

@@ -5,6 +5,7 @@ use Rattle.std.specs.declared.cmp.Ordering.{Ordering}
 use Rattle.std.specs.declared.cmp.Ord as ord
 use Rattle.std.specs.declared.cmp.PartialEq as partial_eq
 use Rattle.std.specs.declared.cmp.PartialOrd as partial_ord
+use Rattle.std.specs.FinMap.{FinMap, get}
 use Rattle.lw_stamp.specs.Order.{IsGreatest}
 use Rattle.lw_stamp.specs.StampOrder.{stamp_cmp}
 use Rattle.lw_stamp.specs.declared.stamp.Stamp.{Stamp}
@@ -81,3 +82,7 @@ PairTells R S P x = R P x.0 × S P x.1
 -- at each key nothing, where the set has no member there, and otherwise what R says of the members there
 abbrev pub PartsTells : {K T J : Type 0} {o : ord.Ghosts K} {e : partial_eq.Ghosts K} {p : partial_ord.Ghosts K} → ((T → Type 0) → J → Type 0) → (K × T → Type 0) → Parts K J o e p → Type 0
 PartsTells {K} R P x = (k : K) → OptionTells R (λ t. P (k, t)) (value_at x k)
+
+-- the same of a finite map
+abbrev pub MapTells : {K T V : Type 0} {R : K → K → Ordering} → ((T → Type 0) → V → Type 0) → (K × T → Type 0) → FinMap R V → Type 0
+MapTells {K} Tells P m = (k : K) → OptionTells Tells (λ t. P (k, t)) (get m k)

@@ -27,3 +27,4 @@ pub mod Parts
 pub mod PartsLaws
 pub mod Facets
 pub mod Least
+pub mod Maps
