@@ -1,14 +1,28 @@
 ghost use Rattle.std.specs.Prelude.{◌≡◌, IfOk, option_map, string_bytes};
 ghost use Rattle.serde_json.specs.View.{view};
 ghost use Rattle.serde_json.specs.Written.{compact_text};
-ghost use Rattle.lw_reg.specs.Addr.{addr_text};
-ghost use Rattle.lw_stamp.specs.Stamp.{id_of};
 ghost use Rattle.fleet.specs.Shown.{shown_json, text_or_null};
+ghost use Rattle.fleet.specs.Members.{members_json, TellsOf};
 
 use lw_reg::View;
 use lw_stamp::NoMemory;
 use serde_json::{Value, json};
 use std::alloc::{AllocError, Global};
+
+/// The values of a registration's JSON object.
+#[derive(Drop)]
+struct Members<'a> {
+    address: String,
+    binding: &'a str,
+    endpoint: &'a str,
+    id: String,
+    lifetime: u32,
+    lwm2m: &'a str,
+    objects: &'a str,
+    queue: bool,
+    seen: u64,
+    sms: Value,
+}
 
 /// The JSON object of a registration, with no space between its members.
 pub fn shown_text(alloc: Global, shown: &View<'_>) -> Result<String, NoMemory>
@@ -18,38 +32,45 @@ pub fn shown_text(alloc: Global, shown: &View<'_>) -> Result<String, NoMemory>
     Ok(value.to_string(alloc)?)
 }
 
+#[tactic(auto, using(crate::proofs::MemberLemmas::json_of_members))]
 fn shown_value(alloc: Global, shown: &View<'_>) -> Result<Value, NoMemory>
     ensures { IfOk result (λ value. view value ≡ shown_json shown.now) }
 {
-    let address = shown.address.print(alloc)?;
-    let id = hex::encode(alloc, shown.id.to_bytes())?;
-    let sms = text_value(alloc, shown.sms)?;
-    Ok(shown_object(alloc, shown, address, id, sms)?)
+    let members = members_of(alloc, shown)?;
+    Ok(object(alloc, members)?)
 }
 
-fn shown_object(
-    alloc: Global,
-    shown: &View<'_>,
-    address: String,
-    id: String,
-    sms: Value,
-) -> Result<Value, AllocError>
-    requires address { string_bytes address ≡ addr_text shown.now.address }
-    requires id { string_bytes id ≡ id_of shown.now.id }
-    requires sms { view sms ≡ text_or_null shown.now.sms }
-    ensures { IfOk result (λ value. view value ≡ shown_json shown.now) }
+fn members_of<'a>(alloc: Global, shown: &'a View<'_>) -> Result<Members<'a>, NoMemory>
+    ensures { IfOk result (λ members. TellsOf members shown.now) }
+{
+    Ok(Members {
+        address: shown.address.print(alloc)?,
+        binding: shown.binding.as_str(),
+        endpoint: shown.endpoint,
+        id: hex::encode(alloc, shown.id.to_bytes())?,
+        lifetime: shown.lifetime,
+        lwm2m: shown.version.as_str(),
+        objects: shown.objects.as_str(),
+        queue: shown.queue,
+        seen: shown.seen.ms(),
+        sms: text_value(alloc, shown.sms)?,
+    })
+}
+
+fn object(alloc: Global, members: Members<'_>) -> Result<Value, AllocError>
+    ensures { IfOk result (λ value. view value ≡ members_json members.entry) }
 {
     json!(in alloc; {
-        "address": address,
-        "binding": shown.binding.as_str(),
-        "endpoint": shown.endpoint,
-        "id": id,
-        "lifetime": shown.lifetime,
-        "lwm2m": shown.version.as_str(),
-        "objects": shown.objects,
-        "queue": shown.queue,
-        "seen": shown.seen.ms(),
-        "sms": sms
+        "address": members.address,
+        "binding": members.binding,
+        "endpoint": members.endpoint,
+        "id": members.id,
+        "lifetime": members.lifetime,
+        "lwm2m": members.lwm2m,
+        "objects": members.objects,
+        "queue": members.queue,
+        "seen": members.seen,
+        "sms": members.sms
     })
 }
 

@@ -6,6 +6,7 @@ use crate::json::shown_text;
 use crate::line::{LONGEST_LINE, read_line};
 use crate::one::one;
 use crate::output::write_text;
+use lw_node::LinkText;
 use lw_reg::{Addr, Binding, Version, View};
 use lw_stamp::{Moment, Stamp};
 use std::io::{self, ErrorKind, Read, Write};
@@ -158,7 +159,7 @@ fn hex_lines(rt: HostRuntime) -> Result<(), Fail> {
     Ok(())
 }
 
-fn registration(endpoint: &str) -> View<'_> {
+fn registration<'a>(endpoint: &'a str, objects: &'a LinkText) -> View<'a> {
     View {
         endpoint,
         id: Stamp {
@@ -175,25 +176,26 @@ fn registration(endpoint: &str) -> View<'_> {
         binding: Binding::U,
         queue: false,
         sms: None,
-        objects: "</3/0>",
+        objects,
     }
 }
 
 #[test]
 fn registrations_as_json(rt: HostRuntime) -> Result<(), Fail> {
-    let text = shown_text(rt.alloc(), &registration("a"))?;
+    let objects = LinkText::read(rt.alloc(), b"</3/0>;ct=\"1\\\"\"")?;
+    let text = shown_text(rt.alloc(), &registration("a", &objects))?;
     assert_eq!(rt;
         text.as_str(),
-        "{\"address\":\"127.0.0.1:5683\",\"binding\":\"U\",\"endpoint\":\"a\",\"id\":\"0000000000010001\",\"lifetime\":60,\"lwm2m\":\"1.1\",\"objects\":\"</3/0>\",\"queue\":false,\"seen\":0,\"sms\":null}"
+        "{\"address\":\"127.0.0.1:5683\",\"binding\":\"U\",\"endpoint\":\"a\",\"id\":\"0000000000010001\",\"lifetime\":60,\"lwm2m\":\"1.1\",\"objects\":\"</3/0>;ct=\\\"1\\\\\\\"\\\"\",\"queue\":false,\"seen\":0,\"sms\":null}"
     );
-    let mut other = registration("a\"b\n");
+    let mut other = registration("a\"b\n", &objects);
     other.version = Version::V10;
     other.queue = true;
     other.sms = Some("+49");
     let text = shown_text(rt.alloc(), &other)?;
     assert_eq!(rt;
         text.as_str(),
-        "{\"address\":\"127.0.0.1:5683\",\"binding\":\"U\",\"endpoint\":\"a\\\"b\\n\",\"id\":\"0000000000010001\",\"lifetime\":60,\"lwm2m\":\"1.0\",\"objects\":\"</3/0>\",\"queue\":true,\"seen\":0,\"sms\":\"+49\"}"
+        "{\"address\":\"127.0.0.1:5683\",\"binding\":\"U\",\"endpoint\":\"a\\\"b\\n\",\"id\":\"0000000000010001\",\"lifetime\":60,\"lwm2m\":\"1.0\",\"objects\":\"</3/0>;ct=\\\"1\\\\\\\"\\\"\",\"queue\":true,\"seen\":0,\"sms\":\"+49\"}"
     );
     Ok(())
 }
@@ -209,7 +211,8 @@ fn answers(rt: HostRuntime) -> Result<(), Fail> {
         answer(rt.alloc(), Some(reply), None)?.as_slice(),
         b"608000ab\n".as_slice()
     );
-    let text = answer(rt.alloc(), Some(&[]), Some(&registration("a")))?;
+    let objects = LinkText::read(rt.alloc(), b"</3/0>")?;
+    let text = answer(rt.alloc(), Some(&[]), Some(&registration("a", &objects)))?;
     assert!(rt; text.starts_with(b"\n{\"address\":"));
     assert!(rt; text.ends_with(b"\"sms\":null}\n"));
     Ok(())

@@ -1,18 +1,20 @@
 -- What a node does with a datagram is what the datagram means.
-use Rattle.std.proofs.Common.{◌≡◌, ℕ, ◌+◌, ◌*◌, ◌<◌, ◌≤◌, ◌-◌, ◌^◌, ◌⊎◌, Bool, true, false, cond, List, [], ◌∷◌, ◌++◌, length, get_or, Option, Some, None, Result, Ok, Err, refl, sym, ap, subst, ◌∙◌, arith, inl, inr}
+use Rattle.std.proofs.Common.{◌≡◌, ◌≢◌, ◌↔◌, ℕ, ◌+◌, ◌*◌, ◌≤◌, ◌⊎◌, List, [], ◌∷◌, ◌++◌, length, get_or, Option, Some, None, Result, Ok, Err, refl, sym, ap, subst, ◌∙◌, arith, inl, inr, length-append}
 use Rattle.std.specs.Prelude.{IfOk}
-use Rattle.lw_stamp.specs.declared.no_memory.NoMemory.{NoMemory}
 use Rattle.lw_coap.specs.declared.message.Kind.{Kind}
 use Rattle.lw_coap.specs.declared.message.Kind.TheVariants.{Con, Non, Ack, Rst}
 use Rattle.lw_coap.specs.Message.{MessageContent}
-use Rattle.lw_coap.specs.Grammar.{kind_number, IsHeader}
+use Rattle.lw_coap.specs.Grammar.{kind_number, IsPayload, IsSpelling}
 use Rattle.lw_coap.specs.Header.{HasHeader, HasNoHeader}
 use Rattle.lw_node.specs.declared.role.Role.{Role}
 use Rattle.lw_node.specs.declared.role.Role.TheVariants.{Ignored, Ping, Request, Unanswered}
 use Rattle.lw_node.specs.Marks.{Operation}
-use Rattle.lw_node.specs.Register.{AskedContent, IsRegister}
+use Rattle.lw_link.specs.declared.fault.LinkFault.{LinkFault}
+use Rattle.lw_link.specs.declared.fault.LinkFault.TheVariants.{NotText, Grammar, NoMemory as WantOfMemory}
+use Rattle.lw_link.specs.Faults.{IsFault}
+use Rattle.lw_node.specs.Register.{AskedContent, IsAsked, IsTooLong, IsRegister, SpellsNone}
 use Rattle.lw_node.specs.Node.{NodeContent, TakenContent, IsIssued, after}
-use Rattle.lw_node.specs.Meaning.{Arrival, Effect, nothing, replies, reset_of, bad_request, unavailable, created, IsMade, IsCreated, RegisterMeans, RequestMeans, role_of, RoleMeans, MessageMeans, HasNoConfirmable, MalformedMeans, IsReply, Follows, RepliesMalformed}
+use Rattle.lw_node.specs.Meaning.{Arrival, Effect, nothing, replies, reset_of, bad_request, too_large, RegisterMeans, RequestMeans, role_of, RoleMeans, MessageMeans, HasNoConfirmable, IsReply, Follows, RepliesMalformed}
 use Rattle.lw_node.proofs.Shown.{issued_more}
 
 -- what holds of each value holds of the one that is there
@@ -62,6 +64,48 @@ means_ping arrival m r is h = subst (λ (x : Role). RoleMeans x arrival m (repli
 
 pub means_request : (arrival : Arrival) (m : MessageContent) (r : Role) (e : Effect) → r ≡ role_of m.kind m.code → r ≡ Request → RequestMeans arrival m e → MessageMeans arrival m e
 means_request arrival m r e is h meant = subst (λ (x : Role). RoleMeans x arrival m e) (sym h ∙ is) meant
+
+-- ---- requests
+
+payload_within : (bytes payload : List ℕ) → IsPayload bytes payload → length payload ≤ length bytes
+payload_within bytes [] h = omega arith
+payload_within bytes (b ∷ payload) h =
+    let same : length bytes ≡ length (255 ∷ b ∷ payload) = ap length h in
+    omega (arith, same)
+
+-- a payload is no longer than its message
+pub payload_fits : (bytes : List ℕ) (m : MessageContent) → IsSpelling bytes m → length m.payload ≤ 8192
+payload_fits bytes m s =
+    let whole : length bytes ≡ 4 + length (m.token ++ (s.option_bytes ++ s.payload_bytes)) = ap length (s.header).bytes_are ∙ omega arith in
+    let behind = length-append m.token (s.option_bytes ++ s.payload_bytes) in
+    let last = length-append s.option_bytes s.payload_bytes in
+    let within = payload_within s.payload_bytes m.payload s.payload in
+    omega (arith, whole, behind, last, within, s.within)
+
+-- which faults are answered
+abbrev pub AnswersFaults : {T : Type 0} → List ℕ → Result T LinkFault → Type 0
+AnswersFaults bytes r = (fault : LinkFault) → fault ≢ WantOfMemory → ((r ≡ Err fault) ↔ IsFault bytes fault)
+
+pub fault_is : {T : Type 0} (bytes : List ℕ) (r : Result T LinkFault) (found fault : LinkFault) → AnswersFaults bytes r → r ≡ Err found → found ≡ fault → fault ≢ WantOfMemory → IsFault bytes fault
+fault_is bytes r found fault answers is same other = (answers fault other).0 (is ∙ ap Err same)
+
+pub no_text : (bytes : List ℕ) → IsFault bytes NotText → SpellsNone bytes
+no_text bytes fault links spells = fault spells.0
+
+pub no_list : (bytes : List ℕ) (place : ℕ) → IsFault bytes (Grammar place) → SpellsNone bytes
+no_list bytes place fault = fault.1
+
+pub means_none : (arrival : Arrival) (m : MessageContent) → SpellsNone m.payload → RequestMeans arrival m (replies (bad_request m))
+means_none arrival m none = inr (inr (λ asked is. none, refl))
+
+pub means_unasked : (arrival : Arrival) (m : MessageContent) → ((asked : AskedContent) → ¬ IsAsked m asked) → RequestMeans arrival m (replies (bad_request m))
+means_unasked arrival m unasked = inr (inr (λ asked is. absurd (unasked asked is), refl))
+
+pub means_too_long : (arrival : Arrival) (m : MessageContent) (asked : AskedContent) → IsAsked m asked → IsTooLong m.payload → RequestMeans arrival m (replies (too_large m))
+means_too_long arrival m asked is long = inr (inl (asked, is, long, refl))
+
+pub means_register : (arrival : Arrival) (m : MessageContent) (asked : AskedContent) (objects : List ℕ) (e : Effect) → IsRegister m asked objects → RegisterMeans arrival m asked objects e → RequestMeans arrival m e
+means_register arrival m asked objects e is meant = inl (asked, objects, is, meant)
 
 -- ---- bytes that are no message
 

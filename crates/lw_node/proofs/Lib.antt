@@ -1,7 +1,6 @@
 pub mod Latest
 pub mod Shown
 pub mod Effects
-pub mod RegisterLinks
 pub mod RegisterOptions
 pub mod First
 pub mod Runs

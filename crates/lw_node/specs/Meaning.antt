@@ -1,6 +1,6 @@
 -- What a datagram means to a node (LwM2M 1.1 Core, section 6.2; RFC 7252, sections 4.2, 4.3 and 5.2):
 -- a reply or none, and an operation or none.
-use Rattle.std.specs.Prelude.{◌≡◌, ℕ, ◌+◌, ◌-◌, ◌^◌, ◌⊎◌, ◌==◌, nat_lt, Bool, false, if◌then◌else◌, List, [], ◌∷◌, codes, Option, Some, None}
+use Rattle.std.specs.Prelude.{◌≡◌, ℕ, ◌+◌, ◌-◌, ◌^◌, ◌⊎◌, ◌==◌, nat_lt, false, if◌then◌else◌, List, [], ◌∷◌, codes, Option, Some, None}
 use Rattle.lw_stamp.specs.declared.stamp.Stamp.{Stamp}
 use Rattle.lw_stamp.specs.Stamp.{id_of}
 use Rattle.lw_coap.specs.declared.message.Kind.{Kind}
@@ -11,12 +11,11 @@ use Rattle.lw_coap.specs.Grammar.{IsSpelling}
 use Rattle.lw_coap.specs.Faults.{IsFault}
 use Rattle.lw_coap.specs.Header.{HasHeader}
 use Rattle.lw_reg.specs.declared.addr.Addr.{Addr}
-use Rattle.lw_reg.specs.declared.binding.Binding.{Binding}
 use Rattle.lw_reg.specs.Binding.{binding_text}
 use Rattle.lw_node.specs.declared.role.Role.{Role}
 use Rattle.lw_node.specs.declared.role.Role.TheVariants.{Ignored, Ping, Request, Unanswered}
 use Rattle.lw_node.specs.Marks.{Operation}
-use Rattle.lw_node.specs.Register.{AskedContent, IsRegister}
+use Rattle.lw_node.specs.Register.{AskedContent, IsAsked, IsRegister, IsTooLong, SpellsNone}
 use Rattle.lw_node.specs.Node.{NodeContent, after}
 
 -- where and when a datagram comes: the node's number and clock, the moment, and the source address
@@ -53,9 +52,12 @@ abbrev pub answer_to : MessageContent → ℕ → List OptionContent → Message
 answer_to request code options =
     record { kind = answer_kind request.kind; code = code; mid = request.mid; token = request.token; options = options; payload = [] }
 
--- 4.00 Bad Request, and 5.03 Service Unavailable
+-- 4.00 Bad Request, 4.13 Request Entity Too Large, and 5.03 Service Unavailable
 abbrev pub bad_request : MessageContent → MessageContent
 bad_request request = answer_to request 128 []
+
+abbrev pub too_large : MessageContent → MessageContent
+too_large request = answer_to request 141 []
 
 abbrev pub unavailable : MessageContent → MessageContent
 unavailable request = answer_to request 163 []
@@ -65,9 +67,9 @@ abbrev pub created : MessageContent → Stamp → MessageContent
 created request id =
     answer_to request 65 (record { number = 8; value = codes "rd" } ∷ record { number = 8; value = id_of id } ∷ [])
 
--- The registration that is made: version, lifetime and objects as asked for, the binding `U`, no queue
--- mode, no SMS number, seen at this moment from the source address.
-pub record IsMade (asked : AskedContent) (id : Stamp) (now : ℕ) (source : Addr) (made : Operation) : Type 0 where
+-- The registration that is made: version and lifetime as asked for, the object list, the binding `U`, no
+-- queue mode, no SMS number, seen at this moment from the source address.
+pub record IsMade (asked : AskedContent) (objects : List ℕ) (id : Stamp) (now : ℕ) (source : Addr) (made : Operation) : Type 0 where
   pub endpoint : made.endpoint ≡ asked.endpoint
   pub identifier : made.id ≡ id
   pub address : made.address ≡ source
@@ -77,27 +79,29 @@ pub record IsMade (asked : AskedContent) (id : Stamp) (now : ℕ) (source : Addr
   pub binding : binding_text made.binding ≡ codes "U"
   pub queue : made.queue ≡ false
   pub sms : made.sms ≡ None
-  pub objects : made.objects ≡ asked.objects
+  pub objects_are : made.objects ≡ objects
 
 -- it is made with the next stamp of the node's clock, and the reply says where it is
-pub record IsCreated (arrival : Arrival) (request : MessageContent) (asked : AskedContent) (effect : Effect) : Type 0 where
+pub record IsCreated (arrival : Arrival) (request : MessageContent) (asked : AskedContent) (objects : List ℕ) (effect : Effect) : Type 0 where
   pub id : Stamp
   pub counter : id.counter ≡ arrival.clock + 1
   pub node : id.node ≡ arrival.number
   pub operation : Operation
-  pub made : IsMade asked id arrival.now arrival.source operation
+  pub made : IsMade asked objects id arrival.now arrival.source operation
   pub effect_is : effect ≡ record { reply = Some (created request id); operation = Some operation }
 
 -- With the clock at its end a Register is refused; otherwise it is an operation.
-abbrev pub RegisterMeans : Arrival → MessageContent → AskedContent → Effect → Type 0
-RegisterMeans arrival request asked effect =
-    ((arrival.clock ≡ 2 ^ 48 - 1) × (effect ≡ replies (unavailable request))) ⊎ IsCreated arrival request asked effect
+abbrev pub RegisterMeans : Arrival → MessageContent → AskedContent → List ℕ → Effect → Type 0
+RegisterMeans arrival request asked objects effect =
+    ((arrival.clock ≡ 2 ^ 48 - 1) × (effect ≡ replies (unavailable request))) ⊎ IsCreated arrival request asked objects effect
 
--- a request that is no Register is refused
+-- A request is a Register; or one in all but that its payload spells too many links; or else it is no
+-- Register, or its payload spells no links.
 abbrev pub RequestMeans : Arrival → MessageContent → Effect → Type 0
 RequestMeans arrival request effect =
-    ((asked : AskedContent) × IsRegister request asked × RegisterMeans arrival request asked effect)
-    ⊎ (((asked : AskedContent) → ¬ IsRegister request asked) × (effect ≡ replies (bad_request request)))
+    ((asked : AskedContent) × (objects : List ℕ) × IsRegister request asked objects × RegisterMeans arrival request asked objects effect)
+    ⊎ (((asked : AskedContent) × IsAsked request asked × IsTooLong request.payload × (effect ≡ replies (too_large request)))
+    ⊎ (((asked : AskedContent) → IsAsked request asked → SpellsNone request.payload) × (effect ≡ replies (bad_request request))))
 
 -- by type and code: a code below 1.00 is that of a request, and 0.00 is that of an empty message
 abbrev pub role_of : Kind → ℕ → Role
@@ -153,15 +157,18 @@ pub record Follows (Meant : Effect → Type 0) (old : NodeContent) (reply : Opti
   pub replied : IsReply reply effect.reply
   pub left : new ≡ after old effect.operation
 
--- A node takes a datagram, a message, or a Register.
+-- A node takes a datagram, a message, a request, or a Register.
 abbrev pub Takes : NodeContent → ℕ → Addr → List ℕ → Option (List ℕ) → NodeContent → Type 0
 Takes old now source bytes reply new = Follows (DatagramMeans (arrival_at old now source) bytes) old reply new
 
 abbrev pub TakesMessage : NodeContent → ℕ → Addr → MessageContent → Option (List ℕ) → NodeContent → Type 0
 TakesMessage old now source message reply new = Follows (MessageMeans (arrival_at old now source) message) old reply new
 
-abbrev pub TakesRegister : NodeContent → ℕ → Addr → MessageContent → AskedContent → Option (List ℕ) → NodeContent → Type 0
-TakesRegister old now source request asked reply new = Follows (RegisterMeans (arrival_at old now source) request asked) old reply new
+abbrev pub TakesRequest : NodeContent → ℕ → Addr → MessageContent → Option (List ℕ) → NodeContent → Type 0
+TakesRequest old now source request reply new = Follows (RequestMeans (arrival_at old now source) request) old reply new
+
+abbrev pub TakesRegister : NodeContent → ℕ → Addr → MessageContent → AskedContent → List ℕ → Option (List ℕ) → NodeContent → Type 0
+TakesRegister old now source request asked objects reply new = Follows (RegisterMeans (arrival_at old now source) request asked objects) old reply new
 
 -- what is answered to bytes that are no message
 pub record RepliesMalformed (bytes : List ℕ) (reply : Option (List ℕ)) : Type 0 where

@@ -1,20 +1,22 @@
 -- Which messages are a Register, and what each asks for (LwM2M 1.1 Core, section 6.2.1; LwM2M 1.1
--- Transport, section 6.4.3; RFC 7252, section 5.10; RFC 6690, section 2). This server takes a narrow set:
--- a message that these definitions do not name is no Register.
-use Rattle.std.specs.Prelude.{◌≡◌, ◌≢◌, ℕ, ◌+◌, ◌*◌, ◌-◌, ◌<◌, ◌≤◌, ◌⊎◌, ◌==◌, if◌then◌else◌, List, [], ◌∷◌, ◌++◌, length, map, fold, codes, Option, Some, None, IsUtf8, bytes_eq}
-use Rattle.std.specs.List.{before_first, after_first, join_with_byte, AllByRecursion}
+-- Transport, section 6.4.3; RFC 7252, section 5.10). This server takes a narrow set: a message that these
+-- definitions do not name is no Register.
+use Rattle.std.specs.Prelude.{◌≡◌, ℕ, ◌+◌, ◌*◌, ◌-◌, ◌<◌, ◌≤◌, ◌⊎◌, ◌==◌, if◌then◌else◌, List, [], ◌∷◌, length, fold, codes, Option, Some, None, IsUtf8, bytes_eq}
+use Rattle.std.specs.List.{before_first, after_first, AllByRecursion}
 use Rattle.lw_coap.specs.Message.{OptionContent, MessageContent}
 use Rattle.lw_coap.specs.Number.{number_of}
+use Rattle.lw_link.specs.Link.{LinkContent}
+use Rattle.lw_link.specs.Spelling.{Spells}
+use Rattle.lw_link.specs.Printing.{printing}
 use Rattle.lw_reg.specs.declared.version.Version.{Version}
 use Rattle.lw_reg.specs.declared.version.Version.TheVariants.{V10}
 use Rattle.lw_reg.specs.Version.{version_text}
 
--- what a Register asks for; the lifetime in seconds
+-- what a Register asks for besides its object list; the lifetime in seconds
 pub record AskedContent : Type 0 where
   pub endpoint : List ℕ
   pub lifetime : ℕ
   pub version : Version
-  pub objects : List ℕ
 
 -- the values of the options with a number, in their order
 abbrev pub values_of : ℕ → List OptionContent → List (List ℕ)
@@ -66,24 +68,8 @@ abbrev pub IsVersion : Option (List ℕ) → Version → Type 0
 IsVersion None version = version ≡ V10
 IsVersion (Some text) version = text ≡ version_text version
 
--- a character of a link's target: U+0021 to U+007E without `<` and `>`
-abbrev pub IsTargetCharacter : ℕ → Type 0
-IsTargetCharacter c = (33 ≤ c) × (c ≤ 126) × (c ≢ 60) × (c ≢ 62)
-
--- `<target>`
-abbrev pub link : List ℕ → List ℕ
-link target = (60 ∷ target) ++ (62 ∷ [])
-
--- 1 to 256 links without attributes, with commas between them
-pub record AreLinks (payload : List ℕ) : Type 0 where
-  pub targets : List (List ℕ)
-  pub some : 1 ≤ length targets
-  pub most : length targets ≤ 256
-  pub characters : AllByRecursion (AllByRecursion IsTargetCharacter) targets
-  pub payload_is : payload ≡ join_with_byte 44 (map link targets)
-
--- The message is a Register of the path `rd`, and this is what it asks for.
-pub record IsRegister (message : MessageContent) (asked : AskedContent) : Type 0 where
+-- The message is a Register of the path `rd` in all but its payload, and this is what it asks for.
+pub record IsAsked (message : MessageContent) (asked : AskedContent) : Type 0 where
   pub method : message.code ≡ 2
   pub options : AllByRecursion IsUnderstood message.options
   pub path : values_of 11 message.options ≡ codes "rd" ∷ []
@@ -93,5 +79,19 @@ pub record IsRegister (message : MessageContent) (asked : AskedContent) : Type 0
   pub named : 1 ≤ length asked.endpoint
   pub lifetime : IsLifetime (last_value (codes "lt") (values_of 15 message.options)) asked.lifetime
   pub version : IsVersion (last_value (codes "lwm2m") (values_of 15 message.options)) asked.version
-  pub objects : asked.objects ≡ message.payload
-  pub links : AreLinks message.payload
+
+-- the bytes spell 1 to 256 links, and the object list is their printing
+abbrev pub IsObjectList : List ℕ → List ℕ → Type 0
+IsObjectList bytes objects = (links : List LinkContent) × Spells bytes links × (length links ≤ 256) × (objects ≡ printing links)
+
+-- the bytes spell more links than an object list has
+abbrev pub IsTooLong : List ℕ → Type 0
+IsTooLong bytes = (links : List LinkContent) × Spells bytes links × (256 < length links)
+
+-- the bytes spell no links
+abbrev pub SpellsNone : List ℕ → Type 0
+SpellsNone bytes = (links : List LinkContent) → ¬ Spells bytes links
+
+-- the message is a Register, and its payload this object list
+abbrev pub IsRegister : MessageContent → AskedContent → List ℕ → Type 0
+IsRegister message asked objects = IsAsked message asked × IsObjectList message.payload objects

@@ -12,6 +12,7 @@ mod role;
 mod run;
 mod taken;
 
+pub use lw_link::LinkText;
 pub use lw_reg::{Addr, Binding, Seen, Text, Version, View};
 pub use node::Node;
 pub use run::{Event, Outcome, run_node};

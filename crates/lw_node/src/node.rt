@@ -4,13 +4,14 @@ ghost use Rattle.lw_node.specs.Marks.{left_by};
 ghost use Rattle.lw_node.specs.Answers.{ByEndpoint, FirstAfter};
 ghost use Rattle.lw_node.specs.Lists.{after_text};
 ghost use Rattle.lw_node.specs.Node.{fresh};
-ghost use Rattle.lw_node.specs.Meaning.{Takes, TakesMessage, TakesRegister, IsSilent, HasNoConfirmable, RepliesMalformed, IsMade};
+ghost use Rattle.lw_node.specs.Meaning.{Takes, TakesMessage, TakesRequest, TakesRegister, IsSilent, HasNoConfirmable, RepliesMalformed, IsMade};
 
 use crate::register::{Asked, read_register};
 use crate::role::Role;
 use crate::taken::Taken;
 use crate::{answers, reply};
 use lw_coap::{Fault, Kind, Message, codes, decode, peek_header};
+use lw_link::{LinkFault, LinkText};
 use lw_reg::{Addr, Binding, Seen, Text, View};
 use lw_stamp::{Clock, Moment, NoMemory, Stamp};
 use std::alloc::Global;
@@ -50,6 +51,7 @@ impl Node {
     /// Takes a datagram that came at this moment from this address.
     ///
     /// `NoMemory` may come in place of any answer, save where bytes that are no message get no reply.
+    #[tactic(auto, using(crate::proofs::Effects::payload_fits))]
     pub fn take(&mut self, now: Moment, from: Addr, bytes: &[u8]) -> Result<Taken, NoMemory>
         ensures meaning { IfOk result (λ t. Takes self.old (ms_of now) from bytes.now t.reply self.new) }
         ensures unchanged { OnErr result (self.new ≡ self.old) }
@@ -69,7 +71,8 @@ impl Node {
         from: Addr,
         message: &Message,
     ) -> Result<Taken, NoMemory>
-        requires { length message.now.token ≤ 8 }
+        requires token { length message.now.token ≤ 8 }
+        requires payload { length message.now.payload ≤ 8192 }
         ensures meaning { IfOk result (λ t. TakesMessage self.old (ms_of now) from message.now t.reply self.new) }
         ensures unchanged { OnErr result (self.new ≡ self.old) }
     {
@@ -77,10 +80,33 @@ impl Node {
         match Role::of(message.kind, message.code) {
             Role::Ignored | Role::Unanswered => Ok(Taken { reply: None }),
             Role::Ping => reply::reset(alloc, message.mid),
-            Role::Request => match read_register(message) {
-                Some(asked) => self.register(now, from, message, &asked),
-                None => reply::refusal(alloc, message, codes::BAD_REQUEST),
-            },
+            Role::Request => self.take_request(now, from, message),
+        }
+    }
+
+    fn take_request(
+        &mut self,
+        now: Moment,
+        from: Addr,
+        request: &Message,
+    ) -> Result<Taken, NoMemory>
+        requires token { length request.now.token ≤ 8 }
+        requires payload { length request.now.payload ≤ 8192 }
+        ensures meaning { IfOk result (λ t. TakesRequest self.old (ms_of now) from request.now t.reply self.new) }
+        ensures unchanged { OnErr result (self.new ≡ self.old) }
+    {
+        let alloc = *self.operations.allocator();
+        let Some(asked) = read_register(request) else {
+            return reply::refusal(alloc, request, codes::BAD_REQUEST);
+        };
+        match LinkText::read(alloc, &request.payload) {
+            Ok(objects) => self.register(now, from, request, &asked, objects),
+            Err(LinkFault::NotText) => reply::refusal(alloc, request, codes::BAD_REQUEST),
+            Err(LinkFault::Grammar { .. }) => reply::refusal(alloc, request, codes::BAD_REQUEST),
+            Err(LinkFault::TooMany) => {
+                reply::refusal(alloc, request, codes::REQUEST_ENTITY_TOO_LARGE)
+            }
+            Err(LinkFault::NoMemory) => Err(NoMemory),
         }
     }
 
@@ -91,9 +117,10 @@ impl Node {
         from: Addr,
         request: &Message,
         asked: &Asked<'_>,
+        objects: LinkText,
     ) -> Result<Taken, NoMemory>
         requires { length request.now.token ≤ 8 }
-        ensures meaning { IfOk result (λ t. TakesRegister self.old (ms_of now) from request.now asked.now t.reply self.new) }
+        ensures meaning { IfOk result (λ t. TakesRegister self.old (ms_of now) from request.now asked.now objects t.reply self.new) }
         ensures unchanged { OnErr result (self.new ≡ self.old) }
     {
         let alloc = *self.operations.allocator();
@@ -101,7 +128,7 @@ impl Node {
         let Some(stamp) = clock.next(self.number) else {
             return reply::refusal(alloc, request, codes::SERVICE_UNAVAILABLE);
         };
-        let operation = make(alloc, stamp, now, from, asked)?;
+        let operation = make(alloc, stamp, now, from, asked, objects)?;
         let taken = reply::created(alloc, request, &stamp)?;
         self.operations.push(operation)?;
         self.clock = clock;
@@ -144,8 +171,9 @@ fn make(
     now: Moment,
     from: Addr,
     asked: &Asked<'_>,
+    objects: LinkText,
 ) -> Result<Seen, NoMemory>
-    ensures { IfOk result (λ made. IsMade asked.now id (ms_of now) from made) }
+    ensures { IfOk result (λ made. IsMade asked.now objects id (ms_of now) from made) }
 {
     Ok(Seen {
         endpoint: Text::copy_of(alloc, asked.endpoint)?,
@@ -157,6 +185,6 @@ fn make(
         binding: Binding::U,
         queue: false,
         sms: None,
-        objects: Text::copy_of(alloc, asked.objects)?,
+        objects,
     })
 }

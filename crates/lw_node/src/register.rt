@@ -1,7 +1,7 @@
-ghost use Rattle.std.specs.Prelude.{◌≡◌, ◌≢◌, ◌↔◌, ◌≤◌, ◌++◌, ℕ, List, [], ◌∷◌, codes, length, IsTrue, IsUtf8, IfSome, IfNone, option_copied};
+ghost use Rattle.std.specs.Prelude.{◌≡◌, ◌↔◌, ◌≤◌, ℕ, [], ◌∷◌, codes, length, IsTrue, IsUtf8, IfSome, IfNone, option_copied};
 ghost use Rattle.std.specs.List.{AllByRecursion};
 ghost use Rattle.lw_reg.specs.declared.version.Version.{Version as Versions};
-ghost use Rattle.lw_node.specs.Register.{AskedContent, IsRegister, IsUnderstood, IsLinkFormat, IsLifetime, IsVersion, IsDigit, IsTargetCharacter, AreLinks, link, values_of, name_of, value_of, last_value, decimal_value};
+ghost use Rattle.lw_node.specs.Register.{AskedContent, IsAsked, IsUnderstood, IsLinkFormat, IsLifetime, IsVersion, IsDigit, values_of, name_of, value_of, last_value, decimal_value};
 
 use lw_coap::codes::POST;
 use lw_coap::option_numbers::{CONTENT_FORMAT, URI_PATH, URI_QUERY};
@@ -14,16 +14,13 @@ const LINK_FORMAT: u32 = 40;
 
 const DEFAULT_LIFETIME: u32 = 86_400;
 
-const MAX_LINKS: usize = 256;
-
-/// What a Register asks for, lent by its message.
+/// What a Register asks for besides its object list, lent by its message.
 #[derive(Debug, Drop)]
 pub struct Asked<'a> {
     pub endpoint: &'a str,
     /// In seconds; 0 never expires.
     pub lifetime: u32,
     pub version: Version,
-    pub objects: &'a str,
 }
 
 impl<'a> Model for Asked<'a> {
@@ -31,18 +28,16 @@ impl<'a> Model for Asked<'a> {
 
     ghost Value = { AskedContent };
 
-    ghost view = { λ a. record { endpoint = a.endpoint.now; lifetime = a.lifetime; version = a.version; objects = a.objects.now } };
+    ghost view = { λ a. record { endpoint = a.endpoint.now; lifetime = a.lifetime; version = a.version } };
 }
 
-/// What the message asks to be registered, where it is a Register.
-#[tactic(auto, using(crate::proofs::RegisterLinks::text_of_links))]
+/// What the message asks for, where it is a Register in all but its payload.
 pub fn read_register(message: &Message) -> Option<Asked<'_>>
-    ensures some { IfSome result (λ a. IsRegister message.now a) }
-    ensures none { IfNone result ((a : AskedContent) → ¬ IsRegister message.now a) }
+    ensures some { IfSome result (λ a. IsAsked message.now a) }
+    ensures none { IfNone result ((a : AskedContent) → ¬ IsAsked message.now a) }
 {
     let options = message.options.as_slice();
-    let payload = message.payload.as_slice();
-    if message.code != POST || !have_form(options) || !are_links(payload) {
+    if message.code != POST || !have_form(options) {
         return None;
     }
     let endpoint = last_value(options, "ep")?;
@@ -51,12 +46,10 @@ pub fn read_register(message: &Message) -> Option<Asked<'_>>
     }
     let lifetime = lifetime_of(last_value(options, "lt"))?;
     let version = version_of(last_value(options, "lwm2m"))?;
-    let objects = str::from_utf8(payload).ok()?;
     Some(Asked {
         endpoint,
         lifetime,
         version,
-        objects,
     })
 }
 
@@ -196,49 +189,6 @@ fn version_of(text: Option<&str>) -> Option<Version>
         None => Some(Version::V10),
         Some(text) => Version::read(text),
     }
-}
-
-/// Whether the payload is 1 to 256 links without attributes (RFC 6690, section 2).
-fn are_links(payload: &[u8]) -> bool
-    ensures { IsTrue result ↔ AreLinks payload.now }
-{
-    let mut rest = payload;
-    for _link in 0..MAX_LINKS {
-        let Some(behind) = after_link(rest) else {
-            return false;
-        };
-        match behind {
-            [] => return true,
-            [b',', links @ ..] => rest = links,
-            _ => return false,
-        }
-    }
-    false
-}
-
-/// What stands behind the link that the bytes begin with.
-fn after_link(bytes: &[u8]) -> Option<&[u8]>
-    ensures some { IfSome result (λ rest. (target : List ℕ) × AllByRecursion IsTargetCharacter target × (bytes.now ≡ link target ++ rest.now)) }
-    ensures none { IfNone result ((target rest : List ℕ) → AllByRecursion IsTargetCharacter target → bytes.now ≢ link target ++ rest) }
-{
-    let [b'<', inner @ ..] = bytes else {
-        return None;
-    };
-    for (i, c) in inner.iter().enumerate() {
-        if *c == b'>' {
-            return Some(&inner[i + 1..]);
-        }
-        if !is_target_character(*c) {
-            return None;
-        }
-    }
-    None
-}
-
-fn is_target_character(c: u8) -> bool
-    ensures { IsTrue result ↔ IsTargetCharacter c }
-{
-    matches!(c, b'!'..=b'~') && c != b'<' && c != b'>'
 }
 
 #[cfg(test)]

@@ -52,7 +52,7 @@ fn a_register_is_answered_and_shown(rt: HostRuntime) -> Result<(), Fail> {
     assert_eq!(rt; view.binding.as_str(), "U");
     assert_eq!(rt; view.queue, false);
     assert!(rt; view.sms.is_none());
-    assert_eq!(rt; view.objects, "</3/0>");
+    assert_eq!(rt; view.objects.as_str(), "</3/0>");
     Ok(())
 }
 
@@ -122,6 +122,89 @@ fn each_datagram_has_its_reply(rt: HostRuntime) -> Result<(), Fail> {
     Ok(())
 }
 
+/// A Register of `a` with these options and this payload, message ID 4, in hex.
+fn register_with(alloc: Global, options: &str, payload: &[u8]) -> Result<String, Fail> {
+    let payload = hex::encode(alloc, payload)?;
+    Ok(format!(in alloc; "40020004b272644465703d61{options}ff{payload}")?)
+}
+
+#[test]
+fn an_object_list_is_kept_as_its_printing(rt: HostRuntime) -> Result<(), Fail> {
+    for (payload, objects) in [
+        (
+            r#"</>;rt="oma.lwm2m,x";ct=110, </3/0>"#,
+            r#"</>;rt="oma.lwm2m,x";ct=110,</3/0>"#,
+        ),
+        (
+            "</1/0>,<~!>,   </3/0>;  ver=1.1",
+            "</1/0>,<~!>,</3/0>;ver=1.1",
+        ),
+        (r#"</3/0>;x="a\"b\c""#, r#"</3/0>;x="a\"bc""#),
+        ("<>", "<>"),
+    ] {
+        let mut node = Node::new(rt.alloc(), 1);
+        let datagram = register_with(rt.alloc(), "", payload.as_bytes())?;
+        let answer = reply(rt.alloc(), &mut node, Moment::START, datagram.as_str())?;
+        assert_eq!(rt;
+            answer.as_str(),
+            "604100048272640d0330303030303030303030303130303031"
+        );
+        let view = node
+            .by_endpoint(Moment::START, "a")
+            .ok_or("a registration is shown")?;
+        assert_eq!(rt; view.objects.as_str(), objects);
+    }
+    Ok(())
+}
+
+#[test]
+fn other_payloads_are_bad_requests(rt: HostRuntime) -> Result<(), Fail> {
+    let mut node = Node::new(rt.alloc(), 1);
+    for payload in [
+        b"<a b>".as_slice(),
+        b"x",
+        b"</1/0",
+        b"/1/0>",
+        b"</1/0>,",
+        b"</1/0> ,</3/0>",
+        b"</1/0>;",
+        b"<</1/0>",
+        b"<\x7f>",
+        b"<\xff>",
+    ] {
+        let datagram = register_with(rt.alloc(), "", payload)?;
+        let answer = reply(rt.alloc(), &mut node, Moment::START, datagram.as_str())?;
+        assert_eq!(rt; answer.as_str(), "60800004", "to {payload:?}");
+    }
+    let no_payload = "40020004b272644465703d61";
+    let answer = reply(rt.alloc(), &mut node, Moment::START, no_payload)?;
+    assert_eq!(rt; answer.as_str(), "60800004");
+    Ok(())
+}
+
+#[test]
+fn at_most_256_links(rt: HostRuntime) -> Result<(), Fail> {
+    let mut node = Node::new(rt.alloc(), 1);
+    let mut payload = b"</>".to_vec(rt.alloc())?;
+    for _link in 1..256 {
+        payload.extend_from_slice(b",</>")?;
+    }
+    let most = register_with(rt.alloc(), "", &payload)?;
+    payload.extend_from_slice(b",</>")?;
+    let too_many = register_with(rt.alloc(), "", &payload)?;
+    // `lt=x` besides
+    let bad_query = register_with(rt.alloc(), "046c743d78", &payload)?;
+    for (datagram, want) in [
+        (too_many, "608d0004"),
+        (bad_query, "60800004"),
+        (most, "604100048272640d0330303030303030303030303130303031"),
+    ] {
+        let answer = reply(rt.alloc(), &mut node, Moment::START, datagram.as_str())?;
+        assert_eq!(rt; answer.as_str(), want);
+    }
+    Ok(())
+}
+
 #[test]
 fn a_registration_lasts_its_lifetime(rt: HostRuntime) -> Result<(), Fail> {
     let last = 281474976710655;
@@ -177,7 +260,7 @@ fn the_least_endpoint_comes_first(rt: HostRuntime) -> Result<(), Fail> {
         view.id.id_text().as_slice(),
         b"0000000000030007".as_slice()
     );
-    assert_eq!(rt; view.objects, "</1>");
+    assert_eq!(rt; view.objects.as_str(), "</1>");
     Ok(())
 }
 

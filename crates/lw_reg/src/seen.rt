@@ -1,6 +1,7 @@
 ghost use Rattle.std.specs.Prelude.{◌≡◌};
 
 use crate::{Addr, Binding, Text, Version, View};
+use lw_link::LinkText;
 use lw_stamp::{Moment, Stamp};
 use std::marker::Model;
 
@@ -18,7 +19,7 @@ pub struct Seen {
     pub binding: Binding,
     pub queue: bool,
     pub sms: Option<Text>,
-    pub objects: Text,
+    pub objects: LinkText,
 }
 
 impl Model for Seen {
@@ -55,7 +56,7 @@ impl Seen {
             binding: self.binding,
             queue: self.queue,
             sms: self.sms.as_ref().map(|sms| sms.as_str()),
-            objects: self.objects.as_str(),
+            objects: &self.objects,
         }
     }
 }

@@ -1,4 +1,5 @@
 use super::*;
+use lw_link::LinkText;
 use lw_stamp::{Moment, Stamp};
 use std::test::Fail;
 
@@ -132,16 +133,15 @@ fn versions_have_two_texts(rt: HostRuntime) {
     assert!(rt; Version::V10 < Version::V11);
 }
 
-#[test]
-fn a_view_is_copied_field_by_field(rt: HostRuntime) -> Result<(), Fail> {
-    let id = Stamp {
-        counter: 1,
-        node: 2,
-    };
-    let address = Addr::read("127.0.0.1:5683").ok_or("an address")?;
-    let view = View {
+const ID: Stamp = Stamp {
+    counter: 1,
+    node: 2,
+};
+
+fn shown(address: Addr, objects: &LinkText) -> View<'_> {
+    View {
         endpoint: "a",
-        id,
+        id: ID,
         address,
         seen: Moment::START,
         lifetime: 86400,
@@ -149,11 +149,18 @@ fn a_view_is_copied_field_by_field(rt: HostRuntime) -> Result<(), Fail> {
         binding: Binding::U,
         queue: true,
         sms: Some("+31"),
-        objects: "</3/0>",
-    };
+        objects,
+    }
+}
+
+#[test]
+fn a_view_is_copied_field_by_field(rt: HostRuntime) -> Result<(), Fail> {
+    let address = Addr::read("127.0.0.1:5683").ok_or("an address")?;
+    let objects = LinkText::read(rt.alloc(), b"</3/0>")?;
+    let view = shown(address, &objects);
     let seen = view.to_seen(rt.alloc())?;
     assert_eq!(rt; seen.endpoint.as_str(), "a");
-    assert_eq!(rt; seen.id, id);
+    assert_eq!(rt; seen.id, ID);
     assert_eq!(rt; seen.address, address);
     assert_eq!(rt; seen.seen, Moment::START);
     assert_eq!(rt; seen.lifetime, 86400);
@@ -165,6 +172,6 @@ fn a_view_is_copied_field_by_field(rt: HostRuntime) -> Result<(), Fail> {
     let lent = seen.as_view();
     assert_eq!(rt; lent.endpoint, "a");
     assert_eq!(rt; lent.sms, Some("+31"));
-    assert_eq!(rt; lent.objects, "</3/0>");
+    assert_eq!(rt; lent.objects.as_str(), "</3/0>");
     Ok(())
 }

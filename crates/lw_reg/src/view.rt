@@ -1,6 +1,7 @@
 ghost use Rattle.std.specs.Prelude.{◌≡◌, IfOk};
 
 use crate::{Addr, Binding, Seen, Text, Version};
+use lw_link::LinkText;
 use lw_stamp::{Moment, NoMemory, Stamp};
 use std::alloc::Global;
 use std::marker::Model;
@@ -19,7 +20,7 @@ pub struct View<'a> {
     pub binding: Binding,
     pub queue: bool,
     pub sms: Option<&'a str>,
-    pub objects: &'a str,
+    pub objects: &'a LinkText,
 }
 
 impl<'a> Model for View<'a> {
@@ -62,7 +63,7 @@ impl View<'_> {
             binding: self.binding,
             queue: self.queue,
             sms,
-            objects: Text::copy_of(alloc, self.objects)?,
+            objects: self.objects.copy_of(alloc)?,
         })
     }
 }

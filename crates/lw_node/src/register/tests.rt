@@ -16,8 +16,8 @@ fn push_option(
         .map_err(AllocError::from)
 }
 
-/// A POST with the options and the payload.
-fn post(alloc: Global, options: &[(u16, &[u8])], payload: &[u8]) -> Result<Message, AllocError> {
+/// A POST with the options.
+fn post(alloc: Global, options: &[(u16, &[u8])]) -> Result<Message, AllocError> {
     let mut given = Vec::new(alloc);
     for (number, value) in options {
         push_option(alloc, &mut given, *number, value)?;
@@ -28,7 +28,7 @@ fn post(alloc: Global, options: &[(u16, &[u8])], payload: &[u8]) -> Result<Messa
         mid: 1,
         token: Vec::new(alloc),
         options: given,
-        payload: payload.to_vec(alloc)?,
+        payload: Vec::new(alloc),
     })
 }
 
@@ -38,7 +38,6 @@ fn asks(rt: &impl Abort, message: &Message, endpoint: &str, lifetime: u32, versi
     assert_eq!(rt; asked.endpoint, endpoint);
     assert_eq!(rt; asked.lifetime, lifetime);
     assert!(rt; asked.version == version);
-    assert_eq!(rt; asked.objects.as_bytes(), message.payload.as_slice());
 }
 
 #[test]
@@ -56,7 +55,7 @@ fn queries_of_a_register(rt: HostRuntime) -> Result<(), Fail> {
     ];
     for (first, second, endpoint, lifetime, version) in rows {
         let options: [(u16, &[u8]); 3] = [(11, b"rd"), (15, first), (15, second)];
-        let message = post(rt.alloc(), &options, b"</1/0>,</3/0>")?;
+        let message = post(rt.alloc(), &options)?;
         asks(&rt, &message, endpoint, lifetime, version);
     }
     Ok(())
@@ -81,7 +80,7 @@ fn queries_that_ask_nothing(rt: HostRuntime) -> Result<(), Fail> {
     ];
     for (first, second) in rows {
         let options: [(u16, &[u8]); 3] = [(11, b"rd"), (15, first), (15, second)];
-        let message = post(rt.alloc(), &options, b"</1/0>")?;
+        let message = post(rt.alloc(), &options)?;
         assert!(rt; read_register(&message).is_none());
     }
     Ok(())
@@ -103,47 +102,13 @@ fn options_of_a_register(rt: HostRuntime) -> Result<(), Fail> {
     ];
     for (number, value, asked) in rows {
         let options: [(u16, &[u8]); 3] = [(11, b"rd"), (number, value), (15, b"ep=a")];
-        let message = post(rt.alloc(), &options, b"</1/0>")?;
+        let message = post(rt.alloc(), &options)?;
         assert!(rt;
             read_register(&message).is_some() == asked,
             "{number} {value:?}"
         );
     }
-    let message = post(rt.alloc(), &[(15, b"ep=a")], b"</1/0>")?;
+    let message = post(rt.alloc(), &[(15, b"ep=a")])?;
     assert!(rt; read_register(&message).is_none());
-    Ok(())
-}
-
-#[test]
-fn links(rt: HostRuntime) -> Result<(), Fail> {
-    let rows: [(&[u8], bool); 12] = [
-        (b"</1/0>", true),
-        (b"<>", true),
-        (b"</1/0>,<~!>,</3/0>", true),
-        (b"", false),
-        (b"</1/0", false),
-        (b"/1/0>", false),
-        (b"</1/0>,", false),
-        (b"</1/0>, </3/0>", false),
-        (b"</1/0>;ver=1.1", false),
-        (b"</1 0>", false),
-        (b"<</1/0>", false),
-        (b"<\x7f>", false),
-    ];
-    for (payload, links) in rows {
-        assert!(rt; are_links(payload) == links, "{payload:?}");
-    }
-    Ok(())
-}
-
-#[test]
-fn at_most_256_links(rt: HostRuntime) -> Result<(), Fail> {
-    let mut payload = b"<a>".to_vec(rt.alloc())?;
-    for _link in 1..256 {
-        payload.extend_from_slice(b",<a>")?;
-    }
-    assert!(rt; are_links(&payload));
-    payload.extend_from_slice(b",<a>")?;
-    assert!(rt; !are_links(&payload));
     Ok(())
 }

@@ -1,4 +1,4 @@
-use Rattle.std.proofs.Common.{◌≡◌, ℕ, ◌+◌, Some, refl, sym, ap, ◌∙◌, inl, inr}
+use Rattle.std.proofs.Common.{ℕ, ◌+◌, Some, refl, sym, ap, ◌∙◌, inl, inr}
 use Rattle.lw_stamp.specs.declared.stamp.Stamp.{Stamp}
 use Rattle.lw_stamp.specs.Moment.{ms_of}
 use Rattle.lw_node.specs.Node.{NodeContent}
@@ -11,7 +11,7 @@ returns-in_default-clause-meaning c =
     let request = c.args.request.now in
     let ended = sym (ap (λ (n : NodeContent). n.clock) c.self.view_is) ∙ c.in_default.ensures.end.0 refl in
     if_ok c.refusal.result _ _ c.refusal.ensures
-    (follows_reply (RegisterMeans (arrival_at c.args.self.now (ms_of c.args.now) c.args.from) request c.args.asked.now) c.args.self.now (unavailable request) (inl (ended, refl)))
+    (follows_reply (RegisterMeans (arrival_at c.args.self.now (ms_of c.args.now) c.args.from) request c.args.asked.now c.args.objects) c.args.self.now (unavailable request) (inl (ended, refl)))
 
 pub invariant_of-self-2 : goal.invariant_of-self-2
 invariant_of-self-2 c =
