@@ -2,6 +2,7 @@
 use Rattle.std.specs.Prelude.{◌≡◌, codes, string_bytes}
 use Rattle.serde_json.specs.Data.{Data, boolean, number, unsigned, string, object, member, no_members}
 use Rattle.serde_json.specs.View.{view}
+use Rattle.lw_stamp.specs.Moment.{ms_of}
 use Rattle.lw_stamp.specs.Stamp.{id_of}
 use Rattle.lw_reg.specs.Addr.{addr_text}
 use Rattle.lw_reg.specs.Binding.{binding_text}
@@ -20,7 +21,7 @@ pub record TellsOf (members : Members) (r : Registration) : Type 0 where
   pub lwm2m : (members.lwm2m).now ≡ version_text r.version
   pub objects : (members.objects).now ≡ r.objects
   pub queue : members.queue ≡ r.queue
-  pub seen : members.seen ≡ r.seen
+  pub seen : members.seen ≡ ms_of r.seen
   pub sms : view members.sms ≡ text_or_null r.sms
 
 -- the object with these values

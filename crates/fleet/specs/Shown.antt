@@ -1,6 +1,7 @@
 -- What the program shows of a registration (LwM2M 1.1 Core, section 6.2), as a JSON object (RFC 8259, section 4).
 use Rattle.std.specs.Prelude.{ℕ, List, Option, Some, None, codes}
 use Rattle.serde_json.specs.Data.{Data, null, boolean, number, unsigned, string, object, member, no_members}
+use Rattle.lw_stamp.specs.Moment.{ms_of}
 use Rattle.lw_stamp.specs.Stamp.{id_of}
 use Rattle.lw_reg.specs.Addr.{addr_text}
 use Rattle.lw_reg.specs.Binding.{binding_text}
@@ -23,6 +24,6 @@ shown_json r = object
     (member (codes "lwm2m") (string (version_text r.version))
     (member (codes "objects") (string r.objects)
     (member (codes "queue") (boolean r.queue)
-    (member (codes "seen") (number (unsigned r.seen))
+    (member (codes "seen") (number (unsigned (ms_of r.seen)))
     (member (codes "sms") (text_or_null r.sms)
     no_members))))))))))

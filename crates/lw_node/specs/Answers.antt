@@ -6,6 +6,7 @@ use Rattle.std.specs.declared.cmp.Ordering.TheVariants.{Less}
 use Rattle.std.specs.Ordering.{nat_cmp, ordering_then}
 use Rattle.std.specs.Cmp.Lexicographic.{slice_cmp}
 use Rattle.lw_stamp.specs.declared.stamp.Stamp.{Stamp}
+use Rattle.lw_stamp.specs.Moment.{ms_of}
 use Rattle.lw_stamp.specs.Order.{AtMost, IsGreatest}
 use Rattle.lw_stamp.specs.StampOrder.{stamp_cmp}
 use Rattle.lw_reg.specs.Registration.{Registration}
@@ -38,7 +39,7 @@ pub record IsComplete (M : Marks) (r : Registration) : Type 0 where
 
 -- it never expires, or the lifetime, in seconds, is not over at this moment, in milliseconds
 abbrev pub IsInTime : ℕ → Registration → Type 0
-IsInTime now r = (r.lifetime ≡ 0) ⊎ (now < r.seen + 1000 * r.lifetime)
+IsInTime now r = (r.lifetime ≡ 0) ⊎ (now < ms_of r.seen + 1000 * r.lifetime)
 
 -- a registration is shown at a moment
 pub record IsShown (M : Marks) (now : ℕ) (r : Registration) : Type 0 where

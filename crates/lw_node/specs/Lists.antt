@@ -3,6 +3,7 @@ use Rattle.std.specs.Prelude.{◌≡◌, ℕ, ◌+◌, ◌*◌, ◌==◌, nat_lt
 use Rattle.std.specs.Option.{option_map}
 use Rattle.std.specs.declared.cmp.Ordering.TheVariants.{Less}
 use Rattle.std.specs.Borrow.{Bor}
+use Rattle.lw_stamp.specs.Moment.{ms_of}
 use Rattle.lw_reg.specs.Registration.{Registration}
 use Rattle.lw_node.specs.Marks.{Operation}
 use Rattle.lw_node.specs.Answers.{text_cmp, IsAfter}
@@ -17,7 +18,7 @@ latest_about endpoint [] = None
 latest_about endpoint (o ∷ os) = later (latest_about endpoint os) (if bytes_eq o.endpoint endpoint then Some o else None)
 
 abbrev pub in_time : ℕ → Registration → Bool
-in_time now r = (r.lifetime == 0) || nat_lt now (r.seen + 1000 * r.lifetime)
+in_time now r = (r.lifetime == 0) || nat_lt now (ms_of r.seen + 1000 * r.lifetime)
 
 abbrev pub if_in_time : ℕ → Option Operation → Option Registration
 if_in_time now None = None

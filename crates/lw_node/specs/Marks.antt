@@ -1,6 +1,7 @@
 -- Operations, and the marks that they leave of a registration (LwM2M 1.1 Core, section 6.2).
 use Rattle.std.specs.Prelude.{◌≡◌, ℕ, Bool, List, Option, Contains}
 use Rattle.lw_stamp.specs.declared.stamp.Stamp.{Stamp}
+use Rattle.lw_stamp.specs.declared.moment.Moment.{Moment}
 use Rattle.lw_reg.specs.declared.addr.Addr.{Addr}
 use Rattle.lw_reg.specs.declared.binding.Binding.{Binding}
 use Rattle.lw_reg.specs.declared.version.Version.{Version}
@@ -16,7 +17,7 @@ pub data Trace : Type 0 where
   Named : Trace
   Base : Version → Bool → Trace
   AddressAt : Stamp → Addr → Trace
-  SeenAt : Stamp → ℕ → Trace
+  SeenAt : Stamp → Moment → Trace
   LifetimeAt : Stamp → ℕ → Trace
   BindingAt : Stamp → Binding → Trace
   SmsAt : Stamp → Option (List ℕ) → Trace

@@ -2,6 +2,7 @@
 -- a reply or none, and an operation or none.
 use Rattle.std.specs.Prelude.{◌≡◌, ℕ, ◌+◌, ◌-◌, ◌^◌, ◌⊎◌, ◌==◌, nat_lt, false, if◌then◌else◌, List, [], ◌∷◌, codes, Option, Some, None}
 use Rattle.lw_stamp.specs.declared.stamp.Stamp.{Stamp}
+use Rattle.lw_stamp.specs.Moment.{ms_of}
 use Rattle.lw_stamp.specs.Stamp.{id_of}
 use Rattle.lw_coap.specs.declared.message.Kind.{Kind}
 use Rattle.lw_coap.specs.declared.message.Kind.TheVariants.{Con, Non, Ack, Rst}
@@ -73,7 +74,7 @@ pub record IsMade (asked : AskedContent) (objects : List ℕ) (id : Stamp) (now 
   pub endpoint : made.endpoint ≡ asked.endpoint
   pub identifier : made.id ≡ id
   pub address : made.address ≡ source
-  pub seen : made.seen ≡ now
+  pub seen : ms_of made.seen ≡ now
   pub lifetime : made.lifetime ≡ asked.lifetime
   pub version : made.version ≡ asked.version
   pub binding : binding_text made.binding ≡ codes "U"

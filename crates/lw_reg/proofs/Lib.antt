@@ -2,5 +2,15 @@ pub mod Cuts
 pub mod Numbers
 pub mod HexGroups
 pub mod Addresses
-pub mod OrderLemmas
 pub mod BindingLemmas
+pub mod WatchLemmas
+pub mod Members
+pub mod Tells
+pub mod Readings
+pub mod FirstWatch
+pub mod States
+pub mod ShownLemmas
+pub mod Operations
+pub mod SlotMarks
+pub mod Same
+pub mod Contracts

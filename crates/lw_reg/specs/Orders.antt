@@ -1,15 +1,23 @@
 -- The orders of what a registration shows.
-use Rattle.std.specs.Prelude.{ℕ, List}
+use Rattle.std.specs.Prelude.{ℕ, List, Option}
 use Rattle.std.specs.declared.cmp.Ordering.{Ordering}
-use Rattle.std.specs.Ordering.{nat_cmp, ordering_then}
+use Rattle.std.specs.Option.{option_cmp}
+use Rattle.std.specs.Ordering.{nat_cmp, bool_cmp, ordering_then}
+use Rattle.lw_stamp.specs.declared.moment.Moment.{Moment}
+use Rattle.lw_stamp.specs.Moment.{ms_of}
 use Rattle.lw_stamp.specs.TextOrder.{text_cmp}
 use Rattle.lw_reg.specs.declared.addr.Addr.{Addr}
 use Rattle.lw_reg.specs.declared.addr.Addr.TheVariants.{V4, V6}
+use Rattle.lw_reg.specs.declared.base.Base.{Base}
 use Rattle.lw_reg.specs.declared.binding.Binding.{Binding}
+use Rattle.lw_reg.specs.declared.path.Path.{Path}
 use Rattle.lw_reg.specs.declared.version.Version.{Version}
 use Rattle.lw_reg.specs.declared.version.Version.TheVariants.{V10, V11}
 use Rattle.lw_reg.specs.Binding.{binding_text}
+use Rattle.lw_reg.specs.ByNumbers.{by_numbers}
+use Rattle.lw_reg.specs.Path.{path_numbers}
 use Rattle.lw_reg.specs.contracts.addr.AddrOrd.TheImpl as addrs
+use Rattle.lw_reg.specs.contracts.base.BaseOrd.TheImpl as bases
 use Rattle.lw_reg.specs.contracts.binding.BindingOrd.TheImpl as bindings
 use Rattle.lw_reg.specs.contracts.version.VersionOrd.TheImpl as versions
 
@@ -27,12 +35,12 @@ port_of (V4 address port) = port
 port_of (V6 address port) = port
 
 -- addresses: by family, then bytes, then port
-abbrev pub addr_cmp : Addr → Addr → Ordering
-addr_cmp a b = ordering_then (nat_cmp (family a) (family b)) (ordering_then (text_cmp (bytes_of a) (bytes_of b)) (nat_cmp (port_of a) (port_of b)))
+abbrev pub addr_by_parts : Addr → Addr → Ordering
+addr_by_parts a b = ordering_then (nat_cmp (family a) (family b)) (ordering_then (text_cmp (bytes_of a) (bytes_of b)) (nat_cmp (port_of a) (port_of b)))
 
 -- bindings: by their texts
-abbrev pub binding_cmp : Binding → Binding → Ordering
-binding_cmp a b = text_cmp (binding_text a) (binding_text b)
+abbrev pub binding_by_text : Binding → Binding → Ordering
+binding_by_text a b = text_cmp (binding_text a) (binding_text b)
 
 -- the number behind the dot
 abbrev pub minor : Version → ℕ
@@ -40,15 +48,34 @@ minor V10 = 0
 minor V11 = 1
 
 -- versions: 1.0 below 1.1
+abbrev pub version_by_number : Version → Version → Ordering
+version_by_number a b = nat_cmp (minor a) (minor b)
+
+-- bases: by version, and then queue mode off before on
+abbrev pub base_by_parts : Base → Base → Ordering
+base_by_parts a b = ordering_then (version_by_number a.version b.version) (bool_cmp a.queue b.queue)
+
+-- moments: by their milliseconds
+abbrev pub moment_cmp : Moment → Moment → Ordering
+moment_cmp a b = nat_cmp (ms_of a) (ms_of b)
+
+-- SMS numbers: none below some, and then by their bytes
+abbrev pub sms_cmp : Option (List ℕ) → Option (List ℕ) → Ordering
+sms_cmp = option_cmp text_cmp
+
+-- paths: number by number, a path before those that it begins
+abbrev pub path_cmp : Path → Path → Ordering
+path_cmp = by_numbers path_numbers
+
+-- the orders that the types have: what `cmp` gives
+abbrev pub addr_cmp : Addr → Addr → Ordering
+addr_cmp = (addrs.ghosts).cmp
+
+abbrev pub binding_cmp : Binding → Binding → Ordering
+binding_cmp = (bindings.ghosts).cmp
+
 abbrev pub version_cmp : Version → Version → Ordering
-version_cmp a b = nat_cmp (minor a) (minor b)
+version_cmp = (versions.ghosts).cmp
 
--- what each `cmp` gives
-abbrev pub derived_addr_cmp : Addr → Addr → Ordering
-derived_addr_cmp = (addrs.ghosts).cmp
-
-abbrev pub derived_binding_cmp : Binding → Binding → Ordering
-derived_binding_cmp = (bindings.ghosts).cmp
-
-abbrev pub derived_version_cmp : Version → Version → Ordering
-derived_version_cmp = (versions.ghosts).cmp
+abbrev pub base_cmp : Base → Base → Ordering
+base_cmp = (bases.ghosts).cmp

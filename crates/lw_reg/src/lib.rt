@@ -1,23 +1,47 @@
-//! What a server shows of a registration: its address, binding, version, texts and links, lent or owned.
+//! What a server shows of a registration: its address, binding, version and texts, lent or owned.
 //!
 //! Each of these values has one text or one order, and values that compare equal are one.
 #![tactic(auto)]
 
+mod accept;
 mod addr;
+mod atoms;
+mod base;
 mod binding;
+mod body;
+mod by_text;
+mod exact;
+mod fields;
 pub mod laws;
+mod op;
+mod path;
 mod printing;
 mod reading;
 mod seen;
+mod showing;
+mod slot;
+mod sms_number;
 mod version;
 mod view;
+mod watch;
+mod watches;
 
+pub use accept::Accept;
 pub use addr::Addr;
+pub use atoms::atom;
+pub use base::Base;
 pub use binding::Binding;
+pub use body::Watching;
+pub use fields::Fields;
 pub use lw_stamp::Text;
+pub use op::{Op, What};
+pub use path::Path;
 pub use seen::Seen;
+pub use slot::Slot;
+pub use sms_number::SmsNumber;
 pub use version::Version;
 pub use view::View;
+pub use watch::Watch;
 
 #[cfg(test)]
 mod tests;

@@ -23,7 +23,6 @@ pub struct Seen {
 }
 
 impl Model for Seen {
-    ghost use Rattle.lw_stamp.specs.Moment.{ms_of};
     ghost use Rattle.lw_reg.specs.Registration.{Registration};
 
     ghost Value = { Registration };
@@ -32,7 +31,7 @@ impl Model for Seen {
       endpoint = s.endpoint;
       id = s.id;
       address = s.address;
-      seen = ms_of s.seen;
+      seen = s.seen;
       lifetime = s.lifetime;
       version = s.version;
       binding = s.binding;

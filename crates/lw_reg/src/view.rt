@@ -25,7 +25,6 @@ pub struct View<'a> {
 
 impl<'a> Model for View<'a> {
     ghost use Rattle.std.specs.Prelude.{option_map};
-    ghost use Rattle.lw_stamp.specs.Moment.{ms_of};
     ghost use Rattle.lw_reg.specs.Registration.{Registration};
 
     ghost Value = { Registration };
@@ -34,7 +33,7 @@ impl<'a> Model for View<'a> {
       endpoint = v.endpoint.now;
       id = v.id;
       address = v.address;
-      seen = ms_of v.seen;
+      seen = v.seen;
       lifetime = v.lifetime;
       version = v.version;
       binding = v.binding;

@@ -1,4 +1,4 @@
-use Rattle.lw_reg.proofs.BindingLemmas.{same_binding}
+use Rattle.lw_reg.specs.BindingLaws.{same_binding}
 use Rattle.lw_reg.proofs.laws.bindings_have_texts_of_their_own.Goals as goal
 
 pub returns : goal.returns

@@ -1,0 +1,247 @@
+-- What a slot shows is what the relations say of the set that it tells of.
+use Rattle.std.proofs.Common.{◌≡◌, ℕ, Bool, List, Option, Some, None, sym, ap, ◌∙◌, subst, inl, inr}
+use Rattle.std.specs.Prelude.{◌↔◌}
+use Rattle.std.specs.declared.cmp.Ordering.{Ordering}
+use Rattle.std.specs.Ordering.{nat_cmp}
+use Rattle.lw_stamp.specs.declared.moment.Moment.{Moment}
+use Rattle.lw_stamp.specs.declared.stamp.Stamp.{Stamp}
+use Rattle.lw_stamp.specs.Order.{IsExactOrder, IsGreatest}
+use Rattle.lw_stamp.specs.StampOrder.{stamp_cmp}
+use Rattle.lw_stamp.specs.TextOrder.{text_cmp}
+use Rattle.lw_stamp.proofs.StampLemmas.{stamp_order}
+use Rattle.lw_join.specs.Facets.{OptionTells, KeyedTells, OnceTells, LwwTells}
+use Rattle.lw_join.specs.Lww.{write_cmp}
+use Rattle.lw_join.specs.Entries.{get}
+use Rattle.lw_join.specs.Parts.{value_at}
+use Rattle.lw_join.specs.declared.lww.Lww.{Lww}
+use Rattle.lw_join.specs.declared.once.Once.{Once}
+use Rattle.lw_join.specs.declared.or_gone.OrGone.{OrGone}
+use Rattle.lw_join.specs.declared.or_gone.OrGone.TheVariants.{Here, Gone}
+use Rattle.lw_join.proofs.FacetLemmas.{greatest_same, greatest_one}
+use Rattle.lw_reg.specs.declared.addr.Addr.{Addr}
+use Rattle.lw_reg.specs.declared.accept.Accept.{Accept}
+use Rattle.lw_reg.specs.declared.base.Base.{Base}
+use Rattle.lw_reg.specs.declared.binding.Binding.{Binding}
+use Rattle.lw_reg.specs.declared.body.Body.{Body}
+use Rattle.lw_reg.specs.declared.path.Path.{Path}
+use Rattle.lw_reg.specs.Accept.{format_cmp}
+use Rattle.lw_reg.specs.AcceptLaws.{format_order}
+use Rattle.lw_reg.specs.BindingLaws.{binding_order}
+use Rattle.lw_reg.specs.Body.{Watching}
+use Rattle.lw_reg.specs.Marks.{Trace, Marks, Has}
+use Rattle.lw_reg.specs.Marks.Trace.{Named, Based, AddressAt, SeenAt, LifetimeAt, BindingAt, SmsAt, ObjectsAt, Removed, Watched, Cancelled}
+use Rattle.lw_reg.specs.OrderLaws.{addr_order, base_order, moment_order, number_order, sms_order, text_order}
+use Rattle.lw_reg.specs.Orders.{addr_cmp, base_cmp, binding_cmp, moment_cmp, path_cmp, sms_cmp}
+use Rattle.lw_reg.specs.Reading.{registration_of, registered_in, watches_of}
+use Rattle.lw_reg.specs.Registration.{Registration}
+use Rattle.lw_reg.specs.Showing.{IsCurrent, IsRegistered, IsToken, queue_of}
+use Rattle.lw_reg.specs.Slot.{slot_at, observed}
+use Rattle.lw_reg.proofs.Tells.{Sign, sign_trace, FieldTells, BaseTells, EndTells, WatchTells, ToldTells, base_facet, field_facet}
+use Rattle.lw_reg.proofs.Tells.Sign.{Asked, Ended}
+
+-- the parts that a registration is shown of
+pub record ShownParts (e : List ℕ) (r : Stamp) (base : Option Base) (address : Option (Stamp × Addr)) (seen : Option (Stamp × Moment)) (lifetime : Option (Stamp × ℕ)) (binding : Option (Stamp × Binding)) (sms : Option (Stamp × Option (List ℕ))) (objects : Option (Stamp × List ℕ)) (v : Registration) : Type 0 where
+  endpoint : e ≡ v.endpoint
+  id : r ≡ v.id
+  base_value : Base
+  base_is : base ≡ Some base_value
+  version : base_value.version ≡ v.version
+  queue : queue_of base_value v.binding ≡ v.queue
+  address_at : Stamp
+  address_is : address ≡ Some (address_at, v.address)
+  seen_at : Stamp
+  seen_is : seen ≡ Some (seen_at, v.seen)
+  lifetime_at : Stamp
+  lifetime_is : lifetime ≡ Some (lifetime_at, v.lifetime)
+  binding_at : Stamp
+  binding_is : binding ≡ Some (binding_at, v.binding)
+  sms_at : Stamp
+  sms_is : sms ≡ Some (sms_at, v.sms)
+  objects_at : Stamp
+  objects_is : objects ≡ Some (objects_at, v.objects)
+
+some_registration : (v w : Registration) → Some v ≡ Some w → v ≡ w
+some_registration v w e = cc
+
+parts_shown : (e : List ℕ) (r : Stamp) (ob : Option Base) (oa : Option (Stamp × Addr)) (os : Option (Stamp × Moment)) (ol : Option (Stamp × ℕ)) (oi : Option (Stamp × Binding)) (om : Option (Stamp × Option (List ℕ))) (oo : Option (Stamp × List ℕ)) (v : Registration) → registration_of e r ob oa os ol oi om oo ≡ Some v → ShownParts e r ob oa os ol oi om oo v
+parts_shown e r (Some b) (Some a) (Some s) (Some l) (Some i) (Some m) (Some o) v h =
+    let same = some_registration _ v h in
+    record {
+      endpoint = ap (λ (w : Registration). w.endpoint) same;
+      id = ap (λ (w : Registration). w.id) same;
+      base_value = b;
+      base_is = λ j. Some b;
+      version = ap (λ (w : Registration). w.version) same;
+      queue = sym (ap (λ (w : Registration). queue_of b w.binding) same) ∙ ap (λ (w : Registration). w.queue) same;
+      address_at = a.0;
+      address_is = ap (λ (w : Registration). Some (a.0, w.address)) same;
+      seen_at = s.0;
+      seen_is = ap (λ (w : Registration). Some (s.0, w.seen)) same;
+      lifetime_at = l.0;
+      lifetime_is = ap (λ (w : Registration). Some (l.0, w.lifetime)) same;
+      binding_at = i.0;
+      binding_is = ap (λ (w : Registration). Some (i.0, w.binding)) same;
+      sms_at = m.0;
+      sms_is = ap (λ (w : Registration). Some (m.0, w.sms)) same;
+      objects_at = o.0;
+      objects_is = ap (λ (w : Registration). Some (o.0, w.objects)) same;
+    }
+parts_shown e r _ _ _ _ _ _ _ v h = absurd cc
+
+shown_of_parts : (e : List ℕ) (r : Stamp) (ob : Option Base) (oa : Option (Stamp × Addr)) (os : Option (Stamp × Moment)) (ol : Option (Stamp × ℕ)) (oi : Option (Stamp × Binding)) (om : Option (Stamp × Option (List ℕ))) (oo : Option (Stamp × List ℕ)) (v : Registration) → ShownParts e r ob oa os ol oi om oo v → registration_of e r ob oa os ol oi om oo ≡ Some v
+shown_of_parts e r ob oa os ol oi om oo v p =
+    (λ j. registration_of (p.endpoint j) (p.id j) (p.base_is j) (p.address_is j) (p.seen_is j) (p.lifetime_is j) (p.binding_is j) (p.sms_is j) (p.objects_is j))
+    ∙ (λ j. Some (record {
+      endpoint = v.endpoint;
+      id = v.id;
+      address = v.address;
+      seen = v.seen;
+      lifetime = v.lifetime;
+      version = p.version j;
+      binding = v.binding;
+      queue = p.queue j;
+      sms = v.sms;
+      objects = v.objects;
+    }))
+
+module _ (M : Marks) (e : List ℕ) (names : (r : Stamp) (k : Trace) → Has M e r k → Has M e r Named) where
+  abbrev pub Told : Stamp × OrGone Body → Type 0
+  Told x = KeyedTells stamp_cmp ToldTells (λ y. Has M e y.0 y.1) x
+
+  named_keys : (r : Stamp) → ((k : Trace) × Has M e r k) ↔ Has M e r Named
+  named_keys r = (λ x. names r x.0 x.1, λ h. (Named, h))
+
+  pub current_from : (x : Stamp × OrGone Body) → Told x → IsCurrent M e x.0
+  current_from x g = greatest_same stamp_order _ _ x.0 named_keys g.key
+
+  -- the endpoint and the registration of what the slot shows
+  place_of : (r : Stamp) (v : Registration) → e ≡ v.endpoint → r ≡ v.id → ◌≡◌ {A = List ℕ × Stamp} (e, r) (v.endpoint, v.id)
+  place_of r v p q i = (p i, q i)
+
+  pub shown_from : (r : Stamp) (x : OrGone Body) (v : Registration) → Told (r, x) → registered_in e (slot_at r x) ≡ Some v → (v.endpoint ≡ e) × IsRegistered M v
+  shown_from r Gone v g h = absurd cc
+  shown_from r (Here b) v g h =
+      let p = parts_shown e r b.base.value b.address.write b.seen.write b.lifetime.write b.binding.write b.sms.write b.objects.write v h in
+      let place = place_of r v p.endpoint p.id in
+      let told : ToldTells (λ k. Has M v.endpoint v.id k) (Here b) = subst (λ (x : List ℕ × Stamp). ToldTells (λ k. Has M x.0 x.1 k) (Here b)) place g.told in (
+        sym p.endpoint,
+        record {
+          complete = record {
+            current = subst (λ (x : List ℕ × Stamp). IsCurrent M x.0 x.1) place (current_from (r, Here b) g);
+            base = p.base_value;
+            is_base = subst (OptionTells (IsGreatest base_cmp) (λ c. Has M v.endpoint v.id (Based c))) p.base_is told.1.base;
+            version = sym p.version;
+            queue = sym p.queue;
+            address = (p.address_at, subst (OptionTells (IsGreatest (write_cmp addr_cmp)) (λ w. Has M v.endpoint v.id (AddressAt w.0 w.1))) p.address_is told.1.address);
+            seen = (p.seen_at, subst (OptionTells (IsGreatest (write_cmp moment_cmp)) (λ w. Has M v.endpoint v.id (SeenAt w.0 w.1))) p.seen_is told.1.seen);
+            lifetime = (p.lifetime_at, subst (OptionTells (IsGreatest (write_cmp nat_cmp)) (λ w. Has M v.endpoint v.id (LifetimeAt w.0 w.1))) p.lifetime_is told.1.lifetime);
+            binding = (p.binding_at, subst (OptionTells (IsGreatest (write_cmp binding_cmp)) (λ w. Has M v.endpoint v.id (BindingAt w.0 w.1))) p.binding_is told.1.binding);
+            sms = (p.sms_at, subst (OptionTells (IsGreatest (write_cmp sms_cmp)) (λ w. Has M v.endpoint v.id (SmsAt w.0 w.1))) p.sms_is told.1.sms);
+            objects = (p.objects_at, subst (OptionTells (IsGreatest (write_cmp text_cmp)) (λ w. Has M v.endpoint v.id (ObjectsAt w.0 w.1))) p.objects_is told.1.objects);
+          };
+          kept = told.0;
+        },
+      )
+
+  -- a slot and a registration of the endpoint have one stamp
+  pub one_current : (x : Stamp × OrGone Body) (r : Stamp) → Told x → IsCurrent M e r → x.0 ≡ r
+  one_current x r g c = greatest_one stamp_order (λ s. Has M e s Named) x.0 r (current_from x g) c
+
+  write_is : {V : Type 0} {cmp : V → V → Ordering} → IsExactOrder cmp → (field : Stamp → V → Trace) (P : Trace → Type 0) (lww : Lww V) (at : Stamp) (v : V) → FieldTells cmp field P lww → IsGreatest (write_cmp cmp) (λ w. P (field w.0 w.1)) (at, v) → lww.write ≡ Some (at, v)
+  write_is order field P lww at v told h = ap (λ l. l.write) ((field_facet order field).one P lww (record { write = Some (at, v) }) told h)
+
+  pub shown_to : (r : Stamp) (x : OrGone Body) (v : Registration) → Told (r, x) → v.endpoint ≡ e → IsRegistered M v → registered_in e (slot_at r x) ≡ Some v
+  shown_to r x v g same h = go x g
+    where
+      id_is : (x : OrGone Body) → Told (r, x) → r ≡ v.id
+      id_is x g = one_current (r, x) v.id g (subst (λ f. IsCurrent M f v.id) same h.complete.current)
+
+      told_at : (x : OrGone Body) → Told (r, x) → ToldTells (λ k. Has M v.endpoint v.id k) x
+      told_at x g = subst (λ (y : List ℕ × Stamp). ToldTells (λ k. Has M y.0 y.1 k) x) (place_of r v (sym same) (id_is x g)) g.told
+
+      go : (x : OrGone Body) → Told (r, x) → registered_in e (slot_at r x) ≡ Some v
+      go Gone g = absurd (h.kept (told_at Gone g))
+      go (Here b) g =
+          let told = told_at (Here b) g in
+          let P : Trace → Type 0 = λ k. Has M v.endpoint v.id k in
+          let c = h.complete in
+          shown_of_parts e r b.base.value b.address.write b.seen.write b.lifetime.write b.binding.write b.sms.write b.objects.write v (record {
+            endpoint = sym same;
+            id = id_is (Here b) g;
+            base_value = c.base;
+            base_is = ap (λ (o : Once Base). o.value) (base_facet.one P b.base (record { value = Some c.base }) told.1.base c.is_base);
+            version = sym c.version;
+            queue = sym c.queue;
+            address_at = c.address.0;
+            address_is = write_is addr_order AddressAt P b.address c.address.0 v.address told.1.address c.address.1;
+            seen_at = c.seen.0;
+            seen_is = write_is moment_order SeenAt P b.seen c.seen.0 v.seen told.1.seen c.seen.1;
+            lifetime_at = c.lifetime.0;
+            lifetime_is = write_is number_order LifetimeAt P b.lifetime c.lifetime.0 v.lifetime told.1.lifetime c.lifetime.1;
+            binding_at = c.binding.0;
+            binding_is = write_is binding_order BindingAt P b.binding c.binding.0 v.binding told.1.binding c.binding.1;
+            sms_at = c.sms.0;
+            sms_is = write_is sms_order SmsAt P b.sms c.sms.0 v.sms told.1.sms c.sms.1;
+            objects_at = c.objects.0;
+            objects_is = write_is text_order ObjectsAt P b.objects c.objects.0 v.objects told.1.objects c.objects.1;
+          })
+
+  -- ---- watches
+  token_keys : (r : Stamp) (p : Path) (t : Stamp) → ((g : Sign) × Has M e r (sign_trace p t g)) ↔ IsToken M e r p t
+  token_keys r p t = (λ x. go x.0 x.1, back)
+    where
+      go : (g : Sign) → Has M e r (sign_trace p t g) → IsToken M e r p t
+      go (Asked a) h = inl (a, h)
+      go Ended h = inr h
+
+      back : IsToken M e r p t → (g : Sign) × Has M e r (sign_trace p t g)
+      back (inl x) = (Asked x.0, x.1)
+      back (inr h) = (Ended, h)
+
+  -- the last watch of a registration on a path was not cancelled
+  pub record IsWatch (r : Stamp) (p : Path) (t : Stamp) (a : Option ℕ) : Type 0 where
+    pub newest : IsGreatest stamp_cmp (IsToken M e r p) t
+    pub watched : IsGreatest format_cmp (λ b. Has M e r (Watched p t b)) a
+    pub kept : ¬ Has M e r (Cancelled p t)
+
+  abbrev OfPath : Stamp → Path → Stamp × Sign → Type 0
+  OfPath r p x = Has M e r (sign_trace p x.0 x.1)
+
+  some_watching : (t u : Stamp) (x : OrGone Accept) (a : Option ℕ) → ◌≡◌ {A = Option Watching} (Some (record { stamp = t; value = x })) (Some (observed u a)) → (t ≡ u) × (x ≡ Here (record { format = a }))
+  some_watching t u x a h = (ap stamp_in h, ap value_in h)
+    where
+      stamp_in : Option Watching → Stamp
+      stamp_in None = t
+      stamp_in (Some w) = w.stamp
+
+      value_in : Option Watching → OrGone Accept
+      value_in None = x
+      value_in (Some w) = w.value
+
+  pub path_from : (r : Stamp) (p : Path) (o : Option Watching) (t : Stamp) (a : Option ℕ) → OptionTells WatchTells (OfPath r p) o → o ≡ Some (observed t a) → IsWatch r p t a
+  path_from r p o t a told h =
+      let g : WatchTells (OfPath r p) (observed t a) = subst (OptionTells WatchTells (OfPath r p)) h told in
+      record { newest = greatest_same stamp_order _ _ t (token_keys r p) g.key; watched = g.told.1; kept = g.told.0 }
+
+  pub path_to : (r : Stamp) (p : Path) (o : Option Watching) (t : Stamp) (a : Option ℕ) → OptionTells WatchTells (OfPath r p) o → IsWatch r p t a → o ≡ Some (observed t a)
+  path_to r p None t a g h = absurd (g (t, Asked a) h.watched.member)
+  path_to r p (Some w) t a g h = go w.stamp w.value g
+    where
+      token : (u : Stamp) (x : OrGone Accept) → WatchTells (OfPath r p) (record { stamp = u; value = x }) → u ≡ t
+      token u x g = greatest_one stamp_order (IsToken M e r p) u t (greatest_same stamp_order _ _ u (token_keys r p) g.key) h.newest
+
+      go : (u : Stamp) (x : OrGone Accept) → WatchTells (OfPath r p) (record { stamp = u; value = x }) → ◌≡◌ {A = Option Watching} (Some (record { stamp = u; value = x })) (Some (observed t a))
+      go u Gone g = absurd (h.kept (subst (λ s. Has M e r (Cancelled p s)) (token u Gone g) g.told))
+      go u (Here x) g =
+          let same = token u (Here x) g in
+          let accept : x.format ≡ a = greatest_one format_order (λ b. Has M e r (Watched p t b)) x.format a (subst (λ s. IsGreatest format_cmp (λ b. Has M e r (Watched p s b)) x.format) same g.told.1) h.watched in
+          λ i. Some (record { stamp = same i; value = Here (record { format = accept i }) })
+
+  -- the watches of a slot that shows a registration
+  pub watch_from : (r : Stamp) (x : OrGone Body) (v : Registration) (p : Path) (t : Stamp) (a : Option ℕ) → Told (r, x) → registered_in e (slot_at r x) ≡ Some v → get path_cmp (watches_of (slot_at r x)) p ≡ Some (observed t a) → IsWatch r p t a
+  watch_from r Gone v p t a g h k = absurd cc
+  watch_from r (Here b) v p t a g h k = path_from r p (value_at b.watches p) t a (g.told.1.watches p) k
+
+  pub watch_to : (r : Stamp) (x : OrGone Body) (v : Registration) (p : Path) (t : Stamp) (a : Option ℕ) → Told (r, x) → registered_in e (slot_at r x) ≡ Some v → IsWatch r p t a → get path_cmp (watches_of (slot_at r x)) p ≡ Some (observed t a)
+  watch_to r Gone v p t a g h k = absurd cc
+  watch_to r (Here b) v p t a g h k = path_to r p (value_at b.watches p) t a (g.told.1.watches p) k

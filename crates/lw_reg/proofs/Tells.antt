@@ -1,0 +1,357 @@
+-- What slots and states tell of a set of marks, and that the state of a set tells of that set.
+use Rattle.std.proofs.Common.{◌≡◌, ℕ, sym, refl, ap, ◌∙◌, subst, inl, inr, ◌⊎◌, List, [], ◌∷◌, Option, Some, None}
+use Rattle.std.specs.Prelude.{◌↔◌, Contains}
+use Rattle.std.specs.declared.cmp.Ordering.{Ordering}
+use Rattle.std.specs.Ordering.{nat_cmp}
+use Rattle.std.specs.FinMap.{FinMap, empty}
+use Rattle.lw_stamp.specs.declared.stamp.Stamp.{Stamp}
+use Rattle.lw_stamp.specs.Order.{IsExactOrder, IsGreatest}
+use Rattle.lw_stamp.specs.StampOrder.{stamp_cmp}
+use Rattle.lw_stamp.specs.TextOrder.{text_cmp}
+use Rattle.lw_stamp.proofs.StampLemmas.{stamp_order}
+use Rattle.lw_join.specs.Facets.{IsFacet, Through, OptionTells, OnceTells, LwwTells, LexTells, GoneTells, PartsTells, MapTells}
+use Rattle.lw_join.specs.Lex.{lex_pair}
+use Rattle.lw_join.specs.Lww.{lww_join, write_cmp}
+use Rattle.lw_join.specs.LwwLaws.{write_order}
+use Rattle.lw_join.specs.Once.{once_join}
+use Rattle.lw_join.specs.OrGone.{gone_join}
+use Rattle.lw_join.specs.Parts.{entries_of, parts_join}
+use Rattle.lw_join.specs.PartsLaws.{entries_made}
+use Rattle.lw_join.specs.declared.lex.Lex.{Lex}
+use Rattle.lw_join.specs.declared.lww.Lww.{Lww}
+use Rattle.lw_join.specs.declared.once.Once.{Once}
+use Rattle.lw_join.specs.declared.or_gone.OrGone.{OrGone}
+use Rattle.lw_join.specs.declared.or_gone.OrGone.TheVariants.{Here, Gone}
+use Rattle.lw_join.proofs.FacetLemmas.{greatest_facet, greatest_single, through_facet, facet_along, once_facet, lww_facet, gone_facet, keyed_single, lex_facet, lex_some, parts_facet, parts_empty, parts_single}
+use Rattle.lw_join.proofs.MapLemmas.{map_facet, map_empty, map_single}
+use Rattle.lw_reg.specs.declared.accept.Accept.{Accept}
+use Rattle.lw_reg.specs.declared.base.Base.{Base}
+use Rattle.lw_reg.specs.declared.body.Body.{Body}
+use Rattle.lw_reg.specs.declared.path.Path.{Path}
+use Rattle.lw_reg.specs.declared.slot.Slot.{Slot}
+use Rattle.lw_reg.specs.Accept.{format_cmp, accept_join}
+use Rattle.lw_reg.specs.AcceptLaws.{format_order}
+use Rattle.lw_reg.specs.BindingLaws.{binding_order}
+use Rattle.lw_reg.specs.Body.{Watching, Watches, watching_join, body_join}
+use Rattle.lw_reg.specs.Marks.{Trace, Mark, Marks, among, NamesAll}
+use Rattle.lw_reg.specs.Marks.Trace.{Named, Based, AddressAt, SeenAt, LifetimeAt, BindingAt, SmsAt, ObjectsAt, Removed, Watched, Cancelled}
+use Rattle.lw_reg.specs.OrderLaws.{addr_order, base_order, moment_order, number_order, path_order, sms_order, text_order}
+use Rattle.lw_reg.specs.Orders.{addr_cmp, base_cmp, binding_cmp, moment_cmp, path_cmp, sms_cmp}
+use Rattle.lw_reg.specs.Slot.{slot_join, slot_at, base_in, address_in, seen_in, lifetime_in, binding_in, sms_in, objects_in, observed, cancelled, no_watches, one_watch, watches_in, body_in, told_by}
+use Rattle.lw_reg.specs.State.{State, state_join, atom_of, state_of}
+use Rattle.lw_reg.proofs.Members.{none_there, first_there, more_there, there_or_first}
+
+-- what a watch with a token is: asked for, or ended
+pub data Sign : Type 0 where
+  Asked : Option ℕ → Sign
+  Ended : Sign
+
+abbrev pub sign_trace : Path → Stamp → Sign → Trace
+sign_trace p t (Asked a) = Watched p t a
+sign_trace p t Ended = Cancelled p t
+
+abbrev pub watch_trace : Path × (Stamp × Sign) → Trace
+watch_trace x = sign_trace x.0 x.1.0 x.1.1
+
+abbrev pub field_trace : {V : Type 0} → (Stamp → V → Trace) → Stamp × V → Trace
+field_trace field w = field w.0 w.1
+
+-- ---- what each part of a state tells
+abbrev pub FieldTells : {V : Type 0} → (V → V → Ordering) → (Stamp → V → Trace) → (Trace → Type 0) → Lww V → Type 0
+FieldTells cmp field = Through (field_trace field) (LwwTells cmp)
+
+abbrev pub BaseTells : (Trace → Type 0) → Once Base → Type 0
+BaseTells = Through Based (OnceTells base_cmp)
+
+abbrev pub AcceptTells : (Option ℕ → Type 0) → Accept → Type 0
+AcceptTells P accept = IsGreatest format_cmp P accept.format
+
+abbrev pub EndTells : (Sign → Type 0) → OrGone Accept → Type 0
+EndTells = GoneTells Ended (Through Asked AcceptTells)
+
+abbrev pub WatchTells : (Stamp × Sign → Type 0) → Watching → Type 0
+WatchTells = LexTells EndTells
+
+abbrev pub WatchesTell : (Trace → Type 0) → Watches → Type 0
+WatchesTell = Through watch_trace (PartsTells WatchTells)
+
+pub record BodyTells (P : Trace → Type 0) (b : Body) : Type 0 where
+  pub named : P Named
+  pub base : BaseTells P b.base
+  pub address : FieldTells addr_cmp AddressAt P b.address
+  pub seen : FieldTells moment_cmp SeenAt P b.seen
+  pub lifetime : FieldTells nat_cmp LifetimeAt P b.lifetime
+  pub binding : FieldTells binding_cmp BindingAt P b.binding
+  pub sms : FieldTells sms_cmp SmsAt P b.sms
+  pub objects : FieldTells text_cmp ObjectsAt P b.objects
+  pub watches : WatchesTell P b.watches
+
+abbrev pub ToldTells : (Trace → Type 0) → OrGone Body → Type 0
+ToldTells = GoneTells Removed BodyTells
+
+abbrev pub SlotTells : (Stamp × Trace → Type 0) → Slot → Type 0
+SlotTells P slot = LexTells ToldTells P slot.registration
+
+abbrev pub Tells : (List ℕ × (Stamp × Trace) → Type 0) → State → Type 0
+Tells = MapTells SlotTells
+
+-- ---- they are facets
+pub base_facet : IsFacet (once_join base_cmp) BaseTells
+base_facet = through_facet Based (once_facet base_order)
+
+pub field_facet : {V : Type 0} {cmp : V → V → Ordering} → IsExactOrder cmp → (field : Stamp → V → Trace) → IsFacet (lww_join cmp) (FieldTells cmp field)
+field_facet order field = through_facet (field_trace field) (lww_facet order)
+
+accept_facet : IsFacet accept_join AcceptTells
+accept_facet = facet_along (λ (a : Accept). a.format) (λ (o : Option ℕ). record { format = o }) (λ s. refl) (λ t. refl) (greatest_facet format_order)
+
+pub watches_facet : IsFacet (parts_join watching_join) WatchesTell
+watches_facet = through_facet watch_trace (parts_facet path_order (lex_facet (gone_facet Ended (through_facet Asked accept_facet))) (lex_some EndTells))
+
+pub body_facet : IsFacet body_join BodyTells
+body_facet =
+    let address = field_facet addr_order AddressAt in
+    let seen = field_facet moment_order SeenAt in
+    let lifetime = field_facet number_order LifetimeAt in
+    let binding = field_facet binding_order BindingAt in
+    let sms = field_facet sms_order SmsAt in
+    let objects = field_facet text_order ObjectsAt in
+    record {
+      union = λ P Q a b g h. record {
+        named = inl g.named;
+        base = base_facet.union P Q a.base b.base g.base h.base;
+        address = address.union P Q a.address b.address g.address h.address;
+        seen = seen.union P Q a.seen b.seen g.seen h.seen;
+        lifetime = lifetime.union P Q a.lifetime b.lifetime g.lifetime h.lifetime;
+        binding = binding.union P Q a.binding b.binding g.binding h.binding;
+        sms = sms.union P Q a.sms b.sms g.sms h.sms;
+        objects = objects.union P Q a.objects b.objects g.objects h.objects;
+        watches = watches_facet.union P Q a.watches b.watches g.watches h.watches;
+      };
+      same = λ P Q a h g. record {
+        named = (h Named).0 g.named;
+        base = base_facet.same P Q a.base h g.base;
+        address = address.same P Q a.address h g.address;
+        seen = seen.same P Q a.seen h g.seen;
+        lifetime = lifetime.same P Q a.lifetime h g.lifetime;
+        binding = binding.same P Q a.binding h g.binding;
+        sms = sms.same P Q a.sms h g.sms;
+        objects = objects.same P Q a.objects h g.objects;
+        watches = watches_facet.same P Q a.watches h g.watches;
+      };
+      one = λ P a b g h i. record {
+        base = base_facet.one P a.base b.base g.base h.base i;
+        address = address.one P a.address b.address g.address h.address i;
+        seen = seen.one P a.seen b.seen g.seen h.seen i;
+        lifetime = lifetime.one P a.lifetime b.lifetime g.lifetime h.lifetime i;
+        binding = binding.one P a.binding b.binding g.binding h.binding i;
+        sms = sms.one P a.sms b.sms g.sms h.sms i;
+        objects = objects.one P a.objects b.objects g.objects h.objects i;
+        watches = watches_facet.one P a.watches b.watches g.watches h.watches i;
+      };
+    }
+
+pub told_facet : IsFacet (gone_join body_join) ToldTells
+told_facet = gone_facet Removed body_facet
+
+pub slot_facet : IsFacet slot_join SlotTells
+slot_facet = facet_along (λ (s : Slot). s.registration) (λ (x : Lex (OrGone Body)). record { registration = x }) (λ s. refl) (λ t. refl) (lex_facet told_facet)
+
+pub state_facet : IsFacet state_join Tells
+state_facet = map_facet text_order slot_facet (record { some = λ P s g. (lex_some ToldTells).some P s.registration g })
+
+-- ---- one mark, with the naming of its registration
+abbrev pub With : Trace → Trace → Type 0
+With k x = (x ≡ k) ⊎ (x ≡ Named)
+
+base_told : (k : Trace) → BaseTells (With k) (record { value = base_in k })
+base_told (Based b) = greatest_single base_order _ b (inl refl) (λ y. elim [ inl p ↦ cc | inr p ↦ absurd cc ])
+base_told _ = λ x. elim [ inl p ↦ cc | inr p ↦ cc ]
+
+pair_of : {A B : Type 0} (x : A × B) (a : A) (b : B) → x.0 ≡ a → x.1 ≡ b → x ≡ (a, b)
+pair_of x a b p q i = (p i, q i)
+
+address_told : (k : Trace) → FieldTells addr_cmp AddressAt (With k) (record { write = address_in k })
+address_told (AddressAt s v) = greatest_single (write_order addr_order) _ (s, v) (inl refl) (λ y. elim [ inl p ↦ pair_of y s v (cc) (cc) | inr p ↦ absurd cc ])
+address_told _ = λ x. elim [ inl p ↦ cc | inr p ↦ cc ]
+
+seen_told : (k : Trace) → FieldTells moment_cmp SeenAt (With k) (record { write = seen_in k })
+seen_told (SeenAt s v) = greatest_single (write_order moment_order) _ (s, v) (inl refl) (λ y. elim [ inl p ↦ pair_of y s v (cc) (cc) | inr p ↦ absurd cc ])
+seen_told _ = λ x. elim [ inl p ↦ cc | inr p ↦ cc ]
+
+lifetime_told : (k : Trace) → FieldTells nat_cmp LifetimeAt (With k) (record { write = lifetime_in k })
+lifetime_told (LifetimeAt s v) = greatest_single (write_order number_order) _ (s, v) (inl refl) (λ y. elim [ inl p ↦ pair_of y s v (cc) (cc) | inr p ↦ absurd cc ])
+lifetime_told _ = λ x. elim [ inl p ↦ cc | inr p ↦ cc ]
+
+binding_told : (k : Trace) → FieldTells binding_cmp BindingAt (With k) (record { write = binding_in k })
+binding_told (BindingAt s v) = greatest_single (write_order binding_order) _ (s, v) (inl refl) (λ y. elim [ inl p ↦ pair_of y s v (cc) (cc) | inr p ↦ absurd cc ])
+binding_told _ = λ x. elim [ inl p ↦ cc | inr p ↦ cc ]
+
+sms_told : (k : Trace) → FieldTells sms_cmp SmsAt (With k) (record { write = sms_in k })
+sms_told (SmsAt s v) = greatest_single (write_order sms_order) _ (s, v) (inl refl) (λ y. elim [ inl p ↦ pair_of y s v (cc) (cc) | inr p ↦ absurd cc ])
+sms_told _ = λ x. elim [ inl p ↦ cc | inr p ↦ cc ]
+
+objects_told : (k : Trace) → FieldTells text_cmp ObjectsAt (With k) (record { write = objects_in k })
+objects_told (ObjectsAt s v) = greatest_single (write_order text_order) _ (s, v) (inl refl) (λ y. elim [ inl p ↦ pair_of y s v (cc) (cc) | inr p ↦ absurd cc ])
+objects_told _ = λ x. elim [ inl p ↦ cc | inr p ↦ cc ]
+
+-- a trace of no watch
+no_watch : (k : Trace) → ((p : Path) (t : Stamp) (g : Sign) → ¬ (sign_trace p t g ≡ k)) → WatchesTell (With k) no_watches
+no_watch k none = parts_empty WatchTells (λ y. With k (watch_trace y)) no_watches (entries_made _ _ _ [] tt) (λ p x. go p x.0 x.1)
+  where
+    go : (p : Path) (t : Stamp) (g : Sign) → ¬ With k (sign_trace p t g)
+    go p t g (inl e) = none p t g e
+    go p t (Asked a) (inr e) = cc
+    go p t Ended (inr e) = cc
+
+same_watched : (p q : Path) (t u : Stamp) (g : Sign) (a : Option ℕ) → With (Watched p t a) (sign_trace q u g) → (q ≡ p) × (u ≡ t) × (g ≡ Asked a)
+same_watched p q t u (Asked b) a (inl e) = (cc, (cc), (cc))
+same_watched p q t u (Asked b) a (inr e) = absurd cc
+same_watched p q t u Ended a (inl e) = absurd cc
+same_watched p q t u Ended a (inr e) = absurd cc
+
+same_cancelled : (p q : Path) (t u : Stamp) (g : Sign) → With (Cancelled p t) (sign_trace q u g) → (q ≡ p) × (u ≡ t) × (g ≡ Ended)
+same_cancelled p q t u (Asked b) (inl e) = absurd cc
+same_cancelled p q t u (Asked b) (inr e) = absurd cc
+same_cancelled p q t u Ended (inl e) = (cc, (cc), refl)
+same_cancelled p q t u Ended (inr e) = absurd cc
+
+-- one watch tells of a set of traces that has one watch
+one_watch_tells : (k : Trace) (p : Path) (t : Stamp) (g : Sign) (x : OrGone Accept) → With k (sign_trace p t g) → ((q : Path) (u : Stamp) (h : Sign) → With k (sign_trace q u h) → (q ≡ p) × (u ≡ t)) → EndTells (λ h. With k (sign_trace p t h)) x → WatchesTell (With k) (one_watch p (record { stamp = t; value = x }))
+one_watch_tells k p t g x member only told =
+    parts_single WatchTells (λ y. With k (watch_trace y)) (one_watch p (record { stamp = t; value = x })) path_order p (record { stamp = t; value = x })
+    (entries_made _ _ _ ((p, record { stamp = t; value = x }) ∷ []) (tt, tt))
+    (λ q y e. (only q y.0 y.1 e).0)
+    (keyed_single stamp_order EndTells (λ y. With k (watch_trace (p, y))) t g x member (λ u h e. (only p u h e).1) told)
+
+watches_told : (k : Trace) → WatchesTell (With k) (watches_in k)
+watches_told (Watched p t a) =
+    one_watch_tells (Watched p t a) p t (Asked a) (Here (record { format = a })) (inl refl)
+    (λ q u h e. let s = same_watched p q t u h a e in (s.0, s.1))
+    (λ e. asked_ended (same_watched p p t t Ended a e).2, greatest_single format_order _ a (inl refl) (λ b e. same_asked a b (same_watched p p t t (Asked b) a e).2))
+  where
+    asked_ended : (Ended ≡ Asked a) → ⊥
+    asked_ended e = cc
+
+    same_asked : (a b : Option ℕ) → Asked b ≡ Asked a → b ≡ a
+    same_asked a b e = cc
+watches_told (Cancelled p t) =
+    one_watch_tells (Cancelled p t) p t Ended Gone (inl refl) (λ q u h e. let s = same_cancelled p q t u h e in (s.0, s.1)) (inl refl)
+watches_told Named = no_watch Named (λ p t. elim [ Asked a ↦ λ e. cc | Ended ↦ λ e. cc ])
+watches_told (Based b) = no_watch (Based b) (λ p t. elim [ Asked a ↦ λ e. cc | Ended ↦ λ e. cc ])
+watches_told (AddressAt s v) = no_watch (AddressAt s v) (λ p t. elim [ Asked a ↦ λ e. cc | Ended ↦ λ e. cc ])
+watches_told (SeenAt s v) = no_watch (SeenAt s v) (λ p t. elim [ Asked a ↦ λ e. cc | Ended ↦ λ e. cc ])
+watches_told (LifetimeAt s v) = no_watch (LifetimeAt s v) (λ p t. elim [ Asked a ↦ λ e. cc | Ended ↦ λ e. cc ])
+watches_told (BindingAt s v) = no_watch (BindingAt s v) (λ p t. elim [ Asked a ↦ λ e. cc | Ended ↦ λ e. cc ])
+watches_told (SmsAt s v) = no_watch (SmsAt s v) (λ p t. elim [ Asked a ↦ λ e. cc | Ended ↦ λ e. cc ])
+watches_told (ObjectsAt s v) = no_watch (ObjectsAt s v) (λ p t. elim [ Asked a ↦ λ e. cc | Ended ↦ λ e. cc ])
+watches_told Removed = no_watch Removed (λ p t. elim [ Asked a ↦ λ e. cc | Ended ↦ λ e. cc ])
+
+body_told : (k : Trace) → BodyTells (With k) (body_in k)
+body_told k = record {
+  named = inr refl;
+  base = base_told k;
+  address = address_told k;
+  seen = seen_told k;
+  lifetime = lifetime_told k;
+  binding = binding_told k;
+  sms = sms_told k;
+  objects = objects_told k;
+  watches = watches_told k;
+}
+
+not_removed : (k : Trace) → ¬ (Removed ≡ k) → ¬ With k Removed
+not_removed k other (inl e) = other e
+not_removed k other (inr e) = cc
+
+trace_told : (k : Trace) → ToldTells (With k) (told_by k)
+trace_told Removed = inl refl
+trace_told Named = (not_removed Named (λ e. cc), body_told Named)
+trace_told (Based b) = (not_removed (Based b) (λ e. cc), body_told (Based b))
+trace_told (AddressAt s v) = (not_removed (AddressAt s v) (λ e. cc), body_told (AddressAt s v))
+trace_told (SeenAt s v) = (not_removed (SeenAt s v) (λ e. cc), body_told (SeenAt s v))
+trace_told (LifetimeAt s v) = (not_removed (LifetimeAt s v) (λ e. cc), body_told (LifetimeAt s v))
+trace_told (BindingAt s v) = (not_removed (BindingAt s v) (λ e. cc), body_told (BindingAt s v))
+trace_told (SmsAt s v) = (not_removed (SmsAt s v) (λ e. cc), body_told (SmsAt s v))
+trace_told (ObjectsAt s v) = (not_removed (ObjectsAt s v) (λ e. cc), body_told (ObjectsAt s v))
+trace_told (Watched p t a) = (not_removed (Watched p t a) (λ e. cc), body_told (Watched p t a))
+trace_told (Cancelled p t) = (not_removed (Cancelled p t) (λ e. cc), body_told (Cancelled p t))
+
+-- a mark, by its parts
+abbrev pub mark_at : List ℕ × (Stamp × Trace) → Mark
+mark_at x = record { endpoint = x.0; registration = x.1.0; trace = x.1.1 }
+
+abbrev pub naming : Mark → Mark
+naming m = record { endpoint = m.endpoint; registration = m.registration; trace = Named }
+
+-- the mark, and the naming of its registration
+abbrev pub Pair : Mark → List ℕ × (Stamp × Trace) → Type 0
+Pair m x = (mark_at x ≡ m) ⊎ (mark_at x ≡ naming m)
+
+pair_endpoint : (m : Mark) (x : List ℕ × (Stamp × Trace)) → Pair m x → x.0 ≡ m.endpoint
+pair_endpoint m x (inl e) = ap (λ (n : Mark). n.endpoint) e
+pair_endpoint m x (inr e) = ap (λ (n : Mark). n.endpoint) e
+
+pair_registration : (m : Mark) (x : List ℕ × (Stamp × Trace)) → Pair m x → x.1.0 ≡ m.registration
+pair_registration m x (inl e) = ap (λ (n : Mark). n.registration) e
+pair_registration m x (inr e) = ap (λ (n : Mark). n.registration) e
+
+pair_trace : (m : Mark) (k : Trace) → With m.trace k ↔ Pair m (m.endpoint, (m.registration, k))
+pair_trace m k = (go, back)
+  where
+    go : With m.trace k → Pair m (m.endpoint, (m.registration, k))
+    go (inl e) = inl (λ i. record { endpoint = m.endpoint; registration = m.registration; trace = e i })
+    go (inr e) = inr (λ i. record { endpoint = m.endpoint; registration = m.registration; trace = e i })
+
+    back : Pair m (m.endpoint, (m.registration, k)) → With m.trace k
+    back (inl e) = inl (ap (λ (n : Mark). n.trace) e)
+    back (inr e) = inr (ap (λ (n : Mark). n.trace) e)
+
+pub atom_tells : (m : Mark) → Tells (Pair m) (atom_of m)
+atom_tells m =
+    map_single text_cmp SlotTells (Pair m) text_order m.endpoint (slot_at m.registration (told_by m.trace)) (λ q x e. pair_endpoint m (q, x) e)
+    (keyed_single stamp_order ToldTells (λ y. Pair m (m.endpoint, y)) m.registration Named (told_by m.trace) (inr refl) (λ u k e. pair_registration m (m.endpoint, (u, k)) e)
+    (told_facet.same (With m.trace) (λ k. Pair m (m.endpoint, (m.registration, k))) (told_by m.trace) (pair_trace m) (trace_told m.trace)))
+
+-- ---- a whole set
+abbrev pub Holds : Marks → List ℕ × (Stamp × Trace) → Type 0
+Holds M x = M (mark_at x)
+
+-- a member, or the naming of a member's registration
+abbrev pub Closure : List Mark → List ℕ × (Stamp × Trace) → Type 0
+Closure [] x = ⊥
+Closure (m ∷ ms) x = Pair m x ⊎ Closure ms x
+
+pub closure_tells : (ms : List Mark) → Tells (Closure ms) (state_of ms)
+closure_tells [] = map_empty text_cmp SlotTells (λ x. ⊥) (λ e x h. h)
+closure_tells (m ∷ ms) = state_facet.union (Pair m) (Closure ms) (atom_of m) (state_of ms) (atom_tells m) (closure_tells ms)
+
+in_closure : (ms : List Mark) (x : List ℕ × (Stamp × Trace)) → Holds (among ms) x → Closure ms x
+in_closure [] x h = absurd (none_there (mark_at x) h)
+in_closure (m ∷ ms) x h = go (there_or_first m ms (mark_at x) h) (λ k. in_closure ms x k)
+  where
+    go : (mark_at x ≡ m) ⊎ Contains ms (mark_at x) → (Contains ms (mark_at x) → Closure ms x) → Closure (m ∷ ms) x
+    go (inl e) rest = inl (inl e)
+    go (inr k) rest = inr (rest k)
+
+-- what is in the closure is a member, or names what a member is about
+from_closure : (ms : List Mark) (x : List ℕ × (Stamp × Trace)) → Closure ms x → Holds (among ms) x ⊎ ((m : Mark) × Contains ms m × (mark_at x ≡ naming m))
+from_closure [] x h = absurd h
+from_closure (m ∷ ms) x (inl (inl e)) = inl (first_there m ms (mark_at x) e)
+from_closure (m ∷ ms) x (inl (inr e)) = inr (m, first_there m ms m refl, e)
+from_closure (m ∷ ms) x (inr h) = weaker (from_closure ms x h)
+  where
+    weaker : Holds (among ms) x ⊎ ((n : Mark) × Contains ms n × (mark_at x ≡ naming n)) → Holds (among (m ∷ ms)) x ⊎ ((n : Mark) × Contains (m ∷ ms) n × (mark_at x ≡ naming n))
+    weaker (inl k) = inl (more_there m ms (mark_at x) k)
+    weaker (inr k) = inr (k.0, more_there m ms k.0 k.1, k.2)
+
+closed : (ms : List Mark) → NamesAll (among ms) → (x : List ℕ × (Stamp × Trace)) → Closure ms x ↔ Holds (among ms) x
+closed ms names x = (λ h. go (from_closure ms x h), in_closure ms x)
+  where
+    go : Holds (among ms) x ⊎ ((m : Mark) × Contains ms m × (mark_at x ≡ naming m)) → Holds (among ms) x
+    go (inl h) = h
+    go (inr k) = subst (Contains ms) (sym k.2) (names k.0.endpoint k.0.registration k.0.trace k.1)
+
+-- the state of a set of marks tells of that set
+pub state_tells : (ms : List Mark) → NamesAll (among ms) → Tells (Holds (among ms)) (state_of ms)
+state_tells ms names = state_facet.same (Closure ms) (Holds (among ms)) (state_of ms) (closed ms names) (closure_tells ms)

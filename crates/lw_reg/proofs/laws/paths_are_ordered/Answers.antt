@@ -1,0 +1,8 @@
+use Rattle.lw_reg.specs.OrderLaws.{same_path, path_order}
+use Rattle.lw_reg.proofs.laws.paths_are_ordered.Goals as goal
+
+pub returns-clause-total : goal.returns-clause-total
+returns-clause-total c = path_order
+
+pub returns-clause-own_numbers : goal.returns-clause-own_numbers
+returns-clause-own_numbers c = same_path

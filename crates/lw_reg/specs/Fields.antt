@@ -1,0 +1,44 @@
+-- The slot that is put together from its fields.
+use Rattle.std.specs.Prelude.{Option, Some, None}
+use Rattle.lw_stamp.specs.declared.stamp.Stamp.{Stamp}
+use Rattle.lw_join.specs.declared.or_gone.OrGone.{OrGone}
+use Rattle.lw_join.specs.declared.or_gone.OrGone.TheVariants.{Here, Gone}
+use Rattle.lw_reg.specs.declared.body.Body.{Body}
+use Rattle.lw_reg.specs.declared.fields.Fields.{Fields}
+use Rattle.lw_reg.specs.declared.slot.Slot.{Slot}
+use Rattle.lw_reg.specs.declared.path.Path.{Path}
+use Rattle.lw_reg.specs.Body.{Watching}
+use Rattle.lw_reg.specs.Slot.{slot_at, one_watch}
+
+abbrev pub fields_body : Fields → Body
+fields_body f = record {
+  base = record { value = f.base };
+  address = record { write = f.address };
+  seen = record { write = f.seen };
+  lifetime = record { write = f.lifetime };
+  binding = record { write = f.binding };
+  sms = record { write = f.sms };
+  objects = record { write = f.objects };
+  watches = f.watches;
+}
+
+abbrev pub told_fields : Option Fields → OrGone Body
+told_fields None = Gone
+told_fields (Some f) = Here (fields_body f)
+
+-- of a removed registration there are no fields
+abbrev pub slot_of_fields : Stamp → Option Fields → Slot
+slot_of_fields stamp fields = slot_at stamp (told_fields fields)
+
+-- the watch of a path alone
+abbrev pub watched_fields : Path → Watching → Fields
+watched_fields path watching = record {
+  base = None;
+  address = None;
+  seen = None;
+  lifetime = None;
+  binding = None;
+  sms = None;
+  objects = None;
+  watches = one_watch path watching;
+}

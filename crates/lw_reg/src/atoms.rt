@@ -1,0 +1,117 @@
+//! The slot that one operation makes.
+
+ghost use Rattle.std.specs.Prelude.{◌≡◌, IfOk};
+ghost use Rattle.lw_join.specs.declared.or_gone.OrGone.TheVariants.{Here, Gone};
+ghost use Rattle.lw_reg.specs.Slot.{slot_of, told_of, write_of, no_watches};
+ghost use Rattle.lw_reg.specs.Fields.{told_fields, watched_fields};
+
+use crate::{Accept, Base, Fields, Op, Path, Slot, Watching, What};
+use lw_join::{Lex, OrGone, Parts};
+use lw_stamp::{NoMemory, Stamp};
+use std::alloc::Global;
+
+/// The slot that the one operation makes.
+pub fn atom(alloc: Global, op: Op) -> Result<Slot, NoMemory>
+    ensures { IfOk result (λ slot. slot ≡ slot_of op) }
+{
+    let Op {
+        stamp,
+        reg,
+        what,
+        ..
+    } = op;
+    Ok(Slot::from_parts(reg, told(alloc, stamp, what)?))
+}
+
+/// What the operation with the stamp tells of its registration; nothing once it removes it.
+fn told(alloc: Global, stamp: Stamp, what: What) -> Result<Option<Fields>, NoMemory>
+    ensures { IfOk result (λ fields. told_fields fields ≡ told_of stamp what) }
+{
+    let fields = match what {
+        What::Register {
+            version,
+            queue,
+            address,
+            seen,
+            lifetime,
+            binding,
+            sms,
+            objects,
+        } => Fields {
+            base: Some(Base { version, queue }),
+            address: Some((stamp, address)),
+            seen: Some((stamp, seen)),
+            lifetime: Some((stamp, lifetime)),
+            binding: Some((stamp, binding)),
+            sms: Some((stamp, sms)),
+            objects: Some((stamp, objects)),
+            watches: unwatched(alloc),
+        },
+        What::Update {
+            address,
+            seen,
+            lifetime,
+            binding,
+            sms,
+            objects,
+        } => Fields {
+            base: None,
+            address: Some((stamp, address)),
+            seen: Some((stamp, seen)),
+            lifetime: stamped(stamp, lifetime),
+            binding: stamped(stamp, binding),
+            sms: stamped(stamp, sms.map(Some)),
+            objects: stamped(stamp, objects),
+            watches: unwatched(alloc),
+        },
+        What::Remove => return Ok(None),
+        What::Observe { path, accept } => observed(alloc, path, stamp, Accept { format: accept })?,
+        What::Cancel { path, token } => cancelled(alloc, path, token)?,
+    };
+    Ok(Some(fields))
+}
+
+fn stamped<V>(stamp: Stamp, value: Option<V>) -> Option<(Stamp, V)>
+    ensures { result ≡ write_of stamp value }
+{
+    match value {
+        None => None,
+        Some(value) => Some((stamp, value)),
+    }
+}
+
+fn unwatched(alloc: Global) -> Parts<Path, Watching>
+    ensures { result ≡ no_watches }
+{
+    Parts::new(alloc)
+}
+
+fn observed(alloc: Global, path: Path, stamp: Stamp, accept: Accept) -> Result<Fields, NoMemory>
+    ensures { IfOk result (λ fields. fields ≡ watched_fields path (record { stamp = stamp; value = Here accept })) }
+{
+    let value = OrGone::Here(accept);
+    watched(alloc, path, Lex { stamp, value })
+}
+
+fn cancelled(alloc: Global, path: Path, stamp: Stamp) -> Result<Fields, NoMemory>
+    ensures { IfOk result (λ fields. fields ≡ watched_fields path (record { stamp = stamp; value = Gone })) }
+{
+    let value = OrGone::Gone;
+    watched(alloc, path, Lex { stamp, value })
+}
+
+/// The watch of a path alone.
+fn watched(alloc: Global, path: Path, watching: Watching) -> Result<Fields, NoMemory>
+    ensures { IfOk result (λ fields. fields ≡ watched_fields path watching) }
+{
+    Ok(Fields {
+        base: None,
+        address: None,
+        seen: None,
+        lifetime: None,
+        binding: None,
+        sms: None,
+        objects: None,
+        watches: Parts::one(alloc, path, watching)?,
+    })
+}

@@ -1,0 +1,19 @@
+use crate::{Addr, Base, Binding, Path, SmsNumber, Watching};
+use lw_join::Parts;
+use lw_link::LinkText;
+use lw_stamp::{Moment, Stamp};
+
+/// What a slot keeps of a registration that was not removed: its base, the last write of each field with
+/// the stamp of the operation that wrote it, and the last watch of each path.
+#[derive(Debug, Drop)]
+pub struct Fields {
+    pub base: Option<Base>,
+    pub address: Option<(Stamp, Addr)>,
+    pub seen: Option<(Stamp, Moment)>,
+    /// In seconds; 0 never expires.
+    pub lifetime: Option<(Stamp, u32)>,
+    pub binding: Option<(Stamp, Binding)>,
+    pub sms: Option<(Stamp, Option<SmsNumber>)>,
+    pub objects: Option<(Stamp, LinkText)>,
+    pub watches: Parts<Path, Watching>,
+}

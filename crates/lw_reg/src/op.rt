@@ -1,0 +1,51 @@
+use crate::{Addr, Binding, Path, SmsNumber, Text, Version};
+use lw_link::LinkText;
+use lw_stamp::{Moment, Stamp};
+
+/// An operation on a registration.
+#[derive(Debug, Drop)]
+pub struct Op {
+    pub stamp: Stamp,
+    pub endpoint: Text,
+    /// The registration that it is about: the stamp of its Register, which a Register has itself.
+    pub reg: Stamp,
+    pub what: What,
+}
+
+/// What an operation does.
+#[derive(Debug, Drop)]
+pub enum What {
+    Register {
+        version: Version,
+        /// Whether it asks for queue mode.
+        queue: bool,
+        address: Addr,
+        seen: Moment,
+        /// In seconds; 0 never expires.
+        lifetime: u32,
+        binding: Binding,
+        sms: Option<SmsNumber>,
+        objects: LinkText,
+    },
+    /// Writes the address, the moment, and what else it has.
+    Update {
+        address: Addr,
+        seen: Moment,
+        /// In seconds; 0 never expires.
+        lifetime: Option<u32>,
+        binding: Option<Binding>,
+        sms: Option<SmsNumber>,
+        objects: Option<LinkText>,
+    },
+    Remove,
+    /// The operation's stamp is the token.
+    Observe {
+        path: Path,
+        accept: Option<u16>,
+    },
+    /// Ends the observation of the path with that token.
+    Cancel {
+        path: Path,
+        token: Stamp,
+    },
+}

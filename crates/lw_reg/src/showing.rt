@@ -1,0 +1,96 @@
+//! What a slot shows at a moment.
+
+ghost use Rattle.std.specs.Prelude.{◌≡◌, ◌↔◌, ◌==◌, ℕ, List, [], IsTrue};
+ghost use Rattle.std.specs.List.{list_any};
+ghost use Rattle.lw_stamp.specs.Moment.{ms_of};
+ghost use Rattle.lw_reg.specs.Binding.{binding_text};
+ghost use Rattle.lw_reg.specs.Marks.{Mark, among};
+ghost use Rattle.lw_reg.specs.Reading.{registered_in, view_in, in_time, is_late, shown_by, IsSlotOf};
+ghost use Rattle.lw_reg.specs.Showing.{ShownOf, HasExpired};
+
+use crate::{Binding, Slot, View};
+use lw_stamp::Moment;
+
+impl Slot {
+    /// What is shown of the endpoint whose slot this is: there is none where its registration was removed,
+    /// where a field is not known yet, or once its lifetime is over.
+    pub fn view<'a>(&'a self, endpoint: &'a str, now: Moment) -> Option<View<'a>>
+        ensures value { result ≡ view_in (ms_of now) endpoint.now self.now }
+        // It is what the marks say that can be read from the slot,
+        ensures read { ShownOf (shown_by endpoint.now self.now) (ms_of now) endpoint.now result }
+        // and what every set of marks says whose state has this slot for the endpoint.
+        ensures marks { (ms : List Mark) → IsSlotOf ms endpoint.now self.now → ShownOf (among ms) (ms_of now) endpoint.now result }
+    {
+        self.shown(endpoint, now)
+    }
+
+    /// Whether the registration is complete and was not removed, and its lifetime is over.
+    pub fn expired(&self, now: Moment) -> bool
+        ensures value { result ≡ is_late (ms_of now) (registered_in [] self.now) }
+        ensures read { (e : List ℕ) → IsTrue result ↔ HasExpired (shown_by e self.now) (ms_of now) e }
+        ensures marks { (ms : List Mark) (e : List ℕ) → IsSlotOf ms e self.now → (IsTrue result ↔ HasExpired (among ms) (ms_of now) e) }
+    {
+        self.is_late(now)
+    }
+
+    fn shown<'a>(&'a self, endpoint: &'a str, now: Moment) -> Option<View<'a>>
+        ensures { result ≡ view_in (ms_of now) endpoint.now self.now }
+    {
+        let view = self.registered(endpoint)?;
+        if is_in_time(&view, now) {
+            Some(view)
+        } else {
+            None
+        }
+    }
+
+    fn is_late(&self, now: Moment) -> bool
+        ensures { result ≡ is_late (ms_of now) (registered_in [] self.now) }
+    {
+        match self.registered("") {
+            Some(view) => !is_in_time(&view, now),
+            None => false,
+        }
+    }
+
+    fn registered<'a>(&'a self, endpoint: &'a str) -> Option<View<'a>>
+        ensures { result ≡ registered_in endpoint.now self.now }
+    {
+        let base = self.base()?;
+        let (_, address) = self.address()?;
+        let (_, seen) = self.seen()?;
+        let (_, lifetime) = self.lifetime()?;
+        let (_, binding) = self.binding()?;
+        let (_, sms) = self.sms()?;
+        let (_, objects) = self.objects()?;
+        Some(View {
+            endpoint,
+            id: self.stamp(),
+            address,
+            seen,
+            lifetime,
+            version: base.version,
+            binding,
+            queue: base.queue || asks_for_queue(&binding),
+            sms: sms.map(|sms| sms.as_str()),
+            objects,
+        })
+    }
+}
+
+/// Whether the binding holds the letter Q.
+fn asks_for_queue(binding: &Binding) -> bool
+    ensures { result ≡ list_any (λ c. c == 81) (binding_text binding.now) }
+{
+    binding
+        .as_str()
+        .as_bytes()
+        .iter()
+        .any(|letter| *letter == b'Q')
+}
+
+fn is_in_time(view: &View<'_>, now: Moment) -> bool
+    ensures { result ≡ in_time (ms_of now) view.now }
+{
+    view.lifetime == 0 || now.ms() < view.seen.ms() + 1000 * u64::from(view.lifetime)
+}

@@ -1,0 +1,170 @@
+ghost use Rattle.std.specs.Prelude.{◌≡◌, ◌↔◌, IsTrue};
+ghost use Rattle.std.specs.Option.{option_copied, option_map};
+ghost use Rattle.lw_join.specs.declared.or_gone.OrGone.TheVariants.{Gone};
+ghost use Rattle.lw_reg.specs.Fields.{fields_body, slot_of_fields};
+ghost use Rattle.lw_reg.specs.Reading.{body_of, stamp_of, base_of, address_of, seen_of, lifetime_of, binding_of, sms_of, objects_of, watches_of};
+
+use crate::body::Body;
+use crate::by_text::ByText;
+use crate::{Addr, Base, Binding, Fields, Path, SmsNumber, Watching};
+use lw_join::{Join, Lex, Lww, Once, OrGone};
+use lw_link::LinkText;
+use lw_stamp::{Moment, NoMemory, Stamp};
+
+/// What is known of an endpoint: the stamp of its current registration, and what is known of that, or
+/// gone once it was removed.
+#[derive(Debug, Drop)]
+pub struct Slot {
+    pub(crate) registration: Lex<OrGone<Body>>,
+}
+
+impl Slot {
+    /// The slot with these fields, or of a removed registration.
+    pub fn from_parts(stamp: Stamp, fields: Option<Fields>) -> Slot
+        ensures { result ≡ slot_of_fields stamp fields }
+    {
+        let value = match fields {
+            None => OrGone::Gone,
+            Some(fields) => OrGone::Here(body_of_fields(fields)),
+        };
+        Slot {
+            registration: Lex { stamp, value },
+        }
+    }
+
+    fn body(&self) -> Option<&Body>
+        ensures { option_copied result ≡ body_of self.now }
+    {
+        match &self.registration.value {
+            OrGone::Gone => None,
+            OrGone::Here(body) => Some(body),
+        }
+    }
+
+    /// The stamp of the registration, which its Register had.
+    pub fn stamp(&self) -> Stamp
+        ensures { result ≡ stamp_of self.now }
+    {
+        self.registration.stamp
+    }
+
+    /// Whether the registration was removed. Then nothing else is kept of it.
+    pub fn is_removed(&self) -> bool
+        ensures { IsTrue result ↔ (self.now.registration.value ≡ Gone) }
+    {
+        self.body().is_none()
+    }
+
+    pub fn base(&self) -> Option<Base>
+        ensures { result ≡ base_of self.now }
+    {
+        self.body()?.base.value
+    }
+
+    /// The last address, with the stamp that wrote it.
+    pub fn address(&self) -> Option<(Stamp, Addr)>
+        ensures { result ≡ address_of self.now }
+    {
+        self.body()?.address.write
+    }
+
+    /// The moment of the last Register or Update, with the stamp that wrote it.
+    pub fn seen(&self) -> Option<(Stamp, Moment)>
+        ensures { result ≡ seen_of self.now }
+    {
+        self.body()?.seen.write
+    }
+
+    /// The last lifetime in seconds, with the stamp that wrote it.
+    pub fn lifetime(&self) -> Option<(Stamp, u32)>
+        ensures { result ≡ lifetime_of self.now }
+    {
+        self.body()?.lifetime.write
+    }
+
+    /// The last binding, with the stamp that wrote it.
+    pub fn binding(&self) -> Option<(Stamp, Binding)>
+        ensures { result ≡ binding_of self.now }
+    {
+        self.body()?.binding.write
+    }
+
+    /// The last SMS number or none, with the stamp that wrote it.
+    pub fn sms(&self) -> Option<(Stamp, Option<&SmsNumber>)>
+        ensures { option_map (λ w. (w.0, option_copied w.1)) result ≡ sms_of self.now }
+    {
+        let (stamp, sms) = self.body()?.sms.write.as_ref()?;
+        match sms {
+            None => Some((*stamp, None)),
+            Some(sms) => Some((*stamp, Some(&sms.value))),
+        }
+    }
+
+    /// The last object list, with the stamp that wrote it.
+    pub fn objects(&self) -> Option<(Stamp, &LinkText)>
+        ensures { option_map (λ w. (w.0, w.1.now)) result ≡ objects_of self.now }
+    {
+        let (stamp, objects) = self.body()?.objects.write.as_ref()?;
+        Some((*stamp, &objects.value))
+    }
+
+    /// The last watch of each path, paths rising.
+    pub fn watches(&self) -> &[(Path, Watching)]
+        ensures { result.now ≡ watches_of self.now }
+    {
+        match self.body() {
+            None => &[],
+            Some(body) => body.watches.entries(),
+        }
+    }
+}
+
+fn body_of_fields(fields: Fields) -> Body
+    ensures { result ≡ fields_body fields }
+{
+    let Fields {
+        base,
+        address,
+        seen,
+        lifetime,
+        binding,
+        sms,
+        objects,
+        watches,
+    } = fields;
+    Body {
+        base: Once { value: base },
+        address: Lww { write: address },
+        seen: Lww { write: seen },
+        lifetime: Lww { write: lifetime },
+        binding: Lww { write: binding },
+        sms: Lww {
+            write: sms.map(|(stamp, sms)| (stamp, sms.map(ByText::new))),
+        },
+        objects: Lww {
+            write: objects.map(|(stamp, objects)| (stamp, ByText::new(objects))),
+        },
+        watches,
+    }
+}
+
+impl Join for Slot {
+    ghost use Rattle.lw_reg.specs.Slot.{slot_below, slot_join};
+    ghost use Rattle.lw_reg.specs.SlotLaws.{slot_laws};
+
+    ghost below = { slot_below };
+
+    ghost join = { slot_join };
+
+    ghost calm = { ⊥ };
+
+    ghost laws = { slot_laws };
+
+    fn le(&self, other: &Slot) -> bool {
+        self.registration.le(&other.registration)
+    }
+
+    fn join_with(&mut self, other: Slot) -> Result<(), NoMemory> {
+        self.registration.join_with(other.registration)
+    }
+}

@@ -1,0 +1,43 @@
+ghost use Rattle.std.specs.Prelude.{◌≡◌, ◌≤◌, ◌↔◌, IsSome, IfSome, length};
+
+use crate::Text;
+use std::marker::Model;
+
+/// The number that a client takes SMS at: a text of at most 251 bytes. Contracts see its bytes.
+#[derive(Debug, Drop)]
+pub struct SmsNumber {
+    text: Text,
+}
+
+impl Model for SmsNumber {
+    ghost use Rattle.std.specs.Prelude.{ℕ, List, ◌≤◌, length};
+
+    ghost Value = { List ℕ };
+
+    ghost view = { λ s. s.text };
+
+    ghost invariant = { λ s. length s.text ≤ 251 };
+}
+
+impl SmsNumber {
+    /// The most bytes: what a Uri-Query of 255 bytes holds behind `sms=`.
+    pub const MAX_LENGTH: usize = 251;
+
+    /// There is none for a text of more than 251 bytes.
+    pub fn new(text: Text) -> Option<SmsNumber>
+        ensures accepted { IsSome result ↔ (length text ≤ 251) }
+        ensures value { IfSome result (λ s. s ≡ text) }
+    {
+        if text.as_str().len() > SmsNumber::MAX_LENGTH {
+            return None;
+        }
+        Some(SmsNumber { text })
+    }
+
+    pub fn as_str(&self) -> &str
+        ensures value { result.now ≡ self.now }
+        ensures within { length result.now ≤ 251 }
+    {
+        self.text.as_str()
+    }
+}
