@@ -1,13 +1,12 @@
 -- What a part of a list takes of the characters that are left.
 use Rattle.std.proofs.Common.{◌≡◌, ◌≢◌, ℕ, true, false, ◌==◌, cond, List, [], ◌∷◌, ◌++◌, refl, ap, subst, sym, ◌∙◌, append_assoc, encode_utf8, inl, inr}
-use Rattle.std.proofs.lemmas.List.{append-nil}
 use Rattle.std.proofs.lemmas.Bool.{ne_eqb, false≢true, cases_Bool}
 use Rattle.lw_link.specs.declared.style.Style.TheVariants.{Any}
 use Rattle.lw_link.specs.declared.state.State.{State}
 use Rattle.lw_link.specs.declared.state.State.TheVariants.{Start, Target, Closed, Comma, Semicolon, Name, Equals, Word, Quotation, Backslash, Stop}
 use Rattle.lw_link.specs.Characters.{is_target_char, is_name_char, is_plain_char, is_quoted_char, is_escaped_char}
 use Rattle.lw_link.specs.Machine.{Rest, read_on, next_state, separated, fresh, more_text}
-use Rattle.lw_link.specs.Taking.{HoldsText, IsLeft, with_text, ended_text, TakesQuoted}
+use Rattle.lw_link.specs.Taking.{HoldsText, IsLeft, with_text}
 use Rattle.lw_link.proofs.Sound.{same_end}
 
 -- nothing holds a list behind a stop
@@ -97,36 +96,31 @@ escape_stays c live =
       | inr f ↦ absurd (live (rw f refl))
     ]
 
-pub quoted_more : (first old new text next : List ℕ) (c : ℕ) → old ≡ c ∷ new → c ≢ 34 → c ≢ 92 → (read_on Any Quotation first).whole ≡ true → next ≡ text ++ encode_utf8 c
-    → read_on Any Quotation first ≡ with_text text (read_on Any Quotation old) → read_on Any Quotation first ≡ with_text next (read_on Any Quotation new)
-quoted_more first old new text next c e quote backslash whole n h =
-    let seen : (read_on Any Quotation (c ∷ new)).whole ≡ true = ap (λ (x : List ℕ). (read_on Any Quotation x).whole) (sym e) ∙ ap (λ (r : Rest). r.whole) (sym h) ∙ whole in
-    let here : is_quoted_char c ≡ true = quoted_stays c quote backslash (goes_on Quotation c new seen) in
-    let step : read_on Any Quotation (c ∷ new) ≡ more_text c (read_on Any Quotation new) = rw here refl in
-    h ∙ ap (λ (x : List ℕ). with_text text (read_on Any Quotation x)) e ∙ ap (with_text text) step ∙ grown text c (read_on Any Quotation new) ∙ ap (λ (x : List ℕ). with_text x (read_on Any Quotation new)) (sym n)
+pub plain_item : (c : ℕ) (new : List ℕ) → c ≢ 34 → c ≢ 92 → (read_on Any Quotation (c ∷ new)).whole ≡ true → read_on Any Quotation (c ∷ new) ≡ more_text c (read_on Any Quotation new)
+plain_item c new quote backslash whole =
+    let here : is_quoted_char c ≡ true = quoted_stays c quote backslash (goes_on Quotation c new whole) in
+    rw here refl
 
-pub escaped_more : (first old mid new text next : List ℕ) (b c : ℕ) → old ≡ b ∷ mid → b ≡ 92 → mid ≡ c ∷ new → (read_on Any Quotation first).whole ≡ true → next ≡ text ++ encode_utf8 c
-    → read_on Any Quotation first ≡ with_text text (read_on Any Quotation old) → read_on Any Quotation first ≡ with_text next (read_on Any Quotation new)
-escaped_more first old mid new text next b c e is f whole n h =
-    let old_is : old ≡ 92 ∷ c ∷ new = e ∙ ap (λ (x : ℕ). x ∷ mid) is ∙ ap (λ (x : List ℕ). 92 ∷ x) f in
-    let seen : (read_on Any Backslash (c ∷ new)).whole ≡ true = ap (λ (x : List ℕ). (read_on Any Quotation x).whole) (sym old_is) ∙ ap (λ (r : Rest). r.whole) (sym h) ∙ whole in
+pub escaped_item : (first : ℕ) (old new : List ℕ) (c : ℕ) → first ≡ 92 → old ≡ c ∷ new → (read_on Any Quotation (first ∷ old)).whole ≡ true → read_on Any Quotation (first ∷ old) ≡ more_text c (read_on Any Quotation new)
+escaped_item first old new c is e whole =
+    let same : first ∷ old ≡ 92 ∷ c ∷ new = ap (λ (x : ℕ). x ∷ old) is ∙ ap (λ (x : List ℕ). 92 ∷ x) e in
+    let seen : (read_on Any Backslash (c ∷ new)).whole ≡ true = ap (λ (x : List ℕ). (read_on Any Quotation x).whole) (sym same) ∙ whole in
     let here : is_escaped_char Any c ≡ true = escape_stays c (goes_on Backslash c new seen) in
     let step : read_on Any Quotation (92 ∷ c ∷ new) ≡ more_text c (read_on Any Quotation new) = rw here refl in
-    h ∙ ap (λ (x : List ℕ). with_text text (read_on Any Quotation x)) old_is ∙ ap (with_text text) step ∙ grown text c (read_on Any Quotation new) ∙ ap (λ (x : List ℕ). with_text x (read_on Any Quotation new)) (sym n)
+    ap (read_on Any Quotation) same ∙ step
 
 -- a backslash at the end holds no list
-pub escape_ends : (first old mid text : List ℕ) (b : ℕ) → old ≡ b ∷ mid → b ≡ 92 → mid ≡ [] → (read_on Any Quotation first).whole ≡ true
-    → read_on Any Quotation first ≡ with_text text (read_on Any Quotation old) → ⊥
-escape_ends first old mid text b e is f whole h =
-    let old_is : old ≡ 92 ∷ [] = e ∙ ap (λ (x : ℕ). x ∷ mid) is ∙ ap (λ (x : List ℕ). 92 ∷ x) f in
-    false≢true (ap (λ (x : List ℕ). (read_on Any Quotation x).whole) (sym old_is) ∙ ap (λ (r : Rest). r.whole) (sym h) ∙ whole)
+pub open_escape : (first : ℕ) (old : List ℕ) → first ≡ 92 → old ≡ [] → (read_on Any Quotation (first ∷ old)).whole ≡ true → ⊥
+open_escape first old is e whole =
+    let same : first ∷ old ≡ 92 ∷ [] = ap (λ (x : ℕ). x ∷ old) is ∙ ap (λ (x : List ℕ). 92 ∷ x) e in
+    false≢true (ap (λ (x : List ℕ). (read_on Any Quotation x).whole) (sym same) ∙ whole)
 
--- so does an end within quotes
-pub quoted_open : (first old text : List ℕ) → old ≡ [] → (read_on Any Quotation first).whole ≡ true → read_on Any Quotation first ≡ with_text text (read_on Any Quotation old) → ⊥
-quoted_open first old text e whole h =
-    false≢true (ap (λ (x : List ℕ). (read_on Any Quotation x).whole) (sym e) ∙ ap (λ (r : Rest). r.whole) (sym h) ∙ whole)
+-- behind a text that has begun, what is left holds a list too
+pub still_whole : (first old new text : List ℕ) (c : ℕ) → old ≡ c ∷ new → (read_on Any Quotation first).whole ≡ true → read_on Any Quotation first ≡ with_text text (read_on Any Quotation old) → (read_on Any Quotation (c ∷ new)).whole ≡ true
+still_whole first old new text c e whole h = ap (λ (x : List ℕ). (read_on Any Quotation x).whole) (sym e) ∙ ap (λ (r : Rest). r.whole) (sym h) ∙ whole
 
-pub quoted_end : (first old new text : List ℕ) (c : ℕ) → old ≡ c ∷ new → c ≡ 34 → read_on Any Quotation first ≡ with_text text (read_on Any Quotation old) → TakesQuoted text first new
-quoted_end first old new text c e is h =
-    h ∙ ap (λ (x : List ℕ). with_text text (read_on Any Quotation x)) (e ∙ ap (λ (x : ℕ). x ∷ new) is)
-    ∙ ap (λ (x : List ℕ). ended_text x (read_on Any Closed new)) (append-nil text)
+-- an item more of a text
+pub item_more : (first old mid new text next : List ℕ) (b c : ℕ) → old ≡ b ∷ mid → read_on Any Quotation (b ∷ mid) ≡ more_text c (read_on Any Quotation new) → next ≡ text ++ encode_utf8 c
+    → read_on Any Quotation first ≡ with_text text (read_on Any Quotation old) → read_on Any Quotation first ≡ with_text next (read_on Any Quotation new)
+item_more first old mid new text next b c e step n h =
+    h ∙ ap (λ (x : List ℕ). with_text text (read_on Any Quotation x)) e ∙ ap (with_text text) step ∙ grown text c (read_on Any Quotation new) ∙ ap (λ (x : List ℕ). with_text x (read_on Any Quotation new)) (sym n)

@@ -1,11 +1,11 @@
 //! Reading a list that the grammar allows.
 
-ghost use Rattle.std.specs.Prelude.{◌≡◌, ◌≢◌, ◌≤◌, ◌↔◌, true, List, length, IfOk, IfErr, MatchResult, Err, chars};
+ghost use Rattle.std.specs.Prelude.{◌≡◌, ◌≢◌, ◌≤◌, ◌↔◌, true, List, ◌∷◌, length, IfOk, IfErr, MatchResult, Err, chars};
 ghost use Rattle.lw_link.specs.declared.fault.LinkFault.{LinkFault};
 ghost use Rattle.lw_link.specs.declared.style.Style.TheVariants.{Any};
 ghost use Rattle.lw_link.specs.declared.state.State.TheVariants.{Start, Closed, Comma, Semicolon, Name, Quotation};
 ghost use Rattle.lw_link.specs.Link.{LinkContent};
-ghost use Rattle.lw_link.specs.Machine.{read_on};
+ghost use Rattle.lw_link.specs.Machine.{read_on, more_text};
 ghost use Rattle.lw_link.specs.Taking.{HoldsText, IsLeft, IsPastSpaces, TakesText, TakesQuoted, TakesValue, TakesAttr, TakesAttrs, TakesLink};
 ghost use Rattle.lw_link.specs.Spelling.{Spells};
 ghost use Rattle.lw_link.specs.Faults.{IsFault, IsRefused};
@@ -47,6 +47,22 @@ fn run_of(alloc: Global, scanner: &mut Scanner, state: State) -> Result<Text, No
     Ok(Text::from(text))
 }
 
+/// The character that an item of a quoted value stands for. The item's first character is taken already.
+fn item(scanner: &mut Scanner, first: char) -> char
+    requires whole { (read_on Any Quotation (first ∷ scanner.old)).whole ≡ true }
+    requires first { first ≢ 34 }
+    ensures taken { read_on Any Quotation (first ∷ scanner.old) ≡ more_text result (read_on Any Quotation scanner.new) }
+    ensures shorter { length scanner.new ≤ length scanner.old }
+{
+    if first != '\\' {
+        return first;
+    }
+    let Some(c) = scanner.take() else {
+        return first;
+    };
+    c
+}
+
 /// A quoted value behind its first `"`.
 fn quoted(alloc: Global, scanner: &mut Scanner) -> Result<Text, NoMemory>
     requires { (read_on Any Quotation scanner.old).whole ≡ true }
@@ -55,15 +71,10 @@ fn quoted(alloc: Global, scanner: &mut Scanner) -> Result<Text, NoMemory>
 {
     let mut text = String::new(alloc);
     while let Some(c) = scanner.take() {
-        match c {
-            '"' => break,
-            '\\' => {
-                if let Some(c) = scanner.take() {
-                    text.push(c)?;
-                }
-            }
-            _ => text.push(c)?,
+        if c == '"' {
+            break;
         }
+        text.push(item(scanner, c))?;
     }
     Ok(Text::from(text))
 }
