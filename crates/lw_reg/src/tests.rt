@@ -175,3 +175,5 @@ fn a_view_is_copied_field_by_field(rt: HostRuntime) -> Result<(), Fail> {
     assert_eq!(rt; lent.objects.as_str(), "</3/0>");
     Ok(())
 }
+
+mod slots;
