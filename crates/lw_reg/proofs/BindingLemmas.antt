@@ -1,24 +1,13 @@
 -- Bindings, their letters and their texts.
-use Rattle.std.proofs.Common.{◌≡◌, ℕ, zero, suc, ◌+◌, ◌-◌, ◌≤◌, true, ltb, leb, List, [], ◌∷◌, ◌++◌, length, replicate, take, subst, refl, sym, ap, ◌∙◌, arith}
-use Rattle.std.specs.declared.cmp.Ordering.TheVariants.{Less, Equal, Greater}
-use Rattle.std.specs.Cmp.Lexicographic.{slice_cmp}
+use Rattle.std.proofs.Common.{◌≡◌, ℕ, zero, suc, ◌-◌, ◌≤◌, true, ltb, leb, List, [], ◌∷◌, ◌++◌, length, replicate, take, subst, refl, sym, ap, ◌∙◌, arith}
 use Rattle.std.specs.Char.{is_ascii_uppercase}
 use Rattle.std.specs.List.{list_all}
 use Rattle.std.specs.Str.{IsAscii, IsUtf8}
-use Rattle.std.specs.Ordering.{nat_cmp, ordering_then}
-use Rattle.std.proofs.lemmas.Bool.{and_parts, leb-true, lt-ltb, le-ltb, ne_eqb}
-use Rattle.std.proofs.lemmas.Cmp.{on_total, nat_list_cmp_total}
+use Rattle.std.proofs.lemmas.Bool.{and_parts, leb-true, lt-ltb}
 use Rattle.std.proofs.lemmas.List.{take_at}
 use Rattle.std.proofs.lemmas.List.Sums.{take_while-cons}
 use Rattle.std.proofs.lemmas.Str.{IsUtf8-from_ascii}
-use Rattle.std.proofs.Props.{props}
-use Rattle.std.proofs.lemmas.Map.Lookups.{exact_bytes}
-use mathlib.Core.HLevel.{is_prop→PathP}
-use Rattle.lw_stamp.specs.Order.{IsExactOrder}
-use Rattle.lw_reg.specs.declared.binding.Binding.{Binding}
 use Rattle.lw_reg.specs.BindingText.{IsBindingText, IsPadded, text_in}
-use Rattle.lw_reg.specs.Binding.{binding_text}
-use Rattle.lw_reg.specs.Orders.{binding_by_text}
 
 -- the letters before the padding are the text
 text_in-padded : (text : List ℕ) (n : ℕ) → list_all is_ascii_uppercase text ≡ true → text_in (text ++ replicate n 0) ≡ text

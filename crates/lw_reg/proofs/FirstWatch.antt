@@ -5,7 +5,7 @@ use Rattle.std.specs.declared.cmp.Ordering.TheVariants.{Less}
 use Rattle.lw_stamp.specs.Order.{AtMost}
 use Rattle.lw_stamp.specs.declared.stamp.Stamp.{Stamp}
 use Rattle.lw_join.specs.Entries.{AllAbove, Rises, get}
-use Rattle.lw_join.specs.EntriesLaws.{same_key, get_below, above_from}
+use Rattle.lw_join.specs.EntriesLaws.{same_key, get_below, get_first}
 use Rattle.lw_join.specs.GreaterLaws.{at_most_refl}
 use Rattle.lw_join.specs.declared.or_gone.OrGone.{OrGone}
 use Rattle.lw_join.specs.declared.or_gone.OrGone.TheVariants.{Here, Gone}
@@ -15,7 +15,7 @@ use Rattle.lw_reg.specs.declared.watch.Watch.{Watch}
 use Rattle.lw_reg.specs.Body.{Watching}
 use Rattle.lw_reg.specs.OrderLaws.{path_order}
 use Rattle.lw_reg.specs.Orders.{path_cmp}
-use Rattle.lw_reg.specs.Reading.{watch_of, first_or, first_watch}
+use Rattle.lw_reg.specs.Reading.{first_watch}
 use Rattle.lw_reg.specs.Slot.{observed, cancelled}
 
 -- the entries have the watch, not cancelled
@@ -80,7 +80,7 @@ module _ (test : Watch → Bool) where
   }
 
   own_key : (p : Path) (x : Watching) (es : List (Path × Watching)) → get path_cmp ((p, x) ∷ es) p ≡ Some x
-  own_key p x es = Rattle.lw_join.specs.EntriesLaws.get_first path_order (p, x) es
+  own_key p x es = get_first path_order (p, x) es
 
   -- an entry that is taken
   taken : (p : Path) (t : Stamp) (a : Accept) (es : List (Path × Watching)) → Rises path_cmp ((p, record { stamp = t; value = Here a }) ∷ es) → test (record { token = t; path = p; accept = a.format }) ≡ true → IsFirstOf test ((p, record { stamp = t; value = Here a }) ∷ es) (record { token = t; path = p; accept = a.format })

@@ -1,6 +1,6 @@
 -- The slot of an operation is the state of its marks, and joined slots are the state of all of them.
-use Rattle.std.proofs.Common.{◌≡◌, ℕ, List, [], ◌∷◌, ◌++◌, Option, Some, None, sym, refl, ap, ◌∙◌, subst, inl, inr, ◌⊎◌}
-use Rattle.std.specs.Prelude.{◌↔◌, Contains, map}
+use Rattle.std.proofs.Common.{◌≡◌, ℕ, List, [], ◌∷◌, ◌++◌, Some, None, sym, refl, ap, ◌∙◌, subst, inl, inr, ◌⊎◌}
+use Rattle.std.specs.Prelude.{map}
 use Rattle.std.specs.Cmp.{tied_itself}
 use Rattle.std.specs.FinMap.{empty, get, get-empty}
 use Rattle.std.specs.Ordering.{match_ordering}
@@ -8,16 +8,17 @@ use Rattle.std.proofs.lemmas.List.Elements.{Contains-append_left, Contains-appen
 use Rattle.lw_stamp.specs.declared.stamp.Stamp.{Stamp}
 use Rattle.lw_stamp.specs.TextOrder.{text_cmp}
 use Rattle.lw_stamp.proofs.StampLemmas.{stamp_order}
+use Rattle.lw_join.specs.Entries.{get as get_entry}
+use Rattle.lw_join.specs.Join.{IsJoin}
 use Rattle.lw_join.specs.JoinLaws.{semilattice, absorbed}
 use Rattle.lw_join.specs.Least.{joined_all}
-use Rattle.lw_join.specs.Maps.{map_join, one_key}
+use Rattle.lw_join.specs.Maps.{one_key}
 use Rattle.lw_join.specs.OptionLaws.{option_laws}
 use Rattle.lw_join.specs.Options.{option_below, option_join}
 use Rattle.lw_join.specs.OrGone.{gone_join}
-use Rattle.lw_join.specs.Parts.{parts_join}
+use Rattle.lw_join.specs.Parts.{parts_below, parts_join, value_at}
 use Rattle.lw_join.specs.PartsLaws.{parts_laws, entries_made}
 use Rattle.lw_join.specs.declared.or_gone.OrGone.{OrGone}
-use Rattle.lw_join.specs.declared.or_gone.OrGone.TheVariants.{Here, Gone}
 use Rattle.lw_join.proofs.MapLemmas.{get-map_join, get-own_key, join-one_key, empty_below}
 use Rattle.lw_reg.specs.declared.body.Body.{Body}
 use Rattle.lw_reg.specs.declared.op.Op.{Op}
@@ -26,13 +27,14 @@ use Rattle.lw_reg.specs.declared.op.What.TheVariants.{Register, Update, Remove, 
 use Rattle.lw_reg.specs.declared.slot.Slot.{Slot}
 use Rattle.lw_reg.specs.Body.{Watches, watching_below, watching_join, body_join}
 use Rattle.lw_reg.specs.BodyLaws.{watching_laws}
-use Rattle.lw_reg.specs.Marks.{Trace, Mark, Marks, Has, NamesAll, AllAbout, among, left_by, marks_about, marks_of, all_marks, traces_of}
+use Rattle.lw_reg.specs.Marks.{Trace, Mark, Has, NamesAll, AllAbout, among, left_by, marks_about, marks_of, all_marks, traces_of}
 use Rattle.lw_reg.specs.Marks.Trace.{Named}
 use Rattle.lw_reg.specs.OrderLaws.{path_order, text_order}
+use Rattle.lw_reg.specs.Orders.{path_cmp}
 use Rattle.lw_reg.specs.Reading.{IsSlotOf}
 use Rattle.lw_reg.specs.Slot.{slot_join, slot_at, no_watches, told_by, told_of, slot_of}
 use Rattle.lw_reg.specs.SlotLaws.{slot_laws}
-use Rattle.lw_reg.specs.State.{State, state_join, atom_of, IsStateOf, state_of}
+use Rattle.lw_reg.specs.State.{State, state_join, IsStateOf, state_of}
 use Rattle.lw_reg.proofs.Members.{none_there, first_there, more_there, there_or_first}
 use Rattle.lw_reg.proofs.States.{state_laws, state_least, state_is, state_union}
 
@@ -85,11 +87,11 @@ state_of-marks_about e r k (j ∷ ks) =
 none_first : (w : Watches) → parts_join watching_join no_watches w ≡ w
 none_first w = laws.antisymmetric _ _ (laws.least no_watches w w none_below (laws.reflexive w)) (laws.above_right no_watches w)
   where
-    laws : Rattle.lw_join.specs.Join.IsJoin {S = Watches} (Rattle.lw_join.specs.Parts.parts_below watching_below) (parts_join watching_join)
+    laws : IsJoin {S = Watches} (parts_below watching_below) (parts_join watching_join)
     laws = parts_laws path_order watching_laws
 
-    none_below : Rattle.lw_join.specs.Parts.parts_below watching_below no_watches w
-    none_below p = subst (λ es. option_below watching_below (Rattle.lw_join.specs.Entries.get Rattle.lw_reg.specs.Orders.path_cmp es p) (Rattle.lw_join.specs.Parts.value_at w p)) (sym (entries_made _ _ _ [] tt)) tt
+    none_below : parts_below watching_below no_watches w
+    none_below p = subst (λ es. option_below watching_below (get_entry path_cmp es p) (value_at w p)) (sym (entries_made _ _ _ [] tt)) tt
 
 told_all : (s : Stamp) (w : What) → tell_all Named (traces_of s w) ≡ told_of s w
 unfolding tell_all

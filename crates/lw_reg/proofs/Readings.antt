@@ -1,5 +1,5 @@
 -- What a slot shows is what the relations say of the set that it tells of.
-use Rattle.std.proofs.Common.{◌≡◌, ℕ, Bool, List, Option, Some, None, sym, ap, ◌∙◌, subst, inl, inr}
+use Rattle.std.proofs.Common.{◌≡◌, ℕ, List, Option, Some, None, sym, ap, ◌∙◌, subst, inl, inr}
 use Rattle.std.specs.Prelude.{◌↔◌}
 use Rattle.std.specs.declared.cmp.Ordering.{Ordering}
 use Rattle.std.specs.Ordering.{nat_cmp}
@@ -9,7 +9,7 @@ use Rattle.lw_stamp.specs.Order.{IsExactOrder, IsGreatest}
 use Rattle.lw_stamp.specs.StampOrder.{stamp_cmp}
 use Rattle.lw_stamp.specs.TextOrder.{text_cmp}
 use Rattle.lw_stamp.proofs.StampLemmas.{stamp_order}
-use Rattle.lw_join.specs.Facets.{OptionTells, KeyedTells, OnceTells, LwwTells}
+use Rattle.lw_join.specs.Facets.{OptionTells, KeyedTells}
 use Rattle.lw_join.specs.Lww.{write_cmp}
 use Rattle.lw_join.specs.Entries.{get}
 use Rattle.lw_join.specs.Parts.{value_at}
@@ -29,14 +29,14 @@ use Rattle.lw_reg.specs.AcceptLaws.{format_order}
 use Rattle.lw_reg.specs.BindingLaws.{binding_order}
 use Rattle.lw_reg.specs.Body.{Watching}
 use Rattle.lw_reg.specs.Marks.{Trace, Marks, Has}
-use Rattle.lw_reg.specs.Marks.Trace.{Named, Based, AddressAt, SeenAt, LifetimeAt, BindingAt, SmsAt, ObjectsAt, Removed, Watched, Cancelled}
-use Rattle.lw_reg.specs.OrderLaws.{addr_order, base_order, moment_order, number_order, sms_order, text_order}
+use Rattle.lw_reg.specs.Marks.Trace.{Named, Based, AddressAt, SeenAt, LifetimeAt, BindingAt, SmsAt, ObjectsAt, Watched, Cancelled}
+use Rattle.lw_reg.specs.OrderLaws.{addr_order, moment_order, number_order, sms_order, text_order}
 use Rattle.lw_reg.specs.Orders.{addr_cmp, base_cmp, binding_cmp, moment_cmp, path_cmp, sms_cmp}
 use Rattle.lw_reg.specs.Reading.{registration_of, registered_in, watches_of}
 use Rattle.lw_reg.specs.Registration.{Registration}
 use Rattle.lw_reg.specs.Showing.{IsCurrent, IsRegistered, IsToken, queue_of}
 use Rattle.lw_reg.specs.Slot.{slot_at, observed}
-use Rattle.lw_reg.proofs.Tells.{Sign, sign_trace, FieldTells, BaseTells, EndTells, WatchTells, ToldTells, base_facet, field_facet}
+use Rattle.lw_reg.proofs.Tells.{Sign, sign_trace, FieldTells, WatchTells, ToldTells, base_facet, field_facet}
 use Rattle.lw_reg.proofs.Tells.Sign.{Asked, Ended}
 
 -- the parts that a registration is shown of

@@ -1,6 +1,5 @@
 -- Sets of marks with one state show the same.
 use Rattle.std.proofs.Common.{◌≡◌, ℕ, List, Option, Some, None, sym, refl, subst}
-use Rattle.std.specs.Prelude.{◌↔◌}
 use Rattle.std.specs.FinMap.{get}
 use Rattle.lw_stamp.specs.declared.stamp.Stamp.{Stamp}
 use Rattle.lw_join.specs.Facets.{OptionTells}
@@ -8,14 +7,14 @@ use Rattle.lw_join.specs.declared.or_gone.OrGone.TheVariants.{Here, Gone}
 use Rattle.lw_reg.specs.declared.slot.Slot.{Slot}
 use Rattle.lw_reg.specs.declared.watch.Watch.{Watch}
 use Rattle.lw_reg.specs.Fields.{slot_of_fields}
-use Rattle.lw_reg.specs.Laws.{ShowTheSame, StatesDecide, MembersDecide, SlotsAreParts, fields_in}
-use Rattle.lw_reg.specs.Marks.{Trace, Mark, Marks, Has, NamesAll, among}
+use Rattle.lw_reg.specs.Laws.{StatesDecide, MembersDecide, SlotsAreParts, fields_in}
+use Rattle.lw_reg.specs.Marks.{Marks, Has, NamesAll, among}
 use Rattle.lw_reg.specs.Marks.Trace.{Named}
 use Rattle.lw_reg.specs.Reading.{body_of, stamp_of}
 use Rattle.lw_reg.specs.Registration.{Registration}
 use Rattle.lw_reg.specs.Showing.{IsShown, HasExpired, LivesOf}
 use Rattle.lw_reg.specs.Slot.{slot_at}
-use Rattle.lw_reg.specs.State.{State, IsStateOf, state_of}
+use Rattle.lw_reg.specs.State.{State}
 use Rattle.lw_reg.proofs.ShownLemmas.{shown_reads, expired_reads, lives_reads}
 use Rattle.lw_reg.proofs.States.{state_is, state_same, one_state}
 use Rattle.lw_reg.proofs.Tells.{SlotTells, state_tells}

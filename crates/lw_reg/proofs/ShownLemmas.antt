@@ -1,34 +1,31 @@
 -- What a slot shows at a moment, and its live watches, of a set that it tells of.
-use Rattle.std.proofs.Common.{◌≡◌, ℕ, ◌+◌, ◌*◌, Bool, true, false, cond, List, [], ◌∷◌, Option, Some, None, sym, refl, ap, ◌∙◌, subst, inl, inr, arith}
+use Rattle.std.proofs.Common.{◌≡◌, ℕ, ◌+◌, ◌*◌, Bool, true, false, cond, List, [], Option, Some, None, sym, refl, ap, ◌∙◌, subst, inl, inr, arith}
 use Rattle.std.specs.Prelude.{◌↔◌, ◌==◌, ◌||◌, nat_lt, not}
 use Rattle.std.specs.Option.{option_map}
 use Rattle.std.proofs.lemmas.Bool.Decides.{nat_tests}
 use Rattle.lw_stamp.specs.declared.moment.Moment.{Moment}
 use Rattle.lw_stamp.specs.declared.stamp.Stamp.{Stamp}
 use Rattle.lw_stamp.specs.Moment.{ms_of}
-use Rattle.lw_stamp.specs.Order.{AtMost, IsGreatest}
+use Rattle.lw_stamp.specs.Order.{IsGreatest}
 use Rattle.lw_stamp.specs.StampOrder.{stamp_cmp}
 use Rattle.lw_join.specs.Entries.{Rises}
-use Rattle.lw_join.specs.Parts.{entries_of}
 use Rattle.lw_join.specs.declared.or_gone.OrGone.{OrGone}
 use Rattle.lw_join.specs.declared.or_gone.OrGone.TheVariants.{Here, Gone}
 use Rattle.lw_reg.specs.declared.addr.Addr.{Addr}
 use Rattle.lw_reg.specs.declared.base.Base.{Base}
 use Rattle.lw_reg.specs.declared.binding.Binding.{Binding}
 use Rattle.lw_reg.specs.declared.body.Body.{Body}
-use Rattle.lw_reg.specs.declared.path.Path.{Path}
 use Rattle.lw_reg.specs.declared.slot.Slot.{Slot}
 use Rattle.lw_reg.specs.declared.watch.Watch.{Watch}
 use Rattle.lw_reg.specs.Accept.{format_cmp}
-use Rattle.lw_reg.specs.Body.{Watching}
 use Rattle.lw_reg.specs.Marks.{Trace, Marks, Has}
 use Rattle.lw_reg.specs.Marks.Trace.{Named, Watched, Cancelled}
 use Rattle.lw_reg.specs.Orders.{path_cmp}
 use Rattle.lw_reg.specs.Reading.{registration_of, registered_in, in_time, timely, view_in, is_late, watches_of, first_watch, if_shown, live_watch}
 use Rattle.lw_reg.specs.Registration.{Registration}
-use Rattle.lw_reg.specs.Showing.{IsCurrent, IsToken, IsInTime, IsShown, IsExpired, IsLive, IsAnswer, ShownOf, LivesOf, HasExpired, IsFirstWatch}
-use Rattle.lw_reg.specs.Slot.{slot_at, observed}
-use Rattle.lw_reg.proofs.FirstWatch.{HasWatch, FirstOf, IsFirstOf, first_is}
+use Rattle.lw_reg.specs.Showing.{IsCurrent, IsToken, IsInTime, IsShown, IsAnswer, ShownOf, LivesOf, HasExpired, IsFirstWatch}
+use Rattle.lw_reg.specs.Slot.{slot_at}
+use Rattle.lw_reg.proofs.FirstWatch.{HasWatch, FirstOf, first_is}
 use Rattle.lw_reg.proofs.Readings.{shown_from, shown_to, one_current, IsWatch, watch_from, watch_to}
 use Rattle.lw_reg.proofs.Tells.{SlotTells}
 

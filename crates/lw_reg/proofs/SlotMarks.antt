@@ -1,16 +1,14 @@
 -- A slot, and a state, tell of the marks that they show.
-use Rattle.std.proofs.Common.{◌≡◌, ℕ, List, [], ◌∷◌, Option, Some, None, sym, refl, ap, ◌∙◌, subst, inl, inr, ◌⊎◌}
+use Rattle.std.proofs.Common.{◌≡◌, ℕ, List, Option, Some, None, sym, refl, ap, inl, inr}
 use Rattle.std.specs.Prelude.{◌↔◌}
 use Rattle.std.specs.declared.cmp.Ordering.{Ordering}
 use Rattle.lw_stamp.specs.declared.stamp.Stamp.{Stamp}
 use Rattle.lw_stamp.specs.Order.{IsExactOrder, IsGreatest}
-use Rattle.lw_stamp.specs.StampOrder.{stamp_cmp}
 use Rattle.lw_stamp.proofs.StampLemmas.{stamp_order}
-use Rattle.lw_join.specs.Facets.{OptionTells, LwwTells}
+use Rattle.lw_join.specs.Facets.{OptionTells}
 use Rattle.lw_join.specs.Lww.{write_cmp}
 use Rattle.lw_join.specs.LwwLaws.{write_order}
 use Rattle.lw_join.specs.Parts.{value_at}
-use Rattle.lw_join.specs.declared.lww.Lww.{Lww}
 use Rattle.lw_join.specs.declared.or_gone.OrGone.{OrGone}
 use Rattle.lw_join.specs.declared.or_gone.OrGone.TheVariants.{Here, Gone}
 use Rattle.lw_join.proofs.FacetLemmas.{greatest_single, keyed_single}
@@ -21,12 +19,11 @@ use Rattle.lw_reg.specs.declared.slot.Slot.{Slot}
 use Rattle.lw_reg.specs.AcceptLaws.{format_order}
 use Rattle.lw_reg.specs.BindingLaws.{binding_order}
 use Rattle.lw_reg.specs.Body.{Watching}
-use Rattle.lw_reg.specs.Marks.{Trace, Marks, Has}
-use Rattle.lw_reg.specs.Marks.Trace.{Named, Removed, AddressAt, SeenAt, LifetimeAt, BindingAt, SmsAt, ObjectsAt}
+use Rattle.lw_reg.specs.Marks.{Trace, Has}
+use Rattle.lw_reg.specs.Marks.Trace.{Named}
 use Rattle.lw_reg.specs.OrderLaws.{addr_order, base_order, moment_order, number_order, sms_order, text_order}
 use Rattle.lw_reg.specs.Reading.{BodyShows, Shows, shown_by}
-use Rattle.lw_reg.specs.Slot.{slot_at}
-use Rattle.lw_reg.proofs.Tells.{Sign, sign_trace, EndTells, WatchTells, WatchesTell, FieldTells, BodyTells, ToldTells, SlotTells, told_facet, body_facet, slot_facet}
+use Rattle.lw_reg.proofs.Tells.{Sign, sign_trace, EndTells, WatchTells, WatchesTell, BodyTells, ToldTells, SlotTells, told_facet}
 use Rattle.lw_reg.proofs.Tells.Sign.{Asked, Ended}
 
 -- an option tells of what it has

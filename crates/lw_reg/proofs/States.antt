@@ -1,25 +1,20 @@
 -- The state of a set of marks is the join of their atoms, and tells of the set.
-use Rattle.std.proofs.Common.{◌≡◌, ℕ, List, [], ◌∷◌, ◌++◌, Option, Some, None, sym, refl, ap, ◌∙◌, subst, inl, inr, ◌⊎◌}
+use Rattle.std.proofs.Common.{◌≡◌, ℕ, List, [], ◌∷◌, ◌++◌, Some, sym, refl, ap, ◌∙◌, subst, inl, inr, ◌⊎◌}
 use Rattle.std.specs.Prelude.{◌↔◌, Contains}
-use Rattle.std.specs.FinMap.{empty, get}
+use Rattle.std.specs.FinMap.{get}
 use Rattle.std.proofs.lemmas.List.Elements.{Contains-append_left, Contains-append_right, Contains-append_cases}
-use Rattle.lw_stamp.specs.declared.stamp.Stamp.{Stamp}
-use Rattle.lw_stamp.specs.TextOrder.{text_cmp}
 use Rattle.lw_join.specs.Facets.{Either, OptionTells}
 use Rattle.lw_join.specs.Join.{IsJoin}
-use Rattle.lw_join.specs.JoinLaws.{semilattice}
-use Rattle.lw_join.specs.Least.{IsLeastAbove}
 use Rattle.lw_join.proofs.LeastLemmas.{least_one, least_same, least_facet, least_single}
 use Rattle.lw_join.proofs.MapLemmas.{map_laws, empty_below}
 use Rattle.lw_reg.specs.declared.slot.Slot.{Slot}
-use Rattle.lw_reg.specs.Marks.{Trace, Mark, Marks, Has, among, NamesAll}
-use Rattle.lw_reg.specs.Marks.Trace.{Named}
+use Rattle.lw_reg.specs.Marks.{Mark, Has, among}
 use Rattle.lw_reg.specs.OrderLaws.{text_order}
 use Rattle.lw_reg.specs.Reading.{IsSlotOf}
 use Rattle.lw_reg.specs.SlotLaws.{slot_laws}
 use Rattle.lw_reg.specs.State.{State, state_below, state_join, atom_of, IsStateOf, state_of}
 use Rattle.lw_reg.proofs.Members.{none_there, first_there, more_there, there_or_first}
-use Rattle.lw_reg.proofs.Tells.{SlotTells, Tells, Holds, state_tells}
+use Rattle.lw_reg.proofs.Tells.{SlotTells, state_tells}
 
 pub state_laws : IsJoin state_below state_join
 state_laws = map_laws text_order slot_laws

@@ -1,21 +1,18 @@
 -- What slots and states tell of a set of marks, and that the state of a set tells of that set.
-use Rattle.std.proofs.Common.{◌≡◌, ℕ, sym, refl, ap, ◌∙◌, subst, inl, inr, ◌⊎◌, List, [], ◌∷◌, Option, Some, None}
+use Rattle.std.proofs.Common.{◌≡◌, ℕ, sym, refl, ap, subst, inl, inr, ◌⊎◌, List, [], ◌∷◌, Option}
 use Rattle.std.specs.Prelude.{◌↔◌, Contains}
 use Rattle.std.specs.declared.cmp.Ordering.{Ordering}
 use Rattle.std.specs.Ordering.{nat_cmp}
-use Rattle.std.specs.FinMap.{FinMap, empty}
 use Rattle.lw_stamp.specs.declared.stamp.Stamp.{Stamp}
 use Rattle.lw_stamp.specs.Order.{IsExactOrder, IsGreatest}
-use Rattle.lw_stamp.specs.StampOrder.{stamp_cmp}
 use Rattle.lw_stamp.specs.TextOrder.{text_cmp}
 use Rattle.lw_stamp.proofs.StampLemmas.{stamp_order}
-use Rattle.lw_join.specs.Facets.{IsFacet, Through, OptionTells, OnceTells, LwwTells, LexTells, GoneTells, PartsTells, MapTells}
-use Rattle.lw_join.specs.Lex.{lex_pair}
-use Rattle.lw_join.specs.Lww.{lww_join, write_cmp}
+use Rattle.lw_join.specs.Facets.{IsFacet, Through, OnceTells, LwwTells, LexTells, GoneTells, PartsTells, MapTells}
+use Rattle.lw_join.specs.Lww.{lww_join}
 use Rattle.lw_join.specs.LwwLaws.{write_order}
 use Rattle.lw_join.specs.Once.{once_join}
 use Rattle.lw_join.specs.OrGone.{gone_join}
-use Rattle.lw_join.specs.Parts.{entries_of, parts_join}
+use Rattle.lw_join.specs.Parts.{parts_join}
 use Rattle.lw_join.specs.PartsLaws.{entries_made}
 use Rattle.lw_join.specs.declared.lex.Lex.{Lex}
 use Rattle.lw_join.specs.declared.lww.Lww.{Lww}
@@ -36,8 +33,8 @@ use Rattle.lw_reg.specs.Body.{Watching, Watches, watching_join, body_join}
 use Rattle.lw_reg.specs.Marks.{Trace, Mark, Marks, among, NamesAll}
 use Rattle.lw_reg.specs.Marks.Trace.{Named, Based, AddressAt, SeenAt, LifetimeAt, BindingAt, SmsAt, ObjectsAt, Removed, Watched, Cancelled}
 use Rattle.lw_reg.specs.OrderLaws.{addr_order, base_order, moment_order, number_order, path_order, sms_order, text_order}
-use Rattle.lw_reg.specs.Orders.{addr_cmp, base_cmp, binding_cmp, moment_cmp, path_cmp, sms_cmp}
-use Rattle.lw_reg.specs.Slot.{slot_join, slot_at, base_in, address_in, seen_in, lifetime_in, binding_in, sms_in, objects_in, observed, cancelled, no_watches, one_watch, watches_in, body_in, told_by}
+use Rattle.lw_reg.specs.Orders.{addr_cmp, base_cmp, binding_cmp, moment_cmp, sms_cmp}
+use Rattle.lw_reg.specs.Slot.{slot_join, slot_at, base_in, address_in, seen_in, lifetime_in, binding_in, sms_in, objects_in, no_watches, one_watch, watches_in, body_in, told_by}
 use Rattle.lw_reg.specs.State.{State, state_join, atom_of, state_of}
 use Rattle.lw_reg.proofs.Members.{none_there, first_there, more_there, there_or_first}
 

@@ -1,5 +1,4 @@
 -- What is known of a registration, its order and its join, part by part.
-use Rattle.std.specs.Prelude.{ℕ, List, Option}
 use Rattle.std.specs.Ordering.{nat_cmp}
 use Rattle.lw_stamp.specs.TextOrder.{text_cmp}
 use Rattle.lw_join.specs.Lex.{lex_below, lex_join}

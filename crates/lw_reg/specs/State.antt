@@ -1,7 +1,7 @@
 -- The state of a set of marks: the least map from endpoints to slots above the atoms of its marks (Shapiro
 -- et al., Conflict-free Replicated Data Types, 2011).
-use Rattle.std.specs.Prelude.{◌≡◌, ℕ, List, [], ◌∷◌, Option, Some, None, Contains}
-use Rattle.std.specs.FinMap.{FinMap, empty, get}
+use Rattle.std.specs.Prelude.{◌≡◌, List, [], ◌∷◌, Contains}
+use Rattle.std.specs.FinMap.{FinMap, empty}
 use Rattle.lw_stamp.specs.TextOrder.{text_cmp}
 use Rattle.lw_join.specs.Least.{IsLeastAbove}
 use Rattle.lw_join.specs.Maps.{map_below, map_join, one_key}
