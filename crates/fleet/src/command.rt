@@ -1,6 +1,7 @@
-ghost use Rattle.std.specs.Prelude.{◌≡◌, ◌<◌, ◌^◌, [], IfOk, OnOk, IfErr, IfSome, IfNone, map, true, false};
+ghost use Rattle.std.specs.Prelude.{◌≡◌, ◌<◌, ◌^◌, [], Some, IfOk, OnOk, IfErr, IfSome, IfNone, map, true, false};
 ghost use Rattle.std.specs.Option.{SomeIff};
 ghost use Rattle.std.specs.Str.Parse.{IsNumeral, digits_value};
+ghost use Rattle.clap.specs.declared.builder.texts.Texts.TheVariants.{One};
 ghost use Rattle.clap.specs.Words.{app_of, rule_of, kind_of, fault_of, subcommand_rows_of};
 ghost use Rattle.fleet.specs.CommandLine.{fleet_app, given, given_rows, long_option, option_rows, IsGiven};
 ghost use Rattle.fleet.specs.declared.command.OneOptions.{OneOptions as Options};
@@ -60,6 +61,8 @@ fn fleet_command<'a>(alloc: Global) -> Result<Command<'a>, AllocError>
 fn option<'a>(alloc: Global, name: &'a str, value: &'a str, help: &'a str) -> Arg<'a>
     ensures rule { rule_of result ≡ long_option name.entry.now }
     ensures local { result.global ≡ false }
+    ensures value_name { result.val_names ≡ One value.entry }
+    ensures help { result.help ≡ Some help.entry }
 {
     Arg::new(alloc, name)
         .long(name)
