@@ -1,5 +1,5 @@
 -- What the laws of operations, states and slots say.
-use Rattle.std.specs.Prelude.{◌≡◌, ◌↔◌, ℕ, List, ◌∷◌, ◌++◌, Option, Some, None, Contains, map}
+use Rattle.std.specs.Prelude.{◌≡◌, ◌↔◌, ℕ, List, ◌∷◌, ◌++◌, ◌⊎◌, Option, Some, None, Contains, map}
 use Rattle.lw_join.specs.Least.{joined_all}
 use Rattle.lw_join.specs.Maps.{one_key}
 use Rattle.lw_reg.specs.declared.body.Body.{Body}
@@ -9,7 +9,7 @@ use Rattle.lw_reg.specs.declared.slot.Slot.{Slot}
 use Rattle.lw_reg.specs.declared.watch.Watch.{Watch}
 use Rattle.lw_reg.specs.Fields.{slot_of_fields}
 use Rattle.lw_reg.specs.Marks.{Mark, Marks, NamesAll, AllAbout, among, left_by, marks_of, all_marks}
-use Rattle.lw_reg.specs.Reading.{IsSlotOf, body_of, stamp_of}
+use Rattle.lw_reg.specs.Reading.{IsSlotOf, body_of, stamp_of, shown_in}
 use Rattle.lw_reg.specs.Registration.{Registration}
 use Rattle.lw_reg.specs.Showing.{IsShown, HasExpired, LivesOf}
 use Rattle.lw_reg.specs.Slot.{slot_join, slot_of}
@@ -49,6 +49,19 @@ pub record ShowTheSame (M N : Marks) : Type 0 where
 -- sets of marks with one state show the same
 abbrev pub StatesDecide : Type 0
 StatesDecide = (ms ns : List Mark) → NamesAll (among ms) → NamesAll (among ns) → (s : State) → IsStateOf ms s → IsStateOf ns s → ShowTheSame (among ms) (among ns)
+
+-- in one set or the other
+abbrev pub Both : Marks → Marks → Marks
+Both M N m = M m ⊎ N m
+
+-- a state, also one from outside, shows what the marks say that can be read from it: those of a set's state
+-- show what the set does,
+abbrev pub StatesShowSets : Type 0
+StatesShowSets = (ms : List Mark) → NamesAll (among ms) → (s : State) → IsStateOf ms s → ShowTheSame (among ms) (shown_in s)
+
+-- and those of a join of states show what those of the two do together
+abbrev pub JoinsShowBoth : Type 0
+JoinsShowBoth = (s t : State) → ShowTheSame (Both (shown_in s) (shown_in t)) (shown_in (state_join s t))
 
 -- the fields of a body, and of none
 abbrev pub fields_in : Option Body → Option Fields

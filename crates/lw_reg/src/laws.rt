@@ -8,7 +8,7 @@ ghost use Rattle.lw_reg.specs.declared.binding.Binding.{Binding};
 ghost use Rattle.lw_reg.specs.declared.path.Path.{Path};
 ghost use Rattle.lw_reg.specs.declared.version.Version.{Version};
 ghost use Rattle.lw_reg.specs.Binding.{binding_text};
-ghost use Rattle.lw_reg.specs.Laws.{AtomsAreStates, JoinedAtomsAreStates, OperationsName, HaveStates, MembersDecide, UnionsJoin, StatesDecide, SlotsAreParts};
+ghost use Rattle.lw_reg.specs.Laws.{AtomsAreStates, JoinedAtomsAreStates, OperationsName, HaveStates, MembersDecide, UnionsJoin, StatesDecide, StatesShowSets, JoinsShowBoth, SlotsAreParts};
 ghost use Rattle.lw_reg.specs.State.{state_below, state_join};
 ghost use Rattle.lw_join.specs.Join.{IsJoin};
 ghost use Rattle.lw_reg.specs.Path.{path_numbers};
@@ -68,6 +68,13 @@ pub fn states_are_of_sets()
 /// Sets of marks with one state show the same registrations and have the same watches live.
 pub fn states_decide_what_is_shown()
     ensures { StatesDecide }
+{}
+
+/// What can be read from a state shows what the set shows that it is of; from a join of states, also of ones
+/// from outside, what can be read from the two.
+pub fn states_show_their_marks()
+    ensures sets { StatesShowSets }
+    ensures joins { JoinsShowBoth }
 {}
 
 /// What the readers of a slot give, put together, is the slot.
