@@ -1,7 +1,8 @@
 //! The slot that one operation makes.
 
-ghost use Rattle.std.specs.Prelude.{◌≡◌, IfOk};
+ghost use Rattle.std.specs.Prelude.{◌≡◌, IfOk, IsOk};
 ghost use Rattle.lw_join.specs.declared.or_gone.OrGone.TheVariants.{Here, Gone};
+ghost use Rattle.lw_reg.specs.Marks.{SpeaksOfNoWatch};
 ghost use Rattle.lw_reg.specs.Slot.{slot_of, told_of, write_of, no_watches};
 ghost use Rattle.lw_reg.specs.Fields.{told_fields, watched_fields};
 
@@ -10,9 +11,10 @@ use lw_join::{Lex, OrGone, Parts};
 use lw_stamp::{NoMemory, Stamp};
 use std::alloc::Global;
 
-/// The slot that the one operation makes.
+/// The slot that the one operation makes. An observation or a cancellation alone takes memory.
 pub fn atom(alloc: Global, op: Op) -> Result<Slot, NoMemory>
-    ensures { IfOk result (λ slot. slot ≡ slot_of op) }
+    ensures slot { IfOk result (λ slot. slot ≡ slot_of op) }
+    ensures calm { SpeaksOfNoWatch op.what → IsOk result }
 {
     let Op {
         stamp,
@@ -25,7 +27,8 @@ pub fn atom(alloc: Global, op: Op) -> Result<Slot, NoMemory>
 
 /// What the operation with the stamp tells of its registration; nothing once it removes it.
 fn told(alloc: Global, stamp: Stamp, what: What) -> Result<Option<Fields>, NoMemory>
-    ensures { IfOk result (λ fields. told_fields fields ≡ told_of stamp what) }
+    ensures told { IfOk result (λ fields. told_fields fields ≡ told_of stamp what) }
+    ensures calm { SpeaksOfNoWatch what → IsOk result }
 {
     let fields = match what {
         What::Register {
