@@ -207,17 +207,6 @@ module _ (M : Marks) (e : List ℕ) (names : (r : Stamp) (k : Trace) → Has M e
   abbrev OfPath : Stamp → Path → Stamp × Sign → Type 0
   OfPath r p x = Has M e r (sign_trace p x.0 x.1)
 
-  some_watching : (t u : Stamp) (x : OrGone Accept) (a : Option ℕ) → ◌≡◌ {A = Option Watching} (Some (record { stamp = t; value = x })) (Some (observed u a)) → (t ≡ u) × (x ≡ Here (record { format = a }))
-  some_watching t u x a h = (ap stamp_in h, ap value_in h)
-    where
-      stamp_in : Option Watching → Stamp
-      stamp_in None = t
-      stamp_in (Some w) = w.stamp
-
-      value_in : Option Watching → OrGone Accept
-      value_in None = x
-      value_in (Some w) = w.value
-
   pub path_from : (r : Stamp) (p : Path) (o : Option Watching) (t : Stamp) (a : Option ℕ) → OptionTells WatchTells (OfPath r p) o → o ≡ Some (observed t a) → IsWatch r p t a
   path_from r p o t a told h =
       let g : WatchTells (OfPath r p) (observed t a) = subst (OptionTells WatchTells (OfPath r p)) h told in

@@ -31,10 +31,6 @@ option_self : {A : Type 0} {cmp : A → A → Ordering} → IsExactOrder cmp →
 option_self order None = λ x e. cc
 option_self order (Some a) = greatest_single order _ a refl (λ y e. cc)
 
--- a pair is what it was made of
-pairs : {V : Type 0} (o : Option (Stamp × V)) (x : Stamp × V) → (o ≡ Some x) ↔ (o ≡ Some (x.0, x.1))
-pairs o x = (λ h. h, λ h. h)
-
 field_self : {V : Type 0} {cmp : V → V → Ordering} → IsExactOrder cmp → (o : Option (Stamp × V)) → OptionTells (IsGreatest (write_cmp cmp)) (λ x. o ≡ Some (x.0, x.1)) o
 field_self order o = option_self (write_order order) o
 
