@@ -4,11 +4,11 @@ use Rattle.hex.specs.Hex.{decode_of}
 use Rattle.lw_stamp.specs.Moment.{ms_of}
 use Rattle.lw_reg.specs.declared.addr.Addr.{Addr}
 use Rattle.lw_reg.specs.Addr.{addr_text, IsAddr}
+use Rattle.lw_reg.specs.Marks.{left_by}
 use Rattle.lw_reg.specs.Registration.{Registration}
-use Rattle.lw_node.specs.Marks.{left_by}
 use Rattle.lw_node.specs.Answers.{FirstAfter}
-use Rattle.lw_node.specs.Node.{NodeContent, fresh}
-use Rattle.lw_node.specs.Meaning.{Takes}
+use Rattle.lw_node.specs.History.{History, begins}
+use Rattle.lw_node.specs.Meaning.{GoesOn}
 use Rattle.fleet.specs.declared.command.OneOptions.{OneOptions}
 use Rattle.fleet.specs.Line.{line_of}
 use Rattle.fleet.specs.Answer.{answer_text}
@@ -18,13 +18,13 @@ abbrev pub IsAddressText : List ℕ → Type 0
 IsAddressText text = (address : Addr) × IsAddr address × (text ≡ addr_text address)
 
 -- A new node takes the datagram at this moment from this address; the text is its reply, and the first
--- registration that it then shows.
+-- registration that is shown by the operation that it issued, if it did.
 pub record IsAnswered (number now : ℕ) (source : Addr) (datagram text : List ℕ) : Type 0 where
   pub reply : Option (List ℕ)
-  pub node : NodeContent
+  pub past : History
   pub shown : Option Registration
-  pub takes : Takes (fresh number) now source datagram reply node
-  pub first : FirstAfter (left_by node.operations) now None shown
+  pub goes_on : GoesOn (begins number) now source datagram reply past
+  pub first : FirstAfter (left_by past.operations) now None shown
   pub text_is : text ≡ answer_text reply shown
 
 -- the text is the answer to the datagram that the first line of the input spells in hex

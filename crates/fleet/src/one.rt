@@ -1,4 +1,4 @@
-ghost use Rattle.std.specs.Prelude.{◌≡◌, ◌≢◌, ◌↔◌, ◌++◌, ℕ, List, Ok, OnOk, OnErr, IfOk, IfErr, IfSome, Err, IsErr, length, ◌<◌};
+ghost use Rattle.std.specs.Prelude.{◌≡◌, ◌≢◌, ◌↔◌, ◌++◌, ℕ, List, Ok, OnOk, OnErr, IfOk, IfErr, IfSome, Err, IsErr, length, ◌<◌, option_map};
 ghost use Rattle.std.specs.Io.KnownBytes.{Appends, Keeps};
 ghost use Rattle.hex.specs.Hex.{decode_of};
 ghost use Rattle.lw_stamp.specs.Moment.{ms_of};
@@ -11,7 +11,7 @@ use crate::fault::OneFault;
 use crate::hex_line::bytes_of_hex;
 use crate::line::{LONGEST_LINE, read_line};
 use crate::output::write_text;
-use lw_node::Node;
+use lw_node::{Node, Taken};
 use lw_reg::Addr;
 use lw_stamp::{Moment, NoMemory};
 use std::alloc::Global;
@@ -62,9 +62,14 @@ fn answered(
     let mut node = Node::new(alloc, number);
     let taken = node.take(now, source, datagram)?;
     let shown = node.first_after(now, None);
-    let reply = match &taken.reply {
+    answer(alloc, reply_of(&taken), shown.as_ref())
+}
+
+fn reply_of(taken: &Taken) -> Option<&[u8]>
+    ensures { option_map (λ bytes. bytes.now) result ≡ taken.now.reply }
+{
+    match &taken.reply {
         Some(reply) => Some(reply.as_slice()),
         None => None,
-    };
-    answer(alloc, reply, shown.as_ref())
+    }
 }

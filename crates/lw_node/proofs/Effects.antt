@@ -1,6 +1,6 @@
 -- What a node does with a datagram is what the datagram means.
 use Rattle.std.proofs.Common.{◌≡◌, ◌≢◌, ◌↔◌, ℕ, ◌+◌, ◌*◌, ◌≤◌, ◌⊎◌, List, [], ◌∷◌, ◌++◌, length, get_or, Option, Some, None, Result, Ok, Err, refl, sym, ap, subst, ◌∙◌, arith, inl, inr, length-append}
-use Rattle.std.specs.Prelude.{IfOk}
+use Rattle.std.specs.Prelude.{IfOk, OnOk, OnErr}
 use Rattle.lw_coap.specs.declared.message.Kind.{Kind}
 use Rattle.lw_coap.specs.declared.message.Kind.TheVariants.{Con, Non, Ack, Rst}
 use Rattle.lw_coap.specs.Message.{MessageContent}
@@ -8,50 +8,38 @@ use Rattle.lw_coap.specs.Grammar.{kind_number, IsPayload, IsSpelling}
 use Rattle.lw_coap.specs.Header.{HasHeader, HasNoHeader}
 use Rattle.lw_node.specs.declared.role.Role.{Role}
 use Rattle.lw_node.specs.declared.role.Role.TheVariants.{Ignored, Ping, Request, Unanswered}
-use Rattle.lw_node.specs.Marks.{Operation}
 use Rattle.lw_link.specs.declared.fault.LinkFault.{LinkFault}
 use Rattle.lw_link.specs.declared.fault.LinkFault.TheVariants.{NotText, Grammar, NoMemory as WantOfMemory}
 use Rattle.lw_link.specs.Faults.{IsFault}
 use Rattle.lw_node.specs.Register.{AskedContent, IsAsked, IsTooLong, IsRegister, SpellsNone}
-use Rattle.lw_node.specs.Node.{NodeContent, TakenContent, IsIssued, after}
+use Rattle.lw_node.specs.Node.{NodeContent, TakenContent, after}
 use Rattle.lw_node.specs.Meaning.{Arrival, Effect, nothing, replies, reset_of, bad_request, too_large, RegisterMeans, RequestMeans, role_of, RoleMeans, MessageMeans, HasNoConfirmable, IsReply, Follows, RepliesMalformed}
-use Rattle.lw_node.proofs.Shown.{issued_more}
 
 -- what holds of each value holds of the one that is there
 pub if_ok : {T E : Type 0} (r : Result T E) (P Q : T → Type 0) → IfOk r P → ((t : T) → P t → Q t) → IfOk r Q
 if_ok (Ok t) P Q h f = f t h
 if_ok (Err e) P Q h f = tt
 
--- a node of these parts
-abbrev pub inside : ℕ → ℕ → List Operation → NodeContent
-inside number clock operations = record { number = number; clock = clock; operations = operations }
+pub on_ok : {T E : Type 0} (P Q : Type 0) (r : Result T E) → (P → Q) → OnOk r P → OnOk r Q
+on_ok P Q (Ok t) f h = f h
+on_ok P Q (Err e) f h = h
+
+pub on_err : {T E : Type 0} (P Q : Type 0) (r : Result T E) → (P → Q) → OnErr r P → OnErr r Q
+on_err P Q (Ok t) f h = h
+on_err P Q (Err e) f h = f h
 
 -- ---- a node that is left as it was
 
-pub follows_nothing : (P : Effect → Type 0) (old : NodeContent) → P nothing → Follows P old None old
+pub follows_nothing : (P : Effect → Type 0) (old : NodeContent) → P nothing → Follows after P old None old
 follows_nothing P old h = record { effect = nothing; meant = h; replied = tt; left = refl }
 
 pub follows_reply : (P : Effect → Type 0) (old : NodeContent) (message : MessageContent) → P (replies message)
-    → (t : TakenContent) → IsReply t.reply (Some message) → Follows P old t.reply old
+    → (t : TakenContent) → IsReply t.reply (Some message) → Follows after P old t.reply old
 follows_reply P old message h t replied = record { effect = replies message; meant = h; replied = replied; left = refl }
 
 -- the same of an effect that is meant in another word
-pub follows_as : (P Q : Effect → Type 0) (old : NodeContent) (reply : Option (List ℕ)) (new : NodeContent) → ((e : Effect) → P e → Q e) → Follows P old reply new → Follows Q old reply new
+pub follows_as : (P Q : Effect → Type 0) (old : NodeContent) (reply : Option (List ℕ)) (new : NodeContent) → ((e : Effect) → P e → Q e) → Follows after P old reply new → Follows after Q old reply new
 follows_as P Q old reply new f h = record { effect = h.effect; meant = f h.effect h.meant; replied = h.replied; left = h.left }
-
--- ---- a node with one more operation
-
-pub left_after : (old : NodeContent) (number clock counter : ℕ) (os operations : List Operation) (o : Operation)
-    → inside number clock os ≡ old → counter ≡ clock + 1 → operations ≡ os ++ o ∷ []
-    → inside number counter operations ≡ after old (Some o)
-left_after old number clock counter os operations o is raised pushed =
-    (λ i. record { number = number; clock = raised i; operations = pushed i }) ∙ ap (λ (n : NodeContent). after n (Some o)) is
-
-pub issued_after : (number clock counter : ℕ) (os operations : List Operation) (o : Operation) → IsIssued (inside number clock os)
-    → counter ≡ clock + 1 → operations ≡ os ++ o ∷ [] → o.id.counter ≡ clock + 1 → o.id.node ≡ number
-    → IsIssued (inside number counter operations)
-issued_after number clock counter os operations o issued raised pushed stamp node =
-    subst IsIssued (sym (λ i. record { number = number; clock = raised i; operations = pushed i })) (issued_more (inside number clock os) o issued stamp node)
 
 -- ---- roles
 

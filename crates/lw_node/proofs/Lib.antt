@@ -1,6 +1,4 @@
-pub mod Latest
-pub mod Shown
 pub mod Effects
+pub mod Held
 pub mod RegisterOptions
-pub mod First
 pub mod Runs

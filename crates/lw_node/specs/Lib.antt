@@ -1,7 +1,7 @@
-pub mod Marks
 pub mod Answers
-pub mod Lists
+pub mod Slots
 pub mod Register
 pub mod Node
+pub mod History
 pub mod Meaning
 pub mod Run

@@ -15,9 +15,12 @@ use Rattle.lw_reg.specs.declared.addr.Addr.{Addr}
 use Rattle.lw_reg.specs.Binding.{binding_text}
 use Rattle.lw_node.specs.declared.role.Role.{Role}
 use Rattle.lw_node.specs.declared.role.Role.TheVariants.{Ignored, Ping, Request, Unanswered}
-use Rattle.lw_node.specs.Marks.{Operation}
+use Rattle.lw_reg.specs.declared.op.Op.{Op}
+use Rattle.lw_reg.specs.declared.op.What.{What}
+use Rattle.lw_reg.specs.declared.op.What.TheVariants.{Register}
 use Rattle.lw_node.specs.Register.{AskedContent, IsAsked, IsRegister, IsTooLong, SpellsNone}
 use Rattle.lw_node.specs.Node.{NodeContent, after}
+use Rattle.lw_node.specs.History.{History, continued}
 
 -- where and when a datagram comes: the node's number and clock, the moment, and the source address
 pub record Arrival : Type 0 where
@@ -29,7 +32,7 @@ pub record Arrival : Type 0 where
 -- a reply or none, and an operation or none
 pub record Effect : Type 0 where
   pub reply : Option MessageContent
-  pub operation : Option Operation
+  pub operation : Option Op
 
 abbrev pub nothing : Effect
 nothing = record { reply = None; operation = None }
@@ -68,26 +71,26 @@ abbrev pub created : MessageContent → Stamp → MessageContent
 created request id =
     answer_to request 65 (record { number = 8; value = codes "rd" } ∷ record { number = 8; value = id_of id } ∷ [])
 
--- The registration that is made: version and lifetime as asked for, the object list, the binding `U`, no
--- queue mode, no SMS number, seen at this moment from the source address.
-pub record IsMade (asked : AskedContent) (objects : List ℕ) (id : Stamp) (now : ℕ) (source : Addr) (made : Operation) : Type 0 where
+-- a Register of version and lifetime as asked for, the object list, the binding `U`, no queue mode, no SMS
+-- number, seen at this moment from the source address
+abbrev pub Registers : AskedContent → List ℕ → ℕ → Addr → What → Type 0
+Registers asked objects now source (Register version queue address seen lifetime binding sms links) =
+    (version ≡ asked.version) × (queue ≡ false) × (address ≡ source) × (ms_of seen ≡ now) × (lifetime ≡ asked.lifetime) × (binding_text binding ≡ codes "U") × (sms ≡ None) × (links ≡ objects)
+Registers asked objects now source _ = ⊥
+
+-- The operation that is issued: its stamp is that of the registration, too.
+pub record IsMade (asked : AskedContent) (objects : List ℕ) (id : Stamp) (now : ℕ) (source : Addr) (made : Op) : Type 0 where
+  pub stamp : made.stamp ≡ id
+  pub registration : made.reg ≡ id
   pub endpoint : made.endpoint ≡ asked.endpoint
-  pub identifier : made.id ≡ id
-  pub address : made.address ≡ source
-  pub seen : ms_of made.seen ≡ now
-  pub lifetime : made.lifetime ≡ asked.lifetime
-  pub version : made.version ≡ asked.version
-  pub binding : binding_text made.binding ≡ codes "U"
-  pub queue : made.queue ≡ false
-  pub sms : made.sms ≡ None
-  pub objects_are : made.objects ≡ objects
+  pub registers : Registers asked objects now source made.what
 
 -- it is made with the next stamp of the node's clock, and the reply says where it is
 pub record IsCreated (arrival : Arrival) (request : MessageContent) (asked : AskedContent) (objects : List ℕ) (effect : Effect) : Type 0 where
   pub id : Stamp
   pub counter : id.counter ≡ arrival.clock + 1
   pub node : id.node ≡ arrival.number
-  pub operation : Operation
+  pub operation : Op
   pub made : IsMade asked objects id arrival.now arrival.source operation
   pub effect_is : effect ≡ record { reply = Some (created request id); operation = Some operation }
 
@@ -148,28 +151,33 @@ IsReply (Some bytes) (Some message) = IsSpelling bytes message
 IsReply (Some bytes) None = ⊥
 IsReply None (Some message) = ⊥
 
-abbrev pub arrival_at : NodeContent → ℕ → Addr → Arrival
-arrival_at node now source = record { number = node.number; clock = node.clock; now = now; source = source }
-
--- the reply and the node after it are those of an effect that is meant
-pub record Follows (Meant : Effect → Type 0) (old : NodeContent) (reply : Option (List ℕ)) (new : NodeContent) : Type 0 where
+-- What is answered, and what is there after it, are those of an effect that is meant.
+pub record Follows {N : Type 0} (moved : N → Option Op → N) (Meant : Effect → Type 0) (old : N) (reply : Option (List ℕ)) (new : N) : Type 0 where
   pub effect : Effect
   pub meant : Meant effect
   pub replied : IsReply reply effect.reply
-  pub left : new ≡ after old effect.operation
+  pub left : new ≡ moved old effect.operation
+
+abbrev pub arrival_at : NodeContent → ℕ → Addr → Arrival
+arrival_at node now source = record { number = node.number; clock = node.clock; now = now; source = source }
 
 -- A node takes a datagram, a message, a request, or a Register.
 abbrev pub Takes : NodeContent → ℕ → Addr → List ℕ → Option (List ℕ) → NodeContent → Type 0
-Takes old now source bytes reply new = Follows (DatagramMeans (arrival_at old now source) bytes) old reply new
+Takes old now source bytes reply new = Follows after (DatagramMeans (arrival_at old now source) bytes) old reply new
 
 abbrev pub TakesMessage : NodeContent → ℕ → Addr → MessageContent → Option (List ℕ) → NodeContent → Type 0
-TakesMessage old now source message reply new = Follows (MessageMeans (arrival_at old now source) message) old reply new
+TakesMessage old now source message reply new = Follows after (MessageMeans (arrival_at old now source) message) old reply new
 
 abbrev pub TakesRequest : NodeContent → ℕ → Addr → MessageContent → Option (List ℕ) → NodeContent → Type 0
-TakesRequest old now source request reply new = Follows (RequestMeans (arrival_at old now source) request) old reply new
+TakesRequest old now source request reply new = Follows after (RequestMeans (arrival_at old now source) request) old reply new
 
 abbrev pub TakesRegister : NodeContent → ℕ → Addr → MessageContent → AskedContent → List ℕ → Option (List ℕ) → NodeContent → Type 0
-TakesRegister old now source request asked objects reply new = Follows (RegisterMeans (arrival_at old now source) request asked objects) old reply new
+TakesRegister old now source request asked objects reply new = Follows after (RegisterMeans (arrival_at old now source) request asked objects) old reply new
+
+-- A node's past goes on by a datagram.
+abbrev pub GoesOn : History → ℕ → Addr → List ℕ → Option (List ℕ) → History → Type 0
+GoesOn old now source bytes reply new =
+    Follows continued (DatagramMeans (record { number = old.number; clock = old.clock; now = now; source = source }) bytes) old reply new
 
 -- what is answered to bytes that are no message
 pub record RepliesMalformed (bytes : List ℕ) (reply : Option (List ℕ)) : Type 0 where

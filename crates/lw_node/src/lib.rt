@@ -1,15 +1,15 @@
-//! One node: it takes datagrams, keeps the operations that it issued, and answers what is registered.
+//! One node: it takes datagrams, and answers what is registered.
 //!
 //! A datagram has one meaning (a reply or none, an operation or none), and a look-up one answer over the
-//! set of operations. The node keeps the plain list of its operations and answers from it.
+//! set of operations. The node keeps one slot for each endpoint: the operations about it, joined.
 #![tactic(auto)]
 
-mod answers;
 mod node;
 mod register;
 mod reply;
 mod role;
 mod run;
+mod slots;
 mod taken;
 
 pub use lw_link::LinkText;

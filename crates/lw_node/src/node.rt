@@ -1,39 +1,41 @@
-ghost use Rattle.std.specs.Prelude.{◌≡◌, ◌≤◌, ◌↔◌, ◌∷◌, [], ◌++◌, IsOk, IfOk, OnErr, length};
+ghost use Rattle.std.specs.Prelude.{◌≡◌, ◌≤◌, ℕ, List, [], IsOk, IfOk, OnErr, length};
 ghost use Rattle.lw_stamp.specs.Moment.{ms_of};
-ghost use Rattle.lw_node.specs.Marks.{left_by};
-ghost use Rattle.lw_node.specs.Answers.{ByEndpoint, FirstAfter};
-ghost use Rattle.lw_node.specs.Lists.{after_text};
-ghost use Rattle.lw_node.specs.Node.{fresh};
+ghost use Rattle.lw_reg.specs.Marks.{Mark, among};
+ghost use Rattle.lw_reg.specs.Showing.{ShownOf};
+ghost use Rattle.lw_node.specs.Answers.{FirstAfter, after_text};
+ghost use Rattle.lw_node.specs.Node.{fresh, Knows};
 ghost use Rattle.lw_node.specs.Meaning.{Takes, TakesMessage, TakesRequest, TakesRegister, IsSilent, HasNoConfirmable, RepliesMalformed, IsMade};
 
 use crate::register::{Asked, read_register};
+use crate::reply;
 use crate::role::Role;
+use crate::slots::Slots;
 use crate::taken::Taken;
-use crate::{answers, reply};
 use lw_coap::{Fault, Kind, Message, codes, decode, peek_header};
 use lw_link::{LinkFault, LinkText};
-use lw_reg::{Addr, Binding, Seen, Text, View};
+use lw_reg::{Addr, Binding, Op, Text, View, What};
 use lw_stamp::{Clock, Moment, NoMemory, Stamp};
 use std::alloc::Global;
 use std::marker::Model;
 
-/// A server of the cluster: its number, its clock, and the operations that it issued.
-#[derive(Debug, Drop)]
+/// A server of the cluster: its number, its clock, and what it knows of each endpoint.
+#[derive(Drop)]
 pub struct Node {
+    alloc: Global,
     number: u16,
     clock: Clock,
-    operations: Vec<Seen>,
+    slots: Slots,
 }
 
 impl Model for Node {
     ghost use Rattle.lw_stamp.specs.Clock.{counter_of};
-    ghost use Rattle.lw_node.specs.Node.{NodeContent, IsIssued};
+    ghost use Rattle.lw_node.specs.Node.{NodeContent, node_code};
 
     ghost Value = { NodeContent };
 
-    ghost view = { λ n. record { number = n.number; clock = counter_of n.clock; operations = n.operations.items } };
+    ghost coded = { node_code };
 
-    ghost invariant = { λ n. IsIssued (record { number = n.number; clock = counter_of n.clock; operations = n.operations.items }) };
+    ghost view = { λ n. record { number = n.number; clock = counter_of n.clock; state = n.slots } };
 }
 
 impl Node {
@@ -42,9 +44,10 @@ impl Node {
         ensures { result ≡ fresh number }
     {
         Node {
+            alloc,
             number,
             clock: Clock::new(),
-            operations: Vec::new(alloc),
+            slots: Slots::new(alloc),
         }
     }
 
@@ -57,7 +60,7 @@ impl Node {
         ensures unchanged { OnErr result (self.new ≡ self.old) }
         ensures silent { IsSilent bytes.now → IsOk result }
     {
-        let alloc = *self.operations.allocator();
+        let alloc = self.alloc;
         match decode(alloc, bytes) {
             Ok(message) => self.take_message(now, from, &message),
             Err(Fault::NoMemory) => Err(NoMemory),
@@ -76,7 +79,7 @@ impl Node {
         ensures meaning { IfOk result (λ t. TakesMessage self.old (ms_of now) from message.now t.reply self.new) }
         ensures unchanged { OnErr result (self.new ≡ self.old) }
     {
-        let alloc = *self.operations.allocator();
+        let alloc = self.alloc;
         match Role::of(message.kind, message.code) {
             Role::Ignored | Role::Unanswered => Ok(Taken { reply: None }),
             Role::Ping => reply::reset(alloc, message.mid),
@@ -95,7 +98,7 @@ impl Node {
         ensures meaning { IfOk result (λ t. TakesRequest self.old (ms_of now) from request.now t.reply self.new) }
         ensures unchanged { OnErr result (self.new ≡ self.old) }
     {
-        let alloc = *self.operations.allocator();
+        let alloc = self.alloc;
         let Some(asked) = read_register(request) else {
             return reply::refusal(alloc, request, codes::BAD_REQUEST);
         };
@@ -123,30 +126,31 @@ impl Node {
         ensures meaning { IfOk result (λ t. TakesRegister self.old (ms_of now) from request.now asked.now objects t.reply self.new) }
         ensures unchanged { OnErr result (self.new ≡ self.old) }
     {
-        let alloc = *self.operations.allocator();
+        let alloc = self.alloc;
         let mut clock = self.clock;
         let Some(stamp) = clock.next(self.number) else {
             return reply::refusal(alloc, request, codes::SERVICE_UNAVAILABLE);
         };
         let operation = make(alloc, stamp, now, from, asked, objects)?;
         let taken = reply::created(alloc, request, &stamp)?;
-        self.operations.push(operation)?;
+        self.slots.join(operation)?;
         self.clock = clock;
         Ok(taken)
     }
 
-    /// What is shown of the endpoint at this moment.
+    /// What is shown of the endpoint at this moment. A descent of a tree.
     pub fn by_endpoint(&self, now: Moment, endpoint: &str) -> Option<View<'_>>
-        ensures { ByEndpoint (left_by self.now.operations) (ms_of now) endpoint.now result }
+        ensures { (ms : List Mark) → Knows self.now ms → ShownOf (among ms) (ms_of now) endpoint.now result }
     {
-        answers::shown(&self.operations, now, endpoint)
+        self.slots.view(now, endpoint)
     }
 
-    /// What is shown of the least endpoint above the given one by bytes, or of the least of all.
+    /// What is shown of the least endpoint above the given one by bytes, or of the least of all. A walk from
+    /// the first endpoint.
     pub fn first_after(&self, now: Moment, after: Option<&str>) -> Option<View<'_>>
-        ensures { FirstAfter (left_by self.now.operations) (ms_of now) (after_text after.entry) result }
+        ensures { (ms : List Mark) → Knows self.now ms → FirstAfter (among ms) (ms_of now) (after_text after.entry) result }
     {
-        answers::first_shown(&self.operations, now, after)
+        self.slots.first_shown(now, after)
     }
 }
 
@@ -164,27 +168,30 @@ fn malformed(alloc: Global, bytes: &[u8]) -> Result<Taken, NoMemory>
     }
 }
 
-/// The registration that is asked for.
+/// The Register of what is asked for.
 fn make(
     alloc: Global,
-    id: Stamp,
+    stamp: Stamp,
     now: Moment,
     from: Addr,
     asked: &Asked<'_>,
     objects: LinkText,
-) -> Result<Seen, NoMemory>
-    ensures { IfOk result (λ made. IsMade asked.now objects id (ms_of now) from made) }
+) -> Result<Op, NoMemory>
+    ensures { IfOk result (λ made. IsMade asked.now objects stamp (ms_of now) from made) }
 {
-    Ok(Seen {
+    Ok(Op {
+        stamp,
         endpoint: Text::copy_of(alloc, asked.endpoint)?,
-        id,
-        address: from,
-        seen: now,
-        lifetime: asked.lifetime,
-        version: asked.version,
-        binding: Binding::U,
-        queue: false,
-        sms: None,
-        objects,
+        reg: stamp,
+        what: What::Register {
+            version: asked.version,
+            queue: false,
+            address: from,
+            seen: now,
+            lifetime: asked.lifetime,
+            binding: Binding::U,
+            sms: None,
+            objects,
+        },
     })
 }

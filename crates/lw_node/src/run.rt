@@ -1,6 +1,6 @@
-ghost use Rattle.std.specs.Prelude.{◌≡◌, IfOk};
-ghost use Rattle.lw_node.specs.Node.{NodeContent, fresh};
-ghost use Rattle.lw_node.specs.Run.{Step, Run, ShowsOrNot};
+ghost use Rattle.std.specs.Prelude.{◌≡◌, List, IfOk};
+ghost use Rattle.lw_node.specs.History.{History, begins};
+ghost use Rattle.lw_node.specs.Run.{Step, Run, ShowsOrNot, IsAt};
 
 use crate::node::Node;
 use crate::taken;
@@ -57,7 +57,7 @@ fn shown(alloc: Global, view: Option<View<'_>>) -> Outcome
 }
 
 fn step(alloc: Global, node: &mut Node, event: Event<'_>) -> Outcome
-    ensures { Step node.old event.entry result node.new }
+    ensures { (past : History) → IsAt past node.old → (more : History) × Step past event.entry result more × IsAt more node.new }
 {
     match event {
         Event::Take {
@@ -76,7 +76,7 @@ fn step(alloc: Global, node: &mut Node, event: Event<'_>) -> Outcome
 /// The outcomes of events at a new node, one after another. `NoMemory` where there is no room for the
 /// outcomes; a call's own want of memory is an outcome.
 pub fn run_node(alloc: Global, number: u16, events: &[Event<'_>]) -> Result<Vec<Outcome>, NoMemory>
-    ensures { IfOk result (λ outcomes. (last : NodeContent) × Run (fresh number) events.now outcomes.items last) }
+    ensures { IfOk result (λ outcomes. (last : History) × Run (begins number) events.now outcomes.items last) }
 {
     let mut node = Node::new(alloc, number);
     let mut outcomes = Vec::new(alloc);
