@@ -35,9 +35,9 @@ FirstOf test entries (Some w) = IsFirstOf test entries w
 true_not_false : {G : Type 0} (b : Bool) → b ≡ true → b ≡ false → G
 true_not_false b h k = cc
 
--- the watch that an entry holds
-holds : (t u : Stamp) (x : OrGone Accept) (a : Option ℕ) → ◌≡◌ {A = Option Watching} (Some (record { stamp = t; value = x })) (Some (observed u a)) → (t ≡ u) × (x ≡ Here (record { format = a }))
-holds t u x a h = (ap stamp_in h, ap value_in h)
+-- a path has one token, and what it holds of that
+pub one_watching : (t u : Stamp) (x y : OrGone Accept) → ◌≡◌ {A = Option Watching} (Some (record { stamp = t; value = x })) (Some (record { stamp = u; value = y })) → (t ≡ u) × (x ≡ y)
+one_watching t u x y h = (ap stamp_in h, ap value_in h)
   where
     stamp_in : Option Watching → Stamp
     stamp_in None = t
@@ -95,7 +95,7 @@ module _ (test : Watch → Bool) where
   -- the watch of an entry is the one that it holds
   entry_watch : (p : Path) (t : Stamp) (a : Accept) (v : Watch) → v.path ≡ p → Some (record { stamp = t; value = Here a }) ≡ Some (observed v.token v.accept) → v ≡ record { token = t; path = p; accept = a.format }
   entry_watch p t a v same this =
-      let parts = holds t v.token (Here a) v.accept this in
+      let parts = one_watching t v.token (Here a) (Here (record { format = v.accept })) this in
       let accept : a.format ≡ v.accept = here_format a v.accept parts.1 in
       λ i. record { token = sym parts.0 i; path = same i; accept = sym accept i }
     where
@@ -116,7 +116,7 @@ module _ (test : Watch → Bool) where
           (λ v same this passes. true_not_false (test v) passes (ap test (entry_watch p t a v same this) ∙ fails)) rest
 
       step : (p : Path) (t : Stamp) (x : OrGone Accept) → Rises path_cmp ((p, record { stamp = t; value = x }) ∷ es) → FirstOf test es (first_watch test es) → FirstOf test ((p, record { stamp = t; value = x }) ∷ es) (first_watch test ((p, record { stamp = t; value = x }) ∷ es))
-      step p t Gone rises rest = passed p (cancelled t) es (first_watch test es) rises (λ v same this passes. not_gone (holds t v.token Gone v.accept this).1) rest
+      step p t Gone rises rest = passed p (cancelled t) es (first_watch test es) rises (λ v same this passes. not_gone (one_watching t v.token Gone (Here (record { format = v.accept })) this).1) rest
         where
           not_gone : {o : Option ℕ} → ◌≡◌ {A = OrGone Accept} Gone (Here (record { format = o })) → ⊥
           not_gone e = cc

@@ -23,7 +23,7 @@ use Rattle.lw_reg.specs.Marks.Trace.{Named, Watched, Cancelled}
 use Rattle.lw_reg.specs.Orders.{path_cmp}
 use Rattle.lw_reg.specs.Reading.{registration_of, registered_in, in_time, timely, view_in, is_late, watches_of, first_watch, if_shown, live_watch}
 use Rattle.lw_reg.specs.Registration.{Registration}
-use Rattle.lw_reg.specs.Showing.{IsCurrent, IsToken, IsInTime, IsShown, IsAnswer, ShownOf, LivesOf, HasExpired, IsFirstWatch}
+use Rattle.lw_reg.specs.Showing.{IsCurrent, IsToken, IsInTime, IsShown, IsAnswer, ShownOf, LivesOf, HasExpired, IsFirstOfWatches}
 use Rattle.lw_reg.specs.Slot.{slot_at}
 use Rattle.lw_reg.proofs.FirstWatch.{HasWatch, FirstOf, first_is}
 use Rattle.lw_reg.proofs.Readings.{shown_from, shown_to, one_current, IsWatch, watch_from, watch_to}
@@ -174,14 +174,14 @@ module _ (M : Marks) (e : List ℕ) (names : (r : Stamp) (k : Trace) → Has M e
           )
 
   -- the first that passes the test is the first live watch that fits
-  pub live_reads : (now : ℕ) (test : Watch → Bool) (Fits : Watch → Type 0) → ((w : Watch) → (test w ≡ true) ↔ Fits w) → Rises path_cmp (watches_of slot) → IsAnswer (IsFirstWatch M now e Fits) (live_watch test now slot)
+  pub live_reads : (now : ℕ) (test : Watch → Bool) (Fits : Watch → Type 0) → ((w : Watch) → (test w ≡ true) ↔ Fits w) → Rises path_cmp (watches_of slot) → IsFirstOfWatches M now e Fits (live_watch test now slot)
   live_reads now test Fits decides rises =
-      subst (IsAnswer (IsFirstWatch M now e Fits)) (shown_for_any now [] e slot (first_watch test (watches_of slot)))
+      subst (IsFirstOfWatches M now e Fits) (shown_for_any now [] e slot (first_watch test (watches_of slot)))
       (go (view_in now e slot) refl (first_watch test (watches_of slot)) (first_is test (watches_of slot) rises))
     where
-      go : (o : Option Registration) → view_in now e slot ≡ o → (f : Option Watch) → FirstOf test (watches_of slot) f → IsAnswer (IsFirstWatch M now e Fits) (if_shown o f)
-      go None h f first = λ w l. (let some = ((lives_reads now w).0 l.lives).0.1 in let none = h in absurd cc)
-      go (Some v) h None first = λ w l. first w ((lives_reads now w).0 l.lives).1 ((decides w).1 l.fits)
+      go : (o : Option Registration) → view_in now e slot ≡ o → (f : Option Watch) → FirstOf test (watches_of slot) f → IsFirstOfWatches M now e Fits (if_shown o f)
+      go None h f first = λ w l fits. (let some = ((lives_reads now w).0 l).0.1 in let none = h in absurd cc)
+      go (Some v) h None first = λ w l fits. first w ((lives_reads now w).0 l).1 ((decides w).1 fits)
       go (Some v) h (Some w) first = record {
         lives = (lives_reads now w).1 ((v, h), first.there);
         fits = (decides w).0 first.passes;

@@ -23,6 +23,7 @@ use Rattle.lw_reg.specs.Marks.{Trace, Has}
 use Rattle.lw_reg.specs.Marks.Trace.{Named}
 use Rattle.lw_reg.specs.OrderLaws.{addr_order, base_order, moment_order, number_order, sms_order, text_order}
 use Rattle.lw_reg.specs.Reading.{BodyShows, Shows, shown_by}
+use Rattle.lw_reg.proofs.FirstWatch.{one_watching}
 use Rattle.lw_reg.proofs.Tells.{Sign, sign_trace, EndTells, WatchTells, WatchesTell, BodyTells, ToldTells, SlotTells, told_facet}
 use Rattle.lw_reg.proofs.Tells.Sign.{Asked, Ended}
 
@@ -41,20 +42,6 @@ sign_value Ended = Gone
 abbrev signed : Stamp → Sign → Watching
 signed t g = record { stamp = t; value = sign_value g }
 
-same_stamps : (t u : Stamp) (x y : OrGone Accept) → ◌≡◌ {A = Option Watching} (Some (record { stamp = t; value = x })) (Some (record { stamp = u; value = y })) → t ≡ u
-same_stamps t u x y e = ap stamp_in e
-  where
-    stamp_in : Option Watching → Stamp
-    stamp_in None = t
-    stamp_in (Some w) = w.stamp
-
-same_signs : (t u : Stamp) (x y : OrGone Accept) → ◌≡◌ {A = Option Watching} (Some (record { stamp = t; value = x })) (Some (record { stamp = u; value = y })) → x ≡ y
-same_signs t u x y e = ap value_in e
-  where
-    value_in : Option Watching → OrGone Accept
-    value_in None = x
-    value_in (Some w) = w.value
-
 abbrev format_in : Option ℕ → OrGone Accept → Option ℕ
 format_in o Gone = o
 format_in o (Here a) = a.format
@@ -64,9 +51,9 @@ watch_self None P h = λ y p. (let e : ◌≡◌ {A = Option Watching} None (Som
 watch_self (Some w) P h = go w.stamp w.value h
   where
     go : (t : Stamp) (x : OrGone Accept) → ((u : Stamp) (g : Sign) → P (u, g) ↔ (◌≡◌ {A = Option Watching} (Some (record { stamp = t; value = x })) (Some (signed u g)))) → WatchTells P (record { stamp = t; value = x })
-    go t Gone h = keyed_single stamp_order EndTells P t Ended Gone ((h t Ended).1 refl) (λ u g p. sym (same_stamps t u Gone (sign_value g) ((h u g).0 p))) ((h t Ended).1 refl)
-    go t (Here a) h = keyed_single stamp_order EndTells P t (Asked a.format) (Here a) ((h t (Asked a.format)).1 refl) (λ u g p. sym (same_stamps t u (Here a) (sign_value g) ((h u g).0 p)))
-        (λ p. not_gone (same_signs t t (Here a) Gone ((h t Ended).0 p)), greatest_single format_order (λ b. P (t, Asked b)) a.format ((h t (Asked a.format)).1 refl) (λ b p. sym (ap (format_in None) (same_signs t t (Here a) (Here (record { format = b })) ((h t (Asked b)).0 p)))))
+    go t Gone h = keyed_single stamp_order EndTells P t Ended Gone ((h t Ended).1 refl) (λ u g p. sym (one_watching t u Gone (sign_value g) ((h u g).0 p)).0) ((h t Ended).1 refl)
+    go t (Here a) h = keyed_single stamp_order EndTells P t (Asked a.format) (Here a) ((h t (Asked a.format)).1 refl) (λ u g p. sym (one_watching t u (Here a) (sign_value g) ((h u g).0 p)).0)
+        (λ p. not_gone (one_watching t t (Here a) Gone ((h t Ended).0 p)).1, greatest_single format_order (λ b. P (t, Asked b)) a.format ((h t (Asked a.format)).1 refl) (λ b p. sym (ap (format_in None) (one_watching t t (Here a) (Here (record { format = b })) ((h t (Asked b)).0 p)).1)))
       where
         not_gone : ◌≡◌ {A = OrGone Accept} (Here a) Gone → ⊥
         not_gone e = cc

@@ -41,6 +41,10 @@ body_of slot = here slot.registration.value
 abbrev pub stamp_of : Slot → Stamp
 stamp_of slot = slot.registration.stamp
 
+-- the registration was removed
+abbrev pub IsRemoved : Slot → Type 0
+IsRemoved slot = slot.registration.value ≡ Gone
+
 abbrev pub base_of : Slot → Option Base
 base_of slot = part (λ b. b.base.value) (body_of slot)
 

@@ -111,9 +111,14 @@ pub record IsFirstWatch (M : Marks) (now : ℕ) (e : List ℕ) (Fits : Watch →
   pub fits : Fits w
   pub first : (v : Watch) → LivesOf M now e v → Fits v → AtMost path_cmp w.path v.path
 
+-- the answer is the first of those that live and fit, or there is none
+abbrev pub IsFirstOfWatches : Marks → ℕ → List ℕ → (Watch → Type 0) → Option Watch → Type 0
+IsFirstOfWatches M now e Fits None = (w : Watch) → LivesOf M now e w → ¬ Fits w
+IsFirstOfWatches M now e Fits (Some w) = IsFirstWatch M now e Fits w
+
 -- the live watch with the token; of several, that on the least path
 abbrev pub WatchWith : Marks → ℕ → List ℕ → Stamp → Option Watch → Type 0
-WatchWith M now e token = IsAnswer (IsFirstWatch M now e (λ w. w.token ≡ token))
+WatchWith M now e token = IsFirstOfWatches M now e (λ w. w.token ≡ token)
 
 -- above the path; all are above none
 abbrev pub IsAbove : Option Path → Path → Type 0
@@ -122,4 +127,4 @@ IsAbove (Some after) path = path_cmp after path ≡ Less
 
 -- the live watch on the least path above the given one, or on the least of all
 abbrev pub WatchAfter : Marks → ℕ → List ℕ → Option Path → Option Watch → Type 0
-WatchAfter M now e after = IsAnswer (IsFirstWatch M now e (λ w. IsAbove after w.path))
+WatchAfter M now e after = IsFirstOfWatches M now e (λ w. IsAbove after w.path)

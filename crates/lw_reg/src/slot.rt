@@ -1,8 +1,7 @@
 ghost use Rattle.std.specs.Prelude.{◌≡◌, ◌↔◌, IsTrue};
 ghost use Rattle.std.specs.Option.{option_copied, option_map};
-ghost use Rattle.lw_join.specs.declared.or_gone.OrGone.TheVariants.{Gone};
 ghost use Rattle.lw_reg.specs.Fields.{fields_body, slot_of_fields};
-ghost use Rattle.lw_reg.specs.Reading.{body_of, stamp_of, base_of, address_of, seen_of, lifetime_of, binding_of, sms_of, objects_of, watches_of};
+ghost use Rattle.lw_reg.specs.Reading.{body_of, stamp_of, IsRemoved, base_of, address_of, seen_of, lifetime_of, binding_of, sms_of, objects_of, watches_of};
 
 use crate::body::Body;
 use crate::by_text::ByText;
@@ -50,7 +49,7 @@ impl Slot {
 
     /// Whether the registration was removed. Then nothing else is kept of it.
     pub fn is_removed(&self) -> bool
-        ensures { IsTrue result ↔ (self.now.registration.value ≡ Gone) }
+        ensures { IsTrue result ↔ IsRemoved self.now }
     {
         self.body().is_none()
     }
