@@ -1,6 +1,8 @@
 -- What a map of slots holds after a change, and which of them is shown first.
-use Rattle.std.proofs.Common.{◌≡◌, ◌⊎◌, inl, inr, ℕ, Bool, true, false, cond, List, [], ◌∷◌, map, Option, Some, None, refl, sym, ap, subst, ◌∙◌}
+use Rattle.std.proofs.Common.{◌≡◌, ◌⊎◌, inl, inr, ℕ, Bool, true, false, cond, ◌&&◌, List, [], ◌∷◌, map, Option, Some, None, refl, sym, ap, subst, ◌∙◌}
 use Rattle.std.specs.Prelude.{String, string_bytes, bytes_eq, if◌then◌else◌}
+use Rattle.std.specs.BTreeMap.Range.{entries_between}
+use Rattle.std.specs.declared.ops.Bound.TheVariants.{Excluded, Unbounded}
 use Rattle.std.specs.BTreeMap.{BTreeMap, UpdatesBy, get_by_text}
 use Rattle.std.specs.Cmp.{tied_itself}
 use Rattle.std.specs.Cmp.Lexicographic.{slice_cmp, bytes_decides}
@@ -155,6 +157,17 @@ after_decides (Some a) e true h = less (text_cmp a e) h
     less Equal g = absurd cc
     less Greater g = absurd cc
 after_decides (Some a) e false h = λ g. let bad : false ≡ true = sym h ∙ ap is_lt g in cc
+
+-- of the entries above the endpoint the first is the first of all above it
+pub first_between : {Z : Type 0} (now : ℕ) (known : String Z) (es : List (String Z × Slot)) → first_in now None (entries_between string_cmp (Excluded known) Unbounded es) ≡ first_in now (Some (string_bytes known)) es
+first_between now known [] = refl
+first_between {Z} now known (p ∷ ps) = go (is_lt (string_cmp known p.0)) (first_between now known ps)
+  where
+    go : (b : Bool) → first_in now None (entries_between string_cmp (Excluded known) Unbounded ps) ≡ first_in now (Some (string_bytes known)) ps
+        → first_in now None (cond (b && true) (p ∷ entries_between string_cmp (Excluded known) Unbounded ps) (entries_between string_cmp (Excluded known) Unbounded ps))
+        ≡ cond b (some_or (view_in now (string_bytes p.0) p.1) (first_in now (Some (string_bytes known)) ps)) (first_in now (Some (string_bytes known)) ps)
+    go true rest = ap (some_or (view_in now (string_bytes p.0) p.1)) rest
+    go false rest = rest
 
 -- ---- what is shown
 module _ (ms : List Mark) (names : NamesAll (among ms)) (state : State) (is : IsStateOf ms state) (now : ℕ) where

@@ -145,8 +145,8 @@ impl Node {
         self.slots.view(now, endpoint)
     }
 
-    /// What is shown of the least endpoint above the given one by bytes, or of the least of all. A walk from
-    /// the first endpoint.
+    /// What is shown of the least endpoint above the given one by bytes, or of the least of all. A descent of a
+    /// tree where the given endpoint is known, and otherwise a walk from the first.
     pub fn first_after(&self, now: Moment, after: Option<&str>) -> Option<View<'_>>
         ensures { (ms : List Mark) → Knows self.now ms → FirstAfter (among ms) (ms_of now) (after_text after.entry) result }
     {

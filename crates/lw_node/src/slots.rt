@@ -1,6 +1,6 @@
 //! The slots of the endpoints that a node knows of.
 
-ghost use Rattle.std.specs.Prelude.{◌≡◌, ℕ, List, OnOk, OnErr, IsTrue};
+ghost use Rattle.std.specs.Prelude.{◌≡◌, ℕ, List, Some, OnOk, OnErr, IfSome, string_bytes};
 ghost use Rattle.std.specs.FinMap.{empty, get};
 ghost use Rattle.lw_stamp.specs.Moment.{ms_of};
 ghost use Rattle.lw_reg.specs.Marks.{Mark, NamesAll, among, marks_of};
@@ -15,6 +15,7 @@ use lw_stamp::{Moment, NoMemory};
 use std::alloc::Global;
 use std::collections::BTreeMap;
 use std::marker::Model;
+use std::ops::Bound;
 
 /// A map from endpoint to slot: the state of all that a node knows.
 #[derive(Drop)]
@@ -71,8 +72,8 @@ impl Slots {
         slot.view(endpoint.as_str(), now)
     }
 
-    /// What is shown of the least endpoint above the given one, or of the least of all. A walk from the first
-    /// endpoint.
+    /// What is shown of the least endpoint above the given one, or of the least of all. A descent of the tree
+    /// where the given endpoint is known, and otherwise a walk from the first.
     pub fn first_shown(&self, now: Moment, after: Option<&str>) -> Option<View<'_>>
         ensures { (ms : List Mark) → NamesAll (among ms) → IsStateOf ms self.now → FirstAfter (among ms) (ms_of now) (after_text after.entry) result }
     {
@@ -88,6 +89,42 @@ fn join_atom(alloc: Global, slot: &mut Slot, operation: Op) -> Result<(), NoMemo
 }
 
 fn first_of<'a>(
+    slots: &'a BTreeMap<String, Slot>,
+    now: Moment,
+    after: Option<&str>,
+) -> Option<View<'a>>
+    ensures { result ≡ first_in (ms_of now) (after_text after.entry) slots.now.entries }
+{
+    match known_key(slots, after) {
+        Some(known) => first_above(slots, now, known),
+        None => first_from_start(slots, now, after),
+    }
+}
+
+/// The endpoint as the map keeps it.
+fn known_key<'a>(slots: &'a BTreeMap<String, Slot>, after: Option<&str>) -> Option<&'a String>
+    ensures { IfSome result (λ known. after_text after.entry ≡ Some (string_bytes known.now)) }
+{
+    let (known, _) = slots.get_key_value(after?)?;
+    Some(known)
+}
+
+fn first_above<'a>(
+    slots: &'a BTreeMap<String, Slot>,
+    now: Moment,
+    known: &String,
+) -> Option<View<'a>>
+    ensures { result ≡ first_in (ms_of now) (Some (string_bytes known.now)) slots.now.entries }
+{
+    for (endpoint, slot) in slots.range((Bound::Excluded(known), Bound::Unbounded)) {
+        if let Some(view) = slot.view(endpoint.as_str(), now) {
+            return Some(view);
+        }
+    }
+    None
+}
+
+fn first_from_start<'a>(
     slots: &'a BTreeMap<String, Slot>,
     now: Moment,
     after: Option<&str>,

@@ -2,7 +2,7 @@ use Rattle.std.proofs.Common.{◌≡◌}
 use Rattle.lw_stamp.specs.Moment.{ms_of}
 use Rattle.lw_node.specs.Answers.{after_text}
 use Rattle.lw_node.specs.Slots.{first_in}
-use Rattle.lw_node.proofs.slots.first_of.Given as goal
+use Rattle.lw_node.proofs.slots.first_from_start.Given as goal
 
 -- the first of those that are left is the first of all
 abbrev pub invariant-loop-endpoint : goal.invariant-loop-endpoint
