@@ -1,0 +1,8 @@
+pub mod OptionValues
+pub mod Recognised
+pub mod Paths
+pub mod ObjectLemmas
+pub mod QueryLemmas
+pub mod Meanings
+pub mod Replies
+pub mod OneMeaning

@@ -1,0 +1,218 @@
+-- What a function of the reading answers is what the message means.
+use Rattle.std.proofs.Common.{◌≡◌, ◌≢◌, ◌↔◌, ℕ, ◌≤◌, ◌⊎◌, Bool, false, List, [], ◌∷◌, length, codes, Option, Some, None, Result, Ok, Err, refl, sym, subst, ◌∙◌, inl, inr}
+use Rattle.std.specs.Prelude.{unwrap_or, is_some, IsTrue, IsSome, IsErr, IfOk, OnErr}
+use Rattle.std.proofs.lemmas.Bool.{both_ways}
+use Rattle.lw_stamp.specs.declared.no_memory.NoMemory.{NoMemory}
+use Rattle.lw_stamp.specs.declared.stamp.Stamp.{Stamp}
+use Rattle.lw_coap.specs.Message.{OptionContent, MessageContent}
+use Rattle.lw_link.specs.Spelling.{Spells}
+use Rattle.lw_reg.specs.declared.binding.Binding.{Binding}
+use Rattle.lw_reg.specs.declared.version.Version.{Version}
+use Rattle.lw_reg.specs.Binding.{binding_text}
+use Rattle.lw_reg.specs.Version.{version_text}
+use Rattle.lw_request.specs.declared.asked.Asked.{Asked}
+use Rattle.lw_request.specs.declared.asked.Asked.TheVariants.{Register, Update, Deregister, Refuse}
+use Rattle.lw_request.specs.declared.refusal.Refusal.TheVariants.{BadRequest, PreconditionFailed, RequestEntityTooLarge}
+use Rattle.lw_request.specs.Options.{content_format}
+use Rattle.lw_request.specs.Queries.{given, IsLifetime, AreTexts, IsOfUpdate, HasBadQuery, EachIsLookedAt, AreSettings}
+use Rattle.lw_request.specs.Queries.Parameter.{Ep, Lt, Lwm2m, B, Q, Sms}
+use Rattle.lw_request.specs.Objects.{IsObjectList, IsTooLarge, SpellsNone}
+use Rattle.lw_request.specs.Steps.{IsPost, IsRegister, IsUpdate, IsDeregister, IsLookedAt, queries_of, Cause, post_steps, path_steps, steps}
+use Rattle.lw_request.specs.Steps.Step.{WrongFormat, BadQuery, OtherVersion, TooManyLinks, NoLinks}
+use Rattle.lw_request.specs.declared.role.Role.{Role}
+use Rattle.lw_request.specs.declared.role.Role.TheVariants.{Request, Response}
+use Rattle.lw_request.specs.Meaning.{Names, AreObjects, MeansBy, ResponseMeans, role_of, RoleMeans, Means, Owns, Understands}
+use Rattle.lw_request.proofs.ObjectLemmas.{list_fits, none_fits, nothing_fits, nothing_spelled}
+use Rattle.lw_request.proofs.Paths.{not_both, entry_known, delete_allowed, delete_is_no_post}
+use Rattle.lw_request.proofs.QueryLemmas.{bad_more, good_register, good_update, given_or}
+
+-- the same answer of what is meant in other words
+pub understands_as : (P R : Asked → Type 0) (r : Result Asked NoMemory) → ((asked : Asked) → P asked → R asked) → Understands P r → Understands R r
+understands_as P R (Ok asked) f h = f asked h
+understands_as P R (Err e) f h = (h.0, f h.0 h.1, h.2)
+
+-- what is made is meant, and want of memory comes in its place
+pub understands_made : (P : Asked → Type 0) (r : Result Asked NoMemory) (made : Asked) (Why : Type 0) → P made → IfOk r (λ asked. asked ≡ made) → OnErr r Why → (Why → Owns made) → Understands P r
+understands_made P (Ok asked) made Why h is err owned = subst P (sym is) h
+understands_made P (Err e) made Why h is err owned = (made, h, owned err)
+
+pub any_error : (r : Result Asked NoMemory) → OnErr r (Unit {0})
+any_error (Ok asked) = tt
+any_error (Err e) = tt
+
+pub if_understood : (P : Asked → Type 0) (r : Result Asked NoMemory) → Understands P r → IfOk r P
+if_understood P (Ok asked) h = h
+if_understood P (Err e) h = tt
+
+pub if_not_understood : (P : Asked → Type 0) (r : Result Asked NoMemory) → Understands P r → OnErr r ((asked : Asked) × P asked × Owns asked)
+if_not_understood P (Ok asked) h = tt
+if_not_understood P (Err e) h = h
+
+-- ---- formats
+
+pub right_format : (m : MessageContent) (options : List OptionContent) (b : Bool) → options ≡ m.options
+    → (IsTrue b ↔ ((format : ℕ) × (content_format options ≡ Some format) × (format ≢ 40))) → b ≡ false → Cause WrongFormat m → ⊥
+right_format m options b same iff e (post, wrong) =
+    both_ways b e (iff.1 (subst (λ (os : List OptionContent). (format : ℕ) × (content_format os ≡ Some format) × (format ≢ 40)) (sym same) wrong))
+
+-- ---- a Register
+
+-- what the queries of a Register say
+pub record HasQueries (queries : List (List ℕ)) (endpoint : List ℕ) (queue : Bool) (lifetime : ℕ) (binding : Binding) (sms : Option (List ℕ)) : Type 0 where
+  pub texts : AreTexts queries
+  pub endpoint_is : given Ep queries ≡ Some endpoint
+  pub named : 1 ≤ length endpoint
+  pub queue_is : queue ≡ is_some (given Q queries)
+  pub lifetime_is : IsLifetime (unwrap_or (given Lt queries) (codes "86400")) lifetime
+  pub binding_is : binding_text binding ≡ unwrap_or (given B queries) (codes "U")
+  pub sms_is : sms ≡ given Sms queries
+
+pub good_queries : (m : MessageContent) (e : List ℕ) (q : Bool) (l : ℕ) (b : Binding) (s : Option (List ℕ)) → HasQueries (queries_of m) e q l b s → Cause BadQuery m → ⊥
+good_queries m e q l b s h (post, bad) =
+    good_register (IsLookedAt m) (queries_of m) e l b h.texts h.endpoint_is h.named h.lifetime_is h.binding_is bad
+
+pub right_version : (m : MessageContent) (v : Version) → version_text v ≡ unwrap_or (given Lwm2m (queries_of m)) (codes "1.0") → Cause OtherVersion m → ⊥
+right_version m v h (form, (text, is, none)) = none v (sym (given_or (codes "1.0") text (given Lwm2m (queries_of m)) is (version_text v) h))
+
+pub register_bad : (m : MessageContent) → IsRegister m → (Cause WrongFormat m → ⊥) → HasBadQuery EachIsLookedAt (queries_of m) → MeansBy post_steps m (Refuse BadRequest)
+register_bad m form format bad = inr (format, inl ((form.1, bad_more EachIsLookedAt (IsLookedAt m) (queries_of m) (λ p looked. inl form.0) bad), refl))
+
+pub register_other : (m : MessageContent) → IsRegister m → (Cause WrongFormat m → ⊥) → (Cause BadQuery m → ⊥)
+    → ((text : List ℕ) × (given Lwm2m (queries_of m) ≡ Some text) × ((version : Version) → text ≢ version_text version)) → MeansBy post_steps m (Refuse PreconditionFailed)
+register_other m form format query other = inr (format, inr (query, inl ((form, other), refl)))
+
+pub links_fit : (m : MessageContent) (objects : List ℕ) → IsObjectList m.payload objects → Cause TooManyLinks m → ⊥
+links_fit m objects h (post, large) = list_fits m.payload objects h large
+
+pub post_too_large : (m : MessageContent) → IsPost m → (Cause WrongFormat m → ⊥) → (Cause BadQuery m → ⊥) → (Cause OtherVersion m → ⊥) → IsTooLarge m.payload → MeansBy post_steps m (Refuse RequestEntityTooLarge)
+post_too_large m post format query version large = inr (format, inr (query, inr (version, inl ((post, large), refl))))
+
+empty_or_none : (payload : List ℕ) → SpellsNone payload → (payload ≡ []) ⊎ ((payload ≢ []) × SpellsNone payload)
+empty_or_none [] none = inl refl
+empty_or_none (b ∷ payload) none = inr ((λ e. cc), none)
+
+none_is_cause : (m : MessageContent) → IsRegister m → (m.payload ≡ []) ⊎ ((m.payload ≢ []) × SpellsNone m.payload) → Cause NoLinks m
+none_is_cause m form (inl empty) = (form.1, inl (form.0, empty))
+none_is_cause m form (inr none) = (form.1, inr none)
+
+pub register_no_links : (m : MessageContent) → IsRegister m → (Cause WrongFormat m → ⊥) → (Cause BadQuery m → ⊥) → (Cause OtherVersion m → ⊥)
+    → (length m.payload ≤ 8192) × SpellsNone m.payload → MeansBy post_steps m (Refuse BadRequest)
+register_no_links m form format query version none =
+    inr (format, inr (query, inr (version, inr ((λ large. none_fits m.payload none.0 none.1 large.1), inl (none_is_cause m form (empty_or_none m.payload none.1), refl)))))
+
+list_is_some : (m : MessageContent) (objects : List ℕ) → IsObjectList m.payload objects → Cause NoLinks m → ⊥
+list_is_some m objects (within, (links, spells, few, is)) (post, inl (directory, empty)) =
+    nothing_spelled links (subst (λ (bytes : List ℕ). Spells bytes links) empty spells)
+list_is_some m objects (within, (links, spells, few, is)) (post, inr (some, none)) = none links spells
+
+pub register_asks : (m : MessageContent) (e : List ℕ) (v : Version) (q : Bool) (l : ℕ) (b : Binding) (s : Option (List ℕ)) (o : List ℕ)
+    → IsRegister m → (Cause WrongFormat m → ⊥) → HasQueries (queries_of m) e q l b s → version_text v ≡ unwrap_or (given Lwm2m (queries_of m)) (codes "1.0")
+    → IsObjectList m.payload o → MeansBy post_steps m (Register e v q l b s o)
+register_asks m e v q l b s o form format h version objects =
+    inr (
+      format,
+      inr (
+        good_queries m e q l b s h,
+        inr (
+          right_version m v version,
+          inr (
+            links_fit m o objects,
+            inr (
+              list_is_some m o objects,
+              record {
+                form = form;
+                endpoint_is = h.endpoint_is;
+                version_is = version;
+                queue_is = h.queue_is;
+                lifetime_is = h.lifetime_is;
+                binding_is = h.binding_is;
+                sms_is = h.sms_is;
+                objects_are = objects;
+              },
+            ),
+          ),
+        ),
+      ),
+    )
+
+-- ---- an Update
+
+pub good_settings : (m : MessageContent) (segment : List ℕ) (l : Option ℕ) (b : Option Binding) (s : Option (List ℕ)) → IsUpdate m segment → AreTexts (queries_of m) → AreSettings (queries_of m) l b s
+    → Cause BadQuery m → ⊥
+good_settings m segment l b s form texts h (post, bad) =
+    good_update (IsLookedAt m) (queries_of m) l b s texts h (λ p looked. elim looked [ inl d ↦ absurd (not_both m segment d form.0) | inr u ↦ u ]) bad
+
+pub no_version : (m : MessageContent) (segment : List ℕ) → IsUpdate m segment → Cause OtherVersion m → ⊥
+no_version m segment form (register, other) = not_both m segment register.0 form.0
+
+pub update_bad : (m : MessageContent) (segment : List ℕ) → IsUpdate m segment → (Cause WrongFormat m → ⊥) → HasBadQuery IsOfUpdate (queries_of m) → MeansBy post_steps m (Refuse BadRequest)
+update_bad m segment form format bad = inr (format, inl ((form.1, bad_more IsOfUpdate (IsLookedAt m) (queries_of m) (λ p looked. inr looked) bad), refl))
+
+pub update_no_links : (m : MessageContent) (segment : List ℕ) → IsUpdate m segment → (Cause WrongFormat m → ⊥) → (Cause BadQuery m → ⊥)
+    → (m.payload ≢ []) → (length m.payload ≤ 8192) × SpellsNone m.payload → MeansBy post_steps m (Refuse BadRequest)
+update_no_links m segment form format query some none =
+    inr (format, inr (query, inr (no_version m segment form, inr ((λ large. none_fits m.payload none.0 none.1 large.1), inl ((form.1, inr (some, none.1)), refl)))))
+
+objects_fit : (m : MessageContent) (objects : Option (List ℕ)) → AreObjects m.payload objects → Cause TooManyLinks m → ⊥
+objects_fit m None h (post, large) = nothing_fits (subst IsTooLarge h large)
+objects_fit m (Some objects) h (post, large) = list_fits m.payload objects h.1 large
+
+objects_are_some : (m : MessageContent) (segment : List ℕ) (objects : Option (List ℕ)) → IsUpdate m segment → AreObjects m.payload objects → Cause NoLinks m → ⊥
+objects_are_some m segment None form h (post, inl (directory, empty)) = not_both m segment directory form.0
+objects_are_some m segment None form h (post, inr (some, none)) = some h
+objects_are_some m segment (Some objects) form h cause = list_is_some m objects h.1 cause
+
+pub update_asks : (m : MessageContent) (segment : List ℕ) (id : Option Stamp) (l : Option ℕ) (b : Option Binding) (s : Option (List ℕ)) (o : Option (List ℕ))
+    → IsUpdate m segment → (Cause WrongFormat m → ⊥) → AreTexts (queries_of m) → AreSettings (queries_of m) l b s → Names segment id → AreObjects m.payload o
+    → MeansBy post_steps m (Update id l b s o)
+update_asks m segment id l b s o form format texts h names objects =
+    inr (
+      format,
+      inr (
+        good_settings m segment l b s form texts h,
+        inr (
+          no_version m segment form,
+          inr (
+            objects_fit m o objects,
+            inr (
+              objects_are_some m segment o form objects,
+              record {
+                segment = segment;
+                form = form;
+                id_is = names;
+                settings = h;
+                objects_are = objects;
+              },
+            ),
+          ),
+        ),
+      ),
+    )
+
+-- an Update with an SMS number or an object list owns it
+pub owns_number : (id : Option Stamp) (l : Option ℕ) (b : Option Binding) (s : Option (List ℕ)) (o : Option (List ℕ)) → IsSome s → Owns (Update id l b s o)
+owns_number id l b None o h = absurd cc
+owns_number id l b (Some s) o h = tt
+
+pub owns_list : (id : Option Stamp) (l : Option ℕ) (b : Option Binding) (s : Option (List ℕ)) (o : List ℕ) → Owns (Update id l b s (Some o))
+owns_list id l b None o = tt
+owns_list id l b (Some s) o = tt
+
+-- ---- a Deregister
+
+pub deregister_asks : (m : MessageContent) (segment : List ℕ) (id : Option Stamp) → IsDeregister m segment → Names segment id → MeansBy path_steps m (Deregister id)
+deregister_asks m segment id form names =
+    let no = delete_is_no_post m form.1 in
+    inr (entry_known m segment form.0, inr (delete_allowed m segment form.0 form.1, inr ((λ cause. no cause.0), inr ((λ cause. no cause.0), inr ((λ cause. no cause.0.1), inr ((λ cause. no cause.0), inr ((λ cause. no cause.0), (segment, form, names))))))))
+
+-- ---- roles
+
+pub understands_error : (P : Asked → Type 0) (r : Result Asked NoMemory) (meant : Asked) → IsErr r → P meant → Owns meant → Understands P r
+understands_error P (Ok asked) meant e h owned = absurd cc
+understands_error P (Err e) meant is h owned = (meant, h, owned)
+
+pub request_means : (m : MessageContent) (role : Role) (asked : Asked) → role ≡ role_of m.kind m.code → role ≡ Request → MeansBy steps m asked → Means m asked
+request_means m role asked is e h = subst (λ (r : Role). RoleMeans r m asked) (sym e ∙ is) h
+
+pub response_means : (m : MessageContent) (role : Role) (asked : Asked) → role ≡ role_of m.kind m.code → role ≡ Response → ResponseMeans m asked → Means m asked
+response_means m role asked is e h = subst (λ (r : Role). RoleMeans r m asked) (sym e ∙ is) h

@@ -1,0 +1,102 @@
+use Rattle.std.proofs.Common.{◌≡◌, ◌≢◌, ℕ, List, Some, sym, ap, subst, ◌∙◌}
+use Rattle.std.specs.Prelude.{unwrap_or, option_copied, codes}
+use Rattle.lw_coap.specs.Message.{OptionContent, MessageContent}
+use Rattle.lw_reg.specs.declared.version.Version.{Version}
+use Rattle.lw_reg.specs.Version.{version_text}
+use Rattle.lw_request.specs.declared.asked.Asked.TheVariants.{Register}
+use Rattle.lw_request.specs.declared.objects.Unread.TheVariants.{TooLarge, NoLinks, NoMemory}
+use Rattle.lw_request.specs.Options.{values_of}
+use Rattle.lw_request.specs.Queries.{given, HasBadQuery, EachIsLookedAt, IsShort}
+use Rattle.lw_request.specs.Queries.Parameter.{Lwm2m, Sms}
+use Rattle.lw_request.specs.Objects.{IsObjectList, IsTooLarge, IsUnread}
+use Rattle.lw_request.specs.Steps.{post_steps}
+use Rattle.lw_request.specs.Meaning.{MeansBy}
+use Rattle.lw_request.proofs.QueryLemmas.{sms_short}
+use Rattle.lw_request.proofs.Meanings.{HasQueries, understands_made, any_error, right_format, right_version, good_queries, register_bad, register_other, post_too_large, register_no_links, register_asks}
+use Rattle.lw_request.proofs.register.register.Goals as goal
+
+pub returns-in_default : goal.returns-in_default
+returns-in_default c =
+    let m = c.args.request.now in
+    let same = c.as_slice-options.ensures.value ∙ ap (λ (m : MessageContent). m.options) c.request.view_is in
+    register_bad m c.requires.form (right_format m c.as_slice-options.result.now c.has_other_format.result same c.has_other_format.ensures c.if-has_other_format.false)
+    (subst (HasBadQuery EachIsLookedAt) (ap (values_of 15) same) c.in_default.ensures.err)
+
+pub returns-in_default-version_in : goal.returns-in_default-version_in
+returns-in_default-version_in c =
+    let m = c.args.request.now in
+    let q = c.in-Ok.queries in
+    let e = c.in-Ok.ensures in
+    let same = c.as_slice-options.ensures.value ∙ ap (λ (m : MessageContent). m.options) c.request.view_is in
+    let format = right_format m c.as_slice-options.result.now c.has_other_format.result same c.has_other_format.ensures c.if-has_other_format.false in
+    let has : HasQueries (values_of 15 c.as_slice-options.result.now) q.endpoint.now q.queue q.lifetime q.binding (option_copied q.sms) = record { texts = e.texts; endpoint_is = e.endpoint.0; named = e.endpoint.1; queue_is = e.queue; lifetime_is = e.lifetime; binding_is = e.binding; sms_is = e.sms } in
+    let queries = subst (λ (qs : List (List ℕ)). HasQueries qs q.endpoint.now q.queue q.lifetime q.binding (option_copied q.sms)) (ap (values_of 15) same) has in
+    register_other m c.requires.form format (good_queries m q.endpoint.now q.queue q.lifetime q.binding (option_copied q.sms) queries)
+    (subst (λ (qs : List (List ℕ)). (text : List ℕ) × (given Lwm2m qs ≡ Some text) × ((version : Version) → text ≢ version_text version)) (ap (values_of 15) same) c.in_default-version_in.ensures.none)
+
+pub make-requires : goal.make-requires
+make-requires c =
+    let same = c.as_slice-options.ensures.value ∙ ap (λ (m : MessageContent). m.options) c.request.view_is in
+    subst IsShort (sym (c.in-Ok.ensures.sms ∙ ap (λ (os : List OptionContent). given Sms (values_of 15 os)) same)) (sms_short c.args.request.now.options c.requires.recognised)
+
+pub returns-in-Ok-read_objects : goal.returns-in-Ok-read_objects
+returns-in-Ok-read_objects c =
+    let m = c.args.request.now in
+    let q = c.in-Ok.queries in
+    let e = c.in-Ok.ensures in
+    let same = c.as_slice-options.ensures.value ∙ ap (λ (m : MessageContent). m.options) c.request.view_is in
+    let payload = c.deref.ensures.value ∙ ap (λ (m : MessageContent). m.payload) c.request.view_is in
+    let format = right_format m c.as_slice-options.result.now c.has_other_format.result same c.has_other_format.ensures c.if-has_other_format.false in
+    let has : HasQueries (values_of 15 c.as_slice-options.result.now) q.endpoint.now q.queue q.lifetime q.binding (option_copied q.sms) = record { texts = e.texts; endpoint_is = e.endpoint.0; named = e.endpoint.1; queue_is = e.queue; lifetime_is = e.lifetime; binding_is = e.binding; sms_is = e.sms } in
+    let queries = subst (λ (qs : List (List ℕ)). HasQueries qs q.endpoint.now q.queue q.lifetime q.binding (option_copied q.sms)) (ap (values_of 15) same) has in
+    let version = subst (λ (qs : List (List ℕ)). version_text c.in-Some.version ≡ unwrap_or (given Lwm2m qs) (codes "1.0")) (ap (values_of 15) same) c.in-Some.ensures.some in
+    let objects = subst (λ (bytes : List ℕ). IsObjectList bytes c.in-Ok-read_objects.objects) payload c.in-Ok-read_objects.ensures.found in
+    understands_made (MeansBy post_steps m) c.make.result (Register q.endpoint.now c.in-Some.version q.queue q.lifetime q.binding (option_copied q.sms) c.in-Ok-read_objects.objects) (Unit {0})
+    (register_asks m q.endpoint.now c.in-Some.version q.queue q.lifetime q.binding (option_copied q.sms) c.in-Ok-read_objects.objects c.requires.form format queries version objects)
+    c.make.ensures (any_error c.make.result) (λ t. tt)
+
+pub returns-in-Err-TooLarge : goal.returns-in-Err-TooLarge
+returns-in-Err-TooLarge c =
+    let m = c.args.request.now in
+    let q = c.in-Ok.queries in
+    let e = c.in-Ok.ensures in
+    let same = c.as_slice-options.ensures.value ∙ ap (λ (m : MessageContent). m.options) c.request.view_is in
+    let payload = c.deref.ensures.value ∙ ap (λ (m : MessageContent). m.payload) c.request.view_is in
+    let format = right_format m c.as_slice-options.result.now c.has_other_format.result same c.has_other_format.ensures c.if-has_other_format.false in
+    let has : HasQueries (values_of 15 c.as_slice-options.result.now) q.endpoint.now q.queue q.lifetime q.binding (option_copied q.sms) = record { texts = e.texts; endpoint_is = e.endpoint.0; named = e.endpoint.1; queue_is = e.queue; lifetime_is = e.lifetime; binding_is = e.binding; sms_is = e.sms } in
+    let queries = subst (λ (qs : List (List ℕ)). HasQueries qs q.endpoint.now q.queue q.lifetime q.binding (option_copied q.sms)) (ap (values_of 15) same) has in
+    let version = subst (λ (qs : List (List ℕ)). version_text c.in-Some.version ≡ unwrap_or (given Lwm2m qs) (codes "1.0")) (ap (values_of 15) same) c.in-Some.ensures.some in
+    let large : IsUnread c.deref.result.now TooLarge = subst (IsUnread c.deref.result.now) c.in-Err-TooLarge.field-0-is c.in-Err-TooLarge.ensures.unread in
+    post_too_large m c.requires.form.1 format (good_queries m q.endpoint.now q.queue q.lifetime q.binding (option_copied q.sms) queries) (right_version m c.in-Some.version version) (subst IsTooLarge payload large)
+
+pub returns-in-Err-NoLinks : goal.returns-in-Err-NoLinks
+returns-in-Err-NoLinks c =
+    let m = c.args.request.now in
+    let q = c.in-Ok.queries in
+    let e = c.in-Ok.ensures in
+    let same = c.as_slice-options.ensures.value ∙ ap (λ (m : MessageContent). m.options) c.request.view_is in
+    let payload = c.deref.ensures.value ∙ ap (λ (m : MessageContent). m.payload) c.request.view_is in
+    let format = right_format m c.as_slice-options.result.now c.has_other_format.result same c.has_other_format.ensures c.if-has_other_format.false in
+    let has : HasQueries (values_of 15 c.as_slice-options.result.now) q.endpoint.now q.queue q.lifetime q.binding (option_copied q.sms) = record { texts = e.texts; endpoint_is = e.endpoint.0; named = e.endpoint.1; queue_is = e.queue; lifetime_is = e.lifetime; binding_is = e.binding; sms_is = e.sms } in
+    let queries = subst (λ (qs : List (List ℕ)). HasQueries qs q.endpoint.now q.queue q.lifetime q.binding (option_copied q.sms)) (ap (values_of 15) same) has in
+    let version = subst (λ (qs : List (List ℕ)). version_text c.in-Some.version ≡ unwrap_or (given Lwm2m qs) (codes "1.0")) (ap (values_of 15) same) c.in-Some.ensures.some in
+    let none : IsUnread c.deref.result.now NoLinks = subst (IsUnread c.deref.result.now) c.in-Err-NoLinks.field-0-is c.in-Err-NoLinks.ensures.unread in
+    register_no_links m c.requires.form format (good_queries m q.endpoint.now q.queue q.lifetime q.binding (option_copied q.sms) queries) (right_version m c.in-Some.version version)
+    (subst (λ (bytes : List ℕ). IsUnread bytes NoLinks) payload none)
+
+pub returns-in-Err-NoMemory : goal.returns-in-Err-NoMemory
+returns-in-Err-NoMemory c =
+    let m = c.args.request.now in
+    let q = c.in-Ok.queries in
+    let e = c.in-Ok.ensures in
+    let same = c.as_slice-options.ensures.value ∙ ap (λ (m : MessageContent). m.options) c.request.view_is in
+    let payload = c.deref.ensures.value ∙ ap (λ (m : MessageContent). m.payload) c.request.view_is in
+    let format = right_format m c.as_slice-options.result.now c.has_other_format.result same c.has_other_format.ensures c.if-has_other_format.false in
+    let has : HasQueries (values_of 15 c.as_slice-options.result.now) q.endpoint.now q.queue q.lifetime q.binding (option_copied q.sms) = record { texts = e.texts; endpoint_is = e.endpoint.0; named = e.endpoint.1; queue_is = e.queue; lifetime_is = e.lifetime; binding_is = e.binding; sms_is = e.sms } in
+    let queries = subst (λ (qs : List (List ℕ)). HasQueries qs q.endpoint.now q.queue q.lifetime q.binding (option_copied q.sms)) (ap (values_of 15) same) has in
+    let version = subst (λ (qs : List (List ℕ)). version_text c.in-Some.version ≡ unwrap_or (given Lwm2m qs) (codes "1.0")) (ap (values_of 15) same) c.in-Some.ensures.some in
+    let list : IsUnread c.deref.result.now NoMemory = subst (IsUnread c.deref.result.now) c.in-Err-NoMemory.field-0-is c.in-Err-NoMemory.ensures.unread in (
+      Register q.endpoint.now c.in-Some.version q.queue q.lifetime q.binding (option_copied q.sms) list.0,
+      register_asks m q.endpoint.now c.in-Some.version q.queue q.lifetime q.binding (option_copied q.sms) list.0 c.requires.form format queries version (subst (λ (bytes : List ℕ). IsObjectList bytes list.0) payload list.1),
+      tt,
+    )

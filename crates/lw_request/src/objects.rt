@@ -1,0 +1,36 @@
+//! The payload of a Register or an Update.
+
+ghost use Rattle.std.specs.Prelude.{◌≤◌, ℕ, List, length, IfOk, IfErr};
+ghost use Rattle.lw_request.specs.Objects.{IsObjectList, IsUnread};
+
+use lw_coap::MAX_LENGTH;
+use lw_link::{LinkFault, LinkText};
+use std::alloc::Global;
+
+/// Why a payload was not read as an object list.
+#[derive(Clone, Copy, Debug, PartialEq, Eq)]
+pub(crate) enum Unread {
+    /// More links than a list has, or more bytes than a datagram.
+    TooLarge,
+    /// No list of links.
+    NoLinks,
+    /// A growth was refused. The payload is an object list.
+    NoMemory,
+}
+
+/// The object list of a payload. Each fault but `NoMemory` is found before any memory is taken.
+pub(crate) fn read_objects(alloc: Global, payload: &[u8]) -> Result<LinkText, Unread>
+    ensures found { IfOk result (IsObjectList payload.now) }
+    ensures unread { IfErr result (IsUnread payload.now) }
+{
+    if payload.len() > MAX_LENGTH {
+        return Err(Unread::TooLarge);
+    }
+    match LinkText::read(alloc, payload) {
+        Ok(objects) => Ok(objects),
+        Err(LinkFault::NotText) => Err(Unread::NoLinks),
+        Err(LinkFault::Grammar { .. }) => Err(Unread::NoLinks),
+        Err(LinkFault::TooMany) => Err(Unread::TooLarge),
+        Err(LinkFault::NoMemory) => Err(Unread::NoMemory),
+    }
+}

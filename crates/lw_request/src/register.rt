@@ -1,0 +1,126 @@
+//! A Register (LwM2M 1.1 Core, section 6.2.1).
+
+ghost use Rattle.std.specs.Prelude.{◌≡◌, ◌≢◌, ◌≤◌, ◌↔◌, ℕ, List, length, IsTrue, is_some, IfOk, OnOk, OnErr, IfSome, IfNone, Some, None, ◌⊎◌, option_copied, codes, unwrap_or};
+ghost use Rattle.lw_reg.specs.Binding.{binding_text};
+ghost use Rattle.lw_reg.specs.Version.{version_text};
+ghost use Rattle.lw_reg.specs.declared.version.Version.{Version as Versions};
+ghost use Rattle.lw_request.specs.Options.{values_of, has_unrecognised};
+ghost use Rattle.lw_request.specs.Queries.{given, AreTexts, IsLifetime, HasBadQuery, EachIsLookedAt, IsShort};
+ghost use Rattle.lw_request.specs.Queries.Parameter.{Ep, Lt, Lwm2m, B, Q, Sms};
+ghost use Rattle.lw_request.specs.Objects.{IsObjectList};
+ghost use Rattle.lw_request.specs.Steps.{IsRegister, queries_of, post_steps};
+ghost use Rattle.lw_request.specs.Meaning.{Asks, MeansBy, Understands};
+
+use crate::objects::{Unread, read_objects};
+use crate::options::has_other_format;
+use crate::queries::{BadQuery, are_texts, last_value, settings_of, sms_number};
+use crate::{Asked, Refusal};
+use lw_coap::{CoapOption, Message};
+use lw_link::LinkText;
+use lw_reg::{Binding, Text, Version};
+use lw_stamp::NoMemory;
+use std::alloc::Global;
+
+/// In seconds.
+const DEFAULT_LIFETIME: u32 = 86_400;
+
+/// What the queries of a Register say beside the version, lent by the message.
+#[derive(Clone, Copy, Debug)]
+struct Queries<'a> {
+    endpoint: &'a str,
+    queue: bool,
+    /// In seconds; 0 never expires.
+    lifetime: u32,
+    binding: Binding,
+    sms: Option<&'a str>,
+}
+
+fn queries_of(options: &[CoapOption]) -> Result<Queries<'_>, BadQuery>
+    ensures texts { OnOk result (AreTexts (values_of 15 options.now)) }
+    ensures endpoint { IfOk result (λ q. (given Ep (values_of 15 options.now) ≡ Some q.endpoint.now) × (1 ≤ length q.endpoint.now)) }
+    ensures queue { IfOk result (λ q. q.queue ≡ is_some (given Q (values_of 15 options.now))) }
+    ensures lifetime { IfOk result (λ q. IsLifetime (unwrap_or (given Lt (values_of 15 options.now)) (codes "86400")) q.lifetime) }
+    ensures binding { IfOk result (λ q. binding_text q.binding ≡ unwrap_or (given B (values_of 15 options.now)) (codes "U")) }
+    ensures sms { IfOk result (λ q. option_copied q.sms ≡ given Sms (values_of 15 options.now)) }
+    ensures err { OnErr result (HasBadQuery EachIsLookedAt (values_of 15 options.now)) }
+{
+    if !are_texts(options) {
+        return Err(BadQuery);
+    }
+    let endpoint = endpoint_in(options)?;
+    let settings = settings_of(options)?;
+    Ok(Queries {
+        endpoint,
+        queue: last_value(options, "Q").is_some(),
+        lifetime: settings.lifetime.unwrap_or(DEFAULT_LIFETIME),
+        binding: settings.binding.unwrap_or(Binding::U),
+        sms: settings.sms,
+    })
+}
+
+fn endpoint_in(options: &[CoapOption]) -> Result<&str, BadQuery>
+    requires { AreTexts (values_of 15 options.now) }
+    ensures ok { IfOk result (λ e. (given Ep (values_of 15 options.now) ≡ Some e.now) × (1 ≤ length e.now)) }
+    ensures err { OnErr result (HasBadQuery EachIsLookedAt (values_of 15 options.now)) }
+{
+    match last_value(options, "ep") {
+        Some(endpoint) if !endpoint.is_empty() => Ok(endpoint),
+        _ => Err(BadQuery),
+    }
+}
+
+/// There is none where the client speaks another version.
+fn version_in(options: &[CoapOption]) -> Option<Version>
+    requires { AreTexts (values_of 15 options.now) }
+    ensures some { IfSome result (λ version. version_text version ≡ unwrap_or (given Lwm2m (values_of 15 options.now)) (codes "1.0")) }
+    ensures none { IfNone result ((text : List ℕ) × (given Lwm2m (values_of 15 options.now) ≡ Some text) × ((version : Versions) → text ≢ version_text version)) }
+{
+    match last_value(options, "lwm2m") {
+        None => Some(Version::V10),
+        Some(text) => Version::read(text),
+    }
+}
+
+/// What a POST on `rd` asks for, whose options are recognised.
+pub(crate) fn register(alloc: Global, request: &Message) -> Result<Asked, NoMemory>
+    requires form { IsRegister request.now }
+    requires recognised { IsTrue (has_unrecognised request.now.options) → ⊥ }
+    ensures { Understands (MeansBy post_steps request.now) result }
+{
+    let options = request.options.as_slice();
+    if has_other_format(options) {
+        return Ok(Asked::Refuse(Refusal::UnsupportedContentFormat));
+    }
+    let Ok(queries) = queries_of(options) else {
+        return Ok(Asked::Refuse(Refusal::BadRequest));
+    };
+    let Some(version) = version_in(options) else {
+        return Ok(Asked::Refuse(Refusal::PreconditionFailed));
+    };
+    match read_objects(alloc, &request.payload) {
+        Ok(objects) => make(alloc, &queries, version, objects),
+        Err(Unread::TooLarge) => Ok(Asked::Refuse(Refusal::RequestEntityTooLarge)),
+        Err(Unread::NoLinks) => Ok(Asked::Refuse(Refusal::BadRequest)),
+        Err(Unread::NoMemory) => Err(NoMemory),
+    }
+}
+
+fn make(
+    alloc: Global,
+    queries: &Queries<'_>,
+    version: Version,
+    objects: LinkText,
+) -> Result<Asked, NoMemory>
+    requires { IsShort (option_copied queries.now.sms) }
+    ensures { IfOk result (λ asked. asked ≡ Asked.Register queries.now.endpoint.now version queries.now.queue queries.now.lifetime queries.now.binding (option_copied queries.now.sms) objects) }
+{
+    Ok(Asked::Register {
+        endpoint: Text::copy_of(alloc, queries.endpoint)?,
+        version,
+        queue: queries.queue,
+        lifetime: queries.lifetime,
+        binding: queries.binding,
+        sms: sms_number(alloc, queries.sms)?,
+        objects,
+    })
+}

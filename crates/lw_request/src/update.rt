@@ -1,0 +1,72 @@
+//! An Update (LwM2M 1.1 Core, section 6.2.2).
+
+ghost use Rattle.std.specs.Prelude.{◌≡◌, ◌≢◌, [], IsTrue, IsSome, IfOk, IfErr, OnErr, option_copied};
+ghost use Rattle.lw_request.specs.Options.{has_unrecognised};
+ghost use Rattle.lw_request.specs.Queries.{IsShort};
+ghost use Rattle.lw_request.specs.Objects.{IsUnread};
+ghost use Rattle.lw_request.specs.Steps.{IsUpdate, post_steps};
+ghost use Rattle.lw_request.specs.Meaning.{Names, AreObjects, MeansBy, Understands};
+
+use crate::objects::{Unread, read_objects};
+use crate::options::has_other_format;
+use crate::queries::{Settings, are_texts, settings_of, sms_number};
+use crate::{Asked, Refusal};
+use lw_coap::Message;
+use lw_link::LinkText;
+use lw_stamp::{NoMemory, Stamp};
+use std::alloc::Global;
+
+/// The object list of a payload, where there is one.
+fn read_replacement(alloc: Global, payload: &[u8]) -> Result<Option<LinkText>, Unread>
+    ensures objects { IfOk result (AreObjects payload.now) }
+    ensures unread { IfErr result (λ unread. (payload.now ≢ []) × IsUnread payload.now unread) }
+{
+    if payload.is_empty() {
+        return Ok(None);
+    }
+    Ok(Some(read_objects(alloc, payload)?))
+}
+
+/// What a POST on a registration asks for, whose options are recognised.
+pub(crate) fn update(alloc: Global, request: &Message, segment: &[u8]) -> Result<Asked, NoMemory>
+    requires form { IsUpdate request.now segment.now }
+    requires recognised { IsTrue (has_unrecognised request.now.options) → ⊥ }
+    ensures { Understands (MeansBy post_steps request.now) result }
+{
+    let options = request.options.as_slice();
+    if has_other_format(options) {
+        return Ok(Asked::Refuse(Refusal::UnsupportedContentFormat));
+    }
+    if !are_texts(options) {
+        return Ok(Asked::Refuse(Refusal::BadRequest));
+    }
+    let Ok(settings) = settings_of(options) else {
+        return Ok(Asked::Refuse(Refusal::BadRequest));
+    };
+    let id = Stamp::read_id(segment);
+    match read_replacement(alloc, &request.payload) {
+        Ok(objects) => make(alloc, id, &settings, objects),
+        Err(Unread::TooLarge) => Ok(Asked::Refuse(Refusal::RequestEntityTooLarge)),
+        Err(Unread::NoLinks) => Ok(Asked::Refuse(Refusal::BadRequest)),
+        Err(Unread::NoMemory) => Err(NoMemory),
+    }
+}
+
+fn make(
+    alloc: Global,
+    id: Option<Stamp>,
+    settings: &Settings<'_>,
+    objects: Option<LinkText>,
+) -> Result<Asked, NoMemory>
+    requires { IsShort (option_copied settings.now.sms) }
+    ensures ok { IfOk result (λ asked. asked ≡ Asked.Update id settings.now.lifetime settings.now.binding (option_copied settings.now.sms) objects) }
+    ensures err { OnErr result (IsSome settings.now.sms) }
+{
+    Ok(Asked::Update {
+        id,
+        lifetime: settings.lifetime,
+        binding: settings.binding,
+        sms: sms_number(alloc, settings.sms)?,
+        objects,
+    })
+}
