@@ -6,3 +6,4 @@ pub mod QueryLemmas
 pub mod Meanings
 pub mod Replies
 pub mod OneMeaning
+pub mod SomeMeaning

@@ -5,7 +5,8 @@ ghost use Rattle.lw_coap.specs.Message.{MessageContent};
 ghost use Rattle.lw_request.specs.declared.asked.Asked.{Asked};
 ghost use Rattle.lw_request.specs.Meaning.{Means};
 
-/// A message has one meaning.
-pub fn meanings_are_one()
-    ensures { (message : MessageContent) (a b : Asked) → Means message a → Means message b → a ≡ b }
+/// Each message has a meaning, and no other.
+pub fn messages_have_one_meaning()
+    ensures some { (message : MessageContent) → (asked : Asked) × Means message asked }
+    ensures one { (message : MessageContent) (a b : Asked) → Means message a → Means message b → a ≡ b }
 {}
