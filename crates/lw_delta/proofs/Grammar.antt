@@ -1,0 +1,110 @@
+-- Each part of a delta is decided, and so is the whole.
+use Rattle.std.proofs.Common.{◌≡◌, ℕ, zero, suc, ◌<◌, ◌^◌, ◌==◌, Bool, true, false, List, Option, None, sym, ◌∙◌}
+use Rattle.std.specs.Coded.{le_prop}
+use mathlib.Core.HLevel.{is_prop→PathP}
+use Rattle.lw_stamp.specs.declared.moment.Moment.{Moment}
+use Rattle.lw_stamp.specs.Moment.{ms_of}
+use Rattle.lw_stamp.proofs.StampLemmas.{one_of_bytes}
+use Rattle.lw_reg.specs.declared.path.Path.{Path}
+use Rattle.lw_reg.specs.BindingLaws.{same_binding}
+use Rattle.lw_reg.specs.OrderLaws.{same_path}
+use Rattle.lw_delta.specs.declared.fault.DeltaFault.TheVariants.{Magic, Order, Range, Text, ClockBelow, NoMemory}
+use Rattle.lw_delta.specs.Part.{Part}
+use Rattle.lw_delta.specs.Format.{number16, number32, number48, stamp, written, base, host, address, moment, binding, text, sms_number, objects, numbers, path, watch, watches, endpoint, fields, slot, slots, header, delta}
+use Rattle.lw_delta.proofs.Decided.{Decided, byte_decided, bytes_decided, means_decided, gives_decided, must_decided, followed_decided, when_decided, optional_decided, repeated_decided}
+
+no_magic : NoMemory ≡ Magic → ⊥
+no_magic e = cc
+
+no_order : NoMemory ≡ Order → ⊥
+no_order e = cc
+
+no_range : NoMemory ≡ Range → ⊥
+no_range e = cc
+
+no_text : NoMemory ≡ Text → ⊥
+no_text e = cc
+
+no_clock : NoMemory ≡ ClockBelow → ⊥
+no_clock e = cc
+
+pub number16_decided : Decided number16
+number16_decided = followed_decided (bytes_decided 2) (λ b. gives_decided _)
+
+pub number32_decided : Decided number32
+number32_decided = followed_decided (bytes_decided 4) (λ b. gives_decided _)
+
+pub number48_decided : Decided number48
+number48_decided = followed_decided (bytes_decided 6) (λ b. gives_decided _)
+
+pub stamp_decided : (clock : ℕ) → Decided (stamp clock)
+stamp_decided clock = followed_decided (bytes_decided 8) (λ b. must_decided _ no_range (must_decided _ no_clock (means_decided _ (λ s r h k. one_of_bytes s r (h ∙ sym k)))))
+
+pub written_decided : {A : Type 0} {part : Part A} (clock : ℕ) → Decided part → Decided (written clock part)
+written_decided clock d = followed_decided (stamp_decided clock) (λ s. followed_decided d (λ value. gives_decided _))
+
+pub base_decided : Decided base
+base_decided = followed_decided byte_decided (λ bits. must_decided _ no_range (gives_decided _))
+
+host_decided : (plain : Bool) → Decided (host plain)
+host_decided true = followed_decided (bytes_decided 4) (λ a. followed_decided number16_decided (λ port. gives_decided _))
+host_decided false = followed_decided (bytes_decided 16) (λ a. followed_decided number16_decided (λ port. gives_decided _))
+
+pub address_decided : Decided address
+address_decided = followed_decided byte_decided (λ family. must_decided _ no_range (host_decided (family == 4)))
+
+same_moment : (a b : Moment) → ms_of a ≡ ms_of b → a ≡ b
+same_moment a b h = λ i. record { ms = h i; in_range = is_prop→PathP (λ i. h i < 2 ^ 48) (λ i. le_prop) a.in_range b.in_range i }
+
+pub moment_decided : Decided moment
+moment_decided = followed_decided number48_decided (λ ms. means_decided _ (λ a b h k. same_moment a b (h ∙ sym k)))
+
+pub binding_decided : Decided binding
+binding_decided = followed_decided byte_decided (λ n. must_decided _ no_range (followed_decided (bytes_decided n) (λ t. must_decided _ no_text (means_decided _ (λ a b h k. same_binding a b (h ∙ sym k))))))
+
+pub text_decided : (count : ℕ) → Decided (text count)
+text_decided n = followed_decided (bytes_decided n) (λ t. must_decided _ no_text (gives_decided _))
+
+pub sms_decided : Decided sms_number
+sms_decided = followed_decided byte_decided (λ n. must_decided _ no_range (text_decided n))
+
+pub objects_decided : Decided objects
+objects_decided = followed_decided number16_decided (λ n. must_decided _ no_range (followed_decided (bytes_decided n) (λ t. must_decided _ no_text (gives_decided _))))
+
+numbers_decided : (count : ℕ) → Decided (numbers count)
+numbers_decided zero = gives_decided _
+numbers_decided (suc count) = followed_decided (numbers_decided count) (λ front. followed_decided (followed_decided number16_decided (λ n. must_decided _ no_range (gives_decided _))) (λ n. gives_decided _))
+
+pub path_decided : (after : Option Path) → Decided (path after)
+path_decided after = followed_decided byte_decided (λ n. must_decided _ no_range (followed_decided (numbers_decided n) (λ ns.
+    followed_decided (means_decided _ (λ a b h k. same_path a b (h ∙ sym k))) (λ p. must_decided _ no_order (gives_decided _)))))
+
+pub watch_decided : (clock : ℕ) (after : Option Path) → Decided (watch clock after)
+watch_decided clock after = followed_decided (path_decided after) (λ p. followed_decided (stamp_decided clock) (λ t. followed_decided byte_decided (λ flags.
+    must_decided _ no_range (followed_decided (when_decided _ (optional_decided number16_decided)) (λ accept. gives_decided _)))))
+
+pub watches_decided : (clock : ℕ) → Decided (watches clock)
+watches_decided clock = repeated_decided _ _ (watch_decided clock) None
+
+pub endpoint_decided : (after : Option (List ℕ)) → Decided (endpoint after)
+endpoint_decided after = followed_decided byte_decided (λ n. must_decided _ no_range (followed_decided (text_decided n) (λ t. must_decided _ no_order (gives_decided _))))
+
+pub fields_decided : (clock flags : ℕ) → Decided (fields clock flags)
+fields_decided clock flags =
+    followed_decided (when_decided _ base_decided) (λ a. followed_decided (when_decided _ (written_decided clock address_decided)) (λ b.
+    followed_decided (when_decided _ (written_decided clock moment_decided)) (λ c. followed_decided (when_decided _ (written_decided clock number32_decided)) (λ d.
+    followed_decided (when_decided _ (written_decided clock binding_decided)) (λ e. followed_decided (when_decided _ (written_decided clock (optional_decided sms_decided))) (λ f.
+    followed_decided (when_decided _ (written_decided clock objects_decided)) (λ g. gives_decided _)))))))
+
+pub slot_decided : (clock : ℕ) (after : Option (List ℕ)) → Decided (slot clock after)
+slot_decided clock after = followed_decided (endpoint_decided after) (λ e. followed_decided (stamp_decided clock) (λ r. followed_decided byte_decided (λ flags.
+    followed_decided (fields_decided clock flags) (λ kept. followed_decided (watches_decided clock) (λ ws. gives_decided _)))))
+
+pub slots_decided : (clock : ℕ) → Decided (slots clock)
+slots_decided clock = repeated_decided _ _ (slot_decided clock) None
+
+pub header_decided : Decided header
+header_decided = followed_decided (bytes_decided 4) (λ m. must_decided _ no_magic number48_decided)
+
+pub delta_decided : Decided delta
+delta_decided = followed_decided header_decided (λ clock. followed_decided (slots_decided clock) (λ ss. gives_decided _))

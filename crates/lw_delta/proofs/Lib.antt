@@ -1,0 +1,14 @@
+pub mod Parts
+pub mod Decided
+pub mod Grammar
+pub mod Stamps
+pub mod Texts
+pub mod Paths
+pub mod Hosts
+pub mod Kept
+pub mod Answering
+pub mod Behind
+pub mod Owning
+pub mod Flags
+pub mod Written
+pub mod Fitting

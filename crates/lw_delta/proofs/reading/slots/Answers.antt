@@ -1,0 +1,32 @@
+use Rattle.std.proofs.Common.{subst, inr}
+use Rattle.std.proofs.lemmas.Result.{err_from_is_err_and}
+use Rattle.std.specs.Option.{option_copied}
+use Rattle.lw_delta.specs.Lent.{NextAt}
+use Rattle.lw_delta.proofs.Behind.{next_takes}
+use Rattle.lw_delta.proofs.Parts.{none_walked, walked_more, walked_end, walked_fails}
+use Rattle.lw_delta.proofs.reading.slots.Goals as goal
+
+pub loop-slots-init : goal.loop-slots-init
+loop-slots-init c = rw c.new-slots.ensures.items (none_walked _ _ c.args.bytes.now)
+
+pub returns-in_err-next-clause-fault : goal.returns-in_err-next-clause-fault
+returns-in_err-next-clause-fault c =
+    let p = err_from_is_err_and c.from_residual.result c.from_residual.ensures.1 in
+    rw (p.1, p.2) (inr (walked_fails c.loop-slots.invariant c.in_err-next.ensures.fault))
+
+pub returns-in_default-clause-found : goal.returns-in_default-clause-found
+returns-in_default-clause-found c = walked_end c.loop-slots.invariant (subst (λ o. NextAt c.args.clock (option_copied c.loop-slots.after) c.loop-slots.rest.now o c.in_ok-next.behind.now) c.in_default.is c.in_ok-next.ensures.found)
+
+pub slot-requires : goal.slot-requires
+slot-requires c =
+    let s = (subst (λ o. NextAt c.args.clock (option_copied c.loop-slots.after) c.loop-slots.rest.now o c.in_ok-next.behind.now) c.in-Some.is c.in_ok-next.ensures.found) in
+    (s.ws, s.holds)
+
+pub loop-slots-smaller : goal.loop-slots-smaller
+loop-slots-smaller c = next_takes c.args.clock (option_copied c.loop-slots.after) c.loop-slots.rest.now c.in_ok-next.next c.in_ok-next.behind.now c.in_ok-next.ensures.found
+
+pub loop-slots-preserved : goal.loop-slots-preserved
+loop-slots-preserved c =
+    let s = (subst (λ o. NextAt c.args.clock (option_copied c.loop-slots.after) c.loop-slots.rest.now o c.in_ok-next.behind.now) c.in-Some.is c.in_ok-next.ensures.found) in
+    let same = c.in_ok-slot.ensures.value s.ws s.holds in
+    rw (c.in_ok-push.ensures.items, same) (walked_more c.loop-slots.invariant s.found)

@@ -1,0 +1,24 @@
+use Rattle.std.proofs.Common.{refl}
+use Rattle.std.proofs.lemmas.Result.{err_from_is_err_and}
+use Rattle.lw_delta.proofs.Parts.{refuted}
+use Rattle.lw_delta.proofs.Parts.{both, first_fails, later_fails, given, held, broken, held_fails}
+use Rattle.lw_delta.proofs.values.objects.Goals as goal
+
+pub returns-in_err-count-clause-fault : goal.returns-in_err-count-clause-fault
+returns-in_err-count-clause-fault c =
+    let p = err_from_is_err_and c.from_residual.result c.from_residual.ensures.1 in
+    rw (p.1, p.2) (first_fails _ c.in_err-count.ensures.fault)
+
+pub returns-then-not-is_within-clause-fault : goal.returns-then-not-is_within-clause-fault
+returns-then-not-is_within-clause-fault c = later_fails _ c.in_ok-count.ensures.found (broken _ (refuted c.if-not-is_within.ensures))
+
+pub returns-in_err-text-clause-fault : goal.returns-in_err-text-clause-fault
+returns-in_err-text-clause-fault c =
+    let p = err_from_is_err_and c.from_residual-in_err-text.result c.from_residual-in_err-text.ensures.1 in
+    rw (p.1, p.2) (later_fails _ c.in_ok-count.ensures.found (held_fails _ (c.if-not-is_within.ensures.0 refl) (first_fails _ c.in_err-text.ensures.fault)))
+
+pub returns-then-not-is_printing-clause-fault : goal.returns-then-not-is_printing-clause-fault
+returns-then-not-is_printing-clause-fault c = later_fails _ c.in_ok-count.ensures.found (held_fails _ (c.if-not-is_within.ensures.0 refl) (later_fails _ c.in_ok-text.ensures.found (broken _ (refuted c.if-not-is_printing.ensures))))
+
+pub returns-clause-found : goal.returns-clause-found
+returns-clause-found c = both _ c.in_ok-count.ensures.found (held _ (c.if-not-is_within.ensures.0 refl) (both _ c.in_ok-text.ensures.found (held _ (c.if-not-is_printing.ensures.0 refl) given)))

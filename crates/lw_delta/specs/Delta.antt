@@ -1,0 +1,34 @@
+-- Which bytes are a delta, and what is first wrong in those that are none.
+use Rattle.std.specs.Prelude.{◌≡◌, ℕ, ◌⊎◌, List, [], ◌∷◌, Result, Ok, Err}
+use Rattle.lw_reg.specs.declared.slot.Slot.{Slot}
+use Rattle.lw_delta.specs.declared.fault.DeltaFault.{DeltaFault}
+use Rattle.lw_delta.specs.declared.fault.DeltaFault.TheVariants.{Trailing, NoMemory}
+use Rattle.lw_delta.specs.Part.{Found, Fails}
+use Rattle.lw_delta.specs.Format.{delta}
+
+-- the sender's clock, and slots by endpoint
+pub record DeltaContent : Type 0 where
+  pub clock : ℕ
+  pub slots : List (List ℕ × Slot)
+
+-- the bytes are a delta, and nothing stands behind it
+abbrev pub IsSpelling : List ℕ → DeltaContent → Type 0
+IsSpelling bytes d = Found delta bytes (d.clock, d.slots) []
+
+-- a whole delta, and a byte behind it
+abbrev pub HasTrailing : List ℕ → Type 0
+HasTrailing bytes = (d : ℕ × List (List ℕ × Slot)) × (b : ℕ) × (rest : List ℕ) × Found delta bytes d (b ∷ rest)
+
+-- the first fault of bytes that are no delta; want of memory is none
+abbrev pub IsFault : List ℕ → DeltaFault → Type 0
+IsFault bytes fault = Fails delta bytes fault ⊎ ((fault ≡ Trailing) × HasTrailing bytes)
+
+-- what is known of an answer: the clock of a delta, or the fault
+abbrev pub Checks : List ℕ → Result ℕ DeltaFault → Type 0
+Checks bytes (Ok clock) = (slots : List (List ℕ × Slot)) × IsSpelling bytes (record { clock = clock; slots = slots })
+Checks bytes (Err fault) = IsFault bytes fault
+
+-- a delta, or want of memory in its place, or the fault
+abbrev pub Reads : List ℕ → Result DeltaContent DeltaFault → Type 0
+Reads bytes (Ok d) = IsSpelling bytes d
+Reads bytes (Err fault) = ((fault ≡ NoMemory) × (d : DeltaContent) × IsSpelling bytes d) ⊎ IsFault bytes fault

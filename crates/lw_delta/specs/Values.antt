@@ -1,0 +1,56 @@
+-- What the bytes of a delta stand for.
+use Rattle.std.specs.Prelude.{ℕ, ◌/◌, ◌%◌, ◌==◌, nat_lt, Bool, if◌then◌else◌, List, Option, Some, None, bit_and}
+use Rattle.lw_stamp.specs.declared.stamp.Stamp.{Stamp}
+use Rattle.lw_stamp.specs.declared.moment.Moment.{Moment}
+use Rattle.lw_join.specs.Parts.{made}
+use Rattle.lw_reg.specs.declared.addr.Addr.{Addr}
+use Rattle.lw_reg.specs.declared.base.Base.{Base}
+use Rattle.lw_reg.specs.declared.binding.Binding.{Binding}
+use Rattle.lw_reg.specs.declared.fields.Fields.{Fields}
+use Rattle.lw_reg.specs.declared.path.Path.{Path}
+use Rattle.lw_reg.specs.declared.slot.Slot.{Slot}
+use Rattle.lw_reg.specs.declared.version.Version.TheVariants.{V10, V11}
+use Rattle.lw_reg.specs.Body.{Watching}
+use Rattle.lw_reg.specs.Fields.{slot_of_fields}
+use Rattle.lw_reg.specs.Slot.{observed, cancelled}
+
+abbrev pub is_set : ℕ → ℕ → Bool
+is_set flags flag = nat_lt 0 (bit_and flags flag)
+
+-- bit 0 for version 1.1, bit 1 for queue mode
+abbrev pub base_in : ℕ → Base
+base_in bits = record { version = if bits % 2 == 1 then V11 else V10; queue = bits / 2 == 1 }
+
+-- the fields of a registration but for its watches
+pub record FieldContent : Type 0 where
+  pub base : Option Base
+  pub address : Option (Stamp × Addr)
+  pub seen : Option (Stamp × Moment)
+  pub lifetime : Option (Stamp × ℕ)
+  pub binding : Option (Stamp × Binding)
+  pub sms : Option (Stamp × Option (List ℕ))
+  pub objects : Option (Stamp × List ℕ)
+
+abbrev pub all_fields : FieldContent → List (Path × Watching) → Fields
+all_fields f watches = record {
+  base = f.base;
+  address = f.address;
+  seen = f.seen;
+  lifetime = f.lifetime;
+  binding = f.binding;
+  sms = f.sms;
+  objects = f.objects;
+  watches = made watches;
+}
+
+-- of a removed registration neither fields nor watches are kept
+abbrev pub slot_from : Stamp → Bool → FieldContent → List (Path × Watching) → Slot
+slot_from stamp removed f watches = slot_of_fields stamp (if removed then None else Some (all_fields f watches))
+
+abbrev pub accept_from : Option (Option ℕ) → Option ℕ
+accept_from None = None
+accept_from (Some accept) = accept
+
+-- of a cancelled watch the token alone is kept
+abbrev pub watching_from : Stamp → Bool → Option (Option ℕ) → Watching
+watching_from token gone accept = if gone then cancelled token else observed token (accept_from accept)

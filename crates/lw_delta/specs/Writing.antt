@@ -1,0 +1,127 @@
+-- The bytes of a delta, part by part. A removed registration is a flag byte alone, and so is a cancelled watch.
+use Rattle.std.specs.Prelude.{ℕ, ◌+◌, Bool, if◌then◌else◌, is_some, List, [], ◌∷◌, ◌++◌, length, drop, Option, Some, None, codes}
+use Rattle.std.specs.Int.{w16, w32, w64, to_be_bytes}
+use Rattle.lw_stamp.specs.declared.stamp.Stamp.{Stamp}
+use Rattle.lw_stamp.specs.declared.moment.Moment.{Moment}
+use Rattle.lw_stamp.specs.Moment.{ms_of}
+use Rattle.lw_stamp.specs.Stamp.{stamp_bytes}
+use Rattle.lw_join.specs.declared.or_gone.OrGone.{OrGone}
+use Rattle.lw_join.specs.declared.or_gone.OrGone.TheVariants.{Here, Gone}
+use Rattle.lw_reg.specs.declared.accept.Accept.{Accept}
+use Rattle.lw_reg.specs.declared.addr.Addr.{Addr}
+use Rattle.lw_reg.specs.declared.addr.Addr.TheVariants.{V4, V6}
+use Rattle.lw_reg.specs.declared.base.Base.{Base}
+use Rattle.lw_reg.specs.declared.binding.Binding.{Binding}
+use Rattle.lw_reg.specs.declared.body.Body.{Body}
+use Rattle.lw_reg.specs.declared.path.Path.{Path}
+use Rattle.lw_reg.specs.declared.slot.Slot.{Slot}
+use Rattle.lw_reg.specs.declared.version.Version.{Version}
+use Rattle.lw_reg.specs.declared.version.Version.TheVariants.{V10, V11}
+use Rattle.lw_reg.specs.Binding.{binding_text}
+use Rattle.lw_reg.specs.Body.{Watching}
+use Rattle.lw_reg.specs.Path.{path_numbers}
+use Rattle.lw_reg.specs.Reading.{stamp_of, base_of, address_of, seen_of, lifetime_of, binding_of, sms_of, objects_of, watches_of}
+
+abbrev pub number16_bytes : ℕ → List ℕ
+number16_bytes n = to_be_bytes w16 n
+
+abbrev pub number48_bytes : ℕ → List ℕ
+number48_bytes n = drop 2 (to_be_bytes w64 n)
+
+-- 00, or 01 and the value
+abbrev pub optional_bytes : {A : Type 0} → (A → List ℕ) → Option A → List ℕ
+optional_bytes bytes None = 0 ∷ []
+optional_bytes bytes (Some value) = 1 ∷ bytes value
+
+-- nothing, or the stamp and the value
+abbrev pub written_bytes : {A : Type 0} → (A → List ℕ) → Option (Stamp × A) → List ℕ
+written_bytes bytes None = []
+written_bytes bytes (Some write) = stamp_bytes write.0 ++ bytes write.1
+
+abbrev pub version_bit : Version → ℕ
+version_bit V10 = 0
+version_bit V11 = 1
+
+abbrev pub base_byte : Base → ℕ
+base_byte base = version_bit base.version + (if base.queue then 2 else 0)
+
+abbrev pub base_bytes : Option Base → List ℕ
+base_bytes None = []
+base_bytes (Some base) = base_byte base ∷ []
+
+abbrev pub addr_bytes : Addr → List ℕ
+addr_bytes (V4 address port) = 4 ∷ (address ++ number16_bytes port)
+addr_bytes (V6 address port) = 6 ∷ (address ++ number16_bytes port)
+
+abbrev pub moment_bytes : Moment → List ℕ
+moment_bytes moment = number48_bytes (ms_of moment)
+
+abbrev pub number32_bytes : ℕ → List ℕ
+number32_bytes n = to_be_bytes w32 n
+
+-- a length of one byte, and the text
+abbrev pub text_bytes : List ℕ → List ℕ
+text_bytes text = length text ∷ text
+
+abbrev pub binding_bytes : Binding → List ℕ
+binding_bytes b = text_bytes (binding_text b)
+
+abbrev pub sms_bytes : Option (List ℕ) → List ℕ
+sms_bytes = optional_bytes text_bytes
+
+abbrev pub objects_bytes : List ℕ → List ℕ
+objects_bytes text = number16_bytes (length text) ++ text
+
+abbrev pub numbers_bytes : List ℕ → List ℕ
+numbers_bytes [] = []
+numbers_bytes (n ∷ ns) = number16_bytes n ++ numbers_bytes ns
+
+abbrev pub path_bytes : Path → List ℕ
+path_bytes path = length (path_numbers path) ∷ numbers_bytes (path_numbers path)
+
+abbrev pub accept_bytes : OrGone Accept → List ℕ
+accept_bytes (Here accept) = 1 ∷ optional_bytes number16_bytes accept.format
+accept_bytes Gone = 2 ∷ []
+
+abbrev pub watch_bytes : Path × Watching → List ℕ
+watch_bytes w = path_bytes w.0 ++ (stamp_bytes w.1.stamp ++ accept_bytes w.1.value)
+
+abbrev pub watches_bytes : List (Path × Watching) → List ℕ
+watches_bytes [] = 0 ∷ []
+watches_bytes (w ∷ ws) = 1 ∷ (watch_bytes w ++ watches_bytes ws)
+
+abbrev pub flag_if : ℕ → Bool → ℕ
+flag_if flag set = if set then flag else 0
+
+-- the flags of the fields that are there
+abbrev pub field_flags : Slot → ℕ
+field_flags slot =
+    flag_if 1 (is_some (base_of slot)) + flag_if 2 (is_some (address_of slot)) + flag_if 4 (is_some (seen_of slot)) + flag_if 8 (is_some (lifetime_of slot))
+    + flag_if 16 (is_some (binding_of slot)) + flag_if 32 (is_some (sms_of slot)) + flag_if 64 (is_some (objects_of slot))
+
+abbrev pub flags_told : OrGone Body → ℕ → ℕ
+flags_told Gone flags = 128
+flags_told (Here body) flags = flags
+
+abbrev pub flags_byte : Slot → ℕ
+flags_byte slot = flags_told slot.registration.value (field_flags slot)
+
+abbrev pub fields_bytes : Slot → List ℕ
+fields_bytes slot =
+    base_bytes (base_of slot) ++ (written_bytes addr_bytes (address_of slot) ++ (written_bytes moment_bytes (seen_of slot) ++ (written_bytes number32_bytes (lifetime_of slot)
+    ++ (written_bytes binding_bytes (binding_of slot) ++ (written_bytes sms_bytes (sms_of slot) ++ written_bytes objects_bytes (objects_of slot))))))
+
+-- a slot behind its 01
+abbrev pub slot_bytes : List ℕ × Slot → List ℕ
+slot_bytes s = text_bytes s.0 ++ (stamp_bytes (stamp_of s.1) ++ (flags_byte s.1 ∷ (fields_bytes s.1 ++ watches_bytes (watches_of s.1))))
+
+abbrev pub slots_bytes : List (List ℕ × Slot) → List ℕ
+slots_bytes [] = []
+slots_bytes (s ∷ ss) = 1 ∷ (slot_bytes s ++ slots_bytes ss)
+
+-- what stands before the end
+abbrev pub begun_bytes : ℕ → List (List ℕ × Slot) → List ℕ
+begun_bytes clock slots = (codes "LWD1" ++ number48_bytes clock) ++ slots_bytes slots
+
+abbrev pub delta_bytes : ℕ → List (List ℕ × Slot) → List ℕ
+delta_bytes clock slots = begun_bytes clock slots ++ 0 ∷ []

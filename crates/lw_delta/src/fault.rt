@@ -1,0 +1,50 @@
+ghost use Rattle.std.specs.Prelude.{◌≡◌};
+ghost use Rattle.lw_delta.specs.declared.fault.DeltaFault.TheVariants.{NoMemory as WantOfMemory};
+
+use lw_stamp::NoMemory;
+use std::alloc::{AllocError, AllocFailed};
+
+/// Why bytes were not read as a delta.
+#[derive(Clone, Copy, Debug, PartialEq, Eq)]
+pub enum DeltaFault {
+    /// The first four bytes are not `LWD1`.
+    Magic,
+    /// The bytes end before a part does.
+    Truncated,
+    /// An endpoint or path is not above the one before.
+    Order,
+    /// A length, tag, flag or number out of its range, or a stamp with counter 0.
+    Range,
+    /// Not UTF-8, not letters A to Z, or no printing of links.
+    Text,
+    /// A stamp above the sender's clock.
+    ClockBelow,
+    /// A byte behind the end.
+    Trailing,
+    /// A growth was refused. The bytes are a delta.
+    NoMemory,
+}
+
+impl From<NoMemory> for DeltaFault {
+    ghost from_gives = { λ _ fault. fault ≡ WantOfMemory };
+
+    fn from(_error: NoMemory) -> DeltaFault {
+        DeltaFault::NoMemory
+    }
+}
+
+impl From<AllocError> for DeltaFault {
+    ghost from_gives = { λ _ fault. fault ≡ WantOfMemory };
+
+    fn from(_error: AllocError) -> DeltaFault {
+        DeltaFault::NoMemory
+    }
+}
+
+impl<T: Drop> From<AllocFailed<T>> for DeltaFault {
+    ghost from_gives = { λ _ fault. fault ≡ WantOfMemory };
+
+    fn from(_error: AllocFailed<T>) -> DeltaFault {
+        DeltaFault::NoMemory
+    }
+}

@@ -1,0 +1,24 @@
+//! Deltas as bytes: the clock of a sender and slots, by one grammar. `check` and `read` take them apart, and
+//! a `Writer` puts them together.
+#![tactic(auto)]
+
+mod checking;
+mod delta;
+mod fault;
+mod fields;
+mod numbers;
+mod reading;
+mod slots;
+mod values;
+mod watches;
+mod writer;
+mod writing;
+
+pub use checking::check;
+pub use delta::Delta;
+pub use fault::DeltaFault;
+pub use reading::read;
+pub use writer::Writer;
+
+#[cfg(test)]
+mod tests;

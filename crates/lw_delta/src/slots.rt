@@ -1,0 +1,114 @@
+//! Slots, one after another.
+
+ghost use Rattle.std.specs.Prelude.{ℕ, ◌↔◌, List, IsTrue, IfOk, IfErr};
+ghost use Rattle.std.specs.Option.{option_copied};
+ghost use Rattle.lw_stamp.specs.TextOrder.{text_cmp};
+ghost use Rattle.lw_reg.specs.declared.slot.Slot.{Slot as Slots};
+ghost use Rattle.lw_delta.specs.Order.{IsAbove};
+ghost use Rattle.lw_delta.specs.Part.{Found, Fails, optional};
+ghost use Rattle.lw_delta.specs.Format.{endpoint as endpoint_part, slot as slot_part, slots as slots_part};
+ghost use Rattle.lw_delta.specs.Lent.{LentAt, NextAt};
+
+use crate::DeltaFault;
+use crate::fields::{LentFields, fields};
+use crate::numbers::{byte, is_set, is_within, stamp, tag};
+use crate::values::text;
+use crate::watches::check_watches;
+use lw_stamp::Stamp;
+
+pub(crate) const REMOVED: u8 = 0x80;
+
+/// The most bytes of an endpoint.
+const MAX_ENDPOINT: usize = 252;
+
+/// A slot where it stands in the bytes of a delta.
+#[derive(Clone, Copy)]
+pub(crate) struct LentSlot<'a> {
+    pub endpoint: &'a str,
+    pub registration: Stamp,
+    pub removed: bool,
+    pub fields: LentFields<'a>,
+    /// The bytes from the first watch on.
+    pub watches: &'a [u8],
+}
+
+fn is_above(after: Option<&str>, endpoint: &str) -> bool
+    ensures { IsTrue result ↔ IsAbove text_cmp (option_copied after.entry) endpoint.now }
+{
+    match after {
+        None => true,
+        Some(before) => before < endpoint,
+    }
+}
+
+fn endpoint<'a>(after: Option<&str>, bytes: &'a [u8]) -> Result<(&'a str, &'a [u8]), DeltaFault>
+    ensures found { IfOk result (λ x. Found (endpoint_part (option_copied after.entry)) bytes.now x.0.now x.1.now) }
+    ensures fault { IfErr result (Fails (endpoint_part (option_copied after.entry)) bytes.now) }
+{
+    let (count, rest) = byte(bytes)?;
+    if !is_within(count as usize, MAX_ENDPOINT) {
+        return Err(DeltaFault::Range);
+    }
+    let (name, rest) = text(rest, count)?;
+    if !is_above(after, name) {
+        return Err(DeltaFault::Order);
+    }
+    Ok((name, rest))
+}
+
+fn slot<'a>(
+    clock: u64,
+    after: Option<&str>,
+    bytes: &'a [u8],
+) -> Result<(LentSlot<'a>, &'a [u8]), DeltaFault>
+    ensures found { IfOk result (λ x. LentAt clock (option_copied after.entry) bytes.now x.0 x.1.now) }
+    ensures fault { IfErr result (Fails (slot_part clock (option_copied after.entry)) bytes.now) }
+{
+    let (endpoint, rest) = endpoint(after, bytes)?;
+    let (registration, rest) = stamp(clock, rest)?;
+    let (flags, rest) = byte(rest)?;
+    let (fields, watches) = fields(clock, flags, rest)?;
+    let rest = check_watches(clock, watches)?;
+    let slot = LentSlot {
+        endpoint,
+        registration,
+        removed: is_set(flags, REMOVED),
+        fields,
+        watches,
+    };
+    Ok((slot, rest))
+}
+
+/// The next slot, or none at the end of the slots.
+pub(crate) fn next_slot<'a>(
+    clock: u64,
+    after: Option<&str>,
+    bytes: &'a [u8],
+) -> Result<(Option<LentSlot<'a>>, &'a [u8]), DeltaFault>
+    ensures found { IfOk result (λ x. NextAt clock (option_copied after.entry) bytes.now x.0 x.1.now) }
+    ensures fault { IfErr result (Fails (optional (slot_part clock (option_copied after.entry))) bytes.now) }
+{
+    let (present, rest) = tag(bytes)?;
+    if !present {
+        return Ok((None, rest));
+    }
+    let (slot, rest) = slot(clock, after, rest)?;
+    Ok((Some(slot), rest))
+}
+
+/// Walks all slots, and takes no memory. What stands behind them is left.
+pub(crate) fn check_slots(clock: u64, bytes: &[u8]) -> Result<&[u8], DeltaFault>
+    ensures found { IfOk result (λ rest. (ss : List (List ℕ × Slots)) × Found (slots_part clock) bytes.now ss rest.now) }
+    ensures fault { IfErr result (Fails (slots_part clock) bytes.now) }
+{
+    let mut after = None;
+    let mut rest = bytes;
+    loop {
+        let (next, behind) = next_slot(clock, after, rest)?;
+        rest = behind;
+        let Some(slot) = next else {
+            return Ok(rest);
+        };
+        after = Some(slot.endpoint);
+    }
+}

@@ -1,0 +1,68 @@
+ghost use Rattle.std.specs.Prelude.{◌≡◌, ℕ, ◌<◌, ◌^◌, ◌++◌, ◌∷◌, [], List, IfOk, OnOk, OnErr};
+ghost use Rattle.lw_reg.specs.declared.slot.Slot.{Slot as Slots};
+ghost use Rattle.lw_delta.specs.Writable.{IsBegun, Follows, last_endpoint};
+ghost use Rattle.lw_delta.specs.Writing.{delta_bytes};
+
+use crate::writing::{put_number48, slot_bytes};
+use lw_reg::Slot;
+use lw_stamp::NoMemory;
+use std::alloc::Global;
+use std::marker::Model;
+
+/// Puts a delta together: a clock, and slots by endpoints that rise. Contracts see the clock and the bytes so
+/// far.
+#[derive(Debug, Drop)]
+pub struct Writer {
+    alloc: Global,
+    clock: u64,
+    bytes: Vec<u8>,
+}
+
+impl Model for Writer {
+    ghost use Rattle.lw_delta.specs.Writable.{Begun};
+
+    ghost Value = { Begun };
+
+    ghost view = { λ w. record { clock = w.clock; bytes = w.bytes.items } };
+}
+
+impl Writer {
+    /// A delta of this clock, with no slots yet. The clock is at most 2^48 - 1.
+    pub fn new(alloc: Global, clock: u64) -> Result<Writer, NoMemory>
+        requires { clock < 2 ^ 48 }
+        ensures clock { IfOk result (λ writer. writer.clock ≡ clock) }
+        ensures begun { IfOk result (λ writer. IsBegun writer []) }
+    {
+        let mut bytes = Vec::new(alloc);
+        bytes.extend_from_slice(b"LWD1")?;
+        put_number48(&mut bytes, clock)?;
+        Ok(Writer {
+            alloc,
+            clock,
+            bytes,
+        })
+    }
+
+    /// Writes a slot behind the ones before. The endpoint has 1 to 252 bytes and is above the last one, and
+    /// no stamp of the slot is above the clock.
+    pub fn slot(&mut self, endpoint: &str, slot: &Slot) -> Result<(), NoMemory>
+        requires { (slots : List (List ℕ × Slots)) × IsBegun self.old slots × Follows self.old.clock (last_endpoint slots) (endpoint.now, slot.now) }
+        ensures clock { self.new.clock ≡ self.old.clock }
+        ensures begun { (slots : List (List ℕ × Slots)) → IsBegun self.old slots → OnOk result (IsBegun self.new (slots ++ (endpoint.now, slot.now) ∷ [])) }
+        // Refused, it is unchanged.
+        ensures refused { OnErr result (self.new ≡ self.old) }
+    {
+        let bytes = slot_bytes(self.alloc, endpoint, slot)?;
+        self.bytes.extend_from_slice(&bytes)?;
+        Ok(())
+    }
+
+    /// The bytes of the delta. Refused, the writer is given up.
+    pub fn end(self) -> Result<Vec<u8>, NoMemory>
+        ensures { (slots : List (List ℕ × Slots)) → IsBegun self slots → IfOk result (λ bytes. bytes.items ≡ delta_bytes self.clock slots) }
+    {
+        let mut bytes = self.bytes;
+        bytes.push(0)?;
+        Ok(bytes)
+    }
+}
