@@ -1,6 +1,6 @@
 //! The payload of a Register or an Update.
 
-ghost use Rattle.std.specs.Prelude.{◌≤◌, ℕ, List, length, IfOk, IfErr};
+ghost use Rattle.std.specs.Prelude.{IfOk, IfErr};
 ghost use Rattle.lw_request.specs.Objects.{IsObjectList, IsUnread};
 
 use lw_coap::MAX_LENGTH;

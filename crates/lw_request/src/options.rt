@@ -2,7 +2,6 @@
 
 ghost use Rattle.std.specs.Prelude.{◌≡◌, ◌≢◌, ◌↔◌, ℕ, IsTrue, Some, slice_get, option_copied, nat_lt, length};
 ghost use Rattle.std.specs.List.{list_any};
-ghost use Rattle.lw_coap.specs.Number.{number_of};
 ghost use Rattle.lw_request.specs.Options.{values_of, is_critical, has_critical, is_unrecognised, has_unrecognised, is_proxy, has_proxy, content_format as format_of, observe_number as number_observed, admits, rules, is_repeated};
 
 use lw_coap::option_numbers::{

@@ -1,6 +1,6 @@
 //! The Uri-Queries of a request (LwM2M 1.1 Core, section 6.2.1).
 
-ghost use Rattle.std.specs.Prelude.{◌≡◌, ◌↔◌, ◌≤◌, ◌⊎◌, ℕ, List, length, IsTrue, IsSome, IsUtf8, IfSome, IfNone, IfOk, OnErr, Some, option_copied, option_map};
+ghost use Rattle.std.specs.Prelude.{◌≡◌, ◌↔◌, ◌≤◌, ℕ, length, IsTrue, IsSome, IfSome, IfNone, IfOk, OnErr, option_copied, option_map};
 ghost use Rattle.std.specs.List.{AllByRecursion};
 ghost use Rattle.lw_reg.specs.Binding.{binding_text};
 ghost use Rattle.lw_request.specs.Options.{values_of};

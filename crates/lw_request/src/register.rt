@@ -1,15 +1,14 @@
 //! A Register (LwM2M 1.1 Core, section 6.2.1).
 
-ghost use Rattle.std.specs.Prelude.{◌≡◌, ◌≢◌, ◌≤◌, ◌↔◌, ℕ, List, length, IsTrue, is_some, IfOk, OnOk, OnErr, IfSome, IfNone, Some, None, ◌⊎◌, option_copied, codes, unwrap_or};
+ghost use Rattle.std.specs.Prelude.{◌≡◌, ◌≢◌, ◌≤◌, ℕ, List, length, IsTrue, is_some, IfOk, OnOk, OnErr, IfSome, IfNone, Some, option_copied, codes, unwrap_or};
 ghost use Rattle.lw_reg.specs.Binding.{binding_text};
 ghost use Rattle.lw_reg.specs.Version.{version_text};
 ghost use Rattle.lw_reg.specs.declared.version.Version.{Version as Versions};
 ghost use Rattle.lw_request.specs.Options.{values_of, has_unrecognised};
 ghost use Rattle.lw_request.specs.Queries.{given, AreTexts, IsLifetime, HasBadQuery, EachIsLookedAt, IsShort};
 ghost use Rattle.lw_request.specs.Queries.Parameter.{Ep, Lt, Lwm2m, B, Q, Sms};
-ghost use Rattle.lw_request.specs.Objects.{IsObjectList};
-ghost use Rattle.lw_request.specs.Steps.{IsRegister, queries_of, post_steps};
-ghost use Rattle.lw_request.specs.Meaning.{Asks, MeansBy, Understands};
+ghost use Rattle.lw_request.specs.Steps.{IsRegister, post_steps};
+ghost use Rattle.lw_request.specs.Meaning.{MeansBy, Understands};
 
 use crate::objects::{Unread, read_objects};
 use crate::options::has_other_format;

@@ -1,7 +1,6 @@
 //! The messages that a request is answered with, and their bytes.
 
-ghost use Rattle.std.specs.Prelude.{◌≡◌, ◌≤◌, ◌<◌, ◌⊎◌, IfOk, Option, length, ◌∷◌, codes};
-ghost use Rattle.lw_stamp.specs.Stamp.{id_of};
+ghost use Rattle.std.specs.Prelude.{◌≡◌, ◌≤◌, ◌<◌, ◌⊎◌, IfOk, length};
 ghost use Rattle.lw_coap.specs.Grammar.{IsSpelling};
 ghost use Rattle.lw_request.specs.Reply.{answer_kind, answer_of, location_options, reset_of, ack_of};
 

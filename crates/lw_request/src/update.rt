@@ -5,7 +5,7 @@ ghost use Rattle.lw_request.specs.Options.{has_unrecognised};
 ghost use Rattle.lw_request.specs.Queries.{IsShort};
 ghost use Rattle.lw_request.specs.Objects.{IsUnread};
 ghost use Rattle.lw_request.specs.Steps.{IsUpdate, post_steps};
-ghost use Rattle.lw_request.specs.Meaning.{Names, AreObjects, MeansBy, Understands};
+ghost use Rattle.lw_request.specs.Meaning.{AreObjects, MeansBy, Understands};
 
 use crate::objects::{Unread, read_objects};
 use crate::options::has_other_format;
