@@ -12,3 +12,8 @@ pub mod Owning
 pub mod Flags
 pub mod Written
 pub mod Fitting
+pub mod FlagBits
+pub mod Prints
+pub mod PrintsSlots
+pub mod PrintsDelta
+pub mod BegunLemmas

@@ -1,6 +1,11 @@
 -- Which slots a writer takes, and what it has written.
-use Rattle.std.specs.Prelude.{◌≡◌, ℕ, ◌≤◌, List, [], ◌∷◌, length, Option, Some, None, IfSome}
+use Rattle.std.specs.Prelude.{◌≡◌, ℕ, ◌<◌, ◌≤◌, ◌^◌, List, [], ◌∷◌, length, slice_index, Option, Some, None, IfSome, IsUtf8}
 use Rattle.lw_stamp.specs.TextOrder.{text_cmp}
+use Rattle.lw_join.specs.declared.or_gone.OrGone.{OrGone}
+use Rattle.lw_join.specs.declared.or_gone.OrGone.TheVariants.{Here, Gone}
+use Rattle.lw_link.specs.WellFormed.{IsPrinting}
+use Rattle.lw_reg.specs.declared.accept.Accept.{Accept}
+use Rattle.lw_reg.specs.Addr.{IsAddr}
 use Rattle.lw_reg.specs.declared.path.Path.{Path}
 use Rattle.lw_reg.specs.declared.slot.Slot.{Slot}
 use Rattle.lw_reg.specs.Body.{Watching}
@@ -40,11 +45,48 @@ AllFollow clock after (s ∷ ss) = Follows clock after s × AllFollow clock (Som
 abbrev pub last_endpoint : List (List ℕ × Slot) → Option (List ℕ)
 last_endpoint slots = last_key (λ s. s.0) None slots
 
+-- bytes that are UTF-8
+abbrev pub IsOwnText : List ℕ → Type 0
+IsOwnText text = IsUtf8 text × ((i : ℕ) → slice_index text i < 256)
+
+-- ---- what the types of a slot's fields keep
+abbrev pub AcceptTyped : OrGone Accept → Type 0
+AcceptTyped Gone = Unit {0}
+AcceptTyped (Here accept) = IfSome accept.format (λ n. n < 2 ^ 16)
+
+abbrev pub AcceptsTyped : List (Path × Watching) → Type 0
+AcceptsTyped [] = Unit {0}
+AcceptsTyped (w ∷ ws) = AcceptTyped w.1.value × AcceptsTyped ws
+
+-- a printing of at most 8192 bytes, which has a link
+abbrev pub IsOwnObjects : List ℕ → Type 0
+IsOwnObjects text = IsPrinting text × ((i : ℕ) → slice_index text i < 256) × (1 ≤ length text) × (length text ≤ 8192)
+
+pub record FieldsTyped (slot : Slot) : Type 0 where
+  pub address : IfSome (address_of slot) (λ w. IsAddr w.1)
+  pub lifetime : IfSome (lifetime_of slot) (λ w. w.1 < 2 ^ 32)
+  pub sms : IfSome (sms_of slot) (λ w. IfSome w.1 (λ text. IsOwnText text × (length text ≤ 251)))
+  pub objects : IfSome (objects_of slot) (λ w. IsOwnObjects w.1)
+
+pub record IsTyped (slot : Slot) : Type 0 where
+  pub fields : FieldsTyped slot
+  pub accepts : AcceptsTyped (watches_of slot)
+
+-- slots that were written one after another
+abbrev pub IsGood : ℕ → Option (List ℕ) → List ℕ × Slot → Type 0
+IsGood clock after s = Follows clock after s × IsTyped s.1 × IsOwnText s.0
+
+abbrev pub AreGood : ℕ → Option (List ℕ) → List (List ℕ × Slot) → Type 0
+AreGood clock after [] = Unit {0}
+AreGood clock after (s ∷ ss) = IsGood clock after s × AreGood clock (Some s.0) ss
+
 -- what contracts see of a writer
 pub record Begun : Type 0 where
   pub clock : ℕ
   pub bytes : List ℕ
 
 -- these slots were written, one after another
-abbrev pub IsBegun : Begun → List (List ℕ × Slot) → Type 0
-IsBegun writer slots = writer.bytes ≡ begun_bytes writer.clock slots
+pub record IsBegun (writer : Begun) (slots : List (List ℕ × Slot)) : Type 0 where
+  pub bytes : writer.bytes ≡ begun_bytes writer.clock slots
+  pub in_range : writer.clock < 2 ^ 48
+  pub good : AreGood writer.clock None slots

@@ -6,6 +6,7 @@ mod checking;
 mod delta;
 mod fault;
 mod fields;
+pub mod laws;
 mod numbers;
 mod reading;
 mod slots;

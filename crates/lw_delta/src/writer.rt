@@ -1,5 +1,6 @@
 ghost use Rattle.std.specs.Prelude.{◌≡◌, ℕ, ◌<◌, ◌^◌, ◌++◌, ◌∷◌, [], List, IfOk, OnOk, OnErr};
 ghost use Rattle.lw_reg.specs.declared.slot.Slot.{Slot as Slots};
+ghost use Rattle.lw_delta.specs.Delta.{DeltaContent, IsSpelling};
 ghost use Rattle.lw_delta.specs.Writable.{IsBegun, Follows, last_endpoint};
 ghost use Rattle.lw_delta.specs.Writing.{delta_bytes};
 
@@ -59,7 +60,9 @@ impl Writer {
 
     /// The bytes of the delta. Refused, the writer is given up.
     pub fn end(self) -> Result<Vec<u8>, NoMemory>
-        ensures { (slots : List (List ℕ × Slots)) → IsBegun self slots → IfOk result (λ bytes. bytes.items ≡ delta_bytes self.clock slots) }
+        ensures written { (slots : List (List ℕ × Slots)) → IsBegun self slots → IfOk result (λ bytes. bytes.items ≡ delta_bytes self.clock slots) }
+        // They are a delta of the clock and of the slots that were written.
+        ensures spelled { (slots : List (List ℕ × Slots)) → IsBegun self slots → IfOk result (λ bytes. IsSpelling bytes.items (record { clock = self.clock; slots = slots })) }
     {
         let mut bytes = self.bytes;
         bytes.push(0)?;

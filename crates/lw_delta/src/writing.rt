@@ -1,9 +1,12 @@
 //! The bytes of a slot.
 
-ghost use Rattle.std.specs.Prelude.{◌≡◌, ◌<◌, ◌≤◌, ◌++◌, ◌^◌, ◌∷◌, [], length, IfOk, OnOk, is_some};
+ghost use Rattle.std.specs.Prelude.{◌≡◌, ◌<◌, ◌≤◌, ◌++◌, ◌^◌, ◌∷◌, [], length, IfOk, OnOk, is_some, ℕ, List, Option, IfSome};
 ghost use Rattle.lw_reg.specs.Reading.{sms_of, objects_of};
 ghost use Rattle.std.specs.Option.{option_copied, option_map};
 ghost use Rattle.lw_stamp.specs.Stamp.{stamp_bytes};
+ghost use Rattle.lw_stamp.specs.declared.stamp.Stamp.{Stamp as Stamps};
+ghost use Rattle.lw_reg.specs.Addr.{IsAddr};
+ghost use Rattle.lw_delta.specs.Writable.{IsOwnText, IsOwnObjects, FieldsTyped, AcceptTyped, AcceptsTyped, IsTyped};
 ghost use Rattle.lw_delta.specs.Writing.{number48_bytes, number16_bytes, number32_bytes, base_byte, base_bytes, addr_bytes, moment_bytes, text_bytes, binding_bytes, sms_bytes, objects_bytes, written_bytes, optional_bytes, numbers_bytes, path_bytes, accept_bytes, watch_bytes, watches_bytes, flag_if, field_flags, flags_byte, fields_bytes, slot_bytes};
 
 use crate::fields::{ADDRESS, BASE, BINDING, LIFETIME, OBJECTS, SEEN, SMS};
@@ -33,7 +36,8 @@ fn put_number16(out: &mut Vec<u8>, number: u16) -> Result<(), NoMemory>
 /// A length of one byte, and the text.
 fn put_text(out: &mut Vec<u8>, text: &str) -> Result<(), NoMemory>
     requires { length text.now ≤ 255 }
-    ensures { OnOk result (out.new.items ≡ out.old.items ++ text_bytes text.now) }
+    ensures written { OnOk result (out.new.items ≡ out.old.items ++ text_bytes text.now) }
+    ensures own { IsOwnText text.now }
 {
     out.push(text.len() as u8)?;
     out.extend_from_slice(text.as_bytes())?;
@@ -68,7 +72,8 @@ fn put_stamp(out: &mut Vec<u8>, stamp: Stamp) -> Result<(), NoMemory>
 }
 
 fn put_addr(out: &mut Vec<u8>, addr: Addr) -> Result<(), NoMemory>
-    ensures { OnOk result (out.new.items ≡ out.old.items ++ addr_bytes addr) }
+    ensures written { OnOk result (out.new.items ≡ out.old.items ++ addr_bytes addr) }
+    ensures typed { IsAddr addr }
 {
     match addr {
         Addr::V4 { address, port } => {
@@ -85,7 +90,8 @@ fn put_addr(out: &mut Vec<u8>, addr: Addr) -> Result<(), NoMemory>
 }
 
 fn put_address(out: &mut Vec<u8>, write: Option<(Stamp, Addr)>) -> Result<(), NoMemory>
-    ensures { OnOk result (out.new.items ≡ out.old.items ++ written_bytes addr_bytes write) }
+    ensures written { OnOk result (out.new.items ≡ out.old.items ++ written_bytes addr_bytes write) }
+    ensures typed { OnOk result (IfSome write (λ w. IsAddr w.1)) }
 {
     if let Some((stamp, addr)) = write {
         put_stamp(out, stamp)?;
@@ -105,7 +111,8 @@ fn put_seen(out: &mut Vec<u8>, write: Option<(Stamp, Moment)>) -> Result<(), NoM
 }
 
 fn put_lifetime(out: &mut Vec<u8>, write: Option<(Stamp, u32)>) -> Result<(), NoMemory>
-    ensures { OnOk result (out.new.items ≡ out.old.items ++ written_bytes number32_bytes write) }
+    ensures written { OnOk result (out.new.items ≡ out.old.items ++ written_bytes number32_bytes write) }
+    ensures typed { OnOk result (IfSome write (λ w. w.1 < 2 ^ 32)) }
 {
     if let Some((stamp, seconds)) = write {
         put_stamp(out, stamp)?;
@@ -125,7 +132,8 @@ fn put_binding(out: &mut Vec<u8>, write: Option<(Stamp, Binding)>) -> Result<(),
 }
 
 fn put_number(out: &mut Vec<u8>, number: Option<&SmsNumber>) -> Result<(), NoMemory>
-    ensures { OnOk result (out.new.items ≡ out.old.items ++ sms_bytes (option_copied number.entry)) }
+    ensures written { OnOk result (out.new.items ≡ out.old.items ++ sms_bytes (option_copied number.entry)) }
+    ensures typed { OnOk result (IfSome (option_copied number.entry) (λ text. IsOwnText text × (length text ≤ 251))) }
 {
     match number {
         None => {
@@ -140,7 +148,8 @@ fn put_number(out: &mut Vec<u8>, number: Option<&SmsNumber>) -> Result<(), NoMem
 }
 
 fn put_sms(out: &mut Vec<u8>, write: Option<(Stamp, Option<&SmsNumber>)>) -> Result<(), NoMemory>
-    ensures { OnOk result (out.new.items ≡ out.old.items ++ written_bytes sms_bytes (option_map (λ w. (w.0, option_copied w.1)) write.entry)) }
+    ensures written { OnOk result (out.new.items ≡ out.old.items ++ written_bytes sms_bytes (option_map (λ w. (w.0, option_copied w.1)) write.entry)) }
+    ensures typed { OnOk result (IfSome {T = Stamps × Option (List ℕ)} (option_map (λ w. (w.0, option_copied w.1)) write.entry) (λ w. IfSome w.1 (λ text. IsOwnText text × (length text ≤ 251)))) }
 {
     if let Some((stamp, number)) = write {
         put_stamp(out, stamp)?;
@@ -150,7 +159,8 @@ fn put_sms(out: &mut Vec<u8>, write: Option<(Stamp, Option<&SmsNumber>)>) -> Res
 }
 
 fn put_objects(out: &mut Vec<u8>, write: Option<(Stamp, &LinkText)>) -> Result<(), NoMemory>
-    ensures { OnOk result (out.new.items ≡ out.old.items ++ written_bytes objects_bytes (option_map (λ w. (w.0, w.1.now)) write.entry)) }
+    ensures written { OnOk result (out.new.items ≡ out.old.items ++ written_bytes objects_bytes (option_map (λ w. (w.0, w.1.now)) write.entry)) }
+    ensures typed { OnOk result (IfSome {T = Stamps × List ℕ} (option_map (λ w. (w.0, w.1.now)) write.entry) (λ w. IsOwnObjects w.1)) }
 {
     if let Some((stamp, objects)) = write {
         let text = objects.as_str();
@@ -162,7 +172,8 @@ fn put_objects(out: &mut Vec<u8>, write: Option<(Stamp, &LinkText)>) -> Result<(
 }
 
 fn put_fields(out: &mut Vec<u8>, slot: &Slot) -> Result<(), NoMemory>
-    ensures { OnOk result (out.new.items ≡ out.old.items ++ fields_bytes slot.now) }
+    ensures written { OnOk result (out.new.items ≡ out.old.items ++ fields_bytes slot.now) }
+    ensures typed { OnOk result (FieldsTyped slot.now) }
 {
     put_base(out, slot.base())?;
     put_address(out, slot.address())?;
@@ -191,7 +202,8 @@ fn put_path(out: &mut Vec<u8>, path: &Path) -> Result<(), NoMemory>
 }
 
 fn put_format(out: &mut Vec<u8>, format: Option<u16>) -> Result<(), NoMemory>
-    ensures { OnOk result (out.new.items ≡ out.old.items ++ optional_bytes number16_bytes format) }
+    ensures written { OnOk result (out.new.items ≡ out.old.items ++ optional_bytes number16_bytes format) }
+    ensures typed { OnOk result (IfSome format (λ n. n < 2 ^ 16)) }
 {
     match format {
         None => {
@@ -207,7 +219,8 @@ fn put_format(out: &mut Vec<u8>, format: Option<u16>) -> Result<(), NoMemory>
 
 /// Of a cancelled watch the flag alone.
 fn put_accept(out: &mut Vec<u8>, accept: &OrGone<Accept>) -> Result<(), NoMemory>
-    ensures { OnOk result (out.new.items ≡ out.old.items ++ accept_bytes accept.now) }
+    ensures written { OnOk result (out.new.items ≡ out.old.items ++ accept_bytes accept.now) }
+    ensures typed { OnOk result (AcceptTyped accept.now) }
 {
     match accept {
         OrGone::Gone => {
@@ -222,7 +235,8 @@ fn put_accept(out: &mut Vec<u8>, accept: &OrGone<Accept>) -> Result<(), NoMemory
 }
 
 fn put_watch(out: &mut Vec<u8>, entry: &(Path, Watching)) -> Result<(), NoMemory>
-    ensures { OnOk result (out.new.items ≡ out.old.items ++ watch_bytes entry.now) }
+    ensures written { OnOk result (out.new.items ≡ out.old.items ++ watch_bytes entry.now) }
+    ensures typed { OnOk result (AcceptTyped entry.now.1.value) }
 {
     let (path, watching) = entry;
     put_path(out, path)?;
@@ -231,7 +245,8 @@ fn put_watch(out: &mut Vec<u8>, entry: &(Path, Watching)) -> Result<(), NoMemory
 }
 
 fn put_watches(out: &mut Vec<u8>, entries: &[(Path, Watching)]) -> Result<(), NoMemory>
-    ensures { OnOk result (out.new.items ≡ out.old.items ++ watches_bytes entries.now) }
+    ensures written { OnOk result (out.new.items ≡ out.old.items ++ watches_bytes entries.now) }
+    ensures typed { OnOk result (AcceptsTyped entries.now) }
 {
     for entry in entries {
         out.push(1)?;
@@ -286,7 +301,8 @@ fn flags_byte(slot: &Slot) -> u8
 /// A slot behind its 01.
 pub(crate) fn slot_bytes(alloc: Global, endpoint: &str, slot: &Slot) -> Result<Vec<u8>, NoMemory>
     requires { length endpoint.now ≤ 255 }
-    ensures { IfOk result (λ bytes. bytes.items ≡ 1 ∷ slot_bytes (endpoint.now, slot.now)) }
+    ensures written { IfOk result (λ bytes. bytes.items ≡ 1 ∷ slot_bytes (endpoint.now, slot.now)) }
+    ensures typed { IfOk result (λ bytes. IsTyped slot.now × IsOwnText endpoint.now) }
 {
     let mut out = Vec::new(alloc);
     out.push(1)?;

@@ -1,0 +1,25 @@
+//! Laws of the delta format, each the contract of a function that does nothing.
+
+ghost use Rattle.std.specs.Prelude.{◌≡◌, ℕ, ◌<◌, ◌^◌, List, None};
+ghost use Rattle.lw_reg.specs.declared.slot.Slot.{Slot as Slots};
+ghost use Rattle.lw_delta.specs.declared.fault.DeltaFault.{DeltaFault as Faults};
+ghost use Rattle.lw_delta.specs.Delta.{DeltaContent, IsSpelling, IsFault};
+ghost use Rattle.lw_delta.specs.Writable.{AllFollow, AreGood};
+ghost use Rattle.lw_delta.specs.Writing.{delta_bytes};
+
+/// What is written reads as its clock and slots, so no two deltas are written alike.
+pub fn written_deltas_read_back()
+    ensures { (clock : ℕ) (slots : List (List ℕ × Slots)) → clock < 2 ^ 48 → AreGood clock None slots → IsSpelling (delta_bytes clock slots) (record { clock = clock; slots = slots }) }
+{}
+
+/// Bytes are one delta or have one first fault, never both.
+pub fn bytes_are_a_delta_or_a_fault()
+    ensures delta { (bytes : List ℕ) (a b : DeltaContent) → IsSpelling bytes a → IsSpelling bytes b → a ≡ b }
+    ensures apart { (bytes : List ℕ) (d : DeltaContent) (fault : Faults) → IsSpelling bytes d → IsFault bytes fault → ⊥ }
+    ensures fault { (bytes : List ℕ) (a b : Faults) → IsFault bytes a → IsFault bytes b → a ≡ b }
+{}
+
+/// The slots of a delta can be written again, one after another.
+pub fn deltas_can_be_written()
+    ensures { (bytes : List ℕ) (d : DeltaContent) → IsSpelling bytes d → (d.clock < 2 ^ 48) × AllFollow d.clock None d.slots }
+{}
