@@ -73,7 +73,7 @@ fields_within clock flags bytes k rest f =
       objects = when_each _ _ (written_within clock _) _ n.1 o.0 o.1 o.2;
     })
 
-token_is : (token : Stamp) (gone : Bool) (accept : Option (Option ℕ)) → (watching_from token gone accept).stamp ≡ token
+pub token_is : (token : Stamp) (gone : Bool) (accept : Option (Option ℕ)) → (watching_from token gone accept).stamp ≡ token
 token_is token true accept = refl
 token_is token false accept = refl
 

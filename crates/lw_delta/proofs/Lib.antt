@@ -13,7 +13,10 @@ pub mod Flags
 pub mod Written
 pub mod Fitting
 pub mod FlagBits
+pub mod FlagSums
 pub mod Prints
 pub mod PrintsSlots
 pub mod PrintsDelta
 pub mod BegunLemmas
+pub mod Spellings
+pub mod Shortest

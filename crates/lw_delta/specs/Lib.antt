@@ -5,4 +5,5 @@ pub mod Format
 pub mod Delta
 pub mod Lent
 pub mod Writing
+pub mod Removals
 pub mod Writable

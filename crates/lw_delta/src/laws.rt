@@ -1,9 +1,10 @@
 //! Laws of the delta format, each the contract of a function that does nothing.
 
-ghost use Rattle.std.specs.Prelude.{◌≡◌, ℕ, ◌<◌, ◌^◌, List, None};
+ghost use Rattle.std.specs.Prelude.{◌≡◌, ℕ, ◌<◌, ◌^◌, ◌⊎◌, List, length, None};
 ghost use Rattle.lw_reg.specs.declared.slot.Slot.{Slot as Slots};
 ghost use Rattle.lw_delta.specs.declared.fault.DeltaFault.{DeltaFault as Faults};
 ghost use Rattle.lw_delta.specs.Delta.{DeltaContent, IsSpelling, IsFault};
+ghost use Rattle.lw_delta.specs.Removals.{HaveRemoval};
 ghost use Rattle.lw_delta.specs.Writable.{AllFollow, AreGood};
 ghost use Rattle.lw_delta.specs.Writing.{delta_bytes};
 
@@ -22,4 +23,11 @@ pub fn bytes_are_a_delta_or_a_fault()
 /// The slots of a delta can be written again, one after another.
 pub fn deltas_can_be_written()
     ensures { (bytes : List ℕ) (d : DeltaContent) → IsSpelling bytes d → (d.clock < 2 ^ 48) × AllFollow d.clock None d.slots }
+{}
+
+/// A delta has one shortest spelling, the one that is written: any other is a fuller spelling of what is
+/// removed or cancelled, and longer.
+pub fn written_deltas_are_shortest()
+    ensures shortest { (bytes : List ℕ) (d : DeltaContent) → IsSpelling bytes d → (bytes ≡ delta_bytes d.clock d.slots) ⊎ (length (delta_bytes d.clock d.slots) < length bytes) }
+    ensures alone { (bytes : List ℕ) (d : DeltaContent) → IsSpelling bytes d → (HaveRemoval d.slots → ⊥) → bytes ≡ delta_bytes d.clock d.slots }
 {}

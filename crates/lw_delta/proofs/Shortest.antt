@@ -1,0 +1,318 @@
+-- A delta is spelled as it is written, or longer, and longer only where something of it is gone.
+use Rattle.std.proofs.Common.{◌≡◌, ℕ, zero, suc, ◌+◌, ◌<◌, ◌≤◌, ◌⊎◌, Bool, true, false, List, [], ◌∷◌, ◌++◌, length, Option, Some, None, is_some, refl, sym, ap, ◌∙◌, subst, arith, inl, inr, append_assoc}
+use Rattle.std.specs.Prelude.{codes}
+use Rattle.std.proofs.lemmas.List.{length-append}
+use mathlib.Core.Bool.{true≢false}
+use Rattle.lw_stamp.specs.declared.stamp.Stamp.{Stamp}
+use Rattle.lw_stamp.specs.Stamp.{stamp_bytes}
+use Rattle.lw_join.specs.declared.or_gone.OrGone.TheVariants.{Gone}
+use Rattle.lw_join.specs.PartsLaws.{entries_made}
+use Rattle.lw_reg.specs.declared.base.Base.{Base}
+use Rattle.lw_reg.specs.declared.path.Path.{Path}
+use Rattle.lw_reg.specs.declared.slot.Slot.{Slot}
+use Rattle.lw_reg.specs.Body.{Watching}
+use Rattle.lw_reg.specs.Reading.{watches_of}
+use Rattle.lw_delta.specs.Part.{Found, byte, bytes_of, means, must, followed, when, optional, Walks, repeated}
+use Rattle.lw_delta.specs.Format.{number16, base, watch, watches, fields, slot, header}
+use Rattle.lw_delta.specs.Values.{is_set, FieldContent, slot_from, watching_from}
+use Rattle.lw_delta.specs.Delta.{DeltaContent, IsSpelling}
+use Rattle.lw_delta.specs.Removals.{HasCancelled, HasRemoval, HaveRemoval}
+use Rattle.lw_delta.specs.Writing.{number16_bytes, number32_bytes, number48_bytes, optional_bytes, written_bytes, base_bytes, addr_bytes, moment_bytes, text_bytes, binding_bytes, sms_bytes, objects_bytes, path_bytes, accept_bytes, watch_bytes, watches_bytes, flag_if, flags_byte, fields_bytes, slot_bytes, slots_bytes, begun_bytes, delta_bytes}
+use Rattle.lw_delta.proofs.Decided.{optional_takes}
+use Rattle.lw_delta.proofs.FlagBits.{sum7}
+use Rattle.lw_delta.proofs.FlagSums.{sum_again}
+use Rattle.lw_delta.proofs.Fitting.{token_is}
+use Rattle.lw_delta.proofs.Grammar.{number16_decided}
+use Rattle.lw_delta.proofs.Owning.{watches_rise}
+use Rattle.lw_delta.proofs.Spellings.{Spells, chain, ending, some_spelled, none_spelled, spells_when, spells_when_written, spells_optional, spells_number16, spells_number32, spells_number48, spells_stamp, spells_base, spells_address, spells_moment, spells_binding, spells_sms, spells_objects, spells_path, spells_endpoint}
+
+-- these bytes and the rest, or more where something is gone
+abbrev Spelled : Type 0 → List ℕ → List ℕ → List ℕ → Type 0
+Spelled gone front bytes rest = (bytes ≡ front ++ rest) ⊎ (gone × (length (front ++ rest) < length bytes))
+
+at_front : (a b rest : List ℕ) → length ((a ++ b) ++ rest) ≡ length a + length (b ++ rest)
+at_front a b rest = ap length (append_assoc a b rest) ∙ length-append a (b ++ rest)
+
+behind_front : {gone : Type 0} (bytes behind rest a b : List ℕ) → bytes ≡ a ++ behind → Spelled gone b behind rest → Spelled gone (a ++ b) bytes rest
+behind_front bytes behind rest a b e (inl f) = inl (chain rest a b e f)
+behind_front bytes behind rest a b e (inr l) = inr (l.0, omega (arith, ap length e ∙ length-append a behind, at_front a b rest, l.1))
+
+both_spelled : {left right gone : Type 0} (bytes behind rest a b : List ℕ) → (left → gone) → (right → gone) → Spelled left a bytes behind → Spelled right b behind rest → Spelled gone (a ++ b) bytes rest
+both_spelled bytes behind rest a b f g (inl e) (inl h) = inl (chain rest a b e h)
+both_spelled bytes behind rest a b f g (inl e) (inr l) = inr (g l.0, omega (arith, ap length e ∙ length-append a behind, at_front a b rest, l.1))
+both_spelled bytes behind rest a b f g (inr k) (inl h) = inr (f k.0, omega (arith, k.1, length-append a behind, at_front a b rest, ap length h))
+both_spelled bytes behind rest a b f g (inr k) (inr l) = inr (f k.0, omega (arith, k.1, length-append a behind, at_front a b rest, l.1))
+
+-- ---- watches
+abbrev IsGone : Watching → Type 0
+IsGone watching = watching.value ≡ Gone
+
+-- the accept of a cancelled watch is read, and not written
+spelled_accept : (token : Stamp) (flags : ℕ) (bytes : List ℕ) (accept : Option (Option ℕ)) (rest : List ℕ) → (1 ≤ flags) × (flags ≤ 3) → Found (when (is_set flags 1) (optional number16)) bytes accept rest
+    → Spelled (IsGone (watching_from token (is_set flags 2) accept)) (accept_bytes (watching_from token (is_set flags 2) accept).value) (flags ∷ bytes) rest
+unfolding followed means
+spelled_accept token zero bytes accept rest range f = absurd (omega (arith, range.0))
+spelled_accept token (suc zero) bytes accept rest range f =
+    let last = f.is.3.is in
+    let e : bytes ≡ optional_bytes number16_bytes f.is.0 ++ rest = ending (optional_bytes number16_bytes f.is.0) (spells_optional number16 number16_bytes spells_number16 bytes f.is.0 f.is.1 f.is.2) last.0 in
+    subst (λ a. Spelled (IsGone (watching_from token false a)) (accept_bytes (watching_from token false a).value) (1 ∷ bytes) rest) (sym last.1) (inl (ap (λ (x : List ℕ). 1 ∷ x) e))
+spelled_accept token (suc (suc zero)) bytes accept rest range f = inl (ap (λ (x : List ℕ). 2 ∷ x) f.is.0)
+spelled_accept token (suc (suc (suc zero))) bytes accept rest range f =
+    let last = f.is.3.is in
+    inr (refl, omega (arith, optional_takes number16_decided bytes f.is.0 f.is.1 f.is.2, ap length last.0))
+spelled_accept token (suc (suc (suc (suc n)))) bytes accept rest range f = absurd (omega (arith, range.1))
+
+spelled_watch : (clock : ℕ) (after : Option Path) (bytes : List ℕ) (w : Path × Watching) (rest : List ℕ) → Found (watch clock after) bytes w rest → Spelled (IsGone w.1) (watch_bytes w) bytes rest
+unfolding followed must means byte
+spelled_watch clock after bytes w rest f =
+    let t = f.is.3.is in
+    let flags = t.3.is in
+    let m = flags.3.is in
+    let a = m.1.is in
+    let last = a.3.is in
+    let watching = watching_from t.0 (is_set flags.0 2) a.0 in
+    let said : Found (when (is_set flags.0 1) (optional number16)) flags.1 a.0 rest = subst (λ (x : List ℕ). Found (when (is_set flags.0 1) (optional number16)) flags.1 a.0 x) last.0 a.2 in
+    let value : Spelled (IsGone watching) (accept_bytes watching.value) t.1 rest =
+    subst (λ (x : List ℕ). Spelled (IsGone watching) (accept_bytes watching.value) x rest) (sym flags.2.is.0) (spelled_accept t.0 flags.0 flags.1 a.0 rest m.0 said) in
+    let stamped : f.is.1 ≡ stamp_bytes watching.stamp ++ t.1 = spells_stamp clock f.is.1 t.0 t.1 t.2 ∙ ap (λ (s : Stamp). stamp_bytes s ++ t.1) (sym (token_is t.0 (is_set flags.0 2) a.0)) in
+    let token = behind_front f.is.1 t.1 rest (stamp_bytes watching.stamp) (accept_bytes watching.value) stamped value in
+    let whole = behind_front bytes f.is.1 rest (path_bytes f.is.0) (stamp_bytes watching.stamp ++ accept_bytes watching.value) (spells_path after bytes f.is.0 f.is.1 f.is.2) token in
+    subst (λ (x : Path × Watching). Spelled (IsGone x.1) (watch_bytes x) bytes rest) (sym last.1) whole
+
+spelled_watches_walk : (clock : ℕ) (after : Option Path) (bytes : List ℕ) (ws : List (Path × Watching)) (behind rest : List ℕ) → Walks (watch clock) (λ w. w.0) after bytes ws behind → behind ≡ 0 ∷ rest
+    → Spelled (HasCancelled ws) (watches_bytes ws) bytes rest
+spelled_watches_walk clock after bytes [] behind rest w e = inl (w ∙ e)
+spelled_watches_walk clock after bytes (x ∷ xs) behind rest w e =
+    let s = some_spelled (watch clock after) bytes x w.0 w.1 in
+    let more = spelled_watches_walk clock (Some x.0) w.0 xs behind rest w.2 e in
+    behind_front bytes s.behind rest (1 ∷ []) (watch_bytes x ++ watches_bytes xs) s.tagged
+    (both_spelled s.behind w.0 rest (watch_bytes x) (watches_bytes xs) (λ g. inl g) (λ g. inr g) (spelled_watch clock after s.behind x w.0 s.found) more)
+
+spelled_watches : (clock : ℕ) (bytes : List ℕ) (ws : List (Path × Watching)) (rest : List ℕ) → Found (watches clock) bytes ws rest → Spelled (HasCancelled ws) (watches_bytes ws) bytes rest
+unfolding repeated
+spelled_watches clock bytes ws rest f = spelled_watches_walk clock None bytes ws f.is.0 rest f.is.1 (none_spelled _ f.is.0 rest f.is.2)
+
+-- the end of the watches alone is one byte, and any watch takes more
+one_or_more : (clock : ℕ) (bytes : List ℕ) (ws : List (Path × Watching)) (rest : List ℕ) → Spelled (HasCancelled ws) (watches_bytes ws) bytes rest → (bytes ≡ 0 ∷ rest) ⊎ (suc (length rest) < length bytes)
+one_or_more clock bytes [] rest (inl e) = inl e
+one_or_more clock bytes [] rest (inr l) = absurd l.0
+one_or_more clock bytes (x ∷ xs) rest (inl e) = inr (omega (arith, ap length e, longer x xs rest))
+  where
+    longer : (y : Path × Watching) (ys : List (Path × Watching)) (r : List ℕ) → suc (length r) < length (watches_bytes (y ∷ ys) ++ r)
+    longer y ys r = omega (arith, length-append (watches_bytes (y ∷ ys)) r, length-append (watch_bytes y) (watches_bytes ys), ends ys)
+      where
+        ends : (zs : List (Path × Watching)) → 1 ≤ length (watches_bytes zs)
+        ends [] = omega arith
+        ends (z ∷ zs) = omega arith
+one_or_more clock bytes (x ∷ xs) rest (inr l) = inr (omega (arith, l.1, length-append (watches_bytes (x ∷ xs)) rest))
+
+-- ---- fields
+-- the bytes of what the fields keep
+abbrev content_bytes : FieldContent → List ℕ
+content_bytes k =
+    base_bytes k.base ++ (written_bytes addr_bytes k.address ++ (written_bytes moment_bytes k.seen ++ (written_bytes number32_bytes k.lifetime
+    ++ (written_bytes binding_bytes k.binding ++ (written_bytes sms_bytes k.sms ++ written_bytes objects_bytes k.objects)))))
+
+-- the flags tell which fields are there
+record Told (flags : ℕ) (k : FieldContent) : Type 0 where
+  pub base : is_some k.base ≡ is_set flags 1
+  pub address : is_some k.address ≡ is_set flags 2
+  pub seen : is_some k.seen ≡ is_set flags 4
+  pub lifetime : is_some k.lifetime ≡ is_set flags 8
+  pub binding : is_some k.binding ≡ is_set flags 16
+  pub sms : is_some k.sms ≡ is_set flags 32
+  pub objects : is_some k.objects ≡ is_set flags 64
+
+record ContentSpelled (flags : ℕ) (bytes : List ℕ) (k : FieldContent) (rest : List ℕ) : Type 0 where
+  pub spelled : bytes ≡ content_bytes k ++ rest
+  pub told : Told flags k
+
+spelled_fields : (clock flags : ℕ) (bytes : List ℕ) (k : FieldContent) (rest : List ℕ) → Found (fields clock flags) bytes k rest → ContentSpelled flags bytes k rest
+unfolding followed means
+spelled_fields clock flags bytes k rest f =
+    let a = f.is.3.is in
+    let s = a.3.is in
+    let l = s.3.is in
+    let b = l.3.is in
+    let n = b.3.is in
+    let o = n.3.is in
+    let last = o.3.is in
+    let e1 = spells_when base base_bytes refl spells_base _ bytes f.is.0 f.is.1 f.is.2 in
+    let e2 = spells_when_written clock _ addr_bytes spells_address _ f.is.1 a.0 a.1 a.2 in
+    let e3 = spells_when_written clock _ moment_bytes spells_moment _ a.1 s.0 s.1 s.2 in
+    let e4 = spells_when_written clock _ number32_bytes spells_number32 _ s.1 l.0 l.1 l.2 in
+    let e5 = spells_when_written clock _ binding_bytes spells_binding _ l.1 b.0 b.1 b.2 in
+    let e6 = spells_when_written clock _ sms_bytes (spells_optional _ text_bytes spells_sms) _ b.1 n.0 n.1 n.2 in
+    let e7 = spells_when_written clock _ objects_bytes spells_objects _ n.1 o.0 o.1 o.2 in
+    let w7 = written_bytes objects_bytes o.0 in
+    let w6 = written_bytes sms_bytes n.0 ++ w7 in
+    let w5 = written_bytes binding_bytes b.0 ++ w6 in
+    let w4 = written_bytes number32_bytes l.0 ++ w5 in
+    let w3 = written_bytes moment_bytes s.0 ++ w4 in
+    let w2 = written_bytes addr_bytes a.0 ++ w3 in
+    subst (λ x. ContentSpelled flags bytes x rest) (sym last.1) (record {
+      spelled = chain rest (base_bytes f.is.0) w2 e1.spelled (chain rest (written_bytes addr_bytes a.0) w3 e2.spelled (chain rest (written_bytes moment_bytes s.0) w4 e3.spelled
+          (chain rest (written_bytes number32_bytes l.0) w5 e4.spelled (chain rest (written_bytes binding_bytes b.0) w6 e5.spelled (chain rest (written_bytes sms_bytes n.0) w7 e6.spelled (ending w7 e7.spelled last.0))))));
+      told = record { base = e1.told; address = e2.told; seen = e3.told; lifetime = e4.told; binding = e5.told; sms = e6.told; objects = e7.told };
+    })
+
+-- no field is there, or the fields take bytes
+none_or_some : {A : Type 0} (write : Option A → List ℕ) → ((x : A) → 1 ≤ length (write (Some x))) → (o : Option A) → (is_some o ≡ false) ⊎ (1 ≤ length (write o))
+none_or_some write some None = inl refl
+none_or_some write some (Some x) = inr (some x)
+
+base_some : (o : Option Base) → (is_some o ≡ false) ⊎ (1 ≤ length (base_bytes o))
+base_some o = none_or_some base_bytes (λ x. omega arith) o
+
+written_some : {A : Type 0} (write : A → List ℕ) (o : Option (Stamp × A)) → (is_some o ≡ false) ⊎ (1 ≤ length (written_bytes write o))
+written_some write o = none_or_some (written_bytes write) (λ x. omega arith) o
+
+either : {P Q : Type 0} (n : ℕ) → P ⊎ (1 ≤ n) → (m : ℕ) → Q ⊎ (1 ≤ m) → (P × Q) ⊎ (1 ≤ n + m)
+either n (inl p) m (inl q) = inl (p, q)
+either n (inl p) m (inr q) = inr (omega (arith, q))
+either n (inr p) m (inl q) = inr (omega (arith, p))
+either n (inr p) m (inr q) = inr (omega (arith, p))
+
+joined_some : {P Q : Type 0} (a b : List ℕ) → P ⊎ (1 ≤ length a) → Q ⊎ (1 ≤ length b) → (P × Q) ⊎ (1 ≤ length (a ++ b))
+joined_some {P} {Q} a b f g = subst (λ (n : ℕ). (P × Q) ⊎ (1 ≤ n)) (sym (length-append a b)) (either (length a) f (length b) g)
+
+record NoFields (k : FieldContent) : Type 0 where
+  pub base : is_some k.base ≡ false
+  pub address : is_some k.address ≡ false
+  pub seen : is_some k.seen ≡ false
+  pub lifetime : is_some k.lifetime ≡ false
+  pub binding : is_some k.binding ≡ false
+  pub sms : is_some k.sms ≡ false
+  pub objects : is_some k.objects ≡ false
+
+fields_some : (k : FieldContent) → NoFields k ⊎ (1 ≤ length (content_bytes k))
+fields_some k =
+    told (joined_some (base_bytes k.base) _ (base_some k.base) (joined_some (written_bytes addr_bytes k.address) _ (written_some addr_bytes k.address) (joined_some (written_bytes moment_bytes k.seen) _ (written_some moment_bytes k.seen)
+    (joined_some (written_bytes number32_bytes k.lifetime) _ (written_some number32_bytes k.lifetime) (joined_some (written_bytes binding_bytes k.binding) _ (written_some binding_bytes k.binding)
+    (joined_some (written_bytes sms_bytes k.sms) (written_bytes objects_bytes k.objects) (written_some sms_bytes k.sms) (written_some objects_bytes k.objects)))))))
+  where
+    told : ((is_some k.base ≡ false) × ((is_some k.address ≡ false) × ((is_some k.seen ≡ false) × ((is_some k.lifetime ≡ false) × ((is_some k.binding ≡ false) × ((is_some k.sms ≡ false) × (is_some k.objects ≡ false))))))) ⊎ (1 ≤ length (content_bytes k))
+        → NoFields k ⊎ (1 ≤ length (content_bytes k))
+    told (inl h) = inl (record { base = h.0; address = h.1.0; seen = h.1.1.0; lifetime = h.1.1.1.0; binding = h.1.1.1.1.0; sms = h.1.1.1.1.1.0; objects = h.1.1.1.1.1.1 })
+    told (inr h) = inr h
+
+-- the bytes of fields that are not there are none
+none_bytes : {A : Type 0} (write : Option A → List ℕ) → write None ≡ [] → (o : Option A) → is_some o ≡ false → write o ≡ []
+none_bytes write none None h = none
+none_bytes write none (Some x) h = absurd (true≢false h)
+
+no_bytes : (k : FieldContent) → NoFields k → content_bytes k ≡ []
+no_bytes k h = rw (
+  none_bytes base_bytes refl k.base h.base,
+  none_bytes (written_bytes addr_bytes) refl k.address h.address,
+  none_bytes (written_bytes moment_bytes) refl k.seen h.seen,
+  none_bytes (written_bytes number32_bytes) refl k.lifetime h.lifetime,
+  none_bytes (written_bytes binding_bytes) refl k.binding h.binding,
+  none_bytes (written_bytes sms_bytes) refl k.sms h.sms,
+  none_bytes (written_bytes objects_bytes) refl k.objects h.objects,
+) refl
+
+-- ---- slots
+-- a flag byte is the flags that it tells
+flags_are : (flags : ℕ) (k : FieldContent) → flags < 256 → Told flags k
+    → flags ≡ sum7 (is_some k.base) (is_some k.address) (is_some k.seen) (is_some k.lifetime) (is_some k.binding) (is_some k.sms) (is_some k.objects) + flag_if 128 (is_set flags 128)
+flags_are flags k fits told = rw (told.base, told.address, told.seen, told.lifetime, told.binding, told.sms, told.objects) (sum_again flags fits)
+
+removed_flags : (flags : ℕ) (k : FieldContent) → flags < 256 → Told flags k → is_set flags 128 ≡ true → NoFields k → flags ≡ 128
+removed_flags flags k fits told gone h =
+    flags_are flags k fits told ∙ ap (λ (b : Bool). sum7 (is_some k.base) (is_some k.address) (is_some k.seen) (is_some k.lifetime) (is_some k.binding) (is_some k.sms) (is_some k.objects) + flag_if 128 b) gone
+    ∙ rw (h.base, h.address, h.seen, h.lifetime, h.binding, h.sms, h.objects) refl
+
+kept_flags : (flags : ℕ) (k : FieldContent) → flags < 256 → Told flags k → is_set flags 128 ≡ false
+    → flags ≡ sum7 (is_some k.base) (is_some k.address) (is_some k.seen) (is_some k.lifetime) (is_some k.binding) (is_some k.sms) (is_some k.objects)
+kept_flags flags k fits told here =
+    let n = sum7 (is_some k.base) (is_some k.address) (is_some k.seen) (is_some k.lifetime) (is_some k.binding) (is_some k.sms) (is_some k.objects) in
+    let e : n + 0 ≡ n = omega arith in
+    flags_are flags k fits told ∙ ap (λ (b : Bool). n + flag_if 128 b) here ∙ e
+
+more_gone : {less more : Type 0} (front bytes rest : List ℕ) → (less → more) → Spelled less front bytes rest → Spelled more front bytes rest
+more_gone front bytes rest f (inl e) = inl e
+more_gone front bytes rest f (inr l) = inr (f l.0, l.1)
+
+-- the flags of a slot and what stands behind them
+abbrev told_bytes : Slot → List ℕ
+told_bytes s = flags_byte s ∷ (fields_bytes s ++ watches_bytes (watches_of s))
+
+-- the fields and the watches of a removed registration are read, and not written
+removed_told : (r : Stamp) (flags : ℕ) (bytes : List ℕ) (k : FieldContent) (behind : List ℕ) (ws : List (Path × Watching)) (rest : List ℕ) → flags < 256 → is_set flags 128 ≡ true → ContentSpelled flags bytes k behind
+    → (behind ≡ 0 ∷ rest) ⊎ (suc (length rest) < length behind) → NoFields k ⊎ (1 ≤ length (content_bytes k)) → Spelled (HasRemoval (slot_from r true k ws)) (told_bytes (slot_from r true k ws)) (flags ∷ bytes) rest
+removed_told r flags bytes k behind ws rest fits gone c (inl e) (inl none) =
+    inl (ap (λ (n : ℕ). n ∷ bytes) (removed_flags flags k fits c.told gone none) ∙ ap (λ (x : List ℕ). 128 ∷ x) (c.spelled ∙ ap (λ (x : List ℕ). x ++ behind) (no_bytes k none) ∙ e))
+removed_told r flags bytes k behind ws rest fits gone c (inl e) (inr some) = inr (inl refl, omega (arith, ap length c.spelled ∙ length-append (content_bytes k) behind, ap length e, some))
+removed_told r flags bytes k behind ws rest fits gone c (inr l) some = inr (inl refl, omega (arith, ap length c.spelled ∙ length-append (content_bytes k) behind, l))
+
+kept_told : (clock : ℕ) (r : Stamp) (flags : ℕ) (bytes : List ℕ) (k : FieldContent) (behind : List ℕ) (ws : List (Path × Watching)) (rest : List ℕ) → flags < 256 → is_set flags 128 ≡ false → ContentSpelled flags bytes k behind
+    → Found (watches clock) behind ws rest → Spelled (HasRemoval (slot_from r false k ws)) (told_bytes (slot_from r false k ws)) (flags ∷ bytes) rest
+kept_told clock r flags bytes k behind ws rest fits here c f =
+    let s = slot_from r false k ws in
+    let w : Spelled (HasCancelled (watches_of s)) (watches_bytes (watches_of s)) behind rest =
+    subst (λ (es : List (Path × Watching)). Spelled (HasCancelled es) (watches_bytes es) behind rest) (sym (entries_made _ _ _ ws (watches_rise clock behind ws rest f))) (spelled_watches clock behind ws rest f) in
+    let content : Spelled (HasCancelled (watches_of s)) (fields_bytes s ++ watches_bytes (watches_of s)) bytes rest = behind_front bytes behind rest (fields_bytes s) (watches_bytes (watches_of s)) c.spelled w in
+    let all : Spelled (HasCancelled (watches_of s)) (told_bytes s) (flags ∷ bytes) rest =
+    behind_front (flags ∷ bytes) bytes rest (flags_byte s ∷ []) (fields_bytes s ++ watches_bytes (watches_of s)) (ap (λ (n : ℕ). n ∷ bytes) (kept_flags flags k fits c.told here)) content in
+    more_gone (told_bytes s) (flags ∷ bytes) rest (λ g. inr g) all
+
+spelled_told : (clock : ℕ) (r : Stamp) (flags : ℕ) (bytes : List ℕ) (k : FieldContent) (behind : List ℕ) (ws : List (Path × Watching)) (rest : List ℕ) (removed : Bool) → flags < 256 → is_set flags 128 ≡ removed → ContentSpelled flags bytes k behind
+    → Found (watches clock) behind ws rest → Spelled (HasRemoval (slot_from r removed k ws)) (told_bytes (slot_from r removed k ws)) (flags ∷ bytes) rest
+spelled_told clock r flags bytes k behind ws rest true fits e c f = removed_told r flags bytes k behind ws rest fits e c (one_or_more clock behind ws rest (spelled_watches clock behind ws rest f)) (fields_some k)
+spelled_told clock r flags bytes k behind ws rest false fits e c f = kept_told clock r flags bytes k behind ws rest fits e c f
+
+spelled_slot : (clock : ℕ) (after : Option (List ℕ)) (bytes : List ℕ) (s : List ℕ × Slot) (rest : List ℕ) → Found (slot clock after) bytes s rest → Spelled (HasRemoval s.1) (slot_bytes s) bytes rest
+unfolding followed means byte
+spelled_slot clock after bytes s rest f =
+    let r = f.is.3.is in
+    let flags = r.3.is in
+    let k = flags.3.is in
+    let ws = k.3.is in
+    let last = ws.3.is in
+    let kept = slot_from r.0 (is_set flags.0 128) k.0 ws.0 in
+    let watched : Found (watches clock) k.1 ws.0 rest = subst (λ (x : List ℕ). Found (watches clock) k.1 ws.0 x) last.0 ws.2 in
+    let told : Spelled (HasRemoval kept) (told_bytes kept) r.1 rest =
+    subst (λ (x : List ℕ). Spelled (HasRemoval kept) (told_bytes kept) x rest) (sym flags.2.is.0)
+    (spelled_told clock r.0 flags.0 flags.1 k.0 k.1 ws.0 rest (is_set flags.0 128) flags.2.is.1 refl (spelled_fields clock flags.0 flags.1 k.0 k.1 k.2) watched) in
+    let stamped = behind_front f.is.1 r.1 rest (stamp_bytes r.0) (told_bytes kept) (spells_stamp clock f.is.1 r.0 r.1 r.2) told in
+    let whole = behind_front bytes f.is.1 rest (text_bytes f.is.0) (stamp_bytes r.0 ++ told_bytes kept) (spells_endpoint after bytes f.is.0 f.is.1 f.is.2) stamped in
+    subst (λ (x : List ℕ × Slot). Spelled (HasRemoval x.1) (slot_bytes x) bytes rest) (sym last.1) whole
+
+spelled_slots : (clock : ℕ) (after : Option (List ℕ)) (bytes : List ℕ) (ss : List (List ℕ × Slot)) (rest : List ℕ) → Walks (slot clock) (λ s. s.0) after bytes ss rest → Spelled (HaveRemoval ss) (slots_bytes ss) bytes rest
+spelled_slots clock after bytes [] rest w = inl w
+spelled_slots clock after bytes (x ∷ xs) rest w =
+    let s = some_spelled (slot clock after) bytes x w.0 w.1 in
+    behind_front bytes s.behind rest (1 ∷ []) (slot_bytes x ++ slots_bytes xs) s.tagged
+    (both_spelled s.behind w.0 rest (slot_bytes x) (slots_bytes xs) (λ g. inl g) (λ g. inr g) (spelled_slot clock after s.behind x w.0 s.found) (spelled_slots clock (Some x.0) w.0 xs rest w.2))
+
+spells_header : Spells header (λ clock. codes "LWD1" ++ number48_bytes clock)
+unfolding followed must bytes_of
+spells_header bytes clock rest f =
+    let m = f.is.3.is in
+    chain rest (codes "LWD1") (number48_bytes clock) (f.is.2.is.0 ∙ ap (λ (x : List ℕ). x ++ f.is.1) m.0) (spells_number48 f.is.1 clock rest m.1)
+
+spelled_delta : (bytes : List ℕ) (d : DeltaContent) → IsSpelling bytes d → Spelled (HaveRemoval d.slots) (begun_bytes d.clock d.slots) bytes (0 ∷ [])
+unfolding followed means repeated
+spelled_delta bytes d f =
+    let ss = f.is.3.is in
+    let last = ss.3.is in
+    let w = ss.2.is in
+    let e : w.0 ≡ 0 ∷ [] = none_spelled _ w.0 ss.1 w.2 ∙ ap (λ (x : List ℕ). 0 ∷ x) last.0 in
+    let walked : Spelled (HaveRemoval ss.0) (slots_bytes ss.0) f.is.1 (0 ∷ []) = spelled_slots f.is.0 None f.is.1 ss.0 (0 ∷ []) (subst (λ (x : List ℕ). Walks (slot f.is.0) (λ s. s.0) None f.is.1 ss.0 x) e w.1) in
+    let whole = behind_front bytes f.is.1 (0 ∷ []) (codes "LWD1" ++ number48_bytes f.is.0) (slots_bytes ss.0) (spells_header bytes f.is.0 f.is.1 f.is.2) walked in
+    subst (λ (p : ℕ × List (List ℕ × Slot)). Spelled (HaveRemoval p.1) (begun_bytes p.0 p.1) bytes (0 ∷ [])) (sym last.1) whole
+
+one_or_longer : {gone : Type 0} (bytes front : List ℕ) → Spelled gone front bytes (0 ∷ []) → (bytes ≡ front ++ 0 ∷ []) ⊎ (length (front ++ 0 ∷ []) < length bytes)
+one_or_longer bytes front (inl e) = inl e
+one_or_longer bytes front (inr l) = inr l.1
+
+only_one : {gone : Type 0} (bytes front : List ℕ) → Spelled gone front bytes (0 ∷ []) → (gone → ⊥) → bytes ≡ front ++ 0 ∷ []
+only_one bytes front (inl e) none = e
+only_one bytes front (inr l) none = absurd (none l.0)
+
+pub written_is_shortest : (bytes : List ℕ) (d : DeltaContent) → IsSpelling bytes d → (bytes ≡ delta_bytes d.clock d.slots) ⊎ (length (delta_bytes d.clock d.slots) < length bytes)
+written_is_shortest bytes d s = one_or_longer bytes (begun_bytes d.clock d.slots) (spelled_delta bytes d s)
+
+pub written_is_alone : (bytes : List ℕ) (d : DeltaContent) → IsSpelling bytes d → (HaveRemoval d.slots → ⊥) → bytes ≡ delta_bytes d.clock d.slots
+written_is_alone bytes d s none = only_one bytes (begun_bytes d.clock d.slots) (spelled_delta bytes d s) none
