@@ -32,7 +32,7 @@ number48_below : Each number48 (λ n. n < 2 ^ 48)
 unfolding followed means bytes_of
 number48_below bytes n rest f = subst (λ (x : ℕ). x < 2 ^ 48) (sym f.is.3.is.1) (six_below f.is.0 f.is.2.is.1 f.is.2.is.2)
 
-header_below : Each header (λ n. n < 2 ^ 48)
+pub header_below : Each header (λ n. n < 2 ^ 48)
 unfolding followed must
 header_below bytes n rest f = number48_below f.is.1 n rest f.is.3.is.1
 
@@ -119,7 +119,7 @@ endpoint_is after bytes e rest f =
     let same = t.3.is.1.is.1 in
     subst (λ x. IsEndpoint after x) (sym same) (record { some = omega (arith, long, count.0.0); most = omega (arith, long, count.0.1); above = t.3.is.0 })
 
-slot_follows : (clock : ℕ) (after : Option (List ℕ)) → Each (slot clock after) (λ s. Follows clock after s)
+pub slot_follows : (clock : ℕ) (after : Option (List ℕ)) → Each (slot clock after) (λ s. Follows clock after s)
 unfolding followed means
 slot_follows clock after bytes s rest f =
     let r = f.is.3.is in

@@ -19,7 +19,7 @@ pub optional_each : {A : Type 0} (part : Part A) (Q : A → Type 0) → Each par
 unfolding followed
 optional_each part Q each bytes o rest f = when_each part Q each f.is.0 f.is.1 o rest f.is.3
 
-written_each : {A : Type 0} (clock : ℕ) (part : Part A) (Q : A → Type 0) → Each part Q → Each (written clock part) (λ w. Q w.1)
+pub written_each : {A : Type 0} (clock : ℕ) (part : Part A) (Q : A → Type 0) → Each part Q → Each (written clock part) (λ w. Q w.1)
 unfolding followed means
 written_each clock part Q each bytes w rest f = subst (λ x. Q x.1) (sym f.is.3.is.3.is.1) (each f.is.1 f.is.3.is.0 f.is.3.is.1 f.is.3.is.2)
 

@@ -18,5 +18,6 @@ pub mod Prints
 pub mod PrintsSlots
 pub mod PrintsDelta
 pub mod BegunLemmas
+pub mod Typed
 pub mod Spellings
 pub mod Shortest

@@ -28,6 +28,7 @@ pub fn deltas_can_be_written()
 /// A delta has one shortest spelling, the one that is written: any other is a fuller spelling of what is
 /// removed or cancelled, and longer.
 pub fn written_deltas_are_shortest()
+    ensures spelling { (bytes : List ℕ) (d : DeltaContent) → IsSpelling bytes d → IsSpelling (delta_bytes d.clock d.slots) d }
     ensures shortest { (bytes : List ℕ) (d : DeltaContent) → IsSpelling bytes d → (bytes ≡ delta_bytes d.clock d.slots) ⊎ (length (delta_bytes d.clock d.slots) < length bytes) }
     ensures alone { (bytes : List ℕ) (d : DeltaContent) → IsSpelling bytes d → (HaveRemoval d.slots → ⊥) → bytes ≡ delta_bytes d.clock d.slots }
 {}

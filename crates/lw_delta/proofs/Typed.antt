@@ -1,0 +1,168 @@
+-- What was read may be written: its values are of their types.
+use Rattle.std.proofs.Common.{◌≡◌, ℕ, ◌==◌, ◌<◌, ◌≤◌, ◌^◌, Bool, true, false, List, [], ◌∷◌, length, slice_index, Option, Some, None, IfSome, sym, subst, arith}
+use Rattle.std.specs.Int.{w16, w32, from_be_bytes}
+use Rattle.lw_stamp.specs.declared.stamp.Stamp.{Stamp}
+use Rattle.lw_join.specs.Parts.{entries_of, made}
+use Rattle.lw_join.specs.PartsLaws.{entries_made}
+use Rattle.lw_reg.specs.declared.addr.Addr.{Addr}
+use Rattle.lw_reg.specs.declared.path.Path.{Path}
+use Rattle.lw_reg.specs.declared.slot.Slot.{Slot}
+use Rattle.lw_reg.specs.Addr.{IsAddr}
+use Rattle.lw_reg.specs.Body.{Watching, Watches}
+use Rattle.lw_delta.specs.Part.{bytes_of, means, must, followed, optional, Walks, repeated}
+use Rattle.lw_delta.specs.Format.{number16, number32, host, address, text, sms_number, objects, watch, watches, endpoint, fields, slot}
+use Rattle.lw_delta.specs.Values.{is_set, FieldContent, slot_from, watching_from}
+use Rattle.lw_delta.specs.Delta.{DeltaContent, IsSpelling}
+use Rattle.lw_delta.specs.Writable.{IsOwnText, AcceptTyped, AcceptsTyped, IsOwnObjects, IsTyped, IsGood, AreGood}
+use Rattle.lw_delta.specs.Writing.{delta_bytes}
+use Rattle.lw_delta.proofs.Fitting.{header_below, slot_follows, some_each}
+use Rattle.lw_delta.proofs.Kept.{Each, when_each, optional_each, written_each}
+use Rattle.lw_delta.proofs.Owning.{watches_rise}
+use Rattle.lw_delta.proofs.PrintsDelta.{delta_reads_back}
+
+-- ---- numbers
+two_below : (b : List ℕ) → length b ≡ 2 → ((i : ℕ) → slice_index b i < 256) → from_be_bytes w16 b < 2 ^ 16
+two_below [] e fits = absurd (omega arith)
+two_below (a ∷ []) e fits = absurd (omega arith)
+two_below (a ∷ b ∷ []) e fits = omega (arith, fits 0, fits 1)
+two_below (a ∷ b ∷ c ∷ rest) e fits = absurd (omega arith)
+
+four_below : (b : List ℕ) → length b ≡ 4 → ((i : ℕ) → slice_index b i < 256) → from_be_bytes w32 b < 2 ^ 32
+four_below [] e fits = absurd (omega arith)
+four_below (a ∷ []) e fits = absurd (omega arith)
+four_below (a ∷ b ∷ []) e fits = absurd (omega arith)
+four_below (a ∷ b ∷ c ∷ []) e fits = absurd (omega arith)
+four_below (a ∷ b ∷ c ∷ d ∷ []) e fits = omega (arith, fits 0, fits 1, fits 2, fits 3)
+four_below (a ∷ b ∷ c ∷ d ∷ f ∷ rest) e fits = absurd (omega arith)
+
+number16_below : Each number16 (λ n. n < 2 ^ 16)
+unfolding followed means bytes_of
+number16_below bytes n rest f = subst (λ (x : ℕ). x < 2 ^ 16) (sym f.is.3.is.1) (two_below f.is.0 f.is.2.is.1 f.is.2.is.2)
+
+number32_below : Each number32 (λ n. n < 2 ^ 32)
+unfolding followed means bytes_of
+number32_below bytes n rest f = subst (λ (x : ℕ). x < 2 ^ 32) (sym f.is.3.is.1) (four_below f.is.0 f.is.2.is.1 f.is.2.is.2)
+
+-- ---- values
+host_typed : (is_v4 : Bool) → Each (host is_v4) IsAddr
+unfolding followed means bytes_of
+host_typed true bytes a rest f =
+    let p = f.is.3.is in
+    subst (λ (x : Addr). IsAddr x) (sym p.3.is.1) (record { whole = f.is.2.is.1; bytes = f.is.2.is.2; port = number16_below f.is.1 p.0 p.1 p.2 })
+host_typed false bytes a rest f =
+    let p = f.is.3.is in
+    subst (λ (x : Addr). IsAddr x) (sym p.3.is.1) (record { whole = f.is.2.is.1; bytes = f.is.2.is.2; port = number16_below f.is.1 p.0 p.1 p.2 })
+
+address_typed : Each address IsAddr
+unfolding followed must
+address_typed bytes a rest f = host_typed (f.is.0 == 4) f.is.1 a rest f.is.3.is.1
+
+text_own : (count : ℕ) → Each (text count) IsOwnText
+unfolding followed must means bytes_of
+text_own count bytes t rest f = subst (λ (x : List ℕ). IsOwnText x) (sym f.is.3.is.1.is.1) (f.is.3.is.0, f.is.2.is.2)
+
+text_long : (count : ℕ) → Each (text count) (λ t. length t ≡ count)
+unfolding followed must means bytes_of
+text_long count bytes t rest f = subst (λ (x : List ℕ). length x ≡ count) (sym f.is.3.is.1.is.1) f.is.2.is.1
+
+sms_own : Each sms_number (λ t. IsOwnText t × (length t ≤ 251))
+unfolding followed must
+sms_own bytes t rest f = (text_own f.is.0 f.is.1 t rest f.is.3.is.1, omega (arith, text_long f.is.0 f.is.1 t rest f.is.3.is.1, f.is.3.is.0))
+
+objects_own : Each objects IsOwnObjects
+unfolding followed must means bytes_of
+objects_own bytes t rest f =
+    let b = f.is.3.is.1.is in
+    let range = f.is.3.is.0 in
+    let last = b.3.is in
+    subst (λ (x : List ℕ). IsOwnObjects x) (sym last.1.is.1) (last.0, b.2.is.2, omega (arith, b.2.is.1, range.0), omega (arith, b.2.is.1, range.1))
+
+endpoint_own : (after : Option (List ℕ)) → Each (endpoint after) IsOwnText
+unfolding followed must means
+endpoint_own after bytes e rest f =
+    let t = f.is.3.is.1.is in
+    subst (λ (x : List ℕ). IsOwnText x) (sym t.3.is.1.is.1) (text_own f.is.0 f.is.1 t.0 t.1 t.2)
+
+-- ---- fields
+record ContentTyped (k : FieldContent) : Type 0 where
+  pub address : IfSome k.address (λ w. IsAddr w.1)
+  pub lifetime : IfSome k.lifetime (λ w. w.1 < 2 ^ 32)
+  pub sms : IfSome k.sms (λ w. IfSome w.1 (λ t. IsOwnText t × (length t ≤ 251)))
+  pub objects : IfSome k.objects (λ w. IsOwnObjects w.1)
+
+fields_typed : (clock flags : ℕ) → Each (fields clock flags) ContentTyped
+unfolding followed means
+fields_typed clock flags bytes k rest f =
+    let a = f.is.3.is in
+    let s = a.3.is in
+    let l = s.3.is in
+    let b = l.3.is in
+    let n = b.3.is in
+    let o = n.3.is in
+    subst (λ x. ContentTyped x) (sym o.3.is.1) (record {
+      address = when_each _ _ (written_each clock _ _ address_typed) _ f.is.1 a.0 a.1 a.2;
+      lifetime = when_each _ _ (written_each clock _ _ number32_below) _ s.1 l.0 l.1 l.2;
+      sms = when_each _ _ (written_each clock _ _ (optional_each _ _ sms_own)) _ b.1 n.0 n.1 n.2;
+      objects = when_each _ _ (written_each clock _ _ objects_own) _ n.1 o.0 o.1 o.2;
+    })
+
+-- ---- watches
+watching_typed : (token : Stamp) (gone : Bool) (accept : Option (Option ℕ)) → IfSome accept (λ o. IfSome o (λ n. n < 2 ^ 16)) → AcceptTyped (watching_from token gone accept).value
+watching_typed token true accept h = tt
+watching_typed token false None h = tt
+watching_typed token false (Some o) h = h
+
+watch_typed : (clock : ℕ) (after : Option Path) → Each (watch clock after) (λ w. AcceptTyped w.1.value)
+unfolding followed must means
+watch_typed clock after bytes w rest f =
+    let t = f.is.3.is in
+    let a = t.3.is.3.is.1.is in
+    let h = when_each (optional number16) _ (optional_each _ _ number16_below) _ t.3.is.1 a.0 a.1 a.2 in
+    subst (λ (x : Path × Watching). AcceptTyped x.1.value) (sym a.3.is.1) (watching_typed t.0 _ a.0 h)
+
+watches_walk_typed : (clock : ℕ) (after : Option Path) (bytes : List ℕ) (ws : List (Path × Watching)) (rest : List ℕ) → Walks (watch clock) (λ w. w.0) after bytes ws rest → AcceptsTyped ws
+watches_walk_typed clock after bytes [] rest w = tt
+watches_walk_typed clock after bytes (x ∷ xs) rest w = (some_each _ _ (watch_typed clock after) bytes x w.0 w.1, watches_walk_typed clock (Some x.0) w.0 xs rest w.2)
+
+watches_typed : (clock : ℕ) → Each (watches clock) AcceptsTyped
+unfolding repeated
+watches_typed clock bytes ws rest f = watches_walk_typed clock None bytes ws f.is.0 f.is.1
+
+-- ---- slots
+kept_typed : (r : Stamp) (removed : Bool) (k : FieldContent) (ws : List (Path × Watching)) → ContentTyped k → AcceptsTyped (entries_of (let m : Watches = made ws in m)) → IsTyped (slot_from r removed k ws)
+kept_typed r true k ws h a = record { fields = record { address = tt; lifetime = tt; sms = tt; objects = tt }; accepts = tt }
+kept_typed r false k ws h a = record { fields = record { address = h.address; lifetime = h.lifetime; sms = h.sms; objects = h.objects }; accepts = a }
+
+slot_typed : (clock : ℕ) (after : Option (List ℕ)) → Each (slot clock after) (λ s. IsTyped s.1 × IsOwnText s.0)
+unfolding followed means
+slot_typed clock after bytes s rest f =
+    let r = f.is.3.is in
+    let flags = r.3.is in
+    let k = flags.3.is in
+    let ws = k.3.is in
+    let accepts = subst (λ es. AcceptsTyped es) (sym (entries_made _ _ _ ws.0 (watches_rise clock k.1 ws.0 ws.1 ws.2))) (watches_typed clock k.1 ws.0 ws.1 ws.2) in
+    subst (λ (x : List ℕ × Slot). IsTyped x.1 × IsOwnText x.0) (sym ws.3.is.1)
+    (kept_typed r.0 (is_set flags.0 128) k.0 ws.0 (fields_typed clock flags.0 flags.1 k.0 k.1 k.2) accepts, endpoint_own after bytes f.is.0 f.is.1 f.is.2)
+
+slot_good : (clock : ℕ) (after : Option (List ℕ)) → Each (slot clock after) (λ s. IsGood clock after s)
+slot_good clock after bytes s rest f =
+    let t = slot_typed clock after bytes s rest f in
+    (slot_follows clock after bytes s rest f, t.0, t.1)
+
+slots_good : (clock : ℕ) (after : Option (List ℕ)) (bytes : List ℕ) (ss : List (List ℕ × Slot)) (rest : List ℕ) → Walks (slot clock) (λ s. s.0) after bytes ss rest → AreGood clock after ss
+slots_good clock after bytes [] rest w = tt
+slots_good clock after bytes (x ∷ xs) rest w = (some_each _ _ (slot_good clock after) bytes x w.0 w.1, slots_good clock (Some x.0) w.0 xs rest w.2)
+
+spelled_good : (bytes : List ℕ) (d : DeltaContent) → IsSpelling bytes d → (d.clock < 2 ^ 48) × AreGood d.clock None d.slots
+unfolding followed means repeated
+spelled_good bytes d f =
+    let ss = f.is.3.is in
+    let good = slots_good f.is.0 None f.is.1 ss.0 ss.2.is.0 ss.2.is.1 in
+    let P : ℕ × List (List ℕ × Slot) → Type 0 = λ p. (p.0 < 2 ^ 48) × AreGood p.0 None p.1 in
+    subst P (sym ss.3.is.1) (header_below bytes f.is.0 f.is.1 f.is.2, good)
+
+-- what is written of a delta that was read is a spelling of it
+pub written_again : (bytes : List ℕ) (d : DeltaContent) → IsSpelling bytes d → IsSpelling (delta_bytes d.clock d.slots) d
+written_again bytes d s =
+    let h = spelled_good bytes d s in
+    delta_reads_back d.clock d.slots h.0 h.1
