@@ -1,7 +1,7 @@
 use Rattle.lw_reg.specs.State.{state_of}
 use Rattle.lw_reg.proofs.Same.{members_decide}
 use Rattle.lw_reg.proofs.States.{state_laws, state_least, state_union}
-use Rattle.lw_reg.proofs.laws.states_are_of_sets.Goals as goal
+use Rattle.lw_reg.proofs.laws.states.states_are_of_sets.Goals as goal
 
 pub returns-clause-exist : goal.returns-clause-exist
 returns-clause-exist c = λ ms. (state_of ms, state_least ms)

@@ -1,5 +1,5 @@
 use Rattle.lw_reg.specs.OrderLaws.{same_path, path_order}
-use Rattle.lw_reg.proofs.laws.paths_are_ordered.Goals as goal
+use Rattle.lw_reg.proofs.laws.orders.paths_are_ordered.Goals as goal
 
 pub returns-clause-total : goal.returns-clause-total
 returns-clause-total c = path_order

@@ -1,5 +1,5 @@
 use Rattle.lw_reg.proofs.Same.{joins_show_both, states_show_sets}
-use Rattle.lw_reg.proofs.laws.states_show_their_marks.Goals as goal
+use Rattle.lw_reg.proofs.laws.states.states_show_their_marks.Goals as goal
 
 pub returns-clause-sets : goal.returns-clause-sets
 returns-clause-sets c = states_show_sets

@@ -1,5 +1,5 @@
 use Rattle.lw_reg.specs.OrderLaws.{version_number, version_order}
-use Rattle.lw_reg.proofs.laws.versions_are_ordered.Goals as goal
+use Rattle.lw_reg.proofs.laws.orders.versions_are_ordered.Goals as goal
 
 pub returns-clause-by_number : goal.returns-clause-by_number
 returns-clause-by_number c = version_number

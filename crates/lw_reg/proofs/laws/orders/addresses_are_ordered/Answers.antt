@@ -1,5 +1,5 @@
 use Rattle.lw_reg.specs.OrderLaws.{addr_parts, addr_order}
-use Rattle.lw_reg.proofs.laws.addresses_are_ordered.Goals as goal
+use Rattle.lw_reg.proofs.laws.orders.addresses_are_ordered.Goals as goal
 
 pub returns-clause-by_parts : goal.returns-clause-by_parts
 returns-clause-by_parts c = addr_parts

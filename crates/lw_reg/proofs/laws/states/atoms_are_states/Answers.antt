@@ -1,5 +1,5 @@
 use Rattle.lw_reg.proofs.Operations.{all_names, joined_state, marks_state}
-use Rattle.lw_reg.proofs.laws.atoms_are_states.Goals as goal
+use Rattle.lw_reg.proofs.laws.states.atoms_are_states.Goals as goal
 
 pub returns-clause-atoms : goal.returns-clause-atoms
 returns-clause-atoms c = marks_state
