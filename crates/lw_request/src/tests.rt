@@ -130,6 +130,11 @@ fn requests_are_registers(rt: HostRuntime) -> Result<(), Fail> {
             "40020004b272644465703d61ff3c2f3e",
             "register a 1.0 false 86400 U - </>",
         ),
+        // a non-confirmable one
+        (
+            "5002000bb272644465703d61ff3c2f3e",
+            "register a 1.0 false 86400 U - </>",
+        ),
         // no `ep`, and an empty one
         ("40020002b27264456c743d3630ff3c2f3e", "60800002"),
         ("40020003b272644365703dff3c2f3e", "60800003"),
