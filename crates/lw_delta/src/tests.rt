@@ -193,6 +193,7 @@ fn cut_is_refused(rt: HostRuntime) -> Result<(), Fail> {
 #[test]
 fn another_magic_is_refused(rt: HostRuntime) -> Result<(), Fail> {
     let rows = [
+        "4c57443200000000000000",
         // magic before truncated
         "4c57443200",
     ];
