@@ -3,6 +3,7 @@ pub mod Grammar
 pub mod Faults
 pub mod Fits
 pub mod Number
+pub mod Code
 pub mod Header
 pub mod Body
 pub mod Writing

@@ -1,7 +1,7 @@
 ghost use Rattle.std.specs.Prelude.{◌≡◌, ◌<◌, ◌↔◌, IsTrue};
 
-use crate::limits::{HEADER_LENGTH, MAX_LENGTH, MAX_TOKEN};
-use crate::size::{bytes_of_options, bytes_of_payload};
+use crate::limits::{HEADER_LENGTH, MAX_TOKEN};
+use crate::size::bytes_of_message;
 use std::marker::Model;
 
 /// The type of a message (RFC 7252, section 3).
@@ -86,15 +86,10 @@ impl Message {
     pub fn fits(&self) -> bool
         ensures { IsTrue result ↔ Fits self.now }
     {
-        if self.token.len() > MAX_TOKEN || self.payload.len() > MAX_LENGTH {
-            return false;
-        }
-        let Some(options) = bytes_of_options(&self.options) else {
+        let Some(len) = bytes_of_message(self) else {
             return false;
         };
-        let payload = bytes_of_payload(&self.payload);
-        let len = HEADER_LENGTH + self.token.len() + options + payload;
-        if len > MAX_LENGTH {
+        if self.token.len() > MAX_TOKEN {
             return false;
         }
         // The message ID is read for its range alone.

@@ -1,4 +1,4 @@
-ghost use Rattle.std.specs.Prelude.{◌≡◌, ◌≢◌, ℕ, ◌⊎◌, ◌↔◌, List, IfOk, IfErr, IsTrue, Ok, Err};
+ghost use Rattle.std.specs.Prelude.{◌≡◌, ◌≢◌, ℕ, ◌⊎◌, ◌↔◌, List, length, IfOk, IfErr, IsTrue, Ok, Err};
 ghost use Rattle.lw_coap.specs.declared.fault.Fault.{Fault};
 ghost use Rattle.lw_coap.specs.Message.{MessageContent, OptionContent};
 ghost use Rattle.lw_coap.specs.Grammar.{IsSpelling, IsPayload};
@@ -44,28 +44,30 @@ fn payload_in(bytes: &[u8]) -> Result<&[u8], Fault>
     }
 }
 
-/// Walks options and payload, and takes no memory.
-fn check_body(body: &[u8]) -> Result<(), Fault>
-    ensures whole { IfOk result (λ _. (options : List OptionContent) × (payload : List ℕ) × IsBody body.now options payload) }
+/// Walks options and payload, and takes no memory. Gives how many options there are.
+fn check_body(body: &[u8]) -> Result<usize, Fault>
+    ensures whole { IfOk result (λ count. (options : List OptionContent) × (payload : List ℕ) × IsBody body.now options payload × (length options ≡ count)) }
     ensures fault { IfErr result (IsOptionsFault body.now) }
 {
+    let mut count = 0;
     let mut number = 0;
     let mut rest = body;
     while !is_body_end(rest) {
         let option = next_option(number, rest)?;
+        count += 1;
         number = option.number;
         rest = option.rest;
     }
     payload_in(rest)?;
-    Ok(())
+    Ok(count)
 }
 
-/// Options and payload.
-fn read_body(alloc: Global, body: &[u8]) -> Result<(Vec<CoapOption>, Vec<u8>), Fault>
+/// Options and payload, with room for this many options from the start.
+fn read_body(alloc: Global, body: &[u8], count: usize) -> Result<(Vec<CoapOption>, Vec<u8>), Fault>
     ensures found { IfOk result (λ x. IsBody body.now x.0.items x.1.items) }
     ensures fault { IfErr result (λ fault. (fault ≡ Fault.NoMemory) ⊎ IsOptionsFault body.now fault) }
 {
-    let mut options = Vec::new(alloc);
+    let mut options = Vec::with_capacity(alloc, count)?;
     let mut number = 0;
     let mut rest = body;
     while !is_body_end(rest) {
@@ -106,9 +108,9 @@ fn read(alloc: Global, bytes: &[u8]) -> Result<Message, Fault>
     ensures { Reads bytes.now result }
 {
     let frame = read_frame(bytes)?;
-    check_body(frame.body)?;
+    let count = check_body(frame.body)?;
     let token = Vec::from_slice(alloc, frame.token)?;
-    let (options, payload) = read_body(alloc, frame.body)?;
+    let (options, payload) = read_body(alloc, frame.body, count)?;
     Ok(Message {
         kind: frame.kind,
         code: frame.code,

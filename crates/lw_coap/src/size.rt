@@ -1,10 +1,10 @@
 //! How many bytes the parts of a message take.
 
 ghost use Rattle.std.specs.Prelude.{◌≡◌, ◌<◌, ◌≤◌, length, IfSome, IfNone};
-ghost use Rattle.lw_coap.specs.Fits.{AreRising, extension_length, options_length, payload_length};
+ghost use Rattle.lw_coap.specs.Fits.{AreRising, extension_length, options_length, payload_length, printed_length};
 
-use crate::limits::MAX_LENGTH;
-use crate::message::CoapOption;
+use crate::limits::{HEADER_LENGTH, MAX_LENGTH};
+use crate::message::{CoapOption, Message};
 
 /// How many bytes extend the nibble of a number (RFC 7252, section 3.1).
 fn bytes_of_extension(number: usize) -> usize
@@ -21,7 +21,7 @@ fn bytes_of_extension(number: usize) -> usize
 }
 
 /// How many bytes the options take. There is no answer where their numbers fall, or past 8,192 bytes.
-pub(crate) fn bytes_of_options(options: &[CoapOption]) -> Option<usize>
+fn bytes_of_options(options: &[CoapOption]) -> Option<usize>
     ensures rising { IfSome result (λ len. AreRising 0 options.now) }
     ensures value { IfSome result (λ len. len ≡ options_length 0 options.now) }
     ensures within { IfSome result (λ len. len ≤ 8192) }
@@ -45,7 +45,7 @@ pub(crate) fn bytes_of_options(options: &[CoapOption]) -> Option<usize>
 }
 
 /// How many bytes a payload takes, its marker counted.
-pub(crate) fn bytes_of_payload(payload: &[u8]) -> usize
+fn bytes_of_payload(payload: &[u8]) -> usize
     requires { length payload.now ≤ 8192 }
     ensures { result ≡ payload_length payload.now }
 {
@@ -53,4 +53,20 @@ pub(crate) fn bytes_of_payload(payload: &[u8]) -> usize
         [] => 0,
         _ => 1 + payload.len(),
     }
+}
+
+/// How many bytes a message takes. There is no answer where option numbers fall, or past 8,192 bytes.
+pub(crate) fn bytes_of_message(message: &Message) -> Option<usize>
+    ensures rising { IfSome result (λ len. AreRising 0 message.now.options) }
+    ensures value { IfSome result (λ len. len ≡ printed_length message.now) }
+    ensures within { IfSome result (λ len. len ≤ 8192) }
+    ensures none { IfNone result (AreRising 0 message.now.options → 8192 < printed_length message.now) }
+{
+    if message.payload.len() > MAX_LENGTH {
+        return None;
+    }
+    let options = bytes_of_options(&message.options)?;
+    let payload = bytes_of_payload(&message.payload);
+    let len = HEADER_LENGTH + message.token.len() + options + payload;
+    (len <= MAX_LENGTH).then_some(len)
 }

@@ -20,13 +20,93 @@ fn refuses(rt: &impl Abort, alloc: Global, bytes: &[u8], fault: Fault) {
     );
 }
 
+/// The message is written as these bytes.
+fn writes(rt: &impl Abort, alloc: Global, message: &Message, bytes: &[u8]) -> Result<(), Fail> {
+    assert!(rt; message.fits());
+    let written = encode(alloc, message)?;
+    assert!(rt; written.as_slice() == bytes, "{} bytes", bytes.len());
+    Ok(())
+}
+
 /// The bytes are read, and written again.
 fn rewrites(rt: &impl Abort, alloc: Global, bytes: &[u8]) -> Result<(), Fail> {
     let message = decode(alloc, bytes)?;
-    assert!(rt; message.fits());
-    let again = encode(alloc, &message)?;
-    assert!(rt; again.as_slice() == bytes, "{bytes:?}");
-    Ok(())
+    writes(rt, alloc, &message, bytes)
+}
+
+/// A confirmable GET with no token: behind its header these bytes, and then so many that count up.
+fn datagram(alloc: Global, front: &[u8], count: usize) -> Result<Vec<u8>, Fail> {
+    let mut bytes = Vec::from_slice(alloc, &[0x40, 0x01, 0x12, 0x34])?;
+    bytes.extend_from_slice(front)?;
+    for i in 0..count {
+        bytes.push((i % 251) as u8)?;
+    }
+    Ok(bytes)
+}
+
+/// The message has one option, whose value is the last bytes.
+fn has_one_option(message: &Message, number: u16, len: usize, bytes: &[u8]) -> bool {
+    match message.options.as_slice() {
+        [option] => {
+            option.number == number && option.value.len() == len && bytes.ends_with(&option.value)
+        }
+        _ => false,
+    }
+}
+
+/// The bytes of an option's head and then so many of its value are read as that option, and written.
+fn spells_option(
+    rt: &impl Abort,
+    alloc: Global,
+    head: &[u8],
+    number: u16,
+    len: usize,
+) -> Result<(), Fail> {
+    let bytes = datagram(alloc, head, len)?;
+    let message = decode(alloc, &bytes)?;
+    assert!(rt; has_one_option(&message, number, len, &bytes), "{head:?}");
+    assert!(rt; message.token.is_empty() && message.payload.is_empty());
+    writes(rt, alloc, &message, &bytes)
+}
+
+/// So many options of one byte each, every number this much above the one before.
+fn options(alloc: Global, delta: u8, count: usize) -> Result<Vec<u8>, Fail> {
+    let mut bytes = datagram(alloc, &[], 0)?;
+    for i in 0..count {
+        bytes.push(16 * (delta % 13) + 1)?;
+        bytes.push((i % 251) as u8)?;
+    }
+    Ok(bytes)
+}
+
+/// Whether the options are those that `options` spells.
+fn are_options(message: &Message, delta: u8, count: usize) -> bool {
+    let mut number = 0u64;
+    for (i, option) in message.options.iter().enumerate() {
+        number = number.saturating_add(delta as u64);
+        if option.number as u64 != number
+            || option.value.as_slice() != [(i % 251) as u8].as_slice()
+        {
+            return false;
+        }
+    }
+    message.options.len() == count
+}
+
+fn spells_options(rt: &impl Abort, alloc: Global, delta: u8, count: usize) -> Result<(), Fail> {
+    let bytes = options(alloc, delta, count)?;
+    let message = decode(alloc, &bytes)?;
+    assert!(rt; are_options(&message, delta, count), "{count} options");
+    writes(rt, alloc, &message, &bytes)
+}
+
+/// So many bytes behind the marker are read as the payload, and written.
+fn spells_payload(rt: &impl Abort, alloc: Global, len: usize) -> Result<(), Fail> {
+    let bytes = datagram(alloc, &[0xff], len)?;
+    let message = decode(alloc, &bytes)?;
+    assert!(rt; message.payload.len() == len && bytes.ends_with(&message.payload));
+    assert!(rt; message.token.is_empty() && message.options.is_empty());
+    writes(rt, alloc, &message, &bytes)
 }
 
 #[test]
@@ -136,20 +216,127 @@ fn messages(rt: HostRuntime) -> Result<(), Fail> {
 }
 
 #[test]
-fn a_long_message(rt: HostRuntime) -> Result<(), Fail> {
-    let mut bytes = vec![in rt.alloc(); 7u8; 8192]?;
-    let start: [u8; 5] = [0x40, 0x02, 0x00, 0x99, 0xff];
-    for (i, byte) in start.iter().enumerate() {
-        assert!(rt; i < bytes.len());
-        bytes[i] = *byte;
+fn options_at_the_bounds(rt: HostRuntime) -> Result<(), Fail> {
+    let options: [(&[u8], u16, usize); 19] = [
+        (&[0xb0], 11, 0),
+        (&[0xbc], 11, 12),
+        (&[0xbd, 0x00], 11, 13),
+        (&[0xbd, 0x01], 11, 14),
+        (&[0xbd, 0xff], 11, 268),
+        (&[0xbe, 0x00, 0x00], 11, 269),
+        (&[0xbe, 0x00, 0x01], 11, 270),
+        (&[0xbe, 0x1e, 0x33], 11, 8000),
+        // The message has 8,192 bytes.
+        (&[0xbe, 0x1e, 0xec], 11, 8185),
+        (&[0x01], 0, 1),
+        (&[0xc0], 12, 0),
+        (&[0xd0, 0x00], 13, 0),
+        (&[0xd1, 0x01], 14, 1),
+        (&[0xd0, 0xff], 268, 0),
+        (&[0xe0, 0x00, 0x00], 269, 0),
+        (&[0xe1, 0x00, 0x01], 270, 1),
+        (&[0xe0, 0xfe, 0xf2], 65535, 0),
+        (&[0xed, 0xfe, 0xf2, 0xff], 65535, 268),
+        // The message has 8,192 bytes.
+        (&[0xee, 0xfe, 0xf2, 0x1e, 0xea], 65535, 8183),
+    ];
+    for (head, number, len) in options {
+        spells_option(&rt, rt.alloc(), head, number, len)?;
     }
-    rewrites(&rt, rt.alloc(), &bytes)?;
-    bytes.push(7)?;
-    refuses(&rt, rt.alloc(), &bytes, Fault::TooLong);
-    // Version 2 too.
-    assert!(rt; 0 < bytes.len());
-    bytes[0] = 0x80;
-    refuses(&rt, rt.alloc(), &bytes, Fault::TooLong);
+    Ok(())
+}
+
+#[test]
+fn numbers_add_up(rt: HostRuntime) -> Result<(), Fail> {
+    // Deltas of 0, 0, 12, 13, 268, 269 and 64973.
+    let heads = [
+        0x00, 0x00, 0xc0, 0xd0, 0x00, 0xd0, 0xff, 0xe0, 0x00, 0x00, 0xe0, 0xfc, 0xc0,
+    ];
+    let numbers: [u16; 7] = [0, 0, 12, 25, 293, 562, 65535];
+    let bytes = datagram(rt.alloc(), &heads, 0)?;
+    let message = decode(rt.alloc(), &bytes)?;
+    assert!(rt; message.options.len() == 7);
+    for (option, number) in message.options.iter().zip(numbers) {
+        assert!(rt;
+            option.number == number && option.value.is_empty(),
+            "not {number}"
+        );
+    }
+    writes(&rt, rt.alloc(), &message, &bytes)
+}
+
+#[test]
+fn many_options(rt: HostRuntime) -> Result<(), Fail> {
+    // The last three messages have 8,192 bytes.
+    for (delta, count) in [(1, 2), (11, 5), (12, 300), (0, 4094), (1, 4094), (12, 4094)] {
+        spells_options(&rt, rt.alloc(), delta, count)?;
+    }
+    Ok(())
+}
+
+/// As many options as a message can have: 8,188.
+#[test]
+fn empty_options(rt: HostRuntime) -> Result<(), Fail> {
+    let zeros = vec![in rt.alloc(); 0u8; 8188]?;
+    let bytes = datagram(rt.alloc(), &zeros, 0)?;
+    let message = decode(rt.alloc(), &bytes)?;
+    assert!(rt; message.options.len() == 8188);
+    writes(&rt, rt.alloc(), &message, &bytes)
+}
+
+#[test]
+fn tokens(rt: HostRuntime) -> Result<(), Fail> {
+    let bytes: [u8; 12] = [0x40, 0x45, 0x00, 0x01, 9, 8, 7, 6, 5, 4, 3, 2];
+    for len in 0..9usize {
+        let mut bytes = Vec::from_slice(rt.alloc(), &bytes[..4 + len])?;
+        assert!(rt; 0 < bytes.len());
+        bytes[0] = 0x40 + len as u8;
+        let message = decode(rt.alloc(), &bytes)?;
+        assert!(rt; message.token.len() == len && bytes.ends_with(&message.token));
+        writes(&rt, rt.alloc(), &message, &bytes)?;
+    }
+    Ok(())
+}
+
+#[test]
+fn payloads(rt: HostRuntime) -> Result<(), Fail> {
+    for len in [1, 12, 255, 256, 1024, 8187] {
+        spells_payload(&rt, rt.alloc(), len)?;
+    }
+    Ok(())
+}
+
+#[test]
+fn too_long(rt: HostRuntime) -> Result<(), Fail> {
+    let heads: [&[u8]; 3] = [&[0xff, 0], &[0xbe, 0x1e, 0xec, 0], &[0x01, 0x02, 0xff]];
+    for head in heads {
+        let mut bytes = datagram(rt.alloc(), head, 8193)?;
+        bytes.truncate(8193);
+        refuses(&rt, rt.alloc(), &bytes, Fault::TooLong);
+        // Version 2 too.
+        assert!(rt; 0 < bytes.len());
+        bytes[0] = 0x80;
+        refuses(&rt, rt.alloc(), &bytes, Fault::TooLong);
+    }
+    Ok(())
+}
+
+/// A byte more in the token, in a value or in the payload of a message of 8,192 bytes.
+#[test]
+fn a_byte_more(rt: HostRuntime) -> Result<(), Fail> {
+    let heads: [&[u8]; 2] = [&[0xbe, 0x1e, 0xec], &[0xff]];
+    let lengths: [usize; 2] = [8185, 8187];
+    for (head, len) in heads.iter().zip(lengths) {
+        let bytes = datagram(rt.alloc(), head, len)?;
+        let mut message = decode(rt.alloc(), &bytes)?;
+        assert!(rt; message.fits());
+        message.token.push(1)?;
+        assert!(rt; !message.fits());
+        message.token.clear();
+        assert!(rt; message.fits());
+        message.payload.push(1)?;
+        assert!(rt; !message.fits());
+    }
     Ok(())
 }
 

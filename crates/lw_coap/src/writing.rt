@@ -5,6 +5,7 @@ ghost use Rattle.lw_coap.specs.Writing.{nibble_of, extension_of, option_bytes, o
 
 use crate::limits::PAYLOAD_MARKER;
 use crate::message::{CoapOption, Kind, Message};
+use crate::size::bytes_of_message;
 use lw_stamp::NoMemory;
 use std::alloc::Global;
 
@@ -93,7 +94,10 @@ fn write(alloc: Global, message: &Message) -> Result<Vec<u8>, NoMemory>
     requires { Fits message.now }
     ensures { IfOk result (λ bytes. bytes.items ≡ message_bytes message.now) }
 {
-    let mut out = Vec::new(alloc);
+    let Some(len) = bytes_of_message(message) else {
+        unreachable!()
+    };
+    let mut out = Vec::with_capacity(alloc, len)?;
     put_header(&mut out, message)?;
     out.extend_from_slice(&message.token)?;
     put_options(&mut out, &message.options)?;

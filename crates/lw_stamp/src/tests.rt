@@ -1,12 +1,13 @@
 use super::*;
-use std::alloc::AllocError;
+use std::alloc::{AllocError, Global};
+use std::process::Abort;
 use std::test::Fail;
 
 const LAST: u64 = (1 << 48) - 1;
 
 #[test]
 fn stamps_bytes_and_identifiers(rt: HostRuntime) {
-    let stamps: [([u8; 8], &[u8], Stamp); 3] = [
+    let stamps: [([u8; 8], &[u8], Stamp); 5] = [
         (
             [0, 0, 0, 0, 0, 1, 0, 1],
             b"0000000000010001",
@@ -29,6 +30,22 @@ fn stamps_bytes_and_identifiers(rt: HostRuntime) {
             Stamp {
                 counter: LAST,
                 node: 1,
+            },
+        ),
+        (
+            [0, 0, 0, 0, 0, 1, 0, 0],
+            b"0000000000010000",
+            Stamp {
+                counter: 1,
+                node: 0,
+            },
+        ),
+        (
+            [0xff, 0xff, 0xff, 0xff, 0xff, 0xff, 0xff, 0xff],
+            b"ffffffffffffffff",
+            Stamp {
+                counter: LAST,
+                node: 65535,
             },
         ),
     ];
@@ -105,6 +122,18 @@ fn clocks_count_up(rt: HostRuntime) {
 }
 
 #[test]
+fn clocks_are_raised_to_the_end(rt: HostRuntime) {
+    for counter in [0, 1, 281474976710654, 281474976710655] {
+        let mut clock = Clock::new();
+        clock.raise(counter);
+        assert_eq!(rt; clock.counter(), counter);
+        let stamp = clock.next(65535);
+        assert_eq!(rt; stamp.is_none(), counter == LAST);
+        assert_eq!(rt; clock.counter(), (counter + 1).min(LAST));
+    }
+}
+
+#[test]
 fn moments_end_below_2_to_the_48(rt: HostRuntime) {
     for ms in [0, 1, 281474976710655] {
         assert_eq!(rt; Moment::new(ms).map(|moment| moment.ms()), Some(ms));
@@ -117,6 +146,55 @@ fn moments_end_below_2_to_the_48(rt: HostRuntime) {
 #[test]
 fn refused_growth_is_no_memory(rt: HostRuntime) {
     assert_eq!(rt; NoMemory::from(AllocError), NoMemory);
+}
+
+/// So many of the character, which has 1 to 4 bytes.
+fn repeated(alloc: Global, character: char, count: usize) -> Result<String, Fail> {
+    let mut text = String::new(alloc);
+    for _ in 0..count {
+        text.push(character)?;
+    }
+    Ok(text)
+}
+
+/// A text of so many of the character is copied and taken over, and has these many bytes.
+fn keeps(
+    rt: &impl Abort,
+    alloc: Global,
+    character: char,
+    count: usize,
+    len: usize,
+) -> Result<(), Fail> {
+    let given = repeated(alloc, character, count)?;
+    let copy = Text::copy_of(alloc, given.as_str())?;
+    assert_eq!(rt; copy.as_str().len(), len);
+    assert!(rt; copy.as_str() == given.as_str(), "{len} bytes");
+    let taken = Text::from(given);
+    assert!(rt; taken == copy, "{len} bytes");
+    assert!(rt; copy.into_string().as_str() == taken.as_str(), "{len} bytes");
+    Ok(())
+}
+
+#[test]
+fn texts_keep_their_bytes(rt: HostRuntime) -> Result<(), Fail> {
+    let texts: [(char, usize, usize); 12] = [
+        ('a', 0, 0),
+        ('\0', 1, 1),
+        ('a', 63, 63),
+        ('\u{e9}', 32, 64),
+        ('z', 65, 65),
+        ('\u{20ac}', 84, 252),
+        ('\u{7f}', 253, 253),
+        ('\u{ffff}', 85, 255),
+        ('\u{10ffff}', 64, 256),
+        ('\u{7ff}', 150, 300),
+        ('"', 8192, 8192),
+        ('\u{10000}', 2048, 8192),
+    ];
+    for (character, count, len) in texts {
+        keeps(&rt, rt.alloc(), character, count, len)?;
+    }
+    Ok(())
 }
 
 #[test]
