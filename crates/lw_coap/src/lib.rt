@@ -1,7 +1,8 @@
 //! CoAP messages as bytes (RFC 7252, section 3): `decode` and `encode`, by one grammar.
 //!
 //! Each message that fits has one spelling, and bytes that spell none have one first fault. `decode`
-//! walks the grammar whole before it takes any memory, so a fault never depends on memory.
+//! walks the grammar whole before it takes any memory, so a fault never depends on memory. The walk
+//! counts the options, so their room is made once; `encode` makes the room of all bytes at once.
 #![tactic(auto)]
 
 pub mod codes;

@@ -69,21 +69,21 @@ fn spells_option(
     writes(rt, alloc, &message, &bytes)
 }
 
-/// So many options of one byte each, every number this much above the one before.
-fn options(alloc: Global, delta: u8, count: usize) -> Result<Vec<u8>, Fail> {
+/// So many options of one byte each, every one with this head.
+fn options(alloc: Global, head: u8, count: usize) -> Result<Vec<u8>, Fail> {
     let mut bytes = datagram(alloc, &[], 0)?;
     for i in 0..count {
-        bytes.push(16 * (delta % 13) + 1)?;
+        bytes.push(head)?;
         bytes.push((i % 251) as u8)?;
     }
     Ok(bytes)
 }
 
-/// Whether the options are those that `options` spells.
-fn are_options(message: &Message, delta: u8, count: usize) -> bool {
+/// Whether the options are those that `options` spells, with numbers so much apart.
+fn are_options(message: &Message, delta: u64, count: usize) -> bool {
     let mut number = 0u64;
     for (i, option) in message.options.iter().enumerate() {
-        number = number.saturating_add(delta as u64);
+        number = number.saturating_add(delta);
         if option.number as u64 != number
             || option.value.as_slice() != [(i % 251) as u8].as_slice()
         {
@@ -93,8 +93,14 @@ fn are_options(message: &Message, delta: u8, count: usize) -> bool {
     message.options.len() == count
 }
 
-fn spells_options(rt: &impl Abort, alloc: Global, delta: u8, count: usize) -> Result<(), Fail> {
-    let bytes = options(alloc, delta, count)?;
+fn spells_options(
+    rt: &impl Abort,
+    alloc: Global,
+    head: u8,
+    delta: u64,
+    count: usize,
+) -> Result<(), Fail> {
+    let bytes = options(alloc, head, count)?;
     let message = decode(alloc, &bytes)?;
     assert!(rt; are_options(&message, delta, count), "{count} options");
     writes(rt, alloc, &message, &bytes)
@@ -268,8 +274,16 @@ fn numbers_add_up(rt: HostRuntime) -> Result<(), Fail> {
 #[test]
 fn many_options(rt: HostRuntime) -> Result<(), Fail> {
     // The last three messages have 8,192 bytes.
-    for (delta, count) in [(1, 2), (11, 5), (12, 300), (0, 4094), (1, 4094), (12, 4094)] {
-        spells_options(&rt, rt.alloc(), delta, count)?;
+    let runs: [(u8, u64, usize); 6] = [
+        (0x11, 1, 2),
+        (0xb1, 11, 5),
+        (0xc1, 12, 300),
+        (0x01, 0, 4094),
+        (0x11, 1, 4094),
+        (0xc1, 12, 4094),
+    ];
+    for (head, delta, count) in runs {
+        spells_options(&rt, rt.alloc(), head, delta, count)?;
     }
     Ok(())
 }

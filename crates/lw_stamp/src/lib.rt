@@ -1,4 +1,5 @@
-//! Stamps, the clock that issues them, moments and texts: what every crate above counts and orders by.
+//! Stamps, the clock that issues them, moments and texts, by which the crates above count and order;
+//! and `NoMemory`, which they answer where a growth was refused.
 //!
 //! A stamp names an operation. Its eight bytes are the CoAP token of an observation, and their hex
 //! text is the identifier of a registration.

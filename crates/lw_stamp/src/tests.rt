@@ -171,7 +171,10 @@ fn keeps(
     assert!(rt; copy.as_str() == given.as_str(), "{len} bytes");
     let taken = Text::from(given);
     assert!(rt; taken == copy, "{len} bytes");
-    assert!(rt; copy.into_string().as_str() == taken.as_str(), "{len} bytes");
+    assert!(rt;
+        copy.into_string().as_str() == taken.as_str(),
+        "{len} bytes"
+    );
     Ok(())
 }
 
