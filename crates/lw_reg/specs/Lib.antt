@@ -3,6 +3,7 @@ pub mod AddrReading
 pub mod Orders
 pub mod BindingText
 pub mod Binding
+pub mod Endpoint
 pub mod Version
 pub mod Registration
 pub mod Marks

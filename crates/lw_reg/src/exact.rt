@@ -1,9 +1,9 @@
 //! Values that compare equal are one value.
 
 ghost use Rattle.lw_reg.specs.BindingLaws.{binding_order};
-ghost use Rattle.lw_reg.specs.OrderLaws.{addr_order, base_order, path_order};
+ghost use Rattle.lw_reg.specs.OrderLaws.{addr_order, base_order, path_order, text_order};
 
-use crate::{Addr, Base, Binding, Path};
+use crate::{Addr, Base, Binding, Endpoint, Path};
 use lw_join::Exact;
 
 impl Exact for Addr {
@@ -16,6 +16,10 @@ impl Exact for Base {
 
 impl Exact for Binding {
     ghost exact = { binding_order.exact };
+}
+
+impl Exact for Endpoint {
+    ghost exact = { text_order.exact };
 }
 
 impl Exact for Path {

@@ -42,7 +42,9 @@ fn at(ms: u64) -> Moment {
 }
 
 fn slot(alloc: Global, stamp: Stamp, reg: Stamp, what: What) -> Result<Slot, Fail> {
-    let endpoint = Text::copy_of(alloc, "a")?;
+    let Some(endpoint) = Endpoint::new(Text::copy_of(alloc, "a")?) else {
+        return Err("an endpoint".into());
+    };
     Ok(atom(
         alloc,
         Op {
