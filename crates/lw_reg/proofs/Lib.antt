@@ -4,6 +4,7 @@ pub mod HexGroups
 pub mod Addresses
 pub mod BindingLemmas
 pub mod WatchLemmas
+pub mod NothingLemmas
 pub mod Members
 pub mod Tells
 pub mod Readings

@@ -10,6 +10,8 @@ pub mod Marks
 pub mod Showing
 pub mod BindingLaws
 pub mod Body
+pub mod Told
+pub mod Kept
 pub mod BodyLaws
 pub mod Slot
 pub mod SlotLaws
@@ -20,6 +22,4 @@ pub mod Laws
 pub mod ByNumbers
 pub mod PathNumbers
 pub mod Path
-pub mod Accept
-pub mod AcceptLaws
 pub mod OrderLaws

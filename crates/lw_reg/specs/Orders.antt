@@ -63,6 +63,10 @@ moment_cmp a b = nat_cmp (ms_of a) (ms_of b)
 abbrev pub sms_cmp : Option (List ℕ) → Option (List ℕ) → Ordering
 sms_cmp = option_cmp text_cmp
 
+-- what an observation accepts: none below some, and formats by number (RFC 7252, section 5.10.4)
+abbrev pub format_cmp : Option ℕ → Option ℕ → Ordering
+format_cmp = option_cmp nat_cmp
+
 -- paths: number by number, a path before those that it begins
 abbrev pub path_cmp : Path → Path → Ordering
 path_cmp = by_numbers path_numbers

@@ -3,7 +3,7 @@
 ghost use Rattle.lw_reg.specs.BindingLaws.{binding_order};
 ghost use Rattle.lw_reg.specs.OrderLaws.{addr_order, base_order, path_order, text_order};
 
-use crate::{Addr, Base, Binding, Endpoint, Path};
+use crate::{Addr, Base, Binding, Endpoint, Path, SmsNumber};
 use lw_join::Exact;
 
 impl Exact for Addr {
@@ -24,4 +24,8 @@ impl Exact for Endpoint {
 
 impl Exact for Path {
     ghost exact = { path_order.exact };
+}
+
+impl Exact for SmsNumber {
+    ghost exact = { text_order.exact };
 }

@@ -3,17 +3,16 @@
 //! Each of these values has one text or one order, and values that compare equal are one.
 #![tactic(auto)]
 
-mod accept;
 mod addr;
 mod atoms;
 mod base;
 mod binding;
 mod body;
-mod by_text;
 mod endpoint;
 mod exact;
 mod fields;
 pub mod laws;
+mod object_list;
 mod op;
 mod path;
 mod printing;
@@ -22,12 +21,12 @@ mod seen;
 mod showing;
 mod slot;
 mod sms_number;
+mod told;
 mod version;
 mod view;
 mod watch;
 mod watches;
 
-pub use accept::Accept;
 pub use addr::Addr;
 pub use atoms::atom;
 pub use base::Base;

@@ -82,7 +82,7 @@ fn watch_of(entry: &(Path, Watching)) -> Option<Watch>
         OrGone::Here(accept) => Some(Watch {
             token: watching.stamp,
             path: *path,
-            accept: accept.format,
+            accept: accept.value,
         }),
     }
 }

@@ -307,6 +307,7 @@ fn put_together(alloc: Global) -> Result<Slot, Fail> {
         queue: true,
     };
     Ok(Slot::from_parts(
+        alloc,
         OLD,
         Some(Fields {
             base: Some(base),
@@ -318,7 +319,7 @@ fn put_together(alloc: Global) -> Result<Slot, Fail> {
             objects: Some((LATER, objects)),
             watches: Parts::new(alloc),
         }),
-    ))
+    )?)
 }
 
 #[test]
@@ -353,7 +354,7 @@ fn a_view_of_a_slot_is_copied(rt: HostRuntime) -> Result<(), Fail> {
     let seen = view.to_seen(rt.alloc())?;
     assert_eq!(rt; seen.endpoint.as_str(), "b");
     assert!(rt; seen.queue);
-    assert!(rt; Slot::from_parts(OLD, None).is_removed());
+    assert!(rt; Slot::from_parts(rt.alloc(), OLD, None)?.is_removed());
     Ok(())
 }
 
