@@ -6,7 +6,7 @@ use Rattle.lw_join.specs.Lex.{lex_below, lex_join}
 use Rattle.lw_join.specs.Lww.{lww_below, lww_join}
 use Rattle.lw_join.specs.Once.{once_below, once_join}
 use Rattle.lw_join.specs.OrGone.{gone_below, gone_join}
-use Rattle.lw_join.specs.Parts.{made, parts_below, parts_join}
+use Rattle.lw_join.specs.Parts.{made, parts_below, parts_join, parts_in_place}
 use Rattle.lw_join.specs.declared.lex.Lex.{Lex}
 use Rattle.lw_join.specs.declared.once.Once.{Once}
 use Rattle.lw_join.specs.declared.or_gone.OrGone.{OrGone}
@@ -60,6 +60,10 @@ body_join x y = record {
   objects = lww_join text_cmp x.objects y.objects;
   watches = parts_join watching_join x.watches y.watches;
 }
+
+-- no path that is watched in the right is new to the left
+abbrev pub body_in_place : Body → Body → Type 0
+body_in_place x y = parts_in_place x.watches y.watches
 
 -- nothing is known but the watches
 abbrev pub watched_alone : Watches → Body

@@ -2,8 +2,8 @@
 use Rattle.std.specs.Prelude.{ℕ, List, Option, Some, None}
 use Rattle.lw_stamp.specs.declared.stamp.Stamp.{Stamp}
 use Rattle.lw_stamp.specs.declared.moment.Moment.{Moment}
-use Rattle.lw_join.specs.Lex.{lex_below, lex_join}
-use Rattle.lw_join.specs.OrGone.{gone_below, gone_join}
+use Rattle.lw_join.specs.Lex.{lex_below, lex_join, lex_in_place}
+use Rattle.lw_join.specs.OrGone.{gone_below, gone_join, gone_in_place}
 use Rattle.lw_join.specs.declared.or_gone.OrGone.{OrGone}
 use Rattle.lw_join.specs.declared.or_gone.OrGone.TheVariants.{Here, Gone}
 use Rattle.lw_reg.specs.declared.addr.Addr.{Addr}
@@ -15,7 +15,7 @@ use Rattle.lw_reg.specs.declared.op.What.{What}
 use Rattle.lw_reg.specs.declared.op.What.TheVariants.{Register, Update, Remove, Observe, Cancel}
 use Rattle.lw_reg.specs.declared.path.Path.{Path}
 use Rattle.lw_reg.specs.declared.slot.Slot.{Slot}
-use Rattle.lw_reg.specs.Body.{Watching, Watches, no_watches, one_watch, watched_alone, BodyBelow, body_join}
+use Rattle.lw_reg.specs.Body.{Watching, Watches, no_watches, one_watch, watched_alone, BodyBelow, body_join, body_in_place}
 use Rattle.lw_reg.specs.Marks.{Trace}
 use Rattle.lw_reg.specs.Marks.Trace.{Based, AddressAt, SeenAt, LifetimeAt, BindingAt, SmsAt, ObjectsAt, Removed, Watched, Cancelled}
 
@@ -24,6 +24,10 @@ slot_below x y = lex_below (gone_below BodyBelow) x.registration y.registration
 
 abbrev pub slot_join : Slot → Slot → Slot
 slot_join x y = record { registration = lex_join (gone_join body_join) x.registration y.registration }
+
+-- where both are about one registration that neither removed, no path that is watched in the right is new
+abbrev pub slot_in_place : Slot → Slot → Type 0
+slot_in_place x y = lex_in_place (gone_in_place body_in_place) x.registration y.registration
 
 abbrev pub slot_at : Stamp → OrGone Body → Slot
 slot_at r x = record { registration = record { stamp = r; value = x } }

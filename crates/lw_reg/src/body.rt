@@ -46,14 +46,14 @@ impl Body {
 }
 
 impl Join for Body {
-    ghost use Rattle.lw_reg.specs.Body.{BodyBelow, body_join};
+    ghost use Rattle.lw_reg.specs.Body.{BodyBelow, body_join, body_in_place};
     ghost use Rattle.lw_reg.specs.BodyLaws.{body_laws};
 
     ghost below = { BodyBelow };
 
     ghost join = { body_join };
 
-    ghost calm = { ⊥ };
+    ghost in_place = { body_in_place };
 
     ghost laws = { body_laws };
 

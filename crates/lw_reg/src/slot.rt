@@ -150,14 +150,14 @@ fn body_of_fields(fields: Fields) -> Body
 }
 
 impl Join for Slot {
-    ghost use Rattle.lw_reg.specs.Slot.{slot_below, slot_join};
+    ghost use Rattle.lw_reg.specs.Slot.{slot_below, slot_join, slot_in_place};
     ghost use Rattle.lw_reg.specs.SlotLaws.{slot_laws};
 
     ghost below = { slot_below };
 
     ghost join = { slot_join };
 
-    ghost calm = { ⊥ };
+    ghost in_place = { slot_in_place };
 
     ghost laws = { slot_laws };
 

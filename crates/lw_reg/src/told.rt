@@ -80,16 +80,16 @@ impl Told {
 }
 
 impl Join for Told {
-    ghost use Rattle.lw_join.specs.OrGone.{gone_below, gone_join};
+    ghost use Rattle.lw_join.specs.OrGone.{gone_below, gone_join, gone_in_place};
     ghost use Rattle.lw_join.specs.OrGoneLaws.{gone_laws};
-    ghost use Rattle.lw_reg.specs.Body.{BodyBelow, body_join};
+    ghost use Rattle.lw_reg.specs.Body.{BodyBelow, body_join, body_in_place};
     ghost use Rattle.lw_reg.specs.BodyLaws.{body_laws};
 
     ghost below = { gone_below BodyBelow };
 
     ghost join = { gone_join body_join };
 
-    ghost calm = { ⊥ };
+    ghost in_place = { gone_in_place body_in_place };
 
     ghost laws = { gone_laws body_laws };
 
@@ -116,13 +116,14 @@ impl Join for Told {
 }
 
 impl Told {
-    ghost use Rattle.lw_join.specs.OrGone.{gone_join};
-    ghost use Rattle.lw_reg.specs.Body.{body_join};
+    ghost use Rattle.lw_join.specs.OrGone.{gone_join, gone_in_place};
+    ghost use Rattle.lw_reg.specs.Body.{body_join, body_in_place};
     ghost use Rattle.std.specs.Prelude.{OnOk, OnErr};
 
     fn join_body(&mut self, other: Box<Body>) -> Result<(), NoMemory>
         ensures ok { OnOk result (self.new ≡ gone_join body_join self.old (Here other.value)) }
         ensures err { OnErr result (self.new ≡ self.old) }
+        ensures never_refused { gone_in_place body_in_place self.old (Here other.value) → IsOk result }
     {
         match &mut self.kept {
             Kept::Removed => Ok(()),
