@@ -1,5 +1,4 @@
 pub mod Addr
-pub mod AddrReading
 pub mod Orders
 pub mod BindingText
 pub mod Binding

@@ -6,6 +6,7 @@ use Rattle.lw_stamp.specs.contracts.stamp.StampPartialEq.TheImpl as stamps
 use Rattle.lw_stamp.specs.declared.stamp.Stamp.{Stamp}
 use Rattle.lw_stamp.specs.declared.moment.Moment.{Moment}
 use Rattle.lw_stamp.specs.Moment.{ms_of}
+use Rattle.lw_join.specs.Entries.{get as entry_of}
 use Rattle.lw_join.specs.Parts.{entries_of, value_at}
 use Rattle.lw_join.specs.declared.once.Once.{Once}
 use Rattle.lw_join.specs.declared.or_gone.OrGone.{OrGone}
@@ -74,6 +75,10 @@ told_watches (Here body) = entries_of body.watches
 -- the watches, paths rising
 abbrev pub watches_of : Slot → List (Path × Watching)
 watches_of slot = told_watches slot.registration.value
+
+-- the last watch of a path
+abbrev pub watching_of : Slot → Path → Option Watching
+watching_of slot path = entry_of path_cmp (watches_of slot) path
 
 -- ---- what is shown
 -- the registration of these parts, where all are there

@@ -1,6 +1,8 @@
-//! What a server shows of a registration: its address, binding, version and texts, lent or owned.
+//! What is known of a registration: the operations on it, the slot that keeps what they told, and what a
+//! server shows of it at a moment.
 //!
-//! Each of these values has one text or one order, and values that compare equal are one.
+//! The slots of operations about one endpoint join to one, whatever order they come in and however often. A
+//! registration that was removed stays so, and a later one of the endpoint takes its place whole.
 #![tactic(auto)]
 
 mod addr;
@@ -15,8 +17,6 @@ pub mod laws;
 mod object_list;
 mod op;
 mod path;
-mod printing;
-mod reading;
 mod seen;
 mod showing;
 mod slot;

@@ -1,8 +1,10 @@
 ghost use Rattle.std.specs.Prelude.{◌≡◌, ◌↔◌, IsTrue, IsOk, IfOk, None};
 ghost use Rattle.std.specs.Option.{option_copied, option_map};
 ghost use Rattle.lw_join.specs.declared.or_gone.OrGone.TheVariants.{Here};
+ghost use Rattle.lw_join.specs.Entries.{Rises};
 ghost use Rattle.lw_reg.specs.Body.{nothing};
 ghost use Rattle.lw_reg.specs.Fields.{fields_body, told_fields, slot_of_fields};
+ghost use Rattle.lw_reg.specs.Orders.{path_cmp};
 ghost use Rattle.lw_reg.specs.Told.{body_or_nothing};
 ghost use Rattle.lw_reg.specs.Reading.{known_of, stamp_of, IsRemoved, base_of, address_of, seen_of, lifetime_of, binding_of, sms_of, objects_of, watches_of};
 
@@ -41,7 +43,7 @@ impl Slot {
         })
     }
 
-    fn body(&self) -> Option<&Body>
+    pub(crate) fn body(&self) -> Option<&Body>
         ensures { body_or_nothing (option_copied result) ≡ known_of self.now }
     {
         self.registration.value.body()
@@ -113,7 +115,8 @@ impl Slot {
 
     /// The last watch of each path, paths rising.
     pub fn watches(&self) -> &[(Path, Watching)]
-        ensures { result.now ≡ watches_of self.now }
+        ensures watches { result.now ≡ watches_of self.now }
+        ensures rise { Rises path_cmp result.now }
     {
         match self.body() {
             None => &[],
