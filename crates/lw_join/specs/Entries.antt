@@ -1,5 +1,5 @@
 -- Lists of entries as maps: the value of a key, the order key by key, and the join key by key.
-use Rattle.std.specs.Prelude.{◌≡◌, List, [], ◌∷◌, Option, Some, None, Bool, true, ◌&&◌, cond}
+use Rattle.std.specs.Prelude.{◌≡◌, ℕ, List, [], ◌∷◌, Option, Some, None, is_none, Bool, true, ◌&&◌, cond, count_by}
 use Rattle.std.specs.declared.cmp.Ordering.{Ordering}
 use Rattle.std.specs.declared.cmp.Ordering.TheVariants.{Less}
 use Rattle.std.specs.Ordering.{is_eq, is_lt, match_ordering}
@@ -29,6 +29,10 @@ module _ {K J : Type 0} (cmp : K → K → Ordering) where
   abbrev pub get : List (K × J) → K → Option J
   get [] q = None
   get (e ∷ es) q = cond (is_eq (cmp q e.0)) (Some e.1) (get es q)
+
+  -- how many of the entries of ys have a key that xs lacks
+  abbrev pub missing : List (K × J) → List (K × J) → ℕ
+  missing xs ys = count_by (λ (e : K × J). is_none (get xs e.0)) ys
 
   -- each key of the left is in the right, and its value is below
   abbrev pub entries_below : (J → J → Type 0) → List (K × J) → List (K × J) → Type 0

@@ -50,7 +50,7 @@ rises_true cmp (e ∷ es) a = and_true (all_above cmp e.0 es) (rises cmp es) (al
 some_none : {V : Type 0} {G : Type 0} (v : V) → Some v ≡ None → G
 some_none v e = cc
 
-join_none : {V : Type 0} (join : V → V → V) (o : Option V) → option_join join o None ≡ o
+pub join_none : {V : Type 0} (join : V → V → V) (o : Option V) → option_join join o None ≡ o
 join_none join None = refl
 join_none join (Some x) = refl
 

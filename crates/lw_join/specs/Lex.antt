@@ -1,6 +1,7 @@
 -- A stamp and a value: the greater stamp wins whole, and at equal stamps the values join.
 use Rattle.lw_stamp.specs.declared.stamp.Stamp.{Stamp}
 use Rattle.lw_stamp.specs.StampOrder.{stamp_cmp}
+use Rattle.std.specs.Ordering.{MatchOrdering}
 use Rattle.lw_join.specs.Keyed.{keyed_below, keyed_join}
 use Rattle.lw_join.specs.declared.lex.Lex.{Lex}
 
@@ -18,3 +19,7 @@ lex_below below x y = keyed_below stamp_cmp below (lex_pair x) (lex_pair y)
 -- the one with the greater stamp, and at equal stamps the join of the values
 abbrev pub lex_join : {J : Type 0} → (J → J → J) → Lex J → Lex J → Lex J
 lex_join join x y = lex_of (keyed_join stamp_cmp join (lex_pair x) (lex_pair y))
+
+-- at unequal stamps one of the two is the join, and at equal stamps the values decide
+abbrev pub lex_in_place : {J : Type 0} → (J → J → Type 0) → Lex J → Lex J → Type 0
+lex_in_place in_place x y = MatchOrdering (stamp_cmp x.stamp y.stamp) (Unit {0}) (in_place x.value y.value) (Unit {0})

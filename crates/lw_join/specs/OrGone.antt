@@ -13,3 +13,9 @@ abbrev pub gone_join : {J : Type 0} → (J → J → J) → OrGone J → OrGone 
 gone_join join x Gone = Gone
 gone_join join Gone (Here y) = Gone
 gone_join join (Here x) (Here y) = Here (join x y)
+
+-- where one is gone the join is gone, and otherwise the values decide
+abbrev pub gone_in_place : {J : Type 0} → (J → J → Type 0) → OrGone J → OrGone J → Type 0
+gone_in_place in_place x Gone = Unit {0}
+gone_in_place in_place Gone (Here y) = Unit {0}
+gone_in_place in_place (Here x) (Here y) = in_place x y

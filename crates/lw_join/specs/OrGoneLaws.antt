@@ -2,7 +2,7 @@
 use Rattle.std.specs.Prelude.{◌≡◌}
 use Rattle.std.proofs.Common.{refl, ap}
 use Rattle.lw_join.specs.Join.{IsJoin}
-use Rattle.lw_join.specs.OrGone.{gone_below, gone_join}
+use Rattle.lw_join.specs.OrGone.{gone_below, gone_join, gone_in_place}
 use Rattle.lw_join.specs.declared.or_gone.OrGone.{OrGone}
 use Rattle.lw_join.specs.declared.or_gone.OrGone.TheVariants.{Here, Gone}
 
@@ -48,3 +48,8 @@ module _ {J : Type 0} {below : J → J → Type 0} {join : J → J → J} (laws 
     above_right = above_right;
     least = least;
   }
+
+pub gone_calm : {J : Type 0} {in_place : J → J → Type 0} → ((x y : J) → in_place x y) → (x y : OrGone J) → gone_in_place in_place x y
+gone_calm calm x Gone = tt
+gone_calm calm Gone (Here y) = tt
+gone_calm calm (Here x) (Here y) = calm x y

@@ -1,5 +1,5 @@
 -- A map whose values join key by key.
-use Rattle.std.specs.Prelude.{◌≡◌, List, [], Option, Bool, true, false, refl}
+use Rattle.std.specs.Prelude.{◌≡◌, List, [], Option, IsSome, Bool, true, false, refl}
 use Rattle.std.specs.declared.cmp.Ord as ord
 use Rattle.std.specs.declared.cmp.PartialEq as partial_eq
 use Rattle.std.specs.declared.cmp.PartialOrd as partial_ord
@@ -32,6 +32,10 @@ module _ {K J : Type 0} {o : ord.Ghosts K} {e : partial_eq.Ghosts K} {p : partia
   -- the values of the left joined to those of the right, key by key
   abbrev pub parts_join : (J → J → J) → Parts K J o e p → Parts K J o e p → Parts K J o e p
   parts_join join x y = made (entries_join o.cmp join x.entries y.entries)
+
+  -- no key of the right is missing in the left
+  abbrev pub parts_in_place : Parts K J o e p → Parts K J o e p → Type 0
+  parts_in_place x y = (q : K) → IsSome (value_at y q) → IsSome (value_at x q)
 
   -- at each key `joined` has what `join` makes of the values there, and the value that there is where only one
   -- of the two has the key

@@ -1,8 +1,8 @@
 //! Entries of a map in a slice, their keys rising.
-ghost use Rattle.std.specs.Prelude.{◌≡◌, ◌↔◌, Some, IsTrue, IfOk, IfErr};
+ghost use Rattle.std.specs.Prelude.{◌≡◌, ◌↔◌, Some, IsTrue, IfOk, IfErr, is_err, is_none};
 ghost use Rattle.std.specs.Option.{option_copied};
 ghost use Rattle.lw_join.specs.Options.{option_below};
-ghost use Rattle.lw_join.specs.Entries.{Rises, get, entries_below};
+ghost use Rattle.lw_join.specs.Entries.{Rises, get, entries_below, missing};
 ghost use Rattle.lw_join.specs.Place.{IsAt, IsGap};
 
 use crate::exact::Exact;
@@ -15,12 +15,21 @@ pub(crate) fn rises<K: Exact, J>(entries: &[(K, J)]) -> bool
 }
 
 // The place of the key, or where it would go.
-fn find<K: Exact, J>(entries: &[(K, J)], key: &K) -> Result<usize, usize>
+pub(crate) fn find<K: Exact, J>(entries: &[(K, J)], key: &K) -> Result<usize, usize>
     requires { Rises K.cmp entries.now }
     ensures found { IfOk result (IsAt K.cmp entries.now key.now) }
     ensures absent { IfErr result (IsGap K.cmp entries.now key.now) }
+    ensures missing { is_err result ≡ is_none (get K.cmp entries.now key.now) }
 {
     entries.binary_search_by(|e| e.0.cmp(key))
+}
+
+// The number of the entries whose key is missing.
+pub(crate) fn count_missing<K: Exact, J>(into: &[(K, J)], from: &[(K, J)]) -> usize
+    requires { Rises K.cmp into.now }
+    ensures { result ≡ missing K.cmp into.now from.now }
+{
+    from.iter().filter(|e| find(into, &e.0).is_err()).count()
 }
 
 pub(crate) fn value_of<'a, K: Exact, J>(entries: &'a [(K, J)], key: &K) -> Option<&'a J>

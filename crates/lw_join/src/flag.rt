@@ -15,7 +15,7 @@ impl Join for Flag {
 
     ghost join = { flag_join };
 
-    ghost calm = { Unit {0} };
+    ghost in_place = { λ _ _. Unit {0} };
 
     ghost laws = { flag_laws };
 
@@ -30,7 +30,7 @@ impl Join for Flag {
 }
 
 impl Calm for Flag {
-    ghost is_calm = { tt };
+    ghost is_calm = { λ _ _. tt };
 
     fn join_calm(&mut self, other: Flag) {
         self.raised |= other.raised;

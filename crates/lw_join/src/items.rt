@@ -1,5 +1,5 @@
-ghost use Rattle.std.specs.Prelude.{◌≡◌, List, OnOk, OnErr};
-ghost use Rattle.lw_join.specs.Entries.{Rises, entries_join};
+ghost use Rattle.std.specs.Prelude.{◌≡◌, List, IsOk, OnOk, OnErr};
+ghost use Rattle.lw_join.specs.Entries.{Rises, entries_join, missing};
 
 use crate::exact::Exact;
 use crate::join::Calm;
@@ -45,6 +45,7 @@ impl<K: Exact, J: Calm> Items<(K, J)> {
         requires right { Rises K.cmp other }
         ensures ok { OnOk result (self.new ≡ entries_join K.cmp J.join self.old other) }
         ensures err { OnErr result (self.new ≡ self.old) }
+        ensures never_refused { missing K.cmp self.old other ≡ 0 → IsOk result }
     {
         join_entries(&mut self.items, other.items)
     }

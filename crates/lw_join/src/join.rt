@@ -11,8 +11,8 @@ pub trait Join: Drop {
     /// The join of two values.
     ghost join: { Self → Self → Self };
 
-    /// Holds of a type whose joins are never refused.
-    ghost calm: { Type 0 };
+    /// Holds of two values where the second joins into the first without memory.
+    ghost in_place: { Self → Self → Type 0 };
 
     fn le(&self, other: &Self) -> bool
         ensures { IsTrue result ↔ below self.now other.now };
@@ -20,15 +20,15 @@ pub trait Join: Drop {
     fn join_with(&mut self, other: Self) -> Result<(), NoMemory>
         ensures ok { OnOk result (self.new ≡ join self.old other) }
         ensures err { OnErr result (self.new ≡ self.old) }
-        ensures never_refused { calm → IsOk result };
+        ensures never_refused { in_place self.old other → IsOk result };
 
     ghost laws: { IsJoin below join };
 }
 
-/// A type whose joins take no memory.
+/// A type whose joins take no memory, whatever the two values.
 pub trait Calm: Join {
     fn join_calm(&mut self, other: Self)
         ensures { self.new ≡ Self.join self.old other };
 
-    ghost is_calm: { Self.calm };
+    ghost is_calm: { (x y : Self) → Self.in_place x y };
 }

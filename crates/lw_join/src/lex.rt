@@ -10,14 +10,14 @@ pub struct Lex<J> {
 }
 
 impl<J: Join> Join for Lex<J> {
-    ghost use Rattle.lw_join.specs.Lex.{lex_below, lex_join};
+    ghost use Rattle.lw_join.specs.Lex.{lex_below, lex_join, lex_in_place};
     ghost use Rattle.lw_join.specs.LexLaws.{lex_laws};
 
     ghost below = { lex_below J.below };
 
     ghost join = { lex_join J.join };
 
-    ghost calm = { J.calm };
+    ghost in_place = { lex_in_place J.in_place };
 
     ghost laws = { lex_laws J.laws };
 
@@ -42,7 +42,9 @@ impl<J: Join> Join for Lex<J> {
 }
 
 impl<J: Calm> Calm for Lex<J> {
-    ghost is_calm = { J.is_calm };
+    ghost use Rattle.lw_join.specs.LexLaws.{lex_calm};
+
+    ghost is_calm = { lex_calm J.is_calm };
 
     fn join_calm(&mut self, other: Lex<J>) {
         match self.stamp.cmp(&other.stamp) {

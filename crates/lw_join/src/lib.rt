@@ -6,6 +6,7 @@
 mod entries;
 mod exact;
 mod flag;
+mod in_place;
 mod items;
 mod join;
 pub mod laws;

@@ -18,7 +18,7 @@ impl<V: Exact> Join for Lww<V> {
 
     ghost join = { lww_join V.cmp };
 
-    ghost calm = { Unit {0} };
+    ghost in_place = { λ _ _. Unit {0} };
 
     ghost laws = { lww_laws (record { total = V.total; exact = V.exact }) };
 
@@ -37,7 +37,7 @@ impl<V: Exact> Join for Lww<V> {
 }
 
 impl<V: Exact> Calm for Lww<V> {
-    ghost is_calm = { tt };
+    ghost is_calm = { λ _ _. tt };
 
     fn join_calm(&mut self, other: Lww<V>) {
         if !other.le(self) {

@@ -1,9 +1,12 @@
-//! The join of two maps, from the greatest key down, in time linear in their entries.
-ghost use Rattle.std.specs.Prelude.{◌≡◌, ◌+◌, ◌-◌, ◌<◌, ◌≤◌, [], ◌∷◌, ◌++◌, length, vec_len, vec_capacity, OnOk, OnErr, OnSome, IfSome, IfNone, reverse};
-ghost use Rattle.lw_join.specs.Entries.{Rises, entries_join};
+//! The join of two maps: entry by entry where few keys are missing, and otherwise by a merge from the
+//! greatest key down, in time linear in their entries.
+ghost use Rattle.std.specs.Prelude.{◌≡◌, ◌+◌, ◌<◌, ◌≤◌, [], ◌∷◌, ◌++◌, length, vec_len, vec_capacity, IsOk, OnOk, OnErr, OnSome, IfSome, IfNone, reverse};
+ghost use Rattle.lw_join.specs.Entries.{Rises, entries_join, missing};
 ghost use Rattle.lw_join.specs.Ends.{ends_cmp};
 
+use crate::entries::count_missing;
 use crate::exact::Exact;
+use crate::in_place::fill;
 use crate::join::Calm;
 use lw_stamp::NoMemory;
 use std::cmp::Ordering;
@@ -54,7 +57,7 @@ fn merge<K: Exact, J: Calm>(
     requires left { Rises K.cmp left.old.items }
     requires right { Rises K.cmp right.items }
     requires empty { joined.old.items ≡ [] }
-    requires room { vec_len left.old + vec_len right ≤ vec_capacity joined.old }
+    requires room { length (entries_join K.cmp J.join left.old.items right.items) ≤ vec_capacity joined.old }
     ensures { joined.new.items ≡ reverse (entries_join K.cmp J.join left.old.items right.items) }
 {
     while let Some(entry) = pop_greatest(left, &mut right) {
@@ -62,7 +65,30 @@ fn merge<K: Exact, J: Calm>(
     }
 }
 
-// All room is made before anything changes.
+// Goes by a new vector with room for the entries of both.
+fn merge_entries<K: Exact, J: Calm>(
+    into: &mut Vec<(K, J)>,
+    from: Vec<(K, J)>,
+    room: usize,
+) -> Result<(), NoMemory>
+    requires left { Rises K.cmp into.old.items }
+    requires right { Rises K.cmp from.items }
+    requires room { length (entries_join K.cmp J.join into.old.items from.items) ≤ room }
+    ensures ok { OnOk result (into.new.items ≡ entries_join K.cmp J.join into.old.items from.items) }
+    ensures err { OnErr result (into.new.items ≡ into.old.items) }
+{
+    let mut joined = Vec::with_capacity(*into.allocator(), room)?;
+    merge(into, from, &mut joined);
+    joined.reverse();
+    *into = joined;
+    Ok(())
+}
+
+// The most missing keys that are inserted one by one. An insert moves at most the entries above it, and
+// at once; the merge takes each entry out, puts it in and turns the whole round, one by one.
+const MOST_INSERTS: usize = 8;
+
+// All room is made before anything changes, and none where no key is missing.
 pub(crate) fn join_entries<K: Exact, J: Calm>(
     into: &mut Vec<(K, J)>,
     from: Vec<(K, J)>,
@@ -71,14 +97,14 @@ pub(crate) fn join_entries<K: Exact, J: Calm>(
     requires right { Rises K.cmp from.items }
     ensures ok { OnOk result (into.new.items ≡ entries_join K.cmp J.join into.old.items from.items) }
     ensures err { OnErr result (into.new.items ≡ into.old.items) }
+    ensures never_refused { missing K.cmp into.old.items from.items ≡ 0 → IsOk result }
 {
-    if from.is_empty() {
-        return Ok(());
+    let missing = count_missing(into, &from);
+    if missing > MOST_INSERTS {
+        let room = into.len().checked_add(missing).ok_or(NoMemory)?;
+        return merge_entries(into, from, room);
     }
-    let room = into.len().checked_add(from.len()).ok_or(NoMemory)?;
-    let mut joined = Vec::with_capacity(*into.allocator(), room)?;
-    merge(into, from, &mut joined);
-    joined.reverse();
-    *into = joined;
+    into.reserve(missing)?;
+    fill(into, from);
     Ok(())
 }

@@ -16,7 +16,7 @@ impl<V: Exact> Join for Once<V> {
 
     ghost join = { once_join V.cmp };
 
-    ghost calm = { Unit {0} };
+    ghost in_place = { λ _ _. Unit {0} };
 
     ghost laws = { once_laws (record { total = V.total; exact = V.exact }) };
 
@@ -35,7 +35,7 @@ impl<V: Exact> Join for Once<V> {
 }
 
 impl<V: Exact> Calm for Once<V> {
-    ghost is_calm = { tt };
+    ghost is_calm = { λ _ _. tt };
 
     fn join_calm(&mut self, other: Once<V>) {
         if !other.le(self) {

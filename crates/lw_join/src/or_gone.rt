@@ -9,14 +9,14 @@ pub enum OrGone<J> {
 }
 
 impl<J: Join> Join for OrGone<J> {
-    ghost use Rattle.lw_join.specs.OrGone.{gone_below, gone_join};
+    ghost use Rattle.lw_join.specs.OrGone.{gone_below, gone_join, gone_in_place};
     ghost use Rattle.lw_join.specs.OrGoneLaws.{gone_laws};
 
     ghost below = { gone_below J.below };
 
     ghost join = { gone_join J.join };
 
-    ghost calm = { J.calm };
+    ghost in_place = { gone_in_place J.in_place };
 
     ghost laws = { gone_laws J.laws };
 
@@ -43,7 +43,9 @@ impl<J: Join> Join for OrGone<J> {
 }
 
 impl<J: Calm> Calm for OrGone<J> {
-    ghost is_calm = { J.is_calm };
+    ghost use Rattle.lw_join.specs.OrGoneLaws.{gone_calm};
+
+    ghost is_calm = { gone_calm J.is_calm };
 
     fn join_calm(&mut self, other: OrGone<J>) {
         match other {

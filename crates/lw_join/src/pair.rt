@@ -10,7 +10,7 @@ impl<A: Join, B: Calm> Join for (A, B) {
 
     ghost join = { pair_join A.join B.join };
 
-    ghost calm = { A.calm };
+    ghost in_place = { λ x y. A.in_place x.0 y.0 };
 
     ghost laws = { pair_laws A.laws B.laws };
 
@@ -26,7 +26,7 @@ impl<A: Join, B: Calm> Join for (A, B) {
 }
 
 impl<A: Calm, B: Calm> Calm for (A, B) {
-    ghost is_calm = { A.is_calm };
+    ghost is_calm = { λ x y. A.is_calm x.0 y.0 };
 
     fn join_calm(&mut self, other: (A, B)) {
         self.0.join_calm(other.0);

@@ -91,14 +91,14 @@ impl<K: Exact, J: Drop> Parts<K, J> {
 }
 
 impl<K: Exact, J: Calm> Join for Parts<K, J> {
-    ghost use Rattle.lw_join.specs.Parts.{parts_below, parts_join};
+    ghost use Rattle.lw_join.specs.Parts.{parts_below, parts_join, parts_in_place};
     ghost use Rattle.lw_join.specs.PartsLaws.{parts_laws};
 
     ghost below = { parts_below J.below };
 
     ghost join = { parts_join J.join };
 
-    ghost calm = { ⊥ };
+    ghost in_place = { parts_in_place };
 
     ghost laws = { parts_laws (record { total = K.total; exact = K.exact }) J.laws };
 
@@ -106,6 +106,7 @@ impl<K: Exact, J: Calm> Join for Parts<K, J> {
         entries_le(self.entries.as_slice(), other.entries.as_slice())
     }
 
+    /// Takes memory for the keys that are missing.
     fn join_with(&mut self, other: Parts<K, J>) -> Result<(), NoMemory> {
         self.entries.join_with(other.entries)
     }

@@ -12,6 +12,7 @@ pub mod laws;
 mod limits;
 mod link;
 mod link_text;
+mod order;
 mod printing;
 mod reading;
 mod scan;

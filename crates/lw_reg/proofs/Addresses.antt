@@ -1,4 +1,7 @@
 -- What is read is printed so, and what is printed so is read.
+pub mod Cuts
+pub mod Numbers
+pub mod HexGroups
 use Rattle.std.proofs.Common.{◌≡◌, ℕ, ◌^◌, ◌<◌, List, [], ◌∷◌, ◌++◌, length, get_or, Option, Some, None, Result, Ok, Err, String, string_bytes, append_assoc, rules, refl, sym, ap, subst, ◌∙◌, arith}
 use Rattle.std.specs.Option.{IfSome}
 use Rattle.std.specs.Result.{IfOk}
@@ -9,10 +12,10 @@ use Rattle.std.proofs.lemmas.Slice.Eq.{text_from_reads}
 use Rattle.lw_reg.specs.declared.addr.Addr.{Addr}
 use Rattle.lw_reg.specs.declared.addr.Addr.TheVariants.{V4, V6}
 use Rattle.lw_reg.specs.Addr.{addr_text, IsHost, IsAddr}
-use Rattle.lw_reg.specs.AddrReading.{◌>>=◌, strip_at, number_in, octet_then, v4_in, four_then, v6_in, by_bracket, addr_in}
-use Rattle.lw_reg.proofs.Cuts.{bind_some, some_is, strip_at_parts, strip_at-other}
-use Rattle.lw_reg.proofs.Numbers.{number_in_text, number_in-decimal, first_of_decimal, octet_then_text, octet_then-decimal}
-use Rattle.lw_reg.proofs.HexGroups.{four_text, none_below, more_below, eight_below, four_then_text, four_then-text, colon, bracket}
+use Rattle.lw_reg.specs.Addr.Reading.{◌>>=◌, strip_at, number_in, octet_then, v4_in, four_then, v6_in, by_bracket, addr_in}
+use Rattle.lw_reg.proofs.Addresses.Cuts.{bind_some, some_is, strip_at_parts, strip_at-other}
+use Rattle.lw_reg.proofs.Addresses.Numbers.{number_in_text, number_in-decimal, first_of_decimal, octet_then_text, octet_then-decimal}
+use Rattle.lw_reg.proofs.Addresses.HexGroups.{four_text, none_below, more_below, eight_below, four_then_text, four_then-text, colon, bracket}
 
 -- the text of an IPv4 address, part by part
 v4_text : (a b c d port : ℕ) → addr_text (V4 (a ∷ b ∷ c ∷ d ∷ []) port) ≡ decimal a ++ (46 ∷ (decimal b ++ (46 ∷ (decimal c ++ (46 ∷ (decimal d ++ (58 ∷ decimal port)))))))

@@ -9,7 +9,7 @@ use Rattle.lw_join.specs.EntriesLaws.{same_key, get_below, get_first}
 use Rattle.lw_join.specs.GreaterLaws.{at_most_refl}
 use Rattle.lw_join.specs.declared.or_gone.OrGone.{OrGone}
 use Rattle.lw_join.specs.declared.or_gone.OrGone.TheVariants.{Here, Gone}
-use Rattle.lw_reg.specs.declared.accept.Accept.{Accept}
+use Rattle.lw_join.specs.declared.once.Once.{Once}
 use Rattle.lw_reg.specs.declared.path.Path.{Path}
 use Rattle.lw_reg.specs.declared.watch.Watch.{Watch}
 use Rattle.lw_reg.specs.Body.{Watching}
@@ -36,14 +36,14 @@ true_not_false : {G : Type 0} (b : Bool) → b ≡ true → b ≡ false → G
 true_not_false b h k = cc
 
 -- a path has one token, and what it holds of that
-pub one_watching : (t u : Stamp) (x y : OrGone Accept) → ◌≡◌ {A = Option Watching} (Some (record { stamp = t; value = x })) (Some (record { stamp = u; value = y })) → (t ≡ u) × (x ≡ y)
+pub one_watching : (t u : Stamp) (x y : OrGone (Once ℕ)) → ◌≡◌ {A = Option Watching} (Some (record { stamp = t; value = x })) (Some (record { stamp = u; value = y })) → (t ≡ u) × (x ≡ y)
 one_watching t u x y h = (ap stamp_in h, ap value_in h)
   where
     stamp_in : Option Watching → Stamp
     stamp_in None = t
     stamp_in (Some w) = w.stamp
 
-    value_in : Option Watching → OrGone Accept
+    value_in : Option Watching → OrGone (Once ℕ)
     value_in None = x
     value_in (Some w) = w.value
 
@@ -83,7 +83,7 @@ module _ (test : Watch → Bool) where
   own_key p x es = get_first path_order (p, x) es
 
   -- an entry that is taken
-  taken : (p : Path) (t : Stamp) (a : Accept) (es : List (Path × Watching)) → Rises path_cmp ((p, record { stamp = t; value = Here a }) ∷ es) → test (record { token = t; path = p; accept = a.format }) ≡ true → IsFirstOf test ((p, record { stamp = t; value = Here a }) ∷ es) (record { token = t; path = p; accept = a.format })
+  taken : (p : Path) (t : Stamp) (a : Once ℕ) (es : List (Path × Watching)) → Rises path_cmp ((p, record { stamp = t; value = Here a }) ∷ es) → test (record { token = t; path = p; accept = a.value }) ≡ true → IsFirstOf test ((p, record { stamp = t; value = Here a }) ∷ es) (record { token = t; path = p; accept = a.value })
   taken p t a es rises passes = record {
     there = own_key p (record { stamp = t; value = Here a }) es;
     passes = passes;
@@ -93,31 +93,31 @@ module _ (test : Watch → Bool) where
   }
 
   -- the watch of an entry is the one that it holds
-  entry_watch : (p : Path) (t : Stamp) (a : Accept) (v : Watch) → v.path ≡ p → Some (record { stamp = t; value = Here a }) ≡ Some (observed v.token v.accept) → v ≡ record { token = t; path = p; accept = a.format }
+  entry_watch : (p : Path) (t : Stamp) (a : Once ℕ) (v : Watch) → v.path ≡ p → Some (record { stamp = t; value = Here a }) ≡ Some (observed v.token v.accept) → v ≡ record { token = t; path = p; accept = a.value }
   entry_watch p t a v same this =
-      let parts = one_watching t v.token (Here a) (Here (record { format = v.accept })) this in
-      let accept : a.format ≡ v.accept = here_format a v.accept parts.1 in
+      let parts = one_watching t v.token (Here a) (Here (record { value = v.accept })) this in
+      let accept : a.value ≡ v.accept = here_format a v.accept parts.1 in
       λ i. record { token = sym parts.0 i; path = same i; accept = sym accept i }
     where
-      here_format : (a : Accept) (o : Option ℕ) → Here a ≡ Here (record { format = o }) → a.format ≡ o
+      here_format : (a : Once ℕ) (o : Option ℕ) → Here a ≡ Here (record { value = o }) → a.value ≡ o
       here_format a o e = ap format_in e
         where
-          format_in : OrGone Accept → Option ℕ
+          format_in : OrGone (Once ℕ) → Option ℕ
           format_in Gone = o
-          format_in (Here b) = b.format
+          format_in (Here b) = b.value
 
   pub first_is : (es : List (Path × Watching)) → Rises path_cmp es → FirstOf test es (first_watch test es)
   first_is [] rises = λ v h passes. (let none = h in cc)
   first_is (e ∷ es) rises = step e.0 e.1.stamp e.1.value rises (first_is es rises.1)
     where
-      by_test : (p : Path) (t : Stamp) (a : Accept) (b : Bool) → test (record { token = t; path = p; accept = a.format }) ≡ b → Rises path_cmp ((p, record { stamp = t; value = Here a }) ∷ es) → FirstOf test es (first_watch test es) → FirstOf test ((p, record { stamp = t; value = Here a }) ∷ es) (cond b (Some (record { token = t; path = p; accept = a.format })) (first_watch test es))
+      by_test : (p : Path) (t : Stamp) (a : Once ℕ) (b : Bool) → test (record { token = t; path = p; accept = a.value }) ≡ b → Rises path_cmp ((p, record { stamp = t; value = Here a }) ∷ es) → FirstOf test es (first_watch test es) → FirstOf test ((p, record { stamp = t; value = Here a }) ∷ es) (cond b (Some (record { token = t; path = p; accept = a.value })) (first_watch test es))
       by_test p t a true passes rises rest = taken p t a es rises passes
       by_test p t a false fails rises rest = passed p (record { stamp = t; value = Here a }) es (first_watch test es) rises
           (λ v same this passes. true_not_false (test v) passes (ap test (entry_watch p t a v same this) ∙ fails)) rest
 
-      step : (p : Path) (t : Stamp) (x : OrGone Accept) → Rises path_cmp ((p, record { stamp = t; value = x }) ∷ es) → FirstOf test es (first_watch test es) → FirstOf test ((p, record { stamp = t; value = x }) ∷ es) (first_watch test ((p, record { stamp = t; value = x }) ∷ es))
-      step p t Gone rises rest = passed p (cancelled t) es (first_watch test es) rises (λ v same this passes. not_gone (one_watching t v.token Gone (Here (record { format = v.accept })) this).1) rest
+      step : (p : Path) (t : Stamp) (x : OrGone (Once ℕ)) → Rises path_cmp ((p, record { stamp = t; value = x }) ∷ es) → FirstOf test es (first_watch test es) → FirstOf test ((p, record { stamp = t; value = x }) ∷ es) (first_watch test ((p, record { stamp = t; value = x }) ∷ es))
+      step p t Gone rises rest = passed p (cancelled t) es (first_watch test es) rises (λ v same this passes. not_gone (one_watching t v.token Gone (Here (record { value = v.accept })) this).1) rest
         where
-          not_gone : {o : Option ℕ} → ◌≡◌ {A = OrGone Accept} Gone (Here (record { format = o })) → ⊥
+          not_gone : {o : Option ℕ} → ◌≡◌ {A = OrGone (Once ℕ)} Gone (Here (record { value = o })) → ⊥
           not_gone e = cc
-      step p t (Here a) rises rest = by_test p t a (test (record { token = t; path = p; accept = a.format })) refl rises rest
+      step p t (Here a) rises rest = by_test p t a (test (record { token = t; path = p; accept = a.value })) refl rises rest

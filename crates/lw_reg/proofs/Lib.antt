@@ -1,9 +1,8 @@
-pub mod Cuts
-pub mod Numbers
-pub mod HexGroups
 pub mod Addresses
 pub mod BindingLemmas
 pub mod WatchLemmas
+pub mod AboveLemmas
+pub mod NothingLemmas
 pub mod Members
 pub mod Tells
 pub mod Readings

@@ -25,17 +25,18 @@ use Rattle.lw_reg.specs.declared.op.Op.{Op}
 use Rattle.lw_reg.specs.declared.op.What.{What}
 use Rattle.lw_reg.specs.declared.op.What.TheVariants.{Register, Update, Remove, Observe, Cancel}
 use Rattle.lw_reg.specs.declared.slot.Slot.{Slot}
-use Rattle.lw_reg.specs.Body.{Watches, watching_below, watching_join, body_join}
+use Rattle.lw_reg.specs.Body.{Watches, watching_below, watching_join, body_join, no_watches}
 use Rattle.lw_reg.specs.BodyLaws.{watching_laws}
 use Rattle.lw_reg.specs.Marks.{Trace, Mark, Has, NamesAll, AllAbout, among, left_by, marks_about, marks_of, all_marks, traces_of}
 use Rattle.lw_reg.specs.Marks.Trace.{Named}
 use Rattle.lw_reg.specs.OrderLaws.{path_order, text_order}
 use Rattle.lw_reg.specs.Orders.{path_cmp}
 use Rattle.lw_reg.specs.Reading.{IsSlotOf}
-use Rattle.lw_reg.specs.Slot.{slot_join, slot_at, no_watches, told_by, told_of, slot_of}
+use Rattle.lw_reg.specs.Slot.{slot_join, slot_at, told_by, told_of, slot_of}
 use Rattle.lw_reg.specs.SlotLaws.{slot_laws}
 use Rattle.lw_reg.specs.State.{State, state_join, IsStateOf, state_of}
 use Rattle.lw_reg.proofs.Members.{none_there, first_there, more_there, there_or_first}
+use Rattle.lw_reg.proofs.WatchLemmas.{no_watches_below}
 use Rattle.lw_reg.proofs.States.{state_laws, state_least, state_is, state_union}
 
 -- ---- each operation names what it is about
@@ -85,13 +86,10 @@ state_of-marks_about e r k (j ∷ ks) =
 
 -- no watch is below all
 none_first : (w : Watches) → parts_join watching_join no_watches w ≡ w
-none_first w = laws.antisymmetric _ _ (laws.least no_watches w w none_below (laws.reflexive w)) (laws.above_right no_watches w)
+none_first w = laws.antisymmetric _ _ (laws.least no_watches w w (no_watches_below w) (laws.reflexive w)) (laws.above_right no_watches w)
   where
     laws : IsJoin {S = Watches} (parts_below watching_below) (parts_join watching_join)
     laws = parts_laws path_order watching_laws
-
-    none_below : parts_below watching_below no_watches w
-    none_below p = subst (λ es. option_below watching_below (get_entry path_cmp es p) (value_at w p)) (sym (entries_made _ _ _ [] tt)) tt
 
 told_all : (s : Stamp) (w : What) → tell_all Named (traces_of s w) ≡ told_of s w
 unfolding tell_all

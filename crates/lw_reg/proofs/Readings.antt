@@ -19,19 +19,16 @@ use Rattle.lw_join.specs.declared.or_gone.OrGone.{OrGone}
 use Rattle.lw_join.specs.declared.or_gone.OrGone.TheVariants.{Here, Gone}
 use Rattle.lw_join.proofs.FacetLemmas.{greatest_same, greatest_one}
 use Rattle.lw_reg.specs.declared.addr.Addr.{Addr}
-use Rattle.lw_reg.specs.declared.accept.Accept.{Accept}
 use Rattle.lw_reg.specs.declared.base.Base.{Base}
 use Rattle.lw_reg.specs.declared.binding.Binding.{Binding}
 use Rattle.lw_reg.specs.declared.body.Body.{Body}
 use Rattle.lw_reg.specs.declared.path.Path.{Path}
-use Rattle.lw_reg.specs.Accept.{format_cmp}
-use Rattle.lw_reg.specs.AcceptLaws.{format_order}
 use Rattle.lw_reg.specs.BindingLaws.{binding_order}
 use Rattle.lw_reg.specs.Body.{Watching}
 use Rattle.lw_reg.specs.Marks.{Trace, Marks, Has}
 use Rattle.lw_reg.specs.Marks.Trace.{Named, Based, AddressAt, SeenAt, LifetimeAt, BindingAt, SmsAt, ObjectsAt, Watched, Cancelled}
-use Rattle.lw_reg.specs.OrderLaws.{addr_order, moment_order, number_order, sms_order, text_order}
-use Rattle.lw_reg.specs.Orders.{addr_cmp, base_cmp, binding_cmp, moment_cmp, path_cmp, sms_cmp}
+use Rattle.lw_reg.specs.OrderLaws.{addr_order, moment_order, number_order, sms_order, text_order, format_order}
+use Rattle.lw_reg.specs.Orders.{addr_cmp, base_cmp, binding_cmp, moment_cmp, path_cmp, sms_cmp, format_cmp}
 use Rattle.lw_reg.specs.Reading.{registration_of, registered_in, watches_of}
 use Rattle.lw_reg.specs.Registration.{Registration}
 use Rattle.lw_reg.specs.Showing.{IsCurrent, IsRegistered, IsToken, queue_of}
@@ -216,15 +213,15 @@ module _ (M : Marks) (e : List ℕ) (names : (r : Stamp) (k : Trace) → Has M e
   path_to r p None t a g h = absurd (g (t, Asked a) h.watched.member)
   path_to r p (Some w) t a g h = go w.stamp w.value g
     where
-      token : (u : Stamp) (x : OrGone Accept) → WatchTells (OfPath r p) (record { stamp = u; value = x }) → u ≡ t
+      token : (u : Stamp) (x : OrGone (Once ℕ)) → WatchTells (OfPath r p) (record { stamp = u; value = x }) → u ≡ t
       token u x g = greatest_one stamp_order (IsToken M e r p) u t (greatest_same stamp_order _ _ u (token_keys r p) g.key) h.newest
 
-      go : (u : Stamp) (x : OrGone Accept) → WatchTells (OfPath r p) (record { stamp = u; value = x }) → ◌≡◌ {A = Option Watching} (Some (record { stamp = u; value = x })) (Some (observed t a))
+      go : (u : Stamp) (x : OrGone (Once ℕ)) → WatchTells (OfPath r p) (record { stamp = u; value = x }) → ◌≡◌ {A = Option Watching} (Some (record { stamp = u; value = x })) (Some (observed t a))
       go u Gone g = absurd (h.kept (subst (λ s. Has M e r (Cancelled p s)) (token u Gone g) g.told))
       go u (Here x) g =
           let same = token u (Here x) g in
-          let accept : x.format ≡ a = greatest_one format_order (λ b. Has M e r (Watched p t b)) x.format a (subst (λ s. IsGreatest format_cmp (λ b. Has M e r (Watched p s b)) x.format) same g.told.1) h.watched in
-          λ i. Some (record { stamp = same i; value = Here (record { format = accept i }) })
+          let accept : x.value ≡ a = greatest_one format_order (λ b. Has M e r (Watched p t b)) x.value a (subst (λ s. IsGreatest format_cmp (λ b. Has M e r (Watched p s b)) x.value) same g.told.1) h.watched in
+          λ i. Some (record { stamp = same i; value = Here (record { value = accept i }) })
 
   -- the watches of a slot that shows a registration
   pub watch_from : (r : Stamp) (x : OrGone Body) (v : Registration) (p : Path) (t : Stamp) (a : Option ℕ) → Told (r, x) → registered_in e (slot_at r x) ≡ Some v → get path_cmp (watches_of (slot_at r x)) p ≡ Some (observed t a) → IsWatch r p t a

@@ -17,10 +17,9 @@ use Rattle.lw_reg.specs.declared.binding.Binding.{Binding}
 use Rattle.lw_reg.specs.declared.body.Body.{Body}
 use Rattle.lw_reg.specs.declared.slot.Slot.{Slot}
 use Rattle.lw_reg.specs.declared.watch.Watch.{Watch}
-use Rattle.lw_reg.specs.Accept.{format_cmp}
 use Rattle.lw_reg.specs.Marks.{Trace, Marks, Has}
 use Rattle.lw_reg.specs.Marks.Trace.{Named, Watched, Cancelled}
-use Rattle.lw_reg.specs.Orders.{path_cmp}
+use Rattle.lw_reg.specs.Orders.{path_cmp, format_cmp}
 use Rattle.lw_reg.specs.Reading.{registration_of, registered_in, in_time, timely, view_in, is_late, watches_of, first_watch, if_shown, live_watch}
 use Rattle.lw_reg.specs.Registration.{Registration}
 use Rattle.lw_reg.specs.Showing.{IsCurrent, IsToken, IsInTime, IsShown, IsAnswer, ShownOf, LivesOf, HasExpired, IsFirstOfWatches}

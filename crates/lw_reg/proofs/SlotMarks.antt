@@ -12,16 +12,15 @@ use Rattle.lw_join.specs.Parts.{value_at}
 use Rattle.lw_join.specs.declared.or_gone.OrGone.{OrGone}
 use Rattle.lw_join.specs.declared.or_gone.OrGone.TheVariants.{Here, Gone}
 use Rattle.lw_join.proofs.FacetLemmas.{greatest_single, keyed_single}
-use Rattle.lw_reg.specs.declared.accept.Accept.{Accept}
+use Rattle.lw_join.specs.declared.once.Once.{Once}
 use Rattle.lw_reg.specs.declared.body.Body.{Body}
 use Rattle.lw_reg.specs.declared.path.Path.{Path}
 use Rattle.lw_reg.specs.declared.slot.Slot.{Slot}
-use Rattle.lw_reg.specs.AcceptLaws.{format_order}
 use Rattle.lw_reg.specs.BindingLaws.{binding_order}
 use Rattle.lw_reg.specs.Body.{Watching}
 use Rattle.lw_reg.specs.Marks.{Trace, Has}
 use Rattle.lw_reg.specs.Marks.Trace.{Named}
-use Rattle.lw_reg.specs.OrderLaws.{addr_order, base_order, moment_order, number_order, sms_order, text_order}
+use Rattle.lw_reg.specs.OrderLaws.{addr_order, base_order, moment_order, number_order, sms_order, text_order, format_order}
 use Rattle.lw_reg.specs.Reading.{BodyShows, Shows, shown_by}
 use Rattle.lw_reg.proofs.FirstWatch.{one_watching}
 use Rattle.lw_reg.proofs.Tells.{Sign, sign_trace, EndTells, WatchTells, WatchesTell, BodyTells, ToldTells, SlotTells, told_facet}
@@ -35,27 +34,27 @@ option_self order (Some a) = greatest_single order _ a refl (λ y e. cc)
 field_self : {V : Type 0} {cmp : V → V → Ordering} → IsExactOrder cmp → (o : Option (Stamp × V)) → OptionTells (IsGreatest (write_cmp cmp)) (λ x. o ≡ Some (x.0, x.1)) o
 field_self order o = option_self (write_order order) o
 
-abbrev sign_value : Sign → OrGone Accept
-sign_value (Asked a) = Here (record { format = a })
+abbrev sign_value : Sign → OrGone (Once ℕ)
+sign_value (Asked a) = Here (record { value = a })
 sign_value Ended = Gone
 
 abbrev signed : Stamp → Sign → Watching
 signed t g = record { stamp = t; value = sign_value g }
 
-abbrev format_in : Option ℕ → OrGone Accept → Option ℕ
+abbrev format_in : Option ℕ → OrGone (Once ℕ) → Option ℕ
 format_in o Gone = o
-format_in o (Here a) = a.format
+format_in o (Here a) = a.value
 
 watch_self : (o : Option Watching) (P : Stamp × Sign → Type 0) → ((t : Stamp) (g : Sign) → P (t, g) ↔ (o ≡ Some (signed t g))) → OptionTells WatchTells P o
 watch_self None P h = λ y p. (let e : ◌≡◌ {A = Option Watching} None (Some (signed y.0 y.1)) = (h y.0 y.1).0 p in cc)
 watch_self (Some w) P h = go w.stamp w.value h
   where
-    go : (t : Stamp) (x : OrGone Accept) → ((u : Stamp) (g : Sign) → P (u, g) ↔ (◌≡◌ {A = Option Watching} (Some (record { stamp = t; value = x })) (Some (signed u g)))) → WatchTells P (record { stamp = t; value = x })
+    go : (t : Stamp) (x : OrGone (Once ℕ)) → ((u : Stamp) (g : Sign) → P (u, g) ↔ (◌≡◌ {A = Option Watching} (Some (record { stamp = t; value = x })) (Some (signed u g)))) → WatchTells P (record { stamp = t; value = x })
     go t Gone h = keyed_single stamp_order EndTells P t Ended Gone ((h t Ended).1 refl) (λ u g p. sym (one_watching t u Gone (sign_value g) ((h u g).0 p)).0) ((h t Ended).1 refl)
-    go t (Here a) h = keyed_single stamp_order EndTells P t (Asked a.format) (Here a) ((h t (Asked a.format)).1 refl) (λ u g p. sym (one_watching t u (Here a) (sign_value g) ((h u g).0 p)).0)
-        (λ p. not_gone (one_watching t t (Here a) Gone ((h t Ended).0 p)).1, greatest_single format_order (λ b. P (t, Asked b)) a.format ((h t (Asked a.format)).1 refl) (λ b p. sym (ap (format_in None) (one_watching t t (Here a) (Here (record { format = b })) ((h t (Asked b)).0 p)).1)))
+    go t (Here a) h = keyed_single stamp_order EndTells P t (Asked a.value) (Here a) ((h t (Asked a.value)).1 refl) (λ u g p. sym (one_watching t u (Here a) (sign_value g) ((h u g).0 p)).0)
+        (λ p. not_gone (one_watching t t (Here a) Gone ((h t Ended).0 p)).1, greatest_single format_order (λ b. P (t, Asked b)) a.value ((h t (Asked a.value)).1 refl) (λ b p. sym (ap (format_in None) (one_watching t t (Here a) (Here (record { value = b })) ((h t (Asked b)).0 p)).1)))
       where
-        not_gone : ◌≡◌ {A = OrGone Accept} (Here a) Gone → ⊥
+        not_gone : ◌≡◌ {A = OrGone (Once ℕ)} (Here a) Gone → ⊥
         not_gone e = cc
 
 watches_self : (b : Body) → WatchesTell (BodyShows b) b.watches

@@ -1,8 +1,9 @@
 -- What slots and states tell of a set of marks, and that the state of a set tells of that set.
-use Rattle.std.proofs.Common.{◌≡◌, ℕ, sym, refl, ap, subst, inl, inr, ◌⊎◌, List, [], ◌∷◌, Option}
+use Rattle.std.proofs.Common.{◌≡◌, ℕ, sym, refl, ap, subst, inl, inr, ◌⊎◌, List, [], ◌∷◌, Option, Some, None}
 use Rattle.std.specs.Prelude.{◌↔◌, Contains}
 use Rattle.std.specs.declared.cmp.Ordering.{Ordering}
-use Rattle.std.specs.Ordering.{nat_cmp}
+use Rattle.std.specs.declared.cmp.Ordering.TheVariants.{Less, Equal, Greater}
+use Rattle.std.specs.Ordering.{nat_cmp, max_by_ordering}
 use Rattle.lw_stamp.specs.declared.stamp.Stamp.{Stamp}
 use Rattle.lw_stamp.specs.Order.{IsExactOrder, IsGreatest}
 use Rattle.lw_stamp.specs.TextOrder.{text_cmp}
@@ -10,7 +11,9 @@ use Rattle.lw_stamp.proofs.StampLemmas.{stamp_order}
 use Rattle.lw_join.specs.Facets.{IsFacet, Through, OnceTells, LwwTells, LexTells, GoneTells, PartsTells, MapTells}
 use Rattle.lw_join.specs.Lww.{lww_join}
 use Rattle.lw_join.specs.LwwLaws.{write_order}
+use Rattle.lw_join.specs.Greater.{greater}
 use Rattle.lw_join.specs.Once.{once_join}
+use Rattle.lw_join.specs.Options.{option_join}
 use Rattle.lw_join.specs.OrGone.{gone_join}
 use Rattle.lw_join.specs.Parts.{parts_join}
 use Rattle.lw_join.specs.PartsLaws.{entries_made}
@@ -21,20 +24,17 @@ use Rattle.lw_join.specs.declared.or_gone.OrGone.{OrGone}
 use Rattle.lw_join.specs.declared.or_gone.OrGone.TheVariants.{Here, Gone}
 use Rattle.lw_join.proofs.FacetLemmas.{greatest_facet, greatest_single, through_facet, facet_along, once_facet, lww_facet, gone_facet, keyed_single, lex_facet, lex_some, parts_facet, parts_empty, parts_single}
 use Rattle.lw_join.proofs.MapLemmas.{map_facet, map_empty, map_single}
-use Rattle.lw_reg.specs.declared.accept.Accept.{Accept}
 use Rattle.lw_reg.specs.declared.base.Base.{Base}
 use Rattle.lw_reg.specs.declared.body.Body.{Body}
 use Rattle.lw_reg.specs.declared.path.Path.{Path}
 use Rattle.lw_reg.specs.declared.slot.Slot.{Slot}
-use Rattle.lw_reg.specs.Accept.{format_cmp, accept_join}
-use Rattle.lw_reg.specs.AcceptLaws.{format_order}
 use Rattle.lw_reg.specs.BindingLaws.{binding_order}
-use Rattle.lw_reg.specs.Body.{Watching, Watches, watching_join, body_join}
+use Rattle.lw_reg.specs.Body.{Watching, Watches, watching_join, body_join, no_watches, one_watch}
 use Rattle.lw_reg.specs.Marks.{Trace, Mark, Marks, among, NamesAll}
 use Rattle.lw_reg.specs.Marks.Trace.{Named, Based, AddressAt, SeenAt, LifetimeAt, BindingAt, SmsAt, ObjectsAt, Removed, Watched, Cancelled}
-use Rattle.lw_reg.specs.OrderLaws.{addr_order, base_order, moment_order, number_order, path_order, sms_order, text_order}
-use Rattle.lw_reg.specs.Orders.{addr_cmp, base_cmp, binding_cmp, moment_cmp, sms_cmp}
-use Rattle.lw_reg.specs.Slot.{slot_join, slot_at, base_in, address_in, seen_in, lifetime_in, binding_in, sms_in, objects_in, no_watches, one_watch, watches_in, body_in, told_by}
+use Rattle.lw_reg.specs.OrderLaws.{addr_order, base_order, moment_order, number_order, path_order, sms_order, text_order, format_order}
+use Rattle.lw_reg.specs.Orders.{addr_cmp, base_cmp, binding_cmp, format_cmp, moment_cmp, sms_cmp}
+use Rattle.lw_reg.specs.Slot.{slot_join, slot_at, base_in, address_in, seen_in, lifetime_in, binding_in, sms_in, objects_in, watches_in, body_in, told_by}
 use Rattle.lw_reg.specs.State.{State, state_join, atom_of, state_of}
 use Rattle.lw_reg.proofs.Members.{none_there, first_there, more_there, there_or_first}
 
@@ -60,10 +60,10 @@ FieldTells cmp field = Through (field_trace field) (LwwTells cmp)
 abbrev pub BaseTells : (Trace → Type 0) → Once Base → Type 0
 BaseTells = Through Based (OnceTells base_cmp)
 
-abbrev pub AcceptTells : (Option ℕ → Type 0) → Accept → Type 0
-AcceptTells P accept = IsGreatest format_cmp P accept.format
+abbrev pub AcceptTells : (Option ℕ → Type 0) → Once ℕ → Type 0
+AcceptTells P accept = IsGreatest format_cmp P accept.value
 
-abbrev pub EndTells : (Sign → Type 0) → OrGone Accept → Type 0
+abbrev pub EndTells : (Sign → Type 0) → OrGone (Once ℕ) → Type 0
 EndTells = GoneTells Ended (Through Asked AcceptTells)
 
 abbrev pub WatchTells : (Stamp × Sign → Type 0) → Watching → Type 0
@@ -99,8 +99,22 @@ base_facet = through_facet Based (once_facet base_order)
 pub field_facet : {V : Type 0} {cmp : V → V → Ordering} → IsExactOrder cmp → (field : Stamp → V → Trace) → IsFacet (lww_join cmp) (FieldTells cmp field)
 field_facet order field = through_facet (field_trace field) (lww_facet order)
 
-accept_facet : IsFacet accept_join AcceptTells
-accept_facet = facet_along (λ (a : Accept). a.format) (λ (o : Option ℕ). record { format = o }) (λ s. refl) (λ t. refl) (greatest_facet format_order)
+-- the greater of two formats that may be absent
+greater_some : (o : Ordering) (x y : ℕ) → max_by_ordering o (Some x) (Some y) ≡ Some (max_by_ordering o x y)
+greater_some Less x y = refl
+greater_some Equal x y = refl
+greater_some Greater x y = refl
+
+greater_format : (x y : Option ℕ) → greater format_cmp x y ≡ option_join (greater nat_cmp) x y
+greater_format None None = refl
+greater_format None (Some y) = refl
+greater_format (Some x) None = refl
+greater_format (Some x) (Some y) = greater_some (nat_cmp x y) x y
+
+accept_facet : IsFacet (once_join nat_cmp) AcceptTells
+accept_facet =
+    subst (λ (join : Once ℕ → Once ℕ → Once ℕ). IsFacet join AcceptTells) (λ i x y. record { value = greater_format x.value y.value i })
+    (facet_along (λ (a : Once ℕ). a.value) (λ (o : Option ℕ). record { value = o }) (λ s. refl) (λ t. refl) (greatest_facet format_order))
 
 pub watches_facet : IsFacet (parts_join watching_join) WatchesTell
 watches_facet = through_facet watch_trace (parts_facet path_order (lex_facet (gone_facet Ended (through_facet Asked accept_facet))) (lex_some EndTells))
@@ -214,7 +228,7 @@ same_cancelled p q t u Ended (inl e) = (cc, (cc), refl)
 same_cancelled p q t u Ended (inr e) = absurd cc
 
 -- one watch tells of a set of traces that has one watch
-one_watch_tells : (k : Trace) (p : Path) (t : Stamp) (g : Sign) (x : OrGone Accept) → With k (sign_trace p t g) → ((q : Path) (u : Stamp) (h : Sign) → With k (sign_trace q u h) → (q ≡ p) × (u ≡ t)) → EndTells (λ h. With k (sign_trace p t h)) x → WatchesTell (With k) (one_watch p (record { stamp = t; value = x }))
+one_watch_tells : (k : Trace) (p : Path) (t : Stamp) (g : Sign) (x : OrGone (Once ℕ)) → With k (sign_trace p t g) → ((q : Path) (u : Stamp) (h : Sign) → With k (sign_trace q u h) → (q ≡ p) × (u ≡ t)) → EndTells (λ h. With k (sign_trace p t h)) x → WatchesTell (With k) (one_watch p (record { stamp = t; value = x }))
 one_watch_tells k p t g x member only told =
     parts_single WatchTells (λ y. With k (watch_trace y)) (one_watch p (record { stamp = t; value = x })) path_order p (record { stamp = t; value = x })
     (entries_made _ _ _ ((p, record { stamp = t; value = x }) ∷ []) (tt, tt))
@@ -223,7 +237,7 @@ one_watch_tells k p t g x member only told =
 
 watches_told : (k : Trace) → WatchesTell (With k) (watches_in k)
 watches_told (Watched p t a) =
-    one_watch_tells (Watched p t a) p t (Asked a) (Here (record { format = a })) (inl refl)
+    one_watch_tells (Watched p t a) p t (Asked a) (Here (record { value = a })) (inl refl)
     (λ q u h e. let s = same_watched p q t u h a e in (s.0, s.1))
     (λ e. asked_ended (same_watched p p t t Ended a e).2, greatest_single format_order _ a (inl refl) (λ b e. same_asked a b (same_watched p p t t (Asked b) a e).2))
   where

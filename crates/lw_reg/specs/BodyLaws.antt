@@ -5,13 +5,12 @@ use Rattle.lw_join.specs.LwwLaws.{lww_laws}
 use Rattle.lw_join.specs.OnceLaws.{once_laws}
 use Rattle.lw_join.specs.OrGoneLaws.{gone_laws}
 use Rattle.lw_join.specs.PartsLaws.{parts_laws}
-use Rattle.lw_reg.specs.AcceptLaws.{accept_laws}
 use Rattle.lw_reg.specs.Body.{watching_below, watching_join, BodyBelow, body_join}
 use Rattle.lw_reg.specs.BindingLaws.{binding_order}
 use Rattle.lw_reg.specs.OrderLaws.{addr_order, text_order, base_order, moment_order, number_order, path_order, sms_order}
 
 pub watching_laws : IsJoin watching_below watching_join
-watching_laws = lex_laws (gone_laws accept_laws)
+watching_laws = lex_laws (gone_laws (once_laws number_order))
 
 pub body_laws : IsJoin BodyBelow body_join
 body_laws =

@@ -7,8 +7,8 @@ use Rattle.lw_reg.specs.declared.body.Body.{Body}
 use Rattle.lw_reg.specs.declared.fields.Fields.{Fields}
 use Rattle.lw_reg.specs.declared.slot.Slot.{Slot}
 use Rattle.lw_reg.specs.declared.path.Path.{Path}
-use Rattle.lw_reg.specs.Body.{Watching}
-use Rattle.lw_reg.specs.Slot.{slot_at, one_watch}
+use Rattle.lw_reg.specs.Body.{Watching, one_watch}
+use Rattle.lw_reg.specs.Slot.{slot_at}
 
 abbrev pub fields_body : Fields → Body
 fields_body f = record {

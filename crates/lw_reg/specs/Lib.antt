@@ -1,14 +1,16 @@
 pub mod Addr
-pub mod AddrReading
 pub mod Orders
 pub mod BindingText
 pub mod Binding
+pub mod Endpoint
 pub mod Version
 pub mod Registration
 pub mod Marks
 pub mod Showing
 pub mod BindingLaws
 pub mod Body
+pub mod Told
+pub mod Kept
 pub mod BodyLaws
 pub mod Slot
 pub mod SlotLaws
@@ -19,6 +21,4 @@ pub mod Laws
 pub mod ByNumbers
 pub mod PathNumbers
 pub mod Path
-pub mod Accept
-pub mod AcceptLaws
 pub mod OrderLaws

@@ -48,12 +48,6 @@ traces_of s Remove = Removed ∷ []
 traces_of s (Observe path accept) = Watched path s accept ∷ []
 traces_of s (Cancel path token) = Cancelled path token ∷ []
 
--- it speaks of no watch
-abbrev pub SpeaksOfNoWatch : What → Type 0
-SpeaksOfNoWatch (Observe path accept) = ⊥
-SpeaksOfNoWatch (Cancel path token) = ⊥
-SpeaksOfNoWatch _ = Unit {0}
-
 abbrev pub marks_about : List ℕ → Stamp → List Trace → List Mark
 marks_about e r [] = []
 marks_about e r (k ∷ ks) = record { endpoint = e; registration = r; trace = k } ∷ marks_about e r ks

@@ -22,7 +22,7 @@ use Rattle.lw_reg.specs.declared.version.Version.TheVariants.{V10, V11}
 use Rattle.lw_reg.specs.ByNumbers.{TellApart, by_numbers_order}
 use Rattle.lw_reg.specs.Path.{path_numbers}
 use Rattle.lw_reg.specs.PathNumbers.{IsKept}
-use Rattle.lw_reg.specs.Orders.{family, bytes_of, port_of, minor, addr_cmp, addr_by_parts, sms_cmp, version_cmp, version_by_number, base_cmp, base_by_parts, moment_cmp, path_cmp}
+use Rattle.lw_reg.specs.Orders.{family, bytes_of, port_of, minor, addr_cmp, addr_by_parts, sms_cmp, version_cmp, version_by_number, base_cmp, base_by_parts, moment_cmp, format_cmp, path_cmp}
 
 -- an order that is another has what that has
 order_along : {V : Type 0} {P Q : V → V → Ordering} → ((a b : V) → P a b ≡ Q a b) → IsExactOrder Q → IsExactOrder P
@@ -75,6 +75,9 @@ base_order = order_along base_parts (record {
 -- ---- numbers and texts
 pub number_order : IsExactOrder nat_cmp
 number_order = record { total = nat_cmp_total; exact = exact_unsigned }
+
+pub format_order : IsExactOrder format_cmp
+format_order = record { total = options_total nat_cmp_total; exact = exact_option exact_unsigned }
 
 pub moment_order : IsExactOrder moment_cmp
 moment_order = record { total = on_total ms_of nat_cmp_total; exact = exact_moment }

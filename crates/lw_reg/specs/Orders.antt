@@ -19,6 +19,8 @@ use Rattle.lw_reg.specs.Path.{path_numbers}
 use Rattle.lw_reg.specs.contracts.addr.AddrOrd.TheImpl as addrs
 use Rattle.lw_reg.specs.contracts.base.BaseOrd.TheImpl as bases
 use Rattle.lw_reg.specs.contracts.binding.BindingOrd.TheImpl as bindings
+use Rattle.lw_reg.specs.contracts.endpoint.EndpointOrd.TheImpl as endpoints
+use Rattle.lw_reg.specs.contracts.sms_number.SmsNumberOrd.TheImpl as sms_numbers
 use Rattle.lw_reg.specs.contracts.version.VersionOrd.TheImpl as versions
 
 -- 4 or 6
@@ -63,6 +65,10 @@ moment_cmp a b = nat_cmp (ms_of a) (ms_of b)
 abbrev pub sms_cmp : Option (List ℕ) → Option (List ℕ) → Ordering
 sms_cmp = option_cmp text_cmp
 
+-- what an observation accepts: none below some, and formats by number (RFC 7252, section 5.10.4)
+abbrev pub format_cmp : Option ℕ → Option ℕ → Ordering
+format_cmp = option_cmp nat_cmp
+
 -- paths: number by number, a path before those that it begins
 abbrev pub path_cmp : Path → Path → Ordering
 path_cmp = by_numbers path_numbers
@@ -73,6 +79,12 @@ addr_cmp = (addrs.ghosts).cmp
 
 abbrev pub binding_cmp : Binding → Binding → Ordering
 binding_cmp = (bindings.ghosts).cmp
+
+abbrev pub endpoint_cmp : List ℕ → List ℕ → Ordering
+endpoint_cmp = (endpoints.ghosts).cmp
+
+abbrev pub sms_number_cmp : List ℕ → List ℕ → Ordering
+sms_number_cmp = (sms_numbers.ghosts).cmp
 
 abbrev pub version_cmp : Version → Version → Ordering
 version_cmp = (versions.ghosts).cmp

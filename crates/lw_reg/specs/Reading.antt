@@ -6,11 +6,12 @@ use Rattle.lw_stamp.specs.contracts.stamp.StampPartialEq.TheImpl as stamps
 use Rattle.lw_stamp.specs.declared.stamp.Stamp.{Stamp}
 use Rattle.lw_stamp.specs.declared.moment.Moment.{Moment}
 use Rattle.lw_stamp.specs.Moment.{ms_of}
+use Rattle.lw_join.specs.Entries.{get as entry_of}
 use Rattle.lw_join.specs.Parts.{entries_of, value_at}
+use Rattle.lw_join.specs.declared.once.Once.{Once}
 use Rattle.lw_join.specs.declared.or_gone.OrGone.{OrGone}
 use Rattle.lw_join.specs.declared.or_gone.OrGone.TheVariants.{Here, Gone}
 use Rattle.lw_reg.specs.declared.addr.Addr.{Addr}
-use Rattle.lw_reg.specs.declared.accept.Accept.{Accept}
 use Rattle.lw_reg.specs.declared.base.Base.{Base}
 use Rattle.lw_reg.specs.declared.binding.Binding.{Binding}
 use Rattle.lw_reg.specs.declared.body.Body.{Body}
@@ -18,6 +19,7 @@ use Rattle.lw_reg.specs.declared.path.Path.{Path}
 use Rattle.lw_reg.specs.declared.slot.Slot.{Slot}
 use Rattle.lw_reg.specs.declared.watch.Watch.{Watch}
 use Rattle.lw_reg.specs.Body.{Watching}
+use Rattle.lw_reg.specs.Told.{known_in}
 use Rattle.lw_reg.specs.Slot.{observed, cancelled}
 use Rattle.lw_reg.specs.State.{State, IsStateOf}
 use Rattle.lw_reg.specs.Registration.{Registration}
@@ -31,12 +33,12 @@ abbrev pub here : OrGone Body → Option Body
 here Gone = None
 here (Here body) = Some body
 
-abbrev pub part : {A : Type 0} → (Body → Option A) → Option Body → Option A
-part f None = None
-part f (Some body) = f body
-
 abbrev pub body_of : Slot → Option Body
 body_of slot = here slot.registration.value
+
+-- what is known of the registration
+abbrev pub known_of : Slot → Body
+known_of slot = known_in slot.registration.value
 
 abbrev pub stamp_of : Slot → Stamp
 stamp_of slot = slot.registration.stamp
@@ -46,33 +48,37 @@ abbrev pub IsRemoved : Slot → Type 0
 IsRemoved slot = slot.registration.value ≡ Gone
 
 abbrev pub base_of : Slot → Option Base
-base_of slot = part (λ b. b.base.value) (body_of slot)
+base_of slot = (known_of slot).base.value
 
 abbrev pub address_of : Slot → Option (Stamp × Addr)
-address_of slot = part (λ b. b.address.write) (body_of slot)
+address_of slot = (known_of slot).address.write
 
 abbrev pub seen_of : Slot → Option (Stamp × Moment)
-seen_of slot = part (λ b. b.seen.write) (body_of slot)
+seen_of slot = (known_of slot).seen.write
 
 abbrev pub lifetime_of : Slot → Option (Stamp × ℕ)
-lifetime_of slot = part (λ b. b.lifetime.write) (body_of slot)
+lifetime_of slot = (known_of slot).lifetime.write
 
 abbrev pub binding_of : Slot → Option (Stamp × Binding)
-binding_of slot = part (λ b. b.binding.write) (body_of slot)
+binding_of slot = (known_of slot).binding.write
 
 abbrev pub sms_of : Slot → Option (Stamp × Option (List ℕ))
-sms_of slot = part (λ b. b.sms.write) (body_of slot)
+sms_of slot = (known_of slot).sms.write
 
 abbrev pub objects_of : Slot → Option (Stamp × List ℕ)
-objects_of slot = part (λ b. b.objects.write) (body_of slot)
+objects_of slot = (known_of slot).objects.write
 
-abbrev pub watches_in_body : Option Body → List (Path × Watching)
-watches_in_body None = []
-watches_in_body (Some body) = entries_of body.watches
+abbrev pub told_watches : OrGone Body → List (Path × Watching)
+told_watches Gone = []
+told_watches (Here body) = entries_of body.watches
 
 -- the watches, paths rising
 abbrev pub watches_of : Slot → List (Path × Watching)
-watches_of slot = watches_in_body (body_of slot)
+watches_of slot = told_watches slot.registration.value
+
+-- the last watch of a path
+abbrev pub watching_of : Slot → Path → Option Watching
+watching_of slot path = entry_of path_cmp (watches_of slot) path
 
 -- ---- what is shown
 -- the registration of these parts, where all are there
@@ -113,9 +119,9 @@ is_late now (Some r) = not (in_time now r)
 abbrev pub watch_of : Path × Watching → Option Watch
 watch_of entry = watch_by entry.0 entry.1.stamp entry.1.value
   where
-    watch_by : Path → Stamp → OrGone Accept → Option Watch
+    watch_by : Path → Stamp → OrGone (Once ℕ) → Option Watch
     watch_by path token Gone = None
-    watch_by path token (Here accept) = Some (record { token = token; path = path; accept = accept.format })
+    watch_by path token (Here accept) = Some (record { token = token; path = path; accept = accept.value })
 
 -- the first watch that was not cancelled and passes the test
 abbrev pub first_or : (Watch → Bool) → Option Watch → Option Watch → Option Watch

@@ -16,9 +16,8 @@ use Rattle.lw_reg.specs.declared.base.Base.{Base}
 use Rattle.lw_reg.specs.declared.binding.Binding.{Binding}
 use Rattle.lw_reg.specs.declared.path.Path.{Path}
 use Rattle.lw_reg.specs.declared.watch.Watch.{Watch}
-use Rattle.lw_reg.specs.Accept.{format_cmp}
 use Rattle.lw_reg.specs.Binding.{binding_text}
-use Rattle.lw_reg.specs.Orders.{addr_cmp, binding_cmp, base_cmp, moment_cmp, sms_cmp, path_cmp}
+use Rattle.lw_reg.specs.Orders.{addr_cmp, binding_cmp, base_cmp, moment_cmp, sms_cmp, format_cmp, path_cmp}
 use Rattle.lw_reg.specs.Registration.{Registration}
 use Rattle.lw_reg.specs.Marks.{Trace, Marks, Has}
 use Rattle.lw_reg.specs.Marks.Trace.{Named, Based, AddressAt, SeenAt, LifetimeAt, BindingAt, SmsAt, ObjectsAt, Removed, Watched, Cancelled}

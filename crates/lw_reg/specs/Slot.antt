@@ -1,10 +1,9 @@
 -- What is known of an endpoint, its order and its join; the slot of a mark, and that of an operation.
-use Rattle.std.specs.Prelude.{ℕ, List, [], ◌∷◌, Option, Some, None}
+use Rattle.std.specs.Prelude.{ℕ, List, Option, Some, None}
 use Rattle.lw_stamp.specs.declared.stamp.Stamp.{Stamp}
 use Rattle.lw_stamp.specs.declared.moment.Moment.{Moment}
-use Rattle.lw_join.specs.Lex.{lex_below, lex_join}
-use Rattle.lw_join.specs.OrGone.{gone_below, gone_join}
-use Rattle.lw_join.specs.Parts.{made}
+use Rattle.lw_join.specs.Lex.{lex_below, lex_join, lex_in_place}
+use Rattle.lw_join.specs.OrGone.{gone_below, gone_join, gone_in_place}
 use Rattle.lw_join.specs.declared.or_gone.OrGone.{OrGone}
 use Rattle.lw_join.specs.declared.or_gone.OrGone.TheVariants.{Here, Gone}
 use Rattle.lw_reg.specs.declared.addr.Addr.{Addr}
@@ -16,7 +15,7 @@ use Rattle.lw_reg.specs.declared.op.What.{What}
 use Rattle.lw_reg.specs.declared.op.What.TheVariants.{Register, Update, Remove, Observe, Cancel}
 use Rattle.lw_reg.specs.declared.path.Path.{Path}
 use Rattle.lw_reg.specs.declared.slot.Slot.{Slot}
-use Rattle.lw_reg.specs.Body.{Watching, Watches, BodyBelow, body_join}
+use Rattle.lw_reg.specs.Body.{Watching, Watches, no_watches, one_watch, watched_alone, BodyBelow, body_join, body_in_place}
 use Rattle.lw_reg.specs.Marks.{Trace}
 use Rattle.lw_reg.specs.Marks.Trace.{Based, AddressAt, SeenAt, LifetimeAt, BindingAt, SmsAt, ObjectsAt, Removed, Watched, Cancelled}
 
@@ -25,6 +24,10 @@ slot_below x y = lex_below (gone_below BodyBelow) x.registration y.registration
 
 abbrev pub slot_join : Slot → Slot → Slot
 slot_join x y = record { registration = lex_join (gone_join body_join) x.registration y.registration }
+
+-- where both are about one registration that neither removed, no path that is watched in the right is new
+abbrev pub slot_in_place : Slot → Slot → Type 0
+slot_in_place x y = lex_in_place (gone_in_place body_in_place) x.registration y.registration
 
 abbrev pub slot_at : Stamp → OrGone Body → Slot
 slot_at r x = record { registration = record { stamp = r; value = x } }
@@ -60,16 +63,10 @@ objects_in _ = None
 
 -- a watch with a token: observed, or cancelled
 abbrev pub observed : Stamp → Option ℕ → Watching
-observed t accept = record { stamp = t; value = Here (record { format = accept }) }
+observed t accept = record { stamp = t; value = Here (record { value = accept }) }
 
 abbrev pub cancelled : Stamp → Watching
 cancelled t = record { stamp = t; value = Gone }
-
-abbrev pub no_watches : Watches
-no_watches = made []
-
-abbrev pub one_watch : Path → Watching → Watches
-one_watch path watch = made ((path, watch) ∷ [])
 
 abbrev pub watches_in : Trace → Watches
 watches_in (Watched path t accept) = one_watch path (observed t accept)
@@ -100,19 +97,6 @@ write_of s (Some v) = Some (s, v)
 abbrev pub some_text : Option (List ℕ) → Option (Option (List ℕ))
 some_text None = None
 some_text (Some text) = Some (Some text)
-
--- nothing is known but the watches
-abbrev pub watched_alone : Watches → Body
-watched_alone watches = record {
-  base = record { value = None };
-  address = record { write = None };
-  seen = record { write = None };
-  lifetime = record { write = None };
-  binding = record { write = None };
-  sms = record { write = None };
-  objects = record { write = None };
-  watches = watches;
-}
 
 abbrev pub told_of : Stamp → What → OrGone Body
 told_of s (Register version queue address seen lifetime binding sms objects) = Here (record {

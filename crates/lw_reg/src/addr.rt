@@ -1,6 +1,8 @@
 ghost use Rattle.std.specs.Prelude.{◌≡◌, Some, IfSome, IfOk, string_bytes};
 
-use crate::{printing, reading};
+mod printing;
+mod reading;
+
 use lw_stamp::NoMemory;
 use std::alloc::Global;
 

@@ -1,20 +1,19 @@
 //! The slot that one operation makes.
 
-ghost use Rattle.std.specs.Prelude.{◌≡◌, IfOk, IsOk};
-ghost use Rattle.lw_join.specs.declared.or_gone.OrGone.TheVariants.{Here, Gone};
-ghost use Rattle.lw_reg.specs.Marks.{SpeaksOfNoWatch};
-ghost use Rattle.lw_reg.specs.Slot.{slot_of, told_of, write_of, no_watches};
+ghost use Rattle.std.specs.Prelude.{◌≡◌, IfOk, IsOk, Ok, None};
+ghost use Rattle.lw_reg.specs.Body.{no_watches};
+ghost use Rattle.lw_reg.specs.Slot.{slot_of, told_of, write_of, observed, cancelled};
 ghost use Rattle.lw_reg.specs.Fields.{told_fields, watched_fields};
 
-use crate::{Accept, Base, Fields, Op, Path, Slot, Watching, What};
-use lw_join::{Lex, OrGone, Parts};
+use crate::{Base, Fields, Op, Path, Slot, Watching, What};
+use lw_join::{Lex, Once, OrGone, Parts};
 use lw_stamp::{NoMemory, Stamp};
 use std::alloc::Global;
 
-/// The slot that the one operation makes. An observation or a cancellation alone takes memory.
+/// The slot that the one operation makes. A removal takes no memory.
 pub fn atom(alloc: Global, op: Op) -> Result<Slot, NoMemory>
     ensures slot { IfOk result (λ slot. slot ≡ slot_of op) }
-    ensures calm { SpeaksOfNoWatch op.what → IsOk result }
+    ensures calm { op.what ≡ What.Remove → IsOk result }
 {
     let Op {
         stamp,
@@ -22,13 +21,13 @@ pub fn atom(alloc: Global, op: Op) -> Result<Slot, NoMemory>
         what,
         ..
     } = op;
-    Ok(Slot::from_parts(reg, told(alloc, stamp, what)?))
+    Slot::from_parts(alloc, reg, told(alloc, stamp, what)?)
 }
 
 /// What the operation with the stamp tells of its registration; nothing once it removes it.
 fn told(alloc: Global, stamp: Stamp, what: What) -> Result<Option<Fields>, NoMemory>
     ensures told { IfOk result (λ fields. told_fields fields ≡ told_of stamp what) }
-    ensures calm { SpeaksOfNoWatch what → IsOk result }
+    ensures removed { what ≡ What.Remove → result ≡ Ok None }
 {
     let fields = match what {
         What::Register {
@@ -68,7 +67,7 @@ fn told(alloc: Global, stamp: Stamp, what: What) -> Result<Option<Fields>, NoMem
             watches: unwatched(alloc),
         },
         What::Remove => return Ok(None),
-        What::Observe { path, accept } => observed(alloc, path, stamp, Accept { format: accept })?,
+        What::Observe { path, accept } => observed(alloc, path, stamp, accept)?,
         What::Cancel { path, token } => cancelled(alloc, path, token)?,
     };
     Ok(Some(fields))
@@ -89,15 +88,20 @@ fn unwatched(alloc: Global) -> Parts<Path, Watching>
     Parts::new(alloc)
 }
 
-fn observed(alloc: Global, path: Path, stamp: Stamp, accept: Accept) -> Result<Fields, NoMemory>
-    ensures { IfOk result (λ fields. fields ≡ watched_fields path (record { stamp = stamp; value = Here accept })) }
+fn observed(
+    alloc: Global,
+    path: Path,
+    stamp: Stamp,
+    accept: Option<u16>,
+) -> Result<Fields, NoMemory>
+    ensures { IfOk result (λ fields. fields ≡ watched_fields path (observed stamp accept)) }
 {
-    let value = OrGone::Here(accept);
+    let value = OrGone::Here(Once { value: accept });
     watched(alloc, path, Lex { stamp, value })
 }
 
 fn cancelled(alloc: Global, path: Path, stamp: Stamp) -> Result<Fields, NoMemory>
-    ensures { IfOk result (λ fields. fields ≡ watched_fields path (record { stamp = stamp; value = Gone })) }
+    ensures { IfOk result (λ fields. fields ≡ watched_fields path (cancelled stamp)) }
 {
     let value = OrGone::Gone;
     watched(alloc, path, Lex { stamp, value })

@@ -1,11 +1,11 @@
-use crate::by_text::ByText;
-use crate::{Accept, Addr, Base, Binding, Path, SmsNumber};
+use crate::object_list::ObjectList;
+use crate::{Addr, Base, Binding, Path, SmsNumber};
 use lw_join::{Calm, Join, Lex, Lww, Once, OrGone, Parts};
-use lw_link::LinkText;
 use lw_stamp::{Moment, NoMemory};
 
-/// The last watch of a path: its token, and what it accepts, or gone once it was cancelled.
-pub type Watching = Lex<OrGone<Accept>>;
+/// The last watch of a path: its token, and the Content-Format that it accepts, if it names one, or gone once
+/// it was cancelled.
+pub type Watching = Lex<OrGone<Once<u16>>>;
 
 /// What is known of a registration that was not removed.
 #[derive(Debug, Drop)]
@@ -15,20 +15,45 @@ pub(crate) struct Body {
     pub(crate) seen: Lww<Moment>,
     pub(crate) lifetime: Lww<u32>,
     pub(crate) binding: Lww<Binding>,
-    pub(crate) sms: Lww<Option<ByText<SmsNumber>>>,
-    pub(crate) objects: Lww<ByText<LinkText>>,
+    pub(crate) sms: Lww<Option<SmsNumber>>,
+    pub(crate) objects: Lww<ObjectList>,
     pub(crate) watches: Parts<Path, Watching>,
 }
 
+impl Body {
+    ghost use Rattle.std.specs.Prelude.{◌≡◌, ◌↔◌, IsTrue};
+    ghost use Rattle.lw_reg.specs.Body.{nothing};
+    ghost use Rattle.lw_reg.specs.Told.{has_no_fields};
+
+    /// Whether nothing is known.
+    pub(crate) fn is_nothing(&self) -> bool
+        ensures { IsTrue result ↔ (self.now ≡ nothing) }
+    {
+        self.has_no_fields() && self.watches.is_empty()
+    }
+
+    fn has_no_fields(&self) -> bool
+        ensures { result ≡ has_no_fields self.now }
+    {
+        self.base.value.is_none()
+            && self.address.write.is_none()
+            && self.seen.write.is_none()
+            && self.lifetime.write.is_none()
+            && self.binding.write.is_none()
+            && self.sms.write.is_none()
+            && self.objects.write.is_none()
+    }
+}
+
 impl Join for Body {
-    ghost use Rattle.lw_reg.specs.Body.{BodyBelow, body_join};
+    ghost use Rattle.lw_reg.specs.Body.{BodyBelow, body_join, body_in_place};
     ghost use Rattle.lw_reg.specs.BodyLaws.{body_laws};
 
     ghost below = { BodyBelow };
 
     ghost join = { body_join };
 
-    ghost calm = { ⊥ };
+    ghost in_place = { body_in_place };
 
     ghost laws = { body_laws };
 

@@ -1,37 +1,38 @@
-//! What a server shows of a registration: its address, binding, version and texts, lent or owned.
+//! What is known of a registration: the operations on it, the slot that keeps what they told, and what a
+//! server shows of it at a moment.
 //!
-//! Each of these values has one text or one order, and values that compare equal are one.
+//! The slots of operations about one endpoint join to one, whatever order they come in and however often. A
+//! registration that was removed stays so, and a later one of the endpoint takes its place whole.
 #![tactic(auto)]
 
-mod accept;
 mod addr;
 mod atoms;
 mod base;
 mod binding;
 mod body;
-mod by_text;
+mod endpoint;
 mod exact;
 mod fields;
 pub mod laws;
+mod object_list;
 mod op;
 mod path;
-mod printing;
-mod reading;
 mod seen;
 mod showing;
 mod slot;
 mod sms_number;
+mod told;
 mod version;
 mod view;
 mod watch;
 mod watches;
 
-pub use accept::Accept;
 pub use addr::Addr;
 pub use atoms::atom;
 pub use base::Base;
 pub use binding::Binding;
 pub use body::Watching;
+pub use endpoint::Endpoint;
 pub use fields::Fields;
 pub use lw_stamp::Text;
 pub use op::{Op, What};

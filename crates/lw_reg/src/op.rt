@@ -1,4 +1,4 @@
-use crate::{Addr, Binding, Path, SmsNumber, Text, Version};
+use crate::{Addr, Binding, Endpoint, Path, SmsNumber, Version};
 use lw_link::LinkText;
 use lw_stamp::{Moment, Stamp};
 
@@ -6,7 +6,7 @@ use lw_stamp::{Moment, Stamp};
 #[derive(Debug, Drop)]
 pub struct Op {
     pub stamp: Stamp,
-    pub endpoint: Text,
+    pub endpoint: Endpoint,
     /// The registration that it is about: the stamp of its Register, which a Register has itself.
     pub reg: Stamp,
     pub what: What,

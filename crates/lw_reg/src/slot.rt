@@ -1,43 +1,52 @@
-ghost use Rattle.std.specs.Prelude.{◌≡◌, ◌↔◌, IsTrue};
+ghost use Rattle.std.specs.Prelude.{◌≡◌, ◌↔◌, IsTrue, IsOk, IfOk, None};
 ghost use Rattle.std.specs.Option.{option_copied, option_map};
-ghost use Rattle.lw_reg.specs.Fields.{fields_body, slot_of_fields};
-ghost use Rattle.lw_reg.specs.Reading.{body_of, stamp_of, IsRemoved, base_of, address_of, seen_of, lifetime_of, binding_of, sms_of, objects_of, watches_of};
+ghost use Rattle.lw_join.specs.declared.or_gone.OrGone.TheVariants.{Here};
+ghost use Rattle.lw_join.specs.Entries.{Rises};
+ghost use Rattle.lw_reg.specs.Body.{nothing};
+ghost use Rattle.lw_reg.specs.Fields.{fields_body, told_fields, slot_of_fields};
+ghost use Rattle.lw_reg.specs.Orders.{path_cmp};
+ghost use Rattle.lw_reg.specs.Told.{body_or_nothing};
+ghost use Rattle.lw_reg.specs.Reading.{known_of, stamp_of, IsRemoved, base_of, address_of, seen_of, lifetime_of, binding_of, sms_of, objects_of, watches_of};
 
 use crate::body::Body;
-use crate::by_text::ByText;
+use crate::object_list::ObjectList;
+use crate::told::Told;
 use crate::{Addr, Base, Binding, Fields, Path, SmsNumber, Watching};
-use lw_join::{Join, Lex, Lww, Once, OrGone};
+use lw_join::{Join, Lex, Lww, Once};
 use lw_link::LinkText;
 use lw_stamp::{Moment, NoMemory, Stamp};
+use std::alloc::Global;
+use std::mem::size_of;
 
 /// What is known of an endpoint: the stamp of its current registration, and what is known of that, or
 /// gone once it was removed.
 #[derive(Debug, Drop)]
 pub struct Slot {
-    pub(crate) registration: Lex<OrGone<Body>>,
+    pub(crate) registration: Lex<Told>,
 }
 
+const _: () = prove!(size_of::<Slot>() <= 32);
+
 impl Slot {
-    /// The slot with these fields, or of a removed registration.
-    pub fn from_parts(stamp: Stamp, fields: Option<Fields>) -> Slot
-        ensures { result ≡ slot_of_fields stamp fields }
+    /// The slot with these fields, or of a removed registration. It takes memory only where something is known.
+    pub fn from_parts(alloc: Global, stamp: Stamp, fields: Option<Fields>) -> Result<Slot, NoMemory>
+        ensures slot { IfOk result (λ slot. slot ≡ slot_of_fields stamp fields) }
+        ensures removed { fields ≡ None → IsOk result }
+        ensures unknown { told_fields fields ≡ Here nothing → IsOk result }
     {
         let value = match fields {
-            None => OrGone::Gone,
-            Some(fields) => OrGone::Here(body_of_fields(fields)),
+            None => Told::removed(),
+            Some(fields) => Told::of(alloc, body_of_fields(fields))?,
         };
-        Slot {
+        Ok(Slot {
             registration: Lex { stamp, value },
-        }
+        })
     }
 
-    fn body(&self) -> Option<&Body>
-        ensures { option_copied result ≡ body_of self.now }
+    pub(crate) fn body(&self) -> Option<&Body>
+        ensures { body_or_nothing (option_copied result) ≡ known_of self.now }
     {
-        match &self.registration.value {
-            OrGone::Gone => None,
-            OrGone::Here(body) => Some(body),
-        }
+        self.registration.value.body()
     }
 
     /// The stamp of the registration, which its Register had.
@@ -51,7 +60,7 @@ impl Slot {
     pub fn is_removed(&self) -> bool
         ensures { IsTrue result ↔ IsRemoved self.now }
     {
-        self.body().is_none()
+        self.registration.value.is_removed()
     }
 
     pub fn base(&self) -> Option<Base>
@@ -93,10 +102,7 @@ impl Slot {
         ensures { option_map (λ w. (w.0, option_copied w.1)) result ≡ sms_of self.now }
     {
         let (stamp, sms) = self.body()?.sms.write.as_ref()?;
-        match sms {
-            None => Some((*stamp, None)),
-            Some(sms) => Some((*stamp, Some(&sms.value))),
-        }
+        Some((*stamp, sms.as_ref()))
     }
 
     /// The last object list, with the stamp that wrote it.
@@ -104,12 +110,13 @@ impl Slot {
         ensures { option_map (λ w. (w.0, w.1.now)) result ≡ objects_of self.now }
     {
         let (stamp, objects) = self.body()?.objects.write.as_ref()?;
-        Some((*stamp, &objects.value))
+        Some((*stamp, &objects.text))
     }
 
     /// The last watch of each path, paths rising.
     pub fn watches(&self) -> &[(Path, Watching)]
-        ensures { result.now ≡ watches_of self.now }
+        ensures watches { result.now ≡ watches_of self.now }
+        ensures rise { Rises path_cmp result.now }
     {
         match self.body() {
             None => &[],
@@ -137,25 +144,23 @@ fn body_of_fields(fields: Fields) -> Body
         seen: Lww { write: seen },
         lifetime: Lww { write: lifetime },
         binding: Lww { write: binding },
-        sms: Lww {
-            write: sms.map(|(stamp, sms)| (stamp, sms.map(ByText::new))),
-        },
+        sms: Lww { write: sms },
         objects: Lww {
-            write: objects.map(|(stamp, objects)| (stamp, ByText::new(objects))),
+            write: objects.map(|(stamp, text)| (stamp, ObjectList { text })),
         },
         watches,
     }
 }
 
 impl Join for Slot {
-    ghost use Rattle.lw_reg.specs.Slot.{slot_below, slot_join};
+    ghost use Rattle.lw_reg.specs.Slot.{slot_below, slot_join, slot_in_place};
     ghost use Rattle.lw_reg.specs.SlotLaws.{slot_laws};
 
     ghost below = { slot_below };
 
     ghost join = { slot_join };
 
-    ghost calm = { ⊥ };
+    ghost in_place = { slot_in_place };
 
     ghost laws = { slot_laws };
 

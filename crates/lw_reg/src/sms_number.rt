@@ -3,8 +3,9 @@ ghost use Rattle.std.specs.Prelude.{◌≡◌, ◌≤◌, ◌↔◌, IsSome, IfS
 use crate::Text;
 use std::marker::Model;
 
-/// The number that a client takes SMS at: a text of at most 251 bytes. Contracts see its bytes.
-#[derive(Debug, Drop)]
+/// The number that a client takes SMS at: a text of at most 251 bytes. Contracts see its bytes, and
+/// by these it is ordered.
+#[derive(Debug, PartialEq, Eq, PartialOrd, Ord, Drop)]
 pub struct SmsNumber {
     text: Text,
 }
@@ -17,6 +18,8 @@ impl Model for SmsNumber {
     ghost view = { λ s. s.text };
 
     ghost invariant = { λ s. length s.text ≤ 251 };
+
+    ghost inverse = { λ text. record { text = text } };
 }
 
 impl SmsNumber {

@@ -35,6 +35,20 @@ fn addresses_are_read_and_printed(rt: HostRuntime) -> Result<(), Fail> {
             },
         ),
         (
+            "[ffff:ffff:ffff:ffff:ffff:ffff:ffff:ffff]:65535",
+            Addr::V6 {
+                address: [255; 16],
+                port: 65_535,
+            },
+        ),
+        (
+            "[0000:0000:0000:0000:0000:0000:0000:0000]:0",
+            Addr::V6 {
+                address: [0; 16],
+                port: 0,
+            },
+        ),
+        (
             "[2001:0db8:0000:0000:0000:0000:0000:00ff]:0",
             Addr::V6 {
                 address: [0x20, 1, 0x0d, 0xb8, 0, 0, 0, 0, 0, 0, 0, 0, 0, 0, 0, 0xff],
@@ -177,3 +191,4 @@ fn a_view_is_copied_field_by_field(rt: HostRuntime) -> Result<(), Fail> {
 }
 
 mod slots;
+mod whole;

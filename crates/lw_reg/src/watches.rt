@@ -1,10 +1,13 @@
 //! The watches of a slot.
 
-ghost use Rattle.std.specs.Prelude.{◌≡◌, ℕ, List};
+ghost use Rattle.std.specs.Prelude.{◌≡◌, ℕ, List, Some, true, IfOk, IfErr};
 ghost use Rattle.std.specs.List.{slice_get};
 ghost use Rattle.std.specs.Option.{option_copied};
 ghost use Rattle.lw_stamp.specs.Moment.{ms_of};
-ghost use Rattle.lw_reg.specs.Reading.{view_in, watch_of, first_watch, has_token, is_above, live_watch, tokens_in, watches_of, shown_by, IsSlotOf};
+ghost use Rattle.lw_join.specs.Entries.{Rises};
+ghost use Rattle.lw_join.specs.Place.{IsAt, IsGap};
+ghost use Rattle.lw_reg.specs.Orders.{path_cmp};
+ghost use Rattle.lw_reg.specs.Reading.{view_in, watch_of, watching_of, first_watch, has_token, is_above, live_watch, tokens_in, watches_of, shown_by, IsSlotOf};
 ghost use Rattle.lw_reg.specs.Marks.{Mark, among};
 ghost use Rattle.lw_reg.specs.Showing.{WatchWith, WatchAfter};
 
@@ -53,6 +56,16 @@ impl Slot {
         first_above(self.watches(), after)
     }
 
+    /// The last watch of the path, also one that was cancelled.
+    pub fn watching(&self, path: &Path) -> Option<&Watching>
+        ensures { option_copied result ≡ watching_of self.now path.now }
+    {
+        match self.body() {
+            None => None,
+            Some(body) => body.watches.get(path),
+        }
+    }
+
     /// The token at this place among those of the watches that were not cancelled, paths rising.
     ///
     /// A walk over the watches of the slot.
@@ -82,7 +95,7 @@ fn watch_of(entry: &(Path, Watching)) -> Option<Watch>
         OrGone::Here(accept) => Some(Watch {
             token: watching.stamp,
             path: *path,
-            accept: accept.format,
+            accept: accept.value,
         }),
     }
 }
@@ -100,15 +113,44 @@ fn first_with(entries: &[(Path, Watching)], token: Stamp) -> Option<Watch>
     None
 }
 
-fn first_above(entries: &[(Path, Watching)], after: Option<&Path>) -> Option<Watch>
-    ensures { result ≡ first_watch (is_above (option_copied after.entry)) entries.now }
+/// The first that was not cancelled.
+fn first_of(entries: &[(Path, Watching)]) -> Option<Watch>
+    ensures { result ≡ first_watch (λ _. true) entries.now }
 {
     for entry in entries {
         if let Some(watch) = watch_of(entry) {
-            if after.is_none_or(|path| *path < watch.path) {
-                return Some(watch);
-            }
+            return Some(watch);
         }
     }
     None
+}
+
+fn first_above(entries: &[(Path, Watching)], after: Option<&Path>) -> Option<Watch>
+    requires { Rises path_cmp entries.now }
+    ensures { result ≡ first_watch (is_above (option_copied after.entry)) entries.now }
+{
+    match after {
+        None => first_of(entries),
+        Some(path) => first_of(behind(entries, path)),
+    }
+}
+
+/// The entries above the path.
+fn behind<'a>(entries: &'a [(Path, Watching)], path: &Path) -> &'a [(Path, Watching)]
+    requires { Rises path_cmp entries.now }
+    ensures { first_watch (λ _. true) result.now ≡ first_watch (is_above (Some path.now)) entries.now }
+{
+    match find(entries, path) {
+        Ok(place) => &entries[place + 1..],
+        Err(place) => &entries[place..],
+    }
+}
+
+/// The place of the path, or where it would go.
+fn find(entries: &[(Path, Watching)], path: &Path) -> Result<usize, usize>
+    requires { Rises path_cmp entries.now }
+    ensures found { IfOk result (IsAt path_cmp entries.now path.now) }
+    ensures absent { IfErr result (IsGap path_cmp entries.now path.now) }
+{
+    entries.binary_search_by(|entry| entry.0.cmp(path))
 }

@@ -1,6 +1,7 @@
 //! How the values of a slot are ordered.
 
-ghost use Rattle.std.specs.Prelude.{◌≡◌};
+ghost use Rattle.std.specs.Prelude.{◌≡◌, ℕ, List};
+ghost use Rattle.lw_stamp.specs.TextOrder.{text_cmp};
 ghost use Rattle.lw_stamp.specs.Order.{IsExactOrder};
 ghost use Rattle.lw_reg.specs.declared.addr.Addr.{Addr};
 ghost use Rattle.lw_reg.specs.declared.base.Base.{Base};
@@ -9,7 +10,7 @@ ghost use Rattle.lw_reg.specs.declared.path.Path.{Path};
 ghost use Rattle.lw_reg.specs.declared.version.Version.{Version};
 ghost use Rattle.lw_reg.specs.Binding.{binding_text};
 ghost use Rattle.lw_reg.specs.Path.{path_numbers};
-ghost use Rattle.lw_reg.specs.Orders.{addr_cmp, addr_by_parts, base_cmp, base_by_parts, binding_cmp, binding_by_text, path_cmp, version_cmp, version_by_number};
+ghost use Rattle.lw_reg.specs.Orders.{addr_cmp, addr_by_parts, base_cmp, base_by_parts, binding_cmp, binding_by_text, endpoint_cmp, path_cmp, sms_number_cmp, version_cmp, version_by_number};
 
 /// IPv4 is below IPv6; then come the bytes, then the port.
 pub fn addresses_are_ordered()
@@ -38,6 +39,13 @@ pub fn bindings_have_texts_of_their_own()
 pub fn paths_are_ordered()
     ensures total { IsExactOrder path_cmp }
     ensures own_numbers { (a b : Path) → path_numbers a ≡ path_numbers b → a ≡ b }
+{}
+
+/// Endpoints and SMS numbers are ordered by their bytes.
+pub fn texts_are_ordered()
+    ensures endpoints { (a b : List ℕ) → endpoint_cmp a b ≡ text_cmp a b }
+    ensures sms_numbers { (a b : List ℕ) → sms_number_cmp a b ≡ text_cmp a b }
+    ensures total { IsExactOrder text_cmp }
 {}
 
 /// Version 1.0 is below 1.1.

@@ -1,7 +1,7 @@
 //! Operations, the slots that they make, and what these show.
 
 use crate::*;
-use lw_join::{Join, Parts};
+use lw_join::{Join, OrGone, Parts};
 use lw_link::LinkText;
 use lw_stamp::{Moment, Stamp};
 use std::alloc::Global;
@@ -42,7 +42,9 @@ fn at(ms: u64) -> Moment {
 }
 
 fn slot(alloc: Global, stamp: Stamp, reg: Stamp, what: What) -> Result<Slot, Fail> {
-    let endpoint = Text::copy_of(alloc, "a")?;
+    let Some(endpoint) = Endpoint::new(Text::copy_of(alloc, "a")?) else {
+        return Err("an endpoint".into());
+    };
     Ok(atom(
         alloc,
         Op {
@@ -86,16 +88,48 @@ fn joined(mut left: Slot, right: Slot) -> Result<Slot, Fail> {
     Ok(left)
 }
 
-/// The join of three slots in one of their six orders.
-fn joined_in(order: u8, a: Slot, b: Slot, c: Slot) -> Result<Slot, Fail> {
-    match order {
-        0 => joined(joined(a, b)?, c),
-        1 => joined(joined(a, c)?, b),
-        2 => joined(joined(b, a)?, c),
-        3 => joined(joined(b, c)?, a),
-        4 => joined(joined(c, a)?, b),
-        _ => joined(joined(c, b)?, a),
-    }
+/// Three operations about one endpoint.
+#[derive(Clone, Copy)]
+enum Scene {
+    EarlyUpdate,
+    TwoUpdates,
+    Removal,
+}
+
+const ORDERS: [[u8; 3]; 6] = [
+    [0, 1, 2],
+    [0, 2, 1],
+    [1, 0, 2],
+    [1, 2, 0],
+    [2, 0, 1],
+    [2, 1, 0],
+];
+
+fn part(alloc: Global, scene: Scene, place: u8) -> Result<Slot, Fail> {
+    let (stamp, reg, what) = match (scene, place) {
+        (Scene::EarlyUpdate, 0) => return registered(alloc, OLD, at(0), 86_400),
+        (Scene::EarlyUpdate, 1) => (LATER, NEW, updated(HOST_B, at(7), Some(120), None)),
+        (Scene::EarlyUpdate, _) => return registered(alloc, NEW, at(0), 86_400),
+        (Scene::TwoUpdates, 0) => return registered(alloc, OLD, at(0), 86_400),
+        (Scene::TwoUpdates, 1) => (NEW, OLD, updated(HOST_A, at(1000), Some(120), None)),
+        (Scene::TwoUpdates, _) => (
+            LATER,
+            OLD,
+            updated(HOST_B, at(2000), None, Binding::read("UQ")),
+        ),
+        (Scene::Removal, 0) => return registered(alloc, OLD, at(0), 60),
+        (Scene::Removal, 1) => (NEW, OLD, What::Remove),
+        (Scene::Removal, _) => (LATER, OLD, updated(HOST_B, at(0), Some(120), None)),
+    };
+    slot(alloc, stamp, reg, what)
+}
+
+fn joined_in(alloc: Global, scene: Scene, order: [u8; 3]) -> Result<Slot, Fail> {
+    let [first, second, third] = order;
+    let mut slot = part(alloc, scene, first)?;
+    slot.join_with(part(alloc, scene, second)?)?;
+    slot.join_with(part(alloc, scene, third)?)?;
+    Ok(slot)
 }
 
 #[test]
@@ -113,86 +147,70 @@ fn an_update_alone_shows_nothing(rt: HostRuntime) -> Result<(), Fail> {
     Ok(())
 }
 
-fn with_an_early_update(alloc: Global, order: u8) -> Result<Slot, Fail> {
-    let old = registered(alloc, OLD, at(0), 86_400)?;
-    let update = slot(alloc, LATER, NEW, updated(HOST_B, at(7), Some(120), None))?;
-    let new = registered(alloc, NEW, at(0), 86_400)?;
-    joined_in(order, old, update, new)
+fn has_the_early_update(slot: &Slot) -> bool {
+    let Some(view) = slot.view("a", at(7)) else {
+        return false;
+    };
+    view.id == NEW
+        && view.lifetime == 120
+        && view.address == HOST_B
+        && view.seen.ms() == 7
+        && view.version == Version::V10
+        && view.binding == Binding::U
+        && !view.queue
+        && view.sms.is_none()
+        && view.objects.as_str() == "</>"
 }
 
 #[test]
 fn an_update_waits_for_its_register(rt: HostRuntime) -> Result<(), Fail> {
-    for order in 0..6 {
-        let all = with_an_early_update(rt.alloc(), order)?;
-        let Some(view) = all.view("a", at(7)) else {
-            return Err("a view".into());
-        };
-        assert_eq!(rt;
-            view.id.id_text().as_slice(),
-            b"0000000000020002".as_slice()
-        );
-        assert_eq!(rt; view.lifetime, 120);
-        assert_eq!(rt; view.address, HOST_B);
-        assert_eq!(rt; view.seen.ms(), 7);
-        assert_eq!(rt; view.version, Version::V10);
-        assert_eq!(rt; view.binding, Binding::U);
-        assert!(rt; !view.queue && view.sms.is_none());
-        assert_eq!(rt; view.objects.as_str(), "</>");
+    for order in ORDERS {
+        let all = joined_in(rt.alloc(), Scene::EarlyUpdate, order)?;
+        assert!(rt; has_the_early_update(&all));
     }
     Ok(())
 }
 
-fn with_two_updates(alloc: Global, order: u8) -> Result<Slot, Fail> {
-    let register = registered(alloc, OLD, at(0), 86_400)?;
-    let lifetime = slot(alloc, NEW, OLD, updated(HOST_A, at(1000), Some(120), None))?;
-    let binding = slot(
-        alloc,
-        LATER,
-        OLD,
-        updated(HOST_B, at(2000), None, Binding::read("UQ")),
-    )?;
-    joined_in(order, register, lifetime, binding)
+fn has_both_updates(slot: &Slot) -> bool {
+    let Some(view) = slot.view("a", at(2000)) else {
+        return false;
+    };
+    view.lifetime == 120
+        && view.binding.as_str() == "UQ"
+        && view.queue
+        && view.address == HOST_B
+        && view.seen.ms() == 2000
 }
 
 #[test]
 fn updates_of_two_servers_join(rt: HostRuntime) -> Result<(), Fail> {
-    for order in 0..6 {
-        let all = with_two_updates(rt.alloc(), order)?;
-        let Some(view) = all.view("a", at(2000)) else {
-            return Err("a view".into());
-        };
-        assert_eq!(rt; view.lifetime, 120);
-        assert_eq!(rt; view.binding.as_str(), "UQ");
-        assert!(rt; view.queue);
-        assert_eq!(rt; view.address, HOST_B);
-        assert_eq!(rt; view.seen.ms(), 2000);
+    for order in ORDERS {
+        let all = joined_in(rt.alloc(), Scene::TwoUpdates, order)?;
+        assert!(rt; has_both_updates(&all));
     }
     Ok(())
 }
 
-fn removed(alloc: Global, order: u8) -> Result<Slot, Fail> {
-    let register = registered(alloc, OLD, at(0), 60)?;
-    let remove = slot(alloc, NEW, OLD, What::Remove)?;
-    let update = slot(alloc, LATER, OLD, updated(HOST_B, at(0), Some(120), None))?;
-    joined_in(order, register, remove, update)
+fn is_gone(slot: &Slot) -> bool {
+    slot.is_removed()
+        && slot.view("a", at(0)).is_none()
+        && !slot.expired(at(120_000))
+        && slot.address().is_none()
+        && slot.stamp() == OLD
 }
 
 #[test]
 fn a_removed_registration_stays_removed(rt: HostRuntime) -> Result<(), Fail> {
-    for order in 0..6 {
-        let all = removed(rt.alloc(), order)?;
-        assert!(rt; all.is_removed());
-        assert!(rt; all.view("a", at(0)).is_none());
-        assert!(rt; !all.expired(at(120_000)));
-        assert!(rt; all.address().is_none());
-        assert_eq!(rt; all.stamp(), OLD);
+    for order in ORDERS {
+        let all = joined_in(rt.alloc(), Scene::Removal, order)?;
+        assert!(rt; is_gone(&all));
     }
     Ok(())
 }
 
 #[test]
 fn a_new_register_is_shown(rt: HostRuntime) -> Result<(), Fail> {
-    let gone = removed(rt.alloc(), 0)?;
+    let gone = joined_in(rt.alloc(), Scene::Removal, [0, 1, 2])?;
     let new = registered(rt.alloc(), LAST, at(0), 60)?;
     let all = joined(gone, new)?;
     assert!(rt; all.view("a", at(0)).is_some());
@@ -234,12 +252,11 @@ fn observed(
 
 /// A registration with the watch `LAST` of `/3/0`, an older one of that path, and `LATER` of `/3/0/9`.
 fn watched(alloc: Global) -> Result<Slot, Fail> {
-    let first = observed(alloc, NEW, &[3, 0], None)?;
-    let again = observed(alloc, LAST, &[3, 0], Some(110))?;
-    let device = joined(again, first)?;
-    let battery = observed(alloc, LATER, &[3, 0, 9], Some(112))?;
-    let register = registered(alloc, OLD, at(0), 60)?;
-    joined(joined(device, battery)?, register)
+    let mut slot = registered(alloc, OLD, at(0), 60)?;
+    slot.join_with(observed(alloc, LAST, &[3, 0], Some(110))?)?;
+    slot.join_with(observed(alloc, NEW, &[3, 0], None)?)?;
+    slot.join_with(observed(alloc, LATER, &[3, 0, 9], Some(112))?)?;
+    Ok(slot)
 }
 
 #[test]
@@ -273,17 +290,35 @@ fn watches_come_by_path(rt: HostRuntime) -> Result<(), Fail> {
     Ok(())
 }
 
-#[test]
-fn a_cancelled_watch_is_gone(rt: HostRuntime) -> Result<(), Fail> {
-    let slot_with_watches = watched(rt.alloc())?;
+fn cancelled(alloc: Global, token: Stamp) -> Result<Slot, Fail> {
     let Some(path) = Path::new(&[3, 0]) else {
         return Err("a path".into());
     };
-    let cancel = slot(rt.alloc(), LAST, OLD, What::Cancel { path, token: LAST })?;
-    let ended = joined(cancel, slot_with_watches)?;
-    assert!(rt; ended.watch(at(0), LAST).is_none());
-    assert_eq!(rt; ended.token_at(0), Some(LATER));
-    assert_eq!(rt; ended.watches().len(), 2);
+    slot(alloc, token, OLD, What::Cancel { path, token })
+}
+
+fn was_cancelled(slot: &Slot) -> bool {
+    let Some(path) = Path::new(&[3, 0]) else {
+        return false;
+    };
+    let Some(watching) = slot.watching(&path) else {
+        return false;
+    };
+    watching.stamp == LAST && watching.value == OrGone::Gone
+}
+
+#[test]
+fn a_cancelled_watch_is_gone(rt: HostRuntime) -> Result<(), Fail> {
+    let mut slot = cancelled(rt.alloc(), LAST)?;
+    slot.join_with(watched(rt.alloc())?)?;
+    assert!(rt; slot.watch(at(0), LAST).is_none());
+    assert!(rt;
+        slot.watch_after(at(0), None)
+            .is_some_and(|watch| watch.token == LATER)
+    );
+    assert_eq!(rt; slot.token_at(0), Some(LATER));
+    assert_eq!(rt; slot.watches().len(), 2);
+    assert!(rt; was_cancelled(&slot));
     Ok(())
 }
 
@@ -305,6 +340,7 @@ fn put_together(alloc: Global) -> Result<Slot, Fail> {
         queue: true,
     };
     Ok(Slot::from_parts(
+        alloc,
         OLD,
         Some(Fields {
             base: Some(base),
@@ -316,7 +352,7 @@ fn put_together(alloc: Global) -> Result<Slot, Fail> {
             objects: Some((LATER, objects)),
             watches: Parts::new(alloc),
         }),
-    ))
+    )?)
 }
 
 #[test]
@@ -351,7 +387,7 @@ fn a_view_of_a_slot_is_copied(rt: HostRuntime) -> Result<(), Fail> {
     let seen = view.to_seen(rt.alloc())?;
     assert_eq!(rt; seen.endpoint.as_str(), "b");
     assert!(rt; seen.queue);
-    assert!(rt; Slot::from_parts(OLD, None).is_removed());
+    assert!(rt; Slot::from_parts(rt.alloc(), OLD, None)?.is_removed());
     Ok(())
 }
 
@@ -361,7 +397,11 @@ fn paths_have_one_to_four_numbers(rt: HostRuntime) {
     assert!(rt; Path::new(&[1, 2, 3, 4, 5]).is_none());
     assert!(rt; Path::new(&[65_535]).is_none());
     assert!(rt; Path::new(&[3, 65_535]).is_none());
+    assert!(rt; Path::new(&[65_534, 65_534, 65_534, 65_535]).is_none());
     assert!(rt; Path::new(&[65_534]).is_some_and(|path| path.numbers() == [65_534].as_slice()));
+    assert!(rt;
+        Path::new(&[65_534; 4]).is_some_and(|path| path.numbers() == [65_534; 4].as_slice())
+    );
     assert!(rt;
         Path::new(&[3, 0, 9, 1]).is_some_and(|path| path.numbers() == [3, 0, 9, 1].as_slice())
     );
@@ -373,17 +413,4 @@ fn a_path_is_before_those_that_it_begins(rt: HostRuntime) {
     assert!(rt; Path::new(&[3, 0]) < Path::new(&[3, 1]));
     assert!(rt; Path::new(&[3, 9]) < Path::new(&[4]));
     assert!(rt; Path::new(&[0]) != Path::new(&[0, 0]));
-}
-
-#[test]
-fn sms_numbers_have_at_most_251_bytes(rt: HostRuntime) -> Result<(), Fail> {
-    let mut text = String::new(rt.alloc());
-    for _ in 0..251 {
-        text.push('1')?;
-    }
-    let longest = Text::copy_of(rt.alloc(), text.as_str())?;
-    assert!(rt; SmsNumber::new(longest).is_some_and(|sms| sms.as_str().len() == 251));
-    text.push('1')?;
-    assert!(rt; SmsNumber::new(Text::from(text)).is_none());
-    Ok(())
 }

@@ -1,0 +1,57 @@
+ghost use Rattle.std.specs.Prelude.{◌≡◌, ◌↔◌, IsSome, IfSome};
+ghost use Rattle.lw_reg.specs.Endpoint.{IsEndpoint};
+
+use crate::Text;
+use std::marker::Model;
+
+/// The name of a client: a text of 1 to 252 bytes. Contracts see its bytes, and by these it is ordered.
+#[derive(Debug, PartialEq, Eq, PartialOrd, Ord, Drop)]
+pub struct Endpoint {
+    text: Text,
+}
+
+impl Model for Endpoint {
+    ghost use Rattle.std.specs.Prelude.{ℕ, List};
+    ghost use Rattle.lw_reg.specs.Endpoint.{IsEndpoint};
+
+    ghost Value = { List ℕ };
+
+    ghost view = { λ e. e.text };
+
+    ghost invariant = { λ e. IsEndpoint e.text };
+
+    ghost inverse = { λ text. record { text = text } };
+}
+
+impl Endpoint {
+    /// The most bytes: what a Uri-Query of 255 bytes holds behind `ep=`.
+    pub const MAX_LENGTH: usize = 252;
+
+    /// There is none for an empty text, or for one of more than 252 bytes.
+    pub fn new(text: Text) -> Option<Endpoint>
+        ensures accepted { IsSome result ↔ IsEndpoint text }
+        ensures value { IfSome result (λ e. e ≡ text) }
+    {
+        let length = text.as_str().len();
+        if length == 0 || length > Endpoint::MAX_LENGTH {
+            return None;
+        }
+        Some(Endpoint { text })
+    }
+
+    pub fn as_str(&self) -> &str
+        ensures value { result.now ≡ self.now }
+        ensures within { IsEndpoint result.now }
+    {
+        self.text.as_str()
+    }
+
+    /// Its text, with no copy.
+    pub fn into_text(self) -> Text
+        ensures value { result ≡ self }
+        ensures within { IsEndpoint result }
+    {
+        let Endpoint { text } = self;
+        text
+    }
+}

@@ -1,0 +1,303 @@
+//! Slots with all that a registration can have, at its longest.
+
+use crate::*;
+use lw_join::{Join, Lex, Once, OrGone, Parts};
+use lw_link::LinkText;
+use lw_stamp::{Moment, Stamp};
+use std::alloc::Global;
+use std::test::Fail;
+
+const FIRST: Stamp = Stamp {
+    counter: 1,
+    node: 1,
+};
+
+const LAST: Stamp = Stamp {
+    counter: 281_474_976_710_655,
+    node: 65_535,
+};
+
+const LAST_HOST: Addr = Addr::V6 {
+    address: [255; 16],
+    port: 65_535,
+};
+
+/// So many letters.
+fn letters(alloc: Global, letter: char, length: usize) -> Result<Text, Fail> {
+    let mut text = String::new(alloc);
+    for _ in 0..length {
+        text.push(letter)?;
+    }
+    Ok(Text::from(text))
+}
+
+fn is_letters(text: &str, letter: u8, length: usize) -> bool {
+    text.len() == length && text.as_bytes().iter().all(|c| *c == letter)
+}
+
+/// One link, of 8,192 bytes.
+fn link(alloc: Global, letter: char) -> Result<LinkText, Fail> {
+    let mut text = String::from_str(alloc, "<")?;
+    for _ in 0..8190 {
+        text.push(letter)?;
+    }
+    text.push('>')?;
+    let bytes = text.as_bytes();
+    if bytes.len() > 8192 {
+        return Err("at most 8,192 bytes".into());
+    }
+    Ok(LinkText::read(alloc, bytes)?)
+}
+
+fn is_link(objects: &LinkText, letter: u8) -> bool {
+    match objects.as_str().as_bytes() {
+        [b'<', letters @ .., b'>'] => {
+            letters.len() == 8190 && letters.iter().all(|c| *c == letter)
+        }
+        _ => false,
+    }
+}
+
+fn path(number: u16) -> Option<Path> {
+    Path::new(&[number, 65_534, 65_534, 65_534])
+}
+
+fn token(number: u16) -> Stamp {
+    Stamp {
+        counter: u64::from(number) + 1,
+        node: 7,
+    }
+}
+
+fn watch(number: u16) -> Result<(Path, Watching), Fail> {
+    let Some(path) = path(number) else {
+        return Err("a path".into());
+    };
+    let value = OrGone::Here(Once {
+        value: Some(number),
+    });
+    Ok((
+        path,
+        Lex {
+            stamp: token(number),
+            value,
+        },
+    ))
+}
+
+/// A hundred watches, of the even paths below 200 or of the odd ones.
+fn watches(alloc: Global, odd: bool) -> Result<Parts<Path, Watching>, Fail> {
+    let mut entries = Vec::new(alloc);
+    for number in 0..100 {
+        entries.push(watch(2 * number + u16::from(odd))?)?;
+    }
+    let Some(watches) = Parts::from_entries(entries) else {
+        return Err("paths rise".into());
+    };
+    Ok(watches)
+}
+
+fn first_fields(alloc: Global) -> Result<Fields, Fail> {
+    let objects = link(alloc, 'f')?;
+    Ok(Fields {
+        base: Some(Base {
+            version: Version::V10,
+            queue: false,
+        }),
+        address: Some((
+            FIRST,
+            Addr::V4 {
+                address: [255; 4],
+                port: 65_535,
+            },
+        )),
+        seen: Some((FIRST, Moment::START)),
+        lifetime: Some((FIRST, 1)),
+        binding: Some((FIRST, Binding::U)),
+        sms: Some((FIRST, None)),
+        objects: Some((FIRST, objects)),
+        watches: watches(alloc, false)?,
+    })
+}
+
+fn last_fields(alloc: Global) -> Result<Fields, Fail> {
+    let sms = SmsNumber::new(letters(alloc, '1', 251)?);
+    let objects = link(alloc, 'l')?;
+    Ok(Fields {
+        base: Some(Base {
+            version: Version::V11,
+            queue: true,
+        }),
+        address: Some((LAST, LAST_HOST)),
+        seen: Some((LAST, Moment::START)),
+        lifetime: Some((LAST, 4_294_967_295)),
+        binding: Binding::read("ABCDEFGH").map(|binding| (LAST, binding)),
+        sms: Some((LAST, sms)),
+        objects: Some((LAST, objects)),
+        watches: watches(alloc, true)?,
+    })
+}
+
+fn whole(alloc: Global, last_first: bool) -> Result<Slot, Fail> {
+    if last_first {
+        let mut slot = Slot::from_parts(alloc, FIRST, Some(last_fields(alloc)?))?;
+        slot.join_with(Slot::from_parts(alloc, FIRST, Some(first_fields(alloc)?))?)?;
+        return Ok(slot);
+    }
+    let mut slot = Slot::from_parts(alloc, FIRST, Some(first_fields(alloc)?))?;
+    slot.join_with(Slot::from_parts(alloc, FIRST, Some(last_fields(alloc)?))?)?;
+    Ok(slot)
+}
+
+fn has_the_last_fields(slot: &Slot) -> bool {
+    slot.stamp() == FIRST
+        && slot
+            .base()
+            .is_some_and(|base| base.version == Version::V11 && base.queue)
+        && slot.address() == Some((LAST, LAST_HOST))
+        && slot.seen() == Some((LAST, Moment::START))
+        && slot.lifetime() == Some((LAST, 4_294_967_295))
+        && slot
+            .binding()
+            .is_some_and(|(_, b)| b.as_str() == "ABCDEFGH")
+}
+
+fn has_the_last_texts(slot: &Slot) -> bool {
+    let Some((LAST, Some(sms))) = slot.sms() else {
+        return false;
+    };
+    let Some((LAST, objects)) = slot.objects() else {
+        return false;
+    };
+    is_letters(sms.as_str(), b'1', 251) && is_link(objects, b'l')
+}
+
+fn has_watch(slot: &Slot, number: u16) -> bool {
+    let Some(path) = path(number) else {
+        return false;
+    };
+    let Some(watching) = slot.watching(&path) else {
+        return false;
+    };
+    let Some(live) = slot.watch(Moment::START, token(number)) else {
+        return false;
+    };
+    watching.stamp == token(number)
+        && live.path == path
+        && live.accept == Some(number)
+        && slot.token_at(usize::from(number)) == Some(token(number))
+}
+
+fn follows(slot: &Slot, number: u16) -> bool {
+    let after = if number == 0 { None } else { path(number - 1) };
+    let Some(live) = slot.watch_after(Moment::START, after.as_ref()) else {
+        return false;
+    };
+    live.token == token(number)
+}
+
+fn has_each_watch(slot: &Slot) -> bool {
+    slot.watches().len() == 200
+        && (0..200).all(|number| has_watch(slot, number) && follows(slot, number))
+}
+
+#[test]
+fn a_whole_slot_is_joined_in_both_orders(rt: HostRuntime) -> Result<(), Fail> {
+    for last_first in [false, true] {
+        let slot = whole(rt.alloc(), last_first)?;
+        assert!(rt; has_the_last_fields(&slot));
+        assert!(rt; has_the_last_texts(&slot));
+        assert!(rt; has_each_watch(&slot));
+        assert!(rt; path(200).is_some_and(|path| slot.watching(&path).is_none()));
+        assert!(rt;
+            slot.watch_after(Moment::START, path(199).as_ref())
+                .is_none()
+        );
+    }
+    Ok(())
+}
+
+fn shows_the_last(seen: &Seen) -> bool {
+    is_letters(seen.endpoint.as_str(), b'e', 252)
+        && seen.id == FIRST
+        && seen.address == LAST_HOST
+        && seen.lifetime == 4_294_967_295
+        && seen.binding.as_str() == "ABCDEFGH"
+        && seen.queue
+        && seen
+            .sms
+            .as_ref()
+            .is_some_and(|sms| is_letters(sms.as_str(), b'1', 251))
+        && is_link(&seen.objects, b'l')
+}
+
+fn seen(alloc: Global) -> Result<Seen, Fail> {
+    let slot = whole(alloc, false)?;
+    let endpoint = letters(alloc, 'e', 252)?;
+    let Some(view) = slot.view(endpoint.as_str(), Moment::START) else {
+        return Err("a view".into());
+    };
+    Ok(view.to_seen(alloc)?)
+}
+
+#[test]
+fn a_whole_slot_is_shown_and_copied(rt: HostRuntime) -> Result<(), Fail> {
+    let seen = seen(rt.alloc())?;
+    assert!(rt; shows_the_last(&seen));
+    let view = seen.as_view();
+    assert!(rt; is_letters(view.endpoint, b'e', 252));
+    assert!(rt; view.sms.is_some_and(|sms| is_letters(sms, b'1', 251)));
+    assert!(rt; is_link(view.objects, b'l'));
+    Ok(())
+}
+
+fn no_fields(alloc: Global) -> Fields {
+    Fields {
+        base: None,
+        address: None,
+        seen: None,
+        lifetime: None,
+        binding: None,
+        sms: None,
+        objects: None,
+        watches: Parts::new(alloc),
+    }
+}
+
+#[test]
+fn a_slot_without_fields_takes_the_others(rt: HostRuntime) -> Result<(), Fail> {
+    let mut named = Slot::from_parts(rt.alloc(), FIRST, Some(no_fields(rt.alloc())))?;
+    assert!(rt; !named.is_removed() && named.base().is_none() && named.watches().is_empty());
+    named.join_with(whole(rt.alloc(), false)?)?;
+    assert!(rt; has_the_last_fields(&named) && has_each_watch(&named));
+    named.join_with(Slot::from_parts(rt.alloc(), FIRST, Some(no_fields(rt.alloc())))?)?;
+    assert!(rt; has_the_last_texts(&named) && has_each_watch(&named));
+    Ok(())
+}
+
+#[test]
+fn endpoints_have_1_to_252_bytes(rt: HostRuntime) -> Result<(), Fail> {
+    for (length, is_one) in [(0, false), (1, true), (252, true), (253, false)] {
+        let text = letters(rt.alloc(), 'e', length)?;
+        match Endpoint::new(text) {
+            None => assert!(rt; !is_one),
+            Some(endpoint) => {
+                assert!(rt; is_one && is_letters(endpoint.as_str(), b'e', length));
+                assert!(rt; is_letters(endpoint.into_text().as_str(), b'e', length));
+            }
+        }
+    }
+    Ok(())
+}
+
+#[test]
+fn sms_numbers_have_at_most_251_bytes(rt: HostRuntime) -> Result<(), Fail> {
+    for (length, is_one) in [(0, true), (251, true), (252, false)] {
+        let sms = SmsNumber::new(letters(rt.alloc(), '1', length)?);
+        assert_eq!(rt;
+            sms.is_some_and(|sms| is_letters(sms.as_str(), b'1', length)),
+            is_one
+        );
+    }
+    Ok(())
+}

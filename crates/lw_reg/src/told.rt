@@ -1,0 +1,137 @@
+//! What is known of a registration, in little room.
+
+ghost use Rattle.std.specs.Prelude.{◌≡◌, ◌↔◌, List, IsTrue, IsOk, IfOk};
+ghost use Rattle.std.specs.Option.{option_copied};
+ghost use Rattle.lw_join.specs.declared.or_gone.OrGone.TheVariants.{Here, Gone};
+ghost use Rattle.lw_reg.specs.Body.{nothing};
+ghost use Rattle.lw_reg.specs.Told.{known_in, body_or_nothing};
+
+use crate::body::Body;
+use lw_join::Join;
+use lw_stamp::NoMemory;
+use std::alloc::Global;
+use std::marker::Model;
+
+/// What is known of a registration, or that it was removed. It takes memory only where something is known.
+#[derive(Debug, Drop)]
+pub(crate) struct Told {
+    kept: Kept,
+}
+
+#[derive(Debug, Drop)]
+enum Kept {
+    Nothing,
+    Known(Box<Body>),
+    Removed,
+}
+
+impl Model for Told {
+    ghost use Rattle.lw_join.specs.declared.or_gone.OrGone.{OrGone};
+    ghost use Rattle.lw_reg.specs.declared.body.Body.{Body as Bodies};
+
+    ghost Value = { OrGone Bodies };
+
+    ghost use Rattle.lw_reg.specs.contracts.body.Body as bodies;
+    ghost use Rattle.std.specs.Coded.{codes};
+
+    ghost coded = { Prim.hlevel (codes, bodies.the_row.coded) };
+
+    ghost use Rattle.lw_reg.specs.Kept.{told_in};
+
+    ghost view = { λ t. told_in t.kept };
+}
+
+impl Told {
+    pub(crate) fn removed() -> Told
+        ensures { result ≡ Gone }
+    {
+        Told {
+            kept: Kept::Removed,
+        }
+    }
+
+    pub(crate) fn of(alloc: Global, body: Body) -> Result<Told, NoMemory>
+        ensures told { IfOk result (λ told. told ≡ Here body) }
+        ensures calm { body ≡ nothing → IsOk result }
+    {
+        let kept = if body.is_nothing() {
+            Kept::Nothing
+        } else {
+            Kept::Known(Box::new(alloc, body)?)
+        };
+        Ok(Told { kept })
+    }
+
+    pub(crate) fn is_removed(&self) -> bool
+        ensures { IsTrue result ↔ (self.now ≡ Gone) }
+    {
+        matches!(self.kept, Kept::Removed)
+    }
+
+    /// What is known; nothing of a removed registration.
+    pub(crate) fn body(&self) -> Option<&Body>
+        ensures { body_or_nothing (option_copied result) ≡ known_in self.now }
+    {
+        match &self.kept {
+            Kept::Known(body) => Some(body),
+            Kept::Nothing | Kept::Removed => None,
+        }
+    }
+}
+
+impl Join for Told {
+    ghost use Rattle.lw_join.specs.OrGone.{gone_below, gone_join, gone_in_place};
+    ghost use Rattle.lw_join.specs.OrGoneLaws.{gone_laws};
+    ghost use Rattle.lw_reg.specs.Body.{BodyBelow, body_join, body_in_place};
+    ghost use Rattle.lw_reg.specs.BodyLaws.{body_laws};
+
+    ghost below = { gone_below BodyBelow };
+
+    ghost join = { gone_join body_join };
+
+    ghost in_place = { gone_in_place body_in_place };
+
+    ghost laws = { gone_laws body_laws };
+
+    fn le(&self, other: &Told) -> bool {
+        match (&self.kept, &other.kept) {
+            (_, Kept::Removed) => true,
+            (Kept::Removed, _) => false,
+            (Kept::Nothing, _) => true,
+            (Kept::Known(body), Kept::Nothing) => body.is_nothing(),
+            (Kept::Known(body), Kept::Known(other)) => body.le(other),
+        }
+    }
+
+    fn join_with(&mut self, other: Told) -> Result<(), NoMemory> {
+        match other.kept {
+            Kept::Nothing => Ok(()),
+            Kept::Removed => {
+                self.kept = Kept::Removed;
+                Ok(())
+            }
+            Kept::Known(other) => self.join_body(other),
+        }
+    }
+}
+
+impl Told {
+    ghost use Rattle.lw_join.specs.OrGone.{gone_join, gone_in_place};
+    ghost use Rattle.lw_reg.specs.Body.{body_join, body_in_place};
+    ghost use Rattle.std.specs.Prelude.{OnOk, OnErr};
+
+    fn join_body(&mut self, other: Box<Body>) -> Result<(), NoMemory>
+        ensures ok { OnOk result (self.new ≡ gone_join body_join self.old (Here other.value)) }
+        ensures err { OnErr result (self.new ≡ self.old) }
+        ensures never_refused { gone_in_place body_in_place self.old (Here other.value) → IsOk result }
+    {
+        match &mut self.kept {
+            Kept::Removed => Ok(()),
+            Kept::Nothing => {
+                self.kept = Kept::Known(other);
+                Ok(())
+            }
+            Kept::Known(body) => body.join_with(Box::into_inner(other)),
+        }
+    }
+}
