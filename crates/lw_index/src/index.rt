@@ -1,36 +1,39 @@
-ghost use Rattle.std.specs.Prelude.{◌≡◌, ◌≢◌, ◌⊎◌, ◌↔◌, ◌||◌, ℕ, List, [], OnOk, OnErr, IsOk, IsTrue, bytes_eq};
+ghost use Rattle.std.specs.Prelude.{◌≡◌, ◌⊎◌, ◌↔◌, ℕ, List, [], OnOk, OnErr, IsOk};
+ghost use Rattle.std.specs.Option.{option_copied};
 ghost use Rattle.std.specs.Cmp.Lexicographic.{slice_cmp};
 ghost use Rattle.std.specs.Ordering.{nat_cmp};
 ghost use Rattle.std.specs.List.Sorted.{IsStrictlySortedBy};
-ghost use Rattle.std.specs.BTreeSet.{contains_text};
-ghost use Rattle.lw_index.specs.Index.{endpoints_of, Has, IsIndex, IsPair};
+ghost use Rattle.lw_index.specs.Index.{endpoints_of, entries_above, Has, IsIndex, IsPair};
 
+use crate::above::Above;
 use crate::endpoints::Endpoints;
+use crate::texts::Texts;
 use lw_stamp::NoMemory;
 use std::alloc::Global;
-use std::collections::{BTreeMap, BTreeSet};
+use std::collections::BTreeMap;
 use std::marker::Model;
+use std::ops::Bound;
 
 /// A map from each key to the endpoints that have it, of which there is at least one.
 ///
-/// Keys that compare equal are one key. A call costs a descent of the tree of the keys and one of the tree
-/// of the key's endpoints, however many there are.
+/// Keys that compare equal are one key. A call costs a descent of the tree of the keys, a second one where a
+/// key comes or goes, and where a key has several endpoints a descent of their tree.
 #[derive(Drop)]
 pub struct Index<K: Ord> {
     alloc: Global,
-    sets: BTreeMap<K, BTreeSet<String>>,
+    entries: BTreeMap<K, Texts>,
 }
 
 impl<K: Ord> Model for Index<K> {
     ghost use Rattle.std.specs.Prelude.{ℕ, List};
     ghost use Rattle.std.specs.BTreeMap.{IsOrdered};
-    ghost use Rattle.lw_index.specs.Shown.{shown, HoldsNoEmpty};
+    ghost use Rattle.lw_index.specs.Index.{EachHasEndpoints};
 
     ghost Value = { List (K × List (List ℕ)) };
 
-    ghost view = { λ index. shown index.sets.entries };
+    ghost view = { λ index. index.entries.entries };
 
-    ghost invariant = { λ index. IsOrdered K.cmp index.sets × HoldsNoEmpty index.sets.entries };
+    ghost invariant = { λ index. IsOrdered K.cmp index.entries × EachHasEndpoints index.entries.entries };
 }
 
 impl<K: Ord + Drop> Index<K> {
@@ -39,7 +42,7 @@ impl<K: Ord + Drop> Index<K> {
     {
         Index {
             alloc,
-            sets: BTreeMap::new(alloc),
+            entries: BTreeMap::new(alloc),
         }
     }
 
@@ -49,12 +52,11 @@ impl<K: Ord + Drop> Index<K> {
         ensures present { Has K.cmp self.old key endpoint.now → IsOk result × (self.new ≡ self.old) }
         ensures unchanged { OnErr result (self.new ≡ self.old) }
     {
-        match self.sets.get_mut(&key) {
-            Some(set) => put(self.alloc, set, endpoint),
+        match self.entries.get_mut(&key) {
+            Some(endpoints) => endpoints.add(self.alloc, endpoint),
             None => {
-                let mut set = BTreeSet::new(self.alloc);
-                put(self.alloc, &mut set, endpoint)?;
-                self.sets.insert(key, set)?;
+                let endpoints = Texts::one(self.alloc, endpoint)?;
+                self.entries.insert(key, endpoints)?;
                 Ok(())
             }
         }
@@ -65,13 +67,14 @@ impl<K: Ord + Drop> Index<K> {
         ensures dropped { (k : K) (e : List ℕ) → Has K.cmp self.new k e ↔ (Has K.cmp self.old k e × ((IsPair K.cmp key.now endpoint.now k e) → ⊥)) }
         ensures absent { (Has K.cmp self.old key.now endpoint.now → ⊥) → self.new ≡ self.old }
     {
-        let Some(set) = self.sets.get_mut(key) else {
+        let Some(endpoints) = self.entries.get_mut(key) else {
             return;
         };
-        set.remove(endpoint);
-        if set.is_empty() {
-            self.sets.remove(key);
+        if endpoints.is_only(endpoint) {
+            self.entries.remove(key);
+            return;
         }
+        endpoints.remove(endpoint);
     }
 
     /// The endpoints of the key, rising by their bytes. There are none where the index lacks the key.
@@ -80,25 +83,24 @@ impl<K: Ord + Drop> Index<K> {
         ensures rising { IsStrictlySortedBy (slice_cmp nat_cmp) result }
         ensures is_index { IsIndex K.cmp self.now }
     {
-        match self.sets.get(key) {
-            Some(set) => Endpoints {
-                rest: Some(set.iter()),
-            },
-            None => Endpoints { rest: None },
+        match self.entries.get(key) {
+            Some(endpoints) => endpoints.iter(),
+            None => Endpoints::none(),
         }
     }
-}
 
-// Puts a copy of the endpoint into the set.
-fn put(alloc: Global, set: &mut BTreeSet<String>, endpoint: &str) -> Result<(), NoMemory>
-    ensures members { OnOk result ((e : List ℕ) → contains_text set.new e ≡ (contains_text set.old e || bytes_eq endpoint.now e)) }
-    ensures some { OnOk result (set.new.keys ≢ []) }
-    ensures present { IsTrue (contains_text set.old endpoint.now) → IsOk result × (set.new.keys ≡ set.old.keys) }
-    ensures unchanged { OnErr result (set.new.keys ≡ set.old.keys) }
-{
-    if set.contains(endpoint) {
-        return Ok(());
+    /// The keys above the given one, or all, rising, each with its endpoints. It costs a descent, and what it
+    /// gives.
+    pub fn above(&self, after: Option<&K>) -> Above<'_, K>
+        ensures { result ≡ entries_above K.cmp (option_copied after.entry) self.now }
+    {
+        let Some(key) = after else {
+            return Above {
+                entries: self.entries.range(..),
+            };
+        };
+        Above {
+            entries: self.entries.range((Bound::Excluded(key), Bound::Unbounded)),
+        }
     }
-    set.insert(String::from_str(alloc, endpoint)?)?;
-    Ok(())
 }

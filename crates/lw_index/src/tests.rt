@@ -45,6 +45,102 @@ fn listed<K: Ord + Drop>(alloc: Global, index: &Index<K>, key: &K) -> Result<Str
     Ok(text)
 }
 
+#[test]
+fn one_endpoint_then_two_then_one(rt: HostRuntime) -> Result<(), Fail> {
+    let mut index = Index::new(rt.alloc());
+    let longest = "x".repeat(rt.alloc(), 252)?;
+    index.add(7u32, longest.as_str())?;
+    index.add(7, "b")?;
+    assert!(rt; has_only(&index, &7, &["b", longest.as_str()]));
+    index.drop_one(&7, longest.as_str());
+    assert!(rt; has_only(&index, &7, &["b"]));
+    index.add(7, longest.as_str())?;
+    index.drop_one(&7, "b");
+    assert!(rt; has_only(&index, &7, &[longest.as_str()]));
+    index.drop_one(&7, longest.as_str());
+    assert!(rt; has_only(&index, &7, &[]));
+    Ok(())
+}
+
+// The numbers below a hundred, each once, in no order.
+fn number_at(place: u32) -> u32 {
+    (place % 100 * 37) % 100
+}
+
+// Whether the endpoints of the key are the numbers from 100 to 199.
+fn has_a_hundred(alloc: Global, index: &Index<u32>, key: &u32) -> Result<bool, Fail> {
+    let mut endpoints = index.of(key);
+    for number in 100..200u32 {
+        let wanted = format!(in alloc; "{number}")?;
+        if endpoints.next() != Some(wanted.as_str()) {
+            return Ok(false);
+        }
+    }
+    Ok(endpoints.next().is_none())
+}
+
+#[test]
+fn a_hundred_endpoints_of_a_key(rt: HostRuntime) -> Result<(), Fail> {
+    let mut index = Index::new(rt.alloc());
+    for place in 0..100u32 {
+        let endpoint = format!(in rt.alloc(); "{}", 100 + number_at(place))?;
+        index.add(7u32, endpoint.as_str())?;
+    }
+    assert!(rt; has_a_hundred(rt.alloc(), &index, &7)?);
+    for place in 1..100u32 {
+        let endpoint = format!(in rt.alloc(); "{}", 100 + number_at(place))?;
+        index.drop_one(&7, endpoint.as_str());
+    }
+    assert!(rt; has_only(&index, &7, &["100"]));
+    Ok(())
+}
+
+// An index of a thousand keys, each the double of a number and with one endpoint.
+fn thousand(alloc: Global) -> Result<Index<u32>, NoMemory> {
+    let mut index = Index::new(alloc);
+    for place in 0..1000u32 {
+        let number = (place * 7) % 1000;
+        index.add(2 * number, if number % 2 == 0 { "even" } else { "odd" })?;
+    }
+    Ok(index)
+}
+
+// Whether these are the keys of such an index from a number on.
+fn is_from(mut above: Above<'_, u32>, first: u32) -> bool {
+    for number in first..1000u32 {
+        let wanted = if number % 2 == 0 { "even" } else { "odd" };
+        let Some((key, mut endpoints)) = above.next() else {
+            return false;
+        };
+        if *key != 2 * number || endpoints.next() != Some(wanted) || endpoints.next().is_some() {
+            return false;
+        }
+    }
+    above.next().is_none()
+}
+
+#[test]
+fn the_keys_above_a_key(rt: HostRuntime) -> Result<(), Fail> {
+    let mut index = thousand(rt.alloc())?;
+    assert!(rt; is_from(index.above(None), 0));
+    for (key, first) in [
+        (0u32, 1),
+        (1, 1),
+        (998, 500),
+        (999, 500),
+        (1997, 999),
+        (1998, 1000),
+        (4000, 1000),
+    ] {
+        assert!(rt; is_from(index.above(Some(&key)), first), "{key}");
+    }
+    index.drop_one(&0, "even");
+    assert!(rt; is_from(index.above(None), 1));
+    let empty: Index<u32> = Index::new(rt.alloc());
+    assert!(rt; empty.above(None).next().is_none());
+    Ok(())
+}
+
 // A node of a tree holds 15 entries: one more divides it.
 const ENDPOINTS: [&str; 17] = [
     "a", "b", "c", "d", "e", "f", "g", "h", "i", "j", "k", "l", "m", "n", "o", "p", "q",
