@@ -11,3 +11,4 @@ pub mod Printed
 pub mod Shortest
 pub mod Spelled
 pub mod Printings
+pub mod Decided

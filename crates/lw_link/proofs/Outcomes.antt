@@ -15,7 +15,7 @@ use Rattle.lw_link.proofs.Sound.{whole_are}
 pub one_spelled : (bytes : List ℕ) (a b : List LinkContent) → Spells bytes a → Spells bytes b → a ≡ b
 one_spelled bytes a b h k = one_list Any (chars bytes) a b h.1 k.1
 
-apart : (bytes : List ℕ) (f : LinkFault) → IsRead bytes → IsFault bytes f → ⊥
+pub apart : (bytes : List ℕ) (f : LinkFault) → IsRead bytes → IsFault bytes f → ⊥
 apart bytes NotText h k = k h.1.0
 apart bytes (Grammar place) h k = k.1 h.0 h.1
 apart bytes TooMany (links, h, few) (others, k, many) =
@@ -33,7 +33,7 @@ one_place bytes p q h k =
       ]
     ]
 
-one_fault : (bytes : List ℕ) (f g : LinkFault) → IsFault bytes f → IsFault bytes g → f ≡ g
+pub one_fault : (bytes : List ℕ) (f g : LinkFault) → IsFault bytes f → IsFault bytes g → f ≡ g
 one_fault bytes NotText NotText h k = refl
 one_fault bytes NotText (Grammar q) h k = absurd (h k.0)
 one_fault bytes NotText TooMany h k = absurd (h k.1.0)

@@ -1,5 +1,45 @@
 use crate::{LinkFault, LinkText, is_printing, print, read, well_formed};
+use std::alloc::Global;
 use std::test::Fail;
+
+/// Each part, as often as it says.
+fn text_of(alloc: Global, parts: &[(&str, usize)]) -> Result<String, Fail> {
+    let mut text = String::new(alloc);
+    for (part, count) in parts {
+        for _ in 0..*count {
+            text.push_str(part)?;
+        }
+    }
+    Ok(text)
+}
+
+/// What is read, printed again.
+fn printed(alloc: Global, given: &str) -> Result<String, Fail> {
+    let links = read(alloc, given.as_bytes())?;
+    if !well_formed(&links) {
+        return Ok(String::new(alloc));
+    }
+    Ok(print(alloc, &links)?)
+}
+
+/// A copy of what the bytes are kept as.
+fn kept(alloc: Global, given: &str) -> Result<LinkText, Fail> {
+    let bytes = given.as_bytes();
+    if bytes.len() > 8_192 {
+        return Err(Fail::from("within a datagram"));
+    }
+    let text = LinkText::read(alloc, bytes)?;
+    Ok(text.copy_of(alloc)?)
+}
+
+/// What a printing is kept as.
+fn kept_as_it_is(alloc: Global, given: &str) -> Result<LinkText, Fail> {
+    let bytes = given.as_bytes();
+    if bytes.len() > 8_192 || !is_printing(bytes) {
+        return Err(Fail::from("a printing"));
+    }
+    Ok(LinkText::of_printing(alloc, bytes)?)
+}
 
 #[test]
 fn two_links_are_read_and_printed(rt: HostRuntime) -> Result<(), Fail> {
@@ -123,5 +163,88 @@ fn at_most_256_links(rt: HostRuntime) -> Result<(), Fail> {
     let fault = read(rt.alloc(), text.as_bytes()).err();
     assert_eq!(rt; fault, Some(LinkFault::TooMany));
     assert!(rt; !is_printing(text.as_bytes()));
+    Ok(())
+}
+
+#[test]
+fn printings_at_their_bounds(rt: HostRuntime) -> Result<(), Fail> {
+    let alloc = rt.alloc();
+    for (parts, length) in [
+        // attributes of a link
+        ([("</1>", 1), (";a=1", 1), ("", 0)], 8),
+        ([("</1>", 1), (";a=1", 2), ("", 0)], 12),
+        ([("</1>", 1), (";a=1", 3), ("", 0)], 16),
+        ([("</1>", 1), (";a=1", 2047), ("", 0)], 8192),
+        // links with attributes
+        (
+            [
+                ("</1>;a;b=2;c=\"3\"", 1),
+                (",</1>;a;b=2;c=\"3\"", 1),
+                ("", 0),
+            ],
+            33,
+        ),
+        (
+            [
+                ("</1>;a;b=2;c=\"3\"", 1),
+                (",</1>;a;b=2;c=\"3\"", 2),
+                ("", 0),
+            ],
+            50,
+        ),
+        (
+            [
+                ("</1>;a;b=2;c=\"3\"", 1),
+                (",</1>;a;b=2;c=\"3\"", 255),
+                ("", 0),
+            ],
+            4351,
+        ),
+        // a value full of escapes
+        ([("<>;ab=\"", 1), ("\\\"", 4092), ("\"", 1)], 8192),
+        ([("<>;ab=\"", 1), ("\\\\", 4092), ("\"", 1)], 8192),
+    ] {
+        let given = text_of(alloc, &parts)?;
+        assert_eq!(rt; given.len(), length);
+        assert!(rt; printed(alloc, given.as_str())?.as_str() == given.as_str());
+        assert!(rt; kept(alloc, given.as_str())?.as_str() == given.as_str());
+        assert!(rt; kept_as_it_is(alloc, given.as_str())?.as_str() == given.as_str());
+    }
+    Ok(())
+}
+
+#[test]
+fn long_spellings_are_printed(rt: HostRuntime) -> Result<(), Fail> {
+    let alloc = rt.alloc();
+    for (spelling, printing) in [
+        // spaces before attributes, and before links
+        (
+            [("</1>", 1), (";  a=1", 1300), ("", 0)],
+            [("</1>", 1), (";a=1", 1300), ("", 0)],
+        ),
+        (
+            [
+                ("</1>;a;b=2;c=\"3\"", 1),
+                (",    </1>; a; b=2;c=\"3\"", 255),
+                ("", 0),
+            ],
+            [
+                ("</1>;a;b=2;c=\"3\"", 1),
+                (",</1>;a;b=2;c=\"3\"", 255),
+                ("", 0),
+            ],
+        ),
+        // needless escapes
+        (
+            [("<>;ab=\"", 1), ("\\x", 4092), ("\"", 1)],
+            [("<>;ab=\"", 1), ("x", 4092), ("\"", 1)],
+        ),
+    ] {
+        let given = text_of(alloc, &spelling)?;
+        let want = text_of(alloc, &printing)?;
+        assert!(rt; !is_printing(given.as_bytes()));
+        assert!(rt; printed(alloc, given.as_str())?.as_str() == want.as_str());
+        assert!(rt; kept(alloc, given.as_str())?.as_str() == want.as_str());
+    }
     Ok(())
 }
