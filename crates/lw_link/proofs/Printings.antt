@@ -15,7 +15,7 @@ use Rattle.lw_link.proofs.Sound.{whole_are}
 use Rattle.lw_link.proofs.Places.{leaves_not_whole}
 use Rattle.lw_link.proofs.Printed.{list_any, list_good, list_printed}
 use Rattle.lw_link.proofs.Shortest.{list_size}
-use Rattle.lw_link.proofs.Spelled.{printing_is}
+use Rattle.lw_link.proofs.Spelled.{printing_is, printing_spells}
 
 pub spelled_good : (bytes : List ℕ) (links : List LinkContent) → Spells bytes links → length links ≤ 256 → AreWellFormed links
 spelled_good bytes links spells few =
@@ -29,6 +29,10 @@ spelled_size bytes links spells =
 
 pub printing_text : (bytes : List ℕ) → IsPrinting bytes → IsUtf8 bytes
 printing_text bytes (links, good, e) = subst IsUtf8 (sym e) (printing_is links good).0
+
+-- a printing spells its links, which are few enough to be read
+pub printing_read : (bytes : List ℕ) (h : IsPrinting bytes) → Spells bytes h.0 × (length h.0 ≤ 256)
+printing_read bytes (links, good, e) = (subst (λ (x : List ℕ). Spells x links) (sym e) (printing_spells links good), good.within)
 
 held : (bytes : List ℕ) (h : IsPrinting bytes) → read_on Printed Start (chars bytes) ≡ holding [] h.0
 held bytes (links, good, e) =

@@ -3,6 +3,7 @@ ghost use Rattle.std.specs.Prelude.{◌≡◌, ◌≢◌, ◌≤◌, ◌↔◌, 
 use crate::fault::LinkFault;
 use crate::printing::print;
 use crate::reading::read;
+use crate::scan::printed_text;
 use lw_stamp::NoMemory;
 use std::alloc::Global;
 use std::marker::Model;
@@ -32,6 +33,28 @@ impl LinkText {
     ghost use Rattle.lw_link.specs.Printing.{printing};
     ghost use Rattle.lw_link.specs.WellFormed.{IsPrinting};
 
+    /// The bytes as they are, which are known to be a printing.
+    pub fn of_printing(alloc: Global, bytes: &[u8]) -> Result<LinkText, NoMemory>
+        requires printing { IsPrinting bytes.now }
+        requires within { length bytes.now ≤ 8192 }
+        ensures { IfOk result (λ text. text ≡ bytes.now) }
+    {
+        let Ok(text) = str::from_utf8(bytes) else {
+            unreachable!()
+        };
+        LinkText::of_text(alloc, text)
+    }
+
+    fn of_text(alloc: Global, text: &str) -> Result<LinkText, NoMemory>
+        requires printing { IsPrinting text.now }
+        requires within { length text.now ≤ 8192 }
+        ensures { IfOk result (λ copy. copy ≡ text.now) }
+    {
+        Ok(LinkText {
+            text: String::from_str(alloc, text)?,
+        })
+    }
+
     /// The printing of the links that the bytes spell. Each fault but `NoMemory` is found before any memory
     /// is taken.
     pub fn read(alloc: Global, bytes: &[u8]) -> Result<LinkText, LinkFault>
@@ -53,6 +76,9 @@ impl LinkText {
         ensures found { IfOk result (λ text. (links : List LinkContent) × Spells bytes.now links × (length links ≤ 256) × (text ≡ printing links)) }
         ensures refused { IfErr result (IsRefused bytes.now) }
     {
+        if let Some(text) = printed_text(bytes) {
+            return Ok(LinkText::of_text(alloc, text)?);
+        }
         let links = read(alloc, bytes)?;
         let text = print(alloc, &links)?;
         Ok(LinkText { text })
@@ -69,8 +95,6 @@ impl LinkText {
     pub fn copy_of(&self, alloc: Global) -> Result<LinkText, NoMemory>
         ensures { IfOk result (λ copy. copy ≡ self.now) }
     {
-        Ok(LinkText {
-            text: String::from_str(alloc, self.text.as_str())?,
-        })
+        LinkText::of_text(alloc, self.text.as_str())
     }
 }

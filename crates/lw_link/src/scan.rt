@@ -1,6 +1,6 @@
 //! Walking a text through the grammar, with no memory.
 
-ghost use Rattle.std.specs.Prelude.{◌≡◌, ◌≤◌, ◌↔◌, true, length, IfOk, IfErr, IsTrue, IsUtf8, chars};
+ghost use Rattle.std.specs.Prelude.{◌≡◌, ◌≤◌, ◌↔◌, true, length, IfOk, IfErr, IfSome, IfNone, IsTrue, IsUtf8, chars};
 ghost use Rattle.lw_link.specs.declared.style.Style.TheVariants.{Any};
 ghost use Rattle.lw_link.specs.declared.state.State.TheVariants.{Start};
 ghost use Rattle.lw_link.specs.Machine.{read_on, Leaves};
@@ -58,15 +58,24 @@ pub(crate) fn check(bytes: &[u8]) -> Result<&str, LinkFault>
     }
 }
 
+/// The text, if it is the printing of 1 to 256 links.
+pub(crate) fn printed_text(bytes: &[u8]) -> Option<&str>
+    ensures some { IfSome result (λ text. (text.now ≡ bytes.now) × IsPrinting bytes.now) }
+    ensures none { IfNone result (¬ IsPrinting bytes.now) }
+{
+    let Ok(text) = str::from_utf8(bytes) else {
+        return None;
+    };
+    match scan(text, Style::Printed) {
+        Ok(links) if links <= MAX_LINKS => Some(text),
+        Ok(_) => None,
+        Err(_) => None,
+    }
+}
+
 /// Whether the bytes are the printing of 1 to 256 links.
 pub fn is_printing(bytes: &[u8]) -> bool
     ensures { IsTrue result ↔ IsPrinting bytes.now }
 {
-    let Ok(text) = str::from_utf8(bytes) else {
-        return false;
-    };
-    match scan(text, Style::Printed) {
-        Ok(links) => links <= MAX_LINKS,
-        Err(_) => false,
-    }
+    printed_text(bytes).is_some()
 }

@@ -46,6 +46,7 @@ fn separated(c: char) -> State
 
 impl State {
     /// The state behind the next character.
+    #[inline(always)]
     pub(crate) fn next(self, style: Style, c: char) -> State
         ensures { result ≡ machine.next_state style self c }
     {
