@@ -1,5 +1,5 @@
 -- The queries of a Register and an Update.
-use Rattle.std.proofs.Common.{◌≡◌, ℕ, ◌+◌, ◌≤◌, true, false, List, [], ◌∷◌, length, codes, Option, Some, None, sym, ap, subst, ◌∙◌, inl, inr, arith, length-drop}
+use Rattle.std.proofs.Common.{◌≡◌, ℕ, ◌+◌, ◌≤◌, true, false, List, [], ◌∷◌, ◌++◌, length, codes, Option, Some, None, refl, sym, ap, subst, ◌∙◌, inl, inr, arith, length-drop, IsUtf8}
 use Rattle.std.specs.Prelude.{unwrap_or, bytes_eq, if◌then◌else◌, ◌==◌}
 use Rattle.std.specs.List.{AllByRecursion, position_or_len}
 use Rattle.std.specs.Option.{option_map}
@@ -11,7 +11,7 @@ use Rattle.lw_reg.specs.Binding.{binding_text}
 use Rattle.lw_reg.specs.BindingText.{IsBindingText}
 use Rattle.lw_coap.specs.Message.{OptionContent}
 use Rattle.lw_request.specs.Options.{values_of, has_unrecognised}
-use Rattle.lw_request.specs.Queries.{name_of, value_of, later_or, Parameter, given, Accepts, IsLifetime, AreTexts, IsOfUpdate, HasBadQuery, IsGiven, AreSettings, IsShort}
+use Rattle.lw_request.specs.Queries.{name_of, value_of, later_or, Parameter, parameter_name, given, Accepts, IsLifetime, AreTexts, IsOfUpdate, HasBadQuery, IsGiven, AreSettings, IsShort}
 use Rattle.lw_request.specs.Queries.Parameter.{Ep, Lt, Lwm2m, B, Q, Sms}
 use Rattle.lw_request.proofs.Recognised.{IsShortQuery, recognised_short}
 
@@ -20,6 +20,79 @@ none_some v e = cc
 
 some_is : {V : Type 0} (v w : V) → (◌≡◌ {A = Option V} (Some v) (Some w)) → v ≡ w
 some_is v w e = cc
+
+-- ---- gathering the parameters
+
+-- what stands before the queries that are left has these values, and is UTF-8
+pub record AreGathered (all left : List (List ℕ)) (values : Parameter → Option (List ℕ)) : Type 0 where
+  pub texts : AreTexts left → AreTexts all
+  pub back : AreTexts all → AreTexts left
+  pub values_are : (p : Parameter) → given p all ≡ later_or (given p left) (values p)
+
+later_none : (o : Option (List ℕ)) → later_or o None ≡ o
+later_none None = refl
+later_none (Some v) = refl
+
+later_twice : (a b c : Option (List ℕ)) → later_or (later_or a b) c ≡ later_or a (later_or b c)
+later_twice None b c = refl
+later_twice (Some v) b c = refl
+
+pub gathered_start : (all : List (List ℕ)) (values : Parameter → Option (List ℕ)) → ((p : Parameter) → values p ≡ None) → AreGathered all all values
+gathered_start all values none = record {
+  texts = λ h. h;
+  back = λ h. h;
+  values_are = λ p. sym (ap (later_or (given p all)) (none p) ∙ later_none (given p all));
+}
+
+values_front : (option : OptionContent) (options : List OptionContent) → values_of 15 (option ∷ options) ≡ values_of 15 (option ∷ []) ++ values_of 15 options
+values_front option options =
+    elim (cases_Bool (option.number == 15)) [
+      | inl same ↦ rw same refl
+      | inr other ↦ rw other refl
+    ]
+
+texts_both : (front back : List (List ℕ)) → AreTexts front → AreTexts back → AreTexts (front ++ back)
+texts_both [] back h k = k
+texts_both (query ∷ front) back h k = (h.0, texts_both front back h.1 k)
+
+texts_front : (front back : List (List ℕ)) → AreTexts (front ++ back) → AreTexts front
+texts_front [] back h = tt
+texts_front (query ∷ front) back h = (h.0, texts_front front back h.1)
+
+texts_back : (front back : List (List ℕ)) → AreTexts (front ++ back) → AreTexts back
+texts_back [] back h = h
+texts_back (query ∷ front) back h = texts_back front back h.1
+
+given_both : (p : Parameter) (front back : List (List ℕ)) → given p (front ++ back) ≡ later_or (given p back) (given p front)
+given_both p [] back = sym (later_none (given p back))
+given_both p (query ∷ front) back =
+    let here = (if bytes_eq (name_of query) (parameter_name p) then Some (value_of query) else None) in
+    ap (λ (o : Option (List ℕ)). later_or o here) (given_both p front back) ∙ later_twice (given p back) (given p front) here
+
+pub gathered_more : (all : List (List ℕ)) (option : OptionContent) (options : List OptionContent) (old new : Parameter → Option (List ℕ)) → AreTexts (values_of 15 (option ∷ []))
+    → ((p : Parameter) → new p ≡ later_or (given p (values_of 15 (option ∷ []))) (old p)) → AreGathered all (values_of 15 (option ∷ options)) old → AreGathered all (values_of 15 options) new
+gathered_more all option options old new texts more h =
+    let front = values_of 15 (option ∷ []) in
+    let back = values_of 15 options in
+    let are = values_front option options in
+    record {
+      texts = λ k. h.texts (subst AreTexts (sym are) (texts_both front back texts k));
+      back = λ k. texts_back front back (subst AreTexts are (h.back k));
+      values_are = λ p.
+        h.values_are p
+        ∙ ap (λ (qs : List (List ℕ)). later_or (given p qs) (old p)) are
+        ∙ ap (λ (o : Option (List ℕ)). later_or o (old p)) (given_both p front back)
+        ∙ later_twice (given p back) (given p front) (old p)
+        ∙ ap (later_or (given p back)) (sym (more p));
+    }
+
+pub gathered_all : (all : List (List ℕ)) (values : Parameter → Option (List ℕ)) → AreGathered all [] values → AreTexts all × ((p : Parameter) → values p ≡ given p all)
+gathered_all all values h = (h.texts tt, λ p. sym (h.values_are p))
+
+pub gathered_bad : (all : List (List ℕ)) (option : OptionContent) (options : List OptionContent) (values : Parameter → Option (List ℕ)) → (AreTexts (values_of 15 (option ∷ [])) → ⊥)
+    → AreGathered all (values_of 15 (option ∷ options)) values → AreTexts all → ⊥
+gathered_bad all option options values bad h k =
+    bad (texts_front (values_of 15 (option ∷ [])) (values_of 15 options) (subst AreTexts (values_front option options) (h.back k)))
 
 -- ---- the SMS number
 

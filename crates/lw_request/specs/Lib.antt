@@ -1,5 +1,6 @@
 pub mod Options
 pub mod Queries
+pub mod Parameters
 pub mod Objects
 pub mod Report
 pub mod Reply

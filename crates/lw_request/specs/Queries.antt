@@ -67,6 +67,10 @@ Accepts B value = IsBindingText value
 Accepts Q value = Unit {0}
 Accepts Sms value = Unit {0}
 
+-- the parameter is given, with a value that it may not have
+abbrev pub IsNotAccepted : Parameter → Option (List ℕ) → Type 0
+IsNotAccepted parameter given = (value : List ℕ) × (given ≡ Some value) × (Accepts parameter value → ⊥)
+
 -- an Update has lifetime, binding and SMS number; what else is named is ignored
 abbrev pub is_in_update : Parameter → Bool
 is_in_update Ep = false

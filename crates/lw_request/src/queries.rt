@@ -1,11 +1,12 @@
 //! The Uri-Queries of a request (LwM2M 1.1 Core, section 6.2.1).
 
-ghost use Rattle.std.specs.Prelude.{◌≡◌, ◌↔◌, ◌≤◌, ℕ, length, IsTrue, IsSome, IfSome, IfNone, IfOk, OnErr, option_copied, option_map};
+ghost use Rattle.std.specs.Prelude.{◌≡◌, ◌≤◌, ◌⊎◌, ℕ, [], ◌∷◌, length, IsSome, IfSome, IfNone, IfOk, OnOk, OnErr, option_copied, option_map};
 ghost use Rattle.std.specs.List.{AllByRecursion};
 ghost use Rattle.lw_reg.specs.Binding.{binding_text};
 ghost use Rattle.lw_request.specs.Options.{values_of};
-ghost use Rattle.lw_request.specs.Queries.{IsDigit, IsLifetime, decimal_value, name_of, value_of, last_value, given, AreTexts, IsOfUpdate, HasBadValue, IsGiven, AreSettings, IsShort};
-ghost use Rattle.lw_request.specs.Queries.Parameter.{Lt, B};
+ghost use Rattle.lw_request.specs.Queries.{Parameter, IsDigit, IsLifetime, decimal_value, name_of, value_of, later_or, given, AreTexts, IsGiven, IsNotAccepted, IsShort};
+ghost use Rattle.lw_request.specs.Queries.Parameter.{Lt, B, Sms};
+ghost use Rattle.lw_request.specs.Parameters.{value_in};
 
 use lw_coap::CoapOption;
 use lw_coap::option_numbers::URI_QUERY;
@@ -18,36 +19,68 @@ use std::str;
 #[derive(Clone, Copy, Debug)]
 pub(crate) struct BadQuery;
 
-/// Whether each query is UTF-8.
-pub(crate) fn are_texts(options: &[CoapOption]) -> bool
-    ensures { IsTrue result ↔ AreTexts (values_of 15 options.now) }
-{
-    for option in options {
-        if option.number == URI_QUERY && str::from_utf8(option.value.as_slice()).is_err() {
-            return false;
-        }
-    }
-    true
+/// The last value of each parameter, lent by the message: what is absent was not given.
+#[derive(Clone, Copy, Debug)]
+pub(crate) struct Parameters<'a> {
+    pub endpoint: Option<&'a str>,
+    pub lifetime: Option<&'a str>,
+    pub version: Option<&'a str>,
+    pub binding: Option<&'a str>,
+    pub queue: Option<&'a str>,
+    pub sms: Option<&'a str>,
 }
 
-/// The value of the last query of the name.
-pub(crate) fn last_value<'a>(options: &'a [CoapOption], name: &str) -> Option<&'a str>
-    requires { AreTexts (values_of 15 options.now) }
-    ensures { option_copied result ≡ last_value name.now (values_of 15 options.now) }
+/// The parameters of the queries, of which each has to be UTF-8.
+pub(crate) fn parameters_of(options: &[CoapOption]) -> Result<Parameters<'_>, BadQuery>
+    ensures texts { OnOk result (AreTexts (values_of 15 options.now)) }
+    ensures given { IfOk result (λ found. (parameter : Parameter) → value_in found parameter ≡ given parameter (values_of 15 options.now)) }
+    ensures err { OnErr result (¬ AreTexts (values_of 15 options.now)) }
 {
-    let mut found = None;
+    let mut parameters = Parameters {
+        endpoint: None,
+        lifetime: None,
+        version: None,
+        binding: None,
+        queue: None,
+        sms: None,
+    };
     for option in options {
-        if option.number == URI_QUERY {
-            let Ok(query) = str::from_utf8(option.value.as_slice()) else {
-                continue;
-            };
-            let (query_name, value) = split_query(query);
-            if query_name == name {
-                found = Some(value);
-            }
+        parameters = parameters.with(option)?;
+    }
+    Ok(parameters)
+}
+
+impl<'a> Parameters<'a> {
+    /// The parameters with what a further option gives.
+    fn with(self, option: &'a CoapOption) -> Result<Parameters<'a>, BadQuery>
+        ensures texts { OnOk result (AreTexts (values_of 15 (option.now ∷ []))) }
+        ensures given { IfOk result (λ found. (parameter : Parameter) → value_in found parameter ≡ later_or (given parameter (values_of 15 (option.now ∷ []))) (value_in self.entry parameter)) }
+        ensures err { OnErr result (¬ AreTexts (values_of 15 (option.now ∷ []))) }
+    {
+        if option.number != URI_QUERY {
+            return Ok(self);
+        }
+        match str::from_utf8(option.value.as_slice()) {
+            Ok(query) => Ok(self.with_query(query)),
+            Err(_) => Err(BadQuery),
         }
     }
-    found
+
+    fn with_query(self, query: &'a str) -> Parameters<'a>
+        ensures { (parameter : Parameter) → value_in result parameter ≡ later_or (given parameter (query.now ∷ [])) (value_in self.entry parameter) }
+    {
+        let (name, value) = split_query(query);
+        let value = Some(value);
+        match name {
+            "ep" => Parameters { endpoint: value, ..self },
+            "lt" => Parameters { lifetime: value, ..self },
+            "lwm2m" => Parameters { version: value, ..self },
+            "b" => Parameters { binding: value, ..self },
+            "Q" => Parameters { queue: value, ..self },
+            "sms" => Parameters { sms: value, ..self },
+            _ => self,
+        }
+    }
 }
 
 /// The name and the value of a query.
@@ -67,25 +100,25 @@ pub(crate) struct Settings<'a> {
     pub sms: Option<&'a str>,
 }
 
-pub(crate) fn settings_of(options: &[CoapOption]) -> Result<Settings<'_>, BadQuery>
-    requires { AreTexts (values_of 15 options.now) }
-    ensures ok { IfOk result (λ s. AreSettings (values_of 15 options.now) s.lifetime s.binding (option_copied s.sms)) }
-    ensures err { OnErr result (HasBadValue IsOfUpdate (values_of 15 options.now)) }
+pub(crate) fn settings_of<'a>(parameters: &Parameters<'a>) -> Result<Settings<'a>, BadQuery>
+    ensures lifetime { IfOk result (λ s. IsGiven IsLifetime (value_in parameters.now Lt) s.lifetime) }
+    ensures binding { IfOk result (λ s. option_map binding_text s.binding ≡ value_in parameters.now B) }
+    ensures sms { IfOk result (λ s. option_copied s.sms ≡ value_in parameters.now Sms) }
+    ensures err { OnErr result (IsNotAccepted Lt (value_in parameters.now Lt) ⊎ IsNotAccepted B (value_in parameters.now B)) }
 {
     Ok(Settings {
-        lifetime: lifetime_in(options)?,
-        binding: binding_in(options)?,
-        sms: last_value(options, "sms"),
+        lifetime: lifetime_in(parameters.lifetime)?,
+        binding: binding_in(parameters.binding)?,
+        sms: parameters.sms,
     })
 }
 
 /// The lifetime in seconds, where one is given.
-fn lifetime_in(options: &[CoapOption]) -> Result<Option<u32>, BadQuery>
-    requires { AreTexts (values_of 15 options.now) }
-    ensures ok { IfOk result (IsGiven IsLifetime (given Lt (values_of 15 options.now))) }
-    ensures err { OnErr result (HasBadValue IsOfUpdate (values_of 15 options.now)) }
+fn lifetime_in(given: Option<&str>) -> Result<Option<u32>, BadQuery>
+    ensures ok { IfOk result (IsGiven IsLifetime (option_copied given.entry)) }
+    ensures err { OnErr result (IsNotAccepted Lt (option_copied given.entry)) }
 {
-    let Some(text) = last_value(options, "lt") else {
+    let Some(text) = given else {
         return Ok(None);
     };
     match read_lifetime(text) {
@@ -95,12 +128,11 @@ fn lifetime_in(options: &[CoapOption]) -> Result<Option<u32>, BadQuery>
 }
 
 /// The binding, where one is given.
-fn binding_in(options: &[CoapOption]) -> Result<Option<Binding>, BadQuery>
-    requires { AreTexts (values_of 15 options.now) }
-    ensures ok { IfOk result (λ binding. option_map binding_text binding ≡ given B (values_of 15 options.now)) }
-    ensures err { OnErr result (HasBadValue IsOfUpdate (values_of 15 options.now)) }
+fn binding_in(given: Option<&str>) -> Result<Option<Binding>, BadQuery>
+    ensures ok { IfOk result (λ binding. option_map binding_text binding ≡ option_copied given.entry) }
+    ensures err { OnErr result (IsNotAccepted B (option_copied given.entry)) }
 {
-    let Some(text) = last_value(options, "b") else {
+    let Some(text) = given else {
         return Ok(None);
     };
     match Binding::read(text) {

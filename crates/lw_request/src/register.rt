@@ -1,18 +1,18 @@
 //! A Register (LwM2M 1.1 Core, section 6.2.1).
 
-ghost use Rattle.std.specs.Prelude.{◌≡◌, ◌≢◌, ◌≤◌, ℕ, List, length, IsTrue, is_some, IfOk, OnOk, OnErr, IfSome, IfNone, Some, option_copied, codes, unwrap_or};
+ghost use Rattle.std.specs.Prelude.{◌≡◌, ◌≢◌, ◌≤◌, ◌⊎◌, ℕ, List, length, IsTrue, is_some, IfOk, OnOk, OnErr, IfSome, IfNone, Some, None, option_copied, codes, unwrap_or};
 ghost use Rattle.lw_reg.specs.Binding.{binding_text};
 ghost use Rattle.lw_reg.specs.Version.{version_text};
 ghost use Rattle.lw_reg.specs.declared.version.Version.{Version as Versions};
 ghost use Rattle.lw_request.specs.Options.{values_of, has_unrecognised};
-ghost use Rattle.lw_request.specs.Queries.{given, AreTexts, IsLifetime, HasBadQuery, EachIsLookedAt, IsShort};
+ghost use Rattle.lw_request.specs.Queries.{given, AreTexts, IsLifetime, IsNotAccepted, HasBadQuery, EachIsLookedAt, IsShort};
 ghost use Rattle.lw_request.specs.Queries.Parameter.{Ep, Lt, Lwm2m, B, Q, Sms};
 ghost use Rattle.lw_request.specs.Steps.{IsRegister, post_steps};
 ghost use Rattle.lw_request.specs.Meaning.{MeansBy, Understands};
 
 use crate::objects::{Unread, read_objects};
 use crate::options::has_other_format;
-use crate::queries::{BadQuery, are_texts, last_value, settings_of, sms_number};
+use crate::queries::{BadQuery, parameters_of, settings_of, sms_number};
 use crate::{Asked, Refusal};
 use lw_coap::{CoapOption, Message};
 use lw_link::LinkText;
@@ -23,10 +23,12 @@ use std::alloc::Global;
 /// In seconds.
 const DEFAULT_LIFETIME: u32 = 86_400;
 
-/// What the queries of a Register say beside the version, lent by the message.
+/// What the queries of a Register say, lent by the message.
 #[derive(Clone, Copy, Debug)]
 struct Queries<'a> {
     endpoint: &'a str,
+    /// As it is given.
+    version: Option<&'a str>,
     queue: bool,
     /// In seconds; 0 never expires.
     lifetime: u32,
@@ -37,44 +39,42 @@ struct Queries<'a> {
 fn queries_of(options: &[CoapOption]) -> Result<Queries<'_>, BadQuery>
     ensures texts { OnOk result (AreTexts (values_of 15 options.now)) }
     ensures endpoint { IfOk result (λ q. (given Ep (values_of 15 options.now) ≡ Some q.endpoint.now) × (1 ≤ length q.endpoint.now)) }
+    ensures version { IfOk result (λ q. option_copied q.version ≡ given Lwm2m (values_of 15 options.now)) }
     ensures queue { IfOk result (λ q. q.queue ≡ is_some (given Q (values_of 15 options.now))) }
     ensures lifetime { IfOk result (λ q. IsLifetime (unwrap_or (given Lt (values_of 15 options.now)) (codes "86400")) q.lifetime) }
     ensures binding { IfOk result (λ q. binding_text q.binding ≡ unwrap_or (given B (values_of 15 options.now)) (codes "U")) }
     ensures sms { IfOk result (λ q. option_copied q.sms ≡ given Sms (values_of 15 options.now)) }
     ensures err { OnErr result (HasBadQuery EachIsLookedAt (values_of 15 options.now)) }
 {
-    if !are_texts(options) {
-        return Err(BadQuery);
-    }
-    let endpoint = endpoint_in(options)?;
-    let settings = settings_of(options)?;
+    let parameters = parameters_of(options)?;
+    let endpoint = endpoint_in(parameters.endpoint)?;
+    let settings = settings_of(&parameters)?;
     Ok(Queries {
         endpoint,
-        queue: last_value(options, "Q").is_some(),
+        version: parameters.version,
+        queue: parameters.queue.is_some(),
         lifetime: settings.lifetime.unwrap_or(DEFAULT_LIFETIME),
         binding: settings.binding.unwrap_or(Binding::U),
         sms: settings.sms,
     })
 }
 
-fn endpoint_in(options: &[CoapOption]) -> Result<&str, BadQuery>
-    requires { AreTexts (values_of 15 options.now) }
-    ensures ok { IfOk result (λ e. (given Ep (values_of 15 options.now) ≡ Some e.now) × (1 ≤ length e.now)) }
-    ensures err { OnErr result (HasBadQuery EachIsLookedAt (values_of 15 options.now)) }
+fn endpoint_in(given: Option<&str>) -> Result<&str, BadQuery>
+    ensures ok { IfOk result (λ e. (option_copied given.entry ≡ Some e.now) × (1 ≤ length e.now)) }
+    ensures err { OnErr result ((option_copied given.entry ≡ None) ⊎ IsNotAccepted Ep (option_copied given.entry)) }
 {
-    match last_value(options, "ep") {
+    match given {
         Some(endpoint) if !endpoint.is_empty() => Ok(endpoint),
         _ => Err(BadQuery),
     }
 }
 
 /// There is none where the client speaks another version.
-fn version_in(options: &[CoapOption]) -> Option<Version>
-    requires { AreTexts (values_of 15 options.now) }
-    ensures some { IfSome result (λ version. version_text version ≡ unwrap_or (given Lwm2m (values_of 15 options.now)) (codes "1.0")) }
-    ensures none { IfNone result ((text : List ℕ) × (given Lwm2m (values_of 15 options.now) ≡ Some text) × ((version : Versions) → text ≢ version_text version)) }
+fn version_in(given: Option<&str>) -> Option<Version>
+    ensures some { IfSome result (λ version. version_text version ≡ unwrap_or (option_copied given.entry) (codes "1.0")) }
+    ensures none { IfNone result ((text : List ℕ) × (option_copied given.entry ≡ Some text) × ((version : Versions) → text ≢ version_text version)) }
 {
-    match last_value(options, "lwm2m") {
+    match given {
         None => Some(Version::V10),
         Some(text) => Version::read(text),
     }
@@ -93,7 +93,7 @@ pub(crate) fn register(alloc: Global, request: &Message) -> Result<Asked, NoMemo
     let Ok(queries) = queries_of(options) else {
         return Ok(Asked::Refuse(Refusal::BadRequest));
     };
-    let Some(version) = version_in(options) else {
+    let Some(version) = version_in(queries.version) else {
         return Ok(Asked::Refuse(Refusal::PreconditionFailed));
     };
     match read_objects(alloc, &request.payload) {

@@ -1,17 +1,17 @@
 //! An Update (LwM2M 1.1 Core, section 6.2.2).
 
-ghost use Rattle.std.specs.Prelude.{◌≡◌, ◌≢◌, [], IsTrue, IsSome, IfOk, IfErr, OnErr, option_copied};
-ghost use Rattle.lw_request.specs.Options.{has_unrecognised};
-ghost use Rattle.lw_request.specs.Queries.{IsShort};
+ghost use Rattle.std.specs.Prelude.{◌≡◌, ◌≢◌, [], IsTrue, IsSome, IfOk, OnOk, IfErr, OnErr, option_copied};
+ghost use Rattle.lw_request.specs.Options.{values_of, has_unrecognised};
+ghost use Rattle.lw_request.specs.Queries.{AreTexts, AreSettings, IsOfUpdate, HasBadQuery, IsShort};
 ghost use Rattle.lw_request.specs.Objects.{IsUnread};
 ghost use Rattle.lw_request.specs.Steps.{IsUpdate, post_steps};
 ghost use Rattle.lw_request.specs.Meaning.{AreObjects, MeansBy, Understands};
 
 use crate::objects::{Unread, read_objects};
 use crate::options::has_other_format;
-use crate::queries::{Settings, are_texts, settings_of, sms_number};
+use crate::queries::{BadQuery, Settings, parameters_of, settings_of, sms_number};
 use crate::{Asked, Refusal};
-use lw_coap::Message;
+use lw_coap::{CoapOption, Message};
 use lw_link::LinkText;
 use lw_stamp::{NoMemory, Stamp};
 use std::alloc::Global;
@@ -27,6 +27,14 @@ fn read_replacement(alloc: Global, payload: &[u8]) -> Result<Option<LinkText>, U
     Ok(Some(read_objects(alloc, payload)?))
 }
 
+fn settings_in(options: &[CoapOption]) -> Result<Settings<'_>, BadQuery>
+    ensures texts { OnOk result (AreTexts (values_of 15 options.now)) }
+    ensures ok { IfOk result (λ s. AreSettings (values_of 15 options.now) s.lifetime s.binding (option_copied s.sms)) }
+    ensures err { OnErr result (HasBadQuery IsOfUpdate (values_of 15 options.now)) }
+{
+    settings_of(&parameters_of(options)?)
+}
+
 /// What a POST on a registration asks for, whose options are recognised.
 pub(crate) fn update(alloc: Global, request: &Message, segment: &[u8]) -> Result<Asked, NoMemory>
     requires form { IsUpdate request.now segment.now }
@@ -37,10 +45,7 @@ pub(crate) fn update(alloc: Global, request: &Message, segment: &[u8]) -> Result
     if has_other_format(options) {
         return Ok(Asked::Refuse(Refusal::UnsupportedContentFormat));
     }
-    if !are_texts(options) {
-        return Ok(Asked::Refuse(Refusal::BadRequest));
-    }
-    let Ok(settings) = settings_of(options) else {
+    let Ok(settings) = settings_in(options) else {
         return Ok(Asked::Refuse(Refusal::BadRequest));
     };
     let id = Stamp::read_id(segment);

@@ -1,0 +1,8 @@
+use Rattle.std.proofs.Common.{drop}
+use Rattle.lw_request.specs.Options.{values_of}
+use Rattle.lw_request.specs.Parameters.{value_in}
+use Rattle.lw_request.proofs.QueryLemmas.{AreGathered}
+use Rattle.lw_request.proofs.queries.parameters_of.Given as goal
+
+abbrev pub invariant-loop-option : goal.invariant-loop-option
+invariant-loop-option l = AreGathered (values_of 15 l.options) (values_of 15 (drop l.option-index l.options)) (value_in l.parameters)
