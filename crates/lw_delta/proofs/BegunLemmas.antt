@@ -17,7 +17,7 @@ pub begun_spelled : (w : Begun) (slots : List (List ℕ × Slot)) → IsBegun w 
 begun_spelled w slots h = delta_reads_back w.clock slots h.in_range h.good
 
 -- what was written tells the slots
-begun_once : (w : Begun) (a b : List (List ℕ × Slot)) → IsBegun w a → IsBegun w b → a ≡ b
+pub begun_once : (w : Begun) (a b : List (List ℕ × Slot)) → IsBegun w a → IsBegun w b → a ≡ b
 begun_once w a b h k =
     let e : delta_bytes w.clock b ≡ delta_bytes w.clock a = ap (λ (x : List ℕ). x ++ 0 ∷ []) (sym k.bytes ∙ h.bytes) in
     let second : IsSpelling (delta_bytes w.clock a) (record { clock = w.clock; slots = b }) = subst (λ (x : List ℕ). IsSpelling x (record { clock = w.clock; slots = b })) e (begun_spelled w b k) in
