@@ -1,7 +1,8 @@
 -- What the texts that were found keep.
-use Rattle.std.proofs.Common.{◌≡◌, ℕ, Bool, true, false, List, length, Option, IfSome, subst, sym, ap, ◌∙◌}
+use Rattle.std.proofs.Common.{◌≡◌, ℕ, Bool, true, false, List, length, Option, IfSome, subst, sym, ap, ◌∙◌, arith}
+use Rattle.lw_reg.specs.Endpoint.{IsEndpoint}
 use Rattle.lw_delta.specs.Part.{Part, Found, bytes_of, means, must, followed, when, optional}
-use Rattle.lw_delta.specs.Format.{written, text}
+use Rattle.lw_delta.specs.Format.{written, text, endpoint}
 
 -- what holds of each value of a part holds of the one that is there
 abbrev pub Each : {A : Type 0} → Part A → (A → Type 0) → Type 0
@@ -27,3 +28,11 @@ bytes_length count bytes b rest f = f.is.1
 pub text_length : (count : ℕ) → Each (text count) (λ t. length t ≡ count)
 unfolding followed must means
 text_length count bytes t rest f = ap length f.is.3.is.1.is.1 ∙ bytes_length count bytes f.is.0 f.is.1 f.is.2
+
+pub endpoint_named : (after : Option (List ℕ)) → Each (endpoint after) IsEndpoint
+unfolding followed must means
+endpoint_named after bytes e rest f =
+    let t = f.is.3.is.1.is in
+    let same : e ≡ t.0 = t.3.is.1.is.1 in
+    let long : length t.0 ≡ f.is.0 = text_length _ _ _ _ t.2 in
+    record { some = omega (arith, f.is.3.is.0.0, ap length same, long); most = omega (arith, f.is.3.is.0.1, ap length same, long) }

@@ -3,6 +3,7 @@ use Rattle.std.specs.Prelude.{◌≡◌, ℕ, List, [], length, Option, Some, No
 use Rattle.lw_reg.specs.declared.path.Path.{Path}
 use Rattle.lw_reg.specs.declared.slot.Slot.{Slot}
 use Rattle.lw_reg.specs.Body.{Watching}
+use Rattle.lw_reg.specs.Endpoint.{IsEndpoint}
 use Rattle.lw_delta.specs.declared.checking.Walked.{Walked}
 use Rattle.lw_delta.specs.declared.fields.LentFields.{LentFields}
 use Rattle.lw_delta.specs.declared.slots.LentSlot.{LentSlot}
@@ -25,8 +26,9 @@ content_of f = record {
 abbrev pub lent_slot : LentSlot → List (Path × Watching) → List ℕ × Slot
 lent_slot lent ws = (lent.endpoint.now, slot_from lent.registration lent.removed (content_of lent.fields) ws)
 
--- these are the watches of the slot
+-- the endpoint is one, and these are the watches of the slot
 pub record Holds (clock : ℕ) (lent : LentSlot) (ws : List (Path × Watching)) : Type 0 where
+  pub named : IsEndpoint lent.endpoint.now
   pub rest : List ℕ
   pub watched : Found (watches clock) lent.watches.now ws rest
 

@@ -5,9 +5,9 @@ use Rattle.lw_stamp.specs.declared.stamp.Stamp.{Stamp}
 use Rattle.lw_stamp.specs.declared.moment.Moment.{Moment}
 use Rattle.lw_stamp.specs.Moment.{ms_of}
 use Rattle.lw_stamp.specs.Stamp.{stamp_bytes}
+use Rattle.lw_join.specs.declared.once.Once.{Once}
 use Rattle.lw_join.specs.declared.or_gone.OrGone.{OrGone}
 use Rattle.lw_join.specs.declared.or_gone.OrGone.TheVariants.{Here, Gone}
-use Rattle.lw_reg.specs.declared.accept.Accept.{Accept}
 use Rattle.lw_reg.specs.declared.addr.Addr.{Addr}
 use Rattle.lw_reg.specs.declared.addr.Addr.TheVariants.{V4, V6}
 use Rattle.lw_reg.specs.declared.base.Base.{Base}
@@ -87,8 +87,8 @@ numbers_bytes (n ∷ ns) = number16_bytes n ++ numbers_bytes ns
 abbrev pub path_bytes : Path → List ℕ
 path_bytes path = length (path_numbers path) ∷ numbers_bytes (path_numbers path)
 
-abbrev pub accept_bytes : OrGone Accept → List ℕ
-accept_bytes (Here accept) = 1 ∷ optional_bytes number16_bytes accept.format
+abbrev pub accept_bytes : OrGone (Once ℕ) → List ℕ
+accept_bytes (Here accept) = 1 ∷ optional_bytes number16_bytes accept.value
 accept_bytes Gone = 2 ∷ []
 
 abbrev pub watch_bytes : Path × Watching → List ℕ

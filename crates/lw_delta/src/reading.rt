@@ -2,10 +2,11 @@ ghost use Rattle.std.specs.Prelude.{◌≡◌, ◌≢◌, ℕ, ◌⊎◌, ◌↔
 ghost use Rattle.lw_join.specs.Parts.{made};
 ghost use Rattle.lw_reg.specs.declared.path.Path.{Path as Paths};
 ghost use Rattle.lw_reg.specs.Body.{Watching as Watchings};
+ghost use Rattle.lw_reg.specs.Endpoint.{IsEndpoint};
 ghost use Rattle.lw_delta.specs.declared.fault.DeltaFault.{DeltaFault as Faults};
 ghost use Rattle.lw_delta.specs.Part.{Found, Fails, IsFound};
 ghost use Rattle.lw_delta.specs.Format.{watches as watches_part, slots as slots_part};
-ghost use Rattle.lw_delta.specs.Values.{all_fields};
+ghost use Rattle.lw_delta.specs.Values.{all_fields, fields_from};
 ghost use Rattle.lw_delta.specs.Delta.{DeltaContent, IsSpelling, IsFault, Reads};
 ghost use Rattle.lw_delta.specs.Lent.{content_of, Holds, lent_slot};
 
@@ -17,7 +18,7 @@ use crate::watches::next_watch;
 use crate::{Delta, DeltaFault};
 use lw_join::Parts;
 use lw_link::LinkText;
-use lw_reg::{Fields, Path, Slot, SmsNumber, Watching};
+use lw_reg::{Endpoint, Fields, Path, Slot, SmsNumber, Watching};
 use lw_stamp::{NoMemory, Stamp, Text};
 use std::alloc::Global;
 
@@ -47,10 +48,7 @@ fn sms(
 fn link_text(alloc: Global, lent: LentObjects) -> Result<LinkText, NoMemory>
     ensures { IfOk result (λ text. text ≡ lent.entry) }
 {
-    match LinkText::read(alloc, lent.bytes) {
-        Ok(text) => Ok(text),
-        Err(_) => Err(NoMemory),
-    }
+    LinkText::of_printing(alloc, lent.bytes)
 }
 
 fn objects(
@@ -126,19 +124,42 @@ fn fields(
     })
 }
 
-/// An owned slot and its endpoint. Of a removed registration neither fields nor watches are kept.
-fn slot(alloc: Global, clock: u64, lent: LentSlot) -> Result<(Text, Slot), DeltaFault>
+fn endpoint(alloc: Global, name: &str) -> Result<Endpoint, NoMemory>
+    requires { IsEndpoint name.now }
+    ensures { IfOk result (λ endpoint. endpoint ≡ name.now) }
+{
+    let text = Text::copy_of(alloc, name)?;
+    let Some(endpoint) = Endpoint::new(text) else {
+        unreachable!()
+    };
+    Ok(endpoint)
+}
+
+/// What is kept of a slot. Of a removed registration neither fields nor watches are kept.
+fn kept_fields(alloc: Global, clock: u64, lent: LentSlot) -> Result<Option<Fields>, DeltaFault>
+    requires { (ws : List (Paths × Watchings)) × Holds clock lent ws }
+    ensures value { (ws : List (Paths × Watchings)) → Holds clock lent.entry ws → IfOk result (λ fields. fields ≡ fields_from lent.entry.removed (content_of lent.entry.fields) ws) }
+    ensures fault { IfErr result (λ fault. fault ≡ DeltaFault.NoMemory) }
+{
+    if lent.removed {
+        return Ok(None);
+    }
+    let watches = parts(alloc, clock, lent.watch_count, lent.watches)?;
+    let fields = fields(alloc, lent.fields, watches)?;
+    Ok(Some(fields))
+}
+
+/// An owned slot and its endpoint.
+fn slot(alloc: Global, clock: u64, lent: LentSlot) -> Result<(Endpoint, Slot), DeltaFault>
     requires { (ws : List (Paths × Watchings)) × Holds clock lent ws }
     ensures value { (ws : List (Paths × Watchings)) → Holds clock lent.entry ws → IfOk result (λ x. x ≡ lent_slot lent.entry ws) }
     ensures fault { IfErr result (λ fault. fault ≡ DeltaFault.NoMemory) }
 {
-    let endpoint = Text::copy_of(alloc, lent.endpoint)?;
-    if lent.removed {
-        return Ok((endpoint, Slot::from_parts(lent.registration, None)));
-    }
-    let watches = parts(alloc, clock, lent.watch_count, lent.watches)?;
-    let fields = fields(alloc, lent.fields, watches)?;
-    Ok((endpoint, Slot::from_parts(lent.registration, Some(fields))))
+    let endpoint = endpoint(alloc, lent.endpoint)?;
+    let registration = lent.registration;
+    let fields = kept_fields(alloc, clock, lent)?;
+    let slot = Slot::from_parts(alloc, registration, fields)?;
+    Ok((endpoint, slot))
 }
 
 /// So many slots, which were walked before.
@@ -147,7 +168,7 @@ fn slots(
     clock: u64,
     count: usize,
     bytes: &[u8],
-) -> Result<Vec<(Text, Slot)>, DeltaFault>
+) -> Result<Vec<(Endpoint, Slot)>, DeltaFault>
     requires { IsFound (slots_part clock) bytes.now }
     ensures found { IfOk result (λ ss. (rest : List ℕ) × Found (slots_part clock) bytes.now ss.items rest) }
     ensures fault { IfErr result (λ fault. fault ≡ DeltaFault.NoMemory) }

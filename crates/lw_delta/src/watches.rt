@@ -13,8 +13,8 @@ ghost use Rattle.lw_delta.specs.Values.{watching_from};
 use crate::DeltaFault;
 use crate::numbers::{byte, is_set, is_within, number16, stamp, tag};
 use crate::parse::parse_if;
-use lw_join::{Lex, OrGone};
-use lw_reg::{Accept, Path, Watching};
+use lw_join::{Lex, Once, OrGone};
+use lw_reg::{Path, Watching};
 use lw_stamp::Stamp;
 
 /// An accept is there.
@@ -83,8 +83,8 @@ fn watching(token: Stamp, gone: bool, accept: Option<Option<u16>>) -> Watching
     let value = if gone {
         OrGone::Gone
     } else {
-        let format = accept.flatten();
-        OrGone::Here(Accept { format })
+        let value = accept.flatten();
+        OrGone::Here(Once { value })
     };
     Lex {
         stamp: token,

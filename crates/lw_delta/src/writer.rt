@@ -1,12 +1,14 @@
 ghost use Rattle.std.specs.Prelude.{◌≡◌, ℕ, ◌<◌, ◌^◌, ◌++◌, ◌∷◌, [], List, IfOk, OnOk, OnErr};
 ghost use Rattle.lw_reg.specs.declared.slot.Slot.{Slot as Slots};
+ghost use Rattle.lw_stamp.specs.TextOrder.{text_cmp};
+ghost use Rattle.lw_delta.specs.Order.{IsAbove};
 ghost use Rattle.lw_delta.specs.Delta.{DeltaContent, IsSpelling};
-ghost use Rattle.lw_delta.specs.Writable.{IsBegun, Follows, last_endpoint};
+ghost use Rattle.lw_delta.specs.Writable.{IsBegun, StampsWithin, last_endpoint};
 ghost use Rattle.lw_delta.specs.Writing.{delta_bytes};
 
 use crate::put::put_bytes;
 use crate::writing::{put_number48, put_slot};
-use lw_reg::Slot;
+use lw_reg::{Endpoint, Slot};
 use lw_stamp::NoMemory;
 use std::alloc::Global;
 use std::marker::Model;
@@ -48,10 +50,11 @@ impl Writer {
         Ok(Writer { clock, bytes })
     }
 
-    /// Writes a slot behind the ones before. The endpoint has 1 to 252 bytes and is above the last one, and
-    /// no stamp of the slot is above the clock.
-    pub fn slot(&mut self, endpoint: &str, slot: &Slot) -> Result<(), NoMemory>
-        requires { (slots : List (List ℕ × Slots)) → IsBegun self.old slots → Follows self.old.clock (last_endpoint slots) (endpoint.now, slot.now) }
+    /// Writes a slot behind the ones before. The endpoint is above the last one, and no stamp of the slot is
+    /// above the clock.
+    pub fn slot(&mut self, endpoint: &Endpoint, slot: &Slot) -> Result<(), NoMemory>
+        requires above { (slots : List (List ℕ × Slots)) → IsBegun self.old slots → IsAbove text_cmp (last_endpoint slots) endpoint.now }
+        requires within { StampsWithin self.old.clock slot.now }
         ensures clock { self.new.clock ≡ self.old.clock }
         ensures begun { (slots : List (List ℕ × Slots)) → IsBegun self.old slots → OnOk result (IsBegun self.new (slots ++ (endpoint.now, slot.now) ∷ [])) }
         // Refused, it is unchanged.

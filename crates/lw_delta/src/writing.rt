@@ -3,6 +3,7 @@
 ghost use Rattle.std.specs.Prelude.{◌≡◌, ◌<◌, ◌≤◌, ◌++◌, ◌^◌, ◌∷◌, [], length, OnOk, is_some, IfSome};
 ghost use Rattle.lw_reg.specs.Reading.{sms_of, objects_of};
 ghost use Rattle.lw_reg.specs.Addr.{IsAddr};
+ghost use Rattle.lw_reg.specs.Endpoint.{IsEndpoint};
 ghost use Rattle.lw_delta.specs.Writable.{IsOwnText, IsOwnObjects, FieldsTyped, AcceptTyped, AcceptsTyped, IsTyped};
 ghost use Rattle.lw_delta.specs.Writing.{Begins, number48_bytes, number16_bytes, number32_bytes, base_byte, addr_bytes, moment_bytes, text_bytes, binding_bytes, sms_bytes, objects_bytes, written_bytes, numbers_bytes, path_bytes, accept_bytes, watch_bytes, watches_bytes, flag_if, field_flags, flags_byte, fields_bytes, slot_head_bytes, slot_bytes};
 
@@ -10,9 +11,9 @@ use crate::fields::{ADDRESS, BASE, BINDING, LIFETIME, OBJECTS, SEEN, SMS};
 use crate::put::{Put, put_byte, put_bytes, put_present};
 use crate::slots::REMOVED;
 use crate::watches::{CANCELLED, OBSERVED};
-use lw_join::OrGone;
+use lw_join::{Once, OrGone};
 use lw_link::LinkText;
-use lw_reg::{Accept, Addr, Base, Binding, Path, Slot, SmsNumber, Version, Watching};
+use lw_reg::{Addr, Base, Binding, Endpoint, Path, Slot, SmsNumber, Version, Watching};
 use lw_stamp::{Moment, NoMemory};
 
 pub(crate) fn put_number48(out: &mut Vec<u8>, number: u64) -> Result<(), NoMemory>
@@ -63,23 +64,24 @@ impl Put for Base {
     }
 }
 
-fn put_addr(out: &mut Vec<u8>, addr: Addr) -> Result<(), NoMemory>
-    ensures written { OnOk result (out.new.items ≡ out.old.items ++ addr_bytes addr) }
-    ensures typed { IsAddr addr }
+fn put_v4(out: &mut Vec<u8>, address: [u8; 4], port: u16) -> Result<(), NoMemory>
+    ensures written { OnOk result (out.new.items ≡ out.old.items ++ addr_bytes (Addr.V4 address.entry port)) }
+    ensures typed { OnOk result (IsAddr (Addr.V4 address.entry port)) }
     ensures kept { Begins out.old.items out.new.items }
 {
-    match addr {
-        Addr::V4 { address, port } => {
-            put_byte(out, 4)?;
-            out.extend_from_slice(&address)?;
-            put_number16(out, port)
-        }
-        Addr::V6 { address, port } => {
-            put_byte(out, 6)?;
-            out.extend_from_slice(&address)?;
-            put_number16(out, port)
-        }
-    }
+    put_byte(out, 4)?;
+    out.extend_from_slice(&address)?;
+    put_number16(out, port)
+}
+
+fn put_v6(out: &mut Vec<u8>, address: [u8; 16], port: u16) -> Result<(), NoMemory>
+    ensures written { OnOk result (out.new.items ≡ out.old.items ++ addr_bytes (Addr.V6 address.entry port)) }
+    ensures typed { OnOk result (IsAddr (Addr.V6 address.entry port)) }
+    ensures kept { Begins out.old.items out.new.items }
+{
+    put_byte(out, 6)?;
+    out.extend_from_slice(&address)?;
+    put_number16(out, port)
 }
 
 impl Put for Addr {
@@ -88,7 +90,10 @@ impl Put for Addr {
     ghost typed = { IsAddr };
 
     fn put(&self, out: &mut Vec<u8>) -> Result<(), NoMemory> {
-        put_addr(out, *self)
+        match *self {
+            Addr::V4 { address, port } => put_v4(out, address, port),
+            Addr::V6 { address, port } => put_v6(out, address, port),
+        }
     }
 }
 
@@ -209,7 +214,7 @@ impl Put for u16 {
 }
 
 /// Of a cancelled watch the flag alone.
-fn put_accept(out: &mut Vec<u8>, accept: &OrGone<Accept>) -> Result<(), NoMemory>
+fn put_accept(out: &mut Vec<u8>, accept: &OrGone<Once<u16>>) -> Result<(), NoMemory>
     ensures written { OnOk result (out.new.items ≡ out.old.items ++ accept_bytes accept.now) }
     ensures typed { OnOk result (AcceptTyped accept.now) }
     ensures kept { Begins out.old.items out.new.items }
@@ -218,7 +223,7 @@ fn put_accept(out: &mut Vec<u8>, accept: &OrGone<Accept>) -> Result<(), NoMemory
         OrGone::Gone => put_byte(out, CANCELLED),
         OrGone::Here(accept) => {
             put_byte(out, OBSERVED)?;
-            accept.format.put(out)
+            accept.value.put(out)
         }
     }
 }
@@ -289,23 +294,26 @@ fn flags_byte(slot: &Slot) -> u8
 }
 
 /// What stands before the fields of a slot.
-fn put_head(out: &mut Vec<u8>, endpoint: &str, slot: &Slot) -> Result<(), NoMemory>
-    requires { length endpoint.now ≤ 255 }
+fn put_head(out: &mut Vec<u8>, endpoint: &Endpoint, slot: &Slot) -> Result<(), NoMemory>
     ensures written { OnOk result (out.new.items ≡ out.old.items ++ slot_head_bytes (endpoint.now, slot.now)) }
-    ensures own { IsOwnText endpoint.now }
+    ensures named { OnOk result (IsOwnText endpoint.now × IsEndpoint endpoint.now) }
     ensures kept { Begins out.old.items out.new.items }
 {
     put_byte(out, 1)?;
-    put_text(out, endpoint)?;
+    put_text(out, endpoint.as_str())?;
     slot.stamp().put(out)?;
     put_byte(out, flags_byte(slot))
 }
 
 /// A slot, and the 01 before it. Refused, a front of it may stand there.
-pub(crate) fn put_slot(out: &mut Vec<u8>, endpoint: &str, slot: &Slot) -> Result<(), NoMemory>
-    requires { length endpoint.now ≤ 255 }
+pub(crate) fn put_slot(
+    out: &mut Vec<u8>,
+    endpoint: &Endpoint,
+    slot: &Slot,
+) -> Result<(), NoMemory>
     ensures written { OnOk result (out.new.items ≡ out.old.items ++ 1 ∷ slot_bytes (endpoint.now, slot.now)) }
-    ensures typed { OnOk result (IsTyped slot.now × IsOwnText endpoint.now) }
+    ensures typed { OnOk result (IsTyped slot.now) }
+    ensures named { OnOk result (IsOwnText endpoint.now × IsEndpoint endpoint.now) }
     ensures kept { Begins out.old.items out.new.items }
 {
     put_head(out, endpoint, slot)?;

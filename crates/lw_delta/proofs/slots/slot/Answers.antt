@@ -6,6 +6,7 @@ use Rattle.lw_delta.specs.Lent.{content_of}
 use Rattle.lw_delta.proofs.Again.{behind, front}
 use Rattle.lw_delta.proofs.Decided.{byte_decided}
 use Rattle.lw_delta.proofs.Grammar.{endpoint_decided, stamp_decided}
+use Rattle.lw_delta.proofs.Kept.{endpoint_named}
 use Rattle.lw_delta.proofs.Parts.{both, first_fails, later_fails, meant}
 use Rattle.lw_delta.proofs.slots.slot.Goals as goal
 
@@ -35,7 +36,7 @@ returns-in_err-watch_count-clause-fault c =
     rw (p.1, p.2) (later_fails _ c.in_ok-endpoint.ensures.found (later_fails _ c.in_ok-registration.ensures.found (later_fails _ c.in_ok-flags.ensures.found (later_fails _ c.in_ok-fields.ensures.found (first_fails _ c.in_err-watch_count.ensures.fault)))))
 
 pub returns-clause-found : goal.returns-clause-found
-returns-clause-found c = record { ws = c.in_ok-watch_count.ensures.found.0; holds = record { rest = c.in_ok-watch_count.rest.now; watched = c.in_ok-watch_count.ensures.found.1 }; found = both _ c.in_ok-endpoint.ensures.found (both _ c.in_ok-registration.ensures.found (both _ c.in_ok-flags.ensures.found (both _ c.in_ok-fields.ensures.found (both _ c.in_ok-watch_count.ensures.found.1 (meant _ (ap (λ (b : Bool). (c.in_ok-endpoint.endpoint.now, slot_from c.in_ok-registration.registration b (content_of c.in_ok-fields.fields) c.in_ok-watch_count.ensures.found.0)) c.is_set.ensures)))))) }
+returns-clause-found c = record { ws = c.in_ok-watch_count.ensures.found.0; holds = record { named = endpoint_named _ _ _ _ c.in_ok-endpoint.ensures.found; rest = c.in_ok-watch_count.rest.now; watched = c.in_ok-watch_count.ensures.found.1 }; found = both _ c.in_ok-endpoint.ensures.found (both _ c.in_ok-registration.ensures.found (both _ c.in_ok-flags.ensures.found (both _ c.in_ok-fields.ensures.found (both _ c.in_ok-watch_count.ensures.found.1 (meant _ (ap (λ (b : Bool). (c.in_ok-endpoint.endpoint.now, slot_from c.in_ok-registration.registration b (content_of c.in_ok-fields.fields) c.in_ok-watch_count.ensures.found.0)) c.is_set.ensures)))))) }
 
 pub fields-requires : goal.fields-requires
 fields-requires c = λ again. front _ (behind _ byte_decided c.in_ok-flags.ensures.found (behind _ (stamp_decided _) c.in_ok-registration.ensures.found (behind _ (endpoint_decided _) c.in_ok-endpoint.ensures.found (c.requires again))))
