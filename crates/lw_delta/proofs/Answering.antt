@@ -5,11 +5,13 @@ use Rattle.std.proofs.lemmas.Bool.{ne_eqb}
 use Rattle.lw_reg.specs.declared.slot.Slot.{Slot}
 use Rattle.lw_delta.specs.declared.fault.DeltaFault.{DeltaFault}
 use Rattle.lw_delta.specs.declared.fault.DeltaFault.TheVariants.{Trailing, NoMemory}
+use Rattle.lw_delta.specs.declared.checking.Walked.{Walked}
+use Rattle.lw_delta.specs.Lent.{WalkedAs}
 use Rattle.lw_delta.specs.Part.{Found, Fails}
 use Rattle.lw_delta.specs.Format.{header, slots, delta}
 use Rattle.lw_delta.specs.Delta.{DeltaContent, IsSpelling, HasTrailing, IsFault, Checks, Reads}
-use Rattle.lw_delta.proofs.Grammar.{delta_decided}
-use Rattle.lw_delta.proofs.Parts.{both, given, first_fails, later_fails}
+use Rattle.lw_delta.proofs.Grammar.{slots_decided, delta_decided}
+use Rattle.lw_delta.proofs.Parts.{both, given}
 
 pair : DeltaContent → ℕ × List (List ℕ × Slot)
 pair d = (d.clock, d.slots)
@@ -40,9 +42,9 @@ pub has_trailing : (bytes : List ℕ) (d : ℕ × List (List ℕ × Slot)) (rest
 has_trailing bytes d [] f e = absurd (true≢false (sym e))
 has_trailing bytes d (b ∷ rest) f e = (d, b, rest, f)
 
-pub whole : (bytes : List ℕ) (d : ℕ × List (List ℕ × Slot)) (rest : List ℕ) → Found delta bytes d rest → true ≡ (length rest == 0) → Found delta bytes d []
-whole bytes d [] f e = f
-whole bytes d (b ∷ rest) f e = absurd (true≢false (e ∙ ne_eqb (length (b ∷ rest)) 0 (λ h. omega (arith, h))))
+pub none_left : (rest : List ℕ) → true ≡ (length rest == 0) → rest ≡ []
+none_left [] e = refl
+none_left (b ∷ rest) e = absurd (true≢false (e ∙ ne_eqb (length (b ∷ rest)) 0 (λ h. omega (arith, h))))
 
 -- ---- check
 pub only_clock : (bytes : List ℕ) (r : Result ℕ DeltaFault) → Checks bytes r → (d : DeltaContent) → IsSpelling bytes d → r ≡ Ok d.clock
@@ -98,14 +100,24 @@ pub read_found : (bytes : List ℕ) (r : Result DeltaContent DeltaFault) → Rea
 read_found bytes (Ok d) h = h
 read_found bytes (Err f) h = tt
 
-pub read_refused : (bytes : List ℕ) (clock : ℕ) (rest : List ℕ) (known : ℕ) (fault : DeltaFault) → (slots : List (List ℕ × Slot)) × IsSpelling bytes (record { clock = known; slots = slots })
-    → Found header bytes clock rest → (fault ≡ NoMemory) ⊎ Fails (slots clock) rest fault → ((fault ≡ NoMemory) × (d : DeltaContent) × IsSpelling bytes d) ⊎ IsFault bytes fault
-read_refused bytes clock rest known fault s f (inl want) = inl (want, record { clock = known; slots = s.0 }, s.1)
-read_refused bytes clock rest known fault s f (inr x) = inr (inl (later_fails _ f (first_fails _ x)))
+-- ---- a delta that was walked
+pub walked_spelled : (bytes : List ℕ) (w : Walked) (h : WalkedAs bytes w) → IsSpelling bytes (record { clock = w.clock; slots = h.ss })
+walked_spelled bytes w h = both _ h.begun (both _ h.found given)
 
-pub read_whole : (bytes : List ℕ) (clock : ℕ) (rest : List ℕ) (known : ℕ) (ss : List (List ℕ × Slot)) (behind : List ℕ) → (slots : List (List ℕ × Slot)) × IsSpelling bytes (record { clock = known; slots = slots })
-    → Found header bytes clock rest → Found (slots clock) rest ss behind → IsSpelling bytes (record { clock = clock; slots = ss })
-read_whole bytes clock rest known ss behind s f g =
-    let here : Found delta bytes (clock, ss) behind = both _ f (both _ g given) in
-    let e : behind ≡ [] = (delta_decided.one bytes (clock, ss) (known, s.0) behind [] here s.1).1 in
-    subst (λ (x : List ℕ). Found delta bytes (clock, ss) x) e here
+pub walked_again : (bytes : List ℕ) (w : Walked) → WalkedAs bytes w → (ss : List (List ℕ × Slot)) (rest : List ℕ) → Found (slots w.clock) w.slots.now ss rest → IsSpelling bytes (record { clock = w.clock; slots = ss })
+walked_again bytes w h ss rest f =
+    let e = ((slots_decided w.clock).one w.slots.now ss h.ss rest [] f h.found).0 in
+    subst (λ xs. IsSpelling bytes (record { clock = w.clock; slots = xs })) (sym e) (walked_spelled bytes w h)
+
+no_items : {A : Type 0} (xs : List A) → length xs ≡ 0 → xs ≡ []
+no_items [] e = refl
+no_items (x ∷ xs) e = absurd (omega (arith, e))
+
+pub none_spelled : (bytes : List ℕ) (w : Walked) → WalkedAs bytes w → w.slot_count ≡ 0 → IsSpelling bytes (record { clock = w.clock; slots = [] })
+none_spelled bytes w h e = subst (λ xs. IsSpelling bytes (record { clock = w.clock; slots = xs })) (no_items h.ss (sym h.counted ∙ e)) (walked_spelled bytes w h)
+
+pub some_spelled : (bytes : List ℕ) (w : Walked) → WalkedAs bytes w → (w.slot_count ≡ 0 → ⊥) → (d : DeltaContent) → IsSpelling bytes d → d.slots ≡ [] → ⊥
+some_spelled bytes w h some d s none =
+    let e = one_delta bytes (record { clock = w.clock; slots = h.ss }) d (walked_spelled bytes w h) s in
+    let same : h.ss ≡ [] = ap (λ (x : DeltaContent). x.slots) e ∙ none in
+    some (h.counted ∙ ap length same)

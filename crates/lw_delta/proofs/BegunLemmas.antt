@@ -17,22 +17,19 @@ pub begun_spelled : (w : Begun) (slots : List (List ℕ × Slot)) → IsBegun w 
 begun_spelled w slots h = delta_reads_back w.clock slots h.in_range h.good
 
 -- what was written tells the slots
-begun_once : (w : Begun) (a b : List (List ℕ × Slot)) → IsBegun w a → IsBegun w b → a ≡ b
+pub begun_once : (w : Begun) (a b : List (List ℕ × Slot)) → IsBegun w a → IsBegun w b → a ≡ b
 begun_once w a b h k =
     let e : delta_bytes w.clock b ≡ delta_bytes w.clock a = ap (λ (x : List ℕ). x ++ 0 ∷ []) (sym k.bytes ∙ h.bytes) in
     let second : IsSpelling (delta_bytes w.clock a) (record { clock = w.clock; slots = b }) = subst (λ (x : List ℕ). IsSpelling x (record { clock = w.clock; slots = b })) e (begun_spelled w b k) in
     ap (λ (d : DeltaContent). d.slots) (one_delta (delta_bytes w.clock a) (record { clock = w.clock; slots = a }) (record { clock = w.clock; slots = b }) (begun_spelled w a h) second)
 
-pub begun_more : (w : Begun) (slots known : List (List ℕ × Slot)) (s : List ℕ × Slot) (bytes entry : List ℕ) → IsBegun w slots → IsBegun w known → Follows w.clock (last_endpoint known) s → IsTyped s.1 → IsOwnText s.0
+pub begun_more : (w : Begun) (slots : List (List ℕ × Slot)) (s : List ℕ × Slot) (bytes entry : List ℕ) → IsBegun w slots → Follows w.clock (last_endpoint slots) s → IsTyped s.1 → IsOwnText s.0
     → bytes ≡ w.bytes ++ entry → entry ≡ 1 ∷ slot_bytes s → IsBegun (record { clock = w.clock; bytes = bytes }) (slots ++ s ∷ [])
-begun_more w slots known s bytes entry h k follows typed own e f =
-    let same : known ≡ slots = begun_once w known slots k h in
-    let follows' : Follows w.clock (last_endpoint slots) s = subst (λ xs. Follows w.clock (last_endpoint xs) s) same follows in
-    record {
-      bytes = begun_push w.clock slots s w.bytes bytes entry e f h.bytes;
-      in_range = h.in_range;
-      good = good_push w.clock None slots s h.good (follows', typed, own);
-    }
+begun_more w slots s bytes entry h follows typed own e f = record {
+  bytes = begun_push w.clock slots s w.bytes bytes entry e f h.bytes;
+  in_range = h.in_range;
+  good = good_push w.clock None slots s h.good (follows, typed, own);
+}
 
 pub end_spelled : (w : Begun) (slots : List (List ℕ × Slot)) (bytes : List ℕ) → bytes ≡ w.bytes ++ 0 ∷ [] → IsBegun w slots → IsSpelling bytes (record { clock = w.clock; slots = slots })
 end_spelled w slots bytes e h =

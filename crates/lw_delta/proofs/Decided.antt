@@ -144,7 +144,7 @@ pub when_decided : {A : Type 0} {part : Part A} (flag : Bool) → Decided part �
 when_decided true d = followed_decided d (λ value. gives_decided _)
 when_decided false d = gives_decided _
 
-tag_decided : Decided tag
+pub tag_decided : Decided tag
 tag_decided = followed_decided byte_decided (λ value. must_decided _ (λ (e : NoMemory ≡ Range). cc) (gives_decided _))
 
 pub optional_decided : {A : Type 0} {part : Part A} → Decided part → Decided (optional part)

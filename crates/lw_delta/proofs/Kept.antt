@@ -1,10 +1,8 @@
 -- What the texts that were found keep.
-use Rattle.std.proofs.Common.{◌≡◌, ℕ, ◌≤◌, Bool, true, false, List, length, Option, IfSome, subst, sym, ap, arith}
-use Rattle.lw_link.specs.WellFormed.{IsPrinting}
-use Rattle.lw_stamp.specs.declared.stamp.Stamp.{Stamp}
+use Rattle.std.proofs.Common.{◌≡◌, ℕ, Bool, true, false, List, length, Option, IfSome, subst, sym, ap, ◌∙◌, arith}
+use Rattle.lw_reg.specs.Endpoint.{IsEndpoint}
 use Rattle.lw_delta.specs.Part.{Part, Found, bytes_of, means, must, followed, when, optional}
-use Rattle.lw_delta.specs.Format.{written, sms_number, objects}
-use Rattle.lw_delta.specs.Lent.{IsKeptSms, IsKeptObjects}
+use Rattle.lw_delta.specs.Format.{written, text, endpoint}
 
 -- what holds of each value of a part holds of the one that is there
 abbrev pub Each : {A : Type 0} → Part A → (A → Type 0) → Type 0
@@ -23,21 +21,18 @@ pub written_each : {A : Type 0} (clock : ℕ) (part : Part A) (Q : A → Type 0)
 unfolding followed means
 written_each clock part Q each bytes w rest f = subst (λ x. Q x.1) (sym f.is.3.is.3.is.1) (each f.is.1 f.is.3.is.0 f.is.3.is.1 f.is.3.is.2)
 
-sms_number_kept : Each sms_number (λ text. length text ≤ 251)
-unfolding followed must bytes_of means
-sms_number_kept bytes text rest f =
+pub bytes_length : (count : ℕ) → Each (bytes_of count) (λ b. length b ≡ count)
+unfolding bytes_of
+bytes_length count bytes b rest f = f.is.1
+
+pub text_length : (count : ℕ) → Each (text count) (λ t. length t ≡ count)
+unfolding followed must means
+text_length count bytes t rest f = ap length f.is.3.is.1.is.1 ∙ bytes_length count bytes f.is.0 f.is.1 f.is.2
+
+pub endpoint_named : (after : Option (List ℕ)) → Each (endpoint after) IsEndpoint
+unfolding followed must means
+endpoint_named after bytes e rest f =
     let t = f.is.3.is.1.is in
-    omega (arith, f.is.3.is.0, t.2.is.1, ap length t.3.is.1.is.1)
-
-objects_text_kept : Each objects IsKeptObjects
-unfolding followed must bytes_of means
-objects_text_kept bytes text rest f =
-    let t = f.is.3.is.1.is in
-    let same : text ≡ t.0 = t.3.is.1.is.1 in
-    (subst (λ (x : List ℕ). IsPrinting x) (sym same) t.3.is.0, omega (arith, f.is.3.is.0.1, t.2.is.1, ap length same))
-
-pub sms_kept : (clock : ℕ) (flag : Bool) (bytes : List ℕ) (o : Option (Stamp × Option (List ℕ))) (rest : List ℕ) → Found (when flag (written clock (optional sms_number))) bytes o rest → IfSome o (λ w. IsKeptSms w.1)
-sms_kept clock flag bytes o rest f = when_each _ _ (written_each clock _ _ (optional_each _ _ sms_number_kept)) flag bytes o rest f
-
-pub objects_kept : (clock : ℕ) (flag : Bool) (bytes : List ℕ) (o : Option (Stamp × List ℕ)) (rest : List ℕ) → Found (when flag (written clock objects)) bytes o rest → IfSome o (λ w. IsKeptObjects w.1)
-objects_kept clock flag bytes o rest f = when_each _ _ (written_each clock _ _ objects_text_kept) flag bytes o rest f
+    let same : e ≡ t.0 = t.3.is.1.is.1 in
+    let long : length t.0 ≡ f.is.0 = text_length _ _ _ _ t.2 in
+    record { some = omega (arith, f.is.3.is.0.0, ap length same, long); most = omega (arith, f.is.3.is.0.1, ap length same, long) }

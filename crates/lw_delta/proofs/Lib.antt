@@ -6,10 +6,13 @@ pub mod Texts
 pub mod Paths
 pub mod Hosts
 pub mod Kept
+pub mod Again
 pub mod Answering
 pub mod Behind
 pub mod Owning
 pub mod Flags
+pub mod Begins
+pub mod Present
 pub mod Written
 pub mod Fitting
 pub mod FlagBits

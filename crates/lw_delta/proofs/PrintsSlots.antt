@@ -5,7 +5,7 @@ use Rattle.lw_stamp.specs.Stamp.{stamp_bytes}
 use Rattle.lw_join.specs.declared.or_gone.OrGone.{OrGone}
 use Rattle.lw_join.specs.declared.or_gone.OrGone.TheVariants.{Here, Gone}
 use Rattle.lw_join.specs.Entries.{AllAbove, Rises}
-use Rattle.lw_reg.specs.declared.accept.Accept.{Accept}
+use Rattle.lw_join.specs.declared.once.Once.{Once}
 use Rattle.lw_reg.specs.declared.path.Path.{Path}
 use Rattle.lw_reg.specs.Body.{Watching}
 use Rattle.lw_reg.specs.Orders.{path_cmp}
@@ -20,7 +20,7 @@ format_prints : (o : Option ℕ) → IfSome o (λ n. n < 2 ^ 16) → Prints (opt
 format_prints None h = prints_optional _ number16_bytes None tt
 format_prints (Some n) h = prints_optional _ number16_bytes (Some n) (prints_number16 n h)
 
-pub prints_watch : (clock : ℕ) (after : Option Path) (p : Path) (token : Stamp) (value : OrGone Accept) → IsAbove path_cmp after p → token.counter ≤ clock → AcceptTyped value
+pub prints_watch : (clock : ℕ) (after : Option Path) (p : Path) (token : Stamp) (value : OrGone (Once ℕ)) → IsAbove path_cmp after p → token.counter ≤ clock → AcceptTyped value
     → Prints (watch clock after) (watch_bytes (p, record { stamp = token; value = value })) (p, record { stamp = token; value = value })
 prints_watch clock after p token Gone above within typed =
     let w : Path × Watching = (p, record { stamp = token; value = Gone }) in
@@ -28,10 +28,10 @@ prints_watch clock after p token Gone above within typed =
     (prints_then _ _ (2 ∷ []) 2 w (prints_byte 2 (omega arith)) (prints_held _ _ _ [] w (omega arith, omega arith) (prints_then _ _ [] None w (prints_meant _ None refl) (prints_meant _ w refl)))))
 prints_watch clock after p token (Here accept) above within typed =
     let w : Path × Watching = (p, record { stamp = token; value = Here accept }) in
-    let front = optional_bytes number16_bytes accept.format in
+    let front = optional_bytes number16_bytes accept.value in
     prints_both _ _ (path_bytes p) (stamp_bytes token ++ 1 ∷ front) p w (prints_path after p above) (prints_both _ _ (stamp_bytes token) (1 ∷ front) token w (prints_stamp clock token within)
     (prints_both _ _ (1 ∷ []) front 1 w (prints_byte 1 (omega arith)) (prints_held _ _ _ front w (omega arith, omega arith)
-    (prints_then _ _ front (Some accept.format) w (prints_then _ _ front accept.format (Some accept.format) (format_prints accept.format typed) (prints_meant _ (Some accept.format) refl)) (prints_meant _ w refl)))))
+    (prints_then _ _ front (Some accept.value) w (prints_then _ _ front accept.value (Some accept.value) (format_prints accept.value typed) (prints_meant _ (Some accept.value) refl)) (prints_meant _ w refl)))))
 
 -- the first of them is above the one before, where there is one
 abbrev pub FirstAbove : Option Path → List (Path × Watching) → Type 0

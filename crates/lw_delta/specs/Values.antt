@@ -44,8 +44,11 @@ all_fields f watches = record {
 }
 
 -- of a removed registration neither fields nor watches are kept
+abbrev pub fields_from : Bool → FieldContent → List (Path × Watching) → Option Fields
+fields_from removed f watches = if removed then None else Some (all_fields f watches)
+
 abbrev pub slot_from : Stamp → Bool → FieldContent → List (Path × Watching) → Slot
-slot_from stamp removed f watches = slot_of_fields stamp (if removed then None else Some (all_fields f watches))
+slot_from stamp removed f watches = slot_of_fields stamp (fields_from removed f watches)
 
 abbrev pub accept_from : Option (Option ℕ) → Option ℕ
 accept_from None = None

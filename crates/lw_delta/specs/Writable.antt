@@ -1,10 +1,10 @@
 -- Which slots a writer takes, and what it has written.
 use Rattle.std.specs.Prelude.{◌≡◌, ℕ, ◌<◌, ◌≤◌, ◌^◌, List, [], ◌∷◌, length, slice_index, Option, Some, None, IfSome, IsUtf8}
 use Rattle.lw_stamp.specs.TextOrder.{text_cmp}
+use Rattle.lw_join.specs.declared.once.Once.{Once}
 use Rattle.lw_join.specs.declared.or_gone.OrGone.{OrGone}
 use Rattle.lw_join.specs.declared.or_gone.OrGone.TheVariants.{Here, Gone}
 use Rattle.lw_link.specs.WellFormed.{IsPrinting}
-use Rattle.lw_reg.specs.declared.accept.Accept.{Accept}
 use Rattle.lw_reg.specs.Addr.{IsAddr}
 use Rattle.lw_reg.specs.declared.path.Path.{Path}
 use Rattle.lw_reg.specs.declared.slot.Slot.{Slot}
@@ -50,9 +50,9 @@ abbrev pub IsOwnText : List ℕ → Type 0
 IsOwnText text = IsUtf8 text × ((i : ℕ) → slice_index text i < 256)
 
 -- ---- what the types of a slot's fields keep
-abbrev pub AcceptTyped : OrGone Accept → Type 0
+abbrev pub AcceptTyped : OrGone (Once ℕ) → Type 0
 AcceptTyped Gone = Unit {0}
-AcceptTyped (Here accept) = IfSome accept.format (λ n. n < 2 ^ 16)
+AcceptTyped (Here accept) = IfSome accept.value (λ n. n < 2 ^ 16)
 
 abbrev pub AcceptsTyped : List (Path × Watching) → Type 0
 AcceptsTyped [] = Unit {0}

@@ -1,13 +1,13 @@
 -- The bytes of a delta, part by part. A removed registration is a flag byte alone, and so is a cancelled watch.
-use Rattle.std.specs.Prelude.{ℕ, ◌+◌, Bool, if◌then◌else◌, is_some, List, [], ◌∷◌, ◌++◌, length, drop, Option, Some, None, codes}
+use Rattle.std.specs.Prelude.{◌≡◌, ℕ, ◌+◌, Bool, if◌then◌else◌, is_some, List, [], ◌∷◌, ◌++◌, length, drop, Option, Some, None, codes}
 use Rattle.std.specs.Int.{w16, w32, w64, to_be_bytes}
 use Rattle.lw_stamp.specs.declared.stamp.Stamp.{Stamp}
 use Rattle.lw_stamp.specs.declared.moment.Moment.{Moment}
 use Rattle.lw_stamp.specs.Moment.{ms_of}
 use Rattle.lw_stamp.specs.Stamp.{stamp_bytes}
+use Rattle.lw_join.specs.declared.once.Once.{Once}
 use Rattle.lw_join.specs.declared.or_gone.OrGone.{OrGone}
 use Rattle.lw_join.specs.declared.or_gone.OrGone.TheVariants.{Here, Gone}
-use Rattle.lw_reg.specs.declared.accept.Accept.{Accept}
 use Rattle.lw_reg.specs.declared.addr.Addr.{Addr}
 use Rattle.lw_reg.specs.declared.addr.Addr.TheVariants.{V4, V6}
 use Rattle.lw_reg.specs.declared.base.Base.{Base}
@@ -22,6 +22,11 @@ use Rattle.lw_reg.specs.Body.{Watching}
 use Rattle.lw_reg.specs.Path.{path_numbers}
 use Rattle.lw_reg.specs.Reading.{stamp_of, base_of, address_of, seen_of, lifetime_of, binding_of, sms_of, objects_of, watches_of}
 
+-- the bytes begin with these
+pub record Begins (front bytes : List ℕ) : Type 0 where
+  pub more : List ℕ
+  pub is : bytes ≡ front ++ more
+
 abbrev pub number16_bytes : ℕ → List ℕ
 number16_bytes n = to_be_bytes w16 n
 
@@ -33,10 +38,14 @@ abbrev pub optional_bytes : {A : Type 0} → (A → List ℕ) → Option A → L
 optional_bytes bytes None = 0 ∷ []
 optional_bytes bytes (Some value) = 1 ∷ bytes value
 
+-- nothing, or the value
+abbrev pub present_bytes : {A : Type 0} → (A → List ℕ) → Option A → List ℕ
+present_bytes bytes None = []
+present_bytes bytes (Some value) = bytes value
+
 -- nothing, or the stamp and the value
 abbrev pub written_bytes : {A : Type 0} → (A → List ℕ) → Option (Stamp × A) → List ℕ
-written_bytes bytes None = []
-written_bytes bytes (Some write) = stamp_bytes write.0 ++ bytes write.1
+written_bytes bytes = present_bytes (λ write. stamp_bytes write.0 ++ bytes write.1)
 
 abbrev pub version_bit : Version → ℕ
 version_bit V10 = 0
@@ -46,8 +55,7 @@ abbrev pub base_byte : Base → ℕ
 base_byte base = version_bit base.version + (if base.queue then 2 else 0)
 
 abbrev pub base_bytes : Option Base → List ℕ
-base_bytes None = []
-base_bytes (Some base) = base_byte base ∷ []
+base_bytes = present_bytes (λ base. base_byte base ∷ [])
 
 abbrev pub addr_bytes : Addr → List ℕ
 addr_bytes (V4 address port) = 4 ∷ (address ++ number16_bytes port)
@@ -79,8 +87,8 @@ numbers_bytes (n ∷ ns) = number16_bytes n ++ numbers_bytes ns
 abbrev pub path_bytes : Path → List ℕ
 path_bytes path = length (path_numbers path) ∷ numbers_bytes (path_numbers path)
 
-abbrev pub accept_bytes : OrGone Accept → List ℕ
-accept_bytes (Here accept) = 1 ∷ optional_bytes number16_bytes accept.format
+abbrev pub accept_bytes : OrGone (Once ℕ) → List ℕ
+accept_bytes (Here accept) = 1 ∷ optional_bytes number16_bytes accept.value
 accept_bytes Gone = 2 ∷ []
 
 abbrev pub watch_bytes : Path × Watching → List ℕ
@@ -110,6 +118,10 @@ abbrev pub fields_bytes : Slot → List ℕ
 fields_bytes slot =
     base_bytes (base_of slot) ++ (written_bytes addr_bytes (address_of slot) ++ (written_bytes moment_bytes (seen_of slot) ++ (written_bytes number32_bytes (lifetime_of slot)
     ++ (written_bytes binding_bytes (binding_of slot) ++ (written_bytes sms_bytes (sms_of slot) ++ written_bytes objects_bytes (objects_of slot))))))
+
+-- what stands before the fields of a slot: 01, its endpoint, the stamp of its registration and its flags
+abbrev pub slot_head_bytes : List ℕ × Slot → List ℕ
+slot_head_bytes s = 1 ∷ (text_bytes s.0 ++ (stamp_bytes (stamp_of s.1) ++ flags_byte s.1 ∷ []))
 
 -- a slot behind its 01
 abbrev pub slot_bytes : List ℕ × Slot → List ℕ

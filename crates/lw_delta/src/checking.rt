@@ -4,6 +4,7 @@ ghost use Rattle.lw_delta.specs.declared.fault.DeltaFault.{DeltaFault as Faults}
 ghost use Rattle.lw_delta.specs.Part.{Found, Fails};
 ghost use Rattle.lw_delta.specs.Format.{header as header_part};
 ghost use Rattle.lw_delta.specs.Delta.{DeltaContent, IsSpelling, IsFault, Checks};
+ghost use Rattle.lw_delta.specs.Lent.{WalkedAs};
 
 use crate::DeltaFault;
 use crate::numbers::{front, number48};
@@ -16,7 +17,7 @@ fn is_magic(bytes: &[u8]) -> bool
 }
 
 /// The clock, behind the magic bytes.
-pub(crate) fn header(bytes: &[u8]) -> Result<(u64, &[u8]), DeltaFault>
+fn header(bytes: &[u8]) -> Result<(u64, &[u8]), DeltaFault>
     ensures found { IfOk result (λ x. Found header_part bytes.now x.0 x.1.now) }
     ensures fault { IfErr result (Fails header_part bytes.now) }
 {
@@ -27,15 +28,36 @@ pub(crate) fn header(bytes: &[u8]) -> Result<(u64, &[u8]), DeltaFault>
     number48(rest)
 }
 
-fn walk(bytes: &[u8]) -> Result<u64, DeltaFault>
-    ensures { Checks bytes.now result }
+/// A delta that was walked: its clock, how many slots it has, and its bytes from the first slot on.
+#[derive(Clone, Copy)]
+pub(crate) struct Walked<'a> {
+    pub clock: u64,
+    pub slot_count: usize,
+    pub slots: &'a [u8],
+}
+
+/// Walks the whole delta, and takes no memory.
+pub(crate) fn walk(bytes: &[u8]) -> Result<Walked<'_>, DeltaFault>
+    ensures found { IfOk result (λ walked. WalkedAs bytes.now walked) }
+    ensures fault { IfErr result (IsFault bytes.now) }
 {
-    let (clock, rest) = header(bytes)?;
-    let rest = check_slots(clock, rest)?;
+    let (clock, slots) = header(bytes)?;
+    let (slot_count, rest) = check_slots(clock, slots)?;
     if !rest.is_empty() {
         return Err(DeltaFault::Trailing);
     }
-    Ok(clock)
+    Ok(Walked {
+        clock,
+        slot_count,
+        slots,
+    })
+}
+
+fn walked_clock(bytes: &[u8]) -> Result<u64, DeltaFault>
+    ensures { Checks bytes.now result }
+{
+    let walked = walk(bytes)?;
+    Ok(walked.clock)
 }
 
 /// The sender's clock, where the bytes are a delta. It takes no memory, so `NoMemory` is never answered.
@@ -48,5 +70,5 @@ pub fn check(bytes: &[u8]) -> Result<u64, DeltaFault>
     ensures faults { (fault : Faults) → (result ≡ Err fault) ↔ IsFault bytes.now fault }
     ensures memory { IsFault bytes.now DeltaFault.NoMemory → ⊥ }
 {
-    walk(bytes)
+    walked_clock(bytes)
 }

@@ -1,5 +1,4 @@
-use lw_reg::Slot;
-use lw_stamp::Text;
+use lw_reg::{Endpoint, Slot};
 use std::marker::Model;
 
 /// What a node sends of its state: its clock, and slots by their endpoints, which rise.
@@ -7,7 +6,7 @@ use std::marker::Model;
 pub struct Delta {
     /// The counter of the sender's clock.
     pub clock: u64,
-    pub slots: Vec<(Text, Slot)>,
+    pub slots: Vec<(Endpoint, Slot)>,
 }
 
 impl Model for Delta {

@@ -1,11 +1,11 @@
 //! Slots, one after another.
 
-ghost use Rattle.std.specs.Prelude.{ℕ, ◌↔◌, List, IsTrue, IfOk, IfErr};
+ghost use Rattle.std.specs.Prelude.{◌≡◌, ℕ, ◌↔◌, List, length, IsTrue, IfOk, IfErr};
 ghost use Rattle.std.specs.Option.{option_copied};
 ghost use Rattle.lw_stamp.specs.TextOrder.{text_cmp};
 ghost use Rattle.lw_reg.specs.declared.slot.Slot.{Slot as Slots};
 ghost use Rattle.lw_delta.specs.Order.{IsAbove};
-ghost use Rattle.lw_delta.specs.Part.{Found, Fails, optional};
+ghost use Rattle.lw_delta.specs.Part.{Found, Fails, IsFound, optional};
 ghost use Rattle.lw_delta.specs.Format.{endpoint as endpoint_part, slot as slot_part, slots as slots_part};
 ghost use Rattle.lw_delta.specs.Lent.{LentAt, NextAt};
 
@@ -22,7 +22,7 @@ pub(crate) const REMOVED: u8 = 0x80;
 const MAX_ENDPOINT: usize = 252;
 
 /// A slot where it stands in the bytes of a delta.
-#[derive(Clone, Copy)]
+#[derive(Drop)]
 pub(crate) struct LentSlot<'a> {
     pub endpoint: &'a str,
     pub registration: Stamp,
@@ -30,6 +30,7 @@ pub(crate) struct LentSlot<'a> {
     pub fields: LentFields<'a>,
     /// The bytes from the first watch on.
     pub watches: &'a [u8],
+    pub watch_count: usize,
 }
 
 fn is_above(after: Option<&str>, endpoint: &str) -> bool
@@ -59,32 +60,38 @@ fn endpoint<'a>(after: Option<&str>, bytes: &'a [u8]) -> Result<(&'a str, &'a [u
 fn slot<'a>(
     clock: u64,
     after: Option<&str>,
+    again: bool,
     bytes: &'a [u8],
 ) -> Result<(LentSlot<'a>, &'a [u8]), DeltaFault>
+    requires { IsTrue again → IsFound (slot_part clock (option_copied after)) bytes.now }
     ensures found { IfOk result (λ x. LentAt clock (option_copied after.entry) bytes.now x.0 x.1.now) }
     ensures fault { IfErr result (Fails (slot_part clock (option_copied after.entry)) bytes.now) }
 {
     let (endpoint, rest) = endpoint(after, bytes)?;
     let (registration, rest) = stamp(clock, rest)?;
     let (flags, rest) = byte(rest)?;
-    let (fields, watches) = fields(clock, flags, rest)?;
-    let rest = check_watches(clock, watches)?;
+    let (fields, watches) = fields(clock, flags, again, rest)?;
+    let (watch_count, rest) = check_watches(clock, watches)?;
     let slot = LentSlot {
         endpoint,
         registration,
         removed: is_set(flags, REMOVED),
         fields,
         watches,
+        watch_count,
     };
     Ok((slot, rest))
 }
 
-/// The next slot, or none at the end of the slots.
+/// The next slot, or none at the end of the slots. Of bytes that were walked before, object lists are not
+/// checked again.
 pub(crate) fn next_slot<'a>(
     clock: u64,
     after: Option<&str>,
+    again: bool,
     bytes: &'a [u8],
 ) -> Result<(Option<LentSlot<'a>>, &'a [u8]), DeltaFault>
+    requires { IsTrue again → IsFound (optional (slot_part clock (option_copied after))) bytes.now }
     ensures found { IfOk result (λ x. NextAt clock (option_copied after.entry) bytes.now x.0 x.1.now) }
     ensures fault { IfErr result (Fails (optional (slot_part clock (option_copied after.entry))) bytes.now) }
 {
@@ -92,23 +99,25 @@ pub(crate) fn next_slot<'a>(
     if !present {
         return Ok((None, rest));
     }
-    let (slot, rest) = slot(clock, after, rest)?;
+    let (slot, rest) = slot(clock, after, again, rest)?;
     Ok((Some(slot), rest))
 }
 
-/// Walks all slots, and takes no memory. What stands behind them is left.
-pub(crate) fn check_slots(clock: u64, bytes: &[u8]) -> Result<&[u8], DeltaFault>
-    ensures found { IfOk result (λ rest. (ss : List (List ℕ × Slots)) × Found (slots_part clock) bytes.now ss rest.now) }
+/// Walks all slots, takes no memory, and tells how many they are. What stands behind them is left.
+pub(crate) fn check_slots(clock: u64, bytes: &[u8]) -> Result<(usize, &[u8]), DeltaFault>
+    ensures found { IfOk result (λ x. (ss : List (List ℕ × Slots)) × Found (slots_part clock) bytes.now ss x.1.now × (x.0 ≡ length ss)) }
     ensures fault { IfErr result (Fails (slots_part clock) bytes.now) }
 {
+    let mut count = 0;
     let mut after = None;
     let mut rest = bytes;
     loop {
-        let (next, behind) = next_slot(clock, after, rest)?;
+        let (next, behind) = next_slot(clock, after, false, rest)?;
         rest = behind;
         let Some(slot) = next else {
-            return Ok(rest);
+            return Ok((count, rest));
         };
+        count += 1;
         after = Some(slot.endpoint);
     }
 }

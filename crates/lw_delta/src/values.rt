@@ -1,15 +1,17 @@
 //! The values of fields.
 
-ghost use Rattle.std.specs.Prelude.{◌≡◌, ◌↔◌, IsSome, IfSome, IfOk, IfErr};
-ghost use Rattle.std.specs.Option.{option_copied};
+ghost use Rattle.std.specs.Prelude.{◌≡◌, ◌↔◌, IsTrue, IsSome, IfSome, IfOk, IfErr};
+ghost use Rattle.lw_link.specs.WellFormed.{IsPrinting};
 ghost use Rattle.lw_reg.specs.Binding.{binding_text};
 ghost use Rattle.lw_reg.specs.BindingText.{IsBindingText};
-ghost use Rattle.lw_delta.specs.Part.{Found, Fails, optional};
-ghost use Rattle.lw_delta.specs.Format.{base as base_part, v4 as v4_part, v6 as v6_part, address as address_part, moment as moment_part, binding as binding_part, text as text_part, sms_number as sms_part, objects as objects_part, number16 as number16_part};
+ghost use Rattle.lw_delta.specs.Part.{Found, Fails};
+ghost use Rattle.lw_delta.specs.Format.{base as base_part, v4 as v4_part, v6 as v6_part, address as address_part, moment as moment_part, binding as binding_part, text as text_part, sms_number as sms_part, objects as objects_part, number16 as number16_part, number32 as number32_part};
 ghost use Rattle.lw_delta.specs.Values.{base_in};
 
 use crate::DeltaFault;
-use crate::numbers::{byte, front, is_within, number16, number48, tag};
+use crate::lent::{LentNumber, LentObjects};
+use crate::numbers::{byte, front, is_within, number16, number32, number48};
+use crate::parse::Parse;
 use lw_link::is_printing;
 use lw_reg::{Addr, Base, Binding, Version};
 use lw_stamp::Moment;
@@ -29,15 +31,16 @@ fn base_of(bits: u8) -> Base
     }
 }
 
-pub(crate) fn base(bytes: &[u8]) -> Result<(Base, &[u8]), DeltaFault>
-    ensures found { IfOk result (λ x. Found base_part bytes.now x.0 x.1.now) }
-    ensures fault { IfErr result (Fails base_part bytes.now) }
-{
-    let (bits, rest) = byte(bytes)?;
-    if bits > 3 {
-        return Err(DeltaFault::Range);
+impl<'a> Parse<'a> for Base {
+    ghost part = { λ _. base_part };
+
+    fn parse(_clock: u64, _again: bool, bytes: &'a [u8]) -> Result<(Base, &'a [u8]), DeltaFault> {
+        let (bits, rest) = byte(bytes)?;
+        if bits > 3 {
+            return Err(DeltaFault::Range);
+        }
+        Ok((base_of(bits), rest))
     }
-    Ok((base_of(bits), rest))
 }
 
 fn v4(bytes: &[u8]) -> Result<(Addr, &[u8]), DeltaFault>
@@ -64,29 +67,31 @@ fn v6(bytes: &[u8]) -> Result<(Addr, &[u8]), DeltaFault>
     Ok((Addr::V6 { address, port }, rest))
 }
 
-pub(crate) fn address(bytes: &[u8]) -> Result<(Addr, &[u8]), DeltaFault>
-    ensures found { IfOk result (λ x. Found address_part bytes.now x.0 x.1.now) }
-    ensures fault { IfErr result (Fails address_part bytes.now) }
-{
-    let (family, rest) = byte(bytes)?;
-    if family == 4 {
-        return v4(rest);
+impl<'a> Parse<'a> for Addr {
+    ghost part = { λ _. address_part };
+
+    fn parse(_clock: u64, _again: bool, bytes: &'a [u8]) -> Result<(Addr, &'a [u8]), DeltaFault> {
+        let (family, rest) = byte(bytes)?;
+        if family == 4 {
+            return v4(rest);
+        }
+        if family == 6 {
+            return v6(rest);
+        }
+        Err(DeltaFault::Range)
     }
-    if family == 6 {
-        return v6(rest);
-    }
-    Err(DeltaFault::Range)
 }
 
-pub(crate) fn moment(bytes: &[u8]) -> Result<(Moment, &[u8]), DeltaFault>
-    ensures found { IfOk result (λ x. Found moment_part bytes.now x.0 x.1.now) }
-    ensures fault { IfErr result (Fails moment_part bytes.now) }
-{
-    let (ms, rest) = number48(bytes)?;
-    let Some(moment) = Moment::new(ms) else {
-        unreachable!()
-    };
-    Ok((moment, rest))
+impl<'a> Parse<'a> for Moment {
+    ghost part = { λ _. moment_part };
+
+    fn parse(_clock: u64, _again: bool, bytes: &'a [u8]) -> Result<(Moment, &'a [u8]), DeltaFault> {
+        let (ms, rest) = number48(bytes)?;
+        let Some(moment) = Moment::new(ms) else {
+            unreachable!()
+        };
+        Ok((moment, rest))
+    }
 }
 
 fn binding_of(letters: &[u8]) -> Option<Binding>
@@ -99,19 +104,20 @@ fn binding_of(letters: &[u8]) -> Option<Binding>
     Binding::read(text)
 }
 
-pub(crate) fn binding(bytes: &[u8]) -> Result<(Binding, &[u8]), DeltaFault>
-    ensures found { IfOk result (λ x. Found binding_part bytes.now x.0 x.1.now) }
-    ensures fault { IfErr result (Fails binding_part bytes.now) }
-{
-    let (count, rest) = byte(bytes)?;
-    if !is_within(count as usize, 8) {
-        return Err(DeltaFault::Range);
+impl<'a> Parse<'a> for Binding {
+    ghost part = { λ _. binding_part };
+
+    fn parse(_clock: u64, _again: bool, bytes: &'a [u8]) -> Result<(Binding, &'a [u8]), DeltaFault> {
+        let (count, rest) = byte(bytes)?;
+        if !is_within(count as usize, 8) {
+            return Err(DeltaFault::Range);
+        }
+        let (letters, rest) = front(rest, count as usize)?;
+        let Some(binding) = binding_of(letters) else {
+            return Err(DeltaFault::Text);
+        };
+        Ok((binding, rest))
     }
-    let (letters, rest) = front(rest, count as usize)?;
-    let Some(binding) = binding_of(letters) else {
-        return Err(DeltaFault::Text);
-    };
-    Ok((binding, rest))
 }
 
 /// So many bytes of UTF-8.
@@ -126,54 +132,58 @@ pub(crate) fn text(bytes: &[u8], count: u8) -> Result<(&str, &[u8]), DeltaFault>
     Ok((text, rest))
 }
 
-fn sms_number(bytes: &[u8]) -> Result<(&str, &[u8]), DeltaFault>
-    ensures found { IfOk result (λ x. Found sms_part bytes.now x.0.now x.1.now) }
-    ensures fault { IfErr result (Fails sms_part bytes.now) }
-{
-    let (count, rest) = byte(bytes)?;
-    if count > 251 {
-        return Err(DeltaFault::Range);
+impl<'a> Parse<'a> for LentNumber<'a> {
+    ghost part = { λ _. sms_part };
+
+    fn parse(_clock: u64, _again: bool, bytes: &'a [u8]) -> Result<(LentNumber<'a>, &'a [u8]), DeltaFault> {
+        let (count, rest) = byte(bytes)?;
+        if count > 251 {
+            return Err(DeltaFault::Range);
+        }
+        let (text, rest) = text(rest, count)?;
+        Ok((LentNumber { text }, rest))
     }
-    text(rest, count)
 }
 
-/// An SMS number or none.
-pub(crate) fn sms(bytes: &[u8]) -> Result<(Option<&str>, &[u8]), DeltaFault>
-    ensures found { IfOk result (λ x. Found (optional sms_part) bytes.now (option_copied x.0) x.1.now) }
-    ensures fault { IfErr result (Fails (optional sms_part) bytes.now) }
+/// Whether the bytes are a printing of links: so they are where they were walked before.
+fn is_list(again: bool, bytes: &[u8]) -> bool
+    requires { IsTrue again → IsPrinting bytes.now }
+    ensures { IsTrue result ↔ IsPrinting bytes.now }
 {
-    let (present, rest) = tag(bytes)?;
-    if !present {
-        return Ok((None, rest));
-    }
-    let (number, rest) = sms_number(rest)?;
-    Ok((Some(number), rest))
+    again || is_printing(bytes)
 }
 
-pub(crate) fn objects(bytes: &[u8]) -> Result<(&[u8], &[u8]), DeltaFault>
-    ensures found { IfOk result (λ x. Found objects_part bytes.now x.0.now x.1.now) }
-    ensures fault { IfErr result (Fails objects_part bytes.now) }
-{
-    let (count, rest) = number16(bytes)?;
-    if !is_within(count as usize, 8192) {
-        return Err(DeltaFault::Range);
+impl<'a> Parse<'a> for LentObjects<'a> {
+    ghost part = { λ _. objects_part };
+
+    fn parse(_clock: u64, again: bool, bytes: &'a [u8]) -> Result<(LentObjects<'a>, &'a [u8]), DeltaFault> {
+        let (count, rest) = number16(bytes)?;
+        if !is_within(count as usize, 8192) {
+            return Err(DeltaFault::Range);
+        }
+        let (bytes, rest) = front(rest, count as usize)?;
+        if !is_list(again, bytes) {
+            return Err(DeltaFault::Text);
+        }
+        Ok((LentObjects { bytes }, rest))
     }
-    let (text, rest) = front(rest, count as usize)?;
-    if !is_printing(text) {
-        return Err(DeltaFault::Text);
-    }
-    Ok((text, rest))
 }
 
-/// A Content-Format or none.
-pub(crate) fn accept(bytes: &[u8]) -> Result<(Option<u16>, &[u8]), DeltaFault>
-    ensures found { IfOk result (λ x. Found (optional number16_part) bytes.now x.0 x.1.now) }
-    ensures fault { IfErr result (Fails (optional number16_part) bytes.now) }
-{
-    let (present, rest) = tag(bytes)?;
-    if !present {
-        return Ok((None, rest));
+
+/// A Content-Format.
+impl<'a> Parse<'a> for u16 {
+    ghost part = { λ _. number16_part };
+
+    fn parse(_clock: u64, _again: bool, bytes: &'a [u8]) -> Result<(u16, &'a [u8]), DeltaFault> {
+        number16(bytes)
     }
-    let (format, rest) = number16(rest)?;
-    Ok((Some(format), rest))
+}
+
+/// A lifetime in seconds.
+impl<'a> Parse<'a> for u32 {
+    ghost part = { λ _. number32_part };
+
+    fn parse(_clock: u64, _again: bool, bytes: &'a [u8]) -> Result<(u32, &'a [u8]), DeltaFault> {
+        number32(bytes)
+    }
 }

@@ -1,20 +1,20 @@
 //! Watches, one after another.
 
-ghost use Rattle.std.specs.Prelude.{◌≡◌, ◌≤◌, ◌↔◌, List, IsTrue, IfOk, IfErr, take};
+ghost use Rattle.std.specs.Prelude.{◌≡◌, ◌≤◌, ◌↔◌, List, length, IsTrue, IfOk, IfErr, take};
 ghost use Rattle.std.specs.Option.{option_copied};
 ghost use Rattle.lw_reg.specs.declared.path.Path.{Path as Paths};
 ghost use Rattle.lw_reg.specs.Body.{Watching as Watchings};
 ghost use Rattle.lw_reg.specs.Orders.{path_cmp};
 ghost use Rattle.lw_delta.specs.Order.{IsAbove};
-ghost use Rattle.lw_delta.specs.Part.{Found, Fails, when, optional};
-ghost use Rattle.lw_delta.specs.Format.{number16 as number16_part, path_number as path_number_part, numbers as numbers_part, path as path_part, watch as watch_part, watches as watches_part};
+ghost use Rattle.lw_delta.specs.Part.{Found, Fails, optional};
+ghost use Rattle.lw_delta.specs.Format.{path_number as path_number_part, numbers as numbers_part, path as path_part, watch as watch_part, watches as watches_part};
 ghost use Rattle.lw_delta.specs.Values.{watching_from};
 
 use crate::DeltaFault;
 use crate::numbers::{byte, is_set, is_within, number16, stamp, tag};
-use crate::values::accept;
-use lw_join::{Lex, OrGone};
-use lw_reg::{Accept, Path, Watching};
+use crate::parse::parse_if;
+use lw_join::{Lex, Once, OrGone};
+use lw_reg::{Path, Watching};
 use lw_stamp::Stamp;
 
 /// An accept is there.
@@ -76,17 +76,6 @@ fn path(after: Option<Path>, bytes: &[u8]) -> Result<(Path, &[u8]), DeltaFault>
     Ok((path, rest))
 }
 
-fn accept_where(present: bool, bytes: &[u8]) -> Result<(Option<Option<u16>>, &[u8]), DeltaFault>
-    ensures found { IfOk result (λ x. Found (when present (optional number16_part)) bytes.now x.0 x.1.now) }
-    ensures fault { IfErr result (Fails (when present (optional number16_part)) bytes.now) }
-{
-    if !present {
-        return Ok((None, bytes));
-    }
-    let (value, rest) = accept(bytes)?;
-    Ok((Some(value), rest))
-}
-
 /// Of a cancelled watch the token alone is kept.
 fn watching(token: Stamp, gone: bool, accept: Option<Option<u16>>) -> Watching
     ensures { result ≡ watching_from token gone accept }
@@ -94,8 +83,8 @@ fn watching(token: Stamp, gone: bool, accept: Option<Option<u16>>) -> Watching
     let value = if gone {
         OrGone::Gone
     } else {
-        let format = accept.flatten();
-        OrGone::Here(Accept { format })
+        let value = accept.flatten();
+        OrGone::Here(Once { value })
     };
     Lex {
         stamp: token,
@@ -117,7 +106,7 @@ fn watch(
     if !is_within(flags as usize, 3) {
         return Err(DeltaFault::Range);
     }
-    let (accept, rest) = accept_where(is_set(flags, OBSERVED), rest)?;
+    let (accept, rest) = parse_if(is_set(flags, OBSERVED), clock, false, rest)?;
     let watching = watching(token, is_set(flags, CANCELLED), accept);
     Ok(((path, watching), rest))
 }
@@ -139,19 +128,21 @@ pub(crate) fn next_watch(
     Ok((Some(entry), rest))
 }
 
-/// Walks all watches, and takes no memory. What stands behind them is left.
-pub(crate) fn check_watches(clock: u64, bytes: &[u8]) -> Result<&[u8], DeltaFault>
-    ensures found { IfOk result (λ rest. (ws : List (Paths × Watchings)) × Found (watches_part clock) bytes.now ws rest.now) }
+/// Walks all watches, takes no memory, and tells how many they are. What stands behind them is left.
+pub(crate) fn check_watches(clock: u64, bytes: &[u8]) -> Result<(usize, &[u8]), DeltaFault>
+    ensures found { IfOk result (λ x. (ws : List (Paths × Watchings)) × Found (watches_part clock) bytes.now ws x.1.now × (x.0 ≡ length ws)) }
     ensures fault { IfErr result (Fails (watches_part clock) bytes.now) }
 {
+    let mut count = 0;
     let mut after = None;
     let mut rest = bytes;
     loop {
         let (entry, behind) = next_watch(clock, after, rest)?;
         rest = behind;
         let Some((path, _)) = entry else {
-            return Ok(rest);
+            return Ok((count, rest));
         };
+        count += 1;
         after = Some(path);
     }
 }

@@ -1,30 +1,40 @@
 ghost use Rattle.std.specs.Prelude.{◌≡◌, ℕ, ◌<◌, ◌^◌, ◌++◌, ◌∷◌, [], List, IfOk, OnOk, OnErr};
 ghost use Rattle.lw_reg.specs.declared.slot.Slot.{Slot as Slots};
+ghost use Rattle.lw_stamp.specs.TextOrder.{text_cmp};
+ghost use Rattle.lw_delta.specs.Order.{IsAbove};
 ghost use Rattle.lw_delta.specs.Delta.{DeltaContent, IsSpelling};
-ghost use Rattle.lw_delta.specs.Writable.{IsBegun, Follows, last_endpoint};
+ghost use Rattle.lw_delta.specs.Writable.{IsBegun, StampsWithin, last_endpoint};
 ghost use Rattle.lw_delta.specs.Writing.{delta_bytes};
 
-use crate::writing::{put_number48, slot_bytes};
-use lw_reg::Slot;
+use crate::put::put_bytes;
+use crate::writing::{put_number48, put_slot};
+use lw_reg::{Endpoint, Slot};
 use lw_stamp::NoMemory;
 use std::alloc::Global;
 use std::marker::Model;
+
+/// The bytes of a delta without slots: `LWD1`, the clock and the end.
+const LEAST: usize = 11;
 
 /// Puts a delta together: a clock, and slots by endpoints that rise. Contracts see the clock and the bytes so
 /// far.
 #[derive(Debug, Drop)]
 pub struct Writer {
-    alloc: Global,
     clock: u64,
     bytes: Vec<u8>,
 }
 
 impl Model for Writer {
-    ghost use Rattle.lw_delta.specs.Writable.{Begun};
+    ghost use Rattle.std.specs.Prelude.{ℕ, List};
+    ghost use Rattle.lw_reg.specs.declared.slot.Slot.{Slot};
+    ghost use Rattle.lw_delta.specs.Writable.{Begun, IsBegun};
 
     ghost Value = { Begun };
 
     ghost view = { λ w. record { clock = w.clock; bytes = w.bytes.items } };
+
+    // slots were written, one after another
+    ghost invariant = { λ w. (slots : List (List ℕ × Slot)) × IsBegun (record { clock = w.clock; bytes = w.bytes.items }) slots };
 }
 
 impl Writer {
@@ -34,28 +44,30 @@ impl Writer {
         ensures clock { IfOk result (λ writer. writer.clock ≡ clock) }
         ensures begun { IfOk result (λ writer. IsBegun writer []) }
     {
-        let mut bytes = Vec::new(alloc);
-        bytes.extend_from_slice(b"LWD1")?;
+        let mut bytes = Vec::with_capacity(alloc, LEAST)?;
+        put_bytes(&mut bytes, b"LWD1")?;
         put_number48(&mut bytes, clock)?;
-        Ok(Writer {
-            alloc,
-            clock,
-            bytes,
-        })
+        Ok(Writer { clock, bytes })
     }
 
-    /// Writes a slot behind the ones before. The endpoint has 1 to 252 bytes and is above the last one, and
-    /// no stamp of the slot is above the clock.
-    pub fn slot(&mut self, endpoint: &str, slot: &Slot) -> Result<(), NoMemory>
-        requires { (slots : List (List ℕ × Slots)) × IsBegun self.old slots × Follows self.old.clock (last_endpoint slots) (endpoint.now, slot.now) }
+    /// Writes a slot behind the ones before. The endpoint is above the last one, and no stamp of the slot is
+    /// above the clock.
+    pub fn slot(&mut self, endpoint: &Endpoint, slot: &Slot) -> Result<(), NoMemory>
+        requires above { (slots : List (List ℕ × Slots)) → IsBegun self.old slots → IsAbove text_cmp (last_endpoint slots) endpoint.now }
+        requires within { StampsWithin self.old.clock slot.now }
         ensures clock { self.new.clock ≡ self.old.clock }
         ensures begun { (slots : List (List ℕ × Slots)) → IsBegun self.old slots → OnOk result (IsBegun self.new (slots ++ (endpoint.now, slot.now) ∷ [])) }
         // Refused, it is unchanged.
         ensures refused { OnErr result (self.new ≡ self.old) }
     {
-        let bytes = slot_bytes(self.alloc, endpoint, slot)?;
-        self.bytes.extend_from_slice(&bytes)?;
-        Ok(())
+        let begun = self.bytes.len();
+        match put_slot(&mut self.bytes, endpoint, slot) {
+            Ok(()) => Ok(()),
+            Err(refused) => {
+                self.bytes.truncate(begun);
+                Err(refused)
+            }
+        }
     }
 
     /// The bytes of the delta. Refused, the writer is given up.
@@ -63,6 +75,8 @@ impl Writer {
         ensures written { (slots : List (List ℕ × Slots)) → IsBegun self slots → IfOk result (λ bytes. bytes.items ≡ delta_bytes self.clock slots) }
         // They are a delta of the clock and of the slots that were written.
         ensures spelled { (slots : List (List ℕ × Slots)) → IsBegun self slots → IfOk result (λ bytes. IsSpelling bytes.items (record { clock = self.clock; slots = slots })) }
+        // Whatever was written before, they are a delta of the clock.
+        ensures whole { IfOk result (λ bytes. (slots : List (List ℕ × Slots)) × IsSpelling bytes.items (record { clock = self.clock; slots = slots })) }
     {
         let mut bytes = self.bytes;
         bytes.push(0)?;

@@ -1,36 +1,34 @@
 //! The bytes of a slot.
 
-ghost use Rattle.std.specs.Prelude.{◌≡◌, ◌<◌, ◌≤◌, ◌++◌, ◌^◌, ◌∷◌, [], length, IfOk, OnOk, is_some, ℕ, List, Option, IfSome};
+ghost use Rattle.std.specs.Prelude.{◌≡◌, ◌<◌, ◌≤◌, ◌++◌, ◌^◌, ◌∷◌, [], length, OnOk, is_some, IfSome};
 ghost use Rattle.lw_reg.specs.Reading.{sms_of, objects_of};
-ghost use Rattle.std.specs.Option.{option_copied, option_map};
-ghost use Rattle.lw_stamp.specs.Stamp.{stamp_bytes};
-ghost use Rattle.lw_stamp.specs.declared.stamp.Stamp.{Stamp as Stamps};
 ghost use Rattle.lw_reg.specs.Addr.{IsAddr};
+ghost use Rattle.lw_reg.specs.Endpoint.{IsEndpoint};
 ghost use Rattle.lw_delta.specs.Writable.{IsOwnText, IsOwnObjects, FieldsTyped, AcceptTyped, AcceptsTyped, IsTyped};
-ghost use Rattle.lw_delta.specs.Writing.{number48_bytes, number16_bytes, number32_bytes, base_byte, base_bytes, addr_bytes, moment_bytes, text_bytes, binding_bytes, sms_bytes, objects_bytes, written_bytes, optional_bytes, numbers_bytes, path_bytes, accept_bytes, watch_bytes, watches_bytes, flag_if, field_flags, flags_byte, fields_bytes, slot_bytes};
+ghost use Rattle.lw_delta.specs.Writing.{Begins, number48_bytes, number16_bytes, number32_bytes, base_byte, addr_bytes, moment_bytes, text_bytes, binding_bytes, sms_bytes, objects_bytes, written_bytes, numbers_bytes, path_bytes, accept_bytes, watch_bytes, watches_bytes, flag_if, field_flags, flags_byte, fields_bytes, slot_head_bytes, slot_bytes};
 
 use crate::fields::{ADDRESS, BASE, BINDING, LIFETIME, OBJECTS, SEEN, SMS};
+use crate::put::{Put, put_byte, put_bytes, put_present};
 use crate::slots::REMOVED;
 use crate::watches::{CANCELLED, OBSERVED};
-use lw_join::OrGone;
+use lw_join::{Once, OrGone};
 use lw_link::LinkText;
-use lw_reg::{Accept, Addr, Base, Binding, Path, Slot, SmsNumber, Version, Watching};
-use lw_stamp::{Moment, NoMemory, Stamp};
-use std::alloc::Global;
+use lw_reg::{Addr, Base, Binding, Endpoint, Path, Slot, SmsNumber, Version, Watching};
+use lw_stamp::{Moment, NoMemory};
 
 pub(crate) fn put_number48(out: &mut Vec<u8>, number: u64) -> Result<(), NoMemory>
-    ensures { OnOk result (out.new.items ≡ out.old.items ++ number48_bytes number) }
+    ensures written { OnOk result (out.new.items ≡ out.old.items ++ number48_bytes number) }
+    ensures kept { Begins out.old.items out.new.items }
 {
     let [_, _, a, b, c, d, e, f] = number.to_be_bytes();
-    out.extend_from_slice(&[a, b, c, d, e, f])?;
-    Ok(())
+    put_bytes(out, &[a, b, c, d, e, f])
 }
 
 fn put_number16(out: &mut Vec<u8>, number: u16) -> Result<(), NoMemory>
-    ensures { OnOk result (out.new.items ≡ out.old.items ++ number16_bytes number) }
+    ensures written { OnOk result (out.new.items ≡ out.old.items ++ number16_bytes number) }
+    ensures kept { Begins out.old.items out.new.items }
 {
-    out.extend_from_slice(&number.to_be_bytes())?;
-    Ok(())
+    put_bytes(out, &number.to_be_bytes())
 }
 
 /// A length of one byte, and the text.
@@ -38,12 +36,13 @@ fn put_text(out: &mut Vec<u8>, text: &str) -> Result<(), NoMemory>
     requires { length text.now ≤ 255 }
     ensures written { OnOk result (out.new.items ≡ out.old.items ++ text_bytes text.now) }
     ensures own { IsOwnText text.now }
+    ensures kept { Begins out.old.items out.new.items }
 {
-    out.push(text.len() as u8)?;
-    out.extend_from_slice(text.as_bytes())?;
-    Ok(())
+    put_byte(out, text.len() as u8)?;
+    put_bytes(out, text.as_bytes())
 }
 
+/// Bit 0 for version 1.1, bit 1 for queue mode.
 fn base_byte(base: Base) -> u8
     ensures { result ≡ base_byte base }
 {
@@ -55,137 +54,135 @@ fn base_byte(base: Base) -> u8
     version + queue
 }
 
-fn put_base(out: &mut Vec<u8>, base: Option<Base>) -> Result<(), NoMemory>
-    ensures { OnOk result (out.new.items ≡ out.old.items ++ base_bytes base) }
-{
-    if let Some(base) = base {
-        out.push(base_byte(base))?;
-    }
-    Ok(())
-}
+impl Put for Base {
+    ghost bytes = { λ base. base_byte base ∷ [] };
 
-fn put_stamp(out: &mut Vec<u8>, stamp: Stamp) -> Result<(), NoMemory>
-    ensures { OnOk result (out.new.items ≡ out.old.items ++ stamp_bytes stamp) }
-{
-    out.extend_from_slice(&stamp.to_bytes())?;
-    Ok(())
-}
+    ghost typed = { λ _. Unit {0} };
 
-fn put_addr(out: &mut Vec<u8>, addr: Addr) -> Result<(), NoMemory>
-    ensures written { OnOk result (out.new.items ≡ out.old.items ++ addr_bytes addr) }
-    ensures typed { IsAddr addr }
-{
-    match addr {
-        Addr::V4 { address, port } => {
-            out.push(4)?;
-            out.extend_from_slice(&address)?;
-            put_number16(out, port)
-        }
-        Addr::V6 { address, port } => {
-            out.push(6)?;
-            out.extend_from_slice(&address)?;
-            put_number16(out, port)
-        }
+    fn put(&self, out: &mut Vec<u8>) -> Result<(), NoMemory> {
+        put_byte(out, base_byte(*self))
     }
 }
 
-fn put_address(out: &mut Vec<u8>, write: Option<(Stamp, Addr)>) -> Result<(), NoMemory>
-    ensures written { OnOk result (out.new.items ≡ out.old.items ++ written_bytes addr_bytes write) }
-    ensures typed { OnOk result (IfSome write (λ w. IsAddr w.1)) }
+fn put_v4(out: &mut Vec<u8>, address: [u8; 4], port: u16) -> Result<(), NoMemory>
+    ensures written { OnOk result (out.new.items ≡ out.old.items ++ addr_bytes (Addr.V4 address.entry port)) }
+    ensures typed { OnOk result (IsAddr (Addr.V4 address.entry port)) }
+    ensures kept { Begins out.old.items out.new.items }
 {
-    if let Some((stamp, addr)) = write {
-        put_stamp(out, stamp)?;
-        put_addr(out, addr)?;
-    }
-    Ok(())
+    put_byte(out, 4)?;
+    out.extend_from_slice(&address)?;
+    put_number16(out, port)
 }
 
-fn put_seen(out: &mut Vec<u8>, write: Option<(Stamp, Moment)>) -> Result<(), NoMemory>
-    ensures { OnOk result (out.new.items ≡ out.old.items ++ written_bytes moment_bytes write) }
+fn put_v6(out: &mut Vec<u8>, address: [u8; 16], port: u16) -> Result<(), NoMemory>
+    ensures written { OnOk result (out.new.items ≡ out.old.items ++ addr_bytes (Addr.V6 address.entry port)) }
+    ensures typed { OnOk result (IsAddr (Addr.V6 address.entry port)) }
+    ensures kept { Begins out.old.items out.new.items }
 {
-    if let Some((stamp, moment)) = write {
-        put_stamp(out, stamp)?;
-        put_number48(out, moment.ms())?;
-    }
-    Ok(())
+    put_byte(out, 6)?;
+    out.extend_from_slice(&address)?;
+    put_number16(out, port)
 }
 
-fn put_lifetime(out: &mut Vec<u8>, write: Option<(Stamp, u32)>) -> Result<(), NoMemory>
-    ensures written { OnOk result (out.new.items ≡ out.old.items ++ written_bytes number32_bytes write) }
-    ensures typed { OnOk result (IfSome write (λ w. w.1 < 2 ^ 32)) }
-{
-    if let Some((stamp, seconds)) = write {
-        put_stamp(out, stamp)?;
-        out.extend_from_slice(&seconds.to_be_bytes())?;
-    }
-    Ok(())
-}
+impl Put for Addr {
+    ghost bytes = { addr_bytes };
 
-fn put_binding(out: &mut Vec<u8>, write: Option<(Stamp, Binding)>) -> Result<(), NoMemory>
-    ensures { OnOk result (out.new.items ≡ out.old.items ++ written_bytes binding_bytes write) }
-{
-    if let Some((stamp, binding)) = write {
-        put_stamp(out, stamp)?;
-        put_text(out, binding.as_str())?;
-    }
-    Ok(())
-}
+    ghost typed = { IsAddr };
 
-fn put_number(out: &mut Vec<u8>, number: Option<&SmsNumber>) -> Result<(), NoMemory>
-    ensures written { OnOk result (out.new.items ≡ out.old.items ++ sms_bytes (option_copied number.entry)) }
-    ensures typed { OnOk result (IfSome (option_copied number.entry) (λ text. IsOwnText text × (length text ≤ 251))) }
-{
-    match number {
-        None => {
-            out.push(0)?;
-            Ok(())
-        }
-        Some(number) => {
-            out.push(1)?;
-            put_text(out, number.as_str())
+    fn put(&self, out: &mut Vec<u8>) -> Result<(), NoMemory> {
+        match *self {
+            Addr::V4 { address, port } => put_v4(out, address, port),
+            Addr::V6 { address, port } => put_v6(out, address, port),
         }
     }
 }
 
-fn put_sms(out: &mut Vec<u8>, write: Option<(Stamp, Option<&SmsNumber>)>) -> Result<(), NoMemory>
-    ensures written { OnOk result (out.new.items ≡ out.old.items ++ written_bytes sms_bytes (option_map (λ w. (w.0, option_copied w.1)) write.entry)) }
-    ensures typed { OnOk result (IfSome {T = Stamps × Option (List ℕ)} (option_map (λ w. (w.0, option_copied w.1)) write.entry) (λ w. IfSome w.1 (λ text. IsOwnText text × (length text ≤ 251)))) }
-{
-    if let Some((stamp, number)) = write {
-        put_stamp(out, stamp)?;
-        put_number(out, number)?;
+impl Put for Moment {
+    ghost bytes = { moment_bytes };
+
+    ghost typed = { λ _. Unit {0} };
+
+    fn put(&self, out: &mut Vec<u8>) -> Result<(), NoMemory> {
+        put_number48(out, self.ms())
     }
-    Ok(())
 }
 
-fn put_objects(out: &mut Vec<u8>, write: Option<(Stamp, &LinkText)>) -> Result<(), NoMemory>
-    ensures written { OnOk result (out.new.items ≡ out.old.items ++ written_bytes objects_bytes (option_map (λ w. (w.0, w.1.now)) write.entry)) }
-    ensures typed { OnOk result (IfSome {T = Stamps × List ℕ} (option_map (λ w. (w.0, w.1.now)) write.entry) (λ w. IsOwnObjects w.1)) }
-{
-    if let Some((stamp, objects)) = write {
-        let text = objects.as_str();
-        put_stamp(out, stamp)?;
+/// A lifetime in seconds.
+impl Put for u32 {
+    ghost bytes = { number32_bytes };
+
+    ghost typed = { λ n. n < 2 ^ 32 };
+
+    fn put(&self, out: &mut Vec<u8>) -> Result<(), NoMemory> {
+        put_bytes(out, &self.to_be_bytes())
+    }
+}
+
+impl Put for Binding {
+    ghost bytes = { binding_bytes };
+
+    ghost typed = { λ _. Unit {0} };
+
+    fn put(&self, out: &mut Vec<u8>) -> Result<(), NoMemory> {
+        put_text(out, self.as_str())
+    }
+}
+
+impl<'a> Put for &'a SmsNumber {
+    ghost bytes = { λ number. text_bytes number.now };
+
+    ghost typed = { λ number. IsOwnText number.now × (length number.now ≤ 251) };
+
+    fn put(&self, out: &mut Vec<u8>) -> Result<(), NoMemory> {
+        put_text(out, self.as_str())
+    }
+}
+
+impl<'a> Put for &'a LinkText {
+    ghost bytes = { λ objects. objects_bytes objects.now };
+
+    ghost typed = { λ objects. IsOwnObjects objects.now };
+
+    fn put(&self, out: &mut Vec<u8>) -> Result<(), NoMemory> {
+        let text = self.as_str();
         put_number16(out, text.len() as u16)?;
-        out.extend_from_slice(text.as_bytes())?;
+        put_bytes(out, text.as_bytes())
     }
-    Ok(())
+}
+
+fn put_sms(out: &mut Vec<u8>, slot: &Slot) -> Result<(), NoMemory>
+    ensures written { OnOk result (out.new.items ≡ out.old.items ++ written_bytes sms_bytes (sms_of slot.now)) }
+    ensures typed { OnOk result (IfSome (sms_of slot.now) (λ w. IfSome w.1 (λ text. IsOwnText text × (length text ≤ 251)))) }
+    ensures kept { Begins out.old.items out.new.items }
+{
+    put_present(out, slot.sms())
+}
+
+fn put_objects(out: &mut Vec<u8>, slot: &Slot) -> Result<(), NoMemory>
+    ensures written { OnOk result (out.new.items ≡ out.old.items ++ written_bytes objects_bytes (objects_of slot.now)) }
+    ensures typed { OnOk result (IfSome (objects_of slot.now) (λ w. IsOwnObjects w.1)) }
+    ensures kept { Begins out.old.items out.new.items }
+{
+    put_present(out, slot.objects())
 }
 
 fn put_fields(out: &mut Vec<u8>, slot: &Slot) -> Result<(), NoMemory>
     ensures written { OnOk result (out.new.items ≡ out.old.items ++ fields_bytes slot.now) }
     ensures typed { OnOk result (FieldsTyped slot.now) }
+    ensures kept { Begins out.old.items out.new.items }
 {
-    put_base(out, slot.base())?;
-    put_address(out, slot.address())?;
-    put_seen(out, slot.seen())?;
-    put_lifetime(out, slot.lifetime())?;
-    put_binding(out, slot.binding())?;
-    put_sms(out, slot.sms())?;
-    put_objects(out, slot.objects())
+    put_present(out, slot.base())?;
+    put_present(out, slot.address())?;
+    put_present(out, slot.seen())?;
+    put_present(out, slot.lifetime())?;
+    put_present(out, slot.binding())?;
+    put_sms(out, slot)?;
+    put_objects(out, slot)
 }
 
 fn put_numbers(out: &mut Vec<u8>, numbers: &[u16]) -> Result<(), NoMemory>
-    ensures { OnOk result (out.new.items ≡ out.old.items ++ numbers_bytes numbers.now) }
+    ensures written { OnOk result (out.new.items ≡ out.old.items ++ numbers_bytes numbers.now) }
+    ensures kept { Begins out.old.items out.new.items }
 {
     for number in numbers {
         put_number16(out, *number)?;
@@ -193,43 +190,40 @@ fn put_numbers(out: &mut Vec<u8>, numbers: &[u16]) -> Result<(), NoMemory>
     Ok(())
 }
 
-fn put_path(out: &mut Vec<u8>, path: &Path) -> Result<(), NoMemory>
-    ensures { OnOk result (out.new.items ≡ out.old.items ++ path_bytes path.now) }
-{
-    let numbers = path.numbers();
-    out.push(numbers.len() as u8)?;
-    put_numbers(out, numbers)
+impl Put for Path {
+    ghost bytes = { path_bytes };
+
+    ghost typed = { λ _. Unit {0} };
+
+    fn put(&self, out: &mut Vec<u8>) -> Result<(), NoMemory> {
+        let numbers = self.numbers();
+        put_byte(out, numbers.len() as u8)?;
+        put_numbers(out, numbers)
+    }
 }
 
-fn put_format(out: &mut Vec<u8>, format: Option<u16>) -> Result<(), NoMemory>
-    ensures written { OnOk result (out.new.items ≡ out.old.items ++ optional_bytes number16_bytes format) }
-    ensures typed { OnOk result (IfSome format (λ n. n < 2 ^ 16)) }
-{
-    match format {
-        None => {
-            out.push(0)?;
-            Ok(())
-        }
-        Some(format) => {
-            out.push(1)?;
-            put_number16(out, format)
-        }
+/// A Content-Format.
+impl Put for u16 {
+    ghost bytes = { number16_bytes };
+
+    ghost typed = { λ n. n < 2 ^ 16 };
+
+    fn put(&self, out: &mut Vec<u8>) -> Result<(), NoMemory> {
+        put_number16(out, *self)
     }
 }
 
 /// Of a cancelled watch the flag alone.
-fn put_accept(out: &mut Vec<u8>, accept: &OrGone<Accept>) -> Result<(), NoMemory>
+fn put_accept(out: &mut Vec<u8>, accept: &OrGone<Once<u16>>) -> Result<(), NoMemory>
     ensures written { OnOk result (out.new.items ≡ out.old.items ++ accept_bytes accept.now) }
     ensures typed { OnOk result (AcceptTyped accept.now) }
+    ensures kept { Begins out.old.items out.new.items }
 {
     match accept {
-        OrGone::Gone => {
-            out.push(CANCELLED)?;
-            Ok(())
-        }
+        OrGone::Gone => put_byte(out, CANCELLED),
         OrGone::Here(accept) => {
-            out.push(OBSERVED)?;
-            put_format(out, accept.format)
+            put_byte(out, OBSERVED)?;
+            accept.value.put(out)
         }
     }
 }
@@ -237,23 +231,24 @@ fn put_accept(out: &mut Vec<u8>, accept: &OrGone<Accept>) -> Result<(), NoMemory
 fn put_watch(out: &mut Vec<u8>, entry: &(Path, Watching)) -> Result<(), NoMemory>
     ensures written { OnOk result (out.new.items ≡ out.old.items ++ watch_bytes entry.now) }
     ensures typed { OnOk result (AcceptTyped entry.now.1.value) }
+    ensures kept { Begins out.old.items out.new.items }
 {
     let (path, watching) = entry;
-    put_path(out, path)?;
-    put_stamp(out, watching.stamp)?;
+    path.put(out)?;
+    watching.stamp.put(out)?;
     put_accept(out, &watching.value)
 }
 
 fn put_watches(out: &mut Vec<u8>, entries: &[(Path, Watching)]) -> Result<(), NoMemory>
     ensures written { OnOk result (out.new.items ≡ out.old.items ++ watches_bytes entries.now) }
     ensures typed { OnOk result (AcceptsTyped entries.now) }
+    ensures kept { Begins out.old.items out.new.items }
 {
     for entry in entries {
-        out.push(1)?;
+        put_byte(out, 1)?;
         put_watch(out, entry)?;
     }
-    out.push(0)?;
-    Ok(())
+    put_byte(out, 0)
 }
 
 fn flag_if(flag: u8, set: bool) -> u8
@@ -298,18 +293,30 @@ fn flags_byte(slot: &Slot) -> u8
     field_flags(slot)
 }
 
-/// A slot behind its 01.
-pub(crate) fn slot_bytes(alloc: Global, endpoint: &str, slot: &Slot) -> Result<Vec<u8>, NoMemory>
-    requires { length endpoint.now ≤ 255 }
-    ensures written { IfOk result (λ bytes. bytes.items ≡ 1 ∷ slot_bytes (endpoint.now, slot.now)) }
-    ensures typed { IfOk result (λ bytes. IsTyped slot.now × IsOwnText endpoint.now) }
+/// What stands before the fields of a slot.
+fn put_head(out: &mut Vec<u8>, endpoint: &Endpoint, slot: &Slot) -> Result<(), NoMemory>
+    ensures written { OnOk result (out.new.items ≡ out.old.items ++ slot_head_bytes (endpoint.now, slot.now)) }
+    ensures named { OnOk result (IsOwnText endpoint.now × IsEndpoint endpoint.now) }
+    ensures kept { Begins out.old.items out.new.items }
 {
-    let mut out = Vec::new(alloc);
-    out.push(1)?;
-    put_text(&mut out, endpoint)?;
-    put_stamp(&mut out, slot.stamp())?;
-    out.push(flags_byte(slot))?;
-    put_fields(&mut out, slot)?;
-    put_watches(&mut out, slot.watches())?;
-    Ok(out)
+    put_byte(out, 1)?;
+    put_text(out, endpoint.as_str())?;
+    slot.stamp().put(out)?;
+    put_byte(out, flags_byte(slot))
+}
+
+/// A slot, and the 01 before it. Refused, a front of it may stand there.
+pub(crate) fn put_slot(
+    out: &mut Vec<u8>,
+    endpoint: &Endpoint,
+    slot: &Slot,
+) -> Result<(), NoMemory>
+    ensures written { OnOk result (out.new.items ≡ out.old.items ++ 1 ∷ slot_bytes (endpoint.now, slot.now)) }
+    ensures typed { OnOk result (IsTyped slot.now) }
+    ensures named { OnOk result (IsOwnText endpoint.now × IsEndpoint endpoint.now) }
+    ensures kept { Begins out.old.items out.new.items }
+{
+    put_head(out, endpoint, slot)?;
+    put_fields(out, slot)?;
+    put_watches(out, slot.watches())
 }

@@ -1,6 +1,9 @@
+use Rattle.std.proofs.Common.{refl}
 use Rattle.std.proofs.lemmas.Result.{err_from_is_err_and}
 use Rattle.lw_delta.proofs.Parts.{when_is, when_fails_is}
-use Rattle.lw_delta.proofs.Kept.{sms_kept, objects_kept}
+use Rattle.lw_delta.proofs.Again.{behind, front, flag_is}
+use Rattle.lw_delta.proofs.Decided.{when_decided, optional_decided}
+use Rattle.lw_delta.proofs.Grammar.{written_decided, base_decided, address_decided, moment_decided, number32_decided, binding_decided, sms_decided}
 use Rattle.lw_delta.proofs.Parts.{both, first_fails, later_fails, given}
 use Rattle.lw_delta.proofs.fields.fields.Goals as goal
 
@@ -42,5 +45,23 @@ returns-in_err-objects-clause-fault c =
 pub returns-clause-found : goal.returns-clause-found
 returns-clause-found c = both _ (when_is _ c.is_set.ensures c.in_ok-base.ensures.found) (both _ (when_is _ c.is_set-2.ensures c.in_ok-address.ensures.found) (both _ (when_is _ c.is_set-3.ensures c.in_ok-seen.ensures.found) (both _ (when_is _ c.is_set-4.ensures c.in_ok-lifetime.ensures.found) (both _ (when_is _ c.is_set-5.ensures c.in_ok-binding.ensures.found) (both _ (when_is _ c.is_set-6.ensures c.in_ok-sms.ensures.found) (both _ (when_is _ c.is_set-7.ensures c.in_ok-objects.ensures.found) given))))))
 
-pub returns-clause-kept : goal.returns-clause-kept
-returns-clause-kept c = record { sms = sms_kept _ _ _ _ _ c.in_ok-sms.ensures.found; objects = objects_kept _ _ _ _ _ c.in_ok-objects.ensures.found }
+pub parse_if-requires : goal.parse_if-requires
+parse_if-requires c = λ k. ((refl, tt), λ again. flag_is _ c.is_set.ensures (front _ (c.requires again)))
+
+pub parse_if-requires-2 : goal.parse_if-requires-2
+parse_if-requires-2 c = λ k. ((refl, tt), λ again. flag_is _ c.is_set-2.ensures (front _ (behind _ (when_decided _ base_decided) (when_is _ c.is_set.ensures c.in_ok-base.ensures.found) (c.requires again))))
+
+pub parse_if-requires-3 : goal.parse_if-requires-3
+parse_if-requires-3 c = λ k. ((refl, tt), λ again. flag_is _ c.is_set-3.ensures (front _ (behind _ (when_decided _ (written_decided c.args.clock address_decided)) (when_is _ c.is_set-2.ensures c.in_ok-address.ensures.found) (behind _ (when_decided _ base_decided) (when_is _ c.is_set.ensures c.in_ok-base.ensures.found) (c.requires again)))))
+
+pub parse_if-requires-4 : goal.parse_if-requires-4
+parse_if-requires-4 c = λ k. ((refl, tt), λ again. flag_is _ c.is_set-4.ensures (front _ (behind _ (when_decided _ (written_decided c.args.clock moment_decided)) (when_is _ c.is_set-3.ensures c.in_ok-seen.ensures.found) (behind _ (when_decided _ (written_decided c.args.clock address_decided)) (when_is _ c.is_set-2.ensures c.in_ok-address.ensures.found) (behind _ (when_decided _ base_decided) (when_is _ c.is_set.ensures c.in_ok-base.ensures.found) (c.requires again))))))
+
+pub parse_if-requires-5 : goal.parse_if-requires-5
+parse_if-requires-5 c = λ k. ((refl, tt), λ again. flag_is _ c.is_set-5.ensures (front _ (behind _ (when_decided _ (written_decided c.args.clock number32_decided)) (when_is _ c.is_set-4.ensures c.in_ok-lifetime.ensures.found) (behind _ (when_decided _ (written_decided c.args.clock moment_decided)) (when_is _ c.is_set-3.ensures c.in_ok-seen.ensures.found) (behind _ (when_decided _ (written_decided c.args.clock address_decided)) (when_is _ c.is_set-2.ensures c.in_ok-address.ensures.found) (behind _ (when_decided _ base_decided) (when_is _ c.is_set.ensures c.in_ok-base.ensures.found) (c.requires again)))))))
+
+pub parse_if-requires-6 : goal.parse_if-requires-6
+parse_if-requires-6 c = λ k. ((refl, tt), λ again. flag_is _ c.is_set-6.ensures (front _ (behind _ (when_decided _ (written_decided c.args.clock binding_decided)) (when_is _ c.is_set-5.ensures c.in_ok-binding.ensures.found) (behind _ (when_decided _ (written_decided c.args.clock number32_decided)) (when_is _ c.is_set-4.ensures c.in_ok-lifetime.ensures.found) (behind _ (when_decided _ (written_decided c.args.clock moment_decided)) (when_is _ c.is_set-3.ensures c.in_ok-seen.ensures.found) (behind _ (when_decided _ (written_decided c.args.clock address_decided)) (when_is _ c.is_set-2.ensures c.in_ok-address.ensures.found) (behind _ (when_decided _ base_decided) (when_is _ c.is_set.ensures c.in_ok-base.ensures.found) (c.requires again))))))))
+
+pub parse_if-requires-7 : goal.parse_if-requires-7
+parse_if-requires-7 c = λ k. ((refl, tt), λ again. flag_is _ c.is_set-7.ensures (front _ (behind _ (when_decided _ (written_decided c.args.clock (optional_decided sms_decided))) (when_is _ c.is_set-6.ensures c.in_ok-sms.ensures.found) (behind _ (when_decided _ (written_decided c.args.clock binding_decided)) (when_is _ c.is_set-5.ensures c.in_ok-binding.ensures.found) (behind _ (when_decided _ (written_decided c.args.clock number32_decided)) (when_is _ c.is_set-4.ensures c.in_ok-lifetime.ensures.found) (behind _ (when_decided _ (written_decided c.args.clock moment_decided)) (when_is _ c.is_set-3.ensures c.in_ok-seen.ensures.found) (behind _ (when_decided _ (written_decided c.args.clock address_decided)) (when_is _ c.is_set-2.ensures c.in_ok-address.ensures.found) (behind _ (when_decided _ base_decided) (when_is _ c.is_set.ensures c.in_ok-base.ensures.found) (c.requires again)))))))))

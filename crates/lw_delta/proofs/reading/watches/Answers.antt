@@ -9,7 +9,7 @@ use Rattle.lw_delta.proofs.reading.watches.Goals as goal
 
 pub returns-in_err-next-clause-fault : goal.returns-in_err-next-clause-fault
 returns-in_err-next-clause-fault c =
-    let p = err_from_is_err_and c.from_residual.result c.from_residual.ensures.1 in
+    let p = err_from_is_err_and c.from_residual-in_err-next.result c.from_residual-in_err-next.ensures.1 in
     rw (p.1, p.2) (inr (walked_fails c.loop-entries.invariant c.in_err-next.ensures.fault))
 
 pub returns-in_default-clause-found : goal.returns-in_default-clause-found
@@ -22,4 +22,4 @@ pub loop-entries-preserved : goal.loop-entries-preserved
 loop-entries-preserved c = rw c.in_ok-push.ensures.items (walked_more c.loop-entries.invariant (subst (λ o. Found (optional (watch c.args.clock c.loop-entries.after)) c.loop-entries.rest.now o c.in_ok-next.behind.now) c.in-Some.is c.in_ok-next.ensures.found))
 
 pub loop-entries-init : goal.loop-entries-init
-loop-entries-init c = rw c.new-entries.ensures.items (none_walked _ _ c.args.bytes.now)
+loop-entries-init c = rw c.in_ok-entries.ensures.items (none_walked _ _ c.args.bytes.now)

@@ -1,4 +1,5 @@
-use Rattle.std.proofs.Common.{subst, ◌++◌, ◌∷◌}
+use Rattle.std.proofs.Common.{ℕ, ◌+◌, subst, ◌++◌, ◌∷◌, sym, ap, ◌∙◌, arith}
+use Rattle.std.proofs.lemmas.List.{length-append}
 use Rattle.std.proofs.lemmas.Result.{err_from_is_err_and}
 use Rattle.std.proofs.Common.{[]}
 use Rattle.std.specs.Option.{option_copied}
@@ -13,7 +14,7 @@ returns-in_err-next-clause-fault c =
     rw (p.1, p.2) (walked_fails c.loop-next.invariant.1 c.in_err-next.ensures.fault)
 
 pub returns-in_default-clause-found : goal.returns-in_default-clause-found
-returns-in_default-clause-found c = (c.loop-next.invariant.0, walked_end c.loop-next.invariant.1 (subst (λ o. NextAt c.args.clock (option_copied c.loop-next.after) c.loop-next.rest.now o c.in_ok-next.behind.now) c.in_default.is c.in_ok-next.ensures.found))
+returns-in_default-clause-found c = (c.loop-next.invariant.0, walked_end c.loop-next.invariant.1 (subst (λ o. NextAt c.args.clock (option_copied c.loop-next.after) c.loop-next.rest.now o c.in_ok-next.behind.now) c.in_default.is c.in_ok-next.ensures.found), c.loop-next.invariant.2)
 
 pub loop-next-smaller : goal.loop-next-smaller
 loop-next-smaller c = next_takes c.args.clock (option_copied c.loop-next.after) c.loop-next.rest.now c.in_ok-next.next c.in_ok-next.behind.now c.in_ok-next.ensures.found
@@ -21,4 +22,4 @@ loop-next-smaller c = next_takes c.args.clock (option_copied c.loop-next.after) 
 pub loop-next-preserved : goal.loop-next-preserved
 loop-next-preserved c =
     let s = (subst (λ o. NextAt c.args.clock (option_copied c.loop-next.after) c.loop-next.rest.now o c.in_ok-next.behind.now) c.in-Some.is c.in_ok-next.ensures.found) in
-    (c.loop-next.invariant.0 ++ lent_slot c.in-Some.slot s.ws ∷ [], walked_more c.loop-next.invariant.1 s.found)
+    (c.loop-next.invariant.0 ++ lent_slot c.in-Some.slot s.ws ∷ [], walked_more c.loop-next.invariant.1 s.found, sym (length-append c.loop-next.invariant.0 (lent_slot c.in-Some.slot s.ws ∷ []) ∙ ap (λ (n : ℕ). n + 1) (sym c.loop-next.invariant.2)), omega (arith, c.loop-next.invariant.3, next_takes c.args.clock (option_copied c.loop-next.after) c.loop-next.rest.now c.in_ok-next.next c.in_ok-next.behind.now c.in_ok-next.ensures.found))

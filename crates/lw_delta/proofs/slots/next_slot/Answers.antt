@@ -2,6 +2,7 @@ use Rattle.std.proofs.Common.{subst}
 use Rattle.std.proofs.lemmas.Result.{err_from_is_err_and}
 use Rattle.std.proofs.Common.{Bool}
 use Rattle.lw_delta.specs.Part.{Found, tag}
+use Rattle.lw_delta.proofs.Again.{behind_tag, set_found}
 use Rattle.lw_delta.proofs.Parts.{first_fails, optional_none, optional_some, optional_fails}
 use Rattle.lw_delta.proofs.slots.next_slot.Goals as goal
 
@@ -22,3 +23,6 @@ pub returns-clause-found : goal.returns-clause-found
 returns-clause-found c =
     let s = c.in_ok-slot.ensures.found in
     record { ws = s.ws; holds = s.holds; found = optional_some (subst (λ (b : Bool). Found tag c.args.bytes.now b c.in_ok-present.rest.now) c.if-not-present.false c.in_ok-present.ensures.found) s.found }
+
+pub slot-requires : goal.slot-requires
+slot-requires c = λ again. set_found c.if-not-present.false (behind_tag _ c.in_ok-present.ensures.found (c.requires again))
