@@ -1,4 +1,4 @@
-ghost use Rattle.std.specs.Prelude.{◌≡◌, ◌<◌, ◌^◌, [], Some, IfOk, OnOk, IfErr, OnErr, IfSome, IfNone, map, true, false};
+ghost use Rattle.std.specs.Prelude.{◌≡◌, ◌≢◌, ◌⊎◌, ◌<◌, ◌^◌, [], Some, IfOk, OnOk, IfErr, OnErr, IfSome, IfNone, map, true, false};
 ghost use Rattle.std.specs.Option.{SomeIff};
 ghost use Rattle.std.specs.Str.Parse.{IsNumeral, digits_value};
 ghost use Rattle.clap.specs.declared.builder.texts.Texts.TheVariants.{One};
@@ -63,6 +63,15 @@ pub fn read_options<'a, S: AsStr>(alloc: Global, words: &'a [S]) -> Result<OneOp
     }
 }
 
+/// The status of a program that only prints such an error: 2 for a refused command line, and 0 for help and
+/// the version.
+pub fn status(error: &Error) -> u8
+    ensures shown { (kind_of error.now ≡ ErrorKind.DisplayHelp) ⊎ (kind_of error.now ≡ ErrorKind.DisplayVersion) → result ≡ 0 }
+    ensures refused { kind_of error.now ≢ ErrorKind.DisplayHelp → kind_of error.now ≢ ErrorKind.DisplayVersion → result ≡ 2 }
+{
+    if error.use_stderr() { 2 } else { 0 }
+}
+
 fn number_refused(alloc: Global, bad: BadNumber) -> Result<Error, AllocError> {
     let mut command = one_command(alloc)?.bin_name("fleet one")?;
     command.error(ErrorKind::ValueValidation, bad.message())
@@ -82,7 +91,9 @@ fn one_command<'a>(alloc: Global) -> Result<Command<'a>, AllocError>
     ensures local { IfOk result (λ command. (fields_of command).has_globals ≡ false) }
 {
     Command::new(alloc, "one")
-        .about("Takes one datagram, a line of hex on standard input, and prints the reply and the registration")
+        .about(
+            "Takes one datagram, a line of hex on standard input, and prints the reply and the registration",
+        )
         .arg(option(
             alloc,
             "node",
