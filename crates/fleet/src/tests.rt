@@ -251,13 +251,12 @@ fn another_registration_as_json(rt: HostRuntime) -> Result<(), Fail> {
     Ok(())
 }
 
-/// A list of 256 links, of 8,192 bytes or so.
+/// A list of 256 links, of 7,909 bytes.
 fn long_list(alloc: Global) -> Result<LinkText, Fail> {
-    let mut list = b"</0>".to_vec(alloc)?;
-    for _link in 1..256 {
-        list.extend_from_slice(b",</65534/65534>;ver=\"1.0 \\\"x\\\"\"")?;
-    }
-    Ok(LinkText::read(alloc, &list)?)
+    let mut list = String::from_str(alloc, "</0>")?;
+    list.push_str(r#",</65534/65534>;ver="1.0 \"x\"""#.repeat(alloc, 255)?.as_str())?;
+    let list = list.as_bytes().get(..7909).ok_or("the list")?;
+    Ok(LinkText::read(alloc, list)?)
 }
 
 #[test]
