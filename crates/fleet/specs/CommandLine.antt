@@ -1,5 +1,5 @@
 -- The command line of the program: the command `one` with its three options, in the words of `clap`.
-use Rattle.std.specs.Prelude.{◌≡◌, ◌<◌, ◌^◌, ℕ, List, [], Option, Some, None, codes, unwrap_or}
+use Rattle.std.specs.Prelude.{◌≡◌, ◌<◌, ◌^◌, ℕ, List, [], Option, Some, None, codes, unwrap_or, true}
 use Rattle.std.specs.Str.Parse.{IsNumeral, digits_value}
 use Rattle.clap.specs.Words.{App, Row, Rule, Text, first_of, new_app, new_rule, subcommand_of, with_rule, with_subcommand}
 use Rattle.lw_stamp.specs.Moment.{ms_of}
@@ -15,8 +15,12 @@ one_app = with_rule
     (with_rule (with_rule (new_app (codes "one")) (long_option (codes "node"))) (long_option (codes "now")))
     (long_option (codes "from"))
 
+-- a command that tells its version
+abbrev pub with_version : App → App
+with_version app = record app { top = record app.top { has_version = true } }
+
 unfoldable pub fleet_app : App
-fleet_app = with_subcommand (new_app (codes "fleet")) one_app.top
+fleet_app = with_subcommand (with_version (new_app (codes "fleet"))) one_app.top
 
 -- what was given for the options of a command, and nothing where there was no command
 abbrev pub option_rows : Option (Text × List Row) → List Row

@@ -10,7 +10,7 @@ use Rattle.lw_node.specs.Answers.{FirstAfter}
 use Rattle.lw_node.specs.History.{History, begins}
 use Rattle.lw_node.specs.Meaning.{GoesOn}
 use Rattle.fleet.specs.declared.command.OneOptions.{OneOptions}
-use Rattle.fleet.specs.Line.{line_of}
+use Rattle.fleet.specs.Line.{line_of, longest_line}
 use Rattle.fleet.specs.Answer.{answer_text}
 
 -- the text of an address
@@ -33,5 +33,6 @@ pub record IsPrinted (options : OneOptions) (input text : List ℕ) : Type 0 whe
   pub datagram : List ℕ
   pub in_range : IsAddr source
   pub from_is : options.from.now ≡ addr_text source
+  pub line_fits : length (line_of input) ≤ longest_line
   pub spelled : decode_of (line_of input) ≡ Ok datagram
   pub answered : IsAnswered options.node (ms_of options.now) source datagram text

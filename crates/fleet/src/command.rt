@@ -1,9 +1,12 @@
-ghost use Rattle.std.specs.Prelude.{◌≡◌, ◌<◌, ◌^◌, [], Some, IfOk, OnOk, IfErr, IfSome, IfNone, map, true, false};
+ghost use Rattle.std.specs.Prelude.{◌≡◌, ◌≢◌, ◌⊎◌, ◌<◌, ◌^◌, [], Some, IfOk, OnOk, IfErr, OnErr, IfSome, IfNone, map, true, false};
 ghost use Rattle.std.specs.Option.{SomeIff};
 ghost use Rattle.std.specs.Str.Parse.{IsNumeral, digits_value};
 ghost use Rattle.clap.specs.declared.builder.texts.Texts.TheVariants.{One};
 ghost use Rattle.clap.specs.Words.{app_of, rule_of, kind_of, fault_of, subcommand_rows_of};
-ghost use Rattle.fleet.specs.CommandLine.{fleet_app, given, given_rows, long_option, option_rows, IsGiven};
+ghost use Rattle.clap.specs.declared.builder.command.Command.TheViews.{out-Command as fields_of};
+ghost use Rattle.fleet.specs.CommandLine.{fleet_app, one_app, given, given_rows, long_option, option_rows, IsGiven, Writes};
+ghost use Rattle.lw_stamp.specs.Moment.{ms_of};
+ghost use Rattle.lw_stamp.specs.declared.moment.Moment.{Moment as Moments};
 ghost use Rattle.fleet.specs.declared.command.OneOptions.{OneOptions as Options};
 
 use clap::error::ErrorKind;
@@ -23,6 +26,27 @@ pub struct OneOptions<'a> {
     pub from: &'a str,
 }
 
+/// What `--version` prints behind the name of the program.
+const VERSION: &str = "0.1.0";
+
+/// An option whose text is no number that it takes.
+#[derive(Clone, Copy)]
+enum BadNumber {
+    Node,
+    Now,
+}
+
+impl BadNumber {
+    fn message(self) -> &'static str {
+        match self {
+            BadNumber::Node => "'--node <N>' takes a number from 0 to 65535, in digits alone",
+            BadNumber::Now => {
+                "'--now <MS>' takes a number from 0 to 281474976710655, in digits alone"
+            }
+        }
+    }
+}
+
 /// Reads the words of the command line, the program's name first. No word behind it means `one`.
 pub fn read_options<'a, S: AsStr>(alloc: Global, words: &'a [S]) -> Result<OneOptions<'a>, Error>
     ensures given { IfOk result (IsGiven (given_rows (map S.text words.entry.now))) }
@@ -34,28 +58,60 @@ pub fn read_options<'a, S: AsStr>(alloc: Global, words: &'a [S]) -> Result<OneOp
     let mut command = fleet_command(alloc)?;
     let matches = command.try_get_matches_from_mut(words)?;
     match options_in(&matches) {
-        Some(options) => Ok(options),
-        None => Err(command.error(ErrorKind::ValueValidation, BAD_NUMBER)?),
+        Ok(options) => Ok(options),
+        Err(bad) => Err(number_refused(alloc, bad)?),
     }
 }
 
-const BAD_NUMBER: &str =
-    "--node takes a number from 0 to 65535 and --now one from 0 to 281474976710655, in digits alone";
+/// The status of a program that only prints such an error: 2 for a refused command line, and 0 for help and
+/// the version.
+pub fn status(error: &Error) -> u8
+    ensures shown { (kind_of error.now ≡ ErrorKind.DisplayHelp) ⊎ (kind_of error.now ≡ ErrorKind.DisplayVersion) → result ≡ 0 }
+    ensures refused { kind_of error.now ≢ ErrorKind.DisplayHelp → kind_of error.now ≢ ErrorKind.DisplayVersion → result ≡ 2 }
+{
+    if error.use_stderr() { 2 } else { 0 }
+}
+
+fn number_refused(alloc: Global, bad: BadNumber) -> Result<Error, AllocError> {
+    let mut command = one_command(alloc)?.bin_name("fleet one")?;
+    command.error(ErrorKind::ValueValidation, bad.message())
+}
 
 fn fleet_command<'a>(alloc: Global) -> Result<Command<'a>, AllocError>
     ensures { IfOk result (λ command. app_of command ≡ fleet_app) }
 {
-    let one = Command::new(alloc, "one")
-        .about("Takes one datagram, a line of hex on standard input, and prints the reply")
-        .arg(option(alloc, "node", "N", "The number of the node [default: 1]"))?
-        .arg(option(alloc, "now", "MS", "The moment [default: 0]"))?
+    Command::new(alloc, "fleet")
+        .version(VERSION)
+        .about("The registration store behind LwM2M servers; without a command, `fleet one`")
+        .subcommand(one_command(alloc)?)
+}
+
+fn one_command<'a>(alloc: Global) -> Result<Command<'a>, AllocError>
+    ensures app { IfOk result (λ command. app_of command ≡ one_app) }
+    ensures local { IfOk result (λ command. (fields_of command).has_globals ≡ false) }
+{
+    Command::new(alloc, "one")
+        .about(
+            "Takes one datagram, a line of hex on standard input, and prints the reply and the registration",
+        )
+        .arg(option(
+            alloc,
+            "node",
+            "N",
+            "Number of the node, 0 to 65535 [default: 1]",
+        ))?
+        .arg(option(
+            alloc,
+            "now",
+            "MS",
+            "Moment in milliseconds, 0 to 281474976710655 [default: 0]",
+        ))?
         .arg(option(
             alloc,
             "from",
             "ADDR",
-            "The client [default: 127.0.0.1:5683]",
-        ))?;
-    Command::new(alloc, "fleet").subcommand(one)
+            "Address and port of the client, IPv4 or [IPv6] [default: 127.0.0.1:5683]",
+        ))
 }
 
 fn option<'a>(alloc: Global, name: &'a str, value: &'a str, help: &'a str) -> Arg<'a>
@@ -70,16 +126,19 @@ fn option<'a>(alloc: Global, name: &'a str, value: &'a str, help: &'a str) -> Ar
         .help(help)
 }
 
-/// There are none where a number is out of its range, or not written in digits alone.
-fn options_in<'a>(matches: &ArgMatches<'a>) -> Option<OneOptions<'a>>
-    ensures some { IfSome result (IsGiven (option_rows (subcommand_rows_of matches.now))) }
-    ensures none { IfNone result ((o : Options) → ¬ IsGiven (option_rows (subcommand_rows_of matches.now)) o) }
+fn options_in<'a>(matches: &ArgMatches<'a>) -> Result<OneOptions<'a>, BadNumber>
+    ensures given { IfOk result (IsGiven (option_rows (subcommand_rows_of matches.now))) }
+    ensures none { OnErr result ((o : Options) → ¬ IsGiven (option_rows (subcommand_rows_of matches.now)) o) }
 {
-    let node = number(text_of(matches, "node", "1"))?;
-    let now = number(text_of(matches, "now", "0"))?;
-    Some(OneOptions {
-        node: u16::try_from(node).ok()?,
-        now: Moment::new(now)?,
+    let Some(node) = node_number(text_of(matches, "node", "1")) else {
+        return Err(BadNumber::Node);
+    };
+    let Some(now) = moment(text_of(matches, "now", "0")) else {
+        return Err(BadNumber::Now);
+    };
+    Ok(OneOptions {
+        node,
+        now,
         from: text_of(matches, "from", "127.0.0.1:5683"),
     })
 }
@@ -91,6 +150,19 @@ fn text_of<'a>(matches: &ArgMatches<'a>, option: &str, default: &'a str) -> &'a 
         Some((_, one)) => one.get_str(option).unwrap_or(default),
         None => default,
     }
+}
+
+fn node_number(text: &str) -> Option<u16>
+    ensures { SomeIff result (IsNumeral 10 text.now × (digits_value 10 text.now < 2 ^ 16)) (digits_value 10 text.now) }
+{
+    u16::try_from(number(text)?).ok()
+}
+
+fn moment(text: &str) -> Option<Moment>
+    ensures some { IfSome result (λ moment. Writes text.now (ms_of moment)) }
+    ensures none { IfNone result ((moment : Moments) → ¬ Writes text.now (ms_of moment)) }
+{
+    Moment::new(number(text)?)
 }
 
 /// The number that the digits write, if there are only digits and it fits.

@@ -1,23 +1,23 @@
 ghost use Rattle.std.specs.Prelude.{◌≡◌, ◌≢◌, ◌<◌, ◌≤◌, ◌+◌, ◌↔◌, ◌++◌, ◌⊎◌, ◌==◌, length, take, position, vec_len, IfOk, IfErr, IfSome, OnOk, OnErr, IsErrOf};
 ghost use Rattle.std.specs.Io.{ReadsAtMost};
 ghost use Rattle.std.specs.Io.KnownBytes.{Consumes, IsAtEnd, Keeps};
-ghost use Rattle.fleet.specs.Line.{line_of};
+ghost use Rattle.fleet.specs.Line.{line_of, longest_line};
 
 use crate::fault::OneFault;
 use std::alloc::Global;
 use std::io::{ErrorKind, Read};
 
 /// How many bytes a line may have, its line feed not counted.
-pub const LONGEST_LINE: usize = 1_048_576;
+const LONGEST_LINE: usize = 1_048_576;
 
 const CHUNK: usize = 4096;
 
 /// Reads the first line, without its line feed. What stands behind it may be read too.
 pub fn read_line<R: Read>(alloc: Global, reader: &mut R) -> Result<Vec<u8>, OneFault>
     ensures line { IfOk result (λ line. IfSome (R.remaining reader.old) (λ bytes. line.items ≡ line_of bytes)) }
-    ensures fits { IfOk result (λ line. vec_len line ≤ LONGEST_LINE) }
+    ensures fits { IfOk result (λ line. vec_len line ≤ longest_line) }
     ensures too_long { result ≡ Err OneFault.TooLong
-        → IfSome (R.remaining reader.old) (λ bytes. LONGEST_LINE < length (line_of bytes)) }
+        → IfSome (R.remaining reader.old) (λ bytes. longest_line < length (line_of bytes)) }
     ensures faults { IfErr result (λ e. (e ≡ OneFault.ReadFailed) ⊎ (e ≡ OneFault.TooLong) ⊎ (e ≡ OneFault.NoMemory)) }
 {
     let mut line = Vec::new(alloc);

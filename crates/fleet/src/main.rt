@@ -16,9 +16,6 @@ use std::{env, io};
 #[cfg(test)]
 mod tests;
 
-/// What a refused command line ends with.
-const REFUSED: u8 = 2;
-
 fn words(rt: &HostRuntime) -> io::Result<Vec<String>> {
     let mut words = Vec::new(rt.alloc());
     for word in env::args(rt)? {
@@ -27,20 +24,14 @@ fn words(rt: &HostRuntime) -> io::Result<Vec<String>> {
     Ok(words)
 }
 
-fn refused(rt: &HostRuntime, error: &clap::Error) -> io::Result<ExitCode> {
-    error.print(rt)?;
-    Ok(if error.use_stderr() {
-        ExitCode::from(REFUSED)
-    } else {
-        ExitCode::SUCCESS
-    })
-}
-
 fn main(rt: HostRuntime) -> io::Result<ExitCode> {
     let words = words(&rt)?;
     let options = match command::read_options(rt.alloc(), &words) {
         Ok(options) => options,
-        Err(error) => return refused(&rt, &error),
+        Err(error) => {
+            error.print(&rt)?;
+            return Ok(ExitCode::from(command::status(&error)));
+        }
     };
     match one::one(rt.alloc(), &options, &mut rt.reader(), &mut io::writer(&rt)) {
         Ok(()) => Ok(ExitCode::SUCCESS),

@@ -2,14 +2,14 @@ ghost use Rattle.std.specs.Prelude.{◌≡◌, ◌≢◌, ◌↔◌, ◌++◌, �
 ghost use Rattle.std.specs.Io.KnownBytes.{Appends, Keeps};
 ghost use Rattle.hex.specs.Hex.{decode_of};
 ghost use Rattle.lw_stamp.specs.Moment.{ms_of};
-ghost use Rattle.fleet.specs.Line.{line_of};
+ghost use Rattle.fleet.specs.Line.{line_of, longest_line};
 ghost use Rattle.fleet.specs.One.{IsAddressText, IsAnswered, IsPrinted};
 
 use crate::answer::answer;
 use crate::command::OneOptions;
 use crate::fault::OneFault;
 use crate::hex_line::bytes_of_hex;
-use crate::line::{LONGEST_LINE, read_line};
+use crate::line::read_line;
 use crate::output::write_text;
 use lw_node::{Node, Taken};
 use lw_reg::Addr;
@@ -35,10 +35,11 @@ pub fn one<R: Read, W: Write>(
     ensures nothing { IfErr result (λ e. e ≢ OneFault.WriteFailed → Keeps (W.contents writer.old) (W.contents writer.new)) }
 
     ensures address_refused { (result ≡ Err OneFault.AddressRefused) ↔ (¬ IsAddressText options.entry.now.from.now) }
+    ensures unread { result ≡ Err OneFault.AddressRefused → reader.new ≡ reader.old }
     ensures hex_refused { result ≡ Err OneFault.HexRefused
         → IfSome (R.remaining reader.old) (λ bytes. IsErr (decode_of (line_of bytes))) }
     ensures too_long { result ≡ Err OneFault.TooLong
-        → IfSome (R.remaining reader.old) (λ bytes. LONGEST_LINE < length (line_of bytes)) }
+        → IfSome (R.remaining reader.old) (λ bytes. longest_line < length (line_of bytes)) }
 {
     let Some(source) = Addr::read(options.from) else {
         return Err(OneFault::AddressRefused);

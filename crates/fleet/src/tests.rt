@@ -1,16 +1,21 @@
 use crate::answer::answer;
-use crate::command::{OneOptions, read_options};
+use crate::command::OneOptions;
 use crate::fault::OneFault;
 use crate::hex_line::bytes_of_hex;
 use crate::json::shown_text;
-use crate::line::{LONGEST_LINE, read_line};
+use crate::line::read_line;
 use crate::one::one;
 use crate::output::write_text;
 use lw_node::LinkText;
 use lw_reg::{Addr, Binding, Version, View};
 use lw_stamp::{Moment, Stamp};
+use std::alloc::Global;
+use std::fmt::Write as _;
 use std::io::{self, ErrorKind, Read, Write};
+use std::str;
 use std::test::Fail;
+
+mod command_line;
 
 /// Gives its bytes a few at a time, and then ends or fails. Every other read is interrupted.
 #[derive(Drop)]
@@ -49,13 +54,29 @@ impl Read for FewBytes<'_> {
     }
 }
 
-/// Takes a few bytes at a time while there is room, and then takes none or fails.
+/// Takes a few bytes at a time while there is room, and then takes none or fails. What it holds is handed on
+/// by a flush, which may fail.
 #[derive(Drop)]
 struct FewWrites {
     taken: Vec<u8>,
     most: usize,
     room: usize,
     fails: bool,
+    flush_fails: bool,
+    flushed: usize,
+}
+
+impl FewWrites {
+    fn new(alloc: Global, most: usize, room: usize, fails: bool) -> FewWrites {
+        FewWrites {
+            taken: Vec::new(alloc),
+            most,
+            room,
+            fails,
+            flush_fails: false,
+            flushed: 0,
+        }
+    }
 }
 
 impl Write for FewWrites {
@@ -70,6 +91,10 @@ impl Write for FewWrites {
     }
 
     fn flush(&mut self) -> io::Result<()> {
+        if self.flush_fails {
+            return Err(io::Error::from(ErrorKind::Other));
+        }
+        self.flushed = self.taken.len();
         Ok(())
     }
 }
@@ -89,11 +114,6 @@ fn lines_end_at_the_first_line_feed(rt: HostRuntime) -> Result<(), Fail> {
             assert_eq!(rt; read_line(rt.alloc(), &mut reader)?.as_slice(), line);
         }
     }
-    let mut reader: &[u8] = b"4000\n50\n";
-    assert_eq!(rt;
-        read_line(rt.alloc(), &mut reader)?.as_slice(),
-        b"4000".as_slice()
-    );
     Ok(())
 }
 
@@ -107,41 +127,51 @@ fn a_read_may_fail_behind_the_line_alone(rt: HostRuntime) -> Result<(), Fail> {
     Ok(())
 }
 
-#[test]
-fn the_longest_line(rt: HostRuntime) -> Result<(), Fail> {
-    let mut input = vec![in rt.alloc(); b'a'; 1_048_576]?;
-    let mut reader = input.as_slice();
-    assert_eq!(rt; read_line(rt.alloc(), &mut reader)?.len(), LONGEST_LINE);
-    input.push(b'\n')?;
-    let mut reader = input.as_slice();
-    assert_eq!(rt; read_line(rt.alloc(), &mut reader)?.len(), LONGEST_LINE);
-    let input = vec![in rt.alloc(); b'a'; 1_048_577]?;
-    let mut reader = input.as_slice();
-    let read = read_line(rt.alloc(), &mut reader).map(|line| line.len());
-    assert_eq!(rt; read, Err(OneFault::TooLong));
-    Ok(())
+/// How many bytes are read of a line of so many, and of one with a line feed behind it.
+fn lengths_read(alloc: Global, length: usize) -> Result<(usize, usize), OneFault> {
+    let mut input = vec![in alloc; b'a'; length].map_err(|_| OneFault::NoMemory)?;
+    let open = read_line(alloc, &mut input.as_slice())?.len();
+    input.push(b'\n').map_err(|_| OneFault::NoMemory)?;
+    let ended = read_line(alloc, &mut input.as_slice())?.len();
+    Ok((open, ended))
 }
 
 #[test]
-fn writes_go_on_until_one_takes_nothing(rt: HostRuntime) -> Result<(), Fail> {
+fn lines_up_to_the_longest(rt: HostRuntime) {
+    for length in [0, 1, 4095, 4096, 4097, 8192, 100_000, 1_048_575, 1_048_576] {
+        assert_eq!(rt; lengths_read(rt.alloc(), length), Ok((length, length)));
+    }
+    assert_eq!(rt; lengths_read(rt.alloc(), 1_048_577), Err(OneFault::TooLong));
+}
+
+#[test]
+fn writes_go_on_until_one_takes_nothing(rt: HostRuntime) {
     for (room, fails, result) in [
         (6, false, Ok(())),
         (3, false, Err(OneFault::WriteFailed)),
         (3, true, Err(OneFault::WriteFailed)),
     ] {
         for most in [1, 2, 99] {
-            let mut writer = FewWrites {
-                taken: Vec::new(rt.alloc()),
-                most,
-                room,
-                fails,
-            };
+            let mut writer = FewWrites::new(rt.alloc(), most, room, fails);
             assert_eq!(rt; write_text(&mut writer, b"fleet\n"), result);
             assert_eq!(rt; writer.taken.len(), room);
             assert!(rt; b"fleet\n".starts_with(writer.taken.as_slice()));
         }
     }
-    Ok(())
+}
+
+#[test]
+fn a_written_text_is_flushed(rt: HostRuntime) {
+    for (flush_fails, result, flushed) in [
+        (false, Ok(()), 6),
+        (true, Err(OneFault::WriteFailed), 0),
+    ] {
+        let mut writer = FewWrites::new(rt.alloc(), 4, 99, false);
+        writer.flush_fails = flush_fails;
+        assert_eq!(rt; write_text(&mut writer, b"fleet\n"), result);
+        assert_eq!(rt; writer.flushed, flushed);
+        assert_eq!(rt; writer.taken.as_slice(), b"fleet\n".as_slice());
+    }
 }
 
 #[test]
@@ -151,6 +181,10 @@ fn hex_lines(rt: HostRuntime) -> Result<(), Fail> {
         bytes_of_hex(rt.alloc(), b"00fFA9")?.as_slice(),
         [0, 255, 169].as_slice()
     );
+    let longest = vec![in rt.alloc(); b'a'; 1_048_576]?;
+    let bytes = bytes_of_hex(rt.alloc(), &longest)?;
+    assert_eq!(rt; bytes.len(), 524_288);
+    assert!(rt; bytes.iter().all(|byte| *byte == 0xaa));
     let refused: [&[u8]; 4] = [b"0", b"00\r", b"0 0 ", b"0g"];
     for line in refused {
         let bytes = bytes_of_hex(rt.alloc(), line).map(|bytes| bytes.len());
@@ -180,40 +214,83 @@ fn registration<'a>(endpoint: &'a str, objects: &'a LinkText) -> View<'a> {
     }
 }
 
+/// A registration with other values in all but its identifier.
+fn other_registration<'a>(endpoint: &'a str, objects: &'a LinkText) -> View<'a> {
+    let mut view = registration(endpoint, objects);
+    view.address = Addr::V6 {
+        address: [0x20, 1, 0x0d, 0xb8, 0, 0, 0, 0, 0, 0, 0, 0, 0, 0, 0, 1],
+        port: 65535,
+    };
+    view.seen = Moment::new(Moment::LAST_MS).unwrap_or(Moment::START);
+    view.lifetime = 4_294_967_295;
+    view.version = Version::V10;
+    view.queue = true;
+    view.sms = Some("+49");
+    view
+}
+
 #[test]
-fn registrations_as_json(rt: HostRuntime) -> Result<(), Fail> {
+fn a_registration_as_json(rt: HostRuntime) -> Result<(), Fail> {
     let objects = LinkText::read(rt.alloc(), b"</3/0>;ct=\"1\\\"\"")?;
     let text = shown_text(rt.alloc(), &registration("a", &objects))?;
     assert_eq!(rt;
         text.as_str(),
-        "{\"address\":\"127.0.0.1:5683\",\"binding\":\"U\",\"endpoint\":\"a\",\"id\":\"0000000000010001\",\"lifetime\":60,\"lwm2m\":\"1.1\",\"objects\":\"</3/0>;ct=\\\"1\\\\\\\"\\\"\",\"queue\":false,\"seen\":0,\"sms\":null}"
-    );
-    let mut other = registration("a\"b\n", &objects);
-    other.version = Version::V10;
-    other.queue = true;
-    other.sms = Some("+49");
-    let text = shown_text(rt.alloc(), &other)?;
-    assert_eq!(rt;
-        text.as_str(),
-        "{\"address\":\"127.0.0.1:5683\",\"binding\":\"U\",\"endpoint\":\"a\\\"b\\n\",\"id\":\"0000000000010001\",\"lifetime\":60,\"lwm2m\":\"1.0\",\"objects\":\"</3/0>;ct=\\\"1\\\\\\\"\\\"\",\"queue\":true,\"seen\":0,\"sms\":\"+49\"}"
+        r#"{"address":"127.0.0.1:5683","binding":"U","endpoint":"a","id":"0000000000010001","lifetime":60,"lwm2m":"1.1","objects":"</3/0>;ct=\"1\\\"\"","queue":false,"seen":0,"sms":null}"#
     );
     Ok(())
 }
 
 #[test]
+fn another_registration_as_json(rt: HostRuntime) -> Result<(), Fail> {
+    let objects = LinkText::read(rt.alloc(), b"</>")?;
+    let text = shown_text(rt.alloc(), &other_registration("a\"b\n", &objects))?;
+    assert_eq!(rt;
+        text.as_str(),
+        r#"{"address":"[2001:0db8:0000:0000:0000:0000:0000:0001]:65535","binding":"U","endpoint":"a\"b\n","id":"0000000000010001","lifetime":4294967295,"lwm2m":"1.0","objects":"</>","queue":true,"seen":281474976710655,"sms":"+49"}"#
+    );
+    Ok(())
+}
+
+/// A list of 256 links, of 7,909 bytes.
+fn long_list(alloc: Global) -> Result<LinkText, Fail> {
+    let mut list = String::from_str(alloc, "</0>")?;
+    list.push_str(r#",</65534/65534>;ver="1.0 \"x\"""#.repeat(alloc, 255)?.as_str())?;
+    let list = list.as_bytes().get(..7909).ok_or("the list")?;
+    Ok(LinkText::read(alloc, list)?)
+}
+
+#[test]
+fn the_longest_registration_as_json(rt: HostRuntime) -> Result<(), Fail> {
+    let objects = long_list(rt.alloc())?;
+    let (endpoint, sms) = ("e".repeat(rt.alloc(), 252)?, "1".repeat(rt.alloc(), 251)?);
+    let mut view = other_registration(endpoint.as_str(), &objects);
+    view.sms = Some(sms.as_str());
+    let text = shown_text(rt.alloc(), &view)?;
+    // a link but the first has 31 bytes, of which four quotes and two backslashes are escaped
+    assert_eq!(rt; text.len(), 207 + 252 + 251 + 4 + 255 * (31 + 6));
+    Ok(())
+}
+
+#[test]
 fn answers(rt: HostRuntime) -> Result<(), Fail> {
-    assert_eq!(rt;
-        answer(rt.alloc(), None, None)?.as_slice(),
-        b"-\n".as_slice()
-    );
     let reply: &[u8] = &[0x60, 0x80, 0, 0xab];
-    assert_eq!(rt;
-        answer(rt.alloc(), Some(reply), None)?.as_slice(),
-        b"608000ab\n".as_slice()
-    );
-    let objects = LinkText::read(rt.alloc(), b"</3/0>")?;
-    let text = answer(rt.alloc(), Some(&[]), Some(&registration("a", &objects)))?;
-    assert!(rt; text.starts_with(b"\n{\"address\":"));
+    for (reply, line) in [
+        (None, "-\n"),
+        (Some(reply), "608000ab\n"),
+        (Some(&[]), "\n"),
+    ] {
+        assert_eq!(rt;
+            answer(rt.alloc(), reply, None)?.as_slice(),
+            line.as_bytes()
+        );
+    }
+    let objects = long_list(rt.alloc())?;
+    let text = answer(
+        rt.alloc(),
+        Some(&[0; 8192]),
+        Some(&registration("a", &objects)),
+    )?;
+    assert_eq!(rt; text.iter().position(|byte| *byte == b'\n'), Some(16_384));
     assert!(rt; text.ends_with(b"\"sms\":null}\n"));
     Ok(())
 }
@@ -233,64 +310,6 @@ fn fault_lines(rt: HostRuntime) -> Result<(), Fail> {
     Ok(())
 }
 
-#[test]
-fn options(rt: HostRuntime) -> Result<(), Fail> {
-    let words: [&[&str]; 5] = [
-        &["fleet"],
-        &["fleet", "one"],
-        &[
-            "fleet",
-            "one",
-            "--node",
-            "65535",
-            "--now=281474976710655",
-            "--from",
-            "x",
-        ],
-        &["fleet", "one", "--node=007"],
-        &["fleet", "one", "--from="],
-    ];
-    let options = [
-        (1, 0, "127.0.0.1:5683"),
-        (1, 0, "127.0.0.1:5683"),
-        (65535, 281474976710655, "x"),
-        (7, 0, "127.0.0.1:5683"),
-        (1, 0, ""),
-    ];
-    for (words, (node, now, from)) in words.into_iter().zip(options) {
-        let read = read_options(rt.alloc(), words)?;
-        assert_eq!(rt; read.node, node);
-        assert_eq!(rt; read.now.ms(), now);
-        assert!(rt; read.from == from);
-    }
-    Ok(())
-}
-
-#[test]
-fn refused_options(rt: HostRuntime) {
-    let refused: [&[&str]; 13] = [
-        &["fleet", "--node", "1"],
-        &["fleet", "two"],
-        &["fleet", "one", "two"],
-        &["fleet", "one", "--node"],
-        &["fleet", "one", "--node", "65536"],
-        &["fleet", "one", "--node", "+1"],
-        &["fleet", "one", "--node=-1"],
-        &["fleet", "one", "--node", ""],
-        &["fleet", "one", "--now", "281474976710656"],
-        &["fleet", "one", "--now", "1 "],
-        &["fleet", "one", "--node", "1", "--node", "1"],
-        &["fleet", "one", "--from", "a", "--from=a"],
-        &["fleet", "one", "--port", "1"],
-    ];
-    for words in refused {
-        match read_options(rt.alloc(), words) {
-            Ok(_) => panic!(rt; "{words:?}"),
-            Err(error) => assert_eq!(rt; error.exit_code(), 2, "{words:?}"),
-        }
-    }
-}
-
 /// A Register of `a` and what a new node answers to it.
 const REGISTER: &[u8] =
     b"4402000101020304b2726411283465703d61056c743d3630096c776d326d3d312e31ff3c2f332f303e\n";
@@ -305,27 +324,72 @@ const OPTIONS: OneOptions<'static> = OneOptions {
     from: "127.0.0.1:5683",
 };
 
+/// What is printed for an input, and behind it the fault, if any.
+fn told(alloc: Global, input: &[u8]) -> Result<String, Fail> {
+    let mut reader = FewBytes::new(input, 7, false);
+    let mut writer = Vec::new(alloc);
+    let result = one(alloc, &OPTIONS, &mut reader, &mut writer);
+    let mut text = String::from_str(alloc, str::from_utf8(&writer)?)?;
+    if let Err(fault) = result {
+        write!(text, "{fault}")?;
+    }
+    Ok(text)
+}
+
 #[test]
 fn a_line_is_answered(rt: HostRuntime) -> Result<(), Fail> {
     let upper =
         b"4402000101020304B2726411283465703D61056C743D3630096C776D326D3D312E31FF3C2F332F303E";
-    let rows: [(&[u8], Result<(), OneFault>, &str); 9] = [
-        (REGISTER, Ok(()), ANSWER),
-        (upper, Ok(()), ANSWER),
-        (b"40000007", Ok(()), "70000007\n"),
-        (b"40010001\n", Ok(()), "60800001\n"),
-        (b"", Ok(()), "-\n"),
-        (b"\n40000007", Ok(()), "-\n"),
-        (b"4000000", Err(OneFault::HexRefused), ""),
-        (b"40000007\r\n", Err(OneFault::HexRefused), ""),
-        (b"40 000007\n", Err(OneFault::HexRefused), ""),
+    let rows: [(&[u8], &str); 9] = [
+        (REGISTER, ANSWER),
+        (upper, ANSWER),
+        (b"40000007", "70000007\n"),
+        (b"40010001\n", "60800001\n"),
+        (b"", "-\n"),
+        (b"\n40000007", "-\n"),
+        (b"4000000", "hex refused"),
+        (b"40000007\r\n", "hex refused"),
+        (b"40 000007\n", "hex refused"),
     ];
-    for (input, result, output) in rows {
-        let mut reader = FewBytes::new(input, 7, false);
-        let mut writer = Vec::new(rt.alloc());
-        assert_eq!(rt; one(rt.alloc(), &OPTIONS, &mut reader, &mut writer), result);
-        assert_eq!(rt; writer.as_slice(), output.as_bytes());
+    for (input, text) in rows {
+        assert_eq!(rt; told(rt.alloc(), input)?.as_str(), text);
     }
+    Ok(())
+}
+
+#[test]
+fn the_longest_line_is_answered(rt: HostRuntime) -> Result<(), Fail> {
+    let mut input = vec![in rt.alloc(); b'a'; 1_048_576]?;
+    assert_eq!(rt; told(rt.alloc(), &input)?.as_str(), "-\n");
+    input.push(b'a')?;
+    assert_eq!(rt; told(rt.alloc(), &input)?.as_str(), "script too long");
+    Ok(())
+}
+
+/// A Register of `a` of 8,192 bytes: a payload of one link, `</` and a number of `1` and `>`.
+fn longest_register(alloc: Global, ones: usize) -> Result<Vec<u8>, Fail> {
+    let mut line = b"40020004b272644465703d61ff3c2f".to_vec(alloc)?;
+    for _one in 0..ones {
+        line.extend_from_slice(b"31")?;
+    }
+    line.extend_from_slice(b"3e\n")?;
+    Ok(line)
+}
+
+#[test]
+fn the_longest_register_is_answered(rt: HostRuntime) -> Result<(), Fail> {
+    let line = longest_register(rt.alloc(), 8_176)?;
+    assert_eq!(rt; line.len(), 2 * 8_192 + 1);
+    let text = told(rt.alloc(), &line)?;
+    let ones = "1".repeat(rt.alloc(), 8_176)?;
+    let want = format!(in rt.alloc();
+        r#"604100048272640d0330303030303030303030303130303031
+{{"address":"127.0.0.1:5683","binding":"U","endpoint":"a","id":"0000000000010001","lifetime":86400,"lwm2m":"1.0","objects":"</{ones}>","queue":false,"seen":0,"sms":null}}
+"#
+    )?;
+    assert!(rt; text.as_str() == want.as_str());
+    let line = longest_register(rt.alloc(), 8_177)?;
+    assert_eq!(rt; told(rt.alloc(), &line)?.as_str(), "70000004\n");
     Ok(())
 }
 
@@ -343,28 +407,30 @@ fn a_refused_address_reads_nothing(rt: HostRuntime) {
 }
 
 #[test]
-fn a_device_that_fails_is_told(rt: HostRuntime) -> Result<(), Fail> {
+fn a_reader_that_fails_is_told(rt: HostRuntime) {
     let mut reader = FewBytes::new(&REGISTER[..20], 3, true);
     let mut writer = Vec::new(rt.alloc());
     let result = one(rt.alloc(), &OPTIONS, &mut reader, &mut writer);
     assert_eq!(rt; result, Err(OneFault::ReadFailed));
     assert_eq!(rt; writer.len(), 0);
-    for (most, room, fails, result) in [
-        (1, 9999, false, Ok(())),
-        (1, 70, true, Err(OneFault::WriteFailed)),
-        (50, 70, false, Err(OneFault::WriteFailed)),
-        (50, 0, false, Err(OneFault::WriteFailed)),
+}
+
+#[test]
+fn a_writer_that_fails_is_told(rt: HostRuntime) {
+    for (most, room, fails, flush_fails, result) in [
+        (1, 9999, false, false, Ok(())),
+        (1, 70, true, false, Err(OneFault::WriteFailed)),
+        (50, 70, false, false, Err(OneFault::WriteFailed)),
+        (50, 0, false, false, Err(OneFault::WriteFailed)),
+        (50, 9999, false, true, Err(OneFault::WriteFailed)),
     ] {
-        let mut reader = REGISTER;
-        let mut writer = FewWrites {
-            taken: Vec::new(rt.alloc()),
-            most,
-            room,
-            fails,
-        };
-        assert_eq!(rt; one(rt.alloc(), &OPTIONS, &mut reader, &mut writer), result);
+        let mut writer = FewWrites::new(rt.alloc(), most, room, fails);
+        writer.flush_fails = flush_fails;
+        assert_eq!(rt;
+            one(rt.alloc(), &OPTIONS, &mut &*REGISTER, &mut writer),
+            result
+        );
         assert_eq!(rt; writer.taken.len(), room.min(ANSWER.len()));
         assert!(rt; ANSWER.as_bytes().starts_with(writer.taken.as_slice()));
     }
-    Ok(())
 }

@@ -8,6 +8,7 @@ use Rattle.lw_coap.specs.Number.{number_of}
 use Rattle.lw_link.specs.Link.{LinkContent}
 use Rattle.lw_link.specs.Spelling.{Spells}
 use Rattle.lw_link.specs.Printing.{printing}
+use Rattle.lw_reg.specs.Endpoint.{IsEndpoint}
 use Rattle.lw_reg.specs.declared.version.Version.{Version}
 use Rattle.lw_reg.specs.declared.version.Version.TheVariants.{V10}
 use Rattle.lw_reg.specs.Version.{version_text}
@@ -76,7 +77,7 @@ pub record IsAsked (message : MessageContent) (asked : AskedContent) : Type 0 wh
   pub format : IsLinkFormat (values_of 12 message.options)
   pub queries : AllByRecursion IsUtf8 (values_of 15 message.options)
   pub endpoint : last_value (codes "ep") (values_of 15 message.options) ≡ Some asked.endpoint
-  pub named : 1 ≤ length asked.endpoint
+  pub is_endpoint : IsEndpoint asked.endpoint
   pub lifetime : IsLifetime (last_value (codes "lt") (values_of 15 message.options)) asked.lifetime
   pub version : IsVersion (last_value (codes "lwm2m") (values_of 15 message.options)) asked.version
 

@@ -1,5 +1,6 @@
 ghost use Rattle.std.specs.Prelude.{◌≡◌, ◌≤◌, ℕ, List, [], IsOk, IfOk, OnErr, length};
 ghost use Rattle.lw_stamp.specs.Moment.{ms_of};
+ghost use Rattle.lw_reg.specs.Endpoint.{IsEndpoint};
 ghost use Rattle.lw_reg.specs.Marks.{Mark, among};
 ghost use Rattle.lw_reg.specs.Showing.{ShownOf};
 ghost use Rattle.lw_node.specs.Answers.{FirstAfter, after_text};
@@ -13,7 +14,7 @@ use crate::slots::Slots;
 use crate::taken::Taken;
 use lw_coap::{Fault, Kind, Message, codes, decode, peek_header};
 use lw_link::{LinkFault, LinkText};
-use lw_reg::{Addr, Binding, Op, Text, View, What};
+use lw_reg::{Addr, Binding, Endpoint, Op, Text, View, What};
 use lw_stamp::{Clock, Moment, NoMemory, Stamp};
 use std::alloc::Global;
 use std::marker::Model;
@@ -122,7 +123,8 @@ impl Node {
         asked: &Asked<'_>,
         objects: LinkText,
     ) -> Result<Taken, NoMemory>
-        requires { length request.now.token ≤ 8 }
+        requires token { length request.now.token ≤ 8 }
+        requires endpoint { IsEndpoint asked.now.endpoint }
         ensures meaning { IfOk result (λ t. TakesRegister self.old (ms_of now) from request.now asked.now objects t.reply self.new) }
         ensures unchanged { OnErr result (self.new ≡ self.old) }
     {
@@ -177,11 +179,15 @@ fn make(
     asked: &Asked<'_>,
     objects: LinkText,
 ) -> Result<Op, NoMemory>
+    requires { IsEndpoint asked.now.endpoint }
     ensures { IfOk result (λ made. IsMade asked.now objects stamp (ms_of now) from made) }
 {
+    let Some(endpoint) = Endpoint::new(Text::copy_of(alloc, asked.endpoint)?) else {
+        unreachable!()
+    };
     Ok(Op {
         stamp,
-        endpoint: Text::copy_of(alloc, asked.endpoint)?,
+        endpoint,
         reg: stamp,
         what: What::Register {
             version: asked.version,

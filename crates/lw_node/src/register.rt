@@ -6,7 +6,7 @@ ghost use Rattle.lw_node.specs.Register.{AskedContent, IsAsked, IsUnderstood, Is
 use lw_coap::codes::POST;
 use lw_coap::option_numbers::{CONTENT_FORMAT, URI_PATH, URI_QUERY};
 use lw_coap::{CoapOption, Message, uint};
-use lw_reg::Version;
+use lw_reg::{Endpoint, Version};
 use std::marker::Model;
 use std::str;
 
@@ -41,7 +41,7 @@ pub fn read_register(message: &Message) -> Option<Asked<'_>>
         return None;
     }
     let endpoint = last_value(options, "ep")?;
-    if endpoint.is_empty() {
+    if endpoint.is_empty() || endpoint.len() > Endpoint::MAX_LENGTH {
         return None;
     }
     let lifetime = lifetime_of(last_value(options, "lt"))?;

@@ -13,7 +13,7 @@ use lw_stamp::{NoMemory, Stamp};
 use std::alloc::Global;
 
 /// The bytes of a reply.
-pub fn taken(alloc: Global, reply: &Message) -> Result<Taken, NoMemory>
+fn taken(alloc: Global, reply: &Message) -> Result<Taken, NoMemory>
     requires { Fits reply.now }
     ensures { IfOk result (λ t. IsReply t.reply (Some reply.now)) }
 {

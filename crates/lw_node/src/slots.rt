@@ -10,9 +10,10 @@ ghost use Rattle.lw_node.specs.Answers.{FirstAfter, after_text};
 ghost use Rattle.lw_node.specs.Slots.{view_at, is_after, first_in};
 
 use lw_join::Join;
-use lw_reg::{Op, Slot, View, atom};
+use lw_reg::{Endpoint, Op, Slot, View, atom};
 use lw_stamp::{Moment, NoMemory};
 use std::alloc::Global;
+use std::cell::Cell;
 use std::collections::BTreeMap;
 use std::marker::Model;
 use std::ops::Bound;
@@ -22,6 +23,8 @@ use std::ops::Bound;
 pub struct Slots {
     alloc: Global,
     slots: BTreeMap<String, Slot>,
+    /// Made before the first slot is kept.
+    room: Room,
 }
 
 impl Model for Slots {
@@ -46,6 +49,7 @@ impl Slots {
         Slots {
             alloc,
             slots: BTreeMap::new(alloc),
+            room: Room::new(),
         }
     }
 
@@ -57,6 +61,7 @@ impl Slots {
         match self.slots.get_mut(operation.endpoint.as_str()) {
             Some(slot) => join_atom(self.alloc, slot, operation),
             None => {
+                self.room.make(self.alloc)?;
                 let endpoint = String::from_str(self.alloc, operation.endpoint.as_str())?;
                 self.slots.insert(endpoint, atom(self.alloc, operation)?)?;
                 Ok(())
@@ -72,12 +77,12 @@ impl Slots {
         slot.view(endpoint.as_str(), now)
     }
 
-    /// What is shown of the least endpoint above the given one, or of the least of all. A descent of the tree
-    /// where the given endpoint is known, and otherwise a walk from the first.
+    /// What is shown of the least endpoint above the given one, or of the least of all: one descent of the tree,
+    /// and no memory. Above a text that is longer than any endpoint it is a walk from the first.
     pub fn first_shown(&self, now: Moment, after: Option<&str>) -> Option<View<'_>>
         ensures { (ms : List Mark) → NamesAll (among ms) → IsStateOf ms self.now → FirstAfter (among ms) (ms_of now) (after_text after.entry) result }
     {
-        first_of(&self.slots, now, after)
+        first_of(&self.slots, &self.room, now, after)
     }
 }
 
@@ -88,35 +93,87 @@ fn join_atom(alloc: Global, slot: &mut Slot, operation: Op) -> Result<(), NoMemo
     slot.join_with(atom(alloc, operation)?)
 }
 
+/// Room for the text that a look-up goes on from, so that it takes no memory: as long as an endpoint, once it was
+/// made.
+#[derive(Drop)]
+struct Room {
+    text: Cell<Option<String>>,
+}
+
+impl Room {
+    fn new() -> Room {
+        Room {
+            text: Cell::new(None),
+        }
+    }
+
+    /// Makes the room, if it is not there yet.
+    fn make(&self, alloc: Global) -> Result<(), NoMemory> {
+        let made = match self.text.take() {
+            Some(made) => made,
+            None => String::with_capacity(alloc, Endpoint::MAX_LENGTH)?,
+        };
+        self.text.set(Some(made));
+        Ok(())
+    }
+
+    /// The text, in the room that is there. There is none for a text longer than an endpoint, or before the room was made.
+    fn fill(&self, text: &str) -> Option<String>
+        ensures { IfSome result (λ copy. string_bytes copy ≡ text.now) }
+    {
+        if text.len() > Endpoint::MAX_LENGTH {
+            return None;
+        }
+        let mut copy = self.text.take()?;
+        copy.clear();
+        copy.push_str(text).ok()?;
+        Some(copy)
+    }
+
+    /// Takes the room of a text back.
+    fn give_back(&self, text: String) {
+        self.text.set(Some(text));
+    }
+}
+
 fn first_of<'a>(
     slots: &'a BTreeMap<String, Slot>,
+    room: &Room,
     now: Moment,
     after: Option<&str>,
 ) -> Option<View<'a>>
     ensures { result ≡ first_in (ms_of now) (after_text after.entry) slots.now.entries }
 {
-    match known_key(slots, after) {
-        Some(known) => first_above(slots, now, known),
-        None => first_from_start(slots, now, after),
+    match after {
+        Some(after) => first_after(slots, room, now, after),
+        None => first_from_start(slots, now, None),
     }
 }
 
-/// The endpoint as the map keeps it.
-fn known_key<'a>(slots: &'a BTreeMap<String, Slot>, after: Option<&str>) -> Option<&'a String>
-    ensures { IfSome result (λ known. after_text after.entry ≡ Some (string_bytes known.now)) }
+fn first_after<'a>(
+    slots: &'a BTreeMap<String, Slot>,
+    room: &Room,
+    now: Moment,
+    after: &str,
+) -> Option<View<'a>>
+    ensures { result ≡ first_in (ms_of now) (Some after.now) slots.now.entries }
 {
-    let (known, _) = slots.get_key_value(after?)?;
-    Some(known)
+    let Some(bound) = room.fill(after) else {
+        return first_from_start(slots, now, Some(after));
+    };
+    let found = first_above(slots, now, &bound);
+    room.give_back(bound);
+    found
 }
 
 fn first_above<'a>(
     slots: &'a BTreeMap<String, Slot>,
     now: Moment,
-    known: &String,
+    bound: &String,
 ) -> Option<View<'a>>
-    ensures { result ≡ first_in (ms_of now) (Some (string_bytes known.now)) slots.now.entries }
+    ensures { result ≡ first_in (ms_of now) (Some (string_bytes bound.now)) slots.now.entries }
 {
-    for (endpoint, slot) in slots.range((Bound::Excluded(known), Bound::Unbounded)) {
+    for (endpoint, slot) in slots.range((Bound::Excluded(bound), Bound::Unbounded)) {
         if let Some(view) = slot.view(endpoint.as_str(), now) {
             return Some(view);
         }

@@ -1,10 +1,14 @@
 use super::*;
 use lw_stamp::Moment;
 use std::alloc::Global;
+use std::str;
 use std::test::Fail;
 
 /// A Register of `a` with the object list `</>`, message ID 4.
 const REGISTER: &str = "40020004b272644465703d61ff3c2f3e";
+
+/// The reply to the first Register with message ID 4 at node 1.
+const CREATED: &str = "604100048272640d0330303030303030303030303130303031";
 
 const SOURCE: Addr = Addr::V4 {
     address: [127, 0, 0, 1],
@@ -15,16 +19,45 @@ fn at(ms: u64) -> Result<Moment, Fail> {
     Ok(Moment::new(ms).ok_or("a moment")?)
 }
 
-/// The reply to a datagram, both in hex; `-` for none.
-fn reply(alloc: Global, node: &mut Node, now: Moment, datagram: &str) -> Result<String, Fail> {
-    let bytes = hex::decode(alloc, datagram)?;
+/// The reply to some bytes, in hex; `-` for none.
+fn reply_to(alloc: Global, node: &mut Node, now: Moment, bytes: &[u8]) -> Result<String, Fail> {
     let taken = node
-        .take(now, SOURCE, &bytes)
+        .take(now, SOURCE, bytes)
         .map_err(|_| "the datagram is taken")?;
     match taken.reply {
         Some(reply) => Ok(hex::encode(alloc, &reply)?),
         None => Ok(String::from_str(alloc, "-")?),
     }
+}
+
+/// The reply to a datagram, both in hex; `-` for none.
+fn reply(alloc: Global, node: &mut Node, now: Moment, datagram: &str) -> Result<String, Fail> {
+    let bytes = hex::decode(alloc, datagram)?;
+    reply_to(alloc, node, now, &bytes)
+}
+
+/// What is shown, its endpoint first and its objects last; `-` for nothing.
+fn told(alloc: Global, view: Option<View<'_>>) -> Result<String, Fail> {
+    let Some(view) = view else {
+        return Ok(String::from_str(alloc, "-")?);
+    };
+    let id = hex::encode(alloc, view.id.to_bytes())?;
+    let address = view.address.print(alloc)?;
+    let (seen, lifetime, queue) = (view.seen.ms(), view.lifetime, view.queue);
+    let mut text = format!(in alloc;
+        "{} {id} {address} {seen} {lifetime} {queue}",
+        view.endpoint
+    )?;
+    for part in [
+        view.version.as_str(),
+        view.binding.as_str(),
+        view.sms.unwrap_or("no number"),
+        view.objects.as_str(),
+    ] {
+        text.push(' ')?;
+        text.push_str(part)?;
+    }
+    Ok(text)
 }
 
 #[test]
@@ -37,22 +70,11 @@ fn a_register_is_answered_and_shown(rt: HostRuntime) -> Result<(), Fail> {
         answer.as_str(),
         "64410001010203048272640d0330303030303030303030303130303031"
     );
-    let view = node
-        .by_endpoint(Moment::START, "a")
-        .ok_or("a registration is shown")?;
-    assert_eq!(rt; view.endpoint, "a");
+    let text = told(rt.alloc(), node.by_endpoint(Moment::START, "a"))?;
     assert_eq!(rt;
-        view.id.id_text().as_slice(),
-        b"0000000000010001".as_slice()
+        text.as_str(),
+        "a 0000000000010001 127.0.0.1:5683 0 60 false 1.1 U no number </3/0>"
     );
-    assert_eq!(rt; view.address, SOURCE);
-    assert_eq!(rt; view.seen.ms(), 0);
-    assert_eq!(rt; view.lifetime, 60);
-    assert_eq!(rt; view.version, Version::V11);
-    assert_eq!(rt; view.binding.as_str(), "U");
-    assert_eq!(rt; view.queue, false);
-    assert!(rt; view.sms.is_none());
-    assert_eq!(rt; view.objects.as_str(), "</3/0>");
     Ok(())
 }
 
@@ -62,20 +84,16 @@ fn a_bad_register_moves_no_clock(rt: HostRuntime) -> Result<(), Fail> {
     for (datagram, want) in [
         ("40020002b27264456c743d3630ff3c2f3e", "60800002"),
         ("40020003b272644365703dff3c2f3e", "60800003"),
-        (
-            REGISTER,
-            "604100048272640d0330303030303030303030303130303031",
-        ),
+        (REGISTER, CREATED),
     ] {
         let answer = reply(rt.alloc(), &mut node, Moment::START, datagram)?;
         assert_eq!(rt; answer.as_str(), want, "to {datagram}");
     }
-    let view = node
-        .by_endpoint(Moment::START, "a")
-        .ok_or("a registration is shown")?;
-    assert_eq!(rt; view.lifetime, 86400);
-    assert_eq!(rt; view.version, Version::V10);
-    assert_eq!(rt; view.binding.as_str(), "U");
+    let text = told(rt.alloc(), node.by_endpoint(Moment::START, "a"))?;
+    assert_eq!(rt;
+        text.as_str(),
+        "a 0000000000010001 127.0.0.1:5683 0 86400 false 1.0 U no number </>"
+    );
     Ok(())
 }
 
@@ -122,10 +140,31 @@ fn each_datagram_has_its_reply(rt: HostRuntime) -> Result<(), Fail> {
     Ok(())
 }
 
-/// A Register of `a` with these options and this payload, message ID 4, in hex.
-fn register_with(alloc: Global, options: &str, payload: &[u8]) -> Result<String, Fail> {
-    let payload = hex::encode(alloc, payload)?;
-    Ok(format!(in alloc; "40020004b272644465703d61{options}ff{payload}")?)
+/// A Register of the endpoint with this payload, message ID 4.
+fn register_of(alloc: Global, endpoint: &str, payload: &[u8]) -> Result<Vec<u8>, Fail> {
+    let mut datagram = b"\x40\x02\x00\x04\xb2rd".to_vec(alloc)?;
+    // the Uri-Query `ep=`: its length in a nibble up to 12, and in a byte of its own up to 268
+    match u8::try_from(endpoint.len() + 3)? {
+        length @ 0..=12 => datagram.push(0x40 + length)?,
+        length => datagram.extend_from_slice(&[0x4d, length - 13])?,
+    }
+    datagram.extend_from_slice(b"ep=")?;
+    datagram.extend_from_slice(endpoint.as_bytes())?;
+    datagram.push(0xff)?;
+    datagram.extend_from_slice(payload)?;
+    Ok(datagram)
+}
+
+/// The reply to a Register of `a` with this payload at a new node, and the object list that is then shown.
+fn answer_and_objects(alloc: Global, payload: &[u8]) -> Result<String, Fail> {
+    let mut node = Node::new(alloc, 1);
+    let datagram = register_of(alloc, "a", payload)?;
+    let mut text = reply_to(alloc, &mut node, Moment::START, &datagram)?;
+    if let Some(view) = node.by_endpoint(Moment::START, "a") {
+        text.push(' ')?;
+        text.push_str(view.objects.as_str())?;
+    }
+    Ok(text)
 }
 
 #[test]
@@ -142,24 +181,15 @@ fn an_object_list_is_kept_as_its_printing(rt: HostRuntime) -> Result<(), Fail> {
         (r#"</3/0>;x="a\"b\c""#, r#"</3/0>;x="a\"bc""#),
         ("<>", "<>"),
     ] {
-        let mut node = Node::new(rt.alloc(), 1);
-        let datagram = register_with(rt.alloc(), "", payload.as_bytes())?;
-        let answer = reply(rt.alloc(), &mut node, Moment::START, datagram.as_str())?;
-        assert_eq!(rt;
-            answer.as_str(),
-            "604100048272640d0330303030303030303030303130303031"
-        );
-        let view = node
-            .by_endpoint(Moment::START, "a")
-            .ok_or("a registration is shown")?;
-        assert_eq!(rt; view.objects.as_str(), objects);
+        let text = answer_and_objects(rt.alloc(), payload.as_bytes())?;
+        let want = format!(in rt.alloc(); "{CREATED} {objects}")?;
+        assert_eq!(rt; text.as_str(), want.as_str(), "{payload}");
     }
     Ok(())
 }
 
 #[test]
 fn other_payloads_are_bad_requests(rt: HostRuntime) -> Result<(), Fail> {
-    let mut node = Node::new(rt.alloc(), 1);
     for payload in [
         b"<a b>".as_slice(),
         b"x",
@@ -172,37 +202,57 @@ fn other_payloads_are_bad_requests(rt: HostRuntime) -> Result<(), Fail> {
         b"<\x7f>",
         b"<\xff>",
     ] {
-        let datagram = register_with(rt.alloc(), "", payload)?;
-        let answer = reply(rt.alloc(), &mut node, Moment::START, datagram.as_str())?;
-        assert_eq!(rt; answer.as_str(), "60800004", "to {payload:?}");
+        let text = answer_and_objects(rt.alloc(), payload)?;
+        assert_eq!(rt; text.as_str(), "60800004", "to {payload:?}");
     }
-    let no_payload = "40020004b272644465703d61";
-    let answer = reply(rt.alloc(), &mut node, Moment::START, no_payload)?;
+    Ok(())
+}
+
+/// A list of so many links of six bytes, the commas between them counted.
+fn links(alloc: Global, count: usize) -> Result<String, Fail> {
+    let mut list = ",</99>".repeat(alloc, count)?;
+    list.remove(0);
+    Ok(list)
+}
+
+#[test]
+fn at_most_256_links(rt: HostRuntime) -> Result<(), Fail> {
+    let most = links(rt.alloc(), 256)?;
+    let text = answer_and_objects(rt.alloc(), most.as_bytes())?;
+    assert!(rt; text.ends_with(most.as_str()) && text.starts_with(CREATED));
+    let too_many = links(rt.alloc(), 257)?;
+    let text = answer_and_objects(rt.alloc(), too_many.as_bytes())?;
+    assert_eq!(rt; text.as_str(), "608d0004");
+    Ok(())
+}
+
+#[test]
+fn a_list_of_too_many_links_and_a_bad_query(rt: HostRuntime) -> Result<(), Fail> {
+    let list = hex::encode(rt.alloc(), links(rt.alloc(), 257)?.as_bytes())?;
+    // `lt=x` besides
+    let datagram = format!(in rt.alloc(); "40020004b272644465703d61046c743d78ff{list}")?;
+    let mut node = Node::new(rt.alloc(), 1);
+    let answer = reply(rt.alloc(), &mut node, Moment::START, datagram.as_str())?;
     assert_eq!(rt; answer.as_str(), "60800004");
     Ok(())
 }
 
 #[test]
-fn at_most_256_links(rt: HostRuntime) -> Result<(), Fail> {
-    let mut node = Node::new(rt.alloc(), 1);
-    let mut payload = b"</>".to_vec(rt.alloc())?;
-    for _link in 1..256 {
-        payload.extend_from_slice(b",</>")?;
-    }
-    let most = register_with(rt.alloc(), "", &payload)?;
-    payload.extend_from_slice(b",</>")?;
-    let too_many = register_with(rt.alloc(), "", &payload)?;
-    // `lt=x` besides
-    let bad_query = register_with(rt.alloc(), "046c743d78", &payload)?;
-    for (datagram, want) in [
-        (too_many, "608d0004"),
-        (bad_query, "60800004"),
-        (most, "604100048272640d0330303030303030303030303130303031"),
-    ] {
-        let answer = reply(rt.alloc(), &mut node, Moment::START, datagram.as_str())?;
-        assert_eq!(rt; answer.as_str(), want);
-    }
+fn the_longest_object_list(rt: HostRuntime) -> Result<(), Fail> {
+    // 13 bytes stand before the payload, and four before the name of its attribute
+    let name = "x".repeat(rt.alloc(), 8192 - 13 - 4)?;
+    let list = format!(in rt.alloc(); "</>;{name}")?;
+    let told = answer_and_objects(rt.alloc(), list.as_bytes())?;
+    assert!(rt; told.starts_with(CREATED) && told.ends_with(list.as_str()));
     Ok(())
+}
+
+/// Whether `a`, registered at one moment, is shown at another.
+fn is_shown(alloc: Global, query: &str, registered: u64, asked: u64) -> Result<bool, Fail> {
+    let mut node = Node::new(alloc, 1);
+    let datagram = format!(in alloc; "40020004b272644465703d61{query}ff3c2f3e")?;
+    let _answer = reply(alloc, &mut node, at(registered)?, datagram.as_str())?;
+    Ok(node.by_endpoint(at(asked)?, "a").is_some())
 }
 
 #[test]
@@ -213,55 +263,160 @@ fn a_registration_lasts_its_lifetime(rt: HostRuntime) -> Result<(), Fail> {
         ("056c743d3630", 1000, 61000, false),
         ("046c743d30", 1000, last, true),
         ("0d006c743d34323934393637323935", last, last, true),
+        ("0d006c743d34323934393637323936", 0, 0, false),
     ] {
-        let mut node = Node::new(rt.alloc(), 1);
-        let datagram = format!(in rt.alloc(); "40020004b272644465703d61{query}ff3c2f3e")?;
-        let answer = reply(rt.alloc(), &mut node, at(registered)?, datagram.as_str())?;
-        assert_eq!(rt;
-            answer.as_str(),
-            "604100048272640d0330303030303030303030303130303031"
-        );
-        let view = node.by_endpoint(at(asked)?, "a");
-        assert_eq!(rt; view.is_some(), shown, "{query} at {asked}");
+        let is_shown = is_shown(rt.alloc(), query, registered, asked)?;
+        assert_eq!(rt; is_shown, shown, "{query} at {asked}");
     }
-    let mut node = Node::new(rt.alloc(), 1);
-    let too_long = "40020004b272644465703d610d006c743d34323934393637323936ff3c2f3e";
-    let answer = reply(rt.alloc(), &mut node, Moment::START, too_long)?;
-    assert_eq!(rt; answer.as_str(), "60800004");
     Ok(())
+}
+
+/// A node that took these datagrams, in hex.
+fn node_after(alloc: Global, number: u16, datagrams: &[&str]) -> Result<Node, Fail> {
+    let mut node = Node::new(alloc, number);
+    for datagram in datagrams {
+        let _answer = reply(alloc, &mut node, Moment::START, datagram)?;
+    }
+    Ok(node)
 }
 
 #[test]
 fn the_least_endpoint_comes_first(rt: HostRuntime) -> Result<(), Fail> {
-    let mut node = Node::new(rt.alloc(), 7);
-    assert!(rt; node.first_after(Moment::START, None).is_none());
-    for datagram in [
-        "40020001b272644465703d62ff3c2f3e",
-        "40020002b272644465703d61056c743d3630ff3c2f3e",
-        "40020003b272644465703d62ff3c2f313e",
-    ] {
-        let _answer = reply(rt.alloc(), &mut node, Moment::START, datagram)?;
-    }
+    let node = node_after(
+        rt.alloc(),
+        7,
+        &[
+            "40020001b272644465703d62ff3c2f3e",
+            "40020002b272644465703d61056c743d3630ff3c2f3e",
+            "40020003b272644465703d62ff3c2f313e",
+        ],
+    )?;
+    let b = "b 0000000000030007 127.0.0.1:5683 0 86400 false 1.0 U no number </1>";
     for (now, after, want) in [
-        (0, None, "a"),
-        (0, Some("A"), "a"),
-        (0, Some("a"), "b"),
-        (0, Some("b"), ""),
-        (60000, None, "b"),
+        (59999, Some("b"), "-"),
+        (59999, Some("a"), b),
+        (59999, Some("aa"), b),
+        (60000, None, b),
+        (60000, Some("A"), b),
     ] {
-        let first = node.first_after(at(now)?, after);
-        let name = first.as_ref().map_or("", |view| view.endpoint);
-        assert_eq!(rt; name, want, "at {now}");
+        let text = told(rt.alloc(), node.first_after(at(now)?, after))?;
+        assert_eq!(rt; text.as_str(), want, "at {now}");
     }
-    let view = node
-        .by_endpoint(Moment::START, "b")
-        .ok_or("a registration is shown")?;
-    assert_eq!(rt;
-        view.id.id_text().as_slice(),
-        b"0000000000030007".as_slice()
-    );
-    assert_eq!(rt; view.objects.as_str(), "</1>");
     Ok(())
+}
+
+#[test]
+fn a_new_node_shows_nothing(rt: HostRuntime) {
+    let node = Node::new(rt.alloc(), 1);
+    for text in ["", "a"] {
+        assert!(rt; node.by_endpoint(Moment::START, text).is_none());
+        assert!(rt; node.first_after(Moment::START, Some(text)).is_none());
+    }
+    assert!(rt; node.first_after(Moment::START, None).is_none());
+}
+
+/// A node with a registration of each endpoint.
+fn node_with(alloc: Global, endpoints: &[&str]) -> Result<Node, Fail> {
+    let mut node = Node::new(alloc, 1);
+    for endpoint in endpoints {
+        let datagram = register_of(alloc, endpoint, b"</>")?;
+        let _answer = reply_to(alloc, &mut node, Moment::START, &datagram)?;
+    }
+    Ok(node)
+}
+
+fn name_of<'a>(view: Option<View<'a>>) -> &'a str {
+    view.map_or("-", |view| view.endpoint)
+}
+
+#[test]
+fn the_longest_endpoint(rt: HostRuntime) -> Result<(), Fail> {
+    let longest = "l".repeat(rt.alloc(), 252)?;
+    let node = node_with(rt.alloc(), &["z", longest.as_str()])?;
+    let now = Moment::START;
+    assert_eq!(rt;
+        name_of(node.by_endpoint(now, longest.as_str())),
+        longest.as_str()
+    );
+    assert_eq!(rt; name_of(node.first_after(now, None)), longest.as_str());
+    assert_eq!(rt; name_of(node.first_after(now, Some(longest.as_str()))), "z");
+    Ok(())
+}
+
+#[test]
+fn a_longer_endpoint_is_refused(rt: HostRuntime) -> Result<(), Fail> {
+    // a query of 256 bytes: 15, 11 of the path before it, and a length of 13 and 243
+    let query = "65".repeat(rt.alloc(), 256 - 3)?;
+    let datagram = format!(in rt.alloc(); "40020004b272644df365703d{query}ff3c2f3e")?;
+    let mut node = Node::new(rt.alloc(), 1);
+    let answer = reply(rt.alloc(), &mut node, Moment::START, datagram.as_str())?;
+    assert_eq!(rt; answer.as_str(), "60800004");
+    assert!(rt; node.first_after(Moment::START, None).is_none());
+    Ok(())
+}
+
+#[test]
+fn texts_of_any_length_are_looked_up(rt: HostRuntime) -> Result<(), Fail> {
+    let node = node_with(rt.alloc(), &["k", "m"])?;
+    for (letter, length, want) in [
+        ("k", 0, "k"),
+        ("j", 252, "k"),
+        ("k", 252, "m"),
+        ("k", 253, "m"),
+        ("k", 10_000, "m"),
+        ("m", 253, "-"),
+        ("m", 10_000, "-"),
+    ] {
+        let text = letter.repeat(rt.alloc(), length)?;
+        let first = node.first_after(Moment::START, Some(text.as_str()));
+        assert_eq!(rt; name_of(first), want, "{length} {letter}");
+        assert!(rt; node.by_endpoint(Moment::START, text.as_str()).is_none());
+    }
+    Ok(())
+}
+
+/// A node with the endpoints `e000` to `e999`, in another order.
+fn thousand(alloc: Global) -> Result<Node, Fail> {
+    let mut node = Node::new(alloc, 1);
+    for i in 0..1000u32 {
+        let name = format!(in alloc; "e{:03}", i * 377 % 1000)?;
+        let datagram = register_of(alloc, name.as_str(), b"</>")?;
+        let _answer = reply_to(alloc, &mut node, Moment::START, &datagram)?;
+    }
+    Ok(node)
+}
+
+#[test]
+fn a_thousand_endpoints_in_order(rt: HostRuntime) -> Result<(), Fail> {
+    let node = thousand(rt.alloc())?;
+    let mut after = None;
+    for i in 0..1000u32 {
+        let name = format!(in rt.alloc(); "e{i:03}")?;
+        let found = name_of(node.first_after(Moment::START, after));
+        assert_eq!(rt; found, name.as_str());
+        assert_eq!(rt;
+            name_of(node.by_endpoint(Moment::START, name.as_str())),
+            name.as_str()
+        );
+        after = Some(found);
+    }
+    assert_eq!(rt; name_of(node.first_after(Moment::START, after)), "-");
+    Ok(())
+}
+
+/// What the outcomes tell: whether there is a reply, and the object list that is shown.
+fn texts_of(alloc: Global, outcomes: &[Outcome]) -> Result<String, Fail> {
+    let mut text = String::new(alloc);
+    for outcome in outcomes {
+        text.push_str(match outcome {
+            Outcome::Taken(Taken { reply: Some(_) }) => "reply ",
+            Outcome::Taken(Taken { reply: None }) => "none ",
+            Outcome::Shown(Some(seen)) => seen.objects.as_str(),
+            Outcome::Shown(None) => "- ",
+            Outcome::NoMemory => "! ",
+        })?;
+    }
+    Ok(text)
 }
 
 #[test]
@@ -283,19 +438,7 @@ fn a_run_has_an_outcome_for_each_event(rt: HostRuntime) -> Result<(), Fail> {
         },
     ];
     let outcomes = run_node(rt.alloc(), 1, &events).map_err(|_| "there is room")?;
-    let mut told = String::new(rt.alloc());
-    for outcome in &outcomes {
-        match outcome {
-            Outcome::Taken(taken) => told.push_str(if taken.reply.is_some() {
-                "reply "
-            } else {
-                "none "
-            })?,
-            Outcome::Shown(Some(seen)) => told.push_str(seen.objects.as_str())?,
-            Outcome::Shown(None) => told.push_str("- ")?,
-            Outcome::NoMemory => told.push_str("! ")?,
-        }
-    }
-    assert_eq!(rt; told.as_str(), "- reply </></>- ");
+    let text = texts_of(rt.alloc(), &outcomes)?;
+    assert_eq!(rt; text.as_str(), "- reply </></>- ");
     Ok(())
 }

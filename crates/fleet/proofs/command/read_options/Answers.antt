@@ -44,25 +44,25 @@ returns-in_err-matches-clause-refused g c =
     passed_on words _ _ c.from_residual-in_err-matches.ensures.1
     (λ e same none o given. cc (same, no_kind _ c.in_err-matches.field-0.0 kinds none))
 
-pub returns-in-Some-clause-accepted : goal.returns-in-Some-clause-accepted
-returns-in-Some-clause-accepted g c =
+pub returns-in-Ok-clause-accepted : goal.returns-in-Ok-clause-accepted
+returns-in-Ok-clause-accepted g c =
     fails_by (map g.S.AsStr.text c.args.words.now) _ (Ok c.in_ok-matches.matches) c.in_ok-command.ensures c.in_ok-matches.ensures.kinds
 
-pub returns-in_err-error-in-None-clause-refused : goal.returns-in_err-error-in-None-clause-refused
-returns-in_err-error-in-None-clause-refused g c =
-    passed_on (map g.S.AsStr.text c.args.words.now) _ _ c.from_residual-in_err-error-in-None.ensures.1 (λ e memory taken o given. memory)
+pub returns-in_err-number_refused-in-Err-clause-refused : goal.returns-in_err-number_refused-in-Err-clause-refused
+returns-in_err-number_refused-in-Err-clause-refused g c =
+    passed_on (map g.S.AsStr.text c.args.words.now) _ _ c.from_residual-in_err-number_refused-in-Err.ensures.1 (λ e memory taken o given. memory)
 
 -- what the parse found is what the words give
 rows_of_words : (words : List Text) (app : App) (found : Option (Text × List Row)) → app ≡ fleet_app
     → (is_simple app ≡ true → found ≡ subcommand_of app words) → found ≡ subcommand_of fleet_app words
 rows_of_words words app found same parsed = parsed (ap is_simple same ∙ fleet_is_simple) ∙ ap (λ (a : App). subcommand_of a words) same
 
-pub returns-in-Some-clause-given : goal.returns-in-Some-clause-given
-returns-in-Some-clause-given g c =
+pub returns-in-Ok-clause-given : goal.returns-in-Ok-clause-given
+returns-in-Ok-clause-given g c =
     let rows = rows_of_words (map g.S.AsStr.text c.args.words.now) _ _ c.in_ok-command.ensures (λ h. (c.in_ok-matches.ensures.ok.2 h).1) in
-    subst (λ s. IsGiven (option_rows s) c.in-Some.options) rows c.in-Some.ensures.some
+    subst (λ s. IsGiven (option_rows s) c.in-Ok.options) rows c.in-Ok.ensures.given
 
 pub returns-clause-refused : goal.returns-clause-refused
 returns-clause-refused g c =
     let rows = rows_of_words (map g.S.AsStr.text c.args.words.now) _ _ c.in_ok-command.ensures (λ h. (c.in_ok-matches.ensures.ok.2 h).1) in
-    λ taken o given. absurd (c.in-None.ensures.none o (subst (λ s. IsGiven (option_rows s) o) (sym rows) given))
+    λ taken o given. absurd (c.in-Err.ensures.none o (subst (λ s. IsGiven (option_rows s) o) (sym rows) given))

@@ -1,4 +1,4 @@
-use Rattle.std.proofs.Common.{◌≡◌, ℕ, List, sym, ap, subst, ◌∙◌}
+use Rattle.std.proofs.Common.{◌≡◌, ℕ, List, length, sym, ap, subst, ◌∙◌, arith}
 use Rattle.std.proofs.lemmas.Result.{err_from_is_err_and}
 use Rattle.hex.specs.Hex.{decode_of}
 use Rattle.fleet.specs.declared.fault.OneFault.TheVariants.{WriteFailed}
@@ -39,6 +39,7 @@ returns-clause-front g c = λ failed.
         datagram = c.in_ok-datagram.datagram.items;
         in_range = c.in-Some.ensures.in_range;
         from_is = c.in-Some.ensures.found;
+        line_fits = omega (arith, ap length line_is, c.in_ok-line.ensures.fits);
         spelled = ap decode_of (sym (c.deref.ensures.value ∙ line_is)) ∙ c.in_ok-datagram.ensures.bytes;
         answered = subst (λ (datagram : List ℕ). IsAnswered c.args.options.now.node (ms_of c.args.options.now.now) c.in-Some.source datagram text) c.deref-2.ensures.value c.in_ok-text.ensures;
       },

@@ -9,5 +9,5 @@ loop-endpoint-init c = (
   tt,
   tt,
   ap (first_in (ms_of c.args.now) None) (c.into_iter-endpoint-iterator.ensures.into_iter_gives ∙ c.range-endpoint-items.ensures.between tt)
-      ∙ first_between (ms_of c.args.now) c.args.known.now c.args.slots.now.entries,
+      ∙ first_between (ms_of c.args.now) c.args.bound.now c.args.slots.now.entries,
 )

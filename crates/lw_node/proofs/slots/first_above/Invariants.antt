@@ -8,4 +8,4 @@ use Rattle.lw_node.proofs.slots.first_above.Given as goal
 abbrev pub invariant-loop-endpoint : goal.invariant-loop-endpoint
 invariant-loop-endpoint l =
     (goal.iterator-loop-endpoint).can_next l.endpoint-iterator × (goal.iterator-loop-endpoint).is_finite l.endpoint-iterator
-    × (first_in (ms_of l.now) None l.endpoint-iterator ≡ first_in (ms_of l.now) (Some (string_bytes l.known)) l.slots.entries)
+    × (first_in (ms_of l.now) None l.endpoint-iterator ≡ first_in (ms_of l.now) (Some (string_bytes l.bound)) l.slots.entries)

@@ -1,0 +1,178 @@
+//! What the command line gives, and the texts that are printed where it gives nothing.
+
+use crate::command::{read_options, status};
+use std::alloc::Global;
+use std::test::Fail;
+
+#[test]
+fn options(rt: HostRuntime) -> Result<(), Fail> {
+    let words: [&[&str]; 5] = [
+        &["fleet"],
+        &["fleet", "one"],
+        &[
+            "fleet",
+            "one",
+            "--node",
+            "65535",
+            "--now=281474976710655",
+            "--from",
+            "x",
+        ],
+        &["fleet", "one", "--node=007"],
+        &["fleet", "one", "--from="],
+    ];
+    let options = [
+        (1, 0, "127.0.0.1:5683"),
+        (1, 0, "127.0.0.1:5683"),
+        (65535, 281474976710655, "x"),
+        (7, 0, "127.0.0.1:5683"),
+        (1, 0, ""),
+    ];
+    for (words, (node, now, from)) in words.into_iter().zip(options) {
+        let read = read_options(rt.alloc(), words)?;
+        assert_eq!(rt; read.node, node);
+        assert_eq!(rt; read.now.ms(), now);
+        assert!(rt; read.from == from);
+    }
+    Ok(())
+}
+
+/// The status of a command line that gives no options, and what it prints.
+fn printed(alloc: Global, words: &[&str]) -> Result<String, Fail> {
+    match read_options(alloc, words) {
+        Ok(options) => Ok(format!(in alloc; "{options:?}")?),
+        Err(error) => Ok(format!(in alloc; "{} {error}", status(&error))?),
+    }
+}
+
+#[test]
+fn help_of_the_program(rt: HostRuntime) -> Result<(), Fail> {
+    let text = printed(rt.alloc(), &["fleet", "--help"])?;
+    assert_eq!(rt;
+        text.as_str(),
+        "0 \
+The registration store behind LwM2M servers; without a command, `fleet one`
+
+Usage: fleet [COMMAND]
+
+Commands:
+  one   Takes one datagram, a line of hex on standard input, and prints the reply and the registration
+  help  Print this message or the help of the given subcommand(s)
+
+Options:
+  -h, --help     Print help
+  -V, --version  Print version
+"
+    );
+    Ok(())
+}
+
+#[test]
+fn help_of_one(rt: HostRuntime) -> Result<(), Fail> {
+    let text = printed(rt.alloc(), &["fleet", "one", "--help"])?;
+    assert_eq!(rt;
+        text.as_str(),
+        "0 \
+Takes one datagram, a line of hex on standard input, and prints the reply and the registration
+
+Usage: fleet one [OPTIONS]
+
+Options:
+      --node <N>     Number of the node, 0 to 65535 [default: 1]
+      --now <MS>     Moment in milliseconds, 0 to 281474976710655 [default: 0]
+      --from <ADDR>  Address and port of the client, IPv4 or [IPv6] [default: 127.0.0.1:5683]
+  -h, --help         Print help
+"
+    );
+    Ok(())
+}
+
+#[test]
+fn the_version(rt: HostRuntime) -> Result<(), Fail> {
+    for flag in ["--version", "-V"] {
+        let text = printed(rt.alloc(), &["fleet", flag])?;
+        assert_eq!(rt; text.as_str(), "0 fleet 0.1.0\n");
+    }
+    Ok(())
+}
+
+/// Whether the command line is refused with these lines.
+fn is_refused(alloc: Global, words: &[&str], line: &str, usage: &str) -> Result<bool, Fail> {
+    let want = format!(in alloc;
+        "2 error: {line}\n\n{usage}For more information, try '--help'.\n"
+    )?;
+    Ok(printed(alloc, words)?.as_str() == want.as_str())
+}
+
+const FLEET: &str = "Usage: fleet [COMMAND]\n\n";
+
+const ONE: &str = "Usage: fleet one [OPTIONS]\n\n";
+
+#[test]
+fn refused_words(rt: HostRuntime) -> Result<(), Fail> {
+    let rows: [(&[&str], &str, &str); 8] = [
+        (
+            &["fleet", "--node", "1"],
+            "unexpected argument '--node' found",
+            FLEET,
+        ),
+        (&["fleet", "two"], "unrecognized subcommand 'two'", FLEET),
+        (
+            &["fleet", "one", "two"],
+            "unexpected argument 'two' found",
+            ONE,
+        ),
+        (
+            &["fleet", "one", "--port", "1"],
+            "unexpected argument '--port' found",
+            ONE,
+        ),
+        (
+            &["fleet", "one", "--version"],
+            "unexpected argument '--version' found",
+            ONE,
+        ),
+        (
+            &["fleet", "one", "--node"],
+            "a value is required for '--node <N>' but none was supplied",
+            "",
+        ),
+        (
+            &["fleet", "one", "--node", "1", "--node", "1"],
+            "the argument '--node <N>' cannot be used multiple times",
+            ONE,
+        ),
+        (
+            &["fleet", "one", "--from", "a", "--from=a"],
+            "the argument '--from <ADDR>' cannot be used multiple times",
+            ONE,
+        ),
+    ];
+    for (words, line, usage) in rows {
+        assert!(rt; is_refused(rt.alloc(), words, line, usage)?, "{words:?}");
+    }
+    Ok(())
+}
+
+#[test]
+fn refused_numbers(rt: HostRuntime) -> Result<(), Fail> {
+    let node = "'--node <N>' takes a number from 0 to 65535, in digits alone";
+    let now = "'--now <MS>' takes a number from 0 to 281474976710655, in digits alone";
+    for (option, number, line) in [
+        ("--node", "65536", node),
+        ("--node", "99999999999999999999", node),
+        ("--node", "+1", node),
+        ("--node", "", node),
+        ("--now", "281474976710656", now),
+        ("--now", "1 ", now),
+        ("--now", "0x1", now),
+    ] {
+        let words = ["fleet", "one", option, number];
+        assert!(rt;
+            is_refused(rt.alloc(), &words, line, ONE)?,
+            "{option} {number}"
+        );
+    }
+    assert!(rt; is_refused(rt.alloc(), &["fleet", "one", "--node=-1"], node, ONE)?);
+    Ok(())
+}
