@@ -1,0 +1,99 @@
+//! The table of all costs.
+
+use crate::cost::Cost;
+use crate::fault::BenchFault;
+use crate::heap::Stored;
+use crate::operation::Operation;
+use std::alloc::{AllocError, Global};
+
+/// How often a row is measured; the least time counts.
+const ROUNDS: u32 = 7;
+
+/// The size of a trial.
+const FEW: u32 = 10;
+
+/// How many of a thing are stored where memory is read.
+const STORED: u32 = 100_000;
+
+/// Makes each call a few times.
+pub fn try_all(rt: &HostRuntime) -> Result<(), BenchFault> {
+    for stored in Stored::ALL {
+        stored.bytes_each(rt, rt.alloc(), FEW)?;
+    }
+    for operation in Operation::ALL {
+        measure(rt, operation, FEW, 1)?;
+    }
+    println!(rt; "ok")?;
+    Ok(())
+}
+
+/// Measures and prints row by row. Memory comes first, while nothing that was freed is kept.
+pub fn print_all(rt: &HostRuntime) -> Result<(), BenchFault> {
+    println!(rt; "{:<48}{:>12}", "bytes each, at 100,000", "bytes")?;
+    for stored in Stored::ALL {
+        let bytes = stored.bytes_each(rt, rt.alloc(), STORED)?;
+        println!(rt; "{:<48}{bytes:>12}", stored.as_str())?;
+    }
+    println!(rt; "")?;
+    println!(rt;
+        "{:<48}{:>10}{:>10}{:>10}{:>8}{:>8}{:>8}",
+        "nanoseconds each, at", "1,000", "10,000", "100,000", "growth", "growth", "MB/s"
+    )?;
+    for operation in Operation::ALL {
+        print_row(rt, operation)?;
+    }
+    Ok(())
+}
+
+/// The least cost of several rounds. Where one fails, its name is printed.
+fn measure(
+    rt: &HostRuntime,
+    operation: Operation,
+    count: u32,
+    rounds: u32,
+) -> Result<Cost, BenchFault> {
+    match operation.least(rt, rt.alloc(), count, rounds) {
+        Ok(cost) => Ok(cost),
+        Err(fault) => {
+            eprintln!(rt; "{}", operation.as_str())?;
+            Err(fault)
+        }
+    }
+}
+
+fn print_row(rt: &HostRuntime, operation: Operation) -> Result<(), BenchFault> {
+    let small = measure(rt, operation, 1000, ROUNDS)?;
+    let medium = measure(rt, operation, 10_000, ROUNDS)?;
+    let large = measure(rt, operation, 100_000, ROUNDS)?;
+    let text = row(rt.alloc(), operation.as_str(), small, medium, large)?;
+    println!(rt; "{}", text.as_str())?;
+    Ok(())
+}
+
+fn row(
+    alloc: Global,
+    name: &str,
+    small: Cost,
+    medium: Cost,
+    large: Cost,
+) -> Result<String, AllocError> {
+    let first = ratio(alloc, medium.hundredths_of(&small))?;
+    let second = ratio(alloc, large.hundredths_of(&medium))?;
+    format!(in alloc;
+        "{name:<48}{:>10}{:>10}{:>10}{:>8}{:>8}{:>8}",
+        small.nanos_each(),
+        medium.nanos_each(),
+        large.nanos_each(),
+        first.as_str(),
+        second.as_str(),
+        large.megabytes_each_second()
+    )
+}
+
+/// Hundredths as a number with two decimals, or `-`.
+fn ratio(alloc: Global, hundredths: Option<u128>) -> Result<String, AllocError> {
+    match hundredths {
+        Some(hundredths) => format!(in alloc; "{}.{:02}", hundredths / 100, hundredths % 100),
+        None => String::from_str(alloc, "-"),
+    }
+}
