@@ -1,5 +1,5 @@
 ghost use Rattle.std.specs.Prelude.{◌≡◌, ◌≤◌, ◌<◌, ◌↔◌, IsSome, IsTrue, IfSome, ◌⊎◌};
-ghost use Rattle.bench.specs.Cost.{nanos_each, megabytes_each_second, growth_of};
+ghost use Rattle.bench.specs.Cost.{nanos_each, megabytes_each_second, hundredths_of};
 
 use crate::fault::BenchFault;
 use std::time::{CpuClock, Duration};
@@ -9,7 +9,7 @@ use std::time::{CpuClock, Duration};
 pub struct Cost {
     /// The processor time, in nanoseconds.
     pub nanos: u64,
-    pub calls: u64,
+    pub calls: u32,
     /// The bytes that the calls read or wrote; 0 where they are not counted.
     pub bytes: u64,
 }
@@ -25,7 +25,7 @@ impl Cost {
         let time = clock.thread_cpu_time()?.saturating_sub(start);
         Ok(Cost {
             nanos: u64::try_from(time.as_nanos()).unwrap_or(u64::MAX),
-            calls: u64::from(calls),
+            calls,
             bytes,
         })
     }
@@ -46,22 +46,26 @@ impl Cost {
     pub fn nanos_each(&self) -> u64
         ensures { result ≡ nanos_each self.now }
     {
-        self.nanos.checked_div(self.calls).unwrap_or(0)
+        self.nanos.checked_div(u64::from(self.calls)).unwrap_or(0)
     }
 
-    /// Millions of bytes in a second, rounded down; 0 where no time has passed.
-    pub fn megabytes_each_second(&self) -> u128
+    /// Millions of bytes in a second, rounded down; none where no time has passed or no bytes were counted.
+    pub fn megabytes_each_second(&self) -> Option<u128>
         ensures { result ≡ megabytes_each_second self.now }
     {
+        if self.bytes == 0 {
+            return None;
+        }
         let scaled = u128::from(self.bytes) * 1000;
-        scaled.checked_div(u128::from(self.nanos)).unwrap_or(0)
+        scaled.checked_div(u128::from(self.nanos))
     }
 
-    /// How many hundredths of the time of the other a call takes; none where one of them took no time.
+    /// The time of a call, in hundredths of that of the other's, rounded down; none where the other took no time
+    /// or there is no call.
     pub fn hundredths_of(&self, other: &Cost) -> Option<u128>
-        ensures { result ≡ growth_of self.now other.now }
+        ensures { result ≡ hundredths_of self.now other.now }
     {
-        let mine = u128::from(self.nanos_each()) * 100;
-        mine.checked_div(u128::from(other.nanos_each()))
+        let mine = u128::from(self.nanos) * u128::from(other.calls) * 100;
+        mine.checked_div(u128::from(other.nanos) * u128::from(self.calls))
     }
 }

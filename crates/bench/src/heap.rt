@@ -53,24 +53,25 @@ impl Stored {
             Stored::IndexKey => Ok(Store::Index(keys(alloc, count)?)),
         }
     }
+}
 
-    /// By how many bytes each of so many lets the process grow.
-    pub fn bytes_each<R: Files>(
-        self,
-        rt: &R,
-        alloc: Global,
-        count: u32,
-    ) -> Result<u64, BenchFault> {
-        let before = resident(rt, alloc)?;
-        let _store = self.store(alloc, count)?;
+/// By how many bytes each of so many lets the process grow, in the order of `Stored::ALL`. What is stored is
+/// kept to the end, so that nothing takes the place of what was freed.
+pub fn bytes_each<R: Files>(rt: &R, alloc: Global, count: u32) -> Result<Vec<u64>, BenchFault> {
+    let mut stores = Vec::new(alloc);
+    let mut sizes = Vec::new(alloc);
+    let mut before = resident(rt, alloc)?;
+    for stored in Stored::ALL {
+        stores.push(stored.store(alloc, count)?)?;
         let after = resident(rt, alloc)?;
-        Ok(
-            after
-                .saturating_sub(before)
-                .checked_div(u64::from(count))
-                .unwrap_or(0),
-        )
+        sizes.push(quotient(after.saturating_sub(before), count))?;
+        before = after;
     }
+    Ok(sizes)
+}
+
+fn quotient(bytes: u64, count: u32) -> u64 {
+    bytes.checked_div(u64::from(count)).unwrap_or(0)
 }
 
 /// The bytes of the process that are in memory (proc(5), `/proc/self/statm`).

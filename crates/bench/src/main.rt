@@ -14,6 +14,7 @@ mod names;
 mod nodes;
 mod operation;
 mod requests;
+mod row;
 mod samples;
 mod slots;
 mod table;

@@ -2,9 +2,9 @@
 
 use crate::cost::Cost;
 use crate::fault::BenchFault;
-use crate::heap::Stored;
+use crate::heap::{Stored, bytes_each};
 use crate::operation::Operation;
-use std::alloc::{AllocError, Global};
+use crate::row::row;
 
 /// How often a row is measured; the least time counts.
 const ROUNDS: u32 = 7;
@@ -17,9 +17,7 @@ const STORED: u32 = 100_000;
 
 /// Makes each call a few times.
 pub fn try_all(rt: &HostRuntime) -> Result<(), BenchFault> {
-    for stored in Stored::ALL {
-        stored.bytes_each(rt, rt.alloc(), FEW)?;
-    }
+    bytes_each(rt, rt.alloc(), FEW)?;
     for operation in Operation::ALL {
         measure(rt, operation, FEW, 1)?;
     }
@@ -30,8 +28,8 @@ pub fn try_all(rt: &HostRuntime) -> Result<(), BenchFault> {
 /// Measures and prints row by row. Memory comes first, while nothing that was freed is kept.
 pub fn print_all(rt: &HostRuntime) -> Result<(), BenchFault> {
     println!(rt; "{:<48}{:>12}", "bytes each, at 100,000", "bytes")?;
-    for stored in Stored::ALL {
-        let bytes = stored.bytes_each(rt, rt.alloc(), STORED)?;
+    let sizes = bytes_each(rt, rt.alloc(), STORED)?;
+    for (stored, bytes) in Stored::ALL.into_iter().zip(sizes) {
         println!(rt; "{:<48}{bytes:>12}", stored.as_str())?;
     }
     println!(rt; "")?;
@@ -68,32 +66,4 @@ fn print_row(rt: &HostRuntime, operation: Operation) -> Result<(), BenchFault> {
     let text = row(rt.alloc(), operation.as_str(), small, medium, large)?;
     println!(rt; "{}", text.as_str())?;
     Ok(())
-}
-
-fn row(
-    alloc: Global,
-    name: &str,
-    small: Cost,
-    medium: Cost,
-    large: Cost,
-) -> Result<String, AllocError> {
-    let first = ratio(alloc, medium.hundredths_of(&small))?;
-    let second = ratio(alloc, large.hundredths_of(&medium))?;
-    format!(in alloc;
-        "{name:<48}{:>10}{:>10}{:>10}{:>8}{:>8}{:>8}",
-        small.nanos_each(),
-        medium.nanos_each(),
-        large.nanos_each(),
-        first.as_str(),
-        second.as_str(),
-        large.megabytes_each_second()
-    )
-}
-
-/// Hundredths as a number with two decimals, or `-`.
-fn ratio(alloc: Global, hundredths: Option<u128>) -> Result<String, AllocError> {
-    match hundredths {
-        Some(hundredths) => format!(in alloc; "{}.{:02}", hundredths / 100, hundredths % 100),
-        None => String::from_str(alloc, "-"),
-    }
 }
