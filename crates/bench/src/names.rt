@@ -1,6 +1,6 @@
 //! The names of the endpoints that are measured with.
 
-ghost use Rattle.std.specs.Prelude.{◌≡◌, ◌<◌, ◌^◌, ◌++◌, IfOk, codes, string_bytes};
+ghost use Rattle.std.specs.Prelude.{◌≡◌, ◌<◌, ◌^◌, ◌++◌, IfOk, codes, string_bytes, vec_len};
 ghost use Rattle.bench.specs.Names.{number_at, name_of};
 
 use std::alloc::{AllocError, Global};
@@ -42,7 +42,9 @@ pub fn name_of(alloc: Global, number: u64) -> Result<String, AllocError>
 }
 
 /// The names at the first places.
-pub fn names(alloc: Global, order: Order, count: u32) -> Result<Vec<String>, AllocError> {
+pub fn names(alloc: Global, order: Order, count: u32) -> Result<Vec<String>, AllocError>
+    ensures { IfOk result (λ names. vec_len names ≡ count) }
+{
     let mut names = Vec::new(alloc);
     for place in 0..count {
         names.push(name_of(alloc, order.number_at(place))?)?;

@@ -1,5 +1,9 @@
 //! The operations, slots and keys that are measured with.
 
+ghost use Rattle.std.specs.Prelude.{◌≡◌, ◌*◌, ◌%◌, ◌^◌};
+ghost use Rattle.std.specs.Int.{w32, to_be_bytes};
+ghost use Rattle.lw_reg.specs.declared.addr.Addr.TheVariants.{V4};
+
 use crate::fault::BenchFault;
 use crate::messages::{OBJECTS, SOURCE};
 use lw_join::{Lex, OrGone, Parts};
@@ -123,8 +127,10 @@ pub fn watched(alloc: Global, clock: &mut Clock, count: u32) -> Result<Slot, Ben
     Ok(Slot::from_parts(reg, Some(fields)))
 }
 
-/// The address at this place; no two are alike.
-pub fn address(place: u32) -> Addr {
+/// The address at this place; no two are alike, since the step is odd.
+pub fn address(place: u32) -> Addr
+    ensures { result ≡ V4 (to_be_bytes w32 (place * 2654435769 % 2 ^ 32)) 5683 }
+{
     Addr::V4 {
         address: place.wrapping_mul(2_654_435_769).to_be_bytes(),
         port: 5683,
