@@ -1,7 +1,7 @@
 //! What the process keeps in memory for each thing that it stores.
 
 use crate::fault::BenchFault;
-use crate::messages::{SOURCE, register, spell};
+use crate::messages::{SOURCE, register_bytes};
 use crate::names::{Order, name_of};
 use crate::samples::{address, next, removed};
 use lw_index::Index;
@@ -86,7 +86,7 @@ fn registrations(alloc: Global, count: u32) -> Result<Node, BenchFault> {
     let mut node = Node::new(alloc, 1);
     for place in 0..count {
         let name = name_of(alloc, Order::Rising.number_at(place))?;
-        let datagram = spell(alloc, &register(alloc, name.as_str())?)?;
+        let datagram = register_bytes(alloc, name.as_str())?;
         node.take(Moment::START, SOURCE, &datagram)?;
     }
     Ok(node)

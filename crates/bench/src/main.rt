@@ -23,9 +23,6 @@ use crate::fault::BenchFault;
 use std::process::ExitCode;
 use std::{env, io};
 
-#[cfg(test)]
-mod tests;
-
 /// What a refused command line ends with.
 const REFUSED: u8 = 2;
 

@@ -14,6 +14,9 @@ use std::alloc::{AllocError, Global};
 pub const OBJECTS: &[u8] =
     b"</1/0>,</2/0>,</3/0>,</4/0>,</5/0>,</6/0>,</7/0>,</16/0>,</19/0>,</25/0>";
 
+/// The endpoint of what is measured by itself.
+pub const ENDPOINT: &str = "urn:dev:mac:0024be804ff1";
+
 /// Where each datagram comes from.
 pub const SOURCE: Addr = Addr::V4 {
     address: [192, 0, 2, 1],
@@ -107,12 +110,16 @@ pub fn empty_queries(alloc: Global) -> Result<Message, NoMemory> {
     Ok(message)
 }
 
+/// The Register of an endpoint with ten objects, as bytes.
+pub fn register_bytes(alloc: Global, endpoint: &str) -> Result<Vec<u8>, BenchFault> {
+    spell(alloc, &register(alloc, endpoint)?)
+}
+
 /// The Registers of these endpoints, as bytes.
 pub fn registers(alloc: Global, names: &[String]) -> Result<Vec<Vec<u8>>, BenchFault> {
     let mut datagrams = Vec::new(alloc);
     for name in names {
-        let message = register(alloc, name.as_str())?;
-        datagrams.push(spell(alloc, &message)?)?;
+        datagrams.push(register_bytes(alloc, name.as_str())?)?;
     }
     Ok(datagrams)
 }

@@ -120,10 +120,13 @@ fn by_endpoint<C: CpuClock>(clock: &C, alloc: Global, count: u32) -> Result<Cost
 }
 
 /// Asks for what is above each name; above each but one there must be an endpoint.
-fn look_above(node: &Node, names: &[&str]) -> Result<(), BenchFault> {
+fn look_above(node: &Node, names: &[String]) -> Result<(), BenchFault> {
     let mut has_last = false;
     for name in names {
-        if node.first_after(Moment::START, Some(*name)).is_none() {
+        if node
+            .first_after(Moment::START, Some(name.as_str()))
+            .is_none()
+        {
             if has_last {
                 return Err(BenchFault::Unexpected);
             }
@@ -133,14 +136,6 @@ fn look_above(node: &Node, names: &[&str]) -> Result<(), BenchFault> {
     Ok(())
 }
 
-fn texts(alloc: Global, names: &[String]) -> Result<Vec<&str>, BenchFault> {
-    let mut texts = Vec::new(alloc);
-    for name in names {
-        texts.push(name.as_str())?;
-    }
-    Ok(texts)
-}
-
 fn first_after_known<C: CpuClock>(
     clock: &C,
     alloc: Global,
@@ -148,20 +143,23 @@ fn first_after_known<C: CpuClock>(
 ) -> Result<Cost, BenchFault> {
     let names = names(alloc, Order::Scattered, count)?;
     let node = node_of(alloc, &names)?;
-    let texts = texts(alloc, &names)?;
     let start = clock.thread_cpu_time()?;
-    look_above(&node, &texts)?;
+    look_above(&node, &names)?;
     Cost::since(clock, start, count, 0)
 }
 
-/// The names without their last digits: none is known, and each is below the name that it comes from.
-fn unknown_names(alloc: Global, names: &[String]) -> Result<Vec<&str>, BenchFault> {
+/// A name without its last digit: it is not known, and it is below the name that it comes from.
+fn front_of(alloc: Global, name: &str) -> Result<String, BenchFault> {
+    match name.get(..23) {
+        Some(front) => Ok(String::from_str(alloc, front)?),
+        None => Err(BenchFault::Unexpected),
+    }
+}
+
+fn unknown_names(alloc: Global, names: &[String]) -> Result<Vec<String>, BenchFault> {
     let mut fronts = Vec::new(alloc);
     for name in names.iter().take(UNKNOWN_NAMES as usize) {
-        let Some(front) = name.as_str().get(..23) else {
-            return Err(BenchFault::Unexpected);
-        };
-        fronts.push(front)?;
+        fronts.push(front_of(alloc, name.as_str())?)?;
     }
     Ok(fronts)
 }

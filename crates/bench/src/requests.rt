@@ -4,7 +4,7 @@ ghost use Rattle.std.specs.Prelude.{◌≤◌, IfOk, length, vec_len};
 
 use crate::cost::Cost;
 use crate::fault::BenchFault;
-use crate::messages::{empty_queries, register, spell, update};
+use crate::messages::{ENDPOINT, empty_queries, register, register_bytes, spell, update};
 use lw_coap::{Kind, Message, codes, decode, encode};
 use lw_link::LinkText;
 use lw_request::{Asked, answer, understand};
@@ -65,8 +65,7 @@ impl RequestCall {
                 understood(clock, alloc, &spell(alloc, &update(alloc)?)?, count)
             }
             RequestCall::DecodeRegister => {
-                let message = register(alloc, "urn:dev:mac:0024be804ff1")?;
-                understood(clock, alloc, &spell(alloc, &message)?, count)
+                understood(clock, alloc, &register_bytes(alloc, ENDPOINT)?, count)
             }
             RequestCall::DecodeQueries => decode_queries(clock, alloc, count.min(LONG_CALLS)),
             RequestCall::UnderstandQueries => {
@@ -127,7 +126,7 @@ fn understand_queries<C: CpuClock>(
 }
 
 fn encode_register<C: CpuClock>(clock: &C, alloc: Global, count: u32) -> Result<Cost, BenchFault> {
-    let message = register(alloc, "urn:dev:mac:0024be804ff1")?;
+    let message = register(alloc, ENDPOINT)?;
     if !message.fits() {
         return Err(BenchFault::Unexpected);
     }

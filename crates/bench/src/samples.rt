@@ -15,6 +15,9 @@ use std::alloc::Global;
 /// The number of the node that issues the operations.
 const NODE: u16 = 1;
 
+/// The number of the resource that is observed: a sensor's value.
+const VALUE: u16 = 5700;
+
 /// In seconds.
 const LIFETIME: u32 = 300;
 
@@ -38,6 +41,10 @@ fn operation(
     })
 }
 
+fn objects(alloc: Global) -> Result<LinkText, BenchFault> {
+    Ok(LinkText::read(alloc, OBJECTS)?)
+}
+
 /// A Register of the endpoint, as an operation.
 pub fn register(alloc: Global, endpoint: &str, stamp: Stamp) -> Result<Op, BenchFault> {
     let what = What::Register {
@@ -48,7 +55,7 @@ pub fn register(alloc: Global, endpoint: &str, stamp: Stamp) -> Result<Op, Bench
         lifetime: LIFETIME,
         binding: Binding::U,
         sms: None,
-        objects: LinkText::read(alloc, OBJECTS)?,
+        objects: objects(alloc)?,
     };
     Ok(operation(alloc, endpoint, stamp, stamp, what)?)
 }
@@ -91,13 +98,12 @@ pub fn removed(alloc: Global, endpoint: &str, stamp: Stamp) -> Result<Slot, NoMe
     )
 }
 
-/// A path that rises with its place; behind each there is room for an odd one.
-pub fn path(place: u32, is_odd: bool) -> Result<Path, BenchFault> {
-    let Ok(object) = u16::try_from(place / 10_000) else {
-        return Err(BenchFault::Unexpected);
-    };
-    let instance = (2 * (place % 10_000)) as u16 + u16::from(is_odd);
-    Path::new(&[object, instance, 5700]).ok_or(BenchFault::Unexpected)
+/// The path of a number: paths rise with their numbers. An even number has one.
+pub fn path(number: u32) -> Result<Path, BenchFault> {
+    let [a, b, c, d] = number.to_be_bytes();
+    let object = u16::from_be_bytes([a, b]);
+    let instance = u16::from_be_bytes([c, d]);
+    Path::new(&[object, instance, VALUE]).ok_or(BenchFault::Unexpected)
 }
 
 fn watching(stamp: Stamp) -> Watching {
@@ -107,12 +113,12 @@ fn watching(stamp: Stamp) -> Watching {
     }
 }
 
-/// The slot of a registration with watches of so many paths.
+/// The slot of a registration with watches of so many paths, those of the first even numbers.
 pub fn watched(alloc: Global, clock: &mut Clock, count: u32) -> Result<Slot, BenchFault> {
     let reg = next(clock)?;
     let mut watches = Vec::new(alloc);
     for place in 0..count {
-        watches.push((path(place, false)?, watching(next(clock)?)))?;
+        watches.push((path(place.saturating_mul(2))?, watching(next(clock)?)))?;
     }
     let fields = Fields {
         base: None,

@@ -2,6 +2,7 @@
 
 use crate::cost::Cost;
 use crate::fault::BenchFault;
+use crate::messages::ENDPOINT;
 use crate::samples::{next, observe, path, register, update, watched};
 use lw_join::Join;
 use lw_reg::{Op, Path, Slot, atom};
@@ -21,8 +22,6 @@ pub enum SlotCall {
 
 /// The most observations in a round, so that the slot keeps about N paths.
 const OBSERVATIONS: u32 = 100;
-
-const ENDPOINT: &str = "urn:dev:mac:0024be804ff1";
 
 impl SlotCall {
     pub fn as_str(self) -> &'static str {
@@ -59,10 +58,10 @@ impl Place {
     /// The path of this number, of all that are joined into a slot of so many.
     fn path(self, count: u32, number: u32) -> Result<Path, BenchFault> {
         match self {
-            Place::Above => path(count.saturating_add(number), false),
+            Place::Above => path(count.saturating_add(number).saturating_mul(2)),
             Place::Between => {
-                let step = (count / OBSERVATIONS).max(1);
-                path(number.saturating_mul(step), true)
+                let step = (count / OBSERVATIONS).max(1).saturating_mul(2);
+                path(number.saturating_mul(step).saturating_add(1))
             }
         }
     }

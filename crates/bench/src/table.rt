@@ -9,6 +9,9 @@ use crate::row::row;
 /// How often a row is measured; the least time counts.
 const ROUNDS: u32 = 7;
 
+/// The bytes of a row.
+const WIDTH: usize = 102;
+
 /// The size of a trial.
 const FEW: u32 = 10;
 
@@ -19,9 +22,18 @@ const STORED: u32 = 100_000;
 pub fn try_all(rt: &HostRuntime) -> Result<(), BenchFault> {
     bytes_each(rt, rt.alloc(), FEW)?;
     for operation in Operation::ALL {
-        measure(rt, operation, FEW, 1)?;
+        try_row(rt, operation)?;
     }
     println!(rt; "ok")?;
+    Ok(())
+}
+
+fn try_row(rt: &HostRuntime, operation: Operation) -> Result<(), BenchFault> {
+    let cost = measure(rt, operation, FEW, 1)?;
+    let text = row(rt.alloc(), operation.as_str(), cost, cost, cost)?;
+    if text.len() != WIDTH {
+        return Err(BenchFault::Unexpected);
+    }
     Ok(())
 }
 
