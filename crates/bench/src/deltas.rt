@@ -1,0 +1,133 @@
+//! What reading and writing a delta of N slots costs.
+
+ghost use Rattle.std.specs.Prelude.{◌<◌, ◌^◌, None};
+ghost use Rattle.lw_delta.specs.Writable.{AllFollow};
+
+use crate::cost::Cost;
+use crate::fault::BenchFault;
+use crate::messages::OBJECTS;
+use crate::names::{Order, names};
+use lw_delta::{Delta, Writer, check, read};
+use lw_reg::Slot;
+use lw_stamp::{NoMemory, Text};
+use std::alloc::{AllocError, Global};
+use std::time::CpuClock;
+
+/// A call on a delta.
+#[derive(Clone, Copy)]
+pub enum DeltaCall {
+    Write,
+    Check,
+    Read,
+}
+
+/// The magic bytes and a clock of 1.
+const HEADER: &[u8] = &[b'L', b'W', b'D', b'1', 0, 0, 0, 0, 0, 1];
+
+/// What stands before an endpoint of 24 bytes.
+const SLOT_BEGIN: &[u8] = &[1, 24];
+
+/// What stands behind the endpoint, up to the 72 bytes of the object list: a registration with all fields,
+/// written by the operation with counter 1 at node 1.
+const FIELDS: &[u8] = &[
+    0, 0, 0, 0, 0, 1, 0, 1, 0x7f, // the registration's stamp, and which fields there are
+    1, // version 1.1, no queue mode
+    0, 0, 0, 0, 0, 1, 0, 1, 4, 192, 0, 2, 1, 0x16, 0x33, // 192.0.2.1:5683
+    0, 0, 0, 0, 0, 1, 0, 1, 0, 0, 0, 0, 0, 0, // the moment 0
+    0, 0, 0, 0, 0, 1, 0, 1, 0, 0, 1, 0x2c, // 300 seconds
+    0, 0, 0, 0, 0, 1, 0, 1, 1, b'U', // the binding
+    0, 0, 0, 0, 0, 1, 0, 1, 0, // no SMS number
+    0, 0, 0, 0, 0, 1, 0, 1, 0, 72, // an object list
+];
+
+/// What ends the watches, and what ends the slots.
+const END: u8 = 0;
+
+impl DeltaCall {
+    pub fn as_str(self) -> &'static str {
+        match self {
+            DeltaCall::Write => "delta written, each slot",
+            DeltaCall::Check => "delta checked, each slot",
+            DeltaCall::Read => "delta read, each slot",
+        }
+    }
+
+    /// The cost of a delta of so many slots.
+    pub fn round<C: CpuClock>(
+        self,
+        clock: &C,
+        alloc: Global,
+        count: u32,
+    ) -> Result<Cost, BenchFault> {
+        let bytes = delta(alloc, &names(alloc, Order::Rising, count)?)?;
+        match self {
+            DeltaCall::Write => write_delta(clock, alloc, &bytes, count),
+            DeltaCall::Check => check_delta(clock, &bytes, count),
+            DeltaCall::Read => read_delta(clock, alloc, &bytes, count),
+        }
+    }
+}
+
+/// The bytes of a delta with a registration of each name.
+fn delta(alloc: Global, names: &[String]) -> Result<Vec<u8>, AllocError> {
+    let mut bytes = Vec::from_slice(alloc, HEADER)?;
+    for name in names {
+        bytes.extend_from_slice(SLOT_BEGIN)?;
+        bytes.extend_from_slice(name.as_bytes())?;
+        bytes.extend_from_slice(FIELDS)?;
+        bytes.extend_from_slice(OBJECTS)?;
+        bytes.push(END)?;
+    }
+    bytes.push(END)?;
+    Ok(bytes)
+}
+
+fn check_delta<C: CpuClock>(clock: &C, bytes: &[u8], count: u32) -> Result<Cost, BenchFault> {
+    let start = clock.thread_cpu_time()?;
+    check(bytes)?;
+    Cost::since(clock, start, count, bytes.len() as u64)
+}
+
+fn read_delta<C: CpuClock>(
+    clock: &C,
+    alloc: Global,
+    bytes: &[u8],
+    count: u32,
+) -> Result<Cost, BenchFault> {
+    let start = clock.thread_cpu_time()?;
+    let delta = read(alloc, bytes)?;
+    let cost = Cost::since(clock, start, count, bytes.len() as u64)?;
+    if delta.slots.len() != count as usize {
+        return Err(BenchFault::Unexpected);
+    }
+    Ok(cost)
+}
+
+fn write(alloc: Global, clock: u64, slots: &[(Text, Slot)]) -> Result<Vec<u8>, NoMemory>
+    requires in_range { clock < 2 ^ 48 }
+    requires follow { AllFollow clock None slots.now }
+{
+    let mut writer = Writer::new(alloc, clock)?;
+    for entry in slots {
+        let (endpoint, slot) = entry;
+        writer.slot(endpoint.as_str(), slot)?;
+    }
+    writer.end()
+}
+
+/// Writes again what was read from the bytes.
+fn write_delta<C: CpuClock>(
+    clock: &C,
+    alloc: Global,
+    bytes: &[u8],
+    count: u32,
+) -> Result<Cost, BenchFault> {
+    let delta = read(alloc, bytes)?;
+    let start = clock.thread_cpu_time()?;
+    let written = write(alloc, delta.clock, &delta.slots)?;
+    let cost = Cost::since(clock, start, count, bytes.len() as u64)?;
+    if written.as_slice() != bytes {
+        return Err(BenchFault::Unexpected);
+    }
+    Ok(cost)
+}
