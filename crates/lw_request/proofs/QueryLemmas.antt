@@ -1,17 +1,19 @@
 -- The queries of a Register and an Update.
-use Rattle.std.proofs.Common.{◌≡◌, ℕ, ◌+◌, ◌≤◌, true, false, List, [], ◌∷◌, ◌++◌, length, codes, Option, Some, None, refl, sym, ap, subst, ◌∙◌, inl, inr, arith, length-drop, IsUtf8}
-use Rattle.std.specs.Prelude.{unwrap_or, bytes_eq, if◌then◌else◌, ◌==◌}
+use Rattle.std.proofs.Common.{◌≡◌, ℕ, ◌+◌, ◌-◌, ◌≤◌, true, false, List, [], ◌∷◌, ◌++◌, length, codes, Option, Some, None, refl, sym, ap, subst, ◌∙◌, inl, inr, arith, length-drop, IsUtf8, ◌≢◌, ◌↔◌, ◌⊎◌, Result, Ok, Err}
+use Rattle.std.specs.Prelude.{IfOk, OnErr, IfNone, unwrap_or, bytes_eq, if◌then◌else◌, ◌==◌}
 use Rattle.std.specs.List.{AllByRecursion, position_or_len}
 use Rattle.std.specs.Option.{option_map}
 use Rattle.std.proofs.lemmas.Bool.{cases_Bool, cond-true, cond-false}
 use Rattle.std.proofs.lemmas.List.{length-take}
 use Rattle.std.proofs.lemmas.Slice.Eq.{bytes_eq-Decides}
 use Rattle.lw_reg.specs.declared.binding.Binding.{Binding}
+use Rattle.lw_reg.specs.declared.version.Version.{Version}
+use Rattle.lw_reg.specs.Version.{version_text}
 use Rattle.lw_reg.specs.Binding.{binding_text}
 use Rattle.lw_reg.specs.BindingText.{IsBindingText}
 use Rattle.lw_coap.specs.Message.{OptionContent}
 use Rattle.lw_request.specs.Options.{values_of, has_unrecognised}
-use Rattle.lw_request.specs.Queries.{name_of, value_of, later_or, Parameter, parameter_name, given, Accepts, IsLifetime, AreTexts, IsOfUpdate, HasBadQuery, IsGiven, AreSettings, IsShort}
+use Rattle.lw_request.specs.Queries.{name_of, value_of, later_or, Parameter, parameter_name, given, Accepts, IsLifetime, AreTexts, IsOfUpdate, EachIsLookedAt, HasBadQuery, IsGiven, AreSettings, IsWithin, IsNotAccepted}
 use Rattle.lw_request.specs.Queries.Parameter.{Ep, Lt, Lwm2m, B, Q, Sms}
 use Rattle.lw_request.proofs.Recognised.{IsShortQuery, recognised_short}
 
@@ -29,103 +31,47 @@ pub record AreGathered (all left : List (List ℕ)) (values : Parameter → Opti
   pub back : AreTexts all → AreTexts left
   pub values_are : (p : Parameter) → given p all ≡ later_or (given p left) (values p)
 
-later_none : (o : Option (List ℕ)) → later_or o None ≡ o
-later_none None = refl
-later_none (Some v) = refl
+-- ---- the length of a value
 
-later_twice : (a b c : Option (List ℕ)) → later_or (later_or a b) c ≡ later_or a (later_or b c)
-later_twice None b c = refl
-later_twice (Some v) b c = refl
-
-pub gathered_start : (all : List (List ℕ)) (values : Parameter → Option (List ℕ)) → ((p : Parameter) → values p ≡ None) → AreGathered all all values
-gathered_start all values none = record {
-  texts = λ h. h;
-  back = λ h. h;
-  values_are = λ p. sym (ap (later_or (given p all)) (none p) ∙ later_none (given p all));
-}
-
-values_front : (option : OptionContent) (options : List OptionContent) → values_of 15 (option ∷ options) ≡ values_of 15 (option ∷ []) ++ values_of 15 options
-values_front option options =
-    elim (cases_Bool (option.number == 15)) [
-      | inl same ↦ rw same refl
-      | inr other ↦ rw other refl
-    ]
-
-texts_both : (front back : List (List ℕ)) → AreTexts front → AreTexts back → AreTexts (front ++ back)
-texts_both [] back h k = k
-texts_both (query ∷ front) back h k = (h.0, texts_both front back h.1 k)
-
-texts_front : (front back : List (List ℕ)) → AreTexts (front ++ back) → AreTexts front
-texts_front [] back h = tt
-texts_front (query ∷ front) back h = (h.0, texts_front front back h.1)
-
-texts_back : (front back : List (List ℕ)) → AreTexts (front ++ back) → AreTexts back
-texts_back [] back h = h
-texts_back (query ∷ front) back h = texts_back front back h.1
-
-given_both : (p : Parameter) (front back : List (List ℕ)) → given p (front ++ back) ≡ later_or (given p back) (given p front)
-given_both p [] back = sym (later_none (given p back))
-given_both p (query ∷ front) back =
-    let here = (if bytes_eq (name_of query) (parameter_name p) then Some (value_of query) else None) in
-    ap (λ (o : Option (List ℕ)). later_or o here) (given_both p front back) ∙ later_twice (given p back) (given p front) here
-
-pub gathered_more : (all : List (List ℕ)) (option : OptionContent) (options : List OptionContent) (old new : Parameter → Option (List ℕ)) → AreTexts (values_of 15 (option ∷ []))
-    → ((p : Parameter) → new p ≡ later_or (given p (values_of 15 (option ∷ []))) (old p)) → AreGathered all (values_of 15 (option ∷ options)) old → AreGathered all (values_of 15 options) new
-gathered_more all option options old new texts more h =
-    let front = values_of 15 (option ∷ []) in
-    let back = values_of 15 options in
-    let are = values_front option options in
-    record {
-      texts = λ k. h.texts (subst AreTexts (sym are) (texts_both front back texts k));
-      back = λ k. texts_back front back (subst AreTexts are (h.back k));
-      values_are = λ p.
-        h.values_are p
-        ∙ ap (λ (qs : List (List ℕ)). later_or (given p qs) (old p)) are
-        ∙ ap (λ (o : Option (List ℕ)). later_or o (old p)) (given_both p front back)
-        ∙ later_twice (given p back) (given p front) (old p)
-        ∙ ap (later_or (given p back)) (sym (more p));
-    }
-
-pub gathered_all : (all : List (List ℕ)) (values : Parameter → Option (List ℕ)) → AreGathered all [] values → AreTexts all × ((p : Parameter) → values p ≡ given p all)
-gathered_all all values h = (h.texts tt, λ p. sym (h.values_are p))
-
-pub gathered_bad : (all : List (List ℕ)) (option : OptionContent) (options : List OptionContent) (values : Parameter → Option (List ℕ)) → (AreTexts (values_of 15 (option ∷ [])) → ⊥)
-    → AreGathered all (values_of 15 (option ∷ options)) values → AreTexts all → ⊥
-gathered_bad all option options values bad h k =
-    bad (texts_front (values_of 15 (option ∷ [])) (values_of 15 options) (subst AreTexts (values_front option options) (h.back k)))
-
--- ---- the SMS number
-
-value_short : (query : List ℕ) → IsShortQuery query → name_of query ≡ codes "sms" → length (value_of query) ≤ 251
-value_short query short named =
+value_short : (query name : List ℕ) → IsShortQuery query → name_of query ≡ name → length (value_of query) ≤ 254 - length name
+value_short query name short named =
     let n = position_or_len (λ (c : ℕ). c == 61) query in
     let front = length-take n query in
     let back = length-drop (n + 1) query in
-    let three : length (name_of query) ≡ 3 = ap length named in
-    omega (arith, front, back, three, short)
+    let same : length (name_of query) ≡ length name = ap length named in
+    omega (arith, front, back, same, short)
 
-later_short : (later : Option (List ℕ)) (earlier : Option (List ℕ)) → IsShort later → IsShort earlier → IsShort (later_or later earlier)
-later_short (Some v) earlier h k = h
-later_short None earlier h k = k
+later_short : (most : ℕ) (later earlier : Option (List ℕ)) → IsWithin most later → IsWithin most earlier → IsWithin most (later_or later earlier)
+later_short most (Some v) earlier h k = h
+later_short most None earlier h k = k
 
-value_is_short : (query : List ℕ) → IsShortQuery query → IsShort (if bytes_eq (name_of query) (codes "sms") then Some (value_of query) else None)
-value_is_short query short =
-    elim (cases_Bool (bytes_eq (name_of query) (codes "sms"))) [
-      | inl same ↦ subst IsShort (sym (cond-true (bytes_eq (name_of query) (codes "sms")) (Some (value_of query)) None same))
-          (λ text e. subst (λ (v : List ℕ). length v ≤ 251) (some_is (value_of query) text e) (value_short query short ((bytes_eq-Decides (name_of query) (codes "sms")).0 same)))
-      | inr other ↦ subst IsShort (sym (cond-false (bytes_eq (name_of query) (codes "sms")) (Some (value_of query)) None other))
+value_is_short : (query name : List ℕ) → IsShortQuery query → IsWithin (254 - length name) (if bytes_eq (name_of query) name then Some (value_of query) else None)
+value_is_short query name short =
+    elim (cases_Bool (bytes_eq (name_of query) name)) [
+      | inl same ↦ subst (IsWithin (254 - length name)) (sym (cond-true (bytes_eq (name_of query) name) (Some (value_of query)) None same))
+          (λ text e. subst (λ (v : List ℕ). length v ≤ 254 - length name) (some_is (value_of query) text e) (value_short query name short ((bytes_eq-Decides (name_of query) name).0 same)))
+      | inr other ↦ subst (IsWithin (254 - length name)) (sym (cond-false (bytes_eq (name_of query) name) (Some (value_of query)) None other))
           (λ text e. absurd (none_some text e))
     ]
 
-last_short : (queries : List (List ℕ)) → AllByRecursion IsShortQuery queries → IsShort (given Sms queries)
-last_short [] h = λ text e. absurd (none_some text e)
-last_short (query ∷ queries) h =
-    later_short (given Sms queries) (if bytes_eq (name_of query) (codes "sms") then Some (value_of query) else None) (last_short queries h.1) (value_is_short query h.0)
+given_short : (p : Parameter) (queries : List (List ℕ)) → AllByRecursion IsShortQuery queries → IsWithin (254 - length (parameter_name p)) (given p queries)
+given_short p [] h = λ text e. absurd (none_some text e)
+given_short p (query ∷ queries) h =
+    later_short (254 - length (parameter_name p)) (given p queries) (if bytes_eq (name_of query) (parameter_name p) then Some (value_of query) else None) (given_short p queries h.1)
+    (value_is_short query (parameter_name p) h.0)
 
-pub sms_short : (options : List OptionContent) → (has_unrecognised options ≡ true → ⊥) → IsShort (given Sms (values_of 15 options))
-sms_short options h = last_short (values_of 15 options) (recognised_short options h)
+-- an SMS number stands behind `sms=` and an endpoint behind `ep=`, in a query of at most 255 bytes
+pub sms_short : (options : List OptionContent) → (has_unrecognised options ≡ true → ⊥) → IsWithin 251 (given Sms (values_of 15 options))
+sms_short options h = given_short Sms (values_of 15 options) (recognised_short options h)
+
+pub endpoint_short : (options : List OptionContent) → (has_unrecognised options ≡ true → ⊥) → IsWithin 252 (given Ep (values_of 15 options))
+endpoint_short options h = given_short Ep (values_of 15 options) (recognised_short options h)
 
 -- ---- bad queries
+
+pub bad_value : (P : Parameter → Type 0) (p : Parameter) (queries : List (List ℕ)) (o : Option (List ℕ)) → P p → o ≡ given p queries → IsNotAccepted p o → HasBadQuery P queries
+bad_value P p queries o looked same (value, is, refuted) =
+    inr (inl (record { parameter = p; value = value; looked_at = looked; is_given = sym same ∙ is; not_accepted = refuted }))
 
 pub bad_more : (P R : Parameter → Type 0) (queries : List (List ℕ)) → ((p : Parameter) → P p → R p) → HasBadQuery P queries → HasBadQuery R queries
 bad_more P R queries f (inl texts) = inl texts
@@ -189,3 +135,37 @@ good_update P queries lifetime binding sms texts h f (inr (inl bad)) =
     bad.not_accepted (good_update_value queries lifetime binding sms h bad.parameter bad.value (f bad.parameter bad.looked_at) bad.is_given)
 good_update P queries lifetime binding sms texts h f (inr (inr (looked, none))) =
     let x : false ≡ true = f Ep looked in cc
+
+-- ---- what is made of the values
+
+pub on_err : {V E : Type 0} (P : Type 0) (r : Result V E) → P → OnErr r P
+on_err P (Ok v) h = tt
+on_err P (Err e) h = h
+
+pub on_err_as : {V E : Type 0} (P R : Type 0) (r : Result V E) → (P → R) → OnErr r P → OnErr r R
+on_err_as P R (Ok v) f h = tt
+on_err_as P R (Err e) f h = f h
+
+pub if_ok_all : {V E : Type 0} (First Second Third All : V → Type 0) (r : Result V E) → ((v : V) → First v → Second v → Third v → All v) → IfOk r First → IfOk r Second → IfOk r Third → IfOk r All
+if_ok_all First Second Third All (Ok v) f a b c = f v a b c
+if_ok_all First Second Third All (Err e) f a b c = tt
+
+pub bad_endpoint : (queries : List (List ℕ)) (o : Option (List ℕ)) → o ≡ given Ep queries → (o ≡ None) ⊎ IsNotAccepted Ep o → HasBadQuery EachIsLookedAt queries
+bad_endpoint queries o same (inl none) = inr (inr (tt, sym same ∙ none))
+bad_endpoint queries o same (inr bad) = bad_value EachIsLookedAt Ep queries o tt same bad
+
+pub bad_settings : (P : Parameter → Type 0) (queries : List (List ℕ)) (lt b : Option (List ℕ)) → P Lt → P B → lt ≡ given Lt queries → b ≡ given B queries
+    → IsNotAccepted Lt lt ⊎ IsNotAccepted B b → HasBadQuery P queries
+bad_settings P queries lt b looked other same is (inl bad) = bad_value P Lt queries lt looked same bad
+bad_settings P queries lt b looked other same is (inr bad) = bad_value P B queries b other is bad
+
+pub other_version : (r : Option Version) (o : Option (List ℕ)) (text : List ℕ) → o ≡ Some text → ((v : Version) → (r ≡ Some v) ↔ (text ≡ version_text v))
+    → IfNone r ((x : List ℕ) × (o ≡ Some x) × ((v : Version) → x ≢ version_text v))
+other_version None o text is iff = (text, is, λ v e. none_some v ((iff v).1 e))
+other_version (Some v) o text is iff = tt
+
+pub lifetime_or : (o : Option (List ℕ)) (l : Option ℕ) → IsGiven IsLifetime o l → IsLifetime (unwrap_or o (codes "86400")) (unwrap_or l 86400)
+lifetime_or None None h = (omega arith, omega arith, ((omega arith, omega arith), ((omega arith, omega arith), ((omega arith, omega arith), ((omega arith, omega arith), ((omega arith, omega arith), tt))))), refl, omega arith)
+lifetime_or None (Some l) h = absurd h
+lifetime_or (Some text) None h = absurd h
+lifetime_or (Some text) (Some l) h = h

@@ -16,13 +16,12 @@ use Rattle.lw_stamp.specs.StampBytes.{counter_in, node_in}
 use Rattle.lw_stamp.proofs.StampLemmas.{id_decodes, same_stamp, spelled_counter, spelled_node}
 use Rattle.lw_coap.specs.Message.{MessageContent}
 use Rattle.lw_link.specs.Link.{LinkContent}
-use Rattle.lw_link.specs.Grammar.{IsList}
-use Rattle.lw_link.specs.Machine.{Rest, read_on}
+use Rattle.lw_link.specs.declared.fault.LinkFault.{LinkFault}
+use Rattle.lw_link.specs.declared.fault.LinkFault.TheVariants.{NotText, Grammar, TooMany, NoMemory}
+use Rattle.lw_link.specs.Faults.{IsFault}
 use Rattle.lw_link.specs.Printing.{printing}
+use Rattle.lw_link.proofs.Decided.{read_or_fault}
 use Rattle.lw_link.specs.Spelling.{Spells}
-use Rattle.lw_link.proofs.Complete.{list_held}
-use Rattle.lw_link.proofs.Scanned.{IsScanned, scanned_start}
-use Rattle.lw_link.proofs.Sound.{Are, whole_are}
 use Rattle.lw_reg.specs.declared.binding.Binding.{Binding}
 use Rattle.lw_reg.specs.declared.version.Version.{Version}
 use Rattle.lw_reg.specs.declared.version.Version.TheVariants.{V10, V11}
@@ -122,44 +121,21 @@ binding_of text h =
     let made = letters_of_text text text letters refl h refl in
     (record { letters = letters; padded = made.0 }, made.1)
 
--- a test says which of two facts holds
-by_test : {b : Bool} {X Y : Type 0} → (b ≡ false → Y) → (b ≡ true → X) → X ⊎ Y
-by_test {b = b} f g = elim (cases_Bool b) [ inl e ↦ inl (g e) | inr e ↦ inr (f e) ]
-
--- a fact of any style and state holds of those that the characters are scanned in
-at_start : {K S : Type 0} (IsAt : K → S → Type 0) (IsOf : K → Type 0) (Fact : K → S → Type 0) (k : K) (s : S) → IsAt k s → IsOf k → ((k : K) (s : S) → Fact k s) → Fact k s
-at_start IsAt IsOf Fact k s at of fact = fact k s
-
--- bytes spell links or none: what the characters are scanned to says which
-decided_list : (bytes : List ℕ) → ((links : List LinkContent) × Spells bytes links) ⊎ SpellsNone bytes
-decided_list bytes =
-    elim (decided_text bytes) [
-      | inr other ↦ inr (λ links spells. other spells.0)
-      | inl text ↦ by_test
-          (λ cut links spells. both_ways _ cut (ap (λ (r : Rest). r.whole) (list_held _ (chars bytes) links spells.1)))
-          (λ whole. (
-            _,
-            (
-              text,
-              at_start (λ k s. IsScanned k bytes s 0 0 (chars bytes)) (λ k. (links : List LinkContent) → Spells bytes links → IsList k (chars bytes) links)
-                  (λ k s. (read_on k s (chars bytes)).whole ≡ true → Are k s (chars bytes) (read_on k s (chars bytes))) _ _
-                  (scanned_start _ bytes text) (λ links spells. spells.1) (λ k s. whole_are k (chars bytes) s) whole,
-            ),
-          ))
-    ]
-
 decided_objects : (bytes : List ℕ) → IsTooLarge bytes ⊎ (((objects : List ℕ) × IsObjectList bytes objects) ⊎ ((length bytes ≤ 8192) × SpellsNone bytes))
 decided_objects bytes =
     elim (cases_lt 8192 (length bytes)) [
       | inl over ↦ inl (inl over)
-      | inr within ↦ elim (decided_list bytes) [
-        | inr none ↦ inr (inr (within, none))
-        | inl list ↦ elim (cases_lt 256 (length list.0)) [
-          | inl many ↦ inl (inr (list.0, list.1, many))
-          | inr few ↦ inr (inl (printing list.0, (within, (list.0, list.1, few, refl))))
-        ]
+      | inr within ↦ elim (read_or_fault bytes) [
+        | inl (links, spells, few) ↦ inr (inl (printing links, (within, (links, spells, few, refl))))
+        | inr (fault, is) ↦ elim (fault_objects bytes fault is) [ inl large ↦ inl large | inr none ↦ inr (inr (within, none)) ]
       ]
     ]
+  where
+    fault_objects : (bytes : List ℕ) (fault : LinkFault) → IsFault bytes fault → IsTooLarge bytes ⊎ SpellsNone bytes
+    fault_objects bytes NotText h = inr (λ links spells. h spells.0)
+    fault_objects bytes (Grammar place) h = inr h.1
+    fault_objects bytes TooMany h = inl (inr h)
+    fault_objects bytes NoMemory h = absurd h
 
 -- ---- the registration that a segment names
 

@@ -117,6 +117,6 @@ pub record AreSettings (queries : List (List ℕ)) (lifetime : Option ℕ) (bind
 abbrev pub EachIsLookedAt : Parameter → Type 0
 EachIsLookedAt parameter = Unit {0}
 
--- an SMS number that is given has at most 251 bytes
-abbrev pub IsShort : Option (List ℕ) → Type 0
-IsShort sms = (text : List ℕ) → sms ≡ Some text → length text ≤ 251
+-- a value that is given has at most this many bytes
+abbrev pub IsWithin : ℕ → Option (List ℕ) → Type 0
+IsWithin most given = (text : List ℕ) → given ≡ Some text → length text ≤ most

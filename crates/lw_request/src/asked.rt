@@ -1,6 +1,6 @@
 use crate::{Refusal, Report};
 use lw_link::LinkText;
-use lw_reg::{Binding, SmsNumber, Text, Version};
+use lw_reg::{Binding, Endpoint, SmsNumber, Version};
 use lw_stamp::Stamp;
 
 /// What a message asks of the server (LwM2M 1.1 Core, section 6.2; RFC 7252, section 4.2).
@@ -8,7 +8,7 @@ use lw_stamp::Stamp;
 pub enum Asked {
     /// A POST on `rd`: a new registration.
     Register {
-        endpoint: Text,
+        endpoint: Endpoint,
         version: Version,
         /// Whether it asks for queue mode.
         queue: bool,

@@ -4,7 +4,7 @@ ghost use Rattle.std.specs.Prelude.{◌≡◌, ◌≤◌, ◌⊎◌, ℕ, [], �
 ghost use Rattle.std.specs.List.{AllByRecursion};
 ghost use Rattle.lw_reg.specs.Binding.{binding_text};
 ghost use Rattle.lw_request.specs.Options.{values_of};
-ghost use Rattle.lw_request.specs.Queries.{Parameter, IsDigit, IsLifetime, decimal_value, name_of, value_of, later_or, given, AreTexts, IsGiven, IsNotAccepted, IsShort};
+ghost use Rattle.lw_request.specs.Queries.{Parameter, IsDigit, IsLifetime, decimal_value, name_of, value_of, later_or, given, AreTexts, IsGiven, IsNotAccepted, IsWithin};
 ghost use Rattle.lw_request.specs.Queries.Parameter.{Lt, B, Sms};
 ghost use Rattle.lw_request.specs.Parameters.{value_in};
 
@@ -72,11 +72,26 @@ impl<'a> Parameters<'a> {
         let (name, value) = split_query(query);
         let value = Some(value);
         match name {
-            "ep" => Parameters { endpoint: value, ..self },
-            "lt" => Parameters { lifetime: value, ..self },
-            "lwm2m" => Parameters { version: value, ..self },
-            "b" => Parameters { binding: value, ..self },
-            "Q" => Parameters { queue: value, ..self },
+            "ep" => Parameters {
+                endpoint: value,
+                ..self
+            },
+            "lt" => Parameters {
+                lifetime: value,
+                ..self
+            },
+            "lwm2m" => Parameters {
+                version: value,
+                ..self
+            },
+            "b" => Parameters {
+                binding: value,
+                ..self
+            },
+            "Q" => Parameters {
+                queue: value,
+                ..self
+            },
             "sms" => Parameters { sms: value, ..self },
             _ => self,
         }
@@ -170,7 +185,7 @@ fn read_decimal(digits: &[u8]) -> Option<u64>
 
 /// The SMS number of a text of at most 251 bytes.
 pub(crate) fn sms_number(alloc: Global, text: Option<&str>) -> Result<Option<SmsNumber>, NoMemory>
-    requires { IsShort (option_copied text) }
+    requires { IsWithin 251 (option_copied text) }
     ensures ok { IfOk result (λ sms. sms ≡ option_copied text.entry) }
     ensures err { OnErr result (IsSome text.entry) }
 {

@@ -2,10 +2,11 @@
 
 ghost use Rattle.std.specs.Prelude.{◌≡◌, ◌≢◌, ◌≤◌, ◌⊎◌, ℕ, List, length, IsTrue, is_some, IfOk, OnOk, OnErr, IfSome, IfNone, Some, None, option_copied, codes, unwrap_or};
 ghost use Rattle.lw_reg.specs.Binding.{binding_text};
+ghost use Rattle.lw_reg.specs.Endpoint.{IsEndpoint};
 ghost use Rattle.lw_reg.specs.Version.{version_text};
 ghost use Rattle.lw_reg.specs.declared.version.Version.{Version as Versions};
 ghost use Rattle.lw_request.specs.Options.{values_of, has_unrecognised};
-ghost use Rattle.lw_request.specs.Queries.{given, AreTexts, IsLifetime, IsNotAccepted, HasBadQuery, EachIsLookedAt, IsShort};
+ghost use Rattle.lw_request.specs.Queries.{given, AreTexts, IsLifetime, IsNotAccepted, HasBadQuery, EachIsLookedAt, IsWithin};
 ghost use Rattle.lw_request.specs.Queries.Parameter.{Ep, Lt, Lwm2m, B, Q, Sms};
 ghost use Rattle.lw_request.specs.Steps.{IsRegister, post_steps};
 ghost use Rattle.lw_request.specs.Meaning.{MeansBy, Understands};
@@ -16,7 +17,7 @@ use crate::queries::{BadQuery, parameters_of, settings_of, sms_number};
 use crate::{Asked, Refusal};
 use lw_coap::{CoapOption, Message};
 use lw_link::LinkText;
-use lw_reg::{Binding, Text, Version};
+use lw_reg::{Binding, Endpoint, Text, Version};
 use lw_stamp::NoMemory;
 use std::alloc::Global;
 
@@ -110,11 +111,12 @@ fn make(
     version: Version,
     objects: LinkText,
 ) -> Result<Asked, NoMemory>
-    requires { IsShort (option_copied queries.now.sms) }
+    requires endpoint { IsEndpoint queries.now.endpoint.now }
+    requires sms { IsWithin 251 (option_copied queries.now.sms) }
     ensures { IfOk result (λ asked. asked ≡ Asked.Register queries.now.endpoint.now version queries.now.queue queries.now.lifetime queries.now.binding (option_copied queries.now.sms) objects) }
 {
     Ok(Asked::Register {
-        endpoint: Text::copy_of(alloc, queries.endpoint)?,
+        endpoint: endpoint_of(alloc, queries.endpoint)?,
         version,
         queue: queries.queue,
         lifetime: queries.lifetime,
@@ -122,4 +124,14 @@ fn make(
         sms: sms_number(alloc, queries.sms)?,
         objects,
     })
+}
+
+fn endpoint_of(alloc: Global, text: &str) -> Result<Endpoint, NoMemory>
+    requires { IsEndpoint text.now }
+    ensures { IfOk result (λ endpoint. endpoint ≡ text.now) }
+{
+    match Endpoint::new(Text::copy_of(alloc, text)?) {
+        Some(endpoint) => Ok(endpoint),
+        None => unreachable!(),
+    }
 }

@@ -2,7 +2,7 @@
 
 ghost use Rattle.std.specs.Prelude.{◌≡◌, ◌≢◌, [], IsTrue, IsSome, IfOk, OnOk, IfErr, OnErr, option_copied};
 ghost use Rattle.lw_request.specs.Options.{values_of, has_unrecognised};
-ghost use Rattle.lw_request.specs.Queries.{AreTexts, AreSettings, IsOfUpdate, HasBadQuery, IsShort};
+ghost use Rattle.lw_request.specs.Queries.{AreTexts, AreSettings, IsOfUpdate, HasBadQuery, IsWithin};
 ghost use Rattle.lw_request.specs.Objects.{IsUnread};
 ghost use Rattle.lw_request.specs.Steps.{IsUpdate, post_steps};
 ghost use Rattle.lw_request.specs.Meaning.{AreObjects, MeansBy, Understands};
@@ -63,7 +63,7 @@ fn make(
     settings: &Settings<'_>,
     objects: Option<LinkText>,
 ) -> Result<Asked, NoMemory>
-    requires { IsShort (option_copied settings.now.sms) }
+    requires { IsWithin 251 (option_copied settings.now.sms) }
     ensures ok { IfOk result (λ asked. asked ≡ Asked.Update id settings.now.lifetime settings.now.binding (option_copied settings.now.sms) objects) }
     ensures err { OnErr result (IsSome settings.now.sms) }
 {

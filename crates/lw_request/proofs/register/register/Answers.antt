@@ -1,4 +1,4 @@
-use Rattle.std.proofs.Common.{◌≡◌, ◌≢◌, ℕ, List, Some, sym, ap, subst, ◌∙◌}
+use Rattle.std.proofs.Common.{◌≡◌, ◌≢◌, ℕ, List, Option, Some, sym, ap, subst, ◌∙◌}
 use Rattle.std.specs.Prelude.{unwrap_or, option_copied, codes}
 use Rattle.lw_coap.specs.Message.{OptionContent, MessageContent}
 use Rattle.lw_reg.specs.declared.version.Version.{Version}
@@ -6,12 +6,12 @@ use Rattle.lw_reg.specs.Version.{version_text}
 use Rattle.lw_request.specs.declared.asked.Asked.TheVariants.{Register}
 use Rattle.lw_request.specs.declared.objects.Unread.TheVariants.{TooLarge, NoLinks, NoMemory}
 use Rattle.lw_request.specs.Options.{values_of}
-use Rattle.lw_request.specs.Queries.{given, HasBadQuery, EachIsLookedAt, IsShort}
-use Rattle.lw_request.specs.Queries.Parameter.{Lwm2m, Sms}
+use Rattle.lw_request.specs.Queries.{given, HasBadQuery, EachIsLookedAt, IsWithin}
+use Rattle.lw_request.specs.Queries.Parameter.{Ep, Lwm2m, Sms}
 use Rattle.lw_request.specs.Objects.{IsObjectList, IsTooLarge, IsUnread}
 use Rattle.lw_request.specs.Steps.{post_steps}
 use Rattle.lw_request.specs.Meaning.{MeansBy}
-use Rattle.lw_request.proofs.QueryLemmas.{sms_short}
+use Rattle.lw_request.proofs.QueryLemmas.{endpoint_short, sms_short}
 use Rattle.lw_request.proofs.Meanings.{HasQueries, understands_made, any_error, right_format, right_version, good_queries, register_bad, register_other, post_too_large, register_no_links, register_asks}
 use Rattle.lw_request.proofs.register.register.Goals as goal
 
@@ -32,12 +32,19 @@ returns-in_default-version_in c =
     let has : HasQueries (values_of 15 c.as_slice-options.result.now) q.endpoint.now q.queue q.lifetime q.binding (option_copied q.sms) = record { texts = e.texts; endpoint_is = e.endpoint.0; named = e.endpoint.1; queue_is = e.queue; lifetime_is = e.lifetime; binding_is = e.binding; sms_is = e.sms } in
     let queries = subst (λ (qs : List (List ℕ)). HasQueries qs q.endpoint.now q.queue q.lifetime q.binding (option_copied q.sms)) (ap (values_of 15) same) has in
     register_other m c.requires.form format (good_queries m q.endpoint.now q.queue q.lifetime q.binding (option_copied q.sms) queries)
-    (subst (λ (qs : List (List ℕ)). (text : List ℕ) × (given Lwm2m qs ≡ Some text) × ((version : Version) → text ≢ version_text version)) (ap (values_of 15) same) c.in_default-version_in.ensures.none)
+    (subst (λ (o : Option (List ℕ)). (text : List ℕ) × (o ≡ Some text) × ((version : Version) → text ≢ version_text version)) (e.version ∙ ap (λ (os : List OptionContent). given Lwm2m (values_of 15 os)) same) c.in_default-version_in.ensures.none)
 
-pub make-requires : goal.make-requires
-make-requires c =
+pub make-requires-clause-endpoint : goal.make-requires-clause-endpoint
+make-requires-clause-endpoint c =
+    let e = c.in-Ok.ensures in
     let same = c.as_slice-options.ensures.value ∙ ap (λ (m : MessageContent). m.options) c.request.view_is in
-    subst IsShort (sym (c.in-Ok.ensures.sms ∙ ap (λ (os : List OptionContent). given Sms (values_of 15 os)) same)) (sms_short c.args.request.now.options c.requires.recognised)
+    let is = sym (ap (λ (os : List OptionContent). given Ep (values_of 15 os)) same) ∙ e.endpoint.0 in
+    record { some = e.endpoint.1; most = endpoint_short c.args.request.now.options c.requires.recognised c.in-Ok.queries.endpoint.now is }
+
+pub make-requires-clause-sms : goal.make-requires-clause-sms
+make-requires-clause-sms c =
+    let same = c.as_slice-options.ensures.value ∙ ap (λ (m : MessageContent). m.options) c.request.view_is in
+    subst (IsWithin 251) (sym (c.in-Ok.ensures.sms ∙ ap (λ (os : List OptionContent). given Sms (values_of 15 os)) same)) (sms_short c.args.request.now.options c.requires.recognised)
 
 pub returns-in-Ok-read_objects : goal.returns-in-Ok-read_objects
 returns-in-Ok-read_objects c =
@@ -49,7 +56,7 @@ returns-in-Ok-read_objects c =
     let format = right_format m c.as_slice-options.result.now c.has_other_format.result same c.has_other_format.ensures c.if-has_other_format.false in
     let has : HasQueries (values_of 15 c.as_slice-options.result.now) q.endpoint.now q.queue q.lifetime q.binding (option_copied q.sms) = record { texts = e.texts; endpoint_is = e.endpoint.0; named = e.endpoint.1; queue_is = e.queue; lifetime_is = e.lifetime; binding_is = e.binding; sms_is = e.sms } in
     let queries = subst (λ (qs : List (List ℕ)). HasQueries qs q.endpoint.now q.queue q.lifetime q.binding (option_copied q.sms)) (ap (values_of 15) same) has in
-    let version = subst (λ (qs : List (List ℕ)). version_text c.in-Some.version ≡ unwrap_or (given Lwm2m qs) (codes "1.0")) (ap (values_of 15) same) c.in-Some.ensures.some in
+    let version = subst (λ (o : Option (List ℕ)). version_text c.in-Some.version ≡ unwrap_or o (codes "1.0")) (e.version ∙ ap (λ (os : List OptionContent). given Lwm2m (values_of 15 os)) same) c.in-Some.ensures.some in
     let objects = subst (λ (bytes : List ℕ). IsObjectList bytes c.in-Ok-read_objects.objects) payload c.in-Ok-read_objects.ensures.found in
     understands_made (MeansBy post_steps m) c.make.result (Register q.endpoint.now c.in-Some.version q.queue q.lifetime q.binding (option_copied q.sms) c.in-Ok-read_objects.objects) (Unit {0})
     (register_asks m q.endpoint.now c.in-Some.version q.queue q.lifetime q.binding (option_copied q.sms) c.in-Ok-read_objects.objects c.requires.form format queries version objects)
@@ -65,7 +72,7 @@ returns-in-Err-TooLarge c =
     let format = right_format m c.as_slice-options.result.now c.has_other_format.result same c.has_other_format.ensures c.if-has_other_format.false in
     let has : HasQueries (values_of 15 c.as_slice-options.result.now) q.endpoint.now q.queue q.lifetime q.binding (option_copied q.sms) = record { texts = e.texts; endpoint_is = e.endpoint.0; named = e.endpoint.1; queue_is = e.queue; lifetime_is = e.lifetime; binding_is = e.binding; sms_is = e.sms } in
     let queries = subst (λ (qs : List (List ℕ)). HasQueries qs q.endpoint.now q.queue q.lifetime q.binding (option_copied q.sms)) (ap (values_of 15) same) has in
-    let version = subst (λ (qs : List (List ℕ)). version_text c.in-Some.version ≡ unwrap_or (given Lwm2m qs) (codes "1.0")) (ap (values_of 15) same) c.in-Some.ensures.some in
+    let version = subst (λ (o : Option (List ℕ)). version_text c.in-Some.version ≡ unwrap_or o (codes "1.0")) (e.version ∙ ap (λ (os : List OptionContent). given Lwm2m (values_of 15 os)) same) c.in-Some.ensures.some in
     let large : IsUnread c.deref.result.now TooLarge = subst (IsUnread c.deref.result.now) c.in-Err-TooLarge.field-0-is c.in-Err-TooLarge.ensures.unread in
     post_too_large m c.requires.form.1 format (good_queries m q.endpoint.now q.queue q.lifetime q.binding (option_copied q.sms) queries) (right_version m c.in-Some.version version) (subst IsTooLarge payload large)
 
@@ -79,7 +86,7 @@ returns-in-Err-NoLinks c =
     let format = right_format m c.as_slice-options.result.now c.has_other_format.result same c.has_other_format.ensures c.if-has_other_format.false in
     let has : HasQueries (values_of 15 c.as_slice-options.result.now) q.endpoint.now q.queue q.lifetime q.binding (option_copied q.sms) = record { texts = e.texts; endpoint_is = e.endpoint.0; named = e.endpoint.1; queue_is = e.queue; lifetime_is = e.lifetime; binding_is = e.binding; sms_is = e.sms } in
     let queries = subst (λ (qs : List (List ℕ)). HasQueries qs q.endpoint.now q.queue q.lifetime q.binding (option_copied q.sms)) (ap (values_of 15) same) has in
-    let version = subst (λ (qs : List (List ℕ)). version_text c.in-Some.version ≡ unwrap_or (given Lwm2m qs) (codes "1.0")) (ap (values_of 15) same) c.in-Some.ensures.some in
+    let version = subst (λ (o : Option (List ℕ)). version_text c.in-Some.version ≡ unwrap_or o (codes "1.0")) (e.version ∙ ap (λ (os : List OptionContent). given Lwm2m (values_of 15 os)) same) c.in-Some.ensures.some in
     let none : IsUnread c.deref.result.now NoLinks = subst (IsUnread c.deref.result.now) c.in-Err-NoLinks.field-0-is c.in-Err-NoLinks.ensures.unread in
     register_no_links m c.requires.form format (good_queries m q.endpoint.now q.queue q.lifetime q.binding (option_copied q.sms) queries) (right_version m c.in-Some.version version)
     (subst (λ (bytes : List ℕ). IsUnread bytes NoLinks) payload none)
@@ -94,7 +101,7 @@ returns-in-Err-NoMemory c =
     let format = right_format m c.as_slice-options.result.now c.has_other_format.result same c.has_other_format.ensures c.if-has_other_format.false in
     let has : HasQueries (values_of 15 c.as_slice-options.result.now) q.endpoint.now q.queue q.lifetime q.binding (option_copied q.sms) = record { texts = e.texts; endpoint_is = e.endpoint.0; named = e.endpoint.1; queue_is = e.queue; lifetime_is = e.lifetime; binding_is = e.binding; sms_is = e.sms } in
     let queries = subst (λ (qs : List (List ℕ)). HasQueries qs q.endpoint.now q.queue q.lifetime q.binding (option_copied q.sms)) (ap (values_of 15) same) has in
-    let version = subst (λ (qs : List (List ℕ)). version_text c.in-Some.version ≡ unwrap_or (given Lwm2m qs) (codes "1.0")) (ap (values_of 15) same) c.in-Some.ensures.some in
+    let version = subst (λ (o : Option (List ℕ)). version_text c.in-Some.version ≡ unwrap_or o (codes "1.0")) (e.version ∙ ap (λ (os : List OptionContent). given Lwm2m (values_of 15 os)) same) c.in-Some.ensures.some in
     let list : IsUnread c.deref.result.now NoMemory = subst (IsUnread c.deref.result.now) c.in-Err-NoMemory.field-0-is c.in-Err-NoMemory.ensures.unread in (
       Register q.endpoint.now c.in-Some.version q.queue q.lifetime q.binding (option_copied q.sms) list.0,
       register_asks m q.endpoint.now c.in-Some.version q.queue q.lifetime q.binding (option_copied q.sms) list.0 c.requires.form format queries version (subst (λ (bytes : List ℕ). IsObjectList bytes list.0) payload list.1),

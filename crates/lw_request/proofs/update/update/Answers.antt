@@ -4,7 +4,7 @@ use Rattle.lw_coap.specs.Message.{OptionContent, MessageContent}
 use Rattle.lw_request.specs.declared.asked.Asked.TheVariants.{Update}
 use Rattle.lw_request.specs.declared.objects.Unread.TheVariants.{TooLarge, NoLinks, NoMemory}
 use Rattle.lw_request.specs.Options.{values_of}
-use Rattle.lw_request.specs.Queries.{given, AreTexts, HasBadValue, IsOfUpdate, AreSettings, IsShort}
+use Rattle.lw_request.specs.Queries.{given, AreTexts, HasBadQuery, IsOfUpdate, AreSettings, IsWithin}
 use Rattle.lw_request.specs.Queries.Parameter.{Sms}
 use Rattle.lw_request.specs.Objects.{IsTooLarge, IsUnread}
 use Rattle.lw_request.specs.Steps.{post_steps}
@@ -18,12 +18,12 @@ returns-in_default c =
     let m = c.args.request.now in
     let same = c.as_slice-options.ensures.value ∙ ap (λ (m : MessageContent). m.options) c.request.view_is in
     update_bad m c.args.segment.now c.requires.form (right_format m c.as_slice-options.result.now c.has_other_format.result same c.has_other_format.ensures c.if-has_other_format.false)
-    (inr (inl (subst (HasBadValue IsOfUpdate) (ap (values_of 15) same) c.in_default.ensures.err)))
+    (subst (HasBadQuery IsOfUpdate) (ap (values_of 15) same) c.in_default.ensures.err)
 
 pub make-requires : goal.make-requires
 make-requires c =
     let same = c.as_slice-options.ensures.value ∙ ap (λ (m : MessageContent). m.options) c.request.view_is in
-    subst IsShort (sym (c.in-Ok.ensures.ok.sms_is ∙ ap (λ (os : List OptionContent). given Sms (values_of 15 os)) same)) (sms_short c.args.request.now.options c.requires.recognised)
+    subst (IsWithin 251) (sym (c.in-Ok.ensures.ok.sms_is ∙ ap (λ (os : List OptionContent). given Sms (values_of 15 os)) same)) (sms_short c.args.request.now.options c.requires.recognised)
 
 pub returns-in-Ok-read_replacement : goal.returns-in-Ok-read_replacement
 returns-in-Ok-read_replacement c =
@@ -33,7 +33,7 @@ returns-in-Ok-read_replacement c =
     let same = c.as_slice-options.ensures.value ∙ ap (λ (m : MessageContent). m.options) c.request.view_is in
     let payload = c.deref.ensures.value ∙ ap (λ (m : MessageContent). m.payload) c.request.view_is in
     let format = right_format m c.as_slice-options.result.now c.has_other_format.result same c.has_other_format.ensures c.if-has_other_format.false in
-    let texts = subst AreTexts (ap (values_of 15) same) (c.are_texts.ensures.0 c.if-not-are_texts.false) in
+    let texts = subst AreTexts (ap (values_of 15) same) c.in-Ok.ensures.texts in
     let settings = subst (λ (qs : List (List ℕ)). AreSettings qs s.lifetime s.binding (option_copied s.sms)) (ap (values_of 15) same) c.in-Ok.ensures.ok in
     understands_made (MeansBy post_steps m) c.make.result (Update c.read_id-id.result s.lifetime s.binding (option_copied s.sms) o) (IsSome s.sms)
     (update_asks m c.args.segment.now c.read_id-id.result s.lifetime s.binding (option_copied s.sms) o c.requires.form format texts settings c.read_id-id.ensures
@@ -47,7 +47,7 @@ returns-in-Err-TooLarge c =
     let same = c.as_slice-options.ensures.value ∙ ap (λ (m : MessageContent). m.options) c.request.view_is in
     let payload = c.deref.ensures.value ∙ ap (λ (m : MessageContent). m.payload) c.request.view_is in
     let format = right_format m c.as_slice-options.result.now c.has_other_format.result same c.has_other_format.ensures c.if-has_other_format.false in
-    let texts = subst AreTexts (ap (values_of 15) same) (c.are_texts.ensures.0 c.if-not-are_texts.false) in
+    let texts = subst AreTexts (ap (values_of 15) same) c.in-Ok.ensures.texts in
     let settings = subst (λ (qs : List (List ℕ)). AreSettings qs s.lifetime s.binding (option_copied s.sms)) (ap (values_of 15) same) c.in-Ok.ensures.ok in
     let large : IsUnread c.deref.result.now TooLarge = subst (IsUnread c.deref.result.now) c.in-Err-TooLarge.field-0-is c.in-Err-TooLarge.ensures.unread.1 in
     post_too_large m c.requires.form.1 format (good_settings m c.args.segment.now s.lifetime s.binding (option_copied s.sms) c.requires.form texts settings) (no_version m c.args.segment.now c.requires.form)
@@ -60,7 +60,7 @@ returns-in-Err-NoLinks c =
     let same = c.as_slice-options.ensures.value ∙ ap (λ (m : MessageContent). m.options) c.request.view_is in
     let payload = c.deref.ensures.value ∙ ap (λ (m : MessageContent). m.payload) c.request.view_is in
     let format = right_format m c.as_slice-options.result.now c.has_other_format.result same c.has_other_format.ensures c.if-has_other_format.false in
-    let texts = subst AreTexts (ap (values_of 15) same) (c.are_texts.ensures.0 c.if-not-are_texts.false) in
+    let texts = subst AreTexts (ap (values_of 15) same) c.in-Ok.ensures.texts in
     let settings = subst (λ (qs : List (List ℕ)). AreSettings qs s.lifetime s.binding (option_copied s.sms)) (ap (values_of 15) same) c.in-Ok.ensures.ok in
     let none : IsUnread c.deref.result.now NoLinks = subst (IsUnread c.deref.result.now) c.in-Err-NoLinks.field-0-is c.in-Err-NoLinks.ensures.unread.1 in
     update_no_links m c.args.segment.now c.requires.form format (good_settings m c.args.segment.now s.lifetime s.binding (option_copied s.sms) c.requires.form texts settings)
@@ -73,7 +73,7 @@ returns-in-Err-NoMemory c =
     let same = c.as_slice-options.ensures.value ∙ ap (λ (m : MessageContent). m.options) c.request.view_is in
     let payload = c.deref.ensures.value ∙ ap (λ (m : MessageContent). m.payload) c.request.view_is in
     let format = right_format m c.as_slice-options.result.now c.has_other_format.result same c.has_other_format.ensures c.if-has_other_format.false in
-    let texts = subst AreTexts (ap (values_of 15) same) (c.are_texts.ensures.0 c.if-not-are_texts.false) in
+    let texts = subst AreTexts (ap (values_of 15) same) c.in-Ok.ensures.texts in
     let settings = subst (λ (qs : List (List ℕ)). AreSettings qs s.lifetime s.binding (option_copied s.sms)) (ap (values_of 15) same) c.in-Ok.ensures.ok in
     let list : IsUnread c.deref.result.now NoMemory = subst (IsUnread c.deref.result.now) c.in-Err-NoMemory.field-0-is c.in-Err-NoMemory.ensures.unread.1 in
     let objects : AreObjects c.deref.result.now (Some list.0) = (c.in-Err-NoMemory.ensures.unread.0, list.1) in (
