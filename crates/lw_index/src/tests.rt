@@ -62,9 +62,9 @@ fn one_endpoint_then_two_then_one(rt: HostRuntime) -> Result<(), Fail> {
     Ok(())
 }
 
-// The numbers below a hundred, each once, in no order.
+// The numbers from 100 to 199, each once, in no order.
 fn number_at(place: u32) -> u32 {
-    (place % 100 * 37) % 100
+    100 + (place % 100 * 37) % 100
 }
 
 // Whether the endpoints of the key are the numbers from 100 to 199.
@@ -83,12 +83,12 @@ fn has_a_hundred(alloc: Global, index: &Index<u32>, key: &u32) -> Result<bool, F
 fn a_hundred_endpoints_of_a_key(rt: HostRuntime) -> Result<(), Fail> {
     let mut index = Index::new(rt.alloc());
     for place in 0..100u32 {
-        let endpoint = format!(in rt.alloc(); "{}", 100 + number_at(place))?;
+        let endpoint = format!(in rt.alloc(); "{}", number_at(place))?;
         index.add(7u32, endpoint.as_str())?;
     }
     assert!(rt; has_a_hundred(rt.alloc(), &index, &7)?);
     for place in 1..100u32 {
-        let endpoint = format!(in rt.alloc(); "{}", 100 + number_at(place))?;
+        let endpoint = format!(in rt.alloc(); "{}", number_at(place))?;
         index.drop_one(&7, endpoint.as_str());
     }
     assert!(rt; has_only(&index, &7, &["100"]));
