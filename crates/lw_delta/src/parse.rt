@@ -42,7 +42,11 @@ pub(crate) fn parse_if<'a, T: Parse<'a>>(
 impl<'a, T: Parse<'a>> Parse<'a> for Option<T> {
     ghost part = { λ clock. optional (T.part clock) };
 
-    fn parse(clock: u64, again: bool, bytes: &'a [u8]) -> Result<(Option<T>, &'a [u8]), DeltaFault> {
+    fn parse(
+        clock: u64,
+        again: bool,
+        bytes: &'a [u8],
+    ) -> Result<(Option<T>, &'a [u8]), DeltaFault> {
         let (present, rest) = tag(bytes)?;
         parse_if(present, clock, again, rest)
     }
@@ -52,7 +56,11 @@ impl<'a, T: Parse<'a>> Parse<'a> for Option<T> {
 impl<'a, T: Parse<'a>> Parse<'a> for (Stamp, T) {
     ghost part = { λ clock. written clock (T.part clock) };
 
-    fn parse(clock: u64, again: bool, bytes: &'a [u8]) -> Result<((Stamp, T), &'a [u8]), DeltaFault> {
+    fn parse(
+        clock: u64,
+        again: bool,
+        bytes: &'a [u8],
+    ) -> Result<((Stamp, T), &'a [u8]), DeltaFault> {
         let (stamp, rest) = stamp(clock, bytes)?;
         let (value, rest) = T::parse(clock, again, rest)?;
         Ok(((stamp, value), rest))

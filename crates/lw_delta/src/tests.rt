@@ -1,9 +1,11 @@
 ghost use Rattle.std.specs.Prelude.{◌<◌, ◌^◌, None};
 ghost use Rattle.lw_delta.specs.Writable.{AllFollow};
 
+mod bounds;
+
 use super::*;
-use lw_reg::Slot;
-use lw_stamp::{NoMemory, Text};
+use lw_reg::{Endpoint, Slot};
+use lw_stamp::NoMemory;
 use std::alloc::Global;
 use std::process::Abort;
 use std::test::Fail;
@@ -47,14 +49,14 @@ const TWICE: &str =
 0001016100000000000100017f000000000000010001047f000001163300000000000100010000000000000000000000\
 0100010001518000000000000100010155000000000001000100000000000001000100033c2f3e0000";
 
-fn write(alloc: Global, clock: u64, slots: &[(Text, Slot)]) -> Result<Vec<u8>, NoMemory>
+fn write(alloc: Global, clock: u64, slots: &[(Endpoint, Slot)]) -> Result<Vec<u8>, NoMemory>
     requires in_range { clock < 2 ^ 48 }
     requires follow { AllFollow clock None slots.now }
 {
     let mut writer = Writer::new(alloc, clock)?;
     for entry in slots {
         let (endpoint, slot) = entry;
-        writer.slot(endpoint.as_str(), slot)?;
+        writer.slot(endpoint, slot)?;
     }
     writer.end()
 }
@@ -115,8 +117,8 @@ fn a_registration_is_read_and_written(rt: HostRuntime) -> Result<(), Fail> {
 fn deltas_without_slots_are_read(rt: HostRuntime) -> Result<(), Fail> {
     let fresh = "4c57443100000000000000";
     accepts(&rt, rt.alloc(), fresh, 0, 0, fresh)?;
-    let last = "4c574431fffffffffffe00";
-    accepts(&rt, rt.alloc(), last, 281_474_976_710_654, 0, last)
+    let last = "4c574431ffffffffffff00";
+    accepts(&rt, rt.alloc(), last, 281_474_976_710_655, 0, last)
 }
 
 #[test]

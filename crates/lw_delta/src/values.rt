@@ -107,7 +107,11 @@ fn binding_of(letters: &[u8]) -> Option<Binding>
 impl<'a> Parse<'a> for Binding {
     ghost part = { λ _. binding_part };
 
-    fn parse(_clock: u64, _again: bool, bytes: &'a [u8]) -> Result<(Binding, &'a [u8]), DeltaFault> {
+    fn parse(
+        _clock: u64,
+        _again: bool,
+        bytes: &'a [u8],
+    ) -> Result<(Binding, &'a [u8]), DeltaFault> {
         let (count, rest) = byte(bytes)?;
         if !is_within(count as usize, 8) {
             return Err(DeltaFault::Range);
@@ -135,7 +139,11 @@ pub(crate) fn text(bytes: &[u8], count: u8) -> Result<(&str, &[u8]), DeltaFault>
 impl<'a> Parse<'a> for LentNumber<'a> {
     ghost part = { λ _. sms_part };
 
-    fn parse(_clock: u64, _again: bool, bytes: &'a [u8]) -> Result<(LentNumber<'a>, &'a [u8]), DeltaFault> {
+    fn parse(
+        _clock: u64,
+        _again: bool,
+        bytes: &'a [u8],
+    ) -> Result<(LentNumber<'a>, &'a [u8]), DeltaFault> {
         let (count, rest) = byte(bytes)?;
         if count > 251 {
             return Err(DeltaFault::Range);
@@ -156,7 +164,11 @@ fn is_list(again: bool, bytes: &[u8]) -> bool
 impl<'a> Parse<'a> for LentObjects<'a> {
     ghost part = { λ _. objects_part };
 
-    fn parse(_clock: u64, again: bool, bytes: &'a [u8]) -> Result<(LentObjects<'a>, &'a [u8]), DeltaFault> {
+    fn parse(
+        _clock: u64,
+        again: bool,
+        bytes: &'a [u8],
+    ) -> Result<(LentObjects<'a>, &'a [u8]), DeltaFault> {
         let (count, rest) = number16(bytes)?;
         if !is_within(count as usize, 8192) {
             return Err(DeltaFault::Range);
@@ -168,7 +180,6 @@ impl<'a> Parse<'a> for LentObjects<'a> {
         Ok((LentObjects { bytes }, rest))
     }
 }
-
 
 /// A Content-Format.
 impl<'a> Parse<'a> for u16 {

@@ -2,7 +2,7 @@
 
 ghost use Rattle.std.specs.Prelude.{◌≡◌, ◌<◌, ◌≤◌, ◌++◌, ◌^◌, ◌∷◌, [], length, OnOk, is_some, IfSome};
 ghost use Rattle.lw_reg.specs.Reading.{sms_of, objects_of};
-ghost use Rattle.lw_reg.specs.Addr.{IsAddr};
+ghost use Rattle.lw_reg.specs.Addr.{IsAddr, IsHost};
 ghost use Rattle.lw_reg.specs.Endpoint.{IsEndpoint};
 ghost use Rattle.lw_delta.specs.Writable.{IsOwnText, IsOwnObjects, FieldsTyped, AcceptTyped, AcceptsTyped, IsTyped};
 ghost use Rattle.lw_delta.specs.Writing.{Begins, number48_bytes, number16_bytes, number32_bytes, base_byte, addr_bytes, moment_bytes, text_bytes, binding_bytes, sms_bytes, objects_bytes, written_bytes, numbers_bytes, path_bytes, accept_bytes, watch_bytes, watches_bytes, flag_if, field_flags, flags_byte, fields_bytes, slot_head_bytes, slot_bytes};
@@ -64,24 +64,31 @@ impl Put for Base {
     }
 }
 
-fn put_v4(out: &mut Vec<u8>, address: [u8; 4], port: u16) -> Result<(), NoMemory>
-    ensures written { OnOk result (out.new.items ≡ out.old.items ++ addr_bytes (Addr.V4 address.entry port)) }
-    ensures typed { OnOk result (IsAddr (Addr.V4 address.entry port)) }
+/// The family, the address and the port.
+fn put_host(out: &mut Vec<u8>, family: u8, address: &[u8], port: u16) -> Result<(), NoMemory>
+    ensures written { OnOk result (out.new.items ≡ out.old.items ++ family ∷ (address.now ++ number16_bytes port)) }
+    ensures typed { OnOk result (IsHost (length address.now) address.now port) }
     ensures kept { Begins out.old.items out.new.items }
 {
-    put_byte(out, 4)?;
-    out.extend_from_slice(&address)?;
+    put_byte(out, family)?;
+    put_bytes(out, address)?;
     put_number16(out, port)
 }
 
-fn put_v6(out: &mut Vec<u8>, address: [u8; 16], port: u16) -> Result<(), NoMemory>
-    ensures written { OnOk result (out.new.items ≡ out.old.items ++ addr_bytes (Addr.V6 address.entry port)) }
-    ensures typed { OnOk result (IsAddr (Addr.V6 address.entry port)) }
+fn put_v4(out: &mut Vec<u8>, address: [u8; 4], port: u16) -> Result<(), NoMemory>
+    ensures written { OnOk result (out.new.items ≡ out.old.items ++ addr_bytes (Addr.V4 address port)) }
+    ensures typed { OnOk result (IsAddr (Addr.V4 address port)) }
     ensures kept { Begins out.old.items out.new.items }
 {
-    put_byte(out, 6)?;
-    out.extend_from_slice(&address)?;
-    put_number16(out, port)
+    put_host(out, 4, &address, port)
+}
+
+fn put_v6(out: &mut Vec<u8>, address: [u8; 16], port: u16) -> Result<(), NoMemory>
+    ensures written { OnOk result (out.new.items ≡ out.old.items ++ addr_bytes (Addr.V6 address port)) }
+    ensures typed { OnOk result (IsAddr (Addr.V6 address port)) }
+    ensures kept { Begins out.old.items out.new.items }
+{
+    put_host(out, 6, &address, port)
 }
 
 impl Put for Addr {
@@ -306,11 +313,7 @@ fn put_head(out: &mut Vec<u8>, endpoint: &Endpoint, slot: &Slot) -> Result<(), N
 }
 
 /// A slot, and the 01 before it. Refused, a front of it may stand there.
-pub(crate) fn put_slot(
-    out: &mut Vec<u8>,
-    endpoint: &Endpoint,
-    slot: &Slot,
-) -> Result<(), NoMemory>
+pub(crate) fn put_slot(out: &mut Vec<u8>, endpoint: &Endpoint, slot: &Slot) -> Result<(), NoMemory>
     ensures written { OnOk result (out.new.items ≡ out.old.items ++ 1 ∷ slot_bytes (endpoint.now, slot.now)) }
     ensures typed { OnOk result (IsTyped slot.now) }
     ensures named { OnOk result (IsOwnText endpoint.now × IsEndpoint endpoint.now) }

@@ -22,9 +22,9 @@ returns-clause-written c =
     let objects : List ℕ = written_bytes objects_bytes (objects_of c.args.slot.now) in
     on_ok_weaker c.put_objects.result
     (λ e. (then_put c.args.out.now.items base (address ++ (seen ++ (lifetime ++ (binding ++ (sms ++ objects))))) (c.in_ok-put_present.ensures.written ∙ ap (λ o. c.args.out.now.items ++ base_bytes o) c.base.ensures)
-        (then_put c.put_present.new.out.items address (seen ++ (lifetime ++ (binding ++ (sms ++ objects)))) (c.in_ok-put_present-2.ensures.written ∙ ap (λ o. c.put_present.new.out.items ++ written_bytes addr_bytes o) c.address.ensures)
-        (then_put c.put_present-2.new.out.items seen (lifetime ++ (binding ++ (sms ++ objects))) (c.in_ok-put_present-3.ensures.written ∙ ap (λ o. c.put_present-2.new.out.items ++ written_bytes moment_bytes o) c.seen.ensures)
-        (then_put c.put_present-3.new.out.items lifetime (binding ++ (sms ++ objects)) (c.in_ok-put_present-4.ensures.written ∙ ap (λ o. c.put_present-3.new.out.items ++ written_bytes number32_bytes o) c.lifetime.ensures)
-        (then_put c.put_present-4.new.out.items binding (sms ++ objects) (c.in_ok-put_present-5.ensures.written ∙ ap (λ o. c.put_present-4.new.out.items ++ written_bytes binding_bytes o) c.binding.ensures)
-        (then_put c.put_present-5.new.out.items sms objects c.in_ok-put_sms.ensures.written e)))))))
+    (then_put c.put_present.new.out.items address (seen ++ (lifetime ++ (binding ++ (sms ++ objects)))) (c.in_ok-put_present-2.ensures.written ∙ ap (λ o. c.put_present.new.out.items ++ written_bytes addr_bytes o) c.address.ensures)
+    (then_put c.put_present-2.new.out.items seen (lifetime ++ (binding ++ (sms ++ objects))) (c.in_ok-put_present-3.ensures.written ∙ ap (λ o. c.put_present-2.new.out.items ++ written_bytes moment_bytes o) c.seen.ensures)
+    (then_put c.put_present-3.new.out.items lifetime (binding ++ (sms ++ objects)) (c.in_ok-put_present-4.ensures.written ∙ ap (λ o. c.put_present-3.new.out.items ++ written_bytes number32_bytes o) c.lifetime.ensures)
+    (then_put c.put_present-4.new.out.items binding (sms ++ objects) (c.in_ok-put_present-5.ensures.written ∙ ap (λ o. c.put_present-4.new.out.items ++ written_bytes binding_bytes o) c.binding.ensures)
+    (then_put c.put_present-5.new.out.items sms objects c.in_ok-put_sms.ensures.written e)))))))
     c.put_objects.ensures.written

@@ -21,6 +21,8 @@ invariant_of-self c =
     let slots = c.self.invariant.0 in
     let h = subst (λ (w : Begun). IsBegun w slots) c.self.view_is c.self.invariant.1 in
     let within = subst (λ (w : Begun). StampsWithin w.clock c.args.slot.now) (sym c.self.view_is) c.requires.within in
-    let follows : Follows old.clock (last_endpoint slots) (c.args.endpoint.now, c.args.slot.now) = record { some = named.1.some; most = named.1.most; above = c.requires.above slots h; stamps = within } in
-    (slots ++ (c.args.endpoint.now, c.args.slot.now) ∷ [], begun_more old slots (c.args.endpoint.now, c.args.slot.now) c.put_slot.new.out.items _
-    c.self.invariant.1 follows c.in-Ok.ensures.typed named.0 c.in-Ok.ensures.written refl)
+    let follows : Follows old.clock (last_endpoint slots) (c.args.endpoint.now, c.args.slot.now) = record { some = named.1.some; most = named.1.most; above = c.requires.above slots h; stamps = within } in (
+      slots ++ (c.args.endpoint.now, c.args.slot.now) ∷ [],
+      begun_more old slots (c.args.endpoint.now, c.args.slot.now) c.put_slot.new.out.items _
+          c.self.invariant.1 follows c.in-Ok.ensures.typed named.0 c.in-Ok.ensures.written refl,
+    )
