@@ -1,4 +1,4 @@
-//! What is known of a registration, in little room.
+//! What is known of a registration, with memory only where something is known.
 
 ghost use Rattle.std.specs.Prelude.{◌≡◌, ◌↔◌, List, IsTrue, IsOk, IfOk};
 ghost use Rattle.std.specs.Option.{option_copied};
@@ -12,7 +12,7 @@ use lw_stamp::NoMemory;
 use std::alloc::Global;
 use std::marker::Model;
 
-/// What is known of a registration, or that it was removed. It takes memory only where something is known.
+/// What is known of a registration, or that it was removed. Contracts see the body, also where it has no box.
 #[derive(Debug, Drop)]
 pub(crate) struct Told {
     kept: Kept,
@@ -120,6 +120,7 @@ impl Told {
     ghost use Rattle.lw_reg.specs.Body.{body_join, body_in_place};
     ghost use Rattle.std.specs.Prelude.{OnOk, OnErr};
 
+    /// A box is moved in where nothing was known.
     fn join_body(&mut self, other: Box<Body>) -> Result<(), NoMemory>
         ensures ok { OnOk result (self.new ≡ gone_join body_join self.old (Here other.value)) }
         ensures err { OnErr result (self.new ≡ self.old) }
