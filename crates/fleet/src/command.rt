@@ -110,7 +110,7 @@ fn one_command<'a>(alloc: Global) -> Result<Command<'a>, AllocError>
             alloc,
             "from",
             "ADDR",
-            "Address and port of the client, IPv4 or [IPv6] [default: 127.0.0.1:5683]",
+            "Address and port of the client, IPv6 as [eight groups of four digits] [default: 127.0.0.1:5683]",
         ))
 }
 

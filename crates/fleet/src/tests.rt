@@ -254,7 +254,11 @@ fn another_registration_as_json(rt: HostRuntime) -> Result<(), Fail> {
 /// A list of 256 links, of 7,909 bytes.
 fn long_list(alloc: Global) -> Result<LinkText, Fail> {
     let mut list = String::from_str(alloc, "</0>")?;
-    list.push_str(r#",</65534/65534>;ver="1.0 \"x\"""#.repeat(alloc, 255)?.as_str())?;
+    list.push_str(
+        r#",</65534/65534>;ver="1.0 \"x\"""#
+            .repeat(alloc, 255)?
+            .as_str(),
+    )?;
     let list = list.as_bytes().get(..7909).ok_or("the list")?;
     Ok(LinkText::read(alloc, list)?)
 }

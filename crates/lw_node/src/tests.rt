@@ -44,20 +44,11 @@ fn told(alloc: Global, view: Option<View<'_>>) -> Result<String, Fail> {
     let id = hex::encode(alloc, view.id.to_bytes())?;
     let address = view.address.print(alloc)?;
     let (seen, lifetime, queue) = (view.seen.ms(), view.lifetime, view.queue);
-    let mut text = format!(in alloc;
-        "{} {id} {address} {seen} {lifetime} {queue}",
-        view.endpoint
-    )?;
-    for part in [
-        view.version.as_str(),
-        view.binding.as_str(),
-        view.sms.unwrap_or("no number"),
-        view.objects.as_str(),
-    ] {
-        text.push(' ')?;
-        text.push_str(part)?;
-    }
-    Ok(text)
+    let endpoint = view.endpoint;
+    let text = format!(in alloc; "{endpoint} {id} {address} {seen} {lifetime} {queue}")?;
+    let (version, binding) = (view.version.as_str(), view.binding.as_str());
+    let (sms, objects) = (view.sms.unwrap_or("no number"), view.objects.as_str());
+    Ok(format!(in alloc; "{text} {version} {binding} {sms} {objects}")?)
 }
 
 #[test]
@@ -208,19 +199,19 @@ fn other_payloads_are_bad_requests(rt: HostRuntime) -> Result<(), Fail> {
     Ok(())
 }
 
-/// A list of so many links of six bytes, the commas between them counted.
-fn links(alloc: Global, count: usize) -> Result<String, Fail> {
-    let mut list = ",</99>".repeat(alloc, count)?;
-    list.remove(0);
+/// A list of one link and so many more.
+fn links(alloc: Global, more: usize) -> Result<String, Fail> {
+    let mut list = String::from_str(alloc, "</99>")?;
+    list.push_str(",</99>".repeat(alloc, more)?.as_str())?;
     Ok(list)
 }
 
 #[test]
 fn at_most_256_links(rt: HostRuntime) -> Result<(), Fail> {
-    let most = links(rt.alloc(), 256)?;
+    let most = links(rt.alloc(), 255)?;
     let text = answer_and_objects(rt.alloc(), most.as_bytes())?;
     assert!(rt; text.ends_with(most.as_str()) && text.starts_with(CREATED));
-    let too_many = links(rt.alloc(), 257)?;
+    let too_many = links(rt.alloc(), 256)?;
     let text = answer_and_objects(rt.alloc(), too_many.as_bytes())?;
     assert_eq!(rt; text.as_str(), "608d0004");
     Ok(())
@@ -228,7 +219,7 @@ fn at_most_256_links(rt: HostRuntime) -> Result<(), Fail> {
 
 #[test]
 fn a_list_of_too_many_links_and_a_bad_query(rt: HostRuntime) -> Result<(), Fail> {
-    let list = hex::encode(rt.alloc(), links(rt.alloc(), 257)?.as_bytes())?;
+    let list = hex::encode(rt.alloc(), links(rt.alloc(), 256)?.as_bytes())?;
     // `lt=x` besides
     let datagram = format!(in rt.alloc(); "40020004b272644465703d61046c743d78ff{list}")?;
     let mut node = Node::new(rt.alloc(), 1);

@@ -80,7 +80,7 @@ Usage: fleet one [OPTIONS]
 Options:
       --node <N>     Number of the node, 0 to 65535 [default: 1]
       --now <MS>     Moment in milliseconds, 0 to 281474976710655 [default: 0]
-      --from <ADDR>  Address and port of the client, IPv4 or [IPv6] [default: 127.0.0.1:5683]
+      --from <ADDR>  Address and port of the client, IPv6 as [eight groups of four digits] [default: 127.0.0.1:5683]
   -h, --help         Print help
 "
     );
