@@ -1,11 +1,7 @@
 -- Bytes that begin with what was there before.
-use Rattle.std.proofs.Common.{◌≡◌, ℕ, Bool, true, false, if◌then◌else◌, List, [], ◌++◌, length, take, sym, ap, ◌∙◌, append_assoc}
+use Rattle.std.proofs.Common.{◌≡◌, ℕ, Bool, true, false, if◌then◌else◌, List, [], ◌++◌, sym, ap, ◌∙◌, append_assoc}
 use Rattle.std.proofs.lemmas.List.{append-nil}
-use Rattle.std.proofs.Math.Seq.{take-append_seam}
 use Rattle.lw_delta.specs.Writing.{Begins}
-
-pub begins_self : (a : List ℕ) → Begins a a
-begins_self a = record { more = []; is = sym (append-nil a) }
 
 pub begins_same : {a b : List ℕ} → b ≡ a → Begins a b
 begins_same {a} e = record { more = []; is = e ∙ sym (append-nil a) }
@@ -16,9 +12,6 @@ begins_through {a} f g = record { more = f.more ++ g.more; is = g.is ∙ ap (λ 
 pub begins_extended : (done : Bool) (a b x : List ℕ) → b ≡ (if done then a ++ x else a) → Begins a b
 begins_extended true a b x e = record { more = x; is = e }
 begins_extended false a b x e = begins_same e
-
-pub taken_back : (a b : List ℕ) → Begins a b → take (length a) b ≡ a
-taken_back a b f = ap (λ (x : List ℕ). take (length a) x) f.is ∙ take-append_seam a f.more
 
 -- one after the other
 pub then_put : (a x y : List ℕ) {b c : List ℕ} → b ≡ a ++ x → c ≡ b ++ y → c ≡ a ++ (x ++ y)

@@ -5,12 +5,6 @@ use Rattle.lw_join.specs.Entries.{AllAbove, Rises}
 use Rattle.lw_join.specs.EntriesLaws.{above_from}
 use Rattle.lw_join.specs.Parts.{entries_of, made}
 use Rattle.lw_join.specs.PartsLaws.{entries_made, same_parts}
-use Rattle.lw_link.specs.Link.{LinkContent}
-use Rattle.lw_link.specs.Spelling.{Spells}
-use Rattle.lw_link.specs.Printing.{printing}
-use Rattle.lw_link.specs.WellFormed.{IsPrinting}
-use Rattle.lw_link.proofs.Outcomes.{one_spelled}
-use Rattle.lw_link.proofs.Spelled.{printing_spells}
 use Rattle.lw_reg.specs.declared.path.Path.{Path}
 use Rattle.lw_reg.specs.Body.{Watching, Watches}
 use Rattle.lw_reg.specs.OrderLaws.{path_order}
@@ -22,12 +16,6 @@ use Rattle.lw_delta.specs.Part.{Part, Found, Fails, means, must, followed, when,
 use Rattle.lw_delta.specs.Format.{path, watch, watches}
 use Rattle.lw_delta.proofs.Decided.{Decided}
 use Rattle.lw_delta.proofs.Grammar.{watches_decided}
-
--- a printing is the printing of what it spells
-pub printed_alike : (bytes : List ℕ) (links : List LinkContent) → IsPrinting bytes → Spells bytes links → printing links ≡ bytes
-printed_alike bytes links p s =
-    let e : links ≡ p.0 = one_spelled bytes links p.0 s (subst (λ (b : List ℕ). Spells b p.0) (sym p.2) (printing_spells p.0 p.1)) in
-    ap printing e ∙ sym p.2
 
 -- ---- watches rise
 path_above : (after : Option Path) (bytes : List ℕ) (p : Path) (rest : List ℕ) → Found (path after) bytes p rest → IsAbove path_cmp after p
