@@ -5,6 +5,8 @@ use lw_stamp::Stamp;
 use std::alloc::Global;
 use std::test::Fail;
 
+mod bounds;
+
 fn id_or_dash(alloc: Global, id: Option<Stamp>) -> Result<String, Fail> {
     match id {
         Some(id) => Ok(hex::encode(alloc, id.to_bytes())?),
@@ -592,6 +594,14 @@ fn answers_have_the_token_and_the_location(rt: HostRuntime) -> Result<(), Fail> 
             codes::CREATED,
             Some(id),
             "64410001010203048272640d0330303030303030303030303130303031",
+        ),
+        (
+            Kind::Con,
+            2,
+            b"\x01\x02\x03\x04\x05\x06\x07\x08",
+            codes::CREATED,
+            Some(id),
+            "6841000201020304050607088272640d0330303030303030303030303130303031",
         ),
         (
             Kind::Non,
