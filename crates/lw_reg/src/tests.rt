@@ -1,7 +1,18 @@
 use super::*;
+use lw_join::Join;
 use lw_link::LinkText;
 use lw_stamp::{Moment, Stamp};
+use std::alloc::Global;
 use std::test::Fail;
+
+fn joined(mut left: Slot, right: Slot) -> Result<Slot, Fail> {
+    left.join_with(right)?;
+    Ok(left)
+}
+
+fn is_printed(alloc: Global, address: Addr, text: &str) -> Result<bool, Fail> {
+    Ok(address.print(alloc)?.as_str() == text)
+}
 
 #[test]
 fn addresses_are_read_and_printed(rt: HostRuntime) -> Result<(), Fail> {
@@ -57,8 +68,8 @@ fn addresses_are_read_and_printed(rt: HostRuntime) -> Result<(), Fail> {
         ),
     ];
     for (text, address) in rows {
-        assert_eq!(rt; Addr::read(text), Some(address));
-        assert_eq!(rt; address.print(rt.alloc())?.as_str(), text);
+        assert!(rt; Addr::read(text) == Some(address), "{text}");
+        assert!(rt; is_printed(rt.alloc(), address, text)?, "{text}");
     }
     Ok(())
 }
@@ -90,7 +101,7 @@ fn other_texts_are_no_addresses(rt: HostRuntime) {
         "[2001:0db8:0000:0000:0000:0000:0000:00ff]:",
     ];
     for text in rows {
-        assert_eq!(rt; Addr::read(text), None);
+        assert!(rt; Addr::read(text).is_none(), "{text}");
     }
 }
 
@@ -117,33 +128,50 @@ fn addresses_compare_by_family_bytes_and_port(rt: HostRuntime) {
     assert!(rt; other_bytes < other_family);
 }
 
+fn is_binding(text: &str) -> bool {
+    match Binding::read(text) {
+        None => false,
+        Some(binding) => binding.as_str() == text,
+    }
+}
+
 #[test]
-fn bindings_have_one_to_eight_letters(rt: HostRuntime) -> Result<(), Fail> {
-    for text in ["U", "UQ", "ABCDEFGH"] {
-        let binding = Binding::read(text).ok_or("a binding")?;
-        assert_eq!(rt; binding.as_str(), text);
+fn bindings_have_one_to_eight_letters(rt: HostRuntime) {
+    for text in ["U", "UQ", "T", "ABCDEFGH"] {
+        assert!(rt; is_binding(text), "{text}");
     }
     for text in ["", "ABCDEFGHI", "u", "U1", "É", "U "] {
-        assert_eq!(rt; Binding::read(text), None);
+        assert!(rt; Binding::read(text).is_none(), "{text}");
     }
-    assert_eq!(rt; Binding::U.as_str(), "U");
-    assert_eq!(rt; Binding::read("U"), Some(Binding::U));
-    assert_eq!(rt; Binding::default(), Binding::U);
-    let queue = Binding::read("UQ").ok_or("a binding")?;
-    assert!(rt; Binding::U < queue);
-    assert!(rt; Binding::read("T").ok_or("a binding")? < Binding::U);
-    Ok(())
+}
+
+fn is_the_default(binding: Binding) -> bool {
+    binding == Binding::U && Binding::default() == binding && binding.as_str() == "U"
+}
+
+fn is_between(low: Option<Binding>, binding: Binding, high: Option<Binding>) -> bool {
+    match (low, high) {
+        (Some(low), Some(high)) => low < binding && binding < high,
+        _ => false,
+    }
+}
+
+#[test]
+fn the_binding_of_one_letter_is_the_default(rt: HostRuntime) {
+    assert!(rt; is_the_default(Binding::U));
+    assert!(rt; Binding::read("U") == Some(Binding::U));
+    assert!(rt; is_between(Binding::read("T"), Binding::U, Binding::read("UQ")));
 }
 
 #[test]
 fn versions_have_two_texts(rt: HostRuntime) {
-    assert_eq!(rt; Version::read("1.0"), Some(Version::V10));
-    assert_eq!(rt; Version::read("1.1"), Some(Version::V11));
-    for text in ["", "1", "1.2", "1.10", "v1.0"] {
-        assert_eq!(rt; Version::read(text), None);
+    for (text, version) in [("1.0", Version::V10), ("1.1", Version::V11)] {
+        assert!(rt; Version::read(text) == Some(version), "{text}");
+        assert!(rt; version.as_str() == text, "{text}");
     }
-    assert_eq!(rt; Version::V10.as_str(), "1.0");
-    assert_eq!(rt; Version::V11.as_str(), "1.1");
+    for text in ["", "1", "1.2", "1.10", "v1.0"] {
+        assert!(rt; Version::read(text).is_none(), "{text}");
+    }
     assert!(rt; Version::V10 < Version::V11);
 }
 
@@ -152,41 +180,56 @@ const ID: Stamp = Stamp {
     node: 2,
 };
 
-fn shown(address: Addr, objects: &LinkText) -> View<'_> {
-    View {
+const HOST: Addr = Addr::V4 {
+    address: [127, 0, 0, 1],
+    port: 5683,
+};
+
+/// The copy of a view with each field.
+fn copied(alloc: Global) -> Result<Seen, Fail> {
+    let objects = LinkText::read(alloc, b"</3/0>")?;
+    let view = View {
         endpoint: "a",
         id: ID,
-        address,
+        address: HOST,
         seen: Moment::START,
         lifetime: 86400,
         version: Version::V11,
         binding: Binding::U,
         queue: true,
         sms: Some("+31"),
-        objects,
-    }
+        objects: &objects,
+    };
+    Ok(view.to_seen(alloc)?)
+}
+
+fn has_each_field(seen: &Seen) -> bool {
+    seen.id == ID
+        && seen.address == HOST
+        && seen.seen == Moment::START
+        && seen.lifetime == 86400
+        && seen.version == Version::V11
+        && seen.binding == Binding::U
+        && seen.queue
+}
+
+fn has_each_text(seen: &Seen) -> bool {
+    let Some(sms) = &seen.sms else {
+        return false;
+    };
+    seen.endpoint.as_str() == "a" && sms.as_str() == "+31" && seen.objects.as_str() == "</3/0>"
+}
+
+fn shows_each_text(view: &View<'_>) -> bool {
+    view.endpoint == "a" && view.sms == Some("+31") && view.objects.as_str() == "</3/0>"
 }
 
 #[test]
 fn a_view_is_copied_field_by_field(rt: HostRuntime) -> Result<(), Fail> {
-    let address = Addr::read("127.0.0.1:5683").ok_or("an address")?;
-    let objects = LinkText::read(rt.alloc(), b"</3/0>")?;
-    let view = shown(address, &objects);
-    let seen = view.to_seen(rt.alloc())?;
-    assert_eq!(rt; seen.endpoint.as_str(), "a");
-    assert_eq!(rt; seen.id, ID);
-    assert_eq!(rt; seen.address, address);
-    assert_eq!(rt; seen.seen, Moment::START);
-    assert_eq!(rt; seen.lifetime, 86400);
-    assert_eq!(rt; seen.version, Version::V11);
-    assert_eq!(rt; seen.binding, Binding::U);
-    assert!(rt; seen.queue);
-    assert_eq!(rt; seen.sms.as_ref().map(|sms| sms.as_str()), Some("+31"));
-    assert_eq!(rt; seen.objects.as_str(), "</3/0>");
-    let lent = seen.as_view();
-    assert_eq!(rt; lent.endpoint, "a");
-    assert_eq!(rt; lent.sms, Some("+31"));
-    assert_eq!(rt; lent.objects.as_str(), "</3/0>");
+    let seen = copied(rt.alloc())?;
+    assert!(rt; has_each_field(&seen));
+    assert!(rt; has_each_text(&seen));
+    assert!(rt; shows_each_text(&seen.as_view()));
     Ok(())
 }
 

@@ -1,7 +1,8 @@
 //! Operations, the slots that they make, and what these show.
 
+use super::joined;
 use crate::*;
-use lw_join::{Join, OrGone, Parts};
+use lw_join::{OrGone, Parts};
 use lw_link::LinkText;
 use lw_stamp::{Moment, Stamp};
 use std::alloc::Global;
@@ -41,19 +42,21 @@ fn at(ms: u64) -> Moment {
     Moment::new(ms).unwrap_or(Moment::START)
 }
 
+fn endpoint(alloc: Global) -> Result<Endpoint, Fail> {
+    match Endpoint::new(Text::copy_of(alloc, "a")?) {
+        None => Err("an endpoint".into()),
+        Some(endpoint) => Ok(endpoint),
+    }
+}
+
 fn slot(alloc: Global, stamp: Stamp, reg: Stamp, what: What) -> Result<Slot, Fail> {
-    let Some(endpoint) = Endpoint::new(Text::copy_of(alloc, "a")?) else {
-        return Err("an endpoint".into());
+    let op = Op {
+        stamp,
+        endpoint: endpoint(alloc)?,
+        reg,
+        what,
     };
-    Ok(atom(
-        alloc,
-        Op {
-            stamp,
-            endpoint,
-            reg,
-            what,
-        },
-    )?)
+    Ok(atom(alloc, op)?)
 }
 
 /// A Register of version 1.0 with the binding `U` and the links `</>`, from host A.
@@ -81,11 +84,6 @@ fn updated(address: Addr, seen: Moment, lifetime: Option<u32>, binding: Option<B
         sms: None,
         objects: None,
     }
-}
-
-fn joined(mut left: Slot, right: Slot) -> Result<Slot, Fail> {
-    left.join_with(right)?;
-    Ok(left)
 }
 
 /// Three operations about one endpoint.
@@ -124,26 +122,25 @@ fn part(alloc: Global, scene: Scene, place: u8) -> Result<Slot, Fail> {
     slot(alloc, stamp, reg, what)
 }
 
+fn with_part(slot: Slot, alloc: Global, scene: Scene, place: u8) -> Result<Slot, Fail> {
+    joined(slot, part(alloc, scene, place)?)
+}
+
 fn joined_in(alloc: Global, scene: Scene, order: [u8; 3]) -> Result<Slot, Fail> {
     let [first, second, third] = order;
-    let mut slot = part(alloc, scene, first)?;
-    slot.join_with(part(alloc, scene, second)?)?;
-    slot.join_with(part(alloc, scene, third)?)?;
-    Ok(slot)
+    let two = with_part(part(alloc, scene, first)?, alloc, scene, second)?;
+    with_part(two, alloc, scene, third)
+}
+
+fn shows_nothing(slot: &Slot) -> bool {
+    slot.view("a", at(7)).is_none() && !slot.expired(at(86_400_000))
 }
 
 #[test]
 fn an_update_alone_shows_nothing(rt: HostRuntime) -> Result<(), Fail> {
-    let old = registered(rt.alloc(), OLD, at(0), 86_400)?;
-    let update = slot(
-        rt.alloc(),
-        LATER,
-        NEW,
-        updated(HOST_B, at(7), Some(120), None),
-    )?;
-    let both = joined(old, update)?;
-    assert!(rt; both.view("a", at(7)).is_none());
-    assert!(rt; !both.expired(at(86_400_000)));
+    let old = part(rt.alloc(), Scene::EarlyUpdate, 0)?;
+    let both = with_part(old, rt.alloc(), Scene::EarlyUpdate, 1)?;
+    assert!(rt; shows_nothing(&both));
     Ok(())
 }
 
@@ -211,29 +208,34 @@ fn a_removed_registration_stays_removed(rt: HostRuntime) -> Result<(), Fail> {
 #[test]
 fn a_new_register_is_shown(rt: HostRuntime) -> Result<(), Fail> {
     let gone = joined_in(rt.alloc(), Scene::Removal, [0, 1, 2])?;
-    let new = registered(rt.alloc(), LAST, at(0), 60)?;
-    let all = joined(gone, new)?;
+    let all = joined(gone, registered(rt.alloc(), LAST, at(0), 60)?)?;
     assert!(rt; all.view("a", at(0)).is_some());
     Ok(())
 }
 
+fn is_shown(slot: &Slot, now: Moment) -> bool {
+    slot.view("a", now).is_some() && !slot.expired(now)
+}
+
+fn is_over(slot: &Slot, now: Moment) -> bool {
+    slot.view("a", now).is_none() && slot.expired(now)
+}
+
 #[test]
 fn a_lifetime_ends(rt: HostRuntime) -> Result<(), Fail> {
-    let rows = [
-        (1000, 60, 60_999, true),
-        (1000, 60, 61_000, false),
-        (0, 0, 281_474_976_710_655, true),
-        (
-            281_474_976_710_655,
-            4_294_967_295,
-            281_474_976_710_655,
-            true,
-        ),
-    ];
-    for (seen, lifetime, now, shown) in rows {
+    let slot = registered(rt.alloc(), OLD, at(1000), 60)?;
+    assert!(rt; is_shown(&slot, at(60_999)));
+    assert!(rt; is_over(&slot, at(61_000)));
+    Ok(())
+}
+
+const END: u64 = 281_474_976_710_655;
+
+#[test]
+fn the_longest_lifetimes_do_not_end(rt: HostRuntime) -> Result<(), Fail> {
+    for (seen, lifetime) in [(0, 0), (END, 4_294_967_295)] {
         let slot = registered(rt.alloc(), OLD, at(seen), lifetime)?;
-        assert_eq!(rt; slot.view("a", at(now)).is_some(), shown);
-        assert_eq!(rt; slot.expired(at(now)), !shown);
+        assert!(rt; is_shown(&slot, at(END)));
     }
     Ok(())
 }
@@ -244,57 +246,74 @@ fn observed(
     numbers: &[u16],
     accept: Option<u16>,
 ) -> Result<Slot, Fail> {
-    let Some(path) = Path::new(numbers) else {
-        return Err("a path".into());
-    };
-    slot(alloc, stamp, OLD, What::Observe { path, accept })
+    match Path::new(numbers) {
+        None => Err("a path".into()),
+        Some(path) => slot(alloc, stamp, OLD, What::Observe { path, accept }),
+    }
 }
 
 /// A registration with the watch `LAST` of `/3/0`, an older one of that path, and `LATER` of `/3/0/9`.
 fn watched(alloc: Global) -> Result<Slot, Fail> {
-    let mut slot = registered(alloc, OLD, at(0), 60)?;
-    slot.join_with(observed(alloc, LAST, &[3, 0], Some(110))?)?;
-    slot.join_with(observed(alloc, NEW, &[3, 0], None)?)?;
-    slot.join_with(observed(alloc, LATER, &[3, 0, 9], Some(112))?)?;
-    Ok(slot)
+    let slot = joined(
+        registered(alloc, OLD, at(0), 60)?,
+        observed(alloc, LAST, &[3, 0], Some(110))?,
+    )?;
+    let slot = joined(slot, observed(alloc, NEW, &[3, 0], None)?)?;
+    joined(slot, observed(alloc, LATER, &[3, 0, 9], Some(112))?)
+}
+
+fn has_the_last_watch(slot: &Slot) -> bool {
+    let Some(watch) = slot.watch(at(0), LAST) else {
+        return false;
+    };
+    watch.path.numbers() == [3, 0].as_slice()
+        && watch.accept == Some(110)
+        && slot.watch(at(0), NEW).is_none()
+        && slot.watch(at(60_000), LAST).is_none()
 }
 
 #[test]
 fn the_last_watch_of_a_path_lives(rt: HostRuntime) -> Result<(), Fail> {
     let slot = watched(rt.alloc())?;
-    let Some(watch) = slot.watch(at(0), LAST) else {
-        return Err("a watch".into());
-    };
-    assert_eq!(rt; watch.path.numbers(), [3, 0].as_slice());
-    assert_eq!(rt; watch.accept, Some(110));
-    assert!(rt; slot.watch(at(0), NEW).is_none());
-    assert!(rt; slot.watch(at(60_000), LAST).is_none());
+    assert!(rt; has_the_last_watch(&slot));
     Ok(())
+}
+
+fn least_token(slot: &Slot) -> Option<Stamp> {
+    Some(slot.watch_after(at(0), None)?.token)
+}
+
+fn token_after(slot: &Slot, path: &[u16]) -> Option<Stamp> {
+    let path = Path::new(path)?;
+    Some(slot.watch_after(at(0), Some(&path))?.token)
+}
+
+fn has_watches_by_path(slot: &Slot) -> bool {
+    least_token(slot) == Some(LAST)
+        && token_after(slot, &[3, 0]) == Some(LATER)
+        && token_after(slot, &[3, 0, 9]).is_none()
+}
+
+fn has_tokens_by_path(slot: &Slot) -> bool {
+    slot.token_at(0) == Some(LAST) && slot.token_at(1) == Some(LATER) && slot.token_at(2).is_none()
 }
 
 #[test]
 fn watches_come_by_path(rt: HostRuntime) -> Result<(), Fail> {
     let slot = watched(rt.alloc())?;
-    let Some(first) = slot.watch_after(at(0), None) else {
-        return Err("a watch".into());
-    };
-    assert_eq!(rt; first.token, LAST);
-    let Some(second) = slot.watch_after(at(0), Some(&first.path)) else {
-        return Err("a second watch".into());
-    };
-    assert_eq!(rt; second.token, LATER);
-    assert!(rt; slot.watch_after(at(0), Some(&second.path)).is_none());
-    assert_eq!(rt; slot.token_at(0), Some(LAST));
-    assert_eq!(rt; slot.token_at(1), Some(LATER));
-    assert_eq!(rt; slot.token_at(2), None);
+    assert!(rt; has_watches_by_path(&slot));
+    assert!(rt; has_tokens_by_path(&slot));
     Ok(())
 }
 
-fn cancelled(alloc: Global, token: Stamp) -> Result<Slot, Fail> {
+/// The Cancel of the watch `LAST`, joined to the registration with its watches.
+fn cancelled(alloc: Global) -> Result<Slot, Fail> {
     let Some(path) = Path::new(&[3, 0]) else {
         return Err("a path".into());
     };
-    slot(alloc, token, OLD, What::Cancel { path, token })
+    let token = LAST;
+    let cancel = slot(alloc, token, OLD, What::Cancel { path, token })?;
+    joined(cancel, watched(alloc)?)
 }
 
 fn was_cancelled(slot: &Slot) -> bool {
@@ -307,17 +326,17 @@ fn was_cancelled(slot: &Slot) -> bool {
     watching.stamp == LAST && watching.value == OrGone::Gone
 }
 
+fn has_the_later_watch_alone(slot: &Slot) -> bool {
+    slot.watch(at(0), LAST).is_none()
+        && least_token(slot) == Some(LATER)
+        && slot.token_at(0) == Some(LATER)
+        && slot.watches().len() == 2
+}
+
 #[test]
 fn a_cancelled_watch_is_gone(rt: HostRuntime) -> Result<(), Fail> {
-    let mut slot = cancelled(rt.alloc(), LAST)?;
-    slot.join_with(watched(rt.alloc())?)?;
-    assert!(rt; slot.watch(at(0), LAST).is_none());
-    assert!(rt;
-        slot.watch_after(at(0), None)
-            .is_some_and(|watch| watch.token == LATER)
-    );
-    assert_eq!(rt; slot.token_at(0), Some(LATER));
-    assert_eq!(rt; slot.watches().len(), 2);
+    let slot = cancelled(rt.alloc())?;
+    assert!(rt; has_the_later_watch_alone(&slot));
     assert!(rt; was_cancelled(&slot));
     Ok(())
 }
@@ -325,10 +344,8 @@ fn a_cancelled_watch_is_gone(rt: HostRuntime) -> Result<(), Fail> {
 #[test]
 fn a_new_register_ends_the_watches(rt: HostRuntime) -> Result<(), Fail> {
     let old = watched(rt.alloc())?;
-    let new = registered(rt.alloc(), NEW, at(0), 60)?;
-    let all = joined(old, new)?;
-    assert!(rt; all.watch_after(at(0), None).is_none());
-    assert!(rt; all.watches().is_empty());
+    let all = joined(old, registered(rt.alloc(), NEW, at(0), 60)?)?;
+    assert!(rt; least_token(&all).is_none() && all.watches().is_empty());
     Ok(())
 }
 
@@ -355,62 +372,95 @@ fn put_together(alloc: Global) -> Result<Slot, Fail> {
     )?)
 }
 
+fn gives_back_its_writes(slot: &Slot) -> bool {
+    let base = Base {
+        version: Version::V11,
+        queue: true,
+    };
+    slot.stamp() == OLD
+        && slot.base() == Some(base)
+        && slot.address() == Some((OLD, HOST_B))
+        && slot.seen() == Some((NEW, at(5)))
+        && slot.lifetime() == Some((LATER, 30))
+        && slot.binding() == Some((LAST, Binding::U))
+}
+
+fn gives_back_its_texts(slot: &Slot) -> bool {
+    let Some((NEW, Some(sms))) = slot.sms() else {
+        return false;
+    };
+    let Some((LATER, objects)) = slot.objects() else {
+        return false;
+    };
+    sms.as_str() == "+31" && objects.as_str() == "</3/0>"
+}
+
 #[test]
 fn a_slot_gives_back_its_parts(rt: HostRuntime) -> Result<(), Fail> {
     let slot = put_together(rt.alloc())?;
-    assert_eq!(rt; slot.stamp(), OLD);
-    assert!(rt;
-        slot.base()
-            .is_some_and(|base| base.queue && base.version == Version::V11)
-    );
-    assert_eq!(rt; slot.address(), Some((OLD, HOST_B)));
-    assert_eq!(rt; slot.seen(), Some((NEW, at(5))));
-    assert_eq!(rt; slot.lifetime(), Some((LATER, 30)));
-    assert_eq!(rt; slot.binding(), Some((LAST, Binding::U)));
-    let Some((NEW, Some(sms))) = slot.sms() else {
-        return Err("an SMS number".into());
-    };
-    assert_eq!(rt; sms.as_str(), "+31");
-    let Some((LATER, objects)) = slot.objects() else {
-        return Err("an object list".into());
-    };
-    assert_eq!(rt; objects.as_str(), "</3/0>");
+    assert!(rt; gives_back_its_writes(&slot));
+    assert!(rt; gives_back_its_texts(&slot));
     Ok(())
+}
+
+fn is_copied(alloc: Global, slot: &Slot) -> Result<bool, Fail> {
+    let Some(view) = slot.view("b", at(5)) else {
+        return Ok(false);
+    };
+    let seen = view.to_seen(alloc)?;
+    Ok(seen.endpoint.as_str() == "b" && seen.queue)
 }
 
 #[test]
 fn a_view_of_a_slot_is_copied(rt: HostRuntime) -> Result<(), Fail> {
     let slot = put_together(rt.alloc())?;
-    let Some(view) = slot.view("b", at(5)) else {
-        return Err("a view".into());
-    };
-    let seen = view.to_seen(rt.alloc())?;
-    assert_eq!(rt; seen.endpoint.as_str(), "b");
-    assert!(rt; seen.queue);
-    assert!(rt; Slot::from_parts(rt.alloc(), OLD, None)?.is_removed());
+    assert!(rt; is_copied(rt.alloc(), &slot)?);
     Ok(())
 }
 
 #[test]
+fn a_removed_slot_is_put_together(rt: HostRuntime) -> Result<(), Fail> {
+    let slot = Slot::from_parts(rt.alloc(), OLD, None)?;
+    assert!(rt; slot.is_removed());
+    Ok(())
+}
+
+fn is_path(numbers: &[u16]) -> bool {
+    match Path::new(numbers) {
+        None => false,
+        Some(path) => path.numbers() == numbers,
+    }
+}
+
+#[test]
 fn paths_have_one_to_four_numbers(rt: HostRuntime) {
-    assert!(rt; Path::new(&[]).is_none());
-    assert!(rt; Path::new(&[1, 2, 3, 4, 5]).is_none());
-    assert!(rt; Path::new(&[65_535]).is_none());
-    assert!(rt; Path::new(&[3, 65_535]).is_none());
-    assert!(rt; Path::new(&[65_534, 65_534, 65_534, 65_535]).is_none());
-    assert!(rt; Path::new(&[65_534]).is_some_and(|path| path.numbers() == [65_534].as_slice()));
-    assert!(rt;
-        Path::new(&[65_534; 4]).is_some_and(|path| path.numbers() == [65_534; 4].as_slice())
-    );
-    assert!(rt;
-        Path::new(&[3, 0, 9, 1]).is_some_and(|path| path.numbers() == [3, 0, 9, 1].as_slice())
-    );
+    let others: [&[u16]; 5] = [
+        &[],
+        &[1, 2, 3, 4, 5],
+        &[65_535],
+        &[3, 65_535],
+        &[65_534, 65_534, 65_534, 65_535],
+    ];
+    for numbers in others {
+        assert!(rt; Path::new(numbers).is_none());
+    }
+    let paths: [&[u16]; 3] = [&[65_534], &[65_534; 4], &[3, 0, 9, 1]];
+    for numbers in paths {
+        assert!(rt; is_path(numbers));
+    }
+}
+
+fn is_before(left: &[u16], right: &[u16]) -> bool {
+    match (Path::new(left), Path::new(right)) {
+        (Some(left), Some(right)) => left < right && left != right,
+        _ => false,
+    }
 }
 
 #[test]
 fn a_path_is_before_those_that_it_begins(rt: HostRuntime) {
-    assert!(rt; Path::new(&[3]) < Path::new(&[3, 0]));
-    assert!(rt; Path::new(&[3, 0]) < Path::new(&[3, 1]));
-    assert!(rt; Path::new(&[3, 9]) < Path::new(&[4]));
-    assert!(rt; Path::new(&[0]) != Path::new(&[0, 0]));
+    assert!(rt; is_before(&[3], &[3, 0]));
+    assert!(rt; is_before(&[3, 0], &[3, 1]));
+    assert!(rt; is_before(&[3, 9], &[4]));
+    assert!(rt; is_before(&[0], &[0, 0]));
 }

@@ -1,7 +1,8 @@
 //! Slots with all that a registration can have, at its longest.
 
+use super::joined;
 use crate::*;
-use lw_join::{Join, Lex, Once, OrGone, Parts};
+use lw_join::{Lex, Once, OrGone, Parts};
 use lw_link::LinkText;
 use lw_stamp::{Moment, Stamp};
 use std::alloc::Global;
@@ -69,32 +70,22 @@ fn token(number: u16) -> Stamp {
     }
 }
 
-fn watch(number: u16) -> Result<(Path, Watching), Fail> {
-    let Some(path) = path(number) else {
-        return Err("a path".into());
-    };
+fn watch(number: u16) -> Option<(Path, Watching)> {
     let value = OrGone::Here(Once {
         value: Some(number),
     });
-    Ok((
-        path,
-        Lex {
-            stamp: token(number),
-            value,
-        },
-    ))
+    let stamp = token(number);
+    Some((path(number)?, Lex { stamp, value }))
 }
 
 /// A hundred watches, of the even paths below 200 or of the odd ones.
 fn watches(alloc: Global, odd: bool) -> Result<Parts<Path, Watching>, Fail> {
     let mut entries = Vec::new(alloc);
     for number in 0..100 {
-        entries.push(watch(2 * number + u16::from(odd))?)?;
+        let entry = watch(2 * number + u16::from(odd)).ok_or("a path")?;
+        entries.push(entry)?;
     }
-    let Some(watches) = Parts::from_entries(entries) else {
-        return Err("paths rise".into());
-    };
-    Ok(watches)
+    Ok(Parts::from_entries(entries).ok_or("paths rise")?)
 }
 
 fn first_fields(alloc: Global) -> Result<Fields, Fail> {
@@ -138,28 +129,37 @@ fn last_fields(alloc: Global) -> Result<Fields, Fail> {
     })
 }
 
+fn part(alloc: Global, last: bool) -> Result<Slot, Fail> {
+    let fields = if last {
+        last_fields(alloc)?
+    } else {
+        first_fields(alloc)?
+    };
+    Ok(Slot::from_parts(alloc, FIRST, Some(fields))?)
+}
+
 fn whole(alloc: Global, last_first: bool) -> Result<Slot, Fail> {
-    if last_first {
-        let mut slot = Slot::from_parts(alloc, FIRST, Some(last_fields(alloc)?))?;
-        slot.join_with(Slot::from_parts(alloc, FIRST, Some(first_fields(alloc)?))?)?;
-        return Ok(slot);
+    joined(part(alloc, last_first)?, part(alloc, !last_first)?)
+}
+
+fn has_the_last_binding(slot: &Slot) -> bool {
+    match slot.binding() {
+        None => false,
+        Some((stamp, binding)) => stamp == LAST && binding.as_str() == "ABCDEFGH",
     }
-    let mut slot = Slot::from_parts(alloc, FIRST, Some(first_fields(alloc)?))?;
-    slot.join_with(Slot::from_parts(alloc, FIRST, Some(last_fields(alloc)?))?)?;
-    Ok(slot)
 }
 
 fn has_the_last_fields(slot: &Slot) -> bool {
+    let base = Base {
+        version: Version::V11,
+        queue: true,
+    };
     slot.stamp() == FIRST
-        && slot
-            .base()
-            .is_some_and(|base| base.version == Version::V11 && base.queue)
+        && slot.base() == Some(base)
         && slot.address() == Some((LAST, LAST_HOST))
         && slot.seen() == Some((LAST, Moment::START))
         && slot.lifetime() == Some((LAST, 4_294_967_295))
-        && slot
-            .binding()
-            .is_some_and(|(_, b)| b.as_str() == "ABCDEFGH")
+        && has_the_last_binding(slot)
 }
 
 fn has_the_last_texts(slot: &Slot) -> bool {
@@ -201,34 +201,44 @@ fn has_each_watch(slot: &Slot) -> bool {
         && (0..200).all(|number| has_watch(slot, number) && follows(slot, number))
 }
 
+fn has_no_other_watch(slot: &Slot) -> bool {
+    let (Some(last), Some(other)) = (path(199), path(200)) else {
+        return false;
+    };
+    slot.watching(&other).is_none() && slot.watch_after(Moment::START, Some(&last)).is_none()
+}
+
+fn is_whole(slot: &Slot) -> bool {
+    has_the_last_fields(slot)
+        && has_the_last_texts(slot)
+        && has_each_watch(slot)
+        && has_no_other_watch(slot)
+}
+
 #[test]
 fn a_whole_slot_is_joined_in_both_orders(rt: HostRuntime) -> Result<(), Fail> {
     for last_first in [false, true] {
         let slot = whole(rt.alloc(), last_first)?;
-        assert!(rt; has_the_last_fields(&slot));
-        assert!(rt; has_the_last_texts(&slot));
-        assert!(rt; has_each_watch(&slot));
-        assert!(rt; path(200).is_some_and(|path| slot.watching(&path).is_none()));
-        assert!(rt;
-            slot.watch_after(Moment::START, path(199).as_ref())
-                .is_none()
-        );
+        assert!(rt; is_whole(&slot));
     }
     Ok(())
 }
 
+fn has_the_longest_texts(view: &View<'_>) -> bool {
+    let Some(sms) = view.sms else {
+        return false;
+    };
+    is_letters(view.endpoint, b'e', 252)
+        && is_letters(sms, b'1', 251)
+        && is_link(view.objects, b'l')
+}
+
 fn shows_the_last(seen: &Seen) -> bool {
-    is_letters(seen.endpoint.as_str(), b'e', 252)
-        && seen.id == FIRST
+    seen.id == FIRST
         && seen.address == LAST_HOST
         && seen.lifetime == 4_294_967_295
         && seen.binding.as_str() == "ABCDEFGH"
         && seen.queue
-        && seen
-            .sms
-            .as_ref()
-            .is_some_and(|sms| is_letters(sms.as_str(), b'1', 251))
-        && is_link(&seen.objects, b'l')
 }
 
 fn seen(alloc: Global) -> Result<Seen, Fail> {
@@ -244,10 +254,7 @@ fn seen(alloc: Global) -> Result<Seen, Fail> {
 fn a_whole_slot_is_shown_and_copied(rt: HostRuntime) -> Result<(), Fail> {
     let seen = seen(rt.alloc())?;
     assert!(rt; shows_the_last(&seen));
-    let view = seen.as_view();
-    assert!(rt; is_letters(view.endpoint, b'e', 252));
-    assert!(rt; view.sms.is_some_and(|sms| is_letters(sms, b'1', 251)));
-    assert!(rt; is_link(view.objects, b'l'));
+    assert!(rt; has_the_longest_texts(&seen.as_view()));
     Ok(())
 }
 
@@ -264,40 +271,56 @@ fn no_fields(alloc: Global) -> Fields {
     }
 }
 
+fn without_fields(alloc: Global) -> Result<Slot, Fail> {
+    Ok(Slot::from_parts(alloc, FIRST, Some(no_fields(alloc)))?)
+}
+
+fn has_no_fields(slot: &Slot) -> bool {
+    !slot.is_removed() && slot.base().is_none() && slot.watches().is_empty()
+}
+
 #[test]
 fn a_slot_without_fields_takes_the_others(rt: HostRuntime) -> Result<(), Fail> {
-    let mut named = Slot::from_parts(rt.alloc(), FIRST, Some(no_fields(rt.alloc())))?;
-    assert!(rt; !named.is_removed() && named.base().is_none() && named.watches().is_empty());
-    named.join_with(whole(rt.alloc(), false)?)?;
-    assert!(rt; has_the_last_fields(&named) && has_each_watch(&named));
-    named.join_with(Slot::from_parts(rt.alloc(), FIRST, Some(no_fields(rt.alloc())))?)?;
-    assert!(rt; has_the_last_texts(&named) && has_each_watch(&named));
+    let named = without_fields(rt.alloc())?;
+    assert!(rt; has_no_fields(&named));
+    let all = joined(named, whole(rt.alloc(), false)?)?;
+    assert!(rt; is_whole(&all));
+    let all = joined(all, without_fields(rt.alloc())?)?;
+    assert!(rt; is_whole(&all));
     Ok(())
+}
+
+fn is_endpoint(text: Text, length: usize) -> bool {
+    match Endpoint::new(text) {
+        None => false,
+        Some(endpoint) => {
+            is_letters(endpoint.as_str(), b'e', length)
+                && is_letters(endpoint.into_text().as_str(), b'e', length)
+        }
+    }
 }
 
 #[test]
 fn endpoints_have_1_to_252_bytes(rt: HostRuntime) -> Result<(), Fail> {
     for (length, is_one) in [(0, false), (1, true), (252, true), (253, false)] {
         let text = letters(rt.alloc(), 'e', length)?;
-        match Endpoint::new(text) {
-            None => assert!(rt; !is_one),
-            Some(endpoint) => {
-                assert!(rt; is_one && is_letters(endpoint.as_str(), b'e', length));
-                assert!(rt; is_letters(endpoint.into_text().as_str(), b'e', length));
-            }
-        }
+        assert!(rt; is_endpoint(text, length) == is_one);
     }
     Ok(())
+}
+
+fn is_sms_number(text: Text, length: usize) -> bool {
+    match SmsNumber::new(text) {
+        None => false,
+        Some(sms) => is_letters(sms.as_str(), b'1', length),
+    }
 }
 
 #[test]
 fn sms_numbers_have_at_most_251_bytes(rt: HostRuntime) -> Result<(), Fail> {
     for (length, is_one) in [(0, true), (251, true), (252, false)] {
-        let sms = SmsNumber::new(letters(rt.alloc(), '1', length)?);
-        assert_eq!(rt;
-            sms.is_some_and(|sms| is_letters(sms.as_str(), b'1', length)),
-            is_one
-        );
+        let text = letters(rt.alloc(), '1', length)?;
+        assert!(rt; is_sms_number(text, length) == is_one);
     }
     Ok(())
 }
