@@ -1,5 +1,5 @@
 -- What slots and states tell of a set of marks, and that the state of a set tells of that set.
-use Rattle.std.proofs.Common.{◌≡◌, ℕ, sym, refl, ap, subst, inl, inr, ◌⊎◌, List, [], ◌∷◌, Option, Some, None}
+use Rattle.std.proofs.Common.{◌≡◌, ◌∙◌, ℕ, sym, refl, ap, subst, inl, inr, ◌⊎◌, List, [], ◌∷◌, Option, Some, None}
 use Rattle.std.specs.Prelude.{◌↔◌, Contains}
 use Rattle.std.specs.declared.cmp.Ordering.{Ordering}
 use Rattle.std.specs.declared.cmp.Ordering.TheVariants.{Less, Equal, Greater}
@@ -179,32 +179,22 @@ base_told : (k : Trace) → BaseTells (With k) (record { value = base_in k })
 base_told (Based b) = greatest_single base_order _ b (inl refl) (λ y. elim [ inl p ↦ cc | inr p ↦ absurd cc ])
 base_told _ = λ x. elim [ inl p ↦ cc | inr p ↦ cc ]
 
-pair_of : {A B : Type 0} (x : A × B) (a : A) (b : B) → x.0 ≡ a → x.1 ≡ b → x ≡ (a, b)
-pair_of x a b p q i = (p i, q i)
+-- what is read of a trace that writes a field is that write, and of any other nothing
+module _ {V : Type 0} {cmp : V → V → Ordering} (order : IsExactOrder cmp) (field : Stamp → V → Trace) (read : Trace → Option (Stamp × V)) (written : (w : Stamp × V) → read (field_trace field w) ≡ Some w) (unnamed : read Named ≡ None) where
+  one_read : (k : Trace) (w : Stamp × V) → k ≡ field_trace field w → (y : Stamp × V) → With k (field_trace field y) → y ≡ w
+  one_read k w e y (inl p) = let same : Some y ≡ Some w = sym (written y) ∙ ap read (p ∙ e) ∙ written w in cc
+  one_read k w e y (inr p) = let none : Some y ≡ None = sym (written y) ∙ ap read p ∙ unnamed in absurd cc
 
-address_told : (k : Trace) → FieldTells addr_cmp AddressAt (With k) (record { write = address_in k })
-address_told (AddressAt s v) = greatest_single (write_order addr_order) _ (s, v) (inl refl) (λ y. elim [ inl p ↦ pair_of y s v (cc) (cc) | inr p ↦ absurd cc ])
-address_told _ = λ x. elim [ inl p ↦ cc | inr p ↦ cc ]
+  none_read : (k : Trace) → read k ≡ None → (y : Stamp × V) → ¬ With k (field_trace field y)
+  none_read k e y (inl p) = let none : Some y ≡ None = sym (written y) ∙ ap read p ∙ e in cc
+  none_read k e y (inr p) = let none : Some y ≡ None = sym (written y) ∙ ap read p ∙ unnamed in cc
 
-seen_told : (k : Trace) → FieldTells moment_cmp SeenAt (With k) (record { write = seen_in k })
-seen_told (SeenAt s v) = greatest_single (write_order moment_order) _ (s, v) (inl refl) (λ y. elim [ inl p ↦ pair_of y s v (cc) (cc) | inr p ↦ absurd cc ])
-seen_told _ = λ x. elim [ inl p ↦ cc | inr p ↦ cc ]
-
-lifetime_told : (k : Trace) → FieldTells nat_cmp LifetimeAt (With k) (record { write = lifetime_in k })
-lifetime_told (LifetimeAt s v) = greatest_single (write_order number_order) _ (s, v) (inl refl) (λ y. elim [ inl p ↦ pair_of y s v (cc) (cc) | inr p ↦ absurd cc ])
-lifetime_told _ = λ x. elim [ inl p ↦ cc | inr p ↦ cc ]
-
-binding_told : (k : Trace) → FieldTells binding_cmp BindingAt (With k) (record { write = binding_in k })
-binding_told (BindingAt s v) = greatest_single (write_order binding_order) _ (s, v) (inl refl) (λ y. elim [ inl p ↦ pair_of y s v (cc) (cc) | inr p ↦ absurd cc ])
-binding_told _ = λ x. elim [ inl p ↦ cc | inr p ↦ cc ]
-
-sms_told : (k : Trace) → FieldTells sms_cmp SmsAt (With k) (record { write = sms_in k })
-sms_told (SmsAt s v) = greatest_single (write_order sms_order) _ (s, v) (inl refl) (λ y. elim [ inl p ↦ pair_of y s v (cc) (cc) | inr p ↦ absurd cc ])
-sms_told _ = λ x. elim [ inl p ↦ cc | inr p ↦ cc ]
-
-objects_told : (k : Trace) → FieldTells text_cmp ObjectsAt (With k) (record { write = objects_in k })
-objects_told (ObjectsAt s v) = greatest_single (write_order text_order) _ (s, v) (inl refl) (λ y. elim [ inl p ↦ pair_of y s v (cc) (cc) | inr p ↦ absurd cc ])
-objects_told _ = λ x. elim [ inl p ↦ cc | inr p ↦ cc ]
+  field_told : ((k : Trace) → (read k ≡ None) ⊎ ((w : Stamp × V) × (k ≡ field_trace field w))) → (k : Trace) → FieldTells cmp field (With k) (record { write = read k })
+  field_told each k = go (each k)
+    where
+      go : (read k ≡ None) ⊎ ((w : Stamp × V) × (k ≡ field_trace field w)) → FieldTells cmp field (With k) (record { write = read k })
+      go (inl e) = rw e (none_read k e)
+      go (inr x) = rw (ap read x.1 ∙ written x.0) (greatest_single (write_order order) _ x.0 (inl (sym x.1)) (one_read k x.0 x.1))
 
 -- a trace of no watch
 no_watch : (k : Trace) → ((p : Path) (t : Stamp) (g : Sign) → ¬ (sign_trace p t g ≡ k)) → WatchesTell (With k) no_watches
@@ -262,12 +252,12 @@ body_told : (k : Trace) → BodyTells (With k) (body_in k)
 body_told k = record {
   named = inr refl;
   base = base_told k;
-  address = address_told k;
-  seen = seen_told k;
-  lifetime = lifetime_told k;
-  binding = binding_told k;
-  sms = sms_told k;
-  objects = objects_told k;
+  address = field_told addr_order AddressAt address_in (λ w. refl) refl (elim [ AddressAt s v ↦ inr ((s, v), refl) | _ ↦ inl refl ]) k;
+  seen = field_told moment_order SeenAt seen_in (λ w. refl) refl (elim [ SeenAt s v ↦ inr ((s, v), refl) | _ ↦ inl refl ]) k;
+  lifetime = field_told number_order LifetimeAt lifetime_in (λ w. refl) refl (elim [ LifetimeAt s v ↦ inr ((s, v), refl) | _ ↦ inl refl ]) k;
+  binding = field_told binding_order BindingAt binding_in (λ w. refl) refl (elim [ BindingAt s v ↦ inr ((s, v), refl) | _ ↦ inl refl ]) k;
+  sms = field_told sms_order SmsAt sms_in (λ w. refl) refl (elim [ SmsAt s v ↦ inr ((s, v), refl) | _ ↦ inl refl ]) k;
+  objects = field_told text_order ObjectsAt objects_in (λ w. refl) refl (elim [ ObjectsAt s v ↦ inr ((s, v), refl) | _ ↦ inl refl ]) k;
   watches = watches_told k;
 }
 
