@@ -1,5 +1,5 @@
 -- The laws of values that may be absent.
-use Rattle.std.specs.Prelude.{◌≡◌, Option, Some, None}
+use Rattle.std.specs.Prelude.{Some, None}
 use Rattle.std.proofs.Common.{refl, ap}
 use Rattle.lw_join.specs.Join.{IsJoin}
 use Rattle.lw_join.specs.Options.{option_below, option_join}

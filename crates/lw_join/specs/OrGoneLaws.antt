@@ -1,5 +1,4 @@
 -- The laws of `OrGone`.
-use Rattle.std.specs.Prelude.{◌≡◌}
 use Rattle.std.proofs.Common.{refl, ap}
 use Rattle.lw_join.specs.Join.{IsJoin}
 use Rattle.lw_join.specs.OrGone.{gone_below, gone_join, gone_in_place}

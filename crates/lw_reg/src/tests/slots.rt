@@ -159,15 +159,6 @@ fn has_the_early_update(slot: &Slot) -> bool {
         && view.objects.as_str() == "</>"
 }
 
-#[test]
-fn an_update_waits_for_its_register(rt: HostRuntime) -> Result<(), Fail> {
-    for order in ORDERS {
-        let all = joined_in(rt.alloc(), Scene::EarlyUpdate, order)?;
-        assert!(rt; has_the_early_update(&all));
-    }
-    Ok(())
-}
-
 fn has_both_updates(slot: &Slot) -> bool {
     let Some(view) = slot.view("a", at(2000)) else {
         return false;
@@ -179,15 +170,6 @@ fn has_both_updates(slot: &Slot) -> bool {
         && view.seen.ms() == 2000
 }
 
-#[test]
-fn updates_of_two_servers_join(rt: HostRuntime) -> Result<(), Fail> {
-    for order in ORDERS {
-        let all = joined_in(rt.alloc(), Scene::TwoUpdates, order)?;
-        assert!(rt; has_both_updates(&all));
-    }
-    Ok(())
-}
-
 fn is_gone(slot: &Slot) -> bool {
     slot.is_removed()
         && slot.view("a", at(0)).is_none()
@@ -196,12 +178,28 @@ fn is_gone(slot: &Slot) -> bool {
         && slot.stamp() == OLD
 }
 
-#[test]
-fn a_removed_registration_stays_removed(rt: HostRuntime) -> Result<(), Fail> {
-    for order in ORDERS {
-        let all = joined_in(rt.alloc(), Scene::Removal, order)?;
-        assert!(rt; is_gone(&all));
+fn is_as_told(scene: Scene, slot: &Slot) -> bool {
+    match scene {
+        Scene::EarlyUpdate => has_the_early_update(slot),
+        Scene::TwoUpdates => has_both_updates(slot),
+        Scene::Removal => is_gone(slot),
     }
+}
+
+fn joins_in_each_order(alloc: Global, scene: Scene) -> Result<bool, Fail> {
+    for order in ORDERS {
+        if !is_as_told(scene, &joined_in(alloc, scene, order)?) {
+            return Ok(false);
+        }
+    }
+    Ok(true)
+}
+
+#[test]
+fn operations_join_in_each_order(rt: HostRuntime) -> Result<(), Fail> {
+    assert!(rt; joins_in_each_order(rt.alloc(), Scene::EarlyUpdate)?);
+    assert!(rt; joins_in_each_order(rt.alloc(), Scene::TwoUpdates)?);
+    assert!(rt; joins_in_each_order(rt.alloc(), Scene::Removal)?);
     Ok(())
 }
 
@@ -221,22 +219,16 @@ fn is_over(slot: &Slot, now: Moment) -> bool {
     slot.view("a", now).is_none() && slot.expired(now)
 }
 
-#[test]
-fn a_lifetime_ends(rt: HostRuntime) -> Result<(), Fail> {
-    let slot = registered(rt.alloc(), OLD, at(1000), 60)?;
-    assert!(rt; is_shown(&slot, at(60_999)));
-    assert!(rt; is_over(&slot, at(61_000)));
-    Ok(())
-}
-
 const END: u64 = 281_474_976_710_655;
 
 #[test]
-fn the_longest_lifetimes_do_not_end(rt: HostRuntime) -> Result<(), Fail> {
+fn a_lifetime_ends(rt: HostRuntime) -> Result<(), Fail> {
     for (seen, lifetime) in [(0, 0), (END, 4_294_967_295)] {
         let slot = registered(rt.alloc(), OLD, at(seen), lifetime)?;
         assert!(rt; is_shown(&slot, at(END)));
     }
+    let slot = registered(rt.alloc(), OLD, at(1000), 60)?;
+    assert!(rt; is_shown(&slot, at(60_999)) && is_over(&slot, at(61_000)));
     Ok(())
 }
 
@@ -272,13 +264,6 @@ fn has_the_last_watch(slot: &Slot) -> bool {
         && slot.watch(at(60_000), LAST).is_none()
 }
 
-#[test]
-fn the_last_watch_of_a_path_lives(rt: HostRuntime) -> Result<(), Fail> {
-    let slot = watched(rt.alloc())?;
-    assert!(rt; has_the_last_watch(&slot));
-    Ok(())
-}
-
 fn least_token(slot: &Slot) -> Option<Stamp> {
     Some(slot.watch_after(at(0), None)?.token)
 }
@@ -299,10 +284,10 @@ fn has_tokens_by_path(slot: &Slot) -> bool {
 }
 
 #[test]
-fn watches_come_by_path(rt: HostRuntime) -> Result<(), Fail> {
+fn the_last_watches_come_by_path(rt: HostRuntime) -> Result<(), Fail> {
     let slot = watched(rt.alloc())?;
-    assert!(rt; has_watches_by_path(&slot));
-    assert!(rt; has_tokens_by_path(&slot));
+    assert!(rt; has_the_last_watch(&slot));
+    assert!(rt; has_watches_by_path(&slot) && has_tokens_by_path(&slot));
     Ok(())
 }
 
@@ -336,8 +321,7 @@ fn has_the_later_watch_alone(slot: &Slot) -> bool {
 #[test]
 fn a_cancelled_watch_is_gone(rt: HostRuntime) -> Result<(), Fail> {
     let slot = cancelled(rt.alloc())?;
-    assert!(rt; has_the_later_watch_alone(&slot));
-    assert!(rt; was_cancelled(&slot));
+    assert!(rt; has_the_later_watch_alone(&slot) && was_cancelled(&slot));
     Ok(())
 }
 
@@ -395,14 +379,6 @@ fn gives_back_its_texts(slot: &Slot) -> bool {
     sms.as_str() == "+31" && objects.as_str() == "</3/0>"
 }
 
-#[test]
-fn a_slot_gives_back_its_parts(rt: HostRuntime) -> Result<(), Fail> {
-    let slot = put_together(rt.alloc())?;
-    assert!(rt; gives_back_its_writes(&slot));
-    assert!(rt; gives_back_its_texts(&slot));
-    Ok(())
-}
-
 fn is_copied(alloc: Global, slot: &Slot) -> Result<bool, Fail> {
     let Some(view) = slot.view("b", at(5)) else {
         return Ok(false);
@@ -411,17 +387,16 @@ fn is_copied(alloc: Global, slot: &Slot) -> Result<bool, Fail> {
     Ok(seen.endpoint.as_str() == "b" && seen.queue)
 }
 
-#[test]
-fn a_view_of_a_slot_is_copied(rt: HostRuntime) -> Result<(), Fail> {
-    let slot = put_together(rt.alloc())?;
-    assert!(rt; is_copied(rt.alloc(), &slot)?);
-    Ok(())
+fn is_removed(alloc: Global) -> Result<bool, Fail> {
+    Ok(Slot::from_parts(alloc, OLD, None)?.is_removed())
 }
 
 #[test]
-fn a_removed_slot_is_put_together(rt: HostRuntime) -> Result<(), Fail> {
-    let slot = Slot::from_parts(rt.alloc(), OLD, None)?;
-    assert!(rt; slot.is_removed());
+fn a_slot_gives_back_its_parts(rt: HostRuntime) -> Result<(), Fail> {
+    let slot = put_together(rt.alloc())?;
+    assert!(rt; gives_back_its_writes(&slot) && gives_back_its_texts(&slot));
+    assert!(rt; is_copied(rt.alloc(), &slot)?);
+    assert!(rt; is_removed(rt.alloc())?);
     Ok(())
 }
 
@@ -459,8 +434,6 @@ fn is_before(left: &[u16], right: &[u16]) -> bool {
 
 #[test]
 fn a_path_is_before_those_that_it_begins(rt: HostRuntime) {
-    assert!(rt; is_before(&[3], &[3, 0]));
-    assert!(rt; is_before(&[3, 0], &[3, 1]));
-    assert!(rt; is_before(&[3, 9], &[4]));
-    assert!(rt; is_before(&[0], &[0, 0]));
+    assert!(rt; is_before(&[3], &[3, 0]) && is_before(&[3, 0], &[3, 1]));
+    assert!(rt; is_before(&[3, 9], &[4]) && is_before(&[0], &[0, 0]));
 }

@@ -51,12 +51,13 @@ fn link(alloc: Global, letter: char) -> Result<LinkText, Fail> {
 }
 
 fn is_link(objects: &LinkText, letter: u8) -> bool {
-    match objects.as_str().as_bytes() {
-        [b'<', letters @ .., b'>'] => {
-            letters.len() == 8190 && letters.iter().all(|c| *c == letter)
-        }
-        _ => false,
-    }
+    let Some(link) = objects.as_str().strip_prefix("<") else {
+        return false;
+    };
+    let Some(letters) = link.strip_suffix(">") else {
+        return false;
+    };
+    is_letters(letters, letter, 8190)
 }
 
 fn path(number: u16) -> Option<Path> {
@@ -111,6 +112,10 @@ fn first_fields(alloc: Global) -> Result<Fields, Fail> {
     })
 }
 
+fn longest_binding() -> Option<(Stamp, Binding)> {
+    Some((LAST, Binding::read("ABCDEFGH")?))
+}
+
 fn last_fields(alloc: Global) -> Result<Fields, Fail> {
     let sms = SmsNumber::new(letters(alloc, '1', 251)?);
     let objects = link(alloc, 'l')?;
@@ -122,7 +127,7 @@ fn last_fields(alloc: Global) -> Result<Fields, Fail> {
         address: Some((LAST, LAST_HOST)),
         seen: Some((LAST, Moment::START)),
         lifetime: Some((LAST, 4_294_967_295)),
-        binding: Binding::read("ABCDEFGH").map(|binding| (LAST, binding)),
+        binding: longest_binding(),
         sms: Some((LAST, sms)),
         objects: Some((LAST, objects)),
         watches: watches(alloc, true)?,
@@ -253,8 +258,7 @@ fn seen(alloc: Global) -> Result<Seen, Fail> {
 #[test]
 fn a_whole_slot_is_shown_and_copied(rt: HostRuntime) -> Result<(), Fail> {
     let seen = seen(rt.alloc())?;
-    assert!(rt; shows_the_last(&seen));
-    assert!(rt; has_the_longest_texts(&seen.as_view()));
+    assert!(rt; shows_the_last(&seen) && has_the_longest_texts(&seen.as_view()));
     Ok(())
 }
 
