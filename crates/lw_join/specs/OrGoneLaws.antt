@@ -10,13 +10,13 @@ gone_laws laws = record {
   reflexive = elim [ Gone ↦ tt | Here x ↦ laws.reflexive x ];
   antisymmetric = elim [ Gone ↦ elim [ Gone ↦ λ h k. refl | Here y ↦ λ h k. absurd h ] | Here x ↦ elim [ Gone ↦ λ h k. absurd k | Here y ↦ λ h k. ap Here (laws.antisymmetric x y h k) ] ];
   transitive = elim [
-    Gone ↦ elim [ Gone ↦ λ z h k. k | Here y ↦ elim [ Gone ↦ λ h k. tt | Here z ↦ λ h k. absurd h ] ]
+    | Gone ↦ elim [ Gone ↦ λ z h k. k | Here y ↦ elim [ Gone ↦ λ h k. tt | Here z ↦ λ h k. absurd h ] ]
     | Here x ↦ elim [ Gone ↦ elim [ Gone ↦ λ h k. tt | Here z ↦ λ h k. absurd k ] | Here y ↦ elim [ Gone ↦ λ h k. tt | Here z ↦ laws.transitive x y z ] ]
   ];
   above_left = elim [ Gone ↦ elim [ Gone ↦ tt | Here y ↦ tt ] | Here x ↦ elim [ Gone ↦ tt | Here y ↦ laws.above_left x y ] ];
   above_right = elim [ Gone ↦ elim [ Gone ↦ tt | Here y ↦ tt ] | Here x ↦ elim [ Gone ↦ tt | Here y ↦ laws.above_right x y ] ];
   least = elim [
-    Gone ↦ elim [ Gone ↦ λ z h k. h | Here y ↦ λ z h k. h ]
+    | Gone ↦ elim [ Gone ↦ λ z h k. h | Here y ↦ λ z h k. h ]
     | Here x ↦ elim [ Gone ↦ λ z h k. k | Here y ↦ elim [ Gone ↦ λ h k. tt | Here z ↦ laws.least x y z ] ]
   ];
 }

@@ -34,8 +34,8 @@ body_laws =
     (λ x y h. record { base = h.0; address = h.1.0; seen = h.1.1.0; lifetime = h.1.1.1.0; binding = h.1.1.1.1.0; sms = h.1.1.1.1.1.0; objects = h.1.1.1.1.1.1.0; watches = h.1.1.1.1.1.1.1 })
     (λ x y h. (h.base, (h.address, (h.seen, (h.lifetime, (h.binding, (h.sms, (h.objects, h.watches))))))))
     (laws_along
-      (λ (b : Body). (b.base, (b.address, (b.seen, (b.lifetime, (b.binding, (b.sms, (b.objects, b.watches))))))))
-      (λ p. record { base = p.0; address = p.1.0; seen = p.1.1.0; lifetime = p.1.1.1.0; binding = p.1.1.1.1.0; sms = p.1.1.1.1.1.0; objects = p.1.1.1.1.1.1.0; watches = p.1.1.1.1.1.1.1 })
-      (λ s. refl)
-      (λ t. refl)
-      (pair_laws (once_laws base_order) (pair_laws (lww_laws addr_order) (pair_laws (lww_laws moment_order) (pair_laws (lww_laws number_order) (pair_laws (lww_laws binding_order) (pair_laws (lww_laws sms_order) (pair_laws (lww_laws text_order) (parts_laws path_order watching_laws)))))))))
+    (λ (b : Body). (b.base, (b.address, (b.seen, (b.lifetime, (b.binding, (b.sms, (b.objects, b.watches))))))))
+    (λ p. record { base = p.0; address = p.1.0; seen = p.1.1.0; lifetime = p.1.1.1.0; binding = p.1.1.1.1.0; sms = p.1.1.1.1.1.0; objects = p.1.1.1.1.1.1.0; watches = p.1.1.1.1.1.1.1 })
+    (λ s. refl)
+    (λ t. refl)
+    (pair_laws (once_laws base_order) (pair_laws (lww_laws addr_order) (pair_laws (lww_laws moment_order) (pair_laws (lww_laws number_order) (pair_laws (lww_laws binding_order) (pair_laws (lww_laws sms_order) (pair_laws (lww_laws text_order) (parts_laws path_order watching_laws)))))))))
