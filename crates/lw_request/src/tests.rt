@@ -9,46 +9,68 @@ use std::test::Fail;
 mod bounds;
 mod shown;
 
-/// The bytes of a refusal, in hex.
-fn refusal_told(alloc: Global, message: &Message, refusal: Refusal) -> Result<String, Fail> {
-    if message.token.len() > 8 || message.kind == Kind::Ack || message.kind == Kind::Rst {
+/// The bytes of an answer to a message, in hex.
+fn answered(
+    alloc: Global,
+    message: &Message,
+    code: u8,
+    location: Option<Stamp>,
+) -> Result<String, Fail> {
+    if message.token.len() > 8 || code == 0 {
         return Err(Fail::from("an answer"));
     }
-    let bytes = answer(
-        alloc,
-        message.kind,
-        message.mid,
-        &message.token,
-        refusal.code(),
-        None,
-    )
-    .map_err(|_| "there is room")?;
+    if message.kind == Kind::Ack || message.kind == Kind::Rst {
+        return Err(Fail::from("a request"));
+    }
+    let token = message.token.as_slice();
+    let bytes = answer(alloc, message.kind, message.mid, token, code, location).map_err(
+        |_| "there is room",
+    )?;
     Ok(hex::encode(alloc, &bytes)?)
 }
 
-/// What a message means: a refusal as the bytes of its answer, and any other meaning in words.
-fn told(alloc: Global, message: &Message) -> Result<String, Fail> {
-    let asked = understand(alloc, message).map_err(|_| "there is room")?;
+/// A refusal as the bytes of its answer, and any other meaning in words.
+fn words(alloc: Global, message: &Message, asked: &Asked) -> Result<String, Fail> {
     if let Asked::Refuse(refusal) = asked {
-        return refusal_told(alloc, message, refusal);
+        return answered(alloc, message, refusal.code(), None);
     }
-    let shown = Shown(&asked);
+    let shown = Shown(asked);
     Ok(format!(in alloc; "{shown}")?)
 }
 
-fn meaning(alloc: Global, datagram: &str) -> Result<String, Fail> {
+/// What a message means.
+fn told(alloc: Global, message: &Message) -> Result<String, Fail> {
+    let asked = understand(alloc, message).map_err(|_| "there is room")?;
+    words(alloc, message, &asked)
+}
+
+fn message_of(alloc: Global, datagram: &str) -> Result<Message, Fail> {
     let bytes = hex::decode(alloc, datagram)?;
-    let message = decode(alloc, &bytes).map_err(|_| "a message")?;
+    Ok(decode(alloc, &bytes).map_err(|_| "a message")?)
+}
+
+fn meaning(alloc: Global, datagram: &str) -> Result<String, Fail> {
+    let message = message_of(alloc, datagram)?;
     told(alloc, &message)
 }
 
-/// Looks at cases, each a line: what it is, its datagram in hex, and what that means.
+fn same(rt: &impl Abort, case: &str, text: &str, want: &str) {
+    assert!(rt; text == want, "{case}: {text}");
+}
+
+/// Looks at a case: what it is, its datagram in hex, and what that means.
+fn check_case(rt: &impl Abort, alloc: Global, case: &str) -> Result<(), Fail> {
+    let (_name, means) = case.split_once(": ").ok_or("a case")?;
+    let (datagram, want) = means.split_once(" -> ").ok_or("a case")?;
+    let meant = meaning(alloc, datagram)?;
+    same(rt, case, meant.as_str(), want);
+    Ok(())
+}
+
+/// Looks at cases, a line each.
 fn check(rt: &impl Abort, alloc: Global, cases: &str) -> Result<(), Fail> {
     for case in cases.trim().lines() {
-        let (_name, case) = case.split_once(": ").ok_or("a case")?;
-        let (datagram, want) = case.split_once(" -> ").ok_or("a case")?;
-        let meant = meaning(alloc, datagram)?;
-        assert_eq!(rt; meant.as_str(), want, "{case}");
+        check_case(rt, alloc, case)?;
     }
     Ok(())
 }
@@ -269,7 +291,7 @@ fn a_query_has_at_most_255_bytes(rt: HostRuntime) -> Result<(), Fail> {
         ("5004", "f3", 256, "reject"),
     ] {
         let meant = meaning_with_query(rt.alloc(), front, extension, length)?;
-        assert_eq!(rt; meant.as_str(), want);
+        same(&rt, front, meant.as_str(), want);
     }
     Ok(())
 }
@@ -292,7 +314,7 @@ fn a_list_has_at_most_256_links(rt: HostRuntime) -> Result<(), Fail> {
         ("40020004b272644465703d61096c776d326d3d312e32", "608c0004"),
     ] {
         let meant = meaning_of_links(rt.alloc(), head, 256)?;
-        assert_eq!(rt; meant.as_str(), want);
+        same(&rt, head, meant.as_str(), want);
     }
     Ok(())
 }
@@ -302,71 +324,62 @@ fn a_list_of_256_links_is_kept(rt: HostRuntime) -> Result<(), Fail> {
     let links = ",</>".repeat(rt.alloc(), 255)?;
     let want = format!(in rt.alloc(); "register a 1.0 false 86400 U - </>{links}")?;
     let meant = meaning_of_links(rt.alloc(), "40020004b272644465703d61", 255)?;
-    assert_eq!(rt; meant.as_str(), want.as_str());
+    same(&rt, "256 links", meant.as_str(), want.as_str());
     Ok(())
 }
 
-/// A payload of over 8,192 bytes stands in no datagram.
-#[test]
-fn more_than_a_datagram_is_too_large(rt: HostRuntime) -> Result<(), Fail> {
-    let alloc = rt.alloc();
-    let bytes = hex::decode(alloc, "40020004b272644465703d61ff3c2f3e")?;
-    let mut message = decode(alloc, &bytes).map_err(|_| "a message")?;
-    message.payload = vec![in alloc; b'x'; 8193]?;
-    let meant = told(alloc, &message)?;
-    assert_eq!(rt; meant.as_str(), "608d0004");
-    Ok(())
+/// The bytes of the answer to a datagram.
+fn answered_to(
+    alloc: Global,
+    datagram: &str,
+    code: u8,
+    location: Option<Stamp>,
+) -> Result<String, Fail> {
+    let message = message_of(alloc, datagram)?;
+    answered(alloc, &message, code, location)
 }
 
 #[test]
 fn answers_have_the_token_and_the_location(rt: HostRuntime) -> Result<(), Fail> {
-    let id = Stamp::read_id(b"0000000000010001").ok_or("an identifier")?;
-    for (kind, mid, token, want) in [
+    let id = Stamp::read_id(b"0000000000010001");
+    for (datagram, code, location, want) in [
         (
-            Kind::Con,
-            1,
-            b"\x01\x02\x03\x04".as_slice(),
-            "6441000101020304",
+            "4402000101020304",
+            codes::CREATED,
+            id,
+            "64410001010203048272640d0330303030303030303030303130303031",
         ),
         (
-            Kind::Con,
-            2,
-            b"\x01\x02\x03\x04\x05\x06\x07\x08",
-            "684100020102030405060708",
+            "480200020102030405060708",
+            codes::CREATED,
+            id,
+            "6841000201020304050607088272640d0330303030303030303030303130303031",
         ),
-        (Kind::Non, 11, b"", "5041000b"),
+        (
+            "5002000b",
+            codes::CREATED,
+            id,
+            "5041000b8272640d0330303030303030303030303130303031",
+        ),
+        ("40020010", codes::CHANGED, None, "60440010"),
+        ("40040012", codes::DELETED, None, "60420012"),
     ] {
-        let bytes = answer(rt.alloc(), kind, mid, token, codes::CREATED, Some(id)).map_err(
-            |_| "there is room",
-        )?;
-        let text = hex::encode(rt.alloc(), &bytes)?;
-        let front = text
-            .as_str()
-            .strip_suffix("8272640d0330303030303030303030303130303031");
-        assert_eq!(rt; front, Some(want));
+        let bytes = answered_to(rt.alloc(), datagram, code, location)?;
+        same(&rt, datagram, bytes.as_str(), want);
     }
     Ok(())
 }
 
 #[test]
-fn answers_without_a_location(rt: HostRuntime) -> Result<(), Fail> {
-    for (mid, code, want) in [
-        (16, codes::CHANGED, "60440010"),
-        (18, codes::DELETED, "60420012"),
+fn resets_and_acknowledgements_are_empty(rt: HostRuntime) -> Result<(), Fail> {
+    for (bytes, want) in [
+        (reset(0x0007), "70000007"),
+        (reset(0xfedc), "7000fedc"),
+        (ack(0x0031), "60000031"),
+        (ack(0xfedc), "6000fedc"),
     ] {
-        let bytes = answer(rt.alloc(), Kind::Con, mid, b"", code, None).map_err(
-            |_| "there is room",
-        )?;
-        let text = hex::encode(rt.alloc(), &bytes)?;
-        assert_eq!(rt; text.as_str(), want);
+        let text = hex::encode(rt.alloc(), bytes)?;
+        same(&rt, want, text.as_str(), want);
     }
     Ok(())
-}
-
-#[test]
-fn resets_and_acknowledgements_are_empty(rt: HostRuntime) {
-    assert_eq!(rt; reset(0x0007).as_slice(), b"\x70\x00\x00\x07".as_slice());
-    assert_eq!(rt; reset(0xfedc).as_slice(), b"\x70\x00\xfe\xdc".as_slice());
-    assert_eq!(rt; ack(0x0031).as_slice(), b"\x60\x00\x00\x31".as_slice());
-    assert_eq!(rt; ack(0xfedc).as_slice(), b"\x60\x00\xfe\xdc".as_slice());
 }

@@ -1,6 +1,6 @@
 //! Messages at the bounds of what they may say.
 
-use super::told;
+use super::{same, told};
 use lw_coap::{CoapOption, Kind, Message, codes};
 use std::alloc::Global;
 use std::test::Fail;
@@ -109,7 +109,7 @@ fn a_register_at_its_bounds(rt: HostRuntime) -> Result<(), Fail> {
         };
         let meant = meant_at(rt.alloc(), "rd", lengths)?;
         let want = register_wanted(rt.alloc(), lengths)?;
-        assert_eq!(rt; meant.as_str(), want.as_str());
+        same(&rt, "at its bounds", meant.as_str(), want.as_str());
     }
     Ok(())
 }
@@ -142,7 +142,7 @@ fn an_update_at_its_bounds(rt: HostRuntime) -> Result<(), Fail> {
     for (sms, links) in [(0, 0), (1, 1), (9, 3), (251, 255)] {
         let meant = update_meant(rt.alloc(), sms, links)?;
         let want = update_wanted(rt.alloc(), sms, links)?;
-        assert_eq!(rt; meant.as_str(), want.as_str());
+        same(&rt, "at its bounds", meant.as_str(), want.as_str());
     }
     Ok(())
 }
@@ -169,7 +169,16 @@ fn hundreds_of_queries(rt: HostRuntime) -> Result<(), Fail> {
         ("lt=5", "lt=x", "60800001"),
     ] {
         let meant = meant_behind(rt.alloc(), query, last)?;
-        assert_eq!(rt; meant.as_str(), want, "{query}");
+        same(&rt, query, meant.as_str(), want);
     }
+    Ok(())
+}
+
+/// A payload of over 8,192 bytes stands in no datagram.
+#[test]
+fn more_than_a_datagram_is_too_large(rt: HostRuntime) -> Result<(), Fail> {
+    let payload = "x".repeat(rt.alloc(), 8193)?;
+    let meant = meant(rt.alloc(), "rd", "ep=a", payload.as_str())?;
+    same(&rt, "8,193 bytes", meant.as_str(), "608d0001");
     Ok(())
 }

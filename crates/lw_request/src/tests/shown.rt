@@ -1,19 +1,42 @@
 //! Meanings in words.
 
 use crate::{Asked, Report};
+use lw_link::LinkText;
+use lw_reg::{Binding, SmsNumber};
 use lw_stamp::Stamp;
 use std::fmt;
 
-/// What is absent is a dash.
+/// A number, or a dash where there is none.
 #[derive(Clone, Copy)]
-struct OrDash<T>(Option<T>);
+struct Number(Option<u32>);
 
-impl<T: fmt::Display> fmt::Display for OrDash<T> {
+impl fmt::Display for Number {
     fn fmt<W: fmt::Write>(&self, f: &mut fmt::Formatter<W>) -> fmt::Result {
-        match &self.0 {
-            Some(value) => write!(f, "{value}"),
-            None => write!(f, "-"),
+        match self.0 {
+            Some(number) => write!(f, "{number}"),
+            None => f.write_str("-"),
         }
+    }
+}
+
+fn sms_or_dash(sms: &Option<SmsNumber>) -> &str {
+    match sms {
+        Some(sms) => sms.as_str(),
+        None => "-",
+    }
+}
+
+fn binding_or_dash(binding: &Option<Binding>) -> &str {
+    match binding {
+        Some(binding) => binding.as_str(),
+        None => "-",
+    }
+}
+
+fn objects_or_dash(objects: &Option<LinkText>) -> &str {
+    match objects {
+        Some(objects) => objects.as_str(),
+        None => "-",
     }
 }
 
@@ -30,14 +53,17 @@ impl fmt::Display for Bytes<'_> {
     }
 }
 
-/// A stamp in hex: six bytes of counter, two of node.
+/// A stamp in hex, six bytes of counter and two of node; a dash where there is none.
 #[derive(Clone, Copy)]
-struct Id(Stamp);
+struct Id(Option<Stamp>);
 
 impl fmt::Display for Id {
     fn fmt<W: fmt::Write>(&self, f: &mut fmt::Formatter<W>) -> fmt::Result {
-        let counter = self.0.counter;
-        let node = self.0.node;
+        let Some(id) = self.0 else {
+            return f.write_str("-");
+        };
+        let counter = id.counter;
+        let node = id.node;
         write!(f, "{counter:012x}{node:04x}")
     }
 }
@@ -52,8 +78,8 @@ impl fmt::Display for ShownReport<'_> {
         let mid = report.mid;
         let token = Bytes(&report.token);
         let code = report.code;
-        let observe = OrDash(report.observe);
-        let format = OrDash(report.format);
+        let observe = Number(report.observe);
+        let format = Number(report.format.map(u32::from));
         let payload = Bytes(&report.payload);
         write!(
             f,
@@ -62,7 +88,7 @@ impl fmt::Display for ShownReport<'_> {
     }
 }
 
-/// A meaning in words: its name and its fields.
+/// A meaning in words: its name and its fields. A refusal has but its name.
 #[derive(Clone, Copy)]
 pub struct Shown<'a>(pub &'a Asked);
 
@@ -81,7 +107,7 @@ impl fmt::Display for Shown<'_> {
                 let endpoint = endpoint.as_str();
                 let version = version.as_str();
                 let binding = binding.as_str();
-                let sms = OrDash(sms.as_ref().map(|sms| sms.as_str()));
+                let sms = sms_or_dash(sms);
                 let objects = objects.as_str();
                 write!(
                     f,
@@ -95,25 +121,22 @@ impl fmt::Display for Shown<'_> {
                 sms,
                 objects,
             } => {
-                let id = OrDash(id.map(Id));
-                let lifetime = OrDash(*lifetime);
-                let binding = OrDash(binding.as_ref().map(|binding| binding.as_str()));
-                let sms = OrDash(sms.as_ref().map(|sms| sms.as_str()));
-                let objects = OrDash(objects.as_ref().map(|objects| objects.as_str()));
+                let id = Id(*id);
+                let lifetime = Number(*lifetime);
+                let binding = binding_or_dash(binding);
+                let sms = sms_or_dash(sms);
+                let objects = objects_or_dash(objects);
                 write!(f, "update {id} {lifetime} {binding} {sms} {objects}")
             }
             Asked::Deregister { id } => {
-                let id = OrDash(id.map(Id));
+                let id = Id(*id);
                 write!(f, "deregister {id}")
             }
-            Asked::Report(report) => {
-                let report = ShownReport(report);
-                write!(f, "{report}")
-            }
-            Asked::Refuse(refusal) => write!(f, "refuse {refusal:?}"),
-            Asked::Ping => write!(f, "ping"),
-            Asked::Reject => write!(f, "reject"),
-            Asked::Ignore => write!(f, "ignore"),
+            Asked::Report(report) => fmt::Display::fmt(&ShownReport(report), f),
+            Asked::Refuse(_) => f.write_str("refuse"),
+            Asked::Ping => f.write_str("ping"),
+            Asked::Reject => f.write_str("reject"),
+            Asked::Ignore => f.write_str("ignore"),
         }
     }
 }
