@@ -49,22 +49,22 @@ fn message_of(alloc: Global, datagram: &str) -> Result<Message, Fail> {
     Ok(decode(alloc, &bytes).map_err(|_| "a message")?)
 }
 
-fn meaning(alloc: Global, datagram: &str) -> Result<String, Fail> {
-    let message = message_of(alloc, datagram)?;
-    told(alloc, &message)
-}
-
 fn same(rt: &impl Abort, case: &str, text: &str, want: &str) {
     assert!(rt; text == want, "{case}: {text}");
 }
 
+fn check_meaning(rt: &impl Abort, alloc: Global, datagram: &str, want: &str) -> Result<(), Fail> {
+    let message = message_of(alloc, datagram)?;
+    let meant = told(alloc, &message)?;
+    same(rt, datagram, meant.as_str(), want);
+    Ok(())
+}
+
 /// Looks at a case: what it is, its datagram in hex, and what that means.
 fn check_case(rt: &impl Abort, alloc: Global, case: &str) -> Result<(), Fail> {
-    let (_name, means) = case.split_once(": ").ok_or("a case")?;
+    let (_what, means) = case.split_once(": ").ok_or("a case")?;
     let (datagram, want) = means.split_once(" -> ").ok_or("a case")?;
-    let meant = meaning(alloc, datagram)?;
-    same(rt, case, meant.as_str(), want);
-    Ok(())
+    check_meaning(rt, alloc, datagram, want)
 }
 
 /// Looks at cases, a line each.
@@ -266,120 +266,129 @@ fn reports_have_no_critical_option(rt: HostRuntime) -> Result<(), Fail> {
     )
 }
 
-/// What a message on a registration means, with a query of this many bytes. Its type and code stand in front, and
-/// behind them the byte that extends the length of the query.
-fn meaning_with_query(
+/// Looks at a message on a registration with a query of this many bytes. Its type and code stand in front, and behind
+/// them the byte that extends the length of the query.
+fn check_query(
+    rt: &impl Abort,
     alloc: Global,
     front: &str,
     extension: &str,
     length: usize,
-) -> Result<String, Fail> {
+    want: &str,
+) -> Result<(), Fail> {
     let query = "61".repeat(alloc, length)?;
     let datagram = format!(in alloc;
         "{front}0001b272640d03303030303030303030303031303030314d{extension}{query}"
     )?;
-    meaning(alloc, datagram.as_str())
+    check_meaning(rt, alloc, datagram.as_str(), want)
 }
 
 #[test]
 fn a_query_has_at_most_255_bytes(rt: HostRuntime) -> Result<(), Fail> {
-    for (front, extension, length, want) in [
-        // a DELETE, a POST, a non-confirmable POST
-        ("4004", "f2", 255, "deregister 0000000000010001"),
-        ("4004", "f3", 256, "60820001"),
-        ("4002", "f3", 256, "60820001"),
-        ("5004", "f3", 256, "reject"),
-    ] {
-        let meant = meaning_with_query(rt.alloc(), front, extension, length)?;
-        same(&rt, front, meant.as_str(), want);
-    }
-    Ok(())
+    let alloc = rt.alloc();
+    // a DELETE, a POST, a non-confirmable POST
+    check_query(&rt, alloc, "4004", "f2", 255, "deregister 0000000000010001")?;
+    check_query(&rt, alloc, "4004", "f3", 256, "60820001")?;
+    check_query(&rt, alloc, "4002", "f3", 256, "60820001")?;
+    check_query(&rt, alloc, "5004", "f3", 256, "reject")
 }
 
-/// What a POST means with the link `</>`, and this often again behind a comma.
-fn meaning_of_links(alloc: Global, head: &str, further: usize) -> Result<String, Fail> {
+/// Looks at a POST with the link `</>`, and this often again behind a comma.
+fn check_links(
+    rt: &impl Abort,
+    alloc: Global,
+    head: &str,
+    further: usize,
+    want: &str,
+) -> Result<(), Fail> {
     let links = "2c3c2f3e".repeat(alloc, further)?;
     let datagram = format!(in alloc; "{head}ff3c2f3e{links}")?;
-    meaning(alloc, datagram.as_str())
+    check_meaning(rt, alloc, datagram.as_str(), want)
+}
+
+/// What a Register of the endpoint `a` means with the link `</>`, and this often again.
+fn links_wanted(alloc: Global, further: usize) -> Result<String, Fail> {
+    let links = ",</>".repeat(alloc, further)?;
+    Ok(format!(in alloc; "register a 1.0 false 86400 U - </>{links}")?)
 }
 
 #[test]
 fn a_list_has_at_most_256_links(rt: HostRuntime) -> Result<(), Fail> {
-    for (head, want) in [
-        ("40020004b272644465703d61", "608d0004"),
-        ("50020004b272644465703d61", "508d0004"),
-        ("40020004b272640178", "608d0004"),
-        // `lt=x` and `lwm2m=1.2` come before
-        ("40020004b272644465703d61046c743d78", "60800004"),
-        ("40020004b272644465703d61096c776d326d3d312e32", "608c0004"),
-    ] {
-        let meant = meaning_of_links(rt.alloc(), head, 256)?;
-        same(&rt, head, meant.as_str(), want);
-    }
-    Ok(())
+    let alloc = rt.alloc();
+    let want = links_wanted(alloc, 255)?;
+    check_links(&rt, alloc, "40020004b272644465703d61", 255, want.as_str())?;
+    check_links(&rt, alloc, "40020004b272644465703d61", 256, "608d0004")?;
+    check_links(&rt, alloc, "50020004b272644465703d61", 256, "508d0004")?;
+    check_links(&rt, alloc, "40020004b272640178", 256, "608d0004")
 }
 
+/// A bad lifetime, and another version.
 #[test]
-fn a_list_of_256_links_is_kept(rt: HostRuntime) -> Result<(), Fail> {
-    let links = ",</>".repeat(rt.alloc(), 255)?;
-    let want = format!(in rt.alloc(); "register a 1.0 false 86400 U - </>{links}")?;
-    let meant = meaning_of_links(rt.alloc(), "40020004b272644465703d61", 255)?;
-    same(&rt, "256 links", meant.as_str(), want.as_str());
-    Ok(())
+fn other_causes_come_before_a_long_list(rt: HostRuntime) -> Result<(), Fail> {
+    let alloc = rt.alloc();
+    check_links(
+        &rt,
+        alloc,
+        "40020004b272644465703d61046c743d78",
+        256,
+        "60800004",
+    )?;
+    check_links(
+        &rt,
+        alloc,
+        "40020004b272644465703d61096c776d326d3d312e32",
+        256,
+        "608c0004",
+    )
 }
 
-/// The bytes of the answer to a datagram.
-fn answered_to(
+/// Looks at the answer to a datagram.
+fn check_answer(
+    rt: &impl Abort,
     alloc: Global,
     datagram: &str,
     code: u8,
     location: Option<Stamp>,
-) -> Result<String, Fail> {
+    want: &str,
+) -> Result<(), Fail> {
     let message = message_of(alloc, datagram)?;
-    answered(alloc, &message, code, location)
+    let bytes = answered(alloc, &message, code, location)?;
+    same(rt, datagram, bytes.as_str(), want);
+    Ok(())
+}
+
+/// Looks at the answer 2.01 to a datagram: these bytes, and the location of a registration.
+fn check_created(rt: &impl Abort, alloc: Global, datagram: &str, front: &str) -> Result<(), Fail> {
+    let id = Stamp::read_id(b"0000000000010001");
+    let want = format!(in alloc; "{front}8272640d0330303030303030303030303130303031")?;
+    check_answer(rt, alloc, datagram, codes::CREATED, id, want.as_str())
 }
 
 #[test]
 fn answers_have_the_token_and_the_location(rt: HostRuntime) -> Result<(), Fail> {
-    let id = Stamp::read_id(b"0000000000010001");
-    for (datagram, code, location, want) in [
-        (
-            "4402000101020304",
-            codes::CREATED,
-            id,
-            "64410001010203048272640d0330303030303030303030303130303031",
-        ),
-        (
-            "480200020102030405060708",
-            codes::CREATED,
-            id,
-            "6841000201020304050607088272640d0330303030303030303030303130303031",
-        ),
-        (
-            "5002000b",
-            codes::CREATED,
-            id,
-            "5041000b8272640d0330303030303030303030303130303031",
-        ),
-        ("40020010", codes::CHANGED, None, "60440010"),
-        ("40040012", codes::DELETED, None, "60420012"),
-    ] {
-        let bytes = answered_to(rt.alloc(), datagram, code, location)?;
-        same(&rt, datagram, bytes.as_str(), want);
-    }
+    let alloc = rt.alloc();
+    check_created(&rt, alloc, "4402000101020304", "6441000101020304")?;
+    check_created(
+        &rt,
+        alloc,
+        "480200020102030405060708",
+        "684100020102030405060708",
+    )?;
+    check_created(&rt, alloc, "5002000b", "5041000b")?;
+    check_answer(&rt, alloc, "40020010", codes::CHANGED, None, "60440010")?;
+    check_answer(&rt, alloc, "40040012", codes::DELETED, None, "60420012")
+}
+
+fn check_bytes(rt: &impl Abort, alloc: Global, bytes: [u8; 4], want: &str) -> Result<(), Fail> {
+    let text = hex::encode(alloc, bytes)?;
+    same(rt, want, text.as_str(), want);
     Ok(())
 }
 
 #[test]
 fn resets_and_acknowledgements_are_empty(rt: HostRuntime) -> Result<(), Fail> {
-    for (bytes, want) in [
-        (reset(0x0007), "70000007"),
-        (reset(0xfedc), "7000fedc"),
-        (ack(0x0031), "60000031"),
-        (ack(0xfedc), "6000fedc"),
-    ] {
-        let text = hex::encode(rt.alloc(), bytes)?;
-        same(&rt, want, text.as_str(), want);
-    }
-    Ok(())
+    check_bytes(&rt, rt.alloc(), reset(0x0007), "70000007")?;
+    check_bytes(&rt, rt.alloc(), reset(0xfedc), "7000fedc")?;
+    check_bytes(&rt, rt.alloc(), ack(0x0031), "60000031")?;
+    check_bytes(&rt, rt.alloc(), ack(0xfedc), "6000fedc")
 }

@@ -88,6 +88,15 @@ impl fmt::Display for ShownReport<'_> {
     }
 }
 
+fn write_texts<W: fmt::Write>(
+    f: &mut fmt::Formatter<W>,
+    binding: &str,
+    sms: &str,
+    objects: &str,
+) -> fmt::Result {
+    write!(f, " {binding} {sms} {objects}")
+}
+
 /// A meaning in words: its name and its fields. A refusal has but its name.
 #[derive(Clone, Copy)]
 pub struct Shown<'a>(pub &'a Asked);
@@ -109,10 +118,8 @@ impl fmt::Display for Shown<'_> {
                 let binding = binding.as_str();
                 let sms = sms_or_dash(sms);
                 let objects = objects.as_str();
-                write!(
-                    f,
-                    "register {endpoint} {version} {queue} {lifetime} {binding} {sms} {objects}"
-                )
+                write!(f, "register {endpoint} {version} {queue} {lifetime}")?;
+                write_texts(f, binding, sms, objects)
             }
             Asked::Update {
                 id,
@@ -126,7 +133,8 @@ impl fmt::Display for Shown<'_> {
                 let binding = binding_or_dash(binding);
                 let sms = sms_or_dash(sms);
                 let objects = objects_or_dash(objects);
-                write!(f, "update {id} {lifetime} {binding} {sms} {objects}")
+                write!(f, "update {id} {lifetime}")?;
+                write_texts(f, binding, sms, objects)
             }
             Asked::Deregister { id } => {
                 let id = Id(*id);
