@@ -46,28 +46,22 @@ make-requires-clause-sms c =
 
 pub returns-in-Ok-read_objects : goal.returns-in-Ok-read_objects
 returns-in-Ok-read_objects c =
-    let m = c.args.request.now in
     let q = c.in-Ok.queries in
     let e = c.in-Ok.ensures in
-    let same = c.as_slice-options.ensures.value ∙ ap (λ (m : MessageContent). m.options) c.request.view_is in
-    let payload = c.deref.ensures.value ∙ ap (λ (m : MessageContent). m.payload) c.request.view_is in
-    let read = register_read m _ c.as_slice-options.result.now c.has_other_format.result q.endpoint.now q.queue q.lifetime q.binding (option_copied q.sms) c.as_slice-options.ensures.value c.request.view_is c.requires.form c.has_other_format.ensures c.if-has_other_format.false
+    let read = register_read c.args.request.now _ c.as_slice-options.result.now c.has_other_format.result q.endpoint.now q.queue q.lifetime q.binding (option_copied q.sms) c.as_slice-options.ensures.value c.request.view_is c.requires.form c.has_other_format.ensures c.if-has_other_format.false
     (record { texts = e.texts; endpoint_is = e.endpoint.0; named = e.endpoint.1; queue_is = e.queue; lifetime_is = e.lifetime; binding_is = e.binding; sms_is = e.sms }) in
-    let spoken = subst (IsSpoken c.in-Some.version) same (c.in-Some.ensures.some ∙ ap (λ (o : Option (List ℕ)). unwrap_or o (codes "1.0")) e.version) in
-    let objects = subst (λ (bytes : List ℕ). IsObjectList bytes c.in-Ok-read_objects.objects) payload c.in-Ok-read_objects.ensures.found in
-    understands_made (MeansBy post_steps m) c.make.result (Register q.endpoint.now c.in-Some.version q.queue q.lifetime q.binding (option_copied q.sms) c.in-Ok-read_objects.objects) (Unit {0})
-    (read_register_asks m q.endpoint.now c.in-Some.version q.queue q.lifetime q.binding (option_copied q.sms) c.in-Ok-read_objects.objects read spoken objects)
+    let spoken = subst (IsSpoken c.in-Some.version) (c.as_slice-options.ensures.value ∙ ap (λ (m : MessageContent). m.options) c.request.view_is) (c.in-Some.ensures.some ∙ ap (λ (o : Option (List ℕ)). unwrap_or o (codes "1.0")) e.version) in
+    let objects = subst (λ (bytes : List ℕ). IsObjectList bytes c.in-Ok-read_objects.objects) (c.deref.ensures.value ∙ ap (λ (m : MessageContent). m.payload) c.request.view_is) c.in-Ok-read_objects.ensures.found in
+    understands_made (MeansBy post_steps c.args.request.now) c.make.result (Register q.endpoint.now c.in-Some.version q.queue q.lifetime q.binding (option_copied q.sms) c.in-Ok-read_objects.objects) (Unit {0})
+    (read_register_asks c.args.request.now q.endpoint.now c.in-Some.version q.queue q.lifetime q.binding (option_copied q.sms) c.in-Ok-read_objects.objects read spoken objects)
     c.make.ensures (any_error c.make.result) (λ t. tt)
 
 pub returns-in-Err : goal.returns-in-Err
 returns-in-Err c =
-    let m = c.args.request.now in
     let q = c.in-Ok.queries in
     let e = c.in-Ok.ensures in
-    let same = c.as_slice-options.ensures.value ∙ ap (λ (m : MessageContent). m.options) c.request.view_is in
-    let payload = c.deref.ensures.value ∙ ap (λ (m : MessageContent). m.payload) c.request.view_is in
-    let read = register_read m _ c.as_slice-options.result.now c.has_other_format.result q.endpoint.now q.queue q.lifetime q.binding (option_copied q.sms) c.as_slice-options.ensures.value c.request.view_is c.requires.form c.has_other_format.ensures c.if-has_other_format.false
+    let read = register_read c.args.request.now _ c.as_slice-options.result.now c.has_other_format.result q.endpoint.now q.queue q.lifetime q.binding (option_copied q.sms) c.as_slice-options.ensures.value c.request.view_is c.requires.form c.has_other_format.ensures c.if-has_other_format.false
     (record { texts = e.texts; endpoint_is = e.endpoint.0; named = e.endpoint.1; queue_is = e.queue; lifetime_is = e.lifetime; binding_is = e.binding; sms_is = e.sms }) in
-    let spoken = subst (IsSpoken c.in-Some.version) same (c.in-Some.ensures.some ∙ ap (λ (o : Option (List ℕ)). unwrap_or o (codes "1.0")) e.version) in
-    let unread = subst (λ (bytes : List ℕ). IsUnread bytes c.in-Err.unread) payload c.in-Err.ensures.unread in
-    register_unread m q.endpoint.now c.in-Some.version q.queue q.lifetime q.binding (option_copied q.sms) c.in-Err.unread c.asked.result read spoken unread c.asked.ensures
+    let spoken = subst (IsSpoken c.in-Some.version) (c.as_slice-options.ensures.value ∙ ap (λ (m : MessageContent). m.options) c.request.view_is) (c.in-Some.ensures.some ∙ ap (λ (o : Option (List ℕ)). unwrap_or o (codes "1.0")) e.version) in
+    let unread = subst (λ (bytes : List ℕ). IsUnread bytes c.in-Err.unread) (c.deref.ensures.value ∙ ap (λ (m : MessageContent). m.payload) c.request.view_is) c.in-Err.ensures.unread in
+    register_unread c.args.request.now q.endpoint.now c.in-Some.version q.queue q.lifetime q.binding (option_copied q.sms) c.in-Err.unread c.asked.result read spoken unread c.asked.ensures
