@@ -12,7 +12,7 @@ use Rattle.lw_link.specs.declared.link.AttrValue.TheVariants.{Absent, Plain, Quo
 use Rattle.lw_link.specs.Link.{LinkContent}
 use Rattle.lw_link.specs.Characters.{Each, is_target_char, is_name_char, is_plain_char, is_space}
 use Rattle.lw_link.specs.Grammar.{IsItem, AreItems, IsValue, IsAttr, AreAttrs, IsLink, AreMore, IsList}
-use Rattle.lw_link.specs.Machine.{Rest, read_on, is_end, fresh, more_text}
+use Rattle.lw_link.specs.Machine.{Rest, read_on, is_end, separated, fresh, more_text}
 use Rattle.lw_link.specs.Taking.{with_text}
 
 -- these attributes and links, and nothing begun
@@ -74,31 +74,20 @@ attr_held k front x attr attrs links h f =
     rw (h.chars_are, h.name_chars.0, append_assoc h.more h.rest x, name_text k h.more (h.rest ++ x) h.name_chars.1, value_held k h.rest x attr.value attrs links h.value_is f, append-nil) refl in
     here ∙ ap (λ (n : List ℕ). holding ((record { name = n; value = attr.value }) ∷ attrs) links) (sym h.name_is)
 
-end_semicolon : (k : Style) (s : State) (cs : List ℕ) → is_end s ≡ true → read_on k s (59 ∷ cs) ≡ fresh (read_on k Semicolon cs)
-end_semicolon k Closed cs h = refl
-end_semicolon k Name cs h = refl
-end_semicolon k Word cs h = refl
-end_semicolon k Start cs h = absurd cc
-end_semicolon k Target cs h = absurd cc
-end_semicolon k Comma cs h = absurd cc
-end_semicolon k Semicolon cs h = absurd cc
-end_semicolon k Equals cs h = absurd cc
-end_semicolon k Quotation cs h = absurd cc
-end_semicolon k Backslash cs h = absurd cc
-end_semicolon k Stop cs h = absurd cc
-
-end_comma : (k : Style) (s : State) (cs : List ℕ) → is_end s ≡ true → read_on k s (44 ∷ cs) ≡ fresh (read_on k Comma cs)
-end_comma k Closed cs h = refl
-end_comma k Name cs h = refl
-end_comma k Word cs h = refl
-end_comma k Start cs h = absurd cc
-end_comma k Target cs h = absurd cc
-end_comma k Comma cs h = absurd cc
-end_comma k Semicolon cs h = absurd cc
-end_comma k Equals cs h = absurd cc
-end_comma k Quotation cs h = absurd cc
-end_comma k Backslash cs h = absurd cc
-end_comma k Stop cs h = absurd cc
+-- behind what may end a list, a character that divides
+divided : (k : Style) (s : State) (c : ℕ) (cs : List ℕ) → is_name_char c ≡ false → (c == 61) ≡ false → is_plain_char c ≡ false → is_end s ≡ true
+    → read_on k s (c ∷ cs) ≡ fresh (read_on k (separated c) cs)
+divided k Closed c cs name equals plain h = refl
+divided k Name c cs name equals plain h = rw (name, equals) refl
+divided k Word c cs name equals plain h = rw plain refl
+divided k Start c cs name equals plain h = absurd cc
+divided k Target c cs name equals plain h = absurd cc
+divided k Comma c cs name equals plain h = absurd cc
+divided k Semicolon c cs name equals plain h = absurd cc
+divided k Equals c cs name equals plain h = absurd cc
+divided k Quotation c cs name equals plain h = absurd cc
+divided k Backslash c cs name equals plain h = absurd cc
+divided k Stop c cs name equals plain h = absurd cc
 
 three : (a b c d : List ℕ) → (a ++ (b ++ c)) ++ d ≡ a ++ (b ++ (c ++ d))
 three a b c d = simp append_assoc
@@ -107,7 +96,7 @@ attrs_held : (k : Style) (attrs : List Attr) (a x : List ℕ) (links : List Link
 attrs_held k [] a x links h f s e = rw h (f s e)
 attrs_held k (attr ∷ attrs) a x links (gap, front, rest, are, ok, is, h) f s e =
     ap (λ (y : List ℕ). read_on k s (y ++ x)) are
-    ∙ end_semicolon k s ((gap ++ (front ++ rest)) ++ x) e
+    ∙ divided k s 59 ((gap ++ (front ++ rest)) ++ x) refl refl refl e
     ∙ ap (λ (y : List ℕ). fresh (read_on k Semicolon y)) (three gap front rest x)
     ∙ ap fresh (semicolon_gap k gap (front ++ (rest ++ x)) ok)
     ∙ ap fresh (attr_held k front (rest ++ x) attr attrs links is (attrs_held k attrs rest x links h f))
@@ -125,7 +114,7 @@ links_held : (k : Style) (links : List LinkContent) (b : List ℕ) → AreMore k
 links_held k [] b h s e = rw (h, e) refl
 links_held k (link ∷ links) b (gap, front, rest, are, ok, is, h) s e =
     ap (read_on k s) are
-    ∙ end_comma k s (gap ++ (front ++ rest)) e
+    ∙ divided k s 44 (gap ++ (front ++ rest)) refl refl refl e
     ∙ ap fresh (comma_gap k gap (front ++ rest) ok)
     ∙ ap fresh (link_held k front rest link links is (links_held k links rest h)).1
 

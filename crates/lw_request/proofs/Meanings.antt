@@ -1,5 +1,5 @@
 -- What a function of the reading answers is what the message means.
-use Rattle.std.proofs.Common.{◌≡◌, ◌≢◌, ◌↔◌, ℕ, ◌≤◌, ◌⊎◌, Bool, false, List, [], ◌∷◌, length, codes, Option, Some, None, Result, Ok, Err, refl, sym, subst, ◌∙◌, inl, inr}
+use Rattle.std.proofs.Common.{◌≡◌, ◌≢◌, ◌↔◌, ℕ, ◌≤◌, ◌⊎◌, Bool, false, List, [], ◌∷◌, length, codes, Option, Some, None, Result, Ok, Err, refl, sym, ap, subst, ◌∙◌, inl, inr}
 use Rattle.std.specs.Prelude.{unwrap_or, is_some, IsTrue, IsSome, IsErr, IfOk, OnErr}
 use Rattle.std.proofs.lemmas.Bool.{both_ways}
 use Rattle.lw_stamp.specs.declared.no_memory.NoMemory.{NoMemory}
@@ -13,15 +13,17 @@ use Rattle.lw_reg.specs.Version.{version_text}
 use Rattle.lw_request.specs.declared.asked.Asked.{Asked}
 use Rattle.lw_request.specs.declared.asked.Asked.TheVariants.{Register, Update, Deregister, Refuse}
 use Rattle.lw_request.specs.declared.refusal.Refusal.TheVariants.{BadRequest, PreconditionFailed, RequestEntityTooLarge}
-use Rattle.lw_request.specs.Options.{content_format}
+use Rattle.lw_request.specs.declared.objects.Unread.{Unread}
+use Rattle.lw_request.specs.declared.objects.Unread.TheVariants.{TooLarge, NoLinks as NoList, NoMemory as WantOfMemory}
+use Rattle.lw_request.specs.Options.{values_of, content_format}
 use Rattle.lw_request.specs.Queries.{given, IsLifetime, AreTexts, IsOfUpdate, HasBadQuery, EachIsLookedAt, AreSettings}
 use Rattle.lw_request.specs.Queries.Parameter.{Ep, Lt, Lwm2m, B, Q, Sms}
-use Rattle.lw_request.specs.Objects.{IsObjectList, IsTooLarge, SpellsNone}
+use Rattle.lw_request.specs.Objects.{IsObjectList, IsTooLarge, SpellsNone, IsUnread}
 use Rattle.lw_request.specs.Steps.{IsPost, IsRegister, IsUpdate, IsDeregister, IsLookedAt, queries_of, Cause, post_steps, path_steps, steps}
 use Rattle.lw_request.specs.Steps.Step.{WrongFormat, BadQuery, OtherVersion, TooManyLinks, NoLinks}
 use Rattle.lw_request.specs.declared.role.Role.{Role}
 use Rattle.lw_request.specs.declared.role.Role.TheVariants.{Request, Response}
-use Rattle.lw_request.specs.Meaning.{Names, AreObjects, MeansBy, ResponseMeans, role_of, RoleMeans, Means, Owns, Understands}
+use Rattle.lw_request.specs.Meaning.{Names, AreObjects, MeansBy, ResponseMeans, role_of, RoleMeans, Means, Owns, Understands, UnreadAsks}
 use Rattle.lw_request.proofs.ObjectLemmas.{list_fits, none_fits, nothing_fits, nothing_spelled}
 use Rattle.lw_request.proofs.Paths.{not_both, entry_known, delete_allowed, delete_is_no_post}
 use Rattle.lw_request.proofs.QueryLemmas.{bad_more, good_register, good_update, given_or}
@@ -48,10 +50,17 @@ pub if_not_understood : (P : Asked → Type 0) (r : Result Asked NoMemory) → U
 if_not_understood P (Ok asked) h = tt
 if_not_understood P (Err e) h = h
 
+pub understands_error : (P : Asked → Type 0) (r : Result Asked NoMemory) (meant : Asked) → IsErr r → P meant → Owns meant → Understands P r
+understands_error P (Ok asked) meant e h owned = absurd cc
+understands_error P (Err e) meant is h owned = (meant, h, owned)
+
 -- ---- formats
 
-pub right_format : (m : MessageContent) (options : List OptionContent) (b : Bool) → options ≡ m.options
-    → (IsTrue b ↔ ((format : ℕ) × (content_format options ≡ Some format) × (format ≢ 40))) → b ≡ false → Cause WrongFormat m → ⊥
+-- whether the options have another format than that of links
+abbrev pub HasOtherFormat : List OptionContent → Bool → Type 0
+HasOtherFormat options b = IsTrue b ↔ ((format : ℕ) × (content_format options ≡ Some format) × (format ≢ 40))
+
+pub right_format : (m : MessageContent) (options : List OptionContent) (b : Bool) → options ≡ m.options → HasOtherFormat options b → b ≡ false → Cause WrongFormat m → ⊥
 right_format m options b same iff e (post, wrong) =
     both_ways b e (iff.1 (subst (λ (os : List OptionContent). (format : ℕ) × (content_format os ≡ Some format) × (format ≢ 40)) (sym same) wrong))
 
@@ -73,6 +82,26 @@ good_queries m e q l b s h (post, bad) =
 
 pub right_version : (m : MessageContent) (v : Version) → version_text v ≡ unwrap_or (given Lwm2m (queries_of m)) (codes "1.0") → Cause OtherVersion m → ⊥
 right_version m v h (form, (text, is, none)) = none v (sym (given_or (codes "1.0") text (given Lwm2m (queries_of m)) is (version_text v) h))
+
+-- what the options of a Register were read as, but for its version
+pub record IsReadRegister (m : MessageContent) (endpoint : List ℕ) (queue : Bool) (lifetime : ℕ) (binding : Binding) (sms : Option (List ℕ)) : Type 0 where
+  pub form : IsRegister m
+  pub format : Cause WrongFormat m → ⊥
+  pub queries : HasQueries (queries_of m) endpoint queue lifetime binding sms
+
+pub register_read : (m view : MessageContent) (options : List OptionContent) (other : Bool) (e : List ℕ) (q : Bool) (l : ℕ) (b : Binding) (s : Option (List ℕ)) → options ≡ view.options → view ≡ m
+    → IsRegister m → HasOtherFormat options other → other ≡ false → HasQueries (values_of 15 options) e q l b s → IsReadRegister m e q l b s
+register_read m view options other e q l b s is same form iff right has =
+    let are = is ∙ ap (λ (m : MessageContent). m.options) same in
+    record {
+      form = form;
+      format = right_format m options other are iff right;
+      queries = subst (λ (os : List OptionContent). HasQueries (values_of 15 os) e q l b s) are has;
+    }
+
+-- the version that a Register speaks, given by its options
+abbrev pub IsSpoken : Version → List OptionContent → Type 0
+IsSpoken v options = version_text v ≡ unwrap_or (given Lwm2m (values_of 15 options)) (codes "1.0")
 
 pub register_bad : (m : MessageContent) → IsRegister m → (Cause WrongFormat m → ⊥) → HasBadQuery EachIsLookedAt (queries_of m) → MeansBy post_steps m (Refuse BadRequest)
 register_bad m form format bad = inr (format, inl ((form.1, bad_more EachIsLookedAt (IsLookedAt m) (queries_of m) (λ p looked. inl form.0) bad), refl))
@@ -135,7 +164,42 @@ register_asks m e v q l b s o form format h version objects =
       ),
     )
 
+pub read_register_asks : (m : MessageContent) (e : List ℕ) (v : Version) (q : Bool) (l : ℕ) (b : Binding) (s : Option (List ℕ)) (o : List ℕ)
+    → IsReadRegister m e q l b s → IsSpoken v m.options → IsObjectList m.payload o → MeansBy post_steps m (Register e v q l b s o)
+read_register_asks m e v q l b s o read spoken objects = register_asks m e v q l b s o read.form read.format read.queries spoken objects
+
+-- a Register whose payload was not read
+pub register_unread : (m : MessageContent) (e : List ℕ) (v : Version) (q : Bool) (l : ℕ) (b : Binding) (s : Option (List ℕ)) (unread : Unread) (r : Result Asked NoMemory)
+    → IsReadRegister m e q l b s → IsSpoken v m.options → IsUnread m.payload unread → UnreadAsks unread r → Understands (MeansBy post_steps m) r
+register_unread m e v q l b s TooLarge r read spoken large is =
+    rw is (post_too_large m read.form.1 read.format (good_queries m e q l b s read.queries) (right_version m v spoken) large)
+register_unread m e v q l b s NoList r read spoken none is =
+    rw is (register_no_links m read.form read.format (good_queries m e q l b s read.queries) (right_version m v spoken) none)
+register_unread m e v q l b s WantOfMemory r read spoken (objects, list) is =
+    understands_error (MeansBy post_steps m) r (Register e v q l b s objects) is (read_register_asks m e v q l b s objects read spoken list) tt
+
 -- ---- an Update
+
+-- what an Update was read as, but for its object list
+pub record IsReadUpdate (m : MessageContent) (segment : List ℕ) (id : Option Stamp) (lifetime : Option ℕ) (binding : Option Binding) (sms : Option (List ℕ)) : Type 0 where
+  pub form : IsUpdate m segment
+  pub format : Cause WrongFormat m → ⊥
+  pub texts : AreTexts (queries_of m)
+  pub settings : AreSettings (queries_of m) lifetime binding sms
+  pub id_is : Names segment id
+
+pub update_read : (m view : MessageContent) (segment : List ℕ) (options : List OptionContent) (other : Bool) (id : Option Stamp) (l : Option ℕ) (b : Option Binding) (s : Option (List ℕ))
+    → options ≡ view.options → view ≡ m → IsUpdate m segment → HasOtherFormat options other → other ≡ false
+    → AreTexts (values_of 15 options) → AreSettings (values_of 15 options) l b s → Names segment id → IsReadUpdate m segment id l b s
+update_read m view segment options other id l b s is same form iff right texts settings names =
+    let are = is ∙ ap (λ (m : MessageContent). m.options) same in
+    record {
+      form = form;
+      format = right_format m options other are iff right;
+      texts = subst (λ (os : List OptionContent). AreTexts (values_of 15 os)) are texts;
+      settings = subst (λ (os : List OptionContent). AreSettings (values_of 15 os) l b s) are settings;
+      id_is = names;
+    }
 
 pub good_settings : (m : MessageContent) (segment : List ℕ) (l : Option ℕ) (b : Option Binding) (s : Option (List ℕ)) → IsUpdate m segment → AreTexts (queries_of m) → AreSettings (queries_of m) l b s
     → Cause BadQuery m → ⊥
@@ -198,6 +262,20 @@ pub owns_list : (id : Option Stamp) (l : Option ℕ) (b : Option Binding) (s : O
 owns_list id l b None o = tt
 owns_list id l b (Some s) o = tt
 
+pub read_update_asks : (m : MessageContent) (segment : List ℕ) (id : Option Stamp) (l : Option ℕ) (b : Option Binding) (s : Option (List ℕ)) (o : Option (List ℕ))
+    → IsReadUpdate m segment id l b s → AreObjects m.payload o → MeansBy post_steps m (Update id l b s o)
+read_update_asks m segment id l b s o read objects = update_asks m segment id l b s o read.form read.format read.texts read.settings read.id_is objects
+
+-- an Update whose payload was not read
+pub update_unread : (m : MessageContent) (segment : List ℕ) (id : Option Stamp) (l : Option ℕ) (b : Option Binding) (s : Option (List ℕ)) (unread : Unread) (r : Result Asked NoMemory)
+    → IsReadUpdate m segment id l b s → (m.payload ≢ []) × IsUnread m.payload unread → UnreadAsks unread r → Understands (MeansBy post_steps m) r
+update_unread m segment id l b s TooLarge r read (some, large) is =
+    rw is (post_too_large m read.form.1 read.format (good_settings m segment l b s read.form read.texts read.settings) (no_version m segment read.form) large)
+update_unread m segment id l b s NoList r read (some, none) is =
+    rw is (update_no_links m segment read.form read.format (good_settings m segment l b s read.form read.texts read.settings) some none)
+update_unread m segment id l b s WantOfMemory r read (some, (objects, list)) is =
+    understands_error (MeansBy post_steps m) r (Update id l b s (Some objects)) is (read_update_asks m segment id l b s (Some objects) read (some, list)) (owns_list id l b s objects)
+
 -- ---- a Deregister
 
 pub deregister_asks : (m : MessageContent) (segment : List ℕ) (id : Option Stamp) → IsDeregister m segment → Names segment id → MeansBy path_steps m (Deregister id)
@@ -206,10 +284,6 @@ deregister_asks m segment id form names =
     inr (entry_known m segment form.0, inr (delete_allowed m segment form.0 form.1, inr ((λ cause. no cause.0), inr ((λ cause. no cause.0), inr ((λ cause. no cause.0.1), inr ((λ cause. no cause.0), inr ((λ cause. no cause.0), (segment, form, names))))))))
 
 -- ---- roles
-
-pub understands_error : (P : Asked → Type 0) (r : Result Asked NoMemory) (meant : Asked) → IsErr r → P meant → Owns meant → Understands P r
-understands_error P (Ok asked) meant e h owned = absurd cc
-understands_error P (Err e) meant is h owned = (meant, h, owned)
 
 pub request_means : (m : MessageContent) (role : Role) (asked : Asked) → role ≡ role_of m.kind m.code → role ≡ Request → MeansBy steps m asked → Means m asked
 request_means m role asked is e h = subst (λ (r : Role). RoleMeans r m asked) (sym e ∙ is) h

@@ -1,5 +1,5 @@
 -- The queries of a Register and an Update.
-use Rattle.std.proofs.Common.{◌≡◌, ℕ, ◌+◌, ◌-◌, ◌≤◌, true, false, List, [], ◌∷◌, ◌++◌, length, codes, Option, Some, None, refl, sym, ap, subst, ◌∙◌, inl, inr, arith, length-drop, IsUtf8, ◌≢◌, ◌↔◌, ◌⊎◌, Result, Ok, Err}
+use Rattle.std.proofs.Common.{◌≡◌, ℕ, ◌+◌, ◌-◌, ◌≤◌, true, false, List, [], ◌∷◌, length, codes, Option, Some, None, refl, sym, ap, subst, ◌∙◌, inl, inr, arith, length-drop, ◌≢◌, ◌↔◌, ◌⊎◌, Result, Ok, Err}
 use Rattle.std.specs.Prelude.{IfOk, OnErr, IfNone, unwrap_or, bytes_eq, if◌then◌else◌, ◌==◌}
 use Rattle.std.specs.List.{AllByRecursion, position_or_len}
 use Rattle.std.specs.Option.{option_map}

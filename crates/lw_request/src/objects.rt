@@ -3,8 +3,10 @@
 ghost use Rattle.std.specs.Prelude.{IfOk, IfErr};
 ghost use Rattle.lw_request.specs.Objects.{IsObjectList, IsUnread};
 
+use crate::{Asked, Refusal};
 use lw_coap::MAX_LENGTH;
 use lw_link::{LinkFault, LinkText};
+use lw_stamp::NoMemory;
 use std::alloc::Global;
 
 /// Why a payload was not read as an object list.
@@ -16,6 +18,21 @@ pub(crate) enum Unread {
     NoLinks,
     /// A growth was refused. The payload is an object list.
     NoMemory,
+}
+
+impl Unread {
+    ghost use Rattle.lw_request.specs.Meaning.{UnreadAsks};
+
+    /// What a POST asks for whose payload was not read.
+    pub(crate) fn asked(self) -> Result<Asked, NoMemory>
+        ensures { UnreadAsks self result }
+    {
+        match self {
+            Unread::TooLarge => Ok(Asked::Refuse(Refusal::RequestEntityTooLarge)),
+            Unread::NoLinks => Ok(Asked::Refuse(Refusal::BadRequest)),
+            Unread::NoMemory => Err(NoMemory),
+        }
+    }
 }
 
 /// The object list of a payload. Each fault but `NoMemory` is found before any memory is taken.

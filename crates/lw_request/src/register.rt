@@ -11,7 +11,7 @@ ghost use Rattle.lw_request.specs.Queries.Parameter.{Ep, Lt, Lwm2m, B, Q, Sms};
 ghost use Rattle.lw_request.specs.Steps.{IsRegister, post_steps};
 ghost use Rattle.lw_request.specs.Meaning.{MeansBy, Understands};
 
-use crate::objects::{Unread, read_objects};
+use crate::objects::read_objects;
 use crate::options::has_other_format;
 use crate::queries::{BadQuery, parameters_of, settings_of, sms_number};
 use crate::{Asked, Refusal};
@@ -99,9 +99,7 @@ pub(crate) fn register(alloc: Global, request: &Message) -> Result<Asked, NoMemo
     };
     match read_objects(alloc, &request.payload) {
         Ok(objects) => make(alloc, &queries, version, objects),
-        Err(Unread::TooLarge) => Ok(Asked::Refuse(Refusal::RequestEntityTooLarge)),
-        Err(Unread::NoLinks) => Ok(Asked::Refuse(Refusal::BadRequest)),
-        Err(Unread::NoMemory) => Err(NoMemory),
+        Err(unread) => unread.asked(),
     }
 }
 

@@ -51,9 +51,7 @@ pub(crate) fn update(alloc: Global, request: &Message, segment: &[u8]) -> Result
     let id = Stamp::read_id(segment);
     match read_replacement(alloc, &request.payload) {
         Ok(objects) => make(alloc, id, &settings, objects),
-        Err(Unread::TooLarge) => Ok(Asked::Refuse(Refusal::RequestEntityTooLarge)),
-        Err(Unread::NoLinks) => Ok(Asked::Refuse(Refusal::BadRequest)),
-        Err(Unread::NoMemory) => Err(NoMemory),
+        Err(unread) => unread.asked(),
     }
 }
 

@@ -1,6 +1,4 @@
-use Rattle.std.proofs.Common.{◌≡◌, ℕ, List, Option, sym, ap, subst, ◌∙◌, rules, option_copied}
-use Rattle.std.specs.Prelude.{unwrap_or, codes}
-use Rattle.lw_reg.specs.Binding.{binding_text}
+use Rattle.std.proofs.Common.{ℕ, List, Option, sym, subst, ◌∙◌, rules, option_copied}
 use Rattle.lw_request.specs.Options.{values_of}
 use Rattle.lw_request.specs.Queries.{IsGiven, IsLifetime, HasBadQuery, EachIsLookedAt}
 use Rattle.lw_request.specs.Queries.Parameter.{Ep, Lt, Lwm2m, B, Q, Sms}

@@ -4,15 +4,14 @@ use Rattle.lw_coap.specs.Message.{OptionContent, MessageContent}
 use Rattle.lw_reg.specs.declared.version.Version.{Version}
 use Rattle.lw_reg.specs.Version.{version_text}
 use Rattle.lw_request.specs.declared.asked.Asked.TheVariants.{Register}
-use Rattle.lw_request.specs.declared.objects.Unread.TheVariants.{TooLarge, NoLinks, NoMemory}
 use Rattle.lw_request.specs.Options.{values_of}
 use Rattle.lw_request.specs.Queries.{given, HasBadQuery, EachIsLookedAt, IsWithin}
 use Rattle.lw_request.specs.Queries.Parameter.{Ep, Lwm2m, Sms}
-use Rattle.lw_request.specs.Objects.{IsObjectList, IsTooLarge, IsUnread}
+use Rattle.lw_request.specs.Objects.{IsObjectList, IsUnread}
 use Rattle.lw_request.specs.Steps.{post_steps}
 use Rattle.lw_request.specs.Meaning.{MeansBy}
 use Rattle.lw_request.proofs.QueryLemmas.{endpoint_short, sms_short}
-use Rattle.lw_request.proofs.Meanings.{HasQueries, understands_made, any_error, right_format, right_version, good_queries, register_bad, register_other, post_too_large, register_no_links, register_asks}
+use Rattle.lw_request.proofs.Meanings.{IsSpoken, understands_made, any_error, right_format, register_read, good_queries, register_bad, register_other, read_register_asks, register_unread}
 use Rattle.lw_request.proofs.register.register.Goals as goal
 
 pub returns-in_default : goal.returns-in_default
@@ -28,10 +27,9 @@ returns-in_default-version_in c =
     let q = c.in-Ok.queries in
     let e = c.in-Ok.ensures in
     let same = c.as_slice-options.ensures.value ∙ ap (λ (m : MessageContent). m.options) c.request.view_is in
-    let format = right_format m c.as_slice-options.result.now c.has_other_format.result same c.has_other_format.ensures c.if-has_other_format.false in
-    let has : HasQueries (values_of 15 c.as_slice-options.result.now) q.endpoint.now q.queue q.lifetime q.binding (option_copied q.sms) = record { texts = e.texts; endpoint_is = e.endpoint.0; named = e.endpoint.1; queue_is = e.queue; lifetime_is = e.lifetime; binding_is = e.binding; sms_is = e.sms } in
-    let queries = subst (λ (qs : List (List ℕ)). HasQueries qs q.endpoint.now q.queue q.lifetime q.binding (option_copied q.sms)) (ap (values_of 15) same) has in
-    register_other m c.requires.form format (good_queries m q.endpoint.now q.queue q.lifetime q.binding (option_copied q.sms) queries)
+    let read = register_read m _ c.as_slice-options.result.now c.has_other_format.result q.endpoint.now q.queue q.lifetime q.binding (option_copied q.sms) c.as_slice-options.ensures.value c.request.view_is c.requires.form c.has_other_format.ensures c.if-has_other_format.false
+    (record { texts = e.texts; endpoint_is = e.endpoint.0; named = e.endpoint.1; queue_is = e.queue; lifetime_is = e.lifetime; binding_is = e.binding; sms_is = e.sms }) in
+    register_other m read.form read.format (good_queries m q.endpoint.now q.queue q.lifetime q.binding (option_copied q.sms) read.queries)
     (subst (λ (o : Option (List ℕ)). (text : List ℕ) × (o ≡ Some text) × ((version : Version) → text ≢ version_text version)) (e.version ∙ ap (λ (os : List OptionContent). given Lwm2m (values_of 15 os)) same) c.in_default-version_in.ensures.none)
 
 pub make-requires-clause-endpoint : goal.make-requires-clause-endpoint
@@ -48,62 +46,22 @@ make-requires-clause-sms c =
 
 pub returns-in-Ok-read_objects : goal.returns-in-Ok-read_objects
 returns-in-Ok-read_objects c =
-    let m = c.args.request.now in
     let q = c.in-Ok.queries in
     let e = c.in-Ok.ensures in
-    let same = c.as_slice-options.ensures.value ∙ ap (λ (m : MessageContent). m.options) c.request.view_is in
-    let payload = c.deref.ensures.value ∙ ap (λ (m : MessageContent). m.payload) c.request.view_is in
-    let format = right_format m c.as_slice-options.result.now c.has_other_format.result same c.has_other_format.ensures c.if-has_other_format.false in
-    let has : HasQueries (values_of 15 c.as_slice-options.result.now) q.endpoint.now q.queue q.lifetime q.binding (option_copied q.sms) = record { texts = e.texts; endpoint_is = e.endpoint.0; named = e.endpoint.1; queue_is = e.queue; lifetime_is = e.lifetime; binding_is = e.binding; sms_is = e.sms } in
-    let queries = subst (λ (qs : List (List ℕ)). HasQueries qs q.endpoint.now q.queue q.lifetime q.binding (option_copied q.sms)) (ap (values_of 15) same) has in
-    let version = subst (λ (o : Option (List ℕ)). version_text c.in-Some.version ≡ unwrap_or o (codes "1.0")) (e.version ∙ ap (λ (os : List OptionContent). given Lwm2m (values_of 15 os)) same) c.in-Some.ensures.some in
-    let objects = subst (λ (bytes : List ℕ). IsObjectList bytes c.in-Ok-read_objects.objects) payload c.in-Ok-read_objects.ensures.found in
-    understands_made (MeansBy post_steps m) c.make.result (Register q.endpoint.now c.in-Some.version q.queue q.lifetime q.binding (option_copied q.sms) c.in-Ok-read_objects.objects) (Unit {0})
-    (register_asks m q.endpoint.now c.in-Some.version q.queue q.lifetime q.binding (option_copied q.sms) c.in-Ok-read_objects.objects c.requires.form format queries version objects)
+    let read = register_read c.args.request.now _ c.as_slice-options.result.now c.has_other_format.result q.endpoint.now q.queue q.lifetime q.binding (option_copied q.sms) c.as_slice-options.ensures.value c.request.view_is c.requires.form c.has_other_format.ensures c.if-has_other_format.false
+    (record { texts = e.texts; endpoint_is = e.endpoint.0; named = e.endpoint.1; queue_is = e.queue; lifetime_is = e.lifetime; binding_is = e.binding; sms_is = e.sms }) in
+    let spoken = subst (IsSpoken c.in-Some.version) (c.as_slice-options.ensures.value ∙ ap (λ (m : MessageContent). m.options) c.request.view_is) (c.in-Some.ensures.some ∙ ap (λ (o : Option (List ℕ)). unwrap_or o (codes "1.0")) e.version) in
+    let objects = subst (λ (bytes : List ℕ). IsObjectList bytes c.in-Ok-read_objects.objects) (c.deref.ensures.value ∙ ap (λ (m : MessageContent). m.payload) c.request.view_is) c.in-Ok-read_objects.ensures.found in
+    understands_made (MeansBy post_steps c.args.request.now) c.make.result (Register q.endpoint.now c.in-Some.version q.queue q.lifetime q.binding (option_copied q.sms) c.in-Ok-read_objects.objects) (Unit {0})
+    (read_register_asks c.args.request.now q.endpoint.now c.in-Some.version q.queue q.lifetime q.binding (option_copied q.sms) c.in-Ok-read_objects.objects read spoken objects)
     c.make.ensures (any_error c.make.result) (λ t. tt)
 
-pub returns-in-Err-TooLarge : goal.returns-in-Err-TooLarge
-returns-in-Err-TooLarge c =
-    let m = c.args.request.now in
+pub returns-in-Err : goal.returns-in-Err
+returns-in-Err c =
     let q = c.in-Ok.queries in
     let e = c.in-Ok.ensures in
-    let same = c.as_slice-options.ensures.value ∙ ap (λ (m : MessageContent). m.options) c.request.view_is in
-    let payload = c.deref.ensures.value ∙ ap (λ (m : MessageContent). m.payload) c.request.view_is in
-    let format = right_format m c.as_slice-options.result.now c.has_other_format.result same c.has_other_format.ensures c.if-has_other_format.false in
-    let has : HasQueries (values_of 15 c.as_slice-options.result.now) q.endpoint.now q.queue q.lifetime q.binding (option_copied q.sms) = record { texts = e.texts; endpoint_is = e.endpoint.0; named = e.endpoint.1; queue_is = e.queue; lifetime_is = e.lifetime; binding_is = e.binding; sms_is = e.sms } in
-    let queries = subst (λ (qs : List (List ℕ)). HasQueries qs q.endpoint.now q.queue q.lifetime q.binding (option_copied q.sms)) (ap (values_of 15) same) has in
-    let version = subst (λ (o : Option (List ℕ)). version_text c.in-Some.version ≡ unwrap_or o (codes "1.0")) (e.version ∙ ap (λ (os : List OptionContent). given Lwm2m (values_of 15 os)) same) c.in-Some.ensures.some in
-    let large : IsUnread c.deref.result.now TooLarge = subst (IsUnread c.deref.result.now) c.in-Err-TooLarge.field-0-is c.in-Err-TooLarge.ensures.unread in
-    post_too_large m c.requires.form.1 format (good_queries m q.endpoint.now q.queue q.lifetime q.binding (option_copied q.sms) queries) (right_version m c.in-Some.version version) (subst IsTooLarge payload large)
-
-pub returns-in-Err-NoLinks : goal.returns-in-Err-NoLinks
-returns-in-Err-NoLinks c =
-    let m = c.args.request.now in
-    let q = c.in-Ok.queries in
-    let e = c.in-Ok.ensures in
-    let same = c.as_slice-options.ensures.value ∙ ap (λ (m : MessageContent). m.options) c.request.view_is in
-    let payload = c.deref.ensures.value ∙ ap (λ (m : MessageContent). m.payload) c.request.view_is in
-    let format = right_format m c.as_slice-options.result.now c.has_other_format.result same c.has_other_format.ensures c.if-has_other_format.false in
-    let has : HasQueries (values_of 15 c.as_slice-options.result.now) q.endpoint.now q.queue q.lifetime q.binding (option_copied q.sms) = record { texts = e.texts; endpoint_is = e.endpoint.0; named = e.endpoint.1; queue_is = e.queue; lifetime_is = e.lifetime; binding_is = e.binding; sms_is = e.sms } in
-    let queries = subst (λ (qs : List (List ℕ)). HasQueries qs q.endpoint.now q.queue q.lifetime q.binding (option_copied q.sms)) (ap (values_of 15) same) has in
-    let version = subst (λ (o : Option (List ℕ)). version_text c.in-Some.version ≡ unwrap_or o (codes "1.0")) (e.version ∙ ap (λ (os : List OptionContent). given Lwm2m (values_of 15 os)) same) c.in-Some.ensures.some in
-    let none : IsUnread c.deref.result.now NoLinks = subst (IsUnread c.deref.result.now) c.in-Err-NoLinks.field-0-is c.in-Err-NoLinks.ensures.unread in
-    register_no_links m c.requires.form format (good_queries m q.endpoint.now q.queue q.lifetime q.binding (option_copied q.sms) queries) (right_version m c.in-Some.version version)
-    (subst (λ (bytes : List ℕ). IsUnread bytes NoLinks) payload none)
-
-pub returns-in-Err-NoMemory : goal.returns-in-Err-NoMemory
-returns-in-Err-NoMemory c =
-    let m = c.args.request.now in
-    let q = c.in-Ok.queries in
-    let e = c.in-Ok.ensures in
-    let same = c.as_slice-options.ensures.value ∙ ap (λ (m : MessageContent). m.options) c.request.view_is in
-    let payload = c.deref.ensures.value ∙ ap (λ (m : MessageContent). m.payload) c.request.view_is in
-    let format = right_format m c.as_slice-options.result.now c.has_other_format.result same c.has_other_format.ensures c.if-has_other_format.false in
-    let has : HasQueries (values_of 15 c.as_slice-options.result.now) q.endpoint.now q.queue q.lifetime q.binding (option_copied q.sms) = record { texts = e.texts; endpoint_is = e.endpoint.0; named = e.endpoint.1; queue_is = e.queue; lifetime_is = e.lifetime; binding_is = e.binding; sms_is = e.sms } in
-    let queries = subst (λ (qs : List (List ℕ)). HasQueries qs q.endpoint.now q.queue q.lifetime q.binding (option_copied q.sms)) (ap (values_of 15) same) has in
-    let version = subst (λ (o : Option (List ℕ)). version_text c.in-Some.version ≡ unwrap_or o (codes "1.0")) (e.version ∙ ap (λ (os : List OptionContent). given Lwm2m (values_of 15 os)) same) c.in-Some.ensures.some in
-    let list : IsUnread c.deref.result.now NoMemory = subst (IsUnread c.deref.result.now) c.in-Err-NoMemory.field-0-is c.in-Err-NoMemory.ensures.unread in (
-      Register q.endpoint.now c.in-Some.version q.queue q.lifetime q.binding (option_copied q.sms) list.0,
-      register_asks m q.endpoint.now c.in-Some.version q.queue q.lifetime q.binding (option_copied q.sms) list.0 c.requires.form format queries version (subst (λ (bytes : List ℕ). IsObjectList bytes list.0) payload list.1),
-      tt,
-    )
+    let read = register_read c.args.request.now _ c.as_slice-options.result.now c.has_other_format.result q.endpoint.now q.queue q.lifetime q.binding (option_copied q.sms) c.as_slice-options.ensures.value c.request.view_is c.requires.form c.has_other_format.ensures c.if-has_other_format.false
+    (record { texts = e.texts; endpoint_is = e.endpoint.0; named = e.endpoint.1; queue_is = e.queue; lifetime_is = e.lifetime; binding_is = e.binding; sms_is = e.sms }) in
+    let spoken = subst (IsSpoken c.in-Some.version) (c.as_slice-options.ensures.value ∙ ap (λ (m : MessageContent). m.options) c.request.view_is) (c.in-Some.ensures.some ∙ ap (λ (o : Option (List ℕ)). unwrap_or o (codes "1.0")) e.version) in
+    let unread = subst (λ (bytes : List ℕ). IsUnread bytes c.in-Err.unread) (c.deref.ensures.value ∙ ap (λ (m : MessageContent). m.payload) c.request.view_is) c.in-Err.ensures.unread in
+    register_unread c.args.request.now q.endpoint.now c.in-Some.version q.queue q.lifetime q.binding (option_copied q.sms) c.in-Err.unread c.asked.result read spoken unread c.asked.ensures
