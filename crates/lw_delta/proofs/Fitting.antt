@@ -15,6 +15,7 @@ use Rattle.lw_delta.specs.Format.{number48, stamp, written, watch, watches, endp
 use Rattle.lw_delta.specs.Values.{FieldContent, slot_from, watching_from}
 use Rattle.lw_delta.specs.Delta.{DeltaContent, IsSpelling}
 use Rattle.lw_delta.specs.Writable.{TokensWithin, StampsWithin, Follows, AllFollow}
+use Rattle.lw_delta.proofs.FieldParts.{fields_at, slot_at}
 use Rattle.lw_delta.proofs.Kept.{Each, when_each}
 use Rattle.lw_delta.proofs.Owning.{watches_rise}
 
@@ -55,23 +56,16 @@ record FieldStamps (clock : ℕ) (k : FieldContent) : Type 0 where
   pub objects : IfSome k.objects (λ w. w.0.counter ≤ clock)
 
 fields_within : (clock flags : ℕ) → Each (fields clock flags) (FieldStamps clock)
-unfolding followed means
 fields_within clock flags bytes k rest f =
-    let a = f.is.3.is in
-    let s = a.3.is in
-    let l = s.3.is in
-    let b = l.3.is in
-    let n = b.3.is in
-    let o = n.3.is in
-    let same = o.3.is.1 in
-    subst (λ x. FieldStamps clock x) (sym same) (record {
-      address = when_each _ _ (written_within clock _) _ f.is.1 a.0 a.1 a.2;
-      seen = when_each _ _ (written_within clock _) _ a.1 s.0 s.1 s.2;
-      lifetime = when_each _ _ (written_within clock _) _ s.1 l.0 l.1 l.2;
-      binding = when_each _ _ (written_within clock _) _ l.1 b.0 b.1 b.2;
-      sms = when_each _ _ (written_within clock _) _ b.1 n.0 n.1 n.2;
-      objects = when_each _ _ (written_within clock _) _ n.1 o.0 o.1 o.2;
-    })
+    let parts = fields_at clock flags bytes k rest f in
+    record {
+      address = when_each _ _ (written_within clock _) _ _ _ _ parts.address;
+      seen = when_each _ _ (written_within clock _) _ _ _ _ parts.seen;
+      lifetime = when_each _ _ (written_within clock _) _ _ _ _ parts.lifetime;
+      binding = when_each _ _ (written_within clock _) _ _ _ _ parts.binding;
+      sms = when_each _ _ (written_within clock _) _ _ _ _ parts.sms;
+      objects = when_each _ _ (written_within clock _) _ _ _ _ parts.objects;
+    }
 
 pub token_is : (token : Stamp) (gone : Bool) (accept : Option (Option ℕ)) → (watching_from token gone accept).stamp ≡ token
 token_is token true accept = refl
@@ -120,20 +114,15 @@ endpoint_is after bytes e rest f =
     subst (λ x. IsEndpoint after x) (sym same) (record { some = omega (arith, long, count.0.0); most = omega (arith, long, count.0.1); above = t.3.is.0 })
 
 pub slot_follows : (clock : ℕ) (after : Option (List ℕ)) → Each (slot clock after) (λ s. Follows clock after s)
-unfolding followed means
 slot_follows clock after bytes s rest f =
-    let r = f.is.3.is in
-    let flags = r.3.is in
-    let k = flags.3.is in
-    let ws = k.3.is in
-    let same = ws.3.is.1 in
-    let e = endpoint_is after bytes f.is.0 f.is.1 f.is.2 in
-    let tokens = subst (λ es. TokensWithin clock es) (sym (entries_made _ _ _ ws.0 (watches_rise clock k.1 ws.0 ws.1 ws.2))) (watches_within clock k.1 ws.0 ws.1 ws.2) in
-    subst (λ (x : List ℕ × Slot). Follows clock after x) (sym same) (record {
+    let parts = slot_at clock after bytes s rest f in
+    let e = endpoint_is after _ _ _ parts.named in
+    let tokens = subst (λ es. TokensWithin clock es) (sym (entries_made _ _ _ parts.watched (watches_rise clock _ _ _ parts.watching))) (watches_within clock _ _ _ parts.watching) in
+    subst (λ (x : List ℕ × Slot). Follows clock after x) (sym parts.same) (record {
       some = e.some;
       most = e.most;
       above = e.above;
-      stamps = kept_within clock r.0 _ k.0 ws.0 (stamp_within clock f.is.1 r.0 r.1 r.2) (fields_within clock flags.0 flags.1 k.0 k.1 k.2) tokens;
+      stamps = kept_within clock parts.registration _ parts.kept parts.watched (stamp_within clock _ _ _ parts.stamped) (fields_within clock _ _ _ _ parts.fielded) tokens;
     })
 
 slots_follow : (clock : ℕ) (after : Option (List ℕ)) (bytes : List ℕ) (ss : List (List ℕ × Slot)) (rest : List ℕ) → Walks (slot clock) (λ s. s.0) after bytes ss rest → AllFollow clock after ss

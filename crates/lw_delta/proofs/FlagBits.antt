@@ -1,5 +1,5 @@
 -- The bits of a flag byte.
-use Rattle.std.proofs.Common.{◌≡◌, ℕ, ◌+◌, ◌<◌, ◌≤◌, Bool, true, false, ◌&&◌, refl, arith}
+use Rattle.std.proofs.Common.{◌≡◌, ℕ, ◌+◌, ◌<◌, ◌≤◌, Bool, true, false, ◌&&◌, List, [], ◌∷◌, refl, arith}
 use Rattle.std.proofs.lemmas.Bool.{and_parts}
 use Rattle.lw_delta.specs.Values.{is_set}
 use Rattle.lw_delta.specs.Writing.{flag_if}
@@ -41,29 +41,26 @@ all7_true p h a b c d e f g =
 abbrev pub sum7 : Bool → Bool → Bool → Bool → Bool → Bool → Bool → ℕ
 sum7 a b c d e f g = flag_if 1 a + flag_if 2 b + flag_if 4 c + flag_if 8 d + flag_if 16 e + flag_if 32 f + flag_if 64 g
 
-pub bit1 : (a b c d e f g : Bool) → is_set (sum7 a b c d e f g) 1 ≡ a
-bit1 a b c d e f g = same_is _ _ (all7_true (λ a b c d e f g. same (is_set (sum7 a b c d e f g) 1) a) refl a b c d e f g)
+-- each is as it is told
+abbrev all_same : List (Bool × Bool) → Bool
+all_same [] = true
+all_same (p ∷ ps) = same p.0 p.1 && all_same ps
 
-pub bit2 : (a b c d e f g : Bool) → is_set (sum7 a b c d e f g) 2 ≡ b
-bit2 a b c d e f g = same_is _ _ (all7_true (λ a b c d e f g. same (is_set (sum7 a b c d e f g) 2) b) refl a b c d e f g)
+abbrev pub AllSame : List (Bool × Bool) → Type 0
+AllSame [] = Unit
+AllSame (p ∷ ps) = (p.0 ≡ p.1) × AllSame ps
 
-pub bit4 : (a b c d e f g : Bool) → is_set (sum7 a b c d e f g) 4 ≡ c
-bit4 a b c d e f g = same_is _ _ (all7_true (λ a b c d e f g. same (is_set (sum7 a b c d e f g) 4) c) refl a b c d e f g)
+all_same_are : (ps : List (Bool × Bool)) → all_same ps ≡ true → AllSame ps
+all_same_are [] h = tt
+all_same_are (p ∷ ps) h = let parts = and_parts (same p.0 p.1) (all_same ps) h in (same_is p.0 p.1 parts.0, all_same_are ps parts.1)
 
-pub bit8 : (a b c d e f g : Bool) → is_set (sum7 a b c d e f g) 8 ≡ d
-bit8 a b c d e f g = same_is _ _ (all7_true (λ a b c d e f g. same (is_set (sum7 a b c d e f g) 8) d) refl a b c d e f g)
+-- the bits of a byte, each beside the flag that it tells
+abbrev pub bits : ℕ → Bool → Bool → Bool → Bool → Bool → Bool → Bool → List (Bool × Bool)
+bits n a b c d e f g =
+    (is_set n 1, a) ∷ (is_set n 2, b) ∷ (is_set n 4, c) ∷ (is_set n 8, d) ∷ (is_set n 16, e) ∷ (is_set n 32, f) ∷ (is_set n 64, g) ∷ (is_set n 128, false) ∷ []
 
-pub bit16 : (a b c d e f g : Bool) → is_set (sum7 a b c d e f g) 16 ≡ e
-bit16 a b c d e f g = same_is _ _ (all7_true (λ a b c d e f g. same (is_set (sum7 a b c d e f g) 16) e) refl a b c d e f g)
-
-pub bit32 : (a b c d e f g : Bool) → is_set (sum7 a b c d e f g) 32 ≡ f
-bit32 a b c d e f g = same_is _ _ (all7_true (λ a b c d e f g. same (is_set (sum7 a b c d e f g) 32) f) refl a b c d e f g)
-
-pub bit64 : (a b c d e f g : Bool) → is_set (sum7 a b c d e f g) 64 ≡ g
-bit64 a b c d e f g = same_is _ _ (all7_true (λ a b c d e f g. same (is_set (sum7 a b c d e f g) 64) g) refl a b c d e f g)
-
-pub bit128 : (a b c d e f g : Bool) → is_set (sum7 a b c d e f g) 128 ≡ false
-bit128 a b c d e f g = same_is _ _ (all7_true (λ a b c d e f g. same (is_set (sum7 a b c d e f g) 128) false) refl a b c d e f g)
+pub bits_tell : (a b c d e f g : Bool) → AllSame (bits (sum7 a b c d e f g) a b c d e f g)
+bits_tell a b c d e f g = all_same_are (bits (sum7 a b c d e f g) a b c d e f g) (all7_true (λ a b c d e f g. all_same (bits (sum7 a b c d e f g) a b c d e f g)) refl a b c d e f g)
 
 flag_small : (k : ℕ) (b : Bool) → flag_if k b ≤ k
 flag_small k true = omega arith

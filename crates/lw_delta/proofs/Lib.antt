@@ -6,6 +6,7 @@ pub mod Texts
 pub mod Paths
 pub mod Hosts
 pub mod Kept
+pub mod FieldParts
 pub mod Again
 pub mod Answering
 pub mod Behind

@@ -1,5 +1,5 @@
 -- What is found, or fails, in a part that is put together from others.
-use Rattle.std.proofs.Common.{◌≡◌, ℕ, zero, suc, ◌-◌, ◌<◌, ◌≤◌, Bool, true, false, List, [], ◌∷◌, ◌++◌, length, slice_index, take, drop, Option, Some, None, refl, sym, ap, subst, inl, inr, arith}
+use Rattle.std.proofs.Common.{◌≡◌, ℕ, zero, suc, ◌-◌, ◌<◌, ◌≤◌, Bool, true, false, List, [], ◌∷◌, ◌++◌, length, slice_index, take, drop, Option, Some, None, Result, Ok, Err, IsErrAnd, IfErr, refl, sym, ap, subst, inl, inr, arith}
 use Rattle.std.proofs.lemmas.List.{take_rest, take-append-drop, length-take-le}
 use mathlib.Core.Bool.{true≢false}
 use Rattle.lw_delta.specs.declared.fault.DeltaFault.{DeltaFault}
@@ -65,14 +65,21 @@ there {part} {bytes} {value} {rest} e f = subst (λ (b : Bool). Found (when b pa
 pub there_fails : {A : Type 0} {part : Part A} {flag : Bool} {bytes : List ℕ} {fault : DeltaFault} → flag ≡ true → Fails part bytes fault → Fails (when flag part) bytes fault
 there_fails {part} {bytes} {fault} e f = subst (λ (b : Bool). Fails (when b part) bytes fault) (sym e) (first_fails _ f)
 
-pub optional_none : {A : Type 0} (part : Part A) {bytes rest : List ℕ} → Found tag bytes false rest → Found (optional part) bytes None rest
-optional_none part f = both _ f given
+pub optional_none : {A : Type 0} (part : Part A) {present : Bool} {bytes rest : List ℕ} → present ≡ false → Found tag bytes present rest → Found (optional part) bytes None rest
+optional_none part e f = both _ f (not_there part e)
 
-pub optional_some : {A : Type 0} {part : Part A} {bytes behind : List ℕ} {value : A} {rest : List ℕ} → Found tag bytes true behind → Found part behind value rest → Found (optional part) bytes (Some value) rest
-optional_some f g = both _ f (both _ g given)
+pub optional_some : {A : Type 0} {part : Part A} {present : Bool} {bytes behind : List ℕ} {value : A} {rest : List ℕ}
+    → present ≡ true → Found tag bytes present behind → Found part behind value rest → Found (optional part) bytes (Some value) rest
+optional_some e f g = both _ f (there e g)
 
-pub optional_fails : {A : Type 0} {part : Part A} {bytes behind : List ℕ} {fault : DeltaFault} → Found tag bytes true behind → Fails part behind fault → Fails (optional part) bytes fault
-optional_fails f g = later_fails _ f (first_fails _ g)
+pub optional_fails : {A : Type 0} {part : Part A} {present : Bool} {bytes behind : List ℕ} {fault : DeltaFault}
+    → present ≡ true → Found tag bytes present behind → Fails part behind fault → Fails (optional part) bytes fault
+optional_fails e f g = later_fails _ f (there_fails e g)
+
+-- what the exit of a `?` answers
+pub raised : {T : Type 0} (P : DeltaFault → Type 0) (r : Result T DeltaFault) {fault : DeltaFault} → IsErrAnd r (λ y. y ≡ fault) → P fault → IfErr r P
+raised P (Ok x) h p = absurd h
+raised P (Err y) h p = subst P (sym h) p
 
 -- ---- parts one after another
 pub last_key-push : {K A : Type 0} (key : A → K) (after : Option K) (xs : List A) (x : A) → last_key key after (xs ++ x ∷ []) ≡ Some (key x)

@@ -24,7 +24,7 @@ use Rattle.lw_delta.specs.Values.{is_set, FieldContent, slot_from}
 use Rattle.lw_delta.specs.Delta.{IsSpelling}
 use Rattle.lw_delta.specs.Writable.{StampsWithin, Follows, IsOwnText, FieldsTyped, IsTyped, AreGood}
 use Rattle.lw_delta.specs.Writing.{base_byte, base_bytes, addr_bytes, moment_bytes, number32_bytes, binding_bytes, sms_bytes, objects_bytes, written_bytes, number48_bytes, text_bytes, watches_bytes, field_flags, fields_bytes, slot_bytes, slots_bytes, delta_bytes}
-use Rattle.lw_delta.proofs.FlagBits.{bit1, bit2, bit4, bit8, bit16, bit32, bit64, bit128, flags_small}
+use Rattle.lw_delta.proofs.FlagBits.{bits_tell, flags_small}
 use Rattle.lw_delta.proofs.Prints.{Prints, prints_both, prints_then, prints_meant, prints_held, prints_byte, prints_bytes, prints_tag, prints_number32, prints_number48, prints_stamp, prints_written, prints_base, prints_addr, prints_moment, prints_binding, prints_sms, prints_objects, prints_text}
 use Rattle.lw_delta.proofs.PrintsSlots.{prints_watches}
 
@@ -109,9 +109,10 @@ prints_told clock after e r (Here body) f typed own =
     let g = is_some (binding_of s) in
     let h = is_some (sms_of s) in
     let k = is_some (objects_of s) in
+    let t = bits_tell a b c d g h k in
     prints_body clock after e s (field_flags s) (flags_small a b c d g h k) f typed own
-    (record { base = sym (bit1 a b c d g h k); address = sym (bit2 a b c d g h k); seen = sym (bit4 a b c d g h k); lifetime = sym (bit8 a b c d g h k); binding = sym (bit16 a b c d g h k); sms = sym (bit32 a b c d g h k); objects = sym (bit64 a b c d g h k) })
-    (here_again r body (is_set (field_flags s) 128) (bit128 a b c d g h k)) body.watches.rises
+    (record { base = sym t.0; address = sym t.1.0; seen = sym t.1.1.0; lifetime = sym t.1.1.1.0; binding = sym t.1.1.1.1.0; sms = sym t.1.1.1.1.1.0; objects = sym t.1.1.1.1.1.1.0 })
+    (here_again r body (is_set (field_flags s) 128) t.1.1.1.1.1.1.1.0) body.watches.rises
 
 pub prints_slot : (clock : ℕ) (after : Option (List ℕ)) (s : List ℕ × Slot) → Follows clock after s → IsTyped s.1 → IsOwnText s.0 → Prints (slot clock after) (slot_bytes s) s
 prints_slot clock after s f typed own = prints_told clock after s.0 s.1.registration.stamp s.1.registration.value f typed own

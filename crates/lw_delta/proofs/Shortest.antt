@@ -19,6 +19,7 @@ use Rattle.lw_delta.specs.Delta.{DeltaContent, IsSpelling}
 use Rattle.lw_delta.specs.Removals.{HasCancelled, HasRemoval, HaveRemoval}
 use Rattle.lw_delta.specs.Writing.{number16_bytes, number32_bytes, number48_bytes, optional_bytes, written_bytes, base_bytes, addr_bytes, moment_bytes, text_bytes, binding_bytes, sms_bytes, objects_bytes, path_bytes, accept_bytes, watch_bytes, watches_bytes, flag_if, flags_byte, fields_bytes, slot_bytes, slots_bytes, begun_bytes, delta_bytes}
 use Rattle.lw_delta.proofs.Decided.{optional_takes}
+use Rattle.lw_delta.proofs.FieldParts.{fields_at, slot_at}
 use Rattle.lw_delta.proofs.FlagBits.{sum7}
 use Rattle.lw_delta.proofs.FlagSums.{sum_again}
 use Rattle.lw_delta.proofs.Fitting.{token_is}
@@ -128,33 +129,26 @@ record ContentSpelled (flags : ℕ) (bytes : List ℕ) (k : FieldContent) (rest 
   pub told : Told flags k
 
 spelled_fields : (clock flags : ℕ) (bytes : List ℕ) (k : FieldContent) (rest : List ℕ) → Found (fields clock flags) bytes k rest → ContentSpelled flags bytes k rest
-unfolding followed means
 spelled_fields clock flags bytes k rest f =
-    let a = f.is.3.is in
-    let s = a.3.is in
-    let l = s.3.is in
-    let b = l.3.is in
-    let n = b.3.is in
-    let o = n.3.is in
-    let last = o.3.is in
-    let e1 = spells_when base base_bytes refl spells_base _ bytes f.is.0 f.is.1 f.is.2 in
-    let e2 = spells_when_written clock _ addr_bytes spells_address _ f.is.1 a.0 a.1 a.2 in
-    let e3 = spells_when_written clock _ moment_bytes spells_moment _ a.1 s.0 s.1 s.2 in
-    let e4 = spells_when_written clock _ number32_bytes spells_number32 _ s.1 l.0 l.1 l.2 in
-    let e5 = spells_when_written clock _ binding_bytes spells_binding _ l.1 b.0 b.1 b.2 in
-    let e6 = spells_when_written clock _ sms_bytes (spells_optional _ text_bytes spells_sms) _ b.1 n.0 n.1 n.2 in
-    let e7 = spells_when_written clock _ objects_bytes spells_objects _ n.1 o.0 o.1 o.2 in
-    let w7 = written_bytes objects_bytes o.0 in
-    let w6 = written_bytes sms_bytes n.0 ++ w7 in
-    let w5 = written_bytes binding_bytes b.0 ++ w6 in
-    let w4 = written_bytes number32_bytes l.0 ++ w5 in
-    let w3 = written_bytes moment_bytes s.0 ++ w4 in
-    let w2 = written_bytes addr_bytes a.0 ++ w3 in
-    subst (λ x. ContentSpelled flags bytes x rest) (sym last.1) (record {
-      spelled = chain rest (base_bytes f.is.0) w2 e1.spelled (chain rest (written_bytes addr_bytes a.0) w3 e2.spelled (chain rest (written_bytes moment_bytes s.0) w4 e3.spelled
-          (chain rest (written_bytes number32_bytes l.0) w5 e4.spelled (chain rest (written_bytes binding_bytes b.0) w6 e5.spelled (chain rest (written_bytes sms_bytes n.0) w7 e6.spelled (ending w7 e7.spelled last.0))))));
+    let parts = fields_at clock flags bytes k rest f in
+    let e1 = spells_when base base_bytes refl spells_base _ _ _ _ parts.base in
+    let e2 = spells_when_written clock _ addr_bytes spells_address _ _ _ _ parts.address in
+    let e3 = spells_when_written clock _ moment_bytes spells_moment _ _ _ _ parts.seen in
+    let e4 = spells_when_written clock _ number32_bytes spells_number32 _ _ _ _ parts.lifetime in
+    let e5 = spells_when_written clock _ binding_bytes spells_binding _ _ _ _ parts.binding in
+    let e6 = spells_when_written clock _ sms_bytes (spells_optional _ text_bytes spells_sms) _ _ _ _ parts.sms in
+    let e7 = spells_when_written clock _ objects_bytes spells_objects _ _ _ _ parts.objects in
+    let w7 = written_bytes objects_bytes k.objects in
+    let w6 = written_bytes sms_bytes k.sms ++ w7 in
+    let w5 = written_bytes binding_bytes k.binding ++ w6 in
+    let w4 = written_bytes number32_bytes k.lifetime ++ w5 in
+    let w3 = written_bytes moment_bytes k.seen ++ w4 in
+    let w2 = written_bytes addr_bytes k.address ++ w3 in
+    record {
+      spelled = chain rest (base_bytes k.base) w2 e1.spelled (chain rest (written_bytes addr_bytes k.address) w3 e2.spelled (chain rest (written_bytes moment_bytes k.seen) w4 e3.spelled
+          (chain rest (written_bytes number32_bytes k.lifetime) w5 e4.spelled (chain rest (written_bytes binding_bytes k.binding) w6 e5.spelled (chain rest (written_bytes sms_bytes k.sms) w7 e6.spelled e7.spelled)))));
       told = record { base = e1.told; address = e2.told; seen = e3.told; lifetime = e4.told; binding = e5.told; sms = e6.told; objects = e7.told };
-    })
+    }
 
 -- no field is there, or the fields take bytes
 none_or_some : {A : Type 0} (write : Option A → List ℕ) → ((x : A) → 1 ≤ length (write (Some x))) → (o : Option A) → (is_some o ≡ false) ⊎ (1 ≤ length (write o))
@@ -263,21 +257,16 @@ spelled_told clock r flags bytes k behind ws rest true fits e c f = removed_told
 spelled_told clock r flags bytes k behind ws rest false fits e c f = kept_told clock r flags bytes k behind ws rest fits e c f
 
 spelled_slot : (clock : ℕ) (after : Option (List ℕ)) (bytes : List ℕ) (s : List ℕ × Slot) (rest : List ℕ) → Found (slot clock after) bytes s rest → Spelled (HasRemoval s.1) (slot_bytes s) bytes rest
-unfolding followed means byte
+unfolding byte
 spelled_slot clock after bytes s rest f =
-    let r = f.is.3.is in
-    let flags = r.3.is in
-    let k = flags.3.is in
-    let ws = k.3.is in
-    let last = ws.3.is in
-    let kept = slot_from r.0 (is_set flags.0 128) k.0 ws.0 in
-    let watched : Found (watches clock) k.1 ws.0 rest = subst (λ (x : List ℕ). Found (watches clock) k.1 ws.0 x) last.0 ws.2 in
-    let told : Spelled (HasRemoval kept) (told_bytes kept) r.1 rest =
-    subst (λ (x : List ℕ). Spelled (HasRemoval kept) (told_bytes kept) x rest) (sym flags.2.is.0)
-    (spelled_told clock r.0 flags.0 flags.1 k.0 k.1 ws.0 rest (is_set flags.0 128) flags.2.is.1 refl (spelled_fields clock flags.0 flags.1 k.0 k.1 k.2) watched) in
-    let stamped = behind_front f.is.1 r.1 rest (stamp_bytes r.0) (told_bytes kept) (spells_stamp clock f.is.1 r.0 r.1 r.2) told in
-    let whole = behind_front bytes f.is.1 rest (text_bytes f.is.0) (stamp_bytes r.0 ++ told_bytes kept) (spells_endpoint after bytes f.is.0 f.is.1 f.is.2) stamped in
-    subst (λ (x : List ℕ × Slot). Spelled (HasRemoval x.1) (slot_bytes x) bytes rest) (sym last.1) whole
+    let parts = slot_at clock after bytes s rest f in
+    let kept = slot_from parts.registration (is_set parts.flags 128) parts.kept parts.watched in
+    let told : Spelled (HasRemoval kept) (told_bytes kept) parts.behind_registration rest =
+    subst (λ (x : List ℕ). Spelled (HasRemoval kept) (told_bytes kept) x rest) (sym parts.flagged.is.0)
+    (spelled_told clock parts.registration parts.flags parts.behind_flags parts.kept parts.behind_fields parts.watched rest (is_set parts.flags 128) parts.flagged.is.1 refl (spelled_fields clock _ _ _ _ parts.fielded) parts.watching) in
+    let stamped = behind_front parts.behind_name parts.behind_registration rest (stamp_bytes parts.registration) (told_bytes kept) (spells_stamp clock _ _ _ parts.stamped) told in
+    let whole = behind_front bytes parts.behind_name rest (text_bytes parts.name) (stamp_bytes parts.registration ++ told_bytes kept) (spells_endpoint after _ _ _ parts.named) stamped in
+    subst (λ (x : List ℕ × Slot). Spelled (HasRemoval x.1) (slot_bytes x) bytes rest) (sym parts.same) whole
 
 spelled_slots : (clock : ℕ) (after : Option (List ℕ)) (bytes : List ℕ) (ss : List (List ℕ × Slot)) (rest : List ℕ) → Walks (slot clock) (λ s. s.0) after bytes ss rest → Spelled (HaveRemoval ss) (slots_bytes ss) bytes rest
 spelled_slots clock after bytes [] rest w = inl w

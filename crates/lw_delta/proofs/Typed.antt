@@ -15,6 +15,7 @@ use Rattle.lw_delta.specs.Values.{is_set, FieldContent, slot_from, watching_from
 use Rattle.lw_delta.specs.Delta.{DeltaContent, IsSpelling}
 use Rattle.lw_delta.specs.Writable.{IsOwnText, AcceptTyped, AcceptsTyped, IsOwnObjects, IsTyped, IsGood, AreGood}
 use Rattle.lw_delta.specs.Writing.{delta_bytes}
+use Rattle.lw_delta.proofs.FieldParts.{fields_at, slot_at}
 use Rattle.lw_delta.proofs.Fitting.{header_below, slot_follows, some_each}
 use Rattle.lw_delta.proofs.Kept.{Each, when_each, optional_each, written_each}
 use Rattle.lw_delta.proofs.Owning.{watches_rise}
@@ -91,20 +92,14 @@ record ContentTyped (k : FieldContent) : Type 0 where
   pub objects : IfSome k.objects (λ w. IsOwnObjects w.1)
 
 fields_typed : (clock flags : ℕ) → Each (fields clock flags) ContentTyped
-unfolding followed means
 fields_typed clock flags bytes k rest f =
-    let a = f.is.3.is in
-    let s = a.3.is in
-    let l = s.3.is in
-    let b = l.3.is in
-    let n = b.3.is in
-    let o = n.3.is in
-    subst (λ x. ContentTyped x) (sym o.3.is.1) (record {
-      address = when_each _ _ (written_each clock _ _ address_typed) _ f.is.1 a.0 a.1 a.2;
-      lifetime = when_each _ _ (written_each clock _ _ number32_below) _ s.1 l.0 l.1 l.2;
-      sms = when_each _ _ (written_each clock _ _ (optional_each _ _ sms_own)) _ b.1 n.0 n.1 n.2;
-      objects = when_each _ _ (written_each clock _ _ objects_own) _ n.1 o.0 o.1 o.2;
-    })
+    let parts = fields_at clock flags bytes k rest f in
+    record {
+      address = when_each _ _ (written_each clock _ _ address_typed) _ _ _ _ parts.address;
+      lifetime = when_each _ _ (written_each clock _ _ number32_below) _ _ _ _ parts.lifetime;
+      sms = when_each _ _ (written_each clock _ _ (optional_each _ _ sms_own)) _ _ _ _ parts.sms;
+      objects = when_each _ _ (written_each clock _ _ objects_own) _ _ _ _ parts.objects;
+    }
 
 -- ---- watches
 watching_typed : (token : Stamp) (gone : Bool) (accept : Option (Option ℕ)) → IfSome accept (λ o. IfSome o (λ n. n < 2 ^ 16)) → AcceptTyped (watching_from token gone accept).value
@@ -134,15 +129,11 @@ kept_typed r true k ws h a = record { fields = record { address = tt; lifetime =
 kept_typed r false k ws h a = record { fields = record { address = h.address; lifetime = h.lifetime; sms = h.sms; objects = h.objects }; accepts = a }
 
 slot_typed : (clock : ℕ) (after : Option (List ℕ)) → Each (slot clock after) (λ s. IsTyped s.1 × IsOwnText s.0)
-unfolding followed means
 slot_typed clock after bytes s rest f =
-    let r = f.is.3.is in
-    let flags = r.3.is in
-    let k = flags.3.is in
-    let ws = k.3.is in
-    let accepts = subst (λ es. AcceptsTyped es) (sym (entries_made _ _ _ ws.0 (watches_rise clock k.1 ws.0 ws.1 ws.2))) (watches_typed clock k.1 ws.0 ws.1 ws.2) in
-    subst (λ (x : List ℕ × Slot). IsTyped x.1 × IsOwnText x.0) (sym ws.3.is.1)
-    (kept_typed r.0 (is_set flags.0 128) k.0 ws.0 (fields_typed clock flags.0 flags.1 k.0 k.1 k.2) accepts, endpoint_own after bytes f.is.0 f.is.1 f.is.2)
+    let parts = slot_at clock after bytes s rest f in
+    let accepts = subst (λ es. AcceptsTyped es) (sym (entries_made _ _ _ parts.watched (watches_rise clock _ _ _ parts.watching))) (watches_typed clock _ _ _ parts.watching) in
+    subst (λ (x : List ℕ × Slot). IsTyped x.1 × IsOwnText x.0) (sym parts.same)
+    (kept_typed parts.registration (is_set parts.flags 128) parts.kept parts.watched (fields_typed clock _ _ _ _ parts.fielded) accepts, endpoint_own after _ _ _ parts.named)
 
 slot_good : (clock : ℕ) (after : Option (List ℕ)) → Each (slot clock after) (λ s. IsGood clock after s)
 slot_good clock after bytes s rest f =

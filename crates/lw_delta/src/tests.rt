@@ -7,7 +7,6 @@ use super::*;
 use lw_reg::{Endpoint, Slot};
 use lw_stamp::NoMemory;
 use std::alloc::Global;
-use std::process::Abort;
 use std::test::Fail;
 
 /// One registration of the endpoint `a` with all fields: 98 bytes.
@@ -42,6 +41,12 @@ const CANCELLED_IN_FULL: &str =
 const TWO_REMOVED: &str =
     "4c574431000000000001010161000000000001000180000101620000000000010001800000";
 
+/// No slots, and the least clock.
+const FRESH: &str = "4c57443100000000000000";
+
+/// No slots, and the greatest clock.
+const LAST: &str = "4c574431ffffffffffff00";
+
 /// A slot that stands there twice.
 const TWICE: &str =
     "4c57443100000000000101016100000000000100017f000000000000010001047f000001163300000000000100010000\
@@ -70,246 +75,268 @@ fn rewritten(alloc: Global, bytes: &[u8]) -> Result<Option<Vec<u8>>, NoMemory> {
     Ok(Some(written))
 }
 
-fn refuses(rt: &impl Abort, alloc: Global, text: &str, fault: DeltaFault) -> Result<(), Fail> {
+/// Each fault, where it is the first: a later one may stand behind it.
+const REFUSED: [(&str, DeltaFault); 37] = [
+    (TWICE, DeltaFault::Order),
+    // nothing later
+    ("4c5744", DeltaFault::Truncated),
+    (
+        "4c574431000000000001010161000000000001000140000000000001000120",
+        DeltaFault::Truncated,
+    ),
+    ("4c57443200000000000000", DeltaFault::Magic),
+    // magic before truncated
+    ("4c57443200", DeltaFault::Magic),
+    ("4c5744310000000000000000", DeltaFault::Trailing),
+    ("4c57443100000000000002", DeltaFault::Range),
+    // endpoint empty, trailing
+    (
+        "4c57443100000000000101000000000000010001800000ff",
+        DeltaFault::Range,
+    ),
+    // endpoint 253, truncated
+    ("4c57443100000000000101fd00", DeltaFault::Range),
+    // counter 0 before base range
+    (
+        "4c5744310000000000010101610000000000000001ff0900",
+        DeltaFault::Range,
+    ),
+    // base 4 before watch tag 2
+    (
+        "4c574431000000000001010161000000000001000101040200",
+        DeltaFault::Range,
+    ),
+    // family 5
+    (
+        "4c5744310000000000010101610000000000010001020000000000010001050200",
+        DeltaFault::Range,
+    ),
+    // binding length 0
+    (
+        "4c57443100000000000101016100000000000100011000000000000100010000",
+        DeltaFault::Range,
+    ),
+    // binding length 9 before text
+    (
+        "4c57443100000000000101016100000000000100011000000000000100010961616161616161616100",
+        DeltaFault::Range,
+    ),
+    // sms tag
+    (
+        "4c57443100000000000101016100000000000100012000000000000100010200",
+        DeltaFault::Range,
+    ),
+    // sms length 252 before text
+    (
+        "4c574431000000000001010161000000000001000120000000000001000101fcff00",
+        DeltaFault::Range,
+    ),
+    // objects length 0
+    (
+        "4c574431000000000001010161000000000001000140000000000001000100000200",
+        DeltaFault::Range,
+    ),
+    // objects length 8193 before truncated
+    (
+        "4c5744310000000000010101610000000000010001400000000000010001200100",
+        DeltaFault::Range,
+    ),
+    // watch tag
+    (
+        "4c5744310000000000010101610000000000010001000200",
+        DeltaFault::Range,
+    ),
+    // no numbers
+    (
+        "4c574431000000000001010161000000000001000100010000",
+        DeltaFault::Range,
+    ),
+    // five numbers
+    (
+        "4c574431000000000001010161000000000001000100010500",
+        DeltaFault::Range,
+    ),
+    // number 65535 before truncated
+    (
+        "4c5744310000000000010101610000000000010001000102ffff",
+        DeltaFault::Range,
+    ),
+    // watch flag 0
+    (
+        "4c57443100000000000101016100000000000100010001010004000000000001000100ff00",
+        DeltaFault::Range,
+    ),
+    // watch flag 4
+    (
+        "4c57443100000000000101016100000000000100010001010004000000000001000104ff00",
+        DeltaFault::Range,
+    ),
+    // accept tag
+    (
+        "4c5744310000000000010101610000000000010001000101000400000000000100010102ff00",
+        DeltaFault::Range,
+    ),
+    // accept of cancelled
+    (
+        "4c57443100000000000101016100000000000100010001010004000000000001000103020000",
+        DeltaFault::Range,
+    ),
+    (
+        "4c57443100000000000001016100000000000100017f000000000000010001047f0000011633000000000001000100000000000000000000000100010001518000000000000100010155000000000001000100000000000001000100033c2f3e0000",
+        DeltaFault::ClockBelow,
+    ),
+    // clock before base range
+    (
+        "4c5744310000000000010101610000000000020001010400",
+        DeltaFault::ClockBelow,
+    ),
+    // in a removed slot fields are checked
+    (
+        "4c5744310000000000010101610000000000010001ff00000000000002000100",
+        DeltaFault::ClockBelow,
+    ),
+    // order before range of stamp
+    (
+        "4c574431000000000001010162000000000001000180000101610000000000000001800000",
+        DeltaFault::Order,
+    ),
+    // path order before stamp range
+    (
+        "4c57443100000000000101016100000000000100010001010004000000000001000102010100040000000000000001020000",
+        DeltaFault::Order,
+    ),
+    // in a removed slot watches are checked
+    (
+        "4c57443100000000000101016100000000000100018001010004000000000001000102010100030000000000010001020000",
+        DeltaFault::Order,
+    ),
+    // endpoint no utf8 before clock
+    (
+        "4c5744310000000000000101ff0000000000010001800000",
+        DeltaFault::Text,
+    ),
+    // text before order
+    (
+        "4c574431000000000001010162000000000001000180000101ff0000000000010001800000",
+        DeltaFault::Text,
+    ),
+    // binding lower case before tag 2
+    (
+        "4c574431000000000001010161000000000001000110000000000001000101610200",
+        DeltaFault::Text,
+    ),
+    // sms no utf8 before tag
+    (
+        "4c57443100000000000101016100000000000100012000000000000100010101ff0200",
+        DeltaFault::Text,
+    ),
+    // no printing before tag
+    (
+        "4c574431000000000001010161000000000001000140000000000001000100043c2f3e200200",
+        DeltaFault::Text,
+    ),
+];
+
+/// Deltas, their clocks, how many slots they have, and how they are written.
+const ACCEPTED: [(&str, u64, usize, &str); 9] = [
+    (REGISTERED, 1, 1, REGISTERED),
+    (FRESH, 0, 0, FRESH),
+    (LAST, 281_474_976_710_655, 0, LAST),
+    (REMOVED, 1, 1, REMOVED),
+    (REMOVED_IN_FULL, 1, 1, REMOVED),
+    (CANCELLED, 1, 1, CANCELLED),
+    (CANCELLED_IN_FULL, 1, 1, CANCELLED),
+    (WATCHED, 1, 1, WATCHED),
+    (TWO_REMOVED, 1, 2, TWO_REMOVED),
+];
+
+/// Whether the walk and the reading of the bytes both end with this fault.
+fn refuses(alloc: Global, text: &str, fault: DeltaFault) -> Result<bool, Fail> {
     let bytes = hex::decode(alloc, text)?;
-    assert!(rt; check(&bytes) == Err(fault), "{text}: not {fault:?}");
-    assert!(rt;
-        read(alloc, &bytes).err() == Some(fault),
-        "{text}: not {fault:?}"
-    );
-    Ok(())
+    let checked = check(&bytes).err();
+    let read = read(alloc, &bytes).err();
+    Ok(checked == Some(fault) && read == Some(fault))
 }
 
-/// The delta has this clock and so many slots, and is written like this.
+/// The clock that the walk tells, the clock that is read, and how many slots are.
+fn counts(alloc: Global, bytes: &[u8]) -> Result<(u64, u64, usize), DeltaFault> {
+    let clock = check(bytes)?;
+    let delta = read(alloc, bytes)?;
+    Ok((clock, delta.clock, delta.slots.len()))
+}
+
+/// Whether the bytes are a delta that is written like this.
+fn is_written_as(alloc: Global, bytes: &[u8], again: &[u8]) -> Result<bool, NoMemory> {
+    let written = rewritten(alloc, bytes)?;
+    Ok(written.is_some_and(|written| written.as_slice() == again))
+}
+
+/// Whether it is a delta that is written like this, with the clock, and so many slots.
 fn accepts(
-    rt: &impl Abort,
     alloc: Global,
-    text: &str,
+    bytes: &[u8],
     clock: u64,
     count: usize,
     again: &str,
-) -> Result<(), Fail> {
-    let bytes = hex::decode(alloc, text)?;
-    assert!(rt; check(&bytes) == Ok(clock), "{text}");
-    let delta = read(alloc, &bytes)?;
-    assert!(rt;
-        delta.clock == clock && delta.slots.len() == count,
-        "{text}"
-    );
-    writes(rt, alloc, &bytes, again)
+) -> Result<bool, Fail> {
+    let again = hex::decode(alloc, again)?;
+    let counts = counts(alloc, bytes)?;
+    let written = is_written_as(alloc, bytes, &again)?;
+    Ok(written && counts == (clock, clock, count))
 }
 
-fn writes(rt: &impl Abort, alloc: Global, bytes: &[u8], again: &str) -> Result<(), Fail> {
-    let Some(written) = rewritten(alloc, bytes)? else {
-        panic!(rt; "no delta")
-    };
-    let text = hex::encode(alloc, &written)?;
-    assert!(rt; text.as_str() == again, "{}", text.as_str());
+#[test]
+fn deltas_are_read_and_written(rt: HostRuntime) -> Result<(), Fail> {
+    for (text, clock, count, again) in ACCEPTED {
+        let bytes = hex::decode(rt.alloc(), text)?;
+        assert!(rt; accepts(rt.alloc(), &bytes, clock, count, again)?, "{text}");
+    }
     Ok(())
 }
 
 #[test]
-fn a_registration_is_read_and_written(rt: HostRuntime) -> Result<(), Fail> {
-    accepts(&rt, rt.alloc(), REGISTERED, 1, 1, REGISTERED)
-}
-
-#[test]
-fn deltas_without_slots_are_read(rt: HostRuntime) -> Result<(), Fail> {
-    let fresh = "4c57443100000000000000";
-    accepts(&rt, rt.alloc(), fresh, 0, 0, fresh)?;
-    let last = "4c574431ffffffffffff00";
-    accepts(&rt, rt.alloc(), last, 281_474_976_710_655, 0, last)
-}
-
-#[test]
-fn what_is_gone_is_written_short(rt: HostRuntime) -> Result<(), Fail> {
-    accepts(&rt, rt.alloc(), REMOVED, 1, 1, REMOVED)?;
-    accepts(&rt, rt.alloc(), REMOVED_IN_FULL, 1, 1, REMOVED)?;
-    accepts(&rt, rt.alloc(), CANCELLED, 1, 1, CANCELLED)?;
-    accepts(&rt, rt.alloc(), CANCELLED_IN_FULL, 1, 1, CANCELLED)
-}
-
-#[test]
-fn slots_and_watches_rise(rt: HostRuntime) -> Result<(), Fail> {
-    accepts(&rt, rt.alloc(), WATCHED, 1, 1, WATCHED)?;
-    accepts(&rt, rt.alloc(), TWO_REMOVED, 1, 2, TWO_REMOVED)?;
-    refuses(&rt, rt.alloc(), TWICE, DeltaFault::Order)
+fn the_first_fault_is_told(rt: HostRuntime) -> Result<(), Fail> {
+    for (text, fault) in REFUSED {
+        assert!(rt; refuses(rt.alloc(), text, fault)?, "{text}");
+    }
+    Ok(())
 }
 
 #[test]
 fn each_front_is_truncated(rt: HostRuntime) -> Result<(), Fail> {
     let bytes = hex::decode(rt.alloc(), REGISTERED)?;
     for len in 0..98usize {
-        assert!(rt; len < bytes.len());
-        assert!(rt;
-            check(&bytes[..len]) == Err(DeltaFault::Truncated),
-            "{len} bytes"
-        );
+        let front = bytes.get(..len).ok_or("a front")?;
+        assert!(rt; check(front) == Err(DeltaFault::Truncated), "{len} bytes");
     }
     Ok(())
 }
 
-/// Where the bytes are a delta, it is written as the same bytes again, or as the removed registration.
-fn same_or_removed(rt: &impl Abort, alloc: Global, bytes: &[u8]) -> Result<(), Fail> {
-    let written = rewritten(alloc, bytes)?;
-    assert!(rt; written.is_some() == check(bytes).is_ok());
-    let Some(written) = written else {
-        return Ok(());
+/// Whether it is a delta that is written as the same bytes again, or as the removed registration, or is none.
+fn same_or_removed(alloc: Global, bytes: &[u8], removed: &[u8]) -> Result<bool, NoMemory> {
+    let is_delta = check(bytes).is_ok();
+    let Some(written) = rewritten(alloc, bytes)? else {
+        return Ok(!is_delta);
     };
-    let removed = hex::decode(alloc, REMOVED)?;
-    assert!(rt;
-        written.as_slice() == bytes || written.as_slice() == removed.as_slice(),
-        "{bytes:?}"
-    );
-    Ok(())
+    let written = written.as_slice();
+    Ok(is_delta && (written == bytes || written == removed))
 }
 
 #[test]
 fn each_byte_is_changed(rt: HostRuntime) -> Result<(), Fail> {
+    let removed = hex::decode(rt.alloc(), REMOVED)?;
     let mut bytes = hex::decode(rt.alloc(), REGISTERED)?;
     for place in 0..98usize {
         assert!(rt; place < bytes.len());
         let kept = bytes[place];
         for byte in 0..=255u8 {
             bytes[place] = byte;
-            same_or_removed(&rt, rt.alloc(), &bytes)?;
+            assert!(rt;
+                same_or_removed(rt.alloc(), &bytes, &removed)?,
+                "{byte} at {place}"
+            );
         }
         bytes[place] = kept;
-    }
-    Ok(())
-}
-
-#[test]
-fn cut_is_refused(rt: HostRuntime) -> Result<(), Fail> {
-    let rows = [
-        // nothing later
-        "4c5744",
-        "4c574431000000000001010161000000000001000140000000000001000120",
-    ];
-    for text in rows {
-        refuses(&rt, rt.alloc(), text, DeltaFault::Truncated)?;
-    }
-    Ok(())
-}
-
-#[test]
-fn another_magic_is_refused(rt: HostRuntime) -> Result<(), Fail> {
-    let rows = [
-        "4c57443200000000000000",
-        // magic before truncated
-        "4c57443200",
-    ];
-    for text in rows {
-        refuses(&rt, rt.alloc(), text, DeltaFault::Magic)?;
-    }
-    Ok(())
-}
-
-#[test]
-fn a_byte_behind_the_end_is_refused(rt: HostRuntime) -> Result<(), Fail> {
-    let rows = ["4c5744310000000000000000"];
-    for text in rows {
-        refuses(&rt, rt.alloc(), text, DeltaFault::Trailing)?;
-    }
-    Ok(())
-}
-
-#[test]
-fn out_of_range_is_refused(rt: HostRuntime) -> Result<(), Fail> {
-    let rows = [
-        "4c57443100000000000002",
-        // endpoint empty, trailing
-        "4c57443100000000000101000000000000010001800000ff",
-        // endpoint 253, truncated
-        "4c57443100000000000101fd00",
-        // counter 0 before base range
-        "4c5744310000000000010101610000000000000001ff0900",
-        // base 4 before watch tag 2
-        "4c574431000000000001010161000000000001000101040200",
-        // family 5
-        "4c5744310000000000010101610000000000010001020000000000010001050200",
-        // binding length 0
-        "4c57443100000000000101016100000000000100011000000000000100010000",
-        // binding length 9 before text
-        "4c57443100000000000101016100000000000100011000000000000100010961616161616161616100",
-        // sms tag
-        "4c57443100000000000101016100000000000100012000000000000100010200",
-        // sms length 252 before text
-        "4c574431000000000001010161000000000001000120000000000001000101fcff00",
-        // objects length 0
-        "4c574431000000000001010161000000000001000140000000000001000100000200",
-        // objects length 8193 before truncated
-        "4c5744310000000000010101610000000000010001400000000000010001200100",
-        // watch tag
-        "4c5744310000000000010101610000000000010001000200",
-        // no numbers
-        "4c574431000000000001010161000000000001000100010000",
-        // five numbers
-        "4c574431000000000001010161000000000001000100010500",
-        // number 65535 before truncated
-        "4c5744310000000000010101610000000000010001000102ffff",
-        // watch flag 0
-        "4c57443100000000000101016100000000000100010001010004000000000001000100ff00",
-        // watch flag 4
-        "4c57443100000000000101016100000000000100010001010004000000000001000104ff00",
-        // accept tag
-        "4c5744310000000000010101610000000000010001000101000400000000000100010102ff00",
-        // accept of cancelled
-        "4c57443100000000000101016100000000000100010001010004000000000001000103020000",
-    ];
-    for text in rows {
-        refuses(&rt, rt.alloc(), text, DeltaFault::Range)?;
-    }
-    Ok(())
-}
-
-#[test]
-fn above_the_clock_is_refused(rt: HostRuntime) -> Result<(), Fail> {
-    let rows = [
-        "4c57443100000000000001016100000000000100017f000000000000010001047f0000011633000000000001000100000000000000000000000100010001518000000000000100010155000000000001000100000000000001000100033c2f3e0000",
-        // clock before base range
-        "4c5744310000000000010101610000000000020001010400",
-        // in a removed slot fields are checked
-        "4c5744310000000000010101610000000000010001ff00000000000002000100",
-    ];
-    for text in rows {
-        refuses(&rt, rt.alloc(), text, DeltaFault::ClockBelow)?;
-    }
-    Ok(())
-}
-
-#[test]
-fn out_of_order_is_refused(rt: HostRuntime) -> Result<(), Fail> {
-    let rows = [
-        // order before range of stamp
-        "4c574431000000000001010162000000000001000180000101610000000000000001800000",
-        // path order before stamp range
-        "4c57443100000000000101016100000000000100010001010004000000000001000102010100040000000000000001020000",
-        // in a removed slot watches are checked
-        "4c57443100000000000101016100000000000100018001010004000000000001000102010100030000000000010001020000",
-    ];
-    for text in rows {
-        refuses(&rt, rt.alloc(), text, DeltaFault::Order)?;
-    }
-    Ok(())
-}
-
-#[test]
-fn no_text_is_refused(rt: HostRuntime) -> Result<(), Fail> {
-    let rows = [
-        // endpoint no utf8 before clock
-        "4c5744310000000000000101ff0000000000010001800000",
-        // text before order
-        "4c574431000000000001010162000000000001000180000101ff0000000000010001800000",
-        // binding lower case before tag 2
-        "4c574431000000000001010161000000000001000110000000000001000101610200",
-        // sms no utf8 before tag
-        "4c57443100000000000101016100000000000100012000000000000100010101ff0200",
-        // no printing before tag
-        "4c574431000000000001010161000000000001000140000000000001000100043c2f3e200200",
-    ];
-    for text in rows {
-        refuses(&rt, rt.alloc(), text, DeltaFault::Text)?;
     }
     Ok(())
 }

@@ -1,10 +1,10 @@
 //! The largest of each part, whose bytes are put together here by hand.
 
-use super::rewritten;
-use crate::{check, read};
-use lw_reg::Slot;
-use std::alloc::Global;
-use std::process::Abort;
+use super::is_written_as;
+use crate::{Delta, check, read};
+use lw_reg::{Endpoint, Slot};
+use lw_stamp::NoMemory;
+use std::alloc::{AllocError, Global};
 use std::test::Fail;
 
 /// 127.0.0.1, port 5683.
@@ -64,73 +64,89 @@ fn full(alloc: Global, clock: &[u8; 6], host: &[u8]) -> Result<Vec<u8>, Fail> {
     Ok(bytes)
 }
 
-/// What the readers of a slot give: the values, and of the texts their lengths.
-fn shown(alloc: Global, slot: &Slot) -> Result<String, Fail> {
-    let numbers = slot
-        .sms()
-        .and_then(|(_, sms)| sms.map(|sms| sms.as_str().len()));
-    let objects = slot.objects().map(|(_, objects)| objects.as_str().len());
-    Ok(format!(in alloc;
-        "{:?} {:?} {:?} {:?} {:?} {numbers:?} {objects:?} {}",
+/// What the readers of a slot give of the fields without texts.
+fn values(alloc: Global, slot: &Slot) -> Result<String, AllocError> {
+    format!(in alloc;
+        "{:?} {:?} {:?} {:?} {:?}",
         slot.base(),
-        slot.address().map(|(_, address)| address),
-        slot.seen().map(|(_, seen)| seen.ms()),
-        slot.lifetime().map(|(_, seconds)| seconds),
-        slot.binding().map(|(_, binding)| binding),
-        slot.watches().len()
-    )?)
+        slot.address(),
+        slot.seen(),
+        slot.lifetime(),
+        slot.binding()
+    )
 }
 
-/// The delta has the clock and this length, and is written as it was read.
-fn holds(
-    rt: &impl Abort,
-    alloc: Global,
-    bytes: &[u8],
-    clock: u64,
-    length: usize,
-) -> Result<(), Fail> {
-    assert!(rt; bytes.len() == length, "{} bytes", bytes.len());
-    assert!(rt; check(bytes) == Ok(clock));
-    let Some(written) = rewritten(alloc, bytes)? else {
-        panic!(rt; "no delta")
+/// How long the SMS number and the object list are.
+fn lengths(slot: &Slot) -> (usize, usize) {
+    let number = match slot.sms() {
+        Some((_, Some(number))) => number.as_str().len(),
+        _ => 0,
     };
-    assert!(rt; written.as_slice() == bytes, "{written:?}");
-    Ok(())
+    let objects = match slot.objects() {
+        Some((_, objects)) => objects.as_str().len(),
+        None => 0,
+    };
+    (number, objects)
 }
 
-/// What is read of a delta of one slot.
+/// Whether it is a delta that has the clock and this length, and is written as it was read.
+fn holds(alloc: Global, bytes: &[u8], clock: u64, length: usize) -> Result<bool, NoMemory> {
+    let checked = check(bytes) == Ok(clock);
+    let written = is_written_as(alloc, bytes, bytes)?;
+    Ok(checked && written && bytes.len() == length)
+}
+
+/// What is read of a delta of one slot with the longest texts and 100 watches; nothing where it is another.
 fn read_alone(alloc: Global, bytes: &[u8]) -> Result<String, Fail> {
     let delta = read(alloc, bytes)?;
-    let (endpoint, slot) = delta.slots.first().ok_or("no slot")?;
-    let text = shown(alloc, slot)?;
-    Ok(format!(in alloc; "{} {} {text}", delta.slots.len(), endpoint.as_str().len())?)
+    match delta.slots.as_slice() {
+        [(endpoint, slot)] if is_full(endpoint, slot) => Ok(values(alloc, slot)?),
+        _ => Ok(String::new(alloc)),
+    }
+}
+
+fn is_full(endpoint: &Endpoint, slot: &Slot) -> bool {
+    let name = endpoint.as_str().len();
+    name == 252 && lengths(slot) == (251, 8192) && slot.watches().len() == 100
 }
 
 #[test]
 fn the_longest_fields_are_written_again(rt: HostRuntime) -> Result<(), Fail> {
-    let first = full(rt.alloc(), &[0, 0, 0, 0, 0, 1], &V4)?;
-    holds(&rt, rt.alloc(), &first, 1, 10_897)?;
-    let last = full(rt.alloc(), &[255; 6], &V6)?;
-    holds(&rt, rt.alloc(), &last, 281_474_976_710_655, 10_909)
+    let rows = [
+        ([0, 0, 0, 0, 0, 1], V4.as_slice(), 1, 10_897),
+        ([255; 6], V6.as_slice(), 281_474_976_710_655, 10_909),
+    ];
+    for (counter, host, clock, length) in rows {
+        let bytes = full(rt.alloc(), &counter, host)?;
+        assert!(rt; holds(rt.alloc(), &bytes, clock, length)?, "clock {clock}");
+    }
+    Ok(())
 }
+
+/// What is read of the address at stamp 1 at node 1, and of what is no text.
+const V4_READ: &str = "Some(Base { version: V11, queue: true }) \
+Some((Stamp { counter: 1, node: 1 }, V4 { address: [127, 0, 0, 1], port: 5683 })) \
+Some((Stamp { counter: 1, node: 1 }, Moment { ms: 281474976710655 })) \
+Some((Stamp { counter: 1, node: 1 }, 4294967295)) \
+Some((Stamp { counter: 1, node: 1 }, Binding { letters: [65, 66, 67, 68, 69, 70, 71, 72] }))";
+
+/// The same with the other address, at the last stamp of the node.
+const V6_READ: &str = "Some(Base { version: V11, queue: true }) \
+Some((Stamp { counter: 281474976710655, node: 1 }, V6 { address: [32, 1, 13, 184, 0, 0, 0, 0, 0, 0, 0, 0, 0, 0, 0, 255], port: 65535 })) \
+Some((Stamp { counter: 281474976710655, node: 1 }, Moment { ms: 281474976710655 })) \
+Some((Stamp { counter: 281474976710655, node: 1 }, 4294967295)) \
+Some((Stamp { counter: 281474976710655, node: 1 }, Binding { letters: [65, 66, 67, 68, 69, 70, 71, 72] }))";
 
 #[test]
 fn the_longest_fields_are_read(rt: HostRuntime) -> Result<(), Fail> {
     let rows = [
-        (V4.as_slice(), "V4 { address: [127, 0, 0, 1], port: 5683 }"),
-        (
-            V6.as_slice(),
-            "V6 { address: [32, 1, 13, 184, 0, 0, 0, 0, 0, 0, 0, 0, 0, 0, 0, 255], port: 65535 }",
-        ),
+        ([0, 0, 0, 0, 0, 1], V4.as_slice(), V4_READ),
+        ([255; 6], V6.as_slice(), V6_READ),
     ];
-    for (host, address) in rows {
-        let bytes = full(rt.alloc(), &[0, 0, 0, 0, 0, 1], host)?;
-        let text = read_alone(rt.alloc(), &bytes)?;
-        let wanted = format!(in rt.alloc();
-            "1 252 Some(Base {{ version: V11, queue: true }}) Some({address}) Some(281474976710655) Some(4294967295) \
-Some(Binding {{ letters: [65, 66, 67, 68, 69, 70, 71, 72] }}) Some(251) Some(8192) 100"
-        )?;
-        assert!(rt; text.as_str() == wanted.as_str(), "{text}");
+    for (clock, host, text) in rows {
+        let bytes = full(rt.alloc(), &clock, host)?;
+        let read = read_alone(rt.alloc(), &bytes)?;
+        assert!(rt; read.as_str() == text, "{read}");
     }
     Ok(())
 }
@@ -156,14 +172,22 @@ fn many(alloc: Global) -> Result<Vec<u8>, Fail> {
 #[test]
 fn three_hundred_slots_are_written_again(rt: HostRuntime) -> Result<(), Fail> {
     let bytes = many(rt.alloc())?;
-    holds(&rt, rt.alloc(), &bytes, 1, 4511)
+    assert!(rt; holds(rt.alloc(), &bytes, 1, 4511)?);
+    Ok(())
+}
+
+/// How many slots are read, and the name of the last.
+fn last_name<'a>(delta: &'a Delta) -> (usize, &'a str) {
+    match delta.slots.last() {
+        Some((endpoint, _)) => (delta.slots.len(), endpoint.as_str()),
+        None => (0, ""),
+    }
 }
 
 #[test]
 fn three_hundred_slots_are_read(rt: HostRuntime) -> Result<(), Fail> {
-    let delta = read(rt.alloc(), &many(rt.alloc())?)?;
-    assert!(rt; delta.slots.len() == 300);
-    let (endpoint, _) = delta.slots.last().ok_or("no slot")?;
-    assert!(rt; endpoint.as_str() == "299");
+    let bytes = many(rt.alloc())?;
+    let delta = read(rt.alloc(), &bytes)?;
+    assert!(rt; last_name(&delta) == (300, "299"));
     Ok(())
 }

@@ -1,14 +1,10 @@
 use Rattle.std.proofs.Common.{refl}
-use Rattle.std.proofs.lemmas.Result.{err_from_is_err_and}
 use Rattle.std.proofs.lemmas.Result.{IfOk-weaker, IfErr-weaker}
-use Rattle.lw_delta.proofs.Parts.{refuted}
-use Rattle.lw_delta.proofs.Parts.{both, first_fails, later_fails, held, broken, held_fails}
+use Rattle.lw_delta.proofs.Parts.{both, first_fails, later_fails, held, broken, held_fails, refuted, raised}
 use Rattle.lw_delta.proofs.checking.header.Goals as goal
 
 pub returns-in_err-magic-clause-fault : goal.returns-in_err-magic-clause-fault
-returns-in_err-magic-clause-fault c =
-    let p = err_from_is_err_and c.from_residual.result c.from_residual.ensures.1 in
-    rw (p.1, p.2) (first_fails _ c.in_err-magic.ensures.fault)
+returns-in_err-magic-clause-fault c = raised _ c.from_residual.result c.from_residual.ensures.1 (first_fails _ c.in_err-magic.ensures.fault)
 
 pub returns-then-not-is_magic-clause-fault : goal.returns-then-not-is_magic-clause-fault
 returns-then-not-is_magic-clause-fault c = later_fails _ c.in_ok-magic.ensures.found (broken _ (refuted c.if-not-is_magic.ensures))

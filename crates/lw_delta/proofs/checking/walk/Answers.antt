@@ -1,20 +1,15 @@
 use Rattle.std.proofs.Common.{refl, inl, inr, List, ℕ, subst}
-use Rattle.std.proofs.lemmas.Result.{err_from_is_err_and}
 use Rattle.lw_delta.specs.Part.{Found}
 use Rattle.lw_delta.specs.Format.{slots}
 use Rattle.lw_delta.proofs.Answering.{has_trailing, none_left}
-use Rattle.lw_delta.proofs.Parts.{both, first_fails, later_fails, given}
+use Rattle.lw_delta.proofs.Parts.{both, first_fails, later_fails, given, raised}
 use Rattle.lw_delta.proofs.checking.walk.Goals as goal
 
 pub returns-in_err-clock-clause-fault : goal.returns-in_err-clock-clause-fault
-returns-in_err-clock-clause-fault c =
-    let p = err_from_is_err_and c.from_residual.result c.from_residual.ensures.1 in
-    rw (p.1, p.2) (inl (first_fails _ c.in_err-clock.ensures.fault))
+returns-in_err-clock-clause-fault c = raised _ c.from_residual.result c.from_residual.ensures.1 (inl (first_fails _ c.in_err-clock.ensures.fault))
 
 pub returns-in_err-slot_count-clause-fault : goal.returns-in_err-slot_count-clause-fault
-returns-in_err-slot_count-clause-fault c =
-    let p = err_from_is_err_and c.from_residual-in_err-slot_count.result c.from_residual-in_err-slot_count.ensures.1 in
-    rw (p.1, p.2) (inl (later_fails _ c.in_ok-clock.ensures.found (first_fails _ c.in_err-slot_count.ensures.fault)))
+returns-in_err-slot_count-clause-fault c = raised _ c.from_residual-in_err-slot_count.result c.from_residual-in_err-slot_count.ensures.1 (inl (later_fails _ c.in_ok-clock.ensures.found (first_fails _ c.in_err-slot_count.ensures.fault)))
 
 pub returns-then-not-is_empty-clause-fault : goal.returns-then-not-is_empty-clause-fault
 returns-then-not-is_empty-clause-fault c =

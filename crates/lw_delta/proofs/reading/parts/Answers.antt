@@ -1,13 +1,10 @@
-use Rattle.std.proofs.lemmas.Result.{err_from_is_err_and}
-use Rattle.lw_delta.proofs.Parts.{refuted}
 use Rattle.lw_delta.proofs.Grammar.{watches_decided}
 use Rattle.lw_delta.proofs.Owning.{only_want, watches_rise, parts_are}
+use Rattle.lw_delta.proofs.Parts.{raised, refuted}
 use Rattle.lw_delta.proofs.reading.parts.Goals as goal
 
 pub returns-in_err-entries-clause-fault : goal.returns-in_err-entries-clause-fault
-returns-in_err-entries-clause-fault c =
-    let p = err_from_is_err_and c.from_residual.result c.from_residual.ensures.1 in
-    rw (p.1, p.2) (only_want (watches_decided c.args.clock) c.args.bytes.now c.requires.0 c.requires.1 c.in_err-entries.field-0.0 c.requires.2 c.in_err-entries.ensures.fault)
+returns-in_err-entries-clause-fault c = raised _ c.from_residual.result c.from_residual.ensures.1 (only_want (watches_decided c.args.clock) c.args.bytes.now c.requires.0 c.requires.1 c.in_err-entries.field-0.0 c.requires.2 c.in_err-entries.ensures.fault)
 
 pub unreachable-requires : goal.unreachable-requires
 unreachable-requires c =

@@ -1,16 +1,13 @@
 use Rattle.std.proofs.Common.{subst, inr}
-use Rattle.std.proofs.lemmas.Result.{err_from_is_err_and}
 use Rattle.lw_delta.specs.Part.{Found, optional}
 use Rattle.lw_delta.specs.Format.{watch}
 use Rattle.lw_delta.proofs.Decided.{optional_takes}
 use Rattle.lw_delta.proofs.Grammar.{watch_decided}
-use Rattle.lw_delta.proofs.Parts.{none_walked, walked_more, walked_end, walked_fails}
+use Rattle.lw_delta.proofs.Parts.{none_walked, walked_more, walked_end, walked_fails, raised}
 use Rattle.lw_delta.proofs.reading.watches.Goals as goal
 
 pub returns-in_err-next-clause-fault : goal.returns-in_err-next-clause-fault
-returns-in_err-next-clause-fault c =
-    let p = err_from_is_err_and c.from_residual-in_err-next.result c.from_residual-in_err-next.ensures.1 in
-    rw (p.1, p.2) (inr (walked_fails c.loop-entries.invariant c.in_err-next.ensures.fault))
+returns-in_err-next-clause-fault c = raised _ c.from_residual-in_err-next.result c.from_residual-in_err-next.ensures.1 (inr (walked_fails c.loop-entries.invariant c.in_err-next.ensures.fault))
 
 pub returns-in_default-clause-found : goal.returns-in_default-clause-found
 returns-in_default-clause-found c = (c.in_ok-next.behind.now, walked_end c.loop-entries.invariant (subst (λ o. Found (optional (watch c.args.clock c.loop-entries.after)) c.loop-entries.rest.now o c.in_ok-next.behind.now) c.in_default.is c.in_ok-next.ensures.found))

@@ -1,17 +1,14 @@
 use Rattle.std.proofs.Common.{ℕ, ◌+◌, subst, ◌++◌, ◌∷◌, sym, ap, ◌∙◌, arith}
 use Rattle.std.proofs.lemmas.List.{length-append}
-use Rattle.std.proofs.lemmas.Result.{err_from_is_err_and}
 use Rattle.std.proofs.Common.{[]}
 use Rattle.std.specs.Option.{option_copied}
 use Rattle.lw_delta.specs.Lent.{NextAt, lent_slot}
 use Rattle.lw_delta.proofs.Behind.{next_takes}
-use Rattle.lw_delta.proofs.Parts.{walked_more, walked_end, walked_fails}
+use Rattle.lw_delta.proofs.Parts.{walked_more, walked_end, walked_fails, raised}
 use Rattle.lw_delta.proofs.slots.check_slots.Goals as goal
 
 pub returns-in_err-next-clause-fault : goal.returns-in_err-next-clause-fault
-returns-in_err-next-clause-fault c =
-    let p = err_from_is_err_and c.from_residual.result c.from_residual.ensures.1 in
-    rw (p.1, p.2) (walked_fails c.loop-next.invariant.1 c.in_err-next.ensures.fault)
+returns-in_err-next-clause-fault c = raised _ c.from_residual.result c.from_residual.ensures.1 (walked_fails c.loop-next.invariant.1 c.in_err-next.ensures.fault)
 
 pub returns-in_default-clause-found : goal.returns-in_default-clause-found
 returns-in_default-clause-found c = (c.loop-next.invariant.0, walked_end c.loop-next.invariant.1 (subst (λ o. NextAt c.args.clock (option_copied c.loop-next.after) c.loop-next.rest.now o c.in_ok-next.behind.now) c.in_default.is c.in_ok-next.ensures.found), c.loop-next.invariant.2)

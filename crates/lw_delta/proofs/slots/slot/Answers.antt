@@ -1,5 +1,4 @@
 use Rattle.std.proofs.Common.{ap}
-use Rattle.std.proofs.lemmas.Result.{err_from_is_err_and}
 use Rattle.std.proofs.Common.{Bool}
 use Rattle.lw_delta.specs.Values.{slot_from}
 use Rattle.lw_delta.specs.Lent.{content_of}
@@ -7,33 +6,23 @@ use Rattle.lw_delta.proofs.Again.{behind, front}
 use Rattle.lw_delta.proofs.Decided.{byte_decided}
 use Rattle.lw_delta.proofs.Grammar.{endpoint_decided, stamp_decided}
 use Rattle.lw_delta.proofs.Kept.{endpoint_named}
-use Rattle.lw_delta.proofs.Parts.{both, first_fails, later_fails, meant}
+use Rattle.lw_delta.proofs.Parts.{both, first_fails, later_fails, meant, raised}
 use Rattle.lw_delta.proofs.slots.slot.Goals as goal
 
 pub returns-in_err-endpoint-clause-fault : goal.returns-in_err-endpoint-clause-fault
-returns-in_err-endpoint-clause-fault c =
-    let p = err_from_is_err_and c.from_residual.result c.from_residual.ensures.1 in
-    rw (p.1, p.2) (first_fails _ c.in_err-endpoint.ensures.fault)
+returns-in_err-endpoint-clause-fault c = raised _ c.from_residual.result c.from_residual.ensures.1 (first_fails _ c.in_err-endpoint.ensures.fault)
 
 pub returns-in_err-registration-clause-fault : goal.returns-in_err-registration-clause-fault
-returns-in_err-registration-clause-fault c =
-    let p = err_from_is_err_and c.from_residual-in_err-registration.result c.from_residual-in_err-registration.ensures.1 in
-    rw (p.1, p.2) (later_fails _ c.in_ok-endpoint.ensures.found (first_fails _ c.in_err-registration.ensures.fault))
+returns-in_err-registration-clause-fault c = raised _ c.from_residual-in_err-registration.result c.from_residual-in_err-registration.ensures.1 (later_fails _ c.in_ok-endpoint.ensures.found (first_fails _ c.in_err-registration.ensures.fault))
 
 pub returns-in_err-flags-clause-fault : goal.returns-in_err-flags-clause-fault
-returns-in_err-flags-clause-fault c =
-    let p = err_from_is_err_and c.from_residual-in_err-flags.result c.from_residual-in_err-flags.ensures.1 in
-    rw (p.1, p.2) (later_fails _ c.in_ok-endpoint.ensures.found (later_fails _ c.in_ok-registration.ensures.found (first_fails _ c.in_err-flags.ensures.fault)))
+returns-in_err-flags-clause-fault c = raised _ c.from_residual-in_err-flags.result c.from_residual-in_err-flags.ensures.1 (later_fails _ c.in_ok-endpoint.ensures.found (later_fails _ c.in_ok-registration.ensures.found (first_fails _ c.in_err-flags.ensures.fault)))
 
 pub returns-in_err-fields-clause-fault : goal.returns-in_err-fields-clause-fault
-returns-in_err-fields-clause-fault c =
-    let p = err_from_is_err_and c.from_residual-in_err-fields.result c.from_residual-in_err-fields.ensures.1 in
-    rw (p.1, p.2) (later_fails _ c.in_ok-endpoint.ensures.found (later_fails _ c.in_ok-registration.ensures.found (later_fails _ c.in_ok-flags.ensures.found (first_fails _ c.in_err-fields.ensures.fault))))
+returns-in_err-fields-clause-fault c = raised _ c.from_residual-in_err-fields.result c.from_residual-in_err-fields.ensures.1 (later_fails _ c.in_ok-endpoint.ensures.found (later_fails _ c.in_ok-registration.ensures.found (later_fails _ c.in_ok-flags.ensures.found (first_fails _ c.in_err-fields.ensures.fault))))
 
 pub returns-in_err-watch_count-clause-fault : goal.returns-in_err-watch_count-clause-fault
-returns-in_err-watch_count-clause-fault c =
-    let p = err_from_is_err_and c.from_residual-in_err-watch_count.result c.from_residual-in_err-watch_count.ensures.1 in
-    rw (p.1, p.2) (later_fails _ c.in_ok-endpoint.ensures.found (later_fails _ c.in_ok-registration.ensures.found (later_fails _ c.in_ok-flags.ensures.found (later_fails _ c.in_ok-fields.ensures.found (first_fails _ c.in_err-watch_count.ensures.fault)))))
+returns-in_err-watch_count-clause-fault c = raised _ c.from_residual-in_err-watch_count.result c.from_residual-in_err-watch_count.ensures.1 (later_fails _ c.in_ok-endpoint.ensures.found (later_fails _ c.in_ok-registration.ensures.found (later_fails _ c.in_ok-flags.ensures.found (later_fails _ c.in_ok-fields.ensures.found (first_fails _ c.in_err-watch_count.ensures.fault)))))
 
 pub returns-clause-found : goal.returns-clause-found
 returns-clause-found c = record { ws = c.in_ok-watch_count.ensures.found.0; holds = record { named = endpoint_named _ _ _ _ c.in_ok-endpoint.ensures.found; rest = c.in_ok-watch_count.rest.now; watched = c.in_ok-watch_count.ensures.found.1 }; found = both _ c.in_ok-endpoint.ensures.found (both _ c.in_ok-registration.ensures.found (both _ c.in_ok-flags.ensures.found (both _ c.in_ok-fields.ensures.found (both _ c.in_ok-watch_count.ensures.found.1 (meant _ (ap (λ (b : Bool). (c.in_ok-endpoint.endpoint.now, slot_from c.in_ok-registration.registration b (content_of c.in_ok-fields.fields) c.in_ok-watch_count.ensures.found.0)) c.is_set.ensures)))))) }

@@ -1,11 +1,8 @@
-use Rattle.std.proofs.lemmas.Result.{err_from_is_err_and}
-use Rattle.lw_delta.proofs.Parts.{both, first_fails, later_fails, meant, held, broken}
+use Rattle.lw_delta.proofs.Parts.{both, first_fails, later_fails, meant, held, broken, raised}
 use Rattle.lw_delta.proofs.values.text.Goals as goal
 
 pub returns-in_err-front-clause-fault : goal.returns-in_err-front-clause-fault
-returns-in_err-front-clause-fault c =
-    let p = err_from_is_err_and c.from_residual.result c.from_residual.ensures.1 in
-    rw (p.1, p.2) (first_fails _ c.in_err-front.ensures.fault)
+returns-in_err-front-clause-fault c = raised _ c.from_residual.result c.from_residual.ensures.1 (first_fails _ c.in_err-front.ensures.fault)
 
 pub returns-in_default-clause-fault : goal.returns-in_default-clause-fault
 returns-in_default-clause-fault c = later_fails _ c.in_ok-front.ensures.found (broken _ c.in_default.ensures.cases.0)

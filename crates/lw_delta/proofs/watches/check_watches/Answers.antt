@@ -1,6 +1,5 @@
 use Rattle.std.proofs.Common.{ℕ, ◌+◌, subst, ◌++◌, ◌∷◌, sym, ap, ◌∙◌, arith}
 use Rattle.std.proofs.lemmas.List.{length-append}
-use Rattle.std.proofs.lemmas.Result.{err_from_is_err_and}
 use Rattle.std.proofs.Common.{[]}
 use Rattle.lw_reg.specs.declared.path.Path.{Path}
 use Rattle.lw_reg.specs.Body.{Watching}
@@ -8,13 +7,11 @@ use Rattle.lw_delta.specs.Part.{Found, optional}
 use Rattle.lw_delta.specs.Format.{watch}
 use Rattle.lw_delta.proofs.Decided.{optional_takes}
 use Rattle.lw_delta.proofs.Grammar.{watch_decided}
-use Rattle.lw_delta.proofs.Parts.{walked_more, walked_end, walked_fails}
+use Rattle.lw_delta.proofs.Parts.{walked_more, walked_end, walked_fails, raised}
 use Rattle.lw_delta.proofs.watches.check_watches.Goals as goal
 
 pub returns-in_err-entry-clause-fault : goal.returns-in_err-entry-clause-fault
-returns-in_err-entry-clause-fault c =
-    let p = err_from_is_err_and c.from_residual.result c.from_residual.ensures.1 in
-    rw (p.1, p.2) (walked_fails c.loop-entry.invariant.1 c.in_err-entry.ensures.fault)
+returns-in_err-entry-clause-fault c = raised _ c.from_residual.result c.from_residual.ensures.1 (walked_fails c.loop-entry.invariant.1 c.in_err-entry.ensures.fault)
 
 pub returns-in_default-clause-found : goal.returns-in_default-clause-found
 returns-in_default-clause-found c = (c.loop-entry.invariant.0, walked_end c.loop-entry.invariant.1 (subst (λ o. Found (optional (watch c.args.clock c.loop-entry.after)) c.loop-entry.rest.now o c.in_ok-entry.behind.now) c.in_default.is c.in_ok-entry.ensures.found), c.loop-entry.invariant.2)

@@ -1,12 +1,9 @@
 use Rattle.std.proofs.Common.{arith}
-use Rattle.std.proofs.lemmas.Result.{err_from_is_err_and}
-use Rattle.lw_delta.proofs.Parts.{both, first_fails, later_fails, given, held, broken}
+use Rattle.lw_delta.proofs.Parts.{both, first_fails, later_fails, given, held, broken, raised}
 use Rattle.lw_delta.proofs.watches.path_number.Goals as goal
 
 pub returns-in_err-number-clause-fault : goal.returns-in_err-number-clause-fault
-returns-in_err-number-clause-fault c =
-    let p = err_from_is_err_and c.from_residual.result c.from_residual.ensures.1 in
-    rw (p.1, p.2) (first_fails _ c.in_err-number.ensures.fault)
+returns-in_err-number-clause-fault c = raised _ c.from_residual.result c.from_residual.ensures.1 (first_fails _ c.in_err-number.ensures.fault)
 
 pub returns-then-number-gt-MAX_NUMBER-clause-fault : goal.returns-then-number-gt-MAX_NUMBER-clause-fault
 returns-then-number-gt-MAX_NUMBER-clause-fault c = later_fails _ c.in_ok-number.ensures.found (broken _ (λ within. omega (arith, within, c.if-number-gt-MAX_NUMBER.true)))

@@ -1,13 +1,11 @@
 use Rattle.std.proofs.Common.{refl}
-use Rattle.std.proofs.lemmas.Result.{err_from_is_err_and, IfOk-weaker, IfErr-weaker}
+use Rattle.std.proofs.lemmas.Result.{IfOk-weaker, IfErr-weaker}
 use Rattle.lw_delta.proofs.Again.{behind_tag}
-use Rattle.lw_delta.proofs.Parts.{both, first_fails, later_fails}
+use Rattle.lw_delta.proofs.Parts.{both, first_fails, later_fails, raised}
 use Rattle.lw_delta.proofs.parse.OptionParse.parse.Goals as goal
 
 pub returns-in_err-present-clause-fault : goal.returns-in_err-present-clause-fault
-returns-in_err-present-clause-fault g c =
-    let p = err_from_is_err_and c.from_residual.result c.from_residual.ensures.1 in
-    rw (p.1, p.2) (first_fails _ c.in_err-present.ensures.fault)
+returns-in_err-present-clause-fault g c = raised _ c.from_residual.result c.from_residual.ensures.1 (first_fails _ c.in_err-present.ensures.fault)
 
 pub parse_if-requires : goal.parse_if-requires
 parse_if-requires g c = λ k. ((refl, tt), λ again. behind_tag _ c.in_ok-present.ensures.found (c.requires again))

@@ -1,14 +1,11 @@
 use Rattle.std.proofs.Common.{inl, inr}
-use Rattle.std.proofs.lemmas.Result.{err_from_is_err_and}
 use Rattle.std.proofs.lemmas.Result.{IfOk-weaker, IfErr-weaker}
 use Rattle.lw_delta.proofs.Hosts.{at_family, at_family_fails}
-use Rattle.lw_delta.proofs.Parts.{both, first_fails, later_fails, held, broken, held_fails}
+use Rattle.lw_delta.proofs.Parts.{both, first_fails, later_fails, held, broken, held_fails, raised}
 use Rattle.lw_delta.proofs.values.AddrParse.parse.Goals as goal
 
 pub returns-in_err-family-clause-fault : goal.returns-in_err-family-clause-fault
-returns-in_err-family-clause-fault c =
-    let p = err_from_is_err_and c.from_residual.result c.from_residual.ensures.1 in
-    rw (p.1, p.2) (first_fails _ c.in_err-family.ensures.fault)
+returns-in_err-family-clause-fault c = raised _ c.from_residual.result c.from_residual.ensures.1 (first_fails _ c.in_err-family.ensures.fault)
 
 pub returns-then-family-eq4-clause-found : goal.returns-then-family-eq4-clause-found
 returns-then-family-eq4-clause-found c = IfOk-weaker c.v4.result _ _ (λ x f. both _ c.in_ok-family.ensures.found (held _ (inl c.if-family-eq4.true) (at_family _ 4 c.if-family-eq4.true f))) c.v4.ensures.found

@@ -1,0 +1,95 @@
+-- The parts of which the fields of a slot, and a slot, are put together.
+use Rattle.std.proofs.Common.{◌≡◌, ℕ, List, Option, sym, subst}
+use Rattle.lw_stamp.specs.declared.stamp.Stamp.{Stamp}
+use Rattle.lw_reg.specs.declared.path.Path.{Path}
+use Rattle.lw_reg.specs.declared.slot.Slot.{Slot}
+use Rattle.lw_reg.specs.Body.{Watching}
+use Rattle.lw_delta.specs.Part.{Found, byte, means, followed, when, optional}
+use Rattle.lw_delta.specs.Format.{number32, stamp, written, base as base_part, address as address_part, moment, binding as binding_part, sms_number, objects as objects_part, watches, endpoint, fields, slot}
+use Rattle.lw_delta.specs.Values.{is_set, FieldContent, slot_from}
+
+-- each field where its flag is set, one behind the other
+pub record FieldsAt (clock flags : ℕ) (bytes : List ℕ) (k : FieldContent) (rest : List ℕ) : Type 0 where
+  pub behind_base : List ℕ
+  pub behind_address : List ℕ
+  pub behind_seen : List ℕ
+  pub behind_lifetime : List ℕ
+  pub behind_binding : List ℕ
+  pub behind_sms : List ℕ
+  pub base : Found (when (is_set flags 1) base_part) bytes k.base behind_base
+  pub address : Found (when (is_set flags 2) (written clock address_part)) behind_base k.address behind_address
+  pub seen : Found (when (is_set flags 4) (written clock moment)) behind_address k.seen behind_seen
+  pub lifetime : Found (when (is_set flags 8) (written clock number32)) behind_seen k.lifetime behind_lifetime
+  pub binding : Found (when (is_set flags 16) (written clock binding_part)) behind_lifetime k.binding behind_binding
+  pub sms : Found (when (is_set flags 32) (written clock (optional sms_number))) behind_binding k.sms behind_sms
+  pub objects : Found (when (is_set flags 64) (written clock objects_part)) behind_sms k.objects rest
+
+pub fields_at : (clock flags : ℕ) (bytes : List ℕ) (k : FieldContent) (rest : List ℕ) → Found (fields clock flags) bytes k rest → FieldsAt clock flags bytes k rest
+unfolding followed means
+fields_at clock flags bytes k rest f =
+    let a = f.is.3.is in
+    let s = a.3.is in
+    let l = s.3.is in
+    let b = l.3.is in
+    let n = b.3.is in
+    let o = n.3.is in
+    let last = o.3.is in
+    subst (λ x. FieldsAt clock flags bytes x rest) (sym last.1) (record {
+      behind_base = f.is.1;
+      behind_address = a.1;
+      behind_seen = s.1;
+      behind_lifetime = l.1;
+      behind_binding = b.1;
+      behind_sms = n.1;
+      base = f.is.2;
+      address = a.2;
+      seen = s.2;
+      lifetime = l.2;
+      binding = b.2;
+      sms = n.2;
+      objects = subst (λ (x : List ℕ). Found (when (is_set flags 64) (written clock objects_part)) n.1 o.0 x) last.0 o.2;
+    })
+
+-- the endpoint, the stamp of the registration, the flags, the fields and the watches
+pub record SlotAt (clock : ℕ) (after : Option (List ℕ)) (bytes : List ℕ) (s : List ℕ × Slot) (rest : List ℕ) : Type 0 where
+  pub name : List ℕ
+  pub registration : Stamp
+  pub flags : ℕ
+  pub kept : FieldContent
+  pub watched : List (Path × Watching)
+  pub behind_name : List ℕ
+  pub behind_registration : List ℕ
+  pub behind_flags : List ℕ
+  pub behind_fields : List ℕ
+  pub named : Found (endpoint after) bytes name behind_name
+  pub stamped : Found (stamp clock) behind_name registration behind_registration
+  pub flagged : Found byte behind_registration flags behind_flags
+  pub fielded : Found (fields clock flags) behind_flags kept behind_fields
+  pub watching : Found (watches clock) behind_fields watched rest
+  pub same : s ≡ (name, slot_from registration (is_set flags 128) kept watched)
+
+pub slot_at : (clock : ℕ) (after : Option (List ℕ)) (bytes : List ℕ) (s : List ℕ × Slot) (rest : List ℕ) → Found (slot clock after) bytes s rest → SlotAt clock after bytes s rest
+unfolding followed means
+slot_at clock after bytes s rest f =
+    let r = f.is.3.is in
+    let flags = r.3.is in
+    let k = flags.3.is in
+    let ws = k.3.is in
+    let last = ws.3.is in
+    record {
+      name = f.is.0;
+      registration = r.0;
+      flags = flags.0;
+      kept = k.0;
+      watched = ws.0;
+      behind_name = f.is.1;
+      behind_registration = r.1;
+      behind_flags = flags.1;
+      behind_fields = k.1;
+      named = f.is.2;
+      stamped = r.2;
+      flagged = flags.2;
+      fielded = k.2;
+      watching = subst (λ (x : List ℕ). Found (watches clock) k.1 ws.0 x) last.0 ws.2;
+      same = last.1;
+    }
