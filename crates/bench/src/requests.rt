@@ -41,7 +41,7 @@ impl RequestCall {
         for _ in 0..count {
             self.make(alloc, &datagram, &message)?;
         }
-        let bytes = u64::from(count).saturating_mul(message.payload.len() as u64);
+        let bytes = u64::from(count).saturating_mul(datagram.len() as u64);
         Cost::since(clock, start, count, bytes)
     }
 
