@@ -1,0 +1,4 @@
+pub mod Calls
+pub mod Cost
+pub mod Names
+pub mod Row

@@ -1,0 +1,58 @@
+use lw_coap::Fault;
+use lw_delta::DeltaFault;
+use lw_link::LinkFault;
+use lw_stamp::NoMemory;
+use std::alloc::{AllocError, AllocFailed};
+use std::io;
+
+/// What ends the program early.
+#[derive(Clone, Copy, Debug)]
+pub(crate) enum BenchFault {
+    /// An answer is not the one that was expected.
+    Unexpected,
+    /// A clock, a file or the output failed.
+    Device,
+    NoMemory,
+}
+
+impl From<NoMemory> for BenchFault {
+    fn from(_error: NoMemory) -> BenchFault {
+        BenchFault::NoMemory
+    }
+}
+
+impl From<AllocError> for BenchFault {
+    fn from(_error: AllocError) -> BenchFault {
+        BenchFault::NoMemory
+    }
+}
+
+impl<T: Drop> From<AllocFailed<T>> for BenchFault {
+    fn from(_error: AllocFailed<T>) -> BenchFault {
+        BenchFault::NoMemory
+    }
+}
+
+impl From<io::Error> for BenchFault {
+    fn from(_error: io::Error) -> BenchFault {
+        BenchFault::Device
+    }
+}
+
+impl From<Fault> for BenchFault {
+    fn from(_fault: Fault) -> BenchFault {
+        BenchFault::Unexpected
+    }
+}
+
+impl From<LinkFault> for BenchFault {
+    fn from(_fault: LinkFault) -> BenchFault {
+        BenchFault::Unexpected
+    }
+}
+
+impl From<DeltaFault> for BenchFault {
+    fn from(_fault: DeltaFault) -> BenchFault {
+        BenchFault::Unexpected
+    }
+}

@@ -1,0 +1,62 @@
+//! The Registers that are measured with, as clients send them.
+
+use lw_reg::Addr;
+use std::alloc::AllocError;
+
+/// An object list of 72 bytes: the printing of ten links.
+pub(crate) const OBJECTS: &[u8] =
+    b"</1/0>,</2/0>,</3/0>,</4/0>,</5/0>,</6/0>,</7/0>,</16/0>,</19/0>,</25/0>";
+
+/// How many links may follow those: an object list has at most 256.
+pub(crate) const MORE_LINKS: u32 = 246;
+
+/// How many empty queries nearly fill a message of 8,192 bytes.
+pub(crate) const EMPTY_QUERIES: u32 = 8000;
+
+/// The endpoint of what is measured by itself.
+pub(crate) const ENDPOINT: &str = "urn:dev:mac:0024be804ff1";
+
+/// Where each datagram comes from.
+pub(crate) const SOURCE: Addr = Addr::V4 {
+    address: [192, 0, 2, 1],
+    port: 5683,
+};
+
+/// A Register up to its endpoint of 24 bytes (RFC 7252, section 3).
+const BEFORE_NAME: &[u8] = &[
+    0x48, 2, 0, 1, // version 1, confirmable, a token of 8 bytes, POST, message ID 1
+    1, 2, 3, 4, 5, 6, 7, 8, // the token
+    0xb2, b'r', b'd', // Uri-Path
+    0x11, 40, // Content-Format: the link format
+    0x3d, 14, b'e', b'p', b'=', // a Uri-Query of 27 bytes
+];
+
+/// Two queries behind the endpoint.
+const BEHIND_NAME: &[u8] = b"\x06lt=300\x09lwm2m=1.1";
+
+const PAYLOAD_MARKER: u8 = 0xff;
+
+/// Puts the Register of an endpoint with ten objects in the place of what was there: 136 bytes. So many empty
+/// queries stand behind the others, and so many links behind those objects.
+pub(crate) fn put_register(
+    bytes: &mut Vec<u8>,
+    name: &str,
+    queries: u32,
+    links: u32,
+) -> Result<(), AllocError> {
+    bytes.clear();
+    bytes.extend_from_slice(BEFORE_NAME)?;
+    bytes.extend_from_slice(name.as_bytes())?;
+    bytes.extend_from_slice(BEHIND_NAME)?;
+    put_often(bytes, &[0], queries)?;
+    bytes.push(PAYLOAD_MARKER)?;
+    bytes.extend_from_slice(OBJECTS)?;
+    put_often(bytes, b",</3303/0>", links)
+}
+
+fn put_often(bytes: &mut Vec<u8>, part: &[u8], times: u32) -> Result<(), AllocError> {
+    for _ in 0..times {
+        bytes.extend_from_slice(part)?;
+    }
+    Ok(())
+}

@@ -1,0 +1,148 @@
+ghost use Rattle.std.specs.Prelude.{◌≡◌, IfOk};
+
+use crate::cost::Cost;
+use crate::deltas::DeltaCall;
+use crate::fault::BenchFault;
+use crate::indexes::IndexCall;
+use crate::names::Order;
+use crate::nodes::{NodeCall, NodeCalls};
+use crate::requests::RequestCall;
+use crate::slots::SlotCall;
+use std::alloc::Global;
+use std::time::CpuClock;
+
+/// A call that is measured: a row of the table.
+#[derive(Clone, Copy)]
+pub(crate) enum Operation {
+    Node(NodeCalls),
+    Slot(SlotCall),
+    Delta(DeltaCall),
+    Index(IndexCall),
+    Request(RequestCall),
+}
+
+/// The most calls in a round that reads thousands of bytes each time.
+const LONG_CALLS: u32 = 1000;
+
+/// What is measured and its name, in the order of the table.
+pub(crate) const ROWS: [(&str, Operation); 17] = [
+    (
+        "take of a new Register, names rising",
+        Operation::Node(NodeCalls {
+            known: None,
+            names: Order::Rising,
+            call: NodeCall::Take,
+        }),
+    ),
+    (
+        "take of a new Register, names scattered",
+        Operation::Node(NodeCalls {
+            known: None,
+            names: Order::Scattered,
+            call: NodeCall::Take,
+        }),
+    ),
+    (
+        "take of a known Register",
+        Operation::Node(NodeCalls {
+            known: Some(Order::Scattered),
+            names: Order::Scattered,
+            call: NodeCall::Take,
+        }),
+    ),
+    (
+        "by_endpoint",
+        Operation::Node(NodeCalls {
+            known: Some(Order::Scattered),
+            names: Order::Scattered,
+            call: NodeCall::ByEndpoint,
+        }),
+    ),
+    (
+        "first_after an unknown name",
+        Operation::Node(NodeCalls {
+            known: Some(Order::Scattered),
+            names: Order::Beside,
+            call: NodeCall::FirstAfter,
+        }),
+    ),
+    (
+        "first_after, a walk over all",
+        Operation::Node(NodeCalls {
+            known: Some(Order::Rising),
+            names: Order::Rising,
+            call: NodeCall::FirstAfter,
+        }),
+    ),
+    (
+        "an Update made and joined",
+        Operation::Slot(SlotCall::Update),
+    ),
+    (
+        "an Observe on the last path made and joined",
+        Operation::Slot(SlotCall::Observe),
+    ),
+    (
+        "delta written, each slot",
+        Operation::Delta(DeltaCall::Write),
+    ),
+    (
+        "delta checked, each slot",
+        Operation::Delta(DeltaCall::Check),
+    ),
+    ("delta read, each slot", Operation::Delta(DeltaCall::Read)),
+    ("Index::add", Operation::Index(IndexCall::Add)),
+    ("Index::of", Operation::Index(IndexCall::Of)),
+    ("Index::drop_one", Operation::Index(IndexCall::DropOne)),
+    (
+        "decode and understand, a Register",
+        Operation::Request(RequestCall::Understand),
+    ),
+    (
+        "understand, 8 KB of empty queries",
+        Operation::Request(RequestCall::UnderstandQueries),
+    ),
+    (
+        "LinkText::read, a printing of 256 links",
+        Operation::Request(RequestCall::ReadLinks),
+    ),
+];
+
+impl Operation {
+    ghost use Rattle.bench.specs.Calls.{calls_of};
+
+    /// The cost of a round at this size. An answer that is not the expected one is a fault.
+    pub(crate) fn round<C: CpuClock>(
+        self,
+        clock: &C,
+        alloc: Global,
+        count: u32,
+    ) -> Result<Cost, BenchFault>
+        ensures { IfOk result (λ cost. cost.calls ≡ calls_of self count) }
+    {
+        match self {
+            Operation::Node(call) => call.round(clock, alloc, count),
+            Operation::Slot(call) => call.round(clock, alloc, count),
+            Operation::Delta(call) => call.round(clock, alloc, count),
+            Operation::Index(call) => call.round(clock, alloc, count),
+            Operation::Request(call) => call.round(clock, alloc, count.min(LONG_CALLS)),
+        }
+    }
+
+    /// The least cost of several rounds.
+    pub(crate) fn least<C: CpuClock>(
+        self,
+        clock: &C,
+        alloc: Global,
+        count: u32,
+        rounds: u32,
+    ) -> Result<Cost, BenchFault>
+        ensures { IfOk result (λ cost. cost.calls ≡ calls_of self count) }
+    {
+        let mut least = self.round(clock, alloc, count)?;
+        for _ in 1..rounds {
+            least = least.least(self.round(clock, alloc, count)?);
+        }
+        Ok(least)
+    }
+}

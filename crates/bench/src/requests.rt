@@ -1,0 +1,86 @@
+//! What reading a message costs, whatever a node knows.
+
+ghost use Rattle.std.specs.Prelude.{◌≡◌, IfOk};
+
+use crate::cost::Cost;
+use crate::fault::BenchFault;
+use crate::messages::{EMPTY_QUERIES, ENDPOINT, MORE_LINKS, put_register};
+use lw_coap::{Message, decode};
+use lw_link::LinkText;
+use lw_request::{Asked, understand};
+use std::alloc::{AllocError, Global};
+use std::time::CpuClock;
+
+/// A call on a message.
+#[derive(Clone, Copy)]
+pub(crate) enum RequestCall {
+    /// `decode` and `understand` of a Register.
+    Understand,
+    /// `understand` of 8,000 empty queries.
+    UnderstandQueries,
+    /// `LinkText::read` of a printing of 256 links.
+    ReadLinks,
+}
+
+/// The most bytes of an object list.
+const MAX_OBJECTS: usize = 8192;
+
+impl RequestCall {
+    /// The cost of so many calls.
+    pub(crate) fn round<C: CpuClock>(
+        self,
+        clock: &C,
+        alloc: Global,
+        count: u32,
+    ) -> Result<Cost, BenchFault>
+        ensures { IfOk result (λ cost. cost.calls ≡ count) }
+    {
+        let datagram = self.datagram(alloc)?;
+        let message = decode(alloc, &datagram)?;
+        let start = clock.thread_cpu_time()?;
+        for _ in 0..count {
+            self.make(alloc, &datagram, &message)?;
+        }
+        let bytes = u64::from(count).saturating_mul(datagram.len() as u64);
+        Cost::since(clock, start, count, bytes)
+    }
+
+    fn datagram(self, alloc: Global) -> Result<Vec<u8>, AllocError> {
+        let mut bytes = Vec::new(alloc);
+        let (queries, links) = match self {
+            RequestCall::Understand => (0, 0),
+            RequestCall::UnderstandQueries => (EMPTY_QUERIES, 0),
+            RequestCall::ReadLinks => (0, MORE_LINKS),
+        };
+        put_register(&mut bytes, ENDPOINT, queries, links)?;
+        Ok(bytes)
+    }
+
+    fn make(self, alloc: Global, datagram: &[u8], message: &Message) -> Result<(), BenchFault> {
+        match self {
+            RequestCall::Understand => understand_register(alloc, &decode(alloc, datagram)?),
+            RequestCall::UnderstandQueries => understand_register(alloc, message),
+            RequestCall::ReadLinks => read_links(alloc, &message.payload),
+        }
+    }
+}
+
+fn is_register(asked: &Asked) -> bool {
+    matches!(asked, Asked::Register { .. })
+}
+
+fn understand_register(alloc: Global, message: &Message) -> Result<(), BenchFault> {
+    if is_register(&understand(alloc, message)?) {
+        Ok(())
+    } else {
+        Err(BenchFault::Unexpected)
+    }
+}
+
+fn read_links(alloc: Global, text: &[u8]) -> Result<(), BenchFault> {
+    if text.len() > MAX_OBJECTS {
+        return Err(BenchFault::Unexpected);
+    }
+    LinkText::read(alloc, text)?;
+    Ok(())
+}

@@ -1,0 +1,99 @@
+//! What a join into one slot costs.
+
+ghost use Rattle.std.specs.Prelude.{◌≡◌, IfOk};
+
+use crate::cost::Cost;
+use crate::fault::BenchFault;
+use crate::messages::{ENDPOINT, SOURCE};
+use lw_join::Join;
+use lw_reg::{Endpoint, Op, Path, Slot, Text, What, atom};
+use lw_stamp::{Moment, Stamp};
+use std::alloc::Global;
+use std::time::CpuClock;
+
+/// An operation that is made, and whose atom is joined into a slot.
+#[derive(Clone, Copy)]
+pub(crate) enum SlotCall {
+    Update,
+    /// Each on a path above all that the slot has.
+    Observe,
+}
+
+/// The stamp of the registration.
+pub(crate) const FIRST: Stamp = Stamp {
+    counter: 1,
+    node: 1,
+};
+
+/// The number of the resource that is observed: a sensor's value.
+const VALUE: u16 = 5700;
+
+/// In seconds.
+const LIFETIME: u32 = 300;
+
+impl SlotCall {
+    /// The cost of so many operations on one registration.
+    pub(crate) fn round<C: CpuClock>(
+        self,
+        clock: &C,
+        alloc: Global,
+        count: u32,
+    ) -> Result<Cost, BenchFault>
+        ensures { IfOk result (λ cost. cost.calls ≡ count) }
+    {
+        let mut slot = atom(alloc, operation(alloc, FIRST, update())?)?;
+        let start = clock.thread_cpu_time()?;
+        for place in 0..count {
+            let made = operation(alloc, stamp(place), self.what(place)?)?;
+            slot.join_with(atom(alloc, made)?)?;
+        }
+        Cost::since(clock, start, count, 0)
+    }
+
+    fn what(self, place: u32) -> Result<What, BenchFault> {
+        match self {
+            SlotCall::Update => Ok(update()),
+            SlotCall::Observe => Ok(What::Observe {
+                path: path(place)?,
+                accept: None,
+            }),
+        }
+    }
+}
+
+/// Stamps rise with their places.
+fn stamp(place: u32) -> Stamp {
+    Stamp {
+        counter: u64::from(place) + 2,
+        node: 1,
+    }
+}
+
+fn operation(alloc: Global, stamp: Stamp, what: What) -> Result<Op, BenchFault> {
+    let text = Text::copy_of(alloc, ENDPOINT)?;
+    Ok(Op {
+        stamp,
+        endpoint: Endpoint::new(text).ok_or(BenchFault::Unexpected)?,
+        reg: FIRST,
+        what,
+    })
+}
+
+fn update() -> What {
+    What::Update {
+        address: SOURCE,
+        seen: Moment::START,
+        lifetime: Some(LIFETIME),
+        binding: None,
+        sms: None,
+        objects: None,
+    }
+}
+
+/// The path of a place: paths rise with their places.
+fn path(place: u32) -> Result<Path, BenchFault> {
+    let number = place.saturating_mul(2);
+    let object = (number / 65_536) as u16;
+    let instance = (number % 65_536) as u16;
+    Path::new(&[object, instance, VALUE]).ok_or(BenchFault::Unexpected)
+}

@@ -1,0 +1,66 @@
+//! The table of all costs.
+
+use crate::fault::BenchFault;
+use crate::heap::measure_sizes;
+use crate::operation::{Operation, ROWS};
+use crate::row::row;
+
+/// How large a run is.
+#[derive(Clone, Copy)]
+pub(crate) struct Plan {
+    pub small: u32,
+    pub medium: u32,
+    /// Also how many of a thing are stored where memory is read.
+    pub large: u32,
+    /// How often a row is measured; the least time counts.
+    pub rounds: u32,
+}
+
+/// Each call a few times.
+pub(crate) const TRIAL: Plan = Plan {
+    small: 10,
+    medium: 10,
+    large: 10,
+    rounds: 2,
+};
+
+pub(crate) const FULL: Plan = Plan {
+    small: 1000,
+    medium: 10_000,
+    large: 100_000,
+    rounds: 7,
+};
+
+const HEADING: &str =
+    "nanoseconds of a call at three sizes, growth from size to size in hundredths, MB/s";
+
+/// The whole table. Memory comes first, while nothing that was freed is kept.
+pub(crate) fn table(rt: &HostRuntime, plan: Plan) -> Result<String, BenchFault> {
+    let mut text = sizes_text(rt, plan)?;
+    for (name, operation) in ROWS {
+        let row = row_text(rt, plan, name, operation)?;
+        text.push_str(row.as_str())?;
+    }
+    Ok(text)
+}
+
+fn sizes_text(rt: &HostRuntime, plan: Plan) -> Result<String, BenchFault> {
+    let sizes = measure_sizes(rt, rt.alloc(), plan.large)?;
+    let text = format!(in rt.alloc();
+        "bytes of a registration: {}\nbytes of a removed one: {}\nbytes of an index key: {}\n\n{HEADING}\n",
+        sizes.registration, sizes.removed, sizes.index_key
+    )?;
+    Ok(text)
+}
+
+fn row_text(
+    rt: &HostRuntime,
+    plan: Plan,
+    name: &str,
+    operation: Operation,
+) -> Result<String, BenchFault> {
+    let small = operation.least(rt, rt.alloc(), plan.small, plan.rounds)?;
+    let medium = operation.least(rt, rt.alloc(), plan.medium, plan.rounds)?;
+    let large = operation.least(rt, rt.alloc(), plan.large, plan.rounds)?;
+    Ok(row(rt.alloc(), name, small, medium, large)?)
+}
