@@ -1,6 +1,7 @@
 use lw_coap::Fault;
 use lw_delta::DeltaFault;
 use lw_link::LinkFault;
+use lw_node::MergeFault;
 use lw_stamp::NoMemory;
 use std::alloc::{AllocError, AllocFailed};
 use std::io;
@@ -53,6 +54,12 @@ impl From<LinkFault> for BenchFault {
 
 impl From<DeltaFault> for BenchFault {
     fn from(_fault: DeltaFault) -> BenchFault {
+        BenchFault::Unexpected
+    }
+}
+
+impl From<MergeFault> for BenchFault {
+    fn from(_fault: MergeFault) -> BenchFault {
         BenchFault::Unexpected
     }
 }

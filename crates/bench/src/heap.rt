@@ -14,7 +14,7 @@ use std::{fs, io};
 /// By how many bytes each of a kind lets the process grow, with names rising.
 #[derive(Clone, Copy)]
 pub(crate) struct Sizes {
-    /// In a node.
+    /// In a node, with all indexes.
     pub registration: u64,
     /// In a map as a node's.
     pub removed: u64,
@@ -34,7 +34,7 @@ pub(crate) fn measure_sizes<R: Files>(
 ) -> Result<Sizes, BenchFault> {
     let names = names(alloc, Order::Rising, count)?;
     let empty = resident(rt, alloc);
-    let _node = node_of(alloc, &names)?;
+    let _node = node_of(alloc, 1, &names)?;
     let with_node = resident(rt, alloc);
     let _slots = removals(alloc, &names)?;
     let with_slots = resident(rt, alloc);

@@ -5,6 +5,7 @@
 
 mod cost;
 mod deltas;
+mod exchange;
 mod fault;
 mod heap;
 mod indexes;

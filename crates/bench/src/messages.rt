@@ -1,6 +1,6 @@
 //! The Registers that are measured with, as clients send them.
 
-use lw_reg::Addr;
+use lw_stamp::Stamp;
 use std::alloc::AllocError;
 
 /// An object list of 72 bytes: the printing of ten links.
@@ -15,12 +15,6 @@ pub(crate) const EMPTY_QUERIES: u32 = 8000;
 
 /// The endpoint of what is measured by itself.
 pub(crate) const ENDPOINT: &str = "urn:dev:mac:0024be804ff1";
-
-/// Where each datagram comes from.
-pub(crate) const SOURCE: Addr = Addr::V4 {
-    address: [192, 0, 2, 1],
-    port: 5683,
-};
 
 /// A Register up to its endpoint of 24 bytes (RFC 7252, section 3).
 const BEFORE_NAME: &[u8] = &[
@@ -52,6 +46,14 @@ pub(crate) fn put_register(
     bytes.push(PAYLOAD_MARKER)?;
     bytes.extend_from_slice(OBJECTS)?;
     put_often(bytes, b",</3303/0>", links)
+}
+
+/// Puts the Update of a registration's lifetime in the place of what was there.
+pub(crate) fn put_update(bytes: &mut Vec<u8>, id: Stamp) -> Result<(), AllocError> {
+    bytes.clear();
+    bytes.extend_from_slice(b"\x40\x02\0\x01\xb2rd\x0d\x03")?;
+    bytes.extend_from_slice(&id.id_text())?;
+    bytes.extend_from_slice(b"\x46lt=300")
 }
 
 fn put_often(bytes: &mut Vec<u8>, part: &[u8], times: u32) -> Result<(), AllocError> {

@@ -4,10 +4,10 @@ ghost use Rattle.std.specs.Prelude.{◌≡◌, IfOk};
 
 use crate::cost::Cost;
 use crate::fault::BenchFault;
-use crate::messages::{SOURCE, put_register};
+use crate::messages::{put_register, put_update};
 use crate::names::{Order, names};
-use lw_node::Node;
-use lw_stamp::Moment;
+use lw_node::{Addr, Node, Path};
+use lw_stamp::{Moment, Stamp};
 use std::alloc::Global;
 use std::time::CpuClock;
 
@@ -21,12 +21,19 @@ pub(crate) struct NodeCalls {
     pub call: NodeCall,
 }
 
-/// A call with a name.
+/// A call with a name, or with the stamp of the operation that had the same place among the first.
 #[derive(Clone, Copy)]
 pub(crate) enum NodeCall {
     /// Of a Register.
     Take,
+    /// Of an Update.
+    Update,
+    Observe,
+    ById,
     ByEndpoint,
+    ByAddress,
+    /// At a node that observes a path of each.
+    ByToken,
     FirstAfter,
 }
 
@@ -48,50 +55,96 @@ impl NodeCalls {
     }
 
     fn node(self, alloc: Global, count: u32) -> Result<Node, BenchFault> {
-        match self.known {
-            None => Ok(Node::new(alloc, 1)),
-            Some(order) => node_of(alloc, &names(alloc, order, count)?),
+        let Some(order) = self.known else {
+            return Ok(Node::new(alloc, 1));
+        };
+        let names = names(alloc, order, count)?;
+        let mut node = node_of(alloc, 1, &names)?;
+        if let NodeCall::ByToken = self.call {
+            make_all(alloc, &mut node, NodeCall::Observe, &names)?;
         }
+        Ok(node)
     }
 }
 
-/// A node that knows these endpoints.
-pub(crate) fn node_of(alloc: Global, names: &[String]) -> Result<Node, BenchFault> {
-    let mut node = Node::new(alloc, 1);
+/// A node that knows these endpoints, each at an address of its own.
+pub(crate) fn node_of(alloc: Global, number: u16, names: &[String]) -> Result<Node, BenchFault> {
+    let mut node = Node::new(alloc, number);
     make_all(alloc, &mut node, NodeCall::Take, names)?;
     Ok(node)
 }
 
 /// Makes the call with each name; all but one must find something. Behind the last endpoint there is none.
-fn make_all(
+pub(crate) fn make_all(
     alloc: Global,
     node: &mut Node,
     call: NodeCall,
     names: &[String],
 ) -> Result<(), BenchFault> {
     let mut datagram = Vec::new(alloc);
+    let mut place = 0_u32;
     let mut has_last = false;
     for name in names {
-        let is_found = call.make(node, &mut datagram, name.as_str())?;
+        let is_found = call.make(node, &mut datagram, name.as_str(), place)?;
         if !is_found && has_last {
             return Err(BenchFault::Unexpected);
         }
         has_last |= !is_found;
+        place = place.wrapping_add(1);
     }
     Ok(())
 }
 
+/// The stamp of the operation with this place, from 0, behind so many others, at node 1.
+fn stamp_at(before: u64, place: u32) -> Result<Stamp, BenchFault> {
+    let counter = before.saturating_add(u64::from(place)).saturating_add(1);
+    let [_, _, a, b, c, d, e, f] = counter.to_be_bytes();
+    Stamp::from_bytes([a, b, c, d, e, f, 0, 1]).ok_or(BenchFault::Unexpected)
+}
+
+/// Where the device of this place sends from.
+fn source_at(place: u32) -> Addr {
+    Addr::V4 {
+        address: place.to_be_bytes(),
+        port: 5683,
+    }
+}
+
 impl NodeCall {
     /// Whether there was an answer.
-    fn make(self, node: &mut Node, datagram: &mut Vec<u8>, name: &str) -> Result<bool, BenchFault> {
+    fn make(
+        self,
+        node: &mut Node,
+        datagram: &mut Vec<u8>,
+        name: &str,
+        place: u32,
+    ) -> Result<bool, BenchFault> {
+        let now = Moment::START;
+        let source = source_at(place);
         match self {
             NodeCall::Take => {
                 put_register(datagram, name, 0, 0)?;
-                let taken = node.take(Moment::START, SOURCE, datagram)?;
-                Ok(taken.reply.is_some())
+                Ok(node.take(now, source, datagram)?.reply.is_some())
             }
-            NodeCall::ByEndpoint => Ok(node.by_endpoint(Moment::START, name).is_some()),
-            NodeCall::FirstAfter => Ok(node.first_after(Moment::START, Some(name)).is_some()),
+            NodeCall::Update => {
+                put_update(datagram, stamp_at(0, place)?)?;
+                Ok(node.take(now, source, datagram)?.reply.is_some())
+            }
+            NodeCall::Observe => observe(node, stamp_at(0, place)?),
+            NodeCall::ById => Ok(node.by_id(now, stamp_at(0, place)?).is_some()),
+            NodeCall::ByEndpoint => Ok(node.by_endpoint(now, name).is_some()),
+            NodeCall::ByAddress => Ok(node.by_address(now, source).is_some()),
+            NodeCall::ByToken => {
+                let token = stamp_at(node.clock() / 2, place)?;
+                Ok(node.by_token(now, token).is_some())
+            }
+            NodeCall::FirstAfter => Ok(node.first_after(now, Some(name)).is_some()),
         }
     }
+}
+
+/// Observes the device's path of the registration.
+fn observe(node: &mut Node, id: Stamp) -> Result<bool, BenchFault> {
+    let path = Path::new(&[3, 0]).ok_or(BenchFault::Unexpected)?;
+    Ok(node.observe(Moment::START, id, path, None, 1).is_ok())
 }

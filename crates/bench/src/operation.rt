@@ -2,6 +2,7 @@ ghost use Rattle.std.specs.Prelude.{◌≡◌, IfOk};
 
 use crate::cost::Cost;
 use crate::deltas::DeltaCall;
+use crate::exchange::ExchangeCall;
 use crate::fault::BenchFault;
 use crate::indexes::IndexCall;
 use crate::names::Order;
@@ -15,6 +16,7 @@ use std::time::CpuClock;
 #[derive(Clone, Copy)]
 pub(crate) enum Operation {
     Node(NodeCalls),
+    Exchange(ExchangeCall),
     Slot(SlotCall),
     Delta(DeltaCall),
     Index(IndexCall),
@@ -25,7 +27,7 @@ pub(crate) enum Operation {
 const LONG_CALLS: u32 = 1000;
 
 /// What is measured and its name, in the order of the table.
-pub(crate) const ROWS: [(&str, Operation); 17] = [
+pub(crate) const ROWS: [(&str, Operation); 24] = [
     (
         "take of a new Register, names rising",
         Operation::Node(NodeCalls {
@@ -51,6 +53,46 @@ pub(crate) const ROWS: [(&str, Operation); 17] = [
         }),
     ),
     (
+        "take of an Update",
+        Operation::Node(NodeCalls {
+            known: Some(Order::Scattered),
+            names: Order::Scattered,
+            call: NodeCall::Update,
+        }),
+    ),
+    (
+        "observe",
+        Operation::Node(NodeCalls {
+            known: Some(Order::Scattered),
+            names: Order::Scattered,
+            call: NodeCall::Observe,
+        }),
+    ),
+    (
+        "by_id",
+        Operation::Node(NodeCalls {
+            known: Some(Order::Scattered),
+            names: Order::Scattered,
+            call: NodeCall::ById,
+        }),
+    ),
+    (
+        "by_address",
+        Operation::Node(NodeCalls {
+            known: Some(Order::Scattered),
+            names: Order::Scattered,
+            call: NodeCall::ByAddress,
+        }),
+    ),
+    (
+        "by_token",
+        Operation::Node(NodeCalls {
+            known: Some(Order::Scattered),
+            names: Order::Scattered,
+            call: NodeCall::ByToken,
+        }),
+    ),
+    (
         "by_endpoint",
         Operation::Node(NodeCalls {
             known: Some(Order::Scattered),
@@ -73,6 +115,14 @@ pub(crate) const ROWS: [(&str, Operation); 17] = [
             names: Order::Rising,
             call: NodeCall::FirstAfter,
         }),
+    ),
+    (
+        "delta_since, each of 32 slots that changed",
+        Operation::Exchange(ExchangeCall::DeltaSince),
+    ),
+    (
+        "merge, each of 32 slots that changed",
+        Operation::Exchange(ExchangeCall::Merge),
     ),
     (
         "an Update made and joined",
@@ -122,6 +172,7 @@ impl Operation {
     {
         match self {
             Operation::Node(call) => call.round(clock, alloc, count),
+            Operation::Exchange(call) => call.round(clock, alloc, count),
             Operation::Slot(call) => call.round(clock, alloc, count),
             Operation::Delta(call) => call.round(clock, alloc, count),
             Operation::Index(call) => call.round(clock, alloc, count),

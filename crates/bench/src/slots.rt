@@ -4,9 +4,9 @@ ghost use Rattle.std.specs.Prelude.{◌≡◌, IfOk};
 
 use crate::cost::Cost;
 use crate::fault::BenchFault;
-use crate::messages::{ENDPOINT, SOURCE};
+use crate::messages::ENDPOINT;
 use lw_join::Join;
-use lw_reg::{Endpoint, Op, Path, Slot, Text, What, atom};
+use lw_reg::{Addr, Endpoint, Op, Path, Slot, Text, What, atom};
 use lw_stamp::{Moment, Stamp};
 use std::alloc::Global;
 use std::time::CpuClock;
@@ -27,6 +27,12 @@ pub(crate) const FIRST: Stamp = Stamp {
 
 /// The number of the resource that is observed: a sensor's value.
 const VALUE: u16 = 5700;
+
+/// Where each Update comes from.
+const SOURCE: Addr = Addr::V4 {
+    address: [192, 0, 2, 1],
+    port: 5683,
+};
 
 /// In seconds.
 const LIFETIME: u32 = 300;

@@ -1,6 +1,6 @@
 -- The faults of `one`, each at its place.
 use Rattle.std.proofs.Common.{◌≡◌, ℕ, ◌⊎◌, List, ◌++◌, Option, Some, None, Result, Ok, Err, refl, sym, ap, subst, ◌∙◌, inl, inr}
-use Rattle.std.specs.Prelude.{IfSome, OnErr, IsOkUnless}
+use Rattle.std.specs.Prelude.{IfSome, OnErr, OnOk, IsOkUnless}
 use Rattle.fleet.specs.declared.fault.OneFault.{OneFault}
 use Rattle.fleet.specs.declared.fault.OneFault.TheVariants.{AddressRefused, ReadFailed, TooLong, HexRefused, WriteFailed, NoMemory}
 use Rattle.fleet.specs.One.{IsAddressText}
@@ -45,3 +45,7 @@ of_writing (Err e) h k = let same = error_is e AddressRefused k in cc
 pub failed_front : (r : Result Unit OneFault) (e : OneFault) (P : Type 0) → OnErr r P → r ≡ Err e → P
 failed_front (Ok x) e P h k = absurd cc
 failed_front (Err f) e P h k = h
+
+pub on_ok : {T E : Type 0} (r : Result T E) (P Q : Type 0) → OnOk r P → (P → Q) → OnOk r Q
+on_ok (Ok x) P Q h f = f h
+on_ok (Err e) P Q h f = h

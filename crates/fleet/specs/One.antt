@@ -1,14 +1,15 @@
 -- What the program prints of one datagram that a new node takes.
-use Rattle.std.specs.Prelude.{◌≡◌, ◌<◌, ◌≤◌, ℕ, List, length, Option, None, Ok}
+use Rattle.std.specs.Prelude.{◌≡◌, ◌<◌, ◌≤◌, ℕ, List, [], length, Option, None, Ok}
+use Rattle.std.specs.Option.{option_to_list}
 use Rattle.hex.specs.Hex.{decode_of}
 use Rattle.lw_stamp.specs.Moment.{ms_of}
 use Rattle.lw_reg.specs.declared.addr.Addr.{Addr}
 use Rattle.lw_reg.specs.Addr.{addr_text, IsAddr}
 use Rattle.lw_reg.specs.Marks.{left_by}
 use Rattle.lw_reg.specs.Registration.{Registration}
-use Rattle.lw_node.specs.Answers.{FirstAfter}
-use Rattle.lw_node.specs.History.{History, begins}
-use Rattle.lw_node.specs.Meaning.{GoesOn}
+use Rattle.lw_table.specs.Answers.{FirstAfter}
+use Rattle.lw_node.specs.Calls.{TakenContent, Takes}
+use Rattle.lw_node.specs.Node.{NodeContent, fresh}
 use Rattle.fleet.specs.declared.command.OneOptions.{OneOptions}
 use Rattle.fleet.specs.Line.{line_of, longest_line}
 use Rattle.fleet.specs.Answer.{answer_text}
@@ -17,15 +18,15 @@ use Rattle.fleet.specs.Answer.{answer_text}
 abbrev pub IsAddressText : List ℕ → Type 0
 IsAddressText text = (address : Addr) × IsAddr address × (text ≡ addr_text address)
 
--- A new node takes the datagram at this moment from this address; the text is its reply, and the first
--- registration that is shown by the operation that it issued, if it did.
+-- A new node, which knows of no operation, takes the datagram at this moment from this address; the text is its
+-- reply, and the first registration that is then shown by the operation that it issued, if it did.
 pub record IsAnswered (number now : ℕ) (source : Addr) (datagram text : List ℕ) : Type 0 where
-  pub reply : Option (List ℕ)
-  pub past : History
+  pub taken : TakenContent
+  pub node : NodeContent
   pub shown : Option Registration
-  pub goes_on : GoesOn (begins number) now source datagram reply past
-  pub first : FirstAfter (left_by past.operations) now None shown
-  pub text_is : text ≡ answer_text reply shown
+  pub takes : Takes (fresh number) (left_by []) now source datagram taken node
+  pub first : FirstAfter (left_by (option_to_list takes.operation)) now None shown
+  pub text_is : text ≡ answer_text taken.reply shown
 
 -- the text is the answer to the datagram that the first line of the input spells in hex
 pub record IsPrinted (options : OneOptions) (input text : List ℕ) : Type 0 where

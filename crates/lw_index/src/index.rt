@@ -92,7 +92,8 @@ impl<K: Ord + Drop> Index<K> {
     /// The keys above the given one, or all, rising, each with its endpoints. It costs a descent, and what it
     /// gives.
     pub fn above(&self, after: Option<&K>) -> Above<'_, K>
-        ensures { result ≡ entries_above K.cmp (option_copied after.entry) self.now }
+        ensures entries { result ≡ entries_above K.cmp (option_copied after.entry) self.now }
+        ensures is_index { IsIndex K.cmp self.now }
     {
         let Some(key) = after else {
             return Above {

@@ -1,7 +1,8 @@
-pub mod Answers
-pub mod Slots
-pub mod Register
 pub mod Node
-pub mod History
-pub mod Meaning
-pub mod Run
+pub mod Effects
+pub mod Calls
+pub mod Observe
+pub mod Within
+pub mod Exchange
+pub mod Steps
+pub mod Laws

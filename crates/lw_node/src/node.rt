@@ -1,42 +1,47 @@
-ghost use Rattle.std.specs.Prelude.{◌≡◌, ◌≤◌, ℕ, List, [], IsOk, IfOk, OnErr, length};
+ghost use Rattle.std.specs.Prelude.{◌≡◌, ◌↔◌, ◌+◌, ◌-◌, ◌^◌, List, IsNone, IfSome, IsOk, IfOk, OnOk, OnErr, None, Err, Some};
 ghost use Rattle.lw_stamp.specs.Moment.{ms_of};
 ghost use Rattle.lw_reg.specs.Endpoint.{IsEndpoint};
 ghost use Rattle.lw_reg.specs.Marks.{Mark, among};
-ghost use Rattle.lw_reg.specs.Showing.{ShownOf};
-ghost use Rattle.lw_node.specs.Answers.{FirstAfter, after_text};
-ghost use Rattle.lw_node.specs.Node.{fresh, Knows};
-ghost use Rattle.lw_node.specs.Meaning.{Takes, TakesMessage, TakesRequest, TakesRegister, IsSilent, HasNoConfirmable, RepliesMalformed, IsMade};
+ghost use Rattle.lw_reg.specs.Reading.{shown_in};
+ghost use Rattle.lw_reg.specs.Registration.{Registration};
+ghost use Rattle.lw_reg.specs.declared.watch.Watch.{Watch as Watches};
+ghost use Rattle.lw_table.specs.LookUps.{ById, ByToken};
+ghost use Rattle.lw_node.specs.Calls.{Takes, IsSilent, Observes, Cancels};
+ghost use Rattle.lw_node.specs.Node.{fresh, Knows, Issued, IsAfter};
+ghost use Rattle.lw_node.specs.Within.{FitsClock, IsNextOf};
 
-use crate::register::{Asked, read_register};
-use crate::reply;
-use crate::role::Role;
-use crate::slots::Slots;
+use crate::command::Command;
+use crate::decision::Decision;
+use crate::observe_fault::ObserveFault;
+use crate::outgoing::Outgoing;
 use crate::taken::Taken;
-use lw_coap::{Fault, Kind, Message, codes, decode, peek_header};
-use lw_link::{LinkFault, LinkText};
-use lw_reg::{Addr, Binding, Endpoint, Op, Text, View, What};
+use lw_reg::{Addr, Endpoint, Op, Path, Text, atom};
 use lw_stamp::{Clock, Moment, NoMemory, Stamp};
+use lw_table::Table;
 use std::alloc::Global;
 use std::marker::Model;
 
 /// A server of the cluster: its number, its clock, and what it knows of each endpoint.
 #[derive(Drop)]
 pub struct Node {
-    alloc: Global,
-    number: u16,
-    clock: Clock,
-    slots: Slots,
+    pub(crate) alloc: Global,
+    pub(crate) number: u16,
+    pub(crate) clock: Clock,
+    pub(crate) table: Table,
 }
 
 impl Model for Node {
     ghost use Rattle.lw_stamp.specs.Clock.{counter_of};
-    ghost use Rattle.lw_node.specs.Node.{NodeContent, node_code};
+    ghost use Rattle.lw_node.specs.Node.{NodeContent, node_code, HasEndpoints};
+    ghost use Rattle.lw_node.specs.Within.{FitsClock};
 
     ghost Value = { NodeContent };
 
     ghost coded = { node_code };
 
-    ghost view = { λ n. record { number = n.number; clock = counter_of n.clock; state = n.slots } };
+    ghost view = { λ n. record { number = n.number; clock = counter_of n.clock; table = n.table } };
+
+    ghost invariant = { λ n. HasEndpoints n.table.state × FitsClock (counter_of n.clock) n.table.state };
 }
 
 impl Node {
@@ -48,156 +53,141 @@ impl Node {
             alloc,
             number,
             clock: Clock::new(),
-            slots: Slots::new(alloc),
+            table: Table::new(alloc),
         }
     }
 
     /// Takes a datagram that came at this moment from this address.
     ///
     /// `NoMemory` may come in place of any answer, save where bytes that are no message get no reply.
-    #[tactic(auto, using(crate::proofs::Effects::payload_fits))]
     pub fn take(&mut self, now: Moment, from: Addr, bytes: &[u8]) -> Result<Taken, NoMemory>
-        ensures meaning { IfOk result (λ t. Takes self.old (ms_of now) from bytes.now t.reply self.new) }
+        ensures read { IfOk result (λ t. Takes self.old (shown_in self.old.table.state) (ms_of now) from bytes.now t self.new) }
+        ensures marks { (ms : List Mark) → Knows self.old ms → IfOk result (λ t. Takes self.old (among ms) (ms_of now) from bytes.now t self.new) }
         ensures unchanged { OnErr result (self.new ≡ self.old) }
         ensures silent { IsSilent bytes.now → IsOk result }
     {
-        let alloc = self.alloc;
-        match decode(alloc, bytes) {
-            Ok(message) => self.take_message(now, from, &message),
-            Err(Fault::NoMemory) => Err(NoMemory),
-            Err(_) => malformed(alloc, bytes),
-        }
+        // The clock is read for what is known of it alone.
+        let _clock = self.clock;
+        let Decision {
+            reply,
+            notice,
+            operation,
+        } = self.decide(now, from, bytes)?;
+        self.commit(operation)?;
+        Ok(Taken { reply, notice })
     }
 
-    fn take_message(
+    /// Observes a path of the registration with the identifier, in the format that is accepted, if one is. The
+    /// observation takes the place of the one that the registration has on the path. The message ID is that of the
+    /// datagram, which is to be sent.
+    pub fn observe(
         &mut self,
         now: Moment,
-        from: Addr,
-        message: &Message,
-    ) -> Result<Taken, NoMemory>
-        requires token { length message.now.token ≤ 8 }
-        requires payload { length message.now.payload ≤ 8192 }
-        ensures meaning { IfOk result (λ t. TakesMessage self.old (ms_of now) from message.now t.reply self.new) }
+        id: Stamp,
+        path: Path,
+        accept: Option<u16>,
+        mid: u16,
+    ) -> Result<Outgoing, ObserveFault>
+        ensures read { Observes self.old (shown_in self.old.table.state) (ms_of now) id path accept mid result self.new }
+        ensures marks { (ms : List Mark) → Knows self.old ms → Observes self.old (among ms) (ms_of now) id path accept mid result self.new }
+        ensures not_found { (result ≡ Err ObserveFault.NotFound) ↔ ById (shown_in self.old.table.state) (ms_of now) id None }
+        ensures clock_end { (result ≡ Err ObserveFault.ClockEnd) ↔ ((self.old.clock ≡ 2 ^ 48 - 1) × ((r : Registration) × ById (shown_in self.old.table.state) (ms_of now) id (Some r))) }
         ensures unchanged { OnErr result (self.new ≡ self.old) }
     {
-        let alloc = self.alloc;
-        match Role::of(message.kind, message.code) {
-            Role::Ignored | Role::Unanswered => Ok(Taken { reply: None }),
-            Role::Ping => reply::reset(alloc, message.mid),
-            Role::Request => self.take_request(now, from, message),
-        }
+        // The clock is read for what is known of it alone.
+        let _clock = self.clock;
+        let Command {
+            outgoing,
+            operation,
+        } = self.decide_observe(now, id, path, accept, mid)?;
+        self.issue(operation)?;
+        Ok(outgoing)
     }
 
-    fn take_request(
-        &mut self,
-        now: Moment,
-        from: Addr,
-        request: &Message,
-    ) -> Result<Taken, NoMemory>
-        requires token { length request.now.token ≤ 8 }
-        requires payload { length request.now.payload ≤ 8192 }
-        ensures meaning { IfOk result (λ t. TakesRequest self.old (ms_of now) from request.now t.reply self.new) }
+    /// Ends the observation with the token. The message ID is that of the datagram, which is to be sent.
+    pub fn cancel(&mut self, now: Moment, token: Stamp, mid: u16) -> Result<Outgoing, ObserveFault>
+        ensures read { Cancels self.old (shown_in self.old.table.state) (ms_of now) token mid result self.new }
+        ensures marks { (ms : List Mark) → Knows self.old ms → Cancels self.old (among ms) (ms_of now) token mid result self.new }
+        ensures not_found { (result ≡ Err ObserveFault.NotFound) ↔ ByToken (shown_in self.old.table.state) (ms_of now) token None }
+        ensures clock_end { (result ≡ Err ObserveFault.ClockEnd) ↔ ((self.old.clock ≡ 2 ^ 48 - 1) × ((x : Registration × Watches) × ByToken (shown_in self.old.table.state) (ms_of now) token (Some x))) }
         ensures unchanged { OnErr result (self.new ≡ self.old) }
     {
-        let alloc = self.alloc;
-        let Some(asked) = read_register(request) else {
-            return reply::refusal(alloc, request, codes::BAD_REQUEST);
-        };
-        match LinkText::read(alloc, &request.payload) {
-            Ok(objects) => self.register(now, from, request, &asked, objects),
-            Err(LinkFault::NotText) => reply::refusal(alloc, request, codes::BAD_REQUEST),
-            Err(LinkFault::Grammar { .. }) => reply::refusal(alloc, request, codes::BAD_REQUEST),
-            Err(LinkFault::TooMany) => {
-                reply::refusal(alloc, request, codes::REQUEST_ENTITY_TOO_LARGE)
-            }
-            Err(LinkFault::NoMemory) => Err(NoMemory),
-        }
+        // The clock is read for what is known of it alone.
+        let _clock = self.clock;
+        let Command {
+            outgoing,
+            operation,
+        } = self.decide_cancel(now, token, mid)?;
+        self.issue(operation)?;
+        Ok(outgoing)
     }
 
-    /// Makes the operation and the reply first, so that a refusal changes nothing.
-    fn register(
-        &mut self,
-        now: Moment,
-        from: Addr,
-        request: &Message,
-        asked: &Asked<'_>,
-        objects: LinkText,
-    ) -> Result<Taken, NoMemory>
-        requires token { length request.now.token ≤ 8 }
-        requires endpoint { IsEndpoint asked.now.endpoint }
-        ensures meaning { IfOk result (λ t. TakesRegister self.old (ms_of now) from request.now asked.now objects t.reply self.new) }
-        ensures unchanged { OnErr result (self.new ≡ self.old) }
+    /// The number of the last operation that is known of. No stamp that can be read from the node is above it.
+    pub fn clock(&self) -> u64
+        ensures value { result ≡ self.now.clock }
+        ensures within { FitsClock result self.now.table.state }
     {
-        let alloc = self.alloc;
+        self.clock.counter()
+    }
+
+    /// What is known of the endpoints.
+    pub fn table(&self) -> &Table
+        ensures { result.now ≡ self.now.table }
+    {
+        &self.table
+    }
+
+    /// How often what is known of an endpoint has changed. It stays at the greatest number.
+    pub fn change(&self) -> u64
+        ensures { result ≡ self.now.table.count.change }
+    {
+        self.table.change()
+    }
+
+    /// The stamp of the next operation. There is none at the end of the clock.
+    pub(crate) fn next_stamp(&self) -> Option<Stamp>
+        ensures end { IsNone result ↔ (self.now.clock ≡ 2 ^ 48 - 1) }
+        ensures stamp { IfSome result (λ s. (s.counter ≡ self.now.clock + 1) × (s.node ≡ self.now.number)) }
+    {
         let mut clock = self.clock;
-        let Some(stamp) = clock.next(self.number) else {
-            return reply::refusal(alloc, request, codes::SERVICE_UNAVAILABLE);
-        };
-        let operation = make(alloc, stamp, now, from, asked, objects)?;
-        let taken = reply::created(alloc, request, &stamp)?;
-        self.slots.join(operation)?;
-        self.clock = clock;
-        Ok(taken)
+        clock.next(self.number)
     }
 
-    /// What is shown of the endpoint at this moment. A descent of a tree.
-    pub fn by_endpoint(&self, now: Moment, endpoint: &str) -> Option<View<'_>>
-        ensures { (ms : List Mark) → Knows self.now ms → ShownOf (among ms) (ms_of now) endpoint.now result }
+    /// Does what was decided. It is not done by halves.
+    pub(crate) fn commit(&mut self, operation: Option<Op>) -> Result<(), NoMemory>
+        requires { IfSome operation (IsNextOf self.old.clock) }
+        ensures left { OnOk result (IsAfter self.old operation self.new) }
+        ensures unchanged { OnErr result (self.new ≡ self.old) }
+        ensures calm { operation ≡ None → IsOk result }
     {
-        self.slots.view(now, endpoint)
+        match operation {
+            Some(operation) => self.issue(operation),
+            None => Ok(()),
+        }
     }
 
-    /// What is shown of the least endpoint above the given one by bytes, or of the least of all. A descent of a
-    /// tree where the given endpoint is known, and otherwise a walk from the first.
-    pub fn first_after(&self, now: Moment, after: Option<&str>) -> Option<View<'_>>
-        ensures { (ms : List Mark) → Knows self.now ms → FirstAfter (among ms) (ms_of now) (after_text after.entry) result }
+    /// Joins what the operation tells, and moves the clock.
+    pub(crate) fn issue(&mut self, operation: Op) -> Result<(), NoMemory>
+        requires { IsNextOf self.old.clock operation }
+        ensures issued { OnOk result (Issued self.old operation self.new) }
+        ensures unchanged { OnErr result (self.new ≡ self.old) }
     {
-        self.slots.first_shown(now, after)
+        let alloc = self.alloc;
+        let counter = operation.stamp.counter;
+        let endpoint = endpoint_of(alloc, operation.endpoint.as_str())?;
+        self.table.join(&endpoint, atom(alloc, operation)?)?;
+        self.clock.raise(counter);
+        Ok(())
     }
 }
 
-/// The reply to bytes that are no message.
-fn malformed(alloc: Global, bytes: &[u8]) -> Result<Taken, NoMemory>
-    ensures reply { IfOk result (λ t. RepliesMalformed bytes.now t.reply) }
-    ensures silent { HasNoConfirmable bytes.now → IsOk result }
+/// A copy of the name of a client.
+pub(crate) fn endpoint_of(alloc: Global, endpoint: &str) -> Result<Endpoint, NoMemory>
+    requires { IsEndpoint endpoint.now }
+    ensures { IfOk result (λ e. e ≡ endpoint.now) }
 {
-    let Some((kind, _, mid)) = peek_header(bytes) else {
-        return Ok(Taken { reply: None });
-    };
-    match kind {
-        Kind::Con => reply::reset(alloc, mid),
-        Kind::Non | Kind::Ack | Kind::Rst => Ok(Taken { reply: None }),
-    }
-}
-
-/// The Register of what is asked for.
-fn make(
-    alloc: Global,
-    stamp: Stamp,
-    now: Moment,
-    from: Addr,
-    asked: &Asked<'_>,
-    objects: LinkText,
-) -> Result<Op, NoMemory>
-    requires { IsEndpoint asked.now.endpoint }
-    ensures { IfOk result (λ made. IsMade asked.now objects stamp (ms_of now) from made) }
-{
-    let Some(endpoint) = Endpoint::new(Text::copy_of(alloc, asked.endpoint)?) else {
+    let Some(endpoint) = Endpoint::new(Text::copy_of(alloc, endpoint)?) else {
         unreachable!()
     };
-    Ok(Op {
-        stamp,
-        endpoint,
-        reg: stamp,
-        what: What::Register {
-            version: asked.version,
-            queue: false,
-            address: from,
-            seen: now,
-            lifetime: asked.lifetime,
-            binding: Binding::U,
-            sms: None,
-            objects,
-        },
-    })
+    Ok(endpoint)
 }

@@ -39,14 +39,14 @@ module _ (slot : Slot) (now : ℕ) where
   late_marks r h ms e s = subst (λ b. IsTrue b ↔ HasExpired (among ms) now e) (sym h) (expired_reads (among ms) e (s.0 e) slot (slot_tells ms e slot s) now)
 
   -- ---- watches
-  watches_rise : Rises path_cmp (watches_of slot)
+  pub watches_rise : Rises path_cmp (watches_of slot)
   watches_rise = go slot.registration.value
     where
       go : (x : OrGone Body) → Rises path_cmp (watches_of (slot_at slot.registration.stamp x))
       go Gone = tt
       go (Here b) = b.watches.rises
 
-  token_decides : (token : Stamp) (w : Watch) → (has_token token w ≡ true) ↔ (w.token ≡ token)
+  pub token_decides : (token : Stamp) (w : Watch) → (has_token token w ≡ true) ↔ (w.token ≡ token)
   token_decides token w = (λ h. let p = and_parts (nat_eq w.token.counter token.counter) (nat_eq w.token.node token.node) h in same_stamp w.token token (eqb-true _ _ p.0) (eqb-true _ _ p.1), λ e. alike w.token e)
     where
       alike : (t : Stamp) → t ≡ token → (nat_eq t.counter token.counter && nat_eq t.node token.node) ≡ true
@@ -55,7 +55,7 @@ module _ (slot : Slot) (now : ℕ) where
           both : t.counter ≡ token.counter → t.node ≡ token.node → (nat_eq t.counter token.counter && nat_eq t.node token.node) ≡ true
           both h k = grind (arith, nat_tests)
 
-  above_decides : (after : Option Path) (w : Watch) → (is_above after w ≡ true) ↔ IsAbove after w.path
+  pub above_decides : (after : Option Path) (w : Watch) → (is_above after w ≡ true) ↔ IsAbove after w.path
   above_decides None w = (λ h. tt, λ h. refl)
   above_decides (Some after) w = (λ h. is_Less (path_cmp after w.path) h, λ h. ap is_lt h)
 

@@ -62,14 +62,14 @@ pub states_decide : StatesDecide
 states_decide ms ns p q s g h = told_same (among ms) (among ns) p q s (told_by_state ms p s g) (told_by_state ns q s h)
 
 -- a state tells of the marks that can be read from it
-state_self : (s : State) → Tells (Holds (shown_in s)) s
+pub state_self : (s : State) → Tells (Holds (shown_in s)) s
 state_self s e = go (get s e)
   where
     go : (o : Option Slot) → OptionTells SlotTells (λ y. shown_by_option e o (mark_at (e, y))) o
     go None = λ y h. h
     go (Some slot) = slot_self e slot
 
-state_names : (s : State) → NamesAll (shown_in s)
+pub state_names : (s : State) → NamesAll (shown_in s)
 state_names s e r k h = go (get s e) h
   where
     go : (o : Option Slot) → Has (shown_by_option e o) e r k → Has (shown_by_option e o) e r Named

@@ -1,10 +1,11 @@
 use Rattle.std.proofs.Common.{◌≡◌, ℕ, List, length, sym, ap, subst, ◌∙◌, arith}
 use Rattle.std.proofs.lemmas.Result.{err_from_is_err_and}
+use Rattle.std.specs.Io.KnownBytes.{Appends}
 use Rattle.hex.specs.Hex.{decode_of}
 use Rattle.fleet.specs.declared.fault.OneFault.TheVariants.{WriteFailed}
 use Rattle.lw_stamp.specs.Moment.{ms_of}
 use Rattle.fleet.specs.One.{IsAddressText, IsAnswered}
-use Rattle.fleet.proofs.OneLemmas.{another_fault, no_fault, of_line, of_hex, of_memory, of_writing, failed_front, if_some}
+use Rattle.fleet.proofs.OneLemmas.{another_fault, no_fault, of_line, of_hex, of_memory, of_writing, failed_front, if_some, on_ok}
 use Rattle.fleet.proofs.one.one.Goals as goal
 
 pub returns-in_err-line-clause-address_refused : goal.returns-in_err-line-clause-address_refused
@@ -27,6 +28,23 @@ returns-in_err-text-clause-address_refused g c =
     let address : IsAddressText from = (c.in-Some.source, c.in-Some.ensures.in_range, c.in-Some.ensures.found) in
     let p = err_from_is_err_and c.from_residual-in_err-text.result c.from_residual-in_err-text.ensures.1 in
     another_fault c.from_residual-in_err-text.result p.0 from address p.1 (of_memory p.0 p.2)
+
+pub returns-clause-printed : goal.returns-clause-printed
+returns-clause-printed g c =
+    let text = c.in_ok-text.text.items in
+    on_ok c.write_text.result _ _ c.write_text.ensures.whole (λ written. if_some (g.R.Read.remaining c.args.reader.now) _ _ c.in_ok-line.ensures.line (λ bytes line_is. (
+      text,
+      record {
+        source = c.in-Some.source;
+        datagram = c.in_ok-datagram.datagram.items;
+        in_range = c.in-Some.ensures.in_range;
+        from_is = c.in-Some.ensures.found;
+        line_fits = omega (arith, ap length line_is, c.in_ok-line.ensures.fits);
+        spelled = ap decode_of (sym (c.deref.ensures.value ∙ line_is)) ∙ c.in_ok-datagram.ensures.bytes;
+        answered = subst (λ (datagram : List ℕ). IsAnswered c.args.options.now.node (ms_of c.args.options.now.now) c.in-Some.source datagram text) c.deref-2.ensures.value c.in_ok-text.ensures;
+      },
+      subst (Appends (g.W.Write.contents c.args.writer.now) (g.W.Write.contents c.write_text.new.writer)) c.deref-3.ensures.value written,
+    )))
 
 pub returns-clause-front : goal.returns-clause-front
 returns-clause-front g c = λ failed.

@@ -1,0 +1,12 @@
+use Rattle.std.proofs.Common.{refl}
+use Rattle.lw_node.specs.Calls.{place_at}
+use Rattle.lw_node.specs.Effects.{created}
+use Rattle.lw_node.proofs.Deciding.{decides_at_end, decides_issue}
+use Rattle.lw_node.proofs.node.Node.decide_register.Goals as goal
+
+pub returns-in_default : goal.returns-in_default
+returns-in_default c now = decides_at_end (place_at c.args.self.now now) c.args.request.now _ (created c.args.request.now) _ _ (c.in_default.ensures.end.0 refl) c.in_ok-reply.ensures c.reply.ensures
+
+pub returns : goal.returns
+returns c now = decides_issue (place_at c.args.self.now now) c.args.request.now _ (created c.args.request.now) _ _
+    (record { counter = c.in-Some.ensures.stamp.0; node = c.in-Some.ensures.stamp.1 }) (refl, refl, refl) c.in_ok-reply-2.ensures

@@ -1,0 +1,131 @@
+-- What the calls of a node give, and what they leave.
+use Rattle.std.specs.Prelude.{◌≡◌, ℕ, ◌+◌, List, Option, Some, None, Result, Ok, Err}
+use Rattle.lw_stamp.specs.declared.stamp.Stamp.{Stamp}
+use Rattle.lw_coap.specs.declared.fault.Fault.{Fault}
+use Rattle.lw_coap.specs.Faults.{IsFault}
+use Rattle.lw_coap.specs.Grammar.{IsSpelling}
+use Rattle.lw_coap.specs.Message.{MessageContent}
+use Rattle.lw_reg.specs.declared.addr.Addr.{Addr}
+use Rattle.lw_reg.specs.declared.op.Op.{Op}
+use Rattle.lw_reg.specs.declared.path.Path.{Path}
+use Rattle.lw_reg.specs.Marks.{Marks}
+use Rattle.lw_reg.specs.State.{State}
+use Rattle.lw_table.specs.LookUps.{ById, ByToken}
+use Rattle.lw_node.specs.declared.observe_fault.ObserveFault.{ObserveFault}
+use Rattle.lw_node.specs.declared.observe_fault.ObserveFault.TheVariants as faults
+use Rattle.lw_node.specs.Effects.{Place, Effect, NoticeContent, Request, Refused, HasNoConfirmable, MalformedMeans, DatagramMeans, ObserveMeans, CancelMeans}
+use Rattle.lw_node.specs.Effects.Refused.{NotFound, ClockEnd}
+use Rattle.lw_node.specs.Node.{NodeContent, Known, IsKnown, marks_in, IsAfter}
+
+-- what is given for a datagram: the reply's bytes or none, and a notice or none
+pub record TakenContent : Type 0 where
+  pub reply : Option (List ℕ)
+  pub notice : Option NoticeContent
+
+-- what is to be sent to a device
+pub record OutgoingContent : Type 0 where
+  pub to : Addr
+  pub token : Stamp
+  pub bytes : List ℕ
+
+-- what a datagram is to do
+pub record DecisionContent : Type 0 where
+  pub reply : Option (List ℕ)
+  pub notice : Option NoticeContent
+  pub operation : Option Op
+
+-- what a command is to do
+pub record CommandContent : Type 0 where
+  pub outgoing : OutgoingContent
+  pub operation : Op
+
+abbrev pub place_at : NodeContent → ℕ → Place
+place_at node now = record { number = node.number; clock = node.clock; now = now }
+
+-- the reply's bytes spell its message
+abbrev pub IsReply : Option (List ℕ) → Option MessageContent → Type 0
+IsReply None None = Unit {0}
+IsReply (Some bytes) (Some message) = IsSpelling bytes message
+IsReply (Some bytes) None = ⊥
+IsReply None (Some message) = ⊥
+
+-- ---- a datagram
+-- A reply that is spelled so, the notice and the operation are together what is meant.
+pub record Decides (Meant : Effect → Type 0) (d : DecisionContent) : Type 0 where
+  pub reply : Option MessageContent
+  pub meant : Meant (record { reply = reply; notice = d.notice; operation = d.operation })
+  pub replied : IsReply d.reply reply
+
+-- it is decided so over each set of marks that the state is known from
+abbrev pub Decided : State → (Marks → Effect → Type 0) → DecisionContent → Type 0
+Decided state Meant d = (known : Known) → IsKnown state known → Decides (Meant (marks_in state known)) d
+
+-- What is given, and the node afterwards, are those of an effect that is meant.
+pub record TakesSo (Meant : Effect → Type 0) (old : NodeContent) (taken : TakenContent) (new : NodeContent) : Type 0 where
+  pub reply : Option MessageContent
+  pub operation : Option Op
+  pub meant : Meant (record { reply = reply; notice = taken.notice; operation = operation })
+  pub replied : IsReply taken.reply reply
+  pub left : IsAfter old operation new
+
+-- the node, of which these marks tell, takes a datagram
+abbrev pub Takes : NodeContent → Marks → ℕ → Addr → List ℕ → TakenContent → NodeContent → Type 0
+Takes old M now source bytes taken new = TakesSo (DatagramMeans (place_at old now) M source bytes) old taken new
+
+-- the bytes spell no message, and no reply is owed
+abbrev pub IsSilent : List ℕ → Type 0
+IsSilent bytes = ((fault : Fault) × IsFault bytes fault) × HasNoConfirmable bytes
+
+-- the reply to bytes that spell no message
+pub record RepliesMalformed (bytes : List ℕ) (reply : Option (List ℕ)) : Type 0 where
+  pub message : Option MessageContent
+  pub meant : MalformedMeans bytes (record { reply = message; notice = None; operation = None })
+  pub replied : IsReply reply message
+
+-- nothing is decided, and nothing given
+abbrev pub silence : DecisionContent
+silence = record { reply = None; notice = None; operation = None }
+
+-- ---- a command
+-- what is sent is the request, spelled
+pub record IsSent (outgoing : OutgoingContent) (request : Request) : Type 0 where
+  pub to : outgoing.to ≡ request.to
+  pub token : outgoing.token ≡ request.token
+  pub bytes : IsSpelling outgoing.bytes request.message
+
+pub record Commands (Meant : Result (Request × Op) Refused → Type 0) (c : CommandContent) : Type 0 where
+  pub request : Request
+  pub meant : Meant (Ok (request, c.operation))
+  pub sent : IsSent c.outgoing request
+
+-- a request and an operation that are meant; or a refusal that is; or want of memory, in place of the former
+abbrev pub CommandsOr : (Result (Request × Op) Refused → Type 0) → Result CommandContent ObserveFault → Type 0
+CommandsOr Meant (Ok c) = Commands Meant c
+CommandsOr Meant (Err faults.NotFound) = Meant (Err NotFound)
+CommandsOr Meant (Err faults.ClockEnd) = Meant (Err ClockEnd)
+CommandsOr Meant (Err faults.NoMemory) = (request : Request) × (operation : Op) × Meant (Ok (request, operation))
+
+abbrev pub Commanded : State → (Marks → Result (Request × Op) Refused → Type 0) → Result CommandContent ObserveFault → Type 0
+Commanded state Meant r = (known : Known) → IsKnown state known → CommandsOr (Meant (marks_in state known)) r
+
+-- What is sent, and the node afterwards, are those of an outcome that is meant. A refusal and want of memory,
+-- which comes only in place of what is sent, leave the node as it was.
+pub record Sends (Meant : Result (Request × Op) Refused → Type 0) (old : NodeContent) (outgoing : OutgoingContent) (new : NodeContent) : Type 0 where
+  pub request : Request
+  pub operation : Op
+  pub meant : Meant (Ok (request, operation))
+  pub sent : IsSent outgoing request
+  pub left : IsAfter old (Some operation) new
+
+abbrev pub Sent : (Result (Request × Op) Refused → Type 0) → NodeContent → Result OutgoingContent ObserveFault → NodeContent → Type 0
+Sent Meant old (Ok outgoing) new = Sends Meant old outgoing new
+Sent Meant old (Err faults.NotFound) new = Meant (Err NotFound) × (new ≡ old)
+Sent Meant old (Err faults.ClockEnd) new = Meant (Err ClockEnd) × (new ≡ old)
+Sent Meant old (Err faults.NoMemory) new = ((request : Request) × (operation : Op) × Meant (Ok (request, operation))) × (new ≡ old)
+
+-- a node, of which these marks tell, observes a path, or ends an observation
+abbrev pub Observes : NodeContent → Marks → ℕ → Stamp → Path → Option ℕ → ℕ → Result OutgoingContent ObserveFault → NodeContent → Type 0
+Observes old M now id path accept mid result new = Sent (ObserveMeans (place_at old now) M id path accept mid) old result new
+
+abbrev pub Cancels : NodeContent → Marks → ℕ → Stamp → ℕ → Result OutgoingContent ObserveFault → NodeContent → Type 0
+Cancels old M now token mid result new = Sent (CancelMeans (place_at old now) M token mid) old result new

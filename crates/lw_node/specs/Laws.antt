@@ -1,0 +1,102 @@
+-- What follows from what an operation leaves: it comes after all that the node knows, so that what it wrote is
+-- read back, and a Register ends what was before.
+use Rattle.std.specs.Prelude.{◌≡◌, ℕ, ◌+◌, Bool, List, Option, Some, None, Contains}
+use Rattle.lw_stamp.specs.declared.moment.Moment.{Moment}
+use Rattle.lw_stamp.specs.declared.stamp.Stamp.{Stamp}
+use Rattle.lw_stamp.specs.Moment.{ms_of}
+use Rattle.lw_reg.specs.declared.addr.Addr.{Addr}
+use Rattle.lw_reg.specs.declared.binding.Binding.{Binding}
+use Rattle.lw_reg.specs.declared.op.Op.{Op}
+use Rattle.lw_reg.specs.declared.op.What.{What}
+use Rattle.lw_reg.specs.declared.op.What.TheVariants.{Register, Update, Remove, Observe, Cancel}
+use Rattle.lw_reg.specs.declared.path.Path.{Path}
+use Rattle.lw_reg.specs.declared.version.Version.{Version}
+use Rattle.lw_reg.specs.Marks.{Has, left_by, all_marks}
+use Rattle.lw_reg.specs.Marks.Trace.{Watched}
+use Rattle.lw_reg.specs.Reading.{shown_in}
+use Rattle.lw_reg.specs.Registration.{Registration}
+use Rattle.lw_reg.specs.Showing.{IsComplete, IsShown, ShownOf, queue_of}
+use Rattle.lw_reg.specs.State.{IsStateOf}
+use Rattle.lw_table.specs.LookUps.{ById, ByToken}
+use Rattle.lw_node.specs.Node.{NodeContent, Issued}
+use Rattle.lw_node.specs.Within.{FitsClock}
+
+-- an operation that a node issues, whose clock is above all that it knows
+pub record Follows (old : NodeContent) (op : Op) (new : NodeContent) : Type 0 where
+  pub fits : FitsClock old.clock old.table.state
+  pub next : op.stamp.counter ≡ old.clock + 1
+  pub issued : Issued old op new
+
+-- ---- read back
+-- what is shown of a Register
+abbrev pub registered : List ℕ → Stamp → What → Option Registration
+registered endpoint id (Register version queue address seen lifetime binding sms objects) = Some (record {
+  endpoint = endpoint;
+  id = id;
+  address = address;
+  seen = seen;
+  lifetime = lifetime;
+  version = version;
+  binding = binding;
+  queue = queue_of (record { version = version; queue = queue }) binding;
+  sms = sms;
+  objects = objects;
+})
+registered endpoint id _ = None
+
+-- a Register is shown at its moment as it was written
+abbrev pub RegistersReadBack : Type 0
+RegistersReadBack =
+    (old new : NodeContent) (op : Op) → Follows old op new → op.reg ≡ op.stamp → (r : Registration) → registered op.endpoint op.stamp op.what ≡ Some r
+    → ShownOf (shown_in new.table.state) (ms_of r.seen) op.endpoint (Some r)
+
+-- the value that is written, or else the one before
+abbrev pub or_before : {V : Type 0} → Option V → V → V
+or_before None before = before
+or_before (Some value) before = value
+
+-- a number that is written, or else the one before, if there was one
+abbrev pub or_kept : {V : Type 0} → Option V → Option V → Option V
+or_kept None before = before
+or_kept (Some value) before = Some value
+
+-- the registration, with what an Update writes; a binding that it does not write leaves the queue mode
+pub record IsUpdated (before : Registration) (address : Addr) (seen : Moment) (lifetime : Option ℕ) (binding : Option Binding) (sms objects : Option (List ℕ)) (r : Registration) : Type 0 where
+  pub endpoint : r.endpoint ≡ before.endpoint
+  pub id : r.id ≡ before.id
+  pub address_is : r.address ≡ address
+  pub seen_is : r.seen ≡ seen
+  pub lifetime_is : r.lifetime ≡ or_before lifetime before.lifetime
+  pub version : r.version ≡ before.version
+  pub binding_is : r.binding ≡ or_before binding before.binding
+  pub queue : binding ≡ None → r.queue ≡ before.queue
+  pub sms_is : r.sms ≡ or_kept sms before.sms
+  pub objects_is : r.objects ≡ or_before objects before.objects
+
+-- an Update of what is shown is shown at its moment as it was written
+abbrev pub UpdatesReadBack : Type 0
+UpdatesReadBack =
+    (old new : NodeContent) (op : Op) → Follows old op new → (now : ℕ) (before : Registration) → IsShown (shown_in old.table.state) now before
+    → op.endpoint ≡ before.endpoint → op.reg ≡ before.id
+    → (address : Addr) (seen : Moment) (lifetime : Option ℕ) (binding : Option Binding) (sms objects : Option (List ℕ)) → op.what ≡ Update address seen lifetime binding sms objects
+    → (r : Registration) × IsUpdated before address seen lifetime binding sms objects r × ShownOf (shown_in new.table.state) (ms_of seen) op.endpoint (Some r)
+
+-- ---- a Register ends what was before
+abbrev pub IsRegister : What → Type 0
+IsRegister (Register version queue address seen lifetime binding sms objects) = Unit {0}
+IsRegister _ = ⊥
+
+-- no two operations have one stamp, and a Register is about the registration with its own
+pub record WellStamped (os : List Op) : Type 0 where
+  pub one : (a b : Op) → Contains os a → Contains os b → a.stamp ≡ b.stamp → a ≡ b
+  pub own : (o : Op) → Contains os o → IsRegister o.what → o.reg ≡ o.stamp
+
+-- The former identifier of the endpoint answers none after a Register, nor do the tokens that were watched under
+-- it, where the endpoint was complete before, in the state of a well stamped set.
+abbrev pub RegistersEndTheFormer : Type 0
+RegistersEndTheFormer =
+    (os : List Op) → WellStamped os → (old new : NodeContent) (op : Op) → Follows old op new → IsStateOf (all_marks os) old.table.state
+    → IsRegister op.what → op.reg ≡ op.stamp → (former : Registration) → IsComplete (left_by os) former → former.endpoint ≡ op.endpoint
+    → (now : ℕ)
+    → ById (shown_in new.table.state) now former.id None
+    × ((path : Path) (token : Stamp) (accept : Option ℕ) → Has (left_by os) former.endpoint former.id (Watched path token accept) → ByToken (shown_in new.table.state) now token None)

@@ -1,0 +1,42 @@
+-- A node's clock is at or above each counter that the node can read from what it knows.
+use Rattle.std.specs.Prelude.{◌≡◌, ℕ, ◌+◌, ◌≤◌}
+use Rattle.lw_reg.specs.declared.op.Op.{Op}
+use Rattle.lw_reg.specs.declared.op.What.{What}
+use Rattle.lw_reg.specs.declared.op.What.TheVariants.{Cancel}
+use Rattle.lw_reg.specs.Marks.{Trace, Mark}
+use Rattle.lw_reg.specs.Marks.Trace.{Named, Based, AddressAt, SeenAt, LifetimeAt, BindingAt, SmsAt, ObjectsAt, Removed, Watched, Cancelled}
+use Rattle.lw_reg.specs.Reading.{shown_in}
+use Rattle.lw_reg.specs.State.{State}
+
+-- no write and no token is above the clock
+abbrev pub TraceWithin : ℕ → Trace → Type 0
+TraceWithin clock Named = Unit {0}
+TraceWithin clock (Based base) = Unit {0}
+TraceWithin clock (AddressAt s v) = s.counter ≤ clock
+TraceWithin clock (SeenAt s v) = s.counter ≤ clock
+TraceWithin clock (LifetimeAt s v) = s.counter ≤ clock
+TraceWithin clock (BindingAt s v) = s.counter ≤ clock
+TraceWithin clock (SmsAt s v) = s.counter ≤ clock
+TraceWithin clock (ObjectsAt s v) = s.counter ≤ clock
+TraceWithin clock Removed = Unit {0}
+TraceWithin clock (Watched path token accept) = token.counter ≤ clock
+TraceWithin clock (Cancelled path token) = token.counter ≤ clock
+
+-- nor is the registration
+abbrev pub MarkWithin : ℕ → Mark → Type 0
+MarkWithin clock m = (m.registration.counter ≤ clock) × TraceWithin clock m.trace
+
+-- no mark that can be read from the state has a stamp above the clock
+abbrev pub FitsClock : ℕ → State → Type 0
+FitsClock clock state = (m : Mark) → shown_in state m → MarkWithin clock m
+
+-- a watch that is cancelled has a token that is not above the clock
+abbrev pub TokenWithin : ℕ → What → Type 0
+TokenWithin clock (Cancel path token) = token.counter ≤ clock
+TokenWithin clock _ = Unit {0}
+
+-- the operation has the next number of the clock, and speaks of nothing that comes later
+pub record IsNextOf (clock : ℕ) (op : Op) : Type 0 where
+  pub next : op.stamp.counter ≡ clock + 1
+  pub registration : op.reg.counter ≤ clock + 1
+  pub token : TokenWithin clock op.what

@@ -1,0 +1,18 @@
+use crate::outgoing::Outgoing;
+use lw_reg::Op;
+use std::marker::Model;
+
+/// What a command is to do, of which nothing is done yet.
+#[derive(Debug, Drop)]
+pub(crate) struct Command {
+    pub(crate) outgoing: Outgoing,
+    pub(crate) operation: Op,
+}
+
+impl Model for Command {
+    ghost use Rattle.lw_node.specs.Calls.{CommandContent};
+
+    ghost Value = { CommandContent };
+
+    ghost view = { λ c. record { outgoing = c.outgoing; operation = c.operation } };
+}

@@ -1,0 +1,22 @@
+//! Laws of a node, each the contract of a function that does nothing.
+
+ghost use Rattle.lw_node.specs.Exchange.{DeltasBringTheRest};
+ghost use Rattle.lw_node.specs.Laws.{RegistersReadBack, UpdatesReadBack, RegistersEndTheFormer};
+
+/// What a Register or an Update wrote is read back at its moment.
+pub fn writes_are_read_back()
+    ensures registers { RegistersReadBack }
+    ensures updates { UpdatesReadBack }
+{}
+
+/// After a Register nothing answers to the former identifier of the endpoint, nor to the tokens that were watched
+/// under it.
+pub fn registers_end_the_former()
+    ensures { RegistersEndTheFormer }
+{}
+
+/// A delta since a change number, joined to a state that has at least each slot of the sender that did not move
+/// since, gives what the sender's whole state would.
+pub fn deltas_bring_the_rest()
+    ensures { DeltasBringTheRest }
+{}

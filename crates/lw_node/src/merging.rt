@@ -1,0 +1,57 @@
+//! Deltas of other nodes.
+
+ghost use Rattle.std.specs.Prelude.{◌≡◌, ◌↔◌, ℕ, [], List, IsOk, Err};
+ghost use Rattle.std.specs.List.Sorted.{IsStrictlySortedBy};
+ghost use Rattle.lw_stamp.specs.TextOrder.{text_cmp};
+ghost use Rattle.lw_delta.specs.declared.fault.DeltaFault.{DeltaFault as Faults};
+ghost use Rattle.lw_delta.specs.Delta.{DeltaContent, IsSpelling, IsFault};
+ghost use Rattle.lw_node.specs.Exchange.{Merges, IsLeastOfBoth, known_by, known_from, JoinsSlots};
+
+use crate::merge_fault::MergeFault;
+use crate::node::Node;
+use lw_delta::{check, read};
+use lw_reg::{Endpoint, Slot};
+use lw_table::Table;
+
+impl Node {
+    /// Merges a delta: the clock becomes the greater of both, and the slots are joined. The answer is how many
+    /// slots the delta has.
+    pub fn merge(&mut self, bytes: &[u8]) -> Result<usize, MergeFault>
+        ensures merges { Merges self.old bytes.now result self.new }
+        ensures malformed { (fault : Faults) → (result ≡ Err (MergeFault.Malformed fault)) ↔ IsFault bytes.now fault }
+        // What is known afterwards is the least that is above both.
+        ensures least { (d : DeltaContent) → IsSpelling bytes.now d → IsOk result → IsLeastOfBoth (known_by self.old) (known_from d) (known_by self.new) }
+        // A delta without slots takes no memory.
+        ensures none { (clock : ℕ) → IsSpelling bytes.now (record { clock = clock; slots = [] }) → IsOk result }
+    {
+        // The change number is at most the last one.
+        let _change = self.change();
+        let clock = match check(bytes) {
+            Ok(clock) => clock,
+            Err(fault) => return Err(MergeFault::Malformed(fault)),
+        };
+        self.clock.raise(clock);
+        match read(self.alloc, bytes) {
+            Ok(delta) => join_slots(&mut self.table, delta.slots),
+            Err(_) => Err(MergeFault::NoMemory { joined: 0 }),
+        }
+    }
+}
+
+/// Joins slots to those of their endpoints, which rise.
+fn join_slots(table: &mut Table, slots: Vec<(Endpoint, Slot)>) -> Result<usize, MergeFault>
+    requires { IsStrictlySortedBy (λ x y. text_cmp x.0 y.0) slots.items }
+    ensures { JoinsSlots table.old slots.items result table.new }
+{
+    // The change number is at most the last one.
+    let _change = table.change();
+    let count = slots.len();
+    let mut joined = 0;
+    for (endpoint, slot) in slots {
+        if table.join(&endpoint, slot).is_err() {
+            return Err(MergeFault::NoMemory { joined });
+        }
+        joined += 1;
+    }
+    Ok(count)
+}

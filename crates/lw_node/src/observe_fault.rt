@@ -1,0 +1,23 @@
+use lw_stamp::NoMemory;
+
+/// Why a path is not observed, or an observation not ended. Of several the first is given.
+#[derive(Clone, Copy, Debug, PartialEq, Eq)]
+pub enum ObserveFault {
+    /// No registration with the identifier is shown, or no watch with the token lives.
+    NotFound,
+    /// No stamp is left.
+    ClockEnd,
+    /// A growth was refused.
+    NoMemory,
+}
+
+impl From<NoMemory> for ObserveFault {
+    ghost use Rattle.std.specs.Prelude.{◌≡◌};
+    ghost use Rattle.lw_node.specs.declared.observe_fault.ObserveFault.TheVariants.{NoMemory as WantOfMemory};
+
+    ghost from_gives = { λ _ fault. fault ≡ WantOfMemory };
+
+    fn from(_error: NoMemory) -> ObserveFault {
+        ObserveFault::NoMemory
+    }
+}

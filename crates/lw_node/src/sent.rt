@@ -1,0 +1,18 @@
+use std::marker::Model;
+
+/// What a node sends of its state.
+#[derive(Debug, Drop)]
+pub struct Sent {
+    /// The bytes of the delta.
+    pub delta: Vec<u8>,
+    /// The change number that a later delta is asked for since.
+    pub change: u64,
+}
+
+impl Model for Sent {
+    ghost use Rattle.lw_node.specs.Exchange.{SentContent};
+
+    ghost Value = { SentContent };
+
+    ghost view = { λ s. record { delta = s.delta.items; change = s.change } };
+}

@@ -1,0 +1,172 @@
+//! What a datagram is to do.
+
+ghost use Rattle.std.specs.Prelude.{◌≡◌, ◌≤◌, ◌<◌, ◌⊎◌, ℕ, IfOk, IfSome, Ok, length};
+ghost use Rattle.lw_stamp.specs.Moment.{ms_of};
+ghost use Rattle.lw_reg.specs.Endpoint.{IsEndpoint};
+ghost use Rattle.lw_reg.specs.declared.op.What.{What as Whats};
+ghost use Rattle.lw_node.specs.Calls.{place_at, Decided, Decides, IsSilent, silence};
+ghost use Rattle.lw_node.specs.Effects.{DatagramMeans, MessageMeans, Issues, IsNamed, NamedChanges, created};
+ghost use Rattle.lw_node.specs.Node.{Known, IsKnown, marks_in};
+
+use crate::answering::{answered, malformed, rejected, reset_to};
+use crate::decision::Decision;
+use crate::node::{Node, endpoint_of};
+use lw_coap::codes::{CHANGED, CREATED, DELETED, NOT_FOUND, SERVICE_UNAVAILABLE};
+use lw_coap::{Fault, Kind, Message, decode};
+use lw_reg::{Addr, Endpoint, Op, View, What};
+use lw_request::{Asked, understand};
+use lw_stamp::{Moment, NoMemory, Stamp};
+
+impl Node {
+    /// What a datagram that came at this moment from this address is to do.
+    pub(crate) fn decide(&self, now: Moment, from: Addr, bytes: &[u8]) -> Result<Decision, NoMemory>
+        ensures meaning { IfOk result (Decided self.now.table.state (λ M. DatagramMeans (place_at self.now (ms_of now)) M from bytes.now)) }
+        ensures silent { IsSilent bytes.now → result ≡ Ok silence }
+    {
+        match decode(self.alloc, bytes) {
+            Ok(message) => self.decide_message(now, from, &message),
+            Err(fault) => match fault {
+                Fault::NoMemory => Err(NoMemory),
+                _ => Ok(Decision::reply(malformed(self.alloc, bytes)?)),
+            },
+        }
+    }
+
+    fn decide_message(
+        &self,
+        now: Moment,
+        from: Addr,
+        message: &Message,
+    ) -> Result<Decision, NoMemory>
+        requires { length message.now.token ≤ 8 }
+        ensures { IfOk result (Decided self.now.table.state (λ M. MessageMeans (place_at self.now (ms_of now)) M from message.now)) }
+    {
+        let alloc = self.alloc;
+        match understand(alloc, message)? {
+            Asked::Register {
+                endpoint,
+                version,
+                queue,
+                lifetime,
+                binding,
+                sms,
+                objects,
+            } => {
+                let what = What::Register {
+                    version,
+                    queue,
+                    address: from,
+                    seen: now,
+                    lifetime,
+                    binding,
+                    sms,
+                    objects,
+                };
+                self.decide_register(message, endpoint, what)
+            }
+            Asked::Update {
+                id,
+                lifetime,
+                binding,
+                sms,
+                objects,
+            } => {
+                let what = What::Update {
+                    address: from,
+                    seen: now,
+                    lifetime,
+                    binding,
+                    sms,
+                    objects,
+                };
+                self.decide_change(now, message, id, what, CHANGED)
+            }
+            Asked::Deregister { id } => {
+                self.decide_change(now, message, id, What::Remove, DELETED)
+            }
+            Asked::Report(report) => self.decide_report(now, report),
+            Asked::Ping => Ok(Decision::reply(reset_to(alloc, message.mid)?)),
+            Asked::Refuse(refusal) => {
+                let reply = answered(alloc, message, refusal.code(), None)?;
+                Ok(Decision::reply(reply))
+            }
+            Asked::Reject => {
+                let reply = rejected(alloc, message.kind, message.mid)?;
+                Ok(Decision::reply(reply))
+            }
+            Asked::Ignore => Ok(Decision::reply(None)),
+        }
+    }
+
+    /// A Register is answered with its location.
+    fn decide_register(
+        &self,
+        request: &Message,
+        endpoint: Endpoint,
+        what: What,
+    ) -> Result<Decision, NoMemory>
+        requires kind { (request.now.kind ≡ Kind.Con) ⊎ (request.now.kind ≡ Kind.Non) }
+        requires token { length request.now.token ≤ 8 }
+        ensures { (now : ℕ) → IfOk result (Decides (Issues (place_at self.now now) request.now (λ op. (op.endpoint ≡ endpoint) × (op.reg ≡ op.stamp) × (op.what ≡ what)) (created request.now))) }
+    {
+        let Some(stamp) = self.next_stamp() else {
+            let reply = answered(self.alloc, request, SERVICE_UNAVAILABLE, None)?;
+            return Ok(Decision::reply(reply));
+        };
+        let reply = answered(self.alloc, request, CREATED, Some(stamp))?;
+        Ok(Decision {
+            reply,
+            notice: None,
+            operation: Some(Op {
+                stamp,
+                endpoint,
+                reg: stamp,
+                what,
+            }),
+        })
+    }
+
+    /// A request on a registration is answered with the code, where the registration is shown.
+    fn decide_change(
+        &self,
+        now: Moment,
+        request: &Message,
+        id: Option<Stamp>,
+        what: What,
+        code: u8,
+    ) -> Result<Decision, NoMemory>
+        requires kind { (request.now.kind ≡ Kind.Con) ⊎ (request.now.kind ≡ Kind.Non) }
+        requires token { length request.now.token ≤ 8 }
+        requires code { 0 < code }
+        ensures { IfOk result (Decided self.now.table.state (λ M. NamedChanges (place_at self.now (ms_of now)) M request.now id (λ w. w ≡ what) code)) }
+    {
+        let Some(view) = self.named(now, id) else {
+            let reply = answered(self.alloc, request, NOT_FOUND, None)?;
+            return Ok(Decision::reply(reply));
+        };
+        let Some(stamp) = self.next_stamp() else {
+            let reply = answered(self.alloc, request, SERVICE_UNAVAILABLE, None)?;
+            return Ok(Decision::reply(reply));
+        };
+        let endpoint = endpoint_of(self.alloc, view.endpoint)?;
+        let reply = answered(self.alloc, request, code, None)?;
+        Ok(Decision {
+            reply,
+            notice: None,
+            operation: Some(Op {
+                stamp,
+                endpoint,
+                reg: view.id,
+                what,
+            }),
+        })
+    }
+
+    /// The shown registration that a request names, if it names one.
+    fn named(&self, now: Moment, id: Option<Stamp>) -> Option<View<'_>>
+        ensures found { (known : Known) → IsKnown self.now.table.state known → IsNamed (marks_in self.now.table.state known) (ms_of now) id result }
+        ensures endpoint { IfSome result (λ r. IsEndpoint r.endpoint) }
+    {
+        self.table.by_id(now, id?)
+    }
+}

@@ -1,0 +1,168 @@
+//! Calls as values.
+
+use super::*;
+
+fn bytes(alloc: Global, datagram: &str) -> Result<Bytes, Fail> {
+    Ok(Bytes::from_vec(hex::decode(alloc, datagram)?)?)
+}
+
+fn text(alloc: Global, text: &str) -> Result<Text, Fail> {
+    Ok(Text::copy_of(alloc, text).map_err(|_| "a text")?)
+}
+
+fn take(alloc: Global, port: u16, datagram: &str) -> Result<Call, Fail> {
+    Ok(Call::Take {
+        now: Moment::START,
+        from: host(port),
+        bytes: bytes(alloc, datagram)?,
+    })
+}
+
+fn observe(text: &str, numbers: &[u16], accept: Option<u16>, mid: u16) -> Result<Call, Fail> {
+    Ok(Call::Observe {
+        now: Moment::START,
+        id: id(text)?,
+        path: path(numbers)?,
+        accept,
+        mid,
+    })
+}
+
+fn cancel(now: u64, token: &str) -> Result<Call, Fail> {
+    Ok(Call::Cancel {
+        now: at(now)?,
+        token: id(token)?,
+        mid: 7,
+    })
+}
+
+fn merge(alloc: Global, delta: &str) -> Result<Call, Fail> {
+    Ok(Call::Merge {
+        bytes: bytes(alloc, delta)?,
+    })
+}
+
+/// Commands, of which some differ in one part alone.
+fn command_at(alloc: Global, place: usize) -> Result<Call, Fail> {
+    let second = "0000000000020001";
+    match place {
+        0 => take(alloc, 5683, REGISTER),
+        1 => take(alloc, 5684, REGISTER),
+        2 => take(alloc, 5684, REGISTER_B),
+        3 => observe(second, &[3, 0], None, 7),
+        4 => observe(second, &[3, 0, 9], None, 7),
+        5 => observe(second, &[3, 0], Some(0), 8),
+        6 => observe(ID, &[3, 0], None, 7),
+        7 => cancel(0, second),
+        8 => cancel(0, "0000000000050001"),
+        9 => cancel(1, "0000000000050001"),
+        10 => Ok(Call::Send { since: 0 }),
+        11 => Ok(Call::Send { since: 1 }),
+        12 => merge(alloc, "4c57443100000000000000"),
+        _ => merge(alloc, ""),
+    }
+}
+
+fn question_at(alloc: Global, place: usize) -> Result<Question, Fail> {
+    let (second, third) = (id("0000000000020001")?, id("0000000000030001")?);
+    match place {
+        0 => Ok(Question::ById(second)),
+        1 => Ok(Question::ById(third)),
+        2 => Ok(Question::ByEndpoint(text(alloc, "a")?)),
+        3 => Ok(Question::ByEndpoint(text(alloc, "b")?)),
+        4 => Ok(Question::ByAddress(host(5683))),
+        5 => Ok(Question::ByAddress(host(5684))),
+        6 => Ok(Question::ByToken(second)),
+        7 => Ok(Question::ByToken(third)),
+        8 => Ok(Question::WatchAfter {
+            id: second,
+            after: None,
+        }),
+        9 => Ok(Question::WatchAfter {
+            id: second,
+            after: Some(path(&[3, 0])?),
+        }),
+        10 => Ok(Question::FirstAfter(None)),
+        11 => Ok(Question::FirstAfter(Some(text(alloc, "a")?))),
+        12 => Ok(Question::ExpiredAfter(None)),
+        13 => Ok(Question::ExpiredAfter(Some(text(alloc, "a")?))),
+        _ => Ok(Question::Change),
+    }
+}
+
+const COMMANDS: usize = 14;
+
+const CALLS: usize = COMMANDS + 15;
+
+/// Calls of each kind, no two of equal content.
+fn call_at(alloc: Global, place: usize) -> Result<Call, Fail> {
+    if place < COMMANDS {
+        return command_at(alloc, place);
+    }
+    Ok(Call::Ask {
+        now: Moment::START,
+        question: question_at(alloc, place - COMMANDS)?,
+    })
+}
+
+/// Whether the copy of one call is the same as the other.
+fn copy_is_same(alloc: Global, place: usize, other: usize) -> Result<bool, Fail> {
+    let (call, other) = (call_at(alloc, place)?, call_at(alloc, other)?);
+    match call.copy(alloc) {
+        Ok(copy) => Ok(copy.same(&other)),
+        Err(_) => Err("no memory".into()),
+    }
+}
+
+#[test]
+fn a_copy_is_the_same_as_its_call_alone(rt: HostRuntime) -> Result<(), Fail> {
+    for place in 0..CALLS {
+        for other in 0..CALLS {
+            let is_same = copy_is_same(rt.alloc(), place, other)?;
+            assert!(rt; is_same == (place == other), "{place} and {other}");
+        }
+    }
+    Ok(())
+}
+
+/// Whether a call gives at one node twice what it gives at the other.
+fn acts_alike(once: &mut Node, twice: &mut Node, call: &Call) -> bool {
+    let reply = once.act(call);
+    let (first, second) = twice.act_twice(call);
+    reply.same(&first) && reply.same(&second)
+}
+
+/// Two Registers of `a` and one of `b`, three observations, one of which replaces another, and the end of one.
+const AFTER_CALLS: [Row<'static>; 3] = [
+    (
+        ByEndpoint(0, "a"),
+        "a 0000000000020001 127.0.0.1:5684 0 86400 false 1.0 U no number </>",
+    ),
+    (
+        WatchAfter("0000000000020001", None),
+        "a 0000000000060001 [3, 0] Some(0)",
+    ),
+    (Numbers, "7 7"),
+];
+
+#[test]
+fn a_call_made_twice_gives_what_it_gives_once(rt: HostRuntime) -> Result<(), Fail> {
+    let (mut once, mut twice) = (Node::new(rt.alloc(), 1), Node::new(rt.alloc(), 1));
+    for place in 0..CALLS {
+        let call = call_at(rt.alloc(), place)?;
+        assert!(rt; acts_alike(&mut once, &mut twice, &call), "{place}");
+    }
+    play(rt.alloc(), &mut once, &AFTER_CALLS)?;
+    play(rt.alloc(), &mut twice, &AFTER_CALLS)
+}
+
+#[test]
+fn replies_differ_where_their_content_does(rt: HostRuntime) -> Result<(), Fail> {
+    let mut node = Node::new(rt.alloc(), 1);
+    let register = take(rt.alloc(), 5683, REGISTER)?;
+    let first = node.act(&register);
+    // the second has another location
+    let (second, again) = node.act_twice(&register);
+    assert!(rt; second.same(&again) && !second.same(&first));
+    Ok(())
+}

@@ -1,0 +1,82 @@
+-- What each look-up of a table finds is the answer over the marks that can be read from its state, and over every
+-- set of marks whose state it is.
+use Rattle.std.proofs.Common.{◌≡◌, ℕ, List, Option, Some, None}
+use Rattle.std.specs.Prelude.{Contains}
+use Rattle.std.specs.FinMap.{get}
+use Rattle.std.specs.List.Sorted.{IsStrictlySortedBy}
+use Rattle.lw_stamp.specs.declared.stamp.Stamp.{Stamp}
+use Rattle.lw_stamp.specs.TextOrder.{text_cmp}
+use Rattle.lw_index.specs.Index.{endpoints_of}
+use Rattle.lw_reg.specs.declared.addr.Addr.{Addr}
+use Rattle.lw_reg.specs.declared.path.Path.{Path}
+use Rattle.lw_reg.specs.declared.slot.Slot.{Slot}
+use Rattle.lw_reg.specs.declared.watch.Watch.{Watch}
+use Rattle.lw_reg.specs.Marks.{Mark, Marks, NamesAll, among}
+use Rattle.lw_reg.specs.Reading.{has_token, is_above, live_watch, shown_in}
+use Rattle.lw_reg.specs.Registration.{Registration}
+use Rattle.lw_reg.specs.Showing.{ShownOf}
+use Rattle.lw_reg.specs.State.{State, IsStateOf}
+use Rattle.lw_table.specs.declared.key.Key.{Key}
+use Rattle.lw_table.specs.declared.key.Key.TheVariants.{Id, Address, Token}
+use Rattle.lw_table.specs.Answers.{FirstAfter}
+use Rattle.lw_table.specs.Found.{view_at, watch_at, holder_at, expired_at, if_after, first_of, last_of, holder_of, with_watch}
+use Rattle.lw_table.specs.Keys.{key_cmp}
+use Rattle.lw_table.specs.LookUps.{ById, ByAddress, ByToken, WatchOfIdAfter, ExpiredAfter}
+use Rattle.lw_table.specs.Table.{TableContent, IsTable}
+use Rattle.lw_table.proofs.LookUpLemmas as answers
+
+module _ (state : State) (now : ℕ) where
+  pub read_by_endpoint : (e : List ℕ) (o : Option Registration) → o ≡ view_at now state e → ShownOf (shown_in state) now e o
+  read_by_endpoint = answers.by_endpoint (shown_in state) (answers.read_names state) state (answers.read_tells state) now
+
+  pub marks_by_endpoint : (e : List ℕ) (o : Option Registration) → o ≡ view_at now state e → (ms : List Mark) → NamesAll (among ms) → IsStateOf ms state → ShownOf (among ms) now e o
+  marks_by_endpoint e o h ms p s = answers.by_endpoint (among ms) p state (answers.marks_tell ms p state s) now e o h
+
+module _ (names : List (List ℕ)) (keys : List (Key × List (List ℕ))) (numbers : List (ℕ × List (List ℕ))) (t : TableContent) (table : IsTable names keys numbers t) (now : ℕ) where
+  -- a set that the state tells of has the answer
+  module _ (after : Option (List ℕ)) (rise : IsStrictlySortedBy text_cmp names) where
+    pub read_first_after : (o : Option Registration) → o ≡ first_of (if_after after (view_at now t.state)) names → FirstAfter (shown_in t.state) now after o
+    read_first_after = answers.first_after (shown_in t.state) (answers.read_names t.state) t.state (answers.read_tells t.state) now names rise table.names_are after
+
+    pub marks_first_after : (o : Option Registration) → o ≡ first_of (if_after after (view_at now t.state)) names → (ms : List Mark) → NamesAll (among ms) → IsStateOf ms t.state → FirstAfter (among ms) now after o
+    marks_first_after o h ms p s = answers.first_after (among ms) p t.state (answers.marks_tell ms p t.state s) now names rise table.names_are after o h
+
+    pub read_expired_after : (o : Option (List ℕ × Stamp)) → o ≡ first_of (if_after after (expired_at now t.state)) names → ExpiredAfter (shown_in t.state) now after o
+    read_expired_after = answers.expired_after (shown_in t.state) (answers.read_names t.state) t.state (answers.read_tells t.state) now names rise table.names_are after
+
+    pub marks_expired_after : (o : Option (List ℕ × Stamp)) → o ≡ first_of (if_after after (expired_at now t.state)) names → (ms : List Mark) → NamesAll (among ms) → IsStateOf ms t.state → ExpiredAfter (among ms) now after o
+    marks_expired_after o h ms p s = answers.expired_after (among ms) p t.state (answers.marks_tell ms p t.state s) now names rise table.names_are after o h
+
+  abbrev Filed : Key → List (List ℕ)
+  Filed = endpoints_of key_cmp keys
+
+  pub read_by_id : (id : Stamp) → IsStrictlySortedBy text_cmp (Filed (Id id)) → (o : Option Registration) → o ≡ first_of (view_at now t.state) (Filed (Id id)) → ById (shown_in t.state) now id o
+  read_by_id = answers.by_id (shown_in t.state) (answers.read_names t.state) t.state (answers.read_tells t.state) now keys table.keys_are
+
+  pub marks_by_id : (id : Stamp) → IsStrictlySortedBy text_cmp (Filed (Id id)) → (o : Option Registration) → o ≡ first_of (view_at now t.state) (Filed (Id id)) → (ms : List Mark) → NamesAll (among ms) → IsStateOf ms t.state → ById (among ms) now id o
+  marks_by_id id rise o h ms p s = answers.by_id (among ms) p t.state (answers.marks_tell ms p t.state s) now keys table.keys_are id rise o h
+
+  pub read_by_token : (token : Stamp) → IsStrictlySortedBy text_cmp (Filed (Token token)) → (o : Option (Registration × Watch)) → o ≡ first_of (watch_at (has_token token) now t.state) (Filed (Token token)) → ByToken (shown_in t.state) now token o
+  read_by_token = answers.by_token (shown_in t.state) (answers.read_names t.state) t.state (answers.read_tells t.state) now keys table.keys_are
+
+  pub marks_by_token : (token : Stamp) → IsStrictlySortedBy text_cmp (Filed (Token token)) → (o : Option (Registration × Watch)) → o ≡ first_of (watch_at (has_token token) now t.state) (Filed (Token token)) → (ms : List Mark) → NamesAll (among ms) → IsStateOf ms t.state → ByToken (among ms) now token o
+  marks_by_token token rise o h ms p s = answers.by_token (among ms) p t.state (answers.marks_tell ms p t.state s) now keys table.keys_are token rise o h
+
+  pub read_by_address : (address : Addr) → IsStrictlySortedBy text_cmp (Filed (Address address)) → (o : Option (Stamp × Registration)) → o ≡ last_of (holder_at now t.state) None (Filed (Address address)) → ByAddress (shown_in t.state) now address (holder_of o)
+  read_by_address = answers.by_address (shown_in t.state) (answers.read_names t.state) t.state (answers.read_tells t.state) now keys table.keys_are
+
+  pub marks_by_address : (address : Addr) → IsStrictlySortedBy text_cmp (Filed (Address address)) → (o : Option (Stamp × Registration)) → o ≡ last_of (holder_at now t.state) None (Filed (Address address)) → (ms : List Mark) → NamesAll (among ms) → IsStateOf ms t.state → ByAddress (among ms) now address (holder_of o)
+  marks_by_address address rise o h ms p s = answers.by_address (among ms) p t.state (answers.marks_tell ms p t.state s) now keys table.keys_are address rise o h
+
+module _ (state : State) (now : ℕ) (id : Stamp) (after : Option Path) where
+  abbrev WatchesOf : Registration → Option (Registration × Watch) → Type 0
+  WatchesOf r o = (slot : Slot) → get state r.endpoint ≡ Some slot → o ≡ with_watch r (live_watch (is_above after) now slot)
+
+  pub no_watch : (M : Marks) → ById M now id None → WatchOfIdAfter M now id after None
+  no_watch M none = λ r h. absurd (none r h.fits)
+
+  pub read_watch_of : (r : Registration) → ById (shown_in state) now id (Some r) → (o : Option (Registration × Watch)) → WatchesOf r o → WatchOfIdAfter (shown_in state) now id after o
+  read_watch_of = answers.watch_of_shown (shown_in state) (answers.read_names state) state (answers.read_tells state) now id after
+
+  pub marks_watch_of : (r : Registration) (o : Option (Registration × Watch)) → WatchesOf r o → (ms : List Mark) → NamesAll (among ms) → IsStateOf ms state → ById (among ms) now id (Some r) → WatchOfIdAfter (among ms) now id after o
+  marks_watch_of r o is ms p s g = answers.watch_of_shown (among ms) p state (answers.marks_tell ms p state s) now id after r g o is

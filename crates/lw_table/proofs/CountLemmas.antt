@@ -1,0 +1,113 @@
+-- How a count goes on where one slot moves, or none.
+use Rattle.std.proofs.Common.{◌≡◌, ◌≢◌, ◌↔◌, ◌⊎◌, inl, inr, ℕ, zero, suc, ◌+◌, ◌≤◌, Bool, true, false, cond, List, [], ◌∷◌, Option, Some, None, refl, sym, ap, ◌∙◌, subst, arith}
+use Rattle.std.specs.Prelude.{Contains, String, bytes_eq, min, slice_get}
+use Rattle.std.specs.Option.{IsSomeAnd}
+use Rattle.std.specs.BTreeMap.{BTreeMap, get_by_text}
+use Rattle.std.specs.Cmp.Lexicographic.{bytes_decides}
+use Rattle.std.specs.FinMap.{get}
+use Rattle.std.specs.Ordering.{eq_by_cmp}
+use Rattle.std.proofs.lemmas.Map.Views.{tells_apart}
+use Rattle.lw_stamp.specs.TextOrder.{text_cmp}
+use Rattle.lw_index.proofs.TextLemmas.{nothing_rises, one_rises}
+use Rattle.lw_join.specs.Maps.{one_key}
+use Rattle.lw_join.specs.Options.{option_join}
+use Rattle.lw_join.proofs.MapLemmas.{get-map_join, get-one_key, maps_alike}
+use Rattle.lw_reg.specs.OrderLaws.{text_order}
+use Rattle.lw_reg.specs.declared.slot.Slot.{Slot}
+use Rattle.lw_reg.specs.Slot.{slot_below, slot_join}
+use Rattle.lw_reg.specs.SlotLaws.{slot_laws}
+use Rattle.lw_reg.specs.State.{State, state_join}
+use Rattle.lw_reg.proofs.Members.{none_there, first_there, there_or_first}
+use Rattle.lw_table.specs.Changes.{Count, LAST, Recounts, counted}
+use Rattle.lw_table.specs.Filed.{slot_of, number_of}
+use Rattle.lw_table.specs.Moves.{next_row}
+use Rattle.lw_table.specs.Rows.{state_in, numbers_in}
+use Rattle.lw_table.specs.Turning.{joined_with}
+use Rattle.lw_table.specs.declared.row.Row.{Row}
+use Rattle.lw_table.proofs.TableLemmas.{get-state, get-number, same_or_not}
+
+one_slot : (a b : Slot) → ◌≡◌ {A = Option Slot} (Some a) (Some b) → a ≡ b
+one_slot a b h = ap of h
+  where
+    of : Option Slot → Slot
+    of None = a
+    of (Some x) = x
+
+news_moves : (o : Option Slot) (slot : Slot) → (IsSomeAnd o (slot_below slot) → ⊥) → o ≡ Some (joined_with o slot) → ⊥
+news_moves None slot news h = cc
+news_moves (Some s) slot news h = news (subst (slot_below slot) (sym (one_slot s (slot_join s slot) h)) (slot_laws.above_right s slot))
+
+pub recount_none : (state : State) (count : Count) → count.change ≤ LAST → Recounts state state count count
+recount_none state count last = record {
+  moved = [];
+  rising = nothing_rises;
+  all = λ e. (λ h. none_there e h, λ moves. absurd (moves refl));
+  change = stays count.change last;
+  numbered = λ i e h. absurd (let bad = h in cc);
+  kept = λ e h. refl;
+}
+  where
+    stays : (n : ℕ) → n ≤ LAST → n ≡ counted n 0
+    stays n h = omega arith
+
+module _ {Z : Type 0} (m n : BTreeMap (String Z) Row) (e0 : List ℕ) (slot : Slot) (number change : ℕ)
+    (at : (e : List ℕ) → get_by_text n e ≡ cond (bytes_eq e0 e) (Some (next_row (get_by_text m e0) slot number)) (get_by_text m e)) where
+  row_here : (e : List ℕ) → bytes_eq e0 e ≡ true → get_by_text n e ≡ Some (next_row (get_by_text m e0) slot number)
+  row_here e h = at e ∙ ap (λ b. cond b (Some (next_row (get_by_text m e0) slot number)) (get_by_text m e)) h
+
+  row_apart : (e : List ℕ) → bytes_eq e0 e ≡ false → get_by_text n e ≡ get_by_text m e
+  row_apart e h = at e ∙ ap (λ b. cond b (Some (next_row (get_by_text m e0) slot number)) (get_by_text m e)) h
+
+  state_apart : (e : List ℕ) → bytes_eq e0 e ≡ false → get (state_in m.entries) e ≡ get (state_in n.entries) e
+  state_apart e h = get-state m e ∙ ap slot_of (sym (row_apart e h)) ∙ sym (get-state n e)
+
+  pub recount_one : (IsSomeAnd (get (state_in m.entries) e0) (slot_below slot) → ⊥) → number ≡ counted change 1
+      → Recounts (state_in m.entries) (state_in n.entries) (record { change = change; numbers = numbers_in m.entries }) (record { change = number; numbers = numbers_in n.entries })
+  recount_one news is = record {
+    moved = e0 ∷ [];
+    rising = one_rises e0;
+    all = λ e. (
+      λ h. elim (there_or_first e0 [] e h) [ inl same ↦ (λ still. moves (subst (λ k. get (state_in m.entries) k ≡ get (state_in n.entries) k) same still)) | inr none ↦ none_there e none ],
+      λ other. same_or_not e0 e (λ t same. first_there e0 [] e (sym same)) (λ f apart. absurd (other (state_apart e f))),
+    );
+    change = is;
+    numbered = numbers;
+    kept = λ e h. same_or_not e0 e
+        (λ t same. absurd (moves (subst (λ k. get (state_in m.entries) k ≡ get (state_in n.entries) k) (sym same) h)))
+        (λ f apart. get-number n e ∙ ap number_of (row_apart e f) ∙ sym (get-number m e));
+  }
+    where
+      own : bytes_eq e0 e0 ≡ true
+      own = (bytes_decides e0 e0).1 refl
+
+      moves : get (state_in m.entries) e0 ≡ get (state_in n.entries) e0 → ⊥
+      moves still =
+          news_moves (slot_of (get_by_text m e0)) slot (λ below. news (subst (λ o. IsSomeAnd o (slot_below slot)) (sym (get-state m e0)) below))
+          (sym (get-state m e0) ∙ still ∙ get-state n e0 ∙ ap slot_of (row_here e0 own))
+
+      numbers : (i : ℕ) (e : List ℕ) → slice_get (e0 ∷ []) i ≡ Some e → get (numbers_in n.entries) e ≡ Some (counted change (i + 1))
+      numbers zero e h =
+          let same : e0 ≡ e = cc in
+          get-number n e ∙ ap number_of (row_here e ((bytes_decides e0 e).1 same)) ∙ ap Some is
+      numbers (suc i) e h = absurd (let bad = h in cc)
+
+known_slot : (o : Option Slot) (slot : Slot) → IsSomeAnd o (slot_below slot) → o ≡ option_join slot_join o (Some slot)
+known_slot None slot h = absurd h
+known_slot (Some s) slot h = ap Some (slot_laws.antisymmetric s (slot_join s slot) (slot_laws.above_left s slot) (slot_laws.least s slot s (slot_laws.reflexive s) h))
+
+-- a slot that is below that of the endpoint is joined already
+pub known_state : (state : State) (e0 : List ℕ) (slot : Slot) → IsSomeAnd (get state e0) (slot_below slot) → state ≡ state_join state (one_key e0 slot)
+known_state state e0 slot known =
+    maps_alike text_order _ _ (λ e. by_key e (eq_by_cmp text_cmp e e0) refl ∙ ap (option_join slot_join (get state e)) (sym (get-one_key text_order e0 slot e)) ∙ sym (get-map_join text_order slot_join state (one_key e0 slot) e))
+  where
+    alone : (o : Option Slot) → o ≡ option_join slot_join o None
+    alone None = refl
+    alone (Some s) = refl
+
+    by_key : (e : List ℕ) (b : Bool) → eq_by_cmp text_cmp e e0 ≡ b → get state e ≡ option_join slot_join (get state e) (cond b (Some slot) None)
+    by_key e true h = known_slot (get state e) slot (subst (λ k. IsSomeAnd (get state k) (slot_below slot)) (sym (tells_apart text_order.exact e e0 h)) known)
+    by_key e false h = alone (get state e)
+
+-- the next number: the last is not gone past
+pub next_after : (change number : ℕ) → number ≡ counted change 1 → change ≤ LAST → (number ≤ number) × (change ≤ number) × (number ≤ LAST)
+next_after change number is last = (omega arith, omega arith, omega arith)

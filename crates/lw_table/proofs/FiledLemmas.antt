@@ -1,0 +1,169 @@
+-- What adding keys of an endpoint one by one, and dropping them, does to an index.
+use Rattle.std.proofs.Common.{◌≡◌, ◌≢◌, ◌↔◌, ◌⊎◌, inl, inr, ℕ, ◌+◌, ◌<◌, ◌≤◌, length, get_or, drop, Bool, true, false, List, [], ◌∷◌, Option, Some, None, Result, Ok, Err, refl, sym, ap, ◌∙◌, subst, arith}
+use Rattle.std.specs.Prelude.{Contains, OnOk, OnErr}
+use Rattle.std.specs.declared.cmp.Ordering.{Ordering}
+use Rattle.std.specs.declared.cmp.Ordering.TheVariants.{Equal}
+use Rattle.std.specs.Cmp.{tied_itself}
+use Rattle.std.proofs.lemmas.List.{at_drop_more, at_drop_all}
+use Rattle.lw_stamp.specs.Order.{IsExact}
+use Rattle.lw_index.specs.Index.{Has, IsPair}
+use Rattle.lw_reg.specs.declared.slot.Slot.{Slot}
+use Rattle.lw_reg.proofs.Members.{none_there, first_there, more_there, there_or_first}
+use Rattle.std.specs.Ordering.{nat_cmp}
+use Rattle.lw_reg.specs.OrderLaws.{number_order}
+use Rattle.lw_table.specs.Filed.{OtherKeys, OtherNames, OthersSame}
+use Rattle.lw_table.specs.declared.filed.Filed.{Filed}
+use Rattle.lw_table.specs.Keys.{key_cmp, OptionHasKey}
+use Rattle.lw_table.specs.declared.key.Key.{Key}
+use Rattle.lw_table.proofs.KeyLemmas.{key_exact, key_itself}
+
+-- ---- one pair more or less, of keys that are one where they compare equal
+module _ {K : Type 0} (cmp : K → K → Ordering) (exact : IsExact cmp) (itself : (k : K) → cmp k k ≡ Equal) (key : K) (endpoint : List ℕ) (old new : List (K × List (List ℕ))) where
+  module _ (added : (k : K) (e : List ℕ) → Has cmp new k e ↔ (Has cmp old k e ⊎ IsPair cmp key endpoint k e)) where
+    pub add_others : OtherKeys cmp endpoint old new
+    add_others = record { same = λ k e other. (λ h. elim ((added k e).0 h) [ inl was ↦ was | inr pair ↦ absurd (other pair.1) ], λ h. (added k e).1 (inl h)) }
+
+    pub add_stays : (k : K) → Has cmp old k endpoint → Has cmp new k endpoint
+    add_stays k h = (added k endpoint).1 (inl h)
+
+    pub add_from : (k : K) → Has cmp new k endpoint → Has cmp old k endpoint ⊎ (k ≡ key)
+    add_from k h = elim ((added k endpoint).0 h) [ inl was ↦ inl was | inr pair ↦ inr (exact k key pair.0) ]
+
+    pub add_has : Has cmp new key endpoint
+    add_has = (added key endpoint).1 (inr (itself key, refl))
+
+  module _ (dropped : (k : K) (e : List ℕ) → Has cmp new k e ↔ (Has cmp old k e × (IsPair cmp key endpoint k e → ⊥))) where
+    pub drop_others : OtherKeys cmp endpoint old new
+    drop_others = record { same = λ k e other. (λ h. ((dropped k e).0 h).0, λ h. (dropped k e).1 (h, λ pair. other pair.1)) }
+
+    pub drop_from : (k : K) → Has cmp new k endpoint → Has cmp old k endpoint × (k ≢ key)
+    drop_from k h = let w = (dropped k endpoint).0 h in (w.0, λ same. w.1 (subst (λ x. cmp x key ≡ Equal) (sym same) (itself key), refl))
+
+    pub drop_stays : (k : K) → Has cmp old k endpoint → k ≢ key → Has cmp new k endpoint
+    drop_stays k h other = (dropped k endpoint).1 (h, λ pair. other (exact k key pair.0))
+
+pub others_itself : {K : Type 0} (cmp : K → K → Ordering) (endpoint : List ℕ) (now : List (K × List (List ℕ))) → OtherKeys cmp endpoint now now
+others_itself cmp endpoint now = record { same = λ k e other. (λ h. h, λ h. h) }
+
+pub others_then : {K : Type 0} (cmp : K → K → Ordering) (endpoint : List ℕ) (a b c : List (K × List (List ℕ))) → OtherKeys cmp endpoint a b → OtherKeys cmp endpoint b c → OtherKeys cmp endpoint a c
+others_then cmp endpoint a b c h g = record { same = λ k e other. (λ x. (h.same k e other).0 ((g.same k e other).0 x), λ x. (g.same k e other).1 ((h.same k e other).1 x)) }
+
+-- ---- the keys that are left
+module _ {A : Type 0} (xs : List A) (i : ℕ) (x : A) (within : i < length xs) (is : x ≡ get_or xs i x) where
+  here : drop i xs ≡ x ∷ drop (i + 1) xs
+  here = at_drop_more (λ l. l) xs i x within ∙ ap (λ y. y ∷ drop (i + 1) xs) (sym is)
+
+  pub left_cases : (y : A) → Contains (drop i xs) y → (y ≡ x) ⊎ Contains (drop (i + 1) xs) y
+  left_cases y h = there_or_first x (drop (i + 1) xs) y (subst (λ l. Contains l y) here h)
+
+  pub item_there : Contains xs x
+  item_there = (i, within, sym is)
+
+pub nothing_left : {A G : Type 0} (xs : List A) (i : ℕ) (y : A) → length xs ≤ i → Contains (drop i xs) y → G
+nothing_left xs i y past h = none_there y (subst (λ l. Contains l y) (at_drop_all (λ l. l) xs i past) h)
+
+-- ---- adding
+pub record Adding (endpoint : List ℕ) (keys : List Key) (first now : List (Key × List (List ℕ))) (i : ℕ) : Type 0 where
+  pub others : OtherKeys key_cmp endpoint first now
+  pub stay : (k : Key) → Has key_cmp first k endpoint → Has key_cmp now k endpoint
+  pub from : (k : Key) → Has key_cmp now k endpoint → Has key_cmp first k endpoint ⊎ Contains keys k
+  pub all : (k : Key) → Contains keys k → Has key_cmp now k endpoint ⊎ Contains (drop i keys) k
+
+pub adding_none : (endpoint : List ℕ) (keys : List Key) (now : List (Key × List (List ℕ))) → Adding endpoint keys now now 0
+adding_none endpoint keys now = record { others = others_itself key_cmp endpoint now; stay = λ k h. h; from = λ k h. inl h; all = λ k h. inr h }
+
+pub adding_step : (endpoint : List ℕ) (keys : List Key) (first old new : List (Key × List (List ℕ))) (i : ℕ) (key : Key)
+    → i < length keys → key ≡ get_or keys i key
+    → ((k : Key) (e : List ℕ) → Has key_cmp new k e ↔ (Has key_cmp old k e ⊎ IsPair key_cmp key endpoint k e))
+    → Adding endpoint keys first old i → Adding endpoint keys first new (i + 1)
+adding_step endpoint keys first old new i key within is added a = record {
+  others = others_then key_cmp endpoint first old new a.others (add_others key_cmp key_exact key_itself key endpoint old new added);
+  stay = λ k h. add_stays key_cmp key_exact key_itself key endpoint old new added k (a.stay k h);
+  from = λ k h. elim (add_from key_cmp key_exact key_itself key endpoint old new added k h) [
+    | inl was ↦ a.from k was
+    | inr same ↦ inr (subst (Contains keys) (sym same) (item_there keys i key within is))
+  ];
+  all = λ k h. elim (a.all k h) [
+    | inl was ↦ inl (add_stays key_cmp key_exact key_itself key endpoint old new added k was)
+    | inr left ↦ elim (left_cases keys i key within is k left) [
+      | inl same ↦ inl (subst (λ x. Has key_cmp new x endpoint) (sym same) (add_has key_cmp key_exact key_itself key endpoint old new added))
+      | inr rest ↦ inr rest
+    ]
+  ];
+}
+
+-- ---- dropping what a slot lacks
+pub record Dropping (endpoint : List ℕ) (slot : Option Slot) (keys : List Key) (first now : List (Key × List (List ℕ))) (i : ℕ) : Type 0 where
+  pub others : OtherKeys key_cmp endpoint first now
+  pub has : (k : Key) → OptionHasKey slot k → Has key_cmp now k endpoint
+  pub from : (k : Key) → Has key_cmp now k endpoint → OptionHasKey slot k ⊎ Contains (drop i keys) k
+
+pub dropping_kept : (endpoint : List ℕ) (slot : Option Slot) (keys : List Key) (first now : List (Key × List (List ℕ))) (i : ℕ) (key : Key)
+    → i < length keys → key ≡ get_or keys i key → OptionHasKey slot key
+    → Dropping endpoint slot keys first now i → Dropping endpoint slot keys first now (i + 1)
+dropping_kept endpoint slot keys first now i key within is kept d = record {
+  others = d.others;
+  has = d.has;
+  from = λ k h. elim (d.from k h) [
+    | inl has ↦ inl has
+    | inr left ↦ elim (left_cases keys i key within is k left) [
+      | inl same ↦ inl (subst (OptionHasKey slot) (sym same) kept)
+      | inr rest ↦ inr rest
+    ]
+  ];
+}
+
+pub dropping_step : (endpoint : List ℕ) (slot : Option Slot) (keys : List Key) (first old new : List (Key × List (List ℕ))) (i : ℕ) (key : Key)
+    → i < length keys → key ≡ get_or keys i key → (OptionHasKey slot key → ⊥)
+    → ((k : Key) (e : List ℕ) → Has key_cmp new k e ↔ (Has key_cmp old k e × (IsPair key_cmp key endpoint k e → ⊥)))
+    → Dropping endpoint slot keys first old i → Dropping endpoint slot keys first new (i + 1)
+dropping_step endpoint slot keys first old new i key within is lacks dropped d = record {
+  others = others_then key_cmp endpoint first old new d.others (drop_others key_cmp key_exact key_itself key endpoint old new dropped);
+  has = λ k h. drop_stays key_cmp key_exact key_itself key endpoint old new dropped k (d.has k h) (λ same. lacks (subst (OptionHasKey slot) same h));
+  from = λ k h. let w = drop_from key_cmp key_exact key_itself key endpoint old new dropped k h in
+      elim (d.from k w.0) [
+        | inl has ↦ inl has
+        | inr left ↦ elim (left_cases keys i key within is k left) [
+          | inl same ↦ absurd (w.1 same)
+          | inr rest ↦ inr rest
+        ]
+      ];
+}
+
+-- ---- names
+pub names_itself : (endpoint : List ℕ) (now : List (List ℕ)) → OtherNames endpoint now now
+names_itself endpoint now = record { same = λ e other. (λ h. h, λ h. h) }
+
+module _ (endpoint : List ℕ) (old new : List (List ℕ)) (added : (e : List ℕ) → Contains new e ↔ (Contains old e ⊎ (e ≡ endpoint))) where
+  pub named_others : OtherNames endpoint old new
+  named_others = record { same = λ e other. (λ h. elim ((added e).0 h) [ inl was ↦ was | inr same ↦ absurd (other same) ], λ h. (added e).1 (inl h)) }
+
+  pub named_stays : Contains old endpoint → Contains new endpoint
+  named_stays h = (added endpoint).1 (inl h)
+
+  pub named_has : Contains new endpoint
+  named_has = (added endpoint).1 (inr refl)
+
+pub removed_others : (endpoint : List ℕ) (old new : List (List ℕ)) → ((e : List ℕ) → Contains new e ↔ (Contains old e × (e ≢ endpoint))) → OtherNames endpoint old new
+removed_others endpoint old new removed = record { same = λ e other. (λ h. ((removed e).0 h).0, λ h. (removed e).1 (h, other)) }
+
+pub either : {T E : Type 0} (P Q G : Type 0) (r : Result T E) → OnOk r P → OnErr r Q → (P → G) → (Q → G) → G
+either P Q G (Ok x) h k f g = f h
+either P Q G (Err e) h k f g = g k
+
+pub number_exact : (a b : ℕ) → nat_cmp a b ≡ Equal → a ≡ b
+number_exact = number_order.exact
+
+pub number_itself : (a : ℕ) → nat_cmp a a ≡ Equal
+number_itself = tied_itself number_order.total
+
+pub on_ok : {T E : Type 0} (P Q : Type 0) (r : Result T E) → (P → Q) → OnOk r P → OnOk r Q
+on_ok P Q (Ok x) f h = f h
+on_ok P Q (Err e) f h = h
+
+pub enter_others : (old new : Filed) (e : List ℕ) → OtherNames e old.names new.names → OtherKeys key_cmp e old.keys new.keys → OtherKeys nat_cmp e old.numbers new.numbers → OthersSame old new e
+enter_others old new e names keys numbers = record { same = λ o other. record { name = names.same o other; keys = λ k. keys.same k o other; numbers = λ n. numbers.same n o other } }
+
+pub on_err : {T E : Type 0} (P Q : Type 0) (r : Result T E) → (P → Q) → OnErr r P → OnErr r Q
+on_err P Q (Ok x) f h = h
+on_err P Q (Err e) f h = f h

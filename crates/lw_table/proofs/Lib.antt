@@ -1,0 +1,12 @@
+pub mod KeyLemmas
+pub mod NameLemmas
+pub mod FiledLemmas
+pub mod TurningLemmas
+pub mod MoveLemmas
+pub mod RowLemmas
+pub mod CountLemmas
+pub mod TableLemmas
+pub mod FirstLemmas
+pub mod LookUpLemmas
+pub mod Answering
+pub mod SinceLemmas

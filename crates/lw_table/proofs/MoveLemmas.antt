@@ -1,0 +1,119 @@
+-- What an endpoint is filed under while its row comes or moves.
+use Rattle.std.proofs.Common.{◌≡◌, ◌≢◌, ◌↔◌, ◌⊎◌, inl, inr, ℕ, Bool, true, false, not, List, [], ◌∷◌, Option, Some, None, Result, Ok, Err, refl, sym, ap, ◌∙◌, subst}
+use Rattle.std.specs.Prelude.{Contains, OnOk, OnErr, IsErr, IsTrue}
+use Rattle.std.specs.Ordering.{nat_cmp, match_ordering}
+use Rattle.std.specs.declared.cmp.Ordering.{Ordering}
+use Rattle.std.specs.declared.cmp.Ordering.TheVariants.{Less, Equal, Greater}
+use Rattle.lw_stamp.specs.declared.stamp.Stamp.{Stamp}
+use Rattle.lw_stamp.specs.StampOrder.{stamp_cmp}
+use Rattle.lw_index.specs.Index.{Has}
+use Rattle.lw_join.specs.Lex.{lex_of}
+use Rattle.lw_join.specs.OrGone.{gone_join}
+use Rattle.lw_join.specs.declared.or_gone.OrGone.{OrGone}
+use Rattle.lw_join.specs.declared.or_gone.OrGone.TheVariants.{Here, Gone}
+use Rattle.lw_reg.specs.declared.body.Body.{Body}
+use Rattle.lw_reg.specs.declared.slot.Slot.{Slot}
+use Rattle.lw_reg.specs.Body.{body_join}
+use Rattle.lw_reg.specs.Reading.{IsRemoved}
+use Rattle.lw_reg.specs.Slot.{slot_at, slot_join}
+use Rattle.lw_table.specs.Filed.{IsFiled, IsOver, IsSame, OthersSame, IsBetween, HasAll}
+use Rattle.lw_table.specs.Keys.{key_cmp}
+use Rattle.lw_table.specs.Moves.{moved_row}
+use Rattle.lw_table.specs.Turning.{IsTurning}
+use Rattle.lw_table.specs.declared.filed.Filed.{Filed}
+use Rattle.lw_table.specs.declared.key.Key.{Key}
+use Rattle.lw_table.specs.declared.row.Row.{Row}
+
+pub err_then : {T E : Type 0} (P : Type 0) (r : Result T E) → P → OnErr r P
+err_then P (Ok x) p = tt
+err_then P (Err e) p = p
+
+pub err_not : {T E : Type 0} (P : Type 0) (r : Result T E) → IsErr r → OnOk r P
+err_not P (Ok x) h = absurd cc
+err_not P (Err e) h = tt
+
+pub kept_is : (slot : Slot) (r : Bool) → (IsTrue r ↔ IsRemoved slot) → (not r ≡ true) ↔ (IsRemoved slot → ⊥)
+kept_is slot true h = (λ e. absurd cc, λ here. absurd (here (h.0 refl)))
+kept_is slot false h = (λ e gone. (let bad : false ≡ true = h.1 gone in absurd cc), λ here. refl)
+
+here_or_gone : (v : OrGone Body) → (v ≡ Gone) ⊎ (v ≡ Gone → ⊥)
+here_or_gone Gone = inl refl
+here_or_gone (Here b) = inr (λ e. absurd cc)
+
+abbrev gone : OrGone Body
+gone = Gone
+
+gone_by : (r : Ordering) (s t : Stamp) → (lex_of (match_ordering r (t, gone) (s, gone_join body_join gone gone) (s, gone))).value ≡ gone
+gone_by Less s t = refl
+gone_by Equal s t = refl
+gone_by Greater s t = refl
+
+both_gone : (s t : Stamp) (x y : OrGone Body) → x ≡ Gone → y ≡ Gone → IsRemoved (slot_join (slot_at s x) (slot_at t y))
+both_gone s t x y h k =
+    subst (λ z. IsRemoved (slot_join (slot_at s z) (slot_at t y))) (sym h)
+    (subst (λ z. IsRemoved (slot_join (slot_at s Gone) (slot_at t z))) (sym k) (gone_by (stamp_cmp s t) s t))
+
+-- a join that was not removed is of slots of which one was not
+pub kept_from : (x y : Slot) → (IsRemoved (slot_join x y) → ⊥) → (IsRemoved x → ⊥) ⊎ (IsRemoved y → ⊥)
+kept_from x y kept =
+    elim (here_or_gone x.registration.value) [
+      | inr here ↦ inl here
+      | inl gone ↦ elim (here_or_gone y.registration.value) [
+        | inr here ↦ inr here
+        | inl also ↦ absurd (kept (both_gone x.registration.stamp y.registration.stamp x.registration.value y.registration.value gone also))
+      ]
+    ]
+
+same_number : (a b : ℕ) → ◌≡◌ {A = Option ℕ} (Some a) (Some b) → a ≡ b
+same_number a b h = cc
+
+module _ (old new : Filed) (e : List ℕ) (kept : Bool) (keys : List Key) (number : ℕ) (between : IsBetween old new e kept keys number) where
+  -- with the row as it was
+  pub over_old : (row : Option Row) → IsFiled old e row → IsOver new e row keys number
+  over_old row filed = record {
+    name = λ h. between.name_stays (filed.name.1 h);
+    keys_has = λ k h. between.keys_stay k ((filed.keys k).1 h);
+    keys_from = λ k h. elim (between.keys_from k h) [ inl was ↦ inl ((filed.keys k).0 was) | inr listed ↦ inr listed ];
+    numbers_has = λ n h. between.numbers_stay n ((filed.numbers n).1 h);
+    numbers_from = λ n h. elim (between.numbers_from n h) [ inl was ↦ inl ((filed.numbers n).0 was) | inr same ↦ inr same ];
+  }
+
+  module _ (all : HasAll new e kept keys number) (slot : Slot) (is_kept : (kept ≡ true) ↔ (IsRemoved slot → ⊥)) where
+    -- with the row that moved
+    pub over_moved : (row : Row) → IsFiled old e (Some row) → IsTurning (Some row.slot) slot keys → IsOver new e (Some (moved_row row slot number)) keys row.number
+    over_moved row filed turning = record {
+      name = λ h. elim (kept_from row.slot slot h) [ inl was ↦ between.name_stays (filed.name.1 was) | inr is ↦ all.has_name (is_kept.1 is) ];
+      keys_has = λ k h. elim (turning.gained k h) [ inl was ↦ between.keys_stay k ((filed.keys k).1 was) | inr listed ↦ all.has_keys k listed ];
+      keys_from = λ k h. elim (between.keys_from k h) [ inl was ↦ turning.lost k ((filed.keys k).0 was) | inr listed ↦ inr listed ];
+      numbers_has = λ n h. subst (λ m. Has nat_cmp new.numbers m e) (same_number number n h) all.has_number;
+      numbers_from = λ n h. elim (between.numbers_from n h) [ inl was ↦ inr (sym (same_number row.number n ((filed.numbers n).0 was))) | inr same ↦ inl (ap Some (sym same)) ];
+    }
+
+    -- with the first row
+    pub filed_first : IsFiled old e None → IsTurning None slot keys → IsFiled new e (Some (record { slot = slot; number = number }))
+    filed_first filed turning = record {
+      name = (λ h. elim (between.name_from h) [ inl was ↦ absurd (filed.name.0 was) | inr is ↦ is_kept.0 is ], λ h. all.has_name (is_kept.1 h));
+      keys = λ k. (
+        λ h. elim (between.keys_from k h) [ inl was ↦ absurd ((filed.keys k).0 was) | inr listed ↦ turning.first refl k listed ],
+        λ h. elim (turning.gained k h) [ inl was ↦ absurd was | inr listed ↦ all.has_keys k listed ],
+      );
+      numbers = λ n. (
+        λ h. elim (between.numbers_from n h) [ inl was ↦ absurd (let bad = (filed.numbers n).0 was in cc) | inr same ↦ ap Some (sym same) ],
+        λ h. subst (λ m. Has nat_cmp new.numbers m e) (same_number number n h) all.has_number,
+      );
+    }
+
+pub others_then : (e : List ℕ) (a b c : Filed) → OthersSame a b e → OthersSame b c e → OthersSame a c e
+others_then e a b c h g = record {
+  same = λ o other.
+      let x = h.same o other in
+      let y = g.same o other in
+      record {
+        name = (λ w. x.name.0 (y.name.0 w), λ w. y.name.1 (x.name.1 w));
+        keys = λ k. (λ w. (x.keys k).0 ((y.keys k).0 w), λ w. (y.keys k).1 ((x.keys k).1 w));
+        numbers = λ n. (λ w. (x.numbers n).0 ((y.numbers n).0 w), λ w. (y.numbers n).1 ((x.numbers n).1 w));
+      };
+}
+
+pub others_itself : (e : List ℕ) (a : Filed) → OthersSame a a e
+others_itself e a = record { same = λ o other. record { name = (λ w. w, λ w. w); keys = λ k. (λ w. w, λ w. w); numbers = λ n. (λ w. w, λ w. w) } }

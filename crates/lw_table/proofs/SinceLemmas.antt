@@ -1,0 +1,280 @@
+-- What is gathered of numbers and of endpoints.
+use Rattle.std.proofs.Common.{◌≡◌, ◌⊎◌, inl, inr, ℕ, ◌<◌, Bool, true, false, cond, List, [], ◌∷◌, ◌++◌, map, Option, Some, None, refl, sym, ap, subst, ◌∙◌}
+use Rattle.std.specs.Prelude.{◌↔◌, Contains, filter, unwrap_or, Result, Ok, Err, IfOk}
+use Rattle.std.proofs.Common.{arith}
+use Rattle.std.proofs.lemmas.Bool.Decides.{nat_tests}
+use Rattle.std.specs.FinMap.{get}
+use Rattle.std.specs.List.{AllByRecursion}
+use Rattle.std.specs.List.Sorted.{IsStrictlySortedBy}
+use Rattle.std.specs.Map.{keys_of, lookup}
+use Rattle.std.specs.Ordering.{nat_cmp, is_eq, is_lt}
+use Rattle.std.specs.declared.cmp.Ordering.{Ordering}
+use Rattle.std.specs.declared.cmp.Ordering.TheVariants.{Less, Equal, Greater}
+use Rattle.lw_stamp.specs.TextOrder.{text_cmp}
+use Rattle.lw_index.specs.Index.{Has, IsIndex, endpoints_of, entries_above}
+use Rattle.lw_reg.specs.declared.slot.Slot.{Slot}
+use Rattle.lw_reg.specs.State.{State}
+use Rattle.lw_reg.proofs.Members.{none_there, first_there, more_there, there_or_first}
+use Rattle.lw_table.specs.Names.{is_after}
+use Rattle.lw_table.specs.Since.{AnyHas, slot_or, slots_at}
+use Rattle.lw_table.specs.Changes.{Count, LAST, IsSince, IsSinceIn}
+use Rattle.lw_table.specs.Rows.{state_in, numbers_in}
+use Rattle.lw_table.specs.declared.row.Row.{Row}
+use Rattle.lw_table.proofs.RowLemmas.{has_bytes, get-each_in}
+use Rattle.lw_reg.specs.OrderLaws.{text_order}
+use Rattle.std.specs.Option.{option_map}
+use Rattle.std.specs.Prelude.{String, string_bytes}
+use Rattle.std.proofs.lemmas.Map.Views.{tells_apart}
+
+-- ---- a walk that gathers what it passes
+-- what is gathered, and what is left, are all
+abbrev pub Gathers : {A B : Type 0} → (A → List ℕ → Type 0) → List (List ℕ) → A → (B → List ℕ → Type 0) → B → Type 0
+Gathers Left names left All all = (e : List ℕ) → (Contains names e ⊎ Left left e) ↔ All all e
+
+module _ {B : Type 0} (All : B → List ℕ → Type 0) (all : B) where
+  pub one_gathered : (names more : List (List ℕ)) (x : List ℕ) (rest : List (List ℕ)) → ((e : List ℕ) → Contains more e ↔ (Contains names e ⊎ (e ≡ x)))
+      → Gathers Contains names (x ∷ rest) All all → Gathers Contains more rest All all
+  one_gathered names more x rest added h e = (there, back)
+    where
+      there : Contains more e ⊎ Contains rest e → All all e
+      there (inl m) = (h e).0 (elim ((added e).0 m) [ inl old ↦ inl old | inr same ↦ inr (first_there x rest e same) ])
+      there (inr r) = (h e).0 (inr (more_there x rest e r))
+
+      split : (e ≡ x) ⊎ Contains rest e → Contains more e ⊎ Contains rest e
+      split (inl same) = inl ((added e).1 (inr same))
+      split (inr r) = inr r
+
+      back : All all e → Contains more e ⊎ Contains rest e
+      back a = elim ((h e).1 a) [ inl old ↦ inl ((added e).1 (inl old)) | inr c ↦ split (there_or_first x rest e c) ]
+
+  pub entry_gathered : (names more : List (List ℕ)) (x : ℕ × List (List ℕ)) (rest : List (ℕ × List (List ℕ))) → ((e : List ℕ) → Contains more e ↔ (Contains names e ⊎ Contains x.1 e))
+      → Gathers AnyHas names (x ∷ rest) All all → Gathers AnyHas more rest All all
+  entry_gathered names more x rest added h e = (there, back)
+    where
+      there : Contains more e ⊎ AnyHas rest e → All all e
+      there (inl m) = (h e).0 (elim ((added e).0 m) [ inl old ↦ inl old | inr c ↦ inr (inl c) ])
+      there (inr r) = (h e).0 (inr (inr r))
+
+      back : All all e → Contains more e ⊎ AnyHas rest e
+      back a = elim ((h e).1 a) [ inl old ↦ inl ((added e).1 (inl old)) | inr c ↦ elim c [ inl d ↦ inl ((added e).1 (inr d)) | inr r ↦ inr r ] ]
+
+pub begin_gather : {A : Type 0} (All : A → List ℕ → Type 0) (all : A) → Gathers All [] all All all
+begin_gather All all e = (elim [ inl c ↦ none_there e c | inr a ↦ a ], λ a. inr a)
+
+pub all_gathered : {B : Type 0} (All : B → List ℕ → Type 0) (all : B) (names : List (List ℕ)) → Gathers Contains names [] All all → (e : List ℕ) → Contains names e ↔ All all e
+all_gathered All all names h e = (λ c. (h e).0 (inl c), λ a. elim ((h e).1 a) [ inl c ↦ c | inr c ↦ none_there e c ])
+
+pub entries_gathered : {B : Type 0} (All : B → List ℕ → Type 0) (all : B) (names : List (List ℕ)) → Gathers AnyHas names [] All all → (e : List ℕ) → Contains names e ↔ All all e
+entries_gathered All all names h e = (λ c. (h e).0 (inl c), λ a. elim ((h e).1 a) [ inl c ↦ c | inr c ↦ absurd c ])
+
+-- the endpoints of one number, one by one
+pub none_added : (names : List (List ℕ)) (e : List ℕ) → Contains names e ↔ (Contains names e ⊎ Contains [] e)
+none_added names e = (inl, elim [ inl c ↦ c | inr c ↦ none_there e c ])
+
+pub rest_added : (names mid more : List (List ℕ)) (x : List ℕ) (rest : List (List ℕ)) → ((e : List ℕ) → Contains mid e ↔ (Contains names e ⊎ (e ≡ x)))
+    → ((e : List ℕ) → Contains more e ↔ (Contains mid e ⊎ Contains rest e)) → (e : List ℕ) → Contains more e ↔ (Contains names e ⊎ Contains (x ∷ rest) e)
+rest_added names mid more x rest one others e = (there, back)
+  where
+    from_mid : Contains names e ⊎ (e ≡ x) → Contains names e ⊎ Contains (x ∷ rest) e
+    from_mid (inl c) = inl c
+    from_mid (inr same) = inr (first_there x rest e same)
+
+    there : Contains more e → Contains names e ⊎ Contains (x ∷ rest) e
+    there m = elim ((others e).0 m) [ inl c ↦ from_mid ((one e).0 c) | inr r ↦ inr (more_there x rest e r) ]
+
+    split : (e ≡ x) ⊎ Contains rest e → Contains more e
+    split (inl same) = (others e).1 (inl ((one e).1 (inr same)))
+    split (inr r) = (others e).1 (inr r)
+
+    back : Contains names e ⊎ Contains (x ∷ rest) e → Contains more e
+    back (inl c) = (others e).1 (inl ((one e).1 (inl c)))
+    back (inr c) = split (there_or_first x rest e c)
+
+-- ---- the slots of endpoints
+pub unfiltered : (es : List (List ℕ)) → filter (is_after None) es ≡ es
+unfiltered [] = refl
+unfiltered (e ∷ es) = ap (λ rest. e ∷ rest) (unfiltered es)
+
+pub slots_found : (state : State) (done : List (List ℕ × Slot)) (e : List ℕ) (rest : List (List ℕ)) (o : Option Slot) → get state e ≡ o → done ++ slots_at state (e ∷ rest) ≡ done ++ slot_or e o (slots_at state rest)
+slots_found state done e rest o h = ap (λ (s : Option Slot). done ++ slot_or e s (slots_at state rest)) h
+
+module _ (state : State) where
+  slots_member : (es : List (List ℕ)) (e : List ℕ) (slot : Slot) → Contains (slots_at state es) (e, slot) → Contains es e × (get state e ≡ Some slot)
+  slots_member [] e slot c = none_there (e, slot) c
+  slots_member (x ∷ xs) e slot c = go (get state x) refl c (slots_member xs e slot)
+    where
+      here : (s : Slot) → get state x ≡ Some s → ◌≡◌ {A = List ℕ × Slot} (e, slot) (x, s) → Contains (x ∷ xs) e × (get state e ≡ Some slot)
+      here s h same =
+          let at : e ≡ x = ap (λ w. w.0) same in
+          let is : slot ≡ s = ap (λ w. w.1) same in
+          (first_there x xs e at, ap (get state) at ∙ h ∙ ap (λ (w : Slot). Some w) (sym is))
+
+      later : (Contains (slots_at state xs) (e, slot) → Contains xs e × (get state e ≡ Some slot)) → Contains (slots_at state xs) (e, slot) → Contains (x ∷ xs) e × (get state e ≡ Some slot)
+      later more c = let m = more c in (more_there x xs e m.0, m.1)
+
+      go : (o : Option Slot) → get state x ≡ o → Contains (slot_or x o (slots_at state xs)) (e, slot) → (Contains (slots_at state xs) (e, slot) → Contains xs e × (get state e ≡ Some slot)) → Contains (x ∷ xs) e × (get state e ≡ Some slot)
+      go None h c more = later more c
+      go (Some s) h c more = elim (there_or_first (x, s) (slots_at state xs) (e, slot) c) [ inl same ↦ here s h same | inr there ↦ later more there ]
+
+  member_slots : (es : List (List ℕ)) (e : List ℕ) (slot : Slot) → Contains es e → get state e ≡ Some slot → Contains (slots_at state es) (e, slot)
+  member_slots [] e slot c h = none_there e c
+  member_slots (x ∷ xs) e slot c h = go (there_or_first x xs e c) (member_slots xs e slot)
+    where
+      pushed : (o : Option Slot) → Contains (slots_at state xs) (e, slot) → Contains (slot_or x o (slots_at state xs)) (e, slot)
+      pushed None d = d
+      pushed (Some s) d = more_there (x, s) (slots_at state xs) (e, slot) d
+
+      go : (e ≡ x) ⊎ Contains xs e → (Contains xs e → get state e ≡ Some slot → Contains (slots_at state xs) (e, slot)) → Contains (slots_at state (x ∷ xs)) (e, slot)
+      go (inl same) more =
+          subst (λ (o : Option Slot). Contains (slot_or x o (slots_at state xs)) (e, slot)) (sym (ap (get state) (sym same) ∙ h))
+          (first_there (x, slot) (slots_at state xs) (e, slot) (λ i. (same i, slot)))
+      go (inr there) more = pushed (get state x) (more there h)
+
+  pub slots_are : (es : List (List ℕ)) (e : List ℕ) (slot : Slot) → Contains (slots_at state es) (e, slot) ↔ (Contains es e × (get state e ≡ Some slot))
+  slots_are es e slot = (slots_member es e slot, λ h. member_slots es e slot h.0 h.1)
+
+  abbrev pub by_endpoint : List ℕ × Slot → List ℕ × Slot → Ordering
+  by_endpoint x y = text_cmp x.0 y.0
+
+  slots_above : (x : List ℕ) (s : Slot) (es : List (List ℕ)) → AllByRecursion (λ k. text_cmp x k ≡ Less) es → AllByRecursion (λ k. by_endpoint (x, s) k ≡ Less) (slots_at state es)
+  slots_above x s [] h = tt
+  slots_above x s (e ∷ es) h = go (get state e) (slots_above x s es h.1)
+    where
+      go : (o : Option Slot) → AllByRecursion (λ k. by_endpoint (x, s) k ≡ Less) (slots_at state es) → AllByRecursion (λ k. by_endpoint (x, s) k ≡ Less) (slot_or e o (slots_at state es))
+      go None rest = rest
+      go (Some t) rest = (h.0, rest)
+
+  pub slots_rise : (es : List (List ℕ)) → IsStrictlySortedBy text_cmp es → IsStrictlySortedBy by_endpoint (slots_at state es)
+  unfolding IsStrictlySortedBy
+  slots_rise [] h = tt
+  slots_rise (e ∷ es) h = go (get state e) (slots_rise es h.1)
+    where
+      go : (o : Option Slot) → IsStrictlySortedBy by_endpoint (slots_at state es) → IsStrictlySortedBy by_endpoint (slot_or e o (slots_at state es))
+      go None rest = rest
+      go (Some s) rest = (slots_above e s es h.0, rest)
+
+-- ---- the entries above a number
+less_than : (a b : ℕ) → is_lt (nat_cmp a b) ≡ true → a < b
+less_than a b h = grind (arith, nat_tests)
+
+than_less : (a b : ℕ) → a < b → is_lt (nat_cmp a b) ≡ true
+than_less a b h = grind (arith, nat_tests)
+
+not_tied : (a b : ℕ) → a < b → is_eq (nat_cmp b a) ≡ false
+not_tied a b h = grind (arith, nat_tests)
+
+tied : (a b : ℕ) → is_eq (nat_cmp a b) ≡ true → a ≡ b
+tied a b h = grind (arith, nat_tests)
+
+abbrev FiledAbove : ℕ → List (ℕ × List (List ℕ)) → List ℕ → Type 0
+FiledAbove since numbers e = (n : ℕ) × (since < n) × Has nat_cmp numbers n e
+
+module _ (since : ℕ) where
+  abbrev Kept : List (ℕ × List (List ℕ)) → List (ℕ × List (List ℕ))
+  Kept entries = filter (λ entry. is_lt (nat_cmp since entry.0)) entries
+
+  to_above : (entries : List (ℕ × List (List ℕ))) (n : ℕ) (e : List ℕ) → since < n → Has nat_cmp entries n e → AnyHas (Kept entries) e
+  to_above [] n e above c = none_there e c
+  to_above (x ∷ xs) n e above c = go (is_eq (nat_cmp n x.0)) refl c (to_above xs n e above)
+    where
+      kept : AnyHas (Kept xs) e → (b : Bool) → AnyHas (cond b (x ∷ Kept xs) (Kept xs)) e
+      kept h true = inr h
+      kept h false = h
+
+      go : (b : Bool) → is_eq (nat_cmp n x.0) ≡ b → Contains (unwrap_or (cond b (Some x.1) (lookup (λ k. is_eq (nat_cmp n k)) xs)) []) e → (Has nat_cmp xs n e → AnyHas (Kept xs) e) → AnyHas (Kept (x ∷ xs)) e
+      go true is c more =
+          let lower : is_lt (nat_cmp since x.0) ≡ true = than_less since x.0 (subst (λ k. since < k) (tied n x.0 is) above) in
+          subst (λ b. AnyHas (cond b (x ∷ Kept xs) (Kept xs)) e) (sym lower) (inl c)
+      go false is c more = kept (more c) (is_lt (nat_cmp since x.0))
+
+  -- a key of the rest is above the first
+  passed : (x : ℕ × List (List ℕ)) (xs : List (ℕ × List (List ℕ))) (e : List ℕ) → ((n : ℕ) × (since < n) × (x.0 < n) × Has nat_cmp xs n e) → FiledAbove since (x ∷ xs) e
+  passed x xs e h = (h.0, h.1, subst (λ b. Contains (unwrap_or (cond b (Some x.1) (lookup (λ k. is_eq (nat_cmp h.0 k)) xs)) []) e) (sym (not_tied x.0 h.0 h.2)) h.3)
+
+  from_above : (low : ℕ) (entries : List (ℕ × List (List ℕ))) → AllByRecursion (λ k. nat_cmp low k ≡ Less) (keys_of entries) → IsStrictlySortedBy nat_cmp (keys_of entries) → (e : List ℕ) → AnyHas (Kept entries) e
+      → (n : ℕ) × (since < n) × (low < n) × Has nat_cmp entries n e
+  unfolding IsStrictlySortedBy passed
+  from_above low [] below sorted e c = absurd c
+  from_above low (x ∷ xs) below sorted e c = go (is_lt (nat_cmp since x.0)) refl c (from_above x.0 xs sorted.0 sorted.1 e)
+    where
+      higher : low < x.0
+      higher = less_than low x.0 (ap is_lt below.0)
+
+      later : ((n : ℕ) × (since < n) × (x.0 < n) × Has nat_cmp xs n e) → (n : ℕ) × (since < n) × (low < n) × Has nat_cmp (x ∷ xs) n e
+      later h = (h.0, h.1, (let a = higher in let b = h.2 in omega (arith, a, b)), (passed x xs e h).2)
+
+      here : is_lt (nat_cmp since x.0) ≡ true → Contains x.1 e → (n : ℕ) × (since < n) × (low < n) × Has nat_cmp (x ∷ xs) n e
+      here above d = (x.0, less_than since x.0 above, higher, subst (λ b. Contains (unwrap_or (cond b (Some x.1) (lookup (λ k. is_eq (nat_cmp x.0 k)) xs)) []) e) (sym (itself x.0)) d)
+        where
+          itself : (n : ℕ) → is_eq (nat_cmp n n) ≡ true
+          itself n = grind (arith, nat_tests)
+
+      go : (b : Bool) → is_lt (nat_cmp since x.0) ≡ b → AnyHas (cond b (x ∷ Kept xs) (Kept xs)) e → (AnyHas (Kept xs) e → (n : ℕ) × (since < n) × (x.0 < n) × Has nat_cmp xs n e)
+          → (n : ℕ) × (since < n) × (low < n) × Has nat_cmp (x ∷ xs) n e
+      go true above c more = elim c [ inl d ↦ here above d | inr r ↦ later (more r) ]
+      go false above c more = later (more c)
+
+  pub above_reads : (entries : List (ℕ × List (List ℕ))) → IsIndex nat_cmp entries → (e : List ℕ) → AnyHas (Kept entries) e ↔ FiledAbove since entries e
+  unfolding IsStrictlySortedBy
+  above_reads [] index e = (λ c. absurd c, λ h. none_there e h.2)
+  above_reads (x ∷ xs) index e = (go (is_lt (nat_cmp since x.0)) refl, λ h. to_above (x ∷ xs) h.0 e h.1 h.2)
+    where
+      itself : (n : ℕ) → is_eq (nat_cmp n n) ≡ true
+      itself n = grind (arith, nat_tests)
+
+      later : AnyHas (Kept xs) e → FiledAbove since (x ∷ xs) e
+      later c = passed x xs e (from_above x.0 xs (index.keys_rise).0 (index.keys_rise).1 e c)
+
+      go : (b : Bool) → is_lt (nat_cmp since x.0) ≡ b → AnyHas (cond b (x ∷ Kept xs) (Kept xs)) e → FiledAbove since (x ∷ xs) e
+      go true above c = elim c [ inl d ↦ (x.0, less_than since x.0 above, subst (λ b. Contains (unwrap_or (cond b (Some x.1) (lookup (λ k. is_eq (nat_cmp x.0 k)) xs)) []) e) (sym (itself x.0)) d) | inr r ↦ later r ]
+      go false above c = later c
+
+-- ---- what has moved since a number
+key_there : {Z : Type 0} (entries : List (String Z × Row)) (e : List ℕ) (row : Row) → lookup (has_bytes e) entries ≡ Some row → Contains (map (λ entry. string_bytes entry.0) entries) e
+key_there [] e row h = absurd cc
+key_there (p ∷ ps) e row h = go (has_bytes e p.0) refl h (key_there ps e row)
+  where
+    go : (b : Bool) → has_bytes e p.0 ≡ b → cond b (Some p.1) (lookup (has_bytes e) ps) ≡ Some row → (lookup (has_bytes e) ps ≡ Some row → Contains (map (λ entry. string_bytes entry.0) ps) e) → Contains (map (λ entry. string_bytes entry.0) (p ∷ ps)) e
+    go true is h more = first_there (string_bytes p.0) (map (λ entry. string_bytes entry.0) ps) e (tells_apart text_order.exact e (string_bytes p.0) is)
+    go false is h more = more_there (string_bytes p.0) (map (λ entry. string_bytes entry.0) ps) e (more h)
+
+option_from : {A B : Type 0} (f : A → B) (o : Option A) (b : B) → option_map f o ≡ Some b → (a : A) × (o ≡ Some a)
+option_from f None b h = absurd cc
+option_from f (Some a) b h = (a, refl)
+
+module _ (state : State) (count : Count) (since : ℕ) (names : List (List ℕ)) (rise : IsStrictlySortedBy text_cmp names) where
+  -- the names are those that moved since
+  pub since_is : ((e : List ℕ) (slot : Slot) → get state e ≡ Some slot → Contains names e ↔ IsSince count since e) → IsSinceIn state count since (slots_at state names)
+  since_is are = record {
+    rising = slots_rise state names rise;
+    members = λ e slot. (
+      λ c. let m = (slots_are state names e slot).0 c in (m.1, (are e slot m.1).0 m.0),
+      λ h. (slots_are state names e slot).1 ((are e slot h.0).1 h.1, h.0),
+    );
+  }
+
+-- all have moved, at the last number
+pub all_since : {Z : Type 0} (entries : List (String Z × Row)) (change since : ℕ) (names : List (List ℕ)) → change ≡ LAST → ((e : List ℕ) → Contains names e ↔ Contains (map (λ entry. string_bytes entry.0) entries) e)
+    → (e : List ℕ) (slot : Slot) → get (state_in entries) e ≡ Some slot → Contains names e ↔ IsSince (record { change = change; numbers = numbers_in entries }) since e
+all_since entries change since names last are e slot h = (
+  λ c. inl last,
+  λ s. let row = option_from (λ (r : Row). r.slot) (lookup (has_bytes e) entries) slot (sym (get-each_in (λ r. r.slot) entries e) ∙ h) in (are e).1 (key_there entries e row.0 row.1),
+)
+
+-- those that are filed above the number
+pub some_since : (numbers : List (ℕ × List (List ℕ))) (count : Count) (since : ℕ) (names : List (List ℕ)) → IsIndex nat_cmp numbers → (count.change ≡ LAST → ⊥)
+    → ((n : ℕ) (e : List ℕ) → Has nat_cmp numbers n e ↔ (get count.numbers e ≡ Some n)) → ((e : List ℕ) → Contains names e ↔ AnyHas (entries_above nat_cmp (Some since) numbers) e)
+    → (e : List ℕ) → Contains names e ↔ IsSince count since e
+some_since numbers count since names index not_last filed are e = (there, back)
+  where
+    there : Contains names e → IsSince count since e
+    there c = let f = (above_reads since numbers index e).0 ((are e).0 c) in inr (f.0, (filed f.0 e).0 f.2, f.1)
+
+    back : IsSince count since e → Contains names e
+    back (inl last) = absurd (not_last last)
+    back (inr f) = (are e).1 ((above_reads since numbers index e).1 (f.0, f.2, (filed f.0 e).1 f.1))
+
+-- a result that is another list's is what that is
+pub if_slots : {T E : Type 0} (P Q : T → Type 0) → ((t : T) → P t → Q t) → (r : Result T E) → IfOk r P → IfOk r Q
+if_slots P Q f (Ok t) h = f t h
+if_slots P Q f (Err e) h = tt

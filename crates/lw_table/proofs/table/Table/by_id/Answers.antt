@@ -1,0 +1,16 @@
+use Rattle.std.proofs.Common.{subst, ap, sym, ◌∙◌}
+use Rattle.lw_stamp.specs.Moment.{ms_of}
+use Rattle.lw_table.specs.Answers.{after_text}
+use Rattle.lw_table.specs.Table.{IsTable}
+use Rattle.lw_table.proofs.Answering as answering
+use Rattle.lw_table.proofs.table.Table.by_id.Goals as goal
+
+pub returns-clause-read : goal.returns-clause-read
+returns-clause-read c =
+    let table = subst (IsTable c.self.inside.filed.names c.self.inside.filed.keys c.self.inside.filed.numbers) c.self.view_is c.self.invariant.1 in
+    answering.read_by_id c.self.inside.filed.names c.self.inside.filed.keys c.self.inside.filed.numbers c.args.self.now table (ms_of c.args.now) c.args.id c.first_shown.ensures.rise c.first_shown.result c.first_shown.ensures.found
+
+pub returns-clause-marks : goal.returns-clause-marks
+returns-clause-marks c =
+    let table = subst (IsTable c.self.inside.filed.names c.self.inside.filed.keys c.self.inside.filed.numbers) c.self.view_is c.self.invariant.1 in
+    answering.marks_by_id c.self.inside.filed.names c.self.inside.filed.keys c.self.inside.filed.numbers c.args.self.now table (ms_of c.args.now) c.args.id c.first_shown.ensures.rise c.first_shown.result c.first_shown.ensures.found

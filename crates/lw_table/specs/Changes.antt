@@ -1,0 +1,45 @@
+-- Change numbers: how often the slots of a node have moved, and which have since a number.
+use Rattle.std.specs.Prelude.{◌≡◌, ◌≢◌, ℕ, ◌+◌, ◌-◌, ◌<◌, ◌^◌, ◌⊎◌, ◌↔◌, List, length, min, Contains, Option, Some, None, IfSome, IsSomeAnd, slice_get}
+use Rattle.std.specs.FinMap.{FinMap, get}
+use Rattle.std.specs.List.Sorted.{IsStrictlySortedBy}
+use Rattle.lw_stamp.specs.TextOrder.{text_cmp}
+use Rattle.lw_reg.specs.declared.slot.Slot.{Slot}
+use Rattle.lw_reg.specs.State.{State}
+
+-- a number for each endpoint whose slot has moved
+abbrev pub Numbers : Type 0
+Numbers = FinMap text_cmp ℕ
+
+-- the count of all moves, and the number that each endpoint took last
+pub record Count : Type 0 where
+  pub change : ℕ
+  pub numbers : Numbers
+
+-- numbers stay at the last
+abbrev pub LAST : ℕ
+LAST = 2 ^ 64 - 1
+
+abbrev pub counted : ℕ → ℕ → ℕ
+counted change more = min (change + more) LAST
+
+-- the slot of the endpoint is another than before
+abbrev pub Moves : State → State → List ℕ → Type 0
+Moves old new e = get old e ≢ get new e
+
+-- each endpoint that moves takes the next number, rising, and every other keeps the number that it has
+pub record Recounts (old new : State) (before after : Count) : Type 0 where
+  pub moved : List (List ℕ)
+  pub rising : IsStrictlySortedBy text_cmp moved
+  pub all : (e : List ℕ) → Contains moved e ↔ Moves old new e
+  pub change : after.change ≡ counted before.change (length moved)
+  pub numbered : (i : ℕ) (e : List ℕ) → slice_get moved i ≡ Some e → get after.numbers e ≡ Some (counted before.change (i + 1))
+  pub kept : (e : List ℕ) → get old e ≡ get new e → get after.numbers e ≡ get before.numbers e
+
+-- the endpoint took its number after the given one; at the last number all did
+abbrev pub IsSince : Count → ℕ → List ℕ → Type 0
+IsSince count since e = (count.change ≡ LAST) ⊎ ((k : ℕ) × (get count.numbers e ≡ Some k) × (since < k))
+
+-- exactly the slots that moved since then, as they stand, endpoints rising
+pub record IsSinceIn (state : State) (count : Count) (since : ℕ) (slots : List (List ℕ × Slot)) : Type 0 where
+  pub rising : IsStrictlySortedBy (λ x y. text_cmp x.0 y.0) slots
+  pub members : (e : List ℕ) (slot : Slot) → Contains slots (e, slot) ↔ ((get state e ≡ Some slot) × IsSince count since e)

@@ -1,0 +1,56 @@
+-- What contracts see of a table: the state of all that is known, and the change numbers.
+use Rattle.std.specs.Prelude.{◌≡◌, ◌≤◌, ◌↔◌, ℕ, List, Contains, Option, Some, None, IsSome, refl}
+use Rattle.std.specs.Coded.{Coded, coded×, coded_ℕ, coded_list, code_by}
+use Rattle.std.specs.FinMap.{empty, get, code}
+use Rattle.std.specs.Ordering.{nat_cmp}
+use Rattle.lw_index.specs.Index.{Has}
+use Rattle.lw_reg.specs.Endpoint.{IsEndpoint}
+use Rattle.lw_reg.specs.Reading.{IsRemoved}
+use Rattle.lw_reg.specs.declared.slot.Slot.{Slot}
+use Rattle.lw_reg.specs.contracts.slot.Slot as slots
+use Rattle.lw_reg.specs.State.{State}
+use Rattle.lw_table.specs.Changes.{Count, Numbers, LAST}
+use Rattle.lw_table.specs.Keys.{key_cmp, OptionHasKey}
+use Rattle.lw_table.specs.declared.key.Key.{Key}
+
+pub record TableContent : Type 0 where
+  pub state : State
+  pub count : Count
+
+abbrev pub none_counted : Count
+none_counted = record { change = 0; numbers = empty }
+
+-- nothing is known
+abbrev pub empty_table : TableContent
+empty_table = record { state = empty; count = none_counted }
+
+-- by which a proof tells states apart
+abbrev pub state_code : Coded State
+state_code = code (coded_list coded_ℕ) (slots.the_row).coded
+
+abbrev pub numbers_code : Coded Numbers
+numbers_code = code (coded_list coded_ℕ) coded_ℕ
+
+abbrev pub table_code : Coded TableContent
+table_code =
+    code_by (State × (ℕ × Numbers)) (coded× state_code (coded× coded_ℕ numbers_code))
+    (λ t. (t.state, (t.count.change, t.count.numbers)))
+    (λ p. record { state = p.0; count = record { change = p.1.0; numbers = p.1.1 } })
+    (λ _. refl)
+
+-- the registration was not removed
+abbrev pub IsKept : Option Slot → Type 0
+IsKept None = ⊥
+IsKept (Some slot) = ¬ IsRemoved slot
+
+-- What is filed beside the slots. The names are the endpoints whose registration was not removed, rising; the
+-- keys are the inverse of their slots; each endpoint is filed under its change number, and has one where it has
+-- a slot.
+pub record IsTable (names : List (List ℕ)) (keys : List (Key × List (List ℕ))) (numbers : List (ℕ × List (List ℕ))) (t : TableContent) : Type 0 where
+  pub names_are : (e : List ℕ) → Contains names e ↔ IsKept (get t.state e)
+  pub keys_are : (k : Key) (e : List ℕ) → Has key_cmp keys k e ↔ OptionHasKey (get t.state e) k
+  pub numbers_are : (n : ℕ) (e : List ℕ) → Has nat_cmp numbers n e ↔ (get t.count.numbers e ≡ Some n)
+  pub numbered : (e : List ℕ) → IsSome (get t.state e) ↔ IsSome (get t.count.numbers e)
+  pub within : (n : ℕ) (e : List ℕ) → get t.count.numbers e ≡ Some n → n ≤ t.count.change
+  pub last : t.count.change ≤ LAST
+  pub endpoints : (e : List ℕ) → IsSome (get t.state e) → IsEndpoint e

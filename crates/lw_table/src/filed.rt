@@ -1,0 +1,170 @@
+//! What is filed beside the rows: the name, the keys and the change number of each endpoint.
+
+ghost use Rattle.std.specs.Prelude.{◌≡◌, ◌↔◌, ◌⊎◌, ℕ, true, List, [], Some, Contains, OnOk, IsTrue};
+ghost use Rattle.std.specs.Option.{option_copied};
+ghost use Rattle.std.specs.Ordering.{nat_cmp};
+ghost use Rattle.lw_index.specs.Index.{Has};
+ghost use Rattle.lw_table.specs.declared.key.Key.{Key as Keys};
+ghost use Rattle.lw_table.specs.Filed.{IsFiled, IsOver, OthersSame, OtherKeys, OtherNames, IsBetween, HasAll, slot_of, number_of};
+ghost use Rattle.lw_table.specs.Keys.{key_cmp, HasKey, OptionHasKey};
+ghost use Rattle.lw_table.specs.Table.{IsKept};
+
+use crate::key::{Key, has};
+use crate::names::Names;
+use crate::row::Row;
+use lw_index::Index;
+use lw_stamp::NoMemory;
+use std::alloc::Global;
+
+/// What is filed of the endpoints.
+#[derive(Drop)]
+pub(crate) struct Filed {
+    /// The endpoints whose registration was not removed.
+    pub(crate) names: Names,
+    /// Their keys.
+    pub(crate) keys: Index<Key>,
+    /// The change number of each endpoint.
+    pub(crate) numbers: Index<u64>,
+}
+
+impl Filed {
+    pub(crate) fn new(alloc: Global) -> Filed
+        ensures names { result.names ≡ [] }
+        ensures keys { result.keys ≡ [] }
+        ensures numbers { result.numbers ≡ [] }
+    {
+        Filed {
+            names: Names::new(alloc),
+            keys: Index::new(alloc),
+            numbers: Index::new(alloc),
+        }
+    }
+
+    /// Files the endpoint under the keys and the number, and its name if it is kept. What was filed before a
+    /// refusal stays.
+    pub(crate) fn enter(
+        &mut self,
+        alloc: Global,
+        endpoint: &str,
+        kept: bool,
+        keys: &[Key],
+        number: u64,
+    ) -> Result<(), NoMemory>
+        ensures others { OthersSame self.old self.new endpoint.now }
+        ensures between { IsBetween self.old self.new endpoint.now kept keys.now number }
+        ensures all { OnOk result (HasAll self.new endpoint.now kept keys.now number) }
+    {
+        file_name(&mut self.names, alloc, endpoint, kept)?;
+        add_all(&mut self.keys, endpoint, keys)?;
+        file_number(&mut self.numbers, endpoint, number)
+    }
+
+    /// Files the endpoint under no more than what its row has, where the keys and the number may be more.
+    pub(crate) fn settle(&mut self, endpoint: &str, row: Option<&Row>, keys: &[Key], number: u64)
+        requires { IsOver self.old endpoint.now (option_copied row) keys.now number }
+        ensures others { OthersSame self.old self.new endpoint.now }
+        ensures settled { IsFiled self.new endpoint.now (option_copied row.entry) }
+    {
+        settle_name(&mut self.names, endpoint, row);
+        drop_lacking(&mut self.keys, endpoint, row, keys);
+        settle_number(&mut self.numbers, endpoint, row, number);
+    }
+}
+
+fn is_kept(row: Option<&Row>) -> bool
+    ensures { IsTrue result ↔ IsKept (slot_of (option_copied row.entry)) }
+{
+    match row {
+        None => false,
+        Some(row) => !row.slot.is_removed(),
+    }
+}
+
+fn has_key(row: Option<&Row>, key: &Key) -> bool
+    ensures { IsTrue result ↔ OptionHasKey (slot_of (option_copied row.entry)) key.now }
+{
+    match row {
+        None => false,
+        Some(row) => has(&row.slot, key),
+    }
+}
+
+fn has_number(row: Option<&Row>, number: u64) -> bool
+    ensures { IsTrue result ↔ (number_of (option_copied row.entry) ≡ Some number) }
+{
+    match row {
+        None => false,
+        Some(row) => row.number == number,
+    }
+}
+
+fn add_all(index: &mut Index<Key>, endpoint: &str, keys: &[Key]) -> Result<(), NoMemory>
+    ensures others { OtherKeys key_cmp endpoint.now index.old index.new }
+    ensures stay { (k : Keys) → Has key_cmp index.old k endpoint.now → Has key_cmp index.new k endpoint.now }
+    ensures from { (k : Keys) → Has key_cmp index.new k endpoint.now → Has key_cmp index.old k endpoint.now ⊎ Contains keys.now k }
+    ensures all { OnOk result ((k : Keys) → Contains keys.now k → Has key_cmp index.new k endpoint.now) }
+{
+    for key in keys {
+        index.add(*key, endpoint)?;
+    }
+    Ok(())
+}
+
+// Drops those of the keys that the row lacks.
+fn drop_lacking(index: &mut Index<Key>, endpoint: &str, row: Option<&Row>, keys: &[Key])
+    requires has { (k : Keys) → OptionHasKey (slot_of (option_copied row)) k → Has key_cmp index.old k endpoint.now }
+    requires from { (k : Keys) → Has key_cmp index.old k endpoint.now → OptionHasKey (slot_of (option_copied row)) k ⊎ Contains keys.now k }
+    ensures others { OtherKeys key_cmp endpoint.now index.old index.new }
+    ensures keys { (k : Keys) → Has key_cmp index.new k endpoint.now ↔ OptionHasKey (slot_of (option_copied row.entry)) k }
+{
+    for key in keys {
+        if !has_key(row, key) {
+            index.drop_one(key, endpoint);
+        }
+    }
+}
+
+fn file_name(names: &mut Names, alloc: Global, endpoint: &str, kept: bool) -> Result<(), NoMemory>
+    ensures others { OtherNames endpoint.now names.old names.new }
+    ensures stay { Contains names.old endpoint.now → Contains names.new endpoint.now }
+    ensures from { Contains names.new endpoint.now → Contains names.old endpoint.now ⊎ (kept ≡ true) }
+    ensures all { OnOk result (kept ≡ true → Contains names.new endpoint.now) }
+{
+    if !kept {
+        return Ok(());
+    }
+    names.add(alloc, endpoint)
+}
+
+fn settle_name(names: &mut Names, endpoint: &str, row: Option<&Row>)
+    requires { IsKept (slot_of (option_copied row)) → Contains names.old endpoint.now }
+    ensures others { OtherNames endpoint.now names.old names.new }
+    ensures name { Contains names.new endpoint.now ↔ IsKept (slot_of (option_copied row.entry)) }
+{
+    if is_kept(row) {
+        return;
+    }
+    names.remove(endpoint);
+}
+
+fn file_number(numbers: &mut Index<u64>, endpoint: &str, number: u64) -> Result<(), NoMemory>
+    ensures others { OtherKeys nat_cmp endpoint.now numbers.old numbers.new }
+    ensures stay { (n : ℕ) → Has nat_cmp numbers.old n endpoint.now → Has nat_cmp numbers.new n endpoint.now }
+    ensures from { (n : ℕ) → Has nat_cmp numbers.new n endpoint.now → Has nat_cmp numbers.old n endpoint.now ⊎ (n ≡ number) }
+    ensures all { OnOk result (Has nat_cmp numbers.new number endpoint.now) }
+{
+    numbers.add(number, endpoint)
+}
+
+// Drops the number, unless the row has it.
+fn settle_number(numbers: &mut Index<u64>, endpoint: &str, row: Option<&Row>, number: u64)
+    requires has { (n : ℕ) → number_of (option_copied row) ≡ Some n → Has nat_cmp numbers.old n endpoint.now }
+    requires from { (n : ℕ) → Has nat_cmp numbers.old n endpoint.now → (number_of (option_copied row) ≡ Some n) ⊎ (n ≡ number) }
+    ensures others { OtherKeys nat_cmp endpoint.now numbers.old numbers.new }
+    ensures numbers { (n : ℕ) → Has nat_cmp numbers.new n endpoint.now ↔ (number_of (option_copied row.entry) ≡ Some n) }
+{
+    if has_number(row, number) {
+        return;
+    }
+    numbers.drop_one(&number, endpoint);
+}

@@ -1,0 +1,20 @@
+//! What a node knows of its endpoints: their slots, found by endpoint, identifier, address and token, and which
+//! of them have moved since a change number.
+#![tactic(auto)]
+
+mod filed;
+mod key;
+mod look_ups;
+mod moves;
+mod names;
+mod room;
+mod row;
+mod since;
+mod table;
+mod turning;
+
+pub use key::Key;
+pub use table::Table;
+
+#[cfg(test)]
+mod tests;

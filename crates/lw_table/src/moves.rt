@@ -1,0 +1,135 @@
+//! A row that comes or moves, and what is filed of its endpoint.
+
+ghost use Rattle.std.specs.Prelude.{◌≡◌, ◌≢◌, ℕ, List, Some, None, OnOk, OnErr};
+ghost use Rattle.std.specs.BTreeMap.{IsOrdered, get_by_text};
+ghost use Rattle.std.specs.String.{string_cmp};
+ghost use Rattle.lw_table.specs.Filed.{IsFiled, IsOver, OthersSame};
+ghost use Rattle.lw_table.specs.Moves.{moved_row, next_row, PutsRow, SameRows};
+ghost use Rattle.lw_table.specs.Turning.{IsTurning};
+
+use crate::filed::Filed;
+use crate::key::Key;
+use crate::row::Row;
+use crate::turning::turning;
+use lw_join::Join;
+use lw_reg::Slot;
+use lw_stamp::NoMemory;
+use std::alloc::Global;
+use std::collections::BTreeMap;
+
+/// Joins the slot to that of the endpoint, whose row takes the number.
+pub(crate) fn put(
+    alloc: Global,
+    filed: &mut Filed,
+    rows: &mut BTreeMap<String, Row>,
+    endpoint: &str,
+    slot: Slot,
+    number: u64,
+) -> Result<(), NoMemory>
+    requires filed { IsFiled filed.old endpoint.now (get_by_text rows.old endpoint.now) }
+    requires ordered { IsOrdered string_cmp rows.old }
+    ensures others { OthersSame filed.old filed.new endpoint.now }
+    ensures put { OnOk result (PutsRow endpoint.now (next_row (get_by_text rows.old endpoint.now) slot number) rows.old rows.new × IsFiled filed.new endpoint.now (Some (next_row (get_by_text rows.old endpoint.now) slot number))) }
+    ensures unchanged { OnErr result (SameRows rows.old rows.new × IsFiled filed.new endpoint.now (get_by_text rows.old endpoint.now)) }
+{
+    match rows.get_mut(endpoint) {
+        Some(row) => move_row(alloc, filed, row, endpoint, slot, number),
+        None => add_row(alloc, filed, rows, endpoint, Row { slot, number }),
+    }
+}
+
+// Joins the slot to that of the row, which takes the number.
+fn move_row(
+    alloc: Global,
+    filed: &mut Filed,
+    row: &mut Row,
+    endpoint: &str,
+    slot: Slot,
+    number: u64,
+) -> Result<(), NoMemory>
+    requires { IsFiled filed.old endpoint.now (Some row.old) }
+    ensures others { OthersSame filed.old filed.new endpoint.now }
+    ensures filed { IsFiled filed.new endpoint.now (Some row.new) }
+    ensures moved { OnOk result (row.new ≡ moved_row row.old slot number) }
+    ensures unchanged { OnErr result (row.new ≡ row.old) }
+{
+    let keys = turning(alloc, Some(&row.slot), &slot)?;
+    let last = row.number;
+    match try_move(alloc, filed, row, endpoint, slot, number, &keys) {
+        Ok(()) => {
+            filed.settle(endpoint, Some(row), &keys, last);
+            Ok(())
+        }
+        Err(refused) => {
+            filed.settle(endpoint, Some(row), &keys, number);
+            Err(refused)
+        }
+    }
+}
+
+// The endpoint may be left filed under more than its row has.
+fn try_move(
+    alloc: Global,
+    filed: &mut Filed,
+    row: &mut Row,
+    endpoint: &str,
+    slot: Slot,
+    number: u64,
+    keys: &[Key],
+) -> Result<(), NoMemory>
+    requires filed { IsFiled filed.old endpoint.now (Some row.old) }
+    requires keys { IsTurning (Some row.old.slot) slot keys.now }
+    ensures others { OthersSame filed.old filed.new endpoint.now }
+    ensures moved { OnOk result ((row.new ≡ moved_row row.old slot number) × IsOver filed.new endpoint.now (Some row.new) keys.now row.old.number) }
+    ensures unchanged { OnErr result ((row.new ≡ row.old) × IsOver filed.new endpoint.now (Some row.new) keys.now number) }
+{
+    filed.enter(alloc, endpoint, !slot.is_removed(), keys, number)?;
+    row.slot.join_with(slot)?;
+    row.number = number;
+    Ok(())
+}
+
+// Puts the first row of an endpoint into the map.
+fn add_row(
+    alloc: Global,
+    filed: &mut Filed,
+    rows: &mut BTreeMap<String, Row>,
+    endpoint: &str,
+    row: Row,
+) -> Result<(), NoMemory>
+    requires filed { IsFiled filed.old endpoint.now None }
+    requires ordered { IsOrdered string_cmp rows.old }
+    ensures others { OthersSame filed.old filed.new endpoint.now }
+    ensures added { OnOk result (PutsRow endpoint.now row rows.old rows.new × IsFiled filed.new endpoint.now (Some row)) }
+    ensures unchanged { OnErr result (SameRows rows.old rows.new × IsFiled filed.new endpoint.now None) }
+{
+    let number = row.number;
+    let keys = turning(alloc, None, &row.slot)?;
+    match try_add(alloc, filed, rows, endpoint, row, &keys) {
+        Ok(()) => Ok(()),
+        Err(refused) => {
+            filed.settle(endpoint, None, &keys, number);
+            Err(refused)
+        }
+    }
+}
+
+fn try_add(
+    alloc: Global,
+    filed: &mut Filed,
+    rows: &mut BTreeMap<String, Row>,
+    endpoint: &str,
+    row: Row,
+    keys: &[Key],
+) -> Result<(), NoMemory>
+    requires filed { IsFiled filed.old endpoint.now None }
+    requires keys { IsTurning None row.slot keys.now }
+    requires ordered { IsOrdered string_cmp rows.old }
+    ensures others { OthersSame filed.old filed.new endpoint.now }
+    ensures added { OnOk result (PutsRow endpoint.now row rows.old rows.new × IsFiled filed.new endpoint.now (Some row)) }
+    ensures unchanged { OnErr result (SameRows rows.old rows.new × IsOver filed.new endpoint.now None keys.now row.number) }
+{
+    filed.enter(alloc, endpoint, !row.slot.is_removed(), keys, row.number)?;
+    rows.insert(String::from_str(alloc, endpoint)?, row)?;
+    Ok(())
+}

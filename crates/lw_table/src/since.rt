@@ -1,0 +1,82 @@
+//! Which slots have moved since a change number.
+
+ghost use Rattle.std.specs.Prelude.{◌≡◌, ◌↔◌, ◌⊎◌, ℕ, List, Some, Contains, IfOk, OnOk, map, string_bytes};
+ghost use Rattle.std.specs.Ordering.{nat_cmp};
+ghost use Rattle.std.specs.List.Sorted.{IsStrictlySortedBy};
+ghost use Rattle.lw_index.specs.Index.{entries_above, IsIndex};
+ghost use Rattle.lw_stamp.specs.TextOrder.{text_cmp};
+ghost use Rattle.lw_table.specs.Changes.{IsSinceIn};
+ghost use Rattle.lw_table.specs.Since.{AnyHas, slots_at};
+
+use crate::names::Names;
+use crate::row::Row;
+use crate::table::Table;
+use lw_index::{Endpoints, Index};
+use lw_reg::Slot;
+use lw_stamp::NoMemory;
+use std::alloc::Global;
+use std::collections::BTreeMap;
+
+impl Table {
+    /// The slots that moved after this change number, endpoints rising; all of them once numbers have come to
+    /// their end. It costs what it gives.
+    pub fn changed_since(&self, since: u64) -> Result<Vec<(&str, &Slot)>, NoMemory>
+        ensures { IfOk result (λ slots. IsSinceIn self.now.state self.now.count since (map (λ x. (x.0.now, x.1.now)) slots.items)) }
+    {
+        if self.change == u64::MAX {
+            self.slots(&all_names(self.alloc, &self.rows)?)
+        } else {
+            self.slots(&names_since(self.alloc, &self.filed.numbers, since)?)
+        }
+    }
+
+    /// The slots of these endpoints.
+    fn slots(&self, names: &Names) -> Result<Vec<(&str, &Slot)>, NoMemory>
+        ensures slots { IfOk result (λ slots. map (λ x. (x.0.now, x.1.now)) slots.items ≡ slots_at self.now.state names.now) }
+        ensures rise { IsStrictlySortedBy text_cmp names.now }
+    {
+        let mut slots = Vec::new(self.alloc);
+        for endpoint in names.from(None) {
+            if let Some(slot) = self.slot(endpoint.as_str()) {
+                slots.push(slot)?;
+            }
+        }
+        Ok(slots)
+    }
+}
+
+/// The endpoints of all rows.
+fn all_names(alloc: Global, rows: &BTreeMap<String, Row>) -> Result<Names, NoMemory>
+    ensures { IfOk result (λ names. (e : List ℕ) → Contains names e ↔ Contains (map (λ entry. string_bytes entry.0) rows.now.entries) e) }
+{
+    let mut names = Names::new(alloc);
+    for (endpoint, _) in rows {
+        names.add(alloc, endpoint.as_str())?;
+    }
+    Ok(names)
+}
+
+/// The endpoints that are filed under a number above this one.
+fn names_since(alloc: Global, numbers: &Index<u64>, since: u64) -> Result<Names, NoMemory>
+    ensures names { IfOk result (λ names. (e : List ℕ) → Contains names e ↔ AnyHas (entries_above nat_cmp (Some since) numbers.now) e) }
+    ensures is_index { IsIndex nat_cmp numbers.now }
+{
+    let mut names = Names::new(alloc);
+    for (_, endpoints) in numbers.above(Some(&since)) {
+        add_all(alloc, &mut names, endpoints)?;
+    }
+    Ok(names)
+}
+
+/// Adds the endpoints of one number, of which there is one but at the last.
+fn add_all(alloc: Global, names: &mut Names, mut endpoints: Endpoints<'_>) -> Result<(), NoMemory>
+    ensures { OnOk result ((e : List ℕ) → Contains names.new e ↔ (Contains names.old e ⊎ Contains endpoints.entry e)) }
+{
+    match endpoints.next() {
+        None => Ok(()),
+        Some(endpoint) => {
+            names.add(alloc, endpoint)?;
+            add_all(alloc, names, endpoints)
+        }
+    }
+}

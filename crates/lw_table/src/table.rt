@@ -1,0 +1,120 @@
+ghost use Rattle.std.specs.Prelude.{◌≡◌, ◌↔◌, ◌≤◌, ℕ, List, OnOk, OnErr, IsOk, IsSomeAnd, IsTrue};
+ghost use Rattle.std.specs.FinMap.{get};
+ghost use Rattle.lw_index.specs.Index.{Has};
+ghost use Rattle.lw_join.specs.Maps.{one_key};
+ghost use Rattle.lw_reg.specs.Endpoint.{IsEndpoint};
+ghost use Rattle.lw_reg.specs.Slot.{slot_below};
+ghost use Rattle.lw_reg.specs.State.{state_join};
+ghost use Rattle.lw_table.specs.declared.key.Key.{Key as Keys};
+ghost use Rattle.lw_table.specs.Changes.{LAST, Recounts};
+ghost use Rattle.lw_table.specs.Keys.{key_cmp, OptionHasKey};
+ghost use Rattle.lw_table.specs.Table.{empty_table};
+
+use crate::filed::Filed;
+use crate::key::Key;
+use crate::moves::put;
+use crate::row::Row;
+use lw_index::Index;
+use lw_join::Join;
+use lw_reg::{Endpoint, Slot};
+use lw_stamp::NoMemory;
+use std::alloc::Global;
+use std::collections::BTreeMap;
+use std::marker::Model;
+
+/// The slots of the endpoints that a node knows of.
+#[derive(Drop)]
+pub struct Table {
+    pub(crate) alloc: Global,
+    pub(crate) rows: BTreeMap<String, Row>,
+    pub(crate) filed: Filed,
+    pub(crate) change: u64,
+}
+
+impl Model for Table {
+    ghost use Rattle.std.specs.BTreeMap.{IsOrdered};
+    ghost use Rattle.std.specs.String.{string_cmp};
+    ghost use Rattle.lw_table.specs.Rows.{table_in};
+    ghost use Rattle.lw_table.specs.Table.{TableContent, table_code, IsTable};
+
+    ghost Value = { TableContent };
+
+    ghost coded = { table_code };
+
+    ghost view = { λ t. table_in t.rows.entries t.change };
+
+    ghost invariant = { λ t. IsOrdered string_cmp t.rows × IsTable t.filed.names t.filed.keys t.filed.numbers (table_in t.rows.entries t.change) };
+}
+
+impl Table {
+    pub fn new(alloc: Global) -> Table
+        ensures { result ≡ empty_table }
+    {
+        Table {
+            alloc,
+            rows: BTreeMap::new(alloc),
+            filed: Filed::new(alloc),
+            change: 0,
+        }
+    }
+
+    /// Joins a slot to that of the endpoint. A slot that tells nothing new takes no memory. Refused, nothing is changed.
+    pub fn join(&mut self, endpoint: &Endpoint, slot: Slot) -> Result<(), NoMemory>
+        ensures state { OnOk result (self.new.state ≡ state_join self.old.state (one_key endpoint.now slot)) }
+        ensures count { OnOk result (Recounts self.old.state self.new.state self.old.count self.new.count) }
+        ensures known { IsSomeAnd (get self.old.state endpoint.now) (slot_below slot) → IsOk result × (self.new ≡ self.old) }
+        ensures unchanged { OnErr result (self.new ≡ self.old) }
+    {
+        let endpoint = endpoint.as_str();
+        if self.knows(endpoint, &slot) {
+            return Ok(());
+        }
+        self.take(endpoint, slot)
+    }
+
+    // Whether the slot is below that of the endpoint.
+    fn knows(&self, endpoint: &str, slot: &Slot) -> bool
+        ensures last { self.now.count.change ≤ LAST }
+        ensures below { IsTrue result ↔ IsSomeAnd (get self.now.state endpoint.now) (slot_below slot.now) }
+    {
+        match self.rows.get(endpoint) {
+            None => false,
+            Some(row) => slot.le(&row.slot),
+        }
+    }
+
+    // Joins a slot that tells something new.
+    fn take(&mut self, endpoint: &str, slot: Slot) -> Result<(), NoMemory>
+        requires news { IsSomeAnd (get self.old.state endpoint.now) (slot_below slot) → ⊥ }
+        requires within { IsEndpoint endpoint.now }
+        ensures state { OnOk result (self.new.state ≡ state_join self.old.state (one_key endpoint.now slot)) }
+        ensures count { OnOk result (Recounts self.old.state self.new.state self.old.count self.new.count) }
+        ensures unchanged { OnErr result (self.new ≡ self.old) }
+    {
+        let change = self.change.saturating_add(1);
+        put(
+            self.alloc,
+            &mut self.filed,
+            &mut self.rows,
+            endpoint,
+            slot,
+            change,
+        )?;
+        self.change = change;
+        Ok(())
+    }
+
+    /// How often a slot has moved. It stays at the greatest number.
+    pub fn change(&self) -> u64
+        ensures { result ≡ self.now.count.change }
+    {
+        self.change
+    }
+
+    /// The keys of the slots that were not removed: their index is the inverse of the slots.
+    pub fn keys(&self) -> &Index<Key>
+        ensures { (k : Keys) (e : List ℕ) → Has key_cmp result.now k e ↔ OptionHasKey (get self.now.state e) k }
+    {
+        &self.filed.keys
+    }
+}

@@ -1,0 +1,71 @@
+//! Which slots have moved since a change number.
+
+use super::*;
+
+/// The endpoints of the slots, each with the counter of its registration and whether that was removed.
+fn told(alloc: Global, table: &Table, since: u64) -> Result<String, Fail> {
+    let mut text = String::new(alloc);
+    for (endpoint, slot) in table.changed_since(since)?.iter() {
+        let sign = if slot.is_removed() { "-" } else { "+" };
+        let counter = slot.stamp().counter;
+        let one = format!(in alloc; "{endpoint}{sign}{counter} ")?;
+        text.push_str(one.as_str())?;
+    }
+    Ok(text)
+}
+
+fn tells(alloc: Global, table: &Table, rows: &[(u64, &str)]) -> Result<bool, Fail> {
+    for (since, wanted) in rows {
+        if told(alloc, table, *since)?.as_str() != *wanted {
+            return Ok(false);
+        }
+    }
+    Ok(true)
+}
+
+const OF_FIVE: [(u64, &str); 8] = [
+    (0, "a+1 b+2 c+3 d-4 e+5 "),
+    (1, "b+2 c+3 d-4 e+5 "),
+    (3, "d-4 e+5 "),
+    (4, "d-4 e+5 "),
+    (5, "e+5 "),
+    (6, ""),
+    (7, ""),
+    (u64::MAX, ""),
+];
+
+#[test]
+fn what_has_moved_since_a_number(rt: HostRuntime) -> Result<(), Fail> {
+    let table = table_of(rt.alloc(), &FIVE)?;
+    assert_eq!(rt; table.change(), 6);
+    assert!(rt; tells(rt.alloc(), &table, &OF_FIVE)?);
+    Ok(())
+}
+
+const AGAIN: [(&str, Change); 4] = [
+    ("c", Register(THIRD, HOST_A, 60)),
+    ("b", Register(SECOND, HOST_A, 60)),
+    ("c", Observe(FOURTH, THIRD, 3)),
+    ("b", Register(FIRST, HOST_A, 60)),
+];
+
+const OF_AGAIN: [(u64, &str); 4] = [(0, "b+2 c+3 "), (1, "b+2 c+3 "), (2, "c+3 "), (3, "")];
+
+// One that moves again takes a later number, and one that does not keeps its own.
+#[test]
+fn what_has_moved_again(rt: HostRuntime) -> Result<(), Fail> {
+    let table = table_of(rt.alloc(), &AGAIN)?;
+    assert_eq!(rt; table.change(), 3);
+    assert!(rt; tells(rt.alloc(), &table, &OF_AGAIN)?);
+    Ok(())
+}
+
+#[test]
+fn a_hundred_that_have_moved(rt: HostRuntime) -> Result<(), Fail> {
+    let table = hundred(rt.alloc())?;
+    assert_eq!(rt; table.changed_since(0)?.len(), 100);
+    assert_eq!(rt; table.changed_since(40)?.len(), 60);
+    let text = told(rt.alloc(), &table, 97)?;
+    assert_eq!(rt; text.as_str(), "900+100 901+99 902+98 ");
+    Ok(())
+}
