@@ -348,7 +348,7 @@ fn a_line_is_answered(rt: HostRuntime) -> Result<(), Fail> {
         (REGISTER, ANSWER),
         (upper, ANSWER),
         (b"40000007", "70000007\n"),
-        (b"40010001\n", "60800001\n"),
+        (b"40010001\n", "60840001\n"),
         (b"", "-\n"),
         (b"\n40000007", "-\n"),
         (b"4000000", "hex refused"),
