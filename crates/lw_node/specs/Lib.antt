@@ -5,4 +5,5 @@ pub mod Observe
 pub mod Within
 pub mod Exchange
 pub mod Steps
+pub mod Twice
 pub mod Laws
