@@ -18,11 +18,12 @@ use Rattle.lw_node.specs.declared.observe_fault.ObserveFault.TheVariants as faul
 use Rattle.lw_node.specs.declared.question.Question.{Question}
 use Rattle.lw_node.specs.declared.reply.Reply.TheVariants as replies
 use Rattle.lw_node.specs.Calls.{TakenContent, OutgoingContent, DecisionContent, CommandContent, place_at, Decides, Decided, TakesSo, Takes, IsSilent, IsSent, CommandsOr, Commanded, Sent}
+use Rattle.lw_node.specs.Done.{IsDone}
 use Rattle.lw_node.specs.Effects.{Effect, Request, Refused, DatagramMeans, ObserveMeans, CancelMeans}
 use Rattle.lw_node.specs.Node.{NodeContent, Known, IsKnown, Knows, marks_in, IsAfter}
 use Rattle.lw_node.specs.Node.Known.{Shown, Told}
 use Rattle.lw_node.specs.Steps.{Answers, IsFound, Asks, Steps}
-use Rattle.lw_node.specs.Twice.{IsDone, first_of}
+use Rattle.lw_node.specs.Twice.{first_of}
 use Rattle.lw_node.specs.Within.{FitsClock, IsNextOf}
 use Rattle.lw_node.proofs.NextOperation.{datagram_next, observe_next, cancel_next}
 

@@ -6,4 +6,5 @@ pub mod Within
 pub mod Exchange
 pub mod Steps
 pub mod Twice
+pub mod Done
 pub mod Laws

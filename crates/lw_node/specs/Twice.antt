@@ -1,9 +1,5 @@
--- What is made twice, and what a command that is given twice leaves.
-use Rattle.std.specs.Prelude.{◌≡◌, Result, Ok, Err}
-use Rattle.lw_node.specs.declared.observe_fault.ObserveFault.{ObserveFault}
-use Rattle.lw_node.specs.declared.observe_fault.ObserveFault.TheVariants.{NoMemory}
-use Rattle.lw_node.specs.Calls.{CommandContent, OutgoingContent}
-use Rattle.lw_node.specs.Node.{NodeContent, Issued}
+-- Results that are made twice.
+use Rattle.std.specs.Prelude.{Result, Ok, Err}
 
 -- ---- each of a pair, or the refusal of both
 abbrev pub first_of : {T E : Type 0} → Result (T × T) E → Result T E
@@ -13,10 +9,3 @@ first_of (Err refused) = Err refused
 abbrev pub second_of : {T E : Type 0} → Result (T × T) E → Result T E
 second_of (Ok pair) = Ok pair.1
 second_of (Err refused) = Err refused
-
--- What was decided is sent, and its operation issued, or there is no memory for that; what was refused stays so.
-abbrev pub IsDone : NodeContent → Result CommandContent ObserveFault → Result OutgoingContent ObserveFault → NodeContent → Type 0
-IsDone old (Ok command) (Ok outgoing) new = (outgoing ≡ command.outgoing) × Issued old command.operation new
-IsDone old (Ok command) (Err fault) new = (fault ≡ NoMemory) × (new ≡ old)
-IsDone old (Err refused) (Ok outgoing) new = ⊥
-IsDone old (Err refused) (Err fault) new = (fault ≡ refused) × (new ≡ old)
