@@ -10,16 +10,20 @@ use Rattle.lw_reg.specs.declared.op.Op.{Op}
 use Rattle.lw_reg.specs.declared.path.Path.{Path}
 use Rattle.lw_reg.specs.Marks.{Mark, Marks, among}
 use Rattle.lw_reg.specs.Reading.{shown_in}
+use Rattle.lw_node.specs.declared.answer.Answer.{Answer}
 use Rattle.lw_node.specs.declared.call.Call.{Call}
 use Rattle.lw_node.specs.declared.call.Call.TheVariants as calls
 use Rattle.lw_node.specs.declared.observe_fault.ObserveFault.{ObserveFault}
 use Rattle.lw_node.specs.declared.observe_fault.ObserveFault.TheVariants as faults
+use Rattle.lw_node.specs.declared.question.Question.{Question}
 use Rattle.lw_node.specs.declared.reply.Reply.TheVariants as replies
 use Rattle.lw_node.specs.Calls.{TakenContent, OutgoingContent, DecisionContent, CommandContent, place_at, Decides, Decided, TakesSo, Takes, IsSilent, IsSent, CommandsOr, Commanded, Sent}
+use Rattle.lw_node.specs.Done.{IsDone}
 use Rattle.lw_node.specs.Effects.{Effect, Request, Refused, DatagramMeans, ObserveMeans, CancelMeans}
 use Rattle.lw_node.specs.Node.{NodeContent, Known, IsKnown, Knows, marks_in, IsAfter}
 use Rattle.lw_node.specs.Node.Known.{Shown, Told}
-use Rattle.lw_node.specs.Steps.{IsDone, Steps}
+use Rattle.lw_node.specs.Steps.{Answers, IsFound, Asks, Steps}
+use Rattle.lw_node.specs.Twice.{first_of}
 use Rattle.lw_node.specs.Within.{FitsClock, IsNextOf}
 use Rattle.lw_node.proofs.NextOperation.{datagram_next, observe_next, cancel_next}
 
@@ -48,6 +52,11 @@ take_steps old new M now source slice bytes same call is r taken unchanged silen
     go : (r : Result TakenContent NoMemory) → IfOk r (λ t. Takes old M (ms_of now) source slice t new) → OnErr r (new ≡ old) → (IsSilent slice → IsOk r) → Steps old M (calls.Take now source slice) (replies.Take r) new
     go (Ok t) taken unchanged silent = taken
     go (Err refused) taken unchanged silent = ((λ s. absurd (let f = silent s in cc)), unchanged)
+
+module _ (old new : NodeContent) (M : Marks) (now : Moment) (source : Addr) (slice bytes : List ℕ) (same : slice ≡ bytes) (call : Call) (is : call ≡ calls.Take now source bytes) where
+  pub take_twice_steps : (pair : Result (TakenContent × TakenContent) NoMemory) (r : Result TakenContent NoMemory) → r ≡ first_of pair → IfOk (first_of pair) (λ t. Takes old M (ms_of now) source slice t new) → OnErr pair (new ≡ old) → (IsSilent slice → IsOk pair) → Steps old M call (replies.Take r) new
+  take_twice_steps (Ok p) r first taken unchanged silent = subst (λ (r : Result TakenContent NoMemory). Steps old M call (replies.Take r) new) (sym first) (take_steps old new M now source slice bytes same call is (Ok p.0) taken unchanged silent)
+  take_twice_steps (Err e) r first taken unchanged silent = subst (λ (r : Result TakenContent NoMemory). Steps old M call (replies.Take r) new) (sym first) (take_steps old new M now source slice bytes same call is (Err e) taken unchanged silent)
 
 -- ---- commands
 pub observed_next : (node : NodeContent) (now : ℕ) (id : Stamp) (path : Path) (accept : Option ℕ) (mid : ℕ) (r : Result CommandContent ObserveFault) (clock : ℕ) → clock ≡ node.clock → FitsClock clock node.table.state → Commanded node.table.state (λ M. ObserveMeans (place_at node now) M id path accept mid) r → IfOk r (λ c. IsNextOf node.clock c.operation)
@@ -79,3 +88,13 @@ module _ (Meant : Result (Request × Op) Refused → Type 0) (old new : NodeCont
   done_sent (Ok c) (Err fault) h done = subst (λ (f : ObserveFault). Sent Meant old (Err f) new) (sym done.0) ((h.request, c.operation, h.meant), done.1)
   done_sent (Err fault) (Ok o) h done = absurd done
   done_sent (Err fault) (Err given) h done = subst (λ (f : ObserveFault). Sent Meant old (Err f) new) (sym done.0) (refused_sent fault h done.1)
+
+-- ---- questions
+pub asks_so : (node : NodeContent) (M : Marks) (now : ℕ) (question : Question) (answer : Answer) (r : Result Answer NoMemory) → IfOk r (λ a. a ≡ answer) → OnErr r (IsFound answer) → Answers node M now question answer → Asks node M now question r
+asks_so node M now question answer (Ok a) same found is = subst (Answers node M now question) (sym same) is
+asks_so node M now question answer (Err refused) same found is = (answer, found, is)
+
+pub asked : (node : NodeContent) (now : ℕ) (given question : Question) → given ≡ question → (answer : Answer) (r : Result Answer NoMemory) → IfOk r (λ a. a ≡ answer) → OnErr r (IsFound answer) → Answers node (shown_in node.table.state) now question answer → ((ms : List Mark) → Knows node ms → Answers node (among ms) now question answer) → (known : Known) → IsKnown node.table.state known → Asks node (marks_in node.table.state known) now given r
+asked node now given question same answer r is found read marks known of =
+    asks_so node (marks_in node.table.state known) now given answer r is found
+    (subst (λ (q : Question). Answers node (marks_in node.table.state known) now q answer) (sym same) (by_known (λ M. Answers node M now question answer) node read marks known of))

@@ -5,4 +5,6 @@ pub mod Observe
 pub mod Within
 pub mod Exchange
 pub mod Steps
+pub mod Twice
+pub mod Done
 pub mod Laws

@@ -1,5 +1,6 @@
 -- The steps of a node: a call, its reply, and the node before and after. Every way to call a node is one of them.
-use Rattle.std.specs.Prelude.{◌≡◌, ℕ, IfOk, Result, Ok, Err}
+use Rattle.std.specs.Prelude.{◌≡◌, ℕ, IfOk, IsSome, Result, Ok, Err}
+use Rattle.lw_stamp.specs.declared.no_memory.NoMemory.{NoMemory}
 use Rattle.lw_stamp.specs.Moment.{ms_of}
 use Rattle.lw_reg.specs.Marks.{Marks}
 use Rattle.lw_reg.specs.Showing.{ShownOf}
@@ -13,11 +14,9 @@ use Rattle.lw_node.specs.declared.question.Question.{Question}
 use Rattle.lw_node.specs.declared.question.Question.TheVariants.{ById, ByEndpoint, ByAddress, ByToken, WatchAfter, FirstAfter as First, ExpiredAfter, Change}
 use Rattle.lw_node.specs.declared.reply.Reply.{Reply}
 use Rattle.lw_node.specs.declared.reply.Reply.TheVariants as replies
-use Rattle.lw_node.specs.declared.observe_fault.ObserveFault.{ObserveFault}
-use Rattle.lw_node.specs.declared.observe_fault.ObserveFault.TheVariants.{NoMemory}
-use Rattle.lw_node.specs.Calls.{Takes, IsSilent, Observes, Cancels, CommandContent, OutgoingContent}
+use Rattle.lw_node.specs.Calls.{Takes, IsSilent, Observes, Cancels}
 use Rattle.lw_node.specs.Exchange.{IsDeltaSince, Merges}
-use Rattle.lw_node.specs.Node.{NodeContent, Issued}
+use Rattle.lw_node.specs.Node.{NodeContent}
 
 -- the answer of a node, of which these marks tell
 abbrev pub Answers : NodeContent → Marks → ℕ → Question → Answer → Type 0
@@ -31,12 +30,17 @@ Answers node M now (ExpiredAfter after) (answers.Expired found) = look_ups.Expir
 Answers node M now Change (answers.Changed number) = number ≡ node.table.count.change
 Answers node M now _ _ = ⊥
 
--- What was decided is sent, and its operation issued, or there is no memory for that; what was refused stays so.
-abbrev pub IsDone : NodeContent → Result CommandContent ObserveFault → Result OutgoingContent ObserveFault → NodeContent → Type 0
-IsDone old (Ok command) (Ok outgoing) new = (outgoing ≡ command.outgoing) × Issued old command.operation new
-IsDone old (Ok command) (Err fault) new = (fault ≡ NoMemory) × (new ≡ old)
-IsDone old (Err refused) (Ok outgoing) new = ⊥
-IsDone old (Err refused) (Err fault) new = (fault ≡ refused) × (new ≡ old)
+-- what was asked for is there
+abbrev pub IsFound : Answer → Type 0
+IsFound (answers.Registration found) = IsSome found
+IsFound (answers.Watched found) = IsSome found
+IsFound (answers.Expired found) = IsSome found
+IsFound (answers.Changed number) = ⊥
+
+-- the answer; or want of memory, in place of an answer that has found something
+abbrev pub Asks : NodeContent → Marks → ℕ → Question → Result Answer NoMemory → Type 0
+Asks node M now question (Ok answer) = Answers node M now question answer
+Asks node M now question (Err refused) = (answer : Answer) × IsFound answer × Answers node M now question answer
 
 -- A call of a node, of which these marks tell. Want of memory changes nothing, save that a merge may have joined
 -- the first slots.
@@ -47,5 +51,5 @@ Steps old M (calls.Observe now id path accept mid) (replies.Observe outcome) new
 Steps old M (calls.Cancel now token mid) (replies.Cancel outcome) new = Cancels old M (ms_of now) token mid outcome new
 Steps old M (calls.Send since) (replies.Send outcome) new = IfOk outcome (λ sent. IsDeltaSince old since sent.delta × (sent.change ≡ old.table.count.change)) × (new ≡ old)
 Steps old M (calls.Merge bytes) (replies.Merge outcome) new = Merges old bytes outcome new
-Steps old M (calls.Ask now question) (replies.Ask outcome) new = IfOk outcome (Answers old M (ms_of now) question) × (new ≡ old)
+Steps old M (calls.Ask now question) (replies.Ask outcome) new = Asks old M (ms_of now) question outcome × (new ≡ old)
 Steps old M _ _ new = ⊥

@@ -9,6 +9,7 @@ use crate::call::Call;
 use crate::node::Node;
 use crate::reply::Reply;
 use crate::sent::Sent;
+use crate::twice::both;
 use lw_stamp::NoMemory;
 
 impl Node {
@@ -44,7 +45,7 @@ impl Node {
     {
         match call {
             Call::Take { now, from, bytes } => {
-                let (first, second) = self.take_twice(*now, *from, bytes.as_slice());
+                let (first, second) = both(self.take_twice(*now, *from, bytes.as_slice()));
                 (Reply::Take(first), Reply::Take(second))
             }
             Call::Observe {
@@ -62,7 +63,7 @@ impl Node {
                 (Reply::Cancel(first), Reply::Cancel(second))
             }
             Call::Send { since } => {
-                let (first, second) = self.send_twice(*since);
+                let (first, second) = both(self.send_twice(*since));
                 (Reply::Send(first), Reply::Send(second))
             }
             Call::Merge { bytes } => {
@@ -70,7 +71,7 @@ impl Node {
                 (Reply::Merge(outcome), Reply::Merge(outcome))
             }
             Call::Ask { now, question } => {
-                let (first, second) = self.ask_twice(*now, question);
+                let (first, second) = both(self.ask_twice(*now, question));
                 (Reply::Ask(first), Reply::Ask(second))
             }
         }

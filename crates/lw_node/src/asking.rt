@@ -1,9 +1,9 @@
 //! Questions, and their answers.
 
-ghost use Rattle.std.specs.Prelude.{◌≡◌, IfOk, option_map};
+ghost use Rattle.std.specs.Prelude.{◌≡◌, IfOk, IsSome, OnErr, option_map};
 ghost use Rattle.lw_stamp.specs.Moment.{ms_of};
 ghost use Rattle.lw_node.specs.Node.{Known, IsKnown, marks_in};
-ghost use Rattle.lw_node.specs.Steps.{Answers};
+ghost use Rattle.lw_node.specs.Steps.{Asks};
 
 use crate::answer::Answer;
 use crate::node::Node;
@@ -13,9 +13,10 @@ use lw_stamp::{Moment, NoMemory, Stamp};
 use std::alloc::Global;
 
 impl Node {
-    /// The answer to a question at this moment, as a copy.
+    /// The answer to a question at this moment, as a copy. It takes no memory where nothing is found, nor does the change
+    /// number.
     pub fn ask(&self, now: Moment, question: &Question) -> Result<Answer, NoMemory>
-        ensures { (known : Known) → IsKnown self.now.table.state known → IfOk result (Answers self.now (marks_in self.now.table.state known) (ms_of now) question.now) }
+        ensures { (known : Known) → IsKnown self.now.table.state known → Asks self.now (marks_in self.now.table.state known) (ms_of now) question.now result }
     {
         let alloc = self.alloc;
         match question {
@@ -47,7 +48,8 @@ impl Node {
 }
 
 fn seen(alloc: Global, view: Option<View<'_>>) -> Result<Option<Seen>, NoMemory>
-    ensures { IfOk result (λ seen. seen ≡ view.entry) }
+    ensures value { IfOk result (λ seen. seen ≡ view.entry) }
+    ensures found { OnErr result (IsSome view.entry) }
 {
     match view {
         None => Ok(None),
@@ -56,13 +58,15 @@ fn seen(alloc: Global, view: Option<View<'_>>) -> Result<Option<Seen>, NoMemory>
 }
 
 fn registration(alloc: Global, view: Option<View<'_>>) -> Result<Answer, NoMemory>
-    ensures { IfOk result (λ a. a ≡ Answer.Registration view.entry) }
+    ensures value { IfOk result (λ a. a ≡ Answer.Registration view.entry) }
+    ensures found { OnErr result (IsSome view.entry) }
 {
     Ok(Answer::Registration(seen(alloc, view)?))
 }
 
 fn watched(alloc: Global, found: Option<(View<'_>, Watch)>) -> Result<Answer, NoMemory>
-    ensures { IfOk result (λ a. a ≡ Answer.Watched found.entry) }
+    ensures value { IfOk result (λ a. a ≡ Answer.Watched found.entry) }
+    ensures found { OnErr result (IsSome found.entry) }
 {
     match found {
         None => Ok(Answer::Watched(None)),
@@ -71,7 +75,8 @@ fn watched(alloc: Global, found: Option<(View<'_>, Watch)>) -> Result<Answer, No
 }
 
 fn expired(alloc: Global, found: Option<(&str, Stamp)>) -> Result<Answer, NoMemory>
-    ensures { IfOk result (λ a. a ≡ Answer.Expired (option_map (λ x. (x.0.now, x.1)) found.entry)) }
+    ensures value { IfOk result (λ a. a ≡ Answer.Expired (option_map (λ x. (x.0.now, x.1)) found.entry)) }
+    ensures found { OnErr result (IsSome found.entry) }
 {
     match found {
         None => Ok(Answer::Expired(None)),

@@ -22,60 +22,106 @@ impl Call {
     pub fn same(&self, other: &Call) -> bool
         ensures { IsTrue result ↔ (self.now ≡ other.now) }
     {
-        match (self, other) {
-            (
-                Call::Take { now, from, bytes },
-                Call::Take {
-                    now: other_now,
-                    from: other_from,
-                    bytes: other_bytes,
-                },
-            ) => {
-                same_moment(now, other_now)
-                    && same_address(from, other_from)
-                    && same_bytes(bytes.as_slice(), other_bytes.as_slice())
+        match self {
+            Call::Take { now, from, bytes } => other.is_take(now, from, bytes.as_slice()),
+            Call::Observe {
+                now,
+                id,
+                path,
+                accept,
+                mid,
+            } => other.is_observe(now, id, path, accept, *mid),
+            Call::Cancel { now, token, mid } => other.is_cancel(now, token, *mid),
+            Call::Send { since } => other.is_send(*since),
+            Call::Merge { bytes } => other.is_merge(bytes.as_slice()),
+            Call::Ask { now, question } => other.is_ask(now, question),
+        }
+    }
+
+    fn is_take(&self, now: &Moment, from: &Addr, bytes: &[u8]) -> bool
+        ensures { IsTrue result ↔ (Call.Take now.now from.now bytes.now ≡ self.now) }
+    {
+        match self {
+            Call::Take {
+                now: own_now,
+                from: own_from,
+                bytes: own_bytes,
+            } => {
+                same_moment(now, own_now)
+                    && same_address(from, own_from)
+                    && same_bytes(bytes, own_bytes.as_slice())
             }
-            (
-                Call::Observe {
-                    now,
-                    id,
-                    path,
-                    accept,
-                    mid,
-                },
-                Call::Observe {
-                    now: other_now,
-                    id: other_id,
-                    path: other_path,
-                    accept: other_accept,
-                    mid: other_mid,
-                },
-            ) => {
-                same_moment(now, other_now)
-                    && same_stamp(id, other_id)
-                    && same_path(path, other_path)
-                    && same_format(accept, other_accept)
-                    && mid == other_mid
+            _ => false,
+        }
+    }
+
+    fn is_observe(
+        &self,
+        now: &Moment,
+        id: &Stamp,
+        path: &Path,
+        accept: &Option<u16>,
+        mid: u16,
+    ) -> bool
+        ensures { IsTrue result ↔ (Call.Observe now.now id.now path.now accept.now mid ≡ self.now) }
+    {
+        match self {
+            Call::Observe {
+                now: own_now,
+                id: own_id,
+                path: own_path,
+                accept: own_accept,
+                mid: own_mid,
+            } => {
+                same_moment(now, own_now)
+                    && same_stamp(id, own_id)
+                    && same_path(path, own_path)
+                    && same_format(accept, own_accept)
+                    && mid == *own_mid
             }
-            (
-                Call::Cancel { now, token, mid },
-                Call::Cancel {
-                    now: other_now,
-                    token: other_token,
-                    mid: other_mid,
-                },
-            ) => same_moment(now, other_now) && same_stamp(token, other_token) && mid == other_mid,
-            (Call::Send { since }, Call::Send { since: other }) => since == other,
-            (Call::Merge { bytes }, Call::Merge { bytes: other }) => {
-                same_bytes(bytes.as_slice(), other.as_slice())
-            }
-            (
-                Call::Ask { now, question },
-                Call::Ask {
-                    now: other_now,
-                    question: other_question,
-                },
-            ) => same_moment(now, other_now) && question.same(other_question),
+            _ => false,
+        }
+    }
+
+    fn is_cancel(&self, now: &Moment, token: &Stamp, mid: u16) -> bool
+        ensures { IsTrue result ↔ (Call.Cancel now.now token.now mid ≡ self.now) }
+    {
+        match self {
+            Call::Cancel {
+                now: own_now,
+                token: own_token,
+                mid: own_mid,
+            } => same_moment(now, own_now) && same_stamp(token, own_token) && mid == *own_mid,
+            _ => false,
+        }
+    }
+
+    fn is_send(&self, since: u64) -> bool
+        ensures { IsTrue result ↔ (Call.Send since ≡ self.now) }
+    {
+        match self {
+            Call::Send { since: own } => since == *own,
+            _ => false,
+        }
+    }
+
+    fn is_merge(&self, bytes: &[u8]) -> bool
+        ensures { IsTrue result ↔ (Call.Merge bytes.now ≡ self.now) }
+    {
+        match self {
+            Call::Merge { bytes: own } => same_bytes(bytes, own.as_slice()),
+            _ => false,
+        }
+    }
+
+    fn is_ask(&self, now: &Moment, question: &Question) -> bool
+        ensures { IsTrue result ↔ (Call.Ask now.now question.now ≡ self.now) }
+    {
+        match self {
+            Call::Ask {
+                now: own_now,
+                question: own_question,
+            } => same_moment(now, own_now) && question.same(own_question),
             _ => false,
         }
     }

@@ -1,6 +1,7 @@
 //! Copies of calls, and of what they give.
 
-ghost use Rattle.std.specs.Prelude.{◌≡◌, IfOk, IsOk, None, option_map};
+ghost use Rattle.std.specs.Prelude.{◌≡◌, IfOk, IsOk, None, OnErr, option_map};
+ghost use Rattle.lw_node.specs.Steps.{IsFound};
 
 use crate::answer::Answer;
 use crate::call::Call;
@@ -133,7 +134,8 @@ impl Sent {
 
 impl Answer {
     pub(crate) fn copy(&self, alloc: Global) -> Result<Answer, NoMemory>
-        ensures { IfOk result (λ answer. answer ≡ self.now) }
+        ensures value { IfOk result (λ answer. answer ≡ self.now) }
+        ensures found { OnErr result (IsFound self.now) }
     {
         match self {
             Answer::Registration(None) => Ok(Answer::Registration(None)),

@@ -7,6 +7,7 @@ ghost use Rattle.lw_reg.specs.Registration.{Registration};
 ghost use Rattle.lw_reg.specs.declared.watch.Watch.{Watch as Watches};
 ghost use Rattle.lw_table.specs.LookUps.{ById, ByToken};
 ghost use Rattle.lw_node.specs.Calls.{Takes, IsSilent, Observes, Cancels};
+ghost use Rattle.lw_node.specs.Done.{IsDone};
 ghost use Rattle.lw_node.specs.Node.{fresh, Knows, Issued, IsAfter};
 ghost use Rattle.lw_node.specs.Within.{FitsClock, IsNextOf};
 
@@ -94,14 +95,10 @@ impl Node {
         ensures clock_end { (result ≡ Err ObserveFault.ClockEnd) ↔ ((self.old.clock ≡ 2 ^ 48 - 1) × ((r : Registration) × ById (shown_in self.old.table.state) (ms_of now) id (Some r))) }
         ensures unchanged { OnErr result (self.new ≡ self.old) }
     {
-        // The clock is read for what is known of it alone.
-        let _clock = self.clock;
-        let Command {
-            outgoing,
-            operation,
-        } = self.decide_observe(now, id, path, accept, mid)?;
-        self.issue(operation)?;
-        Ok(outgoing)
+        // Nothing that is known of is above the clock.
+        let _clock = self.clock();
+        let command = self.decide_observe(now, id, path, accept, mid);
+        self.carry_out(command)
     }
 
     /// Ends the observation with the token. The message ID is that of the datagram, which is to be sent.
@@ -112,14 +109,10 @@ impl Node {
         ensures clock_end { (result ≡ Err ObserveFault.ClockEnd) ↔ ((self.old.clock ≡ 2 ^ 48 - 1) × ((x : Registration × Watches) × ByToken (shown_in self.old.table.state) (ms_of now) token (Some x))) }
         ensures unchanged { OnErr result (self.new ≡ self.old) }
     {
-        // The clock is read for what is known of it alone.
-        let _clock = self.clock;
-        let Command {
-            outgoing,
-            operation,
-        } = self.decide_cancel(now, token, mid)?;
-        self.issue(operation)?;
-        Ok(outgoing)
+        // Nothing that is known of is above the clock.
+        let _clock = self.clock();
+        let command = self.decide_cancel(now, token, mid);
+        self.carry_out(command)
     }
 
     /// The number of the last operation that is known of. No stamp that can be read from the node is above it.
@@ -164,6 +157,23 @@ impl Node {
             Some(operation) => self.issue(operation),
             None => Ok(()),
         }
+    }
+
+    /// Sends what was decided, and issues its operation. What was refused stays so.
+    fn carry_out(
+        &mut self,
+        command: Result<Command, ObserveFault>,
+    ) -> Result<Outgoing, ObserveFault>
+        requires { IfOk command (λ c. IsNextOf self.old.clock c.operation) }
+        ensures done { IsDone self.old command result self.new }
+        ensures unchanged { OnErr result (self.new ≡ self.old) }
+    {
+        let Command {
+            outgoing,
+            operation,
+        } = command?;
+        self.issue(operation)?;
+        Ok(outgoing)
     }
 
     /// Joins what the operation tells, and moves the clock.

@@ -1,11 +1,11 @@
 //! What a datagram is to do.
 
-ghost use Rattle.std.specs.Prelude.{◌≡◌, ◌≤◌, ◌<◌, ◌⊎◌, ℕ, IfOk, IfSome, Ok, length};
+ghost use Rattle.std.specs.Prelude.{◌≡◌, ◌≤◌, ◌<◌, ◌⊎◌, ℕ, IfOk, IfSome, None, Ok, Some, length};
 ghost use Rattle.lw_stamp.specs.Moment.{ms_of};
 ghost use Rattle.lw_reg.specs.Endpoint.{IsEndpoint};
 ghost use Rattle.lw_reg.specs.declared.op.What.{What as Whats};
-ghost use Rattle.lw_node.specs.Calls.{place_at, Decided, Decides, IsSilent, silence};
-ghost use Rattle.lw_node.specs.Effects.{DatagramMeans, MessageMeans, Issues, IsNamed, NamedChanges, created};
+ghost use Rattle.lw_node.specs.Calls.{place_at, Decided, Decides, IsReply, IsSilent, silence};
+ghost use Rattle.lw_node.specs.Effects.{DatagramMeans, MessageMeans, Issues, IsNamed, NamedChanges, answers, created};
 ghost use Rattle.lw_node.specs.Node.{Known, IsKnown, marks_in};
 
 use crate::answering::{answered, malformed, rejected, reset_to};
@@ -13,9 +13,11 @@ use crate::decision::Decision;
 use crate::node::{Node, endpoint_of};
 use lw_coap::codes::{CHANGED, CREATED, DELETED, NOT_FOUND, SERVICE_UNAVAILABLE};
 use lw_coap::{Fault, Kind, Message, decode};
-use lw_reg::{Addr, Endpoint, Op, View, What};
+use lw_link::LinkText;
+use lw_reg::{Addr, Binding, Endpoint, Op, SmsNumber, View, What};
 use lw_request::{Asked, understand};
 use lw_stamp::{Moment, NoMemory, Stamp};
+use std::alloc::Global;
 
 impl Node {
     /// What a datagram that came at this moment from this address is to do.
@@ -71,29 +73,14 @@ impl Node {
                 sms,
                 objects,
             } => {
-                let what = What::Update {
-                    address: from,
-                    seen: now,
-                    lifetime,
-                    binding,
-                    sms,
-                    objects,
-                };
-                self.decide_change(now, message, id, what, CHANGED)
+                let what = update_of(from, now, lifetime, binding, sms, objects);
+                self.decide_named(now, message, id, what, CHANGED)
             }
-            Asked::Deregister { id } => {
-                self.decide_change(now, message, id, What::Remove, DELETED)
-            }
+            Asked::Deregister { id } => self.decide_named(now, message, id, What::Remove, DELETED),
             Asked::Report(report) => self.decide_report(now, report),
             Asked::Ping => Ok(Decision::reply(reset_to(alloc, message.mid)?)),
-            Asked::Refuse(refusal) => {
-                let reply = answered(alloc, message, refusal.code(), None)?;
-                Ok(Decision::reply(reply))
-            }
-            Asked::Reject => {
-                let reply = rejected(alloc, message.kind, message.mid)?;
-                Ok(Decision::reply(reply))
-            }
+            Asked::Refuse(refusal) => refused(alloc, message, refusal.code()),
+            Asked::Reject => Ok(Decision::reply(rejected(alloc, message.kind, message.mid)?)),
             Asked::Ignore => Ok(Decision::reply(None)),
         }
     }
@@ -110,8 +97,7 @@ impl Node {
         ensures { (now : ℕ) → IfOk result (Decides (Issues (place_at self.now now) request.now (λ op. (op.endpoint ≡ endpoint) × (op.reg ≡ op.stamp) × (op.what ≡ what)) (created request.now))) }
     {
         let Some(stamp) = self.next_stamp() else {
-            let reply = answered(self.alloc, request, SERVICE_UNAVAILABLE, None)?;
-            return Ok(Decision::reply(reply));
+            return refused(self.alloc, request, SERVICE_UNAVAILABLE);
         };
         let reply = answered(self.alloc, request, CREATED, Some(stamp))?;
         Ok(Decision {
@@ -127,7 +113,7 @@ impl Node {
     }
 
     /// A request on a registration is answered with the code, where the registration is shown.
-    fn decide_change(
+    fn decide_named(
         &self,
         now: Moment,
         request: &Message,
@@ -141,12 +127,10 @@ impl Node {
         ensures { IfOk result (Decided self.now.table.state (λ M. NamedChanges (place_at self.now (ms_of now)) M request.now id (λ w. w ≡ what) code)) }
     {
         let Some(view) = self.named(now, id) else {
-            let reply = answered(self.alloc, request, NOT_FOUND, None)?;
-            return Ok(Decision::reply(reply));
+            return refused(self.alloc, request, NOT_FOUND);
         };
         let Some(stamp) = self.next_stamp() else {
-            let reply = answered(self.alloc, request, SERVICE_UNAVAILABLE, None)?;
-            return Ok(Decision::reply(reply));
+            return refused(self.alloc, request, SERVICE_UNAVAILABLE);
         };
         let endpoint = endpoint_of(self.alloc, view.endpoint)?;
         let reply = answered(self.alloc, request, code, None)?;
@@ -169,4 +153,35 @@ impl Node {
     {
         self.table.by_id(now, id?)
     }
+}
+
+/// What an Update that comes from this address at this moment writes.
+fn update_of(
+    from: Addr,
+    now: Moment,
+    lifetime: Option<u32>,
+    binding: Option<Binding>,
+    sms: Option<SmsNumber>,
+    objects: Option<LinkText>,
+) -> What
+    ensures { result ≡ What.Update from now lifetime binding sms objects }
+{
+    What::Update {
+        address: from,
+        seen: now,
+        lifetime,
+        binding,
+        sms,
+        objects,
+    }
+}
+
+/// A request that changes nothing is answered with the code.
+fn refused(alloc: Global, request: &Message, code: u8) -> Result<Decision, NoMemory>
+    requires kind { (request.now.kind ≡ Kind.Con) ⊎ (request.now.kind ≡ Kind.Non) }
+    requires token { length request.now.token ≤ 8 }
+    requires code { 0 < code }
+    ensures { IfOk result (λ d. IsReply d.reply (Some (answers request.now code None)) × (d ≡ record { reply = d.reply; notice = None; operation = None })) }
+{
+    Ok(Decision::reply(answered(alloc, request, code, None)?))
 }

@@ -3,9 +3,11 @@
 ghost use Rattle.std.specs.Prelude.{◌≡◌, IfOk, IsOk, OnOk, OnErr};
 ghost use Rattle.lw_stamp.specs.Moment.{ms_of};
 ghost use Rattle.lw_node.specs.Calls.{Takes, IsSilent, Observes, Cancels};
+ghost use Rattle.lw_node.specs.Done.{IsDone};
 ghost use Rattle.lw_node.specs.Exchange.{IsDeltaSince};
 ghost use Rattle.lw_node.specs.Node.{Known, IsKnown, marks_in, Issued};
-ghost use Rattle.lw_node.specs.Steps.{Answers, IsDone};
+ghost use Rattle.lw_node.specs.Steps.{Asks};
+ghost use Rattle.lw_node.specs.Twice.{first_of, second_of};
 ghost use Rattle.lw_node.specs.Within.{IsNextOf};
 
 use crate::answer::Answer;
@@ -26,26 +28,9 @@ impl Node {
         now: Moment,
         from: Addr,
         bytes: &[u8],
-    ) -> (Result<Taken, NoMemory>, Result<Taken, NoMemory>)
-        ensures same { result.0 ≡ result.1 }
-        ensures taken { (known : Known) → IsKnown self.old.table.state known → IfOk result.0 (λ t. Takes self.old (marks_in self.old.table.state known) (ms_of now) from bytes.now t self.new) }
-        ensures unchanged { OnErr result.0 (self.new ≡ self.old) }
-        ensures silent { IsSilent bytes.now → IsOk result.0 }
-    {
-        match self.take_pair(now, from, bytes) {
-            Ok((first, second)) => (Ok(first), Ok(second)),
-            Err(NoMemory) => (Err(NoMemory), Err(NoMemory)),
-        }
-    }
-
-    fn take_pair(
-        &mut self,
-        now: Moment,
-        from: Addr,
-        bytes: &[u8],
     ) -> Result<(Taken, Taken), NoMemory>
-        ensures same { IfOk result (λ p. p.0 ≡ p.1) }
-        ensures taken { (known : Known) → IsKnown self.old.table.state known → IfOk result (λ p. Takes self.old (marks_in self.old.table.state known) (ms_of now) from bytes.now p.0 self.new) }
+        ensures same { first_of result ≡ second_of result }
+        ensures taken { (known : Known) → IsKnown self.old.table.state known → IfOk (first_of result) (λ t. Takes self.old (marks_in self.old.table.state known) (ms_of now) from bytes.now t self.new) }
         ensures unchanged { OnErr result (self.new ≡ self.old) }
         ensures silent { IsSilent bytes.now → IsOk result }
     {
@@ -135,19 +120,9 @@ impl Node {
         Ok((outgoing, copy))
     }
 
-    pub(crate) fn send_twice(&self, since: u64) -> (Result<Sent, NoMemory>, Result<Sent, NoMemory>)
-        ensures same { result.0 ≡ result.1 }
-        ensures sent { IfOk result.0 (λ sent. IsDeltaSince self.now since sent.delta × (sent.change ≡ self.now.table.count.change)) }
-    {
-        match self.send_pair(since) {
-            Ok((first, second)) => (Ok(first), Ok(second)),
-            Err(NoMemory) => (Err(NoMemory), Err(NoMemory)),
-        }
-    }
-
-    fn send_pair(&self, since: u64) -> Result<(Sent, Sent), NoMemory>
-        ensures same { IfOk result (λ p. p.0 ≡ p.1) }
-        ensures sent { IfOk result (λ p. IsDeltaSince self.now since p.0.delta × (p.0.change ≡ self.now.table.count.change)) }
+    pub(crate) fn send_twice(&self, since: u64) -> Result<(Sent, Sent), NoMemory>
+        ensures same { first_of result ≡ second_of result }
+        ensures sent { IfOk (first_of result) (λ sent. IsDeltaSince self.now since sent.delta × (sent.change ≡ self.now.table.count.change)) }
     {
         let sent = self.send(since)?;
         let copy = sent.copy(self.alloc)?;
@@ -158,22 +133,23 @@ impl Node {
         &self,
         now: Moment,
         question: &Question,
-    ) -> (Result<Answer, NoMemory>, Result<Answer, NoMemory>)
-        ensures same { result.0 ≡ result.1 }
-        ensures answered { (known : Known) → IsKnown self.now.table.state known → IfOk result.0 (Answers self.now (marks_in self.now.table.state known) (ms_of now) question.now) }
-    {
-        match self.ask_pair(now, question) {
-            Ok((first, second)) => (Ok(first), Ok(second)),
-            Err(NoMemory) => (Err(NoMemory), Err(NoMemory)),
-        }
-    }
-
-    fn ask_pair(&self, now: Moment, question: &Question) -> Result<(Answer, Answer), NoMemory>
-        ensures same { IfOk result (λ p. p.0 ≡ p.1) }
-        ensures answered { (known : Known) → IsKnown self.now.table.state known → IfOk result (λ p. Answers self.now (marks_in self.now.table.state known) (ms_of now) question.now p.0) }
+    ) -> Result<(Answer, Answer), NoMemory>
+        ensures same { first_of result ≡ second_of result }
+        ensures answered { (known : Known) → IsKnown self.now.table.state known → Asks self.now (marks_in self.now.table.state known) (ms_of now) question.now (first_of result) }
     {
         let answer = self.ask(now, question)?;
         let copy = answer.copy(self.alloc)?;
         Ok((answer, copy))
+    }
+}
+
+/// Each of a pair that was made, or the refusal of both.
+pub(crate) fn both<T>(pair: Result<(T, T), NoMemory>) -> (Result<T, NoMemory>, Result<T, NoMemory>)
+    ensures first { result.0 ≡ first_of pair }
+    ensures second { result.1 ≡ second_of pair }
+{
+    match pair {
+        Ok((first, second)) => (Ok(first), Ok(second)),
+        Err(NoMemory) => (Err(NoMemory), Err(NoMemory)),
     }
 }

@@ -1,7 +1,8 @@
-use Rattle.std.proofs.Common.{refl}
+use Rattle.std.proofs.Common.{◌≡◌, refl, subst}
 use Rattle.lw_stamp.specs.Moment.{ms_of}
-use Rattle.lw_node.specs.Calls.{place_at, Decided}
-use Rattle.lw_node.specs.Effects.{MessageMeans}
+use Rattle.lw_reg.specs.declared.op.What.{What}
+use Rattle.lw_node.specs.Calls.{place_at, Decided, Decides}
+use Rattle.lw_node.specs.Effects.{NamedChanges, MessageMeans}
 use Rattle.lw_node.specs.Node.{marks_in}
 use Rattle.lw_node.proofs.Deciding.{if_ok}
 use Rattle.lw_node.proofs.Messages.{decides_register, decides_update, decides_ping, decides_refusal, decides_reject}
@@ -23,18 +24,23 @@ returns-in-Update c =
     let state = c.args.self.now.table.state in
     let m = c.args.message.now in
     let a = c.in-Update in
-    if_ok _ (Decided state (λ M. MessageMeans place M c.args.from m)) c.decide_change.result
-    (λ d h known is. decides_update place (marks_in state known) c.args.from m c.in_ok-endpoint.field-0 c.in_ok-endpoint.ensures.meaning d a.id c.args.now a.lifetime a.binding a.sms a.objects a.is refl (h known is))
-    c.decide_change.ensures
+    if_ok _ (Decided state (λ M. MessageMeans place M c.args.from m)) c.decide_named.result
+    (λ d h known is. decides_update place (marks_in state known) c.args.from m c.in_ok-endpoint.field-0 c.in_ok-endpoint.ensures.meaning d a.id c.args.now a.lifetime a.binding a.sms a.objects a.is refl
+    (subst (λ (what : What). Decides (NamedChanges place (marks_in state known) m a.id (λ w. w ≡ what) 68) d) c.update_of-what.ensures (h known is)))
+    c.decide_named.ensures
 
 pub returns-in_ok-reset_to-in-Ping : goal.returns-in_ok-reset_to-in-Ping
 returns-in_ok-reset_to-in-Ping c known is =
     decides_ping (place_at c.args.self.now (ms_of c.args.now)) (marks_in c.args.self.now.table.state known) c.args.from c.args.message.now c.in_ok-endpoint.field-0 c.in_ok-endpoint.ensures.meaning _ _ c.reply.ensures _ c.message.view_is c.in-Ping.is c.in_ok-reset_to-in-Ping.ensures
 
-pub returns-in_ok-reply-in-Refuse : goal.returns-in_ok-reply-in-Refuse
-returns-in_ok-reply-in-Refuse c known is =
-    decides_refusal (place_at c.args.self.now (ms_of c.args.now)) (marks_in c.args.self.now.table.state known) c.args.from c.args.message.now c.in_ok-endpoint.field-0 c.in_ok-endpoint.ensures.meaning _ _ c.reply-in-Refuse.ensures c.in-Refuse.refusal c.code.result c.in-Refuse.is c.code.ensures c.in_ok-reply-in-Refuse.ensures
+pub returns-in-Refuse : goal.returns-in-Refuse
+returns-in-Refuse c =
+    let place = place_at c.args.self.now (ms_of c.args.now) in
+    let state = c.args.self.now.table.state in
+    if_ok _ (Decided state (λ M. MessageMeans place M c.args.from c.args.message.now)) c.refused.result
+    (λ d x known is. decides_refusal place (marks_in state known) c.args.from c.args.message.now c.in_ok-endpoint.field-0 c.in_ok-endpoint.ensures.meaning d d.reply x.1 c.in-Refuse.refusal c.code.result c.in-Refuse.is c.code.ensures x.0)
+    c.refused.ensures
 
-pub returns-in_ok-reply-in-Reject : goal.returns-in_ok-reply-in-Reject
-returns-in_ok-reply-in-Reject c known is =
-    decides_reject (place_at c.args.self.now (ms_of c.args.now)) (marks_in c.args.self.now.table.state known) c.args.from c.args.message.now c.in_ok-endpoint.field-0 c.in_ok-endpoint.ensures.meaning _ _ c.reply-in-Reject.ensures _ c.message.view_is c.in-Reject.is c.in_ok-reply-in-Reject.ensures
+pub returns-in_ok-rejected-in-Reject : goal.returns-in_ok-rejected-in-Reject
+returns-in_ok-rejected-in-Reject c known is =
+    decides_reject (place_at c.args.self.now (ms_of c.args.now)) (marks_in c.args.self.now.table.state known) c.args.from c.args.message.now c.in_ok-endpoint.field-0 c.in_ok-endpoint.ensures.meaning _ _ c.reply-in-Reject.ensures _ c.message.view_is c.in-Reject.is c.in_ok-rejected-in-Reject.ensures

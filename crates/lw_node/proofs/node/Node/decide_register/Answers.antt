@@ -1,12 +1,14 @@
 use Rattle.std.proofs.Common.{refl}
 use Rattle.lw_node.specs.Calls.{place_at}
 use Rattle.lw_node.specs.Effects.{created}
-use Rattle.lw_node.proofs.Deciding.{decides_at_end, decides_issue}
+use Rattle.lw_node.proofs.Deciding.{if_ok, decides_at_end, decides_issue}
 use Rattle.lw_node.proofs.node.Node.decide_register.Goals as goal
 
 pub returns-in_default : goal.returns-in_default
-returns-in_default c now = decides_at_end (place_at c.args.self.now now) c.args.request.now _ (created c.args.request.now) _ _ (c.in_default.ensures.end.0 refl) c.in_ok-reply.ensures c.reply.ensures
+returns-in_default c now =
+    let place = place_at c.args.self.now now in
+    if_ok _ _ c.refused.result (λ d h. decides_at_end place c.args.request.now _ (created c.args.request.now) d d.reply (c.in_default.ensures.end.0 refl) h.0 h.1) c.refused.ensures
 
 pub returns : goal.returns
 returns c now = decides_issue (place_at c.args.self.now now) c.args.request.now _ (created c.args.request.now) _ _
-    (record { counter = c.in-Some.ensures.stamp.0; node = c.in-Some.ensures.stamp.1 }) (refl, refl, refl) c.in_ok-reply-2.ensures
+    (record { counter = c.in-Some.ensures.stamp.0; node = c.in-Some.ensures.stamp.1 }) (refl, refl, refl) c.in_ok-reply.ensures

@@ -5,7 +5,7 @@ use Rattle.lw_node.specs.Effects.{DatagramMeans}
 use Rattle.lw_node.specs.Node.{NodeContent, marks_in}
 use Rattle.lw_node.specs.Within.{FitsClock}
 use Rattle.lw_node.proofs.StepLemmas.{decided_next, taken_so}
-use Rattle.lw_node.proofs.node.Node.take_pair.Goals as goal
+use Rattle.lw_node.proofs.node.Node.take_twice.Goals as goal
 
 pub commit-requires : goal.commit-requires
 commit-requires c =
