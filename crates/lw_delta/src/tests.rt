@@ -61,7 +61,7 @@ fn write(alloc: Global, clock: u64, slots: &[(Endpoint, Slot)]) -> Result<Vec<u8
     let mut writer = Writer::new(alloc, clock)?;
     for entry in slots {
         let (endpoint, slot) = entry;
-        writer.slot(endpoint, slot)?;
+        writer.slot(endpoint.as_str(), slot)?;
     }
     writer.end()
 }

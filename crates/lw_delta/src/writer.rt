@@ -1,5 +1,6 @@
 ghost use Rattle.std.specs.Prelude.{◌≡◌, ℕ, ◌<◌, ◌^◌, ◌++◌, ◌∷◌, [], List, IfOk, OnOk, OnErr};
 ghost use Rattle.lw_reg.specs.declared.slot.Slot.{Slot as Slots};
+ghost use Rattle.lw_reg.specs.Endpoint.{IsEndpoint};
 ghost use Rattle.lw_stamp.specs.TextOrder.{text_cmp};
 ghost use Rattle.lw_delta.specs.Order.{IsAbove};
 ghost use Rattle.lw_delta.specs.Delta.{DeltaContent, IsSpelling};
@@ -8,7 +9,7 @@ ghost use Rattle.lw_delta.specs.Writing.{delta_bytes};
 
 use crate::put::put_bytes;
 use crate::writing::{put_number48, put_slot};
-use lw_reg::{Endpoint, Slot};
+use lw_reg::Slot;
 use lw_stamp::NoMemory;
 use std::alloc::Global;
 use std::marker::Model;
@@ -50,9 +51,10 @@ impl Writer {
         Ok(Writer { clock, bytes })
     }
 
-    /// Writes a slot behind the ones before. The endpoint is above the last one, and no stamp of the slot is
-    /// above the clock.
-    pub fn slot(&mut self, endpoint: &Endpoint, slot: &Slot) -> Result<(), NoMemory>
+    /// Writes a slot behind the ones before. The endpoint has 1 to 252 bytes and is above the last one, and no
+    /// stamp of the slot is above the clock.
+    pub fn slot(&mut self, endpoint: &str, slot: &Slot) -> Result<(), NoMemory>
+        requires named { IsEndpoint endpoint.now }
         requires above { (slots : List (List ℕ × Slots)) → IsBegun self.old slots → IsAbove text_cmp (last_endpoint slots) endpoint.now }
         requires within { StampsWithin self.old.clock slot.now }
         ensures clock { self.new.clock ≡ self.old.clock }

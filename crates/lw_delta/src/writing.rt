@@ -13,7 +13,7 @@ use crate::slots::REMOVED;
 use crate::watches::{CANCELLED, OBSERVED};
 use lw_join::{Once, OrGone};
 use lw_link::LinkText;
-use lw_reg::{Addr, Base, Binding, Endpoint, Path, Slot, SmsNumber, Version, Watching};
+use lw_reg::{Addr, Base, Binding, Path, Slot, SmsNumber, Version, Watching};
 use lw_stamp::{Moment, NoMemory};
 
 pub(crate) fn put_number48(out: &mut Vec<u8>, number: u64) -> Result<(), NoMemory>
@@ -301,22 +301,24 @@ fn flags_byte(slot: &Slot) -> u8
 }
 
 /// What stands before the fields of a slot.
-fn put_head(out: &mut Vec<u8>, endpoint: &Endpoint, slot: &Slot) -> Result<(), NoMemory>
+fn put_head(out: &mut Vec<u8>, endpoint: &str, slot: &Slot) -> Result<(), NoMemory>
+    requires { IsEndpoint endpoint.now }
     ensures written { OnOk result (out.new.items ≡ out.old.items ++ slot_head_bytes (endpoint.now, slot.now)) }
-    ensures named { OnOk result (IsOwnText endpoint.now × IsEndpoint endpoint.now) }
+    ensures named { OnOk result (IsOwnText endpoint.now) }
     ensures kept { Begins out.old.items out.new.items }
 {
     put_byte(out, 1)?;
-    put_text(out, endpoint.as_str())?;
+    put_text(out, endpoint)?;
     slot.stamp().put(out)?;
     put_byte(out, flags_byte(slot))
 }
 
 /// A slot, and the 01 before it. Refused, a front of it may stand there.
-pub(crate) fn put_slot(out: &mut Vec<u8>, endpoint: &Endpoint, slot: &Slot) -> Result<(), NoMemory>
+pub(crate) fn put_slot(out: &mut Vec<u8>, endpoint: &str, slot: &Slot) -> Result<(), NoMemory>
+    requires { IsEndpoint endpoint.now }
     ensures written { OnOk result (out.new.items ≡ out.old.items ++ 1 ∷ slot_bytes (endpoint.now, slot.now)) }
     ensures typed { OnOk result (IsTyped slot.now) }
-    ensures named { OnOk result (IsOwnText endpoint.now × IsEndpoint endpoint.now) }
+    ensures named { OnOk result (IsOwnText endpoint.now) }
     ensures kept { Begins out.old.items out.new.items }
 {
     put_head(out, endpoint, slot)?;

@@ -26,7 +26,7 @@ use Rattle.lw_reg.specs.SlotLaws.{slot_laws}
 use Rattle.lw_reg.specs.State.{State, state_join}
 use Rattle.lw_reg.proofs.Members.{none_there, first_there}
 use Rattle.lw_reg.proofs.States.{state_laws}
-use Rattle.lw_table.specs.Changes.{Count, LAST, Recounts, Moves, counted}
+use Rattle.lw_table.specs.Changes.{Count, Recounts, Moves, counted}
 use Rattle.lw_table.specs.Table.{TableContent}
 use Rattle.lw_table.proofs.CountLemmas.{recount_none}
 use Rattle.lw_table.proofs.TableLemmas.{same_or_not}
@@ -197,8 +197,8 @@ module _ (a b c : State) (before mid after : Count) (e0 : List ℕ) (first : (k 
       number x m p i j g h = omega (arith, g, h)
 
 -- ---- a table, slot after slot
-pub joined_none : (t : TableContent) → t.count.change ≤ LAST → JoinedTo t [] t
-joined_none t last = record { state = sym (join_empty t.state); count = recount_none t.state t.count last }
+pub joined_none : (t : TableContent) → JoinedTo t [] t
+joined_none t = record { state = sym (join_empty t.state); count = recount_none t.state t.count }
 
 pub joined_more : (old mid new : TableContent) (done : List (List ℕ × Slot)) (x : List ℕ × Slot) → AllBelow done x.0 → JoinedTo old done mid → new.state ≡ state_join mid.state (one_key x.0 x.1) → Recounts mid.state new.state mid.count new.count
     → JoinedTo old (done ++ x ∷ []) new

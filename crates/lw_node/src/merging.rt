@@ -24,8 +24,6 @@ impl Node {
         // A delta without slots takes no memory.
         ensures none { (clock : ℕ) → IsSpelling bytes.now (record { clock = clock; slots = [] }) → IsOk result }
     {
-        // The change number is at most the last one.
-        let _change = self.change();
         let clock = match check(bytes) {
             Ok(clock) => clock,
             Err(fault) => return Err(MergeFault::Malformed(fault)),
@@ -43,8 +41,6 @@ fn join_slots(table: &mut Table, slots: Vec<(Endpoint, Slot)>) -> Result<usize, 
     requires { IsStrictlySortedBy (λ x y. text_cmp x.0 y.0) slots.items }
     ensures { JoinsSlots table.old slots.items result table.new }
 {
-    // The change number is at most the last one.
-    let _change = table.change();
     let count = slots.len();
     let mut joined = 0;
     for (endpoint, slot) in slots {

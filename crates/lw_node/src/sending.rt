@@ -3,7 +3,7 @@
 ghost use Rattle.std.specs.Prelude.{IfOk};
 ghost use Rattle.lw_node.specs.Exchange.{IsDeltaSince};
 
-use crate::node::{Node, endpoint_of};
+use crate::node::Node;
 use lw_delta::Writer;
 use lw_stamp::NoMemory;
 
@@ -15,7 +15,7 @@ impl Node {
     {
         let mut writer = Writer::new(self.alloc, self.clock.counter())?;
         for (endpoint, slot) in self.table.changed_since(since)? {
-            writer.slot(&endpoint_of(self.alloc, endpoint)?, slot)?;
+            writer.slot(endpoint, slot)?;
         }
         writer.end()
     }

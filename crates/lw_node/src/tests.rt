@@ -1,4 +1,5 @@
 mod calls;
+mod deltas;
 mod exchanging;
 mod observing;
 mod refusing;

@@ -1,7 +1,6 @@
 -- What each look-up of a table finds is the answer over the marks that can be read from its state, and over every
 -- set of marks whose state it is.
 use Rattle.std.proofs.Common.{◌≡◌, ℕ, List, Option, Some, None}
-use Rattle.std.specs.Prelude.{Contains}
 use Rattle.std.specs.FinMap.{get}
 use Rattle.std.specs.List.Sorted.{IsStrictlySortedBy}
 use Rattle.lw_stamp.specs.declared.stamp.Stamp.{Stamp}

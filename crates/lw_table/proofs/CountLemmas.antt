@@ -1,6 +1,6 @@
 -- How a count goes on where one slot moves, or none.
-use Rattle.std.proofs.Common.{◌≡◌, ◌≢◌, ◌↔◌, ◌⊎◌, inl, inr, ℕ, zero, suc, ◌+◌, ◌≤◌, Bool, true, false, cond, List, [], ◌∷◌, Option, Some, None, refl, sym, ap, ◌∙◌, subst, arith}
-use Rattle.std.specs.Prelude.{Contains, String, bytes_eq, min, slice_get}
+use Rattle.std.proofs.Common.{◌≡◌, inl, inr, ℕ, zero, suc, ◌+◌, ◌≤◌, Bool, true, false, cond, List, [], ◌∷◌, Option, Some, None, refl, sym, ap, ◌∙◌, subst, arith}
+use Rattle.std.specs.Prelude.{String, bytes_eq, min, slice_get}
 use Rattle.std.specs.Option.{IsSomeAnd}
 use Rattle.std.specs.BTreeMap.{BTreeMap, get_by_text}
 use Rattle.std.specs.Cmp.Lexicographic.{bytes_decides}
@@ -37,18 +37,18 @@ news_moves : (o : Option Slot) (slot : Slot) → (IsSomeAnd o (slot_below slot) 
 news_moves None slot news h = cc
 news_moves (Some s) slot news h = news (subst (slot_below slot) (sym (one_slot s (slot_join s slot) h)) (slot_laws.above_right s slot))
 
-pub recount_none : (state : State) (count : Count) → count.change ≤ LAST → Recounts state state count count
-recount_none state count last = record {
+pub recount_none : (state : State) (count : Count) → Recounts state state count count
+recount_none state count = record {
   moved = [];
   rising = nothing_rises;
   all = λ e. (λ h. none_there e h, λ moves. absurd (moves refl));
-  change = stays count.change last;
+  change = stays count.change;
   numbered = λ i e h. absurd (let bad = h in cc);
   kept = λ e h. refl;
 }
   where
-    stays : (n : ℕ) → n ≤ LAST → n ≡ counted n 0
-    stays n h = omega arith
+    stays : (n : ℕ) → n ≡ counted n 0
+    stays n = omega arith
 
 module _ {Z : Type 0} (m n : BTreeMap (String Z) Row) (e0 : List ℕ) (slot : Slot) (number change : ℕ)
     (at : (e : List ℕ) → get_by_text n e ≡ cond (bytes_eq e0 e) (Some (next_row (get_by_text m e0) slot number)) (get_by_text m e)) where
@@ -111,3 +111,7 @@ known_state state e0 slot known =
 -- the next number: the last is not gone past
 pub next_after : (change number : ℕ) → number ≡ counted change 1 → change ≤ LAST → (number ≤ number) × (change ≤ number) × (number ≤ LAST)
 next_after change number is last = (omega arith, omega arith, omega arith)
+
+-- one more, which stays at the last
+pub saturated : (change number : ℕ) → number ≡ min (change + 1) LAST → change ≤ LAST → number ≡ counted change 1
+saturated change number is last = omega arith

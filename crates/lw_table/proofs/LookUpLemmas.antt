@@ -1,5 +1,5 @@
 -- What the look-ups find in a state is what each set of marks says that the state tells of.
-use Rattle.std.proofs.Common.{◌≡◌, ◌⊎◌, inl, inr, ℕ, Bool, true, false, cond, List, [], ◌∷◌, Option, Some, None, refl, sym, ap, subst, ◌∙◌}
+use Rattle.std.proofs.Common.{◌≡◌, ℕ, Bool, true, false, cond, List, [], ◌∷◌, Option, Some, None, refl, sym, ap, subst, ◌∙◌}
 use Rattle.std.specs.Prelude.{◌↔◌, Contains}
 use Rattle.std.specs.FinMap.{get}
 use Rattle.std.specs.List.Sorted.{IsStrictlySortedBy}
@@ -35,7 +35,7 @@ use Rattle.lw_reg.specs.OrderLaws.{text_order, addr_order}
 use Rattle.lw_reg.specs.Orders.{addr_cmp, path_cmp}
 use Rattle.lw_reg.specs.Reading.{registration_of, registered_in, in_time, timely, view_in, is_late, stamp_of, address_of, IsRemoved, watch_of, token_then, tokens_in, watches_of, has_token, is_above, live_watch, shown_in}
 use Rattle.lw_reg.specs.Registration.{Registration}
-use Rattle.lw_reg.specs.Showing.{IsWrite, IsShown, IsExpired, IsLive, ShownOf, LivesOf, HasExpired, IsAbove, WatchWith, WatchAfter, IsFirstOfWatches, IsFirstWatch}
+use Rattle.lw_reg.specs.Showing.{IsWrite, IsShown, IsExpired, IsLive, ShownOf, LivesOf, IsAbove, WatchWith, WatchAfter, IsFirstWatch}
 use Rattle.lw_reg.specs.Slot.{slot_at, observed}
 use Rattle.lw_reg.specs.State.{State, IsStateOf}
 use Rattle.lw_reg.proofs.Contracts.{token_decides, above_decides, watches_rise}
@@ -48,10 +48,10 @@ use Rattle.lw_reg.proofs.States.{state_is}
 use Rattle.lw_reg.proofs.Tells.{SlotTells, Tells, Holds, ToldTells, state_tells}
 use Rattle.lw_table.specs.declared.key.Key.{Key}
 use Rattle.lw_table.specs.declared.key.Key.TheVariants.{Id, Address, Token}
-use Rattle.lw_table.specs.Answers.{IsAfter, IsFirst, IsFirstAnswer, IsShownAfter, FirstAfter}
+use Rattle.lw_table.specs.Answers.{IsAfter, IsFirstAnswer, IsShownAfter, FirstAfter}
 use Rattle.lw_table.specs.Found.{view_with, both_of, stamp_of_write, view_at, watch_at, watch_with, holder_at, holder_with, expired_at, expired_with, named, if_after, first_of, last_of, holder_of, with_watch}
-use Rattle.lw_table.specs.Keys.{key_cmp, HasKey, OptionHasKey}
-use Rattle.lw_table.specs.LookUps.{ById, IsHolder, IsLatestHolder, ByAddress, HasToken, IsFirstWithToken, ByToken, WatchOfIdAfter, IsExpiredAfter, named_by, ExpiredAfter}
+use Rattle.lw_table.specs.Keys.{key_cmp, OptionHasKey}
+use Rattle.lw_table.specs.LookUps.{ById, IsHolder, ByAddress, HasToken, ByToken, WatchOfIdAfter, IsExpiredAfter, named_by, ExpiredAfter}
 use Rattle.lw_table.specs.Names.{is_after}
 use Rattle.lw_table.specs.Table.{IsKept}
 use Rattle.lw_table.proofs.FirstLemmas.{IsFirstFit, first_fits, LastFound, last_found}

@@ -1,6 +1,6 @@
 -- What an endpoint is filed under while its row comes or moves.
-use Rattle.std.proofs.Common.{◌≡◌, ◌≢◌, ◌↔◌, ◌⊎◌, inl, inr, ℕ, Bool, true, false, not, List, [], ◌∷◌, Option, Some, None, Result, Ok, Err, refl, sym, ap, ◌∙◌, subst}
-use Rattle.std.specs.Prelude.{Contains, OnOk, OnErr, IsErr, IsTrue}
+use Rattle.std.proofs.Common.{◌≡◌, ◌↔◌, ◌⊎◌, inl, inr, ℕ, Bool, true, false, not, List, Option, Some, None, Result, Ok, Err, refl, sym, ap, subst}
+use Rattle.std.specs.Prelude.{OnOk, OnErr, IsErr, IsTrue}
 use Rattle.std.specs.Ordering.{nat_cmp, match_ordering}
 use Rattle.std.specs.declared.cmp.Ordering.{Ordering}
 use Rattle.std.specs.declared.cmp.Ordering.TheVariants.{Less, Equal, Greater}
@@ -16,8 +16,7 @@ use Rattle.lw_reg.specs.declared.slot.Slot.{Slot}
 use Rattle.lw_reg.specs.Body.{body_join}
 use Rattle.lw_reg.specs.Reading.{IsRemoved}
 use Rattle.lw_reg.specs.Slot.{slot_at, slot_join}
-use Rattle.lw_table.specs.Filed.{IsFiled, IsOver, IsSame, OthersSame, IsBetween, HasAll}
-use Rattle.lw_table.specs.Keys.{key_cmp}
+use Rattle.lw_table.specs.Filed.{IsFiled, IsOver, OthersSame, IsBetween, HasAll}
 use Rattle.lw_table.specs.Moves.{moved_row}
 use Rattle.lw_table.specs.Turning.{IsTurning}
 use Rattle.lw_table.specs.declared.filed.Filed.{Filed}

@@ -9,9 +9,9 @@ use Rattle.std.specs.List.Sorted.{IsStrictlySortedBy}
 use Rattle.std.specs.Map.{keys_of, lookup}
 use Rattle.std.specs.Ordering.{nat_cmp, is_eq, is_lt}
 use Rattle.std.specs.declared.cmp.Ordering.{Ordering}
-use Rattle.std.specs.declared.cmp.Ordering.TheVariants.{Less, Equal, Greater}
+use Rattle.std.specs.declared.cmp.Ordering.TheVariants.{Less}
 use Rattle.lw_stamp.specs.TextOrder.{text_cmp}
-use Rattle.lw_index.specs.Index.{Has, IsIndex, endpoints_of, entries_above}
+use Rattle.lw_index.specs.Index.{Has, IsIndex, entries_above}
 use Rattle.lw_reg.specs.declared.slot.Slot.{Slot}
 use Rattle.lw_reg.specs.State.{State}
 use Rattle.lw_reg.proofs.Members.{none_there, first_there, more_there, there_or_first}

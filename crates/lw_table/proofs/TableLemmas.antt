@@ -1,5 +1,5 @@
 -- A table row by row: its state, its numbers, and what is filed beside.
-use Rattle.std.proofs.Common.{◌≡◌, ◌≢◌, ◌↔◌, ◌⊎◌, inl, inr, ℕ, ◌+◌, ◌≤◌, Bool, true, false, cond, List, [], ◌∷◌, map, Option, Some, None, refl, sym, ap, ◌∙◌, subst, arith}
+use Rattle.std.proofs.Common.{◌≡◌, ◌≢◌, ◌↔◌, ℕ, ◌≤◌, Bool, true, false, cond, List, [], Option, Some, None, refl, sym, ap, ◌∙◌, subst, arith}
 use Rattle.std.specs.Prelude.{Contains, String, string_bytes, bytes_eq, IsSome}
 use Rattle.std.specs.Option.{option_map}
 use Rattle.std.specs.BTreeMap.{BTreeMap, IsOrdered, UpdatesBy, get_by_text}
@@ -19,7 +19,7 @@ use Rattle.lw_reg.specs.Endpoint.{IsEndpoint}
 use Rattle.lw_reg.specs.OrderLaws.{text_order}
 use Rattle.lw_reg.specs.declared.slot.Slot.{Slot}
 use Rattle.lw_reg.specs.Slot.{slot_join}
-use Rattle.lw_reg.specs.State.{State, state_join}
+use Rattle.lw_reg.specs.State.{state_join}
 use Rattle.lw_table.specs.Changes.{LAST}
 use Rattle.lw_table.specs.Filed.{IsFiled, OthersSame, slot_of, number_of}
 use Rattle.std.specs.declared.cmp.Ordering.{Ordering}

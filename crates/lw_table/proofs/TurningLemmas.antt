@@ -1,5 +1,5 @@
 -- Which keys a join of slots brings and takes.
-use Rattle.std.proofs.Common.{◌≡◌, ◌≢◌, ◌↔◌, ◌⊎◌, inl, inr, ℕ, ◌+◌, ◌<◌, ◌≤◌, length, get_or, drop, Bool, true, false, cond, ◌&&◌, List, [], ◌∷◌, ◌++◌, map, Option, Some, None, refl, sym, ap, ◌∙◌, subst, append_assoc}
+use Rattle.std.proofs.Common.{◌≡◌, ◌⊎◌, inl, inr, ℕ, ◌+◌, ◌<◌, ◌≤◌, length, get_or, drop, Bool, true, false, cond, ◌&&◌, List, [], ◌∷◌, ◌++◌, map, Option, Some, None, refl, sym, ap, ◌∙◌, subst, append_assoc}
 use Rattle.std.specs.Prelude.{Contains}
 use Rattle.std.specs.Option.{option_eq}
 use Rattle.std.specs.declared.cmp.Ordering.{Ordering}
@@ -15,7 +15,7 @@ use Rattle.lw_stamp.proofs.StampLemmas.{stamp_order}
 use Rattle.lw_join.specs.Entries.{Rises, get as entry_of}
 use Rattle.lw_join.specs.EntriesLaws.{get_below, get_first, same_key}
 use Rattle.lw_join.specs.Greater.{greater}
-use Rattle.lw_join.specs.Lex.{lex_of, lex_pair}
+use Rattle.lw_join.specs.Lex.{lex_of}
 use Rattle.lw_join.specs.Lww.{write_cmp}
 use Rattle.lw_join.specs.Once.{once_join}
 use Rattle.lw_join.specs.Options.{option_join}
@@ -36,8 +36,8 @@ use Rattle.lw_reg.specs.Orders.{addr_cmp, path_cmp}
 use Rattle.lw_reg.specs.Reading.{address_of, tokens_in, watches_of}
 use Rattle.lw_reg.specs.Slot.{slot_at, slot_join}
 use Rattle.lw_reg.proofs.Members.{none_there, first_there, more_there, there_or_first}
-use Rattle.lw_table.specs.Keys.{HasKey, OptionHasKey, token_here, token_in}
-use Rattle.lw_table.specs.Turning.{IsTurning, id_key, address_key, token_key, token_keys, keys_in, token_was, differing, differing_addresses, differing_tokens, turned_tokens, both_here, is_one, turned, joined_with, changes}
+use Rattle.lw_table.specs.Keys.{HasKey, token_here, token_in}
+use Rattle.lw_table.specs.Turning.{IsTurning, id_key, address_key, token_key, token_keys, keys_in, token_was, differing, differing_addresses, differing_tokens, turned_tokens, both_here, is_one, changes}
 use Rattle.lw_table.specs.declared.key.Key.{Key}
 use Rattle.lw_table.specs.declared.key.Key.TheVariants.{Id, Address, Token}
 use Rattle.lw_table.proofs.KeyLemmas.{address_same, some_write, stamp_same, then_token, tokens_cons, then_first, then_more, then_cases, tokens_same}

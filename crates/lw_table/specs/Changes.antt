@@ -1,5 +1,5 @@
 -- Change numbers: how often the slots of a node have moved, and which have since a number.
-use Rattle.std.specs.Prelude.{◌≡◌, ◌≢◌, ℕ, ◌+◌, ◌-◌, ◌<◌, ◌^◌, ◌⊎◌, ◌↔◌, List, length, min, Contains, Option, Some, None, IfSome, IsSomeAnd, slice_get}
+use Rattle.std.specs.Prelude.{◌≡◌, ◌≢◌, ℕ, ◌+◌, ◌-◌, ◌<◌, ◌^◌, ◌⊎◌, ◌↔◌, List, length, min, Contains, Some, slice_get}
 use Rattle.std.specs.FinMap.{FinMap, get}
 use Rattle.std.specs.List.Sorted.{IsStrictlySortedBy}
 use Rattle.lw_stamp.specs.TextOrder.{text_cmp}
@@ -19,8 +19,9 @@ pub record Count : Type 0 where
 abbrev pub LAST : ℕ
 LAST = 2 ^ 64 - 1
 
+-- so many more, as far as there is room below the last
 abbrev pub counted : ℕ → ℕ → ℕ
-counted change more = min (change + more) LAST
+counted change more = change + min more (LAST - change)
 
 -- the slot of the endpoint is another than before
 abbrev pub Moves : State → State → List ℕ → Type 0

@@ -1,5 +1,5 @@
 -- Rows that are put into the map of a table.
-use Rattle.std.specs.Prelude.{◌≡◌, ℕ, List, Option, Some, String, string_bytes, bytes_eq, cond}
+use Rattle.std.specs.Prelude.{◌≡◌, ℕ, List, Option, Some, String, bytes_eq, cond}
 use Rattle.std.specs.BTreeMap.{BTreeMap, IsOrdered, get_by_text}
 use Rattle.std.specs.String.{string_cmp}
 use Rattle.lw_reg.specs.declared.slot.Slot.{Slot}

@@ -1,4 +1,4 @@
-ghost use Rattle.std.specs.Prelude.{◌≡◌, ◌↔◌, ◌≤◌, ℕ, List, OnOk, OnErr, IsOk, IsSomeAnd, IsTrue};
+ghost use Rattle.std.specs.Prelude.{◌≡◌, ◌↔◌, ℕ, List, OnOk, OnErr, IsOk, IsSomeAnd, IsTrue};
 ghost use Rattle.std.specs.FinMap.{get};
 ghost use Rattle.lw_index.specs.Index.{Has};
 ghost use Rattle.lw_join.specs.Maps.{one_key};
@@ -6,7 +6,7 @@ ghost use Rattle.lw_reg.specs.Endpoint.{IsEndpoint};
 ghost use Rattle.lw_reg.specs.Slot.{slot_below};
 ghost use Rattle.lw_reg.specs.State.{state_join};
 ghost use Rattle.lw_table.specs.declared.key.Key.{Key as Keys};
-ghost use Rattle.lw_table.specs.Changes.{LAST, Recounts};
+ghost use Rattle.lw_table.specs.Changes.{Recounts};
 ghost use Rattle.lw_table.specs.Keys.{key_cmp, OptionHasKey};
 ghost use Rattle.lw_table.specs.Table.{empty_table};
 
@@ -74,8 +74,7 @@ impl Table {
 
     // Whether the slot is below that of the endpoint.
     fn knows(&self, endpoint: &str, slot: &Slot) -> bool
-        ensures last { self.now.count.change ≤ LAST }
-        ensures below { IsTrue result ↔ IsSomeAnd (get self.now.state endpoint.now) (slot_below slot.now) }
+        ensures { IsTrue result ↔ IsSomeAnd (get self.now.state endpoint.now) (slot_below slot.now) }
     {
         match self.rows.get(endpoint) {
             None => false,

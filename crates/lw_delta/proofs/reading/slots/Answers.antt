@@ -1,5 +1,4 @@
 use Rattle.std.proofs.Common.{subst}
-use Rattle.std.proofs.lemmas.Result.{err_from_is_err_and}
 use Rattle.std.specs.Option.{option_copied}
 use Rattle.lw_delta.specs.Lent.{NextAt}
 use Rattle.lw_delta.proofs.Again.{next_found, more_found}

@@ -14,7 +14,7 @@ returns-clause-written c =
     let flags : List ℕ = flags_byte c.args.slot.now ∷ [] in
     on_ok_weaker c.put_byte-2.result
     (λ e. then_put c.args.out.now.items (1 ∷ []) (name ++ (stamp ++ flags)) c.in_ok-put_byte.ensures.written
-    (then_put c.put_byte.new.out.items name (stamp ++ flags) (c.in_ok-put_text.ensures.written ∙ ap (λ (t : List ℕ). c.put_byte.new.out.items ++ text_bytes t) c.as_str.ensures.value)
+    (then_put c.put_byte.new.out.items name (stamp ++ flags) c.in_ok-put_text.ensures.written
     (then_put c.put_text.new.out.items stamp flags (c.in_ok-put.ensures.written ∙ ap (λ (s : Stamp). c.put_text.new.out.items ++ stamp_bytes s) c.stamp.ensures)
     (e ∙ ap (λ (n : ℕ). c.put.new.out.items ++ n ∷ []) c.flags_byte.ensures))))
     c.put_byte-2.ensures.written

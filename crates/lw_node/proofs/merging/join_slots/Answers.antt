@@ -13,7 +13,7 @@ loop-endpoint-init c = (
     done = [];
     split = c.into_iter-endpoint-iterator.ensures.into_iter_gives.0;
     counted = omega arith;
-    joined_to = joined_none c.args.table.now (omega (arith, c.change-change.ensures, c.change-change.type_inv));
+    joined_to = joined_none c.args.table.now;
   },
 )
 

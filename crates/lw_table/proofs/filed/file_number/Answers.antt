@@ -1,7 +1,6 @@
-use Rattle.std.proofs.Common.{◌≡◌, ◌⊎◌, ◌↔◌, inl, inr, List, ℕ, sym, subst}
-use Rattle.std.specs.Prelude.{OnOk}
+use Rattle.std.proofs.Common.{◌≡◌, ◌⊎◌, inl, List, ℕ, sym, subst}
 use Rattle.std.specs.Ordering.{nat_cmp}
-use Rattle.lw_index.specs.Index.{Has, IsPair}
+use Rattle.lw_index.specs.Index.{Has}
 use Rattle.lw_table.specs.Filed.{OtherKeys}
 use Rattle.lw_table.proofs.FiledLemmas.{either, on_ok, number_exact, number_itself, add_others, add_stays, add_from, add_has, others_itself}
 use Rattle.lw_table.proofs.filed.file_number.Goals as goal

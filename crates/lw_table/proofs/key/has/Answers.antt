@@ -1,8 +1,8 @@
-use Rattle.std.proofs.Common.{◌≡◌, ◌↔◌, true, sym, ◌∙◌, ap, subst}
+use Rattle.std.proofs.Common.{◌≡◌, ◌↔◌, true, sym, ◌∙◌, subst}
 use Rattle.std.specs.Prelude.{IsTrue}
 use Rattle.lw_stamp.specs.declared.stamp.Stamp.{Stamp}
 use Rattle.lw_stamp.specs.contracts.stamp.StampPartialEq.TheImpl as stamps
-use Rattle.lw_reg.specs.Reading.{stamp_of, IsRemoved}
+use Rattle.lw_reg.specs.Reading.{IsRemoved}
 use Rattle.lw_table.specs.Keys.{HasKey}
 use Rattle.lw_table.proofs.KeyLemmas.{stamp_same, stamp_itself}
 use Rattle.lw_table.proofs.key.has.Goals as goal

@@ -1,6 +1,4 @@
-use Rattle.std.proofs.Common.{◌≡◌, Option, Some, sym, ◌∙◌, ap, subst}
-use Rattle.lw_stamp.specs.declared.stamp.Stamp.{Stamp}
-use Rattle.lw_reg.specs.declared.addr.Addr.{Addr}
+use Rattle.std.proofs.Common.{Some, sym, ◌∙◌, ap}
 use Rattle.lw_table.proofs.KeyLemmas.{address_same, address_is, some_write}
 use Rattle.lw_table.proofs.key.has_address.Goals as goal
 

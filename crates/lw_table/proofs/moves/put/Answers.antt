@@ -1,6 +1,6 @@
-use Rattle.std.proofs.Common.{rules, ◌≡◌, Some, None, sym, ap, ◌∙◌, subst}
+use Rattle.std.proofs.Common.{rules, Some, None, sym, ap, ◌∙◌, subst}
 use Rattle.std.specs.Prelude.{String}
-use Rattle.std.specs.BTreeMap.{BTreeMap, IsOrdered, get_by_text}
+use Rattle.std.specs.BTreeMap.{BTreeMap, IsOrdered}
 use Rattle.std.specs.String.{string_cmp}
 use Rattle.lw_table.specs.Filed.{IsFiled}
 use Rattle.lw_table.specs.Moves.{next_row, PutsRow, SameRows}

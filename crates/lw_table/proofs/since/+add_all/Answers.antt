@@ -1,4 +1,4 @@
-use Rattle.std.proofs.Common.{◌⊎◌, ℕ, List, ◌∷◌, subst, sym}
+use Rattle.std.proofs.Common.{◌⊎◌, ℕ, List, subst, sym}
 use Rattle.std.specs.Prelude.{◌↔◌, Contains}
 use Rattle.lw_index.proofs.TextLemmas.{on_ok}
 use Rattle.lw_table.proofs.SinceLemmas.{rest_added}

@@ -1,4 +1,4 @@
-use Rattle.std.proofs.Common.{◌⊎◌, ◌≡◌, ℕ, List, ◌∷◌, subst}
+use Rattle.std.proofs.Common.{◌⊎◌, ◌≡◌, ℕ, List, subst}
 use Rattle.std.specs.Prelude.{◌↔◌, Contains, map, string_bytes}
 use Rattle.lw_table.proofs.SinceLemmas.{Gathers, one_gathered, all_gathered}
 use Rattle.lw_table.proofs.since.all_names.Goals as goal

@@ -1,5 +1,4 @@
-use Rattle.std.proofs.Common.{ℕ, List, [], ◌∷◌, ◌++◌, sym, refl, subst}
-use Rattle.lw_reg.specs.declared.slot.Slot.{Slot}
+use Rattle.std.proofs.Common.{[], ◌∷◌, ◌++◌, sym, refl, subst}
 use Rattle.lw_delta.specs.Writable.{Begun, IsBegun, Follows, StampsWithin, last_endpoint}
 use Rattle.lw_delta.proofs.BegunLemmas.{begun_more}
 use Rattle.lw_delta.proofs.writer.Writer.slot.Goals as goal
@@ -8,21 +7,21 @@ pub returns-in-Ok-clause-begun : goal.returns-in-Ok-clause-begun
 returns-in-Ok-clause-begun c =
     λ slots h.
     let old : Begun = record { clock = c.self.inside.clock; bytes = c.self.inside.bytes.items } in
-    let named = c.in-Ok.ensures.named in
+    let named = c.requires.named in
     let within = subst (λ (w : Begun). StampsWithin w.clock c.args.slot.now) (sym c.self.view_is) c.requires.within in
-    let follows : Follows old.clock (last_endpoint slots) (c.args.endpoint.now, c.args.slot.now) = record { some = named.1.some; most = named.1.most; above = c.requires.above slots h; stamps = within } in
+    let follows : Follows old.clock (last_endpoint slots) (c.args.endpoint.now, c.args.slot.now) = record { some = named.some; most = named.most; above = c.requires.above slots h; stamps = within } in
     begun_more old slots (c.args.endpoint.now, c.args.slot.now) c.put_slot.new.out.items _
-    (subst (λ (w : Begun). IsBegun w slots) (sym c.self.view_is) h) follows c.in-Ok.ensures.typed named.0 c.in-Ok.ensures.written refl
+    (subst (λ (w : Begun). IsBegun w slots) (sym c.self.view_is) h) follows c.in-Ok.ensures.typed c.in-Ok.ensures.named c.in-Ok.ensures.written refl
 
 pub invariant_of-self : goal.invariant_of-self
 invariant_of-self c =
     let old : Begun = record { clock = c.self.inside.clock; bytes = c.self.inside.bytes.items } in
-    let named = c.in-Ok.ensures.named in
+    let named = c.requires.named in
     let slots = c.self.invariant.0 in
     let h = subst (λ (w : Begun). IsBegun w slots) c.self.view_is c.self.invariant.1 in
     let within = subst (λ (w : Begun). StampsWithin w.clock c.args.slot.now) (sym c.self.view_is) c.requires.within in
-    let follows : Follows old.clock (last_endpoint slots) (c.args.endpoint.now, c.args.slot.now) = record { some = named.1.some; most = named.1.most; above = c.requires.above slots h; stamps = within } in (
+    let follows : Follows old.clock (last_endpoint slots) (c.args.endpoint.now, c.args.slot.now) = record { some = named.some; most = named.most; above = c.requires.above slots h; stamps = within } in (
       slots ++ (c.args.endpoint.now, c.args.slot.now) ∷ [],
       begun_more old slots (c.args.endpoint.now, c.args.slot.now) c.put_slot.new.out.items _
-          c.self.invariant.1 follows c.in-Ok.ensures.typed named.0 c.in-Ok.ensures.written refl,
+          c.self.invariant.1 follows c.in-Ok.ensures.typed c.in-Ok.ensures.named c.in-Ok.ensures.written refl,
     )

@@ -1,17 +1,15 @@
 use Rattle.std.proofs.Common.{◌∙◌, ℕ, List, [], ◌∷◌, ◌++◌, map, sym, subst, append_assoc}
 use Rattle.std.specs.Vec.Iter.{into_iter_items}
-use Rattle.lw_stamp.specs.TextOrder.{text_cmp}
 use Rattle.lw_reg.specs.declared.slot.Slot.{Slot}
 use Rattle.lw_table.specs.Changes.{IsSinceIn}
-use Rattle.lw_delta.specs.Order.{IsAbove}
-use Rattle.lw_delta.specs.Writable.{IsBegun, StampsWithin, last_endpoint}
+use Rattle.lw_delta.specs.Writable.{StampsWithin}
 use Rattle.lw_node.specs.Node.{NodeContent, HasEndpoints}
 use Rattle.lw_node.specs.Within.{FitsClock}
 use Rattle.lw_node.proofs.SendLemmas.{next_named, next_within, next_above}
 use Rattle.lw_node.proofs.node.Node.delta_since.Goals as goal
 
-pub endpoint_of-requires : goal.endpoint_of-requires
-endpoint_of-requires c =
+pub slot-requires-clause-named : goal.slot-requires-clause-named
+slot-requires-clause-named c =
     let now = c.args.self.now.table in
     let so_far = c.loop-endpoint.invariant.2 in
     let x : List ℕ × Slot = (c.in-Some.endpoint.now, c.in-Some.slot.now) in
@@ -26,8 +24,7 @@ slot-requires-clause-above c = λ slots begun.
     let x : List ℕ × Slot = (c.in-Some.endpoint.now, c.in-Some.slot.now) in
     let rest : List (List ℕ × Slot) = map (λ y. (y.0.now, y.1.now)) (into_iter_items c.next.new.self) in
     let sent = subst (λ items. IsSinceIn now.state now.count c.args.since (so_far.done ++ map (λ y. (y.0.now, y.1.now)) items)) c.in-Some.ensures.steps.0 so_far.since in
-    subst (λ (e : List ℕ). IsAbove text_cmp (last_endpoint slots) e) (sym c.in_ok-endpoint_of.ensures)
-    (next_above now.state now.count c.args.since so_far.done x rest sent c.loop-endpoint.writer so_far.begun slots begun)
+    next_above now.state now.count c.args.since so_far.done x rest sent c.loop-endpoint.writer so_far.begun slots begun
 
 pub slot-requires-clause-within : goal.slot-requires-clause-within
 slot-requires-clause-within c =
@@ -52,7 +49,7 @@ loop-endpoint-preserved c =
       record {
         done = so_far.done ++ x ∷ [];
         since = subst (IsSinceIn now.state now.count c.args.since) (sym (append_assoc so_far.done (x ∷ []) rest)) sent;
-        begun = subst (λ (e : List ℕ). IsBegun c.slot.new.self (so_far.done ++ (e, x.1) ∷ [])) c.in_ok-endpoint_of.ensures (c.in_ok-slot.ensures.begun so_far.done so_far.begun);
+        begun = c.in_ok-slot.ensures.begun so_far.done so_far.begun;
         clock = c.slot.ensures.clock ∙ so_far.clock;
       },
     )

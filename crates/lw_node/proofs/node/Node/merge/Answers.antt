@@ -77,9 +77,8 @@ returns-in-Err-read-clause-merges c =
     let old : NodeContent = record { number = c.self.inside.number; clock = counter_of c.self.inside.clock; table = c.self.inside.table } in
     let new : NodeContent = record { number = c.self.inside.number; clock = counter_of c.raise.new.self; table = c.self.inside.table } in
     let some : d.slots ≢ [] = λ none. (let bad = c.in-Err-read.ensures.empty d checked.1 none in absurd cc) in
-    let counted : old.table.count.change ≡ c.change-change.result = ap (λ (node : NodeContent). node.table.count.change) c.self.view_is ∙ sym c.change-change.ensures in
     subst (λ (node : NodeContent). MergesFront node bytes 0 new) c.self.view_is
-    (merges_none old new bytes d.clock d.slots checked.1 some refl c.raise.ensures (joined_none old.table (omega (arith, counted, c.change-change.type_inv))))
+    (merges_none old new bytes d.clock d.slots checked.1 some refl c.raise.ensures (joined_none old.table))
 
 pub returns-in-Err-read-clause-malformed : goal.returns-in-Err-read-clause-malformed
 returns-in-Err-read-clause-malformed c = λ fault. (

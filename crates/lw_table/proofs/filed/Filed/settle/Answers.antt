@@ -1,4 +1,3 @@
-use Rattle.std.proofs.Common.{sym}
 use Rattle.lw_table.proofs.filed.Filed.settle.Goals as goal
 
 pub returns : goal.returns

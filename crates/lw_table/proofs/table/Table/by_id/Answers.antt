@@ -1,6 +1,5 @@
-use Rattle.std.proofs.Common.{subst, ap, sym, ◌∙◌}
+use Rattle.std.proofs.Common.{subst}
 use Rattle.lw_stamp.specs.Moment.{ms_of}
-use Rattle.lw_table.specs.Answers.{after_text}
 use Rattle.lw_table.specs.Table.{IsTable}
 use Rattle.lw_table.proofs.Answering as answering
 use Rattle.lw_table.proofs.table.Table.by_id.Goals as goal

@@ -1,4 +1,4 @@
-use Rattle.std.proofs.Common.{◌≡◌, ◌∙◌, ℕ, List, Some, map, subst, sym, ap}
+use Rattle.std.proofs.Common.{◌≡◌, ◌∙◌, ℕ, List, Some, subst, sym, ap}
 use Rattle.std.specs.Prelude.{◌↔◌, Contains}
 use Rattle.std.specs.FinMap.{get}
 use Rattle.lw_reg.specs.declared.slot.Slot.{Slot}

@@ -1,12 +1,8 @@
 use Rattle.std.proofs.Common.{◌≡◌, None}
-use Rattle.std.specs.Prelude.{map, string_bytes}
 use Rattle.lw_stamp.specs.Moment.{ms_of}
-use Rattle.lw_reg.specs.Reading.{has_token}
-use Rattle.lw_table.specs.Answers.{after_text}
-use Rattle.lw_table.specs.Found.{view_at, watch_at, holder_at, expired_at, if_after, first_of, last_of}
+use Rattle.lw_table.specs.Found.{holder_at, last_of}
 use Rattle.lw_index.specs.Index.{endpoints_of}
 use Rattle.lw_table.specs.Keys.{key_cmp}
-use Rattle.lw_table.specs.declared.key.Key.TheVariants.{Token}
 use Rattle.lw_table.proofs.table.Table.last_holder.Given as goal
 
 -- the last of those that are left, and of the one so far, is the last of all

@@ -2,7 +2,6 @@ use Rattle.std.proofs.Common.{sym, ap, ◌∙◌}
 use Rattle.std.specs.FinMap.{get}
 use Rattle.std.specs.Option.{option_map}
 use Rattle.lw_reg.specs.OrderLaws.{text_order}
-use Rattle.lw_reg.specs.State.{State}
 use Rattle.lw_table.specs.declared.row.Row.{Row}
 use Rattle.lw_table.specs.Table.{TableContent}
 use Rattle.lw_table.proofs.RowLemmas.{get-each_in}

@@ -1,4 +1,4 @@
-use Rattle.std.proofs.Common.{◌≡◌, ◌≤◌, List, ℕ, Some, refl, sym, ap, ◌∙◌, subst, arith}
+use Rattle.std.proofs.Common.{sym, ap, ◌∙◌, subst}
 use Rattle.std.specs.Option.{IsSomeAnd}
 use Rattle.std.specs.FinMap.{get}
 use Rattle.lw_join.specs.Maps.{one_key}
@@ -7,7 +7,7 @@ use Rattle.lw_reg.specs.State.{state_join}
 use Rattle.lw_table.specs.Changes.{Recounts}
 use Rattle.lw_table.specs.Rows.{numbers_in, state_in}
 use Rattle.lw_table.specs.Table.{TableContent}
-use Rattle.lw_table.proofs.CountLemmas.{next_after, recount_one}
+use Rattle.lw_table.proofs.CountLemmas.{next_after, recount_one, saturated}
 use Rattle.lw_table.proofs.MoveLemmas.{err_then}
 use Rattle.lw_table.proofs.TableLemmas.{filed_at, joined_state, kept_table, put_table, rows_of, same_table}
 use Rattle.lw_table.proofs.table.Table.take.Goals as goal
@@ -41,16 +41,17 @@ returns-clause-count c =
     let e = c.args.endpoint.now in
     let slot = c.args.slot in
     let number = c.saturating_add-change.result in
+    let rows = rows_of c.self.inside.filed m c.self.inside.change c.self.invariant.1 in
     subst (λ (t : TableContent). Recounts t.state (state_in n.entries) t.count (record { change = number; numbers = numbers_in n.entries })) c.self.view_is
     (recount_one m n e slot number c.self.inside.change c.in_ok-put.ensures.put.0.at
-    (subst (λ (t : TableContent). IsSomeAnd (get t.state e) (slot_below slot) → ⊥) (sym c.self.view_is) c.requires.news) c.saturating_add-change.ensures)
+    (subst (λ (t : TableContent). IsSomeAnd (get t.state e) (slot_below slot) → ⊥) (sym c.self.view_is) c.requires.news) (saturated c.self.inside.change number c.saturating_add-change.ensures rows.last))
 
 pub invariant_of-self-2 : goal.invariant_of-self-2
 invariant_of-self-2 c =
     let change = c.self.inside.change in
     let number = c.saturating_add-change.result in
     let rows = rows_of c.self.inside.filed c.self.inside.rows change c.self.invariant.1 in
-    let next = next_after change number c.saturating_add-change.ensures rows.last in (
+    let next = next_after change number (saturated change number c.saturating_add-change.ensures rows.last) rows.last in (
       c.in_ok-put.ensures.put.0.ordered,
       put_table c.self.inside.filed c.put.new.filed c.self.inside.rows c.put.new.rows change c.args.endpoint.now c.put.ensures.others c.self.invariant.1
           _ number c.in_ok-put.ensures.put.0.at c.in_ok-put.ensures.put.1 next.0 next.1 next.2 c.requires.within,

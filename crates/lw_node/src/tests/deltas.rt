@@ -1,0 +1,75 @@
+//! Deltas of two slots with observations, and of a long name.
+
+use super::*;
+
+/// Two registrations, each with two observations, of which one is cancelled.
+const TWO: &str =
+    "4c57443100000000000601016100000000000100017f000000000000010001047f000001163300000000000100010000\
+0000000000000000000100010001518000000000000100010155000000000001000100000000000001000100033c2f3e\
+0102000300000000000000030001010001020003000100000000000400010101006e0001016200000000000200017f00\
+0000000000020001047f0000011634000000000002000100000000000000000000000200010001518000000000000200\
+010155000000000002000100000000000002000100033c2f3e0102000300000000000000050001020102000400000000\
+0000000600010101003c0000";
+
+/// The second of them alone.
+const SECOND: &str =
+    "4c57443100000000000601016200000000000200017f000000000000020001047f000001163400000000000200010000\
+0000000000000000000200010001518000000000000200010155000000000002000100000000000002000100033c2f3e\
+01020003000000000000000500010201020004000000000000000600010101003c0000";
+
+const MERGED: [Row<'static>; 13] = [
+    (Merges(TWO), "Ok(2)"),
+    (Numbers, "6 2"),
+    (ByEndpoint(0, "a"), SHOWN),
+    (
+        ByEndpoint(0, "b"),
+        "b 0000000000020001 127.0.0.1:5684 0 86400 false 1.0 U no number </>",
+    ),
+    (
+        ByToken(0, "0000000000030001"),
+        "a 0000000000030001 [3, 0] None",
+    ),
+    (
+        WatchAfter(ID, Some(&[3, 0])),
+        "a 0000000000040001 [3, 1] Some(110)",
+    ),
+    (ByToken(0, "0000000000050001"), "-"),
+    (
+        ByToken(0, "0000000000060001"),
+        "b 0000000000060001 [4, 0] Some(60)",
+    ),
+    // the same again changes nothing
+    (Merges(TWO), "Ok(2)"),
+    (Numbers, "6 2"),
+    (DeltaSince(0), TWO),
+    (DeltaSince(1), SECOND),
+    (DeltaSince(2), "4c57443100000000000600"),
+];
+
+#[test]
+fn slots_with_observations_are_merged_and_sent(rt: HostRuntime) -> Result<(), Fail> {
+    play_new(rt.alloc(), &MERGED)
+}
+
+/// A registration whose endpoint has 252 bytes.
+const LONGEST_NAME: &str =
+    "4c57443100000000000101fc6e6e6e6e6e6e6e6e6e6e6e6e6e6e6e6e6e6e6e6e6e6e6e6e6e6e6e6e6e6e6e6e6e6e6e6e\
+6e6e6e6e6e6e6e6e6e6e6e6e6e6e6e6e6e6e6e6e6e6e6e6e6e6e6e6e6e6e6e6e6e6e6e6e6e6e6e6e6e6e6e6e6e6e6e6e\
+6e6e6e6e6e6e6e6e6e6e6e6e6e6e6e6e6e6e6e6e6e6e6e6e6e6e6e6e6e6e6e6e6e6e6e6e6e6e6e6e6e6e6e6e6e6e6e6e\
+6e6e6e6e6e6e6e6e6e6e6e6e6e6e6e6e6e6e6e6e6e6e6e6e6e6e6e6e6e6e6e6e6e6e6e6e6e6e6e6e6e6e6e6e6e6e6e6e\
+6e6e6e6e6e6e6e6e6e6e6e6e6e6e6e6e6e6e6e6e6e6e6e6e6e6e6e6e6e6e6e6e6e6e6e6e6e6e6e6e6e6e6e6e6e6e6e6e\
+6e6e6e6e6e6e6e6e6e6e6e6e6e6e6e6e6e6e6e6e6e6e6e6e00000000000100017f000000000000010001047f00000116\
+330000000000010001000000000000000000000001000100015180000000000001000101550000000000010001000000\
+00000001000100033c2f3e0000";
+
+const LONGEST: [Row<'static>; 4] = [
+    (Merges(LONGEST_NAME), "Ok(1)"),
+    (Numbers, "1 1"),
+    (DeltaSince(0), LONGEST_NAME),
+    (DeltaSince(1), "4c57443100000000000100"),
+];
+
+#[test]
+fn the_longest_name_is_sent(rt: HostRuntime) -> Result<(), Fail> {
+    play_new(rt.alloc(), &LONGEST)
+}
