@@ -1,0 +1,2 @@
+-- What holds of every run.
+use Rattle.std.specs.Prelude.{◌≡◌}
