@@ -1,3 +1,5 @@
 pub mod Known
 pub mod Run
 pub mod World
+pub mod Laws
+pub mod Chains
