@@ -1,12 +1,13 @@
 -- Which outcomes the events of a run may have, and what its nodes then know.
-use Rattle.std.specs.Prelude.{◌≡◌, ℕ, suc, ◌+◌, ◌<◌, List, [], ◌∷◌, ◌++◌, length, take, set, slice_get, Option, Some, None, Result, Ok, Err, IfOk}
+use Rattle.std.specs.Prelude.{◌≡◌, ℕ, zero, suc, ◌+◌, ◌<◌, List, [], ◌∷◌, ◌++◌, length, take, set, slice_get, Option, Some, None, Result, Ok, Err, IfOk}
 use Rattle.lw_stamp.specs.Moment.{ms_of}
 use Rattle.lw_coap.specs.Message.{MessageContent}
 use Rattle.lw_reg.specs.declared.addr.Addr.{Addr}
 use Rattle.lw_reg.specs.declared.op.Op.{Op}
 use Rattle.lw_reg.specs.Marks.{left_by}
 use Rattle.lw_table.specs.Changes.{IsSinceIn}
-use Rattle.lw_delta.specs.Delta.{DeltaContent}
+use Rattle.lw_delta.specs.Delta.{DeltaContent, IsSpelling}
+use Rattle.lw_delta.specs.Writing.{delta_bytes}
 use Rattle.lw_node.specs.declared.merge_fault.MergeFault.{MergeFault}
 use Rattle.lw_node.specs.declared.merge_fault.MergeFault.TheVariants.{Malformed, NoMemory}
 use Rattle.lw_node.specs.declared.observe_fault.ObserveFault.{ObserveFault}
@@ -31,7 +32,7 @@ pub record History : Type 0 where
   pub issued : List Op
 
 abbrev pub numbered_from : ℕ → ℕ → List Knowledge
-numbered_from first 0 = []
+numbered_from first zero = []
 numbered_from first (suc more) = knows_nothing first ∷ numbered_from (first + 1) more
 
 -- before the first event
@@ -78,12 +79,13 @@ Commanded Meant messages k (Err faults.NotFound) left = Meant (Err NotFound) × 
 Commanded Meant messages k (Err faults.ClockEnd) left = Meant (Err ClockEnd) × (left ≡ idle messages k)
 Commanded Meant messages k (Err faults.NoMemory) left = ((request : Request) × (operation : Op) × Meant (Ok (request, operation))) × (left ≡ idle messages k)
 
--- The next message has the sender's clock, exactly the slots that moved after the change number, and the operations
--- about their endpoints.
+-- The next message is a delta: it has the sender's clock, exactly the slots that moved after the change number, and
+-- brings the operations about their endpoints.
 pub record Sends (messages : List Message) (k : Knowledge) (since : ℕ) (sending : Sending) (left : Left) : Type 0 where
   pub delta : DeltaContent
   pub clock : delta.clock ≡ k.clock
   pub slots : IsSinceIn (known_state k.operations) k.count since delta.slots
+  pub spelled : IsSpelling (delta_bytes delta.clock delta.slots) delta
   pub number : sending.message ≡ length messages
   pub change : sending.change ≡ k.count.change
   pub left_is : left ≡ record { operation = None; knows = k; messages = messages ++ record { delta = delta; operations = about (names_of delta.slots) k.operations } ∷ [] }
@@ -122,12 +124,12 @@ Acts messages k _ _ left = ⊥
 -- ---- the run
 -- the node of the number, of nodes that are numbered from 1
 abbrev pub at_number : {A : Type 0} → List A → ℕ → Option A
-at_number nodes 0 = None
+at_number nodes zero = None
 at_number nodes (suc place) = slice_get nodes place
 
 -- the node of the number knows something else
 abbrev pub with_node : {A : Type 0} → List A → ℕ → A → List A
-with_node nodes 0 a = nodes
+with_node nodes zero a = nodes
 with_node nodes (suc place) a = set nodes place a
 
 abbrev pub after : History → ℕ → Left → History

@@ -8,7 +8,7 @@
 mod event;
 pub mod laws;
 mod outcome;
-mod run;
+mod running;
 mod world;
 
 pub use event::{Action, Event};
@@ -17,5 +17,5 @@ pub use lw_node::{
     Question, Seen, Taken, Text, Watch,
 };
 pub use outcome::{Outcome, Sending};
-pub use run::run;
+pub use running::run;
 pub use world::World;

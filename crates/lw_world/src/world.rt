@@ -1,5 +1,7 @@
-ghost use Rattle.std.specs.Prelude.{◌≡◌, ◌+◌, ◌<◌, ◌≤◌, length, slice_get, option_map, IfOk, IfSome, IfNone, None};
-ghost use Rattle.lw_world.specs.Run.{History, Steps, Happens, begun, at_number};
+ghost use Rattle.std.specs.Prelude.{◌≡◌, suc, ◌<◌, length, slice_get, option_map, IfOk, IfSome, IfNone, None};
+ghost use Rattle.lw_world.specs.declared.event.Action.TheVariants.{Send, Deliver};
+ghost use Rattle.lw_world.specs.Run.{History, Steps, begun, at_number};
+ghost use Rattle.lw_world.specs.Sound.{Keeps, Makes};
 ghost use Rattle.lw_world.specs.World.{world_of};
 
 use crate::event::{Action, Event};
@@ -33,8 +35,8 @@ impl World {
         ensures { IfOk result (λ world. world ≡ world_of (begun count)) }
     {
         let mut nodes = Vec::new(alloc);
-        for number in 1..=count {
-            nodes.push(Node::new(alloc, number))?;
+        for place in 0..count {
+            nodes.push(Node::new(alloc, place + 1))?;
         }
         Ok(World {
             nodes,
@@ -58,7 +60,7 @@ impl World {
 
     /// Does what the event says. The world is given up where there is no memory for it.
     pub(crate) fn step(&mut self, event: &Event) -> Result<Outcome, NoMemory>
-        ensures { IfOk result (λ outcome. (h : History) → self.old ≡ world_of h → (new : History) × Steps h event.now outcome new × (self.new ≡ world_of new)) }
+        ensures { IfOk result (λ outcome. (h : History) → Keeps h self.old → (next : History) × Steps h event.now outcome next × Keeps next self.new) }
     {
         match self.place(event.node) {
             Some(place) => self.act(place, &event.action),
@@ -66,37 +68,49 @@ impl World {
         }
     }
 
-    fn place(&self, number: u16) -> Option<usize> {
+    fn place(&self, number: u16) -> Option<usize>
+        ensures some { IfSome result (λ place. (number ≡ suc place) × (place < length self.now.nodes)) }
+        ensures none { IfNone result (at_number self.now.nodes number ≡ None) }
+    {
         let place = place_of(number)?;
         (place < self.nodes.len()).then_some(place)
     }
 
     fn act(&mut self, place: usize, action: &Action) -> Result<Outcome, NoMemory>
         requires { place < length self.old.nodes }
-        ensures { IfOk result (λ outcome. (h : History) → self.old ≡ world_of h → (new : History) × Happens h (record { node = place + 1; action = action.now }) outcome new × (self.new ≡ world_of new)) }
+        ensures { IfOk result (λ outcome. Makes self.old place action.now outcome self.new) }
     {
-        let node = &mut self.nodes[place];
         match action {
-            Action::Take { now, from, bytes } => {
-                Ok(Outcome::Taken(node.take(*now, *from, bytes.as_slice())))
-            }
+            Action::Take { now, from, bytes } => Ok(Outcome::Taken(self.nodes[place].take(
+                *now,
+                *from,
+                bytes.as_slice(),
+            ))),
             Action::Observe {
                 now,
                 id,
                 path,
                 accept,
                 mid,
-            } => Ok(Outcome::Observed(node.observe(*now, *id, *path, *accept, *mid))),
-            Action::Cancel { now, token, mid } => {
-                Ok(Outcome::Cancelled(node.cancel(*now, *token, *mid)))
+            } => {
+                let outcome = self.nodes[place].observe(*now, *id, *path, *accept, *mid);
+                Ok(Outcome::Observed(outcome))
             }
-            Action::Ask { now, question } => Ok(Outcome::Answered(node.ask(*now, question))),
+            Action::Cancel { now, token, mid } => {
+                Ok(Outcome::Cancelled(self.nodes[place].cancel(*now, *token, *mid)))
+            }
+            Action::Ask { now, question } => {
+                Ok(Outcome::Answered(self.nodes[place].ask(*now, question)))
+            }
             Action::Send { since } => self.send(place, *since),
             Action::Deliver { message } => Ok(self.deliver(place, *message)),
         }
     }
 
-    fn send(&mut self, place: usize, since: u64) -> Result<Outcome, NoMemory> {
+    fn send(&mut self, place: usize, since: u64) -> Result<Outcome, NoMemory>
+        requires { place < length self.old.nodes }
+        ensures { IfOk result (λ outcome. Makes self.old place (Send since) outcome self.new) }
+    {
         let node = &self.nodes[place];
         let Ok(delta) = node.delta_since(since) else {
             return Ok(Outcome::Sent(Err(NoMemory)));
@@ -109,7 +123,10 @@ impl World {
         Ok(Outcome::Sent(Ok(sending)))
     }
 
-    fn deliver(&mut self, place: usize, message: usize) -> Outcome {
+    fn deliver(&mut self, place: usize, message: usize) -> Outcome
+        requires { place < length self.old.nodes }
+        ensures { Makes self.old place (Deliver message) result self.new }
+    {
         match self.messages.get(message) {
             Some(bytes) => Outcome::Delivered(self.nodes[place].merge(bytes)),
             None => Outcome::NoSuchMessage,
@@ -119,7 +136,7 @@ impl World {
 
 /// Where the node of the number stands among all.
 fn place_of(number: u16) -> Option<usize>
-    ensures { IfSome result (λ place. number ≡ place + 1) }
+    ensures some { IfSome result (λ place. number ≡ suc place) }
     ensures none { IfNone result (number ≡ 0) }
 {
     usize::from(number).checked_sub(1)
