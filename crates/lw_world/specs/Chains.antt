@@ -60,6 +60,6 @@ ChainsReach =
     (count : ℕ) (events : List Event) (outcomes : List Outcome) (h : History) → Runs (begun count) events outcomes h
     → (sender receiver : ℕ) (links : List Link) (last : Link) → IsChain events outcomes sender (links ++ last ∷ [])
     → ((l : Link) → Contains (links ++ last ∷ []) l → IsDelivered events outcomes receiver l.message)
-    → (mid : History) → Runs (begun count) (take last.place events) (take last.place outcomes) then
+    → (mid : History) → Runs (begun count) (take last.place events) (take last.place outcomes) mid
     → (s r : Knowledge) → at_number mid.nodes sender ≡ Some s → at_number h.nodes receiver ≡ Some r
     → state_below (known_state s.operations) (known_state r.operations)
