@@ -7,7 +7,6 @@ mod key;
 mod look_ups;
 mod moves;
 mod names;
-mod room;
 mod row;
 mod since;
 mod table;

@@ -1,12 +1,13 @@
-ghost use Rattle.std.specs.Prelude.{◌≡◌, ◌≢◌, ◌↔◌, ◌⊎◌, ℕ, List, [], Contains, OnOk, OnErr, map, filter, string_bytes};
+ghost use Rattle.std.specs.Prelude.{◌≡◌, ◌≢◌, ◌↔◌, ◌⊎◌, ℕ, List, [], Contains, IfSome, OnOk, OnErr, map, filter, string_bytes};
 ghost use Rattle.std.specs.List.Sorted.{IsStrictlySortedBy};
 ghost use Rattle.lw_stamp.specs.TextOrder.{text_cmp};
 ghost use Rattle.lw_table.specs.Answers.{after_text};
 ghost use Rattle.lw_table.specs.Names.{is_after};
 
-use crate::room::Room;
+use lw_reg::Endpoint;
 use lw_stamp::NoMemory;
 use std::alloc::Global;
+use std::cell::Cell;
 use std::collections::{BTreeSet, btree_set};
 use std::marker::Model;
 use std::ops::Bound;
@@ -15,8 +16,9 @@ use std::ops::Bound;
 #[derive(Drop)]
 pub(crate) struct Names {
     names: BTreeSet<String>,
-    /// Made before the first name is kept.
-    room: Room,
+    /// Room for the text that a look-up goes on from, so that it takes no memory: as long as an endpoint, and made
+    /// before the first name is kept.
+    room: Cell<Option<String>>,
 }
 
 impl Model for Names {
@@ -37,7 +39,7 @@ impl Names {
     {
         Names {
             names: BTreeSet::new(alloc),
-            room: Room::new(),
+            room: Cell::new(None),
         }
     }
 
@@ -49,7 +51,7 @@ impl Names {
         if self.names.contains(endpoint) {
             return Ok(());
         }
-        self.room.make(alloc)?;
+        self.make_room(alloc)?;
         self.names.insert(String::from_str(alloc, endpoint)?)?;
         Ok(())
     }
@@ -68,13 +70,37 @@ impl Names {
         let Some(after) = after else {
             return self.names.range(..);
         };
-        let Some(bound) = self.room.fill(after) else {
+        let Some(bound) = self.fill_room(after) else {
             return self.names.range(..);
         };
         let names = self
             .names
             .range((Bound::Excluded(&bound), Bound::Unbounded));
-        self.room.give_back(bound);
+        self.room.set(Some(bound));
         names
+    }
+
+    /// Makes the room, if it is not there yet.
+    fn make_room(&self, alloc: Global) -> Result<(), NoMemory> {
+        let made = match self.room.take() {
+            Some(made) => made,
+            None => String::with_capacity(alloc, Endpoint::MAX_LENGTH)?,
+        };
+        self.room.set(Some(made));
+        Ok(())
+    }
+
+    /// The text, in the room that is there. There is none for a text longer than an endpoint, or before the room was
+    /// made.
+    fn fill_room(&self, text: &str) -> Option<String>
+        ensures { IfSome result (λ copy. string_bytes copy ≡ text.now) }
+    {
+        if text.len() > Endpoint::MAX_LENGTH {
+            return None;
+        }
+        let mut copy = self.room.take()?;
+        copy.clear();
+        copy.push_str(text).ok()?;
+        Some(copy)
     }
 }

@@ -13,16 +13,16 @@ returns-clause-above c =
     let after = c.in-Some.after.now in
     subst (λ o. filter (is_after (after_text o)) (map string_bytes c.range-names.result) ≡ filter (is_after (after_text o)) c.args.self.now) (sym c.in-Some.is)
     (ap (λ ks. filter (is_after (Some after)) (map string_bytes ks)) (c.range-names.ensures.between tt)
-    ∙ names_above c.in-Some-fill.bound after c.in-Some-fill.ensures c.self.inside.names.keys
+    ∙ names_above c.in-Some-fill_room.bound after c.in-Some-fill_room.ensures c.self.inside.names.keys
     ∙ ap (filter (is_after (Some after))) c.self.view_is)
 
 pub returns-in_default-clause-above : goal.returns-in_default-clause-above
 returns-in_default-clause-above c =
     ap (λ l. filter (is_after (after_text c.args.after)) l) (ap (map string_bytes) (c.range.ensures.between tt ∙ names_all c.self.inside.names.keys) ∙ c.self.view_is)
 
-pub returns-in_default-fill-clause-above : goal.returns-in_default-fill-clause-above
-returns-in_default-fill-clause-above c =
-    ap (λ l. filter (is_after (after_text c.args.after)) l) (ap (map string_bytes) (c.range-in_default-fill.ensures.between tt ∙ names_all c.self.inside.names.keys) ∙ c.self.view_is)
+pub returns-in_default-fill_room-clause-above : goal.returns-in_default-fill_room-clause-above
+returns-in_default-fill_room-clause-above c =
+    ap (λ l. filter (is_after (after_text c.args.after)) l) (ap (map string_bytes) (c.range-in_default-fill_room.ensures.between tt ∙ names_all c.self.inside.names.keys) ∙ c.self.view_is)
 
 pub returns-clause-rise : goal.returns-clause-rise
 returns-clause-rise c = subst (IsStrictlySortedBy text_cmp) c.self.view_is (texts_rise c.self.inside.names.keys c.self.invariant)
@@ -30,5 +30,5 @@ returns-clause-rise c = subst (IsStrictlySortedBy text_cmp) c.self.view_is (text
 pub returns-in_default-clause-rise : goal.returns-in_default-clause-rise
 returns-in_default-clause-rise c = subst (IsStrictlySortedBy text_cmp) c.self.view_is (texts_rise c.self.inside.names.keys c.self.invariant)
 
-pub returns-in_default-fill-clause-rise : goal.returns-in_default-fill-clause-rise
-returns-in_default-fill-clause-rise c = subst (IsStrictlySortedBy text_cmp) c.self.view_is (texts_rise c.self.inside.names.keys c.self.invariant)
+pub returns-in_default-fill_room-clause-rise : goal.returns-in_default-fill_room-clause-rise
+returns-in_default-fill_room-clause-rise c = subst (IsStrictlySortedBy text_cmp) c.self.view_is (texts_rise c.self.inside.names.keys c.self.invariant)

@@ -1,0 +1,3 @@
+pub mod KnownStates
+pub mod Learning
+pub mod Making

@@ -1,0 +1,6 @@
+pub mod Known
+pub mod Run
+pub mod World
+pub mod Laws
+pub mod Chains
+pub mod Sound
