@@ -6,7 +6,6 @@
 #![tactic(auto)]
 
 mod event;
-pub mod laws;
 mod outcome;
 mod running;
 mod world;
