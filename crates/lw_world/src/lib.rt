@@ -18,3 +18,6 @@ pub use lw_node::{
 pub use outcome::{Outcome, Sending};
 pub use running::run;
 pub use world::World;
+
+#[cfg(test)]
+mod tests;
