@@ -75,7 +75,7 @@ impl What<'_> {
             Takes(now, port, datagram) => Action::Take {
                 now: at(now)?,
                 from: host(port),
-                bytes: Bytes::from(hex::decode(alloc, datagram)?),
+                bytes: Bytes::from_vec(hex::decode(alloc, datagram)?)?,
             },
             Observes(text, numbers, mid) => Action::Observe {
                 now: at(0)?,

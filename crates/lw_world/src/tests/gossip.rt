@@ -11,7 +11,7 @@ fn register(alloc: Global, number: u16) -> Result<Action, Fail> {
     Ok(Action::Take {
         now: events::at(u64::from(number))?,
         from: events::host(6_000_u16.saturating_add(number)),
-        bytes: Bytes::from(hex::decode(alloc, &datagram)?),
+        bytes: Bytes::from_vec(hex::decode(alloc, &datagram)?)?,
     })
 }
 
