@@ -1,0 +1,4 @@
+pub mod PathText
+pub mod Json
+pub mod Answer
+pub mod Lines
