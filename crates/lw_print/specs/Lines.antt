@@ -36,9 +36,13 @@ notice_text (Some notice) = compact_text (notice_json notice)
 abbrev pub taken_words : TakenContent → List (List ℕ)
 taken_words taken = codes "taken" ∷ reply_text taken.reply ∷ notice_text taken.notice ∷ []
 
--- a request that is sent, by its token, where it goes and its bytes; or why none is
+-- a request that is sent: its token, where it goes, and its bytes
+abbrev pub sent_words : OutgoingContent → List (List ℕ)
+sent_words outgoing = codes "sent" ∷ id_of outgoing.token ∷ addr_text outgoing.to ∷ encode_lower outgoing.bytes ∷ []
+
+-- the request, or why none is sent
 abbrev pub command_words : Result OutgoingContent ObserveFault → List (List ℕ)
-command_words (Ok outgoing) = codes "sent" ∷ id_of outgoing.token ∷ addr_text outgoing.to ∷ encode_lower outgoing.bytes ∷ []
+command_words (Ok outgoing) = sent_words outgoing
 command_words (Err observe_faults.NotFound) = codes "refused" ∷ codes "1" ∷ []
 command_words (Err observe_faults.ClockEnd) = codes "refused" ∷ codes "2" ∷ []
 command_words (Err observe_faults.NoMemory) = no_memory

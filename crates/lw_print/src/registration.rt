@@ -1,0 +1,76 @@
+ghost use Rattle.std.specs.Prelude.{◌≡◌, IfOk, string_bytes};
+ghost use Rattle.serde_json.specs.View.{view};
+ghost use Rattle.serde_json.specs.Written.{compact_text};
+ghost use Rattle.lw_print.specs.Json.{registration_json};
+ghost use Rattle.lw_print.specs.Members.{members_json, TellsOf};
+
+use crate::value::{id_text, text_value};
+use lw_reg::View;
+use lw_stamp::NoMemory;
+use serde_json::{Value, json};
+use std::alloc::{AllocError, Global};
+
+/// The values of a registration's JSON object.
+#[derive(Drop)]
+struct Members<'a> {
+    address: String,
+    binding: &'a str,
+    endpoint: &'a str,
+    id: String,
+    lifetime: u32,
+    lwm2m: &'a str,
+    objects: &'a str,
+    queue: bool,
+    seen: u64,
+    sms: Value,
+}
+
+/// The JSON object of a registration, with no space between its members.
+pub fn registration_text(alloc: Global, shown: &View<'_>) -> Result<String, NoMemory>
+    ensures { IfOk result (λ text. string_bytes text ≡ compact_text (registration_json shown.now)) }
+{
+    let value = registration_value(alloc, shown)?;
+    Ok(value.to_string(alloc)?)
+}
+
+#[tactic(auto, using(crate::proofs::MemberLemmas::json_of_members))]
+fn registration_value(alloc: Global, shown: &View<'_>) -> Result<Value, NoMemory>
+    ensures { IfOk result (λ value. view value ≡ registration_json shown.now) }
+{
+    let members = members_of(alloc, shown)?;
+    Ok(object(alloc, members)?)
+}
+
+fn members_of<'a>(alloc: Global, shown: &'a View<'_>) -> Result<Members<'a>, NoMemory>
+    ensures { IfOk result (λ members. TellsOf members shown.now) }
+{
+    Ok(Members {
+        address: shown.address.print(alloc)?,
+        binding: shown.binding.as_str(),
+        endpoint: shown.endpoint,
+        id: id_text(alloc, shown.id)?,
+        lifetime: shown.lifetime,
+        lwm2m: shown.version.as_str(),
+        objects: shown.objects.as_str(),
+        queue: shown.queue,
+        seen: shown.seen.ms(),
+        sms: text_value(alloc, shown.sms)?,
+    })
+}
+
+fn object(alloc: Global, members: Members<'_>) -> Result<Value, AllocError>
+    ensures { IfOk result (λ value. view value ≡ members_json members.entry) }
+{
+    json!(in alloc; {
+        "address": members.address,
+        "binding": members.binding,
+        "endpoint": members.endpoint,
+        "id": members.id,
+        "lifetime": members.lifetime,
+        "lwm2m": members.lwm2m,
+        "objects": members.objects,
+        "queue": members.queue,
+        "seen": members.seen,
+        "sms": members.sms
+    })
+}
