@@ -93,8 +93,10 @@ fn endpoints_that_have_expired(rt: HostRuntime) -> Result<(), Fail> {
 #[test]
 fn the_longest_endpoint_that_has_expired(rt: HostRuntime) -> Result<(), Fail> {
     let endpoint = "\u{1}".repeat(rt.alloc(), 252)?;
+    let escaped = "\\u0001".repeat(rt.alloc(), 252)?;
+    let want = format!(in rt.alloc(); r#"{{"endpoint":"{escaped}","id":"ffffffffffffffff"}}"#)?;
     let text = stale_text(rt.alloc(), endpoint.as_str(), LAST)?;
-    assert_eq!(rt; text.len(), 6 * 252 + 38);
+    assert!(rt; text.as_str() == want.as_str());
     Ok(())
 }
 
