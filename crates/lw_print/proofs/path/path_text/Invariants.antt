@@ -1,6 +1,5 @@
 use Rattle.std.proofs.Common.{◌≡◌, ◌++◌, drop, string_bytes}
 use Rattle.std.specs.List.{flat_map}
-use Rattle.lw_reg.specs.Path.{path_numbers}
 use Rattle.lw_print.specs.PathText.{path_text, step_text}
 use Rattle.lw_print.proofs.path.path_text.Given as goal
 
