@@ -1,4 +1,3 @@
 pub mod LineLemmas
 pub mod OneLemmas
-pub mod MemberLemmas
 pub mod NodeLemmas

@@ -10,9 +10,9 @@ use Rattle.lw_reg.specs.Registration.{Registration}
 use Rattle.lw_table.specs.Answers.{FirstAfter}
 use Rattle.lw_node.specs.Calls.{TakenContent, Takes}
 use Rattle.lw_node.specs.Node.{NodeContent, fresh}
+use Rattle.lw_print.specs.Answer.{answer_text}
 use Rattle.fleet.specs.declared.command.OneOptions.{OneOptions}
 use Rattle.fleet.specs.Line.{line_of, longest_line}
-use Rattle.fleet.specs.Answer.{answer_text}
 
 -- the text of an address
 abbrev pub IsAddressText : List ℕ → Type 0

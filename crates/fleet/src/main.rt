@@ -1,11 +1,9 @@
 //! The program `fleet`: `fleet one` takes one datagram at a new node and prints what the node answers.
 #![tactic(auto)]
 
-mod answer;
 mod command;
 mod fault;
 mod hex_line;
-mod json;
 mod line;
 mod one;
 mod output;

@@ -5,13 +5,13 @@ ghost use Rattle.lw_stamp.specs.Moment.{ms_of};
 ghost use Rattle.fleet.specs.Line.{line_of, longest_line};
 ghost use Rattle.fleet.specs.One.{IsAddressText, IsAnswered, IsPrinted};
 
-use crate::answer::answer;
 use crate::command::OneOptions;
 use crate::fault::OneFault;
 use crate::hex_line::bytes_of_hex;
 use crate::line::read_line;
 use crate::output::write_text;
 use lw_node::{Node, Taken};
+use lw_print::answer_text;
 use lw_reg::Addr;
 use lw_stamp::{Moment, NoMemory};
 use std::alloc::Global;
@@ -63,7 +63,7 @@ fn answered(
     let mut node = Node::new(alloc, number);
     let taken = node.take(now, source, datagram)?;
     let shown = node.first_after(now, None);
-    answer(alloc, reply_of(&taken), shown.as_ref())
+    answer_text(alloc, reply_of(&taken), shown.as_ref())
 }
 
 fn reply_of(taken: &Taken) -> Option<&[u8]>

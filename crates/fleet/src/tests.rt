@@ -1,14 +1,10 @@
-use crate::answer::answer;
 use crate::command::OneOptions;
 use crate::fault::OneFault;
 use crate::hex_line::bytes_of_hex;
-use crate::json::shown_text;
 use crate::line::read_line;
 use crate::one::one;
 use crate::output::write_text;
-use lw_node::LinkText;
-use lw_reg::{Addr, Binding, Version, View};
-use lw_stamp::{Moment, Stamp};
+use lw_stamp::Moment;
 use std::alloc::Global;
 use std::fmt::Write as _;
 use std::io::{self, ErrorKind, Read, Write};
@@ -190,112 +186,6 @@ fn hex_lines(rt: HostRuntime) -> Result<(), Fail> {
         let bytes = bytes_of_hex(rt.alloc(), line).map(|bytes| bytes.len());
         assert_eq!(rt; bytes, Err(OneFault::HexRefused), "at {line:?}");
     }
-    Ok(())
-}
-
-fn registration<'a>(endpoint: &'a str, objects: &'a LinkText) -> View<'a> {
-    View {
-        endpoint,
-        id: Stamp {
-            counter: 1,
-            node: 1,
-        },
-        address: Addr::V4 {
-            address: [127, 0, 0, 1],
-            port: 5683,
-        },
-        seen: Moment::START,
-        lifetime: 60,
-        version: Version::V11,
-        binding: Binding::U,
-        queue: false,
-        sms: None,
-        objects,
-    }
-}
-
-/// A registration with other values in all but its identifier.
-fn other_registration<'a>(endpoint: &'a str, objects: &'a LinkText) -> View<'a> {
-    let mut view = registration(endpoint, objects);
-    view.address = Addr::V6 {
-        address: [0x20, 1, 0x0d, 0xb8, 0, 0, 0, 0, 0, 0, 0, 0, 0, 0, 0, 1],
-        port: 65535,
-    };
-    view.seen = Moment::new(Moment::LAST_MS).unwrap_or(Moment::START);
-    view.lifetime = 4_294_967_295;
-    view.version = Version::V10;
-    view.queue = true;
-    view.sms = Some("+49");
-    view
-}
-
-#[test]
-fn a_registration_as_json(rt: HostRuntime) -> Result<(), Fail> {
-    let objects = LinkText::read(rt.alloc(), b"</3/0>;ct=\"1\\\"\"")?;
-    let text = shown_text(rt.alloc(), &registration("a", &objects))?;
-    assert_eq!(rt;
-        text.as_str(),
-        r#"{"address":"127.0.0.1:5683","binding":"U","endpoint":"a","id":"0000000000010001","lifetime":60,"lwm2m":"1.1","objects":"</3/0>;ct=\"1\\\"\"","queue":false,"seen":0,"sms":null}"#
-    );
-    Ok(())
-}
-
-#[test]
-fn another_registration_as_json(rt: HostRuntime) -> Result<(), Fail> {
-    let objects = LinkText::read(rt.alloc(), b"</>")?;
-    let text = shown_text(rt.alloc(), &other_registration("a\"b\n", &objects))?;
-    assert_eq!(rt;
-        text.as_str(),
-        r#"{"address":"[2001:0db8:0000:0000:0000:0000:0000:0001]:65535","binding":"U","endpoint":"a\"b\n","id":"0000000000010001","lifetime":4294967295,"lwm2m":"1.0","objects":"</>","queue":true,"seen":281474976710655,"sms":"+49"}"#
-    );
-    Ok(())
-}
-
-/// A list of 256 links, of 7,909 bytes.
-fn long_list(alloc: Global) -> Result<LinkText, Fail> {
-    let mut list = String::from_str(alloc, "</0>")?;
-    list.push_str(
-        r#",</65534/65534>;ver="1.0 \"x\"""#
-            .repeat(alloc, 255)?
-            .as_str(),
-    )?;
-    let list = list.as_bytes().get(..7909).ok_or("the list")?;
-    Ok(LinkText::read(alloc, list)?)
-}
-
-#[test]
-fn the_longest_registration_as_json(rt: HostRuntime) -> Result<(), Fail> {
-    let objects = long_list(rt.alloc())?;
-    let (endpoint, sms) = ("e".repeat(rt.alloc(), 252)?, "1".repeat(rt.alloc(), 251)?);
-    let mut view = other_registration(endpoint.as_str(), &objects);
-    view.sms = Some(sms.as_str());
-    let text = shown_text(rt.alloc(), &view)?;
-    // a link but the first has 31 bytes, of which four quotes and two backslashes are escaped
-    assert_eq!(rt; text.len(), 207 + 252 + 251 + 4 + 255 * (31 + 6));
-    Ok(())
-}
-
-#[test]
-fn answers(rt: HostRuntime) -> Result<(), Fail> {
-    let reply: &[u8] = &[0x60, 0x80, 0, 0xab];
-    for (reply, line) in [
-        (None, "-\n"),
-        (Some(reply), "608000ab\n"),
-        (Some(&[]), "\n"),
-    ] {
-        assert_eq!(rt;
-            answer(rt.alloc(), reply, None)?.as_slice(),
-            line.as_bytes()
-        );
-    }
-    let objects = long_list(rt.alloc())?;
-    let text = answer(
-        rt.alloc(),
-        Some(&[0; 8192]),
-        Some(&registration("a", &objects)),
-    )?;
-    assert_eq!(rt; text.iter().position(|byte| *byte == b'\n'), Some(16_384));
-    assert!(rt; text.ends_with(b"\"sms\":null}\n"));
     Ok(())
 }
 

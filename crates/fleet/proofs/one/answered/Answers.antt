@@ -4,7 +4,7 @@ use Rattle.lw_reg.specs.Marks.{all_marks, left_by}
 use Rattle.std.specs.Option.{option_to_list}
 use Rattle.lw_node.specs.Calls.{Takes}
 use Rattle.lw_node.specs.Node.{NodeContent, Knows, fresh}
-use Rattle.fleet.specs.Answer.{answer_text}
+use Rattle.lw_print.specs.Answer.{answer_text}
 use Rattle.fleet.proofs.NodeLemmas.{knows_none, knows_after, if_ok}
 use Rattle.fleet.proofs.one.answered.Goals as goal
 
@@ -16,7 +16,7 @@ returns c =
     let takes : Takes (fresh c.args.number) (left_by []) now c.args.source c.args.datagram.now taken c.take.new.self =
     subst (λ (n : NodeContent). Takes n (left_by []) now c.args.source c.args.datagram.now taken c.take.new.self) start
     (c.in_ok-taken.ensures.marks (all_marks []) (subst (λ (n : NodeContent). Knows n (all_marks [])) (sym start) (knows_none c.args.number))) in
-    if_ok c.answer.result _ _ c.answer.ensures
+    if_ok c.answer_text.result _ _ c.answer_text.ensures
     (λ text is. record {
       taken = taken;
       node = c.take.new.self;

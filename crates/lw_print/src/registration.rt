@@ -1,9 +1,10 @@
-ghost use Rattle.std.specs.Prelude.{◌≡◌, IfOk, option_map, string_bytes};
+ghost use Rattle.std.specs.Prelude.{◌≡◌, IfOk, string_bytes};
 ghost use Rattle.serde_json.specs.View.{view};
 ghost use Rattle.serde_json.specs.Written.{compact_text};
-ghost use Rattle.fleet.specs.Shown.{shown_json, text_or_null};
-ghost use Rattle.fleet.specs.Members.{members_json, TellsOf};
+ghost use Rattle.lw_print.specs.Json.{registration_json};
+ghost use Rattle.lw_print.specs.Members.{members_json, TellsOf};
 
+use crate::value::{id_text, text_value};
 use lw_reg::View;
 use lw_stamp::NoMemory;
 use serde_json::{Value, json};
@@ -25,16 +26,16 @@ struct Members<'a> {
 }
 
 /// The JSON object of a registration, with no space between its members.
-pub fn shown_text(alloc: Global, shown: &View<'_>) -> Result<String, NoMemory>
-    ensures { IfOk result (λ text. string_bytes text ≡ compact_text (shown_json shown.now)) }
+pub fn registration_text(alloc: Global, shown: &View<'_>) -> Result<String, NoMemory>
+    ensures { IfOk result (λ text. string_bytes text ≡ compact_text (registration_json shown.now)) }
 {
-    let value = shown_value(alloc, shown)?;
+    let value = registration_value(alloc, shown)?;
     Ok(value.to_string(alloc)?)
 }
 
 #[tactic(auto, using(crate::proofs::MemberLemmas::json_of_members))]
-fn shown_value(alloc: Global, shown: &View<'_>) -> Result<Value, NoMemory>
-    ensures { IfOk result (λ value. view value ≡ shown_json shown.now) }
+fn registration_value(alloc: Global, shown: &View<'_>) -> Result<Value, NoMemory>
+    ensures { IfOk result (λ value. view value ≡ registration_json shown.now) }
 {
     let members = members_of(alloc, shown)?;
     Ok(object(alloc, members)?)
@@ -47,7 +48,7 @@ fn members_of<'a>(alloc: Global, shown: &'a View<'_>) -> Result<Members<'a>, NoM
         address: shown.address.print(alloc)?,
         binding: shown.binding.as_str(),
         endpoint: shown.endpoint,
-        id: hex::encode(alloc, shown.id.to_bytes())?,
+        id: id_text(alloc, shown.id)?,
         lifetime: shown.lifetime,
         lwm2m: shown.version.as_str(),
         objects: shown.objects.as_str(),
@@ -72,13 +73,4 @@ fn object(alloc: Global, members: Members<'_>) -> Result<Value, AllocError>
         "seen": members.seen,
         "sms": members.sms
     })
-}
-
-fn text_value(alloc: Global, text: Option<&str>) -> Result<Value, AllocError>
-    ensures { IfOk result (λ value. view value ≡ text_or_null (option_map (λ t. t.now) text.entry)) }
-{
-    match text {
-        Some(text) => Value::try_from_str(alloc, text),
-        None => Ok(Value::Null),
-    }
 }

@@ -1,0 +1,70 @@
+-- What is shown of a registration (LwM2M 1.1 Core, section 6.2), of an observation (RFC 7641) and of what a device tells
+-- of one, as JSON objects (RFC 8259, section 4). Their keys stand in order.
+use Rattle.std.specs.Prelude.{ℕ, List, Option, Some, None, codes}
+use Rattle.hex.specs.Hex.{encode_lower}
+use Rattle.serde_json.specs.Data.{Data, null, boolean, number, unsigned, string, object, member, no_members}
+use Rattle.lw_stamp.specs.declared.stamp.Stamp.{Stamp}
+use Rattle.lw_stamp.specs.Moment.{ms_of}
+use Rattle.lw_stamp.specs.Stamp.{id_of}
+use Rattle.lw_reg.specs.declared.watch.Watch.{Watch}
+use Rattle.lw_reg.specs.Addr.{addr_text}
+use Rattle.lw_reg.specs.Binding.{binding_text}
+use Rattle.lw_reg.specs.Registration.{Registration}
+use Rattle.lw_reg.specs.Version.{version_text}
+use Rattle.lw_node.specs.Effects.{NoticeContent}
+use Rattle.lw_print.specs.PathText.{path_text}
+
+-- the text, or null where there is none
+abbrev pub text_or_null : Option (List ℕ) → Data
+text_or_null None = null
+text_or_null (Some text) = string text
+
+-- the number, or null where there is none
+abbrev pub number_or_null : Option ℕ → Data
+number_or_null None = null
+number_or_null (Some n) = number (unsigned n)
+
+abbrev pub registration_json : Registration → Data
+registration_json r = object
+    (member (codes "address") (string (addr_text r.address))
+    (member (codes "binding") (string (binding_text r.binding))
+    (member (codes "endpoint") (string r.endpoint)
+    (member (codes "id") (string (id_of r.id))
+    (member (codes "lifetime") (number (unsigned r.lifetime))
+    (member (codes "lwm2m") (string (version_text r.version))
+    (member (codes "objects") (string r.objects)
+    (member (codes "queue") (boolean r.queue)
+    (member (codes "seen") (number (unsigned (ms_of r.seen)))
+    (member (codes "sms") (text_or_null r.sms)
+    no_members))))))))))
+
+-- a watch, and its registration
+abbrev pub watch_json : Registration → Watch → Data
+watch_json r watch = object
+    (member (codes "accept") (number_or_null watch.accept)
+    (member (codes "endpoint") (string r.endpoint)
+    (member (codes "id") (string (id_of r.id))
+    (member (codes "path") (string (path_text watch.path))
+    (member (codes "token") (string (id_of watch.token))
+    no_members)))))
+
+-- a registration that has expired
+abbrev pub stale_json : List ℕ → Stamp → Data
+stale_json endpoint id = object
+    (member (codes "endpoint") (string endpoint)
+    (member (codes "id") (string (id_of id))
+    no_members))
+
+-- the code is the byte as a number
+abbrev pub notice_json : NoticeContent → Data
+notice_json n = object
+    (member (codes "code") (number (unsigned n.code))
+    (member (codes "content_format") (number_or_null n.format)
+    (member (codes "ended") (boolean n.ended)
+    (member (codes "endpoint") (string n.endpoint)
+    (member (codes "id") (string (id_of n.id))
+    (member (codes "observe") (number_or_null n.observe)
+    (member (codes "path") (string (path_text n.path))
+    (member (codes "payload") (string (encode_lower n.payload))
+    (member (codes "token") (string (id_of n.token))
+    no_members)))))))))

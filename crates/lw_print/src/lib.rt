@@ -1,0 +1,20 @@
+//! What the programs print: registrations, watches and notices as JSON, and the line of what comes of an event.
+#![tactic(auto)]
+
+mod line;
+mod notice;
+mod one;
+mod path;
+mod registration;
+mod value;
+mod watch;
+
+pub use line::outcome_line;
+pub use notice::notice_text;
+pub use one::answer_text;
+pub use path::path_text;
+pub use registration::registration_text;
+pub use watch::{stale_text, watch_text};
+
+#[cfg(test)]
+mod tests;
