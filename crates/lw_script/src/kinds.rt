@@ -2,12 +2,15 @@
 
 ghost use Rattle.std.specs.Prelude.{◌≡◌, IfSome, IfNone};
 ghost use Rattle.lw_world.specs.declared.event.Event.{Event as Events};
-ghost use Rattle.lw_script.specs.Lines.{IsFields, asked as asked_of};
+ghost use Rattle.lw_script.specs.Lines.{IsFields, ReadsAs, asked as asked_of};
 ghost use Rattle.lw_script.specs.declared.word.Word.{Word as Words};
 
+use crate::LineFault;
 use crate::field::Field;
+use crate::last::{datagram, named, sender};
 use lw_stamp::{Moment, Stamp};
 use lw_world::{Action, Addr, Event, Path, Question};
+use std::alloc::Global;
 
 fn asked(node: u16, now: Moment, question: Question) -> Event
     ensures { result ≡ asked_of node now question }
@@ -111,4 +114,59 @@ pub(crate) fn change(fields: &str) -> Option<Event>
 {
     let node = <u16 as Field>::read(fields)?;
     Some(asked(node, Moment::START, Question::Change))
+}
+
+/// The fields of `watch`, where a path may stand last.
+pub(crate) fn watch(fields: &str) -> Option<Event>
+    ensures found { IfSome result (λ event. IsFields Words.Watch event fields.now) }
+    ensures none { IfNone result ((event : Events) → ¬ IsFields Words.Watch event fields.now) }
+{
+    if let Some((node, (now, id))) = <(u16, (Moment, Stamp)) as Field>::read(fields) {
+        return Some(asked(node, now, Question::WatchAfter { id, after: None }));
+    }
+    let (node, (now, (id, path))) = <(u16, (Moment, (Stamp, Path))) as Field>::read(fields)?;
+    let after = Some(path);
+    Some(asked(node, now, Question::WatchAfter { id, after }))
+}
+
+/// The fields of `take`.
+pub(crate) fn take(alloc: Global, fields: &str) -> Result<Event, LineFault>
+    ensures { ReadsAs (λ event. IsFields Words.Take event fields.now) result }
+{
+    let Some((node, now, from, hex)) = sender(fields) else {
+        return Err(LineFault::Refused);
+    };
+    let bytes = datagram(alloc, hex)?;
+    let action = Action::Take { now, from, bytes };
+    Ok(Event { node, action })
+}
+
+/// The fields of `endpoint`.
+pub(crate) fn endpoint(alloc: Global, fields: &str) -> Result<Event, LineFault>
+    ensures { ReadsAs (λ event. IsFields Words.Endpoint event fields.now) result }
+{
+    let (node, now, name) = named(alloc, fields)?;
+    Ok(asked(node, now, Question::ByEndpoint(name)))
+}
+
+/// The fields of `next`, where an endpoint may stand last.
+pub(crate) fn next(alloc: Global, fields: &str) -> Result<Event, LineFault>
+    ensures { ReadsAs (λ event. IsFields Words.Next event fields.now) result }
+{
+    if let Some((node, now)) = <(u16, Moment) as Field>::read(fields) {
+        return Ok(asked(node, now, Question::FirstAfter(None)));
+    }
+    let (node, now, name) = named(alloc, fields)?;
+    Ok(asked(node, now, Question::FirstAfter(Some(name))))
+}
+
+/// The fields of `expired`, where an endpoint may stand last.
+pub(crate) fn expired(alloc: Global, fields: &str) -> Result<Event, LineFault>
+    ensures { ReadsAs (λ event. IsFields Words.Expired event fields.now) result }
+{
+    if let Some((node, now)) = <(u16, Moment) as Field>::read(fields) {
+        return Ok(asked(node, now, Question::ExpiredAfter(None)));
+    }
+    let (node, now, name) = named(alloc, fields)?;
+    Ok(asked(node, now, Question::ExpiredAfter(Some(name))))
 }

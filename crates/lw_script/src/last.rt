@@ -58,3 +58,14 @@ pub(crate) fn name(alloc: Global, text: &str) -> Result<Text, LineFault>
     }
     Text::copy_of(alloc, text).map_err(|_| LineFault::NoMemory)
 }
+
+/// NODE, MS and ENDPOINT.
+pub(crate) fn named(alloc: Global, text: &str) -> Result<(u16, Moment, Text), LineFault>
+    ensures { ReadsAs (λ x. (IsShort ␣ IsMoment ␣ IsName) (x.0, (x.1, x.2)) text.now) result }
+{
+    let Some((node, now, rest)) = opening(text) else {
+        return Err(LineFault::Refused);
+    };
+    let name = name(alloc, rest)?;
+    Ok((node, now, name))
+}

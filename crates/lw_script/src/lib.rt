@@ -5,8 +5,10 @@ mod fault;
 mod field;
 mod kinds;
 mod last;
+mod line;
 mod number;
 mod path_field;
 mod word;
 
 pub use fault::LineFault;
+pub use line::read_line;

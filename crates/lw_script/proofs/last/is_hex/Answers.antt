@@ -19,6 +19,6 @@ decodes s even = (
 pub returns-then-is_multiple_of : goal.returns-then-is_multiple_of
 returns-then-is_multiple_of c =
     let digits = c.has_only_digits.ensures in
-    let even : length c.args.line.now % 2 ≡ 0 = search rules in
-    let same = decodes c.args.line.now even in
+    let even : length c.args.digits.now % 2 ≡ 0 = search rules in
+    let same = decodes c.args.digits.now even in
     (λ h. same.0 (digits.0 h), λ h. digits.1 (same.1 h))
