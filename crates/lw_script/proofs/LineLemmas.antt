@@ -1,16 +1,18 @@
 -- Rows of fields, and what they spell.
-use Rattle.std.proofs.Common.{◌≡◌, ℕ, List, Option, Some, None, Result, Ok, Err, IsOk, refl}
-use Rattle.std.specs.Prelude.{IfNone}
+use Rattle.std.proofs.Common.{◌≡◌, ℕ, List, Option, Some, None, Result, Ok, Err, IsOk, refl, sym, subst, ◌⊎◌, inl, inr}
+use Rattle.std.specs.Prelude.{IfNone, IfSome}
+use Rattle.std.specs.Option.{ok_or}
 use Rattle.std.specs.List.{after_first}
 use Rattle.hex.specs.declared.error.FromHexError.{FromHexError}
 use Rattle.hex.specs.Hex.{decode_of}
 use Rattle.lw_stamp.specs.declared.moment.Moment.{Moment}
 use Rattle.lw_stamp.specs.Moment.{ms_of}
+use Rattle.lw_reg.specs.declared.addr.Addr.{Addr}
 use Rattle.lw_node.specs.declared.question.Question.TheVariants as question
 use Rattle.lw_world.specs.declared.event.Event.{Event}
 use Rattle.lw_script.specs.declared.fault.LineFault.{LineFault}
 use Rattle.lw_script.specs.declared.fault.LineFault.TheVariants.{Refused, NoMemory}
-use Rattle.lw_script.specs.Fields.{◌␣◌, IsRest, IsShort, IsHex, is_space}
+use Rattle.lw_script.specs.Fields.{◌␣◌, IsRest, IsShort, IsMoment, IsAddress, IsHex, IsName, is_space}
 use Rattle.lw_script.specs.Lines.{Spells, IsAtStart, ReadsAs, asked}
 
 -- where no first field is read, no row is
@@ -34,3 +36,49 @@ hex_some text (Err f) e ok = absurd cc
 pub fault_of : {U V : Type 0} (Old : U → Type 0) (New : V → Type 0) (fault : LineFault) → ((u : U) → Old u → (v : V) × New v) → ((v : V) → New v → (u : U) × Old u) → ReadsAs Old (Err fault) → ReadsAs New (Err fault)
 fault_of Old New Refused to back none = λ v is. let old = back v is in none old.0 old.1
 fault_of Old New NoMemory to back some = to some.0 some.1
+
+-- where a rest of the line is a last field or not, so is the line
+pub two_not : {C : Type 0} (Q : C → List ℕ → Type 0) (text : List ℕ) → ((v : ℕ × (Moment × List ℕ)) → ¬ (IsShort ␣ IsMoment ␣ IsRest) v text) → (v : ℕ × (Moment × C)) → ¬ (IsShort ␣ IsMoment ␣ Q) v text
+two_not Q text none = two_none IsShort IsMoment Q text (let r : Option ℕ = None in r) none
+
+pub two_fault : {C : Type 0} (Q : C → List ℕ → Type 0) (text rest : List ℕ) (node : ℕ) (now : Moment) (fault : LineFault) → (IsShort ␣ IsMoment ␣ IsRest) (node, (now, rest)) text → ReadsAs (λ u. Q u rest) (Err fault) → ReadsAs (λ (x : ℕ × Moment × C). (IsShort ␣ IsMoment ␣ Q) (x.0, (x.1, x.2)) text) (Err fault)
+two_fault Q text rest node now fault row = fault_of (λ u. Q u rest) (λ x. (IsShort ␣ IsMoment ␣ Q) (x.0, (x.1, x.2)) text) fault
+    (λ u is. ((node, now, u), record { parted = row.parted; first = row.first; others = record { parted = row.others.parted; first = row.others.first; others = subst (Q u) (sym row.others.others) is } }))
+    (λ x is. (x.2, subst (Q x.2) row.others.others is.others.others))
+
+abbrev IsSender : ℕ × (Moment × (Addr × List ℕ)) → List ℕ → Type 0
+IsSender v text = (IsShort ␣ IsMoment ␣ IsAddress ␣ IsRest) v text
+
+abbrev IsTaken : ℕ × (Moment × (Addr × List ℕ)) → List ℕ → Type 0
+IsTaken v text = (IsShort ␣ IsMoment ␣ IsAddress ␣ IsHex) v text
+
+pub sender_not : (text : List ℕ) → ((v : ℕ × (Moment × (Addr × List ℕ))) → ¬ IsSender v text) → (v : ℕ × (Moment × (Addr × List ℕ))) → ¬ IsTaken v text
+sender_not text none v row = none (v.0, (v.1.0, (v.1.1.0, after_first is_space (after_first is_space (after_first is_space text)))))
+    (record {
+      parted = row.parted;
+      first = row.first;
+      others = record {
+        parted = row.others.parted;
+        first = row.others.first;
+        others =
+            record { parted = row.others.others.parted; first = row.others.others.first; others = refl };
+      };
+    })
+
+pub taken : (text rest bytes : List ℕ) (node : ℕ) (now : Moment) (from : Addr) → IsSender (node, (now, (from, rest))) text → IsHex bytes rest → IsTaken (node, (now, (from, bytes))) text
+taken text rest bytes node now from row is =
+    record {
+      parted = row.parted;
+      first = row.first;
+      others = record {
+        parted = row.others.parted;
+        first = row.others.first;
+        others =
+            record { parted = row.others.others.parted; first = row.others.others.first; others = subst (IsHex bytes) (sym row.others.others.others) is };
+      };
+    }
+
+-- what an option that finds what is said reads
+pub option_reads : (Says : Event → Type 0) (r : Option Event) (s : Result Event LineFault) → IfSome r Says → IfNone r ((e : Event) → ¬ Says e) → s ≡ ok_or r Refused → ReadsAs Says s
+option_reads Says (Some e) s found none same = subst (λ x. ReadsAs Says x) (sym same) found
+option_reads Says None s found none same = subst (λ x. ReadsAs Says x) (sym same) none

@@ -136,17 +136,23 @@ pub(crate) fn take(alloc: Global, fields: &str) -> Result<Event, LineFault>
     let Some((node, now, from, hex)) = sender(fields) else {
         return Err(LineFault::Refused);
     };
-    let bytes = datagram(alloc, hex)?;
-    let action = Action::Take { now, from, bytes };
-    Ok(Event { node, action })
+    match datagram(alloc, hex) {
+        Ok(bytes) => Ok(Event {
+            node,
+            action: Action::Take { now, from, bytes },
+        }),
+        Err(fault) => Err(fault),
+    }
 }
 
 /// The fields of `endpoint`.
 pub(crate) fn endpoint(alloc: Global, fields: &str) -> Result<Event, LineFault>
     ensures { ReadsAs (λ event. IsFields Words.Endpoint event fields.now) result }
 {
-    let (node, now, name) = named(alloc, fields)?;
-    Ok(asked(node, now, Question::ByEndpoint(name)))
+    match named(alloc, fields) {
+        Ok((node, now, name)) => Ok(asked(node, now, Question::ByEndpoint(name))),
+        Err(fault) => Err(fault),
+    }
 }
 
 /// The fields of `next`, where an endpoint may stand last.
@@ -156,8 +162,10 @@ pub(crate) fn next(alloc: Global, fields: &str) -> Result<Event, LineFault>
     if let Some((node, now)) = <(u16, Moment) as Field>::read(fields) {
         return Ok(asked(node, now, Question::FirstAfter(None)));
     }
-    let (node, now, name) = named(alloc, fields)?;
-    Ok(asked(node, now, Question::FirstAfter(Some(name))))
+    match named(alloc, fields) {
+        Ok((node, now, name)) => Ok(asked(node, now, Question::FirstAfter(Some(name)))),
+        Err(fault) => Err(fault),
+    }
 }
 
 /// The fields of `expired`, where an endpoint may stand last.
@@ -167,6 +175,8 @@ pub(crate) fn expired(alloc: Global, fields: &str) -> Result<Event, LineFault>
     if let Some((node, now)) = <(u16, Moment) as Field>::read(fields) {
         return Ok(asked(node, now, Question::ExpiredAfter(None)));
     }
-    let (node, now, name) = named(alloc, fields)?;
-    Ok(asked(node, now, Question::ExpiredAfter(Some(name))))
+    match named(alloc, fields) {
+        Ok((node, now, name)) => Ok(asked(node, now, Question::ExpiredAfter(Some(name)))),
+        Err(fault) => Err(fault),
+    }
 }

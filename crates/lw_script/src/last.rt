@@ -66,6 +66,8 @@ pub(crate) fn named(alloc: Global, text: &str) -> Result<(u16, Moment, Text), Li
     let Some((node, now, rest)) = opening(text) else {
         return Err(LineFault::Refused);
     };
-    let name = name(alloc, rest)?;
-    Ok((node, now, name))
+    match name(alloc, rest) {
+        Ok(name) => Ok((node, now, name)),
+        Err(fault) => Err(fault),
+    }
 }
