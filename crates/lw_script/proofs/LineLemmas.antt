@@ -82,3 +82,23 @@ taken text rest bytes node now from row is =
 pub option_reads : (Says : Event → Type 0) (r : Option Event) (s : Result Event LineFault) → IfSome r Says → IfNone r ((e : Event) → ¬ Says e) → s ≡ ok_or r Refused → ReadsAs Says s
 option_reads Says (Some e) s found none same = subst (λ x. ReadsAs Says x) (sym same) found
 option_reads Says None s found none same = subst (λ x. ReadsAs Says x) (sym same) none
+
+pub take_fault : (text rest : List ℕ) (node : ℕ) (now : Moment) (from : Addr) (event : ℕ × (Moment × (Addr × List ℕ)) → Event) (fault : LineFault) → IsSender (node, (now, (from, rest))) text → ReadsAs (λ bytes. IsHex bytes rest) (Err fault) → ReadsAs (λ e. Spells (IsShort ␣ IsMoment ␣ IsAddress ␣ IsHex) event e text) (Err fault)
+take_fault text rest node now from event fault row = fault_of (λ bytes. IsHex bytes rest) (λ e. Spells (IsShort ␣ IsMoment ␣ IsAddress ␣ IsHex) event e text) fault
+    (λ bytes is. (event (node, (now, (from, bytes))), record { values = (node, (now, (from, bytes))); said = taken text rest bytes node now from row is; event_is = refl }))
+    (λ e s. (s.values.1.1.1, subst (IsHex s.values.1.1.1) row.others.others.others s.said.others.others.others))
+
+abbrev IsNamed : List ℕ → ℕ × Moment × List ℕ → Type 0
+IsNamed text x = (IsShort ␣ IsMoment ␣ IsName) (x.0, (x.1, x.2)) text
+
+pub named_fault : (text : List ℕ) (event : ℕ × (Moment × List ℕ) → Event) (fault : LineFault) → ReadsAs (IsNamed text) (Err fault) → ReadsAs (λ e. Spells (IsShort ␣ IsMoment ␣ IsName) event e text) (Err fault)
+named_fault text event fault = fault_of (IsNamed text) (λ e. Spells (IsShort ␣ IsMoment ␣ IsName) event e text) fault
+    (λ x is. (event (x.0, (x.1, x.2)), record { values = (x.0, (x.1, x.2)); said = is; event_is = refl }))
+    (λ e s. ((s.values.0, s.values.1.0, s.values.1.1), s.said))
+
+either_fault : (One Other : Event → Type 0) (fault : LineFault) → ((e : Event) → ¬ One e) → ReadsAs Other (Err fault) → ReadsAs (λ e. One e ⊎ Other e) (Err fault)
+either_fault One Other Refused not none = λ e s. elim s [ inl a ↦ not e a | inr b ↦ none e b ]
+either_fault One Other NoMemory not some = (some.0, inr some.1)
+
+pub next_fault : (text : List ℕ) (one : ℕ × Moment → Event) (event : ℕ × (Moment × List ℕ) → Event) (fault : LineFault) → ((v : ℕ × Moment) → ¬ (IsShort ␣ IsMoment) v text) → ReadsAs (IsNamed text) (Err fault) → ReadsAs (λ e. Spells (IsShort ␣ IsMoment) one e text ⊎ Spells (IsShort ␣ IsMoment ␣ IsName) event e text) (Err fault)
+next_fault text one event fault not named = either_fault _ _ fault (λ e s. not s.values s.said) (named_fault text event fault named)
