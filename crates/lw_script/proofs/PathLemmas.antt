@@ -1,5 +1,5 @@
 -- What is no path.
-use Rattle.std.proofs.Common.{◌≡◌, ◌≢◌, ℕ, List, [], ◌∷◌, length, Option, Some, None, arith}
+use Rattle.std.proofs.Common.{◌≢◌, ℕ, List, [], ◌∷◌, Option, Some, None, arith}
 use Rattle.std.specs.Prelude.{IfNone}
 use Rattle.lw_reg.specs.declared.path.Path.{Path}
 use Rattle.lw_reg.specs.Path.{path_numbers}

@@ -1,11 +1,10 @@
 -- The lines of a script: a word and its fields, with one space between each two, spell an event.
-use Rattle.std.specs.Prelude.{◌≡◌, ◌⊎◌, ◌^◌, ℕ, List, Option, Some, None, Result, Ok, Err}
+use Rattle.std.specs.Prelude.{◌≡◌, ◌⊎◌, ◌^◌, ℕ, List, Some, None, Result, Ok, Err}
 use Rattle.lw_stamp.specs.Moment.{ms_of}
 use Rattle.std.specs.List.{before_first, after_first}
 use Rattle.lw_stamp.specs.declared.moment.Moment.{Moment}
 use Rattle.lw_node.specs.declared.question.Question.{Question}
 use Rattle.lw_node.specs.declared.question.Question.TheVariants as question
-use Rattle.lw_world.specs.declared.event.Action.{Action}
 use Rattle.lw_world.specs.declared.event.Action.TheVariants as action
 use Rattle.lw_world.specs.declared.event.Event.{Event}
 use Rattle.lw_script.specs.declared.fault.LineFault.{LineFault}

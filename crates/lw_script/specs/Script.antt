@@ -1,6 +1,6 @@
 -- A script: a line that counts the nodes, and a line for each event. Lines end with a line feed, which may be missing
 -- at the end.
-use Rattle.std.specs.Prelude.{◌≡◌, ◌==◌, ◌≤◌, ◌<◌, ◌+◌, ℕ, zero, suc, List, [], ◌∷◌, length, codes, Some, slice_get}
+use Rattle.std.specs.Prelude.{◌≡◌, ◌==◌, ◌≤◌, ◌<◌, ◌+◌, ℕ, zero, suc, List, [], ◌∷◌, codes, Some, slice_get}
 use Rattle.std.specs.List.{slice_split, before_first, after_first, AllZip}
 use Rattle.std.specs.Str.{IsUtf8}
 use Rattle.std.specs.Io.BufRead.{strip_last}

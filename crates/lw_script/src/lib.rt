@@ -12,3 +12,6 @@ mod word;
 
 pub use fault::LineFault;
 pub use line::read_line;
+
+#[cfg(test)]
+mod tests;
