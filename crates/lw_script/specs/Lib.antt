@@ -1,0 +1,4 @@
+pub mod Fields
+pub mod Words
+pub mod Lines
+pub mod Script

@@ -1,0 +1,17 @@
+//! The scripts of a run: lines of text, each with a word and fields, that are read into the events of several nodes.
+#![tactic(auto)]
+
+mod fault;
+mod field;
+mod kinds;
+mod last;
+mod line;
+mod number;
+mod path_field;
+mod word;
+
+pub use fault::LineFault;
+pub use line::read_line;
+
+#[cfg(test)]
+mod tests;
