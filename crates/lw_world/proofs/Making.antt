@@ -27,7 +27,7 @@ use Rattle.lw_node.specs.Effects.{ObserveMeans, CancelMeans}
 use Rattle.lw_node.specs.Exchange.{IsDeltaSince, Merges}
 use Rattle.lw_node.specs.Node.{NodeContent, fresh, Known, Knows, IsKnown, marks_in}
 use Rattle.lw_node.specs.Node.Known.{Told}
-use Rattle.lw_node.specs.Steps.{Answers}
+use Rattle.lw_node.specs.Steps.{Asks}
 use Rattle.lw_world.specs.declared.event.Action.{Action}
 use Rattle.lw_world.specs.declared.event.Action.TheVariants as actions
 use Rattle.lw_world.specs.declared.event.Event.{Event}
@@ -231,11 +231,11 @@ cancels_act messages k now token mid action is r old new from cancels =
 
 pub asks_act : (messages : List Message) (k : Knowledge) (now : Moment) (question : Question) (action : Action) → action ≡ actions.Ask now question
     → (r : Result Answer NoMemory) (node : NodeContent) → node ≡ node_of k
-    → ((known : Known) → IsKnown node.table.state known → IfOk r (Answers node (marks_in node.table.state known) (ms_of now) question))
+    → ((known : Known) → IsKnown node.table.state known → Asks node (marks_in node.table.state known) (ms_of now) question r)
     → Acts messages k action (outcomes.Answered r) (idle messages k)
 asks_act messages k now question action is r node from answers =
     subst (λ (a : Action). Acts messages k a (outcomes.Answered r) (idle messages k)) (sym is) (
-      subst (λ (n : NodeContent). IfOk r (Answers n (left_by k.operations) (ms_of now) question)) from
+      subst (λ (n : NodeContent). Asks n (left_by k.operations) (ms_of now) question r) from
           (answers (Told (all_marks k.operations)) (subst (λ (n : NodeContent). Knows n (all_marks k.operations)) (sym from) (known_marks k))),
       refl,
     )

@@ -1,5 +1,5 @@
 -- Which outcomes the events of a run may have, and what its nodes then know.
-use Rattle.std.specs.Prelude.{◌≡◌, ℕ, zero, suc, ◌+◌, ◌<◌, List, [], ◌∷◌, ◌++◌, length, take, set, slice_get, Option, Some, None, Result, Ok, Err, IfOk}
+use Rattle.std.specs.Prelude.{◌≡◌, ℕ, zero, suc, ◌+◌, ◌<◌, List, [], ◌∷◌, ◌++◌, length, take, set, slice_get, Option, Some, None, Result, Ok, Err}
 use Rattle.lw_stamp.specs.Moment.{ms_of}
 use Rattle.lw_coap.specs.Message.{MessageContent}
 use Rattle.lw_reg.specs.declared.addr.Addr.{Addr}
@@ -15,7 +15,7 @@ use Rattle.lw_node.specs.declared.observe_fault.ObserveFault.TheVariants as faul
 use Rattle.lw_node.specs.Calls.{TakenContent, OutgoingContent, IsReply, IsSilent, IsSent}
 use Rattle.lw_node.specs.Effects.{Effect, Request, Refused, DatagramMeans, ObserveMeans, CancelMeans}
 use Rattle.lw_node.specs.Effects.Refused.{NotFound, ClockEnd}
-use Rattle.lw_node.specs.Steps.{Answers}
+use Rattle.lw_node.specs.Steps.{Asks}
 use Rattle.lw_world.specs.declared.event.Action.{Action}
 use Rattle.lw_world.specs.declared.event.Action.TheVariants as actions
 use Rattle.lw_world.specs.declared.event.Event.{Event}
@@ -114,7 +114,7 @@ Acts messages k (actions.Observe now id path accept mid) (outcomes.Observed outc
 Acts messages k (actions.Cancel now token mid) (outcomes.Cancelled outcome) left =
     Commanded (CancelMeans (place_of k (ms_of now)) (left_by k.operations) token mid) messages k outcome left
 Acts messages k (actions.Ask now question) (outcomes.Answered outcome) left =
-    IfOk outcome (Answers (node_of k) (left_by k.operations) (ms_of now) question) × (left ≡ idle messages k)
+    Asks (node_of k) (left_by k.operations) (ms_of now) question outcome × (left ≡ idle messages k)
 Acts messages k (actions.Send since) (outcomes.Sent (Ok sending)) left = Sends messages k since sending left
 Acts messages k (actions.Send since) (outcomes.Sent (Err refused)) left = left ≡ idle messages k
 Acts messages k (actions.Deliver number) (outcomes.Delivered outcome) left = (m : Message) × (slice_get messages number ≡ Some m) × Delivered messages k m outcome left
