@@ -1,3 +1,4 @@
 pub mod KnownStates
 pub mod Learning
 pub mod Making
+pub mod Deciding
