@@ -108,13 +108,13 @@ module _ (M N : Marks) (p : NamesAll M) (q : NamesAll N) (s : State) (g : Tells 
     }
 
 -- the sets show the same, and the same has expired, lives, and holds an address
-record Agree (M N : Marks) (now : ℕ) : Type 0 where
-  shown : (r : Registration) → IsShown M now r ↔ IsShown N now r
-  expired : (r : Registration) → IsExpired M now r ↔ IsExpired N now r
-  lives : (r : Registration) (w : Watch) → IsLive M now r w ↔ IsLive N now r w
-  holds : (address : Addr) (at : Stamp) (r : Registration) → IsHolder M now address at r ↔ IsHolder N now address at r
+pub record Agree (M N : Marks) (now : ℕ) : Type 0 where
+  pub shown : (r : Registration) → IsShown M now r ↔ IsShown N now r
+  pub expired : (r : Registration) → IsExpired M now r ↔ IsExpired N now r
+  pub lives : (r : Registration) (w : Watch) → IsLive M now r w ↔ IsLive N now r w
+  pub holds : (address : Addr) (at : Stamp) (r : Registration) → IsHolder M now address at r ↔ IsHolder N now address at r
 
-told_agree : (M N : Marks) → NamesAll M → NamesAll N → (s : State) → Tells (Holds M) s → Tells (Holds N) s → (now : ℕ) → Agree M N now
+pub told_agree : (M N : Marks) → NamesAll M → NamesAll N → (s : State) → Tells (Holds M) s → Tells (Holds N) s → (now : ℕ) → Agree M N now
 told_agree M N p q s g h now = record {
   shown = λ r. (shown_along M N p q s g h now r, shown_along N M q p s h g now r);
   expired = λ r. (expired_along M N p q s g h now r, expired_along N M q p s h g now r);
@@ -125,7 +125,7 @@ told_agree M N p q s g h now = record {
 back : {A B : Type 0} → A ↔ B → B ↔ A
 back x = (x.1, x.0)
 
-other_way : (M N : Marks) (now : ℕ) → Agree M N now → Agree N M now
+pub other_way : (M N : Marks) (now : ℕ) → Agree M N now → Agree N M now
 other_way M N now a = record {
   shown = λ r. back (a.shown r);
   expired = λ r. back (a.expired r);
@@ -142,7 +142,7 @@ first_along : (P Q : Registration → Type 0) → ((r : Registration) → P r �
 first_along P Q same None h = λ r y. h r ((same r).1 y)
 first_along P Q same (Some r) h = record { fits = (same r).0 h.fits; first = λ other y. h.first other ((same other).1 y) }
 
-id_along : (M N : Marks) (now : ℕ) → Agree M N now → (id : Stamp) (o : Option Registration) → ById M now id o → ById N now id o
+pub id_along : (M N : Marks) (now : ℕ) → Agree M N now → (id : Stamp) (o : Option Registration) → ById M now id o → ById N now id o
 id_along M N now a id o = first_along _ _ (λ r. (λ x. ((a.shown r).0 x.0, x.1), λ x. ((a.shown r).1 x.0, x.1))) o
 
 module _ (M N : Marks) (now : ℕ) (a : Agree M N now) where
@@ -161,7 +161,7 @@ module _ (M N : Marks) (now : ℕ) (a : Agree M N now) where
   has_back : (token : Stamp) (x : Registration × Watch) → HasToken N now token x → HasToken M now token x
   has_back token x h = record { lives = (a.lives x.0 x.1).1 h.lives; token_is = h.token_is }
 
-  token_along : (token : Stamp) (o : Option (Registration × Watch)) → ByToken M now token o → ByToken N now token o
+  pub token_along : (token : Stamp) (o : Option (Registration × Watch)) → ByToken M now token o → ByToken N now token o
   token_along token None h = λ x y. h x (has_back token x y)
   token_along token (Some x) h = record {
     fits = record { lives = (a.lives x.0 x.1).0 h.fits.lives; token_is = h.fits.token_is };
