@@ -6,6 +6,7 @@
 #![tactic(auto)]
 
 mod event;
+pub mod laws;
 mod outcome;
 mod running;
 mod world;
