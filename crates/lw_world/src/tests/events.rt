@@ -52,6 +52,9 @@ pub(super) fn ran(
     nodes: u16,
     events: &[Event],
 ) -> Result<(World, Vec<Outcome>), Fail> {
+    if nodes == 0 || nodes > 16 {
+        return Err("1 to 16 nodes".into());
+    }
     match run(alloc, nodes, events) {
         Ok(ran) => Ok(ran),
         Err(NoMemory) => Err("no memory".into()),
