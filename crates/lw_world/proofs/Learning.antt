@@ -1,11 +1,9 @@
 -- What a node is after a call is what it then knows.
-use Rattle.std.proofs.Common.{◌≡◌, ℕ, ◌+◌, ◌<◌, Bool, true, List, [], ◌∷◌, ◌++◌, length, take, Option, Some, None, Result, Ok, Err, sym, refl, ap, ◌∙◌, subst, zero, suc, inl, inr, ◌⊎◌}
-use Rattle.std.specs.Prelude.{◌||◌, Contains, cond, max}
+use Rattle.std.proofs.Common.{◌≡◌, ℕ, ◌+◌, ◌<◌, true, List, [], ◌∷◌, ◌++◌, length, take, Option, Some, None, Result, Ok, Err, sym, refl, ap, ◌∙◌, subst, zero, suc, inl, inr, ◌⊎◌}
+use Rattle.std.specs.Prelude.{Contains, cond, max}
 use Rattle.std.specs.FinMap.{get}
-use Rattle.std.specs.Ordering.{eq_by_cmp}
 use Rattle.std.proofs.lemmas.Map.Views.{list_any-from_Contains}
 use Rattle.std.proofs.lemmas.Cmp.{eq_by_cmp_equiv}
-use Rattle.lw_stamp.specs.TextOrder.{text_cmp}
 use Rattle.lw_reg.specs.declared.addr.Addr.{Addr}
 use Rattle.lw_reg.specs.declared.op.Op.{Op}
 use Rattle.lw_reg.specs.declared.slot.Slot.{Slot}
@@ -15,19 +13,19 @@ use Rattle.lw_reg.specs.State.{State, state_join, state_of}
 use Rattle.lw_reg.proofs.Members.{none_there, first_there, more_there, there_or_first}
 use Rattle.lw_reg.proofs.States.{state_laws}
 use Rattle.lw_table.specs.Changes.{Recounts}
-use Rattle.lw_delta.specs.Delta.{DeltaContent, IsSpelling}
+use Rattle.lw_delta.specs.Delta.{DeltaContent}
 use Rattle.lw_delta.proofs.Answering.{one_delta, apart}
 use Rattle.lw_node.specs.declared.merge_fault.MergeFault.{MergeFault}
 use Rattle.lw_node.specs.declared.merge_fault.MergeFault.TheVariants.{Malformed, NoMemory}
 use Rattle.lw_node.specs.declared.observe_fault.ObserveFault.{ObserveFault}
 use Rattle.lw_node.specs.declared.observe_fault.ObserveFault.TheVariants as faults
-use Rattle.lw_node.specs.Calls.{TakenContent, OutgoingContent, TakesSo, Sends, Sent}
+use Rattle.lw_node.specs.Calls.{TakenContent, OutgoingContent, Sent}
 use Rattle.lw_node.specs.Calls.{Takes as NodeTakes}
-use Rattle.lw_node.specs.Effects.{Effect, Request, Refused, DatagramMeans}
+use Rattle.lw_node.specs.Effects.{Request, Refused}
 use Rattle.lw_node.specs.Exchange.{state_in, Merged, Merges}
 use Rattle.lw_node.specs.Node.{NodeContent, Issued, IsAfter}
-use Rattle.lw_world.specs.Known.{Knowledge, Message, known_state, place_of, node_of, Issues, IssuesOr, Gains, is_among, about, names_of}
-use Rattle.lw_world.specs.Run.{Left, idle, Takes, Commands, Commanded, Delivers, Delivered}
+use Rattle.lw_world.specs.Known.{Knowledge, Message, known_state, node_of, IssuesOr, Gains, is_among, about, names_of}
+use Rattle.lw_world.specs.Run.{Left, idle, Takes, Commanded, Delivered}
 use Rattle.lw_world.specs.Sound.{IsSound}
 use Rattle.lw_world.specs.World.{bytes_of}
 use Rattle.lw_world.proofs.KnownStates.{known_more, known_append, known_about, slots_tell}
@@ -130,16 +128,17 @@ in_front (suc j) (y ∷ ys) x there = go (there_or_first y (take j ys) x there) 
 whole_tells : (m : Message) → IsSound m → state_in m.delta.slots ≡ known_state m.operations
 whole_tells m sound = slots_tell m.delta.slots sound.known sound.slots ∙ ap known_state (sym sound.operations_are)
 
+-- its operations tell each of its slots
+pub slot_told : (m : Message) → IsSound m → (e : List ℕ) (slot : Slot) → Contains m.delta.slots (e, slot) → get (known_state m.operations) e ≡ Some slot
+slot_told m sound e slot there =
+    let among : is_among (names_of m.delta.slots) e ≡ true = list_any-from_Contains (eq_by_cmp_equiv text_order.total) e (names_of m.delta.slots) (among_names m.delta.slots e slot there) in
+    ap (λ (os : List Op). get (known_state os) e) sound.operations_are
+    ∙ known_about (names_of m.delta.slots) sound.known e
+    ∙ ap (λ b. cond b (get (known_state sound.known) e) None) among
+    ∙ sound.slots e slot there
+
 front_tells : (m : Message) → IsSound m → (j : ℕ) → state_in (take j m.delta.slots) ≡ known_state (about (names_of (take j m.delta.slots)) m.operations)
-front_tells m sound j = slots_tell (take j m.delta.slots) m.operations (λ e slot there. at e slot (in_front j m.delta.slots (e, slot) there))
-  where
-    at : (e : List ℕ) (slot : Slot) → Contains m.delta.slots (e, slot) → get (known_state m.operations) e ≡ Some slot
-    at e slot there =
-        let among : is_among (names_of m.delta.slots) e ≡ true = list_any-from_Contains (eq_by_cmp_equiv text_order.total) e (names_of m.delta.slots) (among_names m.delta.slots e slot there) in
-        ap (λ (os : List Op). get (known_state os) e) sound.operations_are
-        ∙ known_about (names_of m.delta.slots) sound.known e
-        ∙ ap (λ b. cond b (get (known_state sound.known) e) None) among
-        ∙ sound.slots e slot there
+front_tells m sound j = slots_tell (take j m.delta.slots) m.operations (λ e slot there. slot_told m sound e slot (in_front j m.delta.slots (e, slot) there))
 
 -- a message of a run is no malformed one
 pub delivered_so : (messages : List Message) (k : Knowledge) (m : Message) → IsSound m → (outcome : Result ℕ MergeFault) (node : NodeContent) → Merges (node_of k) (bytes_of m) outcome node

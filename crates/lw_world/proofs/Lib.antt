@@ -4,3 +4,6 @@ pub mod Making
 pub mod Deciding
 pub mod Freshness
 pub mod Leading
+pub mod Moments
+pub mod Lasting
+pub mod Chaining

@@ -1,6 +1,6 @@
 -- What a node of a world does, a history that tells of the world allows.
 use Rattle.std.proofs.Common.{◌≡◌, ℕ, zero, suc, ◌+◌, ◌-◌, ◌<◌, ◌≤◌, List, [], ◌∷◌, ◌++◌, length, append_assoc, Option, Some, None, Result, Ok, Err, sym, refl, ap, ◌∙◌, subst, arith, inl, inr, ◌⊎◌}
-use Rattle.std.specs.Prelude.{◌↔◌, Contains, map, set, take, slice_get, slice_set, slice_index_or, get_or, unwrap_or, option_map, IfOk, OnErr, IsOk}
+use Rattle.std.specs.Prelude.{Contains, map, set, take, slice_get, slice_set, slice_index_or, get_or, unwrap_or, option_map, IfOk, OnErr, IsOk}
 use Rattle.std.proofs.lemmas.List.{map-set, set-get_or, length-map}
 use Rattle.std.proofs.lemmas.List.Elements.{Contains-append_cases}
 use Rattle.std.proofs.lemmas.Option.{slice_get-map, slice_get_cases, slice_get_past, slice_get_within, unwrap_or-slice_get}
@@ -8,15 +8,13 @@ use Rattle.lw_stamp.specs.declared.moment.Moment.{Moment}
 use Rattle.lw_stamp.specs.declared.no_memory.NoMemory.{NoMemory}
 use Rattle.lw_stamp.specs.declared.stamp.Stamp.{Stamp}
 use Rattle.lw_stamp.specs.Moment.{ms_of}
-use Rattle.lw_reg.specs.declared.slot.Slot.{Slot}
 use Rattle.lw_reg.specs.declared.addr.Addr.{Addr}
 use Rattle.lw_reg.specs.declared.path.Path.{Path}
 use Rattle.lw_reg.specs.Marks.{Mark, among, left_by, all_marks}
 use Rattle.lw_reg.proofs.Operations.{all_names}
 use Rattle.lw_reg.proofs.States.{state_least}
-use Rattle.lw_reg.proofs.Members.{none_there, first_there, there_or_first}
-use Rattle.lw_delta.specs.Delta.{DeltaContent, IsSpelling}
-use Rattle.lw_delta.specs.Writing.{delta_bytes}
+use Rattle.lw_reg.proofs.Members.{none_there, there_or_first}
+use Rattle.lw_delta.specs.Delta.{IsSpelling}
 use Rattle.lw_node.specs.declared.answer.Answer.{Answer}
 use Rattle.lw_node.specs.declared.merge_fault.MergeFault.{MergeFault}
 use Rattle.lw_node.specs.declared.observe_fault.ObserveFault.{ObserveFault}
@@ -34,7 +32,7 @@ use Rattle.lw_world.specs.declared.event.Event.{Event}
 use Rattle.lw_world.specs.declared.outcome.Outcome.{Outcome}
 use Rattle.lw_world.specs.declared.outcome.Outcome.TheVariants as outcomes
 use Rattle.lw_world.specs.declared.outcome.Sending.{Sending}
-use Rattle.lw_world.specs.Known.{Knowledge, Message, known_state, place_of, node_of, about, names_of}
+use Rattle.lw_world.specs.Known.{Knowledge, Message, place_of, node_of, about, names_of}
 use Rattle.lw_world.specs.Run.{History, Left, idle, Acts, Happens, Steps, Runs, at_number, after, begun, numbered_from}
 use Rattle.lw_world.specs.Sound.{IsSound, AreSound, Keeps, Makes}
 use Rattle.lw_world.specs.World.{WorldContent, world_of, bytes_of}
@@ -117,7 +115,7 @@ map_end : (ms : List Message) (m : Message) → map bytes_of (ms ++ m ∷ []) �
 map_end [] m = refl
 map_end (x ∷ ms) m = ap (λ bs. bytes_of x ∷ bs) (map_end ms m)
 
-all_sound : (ms : List Message) (m : Message) → AreSound ms → IsSound m → AreSound (ms ++ m ∷ [])
+pub all_sound : (ms : List Message) (m : Message) → AreSound ms → IsSound m → AreSound (ms ++ m ∷ [])
 all_sound ms m sound own x there = go (Contains-append_cases ms (m ∷ []) x there)
   where
     last : (x ≡ m) ⊎ Contains [] x → IsSound x
@@ -169,7 +167,7 @@ makes_message self old inside place node since sending bytes sent ends within va
         )
 
 -- ---- a message reaches the node
-contains_at : (ms : List Message) (number : ℕ) (m : Message) → slice_get ms number ≡ Some m → Contains ms m
+pub contains_at : (ms : List Message) (number : ℕ) (m : Message) → slice_get ms number ≡ Some m → Contains ms m
 contains_at ms number m at = (number, slice_get_within ms number m at, sym (unwrap_or-slice_get ms number m) ∙ ap (λ o. unwrap_or o m) at)
 
 pub delivers : (messages : List Message) (k : Knowledge) (number : ℕ) (bytes : List ℕ) → AreSound messages → slice_get (map bytes_of messages) number ≡ Some bytes

@@ -1,6 +1,6 @@
 -- Deltas of one sender, each since the change number of the one before, and what they bring to a node that gets them
 -- all, in any order.
-use Rattle.std.specs.Prelude.{◌≡◌, ℕ, ◌+◌, ◌<◌, ◌≤◌, List, [], ◌∷◌, ◌++◌, take, slice_get, Some, Ok, Contains}
+use Rattle.std.specs.Prelude.{◌≡◌, ℕ, ◌+◌, ◌<◌, ◌≤◌, List, [], ◌∷◌, ◌++◌, take, drop, slice_get, Some, Ok, Contains}
 use Rattle.std.specs.FinMap.{get}
 use Rattle.lw_reg.specs.declared.slot.Slot.{Slot}
 use Rattle.lw_reg.specs.State.{state_below}
@@ -54,12 +54,16 @@ pub record IsDelivered (events : List Event) (outcomes : List Outcome) (receiver
   pub joined : ℕ
   pub delivered : IsAt events outcomes place (record { node = receiver; action = Deliver message }) (Delivered (Ok joined))
 
+-- The run comes to its end by way of this: what its history is before the event at the place.
+pub record Passes (count : ℕ) (events : List Event) (outcomes : List Outcome) (place : ℕ) (mid end : History) : Type 0 where
+  pub before : Runs (begun count) (take place events) (take place outcomes) mid
+  pub rest : Runs mid (drop place events) (drop place outcomes) end
+
 -- Who has got each delta of a chain, in any order, has at least the sender's state at the last of them, and keeps it.
 abbrev pub ChainsReach : Type 0
 ChainsReach =
-    (count : ℕ) (events : List Event) (outcomes : List Outcome) (h : History) → Runs (begun count) events outcomes h
-    → (sender receiver : ℕ) (links : List Link) (last : Link) → IsChain events outcomes sender (links ++ last ∷ [])
+    (count : ℕ) (events : List Event) (outcomes : List Outcome) (sender receiver : ℕ) (links : List Link) (last : Link) → IsChain events outcomes sender (links ++ last ∷ [])
     → ((l : Link) → Contains (links ++ last ∷ []) l → IsDelivered events outcomes receiver l.message)
-    → (mid : History) → Runs (begun count) (take last.place events) (take last.place outcomes) mid
+    → (mid h : History) → Passes count events outcomes last.place mid h
     → (s r : Knowledge) → at_number mid.nodes sender ≡ Some s → at_number h.nodes receiver ≡ Some r
     → state_below (known_state s.operations) (known_state r.operations)

@@ -1,6 +1,5 @@
 -- What holds of every run: clocks and stamps, and that what reached a node decides its answers.
 use Rattle.std.specs.Prelude.{◌≡◌, ◌≢◌, ◌↔◌, ℕ, ◌≤◌, List, Some, Contains, AllPairs}
-use Rattle.lw_stamp.specs.Moment.{ms_of}
 use Rattle.lw_reg.specs.declared.op.Op.{Op}
 use Rattle.lw_reg.specs.Marks.{Mark, NamesAll, among, left_by, all_marks}
 use Rattle.lw_reg.specs.State.{State, IsStateOf}

@@ -13,7 +13,7 @@ use Rattle.lw_node.specs.declared.merge_fault.MergeFault.TheVariants.{Malformed,
 use Rattle.lw_node.specs.declared.observe_fault.ObserveFault.{ObserveFault}
 use Rattle.lw_node.specs.declared.observe_fault.ObserveFault.TheVariants as faults
 use Rattle.lw_node.specs.Calls.{TakenContent, OutgoingContent, IsReply, IsSilent, IsSent}
-use Rattle.lw_node.specs.Effects.{Effect, Request, Refused, DatagramMeans, ObserveMeans, CancelMeans}
+use Rattle.lw_node.specs.Effects.{Request, Refused, DatagramMeans, ObserveMeans, CancelMeans}
 use Rattle.lw_node.specs.Effects.Refused.{NotFound, ClockEnd}
 use Rattle.lw_node.specs.Steps.{Asks}
 use Rattle.lw_world.specs.declared.event.Action.{Action}

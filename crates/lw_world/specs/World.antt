@@ -1,5 +1,5 @@
 -- What contracts see of the nodes and messages of a run, and what they are of a history.
-use Rattle.std.specs.Prelude.{◌≡◌, ℕ, List, map, refl}
+use Rattle.std.specs.Prelude.{ℕ, List, map, refl}
 use Rattle.std.specs.Coded.{Coded, coded×, coded_ℕ, coded_list, code_by}
 use Rattle.lw_delta.specs.Writing.{delta_bytes}
 use Rattle.lw_node.specs.Node.{NodeContent, node_code}

@@ -1,0 +1,175 @@
+-- What deltas hold lasts, and a chain of them brings all.
+use Rattle.std.proofs.Common.{◌≡◌, ℕ, suc, ◌+◌, ◌<◌, ◌≤◌, Bool, true, false, List, [], ◌∷◌, ◌++◌, length, Option, Some, None, Ok, sym, refl, ap, ◌∙◌, subst, arith, inl, inr, ◌⊎◌}
+use Rattle.std.specs.Prelude.{Contains, slice_get, nat_le}
+use Rattle.std.specs.FinMap.{get}
+use Rattle.std.proofs.lemmas.Bool.Decides.{nat_tests}
+use Rattle.lw_join.specs.Options.{option_below}
+use Rattle.lw_reg.specs.declared.op.Op.{Op}
+use Rattle.lw_reg.specs.declared.slot.Slot.{Slot}
+use Rattle.lw_reg.specs.Slot.{slot_below}
+use Rattle.lw_reg.specs.State.{state_below}
+use Rattle.lw_reg.proofs.Members.{first_there, more_there}
+use Rattle.lw_reg.proofs.States.{state_laws}
+use Rattle.lw_table.specs.Changes.{LAST, IsSinceIn}
+use Rattle.lw_world.specs.declared.event.Action.TheVariants.{Send, Deliver}
+use Rattle.lw_world.specs.declared.event.Event.{Event}
+use Rattle.lw_world.specs.declared.outcome.Outcome.{Outcome}
+use Rattle.lw_world.specs.declared.outcome.Outcome.TheVariants.{Sent, Delivered}
+use Rattle.lw_world.specs.Chains.{Link, IsSent, IsChainFrom, IsDelivered, DeltasLast, ChainsReach}
+use Rattle.lw_world.specs.Known.{Knowledge, Message, known_state}
+use Rattle.lw_world.specs.Run.{History, Happens, begun, at_number}
+use Rattle.lw_world.proofs.Lasting.{IsCounted, IsNumbered, Lasts, Stands, HasMoved, above_more}
+use Rattle.lw_world.proofs.Learning.{slot_told}
+use Rattle.lw_world.proofs.Making.{contains_at}
+use Rattle.lw_world.proofs.Moments.{Moments, moments, passing, begun_good, some_one, last_there, with_own, message_of}
+
+-- ---- what is sent
+-- the sender knows this before, and the message is there in the end
+record Departs (before end : History) (sender : ℕ) (l : Link) : Type 0 where
+  knows : Knowledge
+  is : at_number before.nodes sender ≡ Some knows
+  message : Message
+  there : slice_get end.messages l.message ≡ Some message
+  change : l.change ≡ knows.count.change
+  slots : IsSinceIn (known_state knows.operations) knows.count l.since message.delta.slots
+
+departs : (begin : History) (events : List Event) (outcomes : List Outcome) (h : History) (m : Moments begin events outcomes h) (sender : ℕ) (l : Link) → IsSent events outcomes sender l → Departs (m.at l.place) h sender l
+departs begin events outcomes h m sender l sent =
+    go (m.steps l.place (record { node = sender; action = Send l.since }) (Sent (Ok (record { message = l.message; change = l.change }))) sent.sent.event_is sent.sent.outcome_is)
+  where
+    go : Happens (m.at l.place) (record { node = sender; action = Send l.since }) (Sent (Ok (record { message = l.message; change = l.change }))) (m.at (suc l.place)) → Departs (m.at l.place) h sender l
+    go step =
+        let sends = step.acts in
+        let old = (m.at l.place).messages in
+        let all : (m.at (suc l.place)).messages ≡ old ++ message_of sends ∷ [] = ap (λ (x : History). x.messages) step.new_is ∙ ap (λ x. x.messages) sends.left_is in
+        record {
+          knows = step.knows;
+          is = step.is;
+          message = message_of sends;
+          there = (m.ends (suc l.place)).messages l.message (message_of sends)
+              (ap (slice_get (m.at (suc l.place)).messages) sends.number ∙ ap (λ (ms : List Message). slice_get ms (length old)) all ∙ last_there old (message_of sends));
+          change = sends.change;
+          slots = sends.slots;
+        }
+
+-- a slot that has not moved since is in the message
+holds : (before end : History) (sender : ℕ) (l : Link) (d : Departs before end sender l) → l.change < LAST → (k : Knowledge) → Lasts d.knows k
+    → (e : List ℕ) (slot : Slot) (number : ℕ) → get (known_state k.operations) e ≡ Some slot → get k.count.numbers e ≡ Some number → l.since < number → number ≤ l.change → Contains d.message.delta.slots (e, slot)
+holds before end sender l d countable k lasts e slot number at is above low =
+    go (lasts.each l.change countable (let same = d.change in omega (arith, same)) e)
+  where
+    go : Stands d.knows k e ⊎ HasMoved l.change k e → Contains d.message.delta.slots (e, slot)
+    go (inl stands) = (d.slots.members e slot).1 (sym stands.slot ∙ at, inr (number, sym stands.number ∙ is, above))
+    go (inr moved) =
+        let same : number ≡ moved.0 = some_one number moved.0 (sym is ∙ moved.1) in
+        let past = moved.2 in
+        absurd (omega (arith, same, past, low))
+
+pub deltas_last : DeltasLast
+deltas_last count events outcomes h runs sender l sent k at e slot number has is above low =
+    let m = moments (begun count) events outcomes h (begun_good count) runs in
+    let d = departs (begun count) events outcomes h m sender l sent in
+    let later = (m.ends l.place).nodes sender d.knows d.is in
+    let same : later.0 ≡ k = some_one later.0 k (sym later.1 ∙ at) in
+    (d.message, d.there, holds (m.at l.place) h sender l d sent.countable k (subst (Lasts d.knows) same later.2) e slot number has is above low)
+
+-- ---- what arrives
+-- who got the whole message is above what its operations tell
+arrives : (begin : History) (events : List Event) (outcomes : List Outcome) (h : History) (m : Moments begin events outcomes h) (receiver number : ℕ) → IsDelivered events outcomes receiver number
+    → (r : Knowledge) → at_number h.nodes receiver ≡ Some r → (message : Message) → slice_get h.messages number ≡ Some message → state_below (known_state message.operations) (known_state r.operations)
+arrives begin events outcomes h m receiver number d r at message there =
+    go (m.steps d.place (record { node = receiver; action = Deliver number }) (Delivered (Ok d.joined)) d.delivered.event_is d.delivered.outcome_is)
+  where
+    go : Happens (m.at d.place) (record { node = receiver; action = Deliver number }) (Delivered (Ok d.joined)) (m.at (suc d.place)) → state_below (known_state message.operations) (known_state r.operations)
+    go step =
+        let came = step.acts in
+        let same : came.0 ≡ message = some_one came.0 message (sym ((m.ends d.place).messages number came.0 came.1) ∙ there) in
+        let own : at_number (m.at (suc d.place)).nodes receiver ≡ Some step.left.knows =
+        ap (λ (x : History). at_number x.nodes receiver) step.new_is ∙ with_own (m.at d.place).nodes receiver step.left.knows step.knows step.is in
+        let later = (m.ends (suc d.place)).nodes receiver step.left.knows own in
+        let is : later.0 ≡ r = some_one later.0 r (sym later.1 ∙ at) in
+        let lasts : Lasts step.left.knows r = subst (Lasts step.left.knows) is later.2 in
+        let grown : state_below (known_state came.0.operations) (known_state step.left.knows.operations) =
+        subst (λ (os : List Op). state_below (known_state came.0.operations) (known_state os)) (sym came.2.1.gains.operations_are) (above_more came.0.operations step.knows.operations) in
+        subst (λ (x : Message). state_below (known_state x.operations) (known_state r.operations)) same
+        (state_laws.transitive (known_state came.0.operations) (known_state step.left.knows.operations) (known_state r.operations) grown lasts.below)
+
+-- ---- a chain
+-- the receiver is above each slot of the sender whose number is not above this
+abbrev Covers : Knowledge → Knowledge → ℕ → Type 0
+Covers s r change =
+    (e : List ℕ) (slot : Slot) (number : ℕ) → get (known_state s.operations) e ≡ Some slot → get s.count.numbers e ≡ Some number → number ≤ change
+    → option_below slot_below (Some slot) (get (known_state r.operations) e)
+
+module _ (begin : History) (events : List Event) (outcomes : List Outcome) (h : History) (m : Moments begin events outcomes h) (sender receiver : ℕ) (last : Link)
+    (s r : Knowledge) (s_at : at_number (m.at last.place).nodes sender ≡ Some s) (r_at : at_number h.nodes receiver ≡ Some r) where
+  -- what the sender knew before the link lasts until the last
+  lasts_on : (l : Link) → l.place ≤ last.place → (d : Departs (m.at l.place) h sender l) → Lasts d.knows s
+  lasts_on l before d =
+      let later = (m.goes l.place last.place before).nodes sender d.knows d.is in
+      subst (Lasts d.knows) (some_one later.0 s (sym later.1 ∙ s_at)) later.2
+
+  link_covers : (l : Link) → IsSent events outcomes sender l → l.place ≤ last.place → IsDelivered events outcomes receiver l.message → Covers s r l.since → Covers s r l.change
+  link_covers l sent before delivered covered e slot number has is low = go (nat_le number l.since) refl
+    where
+      d : Departs (m.at l.place) h sender l
+      d = departs begin events outcomes h m sender l sent
+
+      go : (b : Bool) → nat_le number l.since ≡ b → option_below slot_below (Some slot) (get (known_state r.operations) e)
+      go true c = covered e slot number has is (grind (arith, nat_tests))
+      go false c =
+          let there = holds (m.at l.place) h sender l d sent.countable s (lasts_on l before d) e slot number has is (grind (arith, nat_tests)) low in
+          let told = slot_told d.message (m.good_end.sound d.message (contains_at h.messages l.message d.message d.there)) e slot there in
+          subst (λ o. option_below slot_below o (get (known_state r.operations) e)) told (arrives begin events outcomes h m receiver l.message delivered r r_at d.message d.there e)
+
+  -- a chain comes no later than its last
+  chain_before : (links : List Link) (since first : ℕ) → IsChainFrom events outcomes sender since first (links ++ last ∷ []) → first ≤ last.place
+  chain_before [] since first chain = chain.2
+  chain_before (l ∷ links) since first chain =
+      let a = chain.2 in
+      let b = chain_before links l.change (l.place + 1) chain.3 in
+      omega (arith, a, b)
+
+  last_sent : (links : List Link) (since first : ℕ) → IsChainFrom events outcomes sender since first (links ++ last ∷ []) → IsSent events outcomes sender last
+  last_sent [] since first chain = chain.0
+  last_sent (l ∷ links) since first chain = last_sent links l.change (l.place + 1) chain.3
+
+  chain_covers : (links : List Link) (since first : ℕ) → IsChainFrom events outcomes sender since first (links ++ last ∷ [])
+      → ((l : Link) → Contains (links ++ last ∷ []) l → IsDelivered events outcomes receiver l.message) → Covers s r since → Covers s r last.change
+  chain_covers [] since first chain delivered covered =
+      link_covers last chain.0 (omega arith) (delivered last (first_there last [] last refl)) (subst (Covers s r) (sym chain.1) covered)
+  chain_covers (l ∷ links) since first chain delivered covered =
+      chain_covers links l.change (l.place + 1) chain.3 (λ x there. delivered x (more_there l (links ++ last ∷ []) x there))
+      (link_covers l chain.0 (let b = chain_before links l.change (l.place + 1) chain.3 in omega (arith, b)) (delivered l (first_there l (links ++ last ∷ []) l refl)) (subst (Covers s r) (sym chain.1) covered))
+
+  counted : IsCounted s
+  counted = (m.good last.place).counted sender s s_at
+
+  -- no number is 0
+  none_covered : Covers s r 0
+  none_covered e slot number has is low =
+      let n = counted.numbered e slot has in
+      let same : number ≡ n.number = some_one number n.number (sym is ∙ n.is) in
+      let first = n.first in
+      absurd (omega (arith, same, first, low))
+
+  all_covered : last.change ≡ s.count.change → Covers s r last.change → state_below (known_state s.operations) (known_state r.operations)
+  all_covered same covered e = go (get (known_state s.operations) e) refl
+    where
+      go : (o : Option Slot) → get (known_state s.operations) e ≡ o → option_below slot_below o (get (known_state r.operations) e)
+      go None at = tt
+      go (Some slot) at =
+          let n : IsNumbered s e = counted.numbered e slot at in
+          covered e slot n.number at n.is (let within = n.within in omega (arith, within, same))
+
+  pub reaches : (links : List Link) → IsChainFrom events outcomes sender 0 0 (links ++ last ∷ []) → ((l : Link) → Contains (links ++ last ∷ []) l → IsDelivered events outcomes receiver l.message)
+      → state_below (known_state s.operations) (known_state r.operations)
+  reaches links chain delivered =
+      let d = departs begin events outcomes h m sender last (last_sent links 0 0 chain) in
+      let same : d.knows ≡ s = some_one d.knows s (sym d.is ∙ s_at) in
+      all_covered (d.change ∙ ap (λ (k : Knowledge). k.count.change) same) (chain_covers links 0 0 chain delivered none_covered)
+
+pub chains_reach : ChainsReach
+chains_reach count events outcomes sender receiver links last chain delivered mid h passes s r s_at r_at =
+    let p = passing last.place (begun count) events outcomes mid h (begun_good count) passes.before passes.rest in
+    reaches (begun count) events outcomes h p.0 sender receiver last s r (ap (λ (x : History). at_number x.nodes sender) p.1 ∙ s_at) r_at links chain delivered
