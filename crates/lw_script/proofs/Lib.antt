@@ -1,3 +1,4 @@
 pub mod PathLemmas
 pub mod NumberLemmas
 pub mod LineLemmas
+pub mod ScriptLemmas

@@ -43,7 +43,7 @@ moment_none n text None is h = λ m k.
     let bad = h.1 (omega (arith, same, k.fits)) in
     cc
 
-wide : (limit n : ℕ) (text : List ℕ) → limit ≤ 2 ^ 64 → IsNumber limit n text → IsNumber (2 ^ 64) n text
+pub wide : (limit n : ℕ) (text : List ℕ) → limit ≤ 2 ^ 64 → IsNumber limit n text → IsNumber (2 ^ 64) n text
 wide limit n text small is = record { fits = omega (arith, small, is.fits); printed = is.printed }
 
 pub step_none : (n : ℕ) (text : List ℕ) → IsShort n text → 65534 < n → (v : ℕ) → ¬ IsStep v text

@@ -8,6 +8,11 @@ use Rattle.lw_world.specs.declared.event.Event.{Event}
 use Rattle.lw_script.specs.Fields.{HasSpace, is_space, IsNumber}
 use Rattle.lw_script.specs.Lines.{IsLine}
 
+-- the number of the nodes, and the events
+pub record ScriptContent : Type 0 where
+  pub nodes : ℕ
+  pub events : List Event
+
 -- what is between line feeds, the last byte aside where it is one
 abbrev pub lines_of : List ℕ → List (List ℕ)
 lines_of bytes = slice_split (λ byte. byte == 10) (strip_last 10 bytes)

@@ -8,10 +8,12 @@ mod last;
 mod line;
 mod number;
 mod path_field;
+mod script;
 mod word;
 
 pub use fault::LineFault;
 pub use line::read_line;
+pub use script::{Script, ScriptFault, read_script};
 
 #[cfg(test)]
 mod tests;

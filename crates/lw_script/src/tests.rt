@@ -1,3 +1,5 @@
+mod scripts;
+
 use super::*;
 
 /// Lines of each kind, and bounds of each field just inside.
