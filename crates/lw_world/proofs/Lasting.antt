@@ -129,7 +129,7 @@ module _ (k l : Knowledge) (learns : Learns k l) where
 
   pub learns_counted : IsCounted k → IsCounted l
   learns_counted before = record {
-    last = at_most k.count.change l.count.change (length learns.count.moved) learns.count.change;
+    last = at_most k.count.change l.count.change (length learns.count.moved) before.last learns.count.change;
     numbered = λ e slot at. same_slot (get (known_state k.operations) e) (get (known_state l.operations) e)
         (λ same. stays e same (before.numbered e slot (same ∙ at)))
         (λ moves. moved_at e moves (λ i lt is. record {
@@ -140,8 +140,8 @@ module _ (k l : Knowledge) (learns : Learns k l) where
         }));
   }
     where
-      at_most : (b a moved : ℕ) → a ≡ counted b moved → a ≤ LAST
-      at_most b a moved is = omega (arith, is)
+      at_most : (b a moved : ℕ) → b ≤ LAST → a ≡ counted b moved → a ≤ LAST
+      at_most b a moved last is = omega (arith, last, is)
 
       positive : (b i : ℕ) → 0 < counted b (i + 1)
       positive b i = omega arith
