@@ -1,4 +1,4 @@
-use Rattle.std.proofs.Common.{sym, ap, ◌∙◌, refl, subst, List, ℕ}
+use Rattle.std.proofs.Common.{ap, ◌∙◌, refl, subst, List, ℕ}
 use Rattle.lw_node.specs.Exchange.{Merges}
 use Rattle.lw_node.specs.Node.{NodeContent}
 use Rattle.lw_world.specs.declared.event.Action.TheVariants as actions
