@@ -1,8 +1,9 @@
 -- What deltas hold lasts, and a chain of them brings all.
 use Rattle.std.proofs.Common.{◌≡◌, ℕ, suc, ◌+◌, ◌<◌, ◌≤◌, Bool, true, false, List, [], ◌∷◌, ◌++◌, length, Option, Some, None, Ok, sym, refl, ap, ◌∙◌, subst, arith, inl, inr, ◌⊎◌}
-use Rattle.std.specs.Prelude.{Contains, slice_get, nat_le}
+use Rattle.std.specs.Prelude.{Contains, slice_get, nat_le, nat_lt}
 use Rattle.std.specs.FinMap.{get}
 use Rattle.std.proofs.lemmas.Bool.Decides.{nat_tests}
+use Rattle.std.proofs.lemmas.List.Elements.{Contains-append_right}
 use Rattle.lw_join.specs.Options.{option_below}
 use Rattle.lw_reg.specs.declared.op.Op.{Op}
 use Rattle.lw_reg.specs.declared.slot.Slot.{Slot}
@@ -35,7 +36,7 @@ record Departs (before end : History) (sender : ℕ) (l : Link) : Type 0 where
 
 departs : (begin : History) (events : List Event) (outcomes : List Outcome) (h : History) (m : Moments begin events outcomes h) (sender : ℕ) (l : Link) → IsSent events outcomes sender l → Departs (m.at l.place) h sender l
 departs begin events outcomes h m sender l sent =
-    go (m.steps l.place (record { node = sender; action = Send l.since }) (Sent (Ok (record { message = l.message; change = l.change }))) sent.sent.event_is sent.sent.outcome_is)
+    go (m.steps l.place (record { node = sender; action = Send l.since }) (Sent (Ok (record { message = l.message; change = l.change }))) sent.event_is sent.outcome_is)
   where
     go : Happens (m.at l.place) (record { node = sender; action = Send l.since }) (Sent (Ok (record { message = l.message; change = l.change }))) (m.at (suc l.place)) → Departs (m.at l.place) h sender l
     go step =
@@ -66,12 +67,12 @@ holds before end sender l d countable k lasts e slot number at is above low =
         absurd (omega (arith, same, past, low))
 
 pub deltas_last : DeltasLast
-deltas_last count events outcomes h runs sender l sent k at e slot number has is above low =
+deltas_last count events outcomes h runs sender l sent countable k at e slot number has is above low =
     let m = moments (begun count) events outcomes h (begun_good count) runs in
     let d = departs (begun count) events outcomes h m sender l sent in
     let later = (m.ends l.place).nodes sender d.knows d.is in
     let same : later.0 ≡ k = some_one later.0 k (sym later.1 ∙ at) in
-    (d.message, d.there, holds (m.at l.place) h sender l d sent.countable k (subst (Lasts d.knows) same later.2) e slot number has is above low)
+    (d.message, d.there, holds (m.at l.place) h sender l d countable k (subst (Lasts d.knows) same later.2) e slot number has is above low)
 
 -- ---- what arrives
 -- who got the whole message is above what its operations tell
@@ -109,18 +110,25 @@ module _ (begin : History) (events : List Event) (outcomes : List Outcome) (h : 
       let later = (m.goes l.place last.place before).nodes sender d.knows d.is in
       subst (Lasts d.knows) (some_one later.0 s (sym later.1 ∙ s_at)) later.2
 
-  link_covers : (l : Link) → IsSent events outcomes sender l → l.place ≤ last.place → IsDelivered events outcomes receiver l.message → Covers s r l.since → Covers s r l.change
-  link_covers l sent before delivered covered e slot number has is low = go (nat_le number l.since) refl
+  -- what is in its message has reached the receiver
+  brought : (l : Link) → IsDelivered events outcomes receiver l.message → (d : Departs (m.at l.place) h sender l) → (e : List ℕ) (slot : Slot) → Contains d.message.delta.slots (e, slot)
+      → option_below slot_below (Some slot) (get (known_state r.operations) e)
+  brought l delivered d e slot there =
+      let told = slot_told d.message (m.good_end.sound d.message (contains_at h.messages l.message d.message d.there)) e slot there in
+      subst (λ o. option_below slot_below o (get (known_state r.operations) e)) told (arrives begin events outcomes h m receiver l.message delivered r r_at d.message d.there e)
+
+  link_covers : s.count.change < LAST → (l : Link) → IsSent events outcomes sender l → l.place ≤ last.place → IsDelivered events outcomes receiver l.message → Covers s r l.since → Covers s r l.change
+  link_covers short l sent before delivered covered e slot number has is low = go (nat_le number l.since) refl
     where
       d : Departs (m.at l.place) h sender l
       d = departs begin events outcomes h m sender l sent
 
+      countable : l.change < LAST
+      countable = let same = d.change in let rises = (lasts_on l before d).change in omega (arith, short, same, rises)
+
       go : (b : Bool) → nat_le number l.since ≡ b → option_below slot_below (Some slot) (get (known_state r.operations) e)
       go true c = covered e slot number has is (grind (arith, nat_tests))
-      go false c =
-          let there = holds (m.at l.place) h sender l d sent.countable s (lasts_on l before d) e slot number has is (grind (arith, nat_tests)) low in
-          let told = slot_told d.message (m.good_end.sound d.message (contains_at h.messages l.message d.message d.there)) e slot there in
-          subst (λ o. option_below slot_below o (get (known_state r.operations) e)) told (arrives begin events outcomes h m receiver l.message delivered r r_at d.message d.there e)
+      go false c = brought l delivered d e slot (holds (m.at l.place) h sender l d countable s (lasts_on l before d) e slot number has is (grind (arith, nat_tests)) low)
 
   -- a chain comes no later than its last
   chain_before : (links : List Link) (since first : ℕ) → IsChainFrom events outcomes sender since first (links ++ last ∷ []) → first ≤ last.place
@@ -134,13 +142,13 @@ module _ (begin : History) (events : List Event) (outcomes : List Outcome) (h : 
   last_sent [] since first chain = chain.0
   last_sent (l ∷ links) since first chain = last_sent links l.change (l.place + 1) chain.3
 
-  chain_covers : (links : List Link) (since first : ℕ) → IsChainFrom events outcomes sender since first (links ++ last ∷ [])
+  chain_covers : s.count.change < LAST → (links : List Link) (since first : ℕ) → IsChainFrom events outcomes sender since first (links ++ last ∷ [])
       → ((l : Link) → Contains (links ++ last ∷ []) l → IsDelivered events outcomes receiver l.message) → Covers s r since → Covers s r last.change
-  chain_covers [] since first chain delivered covered =
-      link_covers last chain.0 (omega arith) (delivered last (first_there last [] last refl)) (subst (Covers s r) (sym chain.1) covered)
-  chain_covers (l ∷ links) since first chain delivered covered =
-      chain_covers links l.change (l.place + 1) chain.3 (λ x there. delivered x (more_there l (links ++ last ∷ []) x there))
-      (link_covers l chain.0 (let b = chain_before links l.change (l.place + 1) chain.3 in omega (arith, b)) (delivered l (first_there l (links ++ last ∷ []) l refl)) (subst (Covers s r) (sym chain.1) covered))
+  chain_covers short [] since first chain delivered covered =
+      link_covers short last chain.0 (omega arith) (delivered last (first_there last [] last refl)) (subst (Covers s r) (sym chain.1) covered)
+  chain_covers short (l ∷ links) since first chain delivered covered =
+      chain_covers short links l.change (l.place + 1) chain.3 (λ x there. delivered x (more_there l (links ++ last ∷ []) x there))
+      (link_covers short l chain.0 (let b = chain_before links l.change (l.place + 1) chain.3 in omega (arith, b)) (delivered l (first_there l (links ++ last ∷ []) l refl)) (subst (Covers s r) (sym chain.1) covered))
 
   counted : IsCounted s
   counted = (m.good last.place).counted sender s s_at
@@ -153,21 +161,35 @@ module _ (begin : History) (events : List Event) (outcomes : List Outcome) (h : 
       let first = n.first in
       absurd (omega (arith, same, first, low))
 
-  all_covered : last.change ≡ s.count.change → Covers s r last.change → state_below (known_state s.operations) (known_state r.operations)
-  all_covered same covered e = go (get (known_state s.operations) e) refl
+  slots_below : ((e : List ℕ) (slot : Slot) → get (known_state s.operations) e ≡ Some slot → option_below slot_below (Some slot) (get (known_state r.operations) e)) → state_below (known_state s.operations) (known_state r.operations)
+  slots_below each e = go (get (known_state s.operations) e) refl
     where
       go : (o : Option Slot) → get (known_state s.operations) e ≡ o → option_below slot_below o (get (known_state r.operations) e)
       go None at = tt
-      go (Some slot) at =
-          let n : IsNumbered s e = counted.numbered e slot at in
-          covered e slot n.number at n.is (let within = n.within in omega (arith, within, same))
+      go (Some slot) at = each e slot at
 
+  -- at the last change number the last delta is whole
   pub reaches : (links : List Link) → IsChainFrom events outcomes sender 0 0 (links ++ last ∷ []) → ((l : Link) → Contains (links ++ last ∷ []) l → IsDelivered events outcomes receiver l.message)
       → state_below (known_state s.operations) (known_state r.operations)
-  reaches links chain delivered =
-      let d = departs begin events outcomes h m sender last (last_sent links 0 0 chain) in
-      let same : d.knows ≡ s = some_one d.knows s (sym d.is ∙ s_at) in
-      all_covered (d.change ∙ ap (λ (k : Knowledge). k.count.change) same) (chain_covers links 0 0 chain delivered none_covered)
+  reaches links chain delivered = slots_below (go (nat_lt s.count.change LAST) refl)
+    where
+      d : Departs (m.at last.place) h sender last
+      d = departs begin events outcomes h m sender last (last_sent links 0 0 chain)
+
+      same : d.knows ≡ s
+      same = some_one d.knows s (sym d.is ∙ s_at)
+
+      go : (b : Bool) → nat_lt s.count.change LAST ≡ b → (e : List ℕ) (slot : Slot) → get (known_state s.operations) e ≡ Some slot → option_below slot_below (Some slot) (get (known_state r.operations) e)
+      go true c e slot at =
+          let n : IsNumbered s e = counted.numbered e slot at in
+          let within = n.within in
+          let change : last.change ≡ s.count.change = d.change ∙ ap (λ (k : Knowledge). k.count.change) same in
+          chain_covers (grind (arith, nat_tests)) links 0 0 chain delivered none_covered e slot n.number at n.is (omega (arith, within, change))
+      go false c e slot at =
+          let short = counted.last in
+          let end : s.count.change ≡ LAST = grind (arith, nat_tests) in
+          brought last (delivered last (Contains-append_right links (last ∷ []) last (first_there last [] last refl))) d e slot
+          ((d.slots.members e slot).1 (ap (λ (k : Knowledge). get (known_state k.operations) e) same ∙ at, inl (ap (λ (k : Knowledge). k.count.change) same ∙ end)))
 
 pub chains_reach : ChainsReach
 chains_reach count events outcomes sender receiver links last chain delivered mid h passes s r s_at r_at =

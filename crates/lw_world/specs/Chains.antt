@@ -1,5 +1,5 @@
 -- Deltas of one sender, each since the change number of the one before, and what they bring to a node that gets them
--- all, in any order.
+-- all, in any order (Almeida et al., Delta State Replicated Data Types, 2018).
 use Rattle.std.specs.Prelude.{◌≡◌, ℕ, ◌+◌, ◌<◌, ◌≤◌, List, [], ◌∷◌, ◌++◌, take, drop, slice_get, Some, Ok, Contains}
 use Rattle.std.specs.FinMap.{get}
 use Rattle.lw_reg.specs.declared.slot.Slot.{Slot}
@@ -18,23 +18,22 @@ pub record IsAt (events : List Event) (outcomes : List Outcome) (place : ℕ) (e
   pub outcome_is : slice_get outcomes place ≡ Some outcome
 
 -- a delta that is sent: at which place of the run, since which change number, which message it is, and the sender's
--- change number then, which is not the last that there is
+-- change number then
 pub record Link : Type 0 where
   pub place : ℕ
   pub since : ℕ
   pub message : ℕ
   pub change : ℕ
 
-pub record IsSent (events : List Event) (outcomes : List Outcome) (sender : ℕ) (l : Link) : Type 0 where
-  pub sent : IsAt events outcomes l.place (record { node = sender; action = Send l.since }) (Sent (Ok (record { message = l.message; change = l.change })))
-  pub countable : l.change < LAST
+abbrev pub IsSent : List Event → List Outcome → ℕ → Link → Type 0
+IsSent events outcomes sender l = IsAt events outcomes l.place (record { node = sender; action = Send l.since }) (Sent (Ok (record { message = l.message; change = l.change })))
 
--- What a delta holds it holds as it stands later, as far as the endpoint has not moved again: what the sender has at
--- any later moment under a change number that the delta reaches.
+-- A delta holds each slot as it still stands later, unless the endpoint has moved again: all that the sender has, at
+-- that or any later moment, under a change number that the delta reaches, where that is not the last that there is.
 abbrev pub DeltasLast : Type 0
 DeltasLast =
     (count : ℕ) (events : List Event) (outcomes : List Outcome) (h : History) → Runs (begun count) events outcomes h
-    → (sender : ℕ) (l : Link) → IsSent events outcomes sender l → (k : Knowledge) → at_number h.nodes sender ≡ Some k
+    → (sender : ℕ) (l : Link) → IsSent events outcomes sender l → l.change < LAST → (k : Knowledge) → at_number h.nodes sender ≡ Some k
     → (e : List ℕ) (slot : Slot) (number : ℕ) → get (known_state k.operations) e ≡ Some slot → get k.count.numbers e ≡ Some number → l.since < number → number ≤ l.change
     → (m : Message) × (slice_get h.messages l.message ≡ Some m) × Contains m.delta.slots (e, slot)
 
@@ -54,12 +53,12 @@ pub record IsDelivered (events : List Event) (outcomes : List Outcome) (receiver
   pub joined : ℕ
   pub delivered : IsAt events outcomes place (record { node = receiver; action = Deliver message }) (Delivered (Ok joined))
 
--- The run comes to its end by way of this: what its history is before the event at the place.
+-- the run comes to the end by way of this history, which it has before the event at the place
 pub record Passes (count : ℕ) (events : List Event) (outcomes : List Outcome) (place : ℕ) (mid end : History) : Type 0 where
   pub before : Runs (begun count) (take place events) (take place outcomes) mid
   pub rest : Runs mid (drop place events) (drop place outcomes) end
 
--- Who has got each delta of a chain, in any order, has at least the sender's state at the last of them, and keeps it.
+-- Who has got each delta of a chain, in any order, has at least what the sender had at the last of them, and keeps it.
 abbrev pub ChainsReach : Type 0
 ChainsReach =
     (count : ℕ) (events : List Event) (outcomes : List Outcome) (sender receiver : ℕ) (links : List Link) (last : Link) → IsChain events outcomes sender (links ++ last ∷ [])
