@@ -1,3 +1,4 @@
 pub mod LineLemmas
 pub mod OneLemmas
 pub mod NodeLemmas
+pub mod EndingLemmas

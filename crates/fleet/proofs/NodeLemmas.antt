@@ -1,12 +1,12 @@
 -- A new node knows of no operation, and after one operation of that one.
-use Rattle.std.proofs.Common.{◌≡◌, ℕ, [], ◌∷◌, Option, Some, None, Result, Ok, Err, sym, ap, subst, ◌∙◌}
+use Rattle.std.proofs.Common.{ℕ, [], ◌∷◌, Option, Some, None, Result, Ok, Err, sym, subst, ◌∙◌}
 use Rattle.std.specs.Prelude.{IfOk}
 use Rattle.std.specs.FinMap.{empty}
 use Rattle.std.specs.Option.{option_to_list}
 use Rattle.lw_join.specs.JoinLaws.{semilattice}
 use Rattle.lw_reg.specs.declared.op.Op.{Op}
 use Rattle.lw_reg.specs.Marks.{all_marks, marks_of}
-use Rattle.lw_reg.specs.State.{State, IsStateOf, state_of, state_join}
+use Rattle.lw_reg.specs.State.{IsStateOf, state_of}
 use Rattle.lw_reg.proofs.Operations.{all_names}
 use Rattle.lw_reg.proofs.States.{state_laws, state_least, state_union}
 use Rattle.lw_node.specs.Node.{NodeContent, fresh, Knows, IsAfter}

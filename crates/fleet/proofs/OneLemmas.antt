@@ -1,5 +1,5 @@
 -- The faults of `one`, each at its place.
-use Rattle.std.proofs.Common.{◌≡◌, ℕ, ◌⊎◌, List, ◌++◌, Option, Some, None, Result, Ok, Err, refl, sym, ap, subst, ◌∙◌, inl, inr}
+use Rattle.std.proofs.Common.{◌≡◌, ℕ, ◌⊎◌, List, Option, Some, None, Result, Ok, Err, sym, ◌∙◌, inl, inr}
 use Rattle.std.specs.Prelude.{IfSome, OnErr, OnOk, IsOkUnless}
 use Rattle.fleet.specs.declared.fault.OneFault.{OneFault}
 use Rattle.fleet.specs.declared.fault.OneFault.TheVariants.{AddressRefused, ReadFailed, TooLong, HexRefused, WriteFailed, NoMemory}

@@ -1,7 +1,10 @@
 -- The command line of the program: the command `one` with its three options, in the words of `clap`.
-use Rattle.std.specs.Prelude.{◌≡◌, ◌<◌, ◌^◌, ℕ, List, [], Option, Some, None, codes, unwrap_or, true}
+use Rattle.std.specs.Prelude.{◌≡◌, ◌⊎◌, ◌<◌, ◌^◌, ℕ, List, [], ◌∷◌, Option, Some, None, codes, unwrap_or, true}
 use Rattle.std.specs.Str.Parse.{IsNumeral, digits_value}
-use Rattle.clap.specs.Words.{App, Row, Rule, Text, first_of, new_app, new_rule, subcommand_of, with_rule, with_subcommand}
+use Rattle.clap.specs.Kinds.{IsAmong, Kinds, or_else}
+use Rattle.clap.specs.Words.{App, Row, Rule, Text, fault_of, first_of, new_app, new_rule, subcommand_of, with_rule, with_subcommand}
+use Rattle.clap.specs.declared.error.kind.ErrorKind.{ErrorKind}
+use Rattle.clap.specs.declared.error.kind.ErrorKind.TheVariants.{DisplayHelp, DisplayVersion, ValueValidation}
 use Rattle.lw_stamp.specs.Moment.{ms_of}
 use Rattle.fleet.specs.declared.command.OneOptions.{OneOptions}
 
@@ -45,3 +48,25 @@ pub record IsGiven (rows : List Row) (options : OneOptions) : Type 0 where
 -- what the words of a command line give
 abbrev pub given_rows : List Text → List Row
 given_rows words = option_rows (subcommand_of fleet_app words)
+
+-- the words give these options of `one`
+abbrev pub GivesOptions : List Text → OneOptions → Type 0
+GivesOptions words options = (fault_of fleet_app words ≡ []) × IsGiven (given_rows words) options
+
+-- the kinds of error that the words may have where they give no options: those that `clap` finds, or else a number
+-- out of its range
+abbrev pub kinds_of_words : List Text → Kinds
+kinds_of_words words = or_else (fault_of fleet_app words) (ValueValidation ∷ [])
+
+-- help and the version are no mistakes
+abbrev pub IsRequest : ErrorKind → Type 0
+IsRequest kind = (kind ≡ DisplayHelp) ⊎ (kind ≡ DisplayVersion)
+
+-- the words ask for help or for the version
+abbrev pub AsksForText : List Text → Type 0
+AsksForText words = (kind : ErrorKind) → IsAmong kind (kinds_of_words words) → IsRequest kind
+
+-- the words give no options, and ask for no text
+pub record IsMistaken (words : List Text) : Type 0 where
+  pub no_options : (options : OneOptions) → ¬ GivesOptions words options
+  pub no_text : (kind : ErrorKind) → IsAmong kind (kinds_of_words words) → ¬ IsRequest kind

@@ -1,3 +1,5 @@
 pub mod CommandLine
 pub mod Line
 pub mod One
+pub mod Fault
+pub mod Program

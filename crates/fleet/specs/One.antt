@@ -1,5 +1,6 @@
 -- What the program prints of one datagram that a new node takes.
-use Rattle.std.specs.Prelude.{◌≡◌, ◌<◌, ◌≤◌, ℕ, List, [], length, Option, None, Ok}
+use Rattle.std.specs.Prelude.{◌≡◌, ◌≤◌, ◌++◌, ℕ, List, [], length, Option, None, IfSome, Ok}
+use Rattle.std.specs.Io.KnownBytes.{Appends}
 use Rattle.std.specs.Option.{option_to_list}
 use Rattle.hex.specs.Hex.{decode_of}
 use Rattle.lw_stamp.specs.Moment.{ms_of}
@@ -37,3 +38,13 @@ pub record IsPrinted (options : OneOptions) (input text : List ℕ) : Type 0 whe
   pub line_fits : length (line_of input) ≤ longest_line
   pub spelled : decode_of (line_of input) ≡ Ok datagram
   pub answered : IsAnswered options.node (ms_of options.now) source datagram text
+
+-- the answer to the first line of the input is appended
+abbrev pub Prints : OneOptions → Option (List ℕ) → Option (List ℕ) → Option (List ℕ) → Type 0
+Prints options input before after =
+    IfSome input (λ bytes. (text : List ℕ) × IsPrinted options bytes text × Appends before after text)
+
+-- a front of it is appended
+abbrev pub PrintsFront : OneOptions → Option (List ℕ) → Option (List ℕ) → Option (List ℕ) → Type 0
+PrintsFront options input before after = IfSome input (λ bytes. (text : List ℕ) × IsPrinted options bytes text
+    × (front : List ℕ) × (back : List ℕ) × (text ≡ front ++ back) × Appends before after front)

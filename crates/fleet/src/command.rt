@@ -2,9 +2,9 @@ ghost use Rattle.std.specs.Prelude.{◌≡◌, ◌≢◌, ◌⊎◌, ◌<◌, �
 ghost use Rattle.std.specs.Option.{SomeIff};
 ghost use Rattle.std.specs.Str.Parse.{IsNumeral, digits_value};
 ghost use Rattle.clap.specs.declared.builder.texts.Texts.TheVariants.{One};
-ghost use Rattle.clap.specs.Words.{app_of, rule_of, kind_of, fault_of, subcommand_rows_of};
+ghost use Rattle.clap.specs.Words.{app_of, rule_of, kind_of, fault_of, subcommand_rows_of, HasKind};
 ghost use Rattle.clap.specs.declared.builder.command.Command.TheViews.{out-Command as fields_of};
-ghost use Rattle.fleet.specs.CommandLine.{fleet_app, one_app, given, given_rows, long_option, option_rows, IsGiven, Writes};
+ghost use Rattle.fleet.specs.CommandLine.{fleet_app, one_app, given, given_rows, kinds_of_words, long_option, option_rows, IsGiven, Writes};
 ghost use Rattle.lw_stamp.specs.Moment.{ms_of};
 ghost use Rattle.lw_stamp.specs.declared.moment.Moment.{Moment as Moments};
 ghost use Rattle.fleet.specs.declared.command.OneOptions.{OneOptions as Options};
@@ -54,6 +54,7 @@ pub fn read_options<'a, S: AsStr>(alloc: Global, words: &'a [S]) -> Result<OneOp
     ensures refused { IfErr result (λ e. fault_of fleet_app (map S.text words.entry.now) ≡ []
         → (o : Options) → IsGiven (given_rows (map S.text words.entry.now)) o
         → kind_of e ≡ ErrorKind.OutOfMemory) }
+    ensures kinds { IfErr result (HasKind (kinds_of_words (map S.text words.entry.now))) }
 {
     let mut command = fleet_command(alloc)?;
     let matches = command.try_get_matches_from_mut(words)?;
@@ -63,16 +64,17 @@ pub fn read_options<'a, S: AsStr>(alloc: Global, words: &'a [S]) -> Result<OneOp
     }
 }
 
-/// The status of a program that only prints such an error: 2 for a refused command line, and 0 for help and
-/// the version.
-pub fn status(error: &Error) -> u8
-    ensures shown { (kind_of error.now ≡ ErrorKind.DisplayHelp) ⊎ (kind_of error.now ≡ ErrorKind.DisplayVersion) → result ≡ 0 }
-    ensures refused { kind_of error.now ≢ ErrorKind.DisplayHelp → kind_of error.now ≢ ErrorKind.DisplayVersion → result ≡ 2 }
+/// The refusal of a command line with a word that is not UTF-8.
+pub fn not_utf8(alloc: Global) -> Result<Error, AllocError>
+    ensures { IfOk result (λ error. kind_of error ≡ ErrorKind.ValueValidation) }
 {
-    if error.use_stderr() { 2 } else { 0 }
+    let mut command = fleet_command(alloc)?;
+    command.error(ErrorKind::ValueValidation, "a word is not UTF-8")
 }
 
-fn number_refused(alloc: Global, bad: BadNumber) -> Result<Error, AllocError> {
+fn number_refused(alloc: Global, bad: BadNumber) -> Result<Error, AllocError>
+    ensures { IfOk result (λ error. kind_of error ≡ ErrorKind.ValueValidation) }
+{
     let mut command = one_command(alloc)?.bin_name("fleet one")?;
     command.error(ErrorKind::ValueValidation, bad.message())
 }

@@ -1,24 +1,40 @@
 ghost use Rattle.std.specs.Prelude.{◌≡◌};
+ghost use Rattle.fleet.specs.Fault.{fault_line};
 ghost use Rattle.fleet.specs.declared.fault.OneFault.TheVariants.{NoMemory as OutOfMemory};
 
 use lw_stamp::NoMemory;
-use thiserror::Error;
 
 /// What ends `fleet one` early. Each is shown as a line of its own on standard error.
-#[derive(Clone, Copy, Debug, PartialEq, Eq, Error)]
+#[derive(Clone, Copy, Debug, PartialEq, Eq)]
 pub enum OneFault {
-    #[error("address refused")]
+    /// The text of the option `--from` is no address.
     AddressRefused,
-    #[error("read failed")]
+    /// Standard input could not be read.
     ReadFailed,
-    #[error("script too long")]
+    /// The line has more bytes than are taken.
     TooLong,
-    #[error("hex refused")]
+    /// The line is not written in pairs of hex digits.
     HexRefused,
-    #[error("write failed")]
+    /// Standard output did not take all.
     WriteFailed,
-    #[error("no memory")]
+    /// Memory ran out.
     NoMemory,
+}
+
+impl OneFault {
+    /// The line on standard error, with its line feed.
+    pub fn line(self) -> &'static str
+        ensures { result.now ≡ fault_line self }
+    {
+        match self {
+            OneFault::AddressRefused => "address refused\n",
+            OneFault::ReadFailed => "read failed\n",
+            OneFault::TooLong => "script too long\n",
+            OneFault::HexRefused => "hex refused\n",
+            OneFault::WriteFailed => "write failed\n",
+            OneFault::NoMemory => "no memory\n",
+        }
+    }
 }
 
 impl From<NoMemory> for OneFault {

@@ -7,7 +7,9 @@ mod hex_line;
 mod line;
 mod one;
 mod output;
+mod program;
 
+use program::program;
 use std::process::ExitCode;
 use std::{env, io};
 
@@ -22,20 +24,9 @@ fn words(rt: &HostRuntime) -> io::Result<Vec<String>> {
     Ok(words)
 }
 
-fn main(rt: HostRuntime) -> io::Result<ExitCode> {
-    let words = words(&rt)?;
-    let options = match command::read_options(rt.alloc(), &words) {
-        Ok(options) => options,
-        Err(error) => {
-            error.print(&rt)?;
-            return Ok(ExitCode::from(command::status(&error)));
-        }
-    };
-    match one::one(rt.alloc(), &options, &mut rt.reader(), &mut io::writer(&rt)) {
-        Ok(()) => Ok(ExitCode::SUCCESS),
-        Err(fault) => {
-            eprintln!(rt; "{fault}")?;
-            Ok(ExitCode::FAILURE)
-        }
-    }
+fn main(rt: HostRuntime) -> ExitCode {
+    let words = words(&rt);
+    let (reader, writer, errors) = (&mut rt.reader(), &mut rt.stdout(), &mut rt.stderr());
+    let ending = program(rt.alloc(), &words, reader, writer, errors);
+    ExitCode::from(ending.status())
 }

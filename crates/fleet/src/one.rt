@@ -1,9 +1,9 @@
-ghost use Rattle.std.specs.Prelude.{◌≡◌, ◌≢◌, ◌↔◌, ◌++◌, ℕ, List, Ok, OnOk, OnErr, IfOk, IfErr, IfSome, Err, IsErr, length, ◌<◌, option_map};
-ghost use Rattle.std.specs.Io.KnownBytes.{Appends, Keeps};
+ghost use Rattle.std.specs.Prelude.{◌≡◌, ◌≢◌, ◌↔◌, Ok, OnOk, OnErr, IfOk, IfErr, IfSome, Err, IsErr, length, ◌<◌, option_map};
+ghost use Rattle.std.specs.Io.KnownBytes.{Keeps};
 ghost use Rattle.hex.specs.Hex.{decode_of};
 ghost use Rattle.lw_stamp.specs.Moment.{ms_of};
 ghost use Rattle.fleet.specs.Line.{line_of, longest_line};
-ghost use Rattle.fleet.specs.One.{IsAddressText, IsAnswered, IsPrinted};
+ghost use Rattle.fleet.specs.One.{IsAddressText, IsAnswered, Prints, PrintsFront};
 
 use crate::command::OneOptions;
 use crate::fault::OneFault;
@@ -25,12 +25,10 @@ pub fn one<R: Read, W: Write>(
     writer: &mut W,
 ) -> Result<(), OneFault>
     // What is printed is the answer of a new node to the datagram that the first line spells.
-    ensures printed { OnOk result (IfSome (R.remaining reader.old) (λ bytes. (text : List ℕ)
-        × IsPrinted options.entry.now bytes text × Appends (W.contents writer.old) (W.contents writer.new) text)) }
+    ensures printed { OnOk result (Prints options.entry.now (R.remaining reader.old) (W.contents writer.old) (W.contents writer.new)) }
     // A writer that fails may have taken a front of it.
-    ensures front { result ≡ Err OneFault.WriteFailed → IfSome (R.remaining reader.old) (λ bytes. (text : List ℕ)
-        × IsPrinted options.entry.now bytes text × (front : List ℕ) × (back : List ℕ) × (text ≡ front ++ back)
-        × Appends (W.contents writer.old) (W.contents writer.new) front) }
+    ensures front { result ≡ Err OneFault.WriteFailed
+        → PrintsFront options.entry.now (R.remaining reader.old) (W.contents writer.old) (W.contents writer.new) }
     // Any other fault comes before the first byte is written.
     ensures nothing { IfErr result (λ e. e ≢ OneFault.WriteFailed → Keeps (W.contents writer.old) (W.contents writer.new)) }
 

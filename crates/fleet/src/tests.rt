@@ -6,12 +6,12 @@ use crate::one::one;
 use crate::output::write_text;
 use lw_stamp::Moment;
 use std::alloc::Global;
-use std::fmt::Write as _;
 use std::io::{self, ErrorKind, Read, Write};
 use std::str;
 use std::test::Fail;
 
 mod command_line;
+mod program;
 
 /// Gives its bytes a few at a time, and then ends or fails. Every other read is interrupted.
 #[derive(Drop)]
@@ -190,18 +190,17 @@ fn hex_lines(rt: HostRuntime) -> Result<(), Fail> {
 }
 
 #[test]
-fn fault_lines(rt: HostRuntime) -> Result<(), Fail> {
+fn fault_lines(rt: HostRuntime) {
     for (fault, line) in [
-        (OneFault::AddressRefused, "address refused"),
-        (OneFault::ReadFailed, "read failed"),
-        (OneFault::TooLong, "script too long"),
-        (OneFault::HexRefused, "hex refused"),
-        (OneFault::WriteFailed, "write failed"),
-        (OneFault::NoMemory, "no memory"),
+        (OneFault::AddressRefused, "address refused\n"),
+        (OneFault::ReadFailed, "read failed\n"),
+        (OneFault::TooLong, "script too long\n"),
+        (OneFault::HexRefused, "hex refused\n"),
+        (OneFault::WriteFailed, "write failed\n"),
+        (OneFault::NoMemory, "no memory\n"),
     ] {
-        assert_eq!(rt; format!(in rt.alloc(); "{fault}")?.as_str(), line);
+        assert_eq!(rt; fault.line(), line);
     }
-    Ok(())
 }
 
 /// A Register of `a` and what a new node answers to it.
@@ -225,7 +224,7 @@ fn told(alloc: Global, input: &[u8]) -> Result<String, Fail> {
     let result = one(alloc, &OPTIONS, &mut reader, &mut writer);
     let mut text = String::from_str(alloc, str::from_utf8(&writer)?)?;
     if let Err(fault) = result {
-        write!(text, "{fault}")?;
+        text.push_str(fault.line())?;
     }
     Ok(text)
 }
@@ -241,9 +240,9 @@ fn a_line_is_answered(rt: HostRuntime) -> Result<(), Fail> {
         (b"40010001\n", "60840001\n"),
         (b"", "-\n"),
         (b"\n40000007", "-\n"),
-        (b"4000000", "hex refused"),
-        (b"40000007\r\n", "hex refused"),
-        (b"40 000007\n", "hex refused"),
+        (b"4000000", "hex refused\n"),
+        (b"40000007\r\n", "hex refused\n"),
+        (b"40 000007\n", "hex refused\n"),
     ];
     for (input, text) in rows {
         assert_eq!(rt; told(rt.alloc(), input)?.as_str(), text);
@@ -256,7 +255,7 @@ fn the_longest_line_is_answered(rt: HostRuntime) -> Result<(), Fail> {
     let mut input = vec![in rt.alloc(); b'a'; 1_048_576]?;
     assert_eq!(rt; told(rt.alloc(), &input)?.as_str(), "-\n");
     input.push(b'a')?;
-    assert_eq!(rt; told(rt.alloc(), &input)?.as_str(), "script too long");
+    assert_eq!(rt; told(rt.alloc(), &input)?.as_str(), "script too long\n");
     Ok(())
 }
 

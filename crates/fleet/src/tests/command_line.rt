@@ -1,6 +1,7 @@
 //! What the command line gives, and the texts that are printed where it gives nothing.
 
-use crate::command::{read_options, status};
+use super::program::run_with;
+use crate::command::read_options;
 use std::alloc::Global;
 use std::test::Fail;
 
@@ -37,12 +38,13 @@ fn options(rt: HostRuntime) -> Result<(), Fail> {
     Ok(())
 }
 
-/// The status of a command line that gives no options, and what it prints.
+/// The status of a command line that gives no options, and what it prints, errors behind a bar.
 fn printed(alloc: Global, words: &[&str]) -> Result<String, Fail> {
-    match read_options(alloc, words) {
-        Ok(options) => Ok(format!(in alloc; "{options:?}")?),
-        Err(error) => Ok(format!(in alloc; "{} {error}", status(&error))?),
+    let ended = run_with(alloc, words, b"4")?;
+    if ended.unread != 1 {
+        return Err(Fail::from("the input was read"));
     }
+    Ok(format!(in alloc; "{} {}|{}", ended.status, ended.output, ended.errors)?)
 }
 
 #[test]
@@ -62,7 +64,7 @@ Commands:
 Options:
   -h, --help     Print help
   -V, --version  Print version
-"
+|"
     );
     Ok(())
 }
@@ -82,7 +84,7 @@ Options:
       --now <MS>     Moment in milliseconds, 0 to 281474976710655 [default: 0]
       --from <ADDR>  Address and port of the client, IPv6 as [eight groups of four digits] [default: 127.0.0.1:5683]
   -h, --help         Print help
-"
+|"
     );
     Ok(())
 }
@@ -91,7 +93,7 @@ Options:
 fn the_version(rt: HostRuntime) -> Result<(), Fail> {
     for flag in ["--version", "-V"] {
         let text = printed(rt.alloc(), &["fleet", flag])?;
-        assert_eq!(rt; text.as_str(), "0 fleet 0.1.0\n");
+        assert_eq!(rt; text.as_str(), "0 fleet 0.1.0\n|");
     }
     Ok(())
 }
@@ -99,7 +101,7 @@ fn the_version(rt: HostRuntime) -> Result<(), Fail> {
 /// Whether the command line is refused with these lines.
 fn is_refused(alloc: Global, words: &[&str], line: &str, usage: &str) -> Result<bool, Fail> {
     let want = format!(in alloc;
-        "2 error: {line}\n\n{usage}For more information, try '--help'.\n"
+        "2 |error: {line}\n\n{usage}For more information, try '--help'.\n"
     )?;
     Ok(printed(alloc, words)?.as_str() == want.as_str())
 }

@@ -1,12 +1,14 @@
-use Rattle.std.proofs.Common.{◌≡◌, List, Option, Result, Ok, Err, IfErr, true, map, refl, sym, ap, subst, ◌∙◌, [], inl, inr}
+use Rattle.std.proofs.Common.{◌≡◌, List, Option, Result, Ok, Err, IfErr, true, map, refl, sym, ap, subst, ◌∙◌, [], ◌∷◌, inl, inr}
 use Rattle.std.specs.Prelude.{IsErrAnd}
+use Rattle.clap.specs.Kinds.{or_else}
 use Rattle.clap.specs.Words.{App, Row, Text, fault_of, is_simple, is_simple_and_free, subcommand_of, kind_of, FailsBy, HasKind, Kinds}
 use Rattle.clap.specs.declared.error.Error.{Error}
 use Rattle.clap.specs.declared.parser.matches.ArgMatches.{ArgMatches}
-use Rattle.clap.specs.declared.error.kind.ErrorKind.TheVariants.{OutOfMemory}
+use Rattle.clap.specs.declared.error.kind.ErrorKind.TheVariants.{OutOfMemory, ValueValidation}
 use Rattle.clap.proofs.OnLiterals.{clap_on_literals}
-use Rattle.fleet.specs.CommandLine.{fleet_app, one_app, given_rows, option_rows, IsGiven}
+use Rattle.fleet.specs.CommandLine.{fleet_app, one_app, given_rows, kinds_of_words, option_rows, IsGiven}
 use Rattle.fleet.specs.declared.command.OneOptions.{OneOptions}
+use Rattle.fleet.proofs.EndingLemmas.{or_more}
 use Rattle.fleet.proofs.command.read_options.Goals as goal
 
 fleet_is_simple : is_simple fleet_app ≡ true
@@ -66,3 +68,21 @@ pub returns-clause-refused : goal.returns-clause-refused
 returns-clause-refused g c =
     let rows = rows_of_words (map g.S.AsStr.text c.args.words.now) _ _ c.in_ok-command.ensures (λ h. (c.in_ok-matches.ensures.ok.2 h).1) in
     λ taken o given. absurd (c.in-Err.ensures.none o (subst (λ s. IsGiven (option_rows s) o) (sym rows) given))
+
+has_kind : (words : List Text) (r : Result OneOptions Error) (one : Error) → IsErrAnd r (λ e. e ≡ one) → HasKind (kinds_of_words words) one
+    → IfErr r (HasKind (kinds_of_words words))
+has_kind words (Ok options) one h k = tt
+has_kind words (Err e) one h k = subst (HasKind (kinds_of_words words)) (sym h) k
+
+pub returns-in_err-matches-clause-kinds : goal.returns-in_err-matches-clause-kinds
+returns-in_err-matches-clause-kinds g c =
+    let words = map g.S.AsStr.text c.args.words.now in
+    let kinds = fails_by words _ (Err c.in_err-matches.field-0.0) c.in_ok-command.ensures c.in_err-matches.ensures.kinds in
+    has_kind words _ c.in_err-matches.field-0.0 c.from_residual-in_err-matches.ensures.1 (or_more (fault_of fleet_app words) _ c.in_err-matches.field-0.0 kinds)
+
+pub returns-clause-kinds : goal.returns-clause-kinds
+returns-clause-kinds g c =
+    let words = map g.S.AsStr.text c.args.words.now in
+    let none = fails_by words _ (Ok c.in_ok-matches.matches) c.in_ok-command.ensures c.in_ok-matches.ensures.kinds in
+    subst (λ kinds. HasKind (or_else kinds (ValueValidation ∷ [])) c.in_ok-number_refused-in-Err.field-0) (sym none)
+    (inr (inl c.in_ok-number_refused-in-Err.ensures))

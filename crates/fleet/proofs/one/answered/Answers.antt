@@ -1,4 +1,4 @@
-use Rattle.std.proofs.Common.{◌≡◌, List, Option, [], sym, subst, ◌∙◌, rules}
+use Rattle.std.proofs.Common.{◌≡◌, [], sym, subst, ◌∙◌}
 use Rattle.lw_stamp.specs.Moment.{ms_of}
 use Rattle.lw_reg.specs.Marks.{all_marks, left_by}
 use Rattle.std.specs.Option.{option_to_list}
