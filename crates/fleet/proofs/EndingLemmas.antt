@@ -2,17 +2,19 @@
 use Rattle.std.proofs.Common.{◌≡◌, ℕ, List, [], ◌∷◌, Option, Bool, refl, sym, subst, ◌∙◌, inl, inr}
 use Rattle.std.specs.Io.KnownBytes.{Keeps}
 use Rattle.clap.specs.Kinds.{or_else}
-use Rattle.clap.specs.Words.{Kinds, Text, fault_of, HasKind, IsAmong}
+use Rattle.clap.specs.Words.{Kinds, Row, Text, fault_of, HasKind, IsAmong}
 use Rattle.clap.specs.declared.error.Error.{Error}
 use Rattle.clap.specs.declared.error.kind.ErrorKind.TheVariants.{ValueValidation}
 use Rattle.lw_stamp.specs.Moment.{ms_of}
 use Rattle.fleet.specs.declared.command.OneOptions.{OneOptions}
-use Rattle.fleet.specs.declared.fault.OneFault.TheVariants.{NoMemory}
+use Rattle.fleet.specs.declared.command.Request.{Request}
+use Rattle.fleet.specs.declared.command.Request.TheVariants.{One, Replay}
+use Rattle.fleet.specs.declared.fault.Fault.TheVariants.{NoMemory}
 use Rattle.fleet.specs.declared.program.Ending.{Ending}
 use Rattle.fleet.specs.declared.program.Ending.TheVariants.{Done, Failed, Refused}
-use Rattle.fleet.specs.CommandLine.{fleet_app, given_rows, AsksForText, IsGiven, IsRequest}
+use Rattle.fleet.specs.CommandLine.{fleet_app, option_rows, AsksForText, IsAsked, IsGiven, IsRequest}
 use Rattle.fleet.specs.One.{IsAddressText, IsAnswered, IsPrinted, Prints, PrintsFront}
-use Rattle.fleet.specs.Program.{EndsOne, EndsRefused, EndsShown, EndsWithoutMemory}
+use Rattle.fleet.specs.Program.{EndsOne, EndsRefused, EndsReplay, EndsRequest, EndsShown, EndsWithoutMemory}
 use Rattle.fleet.proofs.OneLemmas.{if_some}
 
 -- ---- memory that ran out
@@ -37,7 +39,23 @@ one_without_memory options input before after ending early = subst (EndsOne opti
   nothing = λ h. early.2;
 })
 
--- ---- words that give options
+pub replay_without_memory : (input before after : Option (List ℕ)) (ending : Ending) → EndsWithoutMemory before after ending
+    → EndsReplay input before after ending
+replay_without_memory input before after ending early = subst (EndsReplay input before after) (sym early.1) (record {
+  too_long = λ h. absurd cc;
+  refused = λ line h. absurd cc;
+  front = λ h. absurd cc;
+  memory = λ h. inl early.2;
+  nothing = λ written memory. early.2;
+  of_one = (λ h. cc, λ h. cc);
+})
+
+pub request_without_memory : (request : Request) (input before after : Option (List ℕ)) (ending : Ending) → EndsWithoutMemory before after ending
+    → EndsRequest request input before after ending
+request_without_memory (One options) input before after ending early = one_without_memory options input before after ending early
+request_without_memory Replay input before after ending early = replay_without_memory input before after ending early
+
+-- ---- words that ask for something
 
 pub or_more : (kinds next : Kinds) (e : Error) → HasKind kinds e → HasKind (or_else kinds next) e
 or_more [] next e (inl memory) = inl memory
@@ -48,7 +66,7 @@ no_request : IsRequest ValueValidation → ⊥
 no_request (inl h) = cc
 no_request (inr h) = cc
 
--- words that give options ask for no text
+-- words that are taken ask for no text
 pub asks_not : (words : List Text) → fault_of fleet_app words ≡ [] → AsksForText words → ⊥
 asks_not words none asks = no_request (asks ValueValidation (subst (λ kinds. IsAmong ValueValidation (or_else kinds (ValueValidation ∷ []))) (sym none) (inl refl)))
 
@@ -59,8 +77,8 @@ record AreSame (a b : OneOptions) : Type 0 where
   now : ms_of a.now ≡ ms_of b.now
   from : a.from.now ≡ b.from.now
 
-are_same : (words : List Text) (a b : OneOptions) → IsGiven (given_rows words) a → IsGiven (given_rows words) b → AreSame a b
-are_same words a b ga gb = record {
+are_same : (rows : List Row) (a b : OneOptions) → IsGiven rows a → IsGiven rows b → AreSame a b
+are_same rows a b ga gb = record {
   node = sym ga.node.1 ∙ gb.node.1;
   now = sym ga.now.1 ∙ gb.now.1;
   from = ga.from ∙ sym gb.from;
@@ -82,7 +100,7 @@ same_prints : (a b : OneOptions) (input before after : Option (List ℕ)) → Ar
 same_prints a b input before after same h = if_some input _ _ h (λ bytes p. (p.0, same_printed a b bytes p.0 same p.1, p.2))
 
 same_front : (a b : OneOptions) (input before after : Option (List ℕ)) → AreSame a b → PrintsFront a input before after → PrintsFront b input before after
-same_front a b input before after same h = if_some input _ _ h (λ bytes p. (p.0, same_printed a b bytes p.0 same p.1, p.2, p.3, p.4, p.5))
+same_front a b input before after same h = if_some input _ _ h (λ bytes p. (p.0, same_printed a b bytes p.0 same p.1, p.2))
 
 same_address : (a b : OneOptions) → AreSame a b → IsAddressText a.from.now → IsAddressText b.from.now
 same_address a b same h = subst IsAddressText same.from h
@@ -103,7 +121,11 @@ same_end a b input before after (Failed fault told) same h = record {
 }
 same_end a b input before after Refused same h = h
 
-pub end_of_given : (words : List Text) (a b : OneOptions) (input before after : Option (List ℕ)) (ending : Ending)
-    → IsGiven (given_rows words) a → IsGiven (given_rows words) b
-    → EndsOne a input before after ending → EndsOne b input before after ending
-end_of_given words a b input before after ending ga gb = same_end a b input before after ending (are_same words a b ga gb)
+-- the same words ask for one thing
+pub end_of_asked : (command : Option (Text × List Row)) (a b : Request) (input before after : Option (List ℕ)) (ending : Ending)
+    → IsAsked command a → IsAsked command b
+    → EndsRequest a input before after ending → EndsRequest b input before after ending
+end_of_asked command (One a) (One b) input before after ending (other, ga) (_, gb) h = same_end a b input before after ending (are_same (option_rows command) a b ga gb) h
+end_of_asked command (One a) Replay input before after ending (other, ga) replays h = absurd (other replays)
+end_of_asked command Replay (One b) input before after ending replays (other, gb) h = absurd (other replays)
+end_of_asked command Replay Replay input before after ending replays again h = h

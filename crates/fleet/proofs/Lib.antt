@@ -1,4 +1,5 @@
-pub mod LineLemmas
+pub mod InputLemmas
 pub mod OneLemmas
 pub mod NodeLemmas
 pub mod EndingLemmas
+pub mod ReplayLemmas

@@ -1,8 +1,8 @@
 -- The faults of `one`, each at its place.
 use Rattle.std.proofs.Common.{◌≡◌, ℕ, ◌⊎◌, List, Option, Some, None, Result, Ok, Err, sym, ◌∙◌, inl, inr}
 use Rattle.std.specs.Prelude.{IfSome, OnErr, OnOk, IsOkUnless}
-use Rattle.fleet.specs.declared.fault.OneFault.{OneFault}
-use Rattle.fleet.specs.declared.fault.OneFault.TheVariants.{AddressRefused, ReadFailed, TooLong, HexRefused, WriteFailed, NoMemory}
+use Rattle.fleet.specs.declared.fault.Fault.{Fault}
+use Rattle.fleet.specs.declared.fault.Fault.TheVariants.{AddressRefused, ReadFailed, TooLong, HexRefused, WriteFailed, NoMemory}
 use Rattle.fleet.specs.One.{IsAddressText}
 
 -- what holds of each value holds of the one that is there
@@ -10,39 +10,39 @@ pub if_some : {T : Type 0} (o : Option T) (P Q : T → Type 0) → IfSome o P �
 if_some (Some t) P Q h f = f t h
 if_some None P Q h f = tt
 
-abbrev failed : OneFault → Result Unit OneFault
+abbrev failed : Fault → Result Unit Fault
 failed e = Err e
 
-error_is : (a b : OneFault) → failed a ≡ failed b → a ≡ b
+error_is : (a b : Fault) → failed a ≡ failed b → a ≡ b
 error_is a b h = cc
 
 -- another fault comes, of a good address
-pub another_fault : (r : Result Unit OneFault) (e : OneFault) (text : List ℕ) → IsAddressText text → r ≡ Err e → (e ≡ AddressRefused → ⊥)
+pub another_fault : (r : Result Unit Fault) (e : Fault) (text : List ℕ) → IsAddressText text → r ≡ Err e → (e ≡ AddressRefused → ⊥)
     → (r ≡ Err AddressRefused → IsAddressText text → ⊥) × ((IsAddressText text → ⊥) → r ≡ Err AddressRefused)
 another_fault r e text address is other = (λ refused _. other (error_is e AddressRefused (sym is ∙ refused)), λ none. absurd (none address))
 
-pub no_fault : (r : Result Unit OneFault) (text : List ℕ) → IsAddressText text → (r ≡ Err AddressRefused → ⊥)
+pub no_fault : (r : Result Unit Fault) (text : List ℕ) → IsAddressText text → (r ≡ Err AddressRefused → ⊥)
     → (r ≡ Err AddressRefused → IsAddressText text → ⊥) × ((IsAddressText text → ⊥) → r ≡ Err AddressRefused)
 no_fault r text address other = (λ refused _. other refused, λ none. absurd (none address))
 
-pub of_line : (e : OneFault) → (e ≡ ReadFailed) ⊎ ((e ≡ TooLong) ⊎ (e ≡ NoMemory)) → e ≡ AddressRefused → ⊥
+pub of_line : (e : Fault) → (e ≡ ReadFailed) ⊎ ((e ≡ TooLong) ⊎ (e ≡ NoMemory)) → e ≡ AddressRefused → ⊥
 of_line e (inl h) k = cc
 of_line e (inr (inl h)) k = cc
 of_line e (inr (inr h)) k = cc
 
-pub of_hex : (e : OneFault) → (e ≡ HexRefused) ⊎ (e ≡ NoMemory) → e ≡ AddressRefused → ⊥
+pub of_hex : (e : Fault) → (e ≡ HexRefused) ⊎ (e ≡ NoMemory) → e ≡ AddressRefused → ⊥
 of_hex e (inl h) k = cc
 of_hex e (inr h) k = cc
 
-pub of_memory : (e : OneFault) → e ≡ NoMemory → e ≡ AddressRefused → ⊥
+pub of_memory : (e : Fault) → e ≡ NoMemory → e ≡ AddressRefused → ⊥
 of_memory e h k = cc
 
-pub of_writing : (r : Result Unit OneFault) → IsOkUnless r WriteFailed → r ≡ Err AddressRefused → ⊥
+pub of_writing : (r : Result Unit Fault) → IsOkUnless r WriteFailed → r ≡ Err AddressRefused → ⊥
 of_writing (Ok x) h k = cc
 of_writing (Err e) h k = let same = error_is e AddressRefused k in cc
 
 -- a writer that failed may have taken a front of the text
-pub failed_front : (r : Result Unit OneFault) (e : OneFault) (P : Type 0) → OnErr r P → r ≡ Err e → P
+pub failed_front : (r : Result Unit Fault) (e : Fault) (P : Type 0) → OnErr r P → r ≡ Err e → P
 failed_front (Ok x) e P h k = absurd cc
 failed_front (Err f) e P h k = h
 

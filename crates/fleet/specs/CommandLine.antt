@@ -1,5 +1,5 @@
--- The command line of the program: the command `one` with its three options, in the words of `clap`.
-use Rattle.std.specs.Prelude.{◌≡◌, ◌⊎◌, ◌<◌, ◌^◌, ℕ, List, [], ◌∷◌, Option, Some, None, codes, unwrap_or, true}
+-- The command line of the program, in the words of `clap`: the command `one` with its three options, and `replay`.
+use Rattle.std.specs.Prelude.{◌≡◌, ◌⊎◌, ◌<◌, ◌^◌, ℕ, List, [], ◌∷◌, Option, Some, None, option_map, codes, unwrap_or, true}
 use Rattle.std.specs.Str.Parse.{IsNumeral, digits_value}
 use Rattle.clap.specs.Kinds.{IsAmong, Kinds, or_else}
 use Rattle.clap.specs.Words.{App, Row, Rule, Text, fault_of, first_of, new_app, new_rule, subcommand_of, with_rule, with_subcommand}
@@ -7,6 +7,8 @@ use Rattle.clap.specs.declared.error.kind.ErrorKind.{ErrorKind}
 use Rattle.clap.specs.declared.error.kind.ErrorKind.TheVariants.{DisplayHelp, DisplayVersion, ValueValidation}
 use Rattle.lw_stamp.specs.Moment.{ms_of}
 use Rattle.fleet.specs.declared.command.OneOptions.{OneOptions}
+use Rattle.fleet.specs.declared.command.Request.{Request}
+use Rattle.fleet.specs.declared.command.Request.TheVariants.{One, Replay}
 
 -- an option that is given by its long name
 abbrev pub long_option : Text → Rule
@@ -22,8 +24,11 @@ one_app = with_rule
 abbrev pub with_version : App → App
 with_version app = record app { top = record app.top { has_version = true } }
 
+unfoldable pub replay_app : App
+replay_app = new_app (codes "replay")
+
 unfoldable pub fleet_app : App
-fleet_app = with_subcommand (with_version (new_app (codes "fleet"))) one_app.top
+fleet_app = with_subcommand (with_subcommand (with_version (new_app (codes "fleet"))) one_app.top) replay_app.top
 
 -- what was given for the options of a command, and nothing where there was no command
 abbrev pub option_rows : Option (Text × List Row) → List Row
@@ -45,15 +50,20 @@ pub record IsGiven (rows : List Row) (options : OneOptions) : Type 0 where
   pub now : Writes (given (codes "now") (codes "0") rows) (ms_of options.now)
   pub from : options.from.now ≡ given (codes "from") (codes "127.0.0.1:5683") rows
 
--- what the words of a command line give
-abbrev pub given_rows : List Text → List Row
-given_rows words = option_rows (subcommand_of fleet_app words)
+-- the command is `replay`
+abbrev pub NamesReplay : Option (Text × List Row) → Type 0
+NamesReplay command = option_map (λ c. c.0) command ≡ Some (codes "replay")
 
--- the words give these options of `one`
-abbrev pub GivesOptions : List Text → OneOptions → Type 0
-GivesOptions words options = (fault_of fleet_app words ≡ []) × IsGiven (given_rows words) options
+-- what a command asks for with what is given for its options; no command is `one`
+abbrev pub IsAsked : Option (Text × List Row) → Request → Type 0
+IsAsked command (One options) = (¬ NamesReplay command) × IsGiven (option_rows command) options
+IsAsked command Replay = NamesReplay command
 
--- the kinds of error that the words may have where they give no options: those that `clap` finds, or else a number
+-- the words of a command line are taken, and ask for this
+abbrev pub Asks : List Text → Request → Type 0
+Asks words request = (fault_of fleet_app words ≡ []) × IsAsked (subcommand_of fleet_app words) request
+
+-- the kinds of error that the words may have where they ask for nothing: those that `clap` finds, or else a number
 -- out of its range
 abbrev pub kinds_of_words : List Text → Kinds
 kinds_of_words words = or_else (fault_of fleet_app words) (ValueValidation ∷ [])
@@ -66,7 +76,7 @@ IsRequest kind = (kind ≡ DisplayHelp) ⊎ (kind ≡ DisplayVersion)
 abbrev pub AsksForText : List Text → Type 0
 AsksForText words = (kind : ErrorKind) → IsAmong kind (kinds_of_words words) → IsRequest kind
 
--- the words give no options, and ask for no text
+-- the words ask for nothing, and for no text
 pub record IsMistaken (words : List Text) : Type 0 where
-  pub no_options : (options : OneOptions) → ¬ GivesOptions words options
+  pub nothing : (request : Request) → ¬ Asks words request
   pub no_text : (kind : ErrorKind) → IsAmong kind (kinds_of_words words) → ¬ IsRequest kind

@@ -1,5 +1,5 @@
 -- What the program prints of one datagram that a new node takes.
-use Rattle.std.specs.Prelude.{◌≡◌, ◌≤◌, ◌++◌, ℕ, List, [], length, Option, None, IfSome, Ok}
+use Rattle.std.specs.Prelude.{◌≡◌, ◌≤◌, ℕ, List, [], length, Option, None, IfSome, Ok}
 use Rattle.std.specs.Io.KnownBytes.{Appends}
 use Rattle.std.specs.Option.{option_to_list}
 use Rattle.hex.specs.Hex.{decode_of}
@@ -14,6 +14,7 @@ use Rattle.lw_node.specs.Node.{NodeContent, fresh}
 use Rattle.lw_print.specs.Answer.{answer_text}
 use Rattle.fleet.specs.declared.command.OneOptions.{OneOptions}
 use Rattle.fleet.specs.Line.{line_of, longest_line}
+use Rattle.fleet.specs.Output.{AppendsFront}
 
 -- the text of an address
 abbrev pub IsAddressText : List ℕ → Type 0
@@ -47,4 +48,4 @@ Prints options input before after =
 -- a front of it is appended
 abbrev pub PrintsFront : OneOptions → Option (List ℕ) → Option (List ℕ) → Option (List ℕ) → Type 0
 PrintsFront options input before after = IfSome input (λ bytes. (text : List ℕ) × IsPrinted options bytes text
-    × (front : List ℕ) × (back : List ℕ) × (text ≡ front ++ back) × Appends before after front)
+    × AppendsFront before after text)

@@ -1,19 +1,27 @@
-ghost use Rattle.std.specs.Prelude.{◌≡◌, ◌≢◌, ◌⊎◌, ◌<◌, ◌^◌, [], Some, IfOk, OnOk, IfErr, OnErr, IfSome, IfNone, map, true, false};
+ghost use Rattle.std.specs.Prelude.{◌≡◌, ◌≢◌, ◌⊎◌, ◌↔◌, ◌<◌, ◌^◌, [], Some, IfOk, OnOk, IfErr, OnErr, IfSome, IfNone, map, IsTrue, true, false};
 ghost use Rattle.std.specs.Option.{SomeIff};
 ghost use Rattle.std.specs.Str.Parse.{IsNumeral, digits_value};
 ghost use Rattle.clap.specs.declared.builder.texts.Texts.TheVariants.{One};
-ghost use Rattle.clap.specs.Words.{app_of, rule_of, kind_of, fault_of, subcommand_rows_of, HasKind};
+ghost use Rattle.clap.specs.Words.{app_of, rule_of, kind_of, fault_of, subcommand_of, subcommand_rows_of, HasKind};
 ghost use Rattle.clap.specs.declared.builder.command.Command.TheViews.{out-Command as fields_of};
-ghost use Rattle.fleet.specs.CommandLine.{fleet_app, one_app, given, given_rows, kinds_of_words, long_option, option_rows, IsGiven, Writes};
+ghost use Rattle.fleet.specs.CommandLine.{fleet_app, one_app, replay_app, given, kinds_of_words, long_option, option_rows, IsAsked, IsGiven, NamesReplay, Writes};
 ghost use Rattle.lw_stamp.specs.Moment.{ms_of};
 ghost use Rattle.lw_stamp.specs.declared.moment.Moment.{Moment as Moments};
 ghost use Rattle.fleet.specs.declared.command.OneOptions.{OneOptions as Options};
+ghost use Rattle.fleet.specs.declared.command.Request.{Request as Requests};
 
 use clap::error::ErrorKind;
 use clap::{Arg, ArgMatches, Command, Error};
 use lw_stamp::Moment;
 use std::alloc::{AllocError, Global};
 use std::convert::AsStr;
+
+/// What the words of a command line ask for.
+#[derive(Clone, Copy, Debug, PartialEq, Eq)]
+pub enum Request<'a> {
+    One(OneOptions<'a>),
+    Replay,
+}
 
 /// The options of `fleet one`.
 #[derive(Clone, Copy, Debug, PartialEq, Eq)]
@@ -48,18 +56,18 @@ impl BadNumber {
 }
 
 /// Reads the words of the command line, the program's name first. No word behind it means `one`.
-pub fn read_options<'a, S: AsStr>(alloc: Global, words: &'a [S]) -> Result<OneOptions<'a>, Error>
-    ensures given { IfOk result (IsGiven (given_rows (map S.text words.entry.now))) }
+pub fn read_request<'a, S: AsStr>(alloc: Global, words: &'a [S]) -> Result<Request<'a>, Error>
+    ensures asked { IfOk result (IsAsked (subcommand_of fleet_app (map S.text words.entry.now))) }
     ensures accepted { OnOk result (fault_of fleet_app (map S.text words.entry.now) ≡ []) }
     ensures refused { IfErr result (λ e. fault_of fleet_app (map S.text words.entry.now) ≡ []
-        → (o : Options) → IsGiven (given_rows (map S.text words.entry.now)) o
+        → (r : Requests) → IsAsked (subcommand_of fleet_app (map S.text words.entry.now)) r
         → kind_of e ≡ ErrorKind.OutOfMemory) }
     ensures kinds { IfErr result (HasKind (kinds_of_words (map S.text words.entry.now))) }
 {
     let mut command = fleet_command(alloc)?;
     let matches = command.try_get_matches_from_mut(words)?;
-    match options_in(&matches) {
-        Ok(options) => Ok(options),
+    match request_in(&matches) {
+        Ok(request) => Ok(request),
         Err(bad) => Err(number_refused(alloc, bad)?),
     }
 }
@@ -85,7 +93,8 @@ fn fleet_command<'a>(alloc: Global) -> Result<Command<'a>, AllocError>
     Command::new(alloc, "fleet")
         .version(VERSION)
         .about("The registration store behind LwM2M servers; without a command, `fleet one`")
-        .subcommand(one_command(alloc)?)
+        .subcommand(one_command(alloc)?)?
+        .subcommand(replay_command(alloc))
 }
 
 fn one_command<'a>(alloc: Global) -> Result<Command<'a>, AllocError>
@@ -116,6 +125,15 @@ fn one_command<'a>(alloc: Global) -> Result<Command<'a>, AllocError>
         ))
 }
 
+fn replay_command<'a>(alloc: Global) -> Command<'a>
+    ensures app { app_of result ≡ replay_app }
+    ensures local { (fields_of result).has_globals ≡ false }
+{
+    Command::new(alloc, "replay").about(
+        "Runs a script of several nodes, read from standard input, and prints a line for each event",
+    )
+}
+
 fn option<'a>(alloc: Global, name: &'a str, value: &'a str, help: &'a str) -> Arg<'a>
     ensures rule { rule_of result ≡ long_option name.entry.now }
     ensures local { result.global ≡ false }
@@ -126,6 +144,25 @@ fn option<'a>(alloc: Global, name: &'a str, value: &'a str, help: &'a str) -> Ar
         .long(name)
         .value_name(value)
         .help(help)
+}
+
+fn request_in<'a>(matches: &ArgMatches<'a>) -> Result<Request<'a>, BadNumber>
+    ensures asked { IfOk result (IsAsked (subcommand_rows_of matches.now)) }
+    ensures none { OnErr result ((r : Requests) → ¬ IsAsked (subcommand_rows_of matches.now) r) }
+{
+    if names_replay(matches) {
+        return Ok(Request::Replay);
+    }
+    Ok(Request::One(options_in(matches)?))
+}
+
+fn names_replay(matches: &ArgMatches<'_>) -> bool
+    ensures { IsTrue result ↔ NamesReplay (subcommand_rows_of matches.now) }
+{
+    match matches.subcommand_name() {
+        Some(name) => name == "replay",
+        None => false,
+    }
 }
 
 fn options_in<'a>(matches: &ArgMatches<'a>) -> Result<OneOptions<'a>, BadNumber>

@@ -2,19 +2,19 @@ ghost use Rattle.std.specs.Prelude.{◌≡◌, ◌⊎◌, ◌↔◌, IfOk, IfErr
 ghost use Rattle.std.specs.List.{AllPass};
 ghost use Rattle.hex.specs.Hex.{decode_of, is_hex_digit};
 
-use crate::fault::OneFault;
+use crate::fault::Fault;
 use std::alloc::Global;
 
 /// The bytes that a line of hex digits spells, in either case.
-pub fn bytes_of_hex(alloc: Global, line: &[u8]) -> Result<Vec<u8>, OneFault>
+pub fn bytes_of_hex(alloc: Global, line: &[u8]) -> Result<Vec<u8>, Fault>
     ensures bytes { IfOk result (λ bytes. decode_of line.now ≡ Ok bytes.items) }
-    ensures refused { (result ≡ Err OneFault.HexRefused) ↔ IsErr (decode_of line.now) }
-    ensures faults { IfErr result (λ e. (e ≡ OneFault.HexRefused) ⊎ (e ≡ OneFault.NoMemory)) }
+    ensures refused { (result ≡ Err Fault.HexRefused) ↔ IsErr (decode_of line.now) }
+    ensures faults { IfErr result (λ e. (e ≡ Fault.HexRefused) ⊎ (e ≡ Fault.NoMemory)) }
 {
     if !is_hex(line) {
-        return Err(OneFault::HexRefused);
+        return Err(Fault::HexRefused);
     }
-    hex::decode(alloc, line).map_err(|_| OneFault::NoMemory)
+    hex::decode(alloc, line).map_err(|_| Fault::NoMemory)
 }
 
 fn is_hex(line: &[u8]) -> bool

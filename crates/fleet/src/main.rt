@@ -1,13 +1,15 @@
-//! The program `fleet`: `fleet one` takes one datagram at a new node and prints what the node answers.
+//! The program `fleet`: `fleet one` takes one datagram at a new node and prints what the node answers; `fleet replay`
+//! runs a script of several nodes and prints a line of what comes of each event.
 #![tactic(auto)]
 
 mod command;
 mod fault;
 mod hex_line;
-mod line;
+mod input;
 mod one;
 mod output;
 mod program;
+mod replay;
 
 use program::program;
 use std::process::ExitCode;

@@ -6,9 +6,9 @@ ghost use Rattle.fleet.specs.Line.{line_of, longest_line};
 ghost use Rattle.fleet.specs.One.{IsAddressText, IsAnswered, Prints, PrintsFront};
 
 use crate::command::OneOptions;
-use crate::fault::OneFault;
+use crate::fault::Fault;
 use crate::hex_line::bytes_of_hex;
-use crate::line::read_line;
+use crate::input::read_line;
 use crate::output::write_text;
 use lw_node::{Node, Taken};
 use lw_print::answer_text;
@@ -23,24 +23,24 @@ pub fn one<R: Read, W: Write>(
     options: &OneOptions<'_>,
     reader: &mut R,
     writer: &mut W,
-) -> Result<(), OneFault>
+) -> Result<(), Fault>
     // What is printed is the answer of a new node to the datagram that the first line spells.
     ensures printed { OnOk result (Prints options.entry.now (R.remaining reader.old) (W.contents writer.old) (W.contents writer.new)) }
     // A writer that fails may have taken a front of it.
-    ensures front { result ≡ Err OneFault.WriteFailed
+    ensures front { result ≡ Err Fault.WriteFailed
         → PrintsFront options.entry.now (R.remaining reader.old) (W.contents writer.old) (W.contents writer.new) }
     // Any other fault comes before the first byte is written.
-    ensures nothing { IfErr result (λ e. e ≢ OneFault.WriteFailed → Keeps (W.contents writer.old) (W.contents writer.new)) }
+    ensures nothing { IfErr result (λ e. e ≢ Fault.WriteFailed → Keeps (W.contents writer.old) (W.contents writer.new)) }
 
-    ensures address_refused { (result ≡ Err OneFault.AddressRefused) ↔ (¬ IsAddressText options.entry.now.from.now) }
-    ensures unread { result ≡ Err OneFault.AddressRefused → reader.new ≡ reader.old }
-    ensures hex_refused { result ≡ Err OneFault.HexRefused
+    ensures address_refused { (result ≡ Err Fault.AddressRefused) ↔ (¬ IsAddressText options.entry.now.from.now) }
+    ensures unread { result ≡ Err Fault.AddressRefused → reader.new ≡ reader.old }
+    ensures hex_refused { result ≡ Err Fault.HexRefused
         → IfSome (R.remaining reader.old) (λ bytes. IsErr (decode_of (line_of bytes))) }
-    ensures too_long { result ≡ Err OneFault.TooLong
+    ensures too_long { result ≡ Err Fault.TooLong
         → IfSome (R.remaining reader.old) (λ bytes. longest_line < length (line_of bytes)) }
 {
     let Some(source) = Addr::read(options.from) else {
-        return Err(OneFault::AddressRefused);
+        return Err(Fault::AddressRefused);
     };
     let line = read_line(alloc, reader)?;
     let datagram = bytes_of_hex(alloc, &line)?;

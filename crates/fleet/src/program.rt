@@ -5,12 +5,13 @@ ghost use Rattle.clap.specs.Words.{kind_of};
 ghost use Rattle.clap.specs.declared.error.kind.ErrorKind.TheVariants.{OutOfMemory};
 ghost use Rattle.fleet.specs.CommandLine.{IsRequest};
 ghost use Rattle.fleet.specs.One.{IsAddressText};
-ghost use Rattle.fleet.specs.Program.{status_of, EndsOne, EndsRefused, EndsShown, EndsWithoutMemory, IsEnd, IsRefusal, Reads, Tells};
+ghost use Rattle.fleet.specs.Program.{status_of, EndsOne, EndsRefused, EndsReplay, EndsShown, EndsWithoutMemory, IsEnd, IsRefusal, Reads, Tells};
 
-use crate::command::{OneOptions, not_utf8, read_options};
-use crate::fault::OneFault;
+use crate::command::{OneOptions, Request, not_utf8, read_request};
+use crate::fault::Fault;
 use crate::one::one;
 use crate::output::write_text;
+use crate::replay::replay;
 use clap::Error;
 use clap::error::ErrorKind;
 use lw_stamp::NoMemory;
@@ -24,7 +25,7 @@ pub enum Ending {
     /// All that was asked for is written.
     Done,
     /// A fault came; it is told where standard error took its whole line.
-    Failed { fault: OneFault, told: bool },
+    Failed { fault: Fault, told: bool },
     /// The command line is refused, with a text on standard error.
     Refused,
 }
@@ -66,9 +67,9 @@ pub fn program<S: AsStr, R: Read, W: Write, E: Write>(
         Ok(words) => run(alloc, words, reader, writer, errors),
         Err(error) if error.kind() == io::ErrorKind::InvalidData => match not_utf8(alloc) {
             Ok(error) => refuse(alloc, &error, errors),
-            Err(_) => fail(errors, OneFault::NoMemory),
+            Err(_) => fail(errors, Fault::NoMemory),
         },
-        Err(_) => fail(errors, OneFault::NoMemory),
+        Err(_) => fail(errors, Fault::NoMemory),
     }
 }
 
@@ -84,8 +85,9 @@ fn run<S: AsStr, R: Read, W: Write, E: Write>(
     ensures told { Tells result (E.contents errors.old) (E.contents errors.new) }
     ensures unread { ¬ Reads (map S.text words.now) → reader.new ≡ reader.old }
 {
-    match read_options(alloc, words) {
-        Ok(options) => run_one(alloc, &options, reader, writer, errors),
+    match read_request(alloc, words) {
+        Ok(Request::One(options)) => run_one(alloc, &options, reader, writer, errors),
+        Ok(Request::Replay) => run_replay(alloc, reader, writer, errors),
         Err(error) => explain(alloc, &error, writer, errors),
     }
 }
@@ -108,17 +110,32 @@ fn run_one<R: Read, W: Write, E: Write>(
     }
 }
 
+fn run_replay<R: Read, W: Write, E: Write>(
+    alloc: Global,
+    reader: &mut R,
+    writer: &mut W,
+    errors: &mut E,
+) -> Ending
+    ensures end { EndsReplay (R.remaining reader.old) (W.contents writer.old) (W.contents writer.new) result }
+    ensures told { Tells result (E.contents errors.old) (E.contents errors.new) }
+{
+    match replay(alloc, reader, writer) {
+        Ok(()) => Ending::Done,
+        Err(fault) => fail(errors, fault),
+    }
+}
+
 /// Ends the run with the line of a fault. Where standard error fails, the ending is the same.
-fn fail<E: Write>(errors: &mut E, fault: OneFault) -> Ending
+fn fail<E: Write>(errors: &mut E, fault: Fault) -> Ending
     ensures ending { (told : Bool) × (result ≡ Ending.Failed fault told) }
     ensures told { Tells result (E.contents errors.old) (E.contents errors.new) }
 {
-    let told = write_text(errors, fault.line().as_bytes()).is_ok();
+    let told = fault.tell(errors);
     Ending::Failed { fault, told }
 }
 
 #[tactic(auto, using(crate::proofs::EndingLemmas::refused_early))]
-/// Ends the run where the words give no options: help and the version are printed.
+/// Ends the run where the words ask for nothing: help and the version are printed.
 fn explain<W: Write, E: Write>(
     alloc: Global,
     error: &Error,
@@ -134,7 +151,7 @@ fn explain<W: Write, E: Write>(
     ensures told { Tells result (E.contents errors.old) (E.contents errors.new) }
 {
     match error.kind() {
-        ErrorKind::OutOfMemory => fail(errors, OneFault::NoMemory),
+        ErrorKind::OutOfMemory => fail(errors, Fault::NoMemory),
         ErrorKind::DisplayHelp | ErrorKind::DisplayVersion => show(alloc, error, writer, errors),
         _ => refuse(alloc, error, errors),
     }
@@ -145,7 +162,7 @@ fn show<W: Write, E: Write>(alloc: Global, error: &Error, writer: &mut W, errors
     ensures told { Tells result (E.contents errors.old) (E.contents errors.new) }
 {
     let Ok(text) = text_of(alloc, error) else {
-        return fail(errors, OneFault::NoMemory);
+        return fail(errors, Fault::NoMemory);
     };
     match write_text(writer, text.as_bytes()) {
         Ok(()) => Ending::Done,
@@ -158,7 +175,7 @@ fn refuse<E: Write>(alloc: Global, error: &Error, errors: &mut E) -> Ending
     ensures told { Tells result (E.contents errors.old) (E.contents errors.new) }
 {
     let Ok(text) = text_of(alloc, error) else {
-        return fail(errors, OneFault::NoMemory);
+        return fail(errors, Fault::NoMemory);
     };
     // The status tells of the refusal, also where standard error fails.
     let _written = write_text(errors, text.as_bytes());

@@ -1,7 +1,7 @@
 use crate::command::OneOptions;
-use crate::fault::OneFault;
+use crate::fault::Fault;
 use crate::hex_line::bytes_of_hex;
-use crate::line::read_line;
+use crate::input::read_line;
 use crate::one::one;
 use crate::output::write_text;
 use lw_stamp::Moment;
@@ -11,7 +11,10 @@ use std::str;
 use std::test::Fail;
 
 mod command_line;
+mod gossip;
 mod program;
+mod replay;
+mod scripts;
 
 /// Gives its bytes a few at a time, and then ends or fails. Every other read is interrupted.
 #[derive(Drop)]
@@ -117,17 +120,17 @@ fn lines_end_at_the_first_line_feed(rt: HostRuntime) -> Result<(), Fail> {
 fn a_read_may_fail_behind_the_line_alone(rt: HostRuntime) -> Result<(), Fail> {
     let mut reader = FewBytes::new(b"4000", 1, true);
     let read = read_line(rt.alloc(), &mut reader).map(|line| line.len());
-    assert_eq!(rt; read, Err(OneFault::ReadFailed));
+    assert_eq!(rt; read, Err(Fault::ReadFailed));
     let mut reader = FewBytes::new(b"4000\n", 1, true);
     assert_eq!(rt; read_line(rt.alloc(), &mut reader)?.len(), 4);
     Ok(())
 }
 
 /// How many bytes are read of a line of so many, and of one with a line feed behind it.
-fn lengths_read(alloc: Global, length: usize) -> Result<(usize, usize), OneFault> {
-    let mut input = vec![in alloc; b'a'; length].map_err(|_| OneFault::NoMemory)?;
+fn lengths_read(alloc: Global, length: usize) -> Result<(usize, usize), Fault> {
+    let mut input = vec![in alloc; b'a'; length].map_err(|_| Fault::NoMemory)?;
     let open = read_line(alloc, &mut input.as_slice())?.len();
-    input.push(b'\n').map_err(|_| OneFault::NoMemory)?;
+    input.push(b'\n').map_err(|_| Fault::NoMemory)?;
     let ended = read_line(alloc, &mut input.as_slice())?.len();
     Ok((open, ended))
 }
@@ -137,15 +140,15 @@ fn lines_up_to_the_longest(rt: HostRuntime) {
     for length in [0, 1, 4095, 4096, 4097, 8192, 100_000, 1_048_575, 1_048_576] {
         assert_eq!(rt; lengths_read(rt.alloc(), length), Ok((length, length)));
     }
-    assert_eq!(rt; lengths_read(rt.alloc(), 1_048_577), Err(OneFault::TooLong));
+    assert_eq!(rt; lengths_read(rt.alloc(), 1_048_577), Err(Fault::TooLong));
 }
 
 #[test]
 fn writes_go_on_until_one_takes_nothing(rt: HostRuntime) {
     for (room, fails, result) in [
         (6, false, Ok(())),
-        (3, false, Err(OneFault::WriteFailed)),
-        (3, true, Err(OneFault::WriteFailed)),
+        (3, false, Err(Fault::WriteFailed)),
+        (3, true, Err(Fault::WriteFailed)),
     ] {
         for most in [1, 2, 99] {
             let mut writer = FewWrites::new(rt.alloc(), most, room, fails);
@@ -158,10 +161,7 @@ fn writes_go_on_until_one_takes_nothing(rt: HostRuntime) {
 
 #[test]
 fn a_written_text_is_flushed(rt: HostRuntime) {
-    for (flush_fails, result, flushed) in [
-        (false, Ok(()), 6),
-        (true, Err(OneFault::WriteFailed), 0),
-    ] {
+    for (flush_fails, result, flushed) in [(false, Ok(()), 6), (true, Err(Fault::WriteFailed), 0)] {
         let mut writer = FewWrites::new(rt.alloc(), 4, 99, false);
         writer.flush_fails = flush_fails;
         assert_eq!(rt; write_text(&mut writer, b"fleet\n"), result);
@@ -184,7 +184,7 @@ fn hex_lines(rt: HostRuntime) -> Result<(), Fail> {
     let refused: [&[u8]; 4] = [b"0", b"00\r", b"0 0 ", b"0g"];
     for line in refused {
         let bytes = bytes_of_hex(rt.alloc(), line).map(|bytes| bytes.len());
-        assert_eq!(rt; bytes, Err(OneFault::HexRefused), "at {line:?}");
+        assert_eq!(rt; bytes, Err(Fault::HexRefused), "at {line:?}");
     }
     Ok(())
 }
@@ -192,14 +192,32 @@ fn hex_lines(rt: HostRuntime) -> Result<(), Fail> {
 #[test]
 fn fault_lines(rt: HostRuntime) {
     for (fault, line) in [
-        (OneFault::AddressRefused, "address refused\n"),
-        (OneFault::ReadFailed, "read failed\n"),
-        (OneFault::TooLong, "script too long\n"),
-        (OneFault::HexRefused, "hex refused\n"),
-        (OneFault::WriteFailed, "write failed\n"),
-        (OneFault::NoMemory, "no memory\n"),
+        (Fault::AddressRefused, "address refused\n"),
+        (Fault::ReadFailed, "read failed\n"),
+        (Fault::TooLong, "script too long\n"),
+        (Fault::HexRefused, "hex refused\n"),
+        (Fault::LineRefused { line: 1 }, "line 1 refused\n"),
+        (
+            Fault::LineRefused { line: 1_048_577 },
+            "line 1048577 refused\n",
+        ),
+        (Fault::WriteFailed, "write failed\n"),
+        (Fault::NoMemory, "no memory\n"),
     ] {
-        assert_eq!(rt; fault.line(), line);
+        let mut errors = Vec::new(rt.alloc());
+        assert!(rt; fault.tell(&mut errors));
+        assert_eq!(rt; errors.as_slice(), line.as_bytes());
+    }
+}
+
+#[test]
+fn a_fault_line_in_part(rt: HostRuntime) {
+    let fault = Fault::LineRefused { line: 1024 };
+    for room in 0..18 {
+        let mut errors = FewWrites::new(rt.alloc(), 3, room, false);
+        assert!(rt; !fault.tell(&mut errors));
+        assert_eq!(rt; errors.taken.len(), room);
+        assert!(rt; b"line 1024 refused\n".starts_with(errors.taken.as_slice()));
     }
 }
 
@@ -224,7 +242,9 @@ fn told(alloc: Global, input: &[u8]) -> Result<String, Fail> {
     let result = one(alloc, &OPTIONS, &mut reader, &mut writer);
     let mut text = String::from_str(alloc, str::from_utf8(&writer)?)?;
     if let Err(fault) = result {
-        text.push_str(fault.line())?;
+        let mut line = Vec::new(alloc);
+        fault.tell(&mut line);
+        text.push_str(str::from_utf8(&line)?)?;
     }
     Ok(text)
 }
@@ -293,7 +313,7 @@ fn a_refused_address_reads_nothing(rt: HostRuntime) {
         let mut reader = FewBytes::new(b"4", 1, true);
         let mut writer = Vec::new(rt.alloc());
         let result = one(rt.alloc(), &options, &mut reader, &mut writer);
-        assert_eq!(rt; result, Err(OneFault::AddressRefused));
+        assert_eq!(rt; result, Err(Fault::AddressRefused));
         assert_eq!(rt; reader.rest.len(), 1);
         assert_eq!(rt; writer.len(), 0);
     }
@@ -304,7 +324,7 @@ fn a_reader_that_fails_is_told(rt: HostRuntime) {
     let mut reader = FewBytes::new(&REGISTER[..20], 3, true);
     let mut writer = Vec::new(rt.alloc());
     let result = one(rt.alloc(), &OPTIONS, &mut reader, &mut writer);
-    assert_eq!(rt; result, Err(OneFault::ReadFailed));
+    assert_eq!(rt; result, Err(Fault::ReadFailed));
     assert_eq!(rt; writer.len(), 0);
 }
 
@@ -312,10 +332,10 @@ fn a_reader_that_fails_is_told(rt: HostRuntime) {
 fn a_writer_that_fails_is_told(rt: HostRuntime) {
     for (most, room, fails, flush_fails, result) in [
         (1, 9999, false, false, Ok(())),
-        (1, 70, true, false, Err(OneFault::WriteFailed)),
-        (50, 70, false, false, Err(OneFault::WriteFailed)),
-        (50, 0, false, false, Err(OneFault::WriteFailed)),
-        (50, 9999, false, true, Err(OneFault::WriteFailed)),
+        (1, 70, true, false, Err(Fault::WriteFailed)),
+        (50, 70, false, false, Err(Fault::WriteFailed)),
+        (50, 0, false, false, Err(Fault::WriteFailed)),
+        (50, 9999, false, true, Err(Fault::WriteFailed)),
     ] {
         let mut writer = FewWrites::new(rt.alloc(), most, room, fails);
         writer.flush_fails = flush_fails;

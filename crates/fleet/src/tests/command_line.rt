@@ -1,9 +1,23 @@
 //! What the command line gives, and the texts that are printed where it gives nothing.
 
 use super::program::run_with;
-use crate::command::read_options;
+use crate::command::{OneOptions, Request, read_request};
 use std::alloc::Global;
 use std::test::Fail;
+
+/// The options of `one` that the words ask for.
+fn read_options<'a>(alloc: Global, words: &'a [&'a str]) -> Result<OneOptions<'a>, Fail> {
+    match read_request(alloc, words)? {
+        Request::One(options) => Ok(options),
+        Request::Replay => Err(Fail::from("it is a replay")),
+    }
+}
+
+#[test]
+fn a_replay(rt: HostRuntime) -> Result<(), Fail> {
+    assert!(rt; read_request(rt.alloc(), &["fleet", "replay"])? == Request::Replay);
+    Ok(())
+}
 
 #[test]
 fn options(rt: HostRuntime) -> Result<(), Fail> {
@@ -58,8 +72,9 @@ The registration store behind LwM2M servers; without a command, `fleet one`
 Usage: fleet [COMMAND]
 
 Commands:
-  one   Takes one datagram, a line of hex on standard input, and prints the reply and the registration
-  help  Print this message or the help of the given subcommand(s)
+  one     Takes one datagram, a line of hex on standard input, and prints the reply and the registration
+  replay  Runs a script of several nodes, read from standard input, and prints a line for each event
+  help    Print this message or the help of the given subcommand(s)
 
 Options:
   -h, --help     Print help
@@ -90,6 +105,23 @@ Options:
 }
 
 #[test]
+fn help_of_replay(rt: HostRuntime) -> Result<(), Fail> {
+    let text = printed(rt.alloc(), &["fleet", "replay", "--help"])?;
+    assert_eq!(rt;
+        text.as_str(),
+        "0 \
+Runs a script of several nodes, read from standard input, and prints a line for each event
+
+Usage: fleet replay
+
+Options:
+  -h, --help  Print help
+|"
+    );
+    Ok(())
+}
+
+#[test]
 fn the_version(rt: HostRuntime) -> Result<(), Fail> {
     for flag in ["--version", "-V"] {
         let text = printed(rt.alloc(), &["fleet", flag])?;
@@ -110,9 +142,21 @@ const FLEET: &str = "Usage: fleet [COMMAND]\n\n";
 
 const ONE: &str = "Usage: fleet one [OPTIONS]\n\n";
 
+const REPLAY: &str = "Usage: fleet replay\n\n";
+
 #[test]
 fn refused_words(rt: HostRuntime) -> Result<(), Fail> {
-    let rows: [(&[&str], &str, &str); 8] = [
+    let rows: [(&[&str], &str, &str); 10] = [
+        (
+            &["fleet", "replay", "two"],
+            "unexpected argument 'two' found",
+            REPLAY,
+        ),
+        (
+            &["fleet", "replay", "--node", "1"],
+            "unexpected argument '--node' found",
+            REPLAY,
+        ),
         (
             &["fleet", "--node", "1"],
             "unexpected argument '--node' found",

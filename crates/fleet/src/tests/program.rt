@@ -1,7 +1,7 @@
 //! Every ending of a run, with what is then written.
 
 use super::{ANSWER, FewBytes, FewWrites, REGISTER};
-use crate::fault::OneFault;
+use crate::fault::Fault;
 use crate::program::{Ending, program};
 use std::alloc::Global;
 use std::io::{self, ErrorKind};
@@ -61,7 +61,7 @@ type Row = (
 );
 
 /// Words and an input, and the status, both outputs and how much of the input is left.
-const ROWS: [Row; 8] = [
+const ROWS: [Row; 11] = [
     (&["fleet"], REGISTER, 0, ANSWER, "", 0),
     (OTHER_OPTIONS, REGISTER, 0, OTHER_ANSWER, "", 0),
     (&["fleet", "one"], b"4", 1, "", "hex refused\n", 0),
@@ -77,6 +77,23 @@ const ROWS: [Row; 8] = [
     (&["fleet", "-V"], b"4", 0, "fleet 0.1.0\n", "", 1),
     (&["fleet", "--version"], b"", 0, "fleet 0.1.0\n", "", 0),
     (&["fleet", "one"], b"", 0, "-\n", "", 0),
+    (&["fleet", "replay"], b"nodes 16\n", 0, "", "", 0),
+    (
+        &["fleet", "replay"],
+        b"nodes 1\nchange 1\nchange 2",
+        0,
+        "0\nno node\n",
+        "",
+        0,
+    ),
+    (
+        &["fleet", "replay"],
+        b"nodes 17\n",
+        1,
+        "",
+        "line 1 refused\n",
+        0,
+    ),
 ];
 
 #[test]
@@ -110,7 +127,7 @@ fn a_reader_that_fails_ends_the_run(rt: HostRuntime) -> Result<(), Fail> {
     assert_eq!(rt;
         ending,
         Ending::Failed {
-            fault: OneFault::ReadFailed,
+            fault: Fault::ReadFailed,
             told: true
         }
     );
@@ -187,7 +204,7 @@ fn standard_error_changes_no_status(rt: HostRuntime) -> Result<(), Fail> {
     assert_eq!(rt;
         ending,
         Ending::Failed {
-            fault: OneFault::HexRefused,
+            fault: Fault::HexRefused,
             told: false
         }
     );

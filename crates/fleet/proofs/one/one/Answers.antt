@@ -2,7 +2,7 @@ use Rattle.std.proofs.Common.{ℕ, List, length, sym, ap, subst, ◌∙◌, arit
 use Rattle.std.proofs.lemmas.Result.{err_from_is_err_and}
 use Rattle.std.specs.Io.KnownBytes.{Appends}
 use Rattle.hex.specs.Hex.{decode_of}
-use Rattle.fleet.specs.declared.fault.OneFault.TheVariants.{WriteFailed}
+use Rattle.fleet.specs.declared.fault.Fault.TheVariants.{WriteFailed}
 use Rattle.lw_stamp.specs.Moment.{ms_of}
 use Rattle.fleet.specs.One.{IsAddressText, IsAnswered}
 use Rattle.fleet.proofs.OneLemmas.{another_fault, no_fault, of_line, of_hex, of_memory, of_writing, failed_front, if_some, on_ok}

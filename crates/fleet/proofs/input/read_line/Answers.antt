@@ -1,6 +1,6 @@
 use Rattle.std.proofs.Common.{arith, inl, inr}
-use Rattle.fleet.proofs.LineLemmas.{ends, goes_on, at_end, too_long}
-use Rattle.fleet.proofs.line.read_line.Goals as goal
+use Rattle.fleet.proofs.InputLemmas.{ends, goes_on, at_end, too_long}
+use Rattle.fleet.proofs.input.read_line.Goals as goal
 
 pub returns-in_err-add_part-clause-too_long : goal.returns-in_err-add_part-clause-too_long
 returns-in_err-add_part-clause-too_long g c = λ e.

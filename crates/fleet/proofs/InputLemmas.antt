@@ -132,3 +132,20 @@ not_found bytes h = elim (cases_lt (prefix_len no_feed bytes) (length bytes)) [
   where
     clash : (x : ℕ) → None ≡ Some x → ⊥
     clash x e = cc
+
+-- ---- all bytes
+
+-- more bytes than these were there
+pub more_than : (a b c : Option (List ℕ)) (bytes chunk : List ℕ) (n : ℕ) → Consumes a b bytes → Consumes b c chunk
+    → n < length bytes + length chunk → IfSome a (λ all. n < length all)
+more_than None b c bytes chunk n p q h = tt
+more_than (Some x) None c bytes chunk n p q h = absurd p
+more_than (Some x) (Some y) None bytes chunk n p q h = absurd q
+more_than (Some x) (Some y) (Some z) bytes chunk n p q h =
+    omega (arith, ap length (p ∙ ap (λ l. bytes ++ l) q), length-append bytes (chunk ++ z), length-append chunk z)
+
+-- at the end all bytes were read
+pub all_read : (a b : Option (List ℕ)) (bytes : List ℕ) → Consumes a b bytes → IsAtEnd b → IfSome a (λ all. bytes ≡ all)
+all_read None b bytes p e = tt
+all_read (Some x) None bytes p e = absurd p
+all_read (Some x) (Some y) bytes p e = sym (p ∙ ap (λ l. bytes ++ l) e ∙ append-nil bytes)

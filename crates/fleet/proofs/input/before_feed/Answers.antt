@@ -1,6 +1,6 @@
 use Rattle.std.proofs.Common.{sym}
-use Rattle.fleet.proofs.LineLemmas.{found, not_found}
-use Rattle.fleet.proofs.line.before_feed.Goals as goal
+use Rattle.fleet.proofs.InputLemmas.{found, not_found}
+use Rattle.fleet.proofs.input.before_feed.Goals as goal
 
 pub returns-in-Some : goal.returns-in-Some
 returns-in-Some c = found _ _ (sym c.in-Some.ensures)

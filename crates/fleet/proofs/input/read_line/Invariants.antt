@@ -1,14 +1,14 @@
 -- What was read of the line is its front, and has room left.
 use Rattle.std.proofs.Common.{◌+◌, ◌-◌, ◌≤◌, vec_len}
-use Rattle.fleet.specs.declared.line.TheConstants.{LONGEST_LINE}
-use Rattle.fleet.proofs.LineLemmas.{Begun}
-use Rattle.fleet.proofs.line.read_line.Given as goal
+use Rattle.fleet.specs.declared.input.TheConstants.{LONGEST}
+use Rattle.fleet.proofs.InputLemmas.{Begun}
+use Rattle.fleet.proofs.input.read_line.Given as goal
 
 abbrev pub invariant-loop-line : goal.invariant-loop-line
 invariant-loop-line g l = record {
   begun : Begun (g.R.Read.remaining l.initial.reader) (g.R.Read.remaining l.reader) l.line.items;
-  fits : vec_len l.line ≤ LONGEST_LINE;
+  fits : vec_len l.line ≤ LONGEST;
 }
 
 abbrev pub decreases-loop-line : goal.decreases-loop-line
-decreases-loop-line g l = LONGEST_LINE + 1 - vec_len l.line
+decreases-loop-line g l = LONGEST + 1 - vec_len l.line
