@@ -94,7 +94,6 @@ between nodes events bytes is = of_lines (lines_of bytes) is
 module _ (input before after : Option (List ℕ)) (bytes : List ℕ) (nodes : ℕ) (events : List Event) (outcomes : List Outcome) (world : WorldContent)
     (read : IfSome input (λ all. bytes ≡ all)) (fits : length bytes ≤ longest_script) (is : IsScript nodes events bytes)
     (ran : (h : History) × Runs (begun nodes) events outcomes h × (world ≡ world_of h)) where
-
   replayed : (all : List ℕ) → bytes ≡ all → IsReplayed all (lines_text world.messages outcomes)
   replayed all same = subst (λ b. IsReplayed b (lines_text world.messages outcomes)) same (record {
     nodes = nodes;

@@ -24,6 +24,7 @@ fn worked_scripts(rt: HostRuntime) -> Result<(), Fail> {
         scripts::TWO_UPDATES,
         scripts::REMOVED_AND_UPDATED,
         scripts::REPEATED_AND_LATE,
+        scripts::LOST_AND_REPEATED,
         scripts::NOTHING_TO_SEND,
         scripts::NOTIFICATIONS,
         scripts::A_CANCEL,
