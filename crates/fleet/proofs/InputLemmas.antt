@@ -6,6 +6,7 @@ use Rattle.std.proofs.Math.Seq.{take-append-add, take-length}
 use Rattle.std.specs.Prelude.{◌==◌, not, ⊤, position}
 use Rattle.std.specs.List.{prefix_len}
 use Rattle.std.specs.Io.KnownBytes.{Consumes, IsAtEnd}
+use Rattle.std.proofs.KnownBytes.{Consumes-trans}
 use Rattle.std.proofs.lemmas.List.Folds.{prefix_len-append, length-prefix_len}
 use Rattle.std.proofs.lemmas.List.Sums.{prefix_len-le-length}
 use Rattle.std.proofs.Common.{inl, inr}
@@ -149,3 +150,10 @@ pub all_read : (a b : Option (List ℕ)) (bytes : List ℕ) → Consumes a b byt
 all_read None b bytes p e = tt
 all_read (Some x) None bytes p e = absurd p
 all_read (Some x) (Some y) bytes p e = sym (p ∙ ap (λ l. bytes ++ l) e ∙ append-nil bytes)
+
+-- nothing more was read, and nothing is left
+pub ended : (a b c : Option (List ℕ)) (bytes chunk : List ℕ) (n : ℕ) → Consumes a b bytes → Consumes b c (take n chunk) → n ≡ 0 → IsAtEnd c
+    → IfSome a (λ all. bytes ≡ all)
+ended a b c bytes chunk n front more none end =
+    subst (λ l. IfSome a (λ all. l ≡ all)) (ap (λ k. bytes ++ take k chunk) none ∙ append-nil bytes)
+    (all_read a c (bytes ++ take n chunk) (Consumes-trans a b c bytes (take n chunk) front more) end)

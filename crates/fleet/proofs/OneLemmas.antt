@@ -1,6 +1,6 @@
 -- The faults of `one`, each at its place.
-use Rattle.std.proofs.Common.{◌≡◌, ℕ, ◌⊎◌, List, Option, Some, None, Result, Ok, Err, sym, ◌∙◌, inl, inr}
-use Rattle.std.specs.Prelude.{IfSome, OnErr, OnOk, IsOkUnless}
+use Rattle.std.proofs.Common.{◌≡◌, ℕ, ◌⊎◌, List, Option, Some, None, Result, Ok, Err, sym, subst, ◌∙◌, inl, inr}
+use Rattle.std.specs.Prelude.{IfErr, IfSome, OnErr, OnOk, IsErrAnd, IsOkUnless}
 use Rattle.fleet.specs.declared.fault.Fault.{Fault}
 use Rattle.fleet.specs.declared.fault.Fault.TheVariants.{AddressRefused, ReadFailed, TooLong, HexRefused, WriteFailed, NoMemory}
 use Rattle.fleet.specs.One.{IsAddressText}
@@ -49,3 +49,20 @@ failed_front (Err f) e P h k = h
 pub on_ok : {T E : Type 0} (r : Result T E) (P Q : Type 0) → OnOk r P → (P → Q) → OnOk r Q
 on_ok (Ok x) P Q h f = f h
 on_ok (Err e) P Q h f = h
+
+-- what holds anyway holds at an error
+pub on_err : {T E : Type 0} (r : Result T E) (P : Type 0) → P → OnErr r P
+on_err (Ok x) P h = tt
+on_err (Err e) P h = h
+
+pub err_then : {T E : Type 0} (r : Result T E) (P Q : Type 0) → OnErr r P → (P → Q) → OnErr r Q
+err_then (Ok x) P Q h f = tt
+err_then (Err e) P Q h f = f h
+
+pub if_err_is : {T E : Type 0} (r : Result T E) (x : E) (P : E → Type 0) → IsErrAnd r (λ e. e ≡ x) → P x → IfErr r P
+if_err_is (Ok y) x P h p = tt
+if_err_is (Err e) x P h p = subst P (sym h) p
+
+pub if_err_then : {T E : Type 0} (r : Result T E) (P : E → Type 0) (Q : Type 0) (S : E → Type 0) → IfErr r P → OnErr r Q → ((e : E) → P e → Q → S e) → IfErr r S
+if_err_then (Ok y) P Q S h k f = tt
+if_err_then (Err e) P Q S h k f = f e h k

@@ -133,6 +133,10 @@ module _ (input before after : Option (List ℕ)) (bytes : List ℕ) (nodes : �
 
 -- ---- before anything is written
 
+pub keeps_same : (a : Option (List ℕ)) → Keeps a a
+keeps_same None = tt
+keeps_same (Some x) = refl
+
 pub stopped_for_memory : (input before after : Option (List ℕ)) (fault : Fault) → fault ≡ NoMemory → Keeps before after → IsReplayStopped input before after fault
 stopped_for_memory input before after fault h keeps = record {
   too_long = λ k. absurd cc;

@@ -5,7 +5,7 @@ ghost use Rattle.clap.specs.Words.{kind_of};
 ghost use Rattle.clap.specs.declared.error.kind.ErrorKind.TheVariants.{OutOfMemory};
 ghost use Rattle.fleet.specs.CommandLine.{IsRequest};
 ghost use Rattle.fleet.specs.One.{IsAddressText};
-ghost use Rattle.fleet.specs.Program.{status_of, EndsOne, EndsRefused, EndsReplay, EndsShown, EndsWithoutMemory, IsEnd, IsRefusal, Reads, Tells};
+ghost use Rattle.fleet.specs.Program.{status_of, EndsOne, EndsRefused, EndsReplay, EndsRequest, EndsShown, EndsWithoutMemory, IsEnd, IsOfInput, IsRefusal, Reads, Tells};
 
 use crate::command::{OneOptions, Request, not_utf8, read_request};
 use crate::fault::Fault;
@@ -86,9 +86,27 @@ fn run<S: AsStr, R: Read, W: Write, E: Write>(
     ensures unread { ¬ Reads (map S.text words.now) → reader.new ≡ reader.old }
 {
     match read_request(alloc, words) {
-        Ok(Request::One(options)) => run_one(alloc, &options, reader, writer, errors),
-        Ok(Request::Replay) => run_replay(alloc, reader, writer, errors),
+        Ok(request) => answer(alloc, &request, reader, writer, errors),
         Err(error) => explain(alloc, &error, writer, errors),
+    }
+}
+
+/// Does what the words ask for.
+fn answer<R: Read, W: Write, E: Write>(
+    alloc: Global,
+    request: &Request<'_>,
+    reader: &mut R,
+    writer: &mut W,
+    errors: &mut E,
+) -> Ending
+    ensures end { EndsRequest request.entry.now (R.remaining reader.old)
+        (W.contents writer.old) (W.contents writer.new) result }
+    ensures told { Tells result (E.contents errors.old) (E.contents errors.new) }
+    ensures unread { ¬ IsOfInput request.entry.now → reader.new ≡ reader.old }
+{
+    match request {
+        Request::One(options) => run_one(alloc, options, reader, writer, errors),
+        Request::Replay => run_replay(alloc, reader, writer, errors),
     }
 }
 

@@ -61,10 +61,7 @@ returns-clause-front g c = λ failed.
         spelled = ap decode_of (sym (c.deref.ensures.value ∙ line_is)) ∙ c.in_ok-datagram.ensures.bytes;
         answered = subst (λ (datagram : List ℕ). IsAnswered c.args.options.now.node (ms_of c.args.options.now.now) c.in-Some.source datagram text) c.deref-2.ensures.value c.in_ok-text.ensures;
       },
-      written.0,
-      written.1,
-      sym c.deref-3.ensures.value ∙ written.2,
-      written.3,
+      (written.0, written.1, sym c.deref-3.ensures.value ∙ written.2, written.3),
     ))
 
 pub returns-clause-address_refused : goal.returns-clause-address_refused

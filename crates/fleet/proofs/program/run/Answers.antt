@@ -2,14 +2,30 @@ use Rattle.std.proofs.Common.{map, inl, inr}
 use Rattle.clap.specs.Words.{subcommand_of}
 use Rattle.fleet.specs.CommandLine.{fleet_app}
 use Rattle.fleet.proofs.EndingLemmas.{asks_not, end_of_asked, request_without_memory, refused_without_memory, shown_without_memory}
-use Rattle.fleet.specs.declared.command.Request.TheVariants.{One, Replay}
 use Rattle.fleet.proofs.program.run.Goals as goal
 
-pub returns-in-Ok-One-clause-end : goal.returns-in-Ok-One-clause-end
-returns-in-Ok-One-clause-end g c =
+pub returns-in-Ok-clause-end : goal.returns-in-Ok-clause-end
+returns-in-Ok-clause-end g c =
     let words = map g.S.AsStr.text c.args.words.now in
     record {
-      asked = λ request asked. end_of_asked (subcommand_of fleet_app words) (One c.in-Ok-One.options) request _ _ _ _ c.in-Ok-One.ensures.asked asked.1 c.run_one.ensures.end;
-      shown = λ asks. absurd (asks_not words c.in-Ok-One.ensures.accepted asks);
-      refused = λ mistaken. absurd (mistaken.nothing (One c.in-Ok-One.options) (c.in-Ok-One.ensures.accepted, c.in-Ok-One.ensures.asked));
+      asked = λ request asked. end_of_asked (subcommand_of fleet_app words) c.in-Ok.request request _ _ _ _ c.in-Ok.ensures.asked asked.1 c.answer.ensures.end;
+      shown = λ asks. absurd (asks_not words c.in-Ok.ensures.accepted asks);
+      refused = λ mistaken. absurd (mistaken.nothing c.in-Ok.request (c.in-Ok.ensures.accepted, c.in-Ok.ensures.asked));
     }
+
+pub returns-in-Ok-clause-unread : goal.returns-in-Ok-clause-unread
+returns-in-Ok-clause-unread g c = λ none.
+    c.answer.ensures.unread (λ of_input. none (c.in-Ok.request, (c.in-Ok.ensures.accepted, c.in-Ok.ensures.asked), of_input))
+
+pub returns-in-Err-clause-end : goal.returns-in-Err-clause-end
+returns-in-Err-clause-end g c = record {
+  asked = λ request asked. request_without_memory request _ _ _ _ (c.explain.ensures.no_memory (c.in-Err.ensures.refused asked.0 request asked.1));
+  shown = λ asks. elim c.in-Err.ensures.kinds [
+    | inl memory ↦ shown_without_memory _ _ _ (c.explain.ensures.no_memory memory)
+    | inr among ↦ c.explain.ensures.shown (asks _ among)
+  ];
+  refused = λ mistaken. elim c.in-Err.ensures.kinds [
+    | inl memory ↦ refused_without_memory _ _ _ (c.explain.ensures.no_memory memory)
+    | inr among ↦ c.explain.ensures.refused (mistaken.no_text _ among)
+  ];
+}
