@@ -37,6 +37,7 @@ one_without_memory options input before after ending early = subst (EndsOne opti
   hex = λ h. absurd cc;
   front = λ h. absurd cc;
   nothing = λ h. early.2;
+  no_script = λ line h. cc;
 })
 
 pub replay_without_memory : (input before after : Option (List ℕ)) (ending : Ending) → EndsWithoutMemory before after ending
@@ -118,6 +119,7 @@ same_end a b input before after (Failed fault told) same h = record {
   hex = h.hex;
   front = λ is. same_front a b input before after same (h.front is);
   nothing = h.nothing;
+  no_script = h.no_script;
 }
 same_end a b input before after Refused same h = h
 

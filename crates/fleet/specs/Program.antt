@@ -7,7 +7,7 @@ use Rattle.fleet.specs.declared.command.OneOptions.{OneOptions}
 use Rattle.fleet.specs.declared.command.Request.{Request}
 use Rattle.fleet.specs.declared.command.Request.TheVariants.{One, Replay}
 use Rattle.fleet.specs.declared.fault.Fault.{Fault}
-use Rattle.fleet.specs.declared.fault.Fault.TheVariants.{AddressRefused, TooLong, HexRefused, WriteFailed, NoMemory}
+use Rattle.fleet.specs.declared.fault.Fault.TheVariants.{AddressRefused, TooLong, HexRefused, LineRefused, WriteFailed, NoMemory}
 use Rattle.fleet.specs.declared.program.Ending.{Ending}
 use Rattle.fleet.specs.declared.program.Ending.TheVariants.{Done, Failed, Refused}
 use Rattle.fleet.specs.CommandLine.{Asks, AsksForText, IsMistaken}
@@ -37,6 +37,7 @@ pub record IsStopped (options : OneOptions) (input before after : Option (List �
   pub hex : fault ≡ HexRefused → IfSome input (λ bytes. IsErr (decode_of (line_of bytes)))
   pub front : fault ≡ WriteFailed → PrintsFront options input before after
   pub nothing : fault ≢ WriteFailed → Keeps before after
+  pub no_script : (line : ℕ) → fault ≢ LineRefused line
 
 -- `one` with these options prints its answer or stops at a fault
 abbrev pub EndsOne : OneOptions → Option (List ℕ) → Option (List ℕ) → Option (List ℕ) → Ending → Type 0

@@ -1,4 +1,4 @@
-ghost use Rattle.std.specs.Prelude.{◌≡◌, ◌≢◌, ◌↔◌, Ok, OnOk, OnErr, IfOk, IfErr, IfSome, Err, IsErr, length, ◌<◌, option_map};
+ghost use Rattle.std.specs.Prelude.{◌≡◌, ◌≢◌, ◌↔◌, Ok, OnOk, OnErr, IfOk, IfErr, IfSome, Err, IsErr, length, ◌<◌, ℕ, option_map};
 ghost use Rattle.std.specs.Io.KnownBytes.{Keeps};
 ghost use Rattle.hex.specs.Hex.{decode_of};
 ghost use Rattle.lw_stamp.specs.Moment.{ms_of};
@@ -36,6 +36,8 @@ pub fn one<R: Read, W: Write>(
     ensures unread { result ≡ Err Fault.AddressRefused → reader.new ≡ reader.old }
     ensures hex_refused { result ≡ Err Fault.HexRefused
         → IfSome (R.remaining reader.old) (λ bytes. IsErr (decode_of (line_of bytes))) }
+    // No line of a script is refused.
+    ensures no_script { IfErr result (λ e. (line : ℕ) → e ≢ Fault.LineRefused line) }
     ensures too_long { result ≡ Err Fault.TooLong
         → IfSome (R.remaining reader.old) (λ bytes. longest_line < length (line_of bytes)) }
 {

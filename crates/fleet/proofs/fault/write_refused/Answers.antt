@@ -13,7 +13,7 @@ pub returns-in_err-write_text-2-clause-front : goal.returns-in_err-write_text-2-
 returns-in_err-write_text-2-clause-front g c =
     let number_is = c.as_bytes.ensures.value ∙ c.format.ensures.text in
     let in_part = front_before _ _ (decimal c.args.line) (codes " refused" ++ 10 ∷ [])
-        (subst (AppendsFront (g.E.Write.contents c.write_text.new.writer) (g.E.Write.contents c.write_text-2.new.writer)) number_is c.in_err-write_text-2.ensures.front) in
+    (subst (AppendsFront (g.E.Write.contents c.write_text.new.writer) (g.E.Write.contents c.write_text-2.new.writer)) number_is c.in_err-write_text-2.ensures.front) in
     on_err c.from_residual-in_err-write_text-2.result _
     (subst (AppendsFront (g.E.Write.contents c.args.errors.now) (g.E.Write.contents c.write_text-2.new.writer)) (ap (λ l. codes "line " ++ l) (sym (append_assoc (decimal c.args.line) (codes " refused") (10 ∷ []))))
     (front_after _ _ _ (codes "line ") (decimal c.args.line ++ (codes " refused" ++ 10 ∷ [])) c.in_ok-write_text.ensures.whole in_part))
