@@ -1,0 +1,34 @@
+mod calls;
+mod replies;
+
+use super::*;
+use bytes::Bytes;
+use lw_reg::{Addr, Path, Text};
+use lw_stamp::{Moment, NoMemory, Stamp};
+use std::alloc::Global;
+use std::test::Fail;
+
+/// An address of the loopback with this port.
+fn host(port: u16) -> Addr {
+    Addr::V4 {
+        address: [127, 0, 0, 1],
+        port,
+    }
+}
+
+fn at(ms: u64) -> Result<Moment, Fail> {
+    Ok(Moment::new(ms).ok_or("a moment")?)
+}
+
+/// A stamp of node 1.
+fn stamp(counter: u64) -> Stamp {
+    Stamp { counter, node: 1 }
+}
+
+fn path(numbers: &[u16]) -> Result<Path, Fail> {
+    Ok(Path::new(numbers).ok_or("a path")?)
+}
+
+fn text(alloc: Global, text: &str) -> Result<Text, Fail> {
+    Ok(Text::copy_of(alloc, text)?)
+}
