@@ -8,6 +8,16 @@ use lw_stamp::{Moment, NoMemory, Stamp};
 use std::alloc::Global;
 use std::test::Fail;
 
+const FIRST: Stamp = Stamp {
+    counter: 1,
+    node: 1,
+};
+
+const SECOND: Stamp = Stamp {
+    counter: 2,
+    node: 1,
+};
+
 /// An address of the loopback with this port.
 fn host(port: u16) -> Addr {
     Addr::V4 {
@@ -18,11 +28,6 @@ fn host(port: u16) -> Addr {
 
 fn at(ms: u64) -> Result<Moment, Fail> {
     Ok(Moment::new(ms).ok_or("a moment")?)
-}
-
-/// A stamp of node 1.
-fn stamp(counter: u64) -> Stamp {
-    Stamp { counter, node: 1 }
 }
 
 fn path(numbers: &[u16]) -> Result<Path, Fail> {

@@ -67,16 +67,16 @@ const MESSAGES: usize = 12;
 /// Calls about an observation.
 fn command_at(place: usize) -> Result<Call, Fail> {
     match place {
-        0 => observe(0, stamp(2), &[3, 0], None, 7),
-        1 => observe(1, stamp(2), &[3, 0], None, 7),
-        2 => observe(0, stamp(1), &[3, 0], None, 7),
-        3 => observe(0, stamp(2), &[3, 0, 9], None, 7),
-        4 => observe(0, stamp(2), &[3, 0], Some(0), 7),
-        5 => observe(0, stamp(2), &[3, 0], None, 8),
-        6 => cancel(0, stamp(2), 7),
-        7 => cancel(1, stamp(2), 7),
-        8 => cancel(0, stamp(1), 7),
-        _ => cancel(0, stamp(2), 8),
+        0 => observe(0, SECOND, &[3, 0], None, 7),
+        1 => observe(1, SECOND, &[3, 0], None, 7),
+        2 => observe(0, FIRST, &[3, 0], None, 7),
+        3 => observe(0, SECOND, &[3, 0, 9], None, 7),
+        4 => observe(0, SECOND, &[3, 0], Some(0), 7),
+        5 => observe(0, SECOND, &[3, 0], None, 8),
+        6 => cancel(0, SECOND, 7),
+        7 => cancel(1, SECOND, 7),
+        8 => cancel(0, FIRST, 7),
+        _ => cancel(0, SECOND, 8),
     }
 }
 
@@ -84,24 +84,24 @@ const COMMANDS: usize = 10;
 
 fn question_at(alloc: Global, place: usize) -> Result<Question, Fail> {
     match place {
-        0 => Ok(Question::ById(stamp(2))),
-        1 => Ok(Question::ById(stamp(3))),
+        0 => Ok(Question::ById(SECOND)),
+        1 => Ok(Question::ById(FIRST)),
         2 => Ok(Question::ByEndpoint(text(alloc, "a")?)),
         3 => Ok(Question::ByEndpoint(text(alloc, "b")?)),
         4 => Ok(Question::ByAddress(host(5683))),
         5 => Ok(Question::ByAddress(host(5684))),
-        6 => Ok(Question::ByToken(stamp(2))),
-        7 => Ok(Question::ByToken(stamp(3))),
+        6 => Ok(Question::ByToken(SECOND)),
+        7 => Ok(Question::ByToken(FIRST)),
         8 => Ok(Question::WatchAfter {
-            id: stamp(2),
+            id: SECOND,
             after: None,
         }),
         9 => Ok(Question::WatchAfter {
-            id: stamp(2),
+            id: SECOND,
             after: Some(path(&[3, 0])?),
         }),
         10 => Ok(Question::WatchAfter {
-            id: stamp(3),
+            id: FIRST,
             after: None,
         }),
         11 => Ok(Question::FirstAfter(None)),
