@@ -9,7 +9,8 @@ use Rattle.lw_reg.specs.Addr.{addr_text, IsAddr}
 use Rattle.lw_reg.specs.Marks.{left_by}
 use Rattle.lw_reg.specs.Registration.{Registration}
 use Rattle.lw_table.specs.Answers.{FirstAfter}
-use Rattle.lw_node.specs.Calls.{TakenContent, Takes}
+use Rattle.lw_call.specs.Contents.{TakenContent}
+use Rattle.lw_node.specs.Calls.{Takes}
 use Rattle.lw_node.specs.Node.{NodeContent, fresh}
 use Rattle.lw_print.specs.Answer.{answer_text}
 use Rattle.fleet.specs.declared.command.OneOptions.{OneOptions}

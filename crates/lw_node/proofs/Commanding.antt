@@ -13,8 +13,8 @@ use Rattle.lw_reg.specs.Reading.{shown_in}
 use Rattle.lw_reg.specs.Registration.{Registration}
 use Rattle.lw_reg.specs.State.{State, IsStateOf}
 use Rattle.lw_table.specs.LookUps.{ById, ByToken}
-use Rattle.lw_node.specs.declared.observe_fault.ObserveFault.{ObserveFault}
-use Rattle.lw_node.specs.declared.observe_fault.ObserveFault.TheVariants as faults
+use Rattle.lw_call.specs.declared.observe_fault.ObserveFault.{ObserveFault}
+use Rattle.lw_call.specs.declared.observe_fault.ObserveFault.TheVariants as faults
 use Rattle.lw_node.specs.Calls.{CommandContent, IsSent, Commanded, place_at}
 use Rattle.lw_node.specs.Effects.{IsNext, IsAbout, observes, ends, ObserveMeans, CancelMeans}
 use Rattle.lw_node.specs.Node.{NodeContent, Known, IsKnown, marks_in}

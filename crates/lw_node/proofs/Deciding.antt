@@ -14,8 +14,9 @@ use Rattle.lw_reg.specs.Registration.{Registration}
 use Rattle.lw_reg.specs.State.{State, IsStateOf}
 use Rattle.lw_request.specs.Report.{ReportContent}
 use Rattle.lw_table.specs.LookUps.{ByToken}
+use Rattle.lw_call.specs.Contents.{NoticeContent}
 use Rattle.lw_node.specs.Calls.{DecisionContent, IsReply, Decides}
-use Rattle.lw_node.specs.Effects.{Place, Effect, NoticeContent, answers, rejected, acknowledged, unwanted, IsAtEnd, IsNext, Issues, IsNamed, NamedChanges, IsAbout, answered, IsWatched, notice_of, GoesOn, Cancels, EndsWatch, ReportMeans}
+use Rattle.lw_node.specs.Effects.{Place, Effect, answers, rejected, acknowledged, unwanted, IsAtEnd, IsNext, Issues, IsNamed, NamedChanges, IsAbout, answered, IsWatched, notice_of, GoesOn, Cancels, EndsWatch, ReportMeans}
 use Rattle.lw_node.specs.Node.{Known, IsKnown, marks_in}
 use Rattle.lw_node.specs.Node.Known.{Shown, Told}
 

@@ -11,7 +11,6 @@ pub mod SlotStamps
 pub mod MergeLemmas
 pub mod SendLemmas
 pub mod RestLemmas
-pub mod Equality
 pub mod NextOperation
 pub mod Outcomes
 pub mod StepLemmas

@@ -25,8 +25,8 @@ use Rattle.lw_delta.specs.Delta.{DeltaContent, IsSpelling}
 use Rattle.lw_delta.specs.Writable.{AllFollow}
 use Rattle.lw_delta.proofs.Answering.{one_delta}
 use Rattle.lw_delta.proofs.Fitting.{spelled_fits}
-use Rattle.lw_node.specs.declared.merge_fault.MergeFault.{MergeFault}
-use Rattle.lw_node.specs.declared.merge_fault.MergeFault.TheVariants.{Malformed, NoMemory}
+use Rattle.lw_call.specs.declared.merge_fault.MergeFault.{MergeFault}
+use Rattle.lw_call.specs.declared.merge_fault.MergeFault.TheVariants.{Malformed, NoMemory}
 use Rattle.lw_node.specs.Exchange.{state_in, JoinedTo, JoinsSlots, Merged, Merges, MergesFront, IsLeastOfBoth}
 use Rattle.lw_node.specs.Node.{NodeContent, HasEndpoints}
 use Rattle.lw_node.specs.Within.{FitsClock}

@@ -10,9 +10,10 @@ use Rattle.lw_reg.specs.Marks.{Marks}
 use Rattle.lw_reg.specs.Reading.{shown_in}
 use Rattle.lw_reg.specs.Registration.{Registration}
 use Rattle.lw_table.specs.LookUps.{ById, ByToken}
-use Rattle.lw_node.specs.declared.observe_fault.ObserveFault.{ObserveFault}
-use Rattle.lw_node.specs.declared.observe_fault.ObserveFault.TheVariants as faults
-use Rattle.lw_node.specs.Calls.{DecisionContent, OutgoingContent, Decides, Sent, TakesSo, Observes, Cancels, place_at}
+use Rattle.lw_call.specs.declared.observe_fault.ObserveFault.{ObserveFault}
+use Rattle.lw_call.specs.declared.observe_fault.ObserveFault.TheVariants as faults
+use Rattle.lw_call.specs.Contents.{OutgoingContent}
+use Rattle.lw_node.specs.Calls.{DecisionContent, Decides, Sent, TakesSo, Observes, Cancels, place_at}
 use Rattle.lw_node.specs.Effects.{Place, Effect, Request, Refused, IsAtEnd, CommandMeans, observes, ends}
 use Rattle.lw_node.specs.Effects.Refused.{NotFound, ClockEnd}
 use Rattle.lw_node.specs.Node.{NodeContent, IsAfter}

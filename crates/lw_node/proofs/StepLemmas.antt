@@ -10,19 +10,21 @@ use Rattle.lw_reg.specs.declared.op.Op.{Op}
 use Rattle.lw_reg.specs.declared.path.Path.{Path}
 use Rattle.lw_reg.specs.Marks.{Mark, Marks, among}
 use Rattle.lw_reg.specs.Reading.{shown_in}
-use Rattle.lw_node.specs.declared.answer.Answer.{Answer}
-use Rattle.lw_node.specs.declared.call.Call.{Call}
-use Rattle.lw_node.specs.declared.call.Call.TheVariants as calls
-use Rattle.lw_node.specs.declared.observe_fault.ObserveFault.{ObserveFault}
-use Rattle.lw_node.specs.declared.observe_fault.ObserveFault.TheVariants as faults
-use Rattle.lw_node.specs.declared.question.Question.{Question}
-use Rattle.lw_node.specs.declared.reply.Reply.TheVariants as replies
-use Rattle.lw_node.specs.Calls.{TakenContent, OutgoingContent, DecisionContent, CommandContent, place_at, Decides, Decided, TakesSo, Takes, IsSilent, IsSent, CommandsOr, Commanded, Sent}
+use Rattle.lw_call.specs.declared.answer.Answer.{Answer}
+use Rattle.lw_call.specs.declared.call.Call.{Call}
+use Rattle.lw_call.specs.declared.call.Call.TheVariants as calls
+use Rattle.lw_call.specs.declared.observe_fault.ObserveFault.{ObserveFault}
+use Rattle.lw_call.specs.declared.observe_fault.ObserveFault.TheVariants as faults
+use Rattle.lw_call.specs.declared.question.Question.{Question}
+use Rattle.lw_call.specs.declared.reply.Reply.TheVariants as replies
+use Rattle.lw_call.specs.Contents.{TakenContent, OutgoingContent}
+use Rattle.lw_call.specs.Found.{IsFound}
+use Rattle.lw_node.specs.Calls.{DecisionContent, CommandContent, place_at, Decides, Decided, TakesSo, Takes, IsSilent, IsSent, CommandsOr, Commanded, Sent}
 use Rattle.lw_node.specs.Done.{IsDone}
 use Rattle.lw_node.specs.Effects.{Effect, Request, Refused, DatagramMeans, ObserveMeans, CancelMeans}
 use Rattle.lw_node.specs.Node.{NodeContent, Known, IsKnown, Knows, marks_in, IsAfter}
 use Rattle.lw_node.specs.Node.Known.{Shown, Told}
-use Rattle.lw_node.specs.Steps.{Answers, IsFound, Asks, Steps}
+use Rattle.lw_node.specs.Steps.{Answers, Asks, Steps}
 use Rattle.lw_node.specs.Twice.{first_of}
 use Rattle.lw_node.specs.Within.{FitsClock, IsNextOf}
 use Rattle.lw_node.proofs.NextOperation.{datagram_next, observe_next, cancel_next}

@@ -11,22 +11,12 @@ use Rattle.lw_reg.specs.declared.path.Path.{Path}
 use Rattle.lw_reg.specs.Marks.{Marks}
 use Rattle.lw_reg.specs.State.{State}
 use Rattle.lw_table.specs.LookUps.{ById, ByToken}
-use Rattle.lw_node.specs.declared.observe_fault.ObserveFault.{ObserveFault}
-use Rattle.lw_node.specs.declared.observe_fault.ObserveFault.TheVariants as faults
-use Rattle.lw_node.specs.Effects.{Place, Effect, NoticeContent, Request, Refused, HasNoConfirmable, MalformedMeans, DatagramMeans, ObserveMeans, CancelMeans}
+use Rattle.lw_call.specs.declared.observe_fault.ObserveFault.{ObserveFault}
+use Rattle.lw_call.specs.declared.observe_fault.ObserveFault.TheVariants as faults
+use Rattle.lw_call.specs.Contents.{NoticeContent, TakenContent, OutgoingContent}
+use Rattle.lw_node.specs.Effects.{Place, Effect, Request, Refused, HasNoConfirmable, MalformedMeans, DatagramMeans, ObserveMeans, CancelMeans}
 use Rattle.lw_node.specs.Effects.Refused.{NotFound, ClockEnd}
 use Rattle.lw_node.specs.Node.{NodeContent, Known, IsKnown, marks_in, IsAfter}
-
--- what is given for a datagram: the reply's bytes or none, and a notice or none
-pub record TakenContent : Type 0 where
-  pub reply : Option (List ℕ)
-  pub notice : Option NoticeContent
-
--- what is to be sent to a device
-pub record OutgoingContent : Type 0 where
-  pub to : Addr
-  pub token : Stamp
-  pub bytes : List ℕ
 
 -- what a datagram is to do
 pub record DecisionContent : Type 0 where

@@ -1,8 +1,9 @@
 -- What is given and left where a command is carried out.
 use Rattle.std.specs.Prelude.{◌≡◌, Result, Ok, Err}
-use Rattle.lw_node.specs.declared.observe_fault.ObserveFault.{ObserveFault}
-use Rattle.lw_node.specs.declared.observe_fault.ObserveFault.TheVariants.{NoMemory}
-use Rattle.lw_node.specs.Calls.{CommandContent, OutgoingContent}
+use Rattle.lw_call.specs.declared.observe_fault.ObserveFault.{ObserveFault}
+use Rattle.lw_call.specs.declared.observe_fault.ObserveFault.TheVariants.{NoMemory}
+use Rattle.lw_call.specs.Contents.{OutgoingContent}
+use Rattle.lw_node.specs.Calls.{CommandContent}
 use Rattle.lw_node.specs.Node.{NodeContent, Issued}
 
 -- What was decided is sent, and its operation issued, or there is no memory for that; what was refused stays so.

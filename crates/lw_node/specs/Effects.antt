@@ -31,6 +31,7 @@ use Rattle.lw_request.specs.Meaning.{Means}
 use Rattle.lw_request.specs.Report.{ReportContent}
 use Rattle.lw_request.specs.Reply.{answer_of, reset_of, ack_of, code_of}
 use Rattle.lw_table.specs.LookUps.{ById, ByToken}
+use Rattle.lw_call.specs.Contents.{NoticeContent}
 
 -- where and when a call comes: the node's number and clock, and the moment
 pub record Place : Type 0 where
@@ -38,18 +39,7 @@ pub record Place : Type 0 where
   pub clock : ℕ
   pub now : ℕ
 
--- what the caller is told of a notification
-pub record NoticeContent : Type 0 where
-  pub token : Stamp
-  pub id : Stamp
-  pub endpoint : List ℕ
-  pub path : Path
-  pub code : ℕ
-  pub observe : Option ℕ
-  pub format : Option ℕ
-  pub ended : Bool
-  pub payload : List ℕ
-
+-- what a call is to give and to leave: a reply or none, a notice or none, and an operation or none
 pub record Effect : Type 0 where
   pub reply : Option MessageContent
   pub notice : Option NoticeContent

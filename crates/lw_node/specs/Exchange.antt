@@ -10,8 +10,8 @@ use Rattle.lw_table.specs.Changes.{Recounts, IsSince, IsSinceIn}
 use Rattle.lw_table.specs.Table.{TableContent}
 use Rattle.lw_delta.specs.Delta.{DeltaContent, IsSpelling, IsFault}
 use Rattle.lw_delta.specs.Writing.{delta_bytes}
-use Rattle.lw_node.specs.declared.merge_fault.MergeFault.{MergeFault}
-use Rattle.lw_node.specs.declared.merge_fault.MergeFault.TheVariants.{Malformed, NoMemory}
+use Rattle.lw_call.specs.declared.merge_fault.MergeFault.{MergeFault}
+use Rattle.lw_call.specs.declared.merge_fault.MergeFault.TheVariants.{Malformed, NoMemory}
 use Rattle.lw_node.specs.Node.{NodeContent}
 
 -- the state of the slots: the least above each, under its endpoint
@@ -26,11 +26,6 @@ pub record IsDeltaSince (node : NodeContent) (since : ℕ) (bytes : List ℕ) : 
   pub are : IsSinceIn node.table.state node.table.count since slots
   pub written : bytes ≡ delta_bytes node.clock slots
   pub spelled : IsSpelling bytes (record { clock = node.clock; slots = slots })
-
--- a delta, and the change number at which it was made
-pub record SentContent : Type 0 where
-  pub delta : List ℕ
-  pub change : ℕ
 
 -- ---- what is merged
 -- The clock is the greater of both, the slots are joined to the node's, and each endpoint that moves takes the

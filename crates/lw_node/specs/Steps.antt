@@ -1,19 +1,20 @@
 -- The steps of a node: a call, its reply, and the node before and after. Every way to call a node is one of them.
-use Rattle.std.specs.Prelude.{◌≡◌, ℕ, IfOk, IsSome, Result, Ok, Err}
+use Rattle.std.specs.Prelude.{◌≡◌, ℕ, IfOk, Result, Ok, Err}
 use Rattle.lw_stamp.specs.declared.no_memory.NoMemory.{NoMemory}
 use Rattle.lw_stamp.specs.Moment.{ms_of}
 use Rattle.lw_reg.specs.Marks.{Marks}
 use Rattle.lw_reg.specs.Showing.{ShownOf}
 use Rattle.lw_table.specs.Answers.{FirstAfter}
 use Rattle.lw_table.specs.LookUps as look_ups
-use Rattle.lw_node.specs.declared.answer.Answer.{Answer}
-use Rattle.lw_node.specs.declared.answer.Answer.TheVariants as answers
-use Rattle.lw_node.specs.declared.call.Call.{Call}
-use Rattle.lw_node.specs.declared.call.Call.TheVariants as calls
-use Rattle.lw_node.specs.declared.question.Question.{Question}
-use Rattle.lw_node.specs.declared.question.Question.TheVariants.{ById, ByEndpoint, ByAddress, ByToken, WatchAfter, FirstAfter as First, ExpiredAfter, Change}
-use Rattle.lw_node.specs.declared.reply.Reply.{Reply}
-use Rattle.lw_node.specs.declared.reply.Reply.TheVariants as replies
+use Rattle.lw_call.specs.declared.answer.Answer.{Answer}
+use Rattle.lw_call.specs.declared.answer.Answer.TheVariants as answers
+use Rattle.lw_call.specs.declared.call.Call.{Call}
+use Rattle.lw_call.specs.declared.call.Call.TheVariants as calls
+use Rattle.lw_call.specs.declared.question.Question.{Question}
+use Rattle.lw_call.specs.declared.question.Question.TheVariants.{ById, ByEndpoint, ByAddress, ByToken, WatchAfter, FirstAfter as First, ExpiredAfter, Change}
+use Rattle.lw_call.specs.declared.reply.Reply.{Reply}
+use Rattle.lw_call.specs.declared.reply.Reply.TheVariants as replies
+use Rattle.lw_call.specs.Found.{IsFound}
 use Rattle.lw_node.specs.Calls.{Takes, IsSilent, Observes, Cancels}
 use Rattle.lw_node.specs.Exchange.{IsDeltaSince, Merges}
 use Rattle.lw_node.specs.Node.{NodeContent}
@@ -29,13 +30,6 @@ Answers node M now (First after) (answers.Registration found) = FirstAfter M now
 Answers node M now (ExpiredAfter after) (answers.Expired found) = look_ups.ExpiredAfter M now after found
 Answers node M now Change (answers.Changed number) = number ≡ node.table.count.change
 Answers node M now _ _ = ⊥
-
--- what was asked for is there
-abbrev pub IsFound : Answer → Type 0
-IsFound (answers.Registration found) = IsSome found
-IsFound (answers.Watched found) = IsSome found
-IsFound (answers.Expired found) = IsSome found
-IsFound (answers.Changed number) = ⊥
 
 -- the answer; or want of memory, in place of an answer that has found something
 abbrev pub Asks : NodeContent → Marks → ℕ → Question → Result Answer NoMemory → Type 0

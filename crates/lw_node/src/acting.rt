@@ -5,11 +5,9 @@ ghost use Rattle.lw_node.specs.Exchange.{IsDeltaSince};
 ghost use Rattle.lw_node.specs.Node.{Known, IsKnown, marks_in};
 ghost use Rattle.lw_node.specs.Steps.{Steps};
 
-use crate::call::Call;
 use crate::node::Node;
-use crate::reply::Reply;
-use crate::sent::Sent;
 use crate::twice::both;
+use lw_call::{Call, Reply, Sent};
 use lw_stamp::NoMemory;
 
 impl Node {

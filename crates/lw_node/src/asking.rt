@@ -5,9 +5,8 @@ ghost use Rattle.lw_stamp.specs.Moment.{ms_of};
 ghost use Rattle.lw_node.specs.Node.{Known, IsKnown, marks_in};
 ghost use Rattle.lw_node.specs.Steps.{Asks};
 
-use crate::answer::Answer;
 use crate::node::Node;
-use crate::question::Question;
+use lw_call::{Answer, Question};
 use lw_reg::{Seen, Text, View, Watch};
 use lw_stamp::{Moment, NoMemory, Stamp};
 use std::alloc::Global;

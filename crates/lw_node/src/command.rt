@@ -1,4 +1,4 @@
-use crate::outgoing::Outgoing;
+use lw_call::Outgoing;
 use lw_reg::Op;
 use std::marker::Model;
 

@@ -1,4 +1,4 @@
-use crate::notice::Notice;
+use lw_call::Notice;
 use lw_reg::Op;
 use std::marker::Model;
 

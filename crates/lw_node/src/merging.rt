@@ -7,8 +7,8 @@ ghost use Rattle.lw_delta.specs.declared.fault.DeltaFault.{DeltaFault as Faults}
 ghost use Rattle.lw_delta.specs.Delta.{DeltaContent, IsSpelling, IsFault};
 ghost use Rattle.lw_node.specs.Exchange.{Merges, IsLeastOfBoth, known_by, known_from, JoinsSlots};
 
-use crate::merge_fault::MergeFault;
 use crate::node::Node;
+use lw_call::MergeFault;
 use lw_delta::{check, read};
 use lw_reg::{Endpoint, Slot};
 use lw_table::Table;

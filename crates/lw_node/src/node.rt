@@ -13,9 +13,7 @@ ghost use Rattle.lw_node.specs.Within.{FitsClock, IsNextOf};
 
 use crate::command::Command;
 use crate::decision::Decision;
-use crate::observe_fault::ObserveFault;
-use crate::outgoing::Outgoing;
-use crate::taken::Taken;
+use lw_call::{ObserveFault, Outgoing, Taken};
 use lw_reg::{Addr, Endpoint, Op, Path, Text, atom};
 use lw_stamp::{Clock, Moment, NoMemory, Stamp};
 use lw_table::Table;

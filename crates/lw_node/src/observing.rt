@@ -8,9 +8,8 @@ ghost use Rattle.lw_node.specs.Effects.{ObserveMeans, CancelMeans, IsAbout, obse
 
 use crate::command::Command;
 use crate::node::{Node, endpoint_of};
-use crate::observe_fault::ObserveFault;
-use crate::outgoing::Outgoing;
 use crate::request::{Observe, get};
+use lw_call::{ObserveFault, Outgoing};
 use lw_reg::{Op, Path, View, Watch, What};
 use lw_stamp::{Moment, NoMemory, Stamp};
 use std::alloc::Global;

@@ -8,16 +8,17 @@ ghost use Rattle.lw_reg.specs.Endpoint.{IsEndpoint};
 ghost use Rattle.lw_reg.specs.Registration.{Registration};
 ghost use Rattle.lw_reg.specs.declared.watch.Watch.{Watch as Watches};
 ghost use Rattle.lw_node.specs.Calls.{place_at, Decided, Decides};
-ghost use Rattle.lw_node.specs.Effects.{ReportMeans, EndsWatch, GoesOn, IsWatched};
+ghost use Rattle.lw_node.specs.Effects.{ReportMeans, EndsWatch, GoesOn, IsWatched, notice_of};
 ghost use Rattle.lw_node.specs.Node.{Known, IsKnown, marks_in};
 
 use crate::answering::{acknowledged, rejected, unwanted};
 use crate::decision::Decision;
 use crate::node::{Node, endpoint_of};
-use crate::notice::Notice;
-use lw_reg::{Op, View, Watch, What};
+use lw_call::Notice;
+use lw_reg::{Op, Text, View, Watch, What};
 use lw_request::Report;
 use lw_stamp::{Moment, NoMemory, Stamp};
+use std::alloc::Global;
 
 /// The class of a success (RFC 7252, section 5.9.1).
 const SUCCESS: u8 = 2;
@@ -39,6 +40,37 @@ fn stamp_in(token: &[u8]) -> Option<Stamp>
     Stamp::from_bytes([a, b, c, d, e, f, g, h])
 }
 
+/// What the report tells of the watch.
+fn notice_of(
+    alloc: Global,
+    report: Report,
+    view: &View<'_>,
+    watch: Watch,
+    ended: bool,
+) -> Result<Notice, NoMemory>
+    ensures { IfOk result (λ n. n ≡ notice_of report (view.now, watch) ended) }
+{
+    let endpoint = Text::copy_of(alloc, view.endpoint)?;
+    let Report {
+        code,
+        observe,
+        format,
+        payload,
+        ..
+    } = report;
+    Ok(Notice {
+        token: watch.token,
+        id: view.id,
+        endpoint,
+        path: watch.path,
+        code,
+        observe,
+        format,
+        ended,
+        payload,
+    })
+}
+
 impl Node {
     pub(crate) fn decide_report(&self, now: Moment, report: Report) -> Result<Decision, NoMemory>
         ensures { IfOk result (Decided self.now.table.state (λ M. ReportMeans (place_at self.now (ms_of now)) M report)) }
@@ -53,7 +85,7 @@ impl Node {
         let reply = acknowledged(self.alloc, report.kind, report.mid)?;
         Ok(Decision {
             reply,
-            notice: Some(Notice::of(self.alloc, report, &view, watch, false)?),
+            notice: Some(notice_of(self.alloc, report, &view, watch, false)?),
             operation: None,
         })
     }
@@ -76,7 +108,7 @@ impl Node {
         let endpoint = endpoint_of(self.alloc, view.endpoint)?;
         Ok(Decision {
             reply,
-            notice: Some(Notice::of(self.alloc, report, view, watch, true)?),
+            notice: Some(notice_of(self.alloc, report, view, watch, true)?),
             operation: Some(Op {
                 stamp,
                 endpoint,

@@ -10,15 +10,10 @@ ghost use Rattle.lw_node.specs.Steps.{Asks};
 ghost use Rattle.lw_node.specs.Twice.{first_of, second_of};
 ghost use Rattle.lw_node.specs.Within.{IsNextOf};
 
-use crate::answer::Answer;
 use crate::command::Command;
 use crate::decision::Decision;
 use crate::node::Node;
-use crate::observe_fault::ObserveFault;
-use crate::outgoing::Outgoing;
-use crate::question::Question;
-use crate::sent::Sent;
-use crate::taken::Taken;
+use lw_call::{Answer, ObserveFault, Outgoing, Question, Sent, Taken};
 use lw_reg::{Addr, Path};
 use lw_stamp::{Moment, NoMemory, Stamp};
 

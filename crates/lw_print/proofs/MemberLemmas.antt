@@ -4,7 +4,7 @@ use Rattle.serde_json.specs.Data.{boolean, number, unsigned, string, object, mem
 use Rattle.std.specs.Prelude.{codes}
 use Rattle.lw_reg.specs.declared.watch.Watch.{Watch}
 use Rattle.lw_reg.specs.Registration.{Registration}
-use Rattle.lw_node.specs.Effects.{NoticeContent}
+use Rattle.lw_call.specs.Contents.{NoticeContent}
 use Rattle.lw_print.specs.declared.notice.NoticeMembers.{NoticeMembers}
 use Rattle.lw_print.specs.declared.registration.Members.{Members}
 use Rattle.lw_print.specs.declared.watch.WatchMembers.{WatchMembers}

@@ -11,7 +11,7 @@ use Rattle.lw_reg.specs.Addr.{addr_text}
 use Rattle.lw_reg.specs.Binding.{binding_text}
 use Rattle.lw_reg.specs.Registration.{Registration}
 use Rattle.lw_reg.specs.Version.{version_text}
-use Rattle.lw_node.specs.Effects.{NoticeContent}
+use Rattle.lw_call.specs.Contents.{NoticeContent}
 use Rattle.lw_print.specs.PathText.{path_text}
 
 -- the text, or null where there is none

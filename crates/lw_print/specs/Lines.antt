@@ -8,14 +8,13 @@ use Rattle.lw_stamp.specs.Stamp.{id_of}
 use Rattle.lw_reg.specs.Addr.{addr_text}
 use Rattle.lw_delta.specs.declared.fault.DeltaFault.{DeltaFault}
 use Rattle.lw_delta.specs.declared.fault.DeltaFault.TheVariants as delta_faults
-use Rattle.lw_node.specs.declared.answer.Answer.{Answer}
-use Rattle.lw_node.specs.declared.answer.Answer.TheVariants as answers
-use Rattle.lw_node.specs.declared.merge_fault.MergeFault.{MergeFault}
-use Rattle.lw_node.specs.declared.merge_fault.MergeFault.TheVariants as merge_faults
-use Rattle.lw_node.specs.declared.observe_fault.ObserveFault.{ObserveFault}
-use Rattle.lw_node.specs.declared.observe_fault.ObserveFault.TheVariants as observe_faults
-use Rattle.lw_node.specs.Calls.{TakenContent, OutgoingContent}
-use Rattle.lw_node.specs.Effects.{NoticeContent}
+use Rattle.lw_call.specs.declared.answer.Answer.{Answer}
+use Rattle.lw_call.specs.declared.answer.Answer.TheVariants as answers
+use Rattle.lw_call.specs.declared.merge_fault.MergeFault.{MergeFault}
+use Rattle.lw_call.specs.declared.merge_fault.MergeFault.TheVariants as merge_faults
+use Rattle.lw_call.specs.declared.observe_fault.ObserveFault.{ObserveFault}
+use Rattle.lw_call.specs.declared.observe_fault.ObserveFault.TheVariants as observe_faults
+use Rattle.lw_call.specs.Contents.{NoticeContent, TakenContent, OutgoingContent}
 use Rattle.lw_world.specs.declared.outcome.Outcome.{Outcome}
 use Rattle.lw_world.specs.declared.outcome.Outcome.TheVariants as outcomes
 use Rattle.lw_print.specs.Answer.{reply_text}

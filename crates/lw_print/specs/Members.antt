@@ -10,7 +10,7 @@ use Rattle.lw_reg.specs.Addr.{addr_text}
 use Rattle.lw_reg.specs.Binding.{binding_text}
 use Rattle.lw_reg.specs.Registration.{Registration}
 use Rattle.lw_reg.specs.Version.{version_text}
-use Rattle.lw_node.specs.Effects.{NoticeContent}
+use Rattle.lw_call.specs.Contents.{NoticeContent}
 use Rattle.lw_print.specs.declared.notice.NoticeMembers.{NoticeMembers}
 use Rattle.lw_print.specs.declared.registration.Members.{Members}
 use Rattle.lw_print.specs.declared.watch.WatchMembers.{WatchMembers}

@@ -8,7 +8,7 @@ use Rattle.hex.specs.Hex.{decode_of}
 use Rattle.lw_stamp.specs.declared.moment.Moment.{Moment}
 use Rattle.lw_stamp.specs.Moment.{ms_of}
 use Rattle.lw_reg.specs.declared.addr.Addr.{Addr}
-use Rattle.lw_node.specs.declared.question.Question.TheVariants as question
+use Rattle.lw_call.specs.declared.question.Question.TheVariants as question
 use Rattle.lw_world.specs.declared.event.Event.{Event}
 use Rattle.lw_script.specs.declared.fault.LineFault.{LineFault}
 use Rattle.lw_script.specs.declared.fault.LineFault.TheVariants.{Refused, NoMemory}

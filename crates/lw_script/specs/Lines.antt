@@ -3,8 +3,8 @@ use Rattle.std.specs.Prelude.{◌≡◌, ◌⊎◌, ◌^◌, ℕ, List, Some, No
 use Rattle.lw_stamp.specs.Moment.{ms_of}
 use Rattle.std.specs.List.{before_first, after_first}
 use Rattle.lw_stamp.specs.declared.moment.Moment.{Moment}
-use Rattle.lw_node.specs.declared.question.Question.{Question}
-use Rattle.lw_node.specs.declared.question.Question.TheVariants as question
+use Rattle.lw_call.specs.declared.question.Question.{Question}
+use Rattle.lw_call.specs.declared.question.Question.TheVariants as question
 use Rattle.lw_world.specs.declared.event.Action.TheVariants as action
 use Rattle.lw_world.specs.declared.event.Event.{Event}
 use Rattle.lw_script.specs.declared.fault.LineFault.{LineFault}

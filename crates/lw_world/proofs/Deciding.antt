@@ -35,10 +35,10 @@ use Rattle.lw_reg.proofs.Tells.{SlotTells, Tells, ToldTells, Holds}
 use Rattle.lw_table.specs.Answers.{IsAfter, IsFirstAnswer, FirstAfter}
 use Rattle.lw_table.specs.LookUps.{ById, IsHolder, ByAddress, HasToken, ByToken, WatchOfIdAfter, IsExpiredAfter, ExpiredAfter}
 use Rattle.lw_table.proofs.LookUpLemmas.{IsKeptAs, registered_keeps, view_reads, marks_tell}
-use Rattle.lw_node.specs.declared.answer.Answer.{Answer}
-use Rattle.lw_node.specs.declared.answer.Answer.TheVariants as answers
-use Rattle.lw_node.specs.declared.question.Question.{Question}
-use Rattle.lw_node.specs.declared.question.Question.TheVariants as questions
+use Rattle.lw_call.specs.declared.answer.Answer.{Answer}
+use Rattle.lw_call.specs.declared.answer.Answer.TheVariants as answers
+use Rattle.lw_call.specs.declared.question.Question.{Question}
+use Rattle.lw_call.specs.declared.question.Question.TheVariants as questions
 use Rattle.lw_node.specs.Node.{NodeContent}
 use Rattle.lw_node.specs.Steps.{Answers}
 use Rattle.lw_world.specs.Known.{Knowledge, known_state, node_of}

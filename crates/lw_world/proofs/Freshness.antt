@@ -21,7 +21,7 @@ use Rattle.lw_request.specs.declared.asked.Asked.{Asked}
 use Rattle.lw_request.specs.declared.asked.Asked.TheVariants.{Register, Update, Deregister, Report, Ping, Refuse, Reject, Ignore}
 use Rattle.lw_request.specs.Report.{ReportContent}
 use Rattle.lw_table.proofs.LookUpLemmas.{read_tells, read_names, marks_tell}
-use Rattle.lw_node.specs.Calls.{TakenContent, OutgoingContent}
+use Rattle.lw_call.specs.Contents.{TakenContent, OutgoingContent}
 use Rattle.lw_node.specs.Effects.{Place, Effect, Request, Refused, IsNext, Issues, WritesGiven, IsNamed, Changes, NamedChanges, IsWatched, EndsWatch, ReportMeans, Does, MalformedMeans, DatagramMeans, CommandMeans, ObserveMeans, CancelMeans, observes, ends}
 use Rattle.lw_node.specs.Laws.{IsRegister}
 use Rattle.lw_node.specs.Within.{TokenWithin, FitsClock, IsNextOf}

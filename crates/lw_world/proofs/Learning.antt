@@ -15,11 +15,12 @@ use Rattle.lw_reg.proofs.States.{state_laws}
 use Rattle.lw_table.specs.Changes.{Recounts}
 use Rattle.lw_delta.specs.Delta.{DeltaContent}
 use Rattle.lw_delta.proofs.Answering.{one_delta, apart}
-use Rattle.lw_node.specs.declared.merge_fault.MergeFault.{MergeFault}
-use Rattle.lw_node.specs.declared.merge_fault.MergeFault.TheVariants.{Malformed, NoMemory}
-use Rattle.lw_node.specs.declared.observe_fault.ObserveFault.{ObserveFault}
-use Rattle.lw_node.specs.declared.observe_fault.ObserveFault.TheVariants as faults
-use Rattle.lw_node.specs.Calls.{TakenContent, OutgoingContent, Sent}
+use Rattle.lw_call.specs.declared.merge_fault.MergeFault.{MergeFault}
+use Rattle.lw_call.specs.declared.merge_fault.MergeFault.TheVariants.{Malformed, NoMemory}
+use Rattle.lw_call.specs.declared.observe_fault.ObserveFault.{ObserveFault}
+use Rattle.lw_call.specs.declared.observe_fault.ObserveFault.TheVariants as faults
+use Rattle.lw_call.specs.Contents.{TakenContent, OutgoingContent}
+use Rattle.lw_node.specs.Calls.{Sent}
 use Rattle.lw_node.specs.Calls.{Takes as NodeTakes}
 use Rattle.lw_node.specs.Effects.{Request, Refused}
 use Rattle.lw_node.specs.Exchange.{state_in, Merged, Merges}

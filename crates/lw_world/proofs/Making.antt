@@ -15,11 +15,12 @@ use Rattle.lw_reg.proofs.Operations.{all_names}
 use Rattle.lw_reg.proofs.States.{state_least}
 use Rattle.lw_reg.proofs.Members.{none_there, there_or_first}
 use Rattle.lw_delta.specs.Delta.{IsSpelling}
-use Rattle.lw_node.specs.declared.answer.Answer.{Answer}
-use Rattle.lw_node.specs.declared.merge_fault.MergeFault.{MergeFault}
-use Rattle.lw_node.specs.declared.observe_fault.ObserveFault.{ObserveFault}
-use Rattle.lw_node.specs.declared.question.Question.{Question}
-use Rattle.lw_node.specs.Calls.{TakenContent, OutgoingContent, IsSilent, Observes, Cancels}
+use Rattle.lw_call.specs.declared.answer.Answer.{Answer}
+use Rattle.lw_call.specs.declared.merge_fault.MergeFault.{MergeFault}
+use Rattle.lw_call.specs.declared.observe_fault.ObserveFault.{ObserveFault}
+use Rattle.lw_call.specs.declared.question.Question.{Question}
+use Rattle.lw_call.specs.Contents.{TakenContent, OutgoingContent}
+use Rattle.lw_node.specs.Calls.{IsSilent, Observes, Cancels}
 use Rattle.lw_node.specs.Calls.{Takes as NodeTakes}
 use Rattle.lw_node.specs.Effects.{ObserveMeans, CancelMeans}
 use Rattle.lw_node.specs.Exchange.{IsDeltaSince, Merges}

@@ -3,9 +3,9 @@ use Rattle.std.specs.Prelude.{◌≡◌, ◌≢◌, ◌↔◌, ℕ, ◌≤◌, L
 use Rattle.lw_reg.specs.declared.op.Op.{Op}
 use Rattle.lw_reg.specs.Marks.{Mark, NamesAll, among, left_by, all_marks}
 use Rattle.lw_reg.specs.State.{State, IsStateOf}
-use Rattle.lw_node.specs.declared.answer.Answer.{Answer}
-use Rattle.lw_node.specs.declared.question.Question.{Question}
-use Rattle.lw_node.specs.declared.question.Question.TheVariants.{Change}
+use Rattle.lw_call.specs.declared.answer.Answer.{Answer}
+use Rattle.lw_call.specs.declared.question.Question.{Question}
+use Rattle.lw_call.specs.declared.question.Question.TheVariants.{Change}
 use Rattle.lw_node.specs.Laws.{WellStamped}
 use Rattle.lw_node.specs.Node.{NodeContent}
 use Rattle.lw_node.specs.Steps.{Answers}

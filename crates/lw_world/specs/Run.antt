@@ -8,11 +8,12 @@ use Rattle.lw_reg.specs.Marks.{left_by}
 use Rattle.lw_table.specs.Changes.{IsSinceIn}
 use Rattle.lw_delta.specs.Delta.{DeltaContent, IsSpelling}
 use Rattle.lw_delta.specs.Writing.{delta_bytes}
-use Rattle.lw_node.specs.declared.merge_fault.MergeFault.{MergeFault}
-use Rattle.lw_node.specs.declared.merge_fault.MergeFault.TheVariants.{Malformed, NoMemory}
-use Rattle.lw_node.specs.declared.observe_fault.ObserveFault.{ObserveFault}
-use Rattle.lw_node.specs.declared.observe_fault.ObserveFault.TheVariants as faults
-use Rattle.lw_node.specs.Calls.{TakenContent, OutgoingContent, IsReply, IsSilent, IsSent}
+use Rattle.lw_call.specs.declared.merge_fault.MergeFault.{MergeFault}
+use Rattle.lw_call.specs.declared.merge_fault.MergeFault.TheVariants.{Malformed, NoMemory}
+use Rattle.lw_call.specs.declared.observe_fault.ObserveFault.{ObserveFault}
+use Rattle.lw_call.specs.declared.observe_fault.ObserveFault.TheVariants as faults
+use Rattle.lw_call.specs.Contents.{TakenContent, OutgoingContent}
+use Rattle.lw_node.specs.Calls.{IsReply, IsSilent, IsSent}
 use Rattle.lw_node.specs.Effects.{Request, Refused, DatagramMeans, ObserveMeans, CancelMeans}
 use Rattle.lw_node.specs.Effects.Refused.{NotFound, ClockEnd}
 use Rattle.lw_node.specs.Steps.{Asks}

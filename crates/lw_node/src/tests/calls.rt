@@ -42,7 +42,7 @@ fn merge(alloc: Global, delta: &str) -> Result<Call, Fail> {
     })
 }
 
-/// Commands, of which some differ in one part alone.
+/// Commands of each kind, of which some are refused.
 fn command_at(alloc: Global, place: usize) -> Result<Call, Fail> {
     let second = "0000000000020001";
     match place {
@@ -94,7 +94,7 @@ const COMMANDS: usize = 14;
 
 const CALLS: usize = COMMANDS + 15;
 
-/// Calls of each kind, no two of equal content.
+/// Calls of each kind.
 fn call_at(alloc: Global, place: usize) -> Result<Call, Fail> {
     if place < COMMANDS {
         return command_at(alloc, place);
@@ -103,26 +103,6 @@ fn call_at(alloc: Global, place: usize) -> Result<Call, Fail> {
         now: Moment::START,
         question: question_at(alloc, place - COMMANDS)?,
     })
-}
-
-/// Whether the copy of one call is the same as the other.
-fn copy_is_same(alloc: Global, place: usize, other: usize) -> Result<bool, Fail> {
-    let (call, other) = (call_at(alloc, place)?, call_at(alloc, other)?);
-    match call.copy(alloc) {
-        Ok(copy) => Ok(copy.same(&other)),
-        Err(_) => Err("no memory".into()),
-    }
-}
-
-#[test]
-fn a_copy_is_the_same_as_its_call_alone(rt: HostRuntime) -> Result<(), Fail> {
-    for place in 0..CALLS {
-        for other in 0..CALLS {
-            let is_same = copy_is_same(rt.alloc(), place, other)?;
-            assert!(rt; is_same == (place == other), "{place} and {other}");
-        }
-    }
-    Ok(())
 }
 
 /// Whether a call gives at one node twice what it gives at the other.
@@ -154,15 +134,4 @@ fn a_call_made_twice_gives_what_it_gives_once(rt: HostRuntime) -> Result<(), Fai
     }
     play(rt.alloc(), &mut once, &AFTER_CALLS)?;
     play(rt.alloc(), &mut twice, &AFTER_CALLS)
-}
-
-#[test]
-fn replies_differ_where_their_content_does(rt: HostRuntime) -> Result<(), Fail> {
-    let mut node = Node::new(rt.alloc(), 1);
-    let register = take(rt.alloc(), 5683, REGISTER)?;
-    let first = node.act(&register);
-    // the second has another location
-    let (second, again) = node.act_twice(&register);
-    assert!(rt; second.same(&again) && !second.same(&first));
-    Ok(())
 }

@@ -1,8 +1,8 @@
 use Rattle.std.proofs.Common.{rules}
 use Rattle.std.specs.Option.{option_map}
 use Rattle.lw_stamp.specs.Moment.{ms_of}
-use Rattle.lw_node.specs.declared.answer.Answer.TheVariants as answers
-use Rattle.lw_node.specs.declared.question.Question.TheVariants as questions
+use Rattle.lw_call.specs.declared.answer.Answer.TheVariants as answers
+use Rattle.lw_call.specs.declared.question.Question.TheVariants as questions
 use Rattle.lw_node.proofs.StepLemmas.{asked}
 use Rattle.lw_node.proofs.node.Node.ask.Goals as goal
 

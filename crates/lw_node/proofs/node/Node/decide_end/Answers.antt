@@ -16,4 +16,4 @@ returns c now =
       about = record { endpoint = c.in_ok-endpoint.ensures ∙ ap (λ (r : Registration). r.endpoint) c.view.view_is; registration = ap (λ (r : Registration). r.id) c.view.view_is };
       what = refl;
     })
-    c.in_ok-of.ensures c.in_ok-reply-2.ensures
+    c.in_ok-notice_of.ensures c.in_ok-reply-2.ensures

@@ -24,4 +24,4 @@ returns-then-not-goes_on c =
 pub returns : goal.returns
 returns c known h =
     decides_told (place_at c.args.self.now (ms_of c.args.now)) (marks_in c.args.self.now.table.state known) c.args.report _ c.report.view_is (c.in-Some.view, c.in-Some.watch)
-    c.deref.result.now c.deref.ensures.value (c.in-Some.ensures.some known h) _ _ (c.goes_on.ensures.0 c.if-not-goes_on.false) c.in_ok-of.ensures c.in_ok-reply-2.ensures
+    c.deref.result.now c.deref.ensures.value (c.in-Some.ensures.some known h) _ _ (c.goes_on.ensures.0 c.if-not-goes_on.false) c.in_ok-notice_of.ensures c.in_ok-reply-2.ensures

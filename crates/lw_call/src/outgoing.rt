@@ -13,7 +13,7 @@ pub struct Outgoing {
 }
 
 impl Model for Outgoing {
-    ghost use Rattle.lw_node.specs.Calls.{OutgoingContent};
+    ghost use Rattle.lw_call.specs.Contents.{OutgoingContent};
 
     ghost Value = { OutgoingContent };
 

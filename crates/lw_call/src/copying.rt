@@ -1,7 +1,7 @@
 //! Copies of calls, and of what they give.
 
 ghost use Rattle.std.specs.Prelude.{◌≡◌, IfOk, IsOk, None, OnErr, option_map};
-ghost use Rattle.lw_node.specs.Steps.{IsFound};
+ghost use Rattle.lw_call.specs.Found.{IsFound};
 
 use crate::answer::Answer;
 use crate::call::Call;
@@ -80,7 +80,7 @@ impl Question {
 
 impl Taken {
     /// A copy. It takes no memory where neither a reply nor a notice is given.
-    pub(crate) fn copy(&self, alloc: Global) -> Result<Taken, NoMemory>
+    pub fn copy(&self, alloc: Global) -> Result<Taken, NoMemory>
         ensures value { IfOk result (λ taken. taken ≡ self.now) }
         ensures calm { self.now ≡ record { reply = None; notice = None } → IsOk result }
     {
@@ -92,7 +92,7 @@ impl Taken {
 }
 
 impl Notice {
-    pub(crate) fn copy(&self, alloc: Global) -> Result<Notice, NoMemory>
+    fn copy(&self, alloc: Global) -> Result<Notice, NoMemory>
         ensures { IfOk result (λ notice. notice ≡ self.now) }
     {
         Ok(Notice {
@@ -110,7 +110,8 @@ impl Notice {
 }
 
 impl Outgoing {
-    pub(crate) fn copy(&self, alloc: Global) -> Result<Outgoing, NoMemory>
+    /// A copy of equal content.
+    pub fn copy(&self, alloc: Global) -> Result<Outgoing, NoMemory>
         ensures { IfOk result (λ outgoing. outgoing ≡ self.now) }
     {
         Ok(Outgoing {
@@ -122,7 +123,8 @@ impl Outgoing {
 }
 
 impl Sent {
-    pub(crate) fn copy(&self, alloc: Global) -> Result<Sent, NoMemory>
+    /// A copy of equal content.
+    pub fn copy(&self, alloc: Global) -> Result<Sent, NoMemory>
         ensures { IfOk result (λ sent. sent ≡ self.now) }
     {
         Ok(Sent {
@@ -133,7 +135,8 @@ impl Sent {
 }
 
 impl Answer {
-    pub(crate) fn copy(&self, alloc: Global) -> Result<Answer, NoMemory>
+    /// A copy. It takes no memory where nothing was found, nor does the change number.
+    pub fn copy(&self, alloc: Global) -> Result<Answer, NoMemory>
         ensures value { IfOk result (λ answer. answer ≡ self.now) }
         ensures found { OnErr result (IsFound self.now) }
     {

@@ -13,7 +13,7 @@ pub enum ObserveFault {
 
 impl From<NoMemory> for ObserveFault {
     ghost use Rattle.std.specs.Prelude.{◌≡◌};
-    ghost use Rattle.lw_node.specs.declared.observe_fault.ObserveFault.TheVariants.{NoMemory as WantOfMemory};
+    ghost use Rattle.lw_call.specs.declared.observe_fault.ObserveFault.TheVariants.{NoMemory as WantOfMemory};
 
     ghost from_gives = { λ _ fault. fault ≡ WantOfMemory };
 

@@ -10,7 +10,7 @@ pub struct Sent {
 }
 
 impl Model for Sent {
-    ghost use Rattle.lw_node.specs.Exchange.{SentContent};
+    ghost use Rattle.lw_call.specs.Contents.{SentContent};
 
     ghost Value = { SentContent };
 

@@ -1,5 +1,5 @@
 -- That what tests of equality tell.
-use Rattle.std.proofs.Common.{◌≡◌, ◌↔◌, IsTrue, ℕ, Bool, true, false, refl, sym, ap, ◌∙◌, subst}
+use Rattle.std.proofs.Common.{◌≡◌, ◌↔◌, IsTrue, true, refl, ap, subst}
 use Rattle.std.specs.declared.cmp.Ordering.{Ordering}
 use Rattle.std.specs.declared.cmp.Ordering.TheVariants.{Equal}
 use Rattle.std.specs.Cmp.{Equal-is, tied_itself}
@@ -17,7 +17,6 @@ use Rattle.lw_reg.specs.contracts.binding.BindingPartialEq.TheImpl as bindings
 use Rattle.lw_reg.specs.contracts.path.PathPartialEq.TheImpl as paths
 use Rattle.lw_reg.specs.BindingLaws.{same_binding}
 use Rattle.lw_reg.specs.BindingText.{text_in}
-use Rattle.lw_reg.specs.Orders.{path_cmp}
 use Rattle.lw_reg.specs.OrderLaws.{moment_order, number_order, path_order}
 
 -- what an order does not tell apart is the same

@@ -12,7 +12,7 @@ pub struct Taken {
 
 impl Model for Taken {
     ghost use Rattle.std.specs.Prelude.{option_map};
-    ghost use Rattle.lw_node.specs.Calls.{TakenContent};
+    ghost use Rattle.lw_call.specs.Contents.{TakenContent};
 
     ghost Value = { TakenContent };
 

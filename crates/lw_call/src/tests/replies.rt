@@ -1,0 +1,161 @@
+//! Replies: which are the same, and copies of what is given.
+
+use super::*;
+use lw_delta::DeltaFault;
+use lw_link::LinkText;
+use lw_reg::{Binding, Seen, Version, Watch};
+
+fn taken(alloc: Global, ended: bool) -> Result<Taken, Fail> {
+    let notice = Notice {
+        token: SECOND,
+        id: FIRST,
+        endpoint: text(alloc, "a")?,
+        path: path(&[3, 0])?,
+        code: 69,
+        observe: Some(1),
+        format: None,
+        ended,
+        payload: b"1".to_vec(alloc)?,
+    };
+    Ok(Taken {
+        reply: Some(b"2".to_vec(alloc)?),
+        notice: Some(notice),
+    })
+}
+
+fn outgoing(alloc: Global, token: Stamp) -> Result<Outgoing, Fail> {
+    Ok(Outgoing {
+        to: host(5683),
+        token,
+        bytes: b"1".to_vec(alloc)?,
+    })
+}
+
+fn sent(alloc: Global, change: u64) -> Result<Sent, Fail> {
+    Ok(Sent {
+        delta: b"1".to_vec(alloc)?,
+        change,
+    })
+}
+
+fn seen(alloc: Global, lifetime: u32) -> Result<Seen, Fail> {
+    Ok(Seen {
+        endpoint: text(alloc, "a")?,
+        id: FIRST,
+        address: host(5683),
+        seen: Moment::START,
+        lifetime,
+        version: Version::V11,
+        binding: Binding::U,
+        queue: false,
+        sms: None,
+        objects: LinkText::read(alloc, b"</3/0>")?,
+    })
+}
+
+fn watched(alloc: Global, accept: Option<u16>) -> Result<Answer, Fail> {
+    let watch = Watch {
+        token: SECOND,
+        path: path(&[3, 0])?,
+        accept,
+    };
+    Ok(Answer::Watched(Some((seen(alloc, 60)?, watch))))
+}
+
+fn answer_at(alloc: Global, place: usize) -> Result<Answer, Fail> {
+    match place {
+        0 => Ok(Answer::Registration(Some(seen(alloc, 60)?))),
+        1 => Ok(Answer::Registration(Some(seen(alloc, 61)?))),
+        2 => Ok(Answer::Registration(None)),
+        3 => watched(alloc, None),
+        4 => watched(alloc, Some(0)),
+        5 => Ok(Answer::Watched(None)),
+        6 => Ok(Answer::Expired(Some((text(alloc, "a")?, FIRST)))),
+        7 => Ok(Answer::Expired(Some((text(alloc, "a")?, SECOND)))),
+        8 => Ok(Answer::Expired(None)),
+        9 => Ok(Answer::Changed(0)),
+        _ => Ok(Answer::Changed(1)),
+    }
+}
+
+/// Replies of which copies can be made.
+fn given_at(alloc: Global, place: usize) -> Result<Reply, Fail> {
+    match place {
+        0 => Ok(Reply::Take(Ok(taken(alloc, false)?))),
+        1 => Ok(Reply::Take(Ok(taken(alloc, true)?))),
+        2 => Ok(Reply::Take(Ok(Taken {
+            reply: None,
+            notice: None,
+        }))),
+        3 => Ok(Reply::Observe(Ok(outgoing(alloc, FIRST)?))),
+        4 => Ok(Reply::Observe(Ok(outgoing(alloc, SECOND)?))),
+        5 => Ok(Reply::Cancel(Ok(outgoing(alloc, FIRST)?))),
+        6 => Ok(Reply::Send(Ok(sent(alloc, 0)?))),
+        7 => Ok(Reply::Send(Ok(sent(alloc, 1)?))),
+        _ => Ok(Reply::Ask(Ok(answer_at(alloc, place - 8)?))),
+    }
+}
+
+const GIVEN: usize = 8 + 11;
+
+/// Refusals, and what a merge gives.
+fn plain_at(place: usize) -> Reply {
+    match place {
+        0 => Reply::Take(Err(NoMemory)),
+        1 => Reply::Observe(Err(ObserveFault::NotFound)),
+        2 => Reply::Observe(Err(ObserveFault::ClockEnd)),
+        3 => Reply::Cancel(Err(ObserveFault::NotFound)),
+        4 => Reply::Send(Err(NoMemory)),
+        5 => Reply::Merge(Ok(0)),
+        6 => Reply::Merge(Ok(1)),
+        7 => Reply::Merge(Err(MergeFault::Malformed(DeltaFault::Magic))),
+        8 => Reply::Merge(Err(MergeFault::Malformed(DeltaFault::Order))),
+        9 => Reply::Merge(Err(MergeFault::NoMemory { joined: 0 })),
+        10 => Reply::Merge(Err(MergeFault::NoMemory { joined: 1 })),
+        _ => Reply::Ask(Err(NoMemory)),
+    }
+}
+
+const REPLIES: usize = GIVEN + 12;
+
+/// Replies of each kind, no two of equal content.
+fn reply_at(alloc: Global, place: usize) -> Result<Reply, Fail> {
+    if place < GIVEN {
+        return given_at(alloc, place);
+    }
+    Ok(plain_at(place - GIVEN))
+}
+
+#[test]
+fn replies_differ_where_their_content_does(rt: HostRuntime) -> Result<(), Fail> {
+    for place in 0..REPLIES {
+        let reply = reply_at(rt.alloc(), place)?;
+        for other in 0..REPLIES {
+            let is_same = reply.same(&reply_at(rt.alloc(), other)?);
+            assert!(rt; is_same == (place == other), "{place} and {other}");
+        }
+    }
+    Ok(())
+}
+
+/// The same reply with a copy of what it gives.
+fn copy_of(alloc: Global, reply: &Reply) -> Result<Reply, Fail> {
+    match reply {
+        Reply::Take(Ok(taken)) => Ok(Reply::Take(Ok(taken.copy(alloc)?))),
+        Reply::Observe(Ok(outgoing)) => Ok(Reply::Observe(Ok(outgoing.copy(alloc)?))),
+        Reply::Cancel(Ok(outgoing)) => Ok(Reply::Cancel(Ok(outgoing.copy(alloc)?))),
+        Reply::Send(Ok(sent)) => Ok(Reply::Send(Ok(sent.copy(alloc)?))),
+        Reply::Ask(Ok(answer)) => Ok(Reply::Ask(Ok(answer.copy(alloc)?))),
+        _ => Err("nothing is given".into()),
+    }
+}
+
+#[test]
+fn copies_of_what_is_given_are_the_same(rt: HostRuntime) -> Result<(), Fail> {
+    for place in 0..GIVEN {
+        let reply = given_at(rt.alloc(), place)?;
+        let copy = copy_of(rt.alloc(), &reply)?;
+        assert!(rt; copy.same(&reply), "{place}");
+    }
+    Ok(())
+}
