@@ -21,7 +21,7 @@ impl Numbers {
 
     /// The number of a message, which may be of none.
     fn message(&mut self) -> u64 {
-        self.next() * 16 + self.next()
+        self.next() << 4 | self.next()
     }
 }
 
