@@ -39,6 +39,7 @@ enum Doing {
 #[derive(Drop)]
 struct Story {
     events: Vec<Event>,
+    /// How many messages were sent.
     messages: usize,
     /// The operations that every node knows: as many changes each has counted.
     known: u64,
@@ -76,14 +77,14 @@ pub(crate) fn endpoint_at(alloc: Global, place: u32) -> Result<String, AllocErro
 /// The identifier of the registration of this place: nodes register in turn, and each counts its own.
 pub(crate) fn id_at(place: u32) -> Stamp {
     Stamp {
-        counter: u64::from(place / 4) + 1,
+        counter: u64::from(place / u32::from(NODES)) + 1,
         node: node_at(place),
     }
 }
 
 /// The node at which the endpoint of this place registers.
 fn node_at(place: u32) -> u16 {
-    (place % 4) as u16 + 1
+    (place % u32::from(NODES)) as u16 + 1
 }
 
 impl Story {
@@ -168,8 +169,8 @@ impl Doing {
     fn node(self, place: u32) -> u16 {
         match self {
             Doing::Register => node_at(place),
-            Doing::Update => node_at(place % 4 + 1),
-            Doing::LookUp => node_at(place % 4 + 2),
+            Doing::Update => node_at(place.wrapping_add(1)),
+            Doing::LookUp => node_at(place.wrapping_add(2)),
         }
     }
 
