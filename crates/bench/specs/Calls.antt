@@ -1,9 +1,17 @@
--- How many calls a round makes at a size: so many, or fewer where each is long; 32 where so many slots changed.
-use Rattle.std.specs.Prelude.{ℕ, min}
+-- How many calls a round makes at a size: so many, or fewer where each is long; 32 where so many slots changed; and the
+-- events of a run.
+use Rattle.std.specs.Prelude.{ℕ, ◌+◌, ◌*◌, min}
+use Rattle.std.specs.Int.{div_ceil}
 use Rattle.bench.specs.declared.operation.Operation.{Operation}
-use Rattle.bench.specs.declared.operation.Operation.TheVariants.{Request, Exchange}
+use Rattle.bench.specs.declared.operation.Operation.TheVariants.{Request, Exchange, Run}
+
+-- Each endpoint registers, is updated and is looked up; and for each hundred that register, and each that are updated,
+-- four nodes each send a message, and each message is delivered at the three others.
+abbrev pub events_of : ℕ → ℕ
+events_of count = 3 * count + 32 * div_ceil count 100
 
 abbrev pub calls_of : Operation → ℕ → ℕ
 calls_of (Request _) count = min count 1000
 calls_of (Exchange _) count = 32
+calls_of (Run _) count = events_of count
 calls_of _ count = count

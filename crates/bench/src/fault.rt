@@ -2,6 +2,7 @@ use lw_coap::Fault;
 use lw_delta::DeltaFault;
 use lw_link::LinkFault;
 use lw_node::MergeFault;
+use lw_script::ScriptFault;
 use lw_stamp::NoMemory;
 use std::alloc::{AllocError, AllocFailed};
 use std::io;
@@ -60,6 +61,12 @@ impl From<DeltaFault> for BenchFault {
 
 impl From<MergeFault> for BenchFault {
     fn from(_fault: MergeFault) -> BenchFault {
+        BenchFault::Unexpected
+    }
+}
+
+impl From<ScriptFault> for BenchFault {
+    fn from(_fault: ScriptFault) -> BenchFault {
         BenchFault::Unexpected
     }
 }

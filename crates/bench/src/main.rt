@@ -5,6 +5,7 @@
 
 mod cost;
 mod deltas;
+mod events;
 mod exchange;
 mod fault;
 mod heap;
@@ -15,6 +16,8 @@ mod nodes;
 mod operation;
 mod requests;
 mod row;
+mod runs;
+mod script;
 mod slots;
 mod table;
 

@@ -103,7 +103,7 @@ fn stamp_at(before: u64, place: u32) -> Result<Stamp, BenchFault> {
 }
 
 /// Where the device of this place sends from.
-fn source_at(place: u32) -> Addr {
+pub(crate) fn source_at(place: u32) -> Addr {
     Addr::V4 {
         address: place.to_be_bytes(),
         port: 5683,

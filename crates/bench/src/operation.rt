@@ -8,6 +8,7 @@ use crate::indexes::IndexCall;
 use crate::names::Order;
 use crate::nodes::{NodeCall, NodeCalls};
 use crate::requests::RequestCall;
+use crate::runs::RunCall;
 use crate::slots::SlotCall;
 use std::alloc::Global;
 use std::time::CpuClock;
@@ -21,13 +22,14 @@ pub(crate) enum Operation {
     Delta(DeltaCall),
     Index(IndexCall),
     Request(RequestCall),
+    Run(RunCall),
 }
 
 /// The most calls in a round that reads thousands of bytes each time.
 const LONG_CALLS: u32 = 1000;
 
 /// What is measured and its name, in the order of the table.
-pub(crate) const ROWS: [(&str, Operation); 24] = [
+pub(crate) const ROWS: [(&str, Operation); 26] = [
     (
         "take of a new Register, names rising",
         Operation::Node(NodeCalls {
@@ -156,6 +158,11 @@ pub(crate) const ROWS: [(&str, Operation); 24] = [
         "LinkText::read, a printing of 256 links",
         Operation::Request(RequestCall::ReadLinks),
     ),
+    ("a run of 4 nodes, each event", Operation::Run(RunCall::Run)),
+    (
+        "read_script of such a run, each event",
+        Operation::Run(RunCall::ReadScript),
+    ),
 ];
 
 impl Operation {
@@ -177,6 +184,7 @@ impl Operation {
             Operation::Delta(call) => call.round(clock, alloc, count),
             Operation::Index(call) => call.round(clock, alloc, count),
             Operation::Request(call) => call.round(clock, alloc, count.min(LONG_CALLS)),
+            Operation::Run(call) => call.round(clock, alloc, count),
         }
     }
 
