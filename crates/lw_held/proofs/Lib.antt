@@ -1,0 +1,5 @@
+pub mod Histories
+pub mod Agreement
+pub mod Lawful
+pub mod Joining
+pub mod Keeping
