@@ -166,8 +166,8 @@ known_marks k = (all_names k.operations, state_least (all_marks k.operations))
 
 -- ---- the node of a number, after another knows something else
 get_set : {A : Type 0} (xs : List A) (place : ℕ) (x y : A) → slice_get xs place ≡ Some x → slice_get (set xs place y) place ≡ Some y
-get_set [] zero x y at = absurd (let bad : ◌≡◌ {A = Option A} None (Some x) = at in cc)
-get_set [] (suc place) x y at = absurd (let bad : ◌≡◌ {A = Option A} None (Some x) = at in cc)
+get_set {A = A} [] zero x y at = absurd (let bad : ◌≡◌ {A = Option A} None (Some x) = at in cc)
+get_set {A = A} [] (suc place) x y at = absurd (let bad : ◌≡◌ {A = Option A} None (Some x) = at in cc)
 get_set (z ∷ xs) zero x y at = refl
 get_set (z ∷ xs) (suc place) x y at = get_set xs place x y at
 
@@ -180,7 +180,7 @@ get_set_other (z ∷ xs) (suc place) zero y apart = refl
 get_set_other (z ∷ xs) (suc place) (suc other) y apart = get_set_other xs place other y (λ same. apart (ap suc same))
 
 at_set : {A : Type 0} (xs : List A) (number : ℕ) (x y : A) → at_number xs number ≡ Some x → at_number (with_node xs number y) number ≡ Some y
-at_set {A} xs zero x y at = absurd (let bad : ◌≡◌ {A = Option A} None (Some x) = at in cc)
+at_set {A = A} xs zero x y at = absurd (let bad : ◌≡◌ {A = Option A} None (Some x) = at in cc)
 at_set xs (suc place) x y at = get_set xs place x y at
 
 at_set_other : {A : Type 0} (xs : List A) (number other : ℕ) (y : A) → (number ≡ other → ⊥) → at_number (with_node xs number y) other ≡ at_number xs other

@@ -1,5 +1,5 @@
 -- Passes keep their numbers when a call is made with one of them.
-use Rattle.std.proofs.Common.{◌≡◌, ℕ, zero, suc, ◌<◌, ◌×◌, Bool, true, false, List, [], ◌∷◌, length, Option, Some, None, Result, Ok, Err, refl, sym, ap, ◌∙◌, subst, arith}
+use Rattle.std.proofs.Common.{◌≡◌, ℕ, zero, suc, ◌<◌, Bool, true, false, List, [], ◌∷◌, length, Option, Some, None, Result, Ok, Err, refl, sym, ap, ◌∙◌, subst, arith}
 use Rattle.std.specs.Prelude.{set, slice_get, slice_set, slice_index_or, IfOk, OnErr}
 use Rattle.lw_stamp.specs.declared.no_memory.NoMemory.{NoMemory}
 use Rattle.lw_held.specs.declared.entry.Entry.{Entry}
@@ -22,7 +22,7 @@ before [] i one new at same place after is = absurd (let bad : ◌≡◌ {A = Op
 before (x ∷ passes) zero one new at same zero after is = record {
   pass = one;
   is = at;
-  number = sym same ∙ ap (λ (y : Transcript). y.number) (let e : Some new ≡ Some after = is in cc);
+  number = let e : new ≡ after = (let f : Some new ≡ Some after = is in cc) in sym same ∙ ap (λ (y : Transcript). y.number) e;
 }
 before (x ∷ passes) zero one new at same (suc place) after is = record { pass = after; is = is; number = refl }
 before (x ∷ passes) (suc i) one new at same zero after is = record { pass = after; is = is; number = refl }

@@ -3,3 +3,4 @@ pub mod Agreement
 pub mod Lawful
 pub mod Joining
 pub mod Keeping
+pub mod Longer

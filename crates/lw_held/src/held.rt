@@ -19,9 +19,13 @@ pub struct Held {
 }
 
 impl Model for Held {
+    ghost use Rattle.std.specs.Coded.{codes};
+    ghost use Rattle.lw_node.specs.Node.{node_code};
     ghost use Rattle.lw_held.specs.History.{HeldContent};
 
     ghost Value = { HeldContent };
+
+    ghost coded = { Prim.hlevel (codes, node_code) };
 
     ghost use Rattle.std.specs.Prelude.{◌≡◌};
     ghost use Rattle.lw_held.specs.History.{IsLegal};
