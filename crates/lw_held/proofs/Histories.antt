@@ -1,6 +1,5 @@
 -- A history that is longer by one entry.
 use Rattle.std.proofs.Common.{◌≡◌, ℕ, List, [], ◌∷◌, ◌++◌, Option, Some, None, Result, Ok, Err, refl, sym, ap, ◌∙◌, subst}
-use Rattle.lw_stamp.specs.declared.no_memory.NoMemory.{NoMemory}
 use Rattle.lw_reg.specs.declared.op.Op.{Op}
 use Rattle.lw_node.specs.declared.call.Call.{Call}
 use Rattle.lw_node.specs.declared.call.Call.TheVariants as calls
@@ -13,12 +12,12 @@ use Rattle.lw_node.specs.declared.reply.Reply.TheVariants as replies
 use Rattle.lw_node.specs.Calls.{OutgoingContent, Sent}
 use Rattle.lw_node.specs.Effects.{Request, Refused}
 use Rattle.lw_node.specs.Exchange.{Merges}
-use Rattle.lw_node.specs.Node.{NodeContent, Known, fresh, marks_in, IsAfter}
+use Rattle.lw_node.specs.Node.{NodeContent, fresh, marks_in, IsAfter}
 use Rattle.lw_node.specs.Node.Known.{Shown}
 use Rattle.lw_node.specs.Steps.{Steps}
 use Rattle.lw_reg.specs.Marks.{Marks}
 use Rattle.lw_held.specs.declared.entry.Entry.{Entry}
-use Rattle.lw_held.specs.History.{IsStep, Leads, HeldContent, IsLegal}
+use Rattle.lw_held.specs.History.{IsStep, Leads, IsLegal}
 
 -- ---- a step keeps the number
 same_number : (old new : NodeContent) → new ≡ old → new.number ≡ old.number

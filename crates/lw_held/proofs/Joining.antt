@@ -1,10 +1,9 @@
 -- A joint history is that of a run: turn by turn.
-use Rattle.std.proofs.Common.{◌≡◌, ◌==◌, ℕ, zero, suc, ◌+◌, ◌-◌, ◌<◌, ◌≤◌, Bool, true, false, cond, List, [], ◌∷◌, ◌++◌, length, Option, Some, None, Result, Ok, Err, sym, refl, ap, ◌∙◌, subst, arith, inl, inr, ◌⊎◌, eq-eqb}
-use Rattle.std.specs.Prelude.{Contains, map, filter, set, slice_get, option_map}
+use Rattle.std.proofs.Common.{◌≡◌, ◌==◌, ℕ, zero, suc, ◌+◌, ◌<◌, ◌≤◌, Bool, true, false, cond, List, [], ◌∷◌, ◌++◌, length, Option, Some, None, Ok, Err, sym, refl, ap, ◌∙◌, subst, arith, eq-eqb}
+use Rattle.std.specs.Prelude.{map, filter, set, slice_get}
 use Rattle.std.proofs.lemmas.Bool.{eqb-true}
 use Rattle.std.proofs.lemmas.List.{length-map}
 use Rattle.lw_stamp.specs.Moment.{ms_of}
-use Rattle.lw_stamp.specs.declared.no_memory.NoMemory.{NoMemory}
 use Rattle.lw_reg.specs.Marks.{left_by, all_marks}
 use Rattle.lw_reg.proofs.Operations.{all_names}
 use Rattle.lw_reg.proofs.Members.{none_there}
@@ -31,8 +30,8 @@ use Rattle.lw_world.specs.World.{bytes_of}
 use Rattle.lw_world.proofs.Learning.{taken_so, commanded_so}
 use Rattle.lw_world.proofs.Making.{all_sound, delivers, happens_steps}
 use Rattle.lw_held.specs.declared.entry.Entry.{Entry}
-use Rattle.lw_held.specs.History.{IsStep, Leads}
-use Rattle.lw_held.specs.Joint.{Turn, entries_of, AreOfRun, with_delta, IsPassedOn, ArePassedOn, IsJoint, IsToldAs, AreToldAs, IsRun, JointHistoriesRun}
+use Rattle.lw_held.specs.History.{Leads}
+use Rattle.lw_held.specs.Joint.{Turn, entries_of, AreOfRun, with_delta, IsPassedOn, ArePassedOn, IsToldAs, AreToldAs, JointHistoriesRun}
 
 -- ---- one turn
 -- a node that knows this does what the call says, with these deltas sent so far

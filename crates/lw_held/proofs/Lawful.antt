@@ -1,9 +1,7 @@
 -- The law of settled passes.
-use Rattle.std.proofs.Common.{◌≡◌, ℕ, ◌<◌, ◌≤◌, Some, None, refl, sym, subst, ◌⊎◌, inl, inr, arith, length}
+use Rattle.std.proofs.Common.{◌≡◌, ◌<◌, Some, refl, sym, subst, inl, inr, arith, length}
 use Rattle.std.specs.Prelude.{slice_get}
 use Rattle.std.proofs.lemmas.Option.{slice_get_cases}
-use Rattle.lw_held.specs.declared.entry.Entry.{Entry}
-use Rattle.lw_held.specs.declared.entry.Part.{Part}
 use Rattle.lw_held.specs.Laws.{OwnOrder}
 use Rattle.lw_held.specs.Transcript.{Transcript}
 use Rattle.lw_held.proofs.Agreement.{same_some}

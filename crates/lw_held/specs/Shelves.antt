@@ -5,7 +5,7 @@ use Rattle.lw_held.specs.declared.entry.Entry.{Entry}
 use Rattle.lw_held.specs.declared.shelf.Shelf.{Shelf}
 use Rattle.lw_held.specs.Agree.{IsSettled}
 use Rattle.lw_held.specs.History.{HeldContent, IsLegal, Enters}
-use Rattle.lw_held.specs.Transcript.{Transcript, with_part}
+use Rattle.lw_held.specs.Transcript.{Transcript}
 
 -- the shelves are numbered from 1, in order
 abbrev pub AreInOrder : List Shelf → Type 0

@@ -6,4 +6,4 @@ pub invariant_of-self-2 : goal.invariant_of-self-2
 invariant_of-self-2 c =
     let next : c.in_ok-entry.entry.number ≡ length c.reserve.new.self.items = search rules in
     numbered_longer c.self.inside.number c.self.inside.parts.items c.reserve.new.self.items c.push_reserved.new.self.items (record { node = c.args.node; place = c.in_ok-entry.place; entry = c.in_ok-entry.entry })
-    c.self.invariant c.reserve.ensures.items c.push_reserved.ensures.items c.in_ok-entry.ensures.entered.1.pass_is next
+    c.self.invariant c.reserve.ensures.items c.push_reserved.ensures.items c.in_ok-entry.ensures.entered.pass_is next
