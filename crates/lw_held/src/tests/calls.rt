@@ -16,7 +16,7 @@ pub(super) enum What<'a> {
 }
 
 impl What<'_> {
-    pub(super) fn call(self, alloc: Global) -> Result<Call, Fail> {
+    pub(super) fn made(self, alloc: Global) -> Result<Call, Fail> {
         let now = Moment::START;
         Ok(match self {
             What::Takes(datagram) => Call::Take {
@@ -71,11 +71,12 @@ pub(super) fn call<R: Wait>(
     requires { AreDistinct passes.old }
     ensures { AreDistinct passes.new }
 {
-    let made = what.call(alloc)?;
+    let made = what.made(alloc)?;
     if pass >= passes.len() {
         return Err("a pass".into());
     }
-    match shelf.call(rt, &NoGate, &mut passes[pass], &made) {
+    let lent = &mut passes[pass];
+    match shelf.call(rt, &NoGate, lent, &made) {
         Ok(place) => Ok(place),
         Err(NoMemory) => Err("no memory".into()),
     }
@@ -92,11 +93,12 @@ pub(super) fn step(
     requires { AreDistinct passes.old }
     ensures { AreDistinct passes.new }
 {
-    let made = what.call(alloc)?;
+    let made = what.made(alloc)?;
     if pass >= passes.len() {
         return Err("a pass".into());
     }
-    match passes[pass].step(1, held, &made) {
+    let lent = &mut passes[pass];
+    match lent.step(1, held, &made) {
         Ok(place) => Ok(place),
         Err(NoMemory) => Err("no memory".into()),
     }

@@ -6,7 +6,7 @@ use super::*;
 fn a_step_gives_the_entry_and_its_place(rt: HostRuntime) -> Result<(), Fail> {
     let alloc = rt.alloc();
     let mut held = Held::new(alloc, 1);
-    let register = Takes(REGISTER).call(alloc)?;
+    let register = Takes(REGISTER).made(alloc)?;
     let Ok((first, place)) = held.step(7, 3, &register) else {
         return Err("no memory".into());
     };
@@ -46,7 +46,7 @@ fn entries_are_the_same_where_all_parts_are(rt: HostRuntime) -> Result<(), Fail>
 }
 
 fn entry(alloc: Global, pass: u32, number: u64, what: calls::What<'_>) -> Result<Entry, Fail> {
-    let call = what.call(alloc)?;
+    let call = what.made(alloc)?;
     match Held::new(alloc, 1).step(pass, number, &call) {
         Ok((entry, _)) => Ok(entry),
         Err(NoMemory) => Err("no memory".into()),
