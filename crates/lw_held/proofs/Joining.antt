@@ -1,0 +1,294 @@
+-- A joint history is that of a run: turn by turn.
+use Rattle.std.proofs.Common.{◌≡◌, ◌==◌, ℕ, zero, suc, ◌+◌, ◌<◌, ◌≤◌, Bool, true, false, cond, List, [], ◌∷◌, ◌++◌, length, Option, Some, None, Ok, Err, sym, refl, ap, ◌∙◌, subst, arith, eq-eqb}
+use Rattle.std.specs.Prelude.{map, filter, set, slice_get}
+use Rattle.std.proofs.lemmas.Bool.{eqb-true}
+use Rattle.std.proofs.lemmas.List.{length-map}
+use Rattle.lw_stamp.specs.Moment.{ms_of}
+use Rattle.lw_reg.specs.Marks.{left_by, all_marks}
+use Rattle.lw_reg.proofs.Operations.{all_names}
+use Rattle.lw_reg.proofs.Members.{none_there}
+use Rattle.lw_reg.proofs.States.{state_least}
+use Rattle.lw_delta.specs.Delta.{IsSpelling}
+use Rattle.lw_call.specs.declared.call.Call.{Call}
+use Rattle.lw_call.specs.declared.call.Call.TheVariants as calls
+use Rattle.lw_call.specs.declared.reply.Reply.{Reply}
+use Rattle.lw_call.specs.declared.reply.Reply.TheVariants as replies
+use Rattle.lw_call.specs.Contents.{SentContent}
+use Rattle.lw_node.specs.Effects.{ObserveMeans, CancelMeans}
+use Rattle.lw_node.specs.Exchange.{IsDeltaSince}
+use Rattle.lw_node.specs.Node.{NodeContent, Knows, fresh}
+use Rattle.lw_node.specs.Node.Known.{Told}
+use Rattle.lw_node.specs.Steps.{Steps}
+use Rattle.lw_world.specs.declared.event.Action.{Action}
+use Rattle.lw_world.specs.declared.event.Action.TheVariants as actions
+use Rattle.lw_world.specs.declared.event.Event.{Event}
+use Rattle.lw_world.specs.declared.outcome.Outcome.{Outcome}
+use Rattle.lw_world.specs.declared.outcome.Outcome.TheVariants as results
+use Rattle.lw_world.specs.Known.{Knowledge, Message, place_of, node_of, about, names_of, knows_nothing}
+use Rattle.lw_world.specs.Run.{History, Left, idle, Acts, Happens, Runs, at_number, with_node, after, begun, numbered_from}
+use Rattle.lw_world.specs.Sound.{AreSound}
+use Rattle.lw_world.specs.World.{bytes_of}
+use Rattle.lw_world.proofs.Learning.{taken_so, commanded_so}
+use Rattle.lw_world.proofs.Making.{all_sound, delivers, happens_steps}
+use Rattle.lw_held.specs.declared.entry.Entry.{Entry}
+use Rattle.lw_held.specs.History.{Leads}
+use Rattle.lw_held.specs.Joint.{Turn, entries_of, AreOfRun, with_delta, IsPassedOn, ArePassedOn, IsToldAs, AreToldAs, JointHistoriesRun}
+
+-- ---- one turn
+-- a node that knows this does what the call says, with these deltas sent so far
+record Acted (messages : List Message) (k : Knowledge) (deltas : List (List ℕ)) (call : Call) (reply : Reply) (node : NodeContent) : Type 0 where
+  action : Action
+  outcome : Outcome
+  told : IsToldAs deltas call reply action outcome
+  left : Left
+  acts : Acts messages k action outcome left
+  node_is : node ≡ node_of left.knows
+  deltas_are : with_delta deltas reply ≡ map bytes_of left.messages
+  sound : AreSound left.messages
+
+map_end : (ms : List Message) (m : Message) → map bytes_of (ms ++ m ∷ []) ≡ map bytes_of ms ++ bytes_of m ∷ []
+map_end [] m = refl
+map_end (x ∷ ms) m = ap (λ bs. bytes_of x ∷ bs) (map_end ms m)
+
+module _ (messages : List Message) (k : Knowledge) (deltas : List (List ℕ)) (node : NodeContent) (sound : AreSound messages) (are : deltas ≡ map bytes_of messages) where
+  sends : (since : ℕ) (sent : SentContent) → IsDeltaSince (node_of k) since sent.delta → sent.change ≡ k.count.change → node ≡ node_of k → Acted messages k deltas (calls.Send since) (replies.Send (Ok sent)) node
+  sends since sent d own same =
+      let m : Message = record { delta = record { clock = k.clock; slots = d.slots }; operations = about (names_of d.slots) k.operations } in
+      let left : Left = record { operation = None; knows = k; messages = messages ++ m ∷ [] } in
+      let spelled : IsSpelling (bytes_of m) m.delta = subst (λ bs. IsSpelling bs m.delta) d.written d.spelled in
+      record {
+        action = actions.Send since;
+        outcome = results.Sent (Ok (record { message = length deltas; change = sent.change }));
+        told = (refl, refl);
+        left = left;
+        acts = record {
+          delta = m.delta;
+          clock = refl;
+          slots = d.are;
+          spelled = spelled;
+          number = ap length are ∙ length-map messages bytes_of;
+          change = own;
+          left_is = refl;
+        };
+        node_is = same;
+        deltas_are = (λ i. are i ++ d.written i ∷ []) ∙ sym (map_end messages m);
+        sound = all_sound messages m sound (record { known = k.operations; operations_are = refl; slots = λ e slot there. ((d.are.members e slot).0 there).0; spelled = spelled });
+      }
+
+  merges : (bytes : List ℕ) (reply : Reply) (number : ℕ) → slice_get deltas number ≡ Some bytes → Steps (node_of k) (left_by k.operations) (calls.Merge bytes) reply node → Acted messages k deltas (calls.Merge bytes) reply node
+  merges bytes (replies.Merge r) number at steps =
+      let so = delivers messages k number bytes sound (subst (λ bs. slice_get bs number ≡ Some bytes) are at) r node steps in
+      record {
+        action = actions.Deliver number;
+        outcome = results.Delivered r;
+        told = (number, at, refl, refl);
+        left = so.0;
+        acts = so.1;
+        node_is = so.2.node_is;
+        deltas_are = are ∙ ap (map bytes_of) (sym so.2.messages_are);
+        sound = subst AreSound (sym so.2.messages_are) sound;
+      }
+  merges bytes _ number at steps = absurd steps
+
+  acted : (call : Call) (reply : Reply) → IsPassedOn deltas call → Steps (node_of k) (left_by k.operations) call reply node → Acted messages k deltas call reply node
+  acted (calls.Take now source bytes) (replies.Take (Ok taken)) passed steps =
+      let so = taken_so messages k (ms_of now) source bytes taken node steps in
+      record {
+        action = actions.Take now source bytes;
+        outcome = results.Taken (Ok taken);
+        told = (refl, refl);
+        left = so.0;
+        acts = (so.1, so.2.messages_are);
+        node_is = so.2.node_is;
+        deltas_are = are ∙ ap (map bytes_of) (sym so.2.messages_are);
+        sound = subst AreSound (sym so.2.messages_are) sound;
+      }
+  acted (calls.Take now source bytes) (replies.Take (Err refused)) passed steps = record {
+    action = actions.Take now source bytes;
+    outcome = results.Taken (Err refused);
+    told = (refl, refl);
+    left = idle messages k;
+    acts = (steps.0, refl);
+    node_is = steps.1;
+    deltas_are = are;
+    sound = sound;
+  }
+  acted (calls.Observe now id path accept mid) (replies.Observe r) passed steps =
+      let so = commanded_so (ObserveMeans (place_of k (ms_of now)) (left_by k.operations) id path accept mid) messages k r node steps in
+      record {
+        action = actions.Observe now id path accept mid;
+        outcome = results.Observed r;
+        told = (refl, refl);
+        left = so.0;
+        acts = so.1;
+        node_is = so.2.node_is;
+        deltas_are = are ∙ ap (map bytes_of) (sym so.2.messages_are);
+        sound = subst AreSound (sym so.2.messages_are) sound;
+      }
+  acted (calls.Cancel now token mid) (replies.Cancel r) passed steps =
+      let so = commanded_so (CancelMeans (place_of k (ms_of now)) (left_by k.operations) token mid) messages k r node steps in
+      record {
+        action = actions.Cancel now token mid;
+        outcome = results.Cancelled r;
+        told = (refl, refl);
+        left = so.0;
+        acts = so.1;
+        node_is = so.2.node_is;
+        deltas_are = are ∙ ap (map bytes_of) (sym so.2.messages_are);
+        sound = subst AreSound (sym so.2.messages_are) sound;
+      }
+  acted (calls.Send since) (replies.Send (Ok sent)) passed steps = sends since sent steps.0.0 steps.0.1 steps.1
+  acted (calls.Send since) (replies.Send (Err refused)) passed steps = record {
+    action = actions.Send since;
+    outcome = results.Sent (Err refused);
+    told = (refl, refl);
+    left = idle messages k;
+    acts = refl;
+    node_is = steps.1;
+    deltas_are = are;
+    sound = sound;
+  }
+  acted (calls.Merge bytes) reply passed steps = merges bytes reply passed.0 passed.1 steps
+  acted (calls.Ask now question) (replies.Ask r) passed steps = record {
+    action = actions.Ask now question;
+    outcome = results.Answered r;
+    told = (refl, refl);
+    left = idle messages k;
+    acts = (steps.0, refl);
+    node_is = steps.1;
+    deltas_are = are;
+    sound = sound;
+  }
+  acted _ _ passed steps = absurd steps
+
+known_marks : (k : Knowledge) → Knows (node_of k) (all_marks k.operations)
+known_marks k = (all_names k.operations, state_least (all_marks k.operations))
+
+-- ---- the node of a number, after another knows something else
+get_set : {A : Type 0} (xs : List A) (place : ℕ) (x y : A) → slice_get xs place ≡ Some x → slice_get (set xs place y) place ≡ Some y
+get_set {A = A} [] zero x y at = absurd (let bad : ◌≡◌ {A = Option A} None (Some x) = at in cc)
+get_set {A = A} [] (suc place) x y at = absurd (let bad : ◌≡◌ {A = Option A} None (Some x) = at in cc)
+get_set (z ∷ xs) zero x y at = refl
+get_set (z ∷ xs) (suc place) x y at = get_set xs place x y at
+
+get_set_other : {A : Type 0} (xs : List A) (place other : ℕ) (y : A) → (place ≡ other → ⊥) → slice_get (set xs place y) other ≡ slice_get xs other
+get_set_other [] zero other y apart = refl
+get_set_other [] (suc place) other y apart = refl
+get_set_other (z ∷ xs) zero zero y apart = absurd (apart refl)
+get_set_other (z ∷ xs) zero (suc other) y apart = refl
+get_set_other (z ∷ xs) (suc place) zero y apart = refl
+get_set_other (z ∷ xs) (suc place) (suc other) y apart = get_set_other xs place other y (λ same. apart (ap suc same))
+
+at_set : {A : Type 0} (xs : List A) (number : ℕ) (x y : A) → at_number xs number ≡ Some x → at_number (with_node xs number y) number ≡ Some y
+at_set {A = A} xs zero x y at = absurd (let bad : ◌≡◌ {A = Option A} None (Some x) = at in cc)
+at_set xs (suc place) x y at = get_set xs place x y at
+
+at_set_other : {A : Type 0} (xs : List A) (number other : ℕ) (y : A) → (number ≡ other → ⊥) → at_number (with_node xs number y) other ≡ at_number xs other
+at_set_other xs zero other y apart = refl
+at_set_other xs (suc place) zero y apart = refl
+at_set_other xs (suc place) (suc other) y apart = get_set_other xs place other y (λ same. apart (ap suc same))
+
+-- ---- the entries of a node
+entries_here : (number : ℕ) (turn : Turn) (turns : List Turn) → turn.node ≡ number → entries_of number (turn ∷ turns) ≡ turn.entry ∷ entries_of number turns
+entries_here number turn turns same =
+    let rest : List Turn = filter (λ (t : Turn). t.node == number) turns in
+    ap (λ b. map (λ (t : Turn). t.entry) (cond b (turn ∷ rest) rest)) (eq-eqb turn.node number same)
+
+entries_apart : (number : ℕ) (turn : Turn) (turns : List Turn) → (turn.node == number) ≡ false → entries_of number (turn ∷ turns) ≡ entries_of number turns
+entries_apart number turn turns apart =
+    let rest : List Turn = filter (λ (t : Turn). t.node == number) turns in
+    ap (λ b. map (λ (t : Turn). t.entry) (cond b (turn ∷ rest) rest)) apart
+
+-- ---- turn by turn
+-- what the node of the number knows, and that its entries lead from there to its last
+record Stands (h : History) (turns : List Turn) (last : ℕ → NodeContent) (number : ℕ) : Type 0 where
+  knows : Knowledge
+  is : at_number h.nodes number ≡ Some knows
+  leads : Leads (node_of knows) (entries_of number turns) (last number)
+
+-- what stays so along the turns
+record Holds (count : ℕ) (h : History) (deltas : List (List ℕ)) (turns : List Turn) (last : ℕ → NodeContent) : Type 0 where
+  sound : AreSound h.messages
+  are : deltas ≡ map bytes_of h.messages
+  stands : (number : ℕ) → 1 ≤ number → number ≤ count → Stands h turns last number
+
+-- the rest of a run
+record Goes (count : ℕ) (h : History) (deltas : List (List ℕ)) (turns : List Turn) (last : ℕ → NodeContent) : Type 0 where
+  events : List Event
+  outcomes : List Outcome
+  told : AreToldAs deltas turns events outcomes
+  history : History
+  runs : Runs h events outcomes history
+  ends : (number : ℕ) → 1 ≤ number → number ≤ count → (knows : Knowledge) × (at_number history.nodes number ≡ Some knows) × (last number ≡ node_of knows)
+
+module _ (count : ℕ) (last : ℕ → NodeContent) where
+  -- the first turn is taken: its node knows what it has learnt, and the others stay
+  stand_on : (h : History) (turn : Turn) (turns : List Turn) (k : Knowledge) (left : Left) → at_number h.nodes turn.node ≡ Some k → Leads (node_of left.knows) (entries_of turn.node turns) (last turn.node)
+      → (number : ℕ) → Stands h (turn ∷ turns) last number → Stands (after h turn.node left) turns last number
+  stand_on h turn turns k left at leads number stands = go (turn.node == number) refl
+    where
+      go : (b : Bool) → (turn.node == number) ≡ b → Stands (after h turn.node left) turns last number
+      go true e =
+          let same : turn.node ≡ number = eqb-true turn.node number e in
+          subst (λ n. Stands (after h turn.node left) turns last n) same (record { knows = left.knows; is = at_set h.nodes turn.node k left.knows at; leads = leads })
+      go false e = record {
+        knows = stands.knows;
+        is = at_set_other h.nodes turn.node number left.knows (λ same. let yes : (turn.node == number) ≡ true = eq-eqb turn.node number same in let bad : true ≡ false = sym yes ∙ e in cc) ∙ stands.is;
+        leads = subst (λ (es : List Entry). Leads (node_of stands.knows) es (last number)) (entries_apart number turn turns e) stands.leads;
+      }
+
+  goes : (turns : List Turn) (h : History) (deltas : List (List ℕ)) → AreOfRun count turns → ArePassedOn deltas turns → Holds count h deltas turns last → Goes count h deltas turns last
+  goes [] h deltas of passed holds = record {
+    events = [];
+    outcomes = [];
+    told = tt;
+    history = h;
+    runs = refl;
+    ends = λ number low high. let s = holds.stands number low high in (s.knows, s.is, s.leads);
+  }
+  goes (turn ∷ turns) h deltas of passed holds =
+      let s = holds.stands turn.node of.0 of.1 in
+      let leads : Leads (node_of s.knows) (turn.entry ∷ entries_of turn.node turns) (last turn.node) = subst (λ (es : List Entry). Leads (node_of s.knows) es (last turn.node)) (entries_here turn.node turn turns refl) s.leads in
+      let one = acted h.messages s.knows deltas leads.0 holds.sound holds.are turn.entry.call turn.entry.reply passed.0 (leads.1 (Told (all_marks s.knows.operations)) (known_marks s.knows)) in
+      let next : History = after h turn.node one.left in
+      let event : Event = record { node = turn.node; action = one.action } in
+      let happens : Happens h event one.outcome next = record { knows = s.knows; is = s.is; left = one.left; acts = one.acts; new_is = refl } in
+      let from : Leads (node_of one.left.knows) (entries_of turn.node turns) (last turn.node) = subst (λ (n : NodeContent). Leads n (entries_of turn.node turns) (last turn.node)) one.node_is leads.2 in
+      let rest = goes turns next (with_delta deltas turn.entry.reply) of.2 passed.1 (record {
+        sound = one.sound;
+        are = one.deltas_are;
+        stands = λ number low high. stand_on h turn turns s.knows one.left s.is from number (holds.stands number low high);
+      }) in
+      record {
+        events = event ∷ rest.events;
+        outcomes = one.outcome ∷ rest.outcomes;
+        told = (refl, one.told, rest.told);
+        history = rest.history;
+        runs = (next, happens_steps h event one.outcome next happens, rest.runs);
+        ends = rest.ends;
+      }
+
+-- ---- from the beginning
+begun_at : (first place count : ℕ) → place < count → slice_get (numbered_from first count) place ≡ Some (knows_nothing (first + place))
+begun_at first place zero within = absurd (omega (arith, within))
+begun_at first zero (suc count) within = ap (λ n. Some (knows_nothing n)) (let e : first ≡ first + zero = omega arith in e)
+begun_at first (suc place) (suc count) within =
+    begun_at (first + 1) place count (omega (arith, within))
+    ∙ ap (λ n. Some (knows_nothing n)) (let e : first + 1 + place ≡ first + suc place = omega arith in e)
+
+begun_stands : (count : ℕ) (turns : List Turn) (last : ℕ → NodeContent) (number : ℕ) → 1 ≤ number → number ≤ count → Leads (fresh number) (entries_of number turns) (last number) → Stands (begun count) turns last number
+begun_stands count turns last zero low high leads = absurd (omega (arith, low))
+begun_stands count turns last (suc place) low high leads = record {
+  knows = knows_nothing (suc place);
+  is = begun_at 1 place count (omega (arith, high)) ∙ ap (λ n. Some (knows_nothing n)) (let e : 1 + place ≡ suc place = omega arith in e);
+  leads = leads;
+}
+
+pub joint_histories_run : JointHistoriesRun
+joint_histories_run count turns last joint =
+    let run = goes count last turns (begun count) [] joint.of_run joint.passed_on (record {
+      sound = λ m there. none_there m there;
+      are = refl;
+      stands = λ number low high. begun_stands count turns last number low high (joint.legal number low high);
+    }) in
+    record { events = run.events; outcomes = run.outcomes; told = run.told; history = run.history; runs = run.runs; ends = run.ends }

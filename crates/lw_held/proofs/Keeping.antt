@@ -1,0 +1,41 @@
+-- Passes keep their numbers when a call is made with one of them.
+use Rattle.std.proofs.Common.{◌≡◌, ℕ, zero, suc, List, [], ◌∷◌, Option, Some, None, Result, Ok, Err, refl, sym, ap, ◌∙◌}
+use Rattle.std.specs.Prelude.{set, slice_get, IfOk, OnErr}
+use Rattle.lw_stamp.specs.declared.no_memory.NoMemory.{NoMemory}
+use Rattle.lw_held.specs.declared.entry.Entry.{Entry}
+use Rattle.lw_held.specs.Agree.{AreDistinct}
+use Rattle.lw_held.specs.Transcript.{Transcript, with_part}
+
+pub number_kept : (node : ℕ) (P : ℕ → Entry → Type 0) (r : Result ℕ NoMemory) (old new : Transcript) → IfOk r (λ place. (entry : Entry) × P place entry × (new ≡ with_part old node place entry)) → OnErr r (new ≡ old) → new.number ≡ old.number
+number_kept node P (Ok place) old new ok err = ap (λ (x : Transcript). x.number) ok.2
+number_kept node P (Err refused) old new ok err = ap (λ (x : Transcript). x.number) err
+
+pub first_kept : {P Q : Type 0} (r : Result ℕ NoMemory) → OnErr r (P × Q) → OnErr r P
+first_kept (Ok place) kept = tt
+first_kept (Err refused) kept = kept.0
+
+-- the pass at a place, before another transcript of its number was put somewhere
+record Before (passes : List Transcript) (place : ℕ) (after : Transcript) : Type 0 where
+  pass : Transcript
+  is : slice_get passes place ≡ Some pass
+  number : pass.number ≡ after.number
+
+before : (passes : List Transcript) (i : ℕ) (one new : Transcript) → slice_get passes i ≡ Some one → new.number ≡ one.number
+    → (place : ℕ) (after : Transcript) → slice_get (set passes i new) place ≡ Some after → Before passes place after
+before [] i one new at same place after is = absurd (let bad : ◌≡◌ {A = Option Transcript} None (Some one) = at in cc)
+before (x ∷ passes) zero one new at same zero after is = record {
+  pass = one;
+  is = at;
+  number = let e : new ≡ after = (let f : Some new ≡ Some after = is in cc) in sym same ∙ ap (λ (y : Transcript). y.number) e;
+}
+before (x ∷ passes) zero one new at same (suc place) after is = record { pass = after; is = is; number = refl }
+before (x ∷ passes) (suc i) one new at same zero after is = record { pass = after; is = is; number = refl }
+before (x ∷ passes) (suc i) one new at same (suc place) after is =
+    let rest = before passes i one new at same place after is in
+    record { pass = rest.pass; is = rest.is; number = rest.number }
+
+pub distinct_kept : (passes : List Transcript) (i : ℕ) (one new : Transcript) → slice_get passes i ≡ Some one → new.number ≡ one.number → AreDistinct passes → AreDistinct (set passes i new)
+distinct_kept passes i one new at same distinct j k a b is_a is_b equal =
+    let x = before passes i one new at same j a is_a in
+    let y = before passes i one new at same k b is_b in
+    distinct j k x.pass y.pass x.is y.is (x.number ∙ equal ∙ sym y.number)

@@ -1,0 +1,6 @@
+pub mod Histories
+pub mod Agreement
+pub mod Lawful
+pub mod Joining
+pub mod Keeping
+pub mod Longer

@@ -1,0 +1,48 @@
+-- Lists that are longer by one, and what is known of a call under a lock.
+use Rattle.std.proofs.Common.{◌≡◌, ℕ, zero, suc, ◌+◌, List, [], ◌∷◌, ◌++◌, length, Option, Some, None, Result, Ok, Err, refl, sym, ap, ◌∙◌, subst, inl, inr, ◌⊎◌}
+use Rattle.std.specs.Prelude.{slice_get, IfOk, OnOk}
+use Rattle.lw_stamp.specs.declared.no_memory.NoMemory.{NoMemory}
+use Rattle.lw_call.specs.declared.call.Call.{Call}
+use Rattle.lw_node.specs.Node.{fresh}
+use Rattle.lw_held.specs.declared.entry.Entry.{Entry}
+use Rattle.lw_held.specs.declared.entry.Part.{Part}
+use Rattle.lw_held.specs.declared.shelf.Shelf.{Shelf}
+use Rattle.lw_held.specs.Agree.{Agrees, IsSettled}
+use Rattle.lw_held.specs.History.{HeldContent, Leads, IsLegal, Enters}
+use Rattle.lw_held.specs.Shelves.{AreInOrder, IsAnswered}
+use Rattle.lw_held.specs.Transcript.{Transcript, IsNumbered}
+
+-- what lies at a place was there before, or is the new one
+there_or_last : {A : Type 0} (xs : List A) (y : A) (k : ℕ) (x : A) → slice_get (xs ++ y ∷ []) k ≡ Some x → (slice_get xs k ≡ Some x) ⊎ ((k ≡ length xs) × (y ≡ x))
+there_or_last [] y zero x at = inr (refl, let e : Some y ≡ Some x = at in cc)
+there_or_last {A = A} [] y (suc k) x at = absurd (let bad : ◌≡◌ {A = Option A} None (Some x) = at in cc)
+there_or_last (z ∷ xs) y zero x at = inl at
+there_or_last (z ∷ xs) y (suc k) x at = elim (there_or_last xs y k x at) [ inl before ↦ inl before | inr last ↦ inr (ap suc last.0, last.1) ]
+
+-- a transcript with one part more, which has the next number
+pub numbered_longer : (number : ℕ) (parts room longer : List Part) (part : Part) → IsNumbered (record { number = number; parts = parts }) → room ≡ parts → longer ≡ room ++ part ∷ [] → part.entry.pass ≡ number → part.entry.number ≡ length room
+    → IsNumbered (record { number = number; parts = longer })
+numbered_longer number parts room longer part before kept pushed own next k x at =
+    elim (there_or_last room part k x (ap (λ (ps : List Part). slice_get ps k) (sym pushed) ∙ at)) [
+      | inl earlier ↦ before k x (ap (λ (ps : List Part). slice_get ps k) (sym kept) ∙ earlier)
+      | inr last ↦ (ap (λ (p : Part). p.entry.pass) (sym last.1) ∙ own, ap (λ (p : Part). p.entry.number) (sym last.1) ∙ next ∙ sym last.0)
+    ]
+
+-- one shelf more, of the next number
+pub in_order_longer : (shelves longer : List Shelf) (shelf : Shelf) → AreInOrder shelves → longer ≡ shelves ++ shelf ∷ [] → shelf.number ≡ length shelves + 1 → AreInOrder longer
+in_order_longer shelves longer shelf before pushed next k x at =
+    elim (there_or_last shelves shelf k x (ap (λ (ss : List Shelf). slice_get ss k) (sym pushed) ∙ at)) [
+      | inl earlier ↦ before k x earlier
+      | inr last ↦ ap (λ (s : Shelf). s.number) (sym last.1) ∙ next ∙ ap (λ n. n + 1) (sym last.0)
+    ]
+
+-- what has answered had a legal history
+pub answered : (r : Result ℕ NoMemory) (pass number : ℕ) (call : Call) (old new : HeldContent) (Q : ℕ → Entry → Type 0) → IsLegal old → IfOk r (λ place. (entry : Entry) × Enters old pass number call entry place new × Q place entry)
+    → IfOk r (λ place. (entry : Entry) × IsAnswered pass number call entry place × Q place entry)
+answered (Ok place) pass number call old new Q legal entered = (entered.0, (old, new, legal, entered.1), entered.2)
+answered (Err refused) pass number call old new Q legal entered = tt
+
+-- a journal that agrees is the history that is settled
+pub settles : {T E : Type 0} (r : Result T E) (node : ℕ) (held : HeldContent) (passes : List Transcript) → IsLegal held → OnOk r (Agrees node held passes) → OnOk r (IsSettled node passes)
+settles (Ok t) node held passes legal agrees = record { journal = held.journal; last = held.node; legal = subst (λ n. Leads (fresh n) held.journal held.node) agrees.0 legal; fine = agrees.1 }
+settles (Err e) node held passes legal agrees = tt

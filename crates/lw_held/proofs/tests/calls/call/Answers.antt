@@ -1,0 +1,12 @@
+use Rattle.std.proofs.Common.{refl, length}
+use Rattle.std.proofs.lemmas.Option.{slice_get_read}
+use Rattle.lw_held.specs.Shelves.{IsAnswered}
+use Rattle.lw_held.proofs.Keeping.{number_kept, distinct_kept}
+use Rattle.lw_held.proofs.tests.calls.call.Goals as goal
+
+pub returns-in-Ok : goal.returns-in-Ok
+returns-in-Ok g c =
+    let lent = c.index-passes-pass.result in
+    distinct_kept c.args.passes.now c.args.pass lent c.call.new.pass (slice_get_read _ _ _ _ refl c.if-pass-passes.false c.index-passes-pass.is)
+    (number_kept c.args.shelf.now.number (λ place entry. IsAnswered lent.number (length lent.parts) c.in_ok-made.made entry place) c.call.result lent c.call.new.pass c.call.ensures.answered c.call.ensures.unchanged)
+    c.requires

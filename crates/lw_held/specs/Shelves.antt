@@ -1,0 +1,24 @@
+-- Lists of shelves and of passes, and what is known of a call behind a lock.
+use Rattle.std.specs.Prelude.{◌≡◌, ℕ, ◌+◌, List, [], Some, slice_get}
+use Rattle.lw_call.specs.declared.call.Call.{Call}
+use Rattle.lw_held.specs.declared.entry.Entry.{Entry}
+use Rattle.lw_held.specs.declared.shelf.Shelf.{Shelf}
+use Rattle.lw_held.specs.Agree.{IsSettled}
+use Rattle.lw_held.specs.History.{HeldContent, IsLegal, Enters}
+use Rattle.lw_held.specs.Transcript.{Transcript}
+
+-- the shelves are numbered from 1, in order
+abbrev pub AreInOrder : List Shelf → Type 0
+AreInOrder shelves = (i : ℕ) (shelf : Shelf) → slice_get shelves i ≡ Some shelf → shelf.number ≡ i + 1
+
+-- the passes are numbered from 0, in order, and no call was made with them
+abbrev pub AreNew : List Transcript → Type 0
+AreNew passes = (i : ℕ) (pass : Transcript) → slice_get passes i ≡ Some pass → pass ≡ record { number = i; parts = [] }
+
+-- the call is made of some node with a legal history
+abbrev pub IsAnswered : ℕ → ℕ → Call → Entry → ℕ → Type 0
+IsAnswered pass number call entry place = (old : HeldContent) × (new : HeldContent) × IsLegal old × Enters old pass number call entry place new
+
+-- the passes' parts are legal histories of the nodes of the shelves
+abbrev pub AreSettled : List Shelf → List Transcript → Type 0
+AreSettled shelves passes = (i : ℕ) (shelf : Shelf) → slice_get shelves i ≡ Some shelf → IsSettled shelf.number passes

@@ -1,0 +1,15 @@
+//! Laws of histories and of settled passes, each the contract of a function that does nothing.
+
+ghost use Rattle.lw_held.specs.Joint.{JointHistoriesRun};
+ghost use Rattle.lw_held.specs.Laws.{OwnOrder};
+
+/// In settled passes, the calls of a pass stand in the history of a node in the pass's own order.
+pub fn own_order()
+    ensures { OwnOrder }
+{}
+
+/// Where the histories of several nodes are laid in one order, in which each delta is sent before it is merged, the
+/// replies are outcomes of a run of these calls, and each node ends with what has reached it in that run.
+pub fn joint()
+    ensures { JointHistoriesRun }
+{}

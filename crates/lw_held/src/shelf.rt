@@ -1,0 +1,147 @@
+//! Nodes behind locks of their own.
+
+ghost use Rattle.std.specs.Prelude.{◌≡◌, ◌≤◌, length, vec_len, IfOk, OnOk, OnErr};
+ghost use Rattle.lw_held.specs.Agree.{AreDistinct, IsSettled};
+ghost use Rattle.lw_held.specs.Shelves.{AreInOrder, AreNew, AreSettled, IsAnswered};
+ghost use Rattle.lw_held.specs.Transcript.{with_part};
+ghost use Rattle.lw_held.specs.declared.entry.Entry.{Entry};
+
+use crate::gate::Gate;
+use crate::held::Held;
+use crate::pass::Pass;
+use lw_node::Call;
+use lw_stamp::NoMemory;
+use std::alloc::Global;
+use std::sync::{Mutex, Wait};
+
+/// A number, and a lock round a node with its journal.
+#[derive(Drop)]
+pub struct Shelf {
+    number: u16,
+    held: Mutex<Held>,
+}
+
+impl Shelf {
+    /// A new node of the number, behind a lock.
+    fn new(alloc: Global, number: u16) -> Shelf
+        ensures { result.number ≡ number }
+    {
+        Shelf {
+            number,
+            held: Mutex::new(Held::new(alloc, number)),
+        }
+    }
+
+    pub fn number(&self) -> u16
+        ensures { result ≡ self.now.number }
+    {
+        self.number
+    }
+
+    /// Makes the call of the node behind the lock, and gives its place in the journal there. The gate is told under the
+    /// lock before the call, and after an `Ok` when the lock is let go.
+    pub fn call<R: Wait, G: Gate>(
+        &self,
+        rt: &R,
+        gate: &G,
+        pass: &mut Pass,
+        call: &Call,
+    ) -> Result<u64, NoMemory>
+        // Some node with a legal history has answered. That it is the one behind this lock is what `settle` shows.
+        ensures answered { IfOk result (λ place. (entry : Entry) × IsAnswered pass.old.number (length pass.old.parts) call.now entry place × (pass.new ≡ with_part pass.old self.now.number place entry)) }
+        ensures unchanged { OnErr result (pass.new ≡ pass.old) }
+    {
+        let answer = self.call_locked(rt, gate, pass, call);
+        if answer.is_ok() {
+            gate.answered(self.number, pass.number());
+        }
+        answer
+    }
+
+    fn call_locked<R: Wait, G: Gate>(
+        &self,
+        rt: &R,
+        gate: &G,
+        pass: &mut Pass,
+        call: &Call,
+    ) -> Result<u64, NoMemory>
+        ensures answered { IfOk result (λ place. (entry : Entry) × IsAnswered pass.old.number (length pass.old.parts) call.now entry place × (pass.new ≡ with_part pass.old self.now.number place entry)) }
+        ensures unchanged { OnErr result (pass.new ≡ pass.old) }
+    {
+        let mut held = self.held.lock(rt);
+        gate.inside(self.number, pass.number());
+        let held: &mut Held = &mut held;
+        held.legal();
+        pass.step(self.number, held, call)
+    }
+
+    /// Whether the passes' parts for the node are the journal behind the lock.
+    fn agrees<R: Wait>(&self, rt: &R, passes: &[Pass]) -> Result<(), u64>
+        requires { AreDistinct passes.now }
+        ensures { OnOk result (IsSettled self.now.number passes.now) }
+    {
+        let mut held = self.held.lock(rt);
+        let held: &mut Held = &mut held;
+        held.legal();
+        held.agrees(self.number, passes)
+    }
+}
+
+/// Each journal is what the passes' transcripts say.
+#[derive(Clone, Copy, Debug, PartialEq, Eq)]
+pub struct Settled;
+
+/// The first node whose journal is not what the transcripts say, and the least place that fails there.
+#[derive(Clone, Copy, Debug, PartialEq, Eq)]
+pub struct Unsettled {
+    pub node: u16,
+    pub place: u64,
+}
+
+/// Asks under each lock in turn whether the journal is what the passes' transcripts say. It takes no memory.
+pub fn settle<R: Wait>(rt: &R, shelves: &[Shelf], passes: &[Pass]) -> Result<Settled, Unsettled>
+    requires shelves { AreInOrder shelves.now }
+    requires passes { AreDistinct passes.now }
+    ensures { OnOk result (AreSettled shelves.now passes.now) }
+{
+    for shelf in shelves {
+        if let Err(place) = shelf.agrees(rt, passes) {
+            return Err(Unsettled {
+                node: shelf.number,
+                place,
+            });
+        }
+    }
+    Ok(Settled)
+}
+
+/// New nodes, numbered from 1 and each behind a lock, and passes, numbered from 0, that no call was made with.
+pub fn set_up(alloc: Global, nodes: u16, passes: u32) -> Result<(Vec<Shelf>, Vec<Pass>), NoMemory>
+    requires nodes { (1 ≤ nodes) × (nodes ≤ 16) }
+    requires passes { (1 ≤ passes) × (passes ≤ 64) }
+    ensures shelves { IfOk result (λ r. (vec_len r.0 ≡ nodes) × AreInOrder r.0.items) }
+    ensures passes { IfOk result (λ r. (vec_len r.1 ≡ passes) × AreNew r.1.items) }
+    ensures distinct { IfOk result (λ r. AreDistinct r.1.items) }
+{
+    Ok((shelves_of(alloc, nodes)?, passes_of(alloc, passes)?))
+}
+
+fn shelves_of(alloc: Global, nodes: u16) -> Result<Vec<Shelf>, NoMemory>
+    ensures { IfOk result (λ v. (vec_len v ≡ nodes) × AreInOrder v.items) }
+{
+    let mut shelves = Vec::new(alloc);
+    for place in 0..nodes {
+        shelves.push(Shelf::new(alloc, place + 1))?;
+    }
+    Ok(shelves)
+}
+
+fn passes_of(alloc: Global, count: u32) -> Result<Vec<Pass>, NoMemory>
+    ensures { IfOk result (λ v. (vec_len v ≡ count) × AreNew v.items) }
+{
+    let mut passes = Vec::new(alloc);
+    for number in 0..count {
+        passes.push(Pass::new(alloc, number))?;
+    }
+    Ok(passes)
+}

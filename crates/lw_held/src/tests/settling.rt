@@ -1,0 +1,159 @@
+//! Calls through shelves, and whether the transcripts are the journals.
+
+ghost use Rattle.std.specs.Prelude.{◌≤◌};
+ghost use Rattle.lw_held.specs.Agree.{AreDistinct};
+
+use super::*;
+
+/// The places of a shelf and of a pass, a call, and the part that it leaves: node, place and reply.
+type Row<'a> = (usize, usize, calls::What<'a>, &'a str);
+
+/// Two nodes take a Register each, with a pass each. The delta of the first comes to the second, where the later of both
+/// counts, and the first is asked with the pass of the other.
+const TAKEN: [Row<'static>; 6] = [
+    (
+        0,
+        0,
+        Takes(REGISTER),
+        "1 0 604100048272640d0330303030303030303030303130303031",
+    ),
+    (
+        1,
+        1,
+        Takes(REGISTER),
+        "2 0 604100048272640d0330303030303030303030303130303032",
+    ),
+    (
+        0,
+        0,
+        ByEndpoint("a"),
+        "1 1 a 0000000000010001 127.0.0.1:5683 0 86400 U false </>",
+    ),
+    (
+        0,
+        1,
+        Sends(0),
+        "1 2 4c57443100000000000101016100000000000100017f000000000000010001047f0000011633000000000001000100000000000000000000000100010001518000000000000100010155000000000001000100000000000001000100033c2f3e0000 1",
+    ),
+    (1, 0, Merges(DELTA), "2 1 joined 1"),
+    (
+        1,
+        0,
+        ByEndpoint("a"),
+        "2 2 a 0000000000010002 127.0.0.1:5683 0 86400 U false </>",
+    ),
+];
+
+/// An observation and its end, and bytes that are no delta.
+const OBSERVED: [Row<'static>; 4] = [
+    (
+        0,
+        1,
+        Observes(ID, &[3, 0], 32),
+        "1 3 4801002000000000000200016051330130",
+    ),
+    (
+        0,
+        0,
+        Cancels("0000000000020001", 34),
+        "1 4 480100220000000000020001610151330130",
+    ),
+    (
+        0,
+        0,
+        Cancels("0000000000020001", 34),
+        "1 5 Cancel(Err(NotFound))",
+    ),
+    (1, 1, Merges("4c"), "2 3 Merge(Err(Malformed(Truncated)))"),
+];
+
+/// Makes the rows' calls. The first that leaves another part fails.
+fn play<R: Wait>(
+    rt: &R,
+    alloc: Global,
+    shelves: &[Shelf],
+    passes: &mut [Pass],
+    rows: &[Row<'_>],
+) -> Result<(), Fail>
+    requires { AreDistinct passes.old }
+    ensures { AreDistinct passes.new }
+{
+    for (shelf, pass, what, want) in rows {
+        let shelf = shelves.get(*shelf).ok_or("a shelf")?;
+        call(rt, alloc, shelf, passes, *pass, *what)?;
+        let pass = passes.get(*pass).ok_or("a pass")?;
+        let text = replied(alloc, pass)?;
+        if text.as_str() != *want {
+            return Err(
+                format!(in alloc; "{text} in place of {want}")?
+                    .as_str()
+                    .into(),
+            );
+        }
+    }
+    Ok(())
+}
+
+#[test]
+fn two_nodes_take_calls_and_settle(rt: HostRuntime) -> Result<(), Fail> {
+    let alloc = rt.alloc();
+    let (shelves, mut passes) = set_up(alloc, 2, 2)?;
+    play(&rt, alloc, &shelves, &mut passes, &TAKEN)?;
+    assert_eq!(rt; settle(&rt, &shelves, &passes), Ok(Settled));
+    play(&rt, alloc, &shelves, &mut passes, &OBSERVED)?;
+    assert_eq!(rt; settle(&rt, &shelves, &passes), Ok(Settled));
+    // one pass is left out, or both
+    let unsettled = |node: u16, place: u64| Err(Unsettled { node, place });
+    assert_eq!(rt; settle(&rt, &shelves, &passes[..1]), unsettled(1, 2));
+    assert_eq!(rt; settle(&rt, &shelves, &passes[1..]), unsettled(1, 0));
+    assert_eq!(rt; settle(&rt, &shelves, &[]), unsettled(1, 0));
+    // the first node is left out
+    assert_eq!(rt; settle(&rt, &[], &passes), Ok(Settled));
+    Ok(())
+}
+
+/// How many shelves and passes there are, each with its own number and without calls.
+fn counted(alloc: Global, nodes: u16, passes: u32) -> Result<(usize, usize), Fail>
+    requires { (1 ≤ nodes) × (nodes ≤ 16) × (1 ≤ passes) × (passes ≤ 64) }
+{
+    let Ok((shelves, passes)) = set_up(alloc, nodes, passes) else {
+        return Err("no memory".into());
+    };
+    for (place, shelf) in shelves.iter().enumerate() {
+        if usize::from(shelf.number()) != place.wrapping_add(1) {
+            return Err("nodes from 1".into());
+        }
+    }
+    for (place, pass) in passes.iter().enumerate() {
+        if pass.number() as usize != place || pass.len() != 0 || pass.part(0).is_some() {
+            return Err("passes from 0".into());
+        }
+    }
+    Ok((shelves.len(), passes.len()))
+}
+
+#[test]
+fn shelves_and_passes_are_set_up(rt: HostRuntime) -> Result<(), Fail> {
+    assert_eq!(rt; counted(rt.alloc(), 1, 1)?, (1, 1));
+    assert_eq!(rt; counted(rt.alloc(), 16, 64)?, (16, 64));
+    Ok(())
+}
+
+/// Each of 16 shelves has a new node of its own number behind its lock.
+#[test]
+fn each_node_has_its_own_number(rt: HostRuntime) -> Result<(), Fail> {
+    let alloc = rt.alloc();
+    let (shelves, mut passes) = set_up(alloc, 16, 1)?;
+    for shelf in &shelves {
+        call(&rt, alloc, shelf, &mut passes, 0, Takes(REGISTER))?;
+    }
+    for (place, shelf) in shelves.iter().enumerate() {
+        let part = passes[0].part(place as u64).ok_or("a part")?;
+        let text = text_of(alloc, &part.entry.reply)?;
+        let number = shelf.number();
+        let id = hex::encode(alloc, format!(in alloc; "{number:04x}")?.as_bytes())?;
+        assert!(rt; text.as_str().ends_with(id.as_str()), "{text}");
+    }
+    assert_eq!(rt; settle(&rt, &shelves, &passes), Ok(Settled));
+    Ok(())
+}
