@@ -1,6 +1,6 @@
 -- Passes keep their numbers when a call is made with one of them.
-use Rattle.std.proofs.Common.{◌≡◌, ℕ, zero, suc, List, [], ◌∷◌, Option, Some, None, Result, Ok, Err, refl, sym, ap, ◌∙◌}
-use Rattle.std.specs.Prelude.{set, slice_get, IfOk, OnErr}
+use Rattle.std.proofs.Common.{◌≡◌, ℕ, zero, suc, ◌+◌, ◌-◌, List, [], ◌∷◌, Option, Some, None, Result, Ok, Err, refl, sym, ap, ◌∙◌, arith}
+use Rattle.std.specs.Prelude.{set, slice_get, slice_range, take, drop, IfOk, OnErr}
 use Rattle.lw_stamp.specs.declared.no_memory.NoMemory.{NoMemory}
 use Rattle.lw_held.specs.declared.entry.Entry.{Entry}
 use Rattle.lw_held.specs.Agree.{AreDistinct}
@@ -39,3 +39,23 @@ distinct_kept passes i one new at same distinct j k a b is_a is_b equal =
     let x = before passes i one new at same j a is_a in
     let y = before passes i one new at same k b is_b in
     distinct j k x.pass y.pass x.is y.is (x.number ∙ equal ∙ sym y.number)
+
+-- ---- a part of a list
+get_drop : {A : Type 0} (i : ℕ) (xs : List A) (k : ℕ) → slice_get (drop i xs) k ≡ slice_get xs (i + k)
+get_drop zero xs k = ap (slice_get xs) (let e : k ≡ zero + k = omega arith in e)
+get_drop (suc i) [] k = refl
+get_drop (suc i) (x ∷ xs) k = get_drop i xs k ∙ ap (slice_get (x ∷ xs)) (let e : suc (i + k) ≡ suc i + k = omega arith in e)
+
+get_take : {A : Type 0} (n : ℕ) (xs : List A) (k : ℕ) (x : A) → slice_get (take n xs) k ≡ Some x → slice_get xs k ≡ Some x
+get_take {A = A} zero xs k x at = absurd (let bad : ◌≡◌ {A = Option A} None (Some x) = at in cc)
+get_take (suc n) [] k x at = at
+get_take (suc n) (y ∷ xs) zero x at = at
+get_take (suc n) (y ∷ xs) (suc k) x at = get_take n xs k x at
+
+-- some passes in a row are as distinct as all
+pub distinct_within : (passes : List Transcript) (first end : ℕ) → AreDistinct passes → AreDistinct (slice_range passes first end)
+distinct_within passes first end distinct i j a b is_a is_b equal =
+    let at_a : slice_get passes (first + i) ≡ Some a = sym (get_drop first passes i) ∙ get_take (end - first) (drop first passes) i a is_a in
+    let at_b : slice_get passes (first + j) ≡ Some b = sym (get_drop first passes j) ∙ get_take (end - first) (drop first passes) j b is_b in
+    let same : first + i ≡ first + j = distinct (first + i) (first + j) a b at_a at_b equal in
+    omega (arith, same)

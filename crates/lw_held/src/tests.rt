@@ -5,7 +5,7 @@ mod settling;
 
 use super::*;
 use calls::What::*;
-use calls::{call, replied, step, text_of};
+use calls::{agrees_some, call, replied, settle_some, step, text_of};
 use lw_node::{Addr, Answer, Bytes, Path, Question, Text};
 use lw_stamp::{Moment, NoMemory, Stamp};
 use std::alloc::Global;

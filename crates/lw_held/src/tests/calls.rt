@@ -1,6 +1,8 @@
 //! Calls of nodes, and what they give as a text.
 
+ghost use Rattle.std.specs.Prelude.{◌≤◌, length};
 ghost use Rattle.lw_held.specs.Agree.{AreDistinct};
+ghost use Rattle.lw_held.specs.Shelves.{AreInOrder};
 
 use super::*;
 
@@ -102,6 +104,41 @@ pub(super) fn step(
         Ok(place) => Ok(place),
         Err(NoMemory) => Err("no memory".into()),
     }
+}
+
+/// Whether the transcripts of some passes in a row are the journals.
+#[tactic(auto, using(crate::proofs::Keeping::distinct_within))]
+pub(super) fn settle_some<R: Wait>(
+    rt: &R,
+    shelves: &[Shelf],
+    passes: &[Pass],
+    first: usize,
+    end: usize,
+) -> Result<Settled, Unsettled>
+    requires shelves { AreInOrder shelves.now }
+    requires passes { AreDistinct passes.now }
+{
+    if first > end || end > passes.len() {
+        return Err(Unsettled { node: 0, place: 0 });
+    }
+    settle(rt, shelves, &passes[first..end])
+}
+
+/// Whether the transcripts of some passes in a row are the journal.
+#[tactic(auto, using(crate::proofs::Keeping::distinct_within))]
+pub(super) fn agrees_some(
+    held: &Held,
+    node: u16,
+    passes: &[Pass],
+    first: usize,
+    end: usize,
+) -> Result<(), u64>
+    requires { AreDistinct passes.now }
+{
+    if first > end || end > passes.len() {
+        return Err(u64::MAX);
+    }
+    held.agrees(node, &passes[first..end])
 }
 
 /// The last part of the transcript: node, place, number and reply.
