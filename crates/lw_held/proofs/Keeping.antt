@@ -10,9 +10,9 @@ pub number_kept : (node : ℕ) (P : ℕ → Entry → Type 0) (r : Result ℕ No
 number_kept node P (Ok place) old new ok err = ap (λ (x : Transcript). x.number) ok.2
 number_kept node P (Err refused) old new ok err = ap (λ (x : Transcript). x.number) err
 
-pub first_kept : {P Q : Type 0} (r : Result ℕ NoMemory) → OnErr r (P × Q) → OnErr r P
-first_kept (Ok place) kept = tt
-first_kept (Err refused) kept = kept.0
+pub first_kept : (P Q : Type 0) (r : Result ℕ NoMemory) → OnErr r (P × Q) → OnErr r P
+first_kept P Q (Ok place) kept = tt
+first_kept P Q (Err refused) kept = kept.0
 
 -- the pass at a place, before another transcript of its number was put somewhere
 record Before (passes : List Transcript) (place : ℕ) (after : Transcript) : Type 0 where

@@ -8,5 +8,5 @@ pub returns-in-Ok : goal.returns-in-Ok
 returns-in-Ok c =
     let lent = c.index-passes-pass.result in
     distinct_kept c.args.passes.now c.args.pass lent c.step.new.self (slice_get_read _ _ _ _ refl c.if-pass-passes.false c.index-passes-pass.is)
-    (number_kept 1 (λ place entry. Enters c.args.held.now lent.number (length lent.parts) c.in_ok-made.made entry place c.step.new.held) c.step.result lent c.step.new.self c.step.ensures.entered (first_kept _ c.step.ensures.unchanged))
+    (number_kept 1 (λ place entry. Enters c.args.held.now lent.number (length lent.parts) c.in_ok-made.made entry place c.step.new.held) c.step.result lent c.step.new.self c.step.ensures.entered (first_kept _ _ _ c.step.ensures.unchanged))
     c.requires
