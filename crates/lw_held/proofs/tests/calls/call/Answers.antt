@@ -1,12 +1,13 @@
-use Rattle.std.proofs.Common.{refl, length}
+use Rattle.std.proofs.Common.{Some, refl, length, ap, ◌∙◌, slice_index_or}
 use Rattle.std.proofs.lemmas.Option.{slice_get_read}
 use Rattle.lw_held.specs.Shelves.{IsAnswered}
+use Rattle.lw_held.specs.Transcript.{Transcript}
 use Rattle.lw_held.proofs.Keeping.{number_kept, distinct_kept}
 use Rattle.lw_held.proofs.tests.calls.call.Goals as goal
 
 pub returns-in-Ok : goal.returns-in-Ok
 returns-in-Ok g c =
-    let lent = c.index-passes-pass.result in
-    distinct_kept c.args.passes.now c.args.pass lent c.call.new.pass (slice_get_read _ _ _ _ refl c.if-pass-passes.false c.index-passes-pass.is)
+    let lent = slice_index_or c.args.passes.now c.args.pass c.index-passes-pass.result in
+    distinct_kept c.args.passes.now c.args.pass lent c.call.new.pass (slice_get_read _ _ _ _ refl c.if-pass-passes.false c.index-passes-pass.is ∙ ap (λ (x : Transcript). Some x) c.index-passes-pass.is)
     (number_kept c.args.shelf.now.number (λ place entry. IsAnswered lent.number (length lent.parts) c.in_ok-made.made entry place) c.call.result lent c.call.new.pass c.call.ensures.answered c.call.ensures.unchanged)
     c.requires
