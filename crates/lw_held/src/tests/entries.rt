@@ -22,25 +22,18 @@ fn a_step_gives_the_entry_and_its_place(rt: HostRuntime) -> Result<(), Fail> {
     Ok(())
 }
 
-/// Entries of new nodes, each made with a pass, a number and a call of its own.
+/// An entry of a new node, beside others made with a pass, a number and a call of their own.
 #[test]
 fn entries_are_the_same_where_all_parts_are(rt: HostRuntime) -> Result<(), Fail> {
-    let alloc = rt.alloc();
-    let rows = [
-        (1, 2, Sends(0)),
-        (2, 2, Sends(0)),
-        (1, 3, Sends(0)),
-        (1, 2, Sends(1)),
-    ];
-    for (place, (pass, number, what)) in rows.iter().enumerate() {
-        for (other, (other_pass, other_number, other_what)) in rows.iter().enumerate() {
-            let first = entry(alloc, *pass, *number, *what)?;
-            let second = entry(alloc, *other_pass, *other_number, *other_what)?;
-            assert!(rt;
-                first.same(&second) == (place == other),
-                "{place} and {other}"
-            );
-        }
+    let first = entry(rt.alloc(), 1, 2, Sends(0))?;
+    for (pass, number, what, same) in [
+        (1, 2, Sends(0), true),
+        (2, 2, Sends(0), false),
+        (1, 3, Sends(0), false),
+        (1, 2, Sends(1), false),
+    ] {
+        let second = entry(rt.alloc(), pass, number, what)?;
+        assert_eq!(rt; first.same(&second), same, "{pass} {number}");
     }
     Ok(())
 }
