@@ -11,16 +11,25 @@ fn two_passes_make_one_journal(rt: HostRuntime) -> Result<(), Fail> {
     assert_eq!(rt; held.agrees(2, &passes), Err(0));
     assert_eq!(rt; step(alloc, &mut held, &mut passes, 0, Takes(REGISTER))?, 0);
     assert_eq!(rt; step(alloc, &mut held, &mut passes, 1, ByEndpoint("a"))?, 1);
-    assert_eq!(rt; agrees_some(&held, 1, &passes, 1, 2), Err(0));
-    assert_eq!(rt; agrees_some(&held, 1, &passes, 0, 1), Err(1));
     assert_eq!(rt; held.agrees(1, &passes), Ok(()));
     assert_eq!(rt; held.agrees(2, &passes), Err(0));
-    assert_eq!(rt; agrees_some(&held, 1, &passes, 1, 1), Err(0));
     let text = replied(alloc, &passes[1])?;
     assert_eq!(rt;
         text.as_str(),
         "1 1 a 0000000000010001 127.0.0.1:5683 0 86400 U false </>"
     );
+    Ok(())
+}
+
+#[test]
+fn a_pass_that_is_left_out_fails(rt: HostRuntime) -> Result<(), Fail> {
+    let alloc = rt.alloc();
+    let (_, mut passes) = set_up(alloc, 1, 2)?;
+    let mut held = Held::new(alloc, 1);
+    step(alloc, &mut held, &mut passes, 0, Sends(0))?;
+    step(alloc, &mut held, &mut passes, 1, Sends(0))?;
+    assert_eq!(rt; agrees_some(&held, 1, &passes, 1, 2), Err(0));
+    assert_eq!(rt; agrees_some(&held, 1, &passes, 0, 1), Err(1));
     Ok(())
 }
 
