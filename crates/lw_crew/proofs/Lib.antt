@@ -1,0 +1,4 @@
+pub mod Slots
+pub mod Continue
+pub mod Back
+pub mod Claiming

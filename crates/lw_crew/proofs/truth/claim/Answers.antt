@@ -1,0 +1,17 @@
+use Rattle.std.proofs.Common.{◌≡◌, sym, subst, ◌∙◌, refl}
+use Rattle.std.proofs.lemmas.Option.{get_or_from_slice_get}
+use Rattle.lw_held.specs.Transcript.{Transcript}
+use Rattle.lw_crew.specs.Jobs.{HasMade}
+use Rattle.lw_crew.proofs.truth.claim.Goals as goal
+
+pub returns : goal.returns
+returns c =
+    let at = c.in-Some.ensures in
+    let same : c.index-after-place.result ≡ at.pass = c.index-after-place.is ∙ get_or_from_slice_get c.args.after.now c.in-Some.place at.pass c.index-after-place.result at.is in
+    λ yes. record {
+      place = c.in-Some.place;
+      at = at;
+      free = c.if-number-next.false;
+      made = subst (λ (made : Transcript). HasMade made c.args.number c.args.job.now) same (c.if-not-has_made.ensures yes);
+      next = refl;
+    }

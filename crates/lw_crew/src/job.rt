@@ -1,0 +1,58 @@
+//! Jobs and what became of them.
+
+ghost use Rattle.std.specs.Prelude.{◌≡◌};
+ghost use Rattle.lw_crew.specs.Gather.{number_of};
+
+use lw_held::Call;
+
+/// A call that is to be made of a node. Its number is its place in the list of jobs, from 0.
+#[derive(Debug, Drop)]
+pub struct Job {
+    pub node: u16,
+    pub call: Call,
+}
+
+/// What became of a job.
+#[derive(Clone, Copy, Debug, PartialEq, Eq)]
+pub enum Outcome {
+    /// The call was made, and is this part of the pass with this number.
+    At { pass: u32, number: u64 },
+    /// There was no memory to make the call.
+    NoMemory,
+    /// No shelf has the node.
+    NoSuchNode,
+}
+
+/// What became of the job with the number.
+#[derive(Clone, Copy, Debug, PartialEq, Eq)]
+pub struct Done {
+    pub job: u64,
+    pub result: Outcome,
+}
+
+/// Why there is no list with one `Done` for each job.
+#[derive(Clone, Copy, Debug, PartialEq, Eq)]
+pub enum CrewFault {
+    /// The job is not among the results.
+    Missing { job: u64 },
+    /// A second result of the job came.
+    Double { job: u64 },
+    /// There is no such job, or what is told of it is not so.
+    Stranger { job: u64 },
+    /// Memory ran out.
+    NoMemory,
+}
+
+impl CrewFault {
+    /// The number of the fault, from 1.
+    pub fn number(self) -> u8
+        ensures { result ≡ number_of self }
+    {
+        match self {
+            CrewFault::Missing { .. } => 1,
+            CrewFault::Double { .. } => 2,
+            CrewFault::Stranger { .. } => 3,
+            CrewFault::NoMemory => 4,
+        }
+    }
+}

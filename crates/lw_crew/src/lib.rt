@@ -1,0 +1,20 @@
+//! Workers that make the calls of a list of jobs, each with a pass of its own.
+//!
+//! The jobs are handed out in order. What the workers tell of them goes over a channel, of which nothing is promised: so
+//! each result is held against the passes that come back, and only a list with one true result a job is given on.
+#![tactic(auto)]
+
+mod board;
+mod gathering;
+mod job;
+mod serving;
+mod truth;
+mod work;
+
+pub use gathering::gather;
+pub use job::{CrewFault, Done, Job, Outcome};
+pub use lw_held::{Gate, NoGate, Pass, Shelf};
+pub use serving::serve_jobs;
+
+#[cfg(test)]
+mod tests;

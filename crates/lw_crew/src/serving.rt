@@ -1,0 +1,99 @@
+//! Jobs done by workers.
+
+ghost use Rattle.std.specs.Prelude.{◌≡◌, ◌≤◌, length, vec_len, IfOk};
+ghost use Rattle.lw_held.specs.Agree.{AreDistinct};
+ghost use Rattle.lw_held.specs.Shelves.{AreInOrder};
+ghost use Rattle.lw_crew.specs.Continues.{AllContinue};
+ghost use Rattle.lw_crew.specs.Jobs.{AreDone, lengths};
+
+use crate::board::Board;
+use crate::gathering::gather;
+use crate::job::{CrewFault, Done, Job};
+use crate::truth::{first_untrue, lengths_of};
+use crate::work::work_all;
+use lw_held::{Gate, Pass, Shelf};
+use lw_stamp::NoMemory;
+use std::alloc::Global;
+use std::sync::Wait;
+use std::thread::Threads;
+
+/// Has the jobs done by one worker for each pass, the first on the thread that calls and each other on its own. The jobs
+/// are handed out in order. A worker that the gate stops does not do the job that it holds, and one that cannot be
+/// started does none. The passes come back with each call that was made, whatever the result is.
+pub fn serve_jobs<R: Threads + Wait + Sync, G: Gate>(
+    rt: &R,
+    alloc: Global,
+    shelves: &[Shelf],
+    passes: Vec<Pass>,
+    jobs: &[Job],
+    gate: &G,
+) -> (Vec<Pass>, Result<Vec<Done>, CrewFault>)
+    requires workers { (1 ≤ vec_len passes) × (vec_len passes ≤ 8) }
+    requires shelves { AreInOrder shelves.now }
+    requires distinct { AreDistinct passes.items }
+    ensures passes { AllContinue passes.items result.0.items }
+    ensures distinct { AreDistinct result.0.items }
+    ensures done { IfOk result.1 (λ dones. AreDone shelves.now (lengths passes.items) result.0.items jobs.now dones.items) }
+{
+    let Ok(before) = lengths_of(alloc, &passes) else {
+        return (passes, Err(CrewFault::NoMemory));
+    };
+    let (passes, told) = run(rt, alloc, shelves, passes, jobs, gate);
+    let result = match told {
+        Ok(dones) => checked(alloc, shelves, before, &passes, jobs, dones),
+        Err(NoMemory) => Err(CrewFault::NoMemory),
+    };
+    (passes, result)
+}
+
+/// Has the workers work, and gives what they tell.
+#[tactic(auto, using(crate::proofs::Continue::distinct_after))]
+fn run<R: Threads + Wait + Sync, G: Gate>(
+    rt: &R,
+    alloc: Global,
+    shelves: &[Shelf],
+    passes: Vec<Pass>,
+    jobs: &[Job],
+    gate: &G,
+) -> (Vec<Pass>, Result<Vec<Done>, NoMemory>)
+    requires workers { vec_len passes ≤ 8 }
+    requires distinct { AreDistinct passes.items }
+    ensures passes { AllContinue passes.items result.0.items }
+    ensures distinct { AreDistinct result.0.items }
+{
+    let board = match Board::new(rt, alloc, jobs.len()) {
+        Ok(board) => board,
+        Err(refused) => return (passes, Err(refused)),
+    };
+    let passes = work_all(rt, gate, shelves, jobs, &board, passes);
+    (passes, board.results(rt))
+}
+
+/// The results in the order of the jobs, if each is what became of its job. A result that is not is of a stranger, and
+/// what comes before it counts first.
+fn checked(
+    alloc: Global,
+    shelves: &[Shelf],
+    mut before: Vec<u64>,
+    after: &[Pass],
+    jobs: &[Job],
+    mut dones: Vec<Done>,
+) -> Result<Vec<Done>, CrewFault>
+    requires shelves { AreInOrder shelves.now }
+    requires before { vec_len before ≡ length after.now }
+    requires distinct { AreDistinct after.now }
+    ensures { IfOk result (λ all. AreDone shelves.now before.items after.now jobs.now all.items) }
+{
+    let count = jobs.len() as u64;
+    let Some(place) = first_untrue(shelves, &mut before, after, jobs, &dones) else {
+        return gather(alloc, count, dones);
+    };
+    let stranger = CrewFault::Stranger {
+        job: dones[place].job,
+    };
+    dones.truncate(place);
+    match gather(alloc, count, dones) {
+        Ok(_) | Err(CrewFault::Missing { .. }) => Err(stranger),
+        Err(earlier) => Err(earlier),
+    }
+}

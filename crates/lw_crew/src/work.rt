@@ -1,0 +1,179 @@
+//! Workers.
+
+ghost use Rattle.std.specs.Prelude.{◌≡◌, ◌≤◌, vec_capacity, vec_len, IfErr, IfOk};
+ghost use Rattle.lw_crew.specs.Continues.{AllContinue, Continues};
+
+use crate::board::Board;
+use crate::job::{Done, Job, Outcome};
+use crate::truth::shelf_of;
+use lw_held::{Gate, Pass, Shelf};
+use lw_stamp::NoMemory;
+use std::snapshot::Snapshot;
+use std::sync::Wait;
+use std::sync::atomic::Ordering;
+use std::thread::{self, Promise, PromisedHandle, Scope, Threads};
+
+/// That a pass comes back as it was, or with more parts.
+#[derive(Drop)]
+struct Continuing(Snapshot<Pass>);
+
+impl Promise<Pass> for Continuing {
+    ghost kept_by = { λ promise result. Continues promise.0.value result };
+}
+
+/// Makes the call of the job with the pass.
+fn do_job<R: Wait, G: Gate>(
+    rt: &R,
+    gate: &G,
+    shelves: &[Shelf],
+    job: &Job,
+    pass: &mut Pass,
+) -> Outcome
+    ensures { Continues pass.old pass.new }
+{
+    let Some(shelf) = shelf_of(shelves, job.node) else {
+        return Outcome::NoSuchNode;
+    };
+    let number = pass.len();
+    match shelf.call(rt, gate, pass, &job.call) {
+        Ok(_place) => Outcome::At {
+            pass: pass.number(),
+            number,
+        },
+        Err(NoMemory) => Outcome::NoMemory,
+    }
+}
+
+/// Does jobs until there are no more, or the gate stops the worker.
+fn do_jobs<R: Wait, G: Gate>(
+    rt: &R,
+    gate: &G,
+    shelves: &[Shelf],
+    jobs: &[Job],
+    board: &Board,
+    worker: u32,
+    pass: &mut Pass,
+)
+    ensures { Continues pass.old pass.new }
+{
+    for _turn in 0..jobs.len() {
+        let Ok(number) = board.numbers.recv(rt) else {
+            return;
+        };
+        if !gate.start(worker, number) {
+            return;
+        }
+        let Some(job) = jobs.get(number as usize) else {
+            return;
+        };
+        let result = do_job(rt, gate, shelves, job, pass);
+        let told = Done {
+            job: number,
+            result,
+        };
+        if board.tell.send(rt, told).is_err() {
+            return;
+        }
+    }
+}
+
+/// What a worker does on a thread of its own; nothing where it is the one that could not be started.
+fn work<R: Wait, G: Gate>(
+    rt: &R,
+    gate: &G,
+    shelves: &[Shelf],
+    jobs: &[Job],
+    board: &Board,
+    worker: u32,
+    mut pass: Pass,
+) -> Pass
+    ensures { Continues pass result }
+{
+    if board.unstarted.load(Ordering::SeqCst) != worker {
+        do_jobs(rt, gate, shelves, jobs, board, worker, &mut pass);
+    }
+    pass
+}
+
+/// Starts the worker, or gives the pass back.
+fn start<'s, E, R: Threads + Wait + Sync, G: Gate>(
+    scope: &Scope<'s, E>,
+    rt: &'s R,
+    gate: &'s G,
+    shelves: &'s [Shelf],
+    jobs: &'s [Job],
+    board: &'s Board,
+    worker: u32,
+    pass: Pass,
+) -> Result<PromisedHandle<Pass, Continuing>, Pass>
+    ensures ok { IfOk result (λ handle. handle.promise.0.value ≡ pass) }
+    ensures err { IfErr result (λ back. Continues pass back) }
+{
+    let promise = Continuing(Snapshot::of(&pass));
+    match scope.spawn_with(
+        promise,
+        move || work(rt, gate, shelves, jobs, board, worker, pass),
+    ) {
+        Ok(handle) => Ok(handle),
+        Err(unspawned) => {
+            // the pass is inside the closure, which does nothing now but give it back
+            board.unstarted.store(worker, Ordering::SeqCst);
+            Err((unspawned.value)())
+        }
+    }
+}
+
+/// Has a worker work with each pass, the first on this thread. The passes come back in order.
+fn work_with<'s, E, R: Threads + Wait + Sync, G: Gate>(
+    scope: &Scope<'s, E>,
+    rt: &'s R,
+    gate: &'s G,
+    shelves: &'s [Shelf],
+    jobs: &'s [Job],
+    board: &'s Board,
+    mut passes: Vec<Pass>,
+) -> Vec<Pass>
+    requires { vec_len passes ≤ 8 }
+    ensures all { AllContinue passes.items result.items }
+    ensures room { vec_capacity passes ≤ vec_capacity result }
+{
+    let Some(mut pass) = passes.pop() else {
+        return passes;
+    };
+    if passes.is_empty() {
+        do_jobs(rt, gate, shelves, jobs, board, 0, &mut pass);
+        passes.push_reserved(pass);
+        return passes;
+    }
+    let started = start(scope, rt, gate, shelves, jobs, board, passes.len() as u32, pass);
+    let mut back = work_with(scope, rt, gate, shelves, jobs, board, passes);
+    let last = match started {
+        Ok(handle) => handle.join(rt),
+        Err(pass) => pass,
+    };
+    back.push_reserved(last);
+    back
+}
+
+/// Has a worker work with each pass, the first on this thread and each other on its own. A worker that cannot be started
+/// does nothing. The passes come back in order.
+pub(crate) fn work_all<R: Threads + Wait + Sync, G: Gate>(
+    rt: &R,
+    gate: &G,
+    shelves: &[Shelf],
+    jobs: &[Job],
+    board: &Board,
+    passes: Vec<Pass>,
+) -> Vec<Pass>
+    requires { vec_len passes ≤ 8 }
+    ensures { AllContinue passes.items result.items }
+{
+    thread::scope(
+        thread::scope_env(),
+        rt,
+        |scope| -> Vec<Pass>
+            requires { vec_len passes ≤ 8 }
+            ensures { AllContinue passes.items result.items }
+        { work_with(scope, rt, gate, shelves, jobs, board, passes) },
+    )
+}
