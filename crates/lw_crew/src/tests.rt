@@ -2,20 +2,19 @@ mod gathering;
 mod serving;
 mod stopping;
 
+ghost use Rattle.std.specs.Prelude.{◌≤◌};
+
 use super::*;
-use lw_held::{Reply, Settled, Unsettled, set_up, settle};
+use lw_held::{Reply, set_up, settle};
 use lw_node::{Addr, Answer, Bytes, Call, Question, Text};
 use lw_stamp::Moment;
 use std::alloc::Global;
+use std::sync::Wait;
 use std::test::Fail;
+use std::thread::Threads;
 
 /// A Register of `a` with the object list `</>`, message ID 4.
 const REGISTER: &str = "40020004b272644465703d61ff3c2f3e";
-
-/// The reply to the first Register with message ID 4 at node 1, and at node 2.
-const CREATED: &str = "604100048272640d0330303030303030303030303130303031";
-
-const CREATED_AT_2: &str = "604100048272640d0330303030303030303030303130303032";
 
 /// The Register, to be taken by the node at moment 0 from 127.0.0.1:5683.
 fn register(alloc: Global, node: u16) -> Result<Job, Fail> {
@@ -40,24 +39,59 @@ fn registers(alloc: Global, nodes: &[u16]) -> Result<Vec<Job>, Fail> {
     Ok(jobs)
 }
 
+/// Has new nodes take the Register, each job at its node, and gives a line for each job, or for the fault, and a last
+/// line of the passes.
+fn played<R: Threads + Wait + Sync, G: Gate>(
+    rt: &R,
+    alloc: Global,
+    nodes: u16,
+    workers: u32,
+    at: &[u16],
+    gate: &G,
+) -> Result<String, Fail>
+    requires { (1 ≤ nodes) × (nodes ≤ 16) × (1 ≤ workers) × (workers ≤ 8) }
+{
+    let jobs = registers(alloc, at)?;
+    let (shelves, passes) = set_up(alloc, nodes, workers)?;
+    let (passes, result) = serve_jobs(rt, alloc, &shelves, passes, &jobs, gate);
+    let settled = settle(rt, &shelves, &passes);
+    let (count, parts) = (passes.len(), parts_of(&passes));
+    let text = match result {
+        Ok(dones) => texts_of(alloc, &passes, &dones)?,
+        Err(fault) => format!(in alloc; "{fault:?}\n")?,
+    };
+    Ok(format!(in alloc; "{text}{count} passes, {parts} parts, {settled:?}")?)
+}
+
+/// A line for each job.
+fn texts_of(alloc: Global, passes: &[Pass], dones: &[Done]) -> Result<String, Fail> {
+    let mut text = String::new(alloc);
+    for done in dones {
+        text.push_str(&text_of(alloc, passes, done)?)?;
+        text.push('\n')?;
+    }
+    Ok(text)
+}
+
 /// What became of the job: the node, the place and the reply of its part, or why there is none.
 fn text_of(alloc: Global, passes: &[Pass], done: &Done) -> Result<String, Fail> {
-    let Outcome::At { pass, number } = done.result else {
-        let result = done.result;
-        return Ok(format!(in alloc; "{result:?}")?);
+    let (job, result) = (done.job, done.result);
+    let Outcome::At { pass, number } = result else {
+        return Ok(format!(in alloc; "{job}: {result:?}")?);
     };
     let made = passes.get(pass as usize).ok_or("a pass")?;
     let part = made.part(number).ok_or("a part")?;
     let (node, place) = (part.node, part.place);
     let reply = taken(alloc, &part.entry.reply)?;
-    Ok(format!(in alloc; "{node} {place} {reply}")?)
+    Ok(format!(in alloc; "{job}: {node} {place} {reply}")?)
 }
 
 fn taken(alloc: Global, reply: &Reply) -> Result<String, Fail> {
     match reply {
-        Reply::Take(Ok(taken)) => {
-            Ok(hex::encode(alloc, taken.reply.as_deref().unwrap_or_default())?)
-        }
+        Reply::Take(Ok(taken)) => Ok(hex::encode(
+            alloc,
+            taken.reply.as_deref().unwrap_or_default(),
+        )?),
         other => Ok(format!(in alloc; "{other:?}")?),
     }
 }

@@ -57,20 +57,29 @@ fn results_are_put_in_order(rt: HostRuntime) -> Result<(), Fail> {
     Ok(())
 }
 
-#[test]
-fn many_results_are_put_in_order(rt: HostRuntime) -> Result<(), Fail> {
-    let alloc = rt.alloc();
+/// The numbers of a thousand jobs, the last first.
+fn backwards(alloc: Global) -> Result<Vec<u64>, Fail> {
     let mut jobs = Vec::new(alloc);
     for job in 0..1000 {
         jobs.push(999_u64.wrapping_sub(job))?;
     }
-    let gathered = gather(alloc, 1000, told(alloc, &jobs)?)?;
-    assert_eq!(rt; gathered.len(), 1000);
-    for (job, done) in gathered.iter().enumerate() {
-        let number = 999_u64.wrapping_sub(job as u64);
-        assert_eq!(rt; done.job, job as u64);
-        assert_eq!(rt; done.result, Outcome::At { pass: 0, number });
+    Ok(jobs)
+}
+
+/// What the numbers of the parts are then.
+fn falling(alloc: Global) -> Result<String, Fail> {
+    let mut text = String::new(alloc);
+    for number in 0..1000 {
+        let number = 999_u64.wrapping_sub(number);
+        text.push_str(&format!(in alloc; "{number} ")?)?;
     }
+    Ok(text)
+}
+
+#[test]
+fn many_results_are_put_in_order(rt: HostRuntime) -> Result<(), Fail> {
+    let order = order_of(rt.alloc(), 1000, &backwards(rt.alloc())?)?;
+    assert_eq!(rt; order.as_str(), falling(rt.alloc())?.as_str());
     Ok(())
 }
 

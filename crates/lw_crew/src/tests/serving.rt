@@ -1,9 +1,5 @@
 //! Jobs at several nodes by several workers.
 
-ghost use Rattle.std.specs.Prelude.{◌≤◌, ◌≡◌, vec_len, IfOk};
-ghost use Rattle.lw_held.specs.Agree.{AreDistinct};
-ghost use Rattle.lw_held.specs.Shelves.{AreInOrder};
-
 use super::*;
 use std::sync::atomic::{AtomicU64, Ordering};
 use std::thread;
@@ -68,13 +64,37 @@ impl<'a, C: Clock + Sync> Meeting<'a, C> {
     }
 }
 
-/// Asks the first node for `a` with the pass, and gives the identifier that is shown.
-fn asked<R: std::sync::Wait>(
-    rt: &R,
-    alloc: Global,
-    shelf: &Shelf,
-    pass: &mut Pass,
-) -> Result<String, Fail> {
+#[test]
+fn two_nodes_are_called_at_once(rt: HostRuntime) -> Result<(), Fail> {
+    let gate = Meeting::new(&rt);
+    let text = played(&rt, rt.alloc(), 2, 2, &[1, 2], &gate)?;
+    assert_eq!(rt; gate.counts(), (0, 1, 1));
+    assert_eq!(rt;
+        text.as_str(),
+        "0: 1 0 604100048272640d0330303030303030303030303130303031\n\
+         1: 2 0 604100048272640d0330303030303030303030303130303032\n\
+         2 passes, 2 parts, Ok(Settled)"
+    );
+    Ok(())
+}
+
+/// Has a node take the Register, and asks it for `a` with the pass that made the call: the identifier that is shown. The
+/// transcripts do not settle without that pass.
+fn read_back<R: Threads + Wait + Sync>(rt: &R, alloc: Global) -> Result<String, Fail> {
+    let jobs = registers(alloc, &[1])?;
+    let (shelves, passes) = set_up(alloc, 2, 1)?;
+    let (mut passes, result) = serve_jobs(rt, alloc, &shelves, passes, &jobs, &NoGate);
+    if result.is_err() || settle(rt, &shelves, &[]).is_ok() {
+        return Err("a call that only its pass tells of".into());
+    }
+    match (shelves.first(), passes.first_mut()) {
+        (Some(shelf), Some(pass)) => asked(rt, alloc, shelf, pass),
+        _ => Err("a shelf and a pass".into()),
+    }
+}
+
+/// Asks the node for `a` with the pass, and gives the identifier that is shown.
+fn asked<R: Wait>(rt: &R, alloc: Global, shelf: &Shelf, pass: &mut Pass) -> Result<String, Fail> {
     let question = Question::ByEndpoint(Text::copy_of(alloc, "a")?);
     let call = Call::Ask {
         now: Moment::START,
@@ -82,8 +102,7 @@ fn asked<R: std::sync::Wait>(
     };
     shelf.call(rt, &NoGate, pass, &call)?;
     let last = pass.len().checked_sub(1).ok_or("a call")?;
-    let part = pass.part(last).ok_or("a part")?;
-    match &part.entry.reply {
+    match &pass.part(last).ok_or("a part")?.entry.reply {
         Reply::Ask(Ok(Answer::Registration(Some(seen)))) => {
             Ok(hex::encode(alloc, seen.id.to_bytes())?)
         }
@@ -92,49 +111,27 @@ fn asked<R: std::sync::Wait>(
 }
 
 #[test]
-fn two_nodes_are_called_at_once(rt: HostRuntime) -> Result<(), Fail> {
-    let alloc = rt.alloc();
-    let (shelves, passes) = set_up(alloc, 2, 2)?;
-    let jobs = registers(alloc, &[1, 2])?;
-    let gate = Meeting::new(&rt);
-    let (mut passes, result) = serve_jobs(&rt, alloc, &shelves, passes, &jobs, &gate);
-    assert_eq!(rt; gate.counts(), (0, 1, 1));
-    let dones = result?;
-    assert_eq!(rt; dones.len(), 2);
-    let first = format!(in alloc; "1 0 {CREATED}")?;
-    assert_eq!(rt; text_of(alloc, &passes, &dones[0])?, first);
-    let second = format!(in alloc; "2 0 {CREATED_AT_2}")?;
-    assert_eq!(rt; text_of(alloc, &passes, &dones[1])?, second);
-    assert_eq!(rt; settle(&rt, &shelves, &passes), Ok(Settled));
-    assert!(rt; settle(&rt, &shelves, &[]).is_err());
-    let Outcome::At { pass, .. } = dones[0].result else {
-        panic!(rt; "no part");
-    };
-    let pass = passes.get_mut(pass as usize).ok_or("a pass")?;
-    let id = asked(&rt, alloc, &shelves[0], pass)?;
+fn a_pass_reads_back_what_it_wrote(rt: HostRuntime) -> Result<(), Fail> {
+    let id = read_back(&rt, rt.alloc())?;
     assert_eq!(rt; id.as_str(), "0000000000010001");
     Ok(())
 }
 
 #[test]
 fn a_node_without_shelf_is_told(rt: HostRuntime) -> Result<(), Fail> {
-    let alloc = rt.alloc();
-    let (shelves, passes) = set_up(alloc, 2, 1)?;
-    let jobs = registers(alloc, &[3, 0, 65535, 1])?;
-    let (passes, result) = serve_jobs(&rt, alloc, &shelves, passes, &jobs, &NoGate);
-    let dones = result?;
-    let created = format!(in alloc; "1 0 {CREATED}")?;
-    let wanted = ["NoSuchNode", "NoSuchNode", "NoSuchNode", created.as_str()];
-    assert_eq!(rt; dones.len(), wanted.len());
-    for (done, want) in dones.iter().zip(wanted) {
-        assert_eq!(rt; text_of(alloc, &passes, done)?.as_str(), want);
-    }
-    assert_eq!(rt; parts_of(&passes), 1);
-    assert_eq!(rt; settle(&rt, &shelves, &passes), Ok(Settled));
+    let text = played(&rt, rt.alloc(), 2, 1, &[3, 0, 65535, 1], &NoGate)?;
+    assert_eq!(rt;
+        text.as_str(),
+        "0: NoSuchNode\n\
+         1: NoSuchNode\n\
+         2: NoSuchNode\n\
+         3: 1 0 604100048272640d0330303030303030303030303130303031\n\
+         1 passes, 1 parts, Ok(Settled)"
+    );
     Ok(())
 }
 
-/// Counts the jobs that start, each of which is to be the next one.
+/// Counts the jobs that start, each of which is to be the next one, and of the first worker.
 #[derive(Drop)]
 struct Counts {
     next: AtomicU64,
@@ -156,74 +153,65 @@ impl Gate for Counts {
 
 #[test]
 fn one_worker_does_the_jobs_in_order(rt: HostRuntime) -> Result<(), Fail> {
-    let alloc = rt.alloc();
-    let (shelves, passes) = set_up(alloc, 3, 1)?;
-    let jobs = registers(alloc, &[3, 1, 2, 3, 3])?;
     let gate = Counts {
         next: AtomicU64::new(0),
         astray: AtomicU64::new(0),
     };
-    let (passes, result) = serve_jobs(&rt, alloc, &shelves, passes, &jobs, &gate);
-    assert_eq!(rt; gate.next.load(Ordering::SeqCst), 5);
+    let text = played(&rt, rt.alloc(), 3, 1, &[3, 1, 3], &gate)?;
+    assert_eq!(rt; gate.next.load(Ordering::SeqCst), 3);
     assert_eq!(rt; gate.astray.load(Ordering::SeqCst), 0);
-    for (number, done) in result?.iter().enumerate() {
-        let number = number as u64;
-        assert_eq!(rt; done.result, Outcome::At { pass: 0, number });
-    }
-    assert_eq!(rt; settle(&rt, &shelves, &passes), Ok(Settled));
+    assert_eq!(rt;
+        text.as_str(),
+        "0: 3 0 604100048272640d0330303030303030303030303130303033\n\
+         1: 1 0 604100048272640d0330303030303030303030303130303031\n\
+         2: 3 1 604100048272640d0330303030303030303030303230303033\n\
+         1 passes, 3 parts, Ok(Settled)"
+    );
     Ok(())
 }
 
-/// Has a Register done at each of 16 nodes by the workers, and again: 16 nodes, 20 rounds of jobs in one list.
-fn serve_many<R: thread::Threads + std::sync::Wait + Sync>(
-    rt: &R,
-    alloc: Global,
-    workers: u32,
-) -> Result<u64, Fail>
-    requires { (1 ≤ workers) × (workers ≤ 8) }
-{
-    let (shelves, passes) = set_up(alloc, 16, workers)?;
-    let mut jobs = Vec::new(alloc);
+/// Each node from 1 to 16, twenty times over.
+fn all_nodes(alloc: Global) -> Result<Vec<u16>, Fail> {
+    let mut nodes = Vec::new(alloc);
     for turn in 0_u16..320 {
-        jobs.push(register(alloc, (turn % 16).wrapping_add(1))?)?;
+        nodes.push((turn % 16).wrapping_add(1))?;
     }
-    let (passes, result) = serve_jobs(rt, alloc, &shelves, passes, &jobs, &NoGate);
-    settle(rt, &shelves, &passes)?;
-    let dones = result?;
-    if passes.len() as u32 != workers || dones.len() != 320 {
-        return Err("all passes and results".into());
-    }
-    for (turn, done) in dones.iter().enumerate() {
-        are_of(alloc, &passes, (turn % 16) as u64, done)?;
-    }
-    Ok(parts_of(&passes))
+    Ok(nodes)
 }
 
-/// The result is a 2.01 of the node, whose number from 0 is told, and whose identifier ends in its number from 1.
-fn are_of(alloc: Global, passes: &[Pass], place: u64, done: &Done) -> Result<(), Fail> {
-    let text = text_of(alloc, passes, done)?;
-    let node = place.wrapping_add(1);
-    let start = format!(in alloc; "{node} ")?;
-    let end = hex::encode(alloc, format!(in alloc; "{node:04x}")?.as_bytes())?;
-    if !text.starts_with(start.as_str()) || !text.ends_with(end.as_str()) {
-        return Err(text.as_str().into());
+/// Whether the line is of a 2.01 of the node: an identifier ends in the number of its node.
+fn is_of_node(alloc: Global, line: &str, node: u16) -> Result<bool, Fail> {
+    let number = format!(in alloc; "{node:04x}")?;
+    let (at, end) = (
+        format!(in alloc; ": {node} ")?,
+        hex::encode(alloc, number.as_bytes())?,
+    );
+    Ok(line.contains(at.as_str()) && line.ends_with(end.as_str()))
+}
+
+/// How many of the lines are of their nodes.
+fn count_of_nodes(alloc: Global, text: &str, nodes: &[u16]) -> Result<u32, Fail> {
+    let mut count = 0_u32;
+    for (line, node) in text.lines().zip(nodes) {
+        if is_of_node(alloc, line, *node)? {
+            count = count.saturating_add(1);
+        }
     }
-    Ok(())
+    Ok(count)
 }
 
 #[test]
 fn many_jobs_are_done_by_all_workers(rt: HostRuntime) -> Result<(), Fail> {
-    assert_eq!(rt; serve_many(&rt, rt.alloc(), 1)?, 320);
-    assert_eq!(rt; serve_many(&rt, rt.alloc(), 8)?, 320);
+    let nodes = all_nodes(rt.alloc())?;
+    let text = played(&rt, rt.alloc(), 16, 8, &nodes, &NoGate)?;
+    assert_eq!(rt; count_of_nodes(rt.alloc(), &text, &nodes)?, 320);
+    assert!(rt; text.ends_with("\n8 passes, 320 parts, Ok(Settled)"));
     Ok(())
 }
 
 #[test]
 fn no_jobs_are_done(rt: HostRuntime) -> Result<(), Fail> {
-    let alloc = rt.alloc();
-    let (shelves, passes) = set_up(alloc, 1, 3)?;
-    let (passes, result) = serve_jobs(&rt, alloc, &shelves, passes, &[], &NoGate);
-    assert_eq!(rt; result?.len(), 0);
-    assert_eq!(rt; (passes.len(), parts_of(&passes)), (3, 0));
+    let text = played(&rt, rt.alloc(), 1, 3, &[], &NoGate)?;
+    assert_eq!(rt; text.as_str(), "3 passes, 0 parts, Ok(Settled)");
     Ok(())
 }

@@ -18,36 +18,25 @@ impl Gate for Refuses {
 
 #[test]
 fn a_stopped_worker_leaves_its_job(rt: HostRuntime) -> Result<(), Fail> {
-    let alloc = rt.alloc();
-    let (shelves, passes) = set_up(alloc, 1, 2)?;
-    let jobs = registers(alloc, &[1, 1])?;
-    let (passes, result) = serve_jobs(&rt, alloc, &shelves, passes, &jobs, &Refuses(0));
-    assert_eq!(rt; result.err(), Some(CrewFault::Missing { job: 0 }));
-    assert_eq!(rt; (passes.len(), parts_of(&passes)), (2, 1));
-    assert_eq!(rt; settle(&rt, &shelves, &passes), Ok(Settled));
+    let text = played(&rt, rt.alloc(), 1, 2, &[1, 1], &Refuses(0))?;
+    assert_eq!(rt;
+        text.as_str(),
+        "Missing { job: 0 }\n2 passes, 1 parts, Ok(Settled)"
+    );
     Ok(())
 }
 
 #[test]
-fn one_stopped_worker_leaves_all_jobs(rt: HostRuntime) -> Result<(), Fail> {
-    let alloc = rt.alloc();
-    let (shelves, passes) = set_up(alloc, 1, 1)?;
-    let jobs = registers(alloc, &[1, 1])?;
-    let (passes, result) = serve_jobs(&rt, alloc, &shelves, passes, &jobs, &Refuses(0));
-    assert_eq!(rt; result.err(), Some(CrewFault::Missing { job: 0 }));
-    assert_eq!(rt; (passes.len(), parts_of(&passes)), (1, 0));
-    assert_eq!(rt; settle(&rt, &shelves, &passes), Ok(Settled));
-    Ok(())
-}
-
-#[test]
-fn one_stopped_worker_has_done_what_came_before(rt: HostRuntime) -> Result<(), Fail> {
-    let alloc = rt.alloc();
-    let (shelves, passes) = set_up(alloc, 1, 1)?;
-    let jobs = registers(alloc, &[1, 1, 1])?;
-    let (passes, result) = serve_jobs(&rt, alloc, &shelves, passes, &jobs, &Refuses(2));
-    assert_eq!(rt; result.err(), Some(CrewFault::Missing { job: 2 }));
-    assert_eq!(rt; parts_of(&passes), 2);
-    assert_eq!(rt; settle(&rt, &shelves, &passes), Ok(Settled));
+fn one_stopped_worker_leaves_what_comes_behind(rt: HostRuntime) -> Result<(), Fail> {
+    let none = played(&rt, rt.alloc(), 1, 1, &[1, 1], &Refuses(0))?;
+    assert_eq!(rt;
+        none.as_str(),
+        "Missing { job: 0 }\n1 passes, 0 parts, Ok(Settled)"
+    );
+    let two = played(&rt, rt.alloc(), 1, 1, &[1, 1, 1], &Refuses(2))?;
+    assert_eq!(rt;
+        two.as_str(),
+        "Missing { job: 2 }\n1 passes, 2 parts, Ok(Settled)"
+    );
     Ok(())
 }
