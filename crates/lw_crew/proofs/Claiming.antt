@@ -47,6 +47,7 @@ claims_rise old new after job pass number len distinct claim = record {
   where
     within : claim.place < length old
     within = let l = slice_get_within after claim.place claim.at.pass claim.at.is in omega (arith, l, len)
+
     up : (i : ℕ) → slice_index old i ≤ slice_index (set old claim.place (number + 1)) i
     up i = elim (equal_or_not i claim.place) [
       | inl e ↦
@@ -74,15 +75,17 @@ rises shelves old new after job NoSuchNode len distinct holds = stays old new af
 
 outcome_of : (shelves : List Shelf) (before old new : List ℕ) (after : List Transcript) (job : Job) (outcome : Outcome) → ((i : ℕ) → slice_index before i ≤ slice_index old i) → Holds shelves old new after job outcome → IsOutcome shelves before after job outcome
 outcome_of shelves before old new after job (At pass number) above holds =
-    let claim = holds.1 in
-    (holds.0, record {
-      place = claim.place;
-      gainer = claim.at.pass;
-      is = claim.at.is;
-      pass_is = claim.at.number_is;
-      beyond = (let up = above claim.place in let low = claim.free in omega (arith, up, low));
-      made = claim.made;
-    })
+    let claim = holds.1 in (
+      holds.0,
+      record {
+        place = claim.place;
+        gainer = claim.at.pass;
+        is = claim.at.is;
+        pass_is = claim.at.number_is;
+        beyond = (let up = above claim.place in let low = claim.free in omega (arith, up, low));
+        made = claim.made;
+      },
+    )
 outcome_of shelves before old new after job NoMemory above holds = holds.0
 outcome_of shelves before old new after job NoSuchNode above holds = holds.0
 
@@ -117,11 +120,11 @@ one_more shelves before old new after jobs dones n done len distinct item told k
   apart = λ i k pass number one other l m at there first second. below_more (λ j. i < j → (y : Done) → slice_get dones j ≡ Some y → IsPartOf y.result pass number → ⊥) n
       (λ j less under y where_ part. known.apart i j pass number one y under less at where_ first part)
       (λ under y where_ part.
-          let mine : IsPartOf done.result pass number = subst (λ (z : Done). IsPartOf z.result pass number) (sym (same_some done y _ item where_)) part in
-          let place = found shelves old new after told.job done.result pass number told.holds mine in
-          let low = rise.free pass number place.0 mine place.1 in
-          let high = known.behind i place.0 pass number one under at first place.1 in
-          omega (arith, low, high))
+      let mine : IsPartOf done.result pass number = subst (λ (z : Done). IsPartOf z.result pass number) (sym (same_some done y _ item where_)) part in
+      let place = found shelves old new after told.job done.result pass number told.holds mine in
+      let low = rise.free pass number place.0 mine place.1 in
+      let high = known.behind i place.0 pass number one under at first place.1 in
+      omega (arith, low, high))
       k m l other there second;
 }
   where

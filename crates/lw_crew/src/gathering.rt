@@ -47,11 +47,7 @@ fn filled(alloc: Global, count: u64, dones: &[Done]) -> Result<Vec<Option<Done>>
     Ok(slots)
 }
 
-fn in_order(
-    alloc: Global,
-    dones: &[Done],
-    slots: &[Option<Done>],
-) -> Result<Vec<Done>, CrewFault>
+fn in_order(alloc: Global, dones: &[Done], slots: &[Option<Done>]) -> Result<Vec<Done>, CrewFault>
     requires { AreFilled (length slots.now) dones.now (length dones.now) slots.now }
     ensures ok { IfOk result (λ gathered. IsGathered (length slots.now) dones.now gathered.items) }
     ensures err { IfErr result (λ fault. IsFault (length slots.now) dones.now fault) }

@@ -14,6 +14,7 @@ const REGISTER: &str = "40020004b272644465703d61ff3c2f3e";
 
 /// The reply to the first Register with message ID 4 at node 1, and at node 2.
 const CREATED: &str = "604100048272640d0330303030303030303030303130303031";
+
 const CREATED_AT_2: &str = "604100048272640d0330303030303030303030303130303032";
 
 /// The Register, to be taken by the node at moment 0 from 127.0.0.1:5683.

@@ -145,7 +145,16 @@ fn work_with<'s, E, R: Threads + Wait + Sync, G: Gate>(
         passes.push_reserved(pass);
         return passes;
     }
-    let started = start(scope, rt, gate, shelves, jobs, board, passes.len() as u32, pass);
+    let started = start(
+        scope,
+        rt,
+        gate,
+        shelves,
+        jobs,
+        board,
+        passes.len() as u32,
+        pass,
+    );
     let mut back = work_with(scope, rt, gate, shelves, jobs, board, passes);
     let last = match started {
         Ok(handle) => handle.join(rt),

@@ -168,7 +168,7 @@ fn no_more_is_taken_than_asked_for(rt: HostRuntime) -> Result<(), Fail> {
         let mut wire = MemoryWire::new(rt.alloc(), &arrivals);
         let ran = run(&rt, &mut wire, count, 1, 1)?;
         assert_eq!(rt; ran.result, Ok(()));
-        assert_eq!(rt; wire.rest.len(), 80 - count as usize);
+        assert_eq!(rt; wire.taken, count as usize);
         assert_eq!(rt; ran.rounds, rounds);
         assert_eq!(rt; wire.sent.len(), replies);
     }

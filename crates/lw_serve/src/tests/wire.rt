@@ -34,18 +34,21 @@ pub(super) struct MemoryWire<'a> {
     pub(super) alloc: Global,
     /// How many times it still fails when it is waited for.
     pub(super) faults: u32,
-    pub(super) rest: &'a [Arrival<'a>],
+    pub(super) arrivals: &'a [Arrival<'a>],
+    /// How many have come.
+    pub(super) taken: usize,
     pub(super) send_fails: bool,
     /// What was sent, and to which ports.
     pub(super) sent: Vec<(u16, Vec<u8>)>,
 }
 
 impl<'a> MemoryWire<'a> {
-    pub(super) fn new(alloc: Global, rest: &'a [Arrival<'a>]) -> MemoryWire<'a> {
+    pub(super) fn new(alloc: Global, arrivals: &'a [Arrival<'a>]) -> MemoryWire<'a> {
         MemoryWire {
             alloc,
             faults: 0,
-            rest,
+            arrivals,
+            taken: 0,
             send_fails: false,
             sent: Vec::new(alloc),
         }
@@ -54,15 +57,15 @@ impl<'a> MemoryWire<'a> {
     fn next(&mut self, buffer: &mut [u8]) -> Result<(usize, Addr), WireFault>
         ensures { IfOk result (λ taken. taken.0 ≤ length buffer.new) }
     {
-        let Some((first, rest)) = self.rest.split_first() else {
+        let Some(arrival) = self.arrivals.get(self.taken) else {
             return Err(WireFault);
         };
-        self.rest = rest;
-        let length = first.bytes.len().min(buffer.len());
-        buffer[..length].copy_from_slice(&first.bytes[..length]);
+        self.taken = self.taken.wrapping_add(1);
+        let length = arrival.bytes.len().min(buffer.len());
+        buffer[..length].copy_from_slice(&arrival.bytes[..length]);
         let from = Addr::V4 {
             address: [127, 0, 0, 1],
-            port: first.port,
+            port: arrival.port,
         };
         Ok((length, from))
     }
@@ -78,7 +81,7 @@ impl Wire for MemoryWire<'_> {
     }
 
     fn more(&mut self, buffer: &mut [u8]) -> Result<Option<(usize, Addr)>, WireFault> {
-        match self.rest.first().map(|arrival| arrival.coming) {
+        match self.arrivals.get(self.taken).map(|arrival| arrival.coming) {
             Some(Coming::AtOnce) => Ok(Some(self.next(buffer)?)),
             Some(Coming::BehindFault) => Err(WireFault),
             _ => Ok(None),
