@@ -1,0 +1,5 @@
+pub mod Plan
+pub mod Jobs
+pub mod Outcomes
+pub mod Rounds
+pub mod Ending

@@ -1,0 +1,32 @@
+//! Rounds of datagrams: they come over a wire, workers take them at nodes behind locks, and the nodes tell each other
+//! what they have learnt.
+//!
+//! A run takes a number of datagrams, a batch in each round, and then compares the transcripts of its workers with the
+//! journals of its nodes. The wire and the clock are traits; `UdpWire` and `SystemClock` are those of the host.
+#![tactic(auto)]
+
+mod clock;
+mod ending;
+mod fault;
+mod jobs;
+mod nodes;
+mod outcomes;
+mod plan;
+mod receiving;
+mod replying;
+mod server;
+mod serving;
+mod udp;
+mod wire;
+
+pub use clock::{HostClock, SystemClock};
+pub use fault::ServeFault;
+pub use lw_crew::CrewFault;
+pub use lw_reg::Addr;
+pub use plan::Plan;
+pub use serving::serve_on;
+pub use udp::UdpWire;
+pub use wire::{Wire, WireFault};
+
+#[cfg(test)]
+mod tests;

@@ -1,0 +1,81 @@
+ghost use Rattle.std.specs.Prelude.{◌≡◌, length, vec_len, IfOk, OnOk};
+ghost use Rattle.lw_serve.specs.Rounds.{IsRound};
+
+use crate::fault::ServeFault;
+use crate::jobs::{round_jobs, send_jobs};
+use crate::nodes::Nodes;
+use crate::outcomes::{changes_after, put_all_merges, refused_merges};
+use crate::plan::Plan;
+use crate::receiving::Datagram;
+use crate::replying::send_replies;
+use crate::wire::Wire;
+use log::Log;
+use lw_crew::Job;
+use lw_stamp::{Moment, NoMemory};
+use std::alloc::Global;
+use std::sync::Wait;
+use std::thread::Threads;
+
+/// The nodes of a run, and what stays from one round to the next.
+#[derive(Drop)]
+pub(crate) struct Server {
+    nodes: Nodes,
+    /// The merges for the next round.
+    kept: Vec<Job>,
+    /// For each node the change number that its last Send replied.
+    since: Vec<u64>,
+    ghost each_sends: { vec_len since ≡ vec_len nodes.shelves },
+}
+
+impl Server {
+    /// New nodes that have sent nothing.
+    pub(crate) fn new(alloc: Global, plan: &Plan) -> Result<Server, NoMemory>
+        ensures { IfOk result (λ server. vec_len server.nodes.shelves ≡ plan.now.nodes) }
+    {
+        Ok(Server {
+            nodes: Nodes::new(alloc, plan)?,
+            kept: Vec::new(alloc),
+            since: vec![in alloc; 0; plan.nodes as usize]?,
+        })
+    }
+
+    /// Takes a batch of datagrams and sends the replies; then each node sends what it has learnt since its last Send,
+    /// which the others merge in the next round.
+    pub(crate) fn round<R: Threads + Wait + Sync, W: Wire, L: Log>(
+        self,
+        rt: &R,
+        alloc: Global,
+        wire: &mut W,
+        log: &L,
+        now: Moment,
+        batch: Vec<Datagram>,
+    ) -> Result<Server, ServeFault>
+        ensures shelves { IfOk result (λ server. server.nodes.shelves ≡ self.nodes.shelves) }
+        ensures round { IfOk result (λ server. IsRound self.nodes.shelves.items now batch.items
+            self.nodes.passes.items server.nodes.passes.items self.kept.items server.kept.items self.since.items server.since.items) }
+    {
+        let Server { nodes, kept, since } = self;
+        let count = nodes.count();
+        let jobs = round_jobs(kept, count, now, batch)?;
+        let (nodes, dones) = nodes.serve(rt, alloc, &jobs)?;
+        send_replies(wire, log, nodes.passes(), &dones);
+        let mut kept = refused_merges(alloc, nodes.passes(), &jobs, &dones)?;
+        let sends = send_jobs(alloc, &since)?;
+        let (nodes, sent) = nodes.serve(rt, alloc, &sends)?;
+        let since = changes_after(alloc, &since, nodes.passes(), &sent)?;
+        put_all_merges(alloc, count, nodes.passes(), &sent, &mut kept)?;
+        Ok(Server { nodes, kept, since })
+    }
+
+    /// Has the last merges done, and compares the transcripts with the journals.
+    pub(crate) fn finish<R: Threads + Wait + Sync>(
+        self,
+        rt: &R,
+        alloc: Global,
+    ) -> Result<(), ServeFault> {
+        let Server { nodes, kept, .. } = self;
+        let (nodes, _dones) = nodes.serve(rt, alloc, &kept)?;
+        nodes.settle(rt)?;
+        Ok(())
+    }
+}

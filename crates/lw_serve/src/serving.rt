@@ -1,0 +1,62 @@
+ghost use Rattle.std.specs.Prelude.{◌≡◌, ◌≤◌, OnOk, IfErr, IfOk, vec_len};
+ghost use Rattle.std.specs.Io.KnownBytes.{Appends};
+ghost use Rattle.lw_serve.specs.Ending.{settled_line, IsStopped};
+
+use crate::clock::HostClock;
+use crate::ending::write_settled;
+use crate::fault::ServeFault;
+use crate::plan::Plan;
+use crate::receiving::{BUFFER, receive};
+use crate::server::Server;
+use crate::wire::Wire;
+use log::Log;
+use std::alloc::Global;
+use std::io::Write;
+use std::sync::Wait;
+use std::thread::Threads;
+
+/// Serves the plan's count of datagrams that come over the wire, in rounds, and then writes `settled` where the journals
+/// are what the transcripts say. Faults of the wire that are passed over are logged.
+pub fn serve_on<R: Threads + Wait + Sync, W: Wire, C: HostClock, L: Log, O: Write>(
+    rt: &R,
+    alloc: Global,
+    wire: &mut W,
+    clock: &mut C,
+    log: &L,
+    plan: &Plan,
+    writer: &mut O,
+) -> Result<(), ServeFault>
+    ensures settled { OnOk result (Appends (O.contents writer.old) (O.contents writer.new) settled_line) }
+    ensures stopped { IfErr result (λ fault. IsStopped fault (O.contents writer.old) (O.contents writer.new)) }
+{
+    let server = serve_rounds(rt, alloc, wire, clock, log, plan)?;
+    server.finish(rt, alloc)?;
+    write_settled(writer)
+}
+
+/// Serves all rounds: the nodes that they leave.
+fn serve_rounds<R: Threads + Wait + Sync, W: Wire, C: HostClock, L: Log>(
+    rt: &R,
+    alloc: Global,
+    wire: &mut W,
+    clock: &mut C,
+    log: &L,
+    plan: &Plan,
+) -> Result<Server, ServeFault> {
+    let mut server = Server::new(alloc, plan)?;
+    let mut buffer = vec![in alloc; 0; BUFFER]?;
+    let mut left = plan.count;
+    // Each round takes a datagram at least.
+    for _round in 0..plan.count {
+        if left == 0 {
+            break;
+        }
+        let batch = receive(alloc, wire, log, &mut buffer, left)?;
+        left -= batch.len() as u32;
+        let Some(now) = clock.now() else {
+            return Err(ServeFault::ClockRefused);
+        };
+        server = server.round(rt, alloc, wire, log, now, batch)?;
+    }
+    Ok(server)
+}

@@ -1,0 +1,184 @@
+//! A wire, a clock and a writer in memory.
+
+ghost use Rattle.std.specs.Prelude.{◌≤◌, length, IfOk};
+
+use super::*;
+use log::sink::Memory;
+use std::io::{self, ErrorKind, Write};
+use std::str;
+use std::sync::Wait;
+use std::thread::Threads;
+
+/// When a datagram comes.
+#[derive(Clone, Copy, PartialEq, Eq)]
+pub(super) enum Coming {
+    /// When it is waited for.
+    Alone,
+    /// With the one before.
+    AtOnce,
+    /// When it is waited for, and before that the wire fails once.
+    BehindFault,
+}
+
+/// A datagram that comes from a port of 127.0.0.1.
+#[derive(Clone, Copy)]
+pub(super) struct Arrival<'a> {
+    pub(super) port: u16,
+    pub(super) bytes: &'a [u8],
+    pub(super) coming: Coming,
+}
+
+/// A wire in memory. Where all datagrams have come it fails.
+#[derive(Drop)]
+pub(super) struct MemoryWire<'a> {
+    pub(super) alloc: Global,
+    /// How many times it still fails when it is waited for.
+    pub(super) faults: u32,
+    pub(super) arrivals: &'a [Arrival<'a>],
+    /// How many have come.
+    pub(super) taken: usize,
+    pub(super) send_fails: bool,
+    /// What was sent, and to which ports.
+    pub(super) sent: Vec<(u16, Vec<u8>)>,
+}
+
+impl<'a> MemoryWire<'a> {
+    pub(super) fn new(alloc: Global, arrivals: &'a [Arrival<'a>]) -> MemoryWire<'a> {
+        MemoryWire {
+            alloc,
+            faults: 0,
+            arrivals,
+            taken: 0,
+            send_fails: false,
+            sent: Vec::new(alloc),
+        }
+    }
+
+    fn next(&mut self, buffer: &mut [u8]) -> Result<(usize, Addr), WireFault>
+        ensures { IfOk result (λ taken. taken.0 ≤ length buffer.new) }
+    {
+        let Some(arrival) = self.arrivals.get(self.taken) else {
+            return Err(WireFault);
+        };
+        self.taken = self.taken.wrapping_add(1);
+        let length = arrival.bytes.len().min(buffer.len());
+        buffer[..length].copy_from_slice(&arrival.bytes[..length]);
+        let from = Addr::V4 {
+            address: [127, 0, 0, 1],
+            port: arrival.port,
+        };
+        Ok((length, from))
+    }
+}
+
+impl Wire for MemoryWire<'_> {
+    fn wait(&mut self, buffer: &mut [u8]) -> Result<(usize, Addr), WireFault> {
+        if self.faults > 0 {
+            self.faults -= 1;
+            return Err(WireFault);
+        }
+        self.next(buffer)
+    }
+
+    fn more(&mut self, buffer: &mut [u8]) -> Result<Option<(usize, Addr)>, WireFault> {
+        match self.arrivals.get(self.taken).map(|arrival| arrival.coming) {
+            Some(Coming::AtOnce) => Ok(Some(self.next(buffer)?)),
+            Some(Coming::BehindFault) => Err(WireFault),
+            _ => Ok(None),
+        }
+    }
+
+    fn send(&mut self, to: Addr, bytes: &[u8]) -> Result<(), WireFault> {
+        if self.send_fails {
+            return Err(WireFault);
+        }
+        let (Addr::V4 { port, .. } | Addr::V6 { port, .. }) = to;
+        let bytes = bytes.to_vec(self.alloc).map_err(|_| WireFault)?;
+        self.sent.push((port, bytes)).map_err(|_| WireFault)
+    }
+}
+
+/// A clock in memory, which counts how often it is read.
+#[derive(Drop)]
+pub(super) struct Ticks {
+    pub(super) now: Option<Moment>,
+    pub(super) readings: u32,
+}
+
+impl HostClock for Ticks {
+    fn now(&mut self) -> Option<Moment> {
+        self.readings = self.readings.wrapping_add(1);
+        self.now
+    }
+}
+
+/// Takes three bytes at a time while there is room, and then takes none or fails.
+#[derive(Drop)]
+pub(super) struct FewWrites {
+    pub(super) taken: Vec<u8>,
+    pub(super) room: usize,
+    pub(super) fails: bool,
+    pub(super) flush_fails: bool,
+}
+
+impl Write for FewWrites {
+    fn write(&mut self, buf: &[u8]) -> io::Result<usize> {
+        let count = buf.len().min(3).min(self.room);
+        if count == 0 && self.fails {
+            return Err(io::Error::from(ErrorKind::Other));
+        }
+        self.taken.extend_from_slice(&buf[..count])?;
+        self.room -= count;
+        Ok(count)
+    }
+
+    fn flush(&mut self) -> io::Result<()> {
+        if self.flush_fails {
+            return Err(io::Error::from(ErrorKind::Other));
+        }
+        Ok(())
+    }
+}
+
+/// What came of a run: its end, what the writer took, the lines of the log, and how often the clock was read.
+#[derive(Drop)]
+pub(super) struct Ran {
+    pub(super) result: Result<(), ServeFault>,
+    pub(super) written: Vec<u8>,
+    pub(super) logged: Vec<String>,
+    pub(super) rounds: u32,
+}
+
+/// Serves over the wire, at moment 0, with a writer that takes all.
+pub(super) fn run<R: Threads + Wait + Sync>(
+    rt: &R,
+    wire: &mut MemoryWire<'_>,
+    count: u32,
+    nodes: u16,
+    workers: u32,
+) -> Result<Ran, Fail> {
+    let alloc = wire.alloc;
+    let plan = Plan::new(count, nodes, workers).ok_or("a plan")?;
+    let log = Memory::new(alloc);
+    let mut clock = Ticks {
+        now: Some(Moment::START),
+        readings: 0,
+    };
+    let mut written = Vec::new(alloc);
+    let result = serve_on(rt, alloc, wire, &mut clock, &log, &plan, &mut written);
+    Ok(Ran {
+        result,
+        written,
+        logged: log.into_lines().into_vec(),
+        rounds: clock.readings,
+    })
+}
+
+pub(super) fn bytes(alloc: Global, text: &str) -> Result<Vec<u8>, Fail> {
+    Ok(hex::decode(alloc, text)?)
+}
+
+/// Whether the record is a warning with the message.
+pub(super) fn is_warning(line: &str, message: &str) -> bool {
+    line.starts_with("[WARN") && line.ends_with(message)
+}

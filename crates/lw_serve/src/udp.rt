@@ -1,0 +1,85 @@
+ghost use Rattle.std.specs.Prelude.{◌≡◌, true};
+
+use crate::wire::{Wire, WireFault};
+use lw_reg::Addr;
+use std::io::{self, ErrorKind};
+use std::net::{IpAddr, Ipv4Addr, Ipv6Addr, SocketAddr, UdpSocket};
+
+/// A UDP socket as a wire.
+#[derive(Drop)]
+pub struct UdpWire {
+    pub socket: UdpSocket,
+    /// Whether the socket waits where no datagram is there.
+    pub waits: bool,
+}
+
+impl UdpWire {
+    /// The wire of a socket that is bound and waits.
+    pub fn new(socket: UdpSocket) -> UdpWire
+        ensures { result ≡ record { socket = socket; waits = true } }
+    {
+        UdpWire {
+            socket,
+            waits: true,
+        }
+    }
+
+    /// Sets whether the socket waits.
+    fn set_waits(&mut self, waits: bool) -> io::Result<()> {
+        if self.waits != waits {
+            self.socket.set_nonblocking(!waits)?;
+            self.waits = waits;
+        }
+        Ok(())
+    }
+}
+
+impl Wire for UdpWire {
+    fn wait(&mut self, buffer: &mut [u8]) -> Result<(usize, Addr), WireFault> {
+        self.set_waits(true).map_err(|_| WireFault)?;
+        match self.socket.recv_from(buffer) {
+            Ok((length, from)) => Ok((length, address_of(&from))),
+            Err(_) => Err(WireFault),
+        }
+    }
+
+    fn more(&mut self, buffer: &mut [u8]) -> Result<Option<(usize, Addr)>, WireFault> {
+        if self.set_waits(false).is_err() {
+            return Ok(None);
+        }
+        match self.socket.recv_from(buffer) {
+            Ok((length, from)) => Ok(Some((length, address_of(&from)))),
+            Err(error) if error.kind() == ErrorKind::WouldBlock => Ok(None),
+            Err(_) => Err(WireFault),
+        }
+    }
+
+    fn send(&mut self, to: Addr, bytes: &[u8]) -> Result<(), WireFault> {
+        self.set_waits(true).map_err(|_| WireFault)?;
+        match self.socket.send_to(bytes, socket_address_of(&to)) {
+            Ok(count) if count == bytes.len() => Ok(()),
+            _ => Err(WireFault),
+        }
+    }
+}
+
+fn address_of(address: &SocketAddr) -> Addr {
+    let port = address.port();
+    match address.ip() {
+        IpAddr::V4(ip) => Addr::V4 {
+            address: ip.octets(),
+            port,
+        },
+        IpAddr::V6(ip) => Addr::V6 {
+            address: ip.octets(),
+            port,
+        },
+    }
+}
+
+fn socket_address_of(address: &Addr) -> SocketAddr {
+    match *address {
+        Addr::V4 { address, port } => SocketAddr::new(IpAddr::V4(Ipv4Addr::from(address)), port),
+        Addr::V6 { address, port } => SocketAddr::new(IpAddr::V6(Ipv6Addr::from(address)), port),
+    }
+}
