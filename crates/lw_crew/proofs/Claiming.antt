@@ -1,7 +1,7 @@
 -- Results that are held against transcripts one by one.
-use Rattle.std.proofs.Common.{◌≡◌, ◌≢◌, ℕ, zero, suc, ◌+◌, ◌<◌, ◌≤◌, List, length, Option, Some, refl, sym, ap, ◌∙◌, subst, ◌⊎◌, inl, inr, arith}
+use Rattle.std.proofs.Common.{◌≡◌, ℕ, ◌+◌, ◌<◌, ◌≤◌, List, length, Some, refl, sym, ap, ◌∙◌, subst, inl, inr, arith}
 use Rattle.std.specs.Prelude.{set, slice_get, slice_index}
-use Rattle.std.proofs.Math.ListN.{get_or, length-set}
+use Rattle.std.proofs.Math.ListN.{length-set}
 use Rattle.std.proofs.lemmas.List.{get_or-set_same, get_or-set_other}
 use Rattle.std.proofs.lemmas.Option.{slice_get_within}
 use Rattle.std.proofs.lemmas.Bool.{cases_lt}
@@ -15,7 +15,7 @@ use Rattle.lw_crew.specs.declared.job.Outcome.{Outcome}
 use Rattle.lw_crew.specs.declared.job.Outcome.TheVariants.{At, NoMemory, NoSuchNode}
 use Rattle.lw_crew.specs.Claims.{AreTrueBelow, Claims, Holds, IsAt, IsTold}
 use Rattle.lw_crew.specs.Gather.{IsGathered}
-use Rattle.lw_crew.specs.Jobs.{AreDone, AreInJobOrder, AreTrue, HasShelf, IsGained, IsOutcome, IsPartOf}
+use Rattle.lw_crew.specs.Jobs.{AreDone, AreTrue, IsOutcome, IsPartOf}
 use Rattle.lw_crew.proofs.Slots.{equal_or_not, same_some}
 
 -- ---- one result more

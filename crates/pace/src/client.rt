@@ -1,0 +1,96 @@
+//! A device over UDP: it registers, and then updates its registration again and again.
+
+use crate::fault::PaceFault;
+use std::net::{IpAddr, Ipv4Addr, Net, SocketAddr, UdpSocket};
+use std::time::Duration;
+
+/// The address of a port of the loopback.
+pub(crate) fn loopback(port: u16) -> SocketAddr {
+    SocketAddr::new(IpAddr::V4(Ipv4Addr::LOCALHOST), port)
+}
+
+/// The codes of the replies that a client expects: to its Register, and to each Update.
+#[derive(Clone, Copy)]
+pub(crate) struct Codes {
+    pub(crate) register: u8,
+    pub(crate) update: u8,
+}
+
+/// The identifier in a Register's reply: its last 16 bytes.
+const ID_LENGTH: usize = 16;
+
+/// A device, and how many of its requests were answered.
+#[derive(Drop)]
+pub(crate) struct Client {
+    socket: UdpSocket,
+    /// The last character of its endpoint name.
+    name: u8,
+    pub(crate) answered: u32,
+}
+
+impl Client {
+    /// A client of the server at the port, which waits five seconds for a reply.
+    pub(crate) fn new<R: Net>(rt: &R, name: u8, server: u16) -> Result<Client, PaceFault> {
+        let socket = UdpSocket::bind(rt, loopback(0))?;
+        socket.connect(loopback(server))?;
+        socket.set_read_timeout(Some(Duration::from_secs(5)))?;
+        Ok(Client {
+            socket,
+            name,
+            answered: 0,
+        })
+    }
+
+    /// Sends so many requests, each when the one before was answered, and stops where one is not.
+    pub(crate) fn ask_all(&mut self, requests: u32, codes: Codes) {
+        let Some(id) = self.register(codes.register) else {
+            return;
+        };
+        for turn in 1..requests {
+            let datagram = update((turn % 65536) as u16, id);
+            if self.exchange(&datagram, codes.update).is_none() {
+                return;
+            }
+        }
+    }
+
+    /// The identifier that a Register is given.
+    fn register(&mut self, code: u8) -> Option<[u8; ID_LENGTH]> {
+        let datagram = register(self.name);
+        let reply = self.exchange(&datagram, code)?;
+        let mut id = [b'0'; ID_LENGTH];
+        if let Some(last) = reply.0.get(reply.1.checked_sub(ID_LENGTH)?..reply.1) {
+            id.copy_from_slice(last);
+        }
+        Some(id)
+    }
+
+    /// The reply with its length, if there is one and it has the code.
+    fn exchange(&mut self, datagram: &[u8], code: u8) -> Option<([u8; 64], usize)> {
+        let mut buffer = [0; 64];
+        self.socket.send(datagram).ok()?;
+        let length = self.socket.recv(&mut buffer).ok()?;
+        if length < 2 || buffer[1] != code {
+            return None;
+        }
+        self.answered = self.answered.saturating_add(1);
+        Some((buffer, length))
+    }
+}
+
+/// A confirmable Register of `ep=cN` with the object list `</>`.
+fn register(name: u8) -> [u8; 17] {
+    [
+        0x40, 0x02, 0, 0, 0xb2, b'r', b'd', 0x45, b'e', b'p', b'=', b'c', name, 0xff, b'<', b'/',
+        b'>',
+    ]
+}
+
+/// A confirmable Update of the registration, without parameters.
+fn update(mid: u16, id: [u8; ID_LENGTH]) -> [u8; 25] {
+    let [high, low] = mid.to_be_bytes();
+    let mut datagram = [0; 25];
+    datagram[..9].copy_from_slice(&[0x40, 0x02, high, low, 0xb2, b'r', b'd', 0x0d, 0x03]);
+    datagram[9..].copy_from_slice(&id);
+    datagram
+}

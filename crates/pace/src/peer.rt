@@ -1,0 +1,108 @@
+//! What answers the clients, and how fast.
+
+use crate::client::{Client, Codes, loopback};
+use crate::fault::PaceFault;
+use log::sink::Discard;
+use lw_serve::{Plan, SystemClock, UdpWire, serve_on};
+use std::alloc::Global;
+use std::io;
+use std::net::{Net, UdpSocket};
+use std::sync::Wait;
+use std::thread::{self, Threads};
+use std::time::{Clock, Duration, Instant};
+
+/// How many clients there are.
+pub(crate) const CLIENTS: u8 = 8;
+
+/// What answers.
+#[derive(Clone, Copy)]
+pub(crate) enum Peer {
+    /// So many nodes with so many workers.
+    Rounds { nodes: u16, workers: u32 },
+    /// Each datagram is sent back as it came.
+    Echo,
+}
+
+impl Peer {
+    fn codes(self) -> Codes {
+        match self {
+            Peer::Rounds { .. } => Codes {
+                register: 0x41,
+                update: 0x44,
+            },
+            Peer::Echo => Codes {
+                register: 0x02,
+                update: 0x02,
+            },
+        }
+    }
+}
+
+/// How long all clients together take for so many requests each, every one of which has to be answered.
+pub(crate) fn measure<R: Threads + Wait + Net + Clock + Sync>(
+    rt: &R,
+    alloc: Global,
+    peer: Peer,
+    requests: u32,
+) -> Result<Duration, PaceFault> {
+    let socket = UdpSocket::bind(rt, loopback(0))?;
+    let mut clients = clients(rt, alloc, socket.local_addr()?.port())?;
+    let all = requests.saturating_mul(u32::from(CLIENTS));
+    let start = Instant::now(rt)?;
+    let (answered, ()) = thread::join(
+        rt,
+        || answer(rt, alloc, peer, socket, all),
+        || ask(rt, &mut clients, requests, peer.codes()),
+    );
+    let time = start.elapsed(rt)?;
+    answered?;
+    if clients.iter().any(|client| client.answered != requests) {
+        return Err(PaceFault::Unanswered);
+    }
+    Ok(time)
+}
+
+fn clients<R: Net>(rt: &R, alloc: Global, server: u16) -> Result<Vec<Client>, PaceFault> {
+    let mut clients = Vec::new(alloc);
+    for number in 0..CLIENTS {
+        clients.push(Client::new(rt, b'0' + number, server)?)?;
+    }
+    Ok(clients)
+}
+
+/// Has each client ask on a thread of its own.
+fn ask<R: Threads + Sync>(rt: &R, clients: &mut [Client], requests: u32, codes: Codes) {
+    let each = |_place: usize, client: &mut Client| client.ask_all(requests, codes);
+    thread::for_each_mut(rt, clients, CLIENTS as usize, &each);
+}
+
+/// Answers so many datagrams.
+fn answer<R: Threads + Wait + Clock + Sync>(
+    rt: &R,
+    alloc: Global,
+    peer: Peer,
+    socket: UdpSocket,
+    count: u32,
+) -> Result<(), PaceFault> {
+    match peer {
+        Peer::Rounds { nodes, workers } => {
+            let plan = Plan::new(count, nodes, workers).ok_or(PaceFault::Unanswered)?;
+            let mut written = Vec::new(alloc);
+            let wire = &mut UdpWire::new(socket);
+            let clock = &mut SystemClock { clock: rt };
+            serve_on(rt, alloc, wire, clock, &Discard, &plan, &mut written)?;
+            Ok(())
+        }
+        Peer::Echo => Ok(echo(&socket, count)?),
+    }
+}
+
+/// Sends so many datagrams back.
+fn echo(socket: &UdpSocket, count: u32) -> io::Result<()> {
+    let mut buffer = [0; 64];
+    for _ in 0..count {
+        let (length, from) = socket.recv_from(&mut buffer)?;
+        socket.send_to(&buffer[..length], from)?;
+    }
+    Ok(())
+}

@@ -1,0 +1,64 @@
+use crate::fault::PaceFault;
+use crate::journal::bytes_each;
+use crate::peer::{CLIENTS, Peer, measure};
+use std::alloc::Global;
+use std::net::Net;
+use std::rt::Files;
+use std::sync::Wait;
+use std::thread::Threads;
+use std::time::{Clock, Duration};
+
+/// How much is measured: the requests of each client, and the datagrams of a journal.
+#[derive(Clone, Copy)]
+pub(crate) struct Size {
+    requests: u32,
+    journal: u32,
+}
+
+pub(crate) const TRIAL: Size = Size {
+    requests: 10,
+    journal: 10,
+};
+
+pub(crate) const FULL: Size = Size {
+    requests: 2_500,
+    journal: 100_000,
+};
+
+/// How many nodes and workers are measured.
+const PEERS: [(u16, u32); 3] = [(1, 1), (2, 2), (4, 4)];
+
+/// The table: for each number of nodes and workers the replies in a second, those of an echo measured beside them, and
+/// how many hundredths of the echo's they are; and the bytes that a datagram leaves.
+pub(crate) fn table<R: Threads + Wait + Net + Clock + Files + Sync>(
+    rt: &R,
+    alloc: Global,
+    size: Size,
+) -> Result<String, PaceFault> {
+    let all = size.requests.saturating_mul(u32::from(CLIENTS));
+    let mut text = String::from_str(alloc, "nodes/workers  replies/s  echo/s  hundredths\n")?;
+    for (nodes, workers) in PEERS {
+        let echo = per_second(all, measure(rt, alloc, Peer::Echo, size.requests)?);
+        let peer = Peer::Rounds { nodes, workers };
+        let served = per_second(all, measure(rt, alloc, peer, size.requests)?);
+        let ratio = hundredths(served, echo);
+        let row = format!(in alloc; "{nodes}/{workers}{served:>21}{echo:>8}{ratio:>12}\n")?;
+        text.push_str(&row)?;
+    }
+    let bytes = bytes_each(rt, alloc, size.journal)?;
+    let row = format!(in alloc; "bytes that an Update leaves: {bytes}")?;
+    text.push_str(&row)?;
+    Ok(text)
+}
+
+/// How many there are in a second, rounded down; 0 where no time has passed.
+fn per_second(count: u32, time: Duration) -> u128 {
+    (u128::from(count) * 1_000_000_000)
+        .checked_div(time.as_nanos())
+        .unwrap_or(0)
+}
+
+/// How many hundredths of the other it is, rounded down; 0 where the other is 0.
+fn hundredths(one: u128, other: u128) -> u128 {
+    one.saturating_mul(100).checked_div(other).unwrap_or(0)
+}
