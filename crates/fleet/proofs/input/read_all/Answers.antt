@@ -20,3 +20,6 @@ loop-bytes-preserved g c = record {
       (Consumes-trans _ _ _ _ _ c.loop-bytes.invariant.front c.in_ok-count.ensures.bytes);
   fits = c.in_ok-add_part.ensures.fits;
 }
+
+pub returns-then-count-eq0-clause-fits : goal.returns-then-count-eq0-clause-fits
+returns-then-count-eq0-clause-fits g c = c.loop-bytes.invariant.fits

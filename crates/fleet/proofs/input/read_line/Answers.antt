@@ -24,3 +24,6 @@ loop-line-preserved g c =
       begun = goes_on _ _ _ _ _ _ _ c.loop-line.invariant.begun read.bytes c.before_feed-part.ensures c.in_ok-add_part.ensures.added (omega arith);
       fits = c.in_ok-add_part.ensures.fits;
     }
+
+pub returns-then-count-eq0-clause-fits : goal.returns-then-count-eq0-clause-fits
+returns-then-count-eq0-clause-fits g c = c.in_ok-add_part.ensures.fits

@@ -1,4 +1,4 @@
-use Rattle.std.proofs.Common.{ℕ, List, length, sym, ap, subst, ◌∙◌, arith}
+use Rattle.std.proofs.Common.{rules, ℕ, List, length, sym, ap, subst, ◌∙◌, arith}
 use Rattle.std.proofs.lemmas.Result.{err_from_is_err_and}
 use Rattle.std.specs.Io.KnownBytes.{Appends}
 use Rattle.hex.specs.Hex.{decode_of}
@@ -69,3 +69,6 @@ returns-clause-address_refused g c =
     let from = c.args.options.now.from.now in
     let address : IsAddressText from = (c.in-Some.source, c.in-Some.ensures.in_range, c.in-Some.ensures.found) in
     no_fault c.write_text.result from address (of_writing c.write_text.result c.write_text.ensures.fault)
+
+pub returns-in_default-clause-unread : goal.returns-in_default-clause-unread
+returns-in_default-clause-unread g c = search rules
