@@ -2,6 +2,7 @@
 
 use crate::fault::BenchFault;
 use crate::indexes::index_of;
+use crate::journal::journal_of;
 use crate::names::{Order, names};
 use crate::nodes::node_of;
 use crate::slots::FIRST;
@@ -9,6 +10,7 @@ use lw_reg::Slot;
 use std::alloc::Global;
 use std::collections::BTreeMap;
 use std::rt::Files;
+use std::sync::Wait;
 use std::{fs, io};
 
 /// By how many bytes each of a kind lets the process grow, with names rising.
@@ -20,6 +22,8 @@ pub(crate) struct Sizes {
     pub removed: u64,
     /// With one endpoint.
     pub index_key: u64,
+    /// In the journal of a node and the transcript of a pass.
+    pub update: u64,
 }
 
 /// The bytes of a page.
@@ -27,7 +31,7 @@ const PAGE: u64 = 4096;
 
 /// Stores so many of each kind, one after another. All is kept to the end, so that nothing takes the place of
 /// what was freed.
-pub(crate) fn measure_sizes<R: Files>(
+pub(crate) fn measure_sizes<R: Files + Wait>(
     rt: &R,
     alloc: Global,
     count: u32,
@@ -40,10 +44,13 @@ pub(crate) fn measure_sizes<R: Files>(
     let with_slots = resident(rt, alloc);
     let _index = index_of(alloc, &names)?;
     let with_index = resident(rt, alloc);
+    let _journal = journal_of(rt, alloc, count)?;
+    let with_journal = resident(rt, alloc);
     Ok(Sizes {
         registration: growth_each(empty, with_node, count),
         removed: growth_each(with_node, with_slots, count),
         index_key: growth_each(with_slots, with_index, count),
+        update: growth_each(with_index, with_journal, count),
     })
 }
 

@@ -10,6 +10,7 @@ mod exchange;
 mod fault;
 mod heap;
 mod indexes;
+mod journal;
 mod messages;
 mod names;
 mod nodes;

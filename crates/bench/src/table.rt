@@ -47,8 +47,8 @@ pub(crate) fn table(rt: &HostRuntime, plan: Plan) -> Result<String, BenchFault> 
 fn sizes_text(rt: &HostRuntime, plan: Plan) -> Result<String, BenchFault> {
     let sizes = measure_sizes(rt, rt.alloc(), plan.large)?;
     let text = format!(in rt.alloc();
-        "bytes of a registration: {}\nbytes of a removed one: {}\nbytes of an index key: {}\n\n{HEADING}\n",
-        sizes.registration, sizes.removed, sizes.index_key
+        "bytes of a registration: {}\nbytes of a removed one: {}\nbytes of an index key: {}\nbytes of an Update in journal and transcript: {}\n\n{HEADING}\n",
+        sizes.registration, sizes.removed, sizes.index_key, sizes.update
     )?;
     Ok(text)
 }

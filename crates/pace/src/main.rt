@@ -1,12 +1,11 @@
 //! The program `pace`: how many datagrams of eight clients the rounds of `lw_serve` answer in a second, over UDP on the
-//! loopback, beside a plain echo of the same datagrams, and how much memory a datagram leaves in the journals.
+//! loopback, beside a plain echo of the same datagrams.
 //!
 //! Without a word a few datagrams are served, and then it prints `ok`. With `full` it prints a table.
 #![tactic(auto)]
 
 mod client;
 mod fault;
-mod journal;
 mod peer;
 mod table;
 

@@ -1,53 +1,36 @@
 use crate::fault::PaceFault;
-use crate::journal::bytes_each;
 use crate::peer::{CLIENTS, Peer, measure};
 use std::alloc::Global;
 use std::net::Net;
-use std::rt::Files;
 use std::sync::Wait;
 use std::thread::Threads;
 use std::time::{Clock, Duration};
 
-/// How much is measured: the requests of each client, and the datagrams of a journal.
-#[derive(Clone, Copy)]
-pub(crate) struct Size {
-    requests: u32,
-    journal: u32,
-}
+/// The requests of each client.
+pub(crate) const TRIAL: u32 = 10;
 
-pub(crate) const TRIAL: Size = Size {
-    requests: 10,
-    journal: 10,
-};
-
-pub(crate) const FULL: Size = Size {
-    requests: 2_500,
-    journal: 100_000,
-};
+pub(crate) const FULL: u32 = 2_500;
 
 /// How many nodes and workers are measured.
 const PEERS: [(u16, u32); 3] = [(1, 1), (2, 2), (4, 4)];
 
 /// The table: for each number of nodes and workers the replies in a second, those of an echo measured beside them, and
-/// how many hundredths of the echo's they are; and the bytes that a datagram leaves.
-pub(crate) fn table<R: Threads + Wait + Net + Clock + Files + Sync>(
+/// how many hundredths of the echo's they are.
+pub(crate) fn table<R: Threads + Wait + Net + Clock + Sync>(
     rt: &R,
     alloc: Global,
-    size: Size,
+    requests: u32,
 ) -> Result<String, PaceFault> {
-    let all = size.requests.saturating_mul(u32::from(CLIENTS));
+    let all = requests.saturating_mul(u32::from(CLIENTS));
     let mut text = String::from_str(alloc, "nodes/workers  replies/s  echo/s  hundredths\n")?;
     for (nodes, workers) in PEERS {
-        let echo = per_second(all, measure(rt, alloc, Peer::Echo, size.requests)?);
+        let echo = per_second(all, measure(rt, alloc, Peer::Echo, requests)?);
         let peer = Peer::Rounds { nodes, workers };
-        let served = per_second(all, measure(rt, alloc, peer, size.requests)?);
+        let served = per_second(all, measure(rt, alloc, peer, requests)?);
         let ratio = hundredths(served, echo);
         let row = format!(in alloc; "{nodes}/{workers}{served:>21}{echo:>8}{ratio:>12}\n")?;
         text.push_str(&row)?;
     }
-    let bytes = bytes_each(rt, alloc, size.journal)?;
-    let row = format!(in alloc; "bytes that an Update leaves: {bytes}")?;
-    text.push_str(&row)?;
     Ok(text)
 }
 
