@@ -4,6 +4,9 @@ use crate::fault::BenchFault;
 use crate::heap::measure_sizes;
 use crate::operation::{Operation, ROWS};
 use crate::row::row;
+use std::rt::Files;
+use std::sync::Wait;
+use std::time::CpuClock;
 
 /// How large a run is.
 #[derive(Clone, Copy)]
@@ -35,7 +38,10 @@ const HEADING: &str =
     "nanoseconds of a call at three sizes, growth from size to size in hundredths, MB/s";
 
 /// The whole table. Memory comes first, while nothing that was freed is kept.
-pub(crate) fn table(rt: &HostRuntime, plan: Plan) -> Result<String, BenchFault> {
+pub(crate) fn table<R: AllocGlobal + CpuClock + Files + Wait>(
+    rt: &R,
+    plan: Plan,
+) -> Result<String, BenchFault> {
     let mut text = sizes_text(rt, plan)?;
     for (name, operation) in ROWS {
         let row = row_text(rt, plan, name, operation)?;
@@ -44,7 +50,7 @@ pub(crate) fn table(rt: &HostRuntime, plan: Plan) -> Result<String, BenchFault> 
     Ok(text)
 }
 
-fn sizes_text(rt: &HostRuntime, plan: Plan) -> Result<String, BenchFault> {
+fn sizes_text<R: AllocGlobal + Files + Wait>(rt: &R, plan: Plan) -> Result<String, BenchFault> {
     let sizes = measure_sizes(rt, rt.alloc(), plan.large)?;
     let text = format!(in rt.alloc();
         "bytes of a registration: {}\nbytes of a removed one: {}\nbytes of an index key: {}\nbytes of an Update in journal and transcript: {}\n\n{HEADING}\n",
@@ -53,8 +59,8 @@ fn sizes_text(rt: &HostRuntime, plan: Plan) -> Result<String, BenchFault> {
     Ok(text)
 }
 
-fn row_text(
-    rt: &HostRuntime,
+fn row_text<R: AllocGlobal + CpuClock>(
+    rt: &R,
     plan: Plan,
     name: &str,
     operation: Operation,
