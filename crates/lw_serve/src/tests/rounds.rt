@@ -243,7 +243,7 @@ fn every_request_has_its_reply(rt: HostRuntime) -> Result<(), Fail> {
             Coming::AtOnce
         };
         arrivals.push(Arrival {
-            port: 40_000 + place as u16,
+            port: u16::try_from(place)?.wrapping_add(40_000),
             bytes: datagram,
             coming,
         })?;
@@ -254,10 +254,11 @@ fn every_request_has_its_reply(rt: HostRuntime) -> Result<(), Fail> {
     assert_eq!(rt; ran.written.as_slice(), b"settled\n".as_slice());
     assert_eq!(rt; wire.sent.len(), 400);
     for (place, (port, reply)) in wire.sent.iter().enumerate() {
-        let number = (place as u16).to_be_bytes();
-        assert_eq!(rt; *port, 40_000 + place as u16);
+        let number = u16::try_from(place)?;
+        let [high, low] = number.to_be_bytes();
+        assert_eq!(rt; *port, number.wrapping_add(40_000));
         assert_eq!(rt; reply.len(), 25);
-        assert_eq!(rt; &reply[..4], [0x60, 0x41, number[0], number[1]].as_slice());
+        assert_eq!(rt; &reply[..4], [0x60, 0x41, high, low].as_slice());
     }
     Ok(())
 }
