@@ -26,3 +26,6 @@ returns-in-FirstAfter c = asked c.args.self.now (ms_of c.args.now) c.args.questi
 
 pub returns-in-ExpiredAfter : goal.returns-in-ExpiredAfter
 returns-in-ExpiredAfter c = asked c.args.self.now (ms_of c.args.now) c.args.question.now (questions.ExpiredAfter c.in-ExpiredAfter.after) c.in-ExpiredAfter.is (answers.Expired (option_map (λ x. (x.0.now, x.1)) c.expired_after.result)) c.expired.result c.expired.ensures.value (search rules) (search rules) (search rules)
+
+pub returns-in-Change : goal.returns-in-Change
+returns-in-Change c = search rules
