@@ -5,3 +5,4 @@ pub mod One
 pub mod Replay
 pub mod Fault
 pub mod Program
+pub mod Serving

@@ -5,21 +5,23 @@ use Rattle.hex.specs.Hex.{decode_of}
 use Rattle.clap.specs.Words.{Text}
 use Rattle.fleet.specs.declared.command.OneOptions.{OneOptions}
 use Rattle.fleet.specs.declared.command.Request.{Request}
-use Rattle.fleet.specs.declared.command.Request.TheVariants.{One, Replay}
+use Rattle.fleet.specs.declared.command.Request.TheVariants.{One, Replay, Serve}
 use Rattle.fleet.specs.declared.fault.Fault.{Fault}
 use Rattle.fleet.specs.declared.fault.Fault.TheVariants.{AddressRefused, TooLong, HexRefused, LineRefused, WriteFailed, NoMemory}
 use Rattle.fleet.specs.declared.program.Ending.{Ending}
-use Rattle.fleet.specs.declared.program.Ending.TheVariants.{Done, Failed, Refused}
+use Rattle.fleet.specs.declared.program.Ending.TheVariants.{Done, Failed, Unserved, Refused}
 use Rattle.fleet.specs.CommandLine.{Asks, AsksForText, IsMistaken}
 use Rattle.fleet.specs.Fault.{IsTold}
 use Rattle.fleet.specs.Line.{line_of, longest_line}
 use Rattle.fleet.specs.One.{IsAddressText, Prints, PrintsFront}
 use Rattle.fleet.specs.Replay.{Replays, IsReplayStopped}
+use Rattle.fleet.specs.Serving.{IsServed, IsServingTold, IsUnserved}
 
 -- the exit status of the process
 abbrev pub status_of : Ending → ℕ
 status_of Done = 0
 status_of (Failed fault told) = 1
+status_of (Unserved fault told) = 1
 status_of Refused = 2
 
 -- What standard error takes: nothing where all is done, the line of a fault, or the text of a refused command
@@ -27,6 +29,7 @@ status_of Refused = 2
 abbrev pub Tells : Ending → Option (List ℕ) → Option (List ℕ) → Type 0
 Tells Done before after = Keeps before after
 Tells (Failed fault told) before after = IsTold fault told before after
+Tells (Unserved fault told) before after = IsServingTold fault told before after
 Tells Refused before after = (text : List ℕ) × Appends before after text
 
 -- `one` with these options stopped at a fault, with this on the standard output
@@ -43,29 +46,41 @@ pub record IsStopped (options : OneOptions) (input before after : Option (List �
 abbrev pub EndsOne : OneOptions → Option (List ℕ) → Option (List ℕ) → Option (List ℕ) → Ending → Type 0
 EndsOne options input before after Done = (¬ ¬ IsAddressText options.from.now) × Prints options input before after
 EndsOne options input before after (Failed fault told) = IsStopped options input before after fault
+EndsOne options input before after (Unserved fault told) = ⊥
 EndsOne options input before after Refused = ⊥
 
 -- `replay` prints the lines of a run or stops at a fault
 abbrev pub EndsReplay : Option (List ℕ) → Option (List ℕ) → Option (List ℕ) → Ending → Type 0
 EndsReplay input before after Done = Replays input before after
 EndsReplay input before after (Failed fault told) = IsReplayStopped input before after fault
+EndsReplay input before after (Unserved fault told) = ⊥
 EndsReplay input before after Refused = ⊥
+
+-- `serve` has served, or stops at a fault; memory may have run out before
+abbrev pub EndsServe : Option (List ℕ) → Option (List ℕ) → Ending → Type 0
+EndsServe before after Done = IsServed before after
+EndsServe before after (Failed fault told) = (fault ≡ NoMemory) × Keeps before after
+EndsServe before after (Unserved fault told) = IsUnserved fault before after
+EndsServe before after Refused = ⊥
 
 abbrev pub EndsRequest : Request → Option (List ℕ) → Option (List ℕ) → Option (List ℕ) → Ending → Type 0
 EndsRequest (One options) input before after ending = EndsOne options input before after ending
 EndsRequest Replay input before after ending = EndsReplay input before after ending
+EndsRequest (Serve options) input before after ending = EndsServe before after ending
 
 -- a text that was asked for stands on the standard output, or a front of it where that failed
 abbrev pub EndsShown : Option (List ℕ) → Option (List ℕ) → Ending → Type 0
 EndsShown before after Done = (text : List ℕ) × Appends before after text
 EndsShown before after (Failed fault told) = ((fault ≡ NoMemory) × Keeps before after)
     ⊎ ((fault ≡ WriteFailed) × (text : List ℕ) × Appends before after text)
+EndsShown before after (Unserved fault told) = ⊥
 EndsShown before after Refused = ⊥
 
 -- a refused command line, or no memory for the text that tells why
 abbrev pub IsRefusal : Ending → Type 0
 IsRefusal Done = ⊥
 IsRefusal (Failed fault told) = fault ≡ NoMemory
+IsRefusal (Unserved fault told) = ⊥
 IsRefusal Refused = ⊤
 
 -- a refused command line, with nothing on the standard output
@@ -83,6 +98,7 @@ pub record IsEnd (words : List Text) (input before after : Option (List ℕ)) (e
 abbrev pub IsOfInput : Request → Type 0
 IsOfInput (One options) = IsAddressText options.from.now
 IsOfInput Replay = ⊤
+IsOfInput (Serve options) = ⊥
 
 -- the words make the program read its standard input
 abbrev pub Reads : List Text → Type 0

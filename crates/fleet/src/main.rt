@@ -1,16 +1,20 @@
 //! The program `fleet`: `fleet one` takes one datagram at a new node and prints what the node answers; `fleet replay`
-//! runs a script of several nodes and prints a line of what comes of each event.
+//! runs a script of several nodes and prints a line of what comes of each event; `fleet serve` serves datagrams that come
+//! to a UDP port.
 #![tactic(auto)]
 
 mod command;
 mod fault;
 mod hex_line;
+mod host;
 mod input;
 mod one;
 mod output;
 mod program;
 mod replay;
+mod serving;
 
+use host::Host;
 use program::program;
 use std::process::ExitCode;
 use std::{env, io};
@@ -29,6 +33,7 @@ fn words(rt: &HostRuntime) -> io::Result<Vec<String>> {
 fn main(rt: HostRuntime) -> ExitCode {
     let words = words(&rt);
     let (reader, writer, errors) = (&mut rt.reader(), &mut rt.stdout(), &mut rt.stderr());
-    let ending = program(rt.alloc(), &words, reader, writer, errors);
+    let server = &mut Host { host: &rt };
+    let ending = program(&rt, rt.alloc(), &words, reader, writer, errors, server);
     ExitCode::from(ending.status())
 }

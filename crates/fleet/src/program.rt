@@ -5,19 +5,22 @@ ghost use Rattle.clap.specs.Words.{kind_of};
 ghost use Rattle.clap.specs.declared.error.kind.ErrorKind.TheVariants.{OutOfMemory};
 ghost use Rattle.fleet.specs.CommandLine.{IsRequest};
 ghost use Rattle.fleet.specs.One.{IsAddressText};
-ghost use Rattle.fleet.specs.Program.{status_of, EndsOne, EndsRefused, EndsReplay, EndsRequest, EndsShown, EndsWithoutMemory, IsEnd, IsOfInput, IsRefusal, Reads, Tells};
+ghost use Rattle.fleet.specs.Program.{status_of, EndsOne, EndsRefused, EndsReplay, EndsRequest, EndsServe, EndsShown, EndsWithoutMemory, IsEnd, IsOfInput, IsRefusal, Reads, Tells};
 
-use crate::command::{OneOptions, Request, not_utf8, read_request};
+use crate::command::{OneOptions, Request, ServeOptions, not_utf8, read_request};
 use crate::fault::Fault;
 use crate::one::one;
 use crate::output::write_text;
 use crate::replay::replay;
+use crate::serving::{Serves, ServingFault};
 use clap::Error;
 use clap::error::ErrorKind;
 use lw_stamp::NoMemory;
 use std::alloc::Global;
 use std::convert::AsStr;
 use std::io::{self, Read, Write};
+use std::sync::Wait;
+use std::thread::Threads;
 
 /// How a run of the program ends.
 #[derive(Clone, Copy, Debug, PartialEq, Eq)]
@@ -26,6 +29,8 @@ pub enum Ending {
     Done,
     /// A fault came; it is told where standard error took its whole line.
     Failed { fault: Fault, told: bool },
+    /// `serve` stopped at a fault, which is told in the same way.
+    Unserved { fault: ServingFault, told: bool },
     /// The command line is refused, with a text on standard error.
     Refused,
 }
@@ -38,19 +43,23 @@ impl Ending {
         match self {
             Ending::Done => 0,
             Ending::Failed { .. } => 1,
+            Ending::Unserved { .. } => 1,
             Ending::Refused => 2,
         }
     }
 }
 
 #[tactic(auto, using(crate::proofs::EndingLemmas::refused_early))]
-/// Runs the program on the words of its command line, if they could be had, the program's name first.
-pub fn program<S: AsStr, R: Read, W: Write, E: Write>(
+/// Runs the program on the words of its command line, if they could be had, the program's name first. Where they ask
+/// for it, the server serves.
+pub fn program<T: Threads + Wait + Sync, S: AsStr, R: Read, W: Write, E: Write, V: Serves>(
+    rt: &T,
     alloc: Global,
     words: &io::Result<Vec<S>>,
     reader: &mut R,
     writer: &mut W,
     errors: &mut E,
+    server: &mut V,
 ) -> Ending
     ensures end { IfOk words.now (λ words. IsEnd (map S.text words.items)
         (R.remaining reader.old) (W.contents writer.old) (W.contents writer.new) result) }
@@ -64,7 +73,7 @@ pub fn program<S: AsStr, R: Read, W: Write, E: Write>(
     ensures unread_words { IfErr words.now (λ error. reader.new ≡ reader.old) }
 {
     match words {
-        Ok(words) => run(alloc, words, reader, writer, errors),
+        Ok(words) => run(rt, alloc, words, reader, writer, errors, server),
         Err(error) if error.kind() == io::ErrorKind::InvalidData => match not_utf8(alloc) {
             Ok(error) => refuse(alloc, &error, errors),
             Err(_) => fail(errors, Fault::NoMemory),
@@ -73,12 +82,14 @@ pub fn program<S: AsStr, R: Read, W: Write, E: Write>(
     }
 }
 
-fn run<S: AsStr, R: Read, W: Write, E: Write>(
+fn run<T: Threads + Wait + Sync, S: AsStr, R: Read, W: Write, E: Write, V: Serves>(
+    rt: &T,
     alloc: Global,
     words: &[S],
     reader: &mut R,
     writer: &mut W,
     errors: &mut E,
+    server: &mut V,
 ) -> Ending
     ensures end { IsEnd (map S.text words.now) (R.remaining reader.old)
         (W.contents writer.old) (W.contents writer.new) result }
@@ -86,18 +97,20 @@ fn run<S: AsStr, R: Read, W: Write, E: Write>(
     ensures unread { ¬ Reads (map S.text words.now) → reader.new ≡ reader.old }
 {
     match read_request(alloc, words) {
-        Ok(request) => answer(alloc, &request, reader, writer, errors),
+        Ok(request) => answer(rt, alloc, &request, reader, writer, errors, server),
         Err(error) => explain(alloc, &error, writer, errors),
     }
 }
 
 /// Does what the words ask for.
-fn answer<R: Read, W: Write, E: Write>(
+fn answer<T: Threads + Wait + Sync, R: Read, W: Write, E: Write, V: Serves>(
+    rt: &T,
     alloc: Global,
     request: &Request<'_>,
     reader: &mut R,
     writer: &mut W,
     errors: &mut E,
+    server: &mut V,
 ) -> Ending
     ensures end { EndsRequest request.entry.now (R.remaining reader.old)
         (W.contents writer.old) (W.contents writer.new) result }
@@ -107,6 +120,7 @@ fn answer<R: Read, W: Write, E: Write>(
     match request {
         Request::One(options) => run_one(alloc, options, reader, writer, errors),
         Request::Replay => run_replay(alloc, reader, writer, errors),
+        Request::Serve(options) => run_serve(rt, options, writer, errors, server),
     }
 }
 
@@ -140,6 +154,25 @@ fn run_replay<R: Read, W: Write, E: Write>(
     match replay(alloc, reader, writer) {
         Ok(()) => Ending::Done,
         Err(fault) => fail(errors, fault),
+    }
+}
+
+fn run_serve<T: Threads + Wait + Sync, W: Write, E: Write, V: Serves>(
+    rt: &T,
+    options: &ServeOptions,
+    writer: &mut W,
+    errors: &mut E,
+    server: &mut V,
+) -> Ending
+    ensures end { EndsServe (W.contents writer.old) (W.contents writer.new) result }
+    ensures told { Tells result (E.contents errors.old) (E.contents errors.new) }
+{
+    match server.serve(rt, options, writer) {
+        Ok(()) => Ending::Done,
+        Err(fault) => Ending::Unserved {
+            fault,
+            told: fault.tell(errors),
+        },
     }
 }
 

@@ -15,6 +15,7 @@ mod gossip;
 mod program;
 mod replay;
 mod scripts;
+mod serving;
 
 /// Gives its bytes a few at a time, and then ends or fails. Every other read is interrupted.
 #[derive(Drop)]

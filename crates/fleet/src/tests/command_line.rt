@@ -3,13 +3,15 @@
 use super::program::run_with;
 use crate::command::{OneOptions, Request, read_request};
 use std::alloc::Global;
+use std::sync::Wait;
 use std::test::Fail;
+use std::thread::Threads;
 
 /// The options of `one` that the words ask for.
 fn read_options<'a>(alloc: Global, words: &'a [&'a str]) -> Result<OneOptions<'a>, Fail> {
     match read_request(alloc, words)? {
         Request::One(options) => Ok(options),
-        Request::Replay => Err(Fail::from("it is a replay")),
+        _ => Err(Fail::from("it is another command")),
     }
 }
 
@@ -53,8 +55,12 @@ fn options(rt: HostRuntime) -> Result<(), Fail> {
 }
 
 /// The status of a command line that gives no options, and what it prints, errors behind a bar.
-fn printed(alloc: Global, words: &[&str]) -> Result<String, Fail> {
-    let ended = run_with(alloc, words, b"4")?;
+fn printed<R: Threads + Wait + Sync>(
+    rt: &R,
+    alloc: Global,
+    words: &[&str],
+) -> Result<String, Fail> {
+    let ended = run_with(rt, alloc, words, b"4")?;
     if ended.unread != 1 {
         return Err(Fail::from("the input was read"));
     }
@@ -63,7 +69,7 @@ fn printed(alloc: Global, words: &[&str]) -> Result<String, Fail> {
 
 #[test]
 fn help_of_the_program(rt: HostRuntime) -> Result<(), Fail> {
-    let text = printed(rt.alloc(), &["fleet", "--help"])?;
+    let text = printed(&rt, rt.alloc(), &["fleet", "--help"])?;
     assert_eq!(rt;
         text.as_str(),
         "0 \
@@ -74,6 +80,7 @@ Usage: fleet [COMMAND]
 Commands:
   one     Takes one datagram, a line of hex on standard input, and prints the reply and the registration
   replay  Runs a script of several nodes, read from standard input, and prints a line for each event
+  serve   Serves datagrams that come to a UDP port of 127.0.0.1, and prints `settled` when the journals are checked
   help    Print this message or the help of the given subcommand(s)
 
 Options:
@@ -86,7 +93,7 @@ Options:
 
 #[test]
 fn help_of_one(rt: HostRuntime) -> Result<(), Fail> {
-    let text = printed(rt.alloc(), &["fleet", "one", "--help"])?;
+    let text = printed(&rt, rt.alloc(), &["fleet", "one", "--help"])?;
     assert_eq!(rt;
         text.as_str(),
         "0 \
@@ -106,7 +113,7 @@ Options:
 
 #[test]
 fn help_of_replay(rt: HostRuntime) -> Result<(), Fail> {
-    let text = printed(rt.alloc(), &["fleet", "replay", "--help"])?;
+    let text = printed(&rt, rt.alloc(), &["fleet", "replay", "--help"])?;
     assert_eq!(rt;
         text.as_str(),
         "0 \
@@ -122,20 +129,123 @@ Options:
 }
 
 #[test]
+fn help_of_serve(rt: HostRuntime) -> Result<(), Fail> {
+    let text = printed(&rt, rt.alloc(), &["fleet", "serve", "--help"])?;
+    assert_eq!(rt;
+        text.as_str(),
+        "0 \
+Serves datagrams that come to a UDP port of 127.0.0.1, and prints `settled` when the journals are checked
+
+Usage: fleet serve [OPTIONS] --count <K>
+
+Options:
+      --count <K>    Datagrams that are served before the end, 1 to 1000000
+      --port <P>     UDP port, 0 to 65535 [default: 5683]
+      --nodes <N>    Nodes, which share the clients by their ports, 1 to 16 [default: 2]
+      --workers <W>  Worker threads, 1 to 8 [default: 2]
+  -h, --help         Print help
+|"
+    );
+    Ok(())
+}
+
+#[test]
+fn options_to_serve(rt: HostRuntime) -> Result<(), Fail> {
+    let words: [&[&str]; 3] = [
+        &["fleet", "serve", "--count", "1"],
+        &[
+            "fleet",
+            "serve",
+            "--port=0",
+            "--nodes=16",
+            "--workers=8",
+            "--count=1000000",
+        ],
+        &[
+            "fleet",
+            "serve",
+            "--port=65535",
+            "--nodes=1",
+            "--workers=1",
+            "--count=007",
+        ],
+    ];
+    for (words, (count, port, nodes, workers)) in words
+        .into_iter()
+        .zip([(1, 5683, 2, 2), (1_000_000, 0, 16, 8), (7, 65535, 1, 1)])
+    {
+        let Request::Serve(options) = read_request(rt.alloc(), words)? else {
+            return Err("it is another command".into());
+        };
+        assert_eq!(rt; options.plan.count, count);
+        assert_eq!(rt; options.port, port);
+        assert_eq!(rt; options.plan.nodes, nodes);
+        assert_eq!(rt; options.plan.workers, workers);
+    }
+    Ok(())
+}
+
+#[test]
+fn refused_words_of_serve(rt: HostRuntime) -> Result<(), Fail> {
+    let count = "'--count <K>' takes a number from 1 to 1000000, in digits alone";
+    let port = "'--port <P>' takes a number from 0 to 65535, in digits alone";
+    let nodes = "'--nodes <N>' takes a number from 1 to 16, in digits alone";
+    let workers = "'--workers <W>' takes a number from 1 to 8, in digits alone";
+    for (option, number, line) in [
+        ("--count", "0", count),
+        ("--count", "1000001", count),
+        ("--port", "65536", port),
+        ("--port", "+1", port),
+        ("--nodes", "0", nodes),
+        ("--nodes", "17", nodes),
+        ("--workers", "0", workers),
+        ("--workers", "9", workers),
+    ] {
+        let rest: &[&str] = if option == "--count" {
+            &[]
+        } else {
+            &["--count", "1"]
+        };
+        let mut words = ["fleet", "serve", option, number].to_vec(rt.alloc())?;
+        words.extend_from_slice(rest)?;
+        assert!(rt;
+            is_refused(&rt, rt.alloc(), &words, line, SERVE)?,
+            "{option} {number}"
+        );
+    }
+    assert!(rt;
+        is_refused(
+            &rt,
+            rt.alloc(),
+            &["fleet", "serve"],
+            "the following required arguments were not provided:\n  --count <K>",
+            "Usage: fleet serve --count <K>\n\n"
+        )?
+    );
+    Ok(())
+}
+
+#[test]
 fn the_version(rt: HostRuntime) -> Result<(), Fail> {
     for flag in ["--version", "-V"] {
-        let text = printed(rt.alloc(), &["fleet", flag])?;
+        let text = printed(&rt, rt.alloc(), &["fleet", flag])?;
         assert_eq!(rt; text.as_str(), "0 fleet 0.1.0\n|");
     }
     Ok(())
 }
 
 /// Whether the command line is refused with these lines.
-fn is_refused(alloc: Global, words: &[&str], line: &str, usage: &str) -> Result<bool, Fail> {
+fn is_refused<R: Threads + Wait + Sync>(
+    rt: &R,
+    alloc: Global,
+    words: &[&str],
+    line: &str,
+    usage: &str,
+) -> Result<bool, Fail> {
     let want = format!(in alloc;
         "2 |error: {line}\n\n{usage}For more information, try '--help'.\n"
     )?;
-    Ok(printed(alloc, words)?.as_str() == want.as_str())
+    Ok(printed(rt, alloc, words)?.as_str() == want.as_str())
 }
 
 const FLEET: &str = "Usage: fleet [COMMAND]\n\n";
@@ -143,6 +253,8 @@ const FLEET: &str = "Usage: fleet [COMMAND]\n\n";
 const ONE: &str = "Usage: fleet one [OPTIONS]\n\n";
 
 const REPLAY: &str = "Usage: fleet replay\n\n";
+
+const SERVE: &str = "Usage: fleet serve [OPTIONS] --count <K>\n\n";
 
 #[test]
 fn refused_words(rt: HostRuntime) -> Result<(), Fail> {
@@ -195,7 +307,10 @@ fn refused_words(rt: HostRuntime) -> Result<(), Fail> {
         ),
     ];
     for (words, line, usage) in rows {
-        assert!(rt; is_refused(rt.alloc(), words, line, usage)?, "{words:?}");
+        assert!(rt;
+            is_refused(&rt, rt.alloc(), words, line, usage)?,
+            "{words:?}"
+        );
     }
     Ok(())
 }
@@ -215,10 +330,10 @@ fn refused_numbers(rt: HostRuntime) -> Result<(), Fail> {
     ] {
         let words = ["fleet", "one", option, number];
         assert!(rt;
-            is_refused(rt.alloc(), &words, line, ONE)?,
+            is_refused(&rt, rt.alloc(), &words, line, ONE)?,
             "{option} {number}"
         );
     }
-    assert!(rt; is_refused(rt.alloc(), &["fleet", "one", "--node=-1"], node, ONE)?);
+    assert!(rt; is_refused(&rt, rt.alloc(), &["fleet", "one", "--node=-1"], node, ONE)?);
     Ok(())
 }

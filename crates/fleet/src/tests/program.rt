@@ -1,12 +1,15 @@
 //! Every ending of a run, with what is then written.
 
+use super::serving::NoServer;
 use super::{ANSWER, FewBytes, FewWrites, REGISTER};
 use crate::fault::Fault;
 use crate::program::{Ending, program};
 use std::alloc::Global;
 use std::io::{self, ErrorKind};
 use std::str;
+use std::sync::Wait;
 use std::test::Fail;
+use std::thread::Threads;
 
 /// The status of a run, what stands on both outputs, and how many bytes of the input are left.
 #[derive(Drop)]
@@ -18,11 +21,24 @@ pub struct Ended {
 }
 
 /// Runs the program with these words on an input.
-pub fn run_with(alloc: Global, words: &[&str], input: &[u8]) -> Result<Ended, Fail> {
+pub fn run_with<R: Threads + Wait + Sync>(
+    rt: &R,
+    alloc: Global,
+    words: &[&str],
+    input: &[u8],
+) -> Result<Ended, Fail> {
     let words = Ok(words.to_vec(alloc)?);
     let mut reader = FewBytes::new(input, 7, false);
     let (mut output, mut errors) = (Vec::new(alloc), Vec::new(alloc));
-    let ending = program(alloc, &words, &mut reader, &mut output, &mut errors);
+    let ending = program(
+        rt,
+        alloc,
+        &words,
+        &mut reader,
+        &mut output,
+        &mut errors,
+        &mut NoServer,
+    );
     Ok(Ended {
         status: ending.status(),
         output: String::from_str(alloc, str::from_utf8(&output)?)?,
@@ -99,7 +115,7 @@ const ROWS: [Row; 11] = [
 #[test]
 fn endings(rt: HostRuntime) -> Result<(), Fail> {
     for (words, input, status, output, errors, unread) in ROWS {
-        let ended = run_with(rt.alloc(), words, input)?;
+        let ended = run_with(&rt, rt.alloc(), words, input)?;
         assert_eq!(rt; ended.status, status, "{words:?}");
         assert_eq!(rt; ended.output.as_str(), output);
         assert_eq!(rt; ended.errors.as_str(), errors);
@@ -111,7 +127,7 @@ fn endings(rt: HostRuntime) -> Result<(), Fail> {
 #[test]
 fn a_line_that_is_too_long_ends_the_run(rt: HostRuntime) -> Result<(), Fail> {
     let input = vec![in rt.alloc(); b'a'; 1_048_577]?;
-    let ended = run_with(rt.alloc(), &["fleet"], &input)?;
+    let ended = run_with(&rt, rt.alloc(), &["fleet"], &input)?;
     assert_eq!(rt; ended.status, 1);
     assert_eq!(rt; ended.output.len(), 0);
     assert_eq!(rt; ended.errors.as_str(), "script too long\n");
@@ -123,7 +139,15 @@ fn a_reader_that_fails_ends_the_run(rt: HostRuntime) -> Result<(), Fail> {
     let words = Ok(["fleet"].to_vec(rt.alloc())?);
     let mut reader = FewBytes::new(&REGISTER[..20], 3, true);
     let (mut output, mut errors) = (Vec::new(rt.alloc()), Vec::new(rt.alloc()));
-    let ending = program(rt.alloc(), &words, &mut reader, &mut output, &mut errors);
+    let ending = program(
+        &rt,
+        rt.alloc(),
+        &words,
+        &mut reader,
+        &mut output,
+        &mut errors,
+        &mut NoServer,
+    );
     assert_eq!(rt;
         ending,
         Ending::Failed {
@@ -138,7 +162,8 @@ fn a_reader_that_fails_ends_the_run(rt: HostRuntime) -> Result<(), Fail> {
 }
 
 /// Whether a writer with so much room, whose flush may fail, ends the run with a failed write.
-fn is_write_failed(
+fn is_write_failed<R: Threads + Wait + Sync>(
+    rt: &R,
     alloc: Global,
     words: &[&str],
     room: usize,
@@ -148,7 +173,15 @@ fn is_write_failed(
     let mut writer = FewWrites::new(alloc, 4, room, false);
     writer.flush_fails = flush_fails;
     let mut errors = Vec::new(alloc);
-    let ending = program(alloc, &words, &mut &*REGISTER, &mut writer, &mut errors);
+    let ending = program(
+        rt,
+        alloc,
+        &words,
+        &mut &*REGISTER,
+        &mut writer,
+        &mut errors,
+        &mut NoServer,
+    );
     Ok(ending.status() == 1 && errors.as_slice() == b"write failed\n".as_slice())
 }
 
@@ -159,13 +192,16 @@ fn a_writer_that_fails_ends_the_run(rt: HostRuntime) -> Result<(), Fail> {
         ["fleet", "--version"],
         ["fleet", "--help"],
     ] {
-        assert!(rt; is_write_failed(rt.alloc(), &words, 5, false)?, "{words:?}");
         assert!(rt;
-            is_write_failed(rt.alloc(), &words, 9999, true)?,
+            is_write_failed(&rt, rt.alloc(), &words, 5, false)?,
             "{words:?}"
         );
         assert!(rt;
-            !is_write_failed(rt.alloc(), &words, 9999, false)?,
+            is_write_failed(&rt, rt.alloc(), &words, 9999, true)?,
+            "{words:?}"
+        );
+        assert!(rt;
+            !is_write_failed(&rt, rt.alloc(), &words, 9999, false)?,
             "{words:?}"
         );
     }
@@ -173,16 +209,23 @@ fn a_writer_that_fails_ends_the_run(rt: HostRuntime) -> Result<(), Fail> {
 }
 
 /// How a run ends whose standard error takes so many bytes, and what it took.
-fn untold(alloc: Global, words: &[&str], room: usize) -> Result<(Ending, Vec<u8>), Fail> {
+fn untold<R: Threads + Wait + Sync>(
+    rt: &R,
+    alloc: Global,
+    words: &[&str],
+    room: usize,
+) -> Result<(Ending, Vec<u8>), Fail> {
     let words = Ok(words.to_vec(alloc)?);
     let mut output = Vec::new(alloc);
     let mut errors = FewWrites::new(alloc, 2, room, true);
     let ending = program(
+        rt,
         alloc,
         &words,
         &mut b"4".as_slice(),
         &mut output,
         &mut errors,
+        &mut NoServer,
     );
     Ok((ending, errors.taken))
 }
@@ -196,11 +239,11 @@ fn standard_error_changes_no_status(rt: HostRuntime) -> Result<(), Fail> {
         (&["fleet", "--help"], 0, 0, b""),
     ];
     for (words, room, status, taken) in rows {
-        let (ending, errors) = untold(rt.alloc(), words, room)?;
+        let (ending, errors) = untold(&rt, rt.alloc(), words, room)?;
         assert_eq!(rt; ending.status(), status, "{words:?}");
         assert_eq!(rt; errors.as_slice(), taken);
     }
-    let (ending, _errors) = untold(rt.alloc(), &["fleet"], 5)?;
+    let (ending, _errors) = untold(&rt, rt.alloc(), &["fleet"], 5)?;
     assert_eq!(rt;
         ending,
         Ending::Failed {
@@ -227,7 +270,15 @@ fn words_that_cannot_be_had(rt: HostRuntime) {
         let words: io::Result<Vec<&str>> = Err(io::Error::from(kind));
         let (mut output, mut errors) = (Vec::new(rt.alloc()), Vec::new(rt.alloc()));
         let mut reader = FewBytes::new(b"4", 1, false);
-        let ending = program(rt.alloc(), &words, &mut reader, &mut output, &mut errors);
+        let ending = program(
+            &rt,
+            rt.alloc(),
+            &words,
+            &mut reader,
+            &mut output,
+            &mut errors,
+            &mut NoServer,
+        );
         assert_eq!(rt; ending.status(), status);
         assert_eq!(rt; errors.as_slice(), line.as_bytes());
         assert_eq!(rt; output.len() + 1, reader.rest.len());

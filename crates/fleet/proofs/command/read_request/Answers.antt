@@ -6,17 +6,17 @@ use Rattle.clap.specs.declared.error.Error.{Error}
 use Rattle.clap.specs.declared.parser.matches.ArgMatches.{ArgMatches}
 use Rattle.clap.specs.declared.error.kind.ErrorKind.TheVariants.{OutOfMemory, ValueValidation}
 use Rattle.clap.proofs.OnLiterals.{clap_on_literals}
-use Rattle.fleet.specs.CommandLine.{fleet_app, one_app, replay_app, kinds_of_words, IsAsked}
+use Rattle.fleet.specs.CommandLine.{fleet_app, one_app, replay_app, serve_app, kinds_of_words, IsAsked}
 use Rattle.fleet.specs.declared.command.Request.{Request}
 use Rattle.fleet.proofs.EndingLemmas.{or_more}
 use Rattle.fleet.proofs.command.read_request.Goals as goal
 
 fleet_is_simple : is_simple fleet_app ≡ true
-unfolding fleet_app one_app replay_app clap_on_literals
+unfolding fleet_app one_app replay_app serve_app clap_on_literals
 fleet_is_simple = refl
 
 fleet_is_free : is_simple_and_free fleet_app ≡ true
-unfolding fleet_app one_app replay_app clap_on_literals
+unfolding fleet_app one_app replay_app serve_app clap_on_literals
 fleet_is_free = refl
 
 -- what a parse of these words answers

@@ -16,5 +16,5 @@ now_of (Some s) d = refl
 pub returns-in-Some : goal.returns-in-Some
 returns-in-Some c =
     let rows = option_rows_are _ _ (c.in-Some.ensures.rows) in
-    let text = c.get_str.ensures ∙ first_value-rows (found_of c.in-Some.one.now) c.args.option.now ∙ ap (first_of c.args.option.now) rows in
+    let text = c.get_str.ensures ∙ first_value-rows (found_of c.in-Some.options.now) c.args.option.now ∙ ap (first_of c.args.option.now) rows in
     ap (λ (s : Bor Text). s.now) c.unwrap_or.ensures ∙ now_of c.get_str.result c.args.default ∙ ap (λ (o : Option Text). unwrap_or o c.args.default.now) text
