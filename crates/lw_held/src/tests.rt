@@ -5,7 +5,7 @@ mod settling;
 
 use super::*;
 use calls::What::*;
-use calls::{agrees_some, call, replied, settle_some, step, text_of};
+use calls::{agrees_some, call, played, replied, settle_some, text_of};
 use lw_node::{Addr, Answer, Bytes, Path, Question, Text};
 use lw_stamp::{Moment, NoMemory, Stamp};
 use std::alloc::Global;
@@ -14,9 +14,6 @@ use std::test::Fail;
 
 /// A Register of `a` with the object list `</>`, message ID 4.
 const REGISTER: &str = "40020004b272644465703d61ff3c2f3e";
-
-/// The reply to the first Register with message ID 4 at node 1.
-const CREATED: &str = "604100048272640d0330303030303030303030303130303031";
 
 /// The delta of a node that has taken that Register first: 98 bytes.
 const DELTA: &str =

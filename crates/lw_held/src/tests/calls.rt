@@ -1,6 +1,6 @@
 //! Calls of nodes, and what they give as a text.
 
-ghost use Rattle.std.specs.Prelude.{◌≤◌, length};
+ghost use Rattle.std.specs.Prelude.{◌≤◌, length, IfOk};
 ghost use Rattle.lw_held.specs.Agree.{AreDistinct};
 ghost use Rattle.lw_held.specs.Shelves.{AreInOrder};
 
@@ -104,6 +104,58 @@ pub(super) fn step(
         Ok(place) => Ok(place),
         Err(NoMemory) => Err("no memory".into()),
     }
+}
+
+/// Which of two nodes of number 1 a call is made of: the one that is asked later, or another.
+#[derive(Clone, Copy)]
+pub(super) enum Whose {
+    Its,
+    Anothers,
+}
+
+/// A call of a node, the place of the pass that it is made with, and the place that it is to have in the journal.
+pub(super) type Row<'a> = (Whose, usize, What<'a>, u64);
+
+/// A node of number 1 and two passes, after the calls.
+pub(super) fn played(alloc: Global, rows: &[Row<'_>]) -> Result<(Held, Vec<Pass>), Fail>
+    ensures { IfOk result (λ r. AreDistinct r.1.items) }
+{
+    let (_, mut passes) = set_up(alloc, 1, 2)?;
+    let mut held = Held::new(alloc, 1);
+    play(alloc, &mut held, &mut passes, rows)?;
+    Ok((held, passes))
+}
+
+fn play(alloc: Global, held: &mut Held, passes: &mut [Pass], rows: &[Row<'_>]) -> Result<(), Fail>
+    requires { AreDistinct passes.old }
+    ensures { AreDistinct passes.new }
+{
+    let mut other = Held::new(alloc, 1);
+    for row in rows {
+        make(alloc, held, &mut other, passes, row)?;
+    }
+    Ok(())
+}
+
+fn make(
+    alloc: Global,
+    held: &mut Held,
+    other: &mut Held,
+    passes: &mut [Pass],
+    row: &Row<'_>,
+) -> Result<(), Fail>
+    requires { AreDistinct passes.old }
+    ensures { AreDistinct passes.new }
+{
+    let (whose, pass, what, want) = *row;
+    let place = match whose {
+        Whose::Its => step(alloc, held, passes, pass, what)?,
+        Whose::Anothers => step(alloc, other, passes, pass, what)?,
+    };
+    if place != want {
+        return Err("another place".into());
+    }
+    Ok(())
 }
 
 /// Whether the transcripts of some passes in a row are the journals.

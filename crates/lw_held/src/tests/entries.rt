@@ -7,41 +7,86 @@ fn a_step_gives_the_entry_and_its_place(rt: HostRuntime) -> Result<(), Fail> {
     let alloc = rt.alloc();
     let mut held = Held::new(alloc, 1);
     let register = Takes(REGISTER).made(alloc)?;
-    let Ok((first, place)) = held.step(7, 3, &register) else {
-        return Err("no memory".into());
-    };
-    assert_eq!(rt; (first.pass, first.number, place), (7, 3, 0));
-    assert!(rt; first.call.same(&register));
-    assert_eq!(rt; text_of(alloc, &first.reply)?.as_str(), CREATED);
-    let Ok((second, place)) = held.step(7, 3, &register) else {
-        return Err("no memory".into());
-    };
-    assert_eq!(rt; (second.pass, second.number, place), (7, 3, 1));
+    let first = step_text(alloc, &mut held, &register)?;
+    assert_eq!(rt; first.as_str(), FIRST);
     // the second Register has another identifier
-    assert!(rt; first.same(&first) && !first.same(&second));
+    let second = step_text(alloc, &mut held, &register)?;
+    assert_eq!(rt; second.as_str(), SECOND);
     Ok(())
 }
 
-/// An entry of a new node, beside others made with a pass, a number and a call of their own.
+/// Pass, number and place of the first Register at node 1, and its reply.
+const FIRST: &str = "7 3 0 604100048272640d0330303030303030303030303130303031";
+
+/// The same of the second.
+const SECOND: &str = "7 3 1 604100048272640d0330303030303030303030303230303031";
+
+/// The entry of a step as pass 7 and number 3, whose call is to be the one that was made, and its place.
+fn step_text(alloc: Global, held: &mut Held, call: &Call) -> Result<String, Fail> {
+    match held.step(7, 3, call) {
+        Ok((entry, place)) => entry_text(alloc, &entry, place, call),
+        Err(NoMemory) => Err("no memory".into()),
+    }
+}
+
+fn entry_text(alloc: Global, entry: &Entry, place: u64, call: &Call) -> Result<String, Fail> {
+    if !entry.call.same(call) {
+        return Err("another call".into());
+    }
+    let reply = text_of(alloc, &entry.reply)?;
+    let (pass, number) = (entry.pass, entry.number);
+    Ok(format!(in alloc; "{pass} {number} {place} {reply}")?)
+}
+
+/// A node that sends all gives the same reply again.
 #[test]
 fn entries_are_the_same_where_all_parts_are(rt: HostRuntime) -> Result<(), Fail> {
-    let first = entry(rt.alloc(), 1, 2, Sends(0))?;
-    for (pass, number, what, same) in [
-        (1, 2, Sends(0), true),
-        (2, 2, Sends(0), false),
-        (1, 3, Sends(0), false),
-        (1, 2, Sends(1), false),
-    ] {
-        let second = entry(rt.alloc(), pass, number, what)?;
-        assert_eq!(rt; first.same(&second), same, "{pass} {number}");
-    }
+    let mut held = Held::new(rt.alloc(), 1);
+    assert!(rt; sends_the_same(&mut held, 1, 2, 0)?);
+    assert!(rt; !sends_the_same(&mut held, 2, 2, 0)?);
+    assert!(rt; !sends_the_same(&mut held, 1, 3, 0)?);
+    assert!(rt; !sends_the_same(&mut held, 1, 2, 1)?);
     Ok(())
 }
 
-fn entry(alloc: Global, pass: u32, number: u64, what: calls::What<'_>) -> Result<Entry, Fail> {
-    let call = what.made(alloc)?;
-    match Held::new(alloc, 1).step(pass, number, &call) {
-        Ok((entry, _)) => Ok(entry),
+/// Whether the entry of a sending of all, as number 2 of pass 1, is that of another sending.
+fn sends_the_same(held: &mut Held, pass: u32, number: u64, since: u64) -> Result<bool, Fail> {
+    let other = Call::Send { since };
+    are_the_same(held, &Call::Send { since: 0 }, pass, number, &other)
+}
+
+/// Two Registers have identifiers of their own.
+#[test]
+fn entries_with_other_replies_differ(rt: HostRuntime) -> Result<(), Fail> {
+    let mut held = Held::new(rt.alloc(), 1);
+    let register = Takes(REGISTER).made(rt.alloc())?;
+    assert!(rt; !are_the_same(&mut held, &register, 1, 2, &register)?);
+    Ok(())
+}
+
+/// Whether the entry of a call, as number 2 of pass 1, is that of the other call behind it.
+fn are_the_same(
+    held: &mut Held,
+    call: &Call,
+    pass: u32,
+    number: u64,
+    other: &Call,
+) -> Result<bool, Fail> {
+    match held.step(1, 2, call) {
+        Ok((first, _)) => is_next_the_same(held, &first, pass, number, other),
+        Err(NoMemory) => Err("no memory".into()),
+    }
+}
+
+fn is_next_the_same(
+    held: &mut Held,
+    first: &Entry,
+    pass: u32,
+    number: u64,
+    call: &Call,
+) -> Result<bool, Fail> {
+    match held.step(pass, number, call) {
+        Ok((second, _)) => Ok(first.same(&second)),
         Err(NoMemory) => Err("no memory".into()),
     }
 }

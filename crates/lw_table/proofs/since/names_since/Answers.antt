@@ -1,9 +1,12 @@
-use Rattle.std.proofs.Common.{Some, subst}
+use Rattle.std.proofs.Common.{Some, rules, subst}
 use Rattle.std.specs.Ordering.{nat_cmp}
 use Rattle.lw_index.specs.Index.{entries_above}
 use Rattle.lw_table.specs.Since.{AnyHas}
 use Rattle.lw_table.proofs.SinceLemmas.{Gathers, entry_gathered}
 use Rattle.lw_table.proofs.since.names_since.Goals as goal
+
+pub loop-endpoints-init : goal.loop-endpoints-init
+loop-endpoints-init c = search rules
 
 pub loop-endpoints-preserved : goal.loop-endpoints-preserved
 loop-endpoints-preserved c =

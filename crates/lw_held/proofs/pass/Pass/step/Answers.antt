@@ -7,3 +7,6 @@ invariant_of-self-2 c =
     let next : c.in_ok-entry.entry.number ≡ length c.reserve.new.self.items = search rules in
     numbered_longer c.self.inside.number c.self.inside.parts.items c.reserve.new.self.items c.push_reserved.new.self.items (record { node = c.args.node; place = c.in_ok-entry.place; entry = c.in_ok-entry.entry })
     c.self.invariant c.reserve.ensures.items c.push_reserved.ensures.items c.in_ok-entry.ensures.entered.pass_is next
+
+pub returns-clause-entered : goal.returns-clause-entered
+returns-clause-entered c = search rules
