@@ -59,3 +59,16 @@ distinct_within passes first end distinct i j a b is_a is_b equal =
     let at_b : slice_get passes (first + j) ≡ Some b = sym (get_drop first passes j) ∙ get_take (end - first) (drop first passes) j b is_b in
     let same : first + i ≡ first + j = distinct (first + i) (first + j) a b at_a at_b equal in
     omega (arith, same)
+
+number_at : (x a : Transcript) → Some x ≡ Some a → x.number ≡ a.number
+number_at x a is = let e : x ≡ a = (let f : Some x ≡ Some a = is in cc) in ap (λ (y : Transcript). y.number) e
+
+-- two passes of different numbers are distinct, whichever comes first
+pub distinct_two : (one other : Transcript) → ¬ (one.number ≡ other.number) → AreDistinct (one ∷ other ∷ [])
+distinct_two one other apart zero zero a b is_a is_b equal = refl
+distinct_two one other apart zero (suc zero) a b is_a is_b equal = absurd (apart (number_at one a is_a ∙ equal ∙ sym (number_at other b is_b)))
+distinct_two one other apart (suc zero) zero a b is_a is_b equal = absurd (apart (number_at one b is_b ∙ sym equal ∙ sym (number_at other a is_a)))
+distinct_two one other apart (suc zero) (suc zero) a b is_a is_b equal = refl
+distinct_two one other apart (suc (suc i)) j a b is_a is_b equal = absurd (let bad : ◌≡◌ {A = Option Transcript} None (Some a) = is_a in cc)
+distinct_two one other apart zero (suc (suc j)) a b is_a is_b equal = absurd (let bad : ◌≡◌ {A = Option Transcript} None (Some b) = is_b in cc)
+distinct_two one other apart (suc zero) (suc (suc j)) a b is_a is_b equal = absurd (let bad : ◌≡◌ {A = Option Transcript} None (Some b) = is_b in cc)

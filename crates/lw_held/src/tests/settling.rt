@@ -2,6 +2,7 @@
 
 ghost use Rattle.std.specs.Prelude.{◌≤◌};
 ghost use Rattle.lw_held.specs.Agree.{AreDistinct};
+ghost use Rattle.lw_held.specs.Shelves.{AreInOrder};
 
 use super::*;
 
@@ -128,6 +129,62 @@ fn two_nodes_take_calls_and_settle(rt: HostRuntime) -> Result<(), Fail> {
     assert_eq!(rt; settle_some(&rt, &shelves, &passes, 0, 1), unsettled(1, 2));
     assert_eq!(rt; settle_some(&rt, &shelves, &passes, 1, 2), unsettled(1, 0));
     assert_eq!(rt; settle_some(&rt, &shelves, &passes, 1, 1), unsettled(1, 0));
+    Ok(())
+}
+
+/// Two passes call one node, one after the other.
+const BY_TWO: [Row<'static>; 2] = [
+    (
+        0,
+        0,
+        Takes(REGISTER),
+        "1 0 604100048272640d0330303030303030303030303130303031",
+    ),
+    (
+        0,
+        1,
+        ByEndpoint("a"),
+        "1 1 a 0000000000010001 127.0.0.1:5683 0 86400 U false </>",
+    ),
+];
+
+/// Whether the transcripts of the two are the journals, the one before the other.
+#[tactic(auto, using(crate::proofs::Keeping::distinct_two))]
+fn settle_two<R: Wait>(
+    rt: &R,
+    shelves: &[Shelf],
+    one: Pass,
+    other: Pass,
+) -> Result<Settled, Unsettled>
+    requires { AreInOrder shelves.now }
+{
+    if one.number() == other.number() {
+        return Err(Unsettled { node: 0, place: 0 });
+    }
+    settle(rt, shelves, &[one, other])
+}
+
+/// What settles the node that two passes called: the second alone, the first alone, and the second before the first.
+fn settled_in_turn<R: Wait>(
+    rt: &R,
+    alloc: Global,
+) -> Result<[Result<Settled, Unsettled>; 3], Fail> {
+    let (shelves, mut passes) = set_up(alloc, 1, 2)?;
+    play(rt, alloc, &shelves, &mut passes, &BY_TWO)?;
+    let second_alone = settle_some(rt, &shelves, &passes, 1, 2);
+    let first_alone = settle_some(rt, &shelves, &passes, 0, 1);
+    let (Some(second), Some(first)) = (passes.pop(), passes.pop()) else {
+        return Err("two passes".into());
+    };
+    let turned = settle_two(rt, &shelves, second, first);
+    Ok([second_alone, first_alone, turned])
+}
+
+#[test]
+fn passes_settle_in_any_order_but_not_alone(rt: HostRuntime) -> Result<(), Fail> {
+    let settled = settled_in_turn(&rt, rt.alloc())?;
+    let unsettled = |place: u64| Err(Unsettled { node: 1, place });
+    assert_eq!(rt; settled, [unsettled(0), unsettled(1), Ok(Settled)]);
     Ok(())
 }
 
