@@ -185,43 +185,40 @@ fn options_to_serve(rt: HostRuntime) -> Result<(), Fail> {
     Ok(())
 }
 
+const BAD_COUNT: &str = "'--count <K>' takes a number from 1 to 1000000, in digits alone";
+
+const BAD_PORT: &str = "'--port <P>' takes a number from 0 to 65535, in digits alone";
+
+const BAD_NODES: &str = "'--nodes <N>' takes a number from 1 to 16, in digits alone";
+
+const BAD_WORKERS: &str = "'--workers <W>' takes a number from 1 to 8, in digits alone";
+
 #[test]
 fn refused_words_of_serve(rt: HostRuntime) -> Result<(), Fail> {
-    let count = "'--count <K>' takes a number from 1 to 1000000, in digits alone";
-    let port = "'--port <P>' takes a number from 0 to 65535, in digits alone";
-    let nodes = "'--nodes <N>' takes a number from 1 to 16, in digits alone";
-    let workers = "'--workers <W>' takes a number from 1 to 8, in digits alone";
-    for (option, number, line) in [
-        ("--count", "0", count),
-        ("--count", "1000001", count),
-        ("--port", "65536", port),
-        ("--port", "+1", port),
-        ("--nodes", "0", nodes),
-        ("--nodes", "17", nodes),
-        ("--workers", "0", workers),
-        ("--workers", "9", workers),
+    for (count, option, number, line) in [
+        ("0", "--port", "1", BAD_COUNT),
+        ("1000001", "--port", "1", BAD_COUNT),
+        ("1", "--port", "65536", BAD_PORT),
+        ("1", "--port", "+1", BAD_PORT),
+        ("1", "--nodes", "0", BAD_NODES),
+        ("1", "--nodes", "17", BAD_NODES),
+        ("1", "--workers", "0", BAD_WORKERS),
+        ("1", "--workers", "9", BAD_WORKERS),
     ] {
-        let rest: &[&str] = if option == "--count" {
-            &[]
-        } else {
-            &["--count", "1"]
-        };
-        let mut words = ["fleet", "serve", option, number].to_vec(rt.alloc())?;
-        words.extend_from_slice(rest)?;
+        let words = ["fleet", "serve", "--count", count, option, number];
         assert!(rt;
             is_refused(&rt, rt.alloc(), &words, line, SERVE)?,
-            "{option} {number}"
+            "{count} {option} {number}"
         );
     }
-    assert!(rt;
-        is_refused(
-            &rt,
-            rt.alloc(),
-            &["fleet", "serve"],
-            "the following required arguments were not provided:\n  --count <K>",
-            "Usage: fleet serve --count <K>\n\n"
-        )?
-    );
+    Ok(())
+}
+
+#[test]
+fn a_count_has_to_be_given(rt: HostRuntime) -> Result<(), Fail> {
+    let line = "the following required arguments were not provided:\n  --count <K>";
+    let usage = "Usage: fleet serve --count <K>\n\n";
+    assert!(rt; is_refused(&rt, rt.alloc(), &["fleet", "serve"], line, usage)?);
     Ok(())
 }
 
