@@ -1,6 +1,5 @@
-use crate::command::ServeOptions;
-use crate::serving::{Serves, ServingFault};
 use log::sink::Console;
+use lw_fleet::{ServeOptions, Serves, ServingFault};
 use lw_serve::{SystemClock, UdpWire, serve_on};
 use std::io::Write;
 use std::net::{IpAddr, Ipv4Addr, Net, SocketAddr, UdpSocket};

@@ -3,24 +3,12 @@
 //! to a UDP port.
 #![tactic(auto)]
 
-mod command;
-mod fault;
-mod hex_line;
 mod host;
-mod input;
-mod one;
-mod output;
-mod program;
-mod replay;
-mod serving;
 
 use host::Host;
-use program::program;
+use lw_fleet::program;
 use std::process::ExitCode;
 use std::{env, io};
-
-#[cfg(test)]
-mod tests;
 
 fn words(rt: &HostRuntime) -> io::Result<Vec<String>> {
     let mut words = Vec::new(rt.alloc());

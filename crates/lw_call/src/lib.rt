@@ -26,6 +26,3 @@ pub use question::Question;
 pub use reply::Reply;
 pub use sent::Sent;
 pub use taken::Taken;
-
-#[cfg(test)]
-mod tests;

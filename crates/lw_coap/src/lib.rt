@@ -25,6 +25,3 @@ pub use message::{CoapOption, Kind, Message};
 pub use number::uint;
 pub use reading::decode;
 pub use writing::encode;
-
-#[cfg(test)]
-mod tests;

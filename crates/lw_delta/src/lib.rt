@@ -23,6 +23,3 @@ pub use delta::Delta;
 pub use fault::DeltaFault;
 pub use reading::read;
 pub use writer::Writer;
-
-#[cfg(test)]
-mod tests;

@@ -11,6 +11,3 @@ mod texts;
 pub use above::Above;
 pub use endpoints::Endpoints;
 pub use index::Index;
-
-#[cfg(test)]
-mod tests;

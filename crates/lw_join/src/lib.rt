@@ -26,6 +26,3 @@ pub use lww::Lww;
 pub use once::Once;
 pub use or_gone::OrGone;
 pub use parts::Parts;
-
-#[cfg(test)]
-mod tests;

@@ -27,6 +27,3 @@ pub use link_text::LinkText;
 pub use printing::print;
 pub use reading::read;
 pub use scan::is_printing;
-
-#[cfg(test)]
-mod tests;

@@ -30,6 +30,3 @@ pub use lw_link::LinkText;
 pub use lw_reg::{Addr, Binding, Endpoint, Path, Seen, Text, Version, View, Watch};
 pub use lw_table::{Key, Table};
 pub use node::Node;
-
-#[cfg(test)]
-mod tests;

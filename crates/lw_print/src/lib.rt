@@ -15,6 +15,3 @@ pub use one::answer_text;
 pub use path::path_text;
 pub use registration::registration_text;
 pub use watch::{stale_text, watch_text};
-
-#[cfg(test)]
-mod tests;

@@ -43,6 +43,3 @@ pub use sms_number::SmsNumber;
 pub use version::Version;
 pub use view::View;
 pub use watch::Watch;
-
-#[cfg(test)]
-mod tests;

@@ -23,6 +23,3 @@ pub use refusal::Refusal;
 pub use reply::{ack, answer, reset};
 pub use report::Report;
 pub use understanding::understand;
-
-#[cfg(test)]
-mod tests;

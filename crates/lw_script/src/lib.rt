@@ -14,6 +14,3 @@ mod word;
 pub use fault::LineFault;
 pub use line::read_line;
 pub use script::{Script, ScriptFault, read_script};
-
-#[cfg(test)]
-mod tests;

@@ -17,6 +17,3 @@ pub use moment::Moment;
 pub use no_memory::NoMemory;
 pub use stamp::Stamp;
 pub use text::Text;
-
-#[cfg(test)]
-mod tests;

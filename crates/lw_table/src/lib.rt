@@ -14,6 +14,3 @@ mod turning;
 
 pub use key::Key;
 pub use table::Table;
-
-#[cfg(test)]
-mod tests;

@@ -19,6 +19,3 @@ pub use lw_node::{
 pub use outcome::{Outcome, Sending};
 pub use running::run;
 pub use world::World;
-
-#[cfg(test)]
-mod tests;

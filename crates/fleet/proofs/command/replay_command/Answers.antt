@@ -1,8 +1,0 @@
-use Rattle.std.proofs.Common.{ap, ◌∙◌}
-use Rattle.clap.specs.Simple.{app_of_fields}
-use Rattle.fleet.specs.CommandLine.{replay_app}
-use Rattle.fleet.proofs.command.replay_command.Goals as goal
-
-pub returns-clause-app : goal.returns-clause-app
-unfolding replay_app
-returns-clause-app c = ap app_of_fields c.about.ensures ∙ c.new.ensures.app

@@ -1,9 +1,0 @@
-use Rattle.std.proofs.Common.{sym}
-use Rattle.fleet.proofs.InputLemmas.{found, not_found}
-use Rattle.fleet.proofs.input.before_feed.Goals as goal
-
-pub returns-in-Some : goal.returns-in-Some
-returns-in-Some c = found _ _ (sym c.in-Some.ensures)
-
-pub returns-in-None : goal.returns-in-None
-returns-in-None c = not_found _ (sym c.in-None.ensures)

@@ -1,9 +1,0 @@
-use Rattle.std.proofs.Common.{◌≡◌, map, Ok, IfOk, subst}
-use Rattle.fleet.specs.Program.{Reads}
-use Rattle.fleet.proofs.program.program.Goals as goal
-
-pub returns-in-Ok-clause-unread : goal.returns-in-Ok-clause-unread
-returns-in-Ok-clause-unread g c =
-    let is : Ok c.in-Ok.words ≡ c.args.words.now = cc in
-    subst (λ r. IfOk r (λ words. (Reads (map g.S.AsStr.text words.items) → ⊥) → c.run.new.reader ≡ c.args.reader.now)) is
-    (λ none. c.run.ensures.unread (λ reads. none (subst (λ items. Reads (map g.S.AsStr.text items)) c.deref.ensures.value reads)))

@@ -1,4 +1,0 @@
-use Rattle.fleet.proofs.program.run_one.Goals as goal
-
-pub returns-in-Ok-clause-end : goal.returns-in-Ok-clause-end
-returns-in-Ok-clause-end g c = (λ none. let clash = c.in-Ok.ensures.address_refused.1 none in cc, c.in-Ok.ensures.printed)

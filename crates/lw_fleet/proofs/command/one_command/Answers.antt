@@ -1,0 +1,15 @@
+use Rattle.std.proofs.Common.{ap, ap₂, codes, ◌≡◌, ◌∙◌}
+use Rattle.clap.specs.Words.{app_of, new_app, with_rule}
+use Rattle.clap.specs.Simple.{app_of_fields}
+use Rattle.std.proofs.lemmas.Result.{IfOk-weaker}
+use Rattle.lw_fleet.specs.CommandLine.{one_app}
+use Rattle.lw_fleet.proofs.command.one_command.Goals as goal
+
+pub returns-clause-app : goal.returns-clause-app
+unfolding one_app
+returns-clause-app c =
+    let new_is : app_of c.about.result ≡ new_app (codes "one") = ap app_of_fields c.about.ensures ∙ c.new.ensures.app in
+    IfOk-weaker c.arg-3.result _ _
+    (λ command added. added.shape c.option-3.ensures.local
+    ∙ ap₂ with_rule (c.in_ok-arg-2.ensures.shape c.option-2.ensures.local
+    ∙ ap₂ with_rule (c.in_ok-arg.ensures.shape c.option.ensures.local ∙ ap₂ with_rule new_is c.option.ensures.rule) c.option-2.ensures.rule) c.option-3.ensures.rule) c.arg-3.ensures

@@ -1,0 +1,116 @@
+-- The command line of the program, in the words of `clap`: the command `one` with its three options, `replay`, and
+-- `serve` with its four.
+use Rattle.std.specs.Prelude.{◌≡◌, ◌⊎◌, ◌<◌, ◌≤◌, ◌^◌, ℕ, List, [], ◌∷◌, Option, Some, None, option_map, codes, unwrap_or, true}
+use Rattle.std.specs.Str.Parse.{IsNumeral, digits_value}
+use Rattle.clap.specs.Kinds.{IsAmong, Kinds, or_else}
+use Rattle.clap.specs.Words.{App, Row, Rule, Text, fault_of, first_of, new_app, new_rule, subcommand_of, with_rule, with_subcommand}
+use Rattle.clap.specs.declared.error.kind.ErrorKind.{ErrorKind}
+use Rattle.clap.specs.declared.error.kind.ErrorKind.TheVariants.{DisplayHelp, DisplayVersion, ValueValidation}
+use Rattle.lw_stamp.specs.Moment.{ms_of}
+use Rattle.lw_fleet.specs.declared.command.OneOptions.{OneOptions}
+use Rattle.lw_fleet.specs.declared.command.Request.{Request}
+use Rattle.lw_fleet.specs.declared.command.Request.TheVariants.{One, Replay, Serve}
+use Rattle.lw_fleet.specs.declared.command.ServeOptions.{ServeOptions}
+
+-- an option that is given by its long name
+abbrev pub long_option : Text → Rule
+long_option name = record (new_rule name) { long = Some name; value_names = 1 }
+
+-- one that has to be given
+abbrev pub needed_option : Text → Rule
+needed_option name = record (long_option name) { required = true }
+
+-- `one` with the options `--node`, `--now` and `--from`
+unfoldable pub one_app : App
+one_app = with_rule
+    (with_rule (with_rule (new_app (codes "one")) (long_option (codes "node"))) (long_option (codes "now")))
+    (long_option (codes "from"))
+
+-- a command that tells its version
+abbrev pub with_version : App → App
+with_version app = record app { top = record app.top { has_version = true } }
+
+unfoldable pub replay_app : App
+replay_app = new_app (codes "replay")
+
+-- `serve` with the options `--count`, `--port`, `--nodes` and `--workers`
+unfoldable pub serve_app : App
+serve_app = with_rule
+    (with_rule
+    (with_rule (with_rule (new_app (codes "serve")) (needed_option (codes "count"))) (long_option (codes "port")))
+    (long_option (codes "nodes")))
+    (long_option (codes "workers"))
+
+unfoldable pub fleet_app : App
+fleet_app = with_subcommand
+    (with_subcommand (with_subcommand (with_version (new_app (codes "fleet"))) one_app.top) replay_app.top)
+    serve_app.top
+
+-- what was given for the options of a command, and nothing where there was no command
+abbrev pub option_rows : Option (Text × List Row) → List Row
+option_rows None = []
+option_rows (Some command) = command.1
+
+-- the text that was given for an option, or else the text that stands for it
+abbrev pub given : Text → Text → List Row → Text
+given name default rows = unwrap_or (first_of name rows) default
+
+-- the text is one decimal digit or more, and they write the number
+abbrev pub Writes : Text → ℕ → Type 0
+Writes text number = IsNumeral 10 text × (digits_value 10 text ≡ number)
+
+-- the options are those that were given: the node 1, the moment 0 and a local address where they were not
+pub record IsGiven (rows : List Row) (options : OneOptions) : Type 0 where
+  pub node : Writes (given (codes "node") (codes "1") rows) options.node
+  pub node_fits : options.node < 2 ^ 16
+  pub now : Writes (given (codes "now") (codes "0") rows) (ms_of options.now)
+  pub from : options.from.now ≡ given (codes "from") (codes "127.0.0.1:5683") rows
+
+-- The options are those that were given: the port 5683, two nodes and two workers where they were not. A plan is within
+-- its ranges.
+pub record IsGivenToServe (rows : List Row) (options : ServeOptions) : Type 0 where
+  pub count : Writes (given (codes "count") [] rows) options.plan.count
+  pub port : Writes (given (codes "port") (codes "5683") rows) options.port
+  pub port_fits : options.port < 2 ^ 16
+  pub nodes : Writes (given (codes "nodes") (codes "2") rows) options.plan.nodes
+  pub workers : Writes (given (codes "workers") (codes "2") rows) options.plan.workers
+
+-- the command has the name
+abbrev pub Names : Text → Option (Text × List Row) → Type 0
+Names name command = option_map (λ c. c.0) command ≡ Some name
+
+-- the command is `replay`
+abbrev pub NamesReplay : Option (Text × List Row) → Type 0
+NamesReplay command = Names (codes "replay") command
+
+-- the command is `serve`
+abbrev pub NamesServe : Option (Text × List Row) → Type 0
+NamesServe command = Names (codes "serve") command
+
+-- what a command asks for with what is given for its options; no command is `one`
+abbrev pub IsAsked : Option (Text × List Row) → Request → Type 0
+IsAsked command (One options) = (¬ NamesReplay command) × (¬ NamesServe command) × IsGiven (option_rows command) options
+IsAsked command Replay = NamesReplay command
+IsAsked command (Serve options) = NamesServe command × IsGivenToServe (option_rows command) options
+
+-- the words of a command line are taken, and ask for this
+abbrev pub Asks : List Text → Request → Type 0
+Asks words request = (fault_of fleet_app words ≡ []) × IsAsked (subcommand_of fleet_app words) request
+
+-- the kinds of error that the words may have where they ask for nothing: those that `clap` finds, or else a number
+-- out of its range
+abbrev pub kinds_of_words : List Text → Kinds
+kinds_of_words words = or_else (fault_of fleet_app words) (ValueValidation ∷ [])
+
+-- help and the version are no mistakes
+abbrev pub IsRequest : ErrorKind → Type 0
+IsRequest kind = (kind ≡ DisplayHelp) ⊎ (kind ≡ DisplayVersion)
+
+-- the words ask for help or for the version
+abbrev pub AsksForText : List Text → Type 0
+AsksForText words = (kind : ErrorKind) → IsAmong kind (kinds_of_words words) → IsRequest kind
+
+-- the words ask for nothing, and for no text
+pub record IsMistaken (words : List Text) : Type 0 where
+  pub nothing : (request : Request) → ¬ Asks words request
+  pub no_text : (kind : ErrorKind) → IsAmong kind (kinds_of_words words) → ¬ IsRequest kind

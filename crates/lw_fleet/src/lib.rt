@@ -1,0 +1,23 @@
+//! The program `fleet` as a library: its command line, its three commands and their endings, over any reader, writer and
+//! server.
+#![tactic(auto)]
+
+mod command;
+mod fault;
+mod hex_line;
+mod input;
+mod one_datagram;
+mod output;
+mod replaying;
+mod running;
+mod serving;
+
+pub use command::{OneOptions, Request, ServeOptions, not_utf8, read_request};
+pub use fault::Fault;
+pub use hex_line::bytes_of_hex;
+pub use input::{read_all, read_line};
+pub use one_datagram::one;
+pub use output::{flush, write_all, write_text};
+pub use replaying::replay;
+pub use running::{Ending, program};
+pub use serving::{Serves, ServingFault};

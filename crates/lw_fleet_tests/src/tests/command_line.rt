@@ -1,0 +1,336 @@
+//! What the command line gives, and the texts that are printed where it gives nothing.
+
+use super::program::run_with;
+use lw_fleet::{OneOptions, Request, read_request};
+use std::alloc::Global;
+use std::sync::Wait;
+use std::test::Fail;
+use std::thread::Threads;
+
+/// The options of `one` that the words ask for.
+fn read_options<'a>(alloc: Global, words: &'a [&'a str]) -> Result<OneOptions<'a>, Fail> {
+    match read_request(alloc, words)? {
+        Request::One(options) => Ok(options),
+        _ => Err(Fail::from("it is another command")),
+    }
+}
+
+#[test]
+fn a_replay(rt: HostRuntime) -> Result<(), Fail> {
+    assert!(rt; read_request(rt.alloc(), &["fleet", "replay"])? == Request::Replay);
+    Ok(())
+}
+
+#[test]
+fn options(rt: HostRuntime) -> Result<(), Fail> {
+    let words: [&[&str]; 5] = [
+        &["fleet"],
+        &["fleet", "one"],
+        &[
+            "fleet",
+            "one",
+            "--node",
+            "65535",
+            "--now=281474976710655",
+            "--from",
+            "x",
+        ],
+        &["fleet", "one", "--node=007"],
+        &["fleet", "one", "--from="],
+    ];
+    let options = [
+        (1, 0, "127.0.0.1:5683"),
+        (1, 0, "127.0.0.1:5683"),
+        (65535, 281474976710655, "x"),
+        (7, 0, "127.0.0.1:5683"),
+        (1, 0, ""),
+    ];
+    for (words, (node, now, from)) in words.into_iter().zip(options) {
+        let read = read_options(rt.alloc(), words)?;
+        assert_eq!(rt; read.node, node);
+        assert_eq!(rt; read.now.ms(), now);
+        assert!(rt; read.from == from);
+    }
+    Ok(())
+}
+
+/// The status of a command line that gives no options, and what it prints, errors behind a bar.
+fn printed<R: Threads + Wait + Sync>(
+    rt: &R,
+    alloc: Global,
+    words: &[&str],
+) -> Result<String, Fail> {
+    let ended = run_with(rt, alloc, words, b"4")?;
+    if ended.unread != 1 {
+        return Err(Fail::from("the input was read"));
+    }
+    Ok(format!(in alloc; "{} {}|{}", ended.status, ended.output, ended.errors)?)
+}
+
+#[test]
+fn help_of_the_program(rt: HostRuntime) -> Result<(), Fail> {
+    let text = printed(&rt, rt.alloc(), &["fleet", "--help"])?;
+    assert_eq!(rt;
+        text.as_str(),
+        "0 \
+The registration store behind LwM2M servers; without a command, `fleet one`
+
+Usage: fleet [COMMAND]
+
+Commands:
+  one     Takes one datagram, a line of hex on standard input, and prints the reply and the registration
+  replay  Runs a script of several nodes, read from standard input, and prints a line for each event
+  serve   Serves datagrams that come to a UDP port of 127.0.0.1, and prints `settled` when the journals are checked
+  help    Print this message or the help of the given subcommand(s)
+
+Options:
+  -h, --help     Print help
+  -V, --version  Print version
+|"
+    );
+    Ok(())
+}
+
+#[test]
+fn help_of_one(rt: HostRuntime) -> Result<(), Fail> {
+    let text = printed(&rt, rt.alloc(), &["fleet", "one", "--help"])?;
+    assert_eq!(rt;
+        text.as_str(),
+        "0 \
+Takes one datagram, a line of hex on standard input, and prints the reply and the registration
+
+Usage: fleet one [OPTIONS]
+
+Options:
+      --node <N>     Number of the node, 0 to 65535 [default: 1]
+      --now <MS>     Moment in milliseconds, 0 to 281474976710655 [default: 0]
+      --from <ADDR>  Address and port of the client, IPv6 as [eight groups of four digits] [default: 127.0.0.1:5683]
+  -h, --help         Print help
+|"
+    );
+    Ok(())
+}
+
+#[test]
+fn help_of_replay(rt: HostRuntime) -> Result<(), Fail> {
+    let text = printed(&rt, rt.alloc(), &["fleet", "replay", "--help"])?;
+    assert_eq!(rt;
+        text.as_str(),
+        "0 \
+Runs a script of several nodes, read from standard input, and prints a line for each event
+
+Usage: fleet replay
+
+Options:
+  -h, --help  Print help
+|"
+    );
+    Ok(())
+}
+
+#[test]
+fn help_of_serve(rt: HostRuntime) -> Result<(), Fail> {
+    let text = printed(&rt, rt.alloc(), &["fleet", "serve", "--help"])?;
+    assert_eq!(rt;
+        text.as_str(),
+        "0 \
+Serves datagrams that come to a UDP port of 127.0.0.1, and prints `settled` when the journals are checked
+
+Usage: fleet serve [OPTIONS] --count <K>
+
+Options:
+      --count <K>    Datagrams that are served before the end, 1 to 1000000
+      --port <P>     UDP port, 0 to 65535 [default: 5683]
+      --nodes <N>    Nodes, which share the clients by their ports, 1 to 16 [default: 2]
+      --workers <W>  Worker threads, 1 to 8 [default: 2]
+  -h, --help         Print help
+|"
+    );
+    Ok(())
+}
+
+#[test]
+fn options_to_serve(rt: HostRuntime) -> Result<(), Fail> {
+    let words: [&[&str]; 3] = [
+        &["fleet", "serve", "--count", "1"],
+        &[
+            "fleet",
+            "serve",
+            "--port=0",
+            "--nodes=16",
+            "--workers=8",
+            "--count=1000000",
+        ],
+        &[
+            "fleet",
+            "serve",
+            "--port=65535",
+            "--nodes=1",
+            "--workers=1",
+            "--count=007",
+        ],
+    ];
+    for (words, (count, port, nodes, workers)) in words
+        .into_iter()
+        .zip([(1, 5683, 2, 2), (1_000_000, 0, 16, 8), (7, 65535, 1, 1)])
+    {
+        let Request::Serve(options) = read_request(rt.alloc(), words)? else {
+            return Err("it is another command".into());
+        };
+        assert_eq!(rt; options.plan.count, count);
+        assert_eq!(rt; options.port, port);
+        assert_eq!(rt; options.plan.nodes, nodes);
+        assert_eq!(rt; options.plan.workers, workers);
+    }
+    Ok(())
+}
+
+const BAD_COUNT: &str = "'--count <K>' takes a number from 1 to 1000000, in digits alone";
+
+const BAD_PORT: &str = "'--port <P>' takes a number from 0 to 65535, in digits alone";
+
+const BAD_NODES: &str = "'--nodes <N>' takes a number from 1 to 16, in digits alone";
+
+const BAD_WORKERS: &str = "'--workers <W>' takes a number from 1 to 8, in digits alone";
+
+#[test]
+fn refused_words_of_serve(rt: HostRuntime) -> Result<(), Fail> {
+    for (count, option, number, line) in [
+        ("0", "--port", "1", BAD_COUNT),
+        ("1000001", "--port", "1", BAD_COUNT),
+        ("1", "--port", "65536", BAD_PORT),
+        ("1", "--port", "+1", BAD_PORT),
+        ("1", "--nodes", "0", BAD_NODES),
+        ("1", "--nodes", "17", BAD_NODES),
+        ("1", "--workers", "0", BAD_WORKERS),
+        ("1", "--workers", "9", BAD_WORKERS),
+    ] {
+        let words = ["fleet", "serve", "--count", count, option, number];
+        assert!(rt;
+            is_refused(&rt, rt.alloc(), &words, line, SERVE)?,
+            "{count} {option} {number}"
+        );
+    }
+    Ok(())
+}
+
+#[test]
+fn a_count_has_to_be_given(rt: HostRuntime) -> Result<(), Fail> {
+    let line = "the following required arguments were not provided:\n  --count <K>";
+    let usage = "Usage: fleet serve --count <K>\n\n";
+    assert!(rt; is_refused(&rt, rt.alloc(), &["fleet", "serve"], line, usage)?);
+    Ok(())
+}
+
+#[test]
+fn the_version(rt: HostRuntime) -> Result<(), Fail> {
+    for flag in ["--version", "-V"] {
+        let text = printed(&rt, rt.alloc(), &["fleet", flag])?;
+        assert_eq!(rt; text.as_str(), "0 fleet 0.1.0\n|");
+    }
+    Ok(())
+}
+
+/// Whether the command line is refused with these lines.
+fn is_refused<R: Threads + Wait + Sync>(
+    rt: &R,
+    alloc: Global,
+    words: &[&str],
+    line: &str,
+    usage: &str,
+) -> Result<bool, Fail> {
+    let want = format!(in alloc;
+        "2 |error: {line}\n\n{usage}For more information, try '--help'.\n"
+    )?;
+    Ok(printed(rt, alloc, words)?.as_str() == want.as_str())
+}
+
+const FLEET: &str = "Usage: fleet [COMMAND]\n\n";
+
+const ONE: &str = "Usage: fleet one [OPTIONS]\n\n";
+
+const REPLAY: &str = "Usage: fleet replay\n\n";
+
+const SERVE: &str = "Usage: fleet serve [OPTIONS] --count <K>\n\n";
+
+#[test]
+fn refused_words(rt: HostRuntime) -> Result<(), Fail> {
+    let rows: [(&[&str], &str, &str); 10] = [
+        (
+            &["fleet", "replay", "two"],
+            "unexpected argument 'two' found",
+            REPLAY,
+        ),
+        (
+            &["fleet", "replay", "--node", "1"],
+            "unexpected argument '--node' found",
+            REPLAY,
+        ),
+        (
+            &["fleet", "--node", "1"],
+            "unexpected argument '--node' found",
+            FLEET,
+        ),
+        (&["fleet", "two"], "unrecognized subcommand 'two'", FLEET),
+        (
+            &["fleet", "one", "two"],
+            "unexpected argument 'two' found",
+            ONE,
+        ),
+        (
+            &["fleet", "one", "--port", "1"],
+            "unexpected argument '--port' found",
+            ONE,
+        ),
+        (
+            &["fleet", "one", "--version"],
+            "unexpected argument '--version' found",
+            ONE,
+        ),
+        (
+            &["fleet", "one", "--node"],
+            "a value is required for '--node <N>' but none was supplied",
+            "",
+        ),
+        (
+            &["fleet", "one", "--node", "1", "--node", "1"],
+            "the argument '--node <N>' cannot be used multiple times",
+            ONE,
+        ),
+        (
+            &["fleet", "one", "--from", "a", "--from=a"],
+            "the argument '--from <ADDR>' cannot be used multiple times",
+            ONE,
+        ),
+    ];
+    for (words, line, usage) in rows {
+        assert!(rt;
+            is_refused(&rt, rt.alloc(), words, line, usage)?,
+            "{words:?}"
+        );
+    }
+    Ok(())
+}
+
+#[test]
+fn refused_numbers(rt: HostRuntime) -> Result<(), Fail> {
+    let node = "'--node <N>' takes a number from 0 to 65535, in digits alone";
+    let now = "'--now <MS>' takes a number from 0 to 281474976710655, in digits alone";
+    for (option, number, line) in [
+        ("--node", "65536", node),
+        ("--node", "99999999999999999999", node),
+        ("--node", "+1", node),
+        ("--node", "", node),
+        ("--now", "281474976710656", now),
+        ("--now", "1 ", now),
+        ("--now", "0x1", now),
+    ] {
+        let words = ["fleet", "one", option, number];
+        assert!(rt;
+            is_refused(&rt, rt.alloc(), &words, line, ONE)?,
+            "{option} {number}"
+        );
+    }
+    assert!(rt; is_refused(&rt, rt.alloc(), &["fleet", "one", "--node=-1"], node, ONE)?);
+    Ok(())
+}

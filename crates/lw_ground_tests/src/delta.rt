@@ -1,0 +1,342 @@
+ghost use Rattle.std.specs.Prelude.{◌<◌, ◌^◌, None};
+ghost use Rattle.lw_delta.specs.Writable.{AllFollow};
+
+mod bounds;
+
+use lw_delta::*;
+use lw_reg::{Endpoint, Slot};
+use lw_stamp::NoMemory;
+use std::alloc::Global;
+use std::test::Fail;
+
+/// One registration of the endpoint `a` with all fields: 98 bytes.
+const REGISTERED: &str =
+    "4c57443100000000000101016100000000000100017f000000000000010001047f000001163300000000000100010000\
+0000000000000000000100010001518000000000000100010155000000000001000100000000000001000100033c2f3e\
+0000";
+
+/// The same registration, removed.
+const REMOVED: &str = "4c5744310000000000010101610000000000010001800000";
+
+/// The same, in its fuller spelling.
+const REMOVED_IN_FULL: &str =
+    "4c5744310000000000010101610000000000010001ff000000000000010001047f000001163300000000000100010000\
+0000000000000000000100010001518000000000000100010155000000000001000100000000000001000100033c2f3e\
+0000";
+
+/// Of three watches the last is cancelled.
+const WATCHED: &str =
+    "4c5744310000000000010101610000000000010001000102000300000000000000010001010001020003000100000000\
+000100010101006e010100040000000000010001020000";
+
+/// A watch that is cancelled.
+const CANCELLED: &str =
+    "4c574431000000000001010161000000000001000100010100040000000000010001020000";
+
+/// The same, in its fuller spelling.
+const CANCELLED_IN_FULL: &str =
+    "4c5744310000000000010101610000000000010001000101000400000000000100010301006e0000";
+
+/// Two removed registrations.
+const TWO_REMOVED: &str =
+    "4c574431000000000001010161000000000001000180000101620000000000010001800000";
+
+/// No slots, and the least clock.
+const FRESH: &str = "4c57443100000000000000";
+
+/// No slots, and the greatest clock.
+const LAST: &str = "4c574431ffffffffffff00";
+
+/// A slot that stands there twice.
+const TWICE: &str =
+    "4c57443100000000000101016100000000000100017f000000000000010001047f000001163300000000000100010000\
+0000000000000000000100010001518000000000000100010155000000000001000100000000000001000100033c2f3e\
+0001016100000000000100017f000000000000010001047f000001163300000000000100010000000000000000000000\
+0100010001518000000000000100010155000000000001000100000000000001000100033c2f3e0000";
+
+fn write(alloc: Global, clock: u64, slots: &[(Endpoint, Slot)]) -> Result<Vec<u8>, NoMemory>
+    requires in_range { clock < 2 ^ 48 }
+    requires follow { AllFollow clock None slots.now }
+{
+    let mut writer = Writer::new(alloc, clock)?;
+    for entry in slots {
+        let (endpoint, slot) = entry;
+        writer.slot(endpoint.as_str(), slot)?;
+    }
+    writer.end()
+}
+
+/// What a writer makes of the delta that the bytes are, if they are one.
+fn rewritten(alloc: Global, bytes: &[u8]) -> Result<Option<Vec<u8>>, NoMemory> {
+    let Ok(delta) = read(alloc, bytes) else {
+        return Ok(None);
+    };
+    let written = write(alloc, delta.clock, &delta.slots)?;
+    Ok(Some(written))
+}
+
+/// Each fault, where it is the first: a later one may stand behind it.
+const REFUSED: [(&str, DeltaFault); 37] = [
+    (TWICE, DeltaFault::Order),
+    // nothing later
+    ("4c5744", DeltaFault::Truncated),
+    (
+        "4c574431000000000001010161000000000001000140000000000001000120",
+        DeltaFault::Truncated,
+    ),
+    ("4c57443200000000000000", DeltaFault::Magic),
+    // magic before truncated
+    ("4c57443200", DeltaFault::Magic),
+    ("4c5744310000000000000000", DeltaFault::Trailing),
+    ("4c57443100000000000002", DeltaFault::Range),
+    // endpoint empty, trailing
+    (
+        "4c57443100000000000101000000000000010001800000ff",
+        DeltaFault::Range,
+    ),
+    // endpoint 253, truncated
+    ("4c57443100000000000101fd00", DeltaFault::Range),
+    // counter 0 before base range
+    (
+        "4c5744310000000000010101610000000000000001ff0900",
+        DeltaFault::Range,
+    ),
+    // base 4 before watch tag 2
+    (
+        "4c574431000000000001010161000000000001000101040200",
+        DeltaFault::Range,
+    ),
+    // family 5
+    (
+        "4c5744310000000000010101610000000000010001020000000000010001050200",
+        DeltaFault::Range,
+    ),
+    // binding length 0
+    (
+        "4c57443100000000000101016100000000000100011000000000000100010000",
+        DeltaFault::Range,
+    ),
+    // binding length 9 before text
+    (
+        "4c57443100000000000101016100000000000100011000000000000100010961616161616161616100",
+        DeltaFault::Range,
+    ),
+    // sms tag
+    (
+        "4c57443100000000000101016100000000000100012000000000000100010200",
+        DeltaFault::Range,
+    ),
+    // sms length 252 before text
+    (
+        "4c574431000000000001010161000000000001000120000000000001000101fcff00",
+        DeltaFault::Range,
+    ),
+    // objects length 0
+    (
+        "4c574431000000000001010161000000000001000140000000000001000100000200",
+        DeltaFault::Range,
+    ),
+    // objects length 8193 before truncated
+    (
+        "4c5744310000000000010101610000000000010001400000000000010001200100",
+        DeltaFault::Range,
+    ),
+    // watch tag
+    (
+        "4c5744310000000000010101610000000000010001000200",
+        DeltaFault::Range,
+    ),
+    // no numbers
+    (
+        "4c574431000000000001010161000000000001000100010000",
+        DeltaFault::Range,
+    ),
+    // five numbers
+    (
+        "4c574431000000000001010161000000000001000100010500",
+        DeltaFault::Range,
+    ),
+    // number 65535 before truncated
+    (
+        "4c5744310000000000010101610000000000010001000102ffff",
+        DeltaFault::Range,
+    ),
+    // watch flag 0
+    (
+        "4c57443100000000000101016100000000000100010001010004000000000001000100ff00",
+        DeltaFault::Range,
+    ),
+    // watch flag 4
+    (
+        "4c57443100000000000101016100000000000100010001010004000000000001000104ff00",
+        DeltaFault::Range,
+    ),
+    // accept tag
+    (
+        "4c5744310000000000010101610000000000010001000101000400000000000100010102ff00",
+        DeltaFault::Range,
+    ),
+    // accept of cancelled
+    (
+        "4c57443100000000000101016100000000000100010001010004000000000001000103020000",
+        DeltaFault::Range,
+    ),
+    (
+        "4c57443100000000000001016100000000000100017f000000000000010001047f0000011633000000000001000100000000000000000000000100010001518000000000000100010155000000000001000100000000000001000100033c2f3e0000",
+        DeltaFault::ClockBelow,
+    ),
+    // clock before base range
+    (
+        "4c5744310000000000010101610000000000020001010400",
+        DeltaFault::ClockBelow,
+    ),
+    // in a removed slot fields are checked
+    (
+        "4c5744310000000000010101610000000000010001ff00000000000002000100",
+        DeltaFault::ClockBelow,
+    ),
+    // order before range of stamp
+    (
+        "4c574431000000000001010162000000000001000180000101610000000000000001800000",
+        DeltaFault::Order,
+    ),
+    // path order before stamp range
+    (
+        "4c57443100000000000101016100000000000100010001010004000000000001000102010100040000000000000001020000",
+        DeltaFault::Order,
+    ),
+    // in a removed slot watches are checked
+    (
+        "4c57443100000000000101016100000000000100018001010004000000000001000102010100030000000000010001020000",
+        DeltaFault::Order,
+    ),
+    // endpoint no utf8 before clock
+    (
+        "4c5744310000000000000101ff0000000000010001800000",
+        DeltaFault::Text,
+    ),
+    // text before order
+    (
+        "4c574431000000000001010162000000000001000180000101ff0000000000010001800000",
+        DeltaFault::Text,
+    ),
+    // binding lower case before tag 2
+    (
+        "4c574431000000000001010161000000000001000110000000000001000101610200",
+        DeltaFault::Text,
+    ),
+    // sms no utf8 before tag
+    (
+        "4c57443100000000000101016100000000000100012000000000000100010101ff0200",
+        DeltaFault::Text,
+    ),
+    // no printing before tag
+    (
+        "4c574431000000000001010161000000000001000140000000000001000100043c2f3e200200",
+        DeltaFault::Text,
+    ),
+];
+
+/// Deltas, their clocks, how many slots they have, and how they are written.
+const ACCEPTED: [(&str, u64, usize, &str); 9] = [
+    (REGISTERED, 1, 1, REGISTERED),
+    (FRESH, 0, 0, FRESH),
+    (LAST, 281_474_976_710_655, 0, LAST),
+    (REMOVED, 1, 1, REMOVED),
+    (REMOVED_IN_FULL, 1, 1, REMOVED),
+    (CANCELLED, 1, 1, CANCELLED),
+    (CANCELLED_IN_FULL, 1, 1, CANCELLED),
+    (WATCHED, 1, 1, WATCHED),
+    (TWO_REMOVED, 1, 2, TWO_REMOVED),
+];
+
+/// Whether the walk and the reading of the bytes both end with this fault.
+fn refuses(alloc: Global, text: &str, fault: DeltaFault) -> Result<bool, Fail> {
+    let bytes = hex::decode(alloc, text)?;
+    let checked = check(&bytes).err();
+    let read = read(alloc, &bytes).err();
+    Ok(checked == Some(fault) && read == Some(fault))
+}
+
+/// The clock that the walk tells, the clock that is read, and how many slots are.
+fn counts(alloc: Global, bytes: &[u8]) -> Result<(u64, u64, usize), DeltaFault> {
+    let clock = check(bytes)?;
+    let delta = read(alloc, bytes)?;
+    Ok((clock, delta.clock, delta.slots.len()))
+}
+
+/// Whether the bytes are a delta that is written like this.
+fn is_written_as(alloc: Global, bytes: &[u8], again: &[u8]) -> Result<bool, NoMemory> {
+    let written = rewritten(alloc, bytes)?;
+    Ok(written.is_some_and(|written| written.as_slice() == again))
+}
+
+/// Whether it is a delta that is written like this, with the clock, and so many slots.
+fn accepts(
+    alloc: Global,
+    bytes: &[u8],
+    clock: u64,
+    count: usize,
+    again: &str,
+) -> Result<bool, Fail> {
+    let again = hex::decode(alloc, again)?;
+    let counts = counts(alloc, bytes)?;
+    let written = is_written_as(alloc, bytes, &again)?;
+    Ok(written && counts == (clock, clock, count))
+}
+
+#[test]
+fn deltas_are_read_and_written(rt: HostRuntime) -> Result<(), Fail> {
+    for (text, clock, count, again) in ACCEPTED {
+        let bytes = hex::decode(rt.alloc(), text)?;
+        assert!(rt; accepts(rt.alloc(), &bytes, clock, count, again)?, "{text}");
+    }
+    Ok(())
+}
+
+#[test]
+fn the_first_fault_is_told(rt: HostRuntime) -> Result<(), Fail> {
+    for (text, fault) in REFUSED {
+        assert!(rt; refuses(rt.alloc(), text, fault)?, "{text}");
+    }
+    Ok(())
+}
+
+#[test]
+fn each_front_is_truncated(rt: HostRuntime) -> Result<(), Fail> {
+    let bytes = hex::decode(rt.alloc(), REGISTERED)?;
+    for len in 0..98usize {
+        let front = bytes.get(..len).ok_or("a front")?;
+        assert!(rt; check(front) == Err(DeltaFault::Truncated), "{len} bytes");
+    }
+    Ok(())
+}
+
+/// Whether it is a delta that is written as the same bytes again, or as the removed registration, or is none.
+fn same_or_removed(alloc: Global, bytes: &[u8], removed: &[u8]) -> Result<bool, NoMemory> {
+    let is_delta = check(bytes).is_ok();
+    let Some(written) = rewritten(alloc, bytes)? else {
+        return Ok(!is_delta);
+    };
+    let written = written.as_slice();
+    Ok(is_delta && (written == bytes || written == removed))
+}
+
+#[test]
+fn each_byte_is_changed(rt: HostRuntime) -> Result<(), Fail> {
+    let removed = hex::decode(rt.alloc(), REMOVED)?;
+    let mut bytes = hex::decode(rt.alloc(), REGISTERED)?;
+    for place in 0..98usize {
+        assert!(rt; place < bytes.len());
+        let kept = bytes[place];
+        for byte in 0..=255u8 {
+            bytes[place] = byte;
+            assert!(rt;
+                same_or_removed(rt.alloc(), &bytes, &removed)?,
+                "{byte} at {place}"
+            );
+        }
+        bytes[place] = kept;
+    }
+    Ok(())
+}

@@ -1,0 +1,13 @@
+//! Tests of the crates from `lw_call` to `lw_script`, over their public calls.
+#![tactic(auto)]
+
+#[cfg(test)]
+mod call;
+#[cfg(test)]
+mod node;
+#[cfg(test)]
+mod print;
+#[cfg(test)]
+mod script;
+#[cfg(test)]
+mod world;

@@ -1,0 +1,36 @@
+mod calls;
+mod deltas;
+mod exchanging;
+mod observing;
+mod refusing;
+mod registering;
+mod steps;
+mod updating;
+
+use lw_node::*;
+use lw_stamp::{Moment, Stamp};
+use std::alloc::Global;
+use std::test::Fail;
+use steps::Step::*;
+use steps::{Row, at, host, id, path, play};
+
+/// A Register of `a` with the object list `</>`, message ID 4.
+const REGISTER: &str = "40020004b272644465703d61ff3c2f3e";
+
+/// A Register of `b` with the object list `</>`, message ID 5.
+const REGISTER_B: &str = "40020005b272644465703d62ff3c2f3e";
+
+/// The reply to the first Register with message ID 4 at node 1.
+const CREATED: &str = "604100048272640d0330303030303030303030303130303031";
+
+/// What a first Register of `a` at node 1 shows.
+const SHOWN: &str = "a 0000000000010001 127.0.0.1:5683 0 86400 false 1.0 U no number </>";
+
+/// The first identifier of node 1.
+const ID: &str = "0000000000010001";
+
+/// Plays these steps at a new node with number 1.
+fn play_new(alloc: Global, rows: &[Row<'_>]) -> Result<(), Fail> {
+    let mut node = Node::new(alloc, 1);
+    play(alloc, &mut node, rows)
+}

@@ -1,0 +1,107 @@
+mod json;
+mod lines;
+
+use lw_print::*;
+use lw_link::LinkText;
+use lw_node::Notice;
+use lw_reg::{Addr, Binding, Path, Text, Version, View, Watch};
+use lw_stamp::{Moment, Stamp};
+use std::alloc::Global;
+use std::test::Fail;
+
+/// The first stamp of node 1, the identifier of its first registration.
+const FIRST: Stamp = Stamp {
+    counter: 1,
+    node: 1,
+};
+
+const THIRD: Stamp = Stamp {
+    counter: 3,
+    node: 1,
+};
+
+/// The greatest stamp.
+const LAST: Stamp = Stamp {
+    counter: 281_474_976_710_655,
+    node: 65_535,
+};
+
+const LOCAL: Addr = Addr::V4 {
+    address: [127, 0, 0, 1],
+    port: 5683,
+};
+
+fn registration<'a>(endpoint: &'a str, objects: &'a LinkText) -> View<'a> {
+    View {
+        endpoint,
+        id: FIRST,
+        address: LOCAL,
+        seen: Moment::START,
+        lifetime: 60,
+        version: Version::V11,
+        binding: Binding::U,
+        queue: false,
+        sms: None,
+        objects,
+    }
+}
+
+/// A registration with other values in all but its identifier.
+fn other_registration<'a>(endpoint: &'a str, objects: &'a LinkText) -> View<'a> {
+    let mut view = registration(endpoint, objects);
+    view.address = Addr::V6 {
+        address: [0x20, 1, 0x0d, 0xb8, 0, 0, 0, 0, 0, 0, 0, 0, 0, 0, 0, 1],
+        port: 65535,
+    };
+    view.seen = Moment::new(Moment::LAST_MS).unwrap_or(Moment::START);
+    view.lifetime = 4_294_967_295;
+    view.version = Version::V10;
+    view.queue = true;
+    view.sms = Some("+49");
+    view
+}
+
+const SHOWN: &str =
+    r#"{"address":"127.0.0.1:5683","binding":"U","endpoint":"a","id":"0000000000010001","lifetime":60,"lwm2m":"1.1","objects":"</3/0>","queue":false,"seen":0,"sms":null}"#;
+
+/// A list of 256 links, of 7,909 bytes.
+fn long_list(alloc: Global) -> Result<LinkText, Fail> {
+    let mut list = String::from_str(alloc, "</0>")?;
+    list.push_str(
+        r#",</65534/65534>;ver="1.0 \"x\"""#
+            .repeat(alloc, 255)?
+            .as_str(),
+    )?;
+    let list = list.as_bytes().get(..7909).ok_or("the list")?;
+    Ok(LinkText::read(alloc, list)?)
+}
+
+fn path(numbers: &[u16]) -> Result<Path, Fail> {
+    Ok(Path::new(numbers).ok_or("a path")?)
+}
+
+fn watch(numbers: &[u16], token: Stamp, accept: Option<u16>) -> Result<Watch, Fail> {
+    Ok(Watch {
+        token,
+        path: path(numbers)?,
+        accept,
+    })
+}
+
+/// What a device tells of `/3/0`, which it sends as one byte.
+fn notice(alloc: Global) -> Result<Notice, Fail> {
+    Ok(Notice {
+        token: THIRD,
+        id: FIRST,
+        endpoint: Text::copy_of(alloc, "a")?,
+        path: path(&[3, 0])?,
+        code: 69,
+        observe: Some(1),
+        format: None,
+        ended: false,
+        payload: b"1".to_vec(alloc)?,
+    })
+}
+
+const NOTICE: &str =
+    r#"{"code":69,"content_format":null,"ended":false,"endpoint":"a","id":"0000000000010001","observe":1,"path":"/3/0","payload":"31","token":"0000000000030001"}"#;
