@@ -2,7 +2,7 @@ use Rattle.std.proofs.Common.{ℕ, ◌<◌, ◌^◌, None, sym, subst}
 use Rattle.lw_delta.specs.Delta.{DeltaContent}
 use Rattle.lw_delta.specs.Writable.{AllFollow}
 use Rattle.lw_delta.proofs.Fitting.{spelled_fits}
-use Rattle.lw_delta.proofs.tests.rewritten.Goals as goal
+use Rattle.lw_ground_tests.proofs.delta.rewritten.Goals as goal
 
 pub write-requires : goal.write-requires
 write-requires c =

@@ -5,7 +5,7 @@ use Rattle.lw_delta.specs.Order.{IsAbove}
 use Rattle.lw_delta.specs.Writable.{IsBegun, StampsWithin, last_endpoint}
 use Rattle.lw_delta.proofs.BegunLemmas.{begun_once}
 use Rattle.lw_delta.proofs.Fitting.{follow_at, take_step}
-use Rattle.lw_delta.proofs.tests.write.Goals as goal
+use Rattle.lw_ground_tests.proofs.delta.write.Goals as goal
 
 pub slot-requires-clause-above : goal.slot-requires-clause-above
 slot-requires-clause-above c =

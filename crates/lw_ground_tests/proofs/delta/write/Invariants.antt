@@ -1,6 +1,6 @@
 use Rattle.std.proofs.Common.{◌≡◌, take}
 use Rattle.lw_delta.specs.Writable.{IsBegun}
-use Rattle.lw_delta.proofs.tests.write.Given as goal
+use Rattle.lw_ground_tests.proofs.delta.write.Given as goal
 
 abbrev pub invariant-loop-entry : goal.invariant-loop-entry
 invariant-loop-entry l = record {
