@@ -1,9 +1,4 @@
-use lw_fleet::OneOptions;
-use lw_fleet::Fault;
-use lw_fleet::bytes_of_hex;
-use lw_fleet::read_line;
-use lw_fleet::one;
-use lw_fleet::write_text;
+use lw_fleet::{Fault, OneOptions, bytes_of_hex, one, read_line, write_text};
 use lw_stamp::Moment;
 use std::alloc::Global;
 use std::io::{self, ErrorKind, Read, Write};

@@ -1,6 +1,6 @@
-use lw_reg::*;
 use lw_join::Join;
 use lw_link::LinkText;
+use lw_reg::*;
 use lw_stamp::{Moment, Stamp};
 use std::alloc::Global;
 use std::test::Fail;

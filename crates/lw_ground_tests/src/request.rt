@@ -1,5 +1,5 @@
-use lw_request::*;
 use lw_coap::{Kind, Message, codes, decode};
+use lw_request::*;
 use lw_stamp::Stamp;
 use shown::Shown;
 use std::alloc::Global;

@@ -1,8 +1,8 @@
-use lw_table::*;
 use Change::*;
 use lw_link::LinkText;
 use lw_reg::{Addr, Binding, Endpoint, Op, Path, Slot, Text, Version, View, What, atom};
 use lw_stamp::{Moment, Stamp};
+use lw_table::*;
 use std::alloc::Global;
 use std::test::Fail;
 

@@ -1,8 +1,8 @@
 mod calls;
 mod replies;
 
-use lw_call::*;
 use bytes::Bytes;
+use lw_call::*;
 use lw_reg::{Addr, Path, Text};
 use lw_stamp::{Moment, NoMemory, Stamp};
 use std::alloc::Global;

@@ -1,9 +1,9 @@
 mod json;
 mod lines;
 
-use lw_print::*;
 use lw_link::LinkText;
 use lw_node::Notice;
+use lw_print::*;
 use lw_reg::{Addr, Binding, Path, Text, Version, View, Watch};
 use lw_stamp::{Moment, Stamp};
 use std::alloc::Global;

@@ -2,10 +2,10 @@ mod events;
 mod gossip;
 mod running;
 
-use lw_world::*;
 use events::What::*;
 use events::{Row, play};
 use lw_stamp::{Moment, NoMemory, Stamp};
+use lw_world::*;
 use std::alloc::Global;
 use std::test::Fail;
 

@@ -2,8 +2,7 @@
 
 use super::serving::NoServer;
 use super::{ANSWER, FewBytes, FewWrites, REGISTER};
-use lw_fleet::Fault;
-use lw_fleet::{Ending, program};
+use lw_fleet::{Ending, Fault, program};
 use std::alloc::Global;
 use std::io::{self, ErrorKind};
 use std::str;

@@ -1,8 +1,7 @@
 //! Scripts that are replayed, refused, and cut short.
 
 use super::{FewBytes, FewWrites, scripts};
-use lw_fleet::Fault;
-use lw_fleet::replay;
+use lw_fleet::{Fault, replay};
 use std::alloc::Global;
 use std::str;
 use std::test::Fail;

@@ -1,10 +1,7 @@
 //! What the program does with what its server ends with.
 
 use super::FewWrites;
-use lw_fleet::ServeOptions;
-use lw_fleet::write_text;
-use lw_fleet::{Ending, program};
-use lw_fleet::{Serves, ServingFault};
+use lw_fleet::{Ending, ServeOptions, Serves, ServingFault, program, write_text};
 use lw_serve::{CrewFault, ServeFault};
 use std::alloc::Global;
 use std::io::Write;

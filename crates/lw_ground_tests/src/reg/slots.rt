@@ -1,9 +1,9 @@
 //! Operations, the slots that they make, and what these show.
 
 use super::joined;
-use lw_reg::*;
 use lw_join::{OrGone, Parts};
 use lw_link::LinkText;
+use lw_reg::*;
 use lw_stamp::{Moment, Stamp};
 use std::alloc::Global;
 use std::test::Fail;

@@ -1,9 +1,9 @@
 //! Slots with all that a registration can have, at its longest.
 
 use super::joined;
-use lw_reg::*;
 use lw_join::{Lex, Once, OrGone, Parts};
 use lw_link::LinkText;
+use lw_reg::*;
 use lw_stamp::{Moment, Stamp};
 use std::alloc::Global;
 use std::test::Fail;

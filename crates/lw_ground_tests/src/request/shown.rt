@@ -1,8 +1,8 @@
 //! Meanings in words.
 
-use lw_request::{Asked, Report};
 use lw_link::LinkText;
 use lw_reg::{Binding, SmsNumber};
+use lw_request::{Asked, Report};
 use lw_stamp::Stamp;
 use std::fmt;
 
