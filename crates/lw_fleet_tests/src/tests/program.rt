@@ -20,7 +20,7 @@ pub struct Ended {
 }
 
 /// Runs the program with these words on an input.
-pub fn run_with<R: Threads + Wait + Sync>(
+pub(super) fn run_with<R: Threads + Wait + Sync>(
     rt: &R,
     alloc: Global,
     words: &[&str],

@@ -7,7 +7,7 @@ use std::str;
 use std::test::Fail;
 
 /// What is printed for a script.
-pub fn replayed(alloc: Global, script: &str) -> Result<String, Fail> {
+pub(super) fn replayed(alloc: Global, script: &str) -> Result<String, Fail> {
     let mut writer = Vec::new(alloc);
     if replay(alloc, &mut script.as_bytes(), &mut writer).is_err() {
         return Err(Fail::from("the script is not replayed"));
