@@ -15,6 +15,3 @@ pub use gathering::gather;
 pub use job::{CrewFault, Done, Job, Outcome};
 pub use lw_held::{Gate, NoGate, Pass, Shelf};
 pub use serving::serve_jobs;
-
-#[cfg(test)]
-mod tests;

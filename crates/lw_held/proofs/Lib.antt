@@ -2,5 +2,4 @@ pub mod Histories
 pub mod Agreement
 pub mod Lawful
 pub mod Joining
-pub mod Keeping
 pub mod Longer

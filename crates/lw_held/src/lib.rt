@@ -19,6 +19,3 @@ pub use held::Held;
 pub use lw_node::{Call, Reply};
 pub use pass::Pass;
 pub use shelf::{Settled, Shelf, Unsettled, set_up, settle};
-
-#[cfg(test)]
-mod tests;

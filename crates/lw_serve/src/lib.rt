@@ -27,6 +27,3 @@ pub use plan::Plan;
 pub use serving::serve_on;
 pub use udp::UdpWire;
 pub use wire::{Wire, WireFault};
-
-#[cfg(test)]
-mod tests;

@@ -140,23 +140,15 @@ impl Write for FewWrites {
     }
 }
 
-/// What came of a run: its end, what the writer took, the lines of the log, and how often the clock was read.
-#[derive(Drop)]
-pub(super) struct Ran {
-    pub(super) result: Result<(), ServeFault>,
-    pub(super) written: Vec<u8>,
-    pub(super) logged: Vec<String>,
-    pub(super) rounds: u32,
-}
-
-/// Serves over the wire, at moment 0, with a writer that takes all.
+/// Serves over the wire, at moment 0, with a writer that takes all: how the run ended, how often the clock was read, how
+/// many records were logged and how many of them warn of receiving and of sending, and what was written.
 pub(super) fn run<R: Threads + Wait + Sync>(
     rt: &R,
     wire: &mut MemoryWire<'_>,
     count: u32,
     nodes: u16,
     workers: u32,
-) -> Result<Ran, Fail> {
+) -> Result<String, Fail> {
     let alloc = wire.alloc;
     let plan = Plan::new(count, nodes, workers).ok_or("a plan")?;
     let log = Memory::new(alloc);
@@ -165,20 +157,62 @@ pub(super) fn run<R: Threads + Wait + Sync>(
         readings: 0,
     };
     let mut written = Vec::new(alloc);
-    let result = serve_on(rt, alloc, wire, &mut clock, &log, &plan, &mut written);
-    Ok(Ran {
-        result,
-        written,
-        logged: log.into_lines().into_vec(),
-        rounds: clock.readings,
-    })
+    let ended = serve_on(rt, alloc, wire, &mut clock, &log, &plan, &mut written);
+    let logged = log.into_lines().into_vec();
+    told(alloc, ended, &written, &logged, clock.readings)
+}
+
+fn told(
+    alloc: Global,
+    ended: Result<(), ServeFault>,
+    written: &[u8],
+    logged: &[String],
+    rounds: u32,
+) -> Result<String, Fail> {
+    let (count, received) = (logged.len(), warnings(logged, "receive passed over"));
+    let (sent, text) = (
+        warnings(logged, "send passed over"),
+        str::from_utf8(written)?,
+    );
+    Ok(format!(in alloc; "{ended:?} {rounds} {count} {received} {sent}\n{text}")?)
+}
+
+/// How many records are warnings with the message.
+fn warnings(logged: &[String], message: &str) -> u32 {
+    let mut count = 0_u32;
+    for line in logged {
+        if line.starts_with("[WARN") && line.ends_with(message) {
+            count = count.saturating_add(1);
+        }
+    }
+    count
+}
+
+/// A line for each datagram that was sent: the port and the bytes.
+pub(super) fn sent_text(alloc: Global, sent: &[(u16, Vec<u8>)]) -> Result<String, Fail> {
+    let mut text = String::new(alloc);
+    for (port, bytes) in sent {
+        let line = format!(in alloc; "{port} ")?;
+        text.push_str(&line)?;
+        text.push_str(&hex::encode(alloc, bytes)?)?;
+        text.push('\n')?;
+    }
+    Ok(text)
+}
+
+/// Serves over the wire with one worker: what came of the run, and what was sent.
+pub(super) fn served<R: Threads + Wait + Sync>(
+    rt: &R,
+    mut wire: MemoryWire<'_>,
+    count: u32,
+    nodes: u16,
+) -> Result<String, Fail> {
+    let alloc = wire.alloc;
+    let mut text = run(rt, &mut wire, count, nodes, 1)?;
+    text.push_str(&sent_text(alloc, &wire.sent)?)?;
+    Ok(text)
 }
 
 pub(super) fn bytes(alloc: Global, text: &str) -> Result<Vec<u8>, Fail> {
     Ok(hex::decode(alloc, text)?)
-}
-
-/// Whether the record is a warning with the message.
-pub(super) fn is_warning(line: &str, message: &str) -> bool {
-    line.starts_with("[WARN") && line.ends_with(message)
 }

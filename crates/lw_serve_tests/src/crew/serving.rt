@@ -78,8 +78,8 @@ fn two_nodes_are_called_at_once(rt: HostRuntime) -> Result<(), Fail> {
     Ok(())
 }
 
-/// Has a node take the Register, and asks it for `a` with the pass that made the call: the identifier that is shown. The
-/// transcripts do not settle without that pass.
+/// Has a node take the Register, and asks it for `a` with the pass that made the call: what is shown. The transcripts do
+/// not settle without that pass.
 fn read_back<R: Threads + Wait + Sync>(rt: &R, alloc: Global) -> Result<String, Fail> {
     let jobs = registers(alloc, &[1])?;
     let (shelves, passes) = set_up(alloc, 2, 1)?;
@@ -93,27 +93,20 @@ fn read_back<R: Threads + Wait + Sync>(rt: &R, alloc: Global) -> Result<String, 
     }
 }
 
-/// Asks the node for `a` with the pass, and gives the identifier that is shown.
+/// Asks the node for `a` with the pass, and gives what is shown.
 fn asked<R: Wait>(rt: &R, alloc: Global, shelf: &Shelf, pass: &mut Pass) -> Result<String, Fail> {
-    let question = Question::ByEndpoint(Text::copy_of(alloc, "a")?);
-    let call = Call::Ask {
-        now: Moment::START,
-        question,
-    };
-    shelf.call(rt, &NoGate, pass, &call)?;
+    shelf.call(rt, &NoGate, pass, &ask(alloc, "a")?)?;
     let last = pass.len().checked_sub(1).ok_or("a call")?;
-    match &pass.part(last).ok_or("a part")?.entry.reply {
-        Reply::Ask(Ok(Answer::Registration(Some(seen)))) => {
-            Ok(hex::encode(alloc, seen.id.to_bytes())?)
-        }
-        other => Ok(format!(in alloc; "{other:?}")?),
-    }
+    reply_text(alloc, &pass.part(last).ok_or("a part")?.entry.reply)
 }
 
 #[test]
 fn a_pass_reads_back_what_it_wrote(rt: HostRuntime) -> Result<(), Fail> {
-    let id = read_back(&rt, rt.alloc())?;
-    assert_eq!(rt; id.as_str(), "0000000000010001");
+    let shown = read_back(&rt, rt.alloc())?;
+    assert_eq!(rt;
+        shown.as_str(),
+        "a 0000000000010001 127.0.0.1:5683 0 86400 U false </>"
+    );
     Ok(())
 }
 

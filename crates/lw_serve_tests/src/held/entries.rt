@@ -4,15 +4,18 @@ use super::*;
 
 #[test]
 fn a_step_gives_the_entry_and_its_place(rt: HostRuntime) -> Result<(), Fail> {
-    let alloc = rt.alloc();
-    let mut held = Held::new(alloc, 1);
-    let register = Takes(REGISTER).made(alloc)?;
-    let first = step_text(alloc, &mut held, &register)?;
+    let mut held = Held::new(rt.alloc(), 1);
+    let first = register_text(rt.alloc(), &mut held)?;
     assert_eq!(rt; first.as_str(), FIRST);
     // the second Register has another identifier
-    let second = step_text(alloc, &mut held, &register)?;
+    let second = register_text(rt.alloc(), &mut held)?;
     assert_eq!(rt; second.as_str(), SECOND);
     Ok(())
+}
+
+fn register_text(alloc: Global, held: &mut Held) -> Result<String, Fail> {
+    let register = take(alloc, REGISTER)?;
+    step_text(alloc, held, &register)
 }
 
 /// Pass, number and place of the first Register at node 1, and its reply.
@@ -33,7 +36,7 @@ fn entry_text(alloc: Global, entry: &Entry, place: u64, call: &Call) -> Result<S
     if !entry.call.same(call) {
         return Err("another call".into());
     }
-    let reply = text_of(alloc, &entry.reply)?;
+    let reply = reply_text(alloc, &entry.reply)?;
     let (pass, number) = (entry.pass, entry.number);
     Ok(format!(in alloc; "{pass} {number} {place} {reply}")?)
 }
@@ -42,10 +45,14 @@ fn entry_text(alloc: Global, entry: &Entry, place: u64, call: &Call) -> Result<S
 #[test]
 fn entries_are_the_same_where_all_parts_are(rt: HostRuntime) -> Result<(), Fail> {
     let mut held = Held::new(rt.alloc(), 1);
-    assert!(rt; sends_the_same(&mut held, 1, 2, 0)?);
-    assert!(rt; !sends_the_same(&mut held, 2, 2, 0)?);
-    assert!(rt; !sends_the_same(&mut held, 1, 3, 0)?);
-    assert!(rt; !sends_the_same(&mut held, 1, 2, 1)?);
+    for (pass, number, since, want) in [
+        (1, 2, 0, true),
+        (2, 2, 0, false),
+        (1, 3, 0, false),
+        (1, 2, 1, false),
+    ] {
+        assert_eq!(rt; sends_the_same(&mut held, pass, number, since)?, want);
+    }
     Ok(())
 }
 
@@ -59,9 +66,14 @@ fn sends_the_same(held: &mut Held, pass: u32, number: u64, since: u64) -> Result
 #[test]
 fn entries_with_other_replies_differ(rt: HostRuntime) -> Result<(), Fail> {
     let mut held = Held::new(rt.alloc(), 1);
-    let register = Takes(REGISTER).made(rt.alloc())?;
-    assert!(rt; !are_the_same(&mut held, &register, 1, 2, &register)?);
+    assert!(rt; !registers_are_the_same(rt.alloc(), &mut held)?);
     Ok(())
+}
+
+/// Whether the entry of a Register is that of the same one behind it.
+fn registers_are_the_same(alloc: Global, held: &mut Held) -> Result<bool, Fail> {
+    let register = take(alloc, REGISTER)?;
+    are_the_same(held, &register, 1, 2, &register)
 }
 
 /// Whether the entry of a call, as number 2 of pass 1, is that of the other call behind it.
@@ -72,10 +84,8 @@ fn are_the_same(
     number: u64,
     other: &Call,
 ) -> Result<bool, Fail> {
-    match held.step(1, 2, call) {
-        Ok((first, _)) => is_next_the_same(held, &first, pass, number, other),
-        Err(NoMemory) => Err("no memory".into()),
-    }
+    let first = entry_of(held, 1, 2, call)?;
+    is_next_the_same(held, &first, pass, number, other)
 }
 
 fn is_next_the_same(
@@ -85,8 +95,13 @@ fn is_next_the_same(
     number: u64,
     call: &Call,
 ) -> Result<bool, Fail> {
+    let second = entry_of(held, pass, number, call)?;
+    Ok(first.same(&second))
+}
+
+fn entry_of(held: &mut Held, pass: u32, number: u64, call: &Call) -> Result<Entry, Fail> {
     match held.step(pass, number, call) {
-        Ok((second, _)) => Ok(first.same(&second)),
+        Ok((entry, _)) => Ok(entry),
         Err(NoMemory) => Err("no memory".into()),
     }
 }

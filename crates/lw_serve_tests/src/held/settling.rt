@@ -7,7 +7,7 @@ ghost use Rattle.lw_held.specs.Shelves.{AreInOrder};
 use super::*;
 
 /// The places of a shelf and of a pass, a call, and the part that it leaves: node, place and reply.
-type Row<'a> = (usize, usize, calls::What<'a>, &'a str);
+type Row<'a> = (usize, usize, steps::What<'a>, &'a str);
 
 /// Two nodes take a Register each, with a pass each. The delta of the first comes to the second, where the later of both
 /// counts, and the first is asked with the pass of the other.
@@ -116,19 +116,36 @@ fn play<R: Wait>(
     Ok(())
 }
 
+/// What settles the two nodes after some of the calls, and after all: by both passes, by one, by the other, and by none.
+fn settled_by_some<R: Wait>(
+    rt: &R,
+    alloc: Global,
+) -> Result<[Result<Settled, Unsettled>; 5], Fail> {
+    let (shelves, mut passes) = set_up(alloc, 2, 2)?;
+    play(rt, alloc, &shelves, &mut passes, &TAKEN)?;
+    let taken = settle(rt, &shelves, &passes);
+    play(rt, alloc, &shelves, &mut passes, &OBSERVED)?;
+    let observed = settle(rt, &shelves, &passes);
+    let by_first = settle_some(rt, &shelves, &passes, 0, 1);
+    let by_second = settle_some(rt, &shelves, &passes, 1, 2);
+    let by_none = settle_some(rt, &shelves, &passes, 1, 1);
+    Ok([taken, observed, by_first, by_second, by_none])
+}
+
 #[test]
 fn two_nodes_take_calls_and_settle(rt: HostRuntime) -> Result<(), Fail> {
-    let alloc = rt.alloc();
-    let (shelves, mut passes) = set_up(alloc, 2, 2)?;
-    play(&rt, alloc, &shelves, &mut passes, &TAKEN)?;
-    assert_eq!(rt; settle(&rt, &shelves, &passes), Ok(Settled));
-    play(&rt, alloc, &shelves, &mut passes, &OBSERVED)?;
-    assert_eq!(rt; settle(&rt, &shelves, &passes), Ok(Settled));
-    // one pass is left out, or both
-    let unsettled = |node: u16, place: u64| Err(Unsettled { node, place });
-    assert_eq!(rt; settle_some(&rt, &shelves, &passes, 0, 1), unsettled(1, 2));
-    assert_eq!(rt; settle_some(&rt, &shelves, &passes, 1, 2), unsettled(1, 0));
-    assert_eq!(rt; settle_some(&rt, &shelves, &passes, 1, 1), unsettled(1, 0));
+    let settled = settled_by_some(&rt, rt.alloc())?;
+    let unsettled = |place: u64| Err(Unsettled { node: 1, place });
+    assert_eq!(rt;
+        settled,
+        [
+            Ok(Settled),
+            Ok(Settled),
+            unsettled(2),
+            unsettled(0),
+            unsettled(0)
+        ]
+    );
     Ok(())
 }
 

@@ -1,7 +1,7 @@
 //! Whether transcripts are a journal.
 
-use super::calls::Row;
-use super::calls::Whose::*;
+use super::steps::Row;
+use super::steps::Whose::*;
 use super::*;
 
 /// What the node says of the transcripts of some passes in a row, after the calls.
@@ -23,6 +23,10 @@ fn verdict_on(
     others: &[Row<'_>],
 ) -> Result<Result<(), u64>, Fail> {
     let (held, _) = played(alloc, rows)?;
+    verdict_of(alloc, &held, others)
+}
+
+fn verdict_of(alloc: Global, held: &Held, others: &[Row<'_>]) -> Result<Result<(), u64>, Fail> {
     let (_, passes) = played(alloc, others)?;
     Ok(held.agrees(1, &passes))
 }

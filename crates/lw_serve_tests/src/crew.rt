@@ -4,37 +4,20 @@ mod stopping;
 
 ghost use Rattle.std.specs.Prelude.{◌≤◌};
 
-use super::*;
-use lw_held::{Reply, set_up, settle};
-use lw_node::{Addr, Answer, Bytes, Call, Question, Text};
-use lw_stamp::Moment;
+use crate::calls::{REGISTER, ask, reply_text, take};
+use lw_crew::{CrewFault, Done, Gate, Job, NoGate, Outcome, Pass, Shelf, gather, serve_jobs};
+use lw_held::{Settled, Unsettled, set_up, settle};
 use std::alloc::Global;
 use std::sync::Wait;
 use std::test::Fail;
 use std::thread::Threads;
 
-/// A Register of `a` with the object list `</>`, message ID 4.
-const REGISTER: &str = "40020004b272644465703d61ff3c2f3e";
-
-/// The Register, to be taken by the node at moment 0 from 127.0.0.1:5683.
-fn register(alloc: Global, node: u16) -> Result<Job, Fail> {
-    let bytes = Bytes::from_vec(hex::decode(alloc, REGISTER)?)?;
-    let call = Call::Take {
-        now: Moment::START,
-        from: Addr::V4 {
-            address: [127, 0, 0, 1],
-            port: 5683,
-        },
-        bytes,
-    };
-    Ok(Job { node, call })
-}
-
 /// The Register at each of the nodes.
 fn registers(alloc: Global, nodes: &[u16]) -> Result<Vec<Job>, Fail> {
     let mut jobs = Vec::new(alloc);
     for node in nodes {
-        jobs.push(register(alloc, *node)?)?;
+        let call = take(alloc, REGISTER)?;
+        jobs.push(Job { node: *node, call })?;
     }
     Ok(jobs)
 }
@@ -55,11 +38,21 @@ fn played<R: Threads + Wait + Sync, G: Gate>(
     let (shelves, passes) = set_up(alloc, nodes, workers)?;
     let (passes, result) = serve_jobs(rt, alloc, &shelves, passes, &jobs, gate);
     let settled = settle(rt, &shelves, &passes);
-    let (count, parts) = (passes.len(), parts_of(&passes));
-    let text = match result {
-        Ok(dones) => texts_of(alloc, &passes, &dones)?,
+    told(alloc, &passes, result, settled)
+}
+
+/// What came of the jobs, and a last line of the passes.
+fn told(
+    alloc: Global,
+    passes: &[Pass],
+    done: Result<Vec<Done>, CrewFault>,
+    settled: Result<Settled, Unsettled>,
+) -> Result<String, Fail> {
+    let text = match done {
+        Ok(dones) => texts_of(alloc, passes, &dones)?,
         Err(fault) => format!(in alloc; "{fault:?}\n")?,
     };
+    let (count, parts) = (passes.len(), parts_of(passes));
     Ok(format!(in alloc; "{text}{count} passes, {parts} parts, {settled:?}")?)
 }
 
@@ -82,18 +75,8 @@ fn text_of(alloc: Global, passes: &[Pass], done: &Done) -> Result<String, Fail> 
     let made = passes.get(pass as usize).ok_or("a pass")?;
     let part = made.part(number).ok_or("a part")?;
     let (node, place) = (part.node, part.place);
-    let reply = taken(alloc, &part.entry.reply)?;
+    let reply = reply_text(alloc, &part.entry.reply)?;
     Ok(format!(in alloc; "{job}: {node} {place} {reply}")?)
-}
-
-fn taken(alloc: Global, reply: &Reply) -> Result<String, Fail> {
-    match reply {
-        Reply::Take(Ok(taken)) => Ok(hex::encode(
-            alloc,
-            taken.reply.as_deref().unwrap_or_default(),
-        )?),
-        other => Ok(format!(in alloc; "{other:?}")?),
-    }
 }
 
 /// How many parts the passes have together.

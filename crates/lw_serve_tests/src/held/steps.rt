@@ -1,4 +1,4 @@
-//! Calls of nodes, and what they give as a text.
+//! Calls of nodes, one after another.
 
 ghost use Rattle.std.specs.Prelude.{◌≤◌, length, IfOk};
 ghost use Rattle.lw_held.specs.Agree.{AreDistinct};
@@ -21,14 +21,7 @@ impl What<'_> {
     pub(super) fn made(self, alloc: Global) -> Result<Call, Fail> {
         let now = Moment::START;
         Ok(match self {
-            What::Takes(datagram) => Call::Take {
-                now,
-                from: Addr::V4 {
-                    address: [127, 0, 0, 1],
-                    port: 5683,
-                },
-                bytes: bytes(alloc, datagram)?,
-            },
+            What::Takes(datagram) => take(alloc, datagram)?,
             What::Observes(text, numbers, mid) => Call::Observe {
                 now,
                 id: id(text)?,
@@ -45,16 +38,9 @@ impl What<'_> {
             What::Merges(delta) => Call::Merge {
                 bytes: bytes(alloc, delta)?,
             },
-            What::ByEndpoint(endpoint) => Call::Ask {
-                now,
-                question: Question::ByEndpoint(Text::copy_of(alloc, endpoint)?),
-            },
+            What::ByEndpoint(endpoint) => ask(alloc, endpoint)?,
         })
     }
-}
-
-fn bytes(alloc: Global, text: &str) -> Result<Bytes, Fail> {
-    Ok(Bytes::from_vec(hex::decode(alloc, text)?)?)
 }
 
 fn id(text: &str) -> Result<Stamp, Fail> {
@@ -73,10 +59,10 @@ pub(super) fn call<R: Wait>(
     requires { AreDistinct passes.old }
     ensures { AreDistinct passes.new }
 {
-    let made = what.made(alloc)?;
     if pass >= passes.len() {
         return Err("a pass".into());
     }
+    let made = what.made(alloc)?;
     let lent = &mut passes[pass];
     match shelf.call(rt, &NoGate, lent, &made) {
         Ok(place) => Ok(place),
@@ -95,10 +81,10 @@ pub(super) fn step(
     requires { AreDistinct passes.old }
     ensures { AreDistinct passes.new }
 {
-    let made = what.made(alloc)?;
     if pass >= passes.len() {
         return Err("a pass".into());
     }
+    let made = what.made(alloc)?;
     let lent = &mut passes[pass];
     match lent.step(1, held, &made) {
         Ok(place) => Ok(place),
@@ -197,44 +183,10 @@ pub(super) fn agrees_some(
 pub(super) fn replied(alloc: Global, pass: &Pass) -> Result<String, Fail> {
     let number = pass.len().checked_sub(1).ok_or("a call")?;
     let part = pass.part(number).ok_or("a part")?;
-    let reply = text_of(alloc, &part.entry.reply)?;
+    let reply = reply_text(alloc, &part.entry.reply)?;
     let (node, place) = (part.node, part.place);
     if part.entry.number != number || part.entry.pass != pass.number() {
         return Err("the pass's own number".into());
     }
     Ok(format!(in alloc; "{node} {place} {reply}")?)
-}
-
-pub(super) fn text_of(alloc: Global, reply: &Reply) -> Result<String, Fail> {
-    match reply {
-        Reply::Take(Ok(taken)) => match &taken.reply {
-            Some(reply) => Ok(hex::encode(alloc, reply)?),
-            None => Ok(String::from_str(alloc, "-")?),
-        },
-        Reply::Observe(Ok(outgoing)) | Reply::Cancel(Ok(outgoing)) => {
-            Ok(hex::encode(alloc, &outgoing.bytes)?)
-        }
-        Reply::Send(Ok(sent)) => {
-            let delta = hex::encode(alloc, &sent.delta)?;
-            let change = sent.change;
-            Ok(format!(in alloc; "{delta} {change}")?)
-        }
-        Reply::Merge(Ok(count)) => Ok(format!(in alloc; "joined {count}")?),
-        Reply::Ask(Ok(answer)) => answer_text(alloc, answer),
-        other => Ok(format!(in alloc; "{other:?}")?),
-    }
-}
-
-/// What is shown, its endpoint first and its objects last; `-` where nothing is.
-fn answer_text(alloc: Global, answer: &Answer) -> Result<String, Fail> {
-    let Answer::Registration(Some(seen)) = answer else {
-        return Ok(String::from_str(alloc, "-")?);
-    };
-    let id = hex::encode(alloc, seen.id.to_bytes())?;
-    let address = seen.address.print(alloc)?;
-    let (endpoint, moment) = (seen.endpoint.as_str(), seen.seen.ms());
-    let text = format!(in alloc; "{endpoint} {id} {address} {moment}")?;
-    let (lifetime, binding) = (seen.lifetime, seen.binding.as_str());
-    let (queue, objects) = (seen.queue, seen.objects.as_str());
-    Ok(format!(in alloc; "{text} {lifetime} {binding} {queue} {objects}")?)
 }

@@ -2,8 +2,8 @@ use Rattle.std.proofs.Common.{Some, refl, length, ap, ◌∙◌, slice_index_or}
 use Rattle.std.proofs.lemmas.Option.{slice_get_read}
 use Rattle.lw_held.specs.History.{Enters}
 use Rattle.lw_held.specs.Transcript.{Transcript}
-use Rattle.lw_held.proofs.Keeping.{number_kept, first_kept, distinct_kept}
-use Rattle.lw_held.proofs.tests.calls.step.Goals as goal
+use Rattle.lw_serve_tests.proofs.Keeping.{number_kept, first_kept, distinct_kept}
+use Rattle.lw_serve_tests.proofs.held.steps.step.Goals as goal
 
 pub returns-in-Ok : goal.returns-in-Ok
 returns-in-Ok c =

@@ -2,8 +2,8 @@ use Rattle.std.proofs.Common.{Some, refl, length, ap, ◌∙◌, slice_index_or}
 use Rattle.std.proofs.lemmas.Option.{slice_get_read}
 use Rattle.lw_held.specs.Shelves.{IsAnswered}
 use Rattle.lw_held.specs.Transcript.{Transcript}
-use Rattle.lw_held.proofs.Keeping.{number_kept, distinct_kept}
-use Rattle.lw_held.proofs.tests.calls.call.Goals as goal
+use Rattle.lw_serve_tests.proofs.Keeping.{number_kept, distinct_kept}
+use Rattle.lw_serve_tests.proofs.held.steps.call.Goals as goal
 
 pub returns-in-Ok : goal.returns-in-Ok
 returns-in-Ok g c =

@@ -1,21 +1,19 @@
 mod agreeing;
-mod calls;
 mod entries;
 mod settling;
+mod steps;
 
-use super::*;
-use calls::What::*;
-use calls::{agrees_some, call, played, replied, settle_some, text_of};
-use lw_node::{Addr, Answer, Bytes, Path, Question, Text};
+use crate::calls::{REGISTER, ask, bytes, reply_text, take};
+use lw_held::{Entry, Held, NoGate, Pass, Settled, Shelf, Unsettled, set_up, settle};
+use lw_node::{Call, Path};
 use lw_stamp::{Moment, NoMemory, Stamp};
 use std::alloc::Global;
 use std::sync::Wait;
 use std::test::Fail;
+use steps::What::*;
+use steps::{agrees_some, call, played, replied, settle_some};
 
-/// A Register of `a` with the object list `</>`, message ID 4.
-const REGISTER: &str = "40020004b272644465703d61ff3c2f3e";
-
-/// The delta of a node that has taken that Register first: 98 bytes.
+/// The delta of a node that has taken the Register first: 98 bytes.
 const DELTA: &str =
     "4c57443100000000000101016100000000000100017f000000000000010001047f0000011633000000000001000100000000000000000000000100010001518000000000000100010155000000000001000100000000000001000100033c2f3e0000";
 

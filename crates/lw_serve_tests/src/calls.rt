@@ -1,0 +1,71 @@
+//! Datagrams, the calls that take and ask for them, and what is given as a text.
+
+use lw_node::{Addr, Answer, Bytes, Call, Question, Reply, Text};
+use lw_stamp::Moment;
+use std::alloc::Global;
+use std::test::Fail;
+
+/// A Register of `a` with the object list `</>`, message ID 4.
+pub(super) const REGISTER: &str = "40020004b272644465703d61ff3c2f3e";
+
+/// The reply to the first Register with message ID 4 at node 1.
+pub(super) const CREATED: &str = "604100048272640d0330303030303030303030303130303031";
+
+/// The bytes that the digits spell.
+pub(super) fn bytes(alloc: Global, text: &str) -> Result<Bytes, Fail> {
+    Ok(Bytes::from_vec(hex::decode(alloc, text)?)?)
+}
+
+/// The datagram, to be taken at moment 0 from 127.0.0.1:5683.
+pub(super) fn take(alloc: Global, datagram: &str) -> Result<Call, Fail> {
+    Ok(Call::Take {
+        now: Moment::START,
+        from: Addr::V4 {
+            address: [127, 0, 0, 1],
+            port: 5683,
+        },
+        bytes: bytes(alloc, datagram)?,
+    })
+}
+
+/// Asks for an endpoint at moment 0.
+pub(super) fn ask(alloc: Global, endpoint: &str) -> Result<Call, Fail> {
+    Ok(Call::Ask {
+        now: Moment::START,
+        question: Question::ByEndpoint(Text::copy_of(alloc, endpoint)?),
+    })
+}
+
+pub(super) fn reply_text(alloc: Global, reply: &Reply) -> Result<String, Fail> {
+    match reply {
+        Reply::Take(Ok(taken)) => match &taken.reply {
+            Some(reply) => Ok(hex::encode(alloc, reply)?),
+            None => Ok(String::from_str(alloc, "-")?),
+        },
+        Reply::Observe(Ok(outgoing)) | Reply::Cancel(Ok(outgoing)) => {
+            Ok(hex::encode(alloc, &outgoing.bytes)?)
+        }
+        Reply::Send(Ok(sent)) => {
+            let delta = hex::encode(alloc, &sent.delta)?;
+            let change = sent.change;
+            Ok(format!(in alloc; "{delta} {change}")?)
+        }
+        Reply::Merge(Ok(count)) => Ok(format!(in alloc; "joined {count}")?),
+        Reply::Ask(Ok(answer)) => answer_text(alloc, answer),
+        other => Ok(format!(in alloc; "{other:?}")?),
+    }
+}
+
+/// What is shown, its endpoint first and its objects last; `-` where nothing is.
+fn answer_text(alloc: Global, answer: &Answer) -> Result<String, Fail> {
+    let Answer::Registration(Some(seen)) = answer else {
+        return Ok(String::from_str(alloc, "-")?);
+    };
+    let id = hex::encode(alloc, seen.id.to_bytes())?;
+    let address = seen.address.print(alloc)?;
+    let (endpoint, moment) = (seen.endpoint.as_str(), seen.seen.ms());
+    let text = format!(in alloc; "{endpoint} {id} {address} {moment}")?;
+    let (lifetime, binding) = (seen.lifetime, seen.binding.as_str());
+    let (queue, objects) = (seen.queue, seen.objects.as_str());
+    Ok(format!(in alloc; "{text} {lifetime} {binding} {queue} {objects}")?)
+}

@@ -1,0 +1,20 @@
+mod rounds;
+mod udp;
+mod wire;
+
+use crate::calls::{CREATED, REGISTER};
+use lw_reg::Addr;
+use lw_serve::{HostClock, Plan, ServeFault, SystemClock, UdpWire, Wire, WireFault, serve_on};
+use lw_stamp::Moment;
+use std::alloc::Global;
+use std::test::Fail;
+use wire::{Arrival, Coming, FewWrites, MemoryWire, Ticks, bytes, run, served};
+
+/// An empty message, message ID 7.
+const PING: &str = "40000007";
+
+/// A Register of `b` with the object list `</>`, message ID 5.
+const OTHER_REGISTER: &str = "40020005b272644465703d62ff3c2f3e";
+
+/// The reply to it at node 2, where that knows of one operation.
+const CREATED_SECOND: &str = "604100058272640d0330303030303030303030303230303032";
