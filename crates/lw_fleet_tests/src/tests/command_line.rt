@@ -1,31 +1,37 @@
 //! What the command line gives, and the texts that are printed where it gives nothing.
 
 use super::program::run_with;
-use lw_fleet::{OneOptions, Request, read_request};
+use lw_fleet::{Request, ServeOptions, read_request};
 use std::alloc::Global;
+use std::str;
 use std::sync::Wait;
 use std::test::Fail;
 use std::thread::Threads;
 
-/// The options of `one` that the words ask for.
-fn read_options<'a>(alloc: Global, words: &'a [&'a str]) -> Result<OneOptions<'a>, Fail> {
-    match read_request(alloc, words)? {
-        Request::One(options) => Ok(options),
-        _ => Err(Fail::from("it is another command")),
-    }
+/// What the words ask for.
+fn asked<'a>(alloc: Global, words: &'a [&'a str]) -> Result<Request<'a>, Fail> {
+    Ok(read_request(alloc, words)?)
 }
 
 #[test]
 fn a_replay(rt: HostRuntime) -> Result<(), Fail> {
-    assert!(rt; read_request(rt.alloc(), &["fleet", "replay"])? == Request::Replay);
+    assert!(rt; asked(rt.alloc(), &["fleet", "replay"])? == Request::Replay);
     Ok(())
 }
 
-#[test]
-fn options(rt: HostRuntime) -> Result<(), Fail> {
-    let words: [&[&str]; 5] = [
-        &["fleet"],
-        &["fleet", "one"],
+/// The node, the moment and the address that the words give to `one`.
+fn given_to_one<'a>(alloc: Global, words: &'a [&'a str]) -> Result<(u16, u64, &'a str), Fail> {
+    match asked(alloc, words)? {
+        Request::One(options) => Ok((options.node, options.now.ms(), options.from)),
+        _ => Err(Fail::from("it is another command")),
+    }
+}
+
+/// Words, and what they give to `one`.
+const GIVEN_TO_ONE: [(&[&str], (u16, u64, &str)); 5] = [
+    (&["fleet"], (1, 0, "127.0.0.1:5683")),
+    (&["fleet", "one"], (1, 0, "127.0.0.1:5683")),
+    (
         &[
             "fleet",
             "one",
@@ -35,21 +41,16 @@ fn options(rt: HostRuntime) -> Result<(), Fail> {
             "--from",
             "x",
         ],
-        &["fleet", "one", "--node=007"],
-        &["fleet", "one", "--from="],
-    ];
-    let options = [
-        (1, 0, "127.0.0.1:5683"),
-        (1, 0, "127.0.0.1:5683"),
         (65535, 281474976710655, "x"),
-        (7, 0, "127.0.0.1:5683"),
-        (1, 0, ""),
-    ];
-    for (words, (node, now, from)) in words.into_iter().zip(options) {
-        let read = read_options(rt.alloc(), words)?;
-        assert_eq!(rt; read.node, node);
-        assert_eq!(rt; read.now.ms(), now);
-        assert!(rt; read.from == from);
+    ),
+    (&["fleet", "one", "--node=007"], (7, 0, "127.0.0.1:5683")),
+    (&["fleet", "one", "--from="], (1, 0, "")),
+];
+
+#[test]
+fn options(rt: HostRuntime) -> Result<(), Fail> {
+    for &(words, given) in &GIVEN_TO_ONE {
+        assert_eq!(rt; given_to_one(rt.alloc(), words)?, given);
     }
     Ok(())
 }
@@ -64,7 +65,12 @@ fn printed<R: Threads + Wait + Sync>(
     if ended.unread != 1 {
         return Err(Fail::from("the input was read"));
     }
-    Ok(format!(in alloc; "{} {}|{}", ended.status, ended.output, ended.errors)?)
+    ended_text(alloc, ended.ending.status(), &ended.output, &ended.errors)
+}
+
+fn ended_text(alloc: Global, status: u8, output: &[u8], errors: &[u8]) -> Result<String, Fail> {
+    let (output, errors) = (str::from_utf8(output)?, str::from_utf8(errors)?);
+    Ok(format!(in alloc; "{status} {output}|{errors}")?)
 }
 
 #[test]
@@ -149,10 +155,20 @@ Options:
     Ok(())
 }
 
-#[test]
-fn options_to_serve(rt: HostRuntime) -> Result<(), Fail> {
-    let words: [&[&str]; 3] = [
-        &["fleet", "serve", "--count", "1"],
+/// The count, the port, the nodes and the workers that the words give to `serve`.
+fn given_to_serve(alloc: Global, words: &[&str]) -> Result<(u32, u16, u16, u32), Fail> {
+    match asked(alloc, words)? {
+        Request::Serve(ServeOptions { plan, port }) => {
+            Ok((plan.count, port, plan.nodes, plan.workers))
+        }
+        _ => Err(Fail::from("it is another command")),
+    }
+}
+
+/// Words, and what they give to `serve`.
+const GIVEN_TO_SERVE: [(&[&str], (u32, u16, u16, u32)); 3] = [
+    (&["fleet", "serve", "--count", "1"], (1, 5683, 2, 2)),
+    (
         &[
             "fleet",
             "serve",
@@ -161,6 +177,9 @@ fn options_to_serve(rt: HostRuntime) -> Result<(), Fail> {
             "--workers=8",
             "--count=1000000",
         ],
+        (1_000_000, 0, 16, 8),
+    ),
+    (
         &[
             "fleet",
             "serve",
@@ -169,18 +188,14 @@ fn options_to_serve(rt: HostRuntime) -> Result<(), Fail> {
             "--workers=1",
             "--count=007",
         ],
-    ];
-    for (words, (count, port, nodes, workers)) in words
-        .into_iter()
-        .zip([(1, 5683, 2, 2), (1_000_000, 0, 16, 8), (7, 65535, 1, 1)])
-    {
-        let Request::Serve(options) = read_request(rt.alloc(), words)? else {
-            return Err("it is another command".into());
-        };
-        assert_eq!(rt; options.plan.count, count);
-        assert_eq!(rt; options.port, port);
-        assert_eq!(rt; options.plan.nodes, nodes);
-        assert_eq!(rt; options.plan.workers, workers);
+        (7, 65535, 1, 1),
+    ),
+];
+
+#[test]
+fn options_to_serve(rt: HostRuntime) -> Result<(), Fail> {
+    for &(words, given) in &GIVEN_TO_SERVE {
+        assert_eq!(rt; given_to_serve(rt.alloc(), words)?, given);
     }
     Ok(())
 }
@@ -193,18 +208,21 @@ const BAD_NODES: &str = "'--nodes <N>' takes a number from 1 to 16, in digits al
 
 const BAD_WORKERS: &str = "'--workers <W>' takes a number from 1 to 8, in digits alone";
 
+/// A count and another option, and the line that refuses one of them.
+const REFUSED_BY_SERVE: [(&str, &str, &str, &str); 8] = [
+    ("0", "--port", "1", BAD_COUNT),
+    ("1000001", "--port", "1", BAD_COUNT),
+    ("1", "--port", "65536", BAD_PORT),
+    ("1", "--port", "+1", BAD_PORT),
+    ("1", "--nodes", "0", BAD_NODES),
+    ("1", "--nodes", "17", BAD_NODES),
+    ("1", "--workers", "0", BAD_WORKERS),
+    ("1", "--workers", "9", BAD_WORKERS),
+];
+
 #[test]
 fn refused_words_of_serve(rt: HostRuntime) -> Result<(), Fail> {
-    for (count, option, number, line) in [
-        ("0", "--port", "1", BAD_COUNT),
-        ("1000001", "--port", "1", BAD_COUNT),
-        ("1", "--port", "65536", BAD_PORT),
-        ("1", "--port", "+1", BAD_PORT),
-        ("1", "--nodes", "0", BAD_NODES),
-        ("1", "--nodes", "17", BAD_NODES),
-        ("1", "--workers", "0", BAD_WORKERS),
-        ("1", "--workers", "9", BAD_WORKERS),
-    ] {
+    for &(count, option, number, line) in &REFUSED_BY_SERVE {
         let words = ["fleet", "serve", "--count", count, option, number];
         assert!(rt;
             is_refused(&rt, rt.alloc(), &words, line, SERVE)?,
@@ -224,7 +242,7 @@ fn a_count_has_to_be_given(rt: HostRuntime) -> Result<(), Fail> {
 
 #[test]
 fn the_version(rt: HostRuntime) -> Result<(), Fail> {
-    for flag in ["--version", "-V"] {
+    for &flag in &["--version", "-V"] {
         let text = printed(&rt, rt.alloc(), &["fleet", flag])?;
         assert_eq!(rt; text.as_str(), "0 fleet 0.1.0\n|");
     }
@@ -239,10 +257,10 @@ fn is_refused<R: Threads + Wait + Sync>(
     line: &str,
     usage: &str,
 ) -> Result<bool, Fail> {
-    let want = format!(in alloc;
-        "2 |error: {line}\n\n{usage}For more information, try '--help'.\n"
+    let errors = format!(in alloc;
+        "error: {line}\n\n{usage}For more information, try '--help'.\n"
     )?;
-    Ok(printed(rt, alloc, words)?.as_str() == want.as_str())
+    Ok(run_with(rt, alloc, words, b"4")?.shows(2, "", errors.as_str(), 1))
 }
 
 const FLEET: &str = "Usage: fleet [COMMAND]\n\n";
@@ -253,57 +271,59 @@ const REPLAY: &str = "Usage: fleet replay\n\n";
 
 const SERVE: &str = "Usage: fleet serve [OPTIONS] --count <K>\n\n";
 
+/// Words that are refused, with the lines.
+const REFUSED_WORDS: [(&[&str], &str, &str); 10] = [
+    (
+        &["fleet", "replay", "two"],
+        "unexpected argument 'two' found",
+        REPLAY,
+    ),
+    (
+        &["fleet", "replay", "--node", "1"],
+        "unexpected argument '--node' found",
+        REPLAY,
+    ),
+    (
+        &["fleet", "--node", "1"],
+        "unexpected argument '--node' found",
+        FLEET,
+    ),
+    (&["fleet", "two"], "unrecognized subcommand 'two'", FLEET),
+    (
+        &["fleet", "one", "two"],
+        "unexpected argument 'two' found",
+        ONE,
+    ),
+    (
+        &["fleet", "one", "--port", "1"],
+        "unexpected argument '--port' found",
+        ONE,
+    ),
+    (
+        &["fleet", "one", "--version"],
+        "unexpected argument '--version' found",
+        ONE,
+    ),
+    (
+        &["fleet", "one", "--node"],
+        "a value is required for '--node <N>' but none was supplied",
+        "",
+    ),
+    (
+        &["fleet", "one", "--node", "1", "--node", "1"],
+        "the argument '--node <N>' cannot be used multiple times",
+        ONE,
+    ),
+    (
+        &["fleet", "one", "--from", "a", "--from=a"],
+        "the argument '--from <ADDR>' cannot be used multiple times",
+        ONE,
+    ),
+];
+
 #[test]
 fn refused_words(rt: HostRuntime) -> Result<(), Fail> {
-    let rows: [(&[&str], &str, &str); 10] = [
-        (
-            &["fleet", "replay", "two"],
-            "unexpected argument 'two' found",
-            REPLAY,
-        ),
-        (
-            &["fleet", "replay", "--node", "1"],
-            "unexpected argument '--node' found",
-            REPLAY,
-        ),
-        (
-            &["fleet", "--node", "1"],
-            "unexpected argument '--node' found",
-            FLEET,
-        ),
-        (&["fleet", "two"], "unrecognized subcommand 'two'", FLEET),
-        (
-            &["fleet", "one", "two"],
-            "unexpected argument 'two' found",
-            ONE,
-        ),
-        (
-            &["fleet", "one", "--port", "1"],
-            "unexpected argument '--port' found",
-            ONE,
-        ),
-        (
-            &["fleet", "one", "--version"],
-            "unexpected argument '--version' found",
-            ONE,
-        ),
-        (
-            &["fleet", "one", "--node"],
-            "a value is required for '--node <N>' but none was supplied",
-            "",
-        ),
-        (
-            &["fleet", "one", "--node", "1", "--node", "1"],
-            "the argument '--node <N>' cannot be used multiple times",
-            ONE,
-        ),
-        (
-            &["fleet", "one", "--from", "a", "--from=a"],
-            "the argument '--from <ADDR>' cannot be used multiple times",
-            ONE,
-        ),
-    ];
-    for (words, line, usage) in rows {
+    for &(words, line, usage) in &REFUSED_WORDS {
         assert!(rt;
             is_refused(&rt, rt.alloc(), words, line, usage)?,
             "{words:?}"
@@ -312,25 +332,38 @@ fn refused_words(rt: HostRuntime) -> Result<(), Fail> {
     Ok(())
 }
 
+const BAD_NODE: &str = "'--node <N>' takes a number from 0 to 65535, in digits alone";
+
+const BAD_NOW: &str = "'--now <MS>' takes a number from 0 to 281474976710655, in digits alone";
+
+/// An option of `one` with no number of it, and the line that refuses it.
+const REFUSED_BY_ONE: [(&str, &str, &str); 7] = [
+    ("--node", "65536", BAD_NODE),
+    ("--node", "99999999999999999999", BAD_NODE),
+    ("--node", "+1", BAD_NODE),
+    ("--node", "", BAD_NODE),
+    ("--now", "281474976710656", BAD_NOW),
+    ("--now", "1 ", BAD_NOW),
+    ("--now", "0x1", BAD_NOW),
+];
+
 #[test]
 fn refused_numbers(rt: HostRuntime) -> Result<(), Fail> {
-    let node = "'--node <N>' takes a number from 0 to 65535, in digits alone";
-    let now = "'--now <MS>' takes a number from 0 to 281474976710655, in digits alone";
-    for (option, number, line) in [
-        ("--node", "65536", node),
-        ("--node", "99999999999999999999", node),
-        ("--node", "+1", node),
-        ("--node", "", node),
-        ("--now", "281474976710656", now),
-        ("--now", "1 ", now),
-        ("--now", "0x1", now),
-    ] {
+    for &(option, number, line) in &REFUSED_BY_ONE {
         let words = ["fleet", "one", option, number];
         assert!(rt;
             is_refused(&rt, rt.alloc(), &words, line, ONE)?,
             "{option} {number}"
         );
     }
-    assert!(rt; is_refused(&rt, rt.alloc(), &["fleet", "one", "--node=-1"], node, ONE)?);
+    assert!(rt;
+        is_refused(
+            &rt,
+            rt.alloc(),
+            &["fleet", "one", "--node=-1"],
+            BAD_NODE,
+            ONE
+        )?
+    );
     Ok(())
 }

@@ -2,21 +2,69 @@
 
 use super::serving::NoServer;
 use super::{ANSWER, FewBytes, FewWrites, REGISTER};
-use lw_fleet::{Ending, Fault, program};
+use lw_fleet::{Ending, Fault, Serves, program};
 use std::alloc::Global;
-use std::io::{self, ErrorKind};
-use std::str;
+use std::io::{self, ErrorKind, Read, Write};
 use std::sync::Wait;
 use std::test::Fail;
 use std::thread::Threads;
 
-/// The status of a run, what stands on both outputs, and how many bytes of the input are left.
+/// How a run ends, what stands on both outputs, and how many bytes of the input are left.
 #[derive(Drop)]
-pub struct Ended {
-    pub status: u8,
-    pub output: String,
-    pub errors: String,
-    pub unread: usize,
+pub(super) struct Ended {
+    pub(super) ending: Ending,
+    pub(super) output: Vec<u8>,
+    pub(super) errors: Vec<u8>,
+    pub(super) unread: usize,
+}
+
+impl Ended {
+    /// Whether it has this status, both outputs are these, and so many bytes of the input are left.
+    pub(super) fn shows(&self, status: u8, output: &str, errors: &str, unread: usize) -> bool {
+        self.ending.status() == status
+            && self.output.as_slice() == output.as_bytes()
+            && self.errors.as_slice() == errors.as_bytes()
+            && self.unread == unread
+    }
+}
+
+/// Runs the program. That no clause says how keeps the proofs of its callers short.
+fn ending_of<T: Threads + Wait + Sync, R: Read, W: Write, E: Write, V: Serves>(
+    rt: &T,
+    alloc: Global,
+    words: &io::Result<Vec<&str>>,
+    reader: &mut R,
+    output: &mut W,
+    errors: &mut E,
+    server: &mut V,
+) -> Ending {
+    program(rt, alloc, words, reader, output, errors, server)
+}
+
+/// Runs the program on the words of a command line, if they can be had, an input and a server.
+pub(super) fn run_on<R: Threads + Wait + Sync, V: Serves>(
+    rt: &R,
+    alloc: Global,
+    words: &io::Result<Vec<&str>>,
+    mut reader: FewBytes<'_>,
+    server: &mut V,
+) -> Ended {
+    let (mut output, mut errors) = (Vec::new(alloc), Vec::new(alloc));
+    let ending = ending_of(
+        rt,
+        alloc,
+        words,
+        &mut reader,
+        &mut output,
+        &mut errors,
+        server,
+    );
+    Ended {
+        ending,
+        output,
+        errors,
+        unread: reader.rest.len(),
+    }
 }
 
 /// Runs the program with these words on an input.
@@ -27,23 +75,8 @@ pub(super) fn run_with<R: Threads + Wait + Sync>(
     input: &[u8],
 ) -> Result<Ended, Fail> {
     let words = Ok(words.to_vec(alloc)?);
-    let mut reader = FewBytes::new(input, 7, false);
-    let (mut output, mut errors) = (Vec::new(alloc), Vec::new(alloc));
-    let ending = program(
-        rt,
-        alloc,
-        &words,
-        &mut reader,
-        &mut output,
-        &mut errors,
-        &mut NoServer,
-    );
-    Ok(Ended {
-        status: ending.status(),
-        output: String::from_str(alloc, str::from_utf8(&output)?)?,
-        errors: String::from_str(alloc, str::from_utf8(&errors)?)?,
-        unread: reader.rest.len(),
-    })
+    let reader = FewBytes::new(input, 7, false);
+    Ok(run_on(rt, alloc, &words, reader, &mut NoServer))
 }
 
 /// The answer of node 65535 to the Register, at moment 60.
@@ -113,50 +146,36 @@ const ROWS: [Row; 11] = [
 
 #[test]
 fn endings(rt: HostRuntime) -> Result<(), Fail> {
-    for (words, input, status, output, errors, unread) in ROWS {
+    for &(words, input, status, output, errors, unread) in &ROWS {
         let ended = run_with(&rt, rt.alloc(), words, input)?;
-        assert_eq!(rt; ended.status, status, "{words:?}");
-        assert_eq!(rt; ended.output.as_str(), output);
-        assert_eq!(rt; ended.errors.as_str(), errors);
-        assert_eq!(rt; ended.unread, unread, "{words:?}");
+        assert!(rt; ended.shows(status, output, errors, unread), "{words:?}");
     }
     Ok(())
 }
 
+/// How `fleet` ends on a line of so many `a`.
+fn run_long<R: Threads + Wait + Sync>(rt: &R, alloc: Global, length: usize) -> Result<Ended, Fail> {
+    let input = vec![in alloc; b'a'; length]?;
+    run_with(rt, alloc, &["fleet"], &input)
+}
+
 #[test]
 fn a_line_that_is_too_long_ends_the_run(rt: HostRuntime) -> Result<(), Fail> {
-    let input = vec![in rt.alloc(); b'a'; 1_048_577]?;
-    let ended = run_with(&rt, rt.alloc(), &["fleet"], &input)?;
-    assert_eq!(rt; ended.status, 1);
-    assert_eq!(rt; ended.output.len(), 0);
-    assert_eq!(rt; ended.errors.as_str(), "script too long\n");
+    let ended = run_long(&rt, rt.alloc(), 1_048_577)?;
+    assert!(rt; ended.shows(1, "", "script too long\n", 0));
     Ok(())
 }
 
 #[test]
 fn a_reader_that_fails_ends_the_run(rt: HostRuntime) -> Result<(), Fail> {
     let words = Ok(["fleet"].to_vec(rt.alloc())?);
-    let mut reader = FewBytes::new(&REGISTER[..20], 3, true);
-    let (mut output, mut errors) = (Vec::new(rt.alloc()), Vec::new(rt.alloc()));
-    let ending = program(
-        &rt,
-        rt.alloc(),
-        &words,
-        &mut reader,
-        &mut output,
-        &mut errors,
-        &mut NoServer,
-    );
-    assert_eq!(rt;
-        ending,
-        Ending::Failed {
-            fault: Fault::ReadFailed,
-            told: true
-        }
-    );
-    assert_eq!(rt; ending.status(), 1);
-    assert_eq!(rt; output.len(), 0);
-    assert_eq!(rt; errors.as_slice(), b"read failed\n".as_slice());
+    let reader = FewBytes::new(&REGISTER[..20], 3, true);
+    let ended = run_on(&rt, rt.alloc(), &words, reader, &mut NoServer);
+    let ending = Ending::Failed {
+        fault: Fault::ReadFailed,
+        told: true,
+    };
+    assert!(rt; ended.ending == ending && ended.shows(1, "", "read failed\n", 0));
     Ok(())
 }
 
@@ -172,7 +191,7 @@ fn is_write_failed<R: Threads + Wait + Sync>(
     let mut writer = FewWrites::new(alloc, 4, room, false);
     writer.flush_fails = flush_fails;
     let mut errors = Vec::new(alloc);
-    let ending = program(
+    let ending = ending_of(
         rt,
         alloc,
         &words,
@@ -184,40 +203,40 @@ fn is_write_failed<R: Threads + Wait + Sync>(
     Ok(ending.status() == 1 && errors.as_slice() == b"write failed\n".as_slice())
 }
 
+/// Whether a run fails for want of room and at a flush that fails, and else does not.
+fn fails_with_its_writer<R: Threads + Wait + Sync>(
+    rt: &R,
+    alloc: Global,
+    words: &[&str],
+) -> Result<bool, Fail> {
+    Ok(
+        is_write_failed(rt, alloc, words, 5, false)?
+            && is_write_failed(rt, alloc, words, 9999, true)?
+            && !is_write_failed(rt, alloc, words, 9999, false)?,
+    )
+}
+
 #[test]
 fn a_writer_that_fails_ends_the_run(rt: HostRuntime) -> Result<(), Fail> {
-    for words in [
-        ["fleet", "one"],
-        ["fleet", "--version"],
-        ["fleet", "--help"],
-    ] {
-        assert!(rt;
-            is_write_failed(&rt, rt.alloc(), &words, 5, false)?,
-            "{words:?}"
-        );
-        assert!(rt;
-            is_write_failed(&rt, rt.alloc(), &words, 9999, true)?,
-            "{words:?}"
-        );
-        assert!(rt;
-            !is_write_failed(&rt, rt.alloc(), &words, 9999, false)?,
-            "{words:?}"
-        );
+    for word in ["one", "--version", "--help"] {
+        let fails = fails_with_its_writer(&rt, rt.alloc(), &["fleet", word])?;
+        assert!(rt; fails, "{word}");
     }
     Ok(())
 }
 
-/// How a run ends whose standard error takes so many bytes, and what it took.
+/// How a run ends whose standard error takes so many bytes, and whether it took these.
 fn untold<R: Threads + Wait + Sync>(
     rt: &R,
     alloc: Global,
     words: &[&str],
     room: usize,
-) -> Result<(Ending, Vec<u8>), Fail> {
+    taken: &[u8],
+) -> Result<(Ending, bool), Fail> {
     let words = Ok(words.to_vec(alloc)?);
     let mut output = Vec::new(alloc);
     let mut errors = FewWrites::new(alloc, 2, room, true);
-    let ending = program(
+    let ending = ending_of(
         rt,
         alloc,
         &words,
@@ -226,7 +245,7 @@ fn untold<R: Threads + Wait + Sync>(
         &mut errors,
         &mut NoServer,
     );
-    Ok((ending, errors.taken))
+    Ok((ending, errors.taken.as_slice() == taken))
 }
 
 #[test]
@@ -237,18 +256,17 @@ fn standard_error_changes_no_status(rt: HostRuntime) -> Result<(), Fail> {
         (&["fleet", "two"], 7, 2, b"error: "),
         (&["fleet", "--help"], 0, 0, b""),
     ];
-    for (words, room, status, taken) in rows {
-        let (ending, errors) = untold(&rt, rt.alloc(), words, room)?;
-        assert_eq!(rt; ending.status(), status, "{words:?}");
-        assert_eq!(rt; errors.as_slice(), taken);
+    for &(words, room, status, taken) in &rows {
+        let (ending, is_taken) = untold(&rt, rt.alloc(), words, room, taken)?;
+        assert_eq!(rt; (ending.status(), is_taken), (status, true), "{words:?}");
     }
-    let (ending, _errors) = untold(&rt, rt.alloc(), &["fleet"], 5)?;
+    let ending = Ending::Failed {
+        fault: Fault::HexRefused,
+        told: false,
+    };
     assert_eq!(rt;
-        ending,
-        Ending::Failed {
-            fault: Fault::HexRefused,
-            told: false
-        }
+        untold(&rt, rt.alloc(), &["fleet"], 5, b"hex r")?,
+        (ending, true)
     );
     Ok(())
 }
@@ -260,26 +278,20 @@ Usage: fleet [COMMAND]
 For more information, try '--help'.
 ";
 
+/// How the program ends whose words cannot be had for such an error.
+fn run_without_words<R: Threads + Wait + Sync>(rt: &R, alloc: Global, kind: ErrorKind) -> Ended {
+    let words = Err(io::Error::from(kind));
+    let reader = FewBytes::new(b"4", 1, false);
+    run_on(rt, alloc, &words, reader, &mut NoServer)
+}
+
 #[test]
 fn words_that_cannot_be_had(rt: HostRuntime) {
-    for (kind, status, line) in [
+    for &(kind, status, line) in &[
         (ErrorKind::InvalidData, 2, NOT_UTF8),
         (ErrorKind::OutOfMemory, 1, "no memory\n"),
     ] {
-        let words: io::Result<Vec<&str>> = Err(io::Error::from(kind));
-        let (mut output, mut errors) = (Vec::new(rt.alloc()), Vec::new(rt.alloc()));
-        let mut reader = FewBytes::new(b"4", 1, false);
-        let ending = program(
-            &rt,
-            rt.alloc(),
-            &words,
-            &mut reader,
-            &mut output,
-            &mut errors,
-            &mut NoServer,
-        );
-        assert_eq!(rt; ending.status(), status);
-        assert_eq!(rt; errors.as_slice(), line.as_bytes());
-        assert_eq!(rt; output.len() + 1, reader.rest.len());
+        let ended = run_without_words(&rt, rt.alloc(), kind);
+        assert!(rt; ended.shows(status, "", line, 1), "{line}");
     }
 }

@@ -3,32 +3,32 @@
 use super::{FewBytes, FewWrites, scripts};
 use lw_fleet::{Fault, replay};
 use std::alloc::Global;
-use std::str;
 use std::test::Fail;
 
 /// What is printed for a script.
-pub(super) fn replayed(alloc: Global, script: &str) -> Result<String, Fail> {
+pub(super) fn replayed(alloc: Global, script: &[u8]) -> Result<String, Fail> {
     let mut writer = Vec::new(alloc);
-    if replay(alloc, &mut script.as_bytes(), &mut writer).is_err() {
-        return Err(Fail::from("the script is not replayed"));
-    }
-    Ok(String::from_str(alloc, str::from_utf8(&writer)?)?)
+    replay(alloc, &mut &*script, &mut writer)?;
+    Ok(String::from_utf8(writer)?)
 }
+
+/// Scripts, and what is printed for each.
+const WORKED: [(&str, &str); 9] = [
+    scripts::A_DELTA,
+    scripts::TWO_REGISTERS,
+    scripts::TWO_UPDATES,
+    scripts::REMOVED_AND_UPDATED,
+    scripts::REPEATED_AND_LATE,
+    scripts::LOST_AND_REPEATED,
+    scripts::NOTHING_TO_SEND,
+    scripts::NOTIFICATIONS,
+    scripts::A_CANCEL,
+];
 
 #[test]
 fn worked_scripts(rt: HostRuntime) -> Result<(), Fail> {
-    for (script, text) in [
-        scripts::A_DELTA,
-        scripts::TWO_REGISTERS,
-        scripts::TWO_UPDATES,
-        scripts::REMOVED_AND_UPDATED,
-        scripts::REPEATED_AND_LATE,
-        scripts::LOST_AND_REPEATED,
-        scripts::NOTHING_TO_SEND,
-        scripts::NOTIFICATIONS,
-        scripts::A_CANCEL,
-    ] {
-        assert_eq!(rt; replayed(rt.alloc(), script)?.as_str(), text);
+    for &(script, text) in &WORKED {
+        assert_eq!(rt; replayed(rt.alloc(), script.as_bytes())?.as_str(), text);
     }
     Ok(())
 }
@@ -39,65 +39,77 @@ fn a_last_line_feed_may_be_missing(rt: HostRuntime) -> Result<(), Fail> {
     let Some(front) = script.strip_suffix('\n') else {
         return Err(Fail::from("no line feed"));
     };
-    assert_eq!(rt; replayed(rt.alloc(), front)?.as_str(), text);
+    assert_eq!(rt; replayed(rt.alloc(), front.as_bytes())?.as_str(), text);
     Ok(())
 }
 
-/// What comes of the bytes, which must print nothing.
-fn refusal(alloc: Global, bytes: &[u8]) -> Result<Option<Fault>, Fail> {
+/// What comes of a script, and how many bytes are printed.
+fn outcome(alloc: Global, mut script: FewBytes<'_>) -> (Result<(), Fault>, usize) {
     let mut writer = Vec::new(alloc);
-    let result = replay(alloc, &mut FewBytes::new(bytes, 5, false), &mut writer);
-    if !writer.is_empty() {
-        return Err(Fail::from("something is printed"));
-    }
-    Ok(result.err())
+    let result = replay(alloc, &mut script, &mut writer);
+    (result, writer.len())
 }
 
+/// Scripts, and the line that is refused.
+const REFUSED: [(&[u8], usize); 11] = [
+    (b"", 1),
+    (b"\n", 1),
+    (b"nodes 17\n", 1),
+    (b"nodes 0\n", 1),
+    (b"nodes 01\n", 1),
+    (b"change 1\n", 1),
+    (b"nodes 1\nnodes 1\n", 2),
+    (b"nodes 1\n\n", 2),
+    (b"nodes 1\nchange 1\nchange 1\r\n", 3),
+    (b"nodes 1\nchange 1\nendpoint 1 0 \xff\nchange", 3),
+    (b"nodes 1\nsend 1 0\ndeliver 1 4294967296\n", 3),
+];
+
 #[test]
-fn refused_scripts(rt: HostRuntime) -> Result<(), Fail> {
-    let rows: [(&[u8], usize); 11] = [
-        (b"", 1),
-        (b"\n", 1),
-        (b"nodes 17\n", 1),
-        (b"nodes 0\n", 1),
-        (b"nodes 01\n", 1),
-        (b"change 1\n", 1),
-        (b"nodes 1\nnodes 1\n", 2),
-        (b"nodes 1\n\n", 2),
-        (b"nodes 1\nchange 1\nchange 1\r\n", 3),
-        (b"nodes 1\nchange 1\nendpoint 1 0 \xff\nchange", 3),
-        (b"nodes 1\nsend 1 0\ndeliver 1 4294967296\n", 3),
-    ];
-    for (script, line) in rows {
+fn refused_scripts(rt: HostRuntime) {
+    for &(script, line) in &REFUSED {
         assert_eq!(rt;
-            refusal(rt.alloc(), script)?,
-            Some(Fault::LineRefused { line }),
+            outcome(rt.alloc(), FewBytes::new(script, 5, false)),
+            (Err(Fault::LineRefused { line }), 0),
             "{script:?}"
         );
     }
-    Ok(())
+}
+
+/// A script of so many bytes, with one event, whose endpoint is long.
+fn long_script(alloc: Global, length: usize) -> Result<Vec<u8>, Fail> {
+    let mut script = b"nodes 1\nendpoint 1 0 ".to_vec(alloc)?;
+    for _byte in script.len()..length {
+        script.push(b'a')?;
+    }
+    Ok(script)
+}
+
+/// What is printed for a script of so many bytes.
+fn replayed_long(alloc: Global, length: usize) -> Result<String, Fail> {
+    let script = long_script(alloc, length)?;
+    replayed(alloc, &script)
+}
+
+/// What comes of a script of so many bytes, and how many bytes are printed.
+fn outcome_of_long(alloc: Global, length: usize) -> Result<(Result<(), Fault>, usize), Fail> {
+    let script = long_script(alloc, length)?;
+    Ok(outcome(alloc, FewBytes::new(&script, 5, false)))
+}
+
+/// What comes of so many empty lines, and how many bytes are printed.
+fn outcome_of_blanks(alloc: Global, count: usize) -> Result<(Result<(), Fault>, usize), Fail> {
+    let blanks = vec![in alloc; b'\n'; count]?;
+    Ok(outcome(alloc, FewBytes::new(&blanks, 5, false)))
 }
 
 #[test]
 fn the_longest_script(rt: HostRuntime) -> Result<(), Fail> {
-    let mut script = b"nodes 1\nendpoint 1 0 ".to_vec(rt.alloc())?;
-    for _byte in script.len()..1_048_576 {
-        script.push(b'a')?;
-    }
-    let mut writer = Vec::new(rt.alloc());
-    assert_eq!(rt;
-        replay(rt.alloc(), &mut script.as_slice(), &mut writer),
-        Ok(())
-    );
-    assert_eq!(rt; writer.as_slice(), b"none\n".as_slice());
-    script.push(b'a')?;
-    assert_eq!(rt; refusal(rt.alloc(), &script)?, Some(Fault::TooLong));
-    let blanks = vec![in rt.alloc(); b'\n'; 1_048_577]?;
-    assert_eq!(rt; refusal(rt.alloc(), &blanks)?, Some(Fault::TooLong));
-    assert_eq!(rt;
-        refusal(rt.alloc(), &blanks[1..])?,
-        Some(Fault::LineRefused { line: 1 })
-    );
+    let (too_long, refused) = (Err(Fault::TooLong), Err(Fault::LineRefused { line: 1 }));
+    assert_eq!(rt; replayed_long(rt.alloc(), 1_048_576)?.as_str(), "none\n");
+    assert!(rt; outcome_of_long(rt.alloc(), 1_048_577)? == (too_long, 0));
+    assert!(rt; outcome_of_blanks(rt.alloc(), 1_048_577)? == (too_long, 0));
+    assert!(rt; outcome_of_blanks(rt.alloc(), 1_048_576)? == (refused, 0));
     Ok(())
 }
 
@@ -105,42 +117,50 @@ fn the_longest_script(rt: HostRuntime) -> Result<(), Fail> {
 fn a_reader_that_fails_after_any_byte(rt: HostRuntime) {
     let script = scripts::A_DELTA.0.as_bytes();
     for count in 0..=script.len() {
-        let mut reader = FewBytes::new(&script[..count], 7, true);
-        let mut writer = Vec::new(rt.alloc());
-        assert_eq!(rt;
-            replay(rt.alloc(), &mut reader, &mut writer),
-            Err(Fault::ReadFailed)
-        );
-        assert_eq!(rt; writer.len(), 0);
+        let reader = FewBytes::new(&script[..count], 7, true);
+        assert_eq!(rt; outcome(rt.alloc(), reader), (Err(Fault::ReadFailed), 0));
     }
 }
 
-/// Whether a writer of so much room, which takes a few bytes at a time, gets a front of what is printed.
-fn is_front(alloc: Global, most: usize, room: usize, fails: bool) -> bool {
+/// What comes of a script, and whether a writer of so much room, which takes a few bytes at a time, has the front of
+/// what is printed.
+fn written(
+    alloc: Global,
+    most: usize,
+    room: usize,
+    fails: bool,
+    flush_fails: bool,
+) -> (Result<(), Fault>, bool) {
     let (script, text) = scripts::A_DELTA;
     let mut writer = FewWrites::new(alloc, most, room, fails);
+    writer.flush_fails = flush_fails;
     let result = replay(alloc, &mut script.as_bytes(), &mut writer);
-    result == Err(Fault::WriteFailed)
-        && writer.taken.len() == room
-        && text.as_bytes().starts_with(&writer.taken)
+    (
+        result,
+        writer.has_front(text.as_bytes(), room.min(text.len())),
+    )
 }
 
 #[test]
 fn a_writer_that_fails_after_any_byte(rt: HostRuntime) {
+    let failed = (Err(Fault::WriteFailed), true);
     for room in 0..scripts::A_DELTA.1.len() {
-        assert!(rt; is_front(rt.alloc(), 1, room, false), "{room}");
-        assert!(rt; is_front(rt.alloc(), 64, room, true), "{room}");
+        assert_eq!(rt;
+            written(rt.alloc(), 1, room, false, false),
+            failed,
+            "{room}"
+        );
+        assert_eq!(rt;
+            written(rt.alloc(), 64, room, true, false),
+            failed,
+            "{room}"
+        );
     }
 }
 
 #[test]
 fn a_writer_that_takes_a_byte_at_a_time(rt: HostRuntime) {
-    let (script, text) = scripts::A_DELTA;
-    for flush_fails in [false, true] {
-        let mut writer = FewWrites::new(rt.alloc(), 1, 9999, false);
-        writer.flush_fails = flush_fails;
-        let result = replay(rt.alloc(), &mut script.as_bytes(), &mut writer);
-        assert_eq!(rt; result.is_err(), flush_fails);
-        assert_eq!(rt; writer.taken.as_slice(), text.as_bytes());
-    }
+    let failed = Err(Fault::WriteFailed);
+    assert_eq!(rt; written(rt.alloc(), 1, 9999, false, false), (Ok(()), true));
+    assert_eq!(rt; written(rt.alloc(), 1, 9999, false, true), (failed, true));
 }

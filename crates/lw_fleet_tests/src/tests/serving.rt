@@ -1,7 +1,8 @@
 //! What the program does with what its server ends with.
 
-use super::FewWrites;
-use lw_fleet::{Ending, ServeOptions, Serves, ServingFault, program, write_text};
+use super::program::{Ended, run_on};
+use super::{FewBytes, FewWrites};
+use lw_fleet::{Ending, ServeOptions, Serves, ServingFault, write_text};
 use lw_serve::{CrewFault, ServeFault};
 use std::alloc::Global;
 use std::io::Write;
@@ -46,36 +47,24 @@ impl Serves for Server {
     }
 }
 
-/// Runs `fleet serve` with a server: its ending, and what stands on both outputs.
-fn ended<R: Threads + Wait + Sync, V: Serves>(
+const WORDS: [&str; 6] = [
+    "fleet",
+    "serve",
+    "--count=9",
+    "--port=1",
+    "--nodes=3",
+    "--workers=4",
+];
+
+/// Runs `fleet serve` with a server.
+fn served<R: Threads + Wait + Sync, V: Serves>(
     rt: &R,
     alloc: Global,
     server: &mut V,
-) -> Result<(Ending, Vec<u8>, Vec<u8>), Fail> {
-    let words = [
-        "fleet",
-        "serve",
-        "--count=9",
-        "--port=1",
-        "--nodes=3",
-        "--workers=4",
-    ];
-    let words = Ok(words.to_vec(alloc)?);
-    let (mut output, mut errors) = (Vec::new(alloc), Vec::new(alloc));
-    let mut reader = b"4".as_slice();
-    let ending = program(
-        rt,
-        alloc,
-        &words,
-        &mut reader,
-        &mut output,
-        &mut errors,
-        server,
-    );
-    if reader.len() != 1 {
-        return Err("the input was read".into());
-    }
-    Ok((ending, output, errors))
+) -> Result<Ended, Fail> {
+    let words = Ok(WORDS.to_vec(alloc)?);
+    let reader = FewBytes::new(b"4", 1, false);
+    Ok(run_on(rt, alloc, &words, reader, server))
 }
 
 #[test]
@@ -84,16 +73,22 @@ fn a_server_that_settles(rt: HostRuntime) -> Result<(), Fail> {
         settles: true,
         asked: None,
     };
-    let (ending, output, errors) = ended(&rt, rt.alloc(), &mut server)?;
-    assert_eq!(rt; ending, Ending::Done);
-    assert_eq!(rt; output.as_slice(), b"settled\n".as_slice());
-    assert_eq!(rt; errors.len(), 0);
-    let options = server.asked.ok_or("it was not asked")?;
-    assert_eq!(rt; options.plan.count, 9);
-    assert_eq!(rt; options.port, 1);
-    assert_eq!(rt; options.plan.nodes, 3);
-    assert_eq!(rt; options.plan.workers, 4);
+    let ended = served(&rt, rt.alloc(), &mut server)?;
+    assert!(rt; ended.ending == Ending::Done && ended.shows(0, "settled\n", "", 1));
+    let ServeOptions { plan, port } = server.asked.ok_or("it was not asked")?;
+    assert_eq!(rt; (plan.count, port, plan.nodes, plan.workers), (9, 1, 3, 4));
     Ok(())
+}
+
+/// How `fleet serve` ends with a server, and whether this line alone is written, as an error.
+fn stopped<R: Threads + Wait + Sync, V: Serves>(
+    rt: &R,
+    alloc: Global,
+    server: &mut V,
+    line: &str,
+) -> Result<(Ending, bool), Fail> {
+    let ended = served(rt, alloc, server)?;
+    Ok((ended.ending, ended.shows(1, "", line, 1)))
 }
 
 #[test]
@@ -102,20 +97,18 @@ fn a_server_that_stops(rt: HostRuntime) -> Result<(), Fail> {
         settles: false,
         asked: None,
     };
-    let (ending, output, errors) = ended(&rt, rt.alloc(), &mut server)?;
-    assert_eq!(rt; ending.status(), 1);
-    assert_eq!(rt; output.len(), 0);
-    assert_eq!(rt; errors.as_slice(), b"unsettled 2 7\n".as_slice());
-    let (ending, output, errors) = ended(&rt, rt.alloc(), &mut NoServer)?;
-    assert_eq!(rt;
-        ending,
-        Ending::Unserved {
-            fault: ServingFault::BindFailed,
-            told: true
-        }
-    );
-    assert_eq!(rt; output.len(), 0);
-    assert_eq!(rt; errors.as_slice(), b"bind failed\n".as_slice());
+    let unsettled = Ending::Unserved {
+        fault: ServingFault::Run(ServeFault::Unsettled { node: 2, place: 7 }),
+        told: true,
+    };
+    let ended = stopped(&rt, rt.alloc(), &mut server, "unsettled 2 7\n")?;
+    assert_eq!(rt; ended, (unsettled, true));
+    let unbound = Ending::Unserved {
+        fault: ServingFault::BindFailed,
+        told: true,
+    };
+    let ended = stopped(&rt, rt.alloc(), &mut NoServer, "bind failed\n")?;
+    assert_eq!(rt; ended, (unbound, true));
     Ok(())
 }
 
@@ -157,17 +150,27 @@ const LINES: [(ServingFault, &str); 10] = [
     (ServingFault::Run(ServeFault::NoMemory), "no memory\n"),
 ];
 
+/// Whether a fault is told by this line.
+fn is_told(alloc: Global, fault: ServingFault, line: &str) -> bool {
+    let mut errors = Vec::new(alloc);
+    fault.tell(&mut errors) && errors.as_slice() == line.as_bytes()
+}
+
+/// Whether a fault is told in part, by the front of its line for which there is room.
+fn is_told_in_part(alloc: Global, fault: ServingFault, line: &str, room: usize) -> bool {
+    let mut errors = FewWrites::new(alloc, 3, room, false);
+    !fault.tell(&mut errors) && errors.has_front(line.as_bytes(), room)
+}
+
 #[test]
 fn lines_of_serving_faults(rt: HostRuntime) {
-    for (fault, line) in LINES {
-        let mut errors = Vec::new(rt.alloc());
-        assert!(rt; fault.tell(&mut errors));
-        assert_eq!(rt; errors.as_slice(), line.as_bytes());
+    for &(fault, line) in &LINES {
+        assert!(rt; is_told(rt.alloc(), fault, line), "{line}");
         for room in 0..line.len() {
-            let mut errors = FewWrites::new(rt.alloc(), 3, room, false);
-            assert!(rt; !fault.tell(&mut errors));
-            assert_eq!(rt; errors.taken.len(), room);
-            assert!(rt; line.as_bytes().starts_with(errors.taken.as_slice()));
+            assert!(rt;
+                is_told_in_part(rt.alloc(), fault, line, room),
+                "{line} {room}"
+            );
         }
     }
 }
