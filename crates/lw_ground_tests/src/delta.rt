@@ -3,6 +3,7 @@ ghost use Rattle.lw_delta.specs.Writable.{AllFollow};
 
 mod bounds;
 
+use crate::hold::{holds, holds_for};
 use lw_delta::*;
 use lw_reg::{Endpoint, Slot};
 use lw_stamp::NoMemory;
@@ -76,7 +77,7 @@ fn rewritten(alloc: Global, bytes: &[u8]) -> Result<Option<Vec<u8>>, NoMemory> {
 }
 
 /// Each fault, where it is the first: a later one may stand behind it.
-const REFUSED: [(&str, DeltaFault); 37] = [
+static REFUSED: [(&str, DeltaFault); 37] = [
     (TWICE, DeltaFault::Order),
     // nothing later
     ("4c5744", DeltaFault::Truncated),
@@ -238,7 +239,7 @@ const REFUSED: [(&str, DeltaFault); 37] = [
 ];
 
 /// Deltas, their clocks, how many slots they have, and how they are written.
-const ACCEPTED: [(&str, u64, usize, &str); 9] = [
+static ACCEPTED: [(&str, u64, usize, &str); 9] = [
     (REGISTERED, 1, 1, REGISTERED),
     (FRESH, 0, 0, FRESH),
     (LAST, 281_474_976_710_655, 0, LAST),
@@ -251,11 +252,13 @@ const ACCEPTED: [(&str, u64, usize, &str); 9] = [
 ];
 
 /// Whether the walk and the reading of the bytes both end with this fault.
-fn refuses(alloc: Global, text: &str, fault: DeltaFault) -> Result<bool, Fail> {
+fn end_with(alloc: Global, bytes: &[u8], fault: DeltaFault) -> bool {
+    check(bytes).err() == Some(fault) && read(alloc, bytes).err() == Some(fault)
+}
+
+fn refuses(alloc: Global, text: &str, fault: DeltaFault) -> Result<(), Fail> {
     let bytes = hex::decode(alloc, text)?;
-    let checked = check(&bytes).err();
-    let read = read(alloc, &bytes).err();
-    Ok(checked == Some(fault) && read == Some(fault))
+    holds(text, end_with(alloc, &bytes, fault))
 }
 
 /// The clock that the walk tells, the clock that is read, and how many slots are.
@@ -271,43 +274,58 @@ fn is_written_as(alloc: Global, bytes: &[u8], again: &[u8]) -> Result<bool, NoMe
     Ok(written.is_some_and(|written| written.as_slice() == again))
 }
 
-/// Whether it is a delta that is written like this, with the clock, and so many slots.
+/// It is a delta that is written like this, with the clock, and so many slots.
 fn accepts(
     alloc: Global,
     bytes: &[u8],
     clock: u64,
     count: usize,
+    again: &[u8],
+) -> Result<(), Fail> {
+    holds("its counts", counts(alloc, bytes)? == (clock, clock, count))?;
+    holds("written", is_written_as(alloc, bytes, again)?)
+}
+
+fn accepts_text(
+    alloc: Global,
+    text: &str,
+    clock: u64,
+    count: usize,
     again: &str,
-) -> Result<bool, Fail> {
+) -> Result<(), Fail> {
+    let bytes = hex::decode(alloc, text)?;
     let again = hex::decode(alloc, again)?;
-    let counts = counts(alloc, bytes)?;
-    let written = is_written_as(alloc, bytes, &again)?;
-    Ok(written && counts == (clock, clock, count))
+    accepts(alloc, &bytes, clock, count, &again)
 }
 
 #[test]
 fn deltas_are_read_and_written(rt: HostRuntime) -> Result<(), Fail> {
-    for (text, clock, count, again) in ACCEPTED {
-        let bytes = hex::decode(rt.alloc(), text)?;
-        assert!(rt; accepts(rt.alloc(), &bytes, clock, count, again)?, "{text}");
+    for (text, clock, count, again) in &ACCEPTED {
+        accepts_text(rt.alloc(), text, *clock, *count, again)?;
     }
     Ok(())
 }
 
 #[test]
 fn the_first_fault_is_told(rt: HostRuntime) -> Result<(), Fail> {
-    for (text, fault) in REFUSED {
-        assert!(rt; refuses(rt.alloc(), text, fault)?, "{text}");
+    for (text, fault) in &REFUSED {
+        refuses(rt.alloc(), text, *fault)?;
     }
     Ok(())
+}
+
+fn is_truncated(bytes: &[u8], len: usize) -> bool {
+    match bytes.get(..len) {
+        None => false,
+        Some(front) => check(front) == Err(DeltaFault::Truncated),
+    }
 }
 
 #[test]
 fn each_front_is_truncated(rt: HostRuntime) -> Result<(), Fail> {
     let bytes = hex::decode(rt.alloc(), REGISTERED)?;
     for len in 0..98usize {
-        let front = bytes.get(..len).ok_or("a front")?;
-        assert!(rt; check(front) == Err(DeltaFault::Truncated), "{len} bytes");
+        holds_for(&len, is_truncated(&bytes, len))?;
     }
     Ok(())
 }
@@ -322,21 +340,36 @@ fn same_or_removed(alloc: Global, bytes: &[u8], removed: &[u8]) -> Result<bool, 
     Ok(is_delta && (written == bytes || written == removed))
 }
 
+/// Whether each change of the byte at the place makes such a delta, or none.
+fn each_change_is_seen(
+    alloc: Global,
+    bytes: &mut [u8],
+    place: usize,
+    removed: &[u8],
+) -> Result<bool, NoMemory> {
+    if bytes.len() <= place {
+        return Ok(false);
+    }
+    let kept = bytes[place];
+    for byte in 0..=255u8 {
+        bytes[place] = byte;
+        if !same_or_removed(alloc, bytes, removed)? {
+            return Ok(false);
+        }
+    }
+    bytes[place] = kept;
+    Ok(true)
+}
+
 #[test]
 fn each_byte_is_changed(rt: HostRuntime) -> Result<(), Fail> {
     let removed = hex::decode(rt.alloc(), REMOVED)?;
     let mut bytes = hex::decode(rt.alloc(), REGISTERED)?;
     for place in 0..98usize {
-        assert!(rt; place < bytes.len());
-        let kept = bytes[place];
-        for byte in 0..=255u8 {
-            bytes[place] = byte;
-            assert!(rt;
-                same_or_removed(rt.alloc(), &bytes, &removed)?,
-                "{byte} at {place}"
-            );
-        }
-        bytes[place] = kept;
+        holds_for(
+            &place,
+            each_change_is_seen(rt.alloc(), &mut bytes, place, &removed)?,
+        )?;
     }
     Ok(())
 }

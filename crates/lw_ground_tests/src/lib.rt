@@ -6,6 +6,8 @@ mod coap;
 #[cfg(test)]
 mod delta;
 #[cfg(test)]
+mod hold;
+#[cfg(test)]
 mod index;
 #[cfg(test)]
 mod join;

@@ -1,3 +1,4 @@
+use crate::hold::holds;
 use lw_join::Join;
 use lw_link::LinkText;
 use lw_reg::*;
@@ -14,94 +15,81 @@ fn is_printed(alloc: Global, address: Addr, text: &str) -> Result<bool, Fail> {
     Ok(Addr::read(text) == Some(address) && address.print(alloc)?.as_str() == text)
 }
 
+static V4: [(&str, [u8; 4], u16); 3] = [
+    ("127.0.0.1:5683", [127, 0, 0, 1], 5683),
+    ("0.0.0.0:0", [0; 4], 0),
+    ("255.255.255.255:65535", [255; 4], 65_535),
+];
+
+static V6: [(&str, [u8; 16], u16); 4] = [
+    (
+        "[0000:0000:0000:0000:0000:0000:0000:0001]:5683",
+        [0, 0, 0, 0, 0, 0, 0, 0, 0, 0, 0, 0, 0, 0, 0, 1],
+        5683,
+    ),
+    (
+        "[ffff:ffff:ffff:ffff:ffff:ffff:ffff:ffff]:65535",
+        [255; 16],
+        65_535,
+    ),
+    ("[0000:0000:0000:0000:0000:0000:0000:0000]:0", [0; 16], 0),
+    (
+        "[2001:0db8:0000:0000:0000:0000:0000:00ff]:0",
+        [0x20, 1, 0x0d, 0xb8, 0, 0, 0, 0, 0, 0, 0, 0, 0, 0, 0, 0xff],
+        0,
+    ),
+];
+
 #[test]
 fn addresses_are_read_and_printed(rt: HostRuntime) -> Result<(), Fail> {
-    let rows = [
-        (
-            "127.0.0.1:5683",
-            Addr::V4 {
-                address: [127, 0, 0, 1],
-                port: 5683,
-            },
-        ),
-        (
-            "0.0.0.0:0",
-            Addr::V4 {
-                address: [0; 4],
-                port: 0,
-            },
-        ),
-        (
-            "255.255.255.255:65535",
-            Addr::V4 {
-                address: [255; 4],
-                port: 65535,
-            },
-        ),
-        (
-            "[0000:0000:0000:0000:0000:0000:0000:0001]:5683",
-            Addr::V6 {
-                address: [0, 0, 0, 0, 0, 0, 0, 0, 0, 0, 0, 0, 0, 0, 0, 1],
-                port: 5683,
-            },
-        ),
-        (
-            "[ffff:ffff:ffff:ffff:ffff:ffff:ffff:ffff]:65535",
-            Addr::V6 {
-                address: [255; 16],
-                port: 65_535,
-            },
-        ),
-        (
-            "[0000:0000:0000:0000:0000:0000:0000:0000]:0",
-            Addr::V6 {
-                address: [0; 16],
-                port: 0,
-            },
-        ),
-        (
-            "[2001:0db8:0000:0000:0000:0000:0000:00ff]:0",
-            Addr::V6 {
-                address: [0x20, 1, 0x0d, 0xb8, 0, 0, 0, 0, 0, 0, 0, 0, 0, 0, 0, 0xff],
-                port: 0,
-            },
-        ),
-    ];
-    for (text, address) in rows {
-        assert!(rt; is_printed(rt.alloc(), address, text)?);
+    for (text, address, port) in &V4 {
+        let (address, port) = (*address, *port);
+        holds(
+            text,
+            is_printed(rt.alloc(), Addr::V4 { address, port }, text)?,
+        )?;
+    }
+    for (text, address, port) in &V6 {
+        let (address, port) = (*address, *port);
+        holds(
+            text,
+            is_printed(rt.alloc(), Addr::V6 { address, port }, text)?,
+        )?;
     }
     Ok(())
 }
 
+static NO_ADDRESSES: [&str; 22] = [
+    "",
+    "127.0.0.1",
+    "127.0.0.1:",
+    "127.0.0.1:65536",
+    "127.0.0.1:05683",
+    "127.0.0.01:1",
+    "256.0.0.1:1",
+    "1.2.3:4",
+    "1.2.3.4.5:6",
+    "1.2.3.4:5 ",
+    " 1.2.3.4:5",
+    "+1.2.3.4:5",
+    "1.2.3.4:+5",
+    "1..3.4:5",
+    "[::1]:5683",
+    "[2001:0DB8:0000:0000:0000:0000:0000:00ff]:0",
+    "[2001:db8:0000:0000:0000:0000:0000:00ff]:0",
+    "[2001:0db8:0000:0000:0000:0000:00ff]:0",
+    "[2001:0db8:0000:0000:0000:0000:0000:0000:00ff]:0",
+    "2001:0db8:0000:0000:0000:0000:0000:00ff:0",
+    "[2001:0db8:0000:0000:0000:0000:0000:00ff]5683",
+    "[2001:0db8:0000:0000:0000:0000:0000:00ff]:",
+];
+
 #[test]
-fn other_texts_are_no_addresses(rt: HostRuntime) {
-    let rows = [
-        "",
-        "127.0.0.1",
-        "127.0.0.1:",
-        "127.0.0.1:65536",
-        "127.0.0.1:05683",
-        "127.0.0.01:1",
-        "256.0.0.1:1",
-        "1.2.3:4",
-        "1.2.3.4.5:6",
-        "1.2.3.4:5 ",
-        " 1.2.3.4:5",
-        "+1.2.3.4:5",
-        "1.2.3.4:+5",
-        "1..3.4:5",
-        "[::1]:5683",
-        "[2001:0DB8:0000:0000:0000:0000:0000:00ff]:0",
-        "[2001:db8:0000:0000:0000:0000:0000:00ff]:0",
-        "[2001:0db8:0000:0000:0000:0000:00ff]:0",
-        "[2001:0db8:0000:0000:0000:0000:0000:0000:00ff]:0",
-        "2001:0db8:0000:0000:0000:0000:0000:00ff:0",
-        "[2001:0db8:0000:0000:0000:0000:0000:00ff]5683",
-        "[2001:0db8:0000:0000:0000:0000:0000:00ff]:",
-    ];
-    for text in rows {
-        assert!(rt; Addr::read(text).is_none());
+fn other_texts_are_no_addresses() -> Result<(), Fail> {
+    for text in &NO_ADDRESSES {
+        holds(text, Addr::read(text).is_none())?;
     }
+    Ok(())
 }
 
 #[test]
@@ -134,14 +122,19 @@ fn is_binding(text: &str) -> bool {
     }
 }
 
+static BINDINGS: [&str; 4] = ["U", "UQ", "T", "ABCDEFGH"];
+
+static NO_BINDINGS: [&str; 6] = ["", "ABCDEFGHI", "u", "U1", "É", "U "];
+
 #[test]
-fn bindings_have_one_to_eight_letters(rt: HostRuntime) {
-    for text in ["U", "UQ", "T", "ABCDEFGH"] {
-        assert!(rt; is_binding(text));
+fn bindings_have_one_to_eight_letters() -> Result<(), Fail> {
+    for text in &BINDINGS {
+        holds(text, is_binding(text))?;
     }
-    for text in ["", "ABCDEFGHI", "u", "U1", "É", "U "] {
-        assert!(rt; Binding::read(text).is_none());
+    for text in &NO_BINDINGS {
+        holds(text, Binding::read(text).is_none())?;
     }
+    Ok(())
 }
 
 fn is_the_default(binding: Binding) -> bool {
@@ -165,13 +158,16 @@ fn is_version(text: &str, version: Version) -> bool {
     Version::read(text) == Some(version) && version.as_str() == text
 }
 
+static NO_VERSIONS: [&str; 5] = ["", "1", "1.2", "1.10", "v1.0"];
+
 #[test]
-fn versions_have_two_texts(rt: HostRuntime) {
-    assert!(rt; is_version("1.0", Version::V10) && is_version("1.1", Version::V11));
-    for text in ["", "1", "1.2", "1.10", "v1.0"] {
-        assert!(rt; Version::read(text).is_none());
+fn versions_have_two_texts() -> Result<(), Fail> {
+    holds("1.0", is_version("1.0", Version::V10))?;
+    holds("1.1", is_version("1.1", Version::V11))?;
+    for text in &NO_VERSIONS {
+        holds(text, Version::read(text).is_none())?;
     }
-    assert!(rt; Version::V10 < Version::V11);
+    holds("1.0 before 1.1", Version::V10 < Version::V11)
 }
 
 const ID: Stamp = Stamp {

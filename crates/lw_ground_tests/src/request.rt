@@ -3,7 +3,6 @@ use lw_request::*;
 use lw_stamp::Stamp;
 use shown::Shown;
 use std::alloc::Global;
-use std::process::Abort;
 use std::test::Fail;
 
 mod bounds;
@@ -49,28 +48,30 @@ fn message_of(alloc: Global, datagram: &str) -> Result<Message, Fail> {
     Ok(decode(alloc, &bytes).map_err(|_| "a message")?)
 }
 
-fn same(rt: &impl Abort, case: &str, text: &str, want: &str) {
-    assert!(rt; text == want, "{case}: {text}");
+fn same(case: &str, text: &str, want: &str) -> Result<(), Fail> {
+    if text == want {
+        return Ok(());
+    }
+    Err(Fail::new(format_args!("{case}: {text}")))
 }
 
-fn check_meaning(rt: &impl Abort, alloc: Global, datagram: &str, want: &str) -> Result<(), Fail> {
+fn check_meaning(alloc: Global, datagram: &str, want: &str) -> Result<(), Fail> {
     let message = message_of(alloc, datagram)?;
     let meant = told(alloc, &message)?;
-    same(rt, datagram, meant.as_str(), want);
-    Ok(())
+    same(datagram, meant.as_str(), want)
 }
 
 /// Looks at a case: what it is, its datagram in hex, and what that means.
-fn check_case(rt: &impl Abort, alloc: Global, case: &str) -> Result<(), Fail> {
+fn check_case(alloc: Global, case: &str) -> Result<(), Fail> {
     let (_what, means) = case.split_once(": ").ok_or("a case")?;
     let (datagram, want) = means.split_once(" -> ").ok_or("a case")?;
-    check_meaning(rt, alloc, datagram, want)
+    check_meaning(alloc, datagram, want)
 }
 
 /// Looks at cases, a line each.
-fn check(rt: &impl Abort, alloc: Global, cases: &str) -> Result<(), Fail> {
+fn check(alloc: Global, cases: &str) -> Result<(), Fail> {
     for case in cases.trim().lines() {
-        check_case(rt, alloc, case)?;
+        check_case(alloc, case)?;
     }
     Ok(())
 }
@@ -78,7 +79,6 @@ fn check(rt: &impl Abort, alloc: Global, cases: &str) -> Result<(), Fail> {
 #[test]
 fn requests_are_registers(rt: HostRuntime) -> Result<(), Fail> {
     check(
-        &rt,
         rt.alloc(),
         "
         the first that a client sends: 4402000101020304b2726411283465703d61056c743d3630096c776d326d3d312e31ff3c2f332f303e -> register a 1.1 false 60 U - </3/0>
@@ -93,7 +93,6 @@ fn requests_are_registers(rt: HostRuntime) -> Result<(), Fail> {
 #[test]
 fn unrecognised_options_are_refused(rt: HostRuntime) -> Result<(), Fail> {
     check(
-        &rt,
         rt.alloc(),
         "
         Block1: 40020005b272644465703d61c106ff3c2f3e -> 60820005
@@ -106,7 +105,6 @@ fn unrecognised_options_are_refused(rt: HostRuntime) -> Result<(), Fail> {
 #[test]
 fn lifetimes_have_at_most_ten_digits(rt: HostRuntime) -> Result<(), Fail> {
     check(
-        &rt,
         rt.alloc(),
         "
         none: 40020004b272644465703d61046c743d30ff3c2f3e -> register a 1.0 false 0 U - </>
@@ -123,7 +121,6 @@ fn lifetimes_have_at_most_ten_digits(rt: HostRuntime) -> Result<(), Fail> {
 #[test]
 fn refusals_come_in_order(rt: HostRuntime) -> Result<(), Fail> {
     check(
-        &rt,
         rt.alloc(),
         "
         a GET of `rd`: 40010006b27264 -> 60850006
@@ -140,7 +137,6 @@ fn refusals_come_in_order(rt: HostRuntime) -> Result<(), Fail> {
 #[test]
 fn the_earlier_step_refuses(rt: HostRuntime) -> Result<(), Fail> {
     check(
-        &rt,
         rt.alloc(),
         "
         proxied and unrecognised: 40020001b27264d103068178 -> 60a50001
@@ -156,7 +152,6 @@ fn the_earlier_step_refuses(rt: HostRuntime) -> Result<(), Fail> {
 #[test]
 fn the_last_query_of_a_name_counts(rt: HostRuntime) -> Result<(), Fail> {
     check(
-        &rt,
         rt.alloc(),
         "
         `ep=` before `ep=a`: 40020001b272644365703d0465703d61ff3c2f3e -> register a 1.0 false 86400 U - </>
@@ -179,7 +174,6 @@ fn the_last_query_of_a_name_counts(rt: HostRuntime) -> Result<(), Fail> {
 #[test]
 fn an_update_gives_what_it_changes(rt: HostRuntime) -> Result<(), Fail> {
     check(
-        &rt,
         rt.alloc(),
         "
         a lifetime: 40020010b272640d0330303030303030303030303130303031466c743d313230 -> update 0000000000010001 120 - - -
@@ -200,7 +194,6 @@ fn an_update_gives_what_it_changes(rt: HostRuntime) -> Result<(), Fail> {
 #[test]
 fn paths_formats_and_options(rt: HostRuntime) -> Result<(), Fail> {
     check(
-        &rt,
         rt.alloc(),
         "
         a single empty segment: 40020001b0ff3c2f3e -> 60840001
@@ -230,7 +223,6 @@ fn paths_formats_and_options(rt: HostRuntime) -> Result<(), Fail> {
 #[test]
 fn messages_have_roles(rt: HostRuntime) -> Result<(), Fail> {
     check(
-        &rt,
         rt.alloc(),
         "
         a ping: 40000007 -> ping
@@ -251,7 +243,6 @@ fn messages_have_roles(rt: HostRuntime) -> Result<(), Fail> {
 #[test]
 fn reports_have_no_critical_option(rt: HostRuntime) -> Result<(), Fail> {
     check(
-        &rt,
         rt.alloc(),
         "
         a notification: 4845003100000000000300016101ff31 -> report Con 49 [0000000000030001] 69 1 - [31]
@@ -269,7 +260,6 @@ fn reports_have_no_critical_option(rt: HostRuntime) -> Result<(), Fail> {
 /// Looks at a message on a registration with a query of this many bytes. Its type and code stand in front, and behind
 /// them the byte that extends the length of the query.
 fn check_query(
-    rt: &impl Abort,
     alloc: Global,
     front: &str,
     extension: &str,
@@ -280,71 +270,65 @@ fn check_query(
     let datagram = format!(in alloc;
         "{front}0001b272640d03303030303030303030303031303030314d{extension}{query}"
     )?;
-    check_meaning(rt, alloc, datagram.as_str(), want)
+    check_meaning(alloc, datagram.as_str(), want)
 }
+
+/// A DELETE, a POST and a non-confirmable POST, the extension, the length, and what they mean.
+static QUERIES: [(&str, &str, usize, &str); 4] = [
+    ("4004", "f2", 255, "deregister 0000000000010001"),
+    ("4004", "f3", 256, "60820001"),
+    ("4002", "f3", 256, "60820001"),
+    ("5004", "f3", 256, "reject"),
+];
 
 #[test]
 fn a_query_has_at_most_255_bytes(rt: HostRuntime) -> Result<(), Fail> {
-    let alloc = rt.alloc();
-    // a DELETE, a POST, a non-confirmable POST
-    check_query(&rt, alloc, "4004", "f2", 255, "deregister 0000000000010001")?;
-    check_query(&rt, alloc, "4004", "f3", 256, "60820001")?;
-    check_query(&rt, alloc, "4002", "f3", 256, "60820001")?;
-    check_query(&rt, alloc, "5004", "f3", 256, "reject")
+    for (front, extension, length, want) in &QUERIES {
+        check_query(rt.alloc(), front, extension, *length, want)?;
+    }
+    Ok(())
 }
 
 /// Looks at a POST with the link `</>`, and this often again behind a comma.
-fn check_links(
-    rt: &impl Abort,
-    alloc: Global,
-    head: &str,
-    further: usize,
-    want: &str,
-) -> Result<(), Fail> {
+fn check_links(alloc: Global, head: &str, further: usize, want: &str) -> Result<(), Fail> {
     let links = "2c3c2f3e".repeat(alloc, further)?;
     let datagram = format!(in alloc; "{head}ff3c2f3e{links}")?;
-    check_meaning(rt, alloc, datagram.as_str(), want)
+    check_meaning(alloc, datagram.as_str(), want)
 }
 
-/// What a Register of the endpoint `a` means with the link `</>`, and this often again.
-fn links_wanted(alloc: Global, further: usize) -> Result<String, Fail> {
-    let links = ",</>".repeat(alloc, further)?;
-    Ok(format!(in alloc; "register a 1.0 false 86400 U - </>{links}")?)
+fn check_most_links(alloc: Global) -> Result<(), Fail> {
+    let links = ",</>".repeat(alloc, 255)?;
+    let want = format!(in alloc; "register a 1.0 false 86400 U - </>{links}")?;
+    check_links(alloc, "40020004b272644465703d61", 255, want.as_str())
 }
+
+/// Heads of POSTs with 257 links, and their answers.
+static TOO_MANY: [(&str, &str); 3] = [
+    ("40020004b272644465703d61", "608d0004"),
+    ("50020004b272644465703d61", "508d0004"),
+    ("40020004b272640178", "608d0004"),
+];
 
 #[test]
 fn a_list_has_at_most_256_links(rt: HostRuntime) -> Result<(), Fail> {
-    let alloc = rt.alloc();
-    let want = links_wanted(alloc, 255)?;
-    check_links(&rt, alloc, "40020004b272644465703d61", 255, want.as_str())?;
-    check_links(&rt, alloc, "40020004b272644465703d61", 256, "608d0004")?;
-    check_links(&rt, alloc, "50020004b272644465703d61", 256, "508d0004")?;
-    check_links(&rt, alloc, "40020004b272640178", 256, "608d0004")
+    check_most_links(rt.alloc())?;
+    for (head, want) in &TOO_MANY {
+        check_links(rt.alloc(), head, 256, want)?;
+    }
+    Ok(())
 }
 
 /// A bad lifetime, and another version.
 #[test]
 fn other_causes_come_before_a_long_list(rt: HostRuntime) -> Result<(), Fail> {
-    let alloc = rt.alloc();
-    check_links(
-        &rt,
-        alloc,
-        "40020004b272644465703d61046c743d78",
-        256,
-        "60800004",
-    )?;
-    check_links(
-        &rt,
-        alloc,
-        "40020004b272644465703d61096c776d326d3d312e32",
-        256,
-        "608c0004",
-    )
+    let bad_lifetime = "40020004b272644465703d61046c743d78";
+    check_links(rt.alloc(), bad_lifetime, 256, "60800004")?;
+    let other_version = "40020004b272644465703d61096c776d326d3d312e32";
+    check_links(rt.alloc(), other_version, 256, "608c0004")
 }
 
 /// Looks at the answer to a datagram.
 fn check_answer(
-    rt: &impl Abort,
     alloc: Global,
     datagram: &str,
     code: u8,
@@ -353,42 +337,41 @@ fn check_answer(
 ) -> Result<(), Fail> {
     let message = message_of(alloc, datagram)?;
     let bytes = answered(alloc, &message, code, location)?;
-    same(rt, datagram, bytes.as_str(), want);
-    Ok(())
+    same(datagram, bytes.as_str(), want)
 }
 
 /// Looks at the answer 2.01 to a datagram: these bytes, and the location of a registration.
-fn check_created(rt: &impl Abort, alloc: Global, datagram: &str, front: &str) -> Result<(), Fail> {
+fn check_created(alloc: Global, datagram: &str, front: &str) -> Result<(), Fail> {
     let id = Stamp::read_id(b"0000000000010001");
     let want = format!(in alloc; "{front}8272640d0330303030303030303030303130303031")?;
-    check_answer(rt, alloc, datagram, codes::CREATED, id, want.as_str())
+    check_answer(alloc, datagram, codes::CREATED, id, want.as_str())
 }
+
+/// Datagrams, and what stands in front of the location in their answers.
+static CREATED: [(&str, &str); 3] = [
+    ("4402000101020304", "6441000101020304"),
+    ("480200020102030405060708", "684100020102030405060708"),
+    ("5002000b", "5041000b"),
+];
 
 #[test]
 fn answers_have_the_token_and_the_location(rt: HostRuntime) -> Result<(), Fail> {
-    let alloc = rt.alloc();
-    check_created(&rt, alloc, "4402000101020304", "6441000101020304")?;
-    check_created(
-        &rt,
-        alloc,
-        "480200020102030405060708",
-        "684100020102030405060708",
-    )?;
-    check_created(&rt, alloc, "5002000b", "5041000b")?;
-    check_answer(&rt, alloc, "40020010", codes::CHANGED, None, "60440010")?;
-    check_answer(&rt, alloc, "40040012", codes::DELETED, None, "60420012")
+    for (datagram, front) in &CREATED {
+        check_created(rt.alloc(), datagram, front)?;
+    }
+    check_answer(rt.alloc(), "40020010", codes::CHANGED, None, "60440010")?;
+    check_answer(rt.alloc(), "40040012", codes::DELETED, None, "60420012")
 }
 
-fn check_bytes(rt: &impl Abort, alloc: Global, bytes: [u8; 4], want: &str) -> Result<(), Fail> {
+fn check_bytes(alloc: Global, bytes: [u8; 4], want: &str) -> Result<(), Fail> {
     let text = hex::encode(alloc, bytes)?;
-    same(rt, want, text.as_str(), want);
-    Ok(())
+    same(want, text.as_str(), want)
 }
 
 #[test]
 fn resets_and_acknowledgements_are_empty(rt: HostRuntime) -> Result<(), Fail> {
-    check_bytes(&rt, rt.alloc(), reset(0x0007), "70000007")?;
-    check_bytes(&rt, rt.alloc(), reset(0xfedc), "7000fedc")?;
-    check_bytes(&rt, rt.alloc(), ack(0x0031), "60000031")?;
-    check_bytes(&rt, rt.alloc(), ack(0xfedc), "6000fedc")
+    check_bytes(rt.alloc(), reset(0x0007), "70000007")?;
+    check_bytes(rt.alloc(), reset(0xfedc), "7000fedc")?;
+    check_bytes(rt.alloc(), ack(0x0031), "60000031")?;
+    check_bytes(rt.alloc(), ack(0xfedc), "6000fedc")
 }

@@ -1,4 +1,7 @@
+use crate::hold::holds;
 use Change::*;
+use Host::*;
+use Mark::*;
 use lw_link::LinkText;
 use lw_reg::{Addr, Binding, Endpoint, Op, Path, Slot, Text, Version, View, What, atom};
 use lw_stamp::{Moment, Stamp};
@@ -47,28 +50,66 @@ const FIFTH: Stamp = Stamp {
     node: 1,
 };
 
+/// One of the stamps above.
+#[derive(Clone, Copy, Debug)]
+enum Mark {
+    First,
+    Second,
+    Third,
+    Fourth,
+    Fifth,
+}
+
+impl Mark {
+    fn stamp(self) -> Stamp {
+        match self {
+            First => FIRST,
+            Second => SECOND,
+            Third => THIRD,
+            Fourth => FOURTH,
+            Fifth => FIFTH,
+        }
+    }
+}
+
+/// One of the addresses above.
+#[derive(Clone, Copy, Debug)]
+enum Host {
+    HostA,
+    HostB,
+}
+
+impl Host {
+    fn address(self) -> Addr {
+        match self {
+            HostA => HOST_A,
+            HostB => HOST_B,
+        }
+    }
+}
+
 /// What an operation does, by stamps, addresses and the numbers of paths.
-#[derive(Clone, Copy)]
+#[derive(Clone, Copy, Debug)]
 enum Change {
     /// The identifier, and the lifetime in seconds; 0 never expires.
-    Register(Stamp, Addr, u32),
+    Register(Mark, Host, u32),
     /// Its stamp and the identifier, as of the following.
-    Move(Stamp, Stamp, Addr),
-    Remove(Stamp, Stamp),
-    Observe(Stamp, Stamp, u16),
+    Move(Mark, Mark, Host),
+    Remove(Mark, Mark),
+    Observe(Mark, Mark, u16),
     /// The token last.
-    Cancel(Stamp, Stamp, u16, Stamp),
+    Cancel(Mark, Mark, u16, Mark),
 }
 
 /// `a` at host A for a minute, `b` there for ever, `c` at host B for two minutes, `d` removed, and of `e` only an
 /// Update.
-const FIVE: [(&str, Change); 6] = [
-    ("a", Register(FIRST, HOST_A, 60)),
-    ("b", Register(SECOND, HOST_A, 0)),
-    ("c", Register(THIRD, HOST_B, 120)),
-    ("d", Register(FOURTH, HOST_B, 0)),
-    ("d", Remove(FIFTH, FOURTH)),
-    ("e", Move(FIFTH, FIFTH, HOST_B)),
+static FIVE: [(&str, Change); 6] = [
+    ("a", Register(First, HostA, 60)),
+    ("b", Register(Second, HostA, 0)),
+    ("c", Register(Third, HostB, 120)),
+    ("d", Register(Fourth, HostB, 0)),
+    ("d", Remove(Fifth, Fourth)),
+    ("e", Move(Fifth, Fifth, HostB)),
 ];
 
 /// A moment in milliseconds.
@@ -125,31 +166,47 @@ fn moved(alloc: Global, stamp: Stamp, reg: Stamp, address: Addr) -> Result<Slot,
     slot(alloc, stamp, reg, what)
 }
 
-fn slot_of(alloc: Global, change: &Change) -> Result<Slot, Fail> {
-    match *change {
-        Register(id, address, lifetime) => registered(alloc, id, address, lifetime),
-        Move(stamp, reg, address) => moved(alloc, stamp, reg, address),
-        Remove(stamp, reg) => slot(alloc, stamp, reg, What::Remove),
-        Observe(token, reg, number) => {
-            let path = path(number)?;
-            slot(alloc, token, reg, What::Observe { path, accept: None })
-        }
+fn observed(alloc: Global, token: Stamp, reg: Stamp, number: u16) -> Result<Slot, Fail> {
+    let path = path(number)?;
+    slot(alloc, token, reg, What::Observe { path, accept: None })
+}
+
+fn cancelled(
+    alloc: Global,
+    stamp: Stamp,
+    reg: Stamp,
+    number: u16,
+    token: Stamp,
+) -> Result<Slot, Fail> {
+    let path = path(number)?;
+    slot(alloc, stamp, reg, What::Cancel { path, token })
+}
+
+fn slot_of(alloc: Global, change: Change) -> Result<Slot, Fail> {
+    match change {
+        Register(id, host, lifetime) => registered(alloc, id.stamp(), host.address(), lifetime),
+        Move(stamp, reg, host) => moved(alloc, stamp.stamp(), reg.stamp(), host.address()),
+        Remove(stamp, reg) => slot(alloc, stamp.stamp(), reg.stamp(), What::Remove),
+        Observe(token, reg, number) => observed(alloc, token.stamp(), reg.stamp(), number),
         Cancel(stamp, reg, number, token) => {
-            let path = path(number)?;
-            slot(alloc, stamp, reg, What::Cancel { path, token })
+            cancelled(alloc, stamp.stamp(), reg.stamp(), number, token.stamp())
         }
     }
 }
 
-fn join(alloc: Global, table: &mut Table, name: &str, change: &Change) -> Result<(), Fail> {
+fn join_slot(alloc: Global, table: &mut Table, name: &str, slot: Slot) -> Result<(), Fail> {
     let endpoint = endpoint(alloc, name)?;
-    table.join(&endpoint, slot_of(alloc, change)?)?;
+    table.join(&endpoint, slot)?;
     Ok(())
+}
+
+fn join(alloc: Global, table: &mut Table, name: &str, change: Change) -> Result<(), Fail> {
+    join_slot(alloc, table, name, slot_of(alloc, change)?)
 }
 
 fn join_all(alloc: Global, table: &mut Table, changes: &[(&str, Change)]) -> Result<(), Fail> {
     for (name, change) in changes {
-        join(alloc, table, name, change)?;
+        join(alloc, table, name, *change)?;
     }
     Ok(())
 }
@@ -160,14 +217,23 @@ fn table_of(alloc: Global, changes: &[(&str, Change)]) -> Result<Table, Fail> {
     Ok(table)
 }
 
+/// Registers the endpoint that is named `1000` less the counter.
+fn join_numbered(alloc: Global, table: &mut Table, id: Stamp) -> Result<(), Fail> {
+    let number = 1_000u64.saturating_sub(id.counter);
+    let name = format!(in alloc; "{number}")?;
+    join_slot(
+        alloc,
+        table,
+        name.as_str(),
+        registered(alloc, id, HOST_A, 60)?,
+    )
+}
+
 /// A hundred endpoints, `999` to `900`, at one address.
 fn hundred(alloc: Global) -> Result<Table, Fail> {
     let mut table = Table::new(alloc);
     for counter in 1..101u64 {
-        let id = Stamp { counter, node: 1 };
-        let number = 1_000 - counter;
-        let name = format!(in alloc; "{number}")?;
-        join(alloc, &mut table, name.as_str(), &Register(id, HOST_A, 60))?;
+        join_numbered(alloc, &mut table, Stamp { counter, node: 1 })?;
     }
     Ok(table)
 }
@@ -184,10 +250,10 @@ fn has_only(table: &Table, key: Key, wanted: &[&str]) -> bool {
 }
 
 /// Whether it is shown with this endpoint and identifier, or none is.
-fn is_named(view: Option<View<'_>>, wanted: Option<(&str, Stamp)>) -> bool {
+fn is_named(view: Option<View<'_>>, wanted: Option<(&str, Mark)>) -> bool {
     match (view, wanted) {
         (None, None) => true,
-        (Some(view), Some((endpoint, id))) => view.endpoint == endpoint && view.id == id,
+        (Some(view), Some((endpoint, id))) => view.endpoint == endpoint && view.id == id.stamp(),
         _ => false,
     }
 }

@@ -1,3 +1,4 @@
+use crate::hold::{holds, holds_for};
 use lw_join::*;
 use lw_stamp::NoMemory;
 use std::alloc::Global;
@@ -32,18 +33,27 @@ fn value_of(key: u32, on_left: bool) -> u32 {
     }
 }
 
-fn map_of(
-    alloc: Global,
+fn push_entries(
+    entries: &mut Vec<(u32, Once<u32>)>,
     keys: &Keys,
     on_left: bool,
-) -> Result<Option<Parts<u32, Once<u32>>>, NoMemory> {
-    let mut entries = Vec::new(alloc);
+) -> Result<(), NoMemory> {
     for key in 0..END {
         if keys.has(key) {
             let value = Some(value_of(key, on_left));
             entries.push((key, Once { value }))?;
         }
     }
+    Ok(())
+}
+
+fn map_of(
+    alloc: Global,
+    keys: &Keys,
+    on_left: bool,
+) -> Result<Option<Parts<u32, Once<u32>>>, NoMemory> {
+    let mut entries = Vec::new(alloc);
+    push_entries(&mut entries, keys, on_left)?;
     Ok(Parts::from_entries(entries))
 }
 
@@ -58,11 +68,18 @@ fn wanted(left: &Keys, right: &Keys, key: u32) -> Option<u32> {
     }
 }
 
+fn value_at(map: &Parts<u32, Once<u32>>, key: u32) -> Option<u32> {
+    match map.get(&key) {
+        None => None,
+        Some(once) => once.value,
+    }
+}
+
 fn is_as_wanted(map: &Parts<u32, Once<u32>>, left: &Keys, right: &Keys) -> bool {
     let mut len = 0usize;
     for key in 0..END {
         let wanted = wanted(left, right, key);
-        if map.get(&key).and_then(|once| once.value) != wanted {
+        if value_at(map, key) != wanted {
             return false;
         }
         if wanted.is_some() {
@@ -83,64 +100,72 @@ fn joins_as_wanted(alloc: Global, left: &Keys, right: &Keys) -> Result<bool, NoM
     Ok(is_as_wanted(&map, left, right))
 }
 
+const NONE: Keys = Keys::From { first: 0, end: 0 };
+
+const FIRST_HALF: Keys = Keys::From {
+    first: 0,
+    end: 1000,
+};
+
+const LAST_HALF: Keys = Keys::From {
+    first: 1000,
+    end: END,
+};
+
+const EVEN: Keys = Keys::Even { end: END };
+
+const ODD: Keys = Keys::Odd { end: END };
+
+const ALL: Keys = Keys::From { first: 0, end: END };
+
+static CASES: [(Keys, Keys); 9] = [
+    (EVEN, ODD),
+    (ODD, EVEN),
+    (FIRST_HALF, LAST_HALF),
+    (LAST_HALF, FIRST_HALF),
+    (FIRST_HALF, FIRST_HALF),
+    (FIRST_HALF, EVEN),
+    (NONE, FIRST_HALF),
+    (FIRST_HALF, NONE),
+    (ALL, EVEN),
+];
+
 #[test]
 fn maps_of_many_keys_join(rt: HostRuntime) -> Result<(), Fail> {
-    let none = Keys::From { first: 0, end: 0 };
-    let first_half = Keys::From {
-        first: 0,
-        end: 1000,
-    };
-    let last_half = Keys::From {
-        first: 1000,
-        end: END,
-    };
-    let even = Keys::Even { end: END };
-    let cases = [
-        (even, Keys::Odd { end: END }),
-        (Keys::Odd { end: END }, even),
-        (first_half, last_half),
-        (last_half, first_half),
-        (first_half, first_half),
-        (first_half, even),
-        (none, first_half),
-        (first_half, none),
-        (Keys::From { first: 0, end: END }, even),
-    ];
-    for (left, right) in cases {
-        assert!(rt;
-            joins_as_wanted(rt.alloc(), &left, &right)?,
-            "{left:?} {right:?}"
-        );
+    for case in &CASES {
+        holds_for(case, joins_as_wanted(rt.alloc(), &case.0, &case.1)?)?;
     }
     Ok(())
+}
+
+// Whether the even keys are joined, and few of them, with the first ones, of which so many are missing.
+fn joins_missing(alloc: Global, missing: u32) -> Result<bool, NoMemory> {
+    let all = Keys::From {
+        first: 0,
+        end: missing.saturating_mul(2),
+    };
+    let few = Keys::Even { end: 10 };
+    Ok(joins_as_wanted(alloc, &EVEN, &all)? && joins_as_wanted(alloc, &few, &all)?)
 }
 
 // Up to eight missing keys are inserted one by one, and from nine on the maps are merged.
 #[test]
 fn maps_join_whether_few_keys_are_missing_or_many(rt: HostRuntime) -> Result<(), Fail> {
     for missing in 0..12u32 {
-        let all = Keys::From {
-            first: 0,
-            end: 2 * missing,
-        };
-        let even = Keys::Even { end: END };
-        let few = Keys::Even { end: 10 };
-        assert!(rt; joins_as_wanted(rt.alloc(), &even, &all)?, "{missing}");
-        assert!(rt; joins_as_wanted(rt.alloc(), &few, &all)?, "{missing}");
+        holds_for(&missing, joins_missing(rt.alloc(), missing)?)?;
     }
     Ok(())
 }
 
+// Whether the map of each key takes that of the even ones in place, where there is memory for both.
+fn joins_in_place(alloc: Global) -> Option<bool> {
+    let mut map = map_of(alloc, &ALL, true).ok()??;
+    let other = map_of(alloc, &EVEN, false).ok()??;
+    let is_joined = map.join_with(other).is_ok();
+    Some(is_joined && is_as_wanted(&map, &ALL, &EVEN))
+}
+
 #[test]
-fn a_refused_growth_leaves_a_join_in_place(rt: HostRuntime) {
-    let all = Keys::From { first: 0, end: END };
-    let even = Keys::Even { end: END };
-    let Ok(Some(mut map)) = map_of(rt.alloc(), &all, true) else {
-        return;
-    };
-    let Ok(Some(other)) = map_of(rt.alloc(), &even, false) else {
-        return;
-    };
-    assert!(rt; map.join_with(other).is_ok());
-    assert!(rt; is_as_wanted(&map, &all, &even));
+fn a_refused_growth_leaves_a_join_in_place(rt: HostRuntime) -> Result<(), Fail> {
+    holds("in place", joins_in_place(rt.alloc()) != Some(false))
 }

@@ -1,99 +1,109 @@
+use super::kinds::{Entries, are_entries};
+use crate::hold::{holds, holds_for};
 use lw_join::*;
-use lw_stamp::{NoMemory, Stamp};
-use std::alloc::Global;
+use lw_stamp::Stamp;
+use std::alloc::{AllocError, Global};
+use std::test::Fail;
 
 const EARLY: Stamp = Stamp {
     counter: 1,
     node: 9,
 };
 
-const LOWERED: Flag = Flag { raised: false };
+const BEFORE: Entries = &[(3, false), (5, false), (7, true)];
 
-const RAISED: Flag = Flag { raised: true };
+const OTHER: Entries = &[(1, true), (5, true), (8, false)];
 
-const BEFORE: [(u16, Flag); 3] = [(3, LOWERED), (5, LOWERED), (7, RAISED)];
+const AFTER: Entries = &[(1, true), (3, false), (5, true), (7, true), (8, false)];
 
-const OTHER: [(u16, Flag); 3] = [(1, RAISED), (5, RAISED), (8, LOWERED)];
-
-const AFTER: [(u16, Flag); 5] = [
-    (1, RAISED),
-    (3, LOWERED),
-    (5, RAISED),
-    (7, RAISED),
-    (8, LOWERED),
-];
+fn push_entries(entries: &mut Vec<(u16, Flag)>, rows: Entries) -> Result<(), AllocError> {
+    for (key, raised) in rows {
+        entries.push((*key, Flag { raised: *raised }))?;
+    }
+    Ok(())
+}
 
 // The map of these entries, where there is memory for it and the keys rise.
-fn map_of(alloc: Global, entries: &[(u16, Flag)]) -> Option<Parts<u16, Flag>> {
-    Parts::from_entries(Vec::from_slice(alloc, entries).ok()?)
+fn map_of(alloc: Global, rows: Entries) -> Option<Parts<u16, Flag>> {
+    let mut entries = Vec::new(alloc);
+    push_entries(&mut entries, rows).ok()?;
+    Parts::from_entries(entries)
+}
+
+// The maps before a join, and what it gives.
+static CASES: [(Entries, Entries, Entries); 3] = [
+    (BEFORE, OTHER, AFTER),
+    (OTHER, BEFORE, AFTER),
+    (&[], OTHER, OTHER),
+];
+
+// Whether a map is joined or left, where there is memory for both.
+fn is_joined_or_left(
+    alloc: Global,
+    before: Entries,
+    other: Entries,
+    after: Entries,
+) -> Option<bool> {
+    let mut map = map_of(alloc, before)?;
+    let other = map_of(alloc, other)?;
+    let is_joined = map.join_with(other).is_ok();
+    let wanted = if is_joined { after } else { before };
+    Some(are_entries(map.entries(), wanted))
 }
 
 #[test]
-fn a_refused_join_leaves_a_map_as_it_was(rt: HostRuntime) {
-    let cases: [(&[(u16, Flag)], &[(u16, Flag)], &[(u16, Flag)]); 3] = [
-        (&BEFORE, &OTHER, &AFTER),
-        (&OTHER, &BEFORE, &AFTER),
-        (&[], &OTHER, &OTHER),
-    ];
-    for (before, other, after) in cases {
-        let Some(mut map) = map_of(rt.alloc(), before) else {
-            continue;
-        };
-        let Some(other) = map_of(rt.alloc(), other) else {
-            continue;
-        };
-        let wanted = match map.join_with(other) {
-            Ok(()) => after,
-            Err(NoMemory) => before,
-        };
-        assert_eq!(rt; map.entries(), wanted);
+fn a_refused_join_leaves_a_map_as_it_was(rt: HostRuntime) -> Result<(), Fail> {
+    for case in &CASES {
+        let (before, other, after) = *case;
+        let told = is_joined_or_left(rt.alloc(), before, other, after);
+        holds_for(case, told != Some(false))?;
     }
+    Ok(())
+}
+
+fn pair_of(alloc: Global, rows: Entries, raised: bool) -> Option<(Parts<u16, Flag>, Flag)> {
+    Some((map_of(alloc, rows)?, Flag { raised }))
+}
+
+fn is_pair_joined_or_left(alloc: Global) -> Option<bool> {
+    let mut pair = pair_of(alloc, BEFORE, false)?;
+    let other = pair_of(alloc, OTHER, true)?;
+    let is_joined = pair.join_with(other).is_ok();
+    let wanted = if is_joined { AFTER } else { BEFORE };
+    Some(pair.1.raised == is_joined && are_entries(pair.0.entries(), wanted))
 }
 
 #[test]
-fn a_refused_join_leaves_a_map_and_a_flag_as_they_were(rt: HostRuntime) {
-    let Some(map) = map_of(rt.alloc(), &BEFORE) else {
-        return;
-    };
-    let Some(other) = map_of(rt.alloc(), &OTHER) else {
-        return;
-    };
-    let mut pair = (map, LOWERED);
-    match pair.join_with((other, RAISED)) {
-        Ok(()) => {
-            assert_eq!(rt; pair.0.entries(), AFTER.as_slice());
-            assert_eq!(rt; pair.1, RAISED);
-        }
-        Err(NoMemory) => {
-            assert_eq!(rt; pair.0.entries(), BEFORE.as_slice());
-            assert_eq!(rt; pair.1, LOWERED);
-        }
-    }
+fn a_refused_join_leaves_a_map_and_a_flag_as_they_were(rt: HostRuntime) -> Result<(), Fail> {
+    holds("both", is_pair_joined_or_left(rt.alloc()) != Some(false))
 }
 
-#[test]
-fn a_refused_join_leaves_a_stamped_map_as_it_was(rt: HostRuntime) {
-    let Some(map) = map_of(rt.alloc(), &BEFORE) else {
-        return;
-    };
-    let Some(other) = map_of(rt.alloc(), &OTHER) else {
-        return;
-    };
-    let mut stamped = Lex {
+type Stamped = Lex<OrGone<Parts<u16, Flag>>>;
+
+fn stamped(alloc: Global, rows: Entries) -> Option<Stamped> {
+    let value = OrGone::Here(map_of(alloc, rows)?);
+    Some(Lex {
         stamp: EARLY,
-        value: OrGone::Here(map),
-    };
-    let joined = stamped.join_with(Lex {
-        stamp: EARLY,
-        value: OrGone::Here(other),
-    });
-    let wanted = match joined {
-        Ok(()) => AFTER.as_slice(),
-        Err(NoMemory) => BEFORE.as_slice(),
-    };
-    assert_eq!(rt; stamped.stamp, EARLY);
+        value,
+    })
+}
+
+fn has_entries(stamped: &Stamped, wanted: Entries) -> bool {
     match &stamped.value {
-        OrGone::Here(map) => assert_eq!(rt; map.entries(), wanted),
-        OrGone::Gone => assert!(rt; false, "the map is gone"),
+        OrGone::Here(map) => are_entries(map.entries(), wanted),
+        OrGone::Gone => false,
     }
+}
+
+fn is_stamped_joined_or_left(alloc: Global) -> Option<bool> {
+    let mut early = stamped(alloc, BEFORE)?;
+    let other = stamped(alloc, OTHER)?;
+    let is_joined = early.join_with(other).is_ok();
+    let wanted = if is_joined { AFTER } else { BEFORE };
+    Some(early.stamp == EARLY && has_entries(&early, wanted))
+}
+
+#[test]
+fn a_refused_join_leaves_a_stamped_map_as_it_was(rt: HostRuntime) -> Result<(), Fail> {
+    holds("both", is_stamped_joined_or_left(rt.alloc()) != Some(false))
 }

@@ -1,6 +1,7 @@
 //! Operations, the slots that they make, and what these show.
 
 use super::joined;
+use crate::hold::{holds, holds_for};
 use lw_join::{OrGone, Parts};
 use lw_link::LinkText;
 use lw_reg::*;
@@ -94,7 +95,7 @@ enum Scene {
     Removal,
 }
 
-const ORDERS: [[u8; 3]; 6] = [
+static ORDERS: [[u8; 3]; 6] = [
     [0, 1, 2],
     [0, 2, 1],
     [1, 0, 2],
@@ -136,27 +137,34 @@ fn shows_nothing(slot: &Slot) -> bool {
     slot.view("a", at(7)).is_none() && !slot.expired(at(86_400_000))
 }
 
-#[test]
-fn an_update_alone_shows_nothing(rt: HostRuntime) -> Result<(), Fail> {
-    let old = part(rt.alloc(), Scene::EarlyUpdate, 0)?;
-    let both = with_part(old, rt.alloc(), Scene::EarlyUpdate, 1)?;
-    assert!(rt; shows_nothing(&both));
-    Ok(())
+fn early_update(alloc: Global) -> Result<Slot, Fail> {
+    let old = part(alloc, Scene::EarlyUpdate, 0)?;
+    with_part(old, alloc, Scene::EarlyUpdate, 1)
 }
 
-fn has_the_early_update(slot: &Slot) -> bool {
-    let Some(view) = slot.view("a", at(7)) else {
-        return false;
-    };
-    view.id == NEW
-        && view.lifetime == 120
-        && view.address == HOST_B
-        && view.seen.ms() == 7
-        && view.version == Version::V10
+#[test]
+fn an_update_alone_shows_nothing(rt: HostRuntime) -> Result<(), Fail> {
+    let both = early_update(rt.alloc())?;
+    holds("nothing", shows_nothing(&both))
+}
+
+fn has_the_update(view: &View<'_>) -> bool {
+    view.id == NEW && view.lifetime == 120 && view.address == HOST_B && view.seen.ms() == 7
+}
+
+fn has_the_register(view: &View<'_>) -> bool {
+    view.version == Version::V10
         && view.binding == Binding::U
         && !view.queue
         && view.sms.is_none()
         && view.objects.as_str() == "</>"
+}
+
+fn has_the_early_update(slot: &Slot) -> bool {
+    match slot.view("a", at(7)) {
+        None => false,
+        Some(view) => has_the_update(&view) && has_the_register(&view),
+    }
 }
 
 fn has_both_updates(slot: &Slot) -> bool {
@@ -186,21 +194,23 @@ fn is_as_told(scene: Scene, slot: &Slot) -> bool {
     }
 }
 
-fn joins_in_each_order(alloc: Global, scene: Scene) -> Result<bool, Fail> {
-    for order in ORDERS {
-        if !is_as_told(scene, &joined_in(alloc, scene, order)?) {
-            return Ok(false);
-        }
+fn joins_in(alloc: Global, scene: Scene, order: [u8; 3]) -> Result<bool, Fail> {
+    let slot = joined_in(alloc, scene, order)?;
+    Ok(is_as_told(scene, &slot))
+}
+
+fn joins_in_each_order(alloc: Global, scene: Scene) -> Result<(), Fail> {
+    for order in &ORDERS {
+        holds_for(order, joins_in(alloc, scene, *order)?)?;
     }
-    Ok(true)
+    Ok(())
 }
 
 #[test]
 fn operations_join_in_each_order(rt: HostRuntime) -> Result<(), Fail> {
-    assert!(rt; joins_in_each_order(rt.alloc(), Scene::EarlyUpdate)?);
-    assert!(rt; joins_in_each_order(rt.alloc(), Scene::TwoUpdates)?);
-    assert!(rt; joins_in_each_order(rt.alloc(), Scene::Removal)?);
-    Ok(())
+    joins_in_each_order(rt.alloc(), Scene::EarlyUpdate)?;
+    joins_in_each_order(rt.alloc(), Scene::TwoUpdates)?;
+    joins_in_each_order(rt.alloc(), Scene::Removal)
 }
 
 #[test]

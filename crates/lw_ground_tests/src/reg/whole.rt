@@ -1,11 +1,12 @@
 //! Slots with all that a registration can have, at its longest.
 
 use super::joined;
+use crate::hold::{holds, holds_for};
 use lw_join::{Lex, Once, OrGone, Parts};
 use lw_link::LinkText;
 use lw_reg::*;
 use lw_stamp::{Moment, Stamp};
-use std::alloc::Global;
+use std::alloc::{AllocError, Global};
 use std::test::Fail;
 
 const FIRST: Stamp = Stamp {
@@ -23,12 +24,17 @@ const LAST_HOST: Addr = Addr::V6 {
     port: 65_535,
 };
 
-/// So many letters.
-fn letters(alloc: Global, letter: char, length: usize) -> Result<Text, Fail> {
-    let mut text = String::new(alloc);
+fn push_letters(text: &mut String, letter: char, length: usize) -> Result<(), AllocError> {
     for _ in 0..length {
         text.push(letter)?;
     }
+    Ok(())
+}
+
+/// So many letters.
+fn letters(alloc: Global, letter: char, length: usize) -> Result<Text, AllocError> {
+    let mut text = String::new(alloc);
+    push_letters(&mut text, letter, length)?;
     Ok(Text::from(text))
 }
 
@@ -36,18 +42,24 @@ fn is_letters(text: &str, letter: u8, length: usize) -> bool {
     text.len() == length && text.as_bytes().iter().all(|c| *c == letter)
 }
 
-/// One link, of 8,192 bytes.
-fn link(alloc: Global, letter: char) -> Result<LinkText, Fail> {
-    let mut text = String::from_str(alloc, "<")?;
-    for _ in 0..8190 {
-        text.push(letter)?;
-    }
-    text.push('>')?;
-    let bytes = text.as_bytes();
+fn push_link(text: &mut String, letter: char) -> Result<(), AllocError> {
+    text.push('<')?;
+    push_letters(text, letter, 8190)?;
+    text.push('>')
+}
+
+fn read_links(alloc: Global, bytes: &[u8]) -> Result<LinkText, Fail> {
     if bytes.len() > 8192 {
         return Err("at most 8,192 bytes".into());
     }
     Ok(LinkText::read(alloc, bytes)?)
+}
+
+/// One link, of 8,192 bytes.
+fn link(alloc: Global, letter: char) -> Result<LinkText, Fail> {
+    let mut text = String::new(alloc);
+    push_link(&mut text, letter)?;
+    read_links(alloc, text.as_bytes())
 }
 
 fn is_link(objects: &LinkText, letter: u8) -> bool {
@@ -79,13 +91,18 @@ fn watch(number: u16) -> Option<(Path, Watching)> {
     Some((path(number)?, Lex { stamp, value }))
 }
 
-/// A hundred watches, of the even paths below 200 or of the odd ones.
-fn watches(alloc: Global, odd: bool) -> Result<Parts<Path, Watching>, Fail> {
-    let mut entries = Vec::new(alloc);
+fn push_watches(entries: &mut Vec<(Path, Watching)>, odd: bool) -> Result<(), Fail> {
     for number in 0..100 {
         let entry = watch(2 * number + u16::from(odd)).ok_or("a path")?;
         entries.push(entry)?;
     }
+    Ok(())
+}
+
+/// A hundred watches, of the even paths below 200 or of the odd ones.
+fn watches(alloc: Global, odd: bool) -> Result<Parts<Path, Watching>, Fail> {
+    let mut entries = Vec::new(alloc);
+    push_watches(&mut entries, odd)?;
     Ok(Parts::from_entries(entries).ok_or("paths rise")?)
 }
 
@@ -220,13 +237,15 @@ fn is_whole(slot: &Slot) -> bool {
         && has_no_other_watch(slot)
 }
 
+fn joins_whole(alloc: Global, last_first: bool) -> Result<bool, Fail> {
+    let slot = whole(alloc, last_first)?;
+    Ok(is_whole(&slot))
+}
+
 #[test]
 fn a_whole_slot_is_joined_in_both_orders(rt: HostRuntime) -> Result<(), Fail> {
-    for last_first in [false, true] {
-        let slot = whole(rt.alloc(), last_first)?;
-        assert!(rt; is_whole(&slot));
-    }
-    Ok(())
+    holds("the first before", joins_whole(rt.alloc(), false)?)?;
+    holds("the last before", joins_whole(rt.alloc(), true)?)
 }
 
 fn has_the_longest_texts(view: &View<'_>) -> bool {
@@ -246,20 +265,24 @@ fn shows_the_last(seen: &Seen) -> bool {
         && seen.queue
 }
 
+fn seen_of(alloc: Global, slot: &Slot, endpoint: &str) -> Result<Seen, Fail> {
+    match slot.view(endpoint, Moment::START) {
+        None => Err("a view".into()),
+        Some(view) => Ok(view.to_seen(alloc)?),
+    }
+}
+
 fn seen(alloc: Global) -> Result<Seen, Fail> {
     let slot = whole(alloc, false)?;
     let endpoint = letters(alloc, 'e', 252)?;
-    let Some(view) = slot.view(endpoint.as_str(), Moment::START) else {
-        return Err("a view".into());
-    };
-    Ok(view.to_seen(alloc)?)
+    seen_of(alloc, &slot, endpoint.as_str())
 }
 
 #[test]
 fn a_whole_slot_is_shown_and_copied(rt: HostRuntime) -> Result<(), Fail> {
     let seen = seen(rt.alloc())?;
-    assert!(rt; shows_the_last(&seen) && has_the_longest_texts(&seen.as_view()));
-    Ok(())
+    holds("the last", shows_the_last(&seen))?;
+    holds("the longest", has_the_longest_texts(&seen.as_view()))
 }
 
 fn no_fields(alloc: Global) -> Fields {
@@ -283,15 +306,32 @@ fn has_no_fields(slot: &Slot) -> bool {
     !slot.is_removed() && slot.base().is_none() && slot.watches().is_empty()
 }
 
+fn is_named(alloc: Global) -> Result<bool, Fail> {
+    let named = without_fields(alloc)?;
+    Ok(has_no_fields(&named))
+}
+
+/// What a slot without fields makes of the whole one.
+fn with_the_others(alloc: Global) -> Result<Slot, Fail> {
+    joined(without_fields(alloc)?, whole(alloc, false)?)
+}
+
+fn takes_the_others(alloc: Global) -> Result<bool, Fail> {
+    let all = with_the_others(alloc)?;
+    Ok(is_whole(&all))
+}
+
+/// Whether a slot without fields leaves the whole one as it is.
+fn adds_nothing(alloc: Global) -> Result<bool, Fail> {
+    let all = joined(with_the_others(alloc)?, without_fields(alloc)?)?;
+    Ok(is_whole(&all))
+}
+
 #[test]
 fn a_slot_without_fields_takes_the_others(rt: HostRuntime) -> Result<(), Fail> {
-    let named = without_fields(rt.alloc())?;
-    assert!(rt; has_no_fields(&named));
-    let all = joined(named, whole(rt.alloc(), false)?)?;
-    assert!(rt; is_whole(&all));
-    let all = joined(all, without_fields(rt.alloc())?)?;
-    assert!(rt; is_whole(&all));
-    Ok(())
+    holds("no fields", is_named(rt.alloc())?)?;
+    holds("the others", takes_the_others(rt.alloc())?)?;
+    holds("nothing more", adds_nothing(rt.alloc())?)
 }
 
 fn is_endpoint(text: Text, length: usize) -> bool {
@@ -308,7 +348,7 @@ fn is_endpoint(text: Text, length: usize) -> bool {
 fn endpoints_have_1_to_252_bytes(rt: HostRuntime) -> Result<(), Fail> {
     for (length, is_one) in [(0, false), (1, true), (252, true), (253, false)] {
         let text = letters(rt.alloc(), 'e', length)?;
-        assert!(rt; is_endpoint(text, length) == is_one);
+        holds_for(&length, is_endpoint(text, length) == is_one)?;
     }
     Ok(())
 }
@@ -324,7 +364,7 @@ fn is_sms_number(text: Text, length: usize) -> bool {
 fn sms_numbers_have_at_most_251_bytes(rt: HostRuntime) -> Result<(), Fail> {
     for (length, is_one) in [(0, true), (251, true), (252, false)] {
         let text = letters(rt.alloc(), '1', length)?;
-        assert!(rt; is_sms_number(text, length) == is_one);
+        holds_for(&length, is_sms_number(text, length) == is_one)?;
     }
     Ok(())
 }

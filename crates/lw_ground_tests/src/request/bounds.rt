@@ -2,8 +2,7 @@
 
 use super::{same, told};
 use lw_coap::{CoapOption, Kind, Message, codes};
-use std::alloc::Global;
-use std::process::Abort;
+use std::alloc::{AllocError, Global};
 use std::test::Fail;
 
 fn option_of(alloc: Global, number: u16, text: &str) -> Result<CoapOption, Fail> {
@@ -13,46 +12,69 @@ fn option_of(alloc: Global, number: u16, text: &str) -> Result<CoapOption, Fail>
     })
 }
 
+fn push_options(
+    alloc: Global,
+    options: &mut Vec<CoapOption>,
+    number: u16,
+    texts: &str,
+    between: char,
+) -> Result<(), Fail> {
+    for text in texts.split(between) {
+        options.push(option_of(alloc, number, text)?)?;
+    }
+    Ok(())
+}
+
 /// The options of a path, and of queries that `&` divides.
 fn options_of(alloc: Global, path: &str, queries: &str) -> Result<Vec<CoapOption>, Fail> {
     let mut options = Vec::new(alloc);
-    for segment in path.split('/') {
-        options.push(option_of(alloc, 11, segment)?)?;
-    }
-    for query in queries.split('&') {
-        options.push(option_of(alloc, 15, query)?)?;
-    }
+    push_options(alloc, &mut options, 11, path, '/')?;
+    push_options(alloc, &mut options, 15, queries, '&')?;
     Ok(options)
+}
+
+/// A POST without a token.
+fn post(alloc: Global, path: &str, queries: &str, payload: &str) -> Result<Message, Fail> {
+    let payload = Vec::from_slice(alloc, payload.as_bytes())?;
+    Ok(Message {
+        kind: Kind::Con,
+        code: codes::POST,
+        mid: 1,
+        token: Vec::new(alloc),
+        options: options_of(alloc, path, queries)?,
+        payload,
+    })
 }
 
 /// Looks at what a POST means.
 fn check_post(
-    rt: &impl Abort,
     alloc: Global,
     path: &str,
     queries: &str,
     payload: &str,
     want: &str,
 ) -> Result<(), Fail> {
-    let message = Message {
-        kind: Kind::Con,
-        code: codes::POST,
-        mid: 1,
-        token: Vec::new(alloc),
-        options: options_of(alloc, path, queries)?,
-        payload: Vec::from_slice(alloc, payload.as_bytes())?,
-    };
+    let message = post(alloc, path, queries, payload)?;
     let meant = told(alloc, &message)?;
-    same(rt, path, meant.as_str(), want);
+    same(path, meant.as_str(), want)
+}
+
+fn put_parts(alloc: Global, text: &mut String, parts: &[(&str, usize)]) -> Result<(), AllocError> {
+    for (part, count) in parts {
+        put_part(alloc, text, part, *count)?;
+    }
     Ok(())
 }
 
+fn put_part(alloc: Global, text: &mut String, part: &str, count: usize) -> Result<(), AllocError> {
+    let repeated = part.repeat(alloc, count)?;
+    text.push_str(repeated.as_str())
+}
+
 /// Each part, repeated as often as it says.
-fn text_of(alloc: Global, parts: &[(&str, usize)]) -> Result<String, Fail> {
+fn text_of(alloc: Global, parts: &[(&str, usize)]) -> Result<String, AllocError> {
     let mut text = String::new(alloc);
-    for (part, count) in parts {
-        text.push_str(part.repeat(alloc, *count)?.as_str())?;
-    }
+    put_parts(alloc, &mut text, parts)?;
     Ok(text)
 }
 
@@ -68,7 +90,7 @@ struct Lengths {
     links: usize,
 }
 
-fn queries_of(alloc: Global, lengths: Lengths) -> Result<String, Fail> {
+fn queries_of(alloc: Global, lengths: Lengths) -> Result<String, AllocError> {
     text_of(
         alloc,
         &[
@@ -83,7 +105,7 @@ fn queries_of(alloc: Global, lengths: Lengths) -> Result<String, Fail> {
 }
 
 /// What a POST means, behind its first word and its lifetime.
-fn texts_wanted(alloc: Global, lengths: Lengths) -> Result<String, Fail> {
+fn texts_wanted(alloc: Global, lengths: Lengths) -> Result<String, AllocError> {
     text_of(
         alloc,
         &[
@@ -98,19 +120,12 @@ fn texts_wanted(alloc: Global, lengths: Lengths) -> Result<String, Fail> {
 }
 
 /// Looks at a POST of texts of these lengths, that means the words in front, and its texts.
-fn check_lengths(
-    rt: &impl Abort,
-    alloc: Global,
-    path: &str,
-    lengths: Lengths,
-    front: &str,
-) -> Result<(), Fail> {
+fn check_lengths(alloc: Global, path: &str, lengths: Lengths, front: &str) -> Result<(), Fail> {
     let queries = queries_of(alloc, lengths)?;
     let payload = text_of(alloc, &[("</>", 1), (FURTHER, lengths.links)])?;
     let texts = texts_wanted(alloc, lengths)?;
     let want = format!(in alloc; "{front}{texts}")?;
     check_post(
-        rt,
         alloc,
         path,
         queries.as_str(),
@@ -119,11 +134,7 @@ fn check_lengths(
     )
 }
 
-fn check_register(
-    rt: &impl Abort,
-    alloc: Global,
-    [endpoint, binding, sms, links]: [usize; 4],
-) -> Result<(), Fail> {
+fn check_register(alloc: Global, [endpoint, binding, sms, links]: [usize; 4]) -> Result<(), Fail> {
     let front = text_of(
         alloc,
         &[("register ", 1), ("e", endpoint), (" 1.1 true", 1)],
@@ -134,22 +145,28 @@ fn check_register(
         sms,
         links,
     };
-    check_lengths(rt, alloc, "rd", lengths, front.as_str())
+    check_lengths(alloc, "rd", lengths, front.as_str())
 }
 
 /// The lengths of endpoint, binding and SMS number, and how many links follow the first.
+static REGISTERS: [[usize; 4]; 6] = [
+    [1, 1, 0, 0],
+    [8, 2, 1, 1],
+    [9, 3, 8, 2],
+    [64, 7, 64, 3],
+    [65, 8, 65, 4],
+    [252, 8, 251, 255],
+];
+
 #[test]
 fn a_register_at_its_bounds(rt: HostRuntime) -> Result<(), Fail> {
-    let alloc = rt.alloc();
-    check_register(&rt, alloc, [1, 1, 0, 0])?;
-    check_register(&rt, alloc, [8, 2, 1, 1])?;
-    check_register(&rt, alloc, [9, 3, 8, 2])?;
-    check_register(&rt, alloc, [64, 7, 64, 3])?;
-    check_register(&rt, alloc, [65, 8, 65, 4])?;
-    check_register(&rt, alloc, [252, 8, 251, 255])
+    for lengths in &REGISTERS {
+        check_register(rt.alloc(), *lengths)?;
+    }
+    Ok(())
 }
 
-fn check_update(rt: &impl Abort, alloc: Global, sms: usize, links: usize) -> Result<(), Fail> {
+fn check_update(alloc: Global, sms: usize, links: usize) -> Result<(), Fail> {
     let lengths = Lengths {
         endpoint: 1,
         binding: 8,
@@ -157,7 +174,6 @@ fn check_update(rt: &impl Abort, alloc: Global, sms: usize, links: usize) -> Res
         links,
     };
     check_lengths(
-        rt,
         alloc,
         "rd/0000000000010001",
         lengths,
@@ -166,59 +182,44 @@ fn check_update(rt: &impl Abort, alloc: Global, sms: usize, links: usize) -> Res
 }
 
 /// The length of the SMS number, and how many links follow the first.
+static UPDATES: [(usize, usize); 4] = [(0, 0), (1, 1), (9, 3), (251, 255)];
+
 #[test]
 fn an_update_at_its_bounds(rt: HostRuntime) -> Result<(), Fail> {
-    check_update(&rt, rt.alloc(), 0, 0)?;
-    check_update(&rt, rt.alloc(), 1, 1)?;
-    check_update(&rt, rt.alloc(), 9, 3)?;
-    check_update(&rt, rt.alloc(), 251, 255)
+    for (sms, links) in &UPDATES {
+        check_update(rt.alloc(), *sms, *links)?;
+    }
+    Ok(())
 }
 
 /// Looks at a Register of the endpoint `a` with a query 700 times before another.
-fn check_behind(
-    rt: &impl Abort,
-    alloc: Global,
-    query: &str,
-    last: &str,
-    want: &str,
-) -> Result<(), Fail> {
+fn check_behind(alloc: Global, query: &str, last: &str, want: &str) -> Result<(), Fail> {
     let repeated = query.repeat(alloc, 700)?;
     let queries = format!(in alloc; "ep=a&{repeated}{last}")?;
-    check_post(rt, alloc, "rd", queries.as_str(), "</>", want)
+    check_post(alloc, "rd", queries.as_str(), "</>", want)
 }
+
+/// A query, another, and what they mean.
+static BEHIND: [(&str, &str, &str); 6] = [
+    ("&", "lt=5", "register a 1.0 false 5 U - </>"),
+    ("x=1&", "Q", "register a 1.0 true 86400 U - </>"),
+    ("lt=x&", "lt=5", "register a 1.0 false 5 U - </>"),
+    ("sms=1&", "sms=2", "register a 1.0 false 86400 U 2 </>"),
+    ("ep&", "ep=b", "register b 1.0 false 86400 U - </>"),
+    ("lt=5&", "lt=x", "60800001"),
+];
 
 #[test]
 fn hundreds_of_queries(rt: HostRuntime) -> Result<(), Fail> {
-    let alloc = rt.alloc();
-    check_behind(&rt, alloc, "&", "lt=5", "register a 1.0 false 5 U - </>")?;
-    check_behind(&rt, alloc, "x=1&", "Q", "register a 1.0 true 86400 U - </>")?;
-    check_behind(
-        &rt,
-        alloc,
-        "lt=x&",
-        "lt=5",
-        "register a 1.0 false 5 U - </>",
-    )?;
-    check_behind(
-        &rt,
-        alloc,
-        "sms=1&",
-        "sms=2",
-        "register a 1.0 false 86400 U 2 </>",
-    )?;
-    check_behind(
-        &rt,
-        alloc,
-        "ep&",
-        "ep=b",
-        "register b 1.0 false 86400 U - </>",
-    )?;
-    check_behind(&rt, alloc, "lt=5&", "lt=x", "60800001")
+    for (query, last, want) in &BEHIND {
+        check_behind(rt.alloc(), query, last, want)?;
+    }
+    Ok(())
 }
 
 /// A payload of over 8,192 bytes stands in no datagram.
 #[test]
 fn more_than_a_datagram_is_too_large(rt: HostRuntime) -> Result<(), Fail> {
     let payload = "x".repeat(rt.alloc(), 8193)?;
-    check_post(&rt, rt.alloc(), "rd", "ep=a", payload.as_str(), "608d0001")
+    check_post(rt.alloc(), "rd", "ep=a", payload.as_str(), "608d0001")
 }

@@ -97,6 +97,52 @@ fn write_texts<W: fmt::Write>(
     write!(f, " {binding} {sms} {objects}")
 }
 
+fn write_register<W: fmt::Write>(f: &mut fmt::Formatter<W>, asked: &Asked) -> fmt::Result {
+    let Asked::Register {
+        endpoint,
+        version,
+        queue,
+        lifetime,
+        binding,
+        sms,
+        objects,
+    } = asked
+    else {
+        return Ok(());
+    };
+    let endpoint = endpoint.as_str();
+    let version = version.as_str();
+    write!(f, "register {endpoint} {version} {queue} {lifetime}")?;
+    write_texts(f, binding.as_str(), sms_or_dash(sms), objects.as_str())
+}
+
+fn write_update<W: fmt::Write>(f: &mut fmt::Formatter<W>, asked: &Asked) -> fmt::Result {
+    let Asked::Update {
+        id,
+        lifetime,
+        binding,
+        sms,
+        objects,
+    } = asked
+    else {
+        return Ok(());
+    };
+    let id = Id(*id);
+    let lifetime = Number(*lifetime);
+    write!(f, "update {id} {lifetime}")?;
+    write_texts(
+        f,
+        binding_or_dash(binding),
+        sms_or_dash(sms),
+        objects_or_dash(objects),
+    )
+}
+
+fn write_deregister<W: fmt::Write>(f: &mut fmt::Formatter<W>, id: Option<Stamp>) -> fmt::Result {
+    let id = Id(id);
+    write!(f, "deregister {id}")
+}
+
 /// A meaning in words: its name and its fields. A refusal has but its name.
 #[derive(Clone, Copy)]
 pub struct Shown<'a>(pub &'a Asked);
@@ -104,42 +150,9 @@ pub struct Shown<'a>(pub &'a Asked);
 impl fmt::Display for Shown<'_> {
     fn fmt<W: fmt::Write>(&self, f: &mut fmt::Formatter<W>) -> fmt::Result {
         match self.0 {
-            Asked::Register {
-                endpoint,
-                version,
-                queue,
-                lifetime,
-                binding,
-                sms,
-                objects,
-            } => {
-                let endpoint = endpoint.as_str();
-                let version = version.as_str();
-                let binding = binding.as_str();
-                let sms = sms_or_dash(sms);
-                let objects = objects.as_str();
-                write!(f, "register {endpoint} {version} {queue} {lifetime}")?;
-                write_texts(f, binding, sms, objects)
-            }
-            Asked::Update {
-                id,
-                lifetime,
-                binding,
-                sms,
-                objects,
-            } => {
-                let id = Id(*id);
-                let lifetime = Number(*lifetime);
-                let binding = binding_or_dash(binding);
-                let sms = sms_or_dash(sms);
-                let objects = objects_or_dash(objects);
-                write!(f, "update {id} {lifetime}")?;
-                write_texts(f, binding, sms, objects)
-            }
-            Asked::Deregister { id } => {
-                let id = Id(*id);
-                write!(f, "deregister {id}")
-            }
+            Asked::Register { .. } => write_register(f, self.0),
+            Asked::Update { .. } => write_update(f, self.0),
+            Asked::Deregister { id } => write_deregister(f, *id),
             Asked::Report(report) => fmt::Display::fmt(&ShownReport(report), f),
             Asked::Refuse(_) => f.write_str("refuse"),
             Asked::Ping => f.write_str("ping"),

@@ -8,21 +8,24 @@ fn letters(alloc: Global, letter: &str, length: usize) -> Result<String, Fail> {
     Ok(letter.repeat(alloc, length)?)
 }
 
-fn shows(table: &Table, rows: &[(&str, u64, Option<Stamp>)]) -> bool {
+fn shows(table: &Table, rows: &[(&str, u64, Option<Mark>)]) -> bool {
     for (endpoint, ms, id) in rows {
-        let view = table.by_endpoint(at(*ms), endpoint);
-        if view.map(|view| view.id) != *id {
+        let wanted = match id {
+            None => None,
+            Some(id) => Some((*endpoint, *id)),
+        };
+        if !is_named(table.by_endpoint(at(*ms), endpoint), wanted) {
             return false;
         }
     }
     true
 }
 
-const BY_ENDPOINT: [(&str, u64, Option<Stamp>); 9] = [
-    ("a", 59_999, Some(FIRST)),
+static BY_ENDPOINT: [(&str, u64, Option<Mark>); 9] = [
+    ("a", 59_999, Some(First)),
     ("a", 60_000, None),
-    ("b", Moment::LAST_MS, Some(SECOND)),
-    ("c", 119_999, Some(THIRD)),
+    ("b", Moment::LAST_MS, Some(Second)),
+    ("c", 119_999, Some(Third)),
     ("c", 120_000, None),
     // removed, and without a Register
     ("d", 0, None),
@@ -31,113 +34,112 @@ const BY_ENDPOINT: [(&str, u64, Option<Stamp>); 9] = [
     ("", 0, None),
 ];
 
+fn shows_long(alloc: Global, table: &Table) -> Result<bool, Fail> {
+    let long = letters(alloc, "a", 253)?;
+    Ok(table.by_endpoint(at(0), long.as_str()).is_some())
+}
+
 #[test]
 fn a_registration_by_its_endpoint(rt: HostRuntime) -> Result<(), Fail> {
     let table = table_of(rt.alloc(), &FIVE)?;
-    assert!(rt; shows(&table, &BY_ENDPOINT));
-    let long = letters(rt.alloc(), "a", 253)?;
-    assert!(rt; table.by_endpoint(at(0), long.as_str()).is_none());
-    Ok(())
+    holds("each row", shows(&table, &BY_ENDPOINT))?;
+    holds("no long one", !shows_long(rt.alloc(), &table)?)
 }
 
-fn finds(table: &Table, rows: &[(Stamp, u64, Option<&str>)]) -> bool {
+fn finds(table: &Table, rows: &[(Mark, u64, Option<&str>)]) -> bool {
     for (id, ms, endpoint) in rows {
         let wanted = match endpoint {
             None => None,
             Some(endpoint) => Some((*endpoint, *id)),
         };
-        if !is_named(table.by_id(at(*ms), *id), wanted) {
+        if !is_named(table.by_id(at(*ms), id.stamp()), wanted) {
             return false;
         }
     }
     true
 }
 
-const BY_ID: [(Stamp, u64, Option<&str>); 5] = [
-    (FIRST, 59_999, Some("a")),
-    (FIRST, 60_000, None),
-    (SECOND, Moment::LAST_MS, Some("b")),
+static BY_ID: [(Mark, u64, Option<&str>); 5] = [
+    (First, 59_999, Some("a")),
+    (First, 60_000, None),
+    (Second, Moment::LAST_MS, Some("b")),
     // removed, and without a Register
-    (FOURTH, 0, None),
-    (FIFTH, 0, None),
+    (Fourth, 0, None),
+    (Fifth, 0, None),
 ];
 
 #[test]
 fn a_registration_by_its_identifier(rt: HostRuntime) -> Result<(), Fail> {
     let table = table_of(rt.alloc(), &FIVE)?;
-    assert!(rt; finds(&table, &BY_ID));
-    Ok(())
+    holds("each row", finds(&table, &BY_ID))
 }
 
-const ONE_ID: [(&str, Change); 2] = [
-    ("b", Register(FIRST, HOST_A, 120)),
-    ("a", Register(FIRST, HOST_B, 60)),
+static ONE_ID: [(&str, Change); 2] = [
+    ("b", Register(First, HostA, 120)),
+    ("a", Register(First, HostB, 60)),
 ];
 
-const BY_ONE_ID: [(Stamp, u64, Option<&str>); 3] = [
-    (FIRST, 59_999, Some("a")),
-    (FIRST, 60_000, Some("b")),
-    (FIRST, 120_000, None),
+static BY_ONE_ID: [(Mark, u64, Option<&str>); 3] = [
+    (First, 59_999, Some("a")),
+    (First, 60_000, Some("b")),
+    (First, 120_000, None),
 ];
 
 #[test]
 fn of_one_identifier_the_least_endpoint_answers(rt: HostRuntime) -> Result<(), Fail> {
     let table = table_of(rt.alloc(), &ONE_ID)?;
-    assert!(rt; finds(&table, &BY_ONE_ID));
-    Ok(())
+    holds("each row", finds(&table, &BY_ONE_ID))
 }
 
-fn holds(table: &Table, rows: &[(Addr, u64, Option<(&str, Stamp)>)]) -> bool {
-    for (address, ms, wanted) in rows {
-        if !is_named(table.by_address(at(*ms), *address), *wanted) {
+fn answers(table: &Table, rows: &[(Host, u64, Option<(&str, Mark)>)]) -> bool {
+    for (host, ms, wanted) in rows {
+        if !is_named(table.by_address(at(*ms), host.address()), *wanted) {
             return false;
         }
     }
     true
 }
 
-const WRITES: [(&str, Change); 4] = [
-    ("a", Register(FIRST, HOST_A, 120)),
-    ("b", Register(SECOND, HOST_A, 0)),
-    ("c", Register(THIRD, HOST_B, 60)),
-    ("a", Move(FOURTH, FIRST, HOST_A)),
+static WRITES: [(&str, Change); 4] = [
+    ("a", Register(First, HostA, 120)),
+    ("b", Register(Second, HostA, 0)),
+    ("c", Register(Third, HostB, 60)),
+    ("a", Move(Fourth, First, HostA)),
 ];
 
-const BY_ADDRESS: [(Addr, u64, Option<(&str, Stamp)>); 4] = [
-    (HOST_A, 119_999, Some(("a", FIRST))),
-    (HOST_A, 120_000, Some(("b", SECOND))),
-    (HOST_B, 59_999, Some(("c", THIRD))),
-    (HOST_B, 60_000, None),
+static BY_ADDRESS: [(Host, u64, Option<(&str, Mark)>); 4] = [
+    (HostA, 119_999, Some(("a", First))),
+    (HostA, 120_000, Some(("b", Second))),
+    (HostB, 59_999, Some(("c", Third))),
+    (HostB, 60_000, None),
 ];
 
 #[test]
 fn the_last_write_of_an_address_answers(rt: HostRuntime) -> Result<(), Fail> {
     let table = table_of(rt.alloc(), &WRITES)?;
-    assert!(rt; holds(&table, &BY_ADDRESS));
-    Ok(())
+    holds("each row", answers(&table, &BY_ADDRESS))
 }
 
-const WRITES_AT_ONE_STAMP: [(&str, Change); 3] = [
-    ("z", Register(SECOND, HOST_A, 0)),
-    ("y", Register(SECOND, HOST_A, 60)),
-    ("x", Register(FIRST, HOST_A, 0)),
+static WRITES_AT_ONE_STAMP: [(&str, Change); 3] = [
+    ("z", Register(Second, HostA, 0)),
+    ("y", Register(Second, HostA, 60)),
+    ("x", Register(First, HostA, 0)),
 ];
 
-const OF_ONE_STAMP: [(Addr, u64, Option<(&str, Stamp)>); 3] = [
-    (HOST_A, 59_999, Some(("y", SECOND))),
-    (HOST_A, 60_000, Some(("z", SECOND))),
-    (HOST_B, 0, None),
+static OF_ONE_STAMP: [(Host, u64, Option<(&str, Mark)>); 3] = [
+    (HostA, 59_999, Some(("y", Second))),
+    (HostA, 60_000, Some(("z", Second))),
+    (HostB, 0, None),
 ];
 
 #[test]
 fn of_two_writes_at_one_stamp_the_least_endpoint_answers(rt: HostRuntime) -> Result<(), Fail> {
     let table = table_of(rt.alloc(), &WRITES_AT_ONE_STAMP)?;
-    assert!(rt; holds(&table, &OF_ONE_STAMP));
-    Ok(())
+    holds("each row", answers(&table, &OF_ONE_STAMP))
 }
 
 /// A text to go on from, or none, a moment, and what comes next.
-type Next = (Option<&'static str>, u64, Option<(&'static str, Stamp)>);
+type Next = (Option<&'static str>, u64, Option<(&'static str, Mark)>);
 
 fn goes_on(table: &Table, rows: &[Next]) -> bool {
     for (after, ms, wanted) in rows {
@@ -148,14 +150,14 @@ fn goes_on(table: &Table, rows: &[Next]) -> bool {
     true
 }
 
-const SHOWN: [Next; 10] = [
-    (None, 59_999, Some(("a", FIRST))),
-    (None, 60_000, Some(("b", SECOND))),
-    (Some(""), 0, Some(("a", FIRST))),
-    (Some("A"), 0, Some(("a", FIRST))),
-    (Some("a"), 0, Some(("b", SECOND))),
-    (Some("aa"), 0, Some(("b", SECOND))),
-    (Some("b"), 119_999, Some(("c", THIRD))),
+static SHOWN: [Next; 10] = [
+    (None, 59_999, Some(("a", First))),
+    (None, 60_000, Some(("b", Second))),
+    (Some(""), 0, Some(("a", First))),
+    (Some("A"), 0, Some(("a", First))),
+    (Some("a"), 0, Some(("b", Second))),
+    (Some("aa"), 0, Some(("b", Second))),
+    (Some("b"), 119_999, Some(("c", Third))),
     (Some("b"), 120_000, None),
     // removed, and without a Register
     (Some("c"), 0, None),
@@ -165,14 +167,13 @@ const SHOWN: [Next; 10] = [
 #[test]
 fn the_next_that_is_shown(rt: HostRuntime) -> Result<(), Fail> {
     let table = table_of(rt.alloc(), &FIVE)?;
-    assert!(rt; goes_on(&table, &SHOWN));
-    Ok(())
+    holds("each row", goes_on(&table, &SHOWN))
 }
 
-fn is_expired(found: Option<(&str, Stamp)>, wanted: Option<(&str, Stamp)>) -> bool {
+fn is_expired(found: Option<(&str, Stamp)>, wanted: Option<(&str, Mark)>) -> bool {
     match (found, wanted) {
         (None, None) => true,
-        (Some(found), Some(wanted)) => found.0 == wanted.0 && found.1 == wanted.1,
+        (Some(found), Some(wanted)) => found.0 == wanted.0 && found.1 == wanted.1.stamp(),
         _ => false,
     }
 }
@@ -186,13 +187,13 @@ fn expires(table: &Table, rows: &[Next]) -> bool {
     true
 }
 
-const EXPIRED: [Next; 8] = [
+static EXPIRED: [Next; 8] = [
     (None, 59_999, None),
-    (None, 60_000, Some(("a", FIRST))),
-    (Some(""), 60_000, Some(("a", FIRST))),
+    (None, 60_000, Some(("a", First))),
+    (Some(""), 60_000, Some(("a", First))),
     (Some("a"), 119_999, None),
-    (Some("a"), 120_000, Some(("c", THIRD))),
-    (Some("b"), 120_000, Some(("c", THIRD))),
+    (Some("a"), 120_000, Some(("c", Third))),
+    (Some("b"), 120_000, Some(("c", Third))),
     // removed, and without a Register
     (Some("c"), Moment::LAST_MS, None),
     (Some("e"), Moment::LAST_MS, None),
@@ -201,21 +202,23 @@ const EXPIRED: [Next; 8] = [
 #[test]
 fn the_next_that_has_expired(rt: HostRuntime) -> Result<(), Fail> {
     let table = table_of(rt.alloc(), &FIVE)?;
-    assert!(rt; expires(&table, &EXPIRED));
-    Ok(())
+    holds("each row", expires(&table, &EXPIRED))
+}
+
+fn goes_on_from(table: &Table, text: &str) -> bool {
+    let after = Some(text);
+    is_named(table.first_after(at(0), after), Some(("b", Second)))
+        && is_expired(table.expired_after(at(120_000), after), Some(("c", Third)))
 }
 
 #[test]
 fn a_text_longer_than_an_endpoint_is_gone_on_from(rt: HostRuntime) -> Result<(), Fail> {
     let table = table_of(rt.alloc(), &FIVE)?;
     let text = letters(rt.alloc(), "a", 253)?;
-    let after = Some(text.as_str());
-    assert!(rt; is_named(table.first_after(at(0), after), Some(("b", SECOND))));
-    assert!(rt; is_expired(table.expired_after(at(120_000), after), Some(("c", THIRD))));
-    Ok(())
+    holds("the next", goes_on_from(&table, text.as_str()))
 }
 
-const NOTHING: [Next; 2] = [(None, 0, None), (Some("a"), 0, None)];
+static NOTHING: [Next; 2] = [(None, 0, None), (Some("a"), 0, None)];
 
 fn shows_nothing(table: &Table) -> bool {
     table.by_endpoint(at(0), "a").is_none()
@@ -228,9 +231,9 @@ fn shows_nothing(table: &Table) -> bool {
 }
 
 #[test]
-fn a_new_table_shows_nothing(rt: HostRuntime) {
+fn a_new_table_shows_nothing(rt: HostRuntime) -> Result<(), Fail> {
     let table = Table::new(rt.alloc());
-    assert!(rt; shows_nothing(&table));
+    holds("nothing", shows_nothing(&table))
 }
 
 /// A Register of `w` with all that it can have.
@@ -285,16 +288,16 @@ fn watches_whole(table: &Table, now: Moment) -> bool {
 
 fn whole_table(alloc: Global) -> Result<Table, Fail> {
     let mut table = Table::new(alloc);
-    let register = whole(alloc)?;
-    table.join(&endpoint(alloc, "w")?, register)?;
-    join(alloc, &mut table, "w", &Observe(FOURTH, THIRD, 3))?;
+    join_slot(alloc, &mut table, "w", whole(alloc)?)?;
+    join(alloc, &mut table, "w", Observe(Fourth, Third, 3))?;
     Ok(table)
 }
 
 #[test]
 fn each_look_up_shows_the_whole_registration(rt: HostRuntime) -> Result<(), Fail> {
     let table = whole_table(rt.alloc())?;
-    assert!(rt; has_whole(&table, at(30_006)));
-    assert!(rt; watches_whole(&table, at(30_006)));
-    Ok(())
+    holds(
+        "the whole",
+        has_whole(&table, at(30_006)) && watches_whole(&table, at(30_006)),
+    )
 }
