@@ -3,3 +3,5 @@ pub mod Agreement
 pub mod Lawful
 pub mod Joining
 pub mod Longer
+pub mod Shown
+pub mod Marking

@@ -5,3 +5,4 @@ pub mod Looks
 pub mod Shelves
 pub mod Laws
 pub mod Joint
+pub mod Marked
