@@ -20,3 +20,15 @@ pub returns-in_err-reserve-clause-never_refused : goal.returns-in_err-reserve-cl
 returns-in_err-reserve-clause-never_refused g c = λ none.
     let counted : c.count_missing-missing.result ≡ missing g.K.Ord.cmp c.args.into.now.items c.args.from.items = c.count_missing-missing.ensures ∙ (λ i. missing g.K.Ord.cmp (c.deref.ensures.value i) (c.deref-2.ensures.value i)) in
     absurd (omega (arith, counted, none, c.in_err-reserve.ensures.full, c.args.into.now.ok.0, c.args.into.now.ok))
+
+pub returns-in_err-reserve-clause-err : goal.returns-in_err-reserve-clause-err
+returns-in_err-reserve-clause-err c = search rules
+
+pub fill-requires-clause-rises : goal.fill-requires-clause-rises
+fill-requires-clause-rises c = search rules
+
+pub fill-requires-clause-room : goal.fill-requires-clause-room
+fill-requires-clause-room c = search rules
+
+pub returns-clause-ok : goal.returns-clause-ok
+returns-clause-ok c = search rules

@@ -1,4 +1,4 @@
-use Rattle.std.proofs.Common.{◌∙◌, refl, sym, ap}
+use Rattle.std.proofs.Common.{◌∙◌, refl, sym, ap, rules}
 use Rattle.lw_join.specs.declared.or_gone.OrGone.TheVariants.{Here}
 use Rattle.lw_reg.specs.Kept.{told_in}
 use Rattle.lw_reg.proofs.NothingLemmas.{nothing_below_told, told_below_nothing}
@@ -13,3 +13,9 @@ returns-in-Known-Nothing c =
 
 pub returns-in-Nothing-default-2 : goal.returns-in-Nothing-default-2
 returns-in-Nothing-default-2 c = (λ h. nothing_below_told c.args.self.now c.args.other.now (sym c.self.view_is ∙ ap told_in c.in-Nothing-default.is-0), λ h. refl)
+
+pub returns-in-Removed-default : goal.returns-in-Removed-default
+returns-in-Removed-default c = search rules
+
+pub returns-in-Removed-default-2 : goal.returns-in-Removed-default-2
+returns-in-Removed-default-2 c = search rules
