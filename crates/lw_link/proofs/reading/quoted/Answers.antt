@@ -1,4 +1,4 @@
-use Rattle.std.proofs.Common.{string_bytes, ap, arith, length}
+use Rattle.std.proofs.Common.{string_bytes, ap, arith, length, rules}
 use Rattle.lw_link.proofs.Walk.{still_whole, item_more}
 use Rattle.lw_link.proofs.reading.quoted.Goals as goal
 
@@ -13,3 +13,6 @@ loop-c-preserved c =
       item_more c.args.scanner.now l.scanner c.take.new.self c.item.new.scanner (string_bytes l.text) (string_bytes c.push.new.self) c.in-Some.c c.item.result c.in-Some.ensures c.item.ensures.taken c.in_ok-push.ensures.bytes l.invariant.0,
       omega (arith, ap length c.in-Some.ensures, c.item.ensures.shorter, l.invariant.1),
     )
+
+pub returns-clause-taken : goal.returns-clause-taken
+returns-clause-taken c = search rules
