@@ -1,6 +1,6 @@
 -- What an endpoint is filed under while its row comes or moves.
 use Rattle.std.proofs.Common.{◌≡◌, ◌↔◌, ◌⊎◌, inl, inr, ℕ, Bool, true, false, not, List, Option, Some, None, Result, Ok, Err, refl, sym, ap, subst}
-use Rattle.std.specs.Prelude.{OnOk, OnErr, IsErr, IsTrue}
+use Rattle.std.specs.Prelude.{OnOk, OnErr, IsErr, IsTrue, Contains}
 use Rattle.std.specs.Ordering.{nat_cmp, match_ordering}
 use Rattle.std.specs.declared.cmp.Ordering.{Ordering}
 use Rattle.std.specs.declared.cmp.Ordering.TheVariants.{Less, Equal, Greater}
@@ -77,11 +77,20 @@ module _ (old new : Filed) (e : List ℕ) (kept : Bool) (keys : List Key) (numbe
     numbers_from = λ n h. elim (between.numbers_from n h) [ inl was ↦ inl ((filed.numbers n).0 was) | inr same ↦ inr same ];
   }
 
-  module _ (all : HasAll new e kept keys number) (slot : Slot) (is_kept : (kept ≡ true) ↔ (IsRemoved slot → ⊥)) where
+  module _ (all : HasAll new e kept keys number) (slot : Slot) where
+    moved_name : (row : Row) → IsFiled old e (Some row) → (IsRemoved row.slot → (IsRemoved slot → ⊥) → kept ≡ true) → (IsRemoved (slot_join row.slot slot) → ⊥) → Contains new.names e
+    moved_name row filed revived h = elim (kept_from row.slot slot h) [
+      | inl was ↦ between.name_stays (filed.name.1 was)
+      | inr is ↦ elim (here_or_gone row.slot.registration.value) [
+        | inl gone ↦ all.has_name (revived gone is)
+        | inr was ↦ between.name_stays (filed.name.1 was)
+      ]
+    ]
+
     -- with the row that moved
-    pub over_moved : (row : Row) → IsFiled old e (Some row) → IsTurning (Some row.slot) slot keys → IsOver new e (Some (moved_row row slot number)) keys row.number
-    over_moved row filed turning = record {
-      name = λ h. elim (kept_from row.slot slot h) [ inl was ↦ between.name_stays (filed.name.1 was) | inr is ↦ all.has_name (is_kept.1 is) ];
+    pub over_moved : (row : Row) → IsFiled old e (Some row) → (IsRemoved row.slot → (IsRemoved slot → ⊥) → kept ≡ true) → IsTurning (Some row.slot) slot keys → IsOver new e (Some (moved_row row slot number)) keys row.number
+    over_moved row filed revived turning = record {
+      name = moved_name row filed revived;
       keys_has = λ k h. elim (turning.gained k h) [ inl was ↦ between.keys_stay k ((filed.keys k).1 was) | inr listed ↦ all.has_keys k listed ];
       keys_from = λ k h. elim (between.keys_from k h) [ inl was ↦ turning.lost k ((filed.keys k).0 was) | inr listed ↦ inr listed ];
       numbers_has = λ n h. subst (λ m. Has nat_cmp new.numbers m e) (same_number number n h) all.has_number;
@@ -89,8 +98,8 @@ module _ (old new : Filed) (e : List ℕ) (kept : Bool) (keys : List Key) (numbe
     }
 
     -- with the first row
-    pub filed_first : IsFiled old e None → IsTurning None slot keys → IsFiled new e (Some (record { slot = slot; number = number }))
-    filed_first filed turning = record {
+    pub filed_first : ((kept ≡ true) ↔ (IsRemoved slot → ⊥)) → IsFiled old e None → IsTurning None slot keys → IsFiled new e (Some (record { slot = slot; number = number }))
+    filed_first is_kept filed turning = record {
       name = (λ h. elim (between.name_from h) [ inl was ↦ absurd (filed.name.0 was) | inr is ↦ is_kept.0 is ], λ h. all.has_name (is_kept.1 h));
       keys = λ k. (
         λ h. elim (between.keys_from k h) [ inl was ↦ absurd ((filed.keys k).0 was) | inr listed ↦ turning.first refl k listed ],

@@ -1,5 +1,5 @@
 -- The names of a set of strings.
-use Rattle.std.proofs.Common.{◌≡◌, ◌↔◌, ◌≢◌, ◌⊎◌, inl, inr, ℕ, Bool, true, false, cond, ◌&&◌, List, [], ◌∷◌, map, Some, refl, sym, ap, ◌∙◌, subst}
+use Rattle.std.proofs.Common.{◌≡◌, ◌↔◌, ◌≢◌, ◌⊎◌, inl, inr, ℕ, Bool, true, false, cond, ◌&&◌, List, [], ◌∷◌, map, Some, refl, sym, ap, ◌∙◌}
 use Rattle.std.specs.Prelude.{Contains, String, string_bytes, bytes_eq, filter}
 use Rattle.std.specs.BTreeSet.{BTreeSet, contains_text, UpdatesBy}
 use Rattle.std.specs.Cmp.Lexicographic.{slice_cmp, nat_list_cmp_total}
@@ -45,10 +45,6 @@ module _ {Z : Type 0} (s n : BTreeSet (String Z)) (name : List ℕ) where
         λ k. ((named s e).1 (sym is ∙ (named n e).0 k), λ same. let t : bytes_eq name e ≡ true = (bytes_eq-Decides name e).1 (sym same) in absurd cc),
         λ k. (named n e).1 (is ∙ (named s e).0 k.0),
       )
-
--- a name that is there, put once more
-pub again : {Z : Type 0} (s : BTreeSet (String Z)) (name : List ℕ) → contains_text s name ≡ true → (e : List ℕ) → Contains (map string_bytes s.keys) e ↔ (Contains (map string_bytes s.keys) e ⊎ (e ≡ name))
-again s name there e = (inl, λ k. elim k [ inl old ↦ old | inr same ↦ subst (Contains (map string_bytes s.keys)) (sym same) ((named s name).1 there) ])
 
 -- ---- names above one
 module _ {Z : Type 0} where

@@ -1,8 +1,9 @@
 //! A row that comes or moves, and what is filed of its endpoint.
 
-ghost use Rattle.std.specs.Prelude.{◌≡◌, ◌≢◌, ℕ, List, Some, None, OnOk, OnErr};
+ghost use Rattle.std.specs.Prelude.{◌≡◌, ◌≢◌, ◌↔◌, ℕ, List, Some, None, OnOk, OnErr, IsTrue};
 ghost use Rattle.std.specs.BTreeMap.{IsOrdered, get_by_text};
 ghost use Rattle.std.specs.String.{string_cmp};
+ghost use Rattle.lw_reg.specs.Reading.{IsRemoved};
 ghost use Rattle.lw_table.specs.Filed.{IsFiled, IsOver, OthersSame};
 ghost use Rattle.lw_table.specs.Moves.{moved_row, next_row, PutsRow, SameRows};
 ghost use Rattle.lw_table.specs.Turning.{IsTurning};
@@ -83,10 +84,17 @@ fn try_move(
     ensures moved { OnOk result ((row.new ≡ moved_row row.old slot number) × IsOver filed.new endpoint.now (Some row.new) keys.now row.old.number) }
     ensures unchanged { OnErr result ((row.new ≡ row.old) × IsOver filed.new endpoint.now (Some row.new) keys.now number) }
 {
-    filed.enter(alloc, endpoint, !slot.is_removed(), keys, number)?;
+    filed.enter(alloc, endpoint, may_revive(row, &slot), keys, number)?;
     row.slot.join_with(slot)?;
     row.number = number;
     Ok(())
+}
+
+// Whether the row's registration was removed, and the slot's was not: else its name is filed where it is to be.
+fn may_revive(row: &Row, slot: &Slot) -> bool
+    ensures { IsTrue result ↔ (IsRemoved row.now.slot × ¬ IsRemoved slot.now) }
+{
+    row.slot.is_removed() && !slot.is_removed()
 }
 
 // Puts the first row of an endpoint into the map.

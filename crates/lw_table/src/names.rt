@@ -43,14 +43,10 @@ impl Names {
         }
     }
 
-    /// A name that is there takes no memory.
     pub(crate) fn add(&mut self, alloc: Global, endpoint: &str) -> Result<(), NoMemory>
         ensures added { OnOk result ((e : List ℕ) → Contains self.new e ↔ (Contains self.old e ⊎ (e ≡ endpoint.now))) }
         ensures unchanged { OnErr result (self.new ≡ self.old) }
     {
-        if self.names.contains(endpoint) {
-            return Ok(());
-        }
         self.make_room(alloc)?;
         self.names.insert(String::from_str(alloc, endpoint)?)?;
         Ok(())

@@ -205,6 +205,26 @@ fn the_next_that_has_expired(rt: HostRuntime) -> Result<(), Fail> {
     holds("each row", expires(&table, &EXPIRED))
 }
 
+/// `a` is removed, and then registers once more.
+static AGAIN: [(&str, Change); 3] = [
+    ("a", Register(First, HostA, 60)),
+    ("a", Remove(Second, First)),
+    ("a", Register(Third, HostB, 60)),
+];
+
+static SHOWN_AGAIN: [Next; 2] = [(None, 59_999, Some(("a", Third))), (None, 60_000, None)];
+
+static EXPIRED_AGAIN: [Next; 2] = [(None, 59_999, None), (None, 60_000, Some(("a", Third)))];
+
+#[test]
+fn what_registers_once_more_is_gone_on_to(rt: HostRuntime) -> Result<(), Fail> {
+    let table = table_of(rt.alloc(), &AGAIN)?;
+    holds(
+        "each row",
+        goes_on(&table, &SHOWN_AGAIN) && expires(&table, &EXPIRED_AGAIN),
+    )
+}
+
 fn goes_on_from(table: &Table, text: &str) -> bool {
     let after = Some(text);
     is_named(table.first_after(at(0), after), Some(("b", Second)))

@@ -3,7 +3,7 @@ use Rattle.lw_table.specs.Filed.{IsOver}
 use Rattle.lw_table.specs.Moves.{moved_row}
 use Rattle.lw_table.specs.declared.row.Row.{Row}
 use Rattle.lw_reg.specs.declared.slot.Slot.{Slot}
-use Rattle.lw_table.proofs.MoveLemmas.{err_not, err_then, kept_is, over_old, over_moved}
+use Rattle.lw_table.proofs.MoveLemmas.{err_not, err_then, over_old, over_moved}
 use Rattle.lw_table.proofs.moves.try_move.Goals as goal
 
 pub returns-in_err-enter : goal.returns-in_err-enter
@@ -39,7 +39,7 @@ returns c =
         moved,
         subst (λ r. IsOver c.enter.new.self c.args.endpoint.now (Some r) c.args.keys.now row.number) (sym moved)
             (over_moved c.args.filed.now c.enter.new.self c.args.endpoint.now _ c.args.keys.now c.args.number c.enter.ensures.between c.in_ok-enter.ensures.all c.args.slot
-            (kept_is c.args.slot c.is_removed.result c.is_removed.ensures) row c.requires.filed c.requires.keys),
+            row c.requires.filed (λ gone here. c.may_revive.ensures.1 (gone, here)) c.requires.keys),
       );
       unchanged = tt;
     }

@@ -1,12 +1,7 @@
-use Rattle.std.proofs.Common.{◌≡◌, ◌↔◌, ◌⊎◌, ℕ, List, map, string_bytes, subst, sym, ◌∙◌}
+use Rattle.std.proofs.Common.{◌≡◌, ◌↔◌, ◌⊎◌, ℕ, List, map, string_bytes, subst}
 use Rattle.std.specs.Prelude.{Contains}
-use Rattle.lw_table.proofs.NameLemmas.{added, again}
+use Rattle.lw_table.proofs.NameLemmas.{added}
 use Rattle.lw_table.proofs.names.Names.add.Goals as goal
-
-pub returns-then-contains-clause-added : goal.returns-then-contains-clause-added
-returns-then-contains-clause-added c =
-    subst (λ (l : List (List ℕ)). (e : List ℕ) → Contains l e ↔ (Contains l e ⊎ (e ≡ c.args.endpoint.now))) c.self.view_is
-    (again c.self.inside.names c.args.endpoint.now (sym c.contains.ensures ∙ c.if-contains.true))
 
 pub returns-clause-added : goal.returns-clause-added
 returns-clause-added c =
