@@ -35,17 +35,27 @@ pub(crate) const FULL: Plan = Plan {
 };
 
 const HEADING: &str =
-    "nanoseconds of a call at three sizes, growth from size to size in hundredths, MB/s";
+    "nanoseconds of a call at three sizes, growth from size to size in hundredths, MB/s\n";
 
-/// The whole table. Memory comes first, while nothing that was freed is kept.
+/// The word that each row has.
+pub(crate) const ALL: &str = "";
+
+/// The whole table, or, of a word, the rows whose name has it. Memory comes first, while nothing that was freed is kept.
 pub(crate) fn table<R: AllocGlobal + CpuClock + Files + Wait>(
     rt: &R,
     plan: Plan,
+    word: &str,
 ) -> Result<String, BenchFault> {
-    let mut text = sizes_text(rt, plan)?;
+    let mut text = String::new(rt.alloc());
+    if word == ALL {
+        text.push_str(sizes_text(rt, plan)?.as_str())?;
+    }
+    text.push_str(HEADING)?;
     for (name, operation) in ROWS {
-        let row = row_text(rt, plan, name, operation)?;
-        text.push_str(row.as_str())?;
+        if name.contains(word) {
+            let row = row_text(rt, plan, name, operation)?;
+            text.push_str(row.as_str())?;
+        }
     }
     Ok(text)
 }
@@ -53,7 +63,7 @@ pub(crate) fn table<R: AllocGlobal + CpuClock + Files + Wait>(
 fn sizes_text<R: AllocGlobal + Files + Wait>(rt: &R, plan: Plan) -> Result<String, BenchFault> {
     let sizes = measure_sizes(rt, rt.alloc(), plan.large)?;
     let text = format!(in rt.alloc();
-        "bytes of a registration: {}\nbytes of a removed one: {}\nbytes of an index key: {}\nbytes of an Update in journal and transcript: {}\n\n{HEADING}\n",
+        "bytes of a registration: {}\nbytes of a removed one: {}\nbytes of an index key: {}\nbytes of an Update in journal and transcript: {}\n\n",
         sizes.registration, sizes.removed, sizes.index_key, sizes.update
     )?;
     Ok(text)
