@@ -38,6 +38,8 @@ enum Doing {
 /// The events so far, and what the nodes have exchanged in them.
 #[derive(Drop)]
 struct Story {
+    /// In which order the endpoints come.
+    order: Order,
     events: Vec<Event>,
     /// How many messages were sent.
     messages: usize,
@@ -49,10 +51,11 @@ struct Story {
 
 /// So many endpoints register, then each is updated, and then each is looked up. After each turn of the first two, and
 /// after the last, every node sends what has changed since it sent last, and every message is delivered at each other node.
-pub(crate) fn events(alloc: Global, count: u32) -> Result<Vec<Event>, BenchFault>
+pub(crate) fn events(alloc: Global, order: Order, count: u32) -> Result<Vec<Event>, BenchFault>
     ensures { IfOk result (λ events. vec_len events ≡ events_of count) }
 {
     let mut story = Story {
+        order,
         events: Vec::new(alloc),
         messages: 0,
         known: 0,
@@ -70,8 +73,8 @@ pub(crate) fn updated() -> Result<Moment, BenchFault> {
 }
 
 /// The name of the endpoint of this place.
-pub(crate) fn endpoint_at(alloc: Global, place: u32) -> Result<String, AllocError> {
-    name_of(alloc, Order::Scattered.number_at(place))
+pub(crate) fn endpoint_at(alloc: Global, order: Order, place: u32) -> Result<String, AllocError> {
+    name_of(alloc, order.number_at(place))
 }
 
 /// The identifier of the registration of this place: nodes register in turn, and each counts its own.
@@ -116,7 +119,7 @@ impl Story {
         for place in first..end {
             let event = Event {
                 node: doing.node(place),
-                action: doing.action(alloc, place)?,
+                action: doing.action(alloc, self.order, place)?,
             };
             self.events.push(event)?;
         }
@@ -174,11 +177,11 @@ impl Doing {
         }
     }
 
-    fn action(self, alloc: Global, place: u32) -> Result<Action, BenchFault> {
+    fn action(self, alloc: Global, order: Order, place: u32) -> Result<Action, BenchFault> {
         let mut bytes = Vec::new(alloc);
         let now = match self {
             Doing::Register => {
-                put_register(&mut bytes, endpoint_at(alloc, place)?.as_str(), 0, 0)?;
+                put_register(&mut bytes, endpoint_at(alloc, order, place)?.as_str(), 0, 0)?;
                 Moment::START
             }
             Doing::Update => {

@@ -3,6 +3,7 @@ use lw_delta::DeltaFault;
 use lw_link::LinkFault;
 use lw_node::MergeFault;
 use lw_script::ScriptFault;
+use lw_serve::ServeFault;
 use lw_stamp::NoMemory;
 use std::alloc::{AllocError, AllocFailed};
 use std::io;
@@ -12,7 +13,7 @@ use std::io;
 pub(crate) enum BenchFault {
     /// An answer is not the one that was expected.
     Unexpected,
-    /// A clock, a file or the output failed.
+    /// A clock, a file, a socket or the output failed.
     Device,
     NoMemory,
 }
@@ -67,6 +68,12 @@ impl From<MergeFault> for BenchFault {
 
 impl From<ScriptFault> for BenchFault {
     fn from(_fault: ScriptFault) -> BenchFault {
+        BenchFault::Unexpected
+    }
+}
+
+impl From<ServeFault> for BenchFault {
+    fn from(_fault: ServeFault) -> BenchFault {
         BenchFault::Unexpected
     }
 }

@@ -95,11 +95,16 @@ pub(crate) fn make_all(
     Ok(())
 }
 
+/// The counters of stamps are below it.
+const COUNTERS: u64 = 1 << 48;
+
 /// The stamp of the operation with this place, from 0, behind so many others, at node 1.
 fn stamp_at(before: u64, place: u32) -> Result<Stamp, BenchFault> {
     let counter = before.saturating_add(u64::from(place)).saturating_add(1);
-    let [_, _, a, b, c, d, e, f] = counter.to_be_bytes();
-    Stamp::from_bytes([a, b, c, d, e, f, 0, 1]).ok_or(BenchFault::Unexpected)
+    if counter >= COUNTERS {
+        return Err(BenchFault::Unexpected);
+    }
+    Ok(Stamp { counter, node: 1 })
 }
 
 /// Where the device of this place sends from.

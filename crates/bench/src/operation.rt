@@ -29,7 +29,7 @@ pub(crate) enum Operation {
 const LONG_CALLS: u32 = 1000;
 
 /// What is measured and its name, in the order of the table.
-pub(crate) const ROWS: [(&str, Operation); 26] = [
+pub(crate) const ROWS: [(&str, Operation); 27] = [
     (
         "take of a new Register, names rising",
         Operation::Node(NodeCalls {
@@ -158,7 +158,14 @@ pub(crate) const ROWS: [(&str, Operation); 26] = [
         "LinkText::read, a printing of 256 links",
         Operation::Request(RequestCall::ReadLinks),
     ),
-    ("a run of 4 nodes, each event", Operation::Run(RunCall::Run)),
+    (
+        "a run of 4 nodes, names rising, each event",
+        Operation::Run(RunCall::Run(Order::Rising)),
+    ),
+    (
+        "a run of 4 nodes, names scattered, each event",
+        Operation::Run(RunCall::Run(Order::Scattered)),
+    ),
     (
         "read_script of such a run, each event",
         Operation::Run(RunCall::ReadScript),

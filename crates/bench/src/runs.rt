@@ -6,6 +6,7 @@ ghost use Rattle.bench.specs.Calls.{events_of};
 use crate::cost::Cost;
 use crate::events::{NODES, endpoint_at, events, id_at, updated};
 use crate::fault::BenchFault;
+use crate::names::Order;
 use crate::script::script_of;
 use lw_node::Answer;
 use lw_script::read_script;
@@ -17,7 +18,8 @@ use std::time::CpuClock;
 /// A call with the events of a run, where each counts as a call.
 #[derive(Clone, Copy)]
 pub(crate) enum RunCall {
-    Run,
+    /// Of endpoints in this order.
+    Run(Order),
     ReadScript,
 }
 
@@ -34,10 +36,9 @@ impl RunCall {
     ) -> Result<Cost, BenchFault>
         ensures { IfOk result (λ cost. cost.calls ≡ events_of count) }
     {
-        let events = events(alloc, count)?;
         match self {
-            RunCall::Run => run_all(clock, alloc, &events, count),
-            RunCall::ReadScript => read_all(clock, alloc, &events),
+            RunCall::Run(order) => run_all(clock, alloc, order, count),
+            RunCall::ReadScript => read_all(clock, alloc, &events(alloc, Order::Scattered, count)?),
         }
     }
 }
@@ -45,17 +46,18 @@ impl RunCall {
 fn run_all<C: CpuClock>(
     clock: &C,
     alloc: Global,
-    events: &[Event],
+    order: Order,
     count: u32,
 ) -> Result<Cost, BenchFault>
-    ensures { IfOk result (λ cost. cost.calls ≡ length events.now) }
+    ensures { IfOk result (λ cost. cost.calls ≡ events_of count) }
 {
-    let calls = calls_of(events)?;
+    let events = events(alloc, order, count)?;
+    let calls = calls_of(&events)?;
     let start = clock.thread_cpu_time()?;
-    let (world, outcomes) = run(alloc, NODES, events)?;
+    let (world, outcomes) = run(alloc, NODES, &events)?;
     let cost = Cost::since(clock, start, calls, 0)?;
     if outcomes.len() == events.len() && outcomes.iter().all(is_good) {
-        see_all(alloc, &world, count)?;
+        see_all(alloc, &world, order, count)?;
         Ok(cost)
     } else {
         Err(BenchFault::Unexpected)
@@ -100,10 +102,10 @@ fn is_success(message: &[u8]) -> bool {
 }
 
 /// Each endpoint has to be shown at every node, as it was updated.
-fn see_all(alloc: Global, world: &World, count: u32) -> Result<(), BenchFault> {
+fn see_all(alloc: Global, world: &World, order: Order, count: u32) -> Result<(), BenchFault> {
     let now = updated()?;
     for place in 0..count {
-        let name = endpoint_at(alloc, place)?;
+        let name = endpoint_at(alloc, order, place)?;
         if !is_shown(world, now, name.as_str(), id_at(place)) {
             return Err(BenchFault::Unexpected);
         }

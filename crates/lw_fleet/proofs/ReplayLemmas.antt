@@ -7,7 +7,7 @@ use Rattle.lw_world.specs.declared.event.Event.{Event}
 use Rattle.lw_world.specs.declared.outcome.Outcome.{Outcome}
 use Rattle.lw_world.specs.Run.{History, Runs, begun}
 use Rattle.lw_world.specs.World.{WorldContent, world_of}
-use Rattle.lw_script.specs.Script.{lines_of, AreLines, IsFirstBad, IsScript}
+use Rattle.lw_script.specs.Script.{lines_of, AreLines, IsFirstBad, IsScript, ScriptContent}
 use Rattle.lw_fleet.specs.declared.fault.Fault.{Fault}
 use Rattle.lw_fleet.specs.declared.fault.Fault.TheVariants.{ReadFailed, TooLong, LineRefused, WriteFailed, NoMemory}
 use Rattle.lw_fleet.specs.Output.{AppendsFront}
@@ -89,6 +89,14 @@ between nodes events bytes is = of_lines (lines_of bytes) is
     of_lines : (lines : List (List ℕ)) → AreLines nodes events lines → (1 ≤ nodes) × (nodes ≤ 16)
     of_lines [] none = absurd none
     of_lines (first ∷ others) are = (are.0.some, omega (arith, are.0.number_is.fits))
+
+-- what a script that was read lends is spelled by the bytes that were read
+pub spelled : (bytes seen : List ℕ) (nodes : ℕ) (events : List Event) (content : ScriptContent) (lent : List Event)
+    → seen ≡ bytes → content ≡ record { nodes = nodes; events = events } → lent ≡ content.events → IsScript nodes events seen → IsScript content.nodes lent bytes
+spelled bytes seen nodes events content lent same is_content is_lent is =
+    let of_bytes = subst (λ (b : List ℕ). IsScript nodes events b) same is in
+    let of_content = subst (λ (s : ScriptContent). IsScript s.nodes s.events bytes) (sym is_content) of_bytes in
+    subst (λ (es : List Event). IsScript content.nodes es bytes) (sym is_lent) of_content
 
 -- the bytes were read, and their run has these outcomes
 module _ (input before after : Option (List ℕ)) (bytes : List ℕ) (nodes : ℕ) (events : List Event) (outcomes : List Outcome) (world : WorldContent)

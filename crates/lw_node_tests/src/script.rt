@@ -119,3 +119,22 @@ fn other_lines_are_refused(rt: HostRuntime) {
         );
     }
 }
+
+/// Texts, and whether they are the digits of whole bytes.
+const DIGITS: [(&[u8], bool); 8] = [
+    (b"", true),
+    (b"00", true),
+    (b"09afAF", true),
+    (b"0", false),
+    (b"000", false),
+    (b"0g", false),
+    (b"@0", false),
+    (b" 00 ", false),
+];
+
+#[test]
+fn digits_of_whole_bytes(rt: HostRuntime) {
+    for (text, are_digits) in DIGITS {
+        assert_eq!(rt; is_hex(text), are_digits, "{text:?}");
+    }
+}

@@ -37,7 +37,8 @@ pub(crate) fn datagram(alloc: Global, text: &str) -> Result<Bytes, LineFault>
     }
 }
 
-fn is_hex(digits: &[u8]) -> bool
+/// Whether these are the digits of whole bytes, in either case.
+pub fn is_hex(digits: &[u8]) -> bool
     ensures { IsTrue result ↔ IsOk (decode_of digits.now) }
 {
     digits.len().is_multiple_of(2) && has_only_digits(digits)

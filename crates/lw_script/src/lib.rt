@@ -12,5 +12,6 @@ mod script;
 mod word;
 
 pub use fault::LineFault;
+pub use last::is_hex;
 pub use line::read_line;
 pub use script::{Script, ScriptFault, read_script};

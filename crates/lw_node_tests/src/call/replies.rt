@@ -5,20 +5,28 @@ use lw_delta::DeltaFault;
 use lw_link::LinkText;
 use lw_reg::{Binding, Seen, Version, Watch};
 
-fn taken(alloc: Global, ended: bool) -> Result<Taken, Fail> {
-    let notice = Notice {
+fn notice(alloc: Global, ended: bool) -> Result<Notice, Fail> {
+    let path = path(&[3, 0])?;
+    let endpoint = text(alloc, "a")?;
+    let payload = b"1".to_vec(alloc)?;
+    Ok(Notice {
         token: SECOND,
         id: FIRST,
-        endpoint: text(alloc, "a")?,
-        path: path(&[3, 0])?,
+        endpoint,
+        path,
         code: 69,
         observe: Some(1),
         format: None,
         ended,
-        payload: b"1".to_vec(alloc)?,
-    };
+        payload,
+    })
+}
+
+fn taken(alloc: Global, ended: bool) -> Result<Taken, Fail> {
+    let reply = b"2".to_vec(alloc)?;
+    let notice = notice(alloc, ended)?;
     Ok(Taken {
-        reply: Some(b"2".to_vec(alloc)?),
+        reply: Some(reply),
         notice: Some(notice),
     })
 }

@@ -1,10 +1,9 @@
 use Rattle.std.proofs.Common.{◌≤◌, ℕ, List, Err, length, ap, sym, subst, ◌∙◌, refl, arith}
-use Rattle.lw_world.specs.declared.event.Event.{Event}
 use Rattle.lw_world.specs.declared.outcome.Outcome.{Outcome}
 use Rattle.lw_world.specs.Run.{Runs, begun}
-use Rattle.lw_script.specs.Script.{lines_of, IsFirstBad, IsScript, ScriptContent}
+use Rattle.lw_script.specs.Script.{lines_of, IsFirstBad}
 use Rattle.lw_fleet.proofs.OneLemmas.{if_err_is, if_err_then, on_ok}
-use Rattle.lw_fleet.proofs.ReplayLemmas.{keeps_same, replays, stopped_at_a_line, stopped_for_memory, stopped_reading, stopped_writing}
+use Rattle.lw_fleet.proofs.ReplayLemmas.{keeps_same, replays, spelled, stopped_at_a_line, stopped_for_memory, stopped_reading, stopped_writing}
 use Rattle.lw_fleet.proofs.replaying.replay.Goals as goal
 
 pub returns-in_err-bytes-clause-stopped : goal.returns-in_err-bytes-clause-stopped
@@ -25,28 +24,16 @@ returns-in_err-world-clause-stopped g c =
 
 pub returns-clause-printed : goal.returns-clause-printed
 returns-clause-printed g c =
-    let bytes = c.in_ok-bytes.bytes.items in
-    let nodes = c.script.inside.nodes in
-    let events = c.deref-2.result.now in
-    let outcomes = c.deref-3.result.now in
     let ran = c.in_ok-world.ensures in
-    let script_is = subst (λ (b : List ℕ). IsScript c.in_ok-script.script.nodes c.in_ok-script.script.events b) c.deref.ensures.value c.in_ok-script.ensures.is in
-    let viewed = subst (λ (s : ScriptContent). IsScript s.nodes s.events bytes) (sym c.script.view_is) script_is in
-    let is = subst (λ (es : List Event). IsScript nodes es bytes) (sym c.deref-2.ensures.value) viewed in
-    let runs = subst (λ (os : List Outcome). Runs (begun nodes) events os ran.0) (sym c.deref-3.ensures.value) ran.1 in
+    let is = spelled _ _ c.in_ok-script.script.nodes c.in_ok-script.script.events _ _ c.deref.ensures.value c.script.view_is c.deref-2.ensures.value c.in_ok-script.ensures.is in
+    let runs = subst (λ (os : List Outcome). Runs (begun c.script.inside.nodes) c.deref-2.result.now os ran.0) (sym c.deref-3.ensures.value) ran.1 in
     on_ok c.write_lines.result _ _ c.write_lines.ensures.whole
-    (λ written. replays _ _ _ bytes nodes events outcomes c.in_ok-world.world c.in_ok-bytes.ensures.all (omega (arith, c.in_ok-bytes.ensures.fits)) is (ran.0, runs, ran.2) written)
+    (replays _ _ _ _ _ _ _ _ c.in_ok-bytes.ensures.all (omega (arith, c.in_ok-bytes.ensures.fits)) is (ran.0, runs, ran.2))
 
 pub returns-clause-stopped : goal.returns-clause-stopped
 returns-clause-stopped g c =
-    let bytes = c.in_ok-bytes.bytes.items in
-    let nodes = c.script.inside.nodes in
-    let events = c.deref-2.result.now in
-    let outcomes = c.deref-3.result.now in
     let ran = c.in_ok-world.ensures in
-    let script_is = subst (λ (b : List ℕ). IsScript c.in_ok-script.script.nodes c.in_ok-script.script.events b) c.deref.ensures.value c.in_ok-script.ensures.is in
-    let viewed = subst (λ (s : ScriptContent). IsScript s.nodes s.events bytes) (sym c.script.view_is) script_is in
-    let is = subst (λ (es : List Event). IsScript nodes es bytes) (sym c.deref-2.ensures.value) viewed in
-    let runs = subst (λ (os : List Outcome). Runs (begun nodes) events os ran.0) (sym c.deref-3.ensures.value) ran.1 in
+    let is = spelled _ _ c.in_ok-script.script.nodes c.in_ok-script.script.events _ _ c.deref.ensures.value c.script.view_is c.deref-2.ensures.value c.in_ok-script.ensures.is in
+    let runs = subst (λ (os : List Outcome). Runs (begun c.script.inside.nodes) c.deref-2.result.now os ran.0) (sym c.deref-3.ensures.value) ran.1 in
     if_err_then c.write_lines.result _ _ _ c.write_lines.ensures.faults c.write_lines.ensures.front
-    (λ fault of written. stopped_writing _ _ _ bytes nodes events outcomes c.in_ok-world.world c.in_ok-bytes.ensures.all (omega (arith, c.in_ok-bytes.ensures.fits)) is (ran.0, runs, ran.2) fault of written)
+    (stopped_writing _ _ _ _ _ _ _ _ c.in_ok-bytes.ensures.all (omega (arith, c.in_ok-bytes.ensures.fits)) is (ran.0, runs, ran.2))

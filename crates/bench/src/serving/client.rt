@@ -1,19 +1,19 @@
 //! A device over UDP: it registers, and then updates its registration again and again.
 
-use crate::fault::PaceFault;
+use crate::fault::BenchFault;
 use std::net::{IpAddr, Ipv4Addr, Net, SocketAddr, UdpSocket};
 use std::time::Duration;
 
 /// The address of a port of the loopback.
-pub(crate) fn loopback(port: u16) -> SocketAddr {
+pub(super) fn loopback(port: u16) -> SocketAddr {
     SocketAddr::new(IpAddr::V4(Ipv4Addr::LOCALHOST), port)
 }
 
 /// The codes of the replies that a client expects: to its Register, and to each Update.
 #[derive(Clone, Copy)]
-pub(crate) struct Codes {
-    pub(crate) register: u8,
-    pub(crate) update: u8,
+pub(super) struct Codes {
+    pub(super) register: u8,
+    pub(super) update: u8,
 }
 
 /// The identifier in a Register's reply: its last 16 bytes.
@@ -21,16 +21,16 @@ const ID_LENGTH: usize = 16;
 
 /// A device, and how many of its requests were answered.
 #[derive(Drop)]
-pub(crate) struct Client {
+pub(super) struct Client {
     socket: UdpSocket,
     /// The last character of its endpoint name.
     name: u8,
-    pub(crate) answered: u32,
+    pub(super) answered: u32,
 }
 
 impl Client {
     /// A client of the server at the port, which waits five seconds for a reply.
-    pub(crate) fn new<R: Net>(rt: &R, name: u8, server: u16) -> Result<Client, PaceFault> {
+    pub(super) fn new<R: Net>(rt: &R, name: u8, server: u16) -> Result<Client, BenchFault> {
         let socket = UdpSocket::bind(rt, loopback(0))?;
         socket.connect(loopback(server))?;
         socket.set_read_timeout(Some(Duration::from_secs(5)))?;
@@ -42,7 +42,7 @@ impl Client {
     }
 
     /// Sends so many requests, each when the one before was answered, and stops where one is not.
-    pub(crate) fn ask_all(&mut self, requests: u32, codes: Codes) {
+    pub(super) fn ask_all(&mut self, requests: u32, codes: Codes) {
         let Some(id) = self.register(codes.register) else {
             return;
         };

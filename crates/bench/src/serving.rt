@@ -1,5 +1,11 @@
-use crate::fault::PaceFault;
-use crate::peer::{CLIENTS, Peer, measure};
+//! How many datagrams of eight clients the rounds of `lw_serve` answer in a second, over UDP on the loopback, beside a
+//! plain echo of the same datagrams.
+
+mod client;
+mod peer;
+
+use self::peer::{CLIENTS, Peer, measure};
+use crate::fault::BenchFault;
 use std::alloc::Global;
 use std::net::Net;
 use std::sync::Wait;
@@ -7,20 +13,20 @@ use std::thread::Threads;
 use std::time::{Clock, Duration};
 
 /// The requests of each client.
-pub(crate) const TRIAL: u32 = 10;
+pub(crate) const TRIAL_REQUESTS: u32 = 10;
 
-pub(crate) const FULL: u32 = 2_500;
+pub(crate) const FULL_REQUESTS: u32 = 2_500;
 
 /// How many nodes and workers are measured.
 const PEERS: [(u16, u32); 3] = [(1, 1), (2, 2), (4, 4)];
 
 /// The table: for each number of nodes and workers the replies in a second, those of an echo measured beside them, and
 /// how many hundredths of the echo's they are.
-pub(crate) fn table<R: Threads + Wait + Net + Clock + Sync>(
+pub(crate) fn serving<R: Threads + Wait + Net + Clock + Sync>(
     rt: &R,
     alloc: Global,
     requests: u32,
-) -> Result<String, PaceFault> {
+) -> Result<String, BenchFault> {
     let all = requests.saturating_mul(u32::from(CLIENTS));
     let mut text = String::from_str(alloc, "nodes/workers  replies/s  echo/s  hundredths\n")?;
     for (nodes, workers) in PEERS {

@@ -1,7 +1,7 @@
 //! What answers the clients, and how fast.
 
-use crate::client::{Client, Codes, loopback};
-use crate::fault::PaceFault;
+use super::client::{Client, Codes, loopback};
+use crate::fault::BenchFault;
 use log::sink::Discard;
 use lw_serve::{Plan, SystemClock, UdpWire, serve_on};
 use std::alloc::Global;
@@ -12,11 +12,11 @@ use std::thread::{self, Threads};
 use std::time::{Clock, Duration, Instant};
 
 /// How many clients there are.
-pub(crate) const CLIENTS: u8 = 8;
+pub(super) const CLIENTS: u8 = 8;
 
 /// What answers.
 #[derive(Clone, Copy)]
-pub(crate) enum Peer {
+pub(super) enum Peer {
     /// So many nodes with so many workers.
     Rounds { nodes: u16, workers: u32 },
     /// Each datagram is sent back as it came.
@@ -39,12 +39,12 @@ impl Peer {
 }
 
 /// How long all clients together take for so many requests each, every one of which has to be answered.
-pub(crate) fn measure<R: Threads + Wait + Net + Clock + Sync>(
+pub(super) fn measure<R: Threads + Wait + Net + Clock + Sync>(
     rt: &R,
     alloc: Global,
     peer: Peer,
     requests: u32,
-) -> Result<Duration, PaceFault> {
+) -> Result<Duration, BenchFault> {
     let socket = UdpSocket::bind(rt, loopback(0))?;
     let mut clients = clients(rt, alloc, socket.local_addr()?.port())?;
     let all = requests.saturating_mul(u32::from(CLIENTS));
@@ -57,12 +57,12 @@ pub(crate) fn measure<R: Threads + Wait + Net + Clock + Sync>(
     let time = start.elapsed(rt)?;
     answered?;
     if clients.iter().any(|client| client.answered != requests) {
-        return Err(PaceFault::Unanswered);
+        return Err(BenchFault::Unexpected);
     }
     Ok(time)
 }
 
-fn clients<R: Net>(rt: &R, alloc: Global, server: u16) -> Result<Vec<Client>, PaceFault> {
+fn clients<R: Net>(rt: &R, alloc: Global, server: u16) -> Result<Vec<Client>, BenchFault> {
     let mut clients = Vec::new(alloc);
     for number in 0..CLIENTS {
         clients.push(Client::new(rt, b'0' + number, server)?)?;
@@ -83,10 +83,10 @@ fn answer<R: Threads + Wait + Clock + Sync>(
     peer: Peer,
     socket: UdpSocket,
     count: u32,
-) -> Result<(), PaceFault> {
+) -> Result<(), BenchFault> {
     match peer {
         Peer::Rounds { nodes, workers } => {
-            let plan = Plan::new(count, nodes, workers).ok_or(PaceFault::Unanswered)?;
+            let plan = Plan::new(count, nodes, workers).ok_or(BenchFault::Unexpected)?;
             let mut written = Vec::new(alloc);
             let wire = &mut UdpWire::new(socket);
             let clock = &mut SystemClock { clock: rt };
