@@ -1,18 +1,14 @@
 mod calls;
 mod deltas;
-mod exchanging;
-mod observing;
-mod refusing;
-mod registering;
+mod once;
 mod steps;
-mod updating;
 
 use lw_node::*;
 use lw_stamp::{Moment, Stamp};
 use std::alloc::Global;
 use std::test::Fail;
 use steps::Step::*;
-use steps::{Row, at, host, id, path, play};
+use steps::{Row, at, id, path, play};
 
 /// A Register of `a` with the object list `</>`, message ID 4.
 const REGISTER: &str = "40020004b272644465703d61ff3c2f3e";
@@ -24,7 +20,8 @@ const REGISTER_B: &str = "40020005b272644465703d62ff3c2f3e";
 const CREATED: &str = "604100048272640d0330303030303030303030303130303031";
 
 /// What a first Register of `a` at node 1 shows.
-const SHOWN: &str = "a 0000000000010001 127.0.0.1:5683 0 86400 false 1.0 U no number </>";
+const SHOWN: &str =
+    r#"{"address":"127.0.0.1:5683","binding":"U","endpoint":"a","id":"0000000000010001","lifetime":86400,"lwm2m":"1.0","objects":"</>","queue":false,"seen":0,"sms":null}"#;
 
 /// The first identifier of node 1.
 const ID: &str = "0000000000010001";

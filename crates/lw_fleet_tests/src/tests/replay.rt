@@ -1,5 +1,6 @@
 //! Scripts that are replayed, refused, and cut short.
 
+use super::scripts::{observations, refusals, registers, updates};
 use super::{FewBytes, FewWrites, scripts};
 use lw_fleet::{Fault, replay};
 use std::alloc::Global;
@@ -12,24 +13,97 @@ pub(super) fn replayed(alloc: Global, script: &[u8]) -> Result<String, Fail> {
     Ok(String::from_utf8(writer)?)
 }
 
-/// Scripts, and what is printed for each.
-const WORKED: [(&str, &str); 9] = [
-    scripts::A_DELTA,
-    scripts::TWO_REGISTERS,
-    scripts::TWO_UPDATES,
-    scripts::REMOVED_AND_UPDATED,
-    scripts::REPEATED_AND_LATE,
-    scripts::LOST_AND_REPEATED,
-    scripts::NOTHING_TO_SEND,
-    scripts::NOTIFICATIONS,
-    scripts::A_CANCEL,
-];
+/// Each script prints its lines.
+fn all_print(alloc: Global, scripts: &[(&str, &str)]) -> Result<(), Fail> {
+    for (script, text) in scripts {
+        if replayed(alloc, script.as_bytes())?.as_str() != *text {
+            return Err(Fail::from(*script));
+        }
+    }
+    Ok(())
+}
 
 #[test]
-fn worked_scripts(rt: HostRuntime) -> Result<(), Fail> {
-    for &(script, text) in &WORKED {
-        assert_eq!(rt; replayed(rt.alloc(), script.as_bytes())?.as_str(), text);
-    }
+fn two_servers(rt: HostRuntime) -> Result<(), Fail> {
+    all_print(
+        rt.alloc(),
+        &[
+            scripts::A_DELTA,
+            scripts::TWO_REGISTERS,
+            scripts::TWO_UPDATES,
+            scripts::REMOVED_AND_UPDATED,
+            scripts::REPEATED_AND_LATE,
+            scripts::LOST_AND_REPEATED,
+            scripts::NOTHING_TO_SEND,
+        ],
+    )
+}
+
+#[test]
+fn registers(rt: HostRuntime) -> Result<(), Fail> {
+    all_print(
+        rt.alloc(),
+        &[
+            registers::ALL_PARAMETERS,
+            registers::AFTER_BAD_ONES,
+            registers::LIFETIMES,
+            registers::LAST_WRITER_OF_AN_ADDRESS,
+            registers::IN_ORDER,
+        ],
+    )
+}
+
+#[test]
+fn updates(rt: HostRuntime) -> Result<(), Fail> {
+    all_print(
+        rt.alloc(),
+        &[
+            updates::WRITTEN,
+            updates::REMOVED,
+            updates::REGISTERED_AGAIN,
+            updates::EXPIRED,
+        ],
+    )
+}
+
+#[test]
+fn observations(rt: HostRuntime) -> Result<(), Fail> {
+    all_print(
+        rt.alloc(),
+        &[
+            observations::NOTIFICATIONS,
+            observations::WITHOUT_A_NUMBER,
+            observations::REGISTERED_AGAIN,
+            observations::A_CANCEL,
+            observations::PATHS_AND_FORMATS,
+        ],
+    )
+}
+
+#[test]
+fn refusals(rt: HostRuntime) -> Result<(), Fail> {
+    all_print(rt.alloc(), &[refusals::REPLIES])
+}
+
+/// The line of a Register of `a` with the link `</>` this often.
+fn line_of_links(alloc: Global, count: usize) -> Result<String, Fail> {
+    let links = "2c3c2f3e".repeat(alloc, count.saturating_sub(1))?;
+    let script = format!(in alloc;
+        "nodes 1\ntake 1 0 127.0.0.1:5683 40020004b272644465703d61ff3c2f3e{links}\n"
+    )?;
+    replayed(alloc, script.as_bytes())
+}
+
+#[test]
+fn a_register_has_at_most_256_links(rt: HostRuntime) -> Result<(), Fail> {
+    assert_eq!(rt;
+        line_of_links(rt.alloc(), 256)?.as_str(),
+        "taken 604100048272640d0330303030303030303030303130303031 -\n"
+    );
+    assert_eq!(rt;
+        line_of_links(rt.alloc(), 257)?.as_str(),
+        "taken 608d0004 -\n"
+    );
     Ok(())
 }
 

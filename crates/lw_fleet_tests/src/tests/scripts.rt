@@ -1,4 +1,9 @@
-//! Scripts of devices at one and two servers, and what is printed of them.
+//! Scripts of devices at two servers, and what is printed of them; those at one server stand below.
+
+pub mod observations;
+pub mod refusals;
+pub mod registers;
+pub mod updates;
 
 /// A delta reaches another node, which then shows what the first does.
 pub const A_DELTA: (&str, &str) = (
@@ -190,53 +195,5 @@ message 1 0 4c57443100000000000000
 0
 none
 none
-"#,
-);
-
-/// Observations, their notifications, and their end.
-pub const NOTIFICATIONS: (&str, &str) = (
-    r#"nodes 1
-take 1 0 127.0.0.1:5683 40020004b272644465703d61ff3c2f3e
-observe 1 0 0000000000010001 /3/0 - 32
-observe 1 0 0000000000010001 /3/0 110 33
-watch 1 0 0000000000010001
-watch 1 0 0000000000010001 /3/0
-take 1 0 127.0.0.1:5683 4845003000000000000200016101ff31
-take 1 0 127.0.0.1:5683 4845003100000000000300016101ff31
-take 1 0 127.0.0.1:5683 488400320000000000030001
-take 1 0 127.0.0.1:5683 488400330000000000030001
-observe 1 0 0000000000020001 /3/0 - 0
-cancel 1 0 0000000000030001 34
-"#,
-    r#"taken 604100048272640d0330303030303030303030303130303031 -
-sent 0000000000020001 127.0.0.1:5683 4801002000000000000200016051330130
-sent 0000000000030001 127.0.0.1:5683 4801002100000000000300016051330130616e
-{"accept":110,"endpoint":"a","id":"0000000000010001","path":"/3/0","token":"0000000000030001"}
-none
-taken 70000030 -
-taken 60000031 {"code":69,"content_format":null,"ended":false,"endpoint":"a","id":"0000000000010001","observe":1,"path":"/3/0","payload":"31","token":"0000000000030001"}
-taken 60000032 {"code":132,"content_format":null,"ended":true,"endpoint":"a","id":"0000000000010001","observe":null,"path":"/3/0","payload":"","token":"0000000000030001"}
-taken 70000033 -
-refused 1
-refused 1
-"#,
-);
-
-/// An observation that is cancelled.
-pub const A_CANCEL: (&str, &str) = (
-    r#"nodes 1
-take 1 0 127.0.0.1:5683 40020004b272644465703d61ff3c2f3e
-observe 1 0 0000000000010001 /3/0 - 32
-observe 1 0 0000000000010001 /3/0 110 33
-cancel 1 0 0000000000030001 34
-cancel 1 0 0000000000030001 34
-take 1 0 127.0.0.1:5683 
-"#,
-    r#"taken 604100048272640d0330303030303030303030303130303031 -
-sent 0000000000020001 127.0.0.1:5683 4801002000000000000200016051330130
-sent 0000000000030001 127.0.0.1:5683 4801002100000000000300016051330130616e
-sent 0000000000030001 127.0.0.1:5683 480100220000000000030001610151330130616e
-refused 1
-taken - -
 "#,
 );

@@ -13,7 +13,7 @@ fn text(alloc: Global, text: &str) -> Result<Text, Fail> {
 fn take(alloc: Global, port: u16, datagram: &str) -> Result<Call, Fail> {
     Ok(Call::Take {
         now: Moment::START,
-        from: host(port),
+        from: steps::host(port),
         bytes: bytes(alloc, datagram)?,
     })
 }
@@ -70,8 +70,8 @@ fn question_at(alloc: Global, place: usize) -> Result<Question, Fail> {
         1 => Ok(Question::ById(third)),
         2 => Ok(Question::ByEndpoint(text(alloc, "a")?)),
         3 => Ok(Question::ByEndpoint(text(alloc, "b")?)),
-        4 => Ok(Question::ByAddress(host(5683))),
-        5 => Ok(Question::ByAddress(host(5684))),
+        4 => Ok(Question::ByAddress(steps::host(5683))),
+        5 => Ok(Question::ByAddress(steps::host(5684))),
         6 => Ok(Question::ByToken(second)),
         7 => Ok(Question::ByToken(third)),
         8 => Ok(Question::WatchAfter {
@@ -116,11 +116,11 @@ fn acts_alike(once: &mut Node, twice: &mut Node, call: &Call) -> bool {
 const AFTER_CALLS: [Row<'static>; 3] = [
     (
         ByEndpoint(0, "a"),
-        "a 0000000000020001 127.0.0.1:5684 0 86400 false 1.0 U no number </>",
+        r#"{"address":"127.0.0.1:5684","binding":"U","endpoint":"a","id":"0000000000020001","lifetime":86400,"lwm2m":"1.0","objects":"</>","queue":false,"seen":0,"sms":null}"#,
     ),
     (
-        WatchAfter("0000000000020001", None),
-        "a 0000000000060001 [3, 0] Some(0)",
+        WatchAfter("0000000000020001", false),
+        r#"{"accept":0,"endpoint":"a","id":"0000000000020001","path":"/3/0","token":"0000000000060001"}"#,
     ),
     (Numbers, "7 7"),
 ];

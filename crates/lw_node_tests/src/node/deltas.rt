@@ -1,6 +1,125 @@
-//! Deltas of two slots with observations, and of a long name.
+//! Deltas of a node, and deltas from outside.
 
 use super::*;
+
+/// The delta of a node that has taken a Register of `a`: 98 bytes.
+const DELTA: &str =
+    "4c57443100000000000101016100000000000100017f000000000000010001047f0000011633000000000001000100000000000000000000000100010001518000000000000100010155000000000001000100000000000001000100033c2f3e0000";
+
+/// Deltas that a node sends and merges.
+const SENT_AND_MERGED: [Row<'static>; 18] = [
+    (DeltaSince(0), "4c57443100000000000000"),
+    (Merges("4c57443100000000000000"), "Ok(0)"),
+    (Numbers, "0 0"),
+    (Merges(DELTA), "Ok(1)"),
+    (ByEndpoint(0, "a"), SHOWN),
+    (DeltaSince(0), DELTA),
+    (Numbers, "1 1"),
+    // the same again changes nothing
+    (Merges(DELTA), "Ok(1)"),
+    (Numbers, "1 1"),
+    // what moved since a number
+    (
+        Takes(REGISTER_B),
+        "604100058272640d0330303030303030303030303230303031",
+    ),
+    (
+        DeltaSince(1),
+        "4c57443100000000000201016200000000000200017f000000000000020001047f0000011633000000000002000100000000000000000000000200010001518000000000000200010155000000000002000100000000000002000100033c2f3e0000",
+    ),
+    (DeltaSince(2), "4c57443100000000000200"),
+    (DeltaSince(18446744073709551615), "4c57443100000000000200"),
+    // bytes that are no delta
+    (Merges("4c5744"), "Err(Malformed(Truncated))"),
+    (Merges("4c57443200000000000000"), "Err(Malformed(Magic))"),
+    (
+        Merges("4c5744310000000000000000"),
+        "Err(Malformed(Trailing))",
+    ),
+    (Merges("4c57443100000000000002"), "Err(Malformed(Range))"),
+    (Numbers, "2 2"),
+];
+
+#[test]
+fn a_delta_is_sent_and_merged(rt: HostRuntime) -> Result<(), Fail> {
+    play_new(rt.alloc(), &SENT_AND_MERGED)
+}
+
+/// A fuller spelling of a removal, and writes to what was removed.
+const FULLER: [Row<'static>; 5] = [
+    (
+        Merges(
+            "4c5744310000000000010101610000000000010001ff000000000000010001047f0000011633000000000001000100000000000000000000000100010001518000000000000100010155000000000001000100000000000001000100033c2f3e0000",
+        ),
+        "Ok(1)",
+    ),
+    (
+        DeltaSince(0),
+        "4c5744310000000000010101610000000000010001800000",
+    ),
+    (Merges(DELTA), "Ok(1)"),
+    (Numbers, "1 1"),
+    (ByEndpoint(0, "a"), "-"),
+];
+
+#[test]
+fn a_fuller_spelling_of_a_removal_comes_back_short(rt: HostRuntime) -> Result<(), Fail> {
+    play_new(rt.alloc(), &FULLER)
+}
+
+/// A clock one before its end.
+const AT_THE_END: [Row<'static>; 7] = [
+    (Merges("4c574431fffffffffffe00"), "Ok(0)"),
+    (
+        Takes(REGISTER),
+        "604100048272640d0366666666666666666666666630303031",
+    ),
+    (
+        ByEndpoint(0, "a"),
+        r#"{"address":"127.0.0.1:5683","binding":"U","endpoint":"a","id":"ffffffffffff0001","lifetime":86400,"lwm2m":"1.0","objects":"</>","queue":false,"seen":0,"sms":null}"#,
+    ),
+    (Takes(REGISTER_B), "60a30005"),
+    (Observes("ffffffffffff0001"), "ClockEnd"),
+    (
+        ByEndpoint(0, "a"),
+        r#"{"address":"127.0.0.1:5683","binding":"U","endpoint":"a","id":"ffffffffffff0001","lifetime":86400,"lwm2m":"1.0","objects":"</>","queue":false,"seen":0,"sms":null}"#,
+    ),
+    (Numbers, "281474976710655 1"),
+];
+
+#[test]
+fn the_clock_has_an_end(rt: HostRuntime) -> Result<(), Fail> {
+    play_new(rt.alloc(), &AT_THE_END)
+}
+
+/// A clock two before its end: a Register, an observation, and the end of both is not to be had.
+const REPORT_AT_THE_END: [Row<'static>; 7] = [
+    (Merges("4c574431fffffffffffd00"), "Ok(0)"),
+    (
+        Takes(REGISTER),
+        "604100048272640d0366666666666666666666666530303031",
+    ),
+    (
+        Observes("fffffffffffe0001"),
+        "48010020ffffffffffff00016051330130",
+    ),
+    (Takes("48840032ffffffffffff0001"), "70000032"),
+    (
+        WatchAfter("fffffffffffe0001", false),
+        r#"{"accept":null,"endpoint":"a","id":"fffffffffffe0001","path":"/3/0","token":"ffffffffffff0001"}"#,
+    ),
+    (Numbers, "281474976710655 2"),
+    // an identifier that nobody has is refused before the clock is asked
+    (
+        Takes("40020010b272640d0330303030303030303030303130303031"),
+        "60840010",
+    ),
+];
+
+#[test]
+fn a_report_at_the_end_of_the_clock_is_reset(rt: HostRuntime) -> Result<(), Fail> {
+    play_new(rt.alloc(), &REPORT_AT_THE_END)
+}
 
 /// Two registrations, each with two observations, of which one is cancelled.
 const TWO: &str =
@@ -23,20 +142,20 @@ const MERGED: [Row<'static>; 13] = [
     (ByEndpoint(0, "a"), SHOWN),
     (
         ByEndpoint(0, "b"),
-        "b 0000000000020001 127.0.0.1:5684 0 86400 false 1.0 U no number </>",
+        r#"{"address":"127.0.0.1:5684","binding":"U","endpoint":"b","id":"0000000000020001","lifetime":86400,"lwm2m":"1.0","objects":"</>","queue":false,"seen":0,"sms":null}"#,
     ),
     (
-        ByToken(0, "0000000000030001"),
-        "a 0000000000030001 [3, 0] None",
+        ByToken("0000000000030001"),
+        r#"{"accept":null,"endpoint":"a","id":"0000000000010001","path":"/3/0","token":"0000000000030001"}"#,
     ),
     (
-        WatchAfter(ID, Some(&[3, 0])),
-        "a 0000000000040001 [3, 1] Some(110)",
+        WatchAfter(ID, true),
+        r#"{"accept":110,"endpoint":"a","id":"0000000000010001","path":"/3/1","token":"0000000000040001"}"#,
     ),
-    (ByToken(0, "0000000000050001"), "-"),
+    (ByToken("0000000000050001"), "-"),
     (
-        ByToken(0, "0000000000060001"),
-        "b 0000000000060001 [4, 0] Some(60)",
+        ByToken("0000000000060001"),
+        r#"{"accept":60,"endpoint":"b","id":"0000000000020001","path":"/4/0","token":"0000000000060001"}"#,
     ),
     // the same again changes nothing
     (Merges(TWO), "Ok(2)"),
