@@ -7,7 +7,7 @@ use crate::characters::{
 use crate::style::Style;
 
 /// What was read last, on the way through a list.
-#[derive(Clone, Copy, Debug, PartialEq, Eq)]
+#[derive(Clone, Copy, PartialEq, Eq)]
 pub(crate) enum State {
     /// Nothing yet.
     Start,

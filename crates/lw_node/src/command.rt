@@ -3,7 +3,7 @@ use lw_reg::Op;
 use std::marker::Model;
 
 /// What a command is to do, of which nothing is done yet.
-#[derive(Debug, Drop)]
+#[derive(Drop)]
 pub(crate) struct Command {
     pub(crate) outgoing: Outgoing,
     pub(crate) operation: Op,

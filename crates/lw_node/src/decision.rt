@@ -3,7 +3,7 @@ use lw_reg::Op;
 use std::marker::Model;
 
 /// What a datagram is to do, of which nothing is done yet.
-#[derive(Debug, Drop)]
+#[derive(Drop)]
 pub(crate) struct Decision {
     pub(crate) reply: Option<Vec<u8>>,
     pub(crate) notice: Option<Notice>,

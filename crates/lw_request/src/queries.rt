@@ -16,11 +16,11 @@ use std::alloc::Global;
 use std::str;
 
 /// The value of a parameter is not accepted.
-#[derive(Clone, Copy, Debug)]
+#[derive(Clone, Copy)]
 pub(crate) struct BadQuery;
 
 /// The last value of each parameter, lent by the message: what is absent was not given.
-#[derive(Clone, Copy, Debug)]
+#[derive(Clone, Copy)]
 pub(crate) struct Parameters<'a> {
     pub endpoint: Option<&'a str>,
     pub lifetime: Option<&'a str>,
@@ -107,7 +107,7 @@ fn split_query(query: &str) -> (&str, &str)
 }
 
 /// What a Register and an Update may both say, lent by the message: what is absent was not given.
-#[derive(Clone, Copy, Debug)]
+#[derive(Clone, Copy)]
 pub(crate) struct Settings<'a> {
     /// In seconds; 0 never expires.
     pub lifetime: Option<u32>,

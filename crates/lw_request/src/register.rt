@@ -25,7 +25,7 @@ use std::alloc::Global;
 const DEFAULT_LIFETIME: u32 = 86_400;
 
 /// What the queries of a Register say, lent by the message.
-#[derive(Clone, Copy, Debug)]
+#[derive(Clone, Copy)]
 struct Queries<'a> {
     endpoint: &'a str,
     /// As it is given.

@@ -22,7 +22,7 @@ const MOST_AT_ONCE: u32 = 32;
 const FAULTS_IN_A_ROW: u32 = 1_000;
 
 /// A datagram that came.
-#[derive(Debug, Drop)]
+#[derive(Drop)]
 pub(crate) struct Datagram {
     pub(crate) from: Addr,
     pub(crate) bytes: Bytes,
