@@ -16,6 +16,10 @@ pub(crate) enum BenchFault {
     /// A clock, a file, a socket or the output failed.
     Device,
     NoMemory,
+    /// The first word is neither `full` nor `serving`.
+    UnknownWord,
+    /// A run that served ended so.
+    Served(ServeFault),
 }
 
 impl From<NoMemory> for BenchFault {
@@ -73,7 +77,7 @@ impl From<ScriptFault> for BenchFault {
 }
 
 impl From<ServeFault> for BenchFault {
-    fn from(_fault: ServeFault) -> BenchFault {
-        BenchFault::Unexpected
+    fn from(fault: ServeFault) -> BenchFault {
+        BenchFault::Served(fault)
     }
 }

@@ -38,10 +38,11 @@ fn main(rt: HostRuntime) -> Result<(), BenchFault> {
             let text = serving(&rt, rt.alloc(), FULL_REQUESTS)?;
             println!(rt; "{}", text.as_str())?;
         }
-        Some(_) => {
+        Some("full") => {
             let text = table(&rt, FULL, row_word.as_deref().unwrap_or(ALL))?;
             println!(rt; "{}", text.as_str())?;
         }
+        Some(_) => return Err(BenchFault::UnknownWord),
         None => {
             table(&rt, TRIAL, ALL)?;
             serving(&rt, rt.alloc(), TRIAL_REQUESTS)?;

@@ -38,7 +38,7 @@ fn notice_value(alloc: Global, notice: &Notice) -> Result<Value, NoMemory>
     ensures { IfOk result (λ value. view value ≡ notice_json notice.now) }
 {
     let members = notice_members(alloc, notice)?;
-    Ok(notice_object(alloc, members)?)
+    Ok(notice_object(alloc, &members)?)
 }
 
 fn notice_members(alloc: Global, notice: &Notice) -> Result<NoticeMembers<'_>, NoMemory>
@@ -57,18 +57,18 @@ fn notice_members(alloc: Global, notice: &Notice) -> Result<NoticeMembers<'_>, N
     })
 }
 
-fn notice_object(alloc: Global, members: NoticeMembers<'_>) -> Result<Value, AllocError>
-    ensures { IfOk result (λ value. view value ≡ notice_members_json members.entry) }
+fn notice_object(alloc: Global, members: &NoticeMembers<'_>) -> Result<Value, AllocError>
+    ensures { IfOk result (λ value. view value ≡ notice_members_json members.now) }
 {
     json!(in alloc; {
         "code": members.code,
-        "content_format": members.content_format,
+        "content_format": &members.content_format,
         "ended": members.ended,
         "endpoint": members.endpoint,
-        "id": members.id,
-        "observe": members.observe,
-        "path": members.path,
-        "payload": members.payload,
-        "token": members.token
+        "id": &members.id,
+        "observe": &members.observe,
+        "path": &members.path,
+        "payload": &members.payload,
+        "token": &members.token
     })
 }

@@ -38,7 +38,7 @@ fn registration_value(alloc: Global, shown: &View<'_>) -> Result<Value, NoMemory
     ensures { IfOk result (λ value. view value ≡ registration_json shown.now) }
 {
     let members = members_of(alloc, shown)?;
-    Ok(object(alloc, members)?)
+    Ok(object(alloc, &members)?)
 }
 
 fn members_of<'a>(alloc: Global, shown: &'a View<'_>) -> Result<Members<'a>, NoMemory>
@@ -58,19 +58,19 @@ fn members_of<'a>(alloc: Global, shown: &'a View<'_>) -> Result<Members<'a>, NoM
     })
 }
 
-fn object(alloc: Global, members: Members<'_>) -> Result<Value, AllocError>
-    ensures { IfOk result (λ value. view value ≡ members_json members.entry) }
+fn object(alloc: Global, members: &Members<'_>) -> Result<Value, AllocError>
+    ensures { IfOk result (λ value. view value ≡ members_json members.now) }
 {
     json!(in alloc; {
-        "address": members.address,
+        "address": &members.address,
         "binding": members.binding,
         "endpoint": members.endpoint,
-        "id": members.id,
+        "id": &members.id,
         "lifetime": members.lifetime,
         "lwm2m": members.lwm2m,
         "objects": members.objects,
         "queue": members.queue,
         "seen": members.seen,
-        "sms": members.sms
+        "sms": &members.sms
     })
 }

@@ -34,7 +34,7 @@ fn watch_value(alloc: Global, shown: &View<'_>, watch: &Watch) -> Result<Value, 
     ensures { IfOk result (λ value. view value ≡ watch_json shown.now watch.now) }
 {
     let members = watch_members(alloc, shown, watch)?;
-    Ok(watch_object(alloc, members)?)
+    Ok(watch_object(alloc, &members)?)
 }
 
 fn watch_members<'a>(
@@ -53,15 +53,15 @@ fn watch_members<'a>(
     })
 }
 
-fn watch_object(alloc: Global, members: WatchMembers<'_>) -> Result<Value, AllocError>
-    ensures { IfOk result (λ value. view value ≡ watch_members_json members.entry) }
+fn watch_object(alloc: Global, members: &WatchMembers<'_>) -> Result<Value, AllocError>
+    ensures { IfOk result (λ value. view value ≡ watch_members_json members.now) }
 {
     json!(in alloc; {
-        "accept": members.accept,
+        "accept": &members.accept,
         "endpoint": members.endpoint,
-        "id": members.id,
-        "path": members.path,
-        "token": members.token
+        "id": &members.id,
+        "path": &members.path,
+        "token": &members.token
     })
 }
 
