@@ -1,6 +1,7 @@
 mod calls;
 mod replies;
 
+use crate::hold::holds;
 use bytes::Bytes;
 use lw_call::*;
 use lw_reg::{Addr, Path, Text};

@@ -4,6 +4,8 @@
 #[cfg(test)]
 mod call;
 #[cfg(test)]
+mod hold;
+#[cfg(test)]
 mod node;
 #[cfg(test)]
 mod print;

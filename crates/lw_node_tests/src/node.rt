@@ -3,6 +3,7 @@ mod deltas;
 mod once;
 mod steps;
 
+use crate::hold::holds;
 use lw_node::*;
 use lw_stamp::{Moment, Stamp};
 use std::alloc::Global;

@@ -1,6 +1,7 @@
 mod json;
 mod lines;
 
+use crate::hold::{holds, same};
 use lw_link::LinkText;
 use lw_node::Notice;
 use lw_print::*;

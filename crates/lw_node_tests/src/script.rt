@@ -1,6 +1,9 @@
 mod scripts;
 
+use crate::hold::holds;
 use lw_script::*;
+use std::alloc::Global;
+use std::test::Fail;
 
 /// Lines of each kind, and bounds of each field just inside.
 const LINES: [&str; 36] = [
@@ -102,22 +105,25 @@ const REFUSED: [&str; 56] = [
     "changes 1",
 ];
 
-#[test]
-fn lines_are_read(rt: HostRuntime) {
-    for line in LINES {
-        assert!(rt; read_line(rt.alloc(), line).is_ok(), "{line:?}");
-    }
+/// What is wrong with a line.
+fn fault(alloc: Global, line: &str) -> Option<LineFault> {
+    read_line(alloc, line).err()
 }
 
 #[test]
-fn other_lines_are_refused(rt: HostRuntime) {
-    for line in REFUSED {
-        assert_eq!(rt;
-            read_line(rt.alloc(), line).err(),
-            Some(LineFault::Refused),
-            "{line:?}"
-        );
+fn lines_are_read(rt: HostRuntime) -> Result<(), Fail> {
+    for line in LINES {
+        holds(line, fault(rt.alloc(), line).is_none())?;
     }
+    Ok(())
+}
+
+#[test]
+fn other_lines_are_refused(rt: HostRuntime) -> Result<(), Fail> {
+    for line in REFUSED {
+        holds(line, fault(rt.alloc(), line) == Some(LineFault::Refused))?;
+    }
+    Ok(())
 }
 
 /// Texts, and whether they are the digits of whole bytes.
@@ -133,8 +139,9 @@ const DIGITS: [(&[u8], bool); 8] = [
 ];
 
 #[test]
-fn digits_of_whole_bytes(rt: HostRuntime) {
+fn digits_of_whole_bytes() -> Result<(), Fail> {
     for (text, are_digits) in DIGITS {
-        assert_eq!(rt; is_hex(text), are_digits, "{text:?}");
+        holds("digits", is_hex(text) == are_digits)?;
     }
+    Ok(())
 }

@@ -1,6 +1,6 @@
 //! The nodes and the messages of a run. Runs themselves are tested as scripts.
 
-use lw_node::Node;
+use crate::hold::holds;
 use lw_script::read_script;
 use lw_world::{World, run};
 use std::alloc::Global;
@@ -23,13 +23,23 @@ fn ran(alloc: Global) -> Result<World, Fail> {
     Ok(world)
 }
 
+fn clock(world: &World, number: u16) -> Option<u64> {
+    Some(world.node(number)?.clock())
+}
+
 #[test]
-fn nodes_and_messages_are_found_by_number(rt: HostRuntime) -> Result<(), Fail> {
+fn nodes_are_found_by_number(rt: HostRuntime) -> Result<(), Fail> {
     let world = ran(rt.alloc())?;
-    let clocks = [0, 1, 2, 3].map(|number| world.node(number).map(Node::clock));
-    assert_eq!(rt; clocks, [None, Some(1), Some(1), None]);
+    holds("no node 0", clock(&world, 0).is_none())?;
+    holds("node 1", clock(&world, 1) == Some(1))?;
+    holds("node 2", clock(&world, 2) == Some(1))?;
+    holds("no node 3", clock(&world, 3).is_none())
+}
+
+#[test]
+fn messages_are_found_by_number(rt: HostRuntime) -> Result<(), Fail> {
+    let world = ran(rt.alloc())?;
     let sent = hex::decode(rt.alloc(), DELTA)?;
-    assert_eq!(rt; world.message(0), Some(sent.as_slice()));
-    assert!(rt; world.message(1).is_none());
-    Ok(())
+    holds("message 0", world.message(0) == Some(sent.as_slice()))?;
+    holds("no message 1", world.message(1).is_none())
 }

@@ -149,7 +149,7 @@ fn a_copy_is_the_same_as_its_call_alone(rt: HostRuntime) -> Result<(), Fail> {
     for place in 0..CALLS {
         for other in 0..CALLS {
             let is_same = copy_is_same(rt.alloc(), place, other)?;
-            assert!(rt; is_same == (place == other), "{place} and {other}");
+            holds("a copy", is_same == (place == other))?;
         }
     }
     Ok(())

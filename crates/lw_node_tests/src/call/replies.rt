@@ -140,7 +140,7 @@ fn replies_differ_where_their_content_does(rt: HostRuntime) -> Result<(), Fail> 
         let reply = reply_at(rt.alloc(), place)?;
         for other in 0..REPLIES {
             let is_same = reply.same(&reply_at(rt.alloc(), other)?);
-            assert!(rt; is_same == (place == other), "{place} and {other}");
+            holds("a reply", is_same == (place == other))?;
         }
     }
     Ok(())
@@ -163,7 +163,7 @@ fn copies_of_what_is_given_are_the_same(rt: HostRuntime) -> Result<(), Fail> {
     for place in 0..GIVEN {
         let reply = given_at(rt.alloc(), place)?;
         let copy = copy_of(rt.alloc(), &reply)?;
-        assert!(rt; copy.same(&reply), "{place}");
+        holds("a copy", copy.same(&reply))?;
     }
     Ok(())
 }

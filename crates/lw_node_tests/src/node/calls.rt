@@ -130,7 +130,7 @@ fn a_call_made_twice_gives_what_it_gives_once(rt: HostRuntime) -> Result<(), Fai
     let (mut once, mut twice) = (Node::new(rt.alloc(), 1), Node::new(rt.alloc(), 1));
     for place in 0..CALLS {
         let call = call_at(rt.alloc(), place)?;
-        assert!(rt; acts_alike(&mut once, &mut twice, &call), "{place}");
+        holds("a call", acts_alike(&mut once, &mut twice, &call))?;
     }
     play(rt.alloc(), &mut once, &AFTER_CALLS)?;
     play(rt.alloc(), &mut twice, &AFTER_CALLS)

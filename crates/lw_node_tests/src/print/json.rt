@@ -2,12 +2,15 @@
 
 use super::*;
 
+/// The JSON of the registration.
+fn is_shown(alloc: Global, shown: &View<'_>, want: &str) -> Result<(), Fail> {
+    same(registration_text(alloc, shown)?.as_str(), want)
+}
+
 #[test]
 fn a_registration(rt: HostRuntime) -> Result<(), Fail> {
     let objects = LinkText::read(rt.alloc(), b"</3/0>")?;
-    let text = registration_text(rt.alloc(), &registration("a", &objects))?;
-    assert_eq!(rt; text.as_str(), SHOWN);
-    Ok(())
+    is_shown(rt.alloc(), &registration("a", &objects), SHOWN)
 }
 
 const OTHER: &str =
@@ -16,42 +19,39 @@ const OTHER: &str =
 #[test]
 fn another_registration(rt: HostRuntime) -> Result<(), Fail> {
     let objects = LinkText::read(rt.alloc(), b"</3/0>;ct=\"1\\\"\"")?;
-    let text = registration_text(rt.alloc(), &other_registration("a\"b\n", &objects))?;
-    assert_eq!(rt; text.as_str(), OTHER);
-    Ok(())
+    is_shown(rt.alloc(), &other_registration("a\"b\n", &objects), OTHER)
 }
 
-#[test]
-fn an_owned_registration(rt: HostRuntime) -> Result<(), Fail> {
-    let objects = LinkText::read(rt.alloc(), b"</3/0>;ct=\"1\\\"\"")?;
-    let seen = other_registration("a\"b\n", &objects).to_seen(rt.alloc())?;
-    let text = registration_text(rt.alloc(), &seen.as_view())?;
-    assert_eq!(rt; text.as_str(), OTHER);
-    Ok(())
+/// How long the JSON is of a registration with these texts.
+fn length_of(alloc: Global, endpoint: &str, sms: &str, objects: &LinkText) -> Result<usize, Fail> {
+    let mut view = other_registration(endpoint, objects);
+    view.sms = Some(sms);
+    Ok(registration_text(alloc, &view)?.len())
 }
 
 #[test]
 fn the_longest_registration(rt: HostRuntime) -> Result<(), Fail> {
     let objects = long_list(rt.alloc())?;
     let (endpoint, sms) = ("e".repeat(rt.alloc(), 252)?, "1".repeat(rt.alloc(), 251)?);
-    let mut view = other_registration(endpoint.as_str(), &objects);
-    view.sms = Some(sms.as_str());
-    let text = registration_text(rt.alloc(), &view)?;
+    let length = length_of(rt.alloc(), endpoint.as_str(), sms.as_str(), &objects)?;
     // a link but the first has 31 bytes, of which four quotes and two backslashes are escaped
-    assert_eq!(rt; text.len(), 207 + 252 + 251 + 4 + 255 * (31 + 6));
-    Ok(())
+    holds("the length", length == 207 + 252 + 251 + 4 + 255 * (31 + 6))
+}
+
+/// The JSON of the watch of the registration.
+fn is_watched(alloc: Global, shown: &View<'_>, watch: &Watch, want: &str) -> Result<(), Fail> {
+    same(watch_text(alloc, shown, watch)?.as_str(), want)
 }
 
 #[test]
 fn a_watch(rt: HostRuntime) -> Result<(), Fail> {
     let objects = LinkText::read(rt.alloc(), b"</>")?;
-    let shown = registration("a", &objects);
-    let text = watch_text(rt.alloc(), &shown, &watch(&[3, 0], THIRD, None)?)?;
-    assert_eq!(rt;
-        text.as_str(),
-        r#"{"accept":null,"endpoint":"a","id":"0000000000010001","path":"/3/0","token":"0000000000030001"}"#
-    );
-    Ok(())
+    is_watched(
+        rt.alloc(),
+        &registration("a", &objects),
+        &watch(&[3, 0], THIRD, None)?,
+        r#"{"accept":null,"endpoint":"a","id":"0000000000010001","path":"/3/0","token":"0000000000030001"}"#,
+    )
 }
 
 #[test]
@@ -59,13 +59,12 @@ fn a_watch_that_accepts_a_format(rt: HostRuntime) -> Result<(), Fail> {
     let objects = LinkText::read(rt.alloc(), b"</>")?;
     let mut shown = registration("ü/\\", &objects);
     shown.id = LAST;
-    let watch = watch(&[65534, 65534, 65534, 65534], FIRST, Some(65535))?;
-    let text = watch_text(rt.alloc(), &shown, &watch)?;
-    assert_eq!(rt;
-        text.as_str(),
-        r#"{"accept":65535,"endpoint":"ü/\\","id":"ffffffffffffffff","path":"/65534/65534/65534/65534","token":"0000000000010001"}"#
-    );
-    Ok(())
+    is_watched(
+        rt.alloc(),
+        &shown,
+        &watch(&[65534, 65534, 65534, 65534], FIRST, Some(65535))?,
+        r#"{"accept":65535,"endpoint":"ü/\\","id":"ffffffffffffffff","path":"/65534/65534/65534/65534","token":"0000000000010001"}"#,
+    )
 }
 
 /// Endpoints, and how each stands in JSON (RFC 8259, section 7).
@@ -80,12 +79,16 @@ const ENDPOINTS: [(&str, &str); 8] = [
     ("/ <b>&'", "/ <b>&'"),
 ];
 
+/// The JSON of an expired registration of the endpoint, which stands there escaped.
+fn is_stale(alloc: Global, endpoint: &str, escaped: &str) -> Result<(), Fail> {
+    let want = format!(in alloc; r#"{{"endpoint":"{escaped}","id":"0000000000030001"}}"#)?;
+    same(stale_text(alloc, endpoint, THIRD)?.as_str(), want.as_str())
+}
+
 #[test]
 fn endpoints_that_have_expired(rt: HostRuntime) -> Result<(), Fail> {
     for (endpoint, escaped) in ENDPOINTS {
-        let text = stale_text(rt.alloc(), endpoint, THIRD)?;
-        let want = format!(in rt.alloc(); r#"{{"endpoint":"{escaped}","id":"0000000000030001"}}"#)?;
-        assert_eq!(rt; text.as_str(), want.as_str());
+        is_stale(rt.alloc(), endpoint, escaped)?;
     }
     Ok(())
 }
@@ -94,17 +97,13 @@ fn endpoints_that_have_expired(rt: HostRuntime) -> Result<(), Fail> {
 fn the_longest_endpoint_that_has_expired(rt: HostRuntime) -> Result<(), Fail> {
     let endpoint = "\u{1}".repeat(rt.alloc(), 252)?;
     let escaped = "\\u0001".repeat(rt.alloc(), 252)?;
-    let want = format!(in rt.alloc(); r#"{{"endpoint":"{escaped}","id":"ffffffffffffffff"}}"#)?;
-    let text = stale_text(rt.alloc(), endpoint.as_str(), LAST)?;
-    assert!(rt; text.as_str() == want.as_str());
-    Ok(())
+    is_stale(rt.alloc(), endpoint.as_str(), escaped.as_str())
 }
 
 #[test]
 fn a_notice(rt: HostRuntime) -> Result<(), Fail> {
-    let text = notice_text(rt.alloc(), &notice(rt.alloc())?)?;
-    assert_eq!(rt; text.as_str(), NOTICE);
-    Ok(())
+    let notice = notice(rt.alloc())?;
+    same(notice_text(rt.alloc(), &notice)?.as_str(), NOTICE)
 }
 
 #[test]
@@ -116,27 +115,29 @@ fn a_notice_that_ends_a_watch(rt: HostRuntime) -> Result<(), Fail> {
     notice.ended = true;
     notice.path = path(&[0])?;
     notice.payload.clear();
-    let text = notice_text(rt.alloc(), &notice)?;
-    assert_eq!(rt;
-        text.as_str(),
-        r#"{"code":132,"content_format":0,"ended":true,"endpoint":"a","id":"0000000000010001","observe":null,"path":"/0","payload":"","token":"0000000000030001"}"#
-    );
-    Ok(())
+    same(
+        notice_text(rt.alloc(), &notice)?.as_str(),
+        r#"{"code":132,"content_format":0,"ended":true,"endpoint":"a","id":"0000000000010001","observe":null,"path":"/0","payload":"","token":"0000000000030001"}"#,
+    )
+}
+
+/// The JSON of a notice with so many bytes of payload, and the greatest numbers.
+fn longest_notice(alloc: Global, length: usize) -> Result<String, Fail> {
+    let mut notice = notice(alloc)?;
+    notice.format = Some(65_535);
+    notice.observe = Some(16_777_215);
+    notice.payload = vec![in alloc; 0xfa; length]?;
+    Ok(notice_text(alloc, &notice)?)
 }
 
 #[test]
 fn the_longest_notice(rt: HostRuntime) -> Result<(), Fail> {
-    let mut notice = notice(rt.alloc())?;
-    notice.format = Some(65_535);
-    notice.observe = Some(16_777_215);
-    notice.payload = vec![in rt.alloc(); 0xfa; 8_192]?;
+    let text = longest_notice(rt.alloc(), 8_192)?;
     let payload = "fa".repeat(rt.alloc(), 8_192)?;
     let want = format!(in rt.alloc();
         r#"{{"code":69,"content_format":65535,"ended":false,"endpoint":"a","id":"0000000000010001","observe":16777215,"path":"/3/0","payload":"{payload}","token":"0000000000030001"}}"#
     )?;
-    let text = notice_text(rt.alloc(), &notice)?;
-    assert!(rt; text.as_str() == want.as_str());
-    Ok(())
+    same(text.as_str(), want.as_str())
 }
 
 const PATHS: [(&[u16], &str); 6] = [
@@ -151,23 +152,23 @@ const PATHS: [(&[u16], &str); 6] = [
 #[test]
 fn paths(rt: HostRuntime) -> Result<(), Fail> {
     for (numbers, text) in PATHS {
-        assert_eq!(rt; path_text(rt.alloc(), &path(numbers)?)?.as_str(), text);
+        same(path_text(rt.alloc(), &path(numbers)?)?.as_str(), text)?;
     }
     Ok(())
 }
 
+/// Replies, and what is printed of each where nothing is shown.
+const ANSWERS: [(Option<&[u8]>, &[u8]); 3] = [
+    (None, b"-\n"),
+    (Some(&[0x60, 0x80, 0, 0xab]), b"608000ab\n"),
+    (Some(&[]), b"\n"),
+];
+
 #[test]
 fn answers(rt: HostRuntime) -> Result<(), Fail> {
-    let reply: &[u8] = &[0x60, 0x80, 0, 0xab];
-    for (reply, line) in [
-        (None, "-\n"),
-        (Some(reply), "608000ab\n"),
-        (Some(&[]), "\n"),
-    ] {
-        assert_eq!(rt;
-            answer_text(rt.alloc(), reply, None)?.as_slice(),
-            line.as_bytes()
-        );
+    for (reply, line) in ANSWERS {
+        let text = answer_text(rt.alloc(), reply, None)?;
+        holds("the line", text.as_slice() == line)?;
     }
     Ok(())
 }
@@ -177,7 +178,6 @@ fn the_longest_answer(rt: HostRuntime) -> Result<(), Fail> {
     let objects = long_list(rt.alloc())?;
     let shown = registration("a", &objects);
     let text = answer_text(rt.alloc(), Some(&[0; 8192]), Some(&shown))?;
-    assert_eq!(rt; text.iter().position(|byte| *byte == b'\n'), Some(16_384));
-    assert!(rt; text.ends_with(b"\"sms\":null}\n"));
-    Ok(())
+    holds("the reply", text.get(16_384) == Some(&b'\n'))?;
+    holds("the registration", text.ends_with(b"\"sms\":null}\n"))
 }

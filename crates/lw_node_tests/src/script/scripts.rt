@@ -1,5 +1,5 @@
-use lw_script::{Script, ScriptFault, read_script};
-use std::alloc::{AllocError, Global};
+use super::*;
+use std::alloc::AllocError;
 
 /// A registration at one of two nodes, and what happens after it.
 const SEVEN: &str = "nodes 2
@@ -85,49 +85,46 @@ fn long_script(alloc: Global, lines: usize) -> Result<Vec<u8>, AllocError> {
 }
 
 #[test]
-fn seven_lines_are_read(rt: HostRuntime) {
+fn seven_lines_are_read(rt: HostRuntime) -> Result<(), Fail> {
     for text in [SEVEN, SEVEN.trim_end()] {
         let script = read_script(rt.alloc(), text.as_bytes());
-        assert!(rt; script.is_ok_and(|script| is_seven(&script)), "{text:?}");
+        holds(text, script.is_ok_and(|script| is_seven(&script)))?;
     }
-}
-
-#[test]
-fn scripts_are_read(rt: HostRuntime) {
-    for (text, nodes, events) in GOOD {
-        assert_eq!(rt;
-            sizes(rt.alloc(), text.as_bytes()),
-            Some((nodes, events)),
-            "{text:?}"
-        );
-    }
-}
-
-#[test]
-fn first_bad_line_is_refused(rt: HostRuntime) {
-    for (text, line) in REFUSED {
-        assert_eq!(rt;
-            refused_line(rt.alloc(), text.as_bytes()),
-            Some(line),
-            "{text:?}"
-        );
-    }
-}
-
-#[test]
-fn line_that_is_no_text_is_refused(rt: HostRuntime) {
-    assert_eq!(rt; refused_line(rt.alloc(), b"nodes 1\xff"), Some(1));
-    assert_eq!(rt;
-        refused_line(rt.alloc(), b"nodes 1\nendpoint 1 0 \xff\n"),
-        Some(2)
-    );
-}
-
-#[test]
-fn thousand_lines_are_read(rt: HostRuntime) -> Result<(), AllocError> {
-    let mut text = long_script(rt.alloc(), 1_000)?;
-    assert_eq!(rt; sizes(rt.alloc(), text.as_slice()), Some((16, 999)));
-    text.extend_from_slice(b"change 65536\n")?;
-    assert_eq!(rt; refused_line(rt.alloc(), text.as_slice()), Some(1_001));
     Ok(())
+}
+
+#[test]
+fn scripts_are_read(rt: HostRuntime) -> Result<(), Fail> {
+    for (text, nodes, events) in GOOD {
+        let sizes = sizes(rt.alloc(), text.as_bytes());
+        holds(text, sizes == Some((nodes, events)))?;
+    }
+    Ok(())
+}
+
+#[test]
+fn first_bad_line_is_refused(rt: HostRuntime) -> Result<(), Fail> {
+    for (text, line) in REFUSED {
+        let refused = refused_line(rt.alloc(), text.as_bytes());
+        holds(text, refused == Some(line))?;
+    }
+    Ok(())
+}
+
+#[test]
+fn line_that_is_no_text_is_refused(rt: HostRuntime) -> Result<(), Fail> {
+    let first = refused_line(rt.alloc(), b"nodes 1\xff");
+    let second = refused_line(rt.alloc(), b"nodes 1\nendpoint 1 0 \xff\n");
+    holds("the first line", first == Some(1))?;
+    holds("the second line", second == Some(2))
+}
+
+#[test]
+fn thousand_lines_are_read(rt: HostRuntime) -> Result<(), Fail> {
+    let mut text = long_script(rt.alloc(), 1_000)?;
+    let read = sizes(rt.alloc(), text.as_slice());
+    holds("its events", read == Some((16, 999)))?;
+    text.extend_from_slice(b"change 65536\n")?;
+    let refused = refused_line(rt.alloc(), text.as_slice());
+    holds("its last line", refused == Some(1_001))
 }
