@@ -2,4 +2,6 @@
 #![tactic(auto)]
 
 #[cfg(test)]
+mod hold;
+#[cfg(test)]
 mod tests;

@@ -1,3 +1,4 @@
+use crate::hold::{holds, holds_for, same};
 use lw_fleet::{Fault, OneOptions, bytes_of_hex, one, read_line, write_text};
 use lw_stamp::Moment;
 use std::alloc::Global;
@@ -114,12 +115,16 @@ const LINES: [(&[u8], &[u8]); 5] = [
 ];
 
 #[test]
-fn lines_end_at_the_first_line_feed(rt: HostRuntime) {
+fn lines_end_at_the_first_line_feed(rt: HostRuntime) -> Result<(), Fail> {
     for &(input, line) in &LINES {
         for most in [1, 3, 9999] {
-            assert_eq!(rt; is_read(rt.alloc(), input, most, line), Ok(true));
+            holds(
+                "lines end at the first line feed",
+                is_read(rt.alloc(), input, most, line) == Ok(true),
+            )?;
         }
     }
+    Ok(())
 }
 
 /// How long a line is that comes byte by byte from a reader that fails behind its input.
@@ -128,12 +133,15 @@ fn length_before_a_fault(alloc: Global, input: &[u8]) -> Result<usize, Fault> {
 }
 
 #[test]
-fn a_read_may_fail_behind_the_line_alone(rt: HostRuntime) {
-    assert_eq!(rt;
-        length_before_a_fault(rt.alloc(), b"4000"),
-        Err(Fault::ReadFailed)
-    );
-    assert_eq!(rt; length_before_a_fault(rt.alloc(), b"4000\n"), Ok(4));
+fn a_read_may_fail_behind_the_line_alone(rt: HostRuntime) -> Result<(), Fail> {
+    holds(
+        "a read may fail behind the line alone",
+        length_before_a_fault(rt.alloc(), b"4000") == Err(Fault::ReadFailed),
+    )?;
+    holds(
+        "a read may fail behind the line alone",
+        length_before_a_fault(rt.alloc(), b"4000\n") == Ok(4),
+    )
 }
 
 /// How many bytes are read of a line of so many, and of one with a line feed behind it.
@@ -146,11 +154,17 @@ fn lengths_read(alloc: Global, length: usize) -> Result<(usize, usize), Fault> {
 }
 
 #[test]
-fn lines_up_to_the_longest(rt: HostRuntime) {
+fn lines_up_to_the_longest(rt: HostRuntime) -> Result<(), Fail> {
     for &length in &[0, 1, 4095, 4096, 4097, 8192, 100_000, 1_048_575, 1_048_576] {
-        assert_eq!(rt; lengths_read(rt.alloc(), length), Ok((length, length)));
+        holds(
+            "lines up to the longest",
+            lengths_read(rt.alloc(), length) == Ok((length, length)),
+        )?;
     }
-    assert_eq!(rt; lengths_read(rt.alloc(), 1_048_577), Err(Fault::TooLong));
+    holds(
+        "lines up to the longest",
+        lengths_read(rt.alloc(), 1_048_577) == Err(Fault::TooLong),
+    )
 }
 
 /// What comes of writing a text, and whether the writer, which has so much room, is full with its front.
@@ -161,16 +175,20 @@ fn fills(alloc: Global, most: usize, room: usize, fails: bool) -> (Result<(), Fa
 }
 
 #[test]
-fn writes_go_on_until_one_takes_nothing(rt: HostRuntime) {
+fn writes_go_on_until_one_takes_nothing(rt: HostRuntime) -> Result<(), Fail> {
     for &(room, fails, result) in &[
         (6, false, Ok(())),
         (3, false, Err(Fault::WriteFailed)),
         (3, true, Err(Fault::WriteFailed)),
     ] {
         for &most in &[1, 2, 99] {
-            assert_eq!(rt; fills(rt.alloc(), most, room, fails), (result, true));
+            holds(
+                "writes go on until one takes nothing",
+                fills(rt.alloc(), most, room, fails) == (result, true),
+            )?;
         }
     }
+    Ok(())
 }
 
 /// What comes of writing a text, how many bytes are flushed, and whether the writer has all of them.
@@ -182,12 +200,15 @@ fn flushed(alloc: Global, flush_fails: bool) -> (Result<(), Fault>, usize, bool)
 }
 
 #[test]
-fn a_written_text_is_flushed(rt: HostRuntime) {
-    assert_eq!(rt; flushed(rt.alloc(), false), (Ok(()), 6, true));
-    assert_eq!(rt;
-        flushed(rt.alloc(), true),
-        (Err(Fault::WriteFailed), 0, true)
-    );
+fn a_written_text_is_flushed(rt: HostRuntime) -> Result<(), Fail> {
+    holds(
+        "a written text is flushed",
+        flushed(rt.alloc(), false) == (Ok(()), 6, true),
+    )?;
+    holds(
+        "a written text is flushed",
+        flushed(rt.alloc(), true) == (Err(Fault::WriteFailed), 0, true),
+    )
 }
 
 /// Whether a line of hex spells these bytes.
@@ -213,10 +234,9 @@ fn hex_lines(rt: HostRuntime) -> Result<(), Fail> {
         (b"0g", &[], Err(Fault::HexRefused)),
     ];
     for &(line, bytes, result) in &rows {
-        assert_eq!(rt; spells(rt.alloc(), line, bytes), result, "at {line:?}");
+        holds_for(&line, spells(rt.alloc(), line, bytes) == result)?;
     }
-    assert!(rt; spells_long(rt.alloc(), 1_048_576, 524_288)?);
-    Ok(())
+    holds("hex lines", spells_long(rt.alloc(), 1_048_576, 524_288)?)
 }
 
 /// Whether a fault is told by this line.
@@ -226,7 +246,7 @@ fn is_told(alloc: Global, fault: Fault, line: &str) -> bool {
 }
 
 #[test]
-fn fault_lines(rt: HostRuntime) {
+fn fault_lines(rt: HostRuntime) -> Result<(), Fail> {
     for &(fault, line) in &[
         (Fault::AddressRefused, "address refused\n"),
         (Fault::ReadFailed, "read failed\n"),
@@ -240,8 +260,9 @@ fn fault_lines(rt: HostRuntime) {
         (Fault::WriteFailed, "write failed\n"),
         (Fault::NoMemory, "no memory\n"),
     ] {
-        assert!(rt; is_told(rt.alloc(), fault, line), "{line}");
+        holds(line, is_told(rt.alloc(), fault, line))?;
     }
+    Ok(())
 }
 
 /// Whether a fault is told in part, by the front of its line for which there is room.
@@ -251,14 +272,15 @@ fn is_told_in_part(alloc: Global, fault: Fault, line: &str, room: usize) -> bool
 }
 
 #[test]
-fn a_fault_line_in_part(rt: HostRuntime) {
+fn a_fault_line_in_part(rt: HostRuntime) -> Result<(), Fail> {
     let fault = Fault::LineRefused { line: 1024 };
     for room in 0..18 {
-        assert!(rt;
+        holds_for(
+            &room,
             is_told_in_part(rt.alloc(), fault, "line 1024 refused\n", room),
-            "{room}"
-        );
+        )?;
     }
+    Ok(())
 }
 
 /// A Register of `a` and what a new node answers to it.
@@ -306,7 +328,7 @@ fn a_line_is_answered(rt: HostRuntime) -> Result<(), Fail> {
         (b"40 000007\n", "hex refused\n"),
     ];
     for &(input, text) in &rows {
-        assert_eq!(rt; told(rt.alloc(), input)?.as_str(), text);
+        same(told(rt.alloc(), input)?.as_str(), text)?;
     }
     Ok(())
 }
@@ -318,12 +340,11 @@ fn told_long(alloc: Global, length: usize) -> Result<String, Fail> {
 
 #[test]
 fn the_longest_line_is_answered(rt: HostRuntime) -> Result<(), Fail> {
-    assert_eq!(rt; told_long(rt.alloc(), 1_048_576)?.as_str(), "-\n");
-    assert_eq!(rt;
+    same(told_long(rt.alloc(), 1_048_576)?.as_str(), "-\n")?;
+    same(
         told_long(rt.alloc(), 1_048_577)?.as_str(),
-        "script too long\n"
-    );
-    Ok(())
+        "script too long\n",
+    )
 }
 
 /// A Register of `a` of 8,192 bytes: a payload of one link, `</` and a number of `1` and `>`.
@@ -359,10 +380,15 @@ fn is_register_answered(alloc: Global, ones: usize) -> Result<bool, Fail> {
 
 #[test]
 fn the_longest_register_is_answered(rt: HostRuntime) -> Result<(), Fail> {
-    assert_eq!(rt; longest_register(rt.alloc(), 8_176)?.len(), 2 * 8_192 + 1);
-    assert!(rt; is_register_answered(rt.alloc(), 8_176)?);
-    assert_eq!(rt; told_of_register(rt.alloc(), 8_177)?.as_str(), "70000004\n");
-    Ok(())
+    holds(
+        "the longest register is answered",
+        longest_register(rt.alloc(), 8_176)?.len() == 2 * 8_192 + 1,
+    )?;
+    holds(
+        "the longest register is answered",
+        is_register_answered(rt.alloc(), 8_176)?,
+    )?;
+    same(told_of_register(rt.alloc(), 8_177)?.as_str(), "70000004\n")
 }
 
 /// What comes of an input from an address where each read behind the input fails, how many bytes of it are left, and
@@ -381,22 +407,22 @@ fn failed(
 }
 
 #[test]
-fn a_refused_address_reads_nothing(rt: HostRuntime) {
+fn a_refused_address_reads_nothing(rt: HostRuntime) -> Result<(), Fail> {
     for &from in &["x", "127.0.0.1", "[::1]:5683", ""] {
-        assert_eq!(rt;
-            failed(rt.alloc(), from, b"4", 1),
-            (Err(Fault::AddressRefused), 1, 0),
-            "{from}"
-        );
+        holds_for(
+            &from,
+            failed(rt.alloc(), from, b"4", 1) == (Err(Fault::AddressRefused), 1, 0),
+        )?;
     }
+    Ok(())
 }
 
 #[test]
-fn a_reader_that_fails_is_told(rt: HostRuntime) {
-    assert_eq!(rt;
-        failed(rt.alloc(), OPTIONS.from, &REGISTER[..20], 3),
-        (Err(Fault::ReadFailed), 0, 0)
-    );
+fn a_reader_that_fails_is_told(rt: HostRuntime) -> Result<(), Fail> {
+    holds(
+        "a reader that fails is told",
+        failed(rt.alloc(), OPTIONS.from, &REGISTER[..20], 3) == (Err(Fault::ReadFailed), 0, 0),
+    )
 }
 
 /// What comes of a Register, and whether its answer fills the writer as far as there is room.
@@ -415,7 +441,7 @@ fn answered(
 }
 
 #[test]
-fn a_writer_that_fails_is_told(rt: HostRuntime) {
+fn a_writer_that_fails_is_told(rt: HostRuntime) -> Result<(), Fail> {
     for &(most, room, fails, flush_fails, result) in &[
         (1, 9999, false, false, Ok(())),
         (1, 70, true, false, Err(Fault::WriteFailed)),
@@ -423,9 +449,10 @@ fn a_writer_that_fails_is_told(rt: HostRuntime) {
         (50, 0, false, false, Err(Fault::WriteFailed)),
         (50, 9999, false, true, Err(Fault::WriteFailed)),
     ] {
-        assert_eq!(rt;
-            answered(rt.alloc(), most, room, fails, flush_fails),
-            (result, true)
-        );
+        holds(
+            "a writer that fails is told",
+            answered(rt.alloc(), most, room, fails, flush_fails) == (result, true),
+        )?;
     }
+    Ok(())
 }

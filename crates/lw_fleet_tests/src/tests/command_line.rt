@@ -1,6 +1,7 @@
 //! What the command line gives, and the texts that are printed where it gives nothing.
 
 use super::program::run_with;
+use crate::hold::{holds, holds_for, same};
 use lw_fleet::{Request, ServeOptions, read_request};
 use std::alloc::Global;
 use std::str;
@@ -15,8 +16,10 @@ fn asked<'a>(alloc: Global, words: &'a [&'a str]) -> Result<Request<'a>, Fail> {
 
 #[test]
 fn a_replay(rt: HostRuntime) -> Result<(), Fail> {
-    assert!(rt; asked(rt.alloc(), &["fleet", "replay"])? == Request::Replay);
-    Ok(())
+    holds(
+        "a replay",
+        asked(rt.alloc(), &["fleet", "replay"])? == Request::Replay,
+    )
 }
 
 /// The node, the moment and the address that the words give to `one`.
@@ -50,7 +53,7 @@ const GIVEN_TO_ONE: [(&[&str], (u16, u64, &str)); 5] = [
 #[test]
 fn options(rt: HostRuntime) -> Result<(), Fail> {
     for &(words, given) in &GIVEN_TO_ONE {
-        assert_eq!(rt; given_to_one(rt.alloc(), words)?, given);
+        holds("options", given_to_one(rt.alloc(), words)? == given)?;
     }
     Ok(())
 }
@@ -76,7 +79,7 @@ fn ended_text(alloc: Global, status: u8, output: &[u8], errors: &[u8]) -> Result
 #[test]
 fn help_of_the_program(rt: HostRuntime) -> Result<(), Fail> {
     let text = printed(&rt, rt.alloc(), &["fleet", "--help"])?;
-    assert_eq!(rt;
+    same(
         text.as_str(),
         "0 \
 The registration store behind LwM2M servers; without a command, `fleet one`
@@ -92,15 +95,14 @@ Commands:
 Options:
   -h, --help     Print help
   -V, --version  Print version
-|"
-    );
-    Ok(())
+|",
+    )
 }
 
 #[test]
 fn help_of_one(rt: HostRuntime) -> Result<(), Fail> {
     let text = printed(&rt, rt.alloc(), &["fleet", "one", "--help"])?;
-    assert_eq!(rt;
+    same(
         text.as_str(),
         "0 \
 Takes one datagram, a line of hex on standard input, and prints the reply and the registration
@@ -112,15 +114,14 @@ Options:
       --now <MS>     Moment in milliseconds, 0 to 281474976710655 [default: 0]
       --from <ADDR>  Address and port of the client, IPv6 as [eight groups of four digits] [default: 127.0.0.1:5683]
   -h, --help         Print help
-|"
-    );
-    Ok(())
+|",
+    )
 }
 
 #[test]
 fn help_of_replay(rt: HostRuntime) -> Result<(), Fail> {
     let text = printed(&rt, rt.alloc(), &["fleet", "replay", "--help"])?;
-    assert_eq!(rt;
+    same(
         text.as_str(),
         "0 \
 Runs a script of several nodes, read from standard input, and prints a line for each event
@@ -129,15 +130,14 @@ Usage: fleet replay
 
 Options:
   -h, --help  Print help
-|"
-    );
-    Ok(())
+|",
+    )
 }
 
 #[test]
 fn help_of_serve(rt: HostRuntime) -> Result<(), Fail> {
     let text = printed(&rt, rt.alloc(), &["fleet", "serve", "--help"])?;
-    assert_eq!(rt;
+    same(
         text.as_str(),
         "0 \
 Serves datagrams that come to a UDP port of 127.0.0.1, and prints `settled` when the journals are checked
@@ -150,9 +150,8 @@ Options:
       --nodes <N>    Nodes, which share the clients by their ports, 1 to 16 [default: 2]
       --workers <W>  Worker threads, 1 to 8 [default: 2]
   -h, --help         Print help
-|"
-    );
-    Ok(())
+|",
+    )
 }
 
 /// The count, the port, the nodes and the workers that the words give to `serve`.
@@ -195,7 +194,10 @@ const GIVEN_TO_SERVE: [(&[&str], (u32, u16, u16, u32)); 3] = [
 #[test]
 fn options_to_serve(rt: HostRuntime) -> Result<(), Fail> {
     for &(words, given) in &GIVEN_TO_SERVE {
-        assert_eq!(rt; given_to_serve(rt.alloc(), words)?, given);
+        holds(
+            "options to serve",
+            given_to_serve(rt.alloc(), words)? == given,
+        )?;
     }
     Ok(())
 }
@@ -224,10 +226,10 @@ const REFUSED_BY_SERVE: [(&str, &str, &str, &str); 8] = [
 fn refused_words_of_serve(rt: HostRuntime) -> Result<(), Fail> {
     for &(count, option, number, line) in &REFUSED_BY_SERVE {
         let words = ["fleet", "serve", "--count", count, option, number];
-        assert!(rt;
+        holds_for(
+            &(count, option, number),
             is_refused(&rt, rt.alloc(), &words, line, SERVE)?,
-            "{count} {option} {number}"
-        );
+        )?;
     }
     Ok(())
 }
@@ -236,15 +238,17 @@ fn refused_words_of_serve(rt: HostRuntime) -> Result<(), Fail> {
 fn a_count_has_to_be_given(rt: HostRuntime) -> Result<(), Fail> {
     let line = "the following required arguments were not provided:\n  --count <K>";
     let usage = "Usage: fleet serve --count <K>\n\n";
-    assert!(rt; is_refused(&rt, rt.alloc(), &["fleet", "serve"], line, usage)?);
-    Ok(())
+    holds(
+        "a count has to be given",
+        is_refused(&rt, rt.alloc(), &["fleet", "serve"], line, usage)?,
+    )
 }
 
 #[test]
 fn the_version(rt: HostRuntime) -> Result<(), Fail> {
     for &flag in &["--version", "-V"] {
         let text = printed(&rt, rt.alloc(), &["fleet", flag])?;
-        assert_eq!(rt; text.as_str(), "0 fleet 0.1.0\n|");
+        same(text.as_str(), "0 fleet 0.1.0\n|")?;
     }
     Ok(())
 }
@@ -324,10 +328,7 @@ const REFUSED_WORDS: [(&[&str], &str, &str); 10] = [
 #[test]
 fn refused_words(rt: HostRuntime) -> Result<(), Fail> {
     for &(words, line, usage) in &REFUSED_WORDS {
-        assert!(rt;
-            is_refused(&rt, rt.alloc(), words, line, usage)?,
-            "{words:?}"
-        );
+        holds_for(&words, is_refused(&rt, rt.alloc(), words, line, usage)?)?;
     }
     Ok(())
 }
@@ -351,19 +352,19 @@ const REFUSED_BY_ONE: [(&str, &str, &str); 7] = [
 fn refused_numbers(rt: HostRuntime) -> Result<(), Fail> {
     for &(option, number, line) in &REFUSED_BY_ONE {
         let words = ["fleet", "one", option, number];
-        assert!(rt;
+        holds_for(
+            &(option, number),
             is_refused(&rt, rt.alloc(), &words, line, ONE)?,
-            "{option} {number}"
-        );
+        )?;
     }
-    assert!(rt;
+    holds(
+        "refused numbers",
         is_refused(
             &rt,
             rt.alloc(),
             &["fleet", "one", "--node=-1"],
             BAD_NODE,
-            ONE
-        )?
-    );
-    Ok(())
+            ONE,
+        )?,
+    )
 }

@@ -1,6 +1,7 @@
 //! Made scripts of sixteen nodes, whose messages are lost, repeated and late.
 
 use super::replay::replayed;
+use crate::hold::holds_for;
 use std::alloc::{AllocError, Global};
 use std::test::Fail;
 
@@ -125,7 +126,7 @@ fn are_alike(answers: &str) -> bool {
 fn nodes_that_got_the_same_messages_answer_alike(rt: HostRuntime) -> Result<(), Fail> {
     for seed in 1..=3 {
         let answers = answers_after(rt.alloc(), seed)?;
-        assert!(rt; are_alike(answers.as_str()), "seed {seed}");
+        holds_for(&seed, are_alike(answers.as_str()))?;
     }
     Ok(())
 }

@@ -2,6 +2,7 @@
 
 use super::serving::NoServer;
 use super::{ANSWER, FewBytes, FewWrites, REGISTER};
+use crate::hold::{holds, holds_for};
 use lw_fleet::{Ending, Fault, Serves, program};
 use std::alloc::Global;
 use std::io::{self, ErrorKind, Read, Write};
@@ -148,7 +149,7 @@ const ROWS: [Row; 11] = [
 fn endings(rt: HostRuntime) -> Result<(), Fail> {
     for &(words, input, status, output, errors, unread) in &ROWS {
         let ended = run_with(&rt, rt.alloc(), words, input)?;
-        assert!(rt; ended.shows(status, output, errors, unread), "{words:?}");
+        holds_for(&words, ended.shows(status, output, errors, unread))?;
     }
     Ok(())
 }
@@ -162,8 +163,10 @@ fn run_long<R: Threads + Wait + Sync>(rt: &R, alloc: Global, length: usize) -> R
 #[test]
 fn a_line_that_is_too_long_ends_the_run(rt: HostRuntime) -> Result<(), Fail> {
     let ended = run_long(&rt, rt.alloc(), 1_048_577)?;
-    assert!(rt; ended.shows(1, "", "script too long\n", 0));
-    Ok(())
+    holds(
+        "a line that is too long ends the run",
+        ended.shows(1, "", "script too long\n", 0),
+    )
 }
 
 #[test]
@@ -175,8 +178,10 @@ fn a_reader_that_fails_ends_the_run(rt: HostRuntime) -> Result<(), Fail> {
         fault: Fault::ReadFailed,
         told: true,
     };
-    assert!(rt; ended.ending == ending && ended.shows(1, "", "read failed\n", 0));
-    Ok(())
+    holds(
+        "a reader that fails ends the run",
+        ended.ending == ending && ended.shows(1, "", "read failed\n", 0),
+    )
 }
 
 /// Whether a writer with so much room, whose flush may fail, ends the run with a failed write.
@@ -220,7 +225,7 @@ fn fails_with_its_writer<R: Threads + Wait + Sync>(
 fn a_writer_that_fails_ends_the_run(rt: HostRuntime) -> Result<(), Fail> {
     for word in ["one", "--version", "--help"] {
         let fails = fails_with_its_writer(&rt, rt.alloc(), &["fleet", word])?;
-        assert!(rt; fails, "{word}");
+        holds_for(&word, fails)?;
     }
     Ok(())
 }
@@ -258,17 +263,16 @@ fn standard_error_changes_no_status(rt: HostRuntime) -> Result<(), Fail> {
     ];
     for &(words, room, status, taken) in &rows {
         let (ending, is_taken) = untold(&rt, rt.alloc(), words, room, taken)?;
-        assert_eq!(rt; (ending.status(), is_taken), (status, true), "{words:?}");
+        holds_for(&words, (ending.status(), is_taken) == (status, true))?;
     }
     let ending = Ending::Failed {
         fault: Fault::HexRefused,
         told: false,
     };
-    assert_eq!(rt;
-        untold(&rt, rt.alloc(), &["fleet"], 5, b"hex r")?,
-        (ending, true)
-    );
-    Ok(())
+    holds(
+        "standard error changes no status",
+        untold(&rt, rt.alloc(), &["fleet"], 5, b"hex r")? == (ending, true),
+    )
 }
 
 const NOT_UTF8: &str = "error: a word is not UTF-8
@@ -286,12 +290,13 @@ fn run_without_words<R: Threads + Wait + Sync>(rt: &R, alloc: Global, kind: Erro
 }
 
 #[test]
-fn words_that_cannot_be_had(rt: HostRuntime) {
+fn words_that_cannot_be_had(rt: HostRuntime) -> Result<(), Fail> {
     for &(kind, status, line) in &[
         (ErrorKind::InvalidData, 2, NOT_UTF8),
         (ErrorKind::OutOfMemory, 1, "no memory\n"),
     ] {
         let ended = run_without_words(&rt, rt.alloc(), kind);
-        assert!(rt; ended.shows(status, "", line, 1), "{line}");
+        holds(line, ended.shows(status, "", line, 1))?;
     }
+    Ok(())
 }

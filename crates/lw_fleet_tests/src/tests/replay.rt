@@ -2,6 +2,7 @@
 
 use super::scripts::{observations, refusals, registers, updates};
 use super::{FewBytes, FewWrites, scripts};
+use crate::hold::{holds, holds_for, same};
 use lw_fleet::{Fault, replay};
 use std::alloc::Global;
 use std::test::Fail;
@@ -96,15 +97,14 @@ fn line_of_links(alloc: Global, count: usize) -> Result<String, Fail> {
 
 #[test]
 fn a_register_has_at_most_256_links(rt: HostRuntime) -> Result<(), Fail> {
-    assert_eq!(rt;
+    same(
         line_of_links(rt.alloc(), 256)?.as_str(),
-        "taken 604100048272640d0330303030303030303030303130303031 -\n"
-    );
-    assert_eq!(rt;
+        "taken 604100048272640d0330303030303030303030303130303031 -\n",
+    )?;
+    same(
         line_of_links(rt.alloc(), 257)?.as_str(),
-        "taken 608d0004 -\n"
-    );
-    Ok(())
+        "taken 608d0004 -\n",
+    )
 }
 
 #[test]
@@ -113,8 +113,7 @@ fn a_last_line_feed_may_be_missing(rt: HostRuntime) -> Result<(), Fail> {
     let Some(front) = script.strip_suffix('\n') else {
         return Err(Fail::from("no line feed"));
     };
-    assert_eq!(rt; replayed(rt.alloc(), front.as_bytes())?.as_str(), text);
-    Ok(())
+    same(replayed(rt.alloc(), front.as_bytes())?.as_str(), text)
 }
 
 /// What comes of a script, and how many bytes are printed.
@@ -140,14 +139,15 @@ const REFUSED: [(&[u8], usize); 11] = [
 ];
 
 #[test]
-fn refused_scripts(rt: HostRuntime) {
+fn refused_scripts(rt: HostRuntime) -> Result<(), Fail> {
     for &(script, line) in &REFUSED {
-        assert_eq!(rt;
-            outcome(rt.alloc(), FewBytes::new(script, 5, false)),
-            (Err(Fault::LineRefused { line }), 0),
-            "{script:?}"
-        );
+        holds_for(
+            &script,
+            outcome(rt.alloc(), FewBytes::new(script, 5, false))
+                == (Err(Fault::LineRefused { line }), 0),
+        )?;
     }
+    Ok(())
 }
 
 /// A script of so many bytes, with one event, whose endpoint is long.
@@ -180,20 +180,32 @@ fn outcome_of_blanks(alloc: Global, count: usize) -> Result<(Result<(), Fault>, 
 #[test]
 fn the_longest_script(rt: HostRuntime) -> Result<(), Fail> {
     let (too_long, refused) = (Err(Fault::TooLong), Err(Fault::LineRefused { line: 1 }));
-    assert_eq!(rt; replayed_long(rt.alloc(), 1_048_576)?.as_str(), "none\n");
-    assert!(rt; outcome_of_long(rt.alloc(), 1_048_577)? == (too_long, 0));
-    assert!(rt; outcome_of_blanks(rt.alloc(), 1_048_577)? == (too_long, 0));
-    assert!(rt; outcome_of_blanks(rt.alloc(), 1_048_576)? == (refused, 0));
-    Ok(())
+    same(replayed_long(rt.alloc(), 1_048_576)?.as_str(), "none\n")?;
+    holds(
+        "the longest script",
+        outcome_of_long(rt.alloc(), 1_048_577)? == (too_long, 0),
+    )?;
+    holds(
+        "the longest script",
+        outcome_of_blanks(rt.alloc(), 1_048_577)? == (too_long, 0),
+    )?;
+    holds(
+        "the longest script",
+        outcome_of_blanks(rt.alloc(), 1_048_576)? == (refused, 0),
+    )
 }
 
 #[test]
-fn a_reader_that_fails_after_any_byte(rt: HostRuntime) {
+fn a_reader_that_fails_after_any_byte(rt: HostRuntime) -> Result<(), Fail> {
     let script = scripts::A_DELTA.0.as_bytes();
     for count in 0..=script.len() {
         let reader = FewBytes::new(&script[..count], 7, true);
-        assert_eq!(rt; outcome(rt.alloc(), reader), (Err(Fault::ReadFailed), 0));
+        holds(
+            "a reader that fails after any byte",
+            outcome(rt.alloc(), reader) == (Err(Fault::ReadFailed), 0),
+        )?;
     }
+    Ok(())
 }
 
 /// What comes of a script, and whether a writer of so much room, which takes a few bytes at a time, has the front of
@@ -216,25 +228,24 @@ fn written(
 }
 
 #[test]
-fn a_writer_that_fails_after_any_byte(rt: HostRuntime) {
+fn a_writer_that_fails_after_any_byte(rt: HostRuntime) -> Result<(), Fail> {
     let failed = (Err(Fault::WriteFailed), true);
     for room in 0..scripts::A_DELTA.1.len() {
-        assert_eq!(rt;
-            written(rt.alloc(), 1, room, false, false),
-            failed,
-            "{room}"
-        );
-        assert_eq!(rt;
-            written(rt.alloc(), 64, room, true, false),
-            failed,
-            "{room}"
-        );
+        holds_for(&room, written(rt.alloc(), 1, room, false, false) == failed)?;
+        holds_for(&room, written(rt.alloc(), 64, room, true, false) == failed)?;
     }
+    Ok(())
 }
 
 #[test]
-fn a_writer_that_takes_a_byte_at_a_time(rt: HostRuntime) {
+fn a_writer_that_takes_a_byte_at_a_time(rt: HostRuntime) -> Result<(), Fail> {
     let failed = Err(Fault::WriteFailed);
-    assert_eq!(rt; written(rt.alloc(), 1, 9999, false, false), (Ok(()), true));
-    assert_eq!(rt; written(rt.alloc(), 1, 9999, false, true), (failed, true));
+    holds(
+        "a writer that takes a byte at a time",
+        written(rt.alloc(), 1, 9999, false, false) == (Ok(()), true),
+    )?;
+    holds(
+        "a writer that takes a byte at a time",
+        written(rt.alloc(), 1, 9999, false, true) == (failed, true),
+    )
 }

@@ -2,6 +2,7 @@
 
 use super::program::{Ended, run_on};
 use super::{FewBytes, FewWrites};
+use crate::hold::{holds, holds_for};
 use lw_fleet::{Ending, ServeOptions, Serves, ServingFault, write_text};
 use lw_serve::{CrewFault, ServeFault};
 use std::alloc::Global;
@@ -74,10 +75,15 @@ fn a_server_that_settles(rt: HostRuntime) -> Result<(), Fail> {
         asked: None,
     };
     let ended = served(&rt, rt.alloc(), &mut server)?;
-    assert!(rt; ended.ending == Ending::Done && ended.shows(0, "settled\n", "", 1));
+    holds(
+        "a server that settles",
+        ended.ending == Ending::Done && ended.shows(0, "settled\n", "", 1),
+    )?;
     let ServeOptions { plan, port } = server.asked.ok_or("it was not asked")?;
-    assert_eq!(rt; (plan.count, port, plan.nodes, plan.workers), (9, 1, 3, 4));
-    Ok(())
+    holds(
+        "a server that settles",
+        (plan.count, port, plan.nodes, plan.workers) == (9, 1, 3, 4),
+    )
 }
 
 /// How `fleet serve` ends with a server, and whether this line alone is written, as an error.
@@ -102,14 +108,13 @@ fn a_server_that_stops(rt: HostRuntime) -> Result<(), Fail> {
         told: true,
     };
     let ended = stopped(&rt, rt.alloc(), &mut server, "unsettled 2 7\n")?;
-    assert_eq!(rt; ended, (unsettled, true));
+    holds("a server that stops", ended == (unsettled, true))?;
     let unbound = Ending::Unserved {
         fault: ServingFault::BindFailed,
         told: true,
     };
     let ended = stopped(&rt, rt.alloc(), &mut NoServer, "bind failed\n")?;
-    assert_eq!(rt; ended, (unbound, true));
-    Ok(())
+    holds("a server that stops", ended == (unbound, true))
 }
 
 /// Each fault, and its line.
@@ -163,14 +168,15 @@ fn is_told_in_part(alloc: Global, fault: ServingFault, line: &str, room: usize) 
 }
 
 #[test]
-fn lines_of_serving_faults(rt: HostRuntime) {
+fn lines_of_serving_faults(rt: HostRuntime) -> Result<(), Fail> {
     for &(fault, line) in &LINES {
-        assert!(rt; is_told(rt.alloc(), fault, line), "{line}");
+        holds(line, is_told(rt.alloc(), fault, line))?;
         for room in 0..line.len() {
-            assert!(rt;
+            holds_for(
+                &(line, room),
                 is_told_in_part(rt.alloc(), fault, line, room),
-                "{line} {room}"
-            );
+            )?;
         }
     }
+    Ok(())
 }
