@@ -23,7 +23,12 @@ fn another_registration(rt: HostRuntime) -> Result<(), Fail> {
 }
 
 /// How long the JSON is of a registration with these texts.
-fn length_of(alloc: Global, endpoint: &str, sms: &str, objects: &LinkText) -> Result<usize, Fail> {
+fn length_of<'a>(
+    alloc: Global,
+    endpoint: &'a str,
+    sms: &'a str,
+    objects: &'a LinkText,
+) -> Result<usize, Fail> {
     let mut view = other_registration(endpoint, objects);
     view.sms = Some(sms);
     Ok(registration_text(alloc, &view)?.len())
