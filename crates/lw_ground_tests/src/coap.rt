@@ -11,18 +11,6 @@ const REGISTER: [u8; 41] = [
     0x2e, 0x31, 0xff, 0x3c, 0x2f, 0x33, 0x2f, 0x30, 0x3e,
 ];
 
-/// Whether the reading of the bytes ends with this fault, or with none.
-fn ends_with(alloc: Global, bytes: &[u8], fault: Option<Fault>) -> bool {
-    decode(alloc, bytes).err() == fault
-}
-
-fn refuses(alloc: Global, bytes: &[u8], fault: Fault) -> Result<(), Fail> {
-    if ends_with(alloc, bytes, Some(fault)) {
-        return Ok(());
-    }
-    Err(Fail::new(format_args!("{bytes:?}: not {fault:?}")))
-}
-
 /// Whether the message is written as these bytes.
 fn is_written(alloc: Global, message: &Message, bytes: &[u8]) -> Result<bool, NoMemory> {
     if !message.fits() {
@@ -32,150 +20,54 @@ fn is_written(alloc: Global, message: &Message, bytes: &[u8]) -> Result<bool, No
     Ok(written.as_slice() == bytes)
 }
 
-/// What a message has, the last of it as in its bytes.
-#[derive(Clone, Copy)]
-enum Content<'a> {
-    /// Whatever it has.
-    Any,
-    /// A token of so many bytes.
-    Token(usize),
-    /// One option alone: its number, and the length of its value.
-    Lone(u16, usize),
-    /// Options of one byte, with numbers so much apart, and how many.
-    Apart(u64, usize),
-    /// Options without values, with these numbers.
-    Numbers(&'a [u16]),
-    /// So many options.
-    Count(usize),
-    /// A payload alone, of so many bytes.
-    Payload(usize),
+/// The length of the token, the number of options, the number of the last option and the length of its value, and the
+/// length of the payload.
+type Shape = [usize; 5];
+
+fn shape(message: &Message) -> Shape {
+    let (number, len) = match message.options.last() {
+        None => (0, 0),
+        Some(option) => (usize::from(option.number), option.value.len()),
+    };
+    let options = message.options.len();
+    [
+        message.token.len(),
+        options,
+        number,
+        len,
+        message.payload.len(),
+    ]
 }
 
-impl Content<'_> {
-    fn is_in(self, message: &Message, bytes: &[u8]) -> bool {
-        match self {
-            Content::Any => true,
-            Content::Token(len) => has_token(message, len, bytes),
-            Content::Lone(number, len) => has_one_option(message, number, len, bytes),
-            Content::Apart(delta, count) => are_options(&message.options, delta, count),
-            Content::Numbers(numbers) => have_numbers(&message.options, numbers),
-            Content::Count(count) => message.options.len() == count,
-            Content::Payload(len) => has_payload(message, len, bytes),
-        }
+/// Whether the bytes end with what the message has last.
+fn is_last(message: &Message, bytes: &[u8]) -> bool {
+    if !message.payload.is_empty() {
+        return bytes.ends_with(&message.payload);
+    }
+    match message.options.last() {
+        None => bytes.ends_with(&message.token),
+        Some(option) => bytes.ends_with(&option.value),
     }
 }
 
-fn has_token(message: &Message, len: usize, bytes: &[u8]) -> bool {
-    message.token.len() == len && bytes.ends_with(&message.token)
-}
-
-fn has_one_option(message: &Message, number: u16, len: usize, bytes: &[u8]) -> bool {
-    message.token.is_empty()
-        && message.payload.is_empty()
-        && is_option(&message.options, number, len, bytes)
-}
-
-/// Whether it is one option, whose value is the last bytes.
-fn is_option(options: &[CoapOption], number: u16, len: usize, bytes: &[u8]) -> bool {
-    match options {
-        [option] => {
-            option.number == number && option.value.len() == len && bytes.ends_with(&option.value)
-        }
-        _ => false,
-    }
-}
-
-/// Whether the options are those that `options` spells, with numbers so much apart.
-fn are_options(options: &[CoapOption], delta: u64, count: usize) -> bool {
-    let mut number = 0u64;
-    for (i, option) in options.iter().enumerate() {
-        number = number.saturating_add(delta);
-        if option.number as u64 != number || !is_byte(&option.value, (i % 251) as u8) {
-            return false;
-        }
-    }
-    options.len() == count
-}
-
-fn is_byte(value: &[u8], byte: u8) -> bool {
-    match value {
-        [only] => *only == byte,
-        _ => false,
-    }
-}
-
-fn have_numbers(options: &[CoapOption], numbers: &[u16]) -> bool {
-    for (option, number) in options.iter().zip(numbers) {
-        if option.number != *number || !option.value.is_empty() {
-            return false;
-        }
-    }
-    options.len() == numbers.len()
-}
-
-fn has_payload(message: &Message, len: usize, bytes: &[u8]) -> bool {
-    message.payload.len() == len
-        && bytes.ends_with(&message.payload)
-        && message.token.is_empty()
-        && message.options.is_empty()
-}
-
-/// The bytes are read as a message with the content, and written again.
-fn spells(alloc: Global, bytes: &[u8], content: Content<'_>) -> Result<(), Fail> {
+/// The bytes are read as a message of the shape, and written again.
+fn spells(alloc: Global, bytes: &[u8], wanted: Shape) -> Result<(), Fail> {
     let message = decode(alloc, bytes)?;
-    holds("the content", content.is_in(&message, bytes))?;
+    holds(
+        "the shape",
+        shape(&message) == wanted && is_last(&message, bytes),
+    )?;
     holds("the bytes", is_written(alloc, &message, bytes)?)
-}
-
-/// Bytes that count up.
-fn count_up(bytes: &mut Vec<u8>, count: usize) -> Result<(), AllocError> {
-    for i in 0..count {
-        bytes.push((i % 251) as u8)?;
-    }
-    Ok(())
-}
-
-fn put(bytes: &mut Vec<u8>, front: &[u8], count: usize) -> Result<(), AllocError> {
-    bytes.extend_from_slice(&[0x40, 0x01, 0x12, 0x34])?;
-    bytes.extend_from_slice(front)?;
-    count_up(bytes, count)
 }
 
 /// A confirmable GET with no token: behind its header these bytes, and then so many that count up.
 fn datagram(alloc: Global, front: &[u8], count: usize) -> Result<Vec<u8>, AllocError> {
-    let mut bytes = Vec::new(alloc);
-    put(&mut bytes, front, count)?;
-    Ok(bytes)
-}
-
-/// These bytes behind a header, and then so many that count up, spell the content.
-fn spells_behind(
-    alloc: Global,
-    front: &[u8],
-    count: usize,
-    content: Content<'_>,
-) -> Result<(), Fail> {
-    let bytes = datagram(alloc, front, count)?;
-    spells(alloc, &bytes, content)
-}
-
-fn put_options(bytes: &mut Vec<u8>, head: u8, count: usize) -> Result<(), AllocError> {
+    let mut bytes = Vec::from_slice(alloc, &[0x40, 0x01, 0x12, 0x34])?;
+    bytes.extend_from_slice(front)?;
     for i in 0..count {
-        bytes.extend_from_slice(&[head, (i % 251) as u8])?;
+        bytes.push((i % 251) as u8)?;
     }
-    Ok(())
-}
-
-/// So many options of one byte each, every one with this head.
-fn options(alloc: Global, head: u8, count: usize) -> Result<Vec<u8>, AllocError> {
-    let mut bytes = datagram(alloc, &[], 0)?;
-    put_options(&mut bytes, head, count)?;
     Ok(bytes)
-}
-
-fn spells_options(alloc: Global, head: u8, delta: u64, count: usize) -> Result<(), Fail> {
-    let bytes = options(alloc, head, count)?;
-    spells(alloc, &bytes, Content::Apart(delta, count))
 }
 
 /// The numbers and the values of the options of `REGISTER`.
@@ -185,6 +77,20 @@ static REGISTER_OPTIONS: [(u16, &[u8]); 5] = [
     (15, b"ep=a"),
     (15, b"lt=60"),
     (15, b"lwm2m=1.1"),
+];
+
+/// Deltas of 0, 0, 12, 13, 268, 269 and 64973.
+const HEADS: &[u8] = b"\x00\x00\xc0\xd0\x00\xd0\xff\xe0\x00\x00\xe0\xfc\xc0";
+
+/// The numbers of the options of `HEADS`, which have no values.
+static NUMBERED: [(u16, &[u8]); 7] = [
+    (0, b""),
+    (0, b""),
+    (12, b""),
+    (25, b""),
+    (293, b""),
+    (562, b""),
+    (65535, b""),
 ];
 
 fn have_values(options: &[CoapOption], wanted: &[(u16, &[u8])]) -> bool {
@@ -204,15 +110,20 @@ fn is_register(message: &Message) -> bool {
         && message.payload.as_slice() == b"</3/0>".as_slice()
 }
 
-fn is_read_as_register(alloc: Global, bytes: &[u8]) -> Result<bool, Fault> {
-    let message = decode(alloc, bytes)?;
-    Ok(is_register(&message) && have_values(&message.options, &REGISTER_OPTIONS))
-}
-
 #[test]
-fn a_register_is_read(rt: HostRuntime) -> Result<(), Fail> {
-    holds("the message", is_read_as_register(rt.alloc(), &REGISTER)?)?;
-    spells(rt.alloc(), &REGISTER, Content::Any)
+fn options_have_numbers_and_values(rt: HostRuntime) -> Result<(), Fail> {
+    let mut message = decode(rt.alloc(), &REGISTER)?;
+    holds("its parts", is_register(&message))?;
+    holds(
+        "its options",
+        have_values(&message.options, &REGISTER_OPTIONS),
+    )?;
+    holds("its bytes", is_written(rt.alloc(), &message, &REGISTER)?)?;
+    message.code = 0;
+    holds("code 0.00 with more does not fit", !message.fits())?;
+    let bytes = datagram(rt.alloc(), HEADS, 0)?;
+    let numbered = decode(rt.alloc(), &bytes)?;
+    holds("numbers add up", have_values(&numbered.options, &NUMBERED))
 }
 
 /// The fault of so many bytes of `REGISTER`, or none.
@@ -223,16 +134,6 @@ fn fault_of_front(len: usize) -> Option<Fault> {
         8 | 11 | 13 | 18 | 24 | 34 | 36..=41 => None,
         35 => Some(Fault::EmptyPayload),
         _ => Some(Fault::Truncated),
-    }
-}
-
-#[test]
-fn a_register_is_cut(rt: HostRuntime) {
-    for len in 0..42usize {
-        assert!(rt;
-            ends_with(rt.alloc(), &REGISTER[..len], fault_of_front(len)),
-            "{len} bytes"
-        );
     }
 }
 
@@ -284,77 +185,161 @@ static FAULTS: [(&[u8], Fault); 24] = [
     (&[0x40, 0x01, 0x00, 0x01, 0xff], Fault::EmptyPayload),
 ];
 
-fn refuses_each(alloc: Global, rows: &[(&[u8], Fault)]) -> Result<(), Fail> {
-    for (bytes, fault) in rows {
-        refuses(alloc, bytes, *fault)?;
+fn refuses(alloc: Global, bytes: &[u8], fault: Option<Fault>) -> Result<(), Fail> {
+    if decode(alloc, bytes).err() == fault {
+        return Ok(());
     }
-    Ok(())
+    Err(Fail::new(format_args!("{bytes:?}: not {fault:?}")))
 }
 
 #[test]
 fn faults(rt: HostRuntime) -> Result<(), Fail> {
-    refuses_each(rt.alloc(), &FAULTS)
+    for (bytes, fault) in &FAULTS {
+        refuses(rt.alloc(), bytes, Some(*fault))?;
+    }
+    for len in 0..42usize {
+        refuses(rt.alloc(), &REGISTER[..len], fault_of_front(len))?;
+    }
+    Ok(())
 }
 
-static MESSAGES: [&[u8]; 4] = [
-    &[0x40, 0x01, 0x00, 0x01],
-    &[0x70, 0x00, 0xff, 0xfe],
+static TOO_LONG: [&[u8]; 3] = [&[0xff, 0], &[0xbe, 0x1e, 0xec, 0], &[0x01, 0x02, 0xff]];
+
+/// Looks at a datagram of 8,193 bytes, whose first byte is this.
+fn refuses_long(alloc: Global, head: &[u8], first: u8) -> Result<(), Fail> {
+    let mut bytes = datagram(alloc, head, 8193)?;
+    bytes.truncate(8193);
+    if let Some(byte) = bytes.first_mut() {
+        *byte = first;
+    }
+    holds("its length", bytes.len() == 8193)?;
+    refuses(alloc, &bytes, Some(Fault::TooLong))
+}
+
+#[test]
+fn too_long(rt: HostRuntime) -> Result<(), Fail> {
+    for head in &TOO_LONG {
+        // versions 1 and 2
+        refuses_long(rt.alloc(), head, 0x40)?;
+        refuses_long(rt.alloc(), head, 0x80)?;
+    }
+    Ok(())
+}
+
+static MESSAGES: [(&[u8], Shape); 14] = [
+    (&REGISTER, [4, 5, 15, 9, 6]),
+    (&[0x40, 0x01, 0x00, 0x01], [0, 0, 0, 0, 0]),
+    (&[0x70, 0x00, 0xff, 0xfe], [0, 0, 0, 0, 0]),
     // Number 65535 and an empty value.
-    &[0x40, 0x01, 0x00, 0x01, 0xe0, 0xfe, 0xf2],
+    (
+        &[0x40, 0x01, 0x00, 0x01, 0xe0, 0xfe, 0xf2],
+        [0, 1, 65535, 0, 0],
+    ),
     // Number 13 and a value of 13 bytes, behind a token of 8.
-    &[
-        0x58, 0x45, 0x12, 0x34, 1, 2, 3, 4, 5, 6, 7, 8, 0xdd, 0, 0, 1, 2, 3, 4, 5, 6, 7, 8, 9, 10,
-        11, 12, 13, 0xff, 0xff,
-    ],
+    (
+        &[
+            0x58, 0x45, 0x12, 0x34, 1, 2, 3, 4, 5, 6, 7, 8, 0xdd, 0, 0, 1, 2, 3, 4, 5, 6, 7, 8, 9,
+            10, 11, 12, 13, 0xff, 0xff,
+        ],
+        [8, 1, 13, 13, 1],
+    ),
+    // each length of a token
+    (&[0x40, 0x45, 0x00, 0x01], [0, 0, 0, 0, 0]),
+    (&[0x41, 0x45, 0x00, 0x01, 9], [1, 0, 0, 0, 0]),
+    (&[0x42, 0x45, 0x00, 0x01, 9, 8], [2, 0, 0, 0, 0]),
+    (&[0x43, 0x45, 0x00, 0x01, 9, 8, 7], [3, 0, 0, 0, 0]),
+    (&[0x44, 0x45, 0x00, 0x01, 9, 8, 7, 6], [4, 0, 0, 0, 0]),
+    (&[0x45, 0x45, 0x00, 0x01, 9, 8, 7, 6, 5], [5, 0, 0, 0, 0]),
+    (&[0x46, 0x45, 0x00, 0x01, 9, 8, 7, 6, 5, 4], [6, 0, 0, 0, 0]),
+    (
+        &[0x47, 0x45, 0x00, 0x01, 9, 8, 7, 6, 5, 4, 3],
+        [7, 0, 0, 0, 0],
+    ),
+    (
+        &[0x48, 0x45, 0x00, 0x01, 9, 8, 7, 6, 5, 4, 3, 2],
+        [8, 0, 0, 0, 0],
+    ),
 ];
 
 #[test]
 fn messages(rt: HostRuntime) -> Result<(), Fail> {
-    for bytes in &MESSAGES {
-        spells(rt.alloc(), bytes, Content::Any)?;
+    for (bytes, shape) in &MESSAGES {
+        spells(rt.alloc(), bytes, *shape)?;
     }
     Ok(())
 }
 
-/// The head of an option, its number, and the length of its value.
-static OPTIONS: [(&[u8], u16, usize); 19] = [
-    (&[0xb0], 11, 0),
-    (&[0xbc], 11, 12),
-    (&[0xbd, 0x00], 11, 13),
-    (&[0xbd, 0x01], 11, 14),
-    (&[0xbd, 0xff], 11, 268),
-    (&[0xbe, 0x00, 0x00], 11, 269),
-    (&[0xbe, 0x00, 0x01], 11, 270),
-    (&[0xbe, 0x1e, 0x33], 11, 8000),
+/// What stands behind the header, how many bytes count up behind it, and the shape of the message.
+static BOUNDS: [(&[u8], usize, Shape); 25] = [
+    (&[0xb0], 0, [0, 1, 11, 0, 0]),
+    (&[0xbc], 12, [0, 1, 11, 12, 0]),
+    (&[0xbd, 0x00], 13, [0, 1, 11, 13, 0]),
+    (&[0xbd, 0x01], 14, [0, 1, 11, 14, 0]),
+    (&[0xbd, 0xff], 268, [0, 1, 11, 268, 0]),
+    (&[0xbe, 0x00, 0x00], 269, [0, 1, 11, 269, 0]),
+    (&[0xbe, 0x00, 0x01], 270, [0, 1, 11, 270, 0]),
+    (&[0xbe, 0x1e, 0x33], 8000, [0, 1, 11, 8000, 0]),
     // The message has 8,192 bytes.
-    (&[0xbe, 0x1e, 0xec], 11, 8185),
-    (&[0x01], 0, 1),
-    (&[0xc0], 12, 0),
-    (&[0xd0, 0x00], 13, 0),
-    (&[0xd1, 0x01], 14, 1),
-    (&[0xd0, 0xff], 268, 0),
-    (&[0xe0, 0x00, 0x00], 269, 0),
-    (&[0xe1, 0x00, 0x01], 270, 1),
-    (&[0xe0, 0xfe, 0xf2], 65535, 0),
-    (&[0xed, 0xfe, 0xf2, 0xff], 65535, 268),
+    (&[0xbe, 0x1e, 0xec], 8185, [0, 1, 11, 8185, 0]),
+    (&[0x01], 1, [0, 1, 0, 1, 0]),
+    (&[0xc0], 0, [0, 1, 12, 0, 0]),
+    (&[0xd0, 0x00], 0, [0, 1, 13, 0, 0]),
+    (&[0xd1, 0x01], 1, [0, 1, 14, 1, 0]),
+    (&[0xd0, 0xff], 0, [0, 1, 268, 0, 0]),
+    (&[0xe0, 0x00, 0x00], 0, [0, 1, 269, 0, 0]),
+    (&[0xe1, 0x00, 0x01], 1, [0, 1, 270, 1, 0]),
+    (&[0xe0, 0xfe, 0xf2], 0, [0, 1, 65535, 0, 0]),
+    (&[0xed, 0xfe, 0xf2, 0xff], 268, [0, 1, 65535, 268, 0]),
     // The message has 8,192 bytes.
-    (&[0xee, 0xfe, 0xf2, 0x1e, 0xea], 65535, 8183),
+    (
+        &[0xee, 0xfe, 0xf2, 0x1e, 0xea],
+        8183,
+        [0, 1, 65535, 8183, 0],
+    ),
+    (&[0xff], 1, [0, 0, 0, 0, 1]),
+    (&[0xff], 12, [0, 0, 0, 0, 12]),
+    (&[0xff], 255, [0, 0, 0, 0, 255]),
+    (&[0xff], 256, [0, 0, 0, 0, 256]),
+    (&[0xff], 1024, [0, 0, 0, 0, 1024]),
+    (&[0xff], 8187, [0, 0, 0, 0, 8187]),
 ];
 
 #[test]
-fn options_at_the_bounds(rt: HostRuntime) -> Result<(), Fail> {
-    for (head, number, len) in &OPTIONS {
-        spells_behind(rt.alloc(), head, *len, Content::Lone(*number, *len))?;
+fn options_and_payloads_at_the_bounds(rt: HostRuntime) -> Result<(), Fail> {
+    for (front, count, shape) in &BOUNDS {
+        let bytes = datagram(rt.alloc(), front, *count)?;
+        spells(rt.alloc(), &bytes, *shape)?;
     }
     Ok(())
 }
 
-#[test]
-fn numbers_add_up(rt: HostRuntime) -> Result<(), Fail> {
-    // Deltas of 0, 0, 12, 13, 268, 269 and 64973.
-    let heads = b"\x00\x00\xc0\xd0\x00\xd0\xff\xe0\x00\x00\xe0\xfc\xc0";
-    let numbers = Content::Numbers(&[0, 0, 12, 25, 293, 562, 65535]);
-    spells_behind(rt.alloc(), heads, 0, numbers)
+/// Whether the options have values of one byte that count up, and numbers so much apart.
+fn are_options(options: &[CoapOption], delta: u64, count: usize) -> bool {
+    let mut number = 0u64;
+    for (i, option) in options.iter().enumerate() {
+        number = number.saturating_add(delta);
+        let value = [(i % 251) as u8];
+        if option.number as u64 != number || option.value.as_slice() != value.as_slice() {
+            return false;
+        }
+    }
+    options.len() == count
+}
+
+/// So many options of one byte each, every one with this head.
+fn options(alloc: Global, head: u8, count: usize) -> Result<Vec<u8>, AllocError> {
+    let mut bytes = datagram(alloc, &[], 0)?;
+    for i in 0..count {
+        bytes.extend_from_slice(&[head, (i % 251) as u8])?;
+    }
+    Ok(bytes)
+}
+
+fn spells_options(alloc: Global, head: u8, delta: u64, count: usize) -> Result<(), Fail> {
+    let bytes = options(alloc, head, count)?;
+    let message = decode(alloc, &bytes)?;
+    holds("the options", are_options(&message.options, delta, count))?;
+    holds("the bytes", is_written(alloc, &message, &bytes)?)
 }
 
 /// The head of each option, how far apart they are, and how many. The last three messages have 8,192 bytes.
@@ -372,110 +357,10 @@ fn many_options(rt: HostRuntime) -> Result<(), Fail> {
     for (head, delta, count) in &RUNS {
         spells_options(rt.alloc(), *head, *delta, *count)?;
     }
-    Ok(())
-}
-
-/// As many options as a message can have: 8,188.
-#[test]
-fn empty_options(rt: HostRuntime) -> Result<(), Fail> {
+    // as many as a message can have
     let zeros = vec![in rt.alloc(); 0u8; 8188]?;
-    spells_behind(rt.alloc(), &zeros, 0, Content::Count(8188))
-}
-
-static TOKEN: [u8; 8] = [9, 8, 7, 6, 5, 4, 3, 2];
-
-/// A header with a token of so many bytes.
-fn spells_token(alloc: Global, len: u8) -> Result<(), Fail> {
-    let token = TOKEN.get(..usize::from(len)).ok_or("at most 8 bytes")?;
-    let mut bytes = Vec::from_slice(alloc, &[0x40 | len, 0x45, 0x00, 0x01])?;
-    bytes.extend_from_slice(token)?;
-    spells(alloc, &bytes, Content::Token(usize::from(len)))
-}
-
-#[test]
-fn tokens(rt: HostRuntime) -> Result<(), Fail> {
-    for len in 0..9u8 {
-        spells_token(rt.alloc(), len)?;
-    }
-    Ok(())
-}
-
-#[test]
-fn payloads(rt: HostRuntime) -> Result<(), Fail> {
-    for len in [1, 12, 255, 256, 1024, 8187] {
-        spells_behind(rt.alloc(), &[0xff], len, Content::Payload(len))?;
-    }
-    Ok(())
-}
-
-static TOO_LONG: [&[u8]; 3] = [&[0xff, 0], &[0xbe, 0x1e, 0xec, 0], &[0x01, 0x02, 0xff]];
-
-/// A datagram of 8,193 bytes, whose first byte is this.
-fn a_byte_too_long(alloc: Global, head: &[u8], first: u8) -> Result<Vec<u8>, AllocError> {
-    let mut bytes = datagram(alloc, head, 8193)?;
-    bytes.truncate(8193);
-    if let Some(byte) = bytes.first_mut() {
-        *byte = first;
-    }
-    Ok(bytes)
-}
-
-fn is_too_long(alloc: Global, head: &[u8], first: u8) -> Result<bool, AllocError> {
-    let bytes = a_byte_too_long(alloc, head, first)?;
-    Ok(bytes.len() == 8193 && ends_with(alloc, &bytes, Some(Fault::TooLong)))
-}
-
-#[test]
-fn too_long(rt: HostRuntime) -> Result<(), Fail> {
-    for head in &TOO_LONG {
-        holds("version 1", is_too_long(rt.alloc(), head, 0x40)?)?;
-        holds("version 2", is_too_long(rt.alloc(), head, 0x80)?)?;
-    }
-    Ok(())
-}
-
-/// Whether the message fits until its token has a byte more, and not with one more in its payload.
-fn is_full(message: &mut Message) -> Result<bool, AllocError> {
-    let fits = message.fits();
-    message.token.push(1)?;
-    let fits_with_token = message.fits();
-    message.token.clear();
-    let fits_again = message.fits();
-    message.payload.push(1)?;
-    Ok(fits && !fits_with_token && fits_again && !message.fits())
-}
-
-fn is_read_as_full(alloc: Global, head: &[u8], len: usize) -> Result<bool, Fault> {
-    let bytes = datagram(alloc, head, len)?;
-    let mut message = decode(alloc, &bytes)?;
-    Ok(is_full(&mut message)?)
-}
-
-/// A byte more in the token, in a value or in the payload of a message of 8,192 bytes.
-#[test]
-fn a_byte_more(rt: HostRuntime) -> Result<(), Fail> {
-    holds(
-        "a value",
-        is_read_as_full(rt.alloc(), &[0xbe, 0x1e, 0xec], 8185)?,
-    )?;
-    holds("a payload", is_read_as_full(rt.alloc(), &[0xff], 8187)?)
-}
-
-/// Whether the message fits, not with the code 0.00, and not with an option of a lower number behind its last.
-fn fits_as_it_is(alloc: Global, message: &mut Message) -> Result<bool, AllocError> {
-    let fits = message.fits();
-    message.code = 0;
-    let fits_empty = message.fits();
-    message.code = 2;
-    let value = Vec::new(alloc);
-    message.options.push(CoapOption { number: 14, value })?;
-    Ok(fits && !fits_empty && !message.fits())
-}
-
-#[test]
-fn what_does_not_fit(rt: HostRuntime) -> Result<(), Fail> {
-    let mut message = decode(rt.alloc(), &REGISTER)?;
-    holds("it alone fits", fits_as_it_is(rt.alloc(), &mut message)?)
+    let bytes = datagram(rt.alloc(), &zeros, 0)?;
+    spells(rt.alloc(), &bytes, [0, 8188, 0, 0, 0])
 }
 
 static NUMBERS: [(&[u8], Option<u32>); 7] = [
@@ -488,13 +373,6 @@ static NUMBERS: [(&[u8], Option<u32>); 7] = [
     (&[0, 0, 0, 0, 1], None),
 ];
 
-#[test]
-fn numbers(rt: HostRuntime) {
-    for (bytes, number) in &NUMBERS {
-        assert!(rt; uint(bytes) == *number, "{number:?}");
-    }
-}
-
 static HEADERS: [(&[u8], Option<(Kind, u8, u16)>); 7] = [
     (&REGISTER, Some((Kind::Con, 2, 1))),
     (&[0x5f, 0x45, 0x12, 0x34], Some((Kind::Non, 0x45, 0x1234))),
@@ -506,7 +384,10 @@ static HEADERS: [(&[u8], Option<(Kind, u8, u16)>); 7] = [
 ];
 
 #[test]
-fn headers(rt: HostRuntime) {
+fn numbers_and_headers(rt: HostRuntime) {
+    for (bytes, number) in &NUMBERS {
+        assert!(rt; uint(bytes) == *number, "{number:?}");
+    }
     for (bytes, header) in &HEADERS {
         assert!(rt; peek_header(bytes) == *header, "{header:?}");
     }

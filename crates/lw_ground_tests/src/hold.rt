@@ -1,5 +1,6 @@
-//! How a test tells what does not hold.
+//! How a test tells what does not hold, and long texts.
 
+use std::alloc::{AllocError, Global};
 use std::fmt::Debug;
 use std::test::Fail;
 
@@ -17,4 +18,15 @@ pub(crate) fn holds_for<D: Debug>(row: &D, is_so: bool) -> Result<(), Fail> {
         return Ok(());
     }
     Err(Fail::new(format_args!("{row:?}")))
+}
+
+/// Each part, as often as it says.
+pub(crate) fn text_of(alloc: Global, parts: &[(&str, usize)]) -> Result<String, AllocError> {
+    let mut text = String::new(alloc);
+    for (part, count) in parts {
+        for _ in 0..*count {
+            text.push_str(part)?;
+        }
+    }
+    Ok(text)
 }

@@ -1,31 +1,10 @@
-use crate::hold::holds;
+use crate::hold::{holds, text_of};
 use lw_link::{LinkFault, LinkText, is_printing, print, read, well_formed};
-use std::alloc::{AllocError, Global};
+use std::alloc::Global;
 use std::test::Fail;
 
 /// A text, and how often it is repeated.
 type Part = (&'static str, usize);
-
-fn put_part(text: &mut String, part: &str, count: usize) -> Result<(), AllocError> {
-    for _ in 0..count {
-        text.push_str(part)?;
-    }
-    Ok(())
-}
-
-fn put_parts(text: &mut String, parts: &[Part]) -> Result<(), AllocError> {
-    for (part, count) in parts {
-        put_part(text, part, *count)?;
-    }
-    Ok(())
-}
-
-/// Each part, as often as it says.
-fn text_of(alloc: Global, parts: &[Part]) -> Result<String, AllocError> {
-    let mut text = String::new(alloc);
-    put_parts(&mut text, parts)?;
-    Ok(text)
-}
 
 /// Whether what is read is printed so.
 fn is_printed(alloc: Global, given: &str, want: &str) -> Result<bool, LinkFault> {
@@ -37,67 +16,32 @@ fn is_printed(alloc: Global, given: &str, want: &str) -> Result<bool, LinkFault>
     Ok(text.as_str() == want)
 }
 
-/// What the bytes are kept as.
-fn text_read(alloc: Global, given: &str) -> Result<LinkText, Fail> {
+/// Whether the bytes are kept as this printing, and copied so.
+fn is_kept(alloc: Global, given: &str, want: &str) -> Result<bool, LinkFault> {
     let bytes = given.as_bytes();
     if bytes.len() > 8_192 {
-        return Err(Fail::from("within a datagram"));
+        return Ok(false);
     }
-    Ok(LinkText::read(alloc, bytes)?)
-}
-
-/// Whether the bytes are kept as this printing, and copied so.
-fn is_kept(alloc: Global, given: &str, want: &str) -> Result<bool, Fail> {
-    let text = text_read(alloc, given)?;
-    let is_same = text.as_str() == want;
+    let text = LinkText::read(alloc, bytes)?;
     let copy = text.copy_of(alloc)?;
-    Ok(is_same && copy.as_str() == want)
-}
-
-/// Whether a printing is kept as it is.
-fn is_kept_as_it_is(alloc: Global, given: &str) -> Result<bool, Fail> {
-    let bytes = given.as_bytes();
-    if bytes.len() > 8_192 || !is_printing(bytes) {
-        return Err(Fail::from("a printing"));
-    }
-    let text = LinkText::of_printing(alloc, bytes)?;
-    Ok(text.as_str() == given)
+    Ok(text.as_str() == want && copy.as_str() == want)
 }
 
 /// What is read is printed, and kept, as it is wanted.
 fn prints(alloc: Global, given: &str, want: &str) -> Result<(), Fail> {
-    holds("printed so", is_printed(alloc, given, want)?)?;
-    holds("kept so", is_kept(alloc, given, want)?)
+    let is_same = given == want;
+    holds(given, is_printing(given.as_bytes()) == is_same)?;
+    holds(given, is_printed(alloc, given, want)?)?;
+    holds(given, is_kept(alloc, given, want)?)
 }
 
-/// How many links are read.
-fn count(alloc: Global, given: &str) -> Result<usize, LinkFault> {
-    Ok(read(alloc, given.as_bytes())?.len())
-}
-
-#[test]
-fn two_links_are_read_and_printed(rt: HostRuntime) -> Result<(), Fail> {
-    let given = r#"</>;rt="oma.lwm2m,x";ct=110, </3/0>"#;
-    let printed = r#"</>;rt="oma.lwm2m,x";ct=110,</3/0>"#;
-    holds("two links", count(rt.alloc(), given)? == 2)?;
-    holds("printed so", is_printed(rt.alloc(), given, printed)?)?;
-    holds("a printing", is_printing(printed.as_bytes()))?;
-    holds("no printing", !is_printing(given.as_bytes()))
-}
-
-#[test]
-fn texts_are_kept_as_printed(rt: HostRuntime) -> Result<(), Fail> {
-    let given = r#"</>;rt="oma.lwm2m,x";ct=110, </3/0>"#;
-    let printed = r#"</>;rt="oma.lwm2m,x";ct=110,</3/0>"#;
-    holds("kept as printed", is_kept(rt.alloc(), given, printed)?)?;
-    let escaped = r#"</3/0>;x="a\"b\c""#;
-    holds(
-        "an escape",
-        is_kept(rt.alloc(), escaped, r#"</3/0>;x="a\"bc""#)?,
-    )
-}
-
-static SPELLINGS: [(&str, &str); 9] = [
+/// A spelling, and its printing.
+static SPELLINGS: [(&str, &str); 11] = [
+    (
+        r#"</>;rt="oma.lwm2m,x";ct=110, </3/0>"#,
+        r#"</>;rt="oma.lwm2m,x";ct=110,</3/0>"#,
+    ),
+    (r#"</3/0>;x="a\"b\c""#, r#"</3/0>;x="a\"bc""#),
     ("<>", "<>"),
     ("<>,  <>", "<>,<>"),
     ("<>;  a", "<>;a"),
@@ -112,7 +56,7 @@ static SPELLINGS: [(&str, &str); 9] = [
 #[test]
 fn spellings_of_the_grammar(rt: HostRuntime) -> Result<(), Fail> {
     for (given, printed) in &SPELLINGS {
-        holds(given, is_printed(rt.alloc(), given, printed)?)?;
+        prints(rt.alloc(), given, printed)?;
     }
     Ok(())
 }
@@ -168,45 +112,41 @@ fn is_missed(alloc: Global, text: &str, place: usize) -> bool {
 }
 
 #[test]
-fn places_of_near_misses(rt: HostRuntime) -> Result<(), Fail> {
+fn near_misses(rt: HostRuntime) -> Result<(), Fail> {
     for (text, place) in &NEAR_MISSES {
         holds(text, is_missed(rt.alloc(), text, *place))?;
     }
-    Ok(())
-}
-
-fn is_no_text(fault: Option<LinkFault>) -> bool {
-    fault == Some(LinkFault::NotText)
-}
-
-#[test]
-fn bytes_that_are_no_text(rt: HostRuntime) -> Result<(), Fail> {
-    holds(
-        "half a character",
-        is_no_text(read(rt.alloc(), b"<>;a=\"\xc3").err()),
-    )?;
-    holds(
-        "no character",
-        is_no_text(LinkText::read(rt.alloc(), b"<\xff>").err()),
-    )?;
+    let half = read(rt.alloc(), b"<>;a=\"\xc3").err();
+    holds("half a character", half == Some(LinkFault::NotText))?;
+    let none = LinkText::read(rt.alloc(), b"<\xff>").err();
+    holds("no character", none == Some(LinkFault::NotText))?;
     holds("no printing", !is_printing(b"<\xff>"))
 }
 
-/// So many links are read and are a printing.
-fn is_read_whole(alloc: Global, text: &str, links: usize) -> Result<bool, LinkFault> {
-    Ok(count(alloc, text)? == links && is_printing(text.as_bytes()))
-}
-
-fn has_too_many(alloc: Global, text: &str) -> bool {
-    count(alloc, text) == Err(LinkFault::TooMany) && !is_printing(text.as_bytes())
+/// How many links are read.
+fn count(alloc: Global, given: &str) -> Result<usize, LinkFault> {
+    Ok(read(alloc, given.as_bytes())?.len())
 }
 
 #[test]
 fn at_most_256_links(rt: HostRuntime) -> Result<(), Fail> {
     let most = text_of(rt.alloc(), &[("<>", 1), (",<>", 255)])?;
-    holds("256 links", is_read_whole(rt.alloc(), most.as_str(), 256)?)?;
+    holds("256 links", count(rt.alloc(), most.as_str()) == Ok(256))?;
+    holds("a printing", is_printing(most.as_bytes()))?;
     let more = text_of(rt.alloc(), &[("<>", 1), (",<>", 256)])?;
-    holds("257 links", has_too_many(rt.alloc(), more.as_str()))
+    let fault = count(rt.alloc(), more.as_str());
+    holds("257 links", fault == Err(LinkFault::TooMany))?;
+    holds("no printing", !is_printing(more.as_bytes()))
+}
+
+/// Whether a printing is kept as it is.
+fn is_kept_as_it_is(alloc: Global, given: &str) -> Result<bool, Fail> {
+    let bytes = given.as_bytes();
+    if bytes.len() > 8_192 || !is_printing(bytes) {
+        return Err(Fail::from("a printing"));
+    }
+    let text = LinkText::of_printing(alloc, bytes)?;
+    Ok(text.as_str() == given)
 }
 
 /// The parts of printings, and their lengths.
@@ -246,21 +186,13 @@ static PRINTINGS: [(&[Part], usize); 9] = [
     (&[("<>;ab=\"", 1), ("\\\\", 4092), ("\"", 1)], 8192),
 ];
 
-fn is_a_printing(alloc: Global, given: &str, length: usize) -> Result<(), Fail> {
-    holds("its length", given.len() == length)?;
-    holds("kept as it is", is_kept_as_it_is(alloc, given)?)?;
-    prints(alloc, given, given)
-}
-
-fn check_printing(alloc: Global, parts: &[Part], length: usize) -> Result<(), Fail> {
-    let given = text_of(alloc, parts)?;
-    is_a_printing(alloc, given.as_str(), length)
-}
-
 #[test]
 fn printings_at_their_bounds(rt: HostRuntime) -> Result<(), Fail> {
     for (parts, length) in &PRINTINGS {
-        check_printing(rt.alloc(), parts, *length)?;
+        let given = text_of(rt.alloc(), parts)?;
+        holds("its length", given.len() == *length)?;
+        holds("as it is", is_kept_as_it_is(rt.alloc(), given.as_str())?)?;
+        prints(rt.alloc(), given.as_str(), given.as_str())?;
     }
     Ok(())
 }
@@ -291,17 +223,12 @@ static LONG_SPELLINGS: [(&[Part], &[Part]); 3] = [
     ),
 ];
 
-fn check_spelling(alloc: Global, spelling: &[Part], printing: &[Part]) -> Result<(), Fail> {
-    let given = text_of(alloc, spelling)?;
-    let want = text_of(alloc, printing)?;
-    holds("no printing", !is_printing(given.as_bytes()))?;
-    prints(alloc, given.as_str(), want.as_str())
-}
-
 #[test]
 fn long_spellings_are_printed(rt: HostRuntime) -> Result<(), Fail> {
     for (spelling, printing) in &LONG_SPELLINGS {
-        check_spelling(rt.alloc(), spelling, printing)?;
+        let given = text_of(rt.alloc(), spelling)?;
+        let want = text_of(rt.alloc(), printing)?;
+        prints(rt.alloc(), given.as_str(), want.as_str())?;
     }
     Ok(())
 }

@@ -76,24 +76,25 @@ fn values(alloc: Global, slot: &Slot) -> Result<String, AllocError> {
     )
 }
 
-/// How long the SMS number and the object list are.
-fn lengths(slot: &Slot) -> (usize, usize) {
-    let number = match slot.sms() {
-        Some((_, Some(number))) => number.as_str().len(),
-        _ => 0,
-    };
-    let objects = match slot.objects() {
-        Some((_, objects)) => objects.as_str().len(),
-        None => 0,
-    };
-    (number, objects)
-}
-
 /// Whether it is a delta that has the clock and this length, and is written as it was read.
 fn holds(alloc: Global, bytes: &[u8], clock: u64, length: usize) -> Result<bool, NoMemory> {
     let checked = check(bytes) == Ok(clock);
     let written = is_written_as(alloc, bytes, bytes)?;
     Ok(checked && written && bytes.len() == length)
+}
+
+/// Whether the slot has the longest texts and 100 watches.
+fn is_full(endpoint: &Endpoint, slot: &Slot) -> bool {
+    let Some((_, Some(number))) = slot.sms() else {
+        return false;
+    };
+    let Some((_, objects)) = slot.objects() else {
+        return false;
+    };
+    endpoint.as_str().len() == 252
+        && number.as_str().len() == 251
+        && objects.as_str().len() == 8192
+        && slot.watches().len() == 100
 }
 
 /// What is read of a delta of one slot with the longest texts and 100 watches; nothing where it is another.
@@ -103,24 +104,6 @@ fn read_alone(alloc: Global, bytes: &[u8]) -> Result<String, Fail> {
         [(endpoint, slot)] if is_full(endpoint, slot) => Ok(values(alloc, slot)?),
         _ => Ok(String::new(alloc)),
     }
-}
-
-fn is_full(endpoint: &Endpoint, slot: &Slot) -> bool {
-    let name = endpoint.as_str().len();
-    name == 252 && lengths(slot) == (251, 8192) && slot.watches().len() == 100
-}
-
-#[test]
-fn the_longest_fields_are_written_again(rt: HostRuntime) -> Result<(), Fail> {
-    let rows = [
-        ([0, 0, 0, 0, 0, 1], V4.as_slice(), 1, 10_897),
-        ([255; 6], V6.as_slice(), 281_474_976_710_655, 10_909),
-    ];
-    for (counter, host, clock, length) in rows {
-        let bytes = full(rt.alloc(), &counter, host)?;
-        assert!(rt; holds(rt.alloc(), &bytes, clock, length)?, "clock {clock}");
-    }
-    Ok(())
 }
 
 /// What is read of the address at stamp 1 at node 1, and of what is no text.
@@ -138,13 +121,20 @@ Some((Stamp { counter: 281474976710655, node: 1 }, 4294967295)) \
 Some((Stamp { counter: 281474976710655, node: 1 }, Binding { letters: [65, 66, 67, 68, 69, 70, 71, 72] }))";
 
 #[test]
-fn the_longest_fields_are_read(rt: HostRuntime) -> Result<(), Fail> {
+fn the_longest_fields_are_read_and_written_again(rt: HostRuntime) -> Result<(), Fail> {
     let rows = [
-        ([0, 0, 0, 0, 0, 1], V4.as_slice(), V4_READ),
-        ([255; 6], V6.as_slice(), V6_READ),
+        ([0, 0, 0, 0, 0, 1], V4.as_slice(), 1, 10_897, V4_READ),
+        (
+            [255; 6],
+            V6.as_slice(),
+            281_474_976_710_655,
+            10_909,
+            V6_READ,
+        ),
     ];
-    for (clock, host, text) in rows {
-        let bytes = full(rt.alloc(), &clock, host)?;
+    for (counter, host, clock, length, text) in rows {
+        let bytes = full(rt.alloc(), &counter, host)?;
+        assert!(rt; holds(rt.alloc(), &bytes, clock, length)?, "clock {clock}");
         let read = read_alone(rt.alloc(), &bytes)?;
         assert!(rt; read.as_str() == text, "{read}");
     }
@@ -169,13 +159,6 @@ fn many(alloc: Global) -> Result<Vec<u8>, Fail> {
     Ok(bytes)
 }
 
-#[test]
-fn three_hundred_slots_are_written_again(rt: HostRuntime) -> Result<(), Fail> {
-    let bytes = many(rt.alloc())?;
-    assert!(rt; holds(rt.alloc(), &bytes, 1, 4511)?);
-    Ok(())
-}
-
 /// How many slots are read, and the name of the last.
 fn last_name<'a>(delta: &'a Delta) -> (usize, &'a str) {
     match delta.slots.last() {
@@ -185,8 +168,9 @@ fn last_name<'a>(delta: &'a Delta) -> (usize, &'a str) {
 }
 
 #[test]
-fn three_hundred_slots_are_read(rt: HostRuntime) -> Result<(), Fail> {
+fn three_hundred_slots_are_read_and_written_again(rt: HostRuntime) -> Result<(), Fail> {
     let bytes = many(rt.alloc())?;
+    assert!(rt; holds(rt.alloc(), &bytes, 1, 4511)?);
     let delta = read(rt.alloc(), &bytes)?;
     assert!(rt; last_name(&delta) == (300, "299"));
     Ok(())

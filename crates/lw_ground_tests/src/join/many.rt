@@ -6,8 +6,8 @@ use std::test::Fail;
 
 const END: u32 = 2000;
 
-// Numbers below an end: those from a first one on, those that are even, or those that are odd.
-#[derive(Clone, Copy, Debug)]
+/// Numbers below an end: those from a first one on, those that are even, or those that are odd.
+#[derive(Clone, Copy)]
 enum Keys {
     From { first: u32, end: u32 },
     Even { end: u32 },
@@ -24,40 +24,27 @@ impl Keys {
     }
 }
 
-// Each key has itself as its value on the left, and what is left of it to the end on the right.
-fn value_of(key: u32, on_left: bool) -> u32 {
-    if on_left {
-        key
-    } else {
-        END.saturating_sub(key)
-    }
-}
-
-fn push_entries(
-    entries: &mut Vec<(u32, Once<u32>)>,
-    keys: &Keys,
-    on_left: bool,
-) -> Result<(), NoMemory> {
-    for key in 0..END {
-        if keys.has(key) {
-            let value = Some(value_of(key, on_left));
-            entries.push((key, Once { value }))?;
-        }
-    }
-    Ok(())
-}
-
+/// The map of the keys. On the left each has itself as its value, and on the right what is left of it to the end.
 fn map_of(
     alloc: Global,
     keys: &Keys,
     on_left: bool,
 ) -> Result<Option<Parts<u32, Once<u32>>>, NoMemory> {
     let mut entries = Vec::new(alloc);
-    push_entries(&mut entries, keys, on_left)?;
+    for key in 0..END {
+        if keys.has(key) {
+            let value = if on_left {
+                key
+            } else {
+                END.saturating_sub(key)
+            };
+            entries.push((key, Once { value: Some(value) }))?;
+        }
+    }
     Ok(Parts::from_entries(entries))
 }
 
-// The left counts alone up to the middle key, the right alone above it.
+/// The left counts alone up to the middle key, the right alone above it.
 fn wanted(left: &Keys, right: &Keys, key: u32) -> Option<u32> {
     match (left.has(key), right.has(key)) {
         (false, false) => None,
@@ -68,18 +55,15 @@ fn wanted(left: &Keys, right: &Keys, key: u32) -> Option<u32> {
     }
 }
 
-fn value_at(map: &Parts<u32, Once<u32>>, key: u32) -> Option<u32> {
-    match map.get(&key) {
-        None => None,
-        Some(once) => once.value,
-    }
-}
-
 fn is_as_wanted(map: &Parts<u32, Once<u32>>, left: &Keys, right: &Keys) -> bool {
     let mut len = 0usize;
     for key in 0..END {
         let wanted = wanted(left, right, key);
-        if value_at(map, key) != wanted {
+        let value = match map.get(&key) {
+            None => None,
+            Some(once) => once.value,
+        };
+        if value != wanted {
             return false;
         }
         if wanted.is_some() {
@@ -130,15 +114,7 @@ static CASES: [(Keys, Keys); 9] = [
     (ALL, EVEN),
 ];
 
-#[test]
-fn maps_of_many_keys_join(rt: HostRuntime) -> Result<(), Fail> {
-    for case in &CASES {
-        holds_for(case, joins_as_wanted(rt.alloc(), &case.0, &case.1)?)?;
-    }
-    Ok(())
-}
-
-// Whether the even keys are joined, and few of them, with the first ones, of which so many are missing.
+/// Whether the even keys are joined, and few of them, with the first ones, of which so many are missing.
 fn joins_missing(alloc: Global, missing: u32) -> Result<bool, NoMemory> {
     let all = Keys::From {
         first: 0,
@@ -148,16 +124,19 @@ fn joins_missing(alloc: Global, missing: u32) -> Result<bool, NoMemory> {
     Ok(joins_as_wanted(alloc, &EVEN, &all)? && joins_as_wanted(alloc, &few, &all)?)
 }
 
-// Up to eight missing keys are inserted one by one, and from nine on the maps are merged.
 #[test]
-fn maps_join_whether_few_keys_are_missing_or_many(rt: HostRuntime) -> Result<(), Fail> {
+fn maps_of_many_keys_join(rt: HostRuntime) -> Result<(), Fail> {
+    for (row, case) in CASES.iter().enumerate() {
+        holds_for(&row, joins_as_wanted(rt.alloc(), &case.0, &case.1)?)?;
+    }
+    // Up to eight missing keys are inserted one by one, and from nine on the maps are merged.
     for missing in 0..12u32 {
         holds_for(&missing, joins_missing(rt.alloc(), missing)?)?;
     }
     Ok(())
 }
 
-// Whether the map of each key takes that of the even ones in place, where there is memory for both.
+/// Whether the map of each key takes that of the even ones in place, where there is memory for both.
 fn joins_in_place(alloc: Global) -> Option<bool> {
     let mut map = map_of(alloc, &ALL, true).ok()??;
     let other = map_of(alloc, &EVEN, false).ok()??;

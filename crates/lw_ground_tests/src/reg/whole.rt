@@ -1,8 +1,7 @@
 //! Slots with all that a registration can have, at its longest.
 
-use super::joined;
 use crate::hold::{holds, holds_for};
-use lw_join::{Lex, Once, OrGone, Parts};
+use lw_join::{Join, Lex, Once, OrGone, Parts};
 use lw_link::LinkText;
 use lw_reg::*;
 use lw_stamp::{Moment, Stamp};
@@ -24,52 +23,39 @@ const LAST_HOST: Addr = Addr::V6 {
     port: 65_535,
 };
 
-fn push_letters(text: &mut String, letter: char, length: usize) -> Result<(), AllocError> {
-    for _ in 0..length {
-        text.push(letter)?;
-    }
-    Ok(())
-}
-
 /// So many letters.
-fn letters(alloc: Global, letter: char, length: usize) -> Result<Text, AllocError> {
-    let mut text = String::new(alloc);
-    push_letters(&mut text, letter, length)?;
-    Ok(Text::from(text))
+fn letters(alloc: Global, letter: &str, length: usize) -> Result<Text, AllocError> {
+    Ok(Text::from(letter.repeat(alloc, length)?))
 }
 
 fn is_letters(text: &str, letter: u8, length: usize) -> bool {
-    text.len() == length && text.as_bytes().iter().all(|c| *c == letter)
+    for byte in text.as_bytes() {
+        if *byte != letter {
+            return false;
+        }
+    }
+    text.len() == length
 }
 
-fn push_link(text: &mut String, letter: char) -> Result<(), AllocError> {
-    text.push('<')?;
-    push_letters(text, letter, 8190)?;
-    text.push('>')
-}
-
-fn read_links(alloc: Global, bytes: &[u8]) -> Result<LinkText, Fail> {
+/// One link, of 8,192 bytes.
+fn link(alloc: Global, letter: &str) -> Result<LinkText, Fail> {
+    let letters = letter.repeat(alloc, 8190)?;
+    let text = format!(in alloc; "<{letters}>")?;
+    let bytes = text.as_bytes();
     if bytes.len() > 8192 {
         return Err("at most 8,192 bytes".into());
     }
     Ok(LinkText::read(alloc, bytes)?)
 }
 
-/// One link, of 8,192 bytes.
-fn link(alloc: Global, letter: char) -> Result<LinkText, Fail> {
-    let mut text = String::new(alloc);
-    push_link(&mut text, letter)?;
-    read_links(alloc, text.as_bytes())
-}
-
 fn is_link(objects: &LinkText, letter: u8) -> bool {
-    let Some(link) = objects.as_str().strip_prefix("<") else {
-        return false;
-    };
-    let Some(letters) = link.strip_suffix(">") else {
-        return false;
-    };
-    is_letters(letters, letter, 8190)
+    match objects.as_str().strip_prefix("<") {
+        None => false,
+        Some(link) => match link.strip_suffix(">") {
+            None => false,
+            Some(letters) => is_letters(letters, letter, 8190),
+        },
+    }
 }
 
 fn path(number: u16) -> Option<Path> {
@@ -83,31 +69,24 @@ fn token(number: u16) -> Stamp {
     }
 }
 
-fn watch(number: u16) -> Option<(Path, Watching)> {
-    let value = OrGone::Here(Once {
-        value: Some(number),
-    });
-    let stamp = token(number);
-    Some((path(number)?, Lex { stamp, value }))
-}
-
-fn push_watches(entries: &mut Vec<(Path, Watching)>, odd: bool) -> Result<(), Fail> {
-    for number in 0..100 {
-        let entry = watch(2 * number + u16::from(odd)).ok_or("a path")?;
-        entries.push(entry)?;
-    }
-    Ok(())
-}
-
 /// A hundred watches, of the even paths below 200 or of the odd ones.
 fn watches(alloc: Global, odd: bool) -> Result<Parts<Path, Watching>, Fail> {
     let mut entries = Vec::new(alloc);
-    push_watches(&mut entries, odd)?;
+    for place in 0..100 {
+        let number = 2 * place + u16::from(odd);
+        let path = path(number).ok_or("a path")?;
+        let value = Some(number);
+        let watching = Lex {
+            stamp: token(number),
+            value: OrGone::Here(Once { value }),
+        };
+        entries.push((path, watching))?;
+    }
     Ok(Parts::from_entries(entries).ok_or("paths rise")?)
 }
 
 fn first_fields(alloc: Global) -> Result<Fields, Fail> {
-    let objects = link(alloc, 'f')?;
+    let objects = link(alloc, "f")?;
     Ok(Fields {
         base: Some(Base {
             version: Version::V10,
@@ -129,13 +108,10 @@ fn first_fields(alloc: Global) -> Result<Fields, Fail> {
     })
 }
 
-fn longest_binding() -> Option<(Stamp, Binding)> {
-    Some((LAST, Binding::read("ABCDEFGH")?))
-}
-
 fn last_fields(alloc: Global) -> Result<Fields, Fail> {
-    let sms = SmsNumber::new(letters(alloc, '1', 251)?);
-    let objects = link(alloc, 'l')?;
+    let binding = Binding::read("ABCDEFGH").ok_or("a binding")?;
+    let sms = SmsNumber::new(letters(alloc, "1", 251)?);
+    let objects = link(alloc, "l")?;
     Ok(Fields {
         base: Some(Base {
             version: Version::V11,
@@ -144,7 +120,7 @@ fn last_fields(alloc: Global) -> Result<Fields, Fail> {
         address: Some((LAST, LAST_HOST)),
         seen: Some((LAST, Moment::START)),
         lifetime: Some((LAST, 4_294_967_295)),
-        binding: longest_binding(),
+        binding: Some((LAST, binding)),
         sms: Some((LAST, sms)),
         objects: Some((LAST, objects)),
         watches: watches(alloc, true)?,
@@ -161,14 +137,9 @@ fn part(alloc: Global, last: bool) -> Result<Slot, Fail> {
 }
 
 fn whole(alloc: Global, last_first: bool) -> Result<Slot, Fail> {
-    joined(part(alloc, last_first)?, part(alloc, !last_first)?)
-}
-
-fn has_the_last_binding(slot: &Slot) -> bool {
-    match slot.binding() {
-        None => false,
-        Some((stamp, binding)) => stamp == LAST && binding.as_str() == "ABCDEFGH",
-    }
+    let mut slot = part(alloc, last_first)?;
+    slot.join_with(part(alloc, !last_first)?)?;
+    Ok(slot)
 }
 
 fn has_the_last_fields(slot: &Slot) -> bool {
@@ -176,12 +147,15 @@ fn has_the_last_fields(slot: &Slot) -> bool {
         version: Version::V11,
         queue: true,
     };
+    let Some((LAST, binding)) = slot.binding() else {
+        return false;
+    };
     slot.stamp() == FIRST
         && slot.base() == Some(base)
         && slot.address() == Some((LAST, LAST_HOST))
         && slot.seen() == Some((LAST, Moment::START))
         && slot.lifetime() == Some((LAST, 4_294_967_295))
-        && has_the_last_binding(slot)
+        && binding.as_str() == "ABCDEFGH"
 }
 
 fn has_the_last_texts(slot: &Slot) -> bool {
@@ -194,58 +168,43 @@ fn has_the_last_texts(slot: &Slot) -> bool {
     is_letters(sms.as_str(), b'1', 251) && is_link(objects, b'l')
 }
 
+/// Whether the watch is found by its path, its token and its place, and behind the one before.
 fn has_watch(slot: &Slot, number: u16) -> bool {
+    let before = path(number.wrapping_sub(1));
+    let next = slot.watch_after(Moment::START, before.as_ref());
     let Some(path) = path(number) else {
         return false;
     };
     let Some(watching) = slot.watching(&path) else {
         return false;
     };
-    let Some(live) = slot.watch(Moment::START, token(number)) else {
-        return false;
-    };
+    let watch = Some(Watch {
+        token: token(number),
+        path,
+        accept: Some(number),
+    });
     watching.stamp == token(number)
-        && live.path == path
-        && live.accept == Some(number)
+        && next == watch
+        && slot.watch(Moment::START, token(number)) == watch
         && slot.token_at(usize::from(number)) == Some(token(number))
 }
 
-fn follows(slot: &Slot, number: u16) -> bool {
-    let after = if number == 0 { None } else { path(number - 1) };
-    let Some(live) = slot.watch_after(Moment::START, after.as_ref()) else {
-        return false;
-    };
-    live.token == token(number)
-}
-
-fn has_each_watch(slot: &Slot) -> bool {
-    slot.watches().len() == 200
-        && (0..200).all(|number| has_watch(slot, number) && follows(slot, number))
-}
-
-fn has_no_other_watch(slot: &Slot) -> bool {
-    let (Some(last), Some(other)) = (path(199), path(200)) else {
-        return false;
-    };
-    slot.watching(&other).is_none() && slot.watch_after(Moment::START, Some(&last)).is_none()
-}
-
 fn is_whole(slot: &Slot) -> bool {
-    has_the_last_fields(slot)
-        && has_the_last_texts(slot)
-        && has_each_watch(slot)
-        && has_no_other_watch(slot)
-}
-
-fn joins_whole(alloc: Global, last_first: bool) -> Result<bool, Fail> {
-    let slot = whole(alloc, last_first)?;
-    Ok(is_whole(&slot))
+    for number in 0..200u16 {
+        if !has_watch(slot, number) {
+            return false;
+        }
+    }
+    slot.watches().len() == 200 && has_the_last_fields(slot) && has_the_last_texts(slot)
 }
 
 #[test]
 fn a_whole_slot_is_joined_in_both_orders(rt: HostRuntime) -> Result<(), Fail> {
-    holds("the first before", joins_whole(rt.alloc(), false)?)?;
-    holds("the last before", joins_whole(rt.alloc(), true)?)
+    for last_first in [false, true] {
+        let slot = whole(rt.alloc(), last_first)?;
+        holds_for(&last_first, is_whole(&slot))?;
+    }
+    Ok(())
 }
 
 fn has_the_longest_texts(view: &View<'_>) -> bool {
@@ -265,17 +224,11 @@ fn shows_the_last(seen: &Seen) -> bool {
         && seen.queue
 }
 
-fn seen_of(alloc: Global, slot: &Slot, endpoint: &str) -> Result<Seen, Fail> {
-    match slot.view(endpoint, Moment::START) {
-        None => Err("a view".into()),
-        Some(view) => Ok(view.to_seen(alloc)?),
-    }
-}
-
 fn seen(alloc: Global) -> Result<Seen, Fail> {
     let slot = whole(alloc, false)?;
-    let endpoint = letters(alloc, 'e', 252)?;
-    seen_of(alloc, &slot, endpoint.as_str())
+    let endpoint = letters(alloc, "e", 252)?;
+    let view = slot.view(endpoint.as_str(), Moment::START).ok_or("a view")?;
+    Ok(view.to_seen(alloc)?)
 }
 
 #[test]
@@ -298,73 +251,30 @@ fn no_fields(alloc: Global) -> Fields {
     }
 }
 
-fn without_fields(alloc: Global) -> Result<Slot, Fail> {
-    Ok(Slot::from_parts(alloc, FIRST, Some(no_fields(alloc)))?)
-}
-
-fn has_no_fields(slot: &Slot) -> bool {
-    !slot.is_removed() && slot.base().is_none() && slot.watches().is_empty()
-}
-
-fn is_named(alloc: Global) -> Result<bool, Fail> {
-    let named = without_fields(alloc)?;
-    Ok(has_no_fields(&named))
-}
-
-/// What a slot without fields makes of the whole one.
-fn with_the_others(alloc: Global) -> Result<Slot, Fail> {
-    joined(without_fields(alloc)?, whole(alloc, false)?)
-}
-
-fn takes_the_others(alloc: Global) -> Result<bool, Fail> {
-    let all = with_the_others(alloc)?;
-    Ok(is_whole(&all))
-}
-
-/// Whether a slot without fields leaves the whole one as it is.
-fn adds_nothing(alloc: Global) -> Result<bool, Fail> {
-    let all = joined(with_the_others(alloc)?, without_fields(alloc)?)?;
-    Ok(is_whole(&all))
-}
-
 #[test]
 fn a_slot_without_fields_takes_the_others(rt: HostRuntime) -> Result<(), Fail> {
-    holds("no fields", is_named(rt.alloc())?)?;
-    holds("the others", takes_the_others(rt.alloc())?)?;
-    holds("nothing more", adds_nothing(rt.alloc())?)
-}
-
-fn is_endpoint(text: Text, length: usize) -> bool {
-    match Endpoint::new(text) {
-        None => false,
-        Some(endpoint) => {
-            is_letters(endpoint.as_str(), b'e', length)
-                && is_letters(endpoint.into_text().as_str(), b'e', length)
-        }
-    }
+    let mut slot = Slot::from_parts(rt.alloc(), FIRST, Some(no_fields(rt.alloc())))?;
+    holds("no fields", !slot.is_removed() && slot.base().is_none())?;
+    slot.join_with(whole(rt.alloc(), false)?)?;
+    holds("the others", is_whole(&slot))?;
+    let others = Slot::from_parts(rt.alloc(), FIRST, Some(no_fields(rt.alloc())))?;
+    slot.join_with(others)?;
+    holds("nothing more", is_whole(&slot))?;
+    slot.join_with(Slot::from_parts(rt.alloc(), FIRST, None)?)?;
+    holds("removed", slot.is_removed())
 }
 
 #[test]
-fn endpoints_have_1_to_252_bytes(rt: HostRuntime) -> Result<(), Fail> {
+fn endpoints_and_sms_numbers_have_bounds(rt: HostRuntime) -> Result<(), Fail> {
     for (length, is_one) in [(0, false), (1, true), (252, true), (253, false)] {
-        let text = letters(rt.alloc(), 'e', length)?;
-        holds_for(&length, is_endpoint(text, length) == is_one)?;
+        let endpoint = Endpoint::new(letters(rt.alloc(), "e", length)?);
+        holds_for(&length, endpoint.is_some() == is_one)?;
     }
-    Ok(())
-}
-
-fn is_sms_number(text: Text, length: usize) -> bool {
-    match SmsNumber::new(text) {
-        None => false,
-        Some(sms) => is_letters(sms.as_str(), b'1', length),
-    }
-}
-
-#[test]
-fn sms_numbers_have_at_most_251_bytes(rt: HostRuntime) -> Result<(), Fail> {
     for (length, is_one) in [(0, true), (251, true), (252, false)] {
-        let text = letters(rt.alloc(), '1', length)?;
-        holds_for(&length, is_sms_number(text, length) == is_one)?;
+        let sms = SmsNumber::new(letters(rt.alloc(), "1", length)?);
+        holds_for(&length, sms.is_some() == is_one)?;
     }
-    Ok(())
+    let one = Endpoint::new(letters(rt.alloc(), "e", 252)?).ok_or("an endpoint")?;
+    holds("its text", is_letters(one.as_str(), b'e', 252))?;
+    holds("its text", is_letters(one.into_text().as_str(), b'e', 252))
 }

@@ -1,16 +1,10 @@
 //! Messages at the bounds of what they may say.
 
 use super::{same, told};
+use crate::hold::text_of;
 use lw_coap::{CoapOption, Kind, Message, codes};
-use std::alloc::{AllocError, Global};
+use std::alloc::Global;
 use std::test::Fail;
-
-fn option_of(alloc: Global, number: u16, text: &str) -> Result<CoapOption, Fail> {
-    Ok(CoapOption {
-        number,
-        value: Vec::from_slice(alloc, text.as_bytes())?,
-    })
-}
 
 fn push_options(
     alloc: Global,
@@ -20,28 +14,24 @@ fn push_options(
     between: char,
 ) -> Result<(), Fail> {
     for text in texts.split(between) {
-        options.push(option_of(alloc, number, text)?)?;
+        let value = Vec::from_slice(alloc, text.as_bytes())?;
+        options.push(CoapOption { number, value })?;
     }
     Ok(())
 }
 
-/// The options of a path, and of queries that `&` divides.
-fn options_of(alloc: Global, path: &str, queries: &str) -> Result<Vec<CoapOption>, Fail> {
+/// A POST without a token, of a path, and of queries that `&` divides.
+fn post(alloc: Global, path: &str, queries: &str, payload: &str) -> Result<Message, Fail> {
     let mut options = Vec::new(alloc);
     push_options(alloc, &mut options, 11, path, '/')?;
     push_options(alloc, &mut options, 15, queries, '&')?;
-    Ok(options)
-}
-
-/// A POST without a token.
-fn post(alloc: Global, path: &str, queries: &str, payload: &str) -> Result<Message, Fail> {
     let payload = Vec::from_slice(alloc, payload.as_bytes())?;
     Ok(Message {
         kind: Kind::Con,
         code: codes::POST,
         mid: 1,
         token: Vec::new(alloc),
-        options: options_of(alloc, path, queries)?,
+        options,
         payload,
     })
 }
@@ -59,72 +49,39 @@ fn check_post(
     same(path, meant.as_str(), want)
 }
 
-fn put_parts(alloc: Global, text: &mut String, parts: &[(&str, usize)]) -> Result<(), AllocError> {
-    for (part, count) in parts {
-        put_part(alloc, text, part, *count)?;
-    }
-    Ok(())
-}
-
-fn put_part(alloc: Global, text: &mut String, part: &str, count: usize) -> Result<(), AllocError> {
-    let repeated = part.repeat(alloc, count)?;
-    text.push_str(repeated.as_str())
-}
-
-/// Each part, repeated as often as it says.
-fn text_of(alloc: Global, parts: &[(&str, usize)]) -> Result<String, AllocError> {
-    let mut text = String::new(alloc);
-    put_parts(alloc, &mut text, parts)?;
-    Ok(text)
-}
-
 /// A link of 30 bytes, behind its comma.
 const FURTHER: &str = ",</3303/100>;ver=1.1;obs;ct=110";
 
-/// How long the texts of a POST are, and how many links follow the first.
-#[derive(Clone, Copy)]
-struct Lengths {
-    endpoint: usize,
-    binding: usize,
-    sms: usize,
-    links: usize,
-}
-
-fn queries_of(alloc: Global, lengths: Lengths) -> Result<String, AllocError> {
-    text_of(
-        alloc,
-        &[
-            ("ep=", 1),
-            ("e", lengths.endpoint),
-            ("&lt=4294967295&lwm2m=1.1&b=", 1),
-            ("U", lengths.binding),
-            ("&Q&sms=", 1),
-            ("1", lengths.sms),
-        ],
-    )
-}
-
-/// What a POST means, behind its first word and its lifetime.
-fn texts_wanted(alloc: Global, lengths: Lengths) -> Result<String, AllocError> {
-    text_of(
-        alloc,
-        &[
-            (" 4294967295 ", 1),
-            ("U", lengths.binding),
-            (" ", 1),
-            ("1", lengths.sms),
-            (" </>", 1),
-            (FURTHER, lengths.links),
-        ],
-    )
-}
-
-/// Looks at a POST of texts of these lengths, that means the words in front, and its texts.
-fn check_lengths(alloc: Global, path: &str, lengths: Lengths, front: &str) -> Result<(), Fail> {
-    let queries = queries_of(alloc, lengths)?;
-    let payload = text_of(alloc, &[("</>", 1), (FURTHER, lengths.links)])?;
-    let texts = texts_wanted(alloc, lengths)?;
-    let want = format!(in alloc; "{front}{texts}")?;
+/// Looks at a POST of texts of these lengths: endpoint, binding and SMS number, and how many links follow the first. It
+/// means the words in front, and its texts.
+fn check_lengths(
+    alloc: Global,
+    path: &str,
+    [endpoint, binding, sms, links]: [usize; 4],
+    [word, name, rest]: [(&str, usize); 3],
+) -> Result<(), Fail> {
+    let queries = [
+        ("ep=", 1),
+        ("e", endpoint),
+        ("&lt=4294967295&lwm2m=1.1&b=", 1),
+        ("U", binding),
+        ("&Q&sms=", 1),
+        ("1", sms),
+    ];
+    let queries = text_of(alloc, &queries)?;
+    let payload = text_of(alloc, &[("</>", 1), (FURTHER, links)])?;
+    let want = [
+        word,
+        name,
+        rest,
+        (" 4294967295 ", 1),
+        ("U", binding),
+        (" ", 1),
+        ("1", sms),
+        (" </>", 1),
+        (FURTHER, links),
+    ];
+    let want = text_of(alloc, &want)?;
     check_post(
         alloc,
         path,
@@ -134,21 +91,7 @@ fn check_lengths(alloc: Global, path: &str, lengths: Lengths, front: &str) -> Re
     )
 }
 
-fn check_register(alloc: Global, [endpoint, binding, sms, links]: [usize; 4]) -> Result<(), Fail> {
-    let front = text_of(
-        alloc,
-        &[("register ", 1), ("e", endpoint), (" 1.1 true", 1)],
-    )?;
-    let lengths = Lengths {
-        endpoint,
-        binding,
-        sms,
-        links,
-    };
-    check_lengths(alloc, "rd", lengths, front.as_str())
-}
-
-/// The lengths of endpoint, binding and SMS number, and how many links follow the first.
+/// Lengths of a Register.
 static REGISTERS: [[usize; 4]; 6] = [
     [1, 1, 0, 0],
     [8, 2, 1, 1],
@@ -158,45 +101,20 @@ static REGISTERS: [[usize; 4]; 6] = [
     [252, 8, 251, 255],
 ];
 
+/// Lengths of an Update.
+static UPDATES: [[usize; 4]; 4] = [[1, 8, 0, 0], [1, 8, 1, 1], [1, 8, 9, 3], [1, 8, 251, 255]];
+
 #[test]
-fn a_register_at_its_bounds(rt: HostRuntime) -> Result<(), Fail> {
+fn registers_and_updates_at_their_bounds(rt: HostRuntime) -> Result<(), Fail> {
     for lengths in &REGISTERS {
-        check_register(rt.alloc(), *lengths)?;
+        let front = [("register ", 1), ("e", lengths[0]), (" 1.1 true", 1)];
+        check_lengths(rt.alloc(), "rd", *lengths, front)?;
+    }
+    for lengths in &UPDATES {
+        let front = [("update ", 1), ("0000000000010001", 1), ("", 1)];
+        check_lengths(rt.alloc(), "rd/0000000000010001", *lengths, front)?;
     }
     Ok(())
-}
-
-fn check_update(alloc: Global, sms: usize, links: usize) -> Result<(), Fail> {
-    let lengths = Lengths {
-        endpoint: 1,
-        binding: 8,
-        sms,
-        links,
-    };
-    check_lengths(
-        alloc,
-        "rd/0000000000010001",
-        lengths,
-        "update 0000000000010001",
-    )
-}
-
-/// The length of the SMS number, and how many links follow the first.
-static UPDATES: [(usize, usize); 4] = [(0, 0), (1, 1), (9, 3), (251, 255)];
-
-#[test]
-fn an_update_at_its_bounds(rt: HostRuntime) -> Result<(), Fail> {
-    for (sms, links) in &UPDATES {
-        check_update(rt.alloc(), *sms, *links)?;
-    }
-    Ok(())
-}
-
-/// Looks at a Register of the endpoint `a` with a query 700 times before another.
-fn check_behind(alloc: Global, query: &str, last: &str, want: &str) -> Result<(), Fail> {
-    let repeated = query.repeat(alloc, 700)?;
-    let queries = format!(in alloc; "ep=a&{repeated}{last}")?;
-    check_post(alloc, "rd", queries.as_str(), "</>", want)
 }
 
 /// A query, another, and what they mean.
@@ -209,10 +127,12 @@ static BEHIND: [(&str, &str, &str); 6] = [
     ("lt=5&", "lt=x", "60800001"),
 ];
 
+/// A Register of the endpoint `a` with a query 700 times before another.
 #[test]
 fn hundreds_of_queries(rt: HostRuntime) -> Result<(), Fail> {
     for (query, last, want) in &BEHIND {
-        check_behind(rt.alloc(), query, last, want)?;
+        let queries = text_of(rt.alloc(), &[("ep=a&", 1), (*query, 700), (*last, 1)])?;
+        check_post(rt.alloc(), "rd", queries.as_str(), "</>", want)?;
     }
     Ok(())
 }

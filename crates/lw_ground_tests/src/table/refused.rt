@@ -1,78 +1,75 @@
 //! What is left by a join that is refused memory.
 
 use super::*;
+use crate::hold::holds;
 
-/// Whether the table has the first registration, at host A, as its last change.
-fn is_at_host_a(table: &Table) -> bool {
-    table.change() == 1
-        && has_only(table, Key::Id(FIRST), &["a"])
-        && has_only(table, Key::Address(HOST_A), &["a"])
-        && has_only(table, Key::Address(HOST_B), &[])
-        && is_named(table.by_address(at(0), HOST_A), Some(("a", First)))
-        && is_named(table.first_after(at(0), None), Some(("a", First)))
-}
-
-/// Whether nothing is known or found.
-fn is_empty(table: &Table) -> bool {
-    table.change() == 0
-        && has_only(table, Key::Id(FIRST), &[])
-        && has_only(table, Key::Address(HOST_A), &[])
-        && table.by_endpoint(at(0), "a").is_none()
-        && table.first_after(at(0), None).is_none()
-}
-
-/// Whether it has moved to host B.
-fn is_at_host_b(table: &Table) -> bool {
-    table.change() == 2
-        && has_only(table, Key::Id(FIRST), &["a"])
-        && has_only(table, Key::Address(HOST_A), &[])
-        && has_only(table, Key::Address(HOST_B), &["a"])
-}
-
-/// Whether the endpoint `a` has the one token, and not the other.
-fn has_token_alone(table: &Table, one: Stamp, other: Stamp) -> bool {
-    has_only(table, Key::Token(one), &["a"]) && !has_only(table, Key::Token(other), &["a"])
-}
-
-/// Whether the join of the change to `a` was refused.
-fn is_refused(alloc: Global, table: &mut Table, change: Change) -> Result<bool, Fail> {
-    let name = endpoint(alloc, "a")?;
-    let slot = slot_of(alloc, change)?;
-    Ok(table.join(&name, slot).is_err())
-}
-
-const REGISTER: Change = Register(First, HostA, 0);
-
-#[test]
-fn a_refused_first_join_leaves_nothing(rt: HostRuntime) -> Result<(), Fail> {
-    let mut table = Table::new(rt.alloc());
-    if is_refused(rt.alloc(), &mut table, REGISTER)? {
-        holds("nothing", is_empty(&table))?;
-        join(rt.alloc(), &mut table, "a", REGISTER)?;
+/// Joins the change. Where that is refused, the table is as before, and it is joined again.
+fn joins(
+    alloc: Global,
+    table: &mut Table,
+    change: Of<'_>,
+    before: State,
+    after: State,
+) -> Result<(), Fail> {
+    let slot = slot_of(alloc, change.1)?;
+    let endpoint = endpoint(alloc, change.0)?;
+    if table.join(&endpoint, slot).is_err() {
+        holds("as before", has(table, before))?;
+        join(alloc, table, change)?;
     }
-    holds("joined", is_at_host_a(&table))
+    holds("joined", has(table, after))
 }
 
-const MOVE: Change = Move(Second, First, HostB);
+const EMPTY: State = State {
+    change: 0,
+    filed: &[(Id(First), &[]), (Address(HOST_A), &[])],
+    first: None,
+};
+
+const AT_HOST_A: State = State {
+    change: 1,
+    filed: &[
+        (Id(First), &["a"]),
+        (Address(HOST_A), &["a"]),
+        (Address(HOST_B), &[]),
+    ],
+    first: Some(("a", First)),
+};
+
+const AT_HOST_B: State = State {
+    change: 2,
+    filed: &[
+        (Id(First), &["a"]),
+        (Address(HOST_A), &[]),
+        (Address(HOST_B), &["a"]),
+    ],
+    first: Some(("a", First)),
+};
 
 #[test]
 fn a_refused_join_leaves_the_slot(rt: HostRuntime) -> Result<(), Fail> {
-    let mut table = table_of(rt.alloc(), &[("a", REGISTER)])?;
-    if is_refused(rt.alloc(), &mut table, MOVE)? {
-        holds("as before", is_at_host_a(&table))?;
-        join(rt.alloc(), &mut table, "a", MOVE)?;
-    }
-    holds("joined", is_at_host_b(&table))
+    let mut table = Table::new(rt.alloc());
+    let register = ("a", (First, First, Register(HOST_A, 0, 0)));
+    joins(rt.alloc(), &mut table, register, EMPTY, AT_HOST_A)?;
+    let update = ("a", (Second, First, Update(HOST_B, 0, None, None)));
+    joins(rt.alloc(), &mut table, update, AT_HOST_A, AT_HOST_B)
 }
 
-const OBSERVE: Change = Observe(Third, First, 3);
+const WITH_SECOND: State = State {
+    change: 1,
+    filed: &[(Token(Second), &["a"]), (Token(Third), &[])],
+    first: None,
+};
+
+const WITH_THIRD: State = State {
+    change: 2,
+    filed: &[(Token(Third), &["a"]), (Token(Second), &[])],
+    first: None,
+};
 
 #[test]
 fn a_refused_join_leaves_the_tokens(rt: HostRuntime) -> Result<(), Fail> {
-    let mut table = table_of(rt.alloc(), &[("a", Observe(Second, First, 3))])?;
-    if is_refused(rt.alloc(), &mut table, OBSERVE)? {
-        holds("as before", has_token_alone(&table, SECOND, THIRD))?;
-        join(rt.alloc(), &mut table, "a", OBSERVE)?;
-    }
-    holds("joined", has_token_alone(&table, THIRD, SECOND))
+    let mut table = table_of(rt.alloc(), &[("a", (Second, First, Observe(&[3], None)))])?;
+    let observe = ("a", (Third, First, Observe(&[3], None)));
+    joins(rt.alloc(), &mut table, observe, WITH_SECOND, WITH_THIRD)
 }

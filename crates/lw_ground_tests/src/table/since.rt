@@ -1,37 +1,26 @@
 //! Which slots have moved since a change number.
 
 use super::*;
-use lw_stamp::NoMemory;
-use std::alloc::AllocError;
-
-fn put_slot(
-    alloc: Global,
-    text: &mut String,
-    endpoint: &str,
-    slot: &Slot,
-) -> Result<(), AllocError> {
-    let sign = if slot.is_removed() { "-" } else { "+" };
-    let counter = slot.stamp().counter;
-    let one = format!(in alloc; "{endpoint}{sign}{counter} ")?;
-    text.push_str(one.as_str())
-}
+use crate::hold::holds;
 
 /// The endpoints of the slots, each with the counter of its registration and whether that was removed.
 fn told(alloc: Global, table: &Table, since: u64) -> Result<String, Fail> {
     let mut text = String::new(alloc);
     for (endpoint, slot) in table.changed_since(since)?.iter() {
-        put_slot(alloc, &mut text, endpoint, slot)?;
+        let sign = if slot.is_removed() { "-" } else { "+" };
+        let counter = slot.stamp().counter;
+        let one = format!(in alloc; "{endpoint}{sign}{counter} ")?;
+        text.push_str(one.as_str())?;
     }
     Ok(text)
 }
 
-fn tells(alloc: Global, table: &Table, rows: &[(u64, &str)]) -> Result<bool, Fail> {
+fn tells(alloc: Global, table: &Table, rows: &[(u64, &str)]) -> Result<(), Fail> {
     for (since, wanted) in rows {
-        if told(alloc, table, *since)?.as_str() != *wanted {
-            return Ok(false);
-        }
+        let text = told(alloc, table, *since)?;
+        holds(wanted, text.as_str() == *wanted)?;
     }
-    Ok(true)
+    Ok(())
 }
 
 static OF_FIVE: [(u64, &str); 8] = [
@@ -45,40 +34,30 @@ static OF_FIVE: [(u64, &str); 8] = [
     (u64::MAX, ""),
 ];
 
-#[test]
-fn what_has_moved_since_a_number(rt: HostRuntime) -> Result<(), Fail> {
-    let table = table_of(rt.alloc(), &FIVE)?;
-    holds("its number", table.change() == 6)?;
-    holds("each row", tells(rt.alloc(), &table, &OF_FIVE)?)
-}
-
-static AGAIN: [(&str, Change); 4] = [
-    ("c", Register(Third, HostA, 60)),
-    ("b", Register(Second, HostA, 60)),
-    ("c", Observe(Fourth, Third, 3)),
-    ("b", Register(First, HostA, 60)),
+/// One that moves again takes a later number, and one that does not keeps its own.
+static AGAIN: [Of<'static>; 4] = [
+    ("c", (Third, Third, Register(HOST_A, 0, 60))),
+    ("b", (Second, Second, Register(HOST_A, 0, 60))),
+    ("c", (Fourth, Third, Observe(&[3], None))),
+    ("b", (First, First, Register(HOST_A, 0, 60))),
 ];
 
 static OF_AGAIN: [(u64, &str); 4] = [(0, "b+2 c+3 "), (1, "b+2 c+3 "), (2, "c+3 "), (3, "")];
 
-// One that moves again takes a later number, and one that does not keeps its own.
 #[test]
-fn what_has_moved_again(rt: HostRuntime) -> Result<(), Fail> {
-    let table = table_of(rt.alloc(), &AGAIN)?;
-    holds("its number", table.change() == 3)?;
-    holds("each row", tells(rt.alloc(), &table, &OF_AGAIN)?)
-}
-
-/// How many slots have moved.
-fn count(table: &Table, since: u64) -> Result<usize, NoMemory> {
-    Ok(table.changed_since(since)?.len())
+fn what_has_moved_since_a_number(rt: HostRuntime) -> Result<(), Fail> {
+    let table = table_of(rt.alloc(), &FIVE)?;
+    holds("its number", table.change() == 6)?;
+    tells(rt.alloc(), &table, &OF_FIVE)?;
+    let again = table_of(rt.alloc(), &AGAIN)?;
+    holds("its number", again.change() == 3)?;
+    tells(rt.alloc(), &again, &OF_AGAIN)
 }
 
 #[test]
 fn a_hundred_that_have_moved(rt: HostRuntime) -> Result<(), Fail> {
     let table = hundred(rt.alloc())?;
-    holds("all", count(&table, 0)? == 100)?;
-    holds("the last", count(&table, 40)? == 60)?;
-    let text = told(rt.alloc(), &table, 97)?;
-    holds("three", text.as_str() == "900+100 901+99 902+98 ")
+    holds("all", table.changed_since(0)?.len() == 100)?;
+    holds("the last", table.changed_since(40)?.len() == 60)?;
+    tells(rt.alloc(), &table, &[(97, "900+100 901+99 902+98 ")])
 }

@@ -1,0 +1,138 @@
+//! The slots of operations, which tables of tests list.
+
+use lw_link::LinkText;
+use lw_reg::{Addr, Binding, Endpoint, Op, Path, Slot, Text, Version, What, atom};
+use lw_stamp::{Moment, Stamp};
+use std::alloc::Global;
+use std::test::Fail;
+
+pub(crate) const HOST_A: Addr = Addr::V4 {
+    address: [127, 0, 0, 1],
+    port: 5683,
+};
+
+pub(crate) const HOST_B: Addr = Addr::V4 {
+    address: [127, 0, 0, 1],
+    port: 5684,
+};
+
+/// A stamp, by its number.
+#[derive(Clone, Copy)]
+pub(crate) enum Mark {
+    First,
+    Second,
+    /// Of a greater node than those beside it.
+    Third,
+    Fourth,
+    Fifth,
+    /// One with a counter above this number.
+    Above(u16),
+}
+
+impl Mark {
+    pub(crate) fn stamp(self) -> Stamp {
+        let (counter, node) = match self {
+            Mark::First => (1, 1),
+            Mark::Second => (2, 1),
+            Mark::Third => (3, 2),
+            Mark::Fourth => (4, 1),
+            Mark::Fifth => (5, 1),
+            Mark::Above(number) => (1 + u64::from(number), 1),
+        };
+        Stamp { counter, node }
+    }
+}
+
+/// What an operation does.
+#[derive(Clone, Copy)]
+pub(crate) enum Act<'a> {
+    /// A Register of version 1.0 with the binding `U` and the links `</>`: from where, the moment in milliseconds, and
+    /// the lifetime in seconds; 0 never expires.
+    Register(Addr, u64, u32),
+    /// From where, the moment, and the lifetime and the binding if they change.
+    Update(Addr, u64, Option<u32>, Option<&'a str>),
+    Remove,
+    /// A path, and the format that is accepted.
+    Observe(&'a [u16], Option<u16>),
+    /// A path, and the token.
+    Cancel(&'a [u16], Mark),
+}
+
+/// The stamp of an operation, that of its registration, and what it does.
+pub(crate) type Change<'a> = (Mark, Mark, Act<'a>);
+
+/// A moment in milliseconds.
+pub(crate) fn at(ms: u64) -> Moment {
+    Moment::new(ms).unwrap_or(Moment::START)
+}
+
+pub(crate) fn endpoint(alloc: Global, name: &str) -> Result<Endpoint, Fail> {
+    match Endpoint::new(Text::copy_of(alloc, name)?) {
+        Some(endpoint) => Ok(endpoint),
+        None => Err("an endpoint".into()),
+    }
+}
+
+fn register(alloc: Global, address: Addr, seen: u64, lifetime: u32) -> Result<What, Fail> {
+    Ok(What::Register {
+        version: Version::V10,
+        queue: false,
+        address,
+        seen: at(seen),
+        lifetime,
+        binding: Binding::U,
+        sms: None,
+        objects: LinkText::read(alloc, b"</>")?,
+    })
+}
+
+fn update(
+    address: Addr,
+    seen: u64,
+    lifetime: Option<u32>,
+    binding: Option<&str>,
+) -> Result<What, Fail> {
+    let binding = match binding {
+        None => None,
+        Some(letters) => Some(Binding::read(letters).ok_or("a binding")?),
+    };
+    Ok(What::Update {
+        address,
+        seen: at(seen),
+        lifetime,
+        binding,
+        sms: None,
+        objects: None,
+    })
+}
+
+fn what_of(alloc: Global, act: Act<'_>) -> Result<What, Fail> {
+    match act {
+        Act::Register(address, seen, lifetime) => register(alloc, address, seen, lifetime),
+        Act::Update(address, seen, lifetime, binding) => update(address, seen, lifetime, binding),
+        Act::Remove => Ok(What::Remove),
+        Act::Observe(path, accept) => {
+            let path = Path::new(path).ok_or("a path")?;
+            Ok(What::Observe { path, accept })
+        }
+        Act::Cancel(path, token) => {
+            let path = Path::new(path).ok_or("a path")?;
+            let token = token.stamp();
+            Ok(What::Cancel { path, token })
+        }
+    }
+}
+
+/// The slot of an operation about the endpoint `a`.
+pub(crate) fn slot_of(alloc: Global, change: Change<'_>) -> Result<Slot, Fail> {
+    let (stamp, reg, act) = change;
+    let endpoint = endpoint(alloc, "a")?;
+    let what = what_of(alloc, act)?;
+    let operation = Op {
+        stamp: stamp.stamp(),
+        endpoint,
+        reg: reg.stamp(),
+        what,
+    };
+    Ok(atom(alloc, operation)?)
+}
