@@ -73,8 +73,24 @@ pub(crate) fn endpoint(alloc: Global, name: &str) -> Result<Endpoint, Fail> {
     }
 }
 
-fn register(alloc: Global, address: Addr, seen: u64, lifetime: u32) -> Result<What, Fail> {
-    Ok(What::Register {
+fn slot(alloc: Global, stamp: Mark, reg: Mark, what: What) -> Result<Slot, Fail> {
+    let operation = Op {
+        stamp: stamp.stamp(),
+        endpoint: endpoint(alloc, "a")?,
+        reg: reg.stamp(),
+        what,
+    };
+    Ok(atom(alloc, operation)?)
+}
+
+fn registered(
+    alloc: Global,
+    id: Mark,
+    address: Addr,
+    seen: u64,
+    lifetime: u32,
+) -> Result<Slot, Fail> {
+    let what = What::Register {
         version: Version::V10,
         queue: false,
         address,
@@ -83,56 +99,42 @@ fn register(alloc: Global, address: Addr, seen: u64, lifetime: u32) -> Result<Wh
         binding: Binding::U,
         sms: None,
         objects: LinkText::read(alloc, b"</>")?,
-    })
+    };
+    slot(alloc, id, id, what)
 }
 
-fn update(
-    address: Addr,
-    seen: u64,
-    lifetime: Option<u32>,
-    binding: Option<&str>,
-) -> Result<What, Fail> {
+fn update(address: Addr, seen: u64, lifetime: Option<u32>, binding: Option<&str>) -> What {
     let binding = match binding {
         None => None,
-        Some(letters) => Some(Binding::read(letters).ok_or("a binding")?),
+        Some(letters) => Binding::read(letters),
     };
-    Ok(What::Update {
+    What::Update {
         address,
         seen: at(seen),
         lifetime,
         binding,
         sms: None,
         objects: None,
-    })
-}
-
-fn what_of(alloc: Global, act: Act<'_>) -> Result<What, Fail> {
-    match act {
-        Act::Register(address, seen, lifetime) => register(alloc, address, seen, lifetime),
-        Act::Update(address, seen, lifetime, binding) => update(address, seen, lifetime, binding),
-        Act::Remove => Ok(What::Remove),
-        Act::Observe(path, accept) => {
-            let path = Path::new(path).ok_or("a path")?;
-            Ok(What::Observe { path, accept })
-        }
-        Act::Cancel(path, token) => {
-            let path = Path::new(path).ok_or("a path")?;
-            let token = token.stamp();
-            Ok(What::Cancel { path, token })
-        }
     }
 }
 
 /// The slot of an operation about the endpoint `a`.
 pub(crate) fn slot_of(alloc: Global, change: Change<'_>) -> Result<Slot, Fail> {
     let (stamp, reg, act) = change;
-    let endpoint = endpoint(alloc, "a")?;
-    let what = what_of(alloc, act)?;
-    let operation = Op {
-        stamp: stamp.stamp(),
-        endpoint,
-        reg: reg.stamp(),
-        what,
+    let what = match act {
+        Act::Register(address, seen, lifetime) => {
+            return registered(alloc, stamp, address, seen, lifetime);
+        }
+        Act::Update(address, seen, lifetime, binding) => update(address, seen, lifetime, binding),
+        Act::Remove => What::Remove,
+        Act::Observe(numbers, accept) => What::Observe {
+            path: Path::new(numbers).ok_or("a path")?,
+            accept,
+        },
+        Act::Cancel(numbers, token) => What::Cancel {
+            path: Path::new(numbers).ok_or("a path")?,
+            token: token.stamp(),
+        },
     };
-    Ok(atom(alloc, operation)?)
+    slot(alloc, stamp, reg, what)
 }

@@ -80,7 +80,7 @@ static REGISTER_OPTIONS: [(u16, &[u8]); 5] = [
 ];
 
 /// Deltas of 0, 0, 12, 13, 268, 269 and 64973.
-const HEADS: &[u8] = b"\x00\x00\xc0\xd0\x00\xd0\xff\xe0\x00\x00\xe0\xfc\xc0";
+const HEADS: &[u8] = b"\x40\x01\x12\x34\x00\x00\xc0\xd0\x00\xd0\xff\xe0\x00\x00\xe0\xfc\xc0";
 
 /// The numbers of the options of `HEADS`, which have no values.
 static NUMBERED: [(u16, &[u8]); 7] = [
@@ -110,20 +110,24 @@ fn is_register(message: &Message) -> bool {
         && message.payload.as_slice() == b"</3/0>".as_slice()
 }
 
-#[test]
-fn options_have_numbers_and_values(rt: HostRuntime) -> Result<(), Fail> {
-    let mut message = decode(rt.alloc(), &REGISTER)?;
-    holds("its parts", is_register(&message))?;
-    holds(
-        "its options",
-        have_values(&message.options, &REGISTER_OPTIONS),
-    )?;
-    holds("its bytes", is_written(rt.alloc(), &message, &REGISTER)?)?;
+fn is_written_and_fits(alloc: Global, message: &mut Message) -> Result<(), Fail> {
+    holds("its bytes", is_written(alloc, message, &REGISTER)?)?;
     message.code = 0;
-    holds("code 0.00 with more does not fit", !message.fits())?;
-    let bytes = datagram(rt.alloc(), HEADS, 0)?;
-    let numbered = decode(rt.alloc(), &bytes)?;
-    holds("numbers add up", have_values(&numbered.options, &NUMBERED))
+    holds("code 0.00 with more does not fit", !message.fits())
+}
+
+#[test]
+fn a_register_is_read_and_written(rt: HostRuntime) -> Result<(), Fail> {
+    let mut message = decode(rt.alloc(), &REGISTER)?;
+    let is_read = is_register(&message) && have_values(&message.options, &REGISTER_OPTIONS);
+    holds("its parts", is_read)?;
+    is_written_and_fits(rt.alloc(), &mut message)
+}
+
+#[test]
+fn numbers_add_up(rt: HostRuntime) -> Result<(), Fail> {
+    let message = decode(rt.alloc(), HEADS)?;
+    holds("each", have_values(&message.options, &NUMBERED))
 }
 
 /// The fault of so many bytes of `REGISTER`, or none.
@@ -357,9 +361,18 @@ fn many_options(rt: HostRuntime) -> Result<(), Fail> {
     for (head, delta, count) in &RUNS {
         spells_options(rt.alloc(), *head, *delta, *count)?;
     }
-    // as many as a message can have
-    let zeros = vec![in rt.alloc(); 0u8; 8188]?;
-    let bytes = datagram(rt.alloc(), &zeros, 0)?;
+    Ok(())
+}
+
+/// As many options as a message can have: 8,188.
+fn zeros(alloc: Global) -> Result<Vec<u8>, AllocError> {
+    let zeros = vec![in alloc; 0u8; 8188]?;
+    datagram(alloc, &zeros, 0)
+}
+
+#[test]
+fn empty_options(rt: HostRuntime) -> Result<(), Fail> {
+    let bytes = zeros(rt.alloc())?;
     spells(rt.alloc(), &bytes, [0, 8188, 0, 0, 0])
 }
 

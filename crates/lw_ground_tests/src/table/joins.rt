@@ -1,7 +1,7 @@
 //! What joins leave, and under which keys it is filed.
 
 use super::*;
-use crate::hold::{holds, holds_for};
+use crate::hold::holds;
 
 const REGISTER: Of<'static> = ("a", (First, First, Register(HOST_A, 0, 60)));
 
@@ -129,30 +129,20 @@ static JOINS: [(&[Of<'static>], State); 8] = [
     ),
 ];
 
+fn files(alloc: Global, table: &mut Table, changes: &[Of<'_>], state: State) -> Result<(), Fail> {
+    join_all(alloc, table, changes)?;
+    holds("its keys", has(table, state))
+}
+
+fn check_joins(alloc: Global, changes: &[Of<'_>], state: State) -> Result<(), Fail> {
+    let mut table = Table::new(alloc);
+    files(alloc, &mut table, changes, state)
+}
+
 #[test]
 fn slots_are_filed_under_their_keys(rt: HostRuntime) -> Result<(), Fail> {
-    for (row, (changes, state)) in JOINS.iter().enumerate() {
-        let table = table_of(rt.alloc(), changes)?;
-        holds_for(&row, has(&table, *state))?;
+    for (changes, state) in &JOINS {
+        check_joins(rt.alloc(), changes, *state)?;
     }
     Ok(())
-}
-
-/// Whether the endpoints at host A are the numbers from 900 to 999.
-fn has_hundred(alloc: Global, table: &Table) -> Result<bool, Fail> {
-    let mut endpoints = table.keys().of(&Key::Address(HOST_A));
-    for number in 900..1000u32 {
-        let wanted = format!(in alloc; "{number}")?;
-        if endpoints.next() != Some(wanted.as_str()) {
-            return Ok(false);
-        }
-    }
-    Ok(endpoints.next().is_none())
-}
-
-#[test]
-fn a_hundred_endpoints_at_one_address(rt: HostRuntime) -> Result<(), Fail> {
-    let table = hundred(rt.alloc())?;
-    let is_filed = table.change() == 100 && has_only(&table, (Id(Fourth), &["996"]));
-    holds("a hundred", is_filed && has_hundred(rt.alloc(), &table)?)
 }

@@ -1,42 +1,9 @@
-//! Registrations and watches: each way to look them up once, and a hundred watches.
+//! Each way to look up a registration and its watches, of which there are a hundred.
 
 use super::*;
 use crate::hold::holds;
 use lw_reg::{Path, Watch};
 use lw_stamp::{Moment, Stamp};
-
-#[test]
-fn registrations_are_looked_up(rt: HostRuntime) -> Result<(), Fail> {
-    let table = table_of(rt.alloc(), &FIVE)?;
-    let first = Some(("a", First));
-    holds(
-        "its endpoint",
-        is_named(table.by_endpoint(at(59_999), "a"), first),
-    )?;
-    holds(
-        "expired",
-        is_named(table.by_endpoint(at(60_000), "a"), None),
-    )?;
-    holds(
-        "its identifier",
-        is_named(table.by_id(at(59_999), First.stamp()), first),
-    )?;
-    let third = Some(("c", Third));
-    holds(
-        "its address",
-        is_named(table.by_address(at(0), HOST_B), third),
-    )?;
-    let second = Some(("b", Second));
-    holds(
-        "the next",
-        is_named(table.first_after(at(0), Some("a")), second),
-    )?;
-    let expired = table.expired_after(at(60_000), None);
-    holds(
-        "the next that has expired",
-        expired == Some(("a", First.stamp())),
-    )
-}
 
 /// Whether it is the watch with this number of a path and token, of the endpoint `a`.
 fn is_watch(found: Option<(View<'_>, Watch)>, number: u16, token: Stamp) -> bool {
@@ -48,16 +15,6 @@ fn is_watch(found: Option<(View<'_>, Watch)>, number: u16, token: Stamp) -> bool
                 && watch.token == token
         }
     }
-}
-
-fn hundred_watches(alloc: Global) -> Result<Table, Fail> {
-    let mut table = table_of(alloc, &[("a", (First, First, Register(HOST_A, 0, 0)))])?;
-    for place in 0..100u16 {
-        let number = 1 + (place * 37) % 100;
-        let change = (Above(200 + number), First, Observe(&[number], None));
-        join(alloc, &mut table, ("a", change))?;
-    }
-    Ok(table)
 }
 
 /// Whether the watch of the path is found by its token, and behind the one before.
@@ -73,14 +30,33 @@ fn is_found(table: &Table, number: u16) -> bool {
         )
 }
 
-#[test]
-fn a_hundred_watches_of_a_registration(rt: HostRuntime) -> Result<(), Fail> {
-    let table = hundred_watches(rt.alloc())?;
-    holds("its number", table.change() == 101)?;
-    for number in 1..101u16 {
-        holds("a watch", is_found(&table, number))?;
+fn is_registered(table: &Table) -> bool {
+    let wanted = Some(("a", First));
+    is_named(table.by_endpoint(at(59_999), "a"), wanted)
+        && is_named(table.by_endpoint(at(60_000), "a"), None)
+        && is_named(table.by_id(at(59_999), First.stamp()), wanted)
+        && is_named(table.by_address(at(59_999), HOST_A), wanted)
+        && is_named(table.first_after(at(59_999), Some("")), wanted)
+        && table.expired_after(at(60_000), None) == Some(("a", First.stamp()))
+}
+
+/// Joins a registration at host A for a minute, and its watches of the paths 1 to 100 in no order.
+fn join_watches(alloc: Global, table: &mut Table) -> Result<(), Fail> {
+    join(alloc, table, ("a", (First, First, Register(HOST_A, 0, 60))))?;
+    for place in 0..100u16 {
+        let number = 1 + (place * 37) % 100;
+        let change = (Above(200 + number), First, Observe(&[number], None));
+        join(alloc, table, ("a", change))?;
     }
-    let last = Path::new(&[100]);
-    let next = table.watch_after(Moment::START, First.stamp(), last.as_ref());
-    holds("no other", next.is_none())
+    holds("the registration", is_registered(table))?;
+    for number in 1..101u16 {
+        holds("a watch", is_found(table, number))?;
+    }
+    holds("its number", table.change() == 101)
+}
+
+#[test]
+fn a_registration_and_a_hundred_watches_are_looked_up(rt: HostRuntime) -> Result<(), Fail> {
+    let mut table = Table::new(rt.alloc());
+    join_watches(rt.alloc(), &mut table)
 }

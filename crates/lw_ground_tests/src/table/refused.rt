@@ -3,6 +3,13 @@
 use super::*;
 use crate::hold::holds;
 
+/// Whether the join of the change was refused.
+fn is_refused(alloc: Global, table: &mut Table, change: Of<'_>) -> Result<bool, Fail> {
+    let slot = slot_of(alloc, change.1)?;
+    let endpoint = endpoint(alloc, change.0)?;
+    Ok(table.join(&endpoint, slot).is_err())
+}
+
 /// Joins the change. Where that is refused, the table is as before, and it is joined again.
 fn joins(
     alloc: Global,
@@ -11,9 +18,7 @@ fn joins(
     before: State,
     after: State,
 ) -> Result<(), Fail> {
-    let slot = slot_of(alloc, change.1)?;
-    let endpoint = endpoint(alloc, change.0)?;
-    if table.join(&endpoint, slot).is_err() {
+    if is_refused(alloc, table, change)? {
         holds("as before", has(table, before))?;
         join(alloc, table, change)?;
     }
@@ -46,13 +51,17 @@ const AT_HOST_B: State = State {
     first: Some(("a", First)),
 };
 
+fn registers_and_moves(alloc: Global, table: &mut Table) -> Result<(), Fail> {
+    let register = ("a", (First, First, Register(HOST_A, 0, 0)));
+    joins(alloc, table, register, EMPTY, AT_HOST_A)?;
+    let update = ("a", (Second, First, Update(HOST_B, 0, None, None)));
+    joins(alloc, table, update, AT_HOST_A, AT_HOST_B)
+}
+
 #[test]
 fn a_refused_join_leaves_the_slot(rt: HostRuntime) -> Result<(), Fail> {
     let mut table = Table::new(rt.alloc());
-    let register = ("a", (First, First, Register(HOST_A, 0, 0)));
-    joins(rt.alloc(), &mut table, register, EMPTY, AT_HOST_A)?;
-    let update = ("a", (Second, First, Update(HOST_B, 0, None, None)));
-    joins(rt.alloc(), &mut table, update, AT_HOST_A, AT_HOST_B)
+    registers_and_moves(rt.alloc(), &mut table)
 }
 
 const WITH_SECOND: State = State {
@@ -67,9 +76,14 @@ const WITH_THIRD: State = State {
     first: None,
 };
 
+fn observes_twice(alloc: Global, table: &mut Table) -> Result<(), Fail> {
+    join(alloc, table, ("a", (Second, First, Observe(&[3], None))))?;
+    let observe = ("a", (Third, First, Observe(&[3], None)));
+    joins(alloc, table, observe, WITH_SECOND, WITH_THIRD)
+}
+
 #[test]
 fn a_refused_join_leaves_the_tokens(rt: HostRuntime) -> Result<(), Fail> {
-    let mut table = table_of(rt.alloc(), &[("a", (Second, First, Observe(&[3], None)))])?;
-    let observe = ("a", (Third, First, Observe(&[3], None)));
-    joins(rt.alloc(), &mut table, observe, WITH_SECOND, WITH_THIRD)
+    let mut table = Table::new(rt.alloc());
+    observes_twice(rt.alloc(), &mut table)
 }

@@ -2,15 +2,28 @@
 
 use super::*;
 use crate::hold::holds;
+use lw_reg::Slot;
+use lw_stamp::NoMemory;
+use std::alloc::AllocError;
 
-/// The endpoints of the slots, each with the counter of its registration and whether that was removed.
+/// The endpoint, the counter of its registration, and whether that was removed.
+fn put_slot(
+    alloc: Global,
+    text: &mut String,
+    endpoint: &str,
+    slot: &Slot,
+) -> Result<(), AllocError> {
+    let sign = if slot.is_removed() { "-" } else { "+" };
+    let counter = slot.stamp().counter;
+    let one = format!(in alloc; "{endpoint}{sign}{counter} ")?;
+    text.push_str(one.as_str())
+}
+
+/// The slots that have moved since.
 fn told(alloc: Global, table: &Table, since: u64) -> Result<String, Fail> {
     let mut text = String::new(alloc);
     for (endpoint, slot) in table.changed_since(since)?.iter() {
-        let sign = if slot.is_removed() { "-" } else { "+" };
-        let counter = slot.stamp().counter;
-        let one = format!(in alloc; "{endpoint}{sign}{counter} ")?;
-        text.push_str(one.as_str())?;
+        put_slot(alloc, &mut text, endpoint, slot)?;
     }
     Ok(text)
 }
@@ -22,6 +35,17 @@ fn tells(alloc: Global, table: &Table, rows: &[(u64, &str)]) -> Result<(), Fail>
     }
     Ok(())
 }
+
+/// `a` at host A for a minute, `b` there for ever, `c` at host B for two minutes, `d` removed, and of `e` only an
+/// Update.
+static FIVE: [Of<'static>; 6] = [
+    ("a", (First, First, Register(HOST_A, 0, 60))),
+    ("b", (Second, Second, Register(HOST_A, 0, 0))),
+    ("c", (Third, Third, Register(HOST_B, 0, 120))),
+    ("d", (Fourth, Fourth, Register(HOST_B, 0, 0))),
+    ("d", (Fifth, Fourth, Remove)),
+    ("e", (Fifth, Fifth, Update(HOST_B, 0, None, None))),
+];
 
 static OF_FIVE: [(u64, &str); 8] = [
     (0, "a+1 b+2 c+3 d-4 e+5 "),
@@ -44,20 +68,74 @@ static AGAIN: [Of<'static>; 4] = [
 
 static OF_AGAIN: [(u64, &str); 4] = [(0, "b+2 c+3 "), (1, "b+2 c+3 "), (2, "c+3 "), (3, "")];
 
-#[test]
-fn what_has_moved_since_a_number(rt: HostRuntime) -> Result<(), Fail> {
-    let table = table_of(rt.alloc(), &FIVE)?;
-    holds("its number", table.change() == 6)?;
-    tells(rt.alloc(), &table, &OF_FIVE)?;
-    let again = table_of(rt.alloc(), &AGAIN)?;
-    holds("its number", again.change() == 3)?;
-    tells(rt.alloc(), &again, &OF_AGAIN)
+fn moves(
+    alloc: Global,
+    table: &mut Table,
+    changes: &[Of<'_>],
+    number: u64,
+    rows: &[(u64, &str)],
+) -> Result<(), Fail> {
+    join_all(alloc, table, changes)?;
+    holds("its number", table.change() == number)?;
+    tells(alloc, table, rows)
 }
 
 #[test]
-fn a_hundred_that_have_moved(rt: HostRuntime) -> Result<(), Fail> {
-    let table = hundred(rt.alloc())?;
-    holds("all", table.changed_since(0)?.len() == 100)?;
-    holds("the last", table.changed_since(40)?.len() == 60)?;
-    tells(rt.alloc(), &table, &[(97, "900+100 901+99 902+98 ")])
+fn what_has_moved_since_a_number(rt: HostRuntime) -> Result<(), Fail> {
+    let mut table = Table::new(rt.alloc());
+    moves(rt.alloc(), &mut table, &FIVE, 6, &OF_FIVE)
+}
+
+#[test]
+fn what_has_moved_again(rt: HostRuntime) -> Result<(), Fail> {
+    let mut table = Table::new(rt.alloc());
+    moves(rt.alloc(), &mut table, &AGAIN, 3, &OF_AGAIN)
+}
+
+/// Registers the endpoint that is named `999` less the number.
+fn join_numbered(alloc: Global, table: &mut Table, number: u16) -> Result<(), Fail> {
+    let name = 999u16.saturating_sub(number);
+    let name = format!(in alloc; "{name}")?;
+    let id = Above(number);
+    join(
+        alloc,
+        table,
+        (name.as_str(), (id, id, Register(HOST_A, 0, 60))),
+    )
+}
+
+/// How many slots have moved.
+fn count(table: &Table, since: u64) -> Result<usize, NoMemory> {
+    Ok(table.changed_since(since)?.len())
+}
+
+/// Whether the endpoints at host A are the numbers from 900 to 999.
+fn has_hundred(alloc: Global, table: &Table) -> Result<bool, Fail> {
+    let mut endpoints = table.keys().of(&Key::Address(HOST_A));
+    for number in 900..1000u32 {
+        let wanted = format!(in alloc; "{number}")?;
+        if endpoints.next() != Some(wanted.as_str()) {
+            return Ok(false);
+        }
+    }
+    Ok(endpoints.next().is_none())
+}
+
+/// Joins a hundred endpoints, `999` to `900`, at one address.
+fn join_hundred(alloc: Global, table: &mut Table) -> Result<(), Fail> {
+    for number in 0..100u16 {
+        join_numbered(alloc, table, number)?;
+    }
+    holds("its number", table.change() == 100)?;
+    holds("a hundred", has_hundred(alloc, table)?)?;
+    holds("one", has_only(table, (Id(Fourth), &["996"])))?;
+    holds("all", count(table, 0)? == 100)?;
+    holds("the last", count(table, 40)? == 60)?;
+    tells(alloc, table, &[(97, "900+100 901+99 902+98 ")])
+}
+
+#[test]
+fn a_hundred_at_one_address_have_moved(rt: HostRuntime) -> Result<(), Fail> {
+    let mut table = Table::new(rt.alloc());
+    join_hundred(rt.alloc(), &mut table)
 }
