@@ -273,18 +273,34 @@ fn counts(alloc: Global, bytes: &[u8]) -> Result<(u64, usize), DeltaFault> {
 }
 
 /// It is a delta that is written like this, with the clock, and so many slots.
-fn accepts(alloc: Global, text: &str, clock: u64, count: usize, again: &str) -> Result<(), Fail> {
+fn accepts(
+    alloc: Global,
+    bytes: &[u8],
+    clock: u64,
+    count: usize,
+    again: &[u8],
+) -> Result<(), Fail> {
+    holds("its clock", check(bytes) == Ok(clock))?;
+    holds("its counts", counts(alloc, bytes)? == (clock, count))?;
+    holds("written", is_written_as(alloc, bytes, again)?)
+}
+
+fn accepts_text(
+    alloc: Global,
+    text: &str,
+    clock: u64,
+    count: usize,
+    again: &str,
+) -> Result<(), Fail> {
     let bytes = hex::decode(alloc, text)?;
     let again = hex::decode(alloc, again)?;
-    holds("its clock", check(&bytes) == Ok(clock))?;
-    holds("its counts", counts(alloc, &bytes)? == (clock, count))?;
-    holds("written", is_written_as(alloc, &bytes, &again)?)
+    accepts(alloc, &bytes, clock, count, &again)
 }
 
 #[test]
 fn deltas_are_read_and_written(rt: HostRuntime) -> Result<(), Fail> {
     for (text, clock, count, again) in &ACCEPTED {
-        accepts(rt.alloc(), text, *clock, *count, again)?;
+        accepts_text(rt.alloc(), text, *clock, *count, again)?;
     }
     Ok(())
 }

@@ -248,23 +248,29 @@ fn maps_join_key_by_key(rt: HostRuntime) -> Result<(), Fail> {
     Ok(())
 }
 
+/// Whether there is a map of the entries.
+fn is_map(alloc: Global, rows: Entries) -> Result<bool, NoMemory> {
+    Ok(map_of(alloc, rows)?.is_some())
+}
+
+fn has_three(map: Parts<u16, Flag>) -> bool {
+    let is_read = map.len() == 3
+        && !map.is_empty()
+        && map.get(&2) == Some(&Flag { raised: false })
+        && map.get(&3).is_none();
+    let entries = map.into_entries();
+    is_read && are_entries(&entries, &[(2, false), (4, true), (7, true)])
+}
+
 #[test]
 fn maps_are_their_entries(rt: HostRuntime) -> Result<(), Fail> {
-    let equal = map_of(rt.alloc(), &[(2, true), (2, true)])?;
-    holds("equal keys", equal.is_none())?;
-    let falling = map_of(rt.alloc(), &[(2, true), (1, true)])?;
-    holds("falling keys", falling.is_none())?;
-    let (map, _) = map_and_flag(rt.alloc(), &[(7, true), (2, false), (4, true)], true)?;
-    holds("its number", map.len() == 3 && !map.is_empty())?;
+    holds("equal keys", !is_map(rt.alloc(), &[(2, true), (2, true)])?)?;
     holds(
-        "by key",
-        map.get(&2) == Some(&Flag { raised: false }) && map.get(&3).is_none(),
+        "falling keys",
+        !is_map(rt.alloc(), &[(2, true), (1, true)])?,
     )?;
-    let entries = map.into_entries();
-    holds(
-        "each",
-        are_entries(&entries, &[(2, false), (4, true), (7, true)]),
-    )
+    let (map, _) = map_and_flag(rt.alloc(), &[(7, true), (2, false), (4, true)], true)?;
+    holds("three", has_three(map))
 }
 
 fn is_below_or_equal<V: Exact>(left: &V, right: &V) -> bool {
