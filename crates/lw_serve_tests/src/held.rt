@@ -4,14 +4,15 @@ mod settling;
 mod steps;
 
 use crate::calls::{REGISTER, ask, bytes, reply_text, take};
-use lw_held::{Entry, Held, NoGate, Pass, Settled, Shelf, Unsettled, set_up, settle};
+use crate::hold::{holds, same};
+use lw_held::{Entry, Held, NoGate, Part, Pass, Settled, Shelf, Unsettled, set_up, settle};
 use lw_node::{Call, Path};
 use lw_stamp::{Moment, NoMemory, Stamp};
 use std::alloc::Global;
 use std::sync::Wait;
 use std::test::Fail;
 use steps::What::*;
-use steps::{agrees_some, call, played, replied, settle_some};
+use steps::{agrees_some, call, part_is, played, settle_some};
 
 /// The delta of a node that has taken the Register first: 98 bytes.
 const DELTA: &str =

@@ -4,99 +4,99 @@ use super::steps::Row;
 use super::steps::Whose::*;
 use super::*;
 
-/// What the node says of the transcripts of some passes in a row, after the calls.
-fn verdict(
-    alloc: Global,
-    rows: &[Row<'_>],
-    node: u16,
-    first: usize,
-    end: usize,
-) -> Result<Result<(), u64>, Fail> {
-    let (held, passes) = played(alloc, rows)?;
-    Ok(agrees_some(&held, node, &passes, first, end))
+const NO_CALLS: [Row<'static>; 0] = [];
+
+const REGISTERED: [Row<'static>; 2] = [(Its, 0, Takes(REGISTER), 0), (Its, 1, ByEndpoint("a"), 1)];
+
+const SENT_BY_TWO: [Row<'static>; 2] = [(Its, 0, Sends(0), 0), (Its, 1, Sends(0), 1)];
+
+/// A pass has the place of another's call, with an entry of another node.
+const ONE_PLACE: [Row<'static>; 2] = [(Anothers, 0, Sends(0), 0), (Its, 1, Sends(0), 0)];
+
+const BEHIND: [Row<'static>; 2] = [(Anothers, 1, Sends(0), 0), (Anothers, 0, Sends(0), 1)];
+
+/// What is at place 0 of one node comes behind what is at place 1 of another.
+const FALLING: [Row<'static>; 3] = [
+    (Anothers, 1, Sends(0), 0),
+    (Anothers, 0, Sends(0), 1),
+    (Its, 0, Sends(0), 0),
+];
+
+const SENT_ONCE: [Row<'static>; 1] = [(Its, 0, Sends(0), 0)];
+
+const SENT_TWICE: [Row<'static>; 2] = [(Its, 0, Sends(0), 0), (Its, 0, Sends(0), 1)];
+
+/// The entry at a place is another, though number, pass and place are the same.
+const SENT_AND_TAKEN: [Row<'static>; 2] = [(Its, 0, Sends(0), 0), (Its, 0, Takes(REGISTER), 1)];
+
+/// The calls that a node is asked after, those that two passes were made with, and from which pass up to which and by
+/// which number of a node it is asked; and what it says.
+type Case = (
+    &'static [Row<'static>],
+    &'static [Row<'static>],
+    usize,
+    usize,
+    u16,
+    Result<(), u64>,
+);
+
+/// Transcripts that are the journal, and those of another node.
+const WHOLE: [Case; 6] = [
+    (&NO_CALLS, &NO_CALLS, 0, 2, 1, Ok(())),
+    (&NO_CALLS, &NO_CALLS, 0, 2, 2, Err(0)),
+    (&REGISTERED, &REGISTERED, 0, 2, 1, Ok(())),
+    (&REGISTERED, &REGISTERED, 0, 2, 2, Err(0)),
+    (&SENT_ONCE, &SENT_ONCE, 0, 2, 1, Ok(())),
+    (&SENT_AND_TAKEN, &SENT_AND_TAKEN, 0, 2, 1, Ok(())),
+];
+
+/// Transcripts from which a part is missing, or that have one of another node.
+const ASTRAY: [Case; 7] = [
+    (&SENT_BY_TWO, &SENT_BY_TWO, 1, 2, 1, Err(0)),
+    (&SENT_BY_TWO, &SENT_BY_TWO, 0, 1, 1, Err(1)),
+    (&ONE_PLACE, &ONE_PLACE, 0, 2, 1, Err(0)),
+    (&ONE_PLACE, &ONE_PLACE, 1, 2, 1, Ok(())),
+    (&BEHIND, &BEHIND, 0, 1, 1, Err(1)),
+    (&FALLING, &FALLING, 0, 1, 1, Err(0)),
+    (&SENT_AND_TAKEN, &SENT_TWICE, 0, 2, 1, Err(1)),
+];
+
+/// The node says of the transcripts what it is to say.
+fn is_said(alloc: Global, case: &Case) -> Result<(), Fail> {
+    let (held, _) = played(alloc, case.0)?;
+    is_said_by(alloc, &held, case)
 }
 
-/// What the node says after its calls of the transcripts that others were made with.
-fn verdict_on(
-    alloc: Global,
-    rows: &[Row<'_>],
-    others: &[Row<'_>],
-) -> Result<Result<(), u64>, Fail> {
-    let (held, _) = played(alloc, rows)?;
-    verdict_of(alloc, &held, others)
-}
-
-fn verdict_of(alloc: Global, held: &Held, others: &[Row<'_>]) -> Result<Result<(), u64>, Fail> {
+fn is_said_by(alloc: Global, held: &Held, case: &Case) -> Result<(), Fail> {
+    let (_, others, first, end, node, want) = *case;
     let (_, passes) = played(alloc, others)?;
-    Ok(held.agrees(1, &passes))
-}
-
-/// The last part that was made with the pass at the place.
-fn last_part(alloc: Global, rows: &[Row<'_>], pass: usize) -> Result<String, Fail> {
-    let (_, passes) = played(alloc, rows)?;
-    replied(alloc, passes.get(pass).ok_or("a pass")?)
+    let said = agrees_some(held, node, &passes, first, end);
+    holds("what is said", said == want)
 }
 
 #[test]
 fn two_passes_make_one_journal(rt: HostRuntime) -> Result<(), Fail> {
-    let alloc = rt.alloc();
-    assert_eq!(rt; verdict(alloc, &[], 1, 0, 2)?, Ok(()));
-    assert_eq!(rt; verdict(alloc, &[], 2, 0, 2)?, Err(0));
-    let rows = [(Its, 0, Takes(REGISTER), 0), (Its, 1, ByEndpoint("a"), 1)];
-    assert_eq!(rt; verdict(alloc, &rows, 1, 0, 2)?, Ok(()));
-    assert_eq!(rt; verdict(alloc, &rows, 2, 0, 2)?, Err(0));
-    let text = last_part(alloc, &rows, 1)?;
-    assert_eq!(rt;
-        text.as_str(),
-        "1 1 a 0000000000010001 127.0.0.1:5683 0 86400 U false </>"
-    );
+    for case in &WHOLE {
+        is_said(rt.alloc(), case)?;
+    }
     Ok(())
 }
 
 #[test]
-fn a_pass_that_is_left_out_fails(rt: HostRuntime) -> Result<(), Fail> {
-    let rows = [(Its, 0, Sends(0), 0), (Its, 1, Sends(0), 1)];
-    assert_eq!(rt; verdict(rt.alloc(), &rows, 1, 1, 2)?, Err(0));
-    assert_eq!(rt; verdict(rt.alloc(), &rows, 1, 0, 1)?, Err(1));
-    Ok(())
-}
-
-/// A pass has the place of another's call, with an entry of another node.
-#[test]
-fn two_parts_for_one_place_fail(rt: HostRuntime) -> Result<(), Fail> {
-    let rows = [(Anothers, 0, Sends(0), 0), (Its, 1, Sends(0), 0)];
-    assert_eq!(rt; verdict(rt.alloc(), &rows, 1, 0, 2)?, Err(0));
-    assert_eq!(rt; verdict(rt.alloc(), &rows, 1, 1, 2)?, Ok(()));
+fn other_transcripts_fail(rt: HostRuntime) -> Result<(), Fail> {
+    for case in &ASTRAY {
+        is_said(rt.alloc(), case)?;
+    }
     Ok(())
 }
 
 #[test]
-fn a_part_behind_the_journal_fails(rt: HostRuntime) -> Result<(), Fail> {
-    let rows = [(Anothers, 1, Sends(0), 0), (Anothers, 0, Sends(0), 1)];
-    assert_eq!(rt; verdict(rt.alloc(), &rows, 1, 0, 1)?, Err(1));
-    Ok(())
-}
-
-/// What is at place 0 of one node comes behind what is at place 1 of another.
-#[test]
-fn parts_that_fall_fail(rt: HostRuntime) -> Result<(), Fail> {
-    let rows = [
-        (Anothers, 1, Sends(0), 0),
-        (Anothers, 0, Sends(0), 1),
-        (Its, 0, Sends(0), 0),
-    ];
-    assert_eq!(rt; verdict(rt.alloc(), &rows, 1, 0, 1)?, Err(0));
-    Ok(())
-}
-
-/// The entry at a place is another, though number, pass and place are the same.
-#[test]
-fn another_entry_at_the_place_fails(rt: HostRuntime) -> Result<(), Fail> {
-    let alloc = rt.alloc();
-    let sent = [(Its, 0, Sends(0), 0), (Its, 0, Sends(0), 1)];
-    let taken = [(Its, 0, Sends(0), 0), (Its, 0, Takes(REGISTER), 1)];
-    assert_eq!(rt; verdict_on(alloc, &sent[..1], &taken[..1])?, Ok(()));
-    assert_eq!(rt; verdict_on(alloc, &taken, &sent)?, Err(1));
-    assert_eq!(rt; verdict_on(alloc, &taken, &taken)?, Ok(()));
-    Ok(())
+fn a_pass_reads_what_another_wrote(rt: HostRuntime) -> Result<(), Fail> {
+    let (_, passes) = played(rt.alloc(), &REGISTERED)?;
+    part_is(
+        rt.alloc(),
+        &passes,
+        1,
+        "1 1 a 0000000000010001 127.0.0.1:5683 0 86400 U false </>",
+    )
 }

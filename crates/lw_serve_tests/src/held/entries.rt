@@ -2,78 +2,84 @@
 
 use super::*;
 
+/// The replies to two Registers in a row at node 1, of which the second has another identifier.
+const REPLIES: [&str; 2] = [
+    "604100048272640d0330303030303030303030303130303031",
+    "604100048272640d0330303030303030303030303230303031",
+];
+
 #[test]
 fn a_step_gives_the_entry_and_its_place(rt: HostRuntime) -> Result<(), Fail> {
     let mut held = Held::new(rt.alloc(), 1);
-    let first = register_text(rt.alloc(), &mut held)?;
-    assert_eq!(rt; first.as_str(), FIRST);
-    // the second Register has another identifier
-    let second = register_text(rt.alloc(), &mut held)?;
-    assert_eq!(rt; second.as_str(), SECOND);
+    let register = take(rt.alloc(), REGISTER)?;
+    enters_all(rt.alloc(), &mut held, &register)
+}
+
+/// Makes the call once for each of the replies.
+fn enters_all(alloc: Global, held: &mut Held, call: &Call) -> Result<(), Fail> {
+    for (place, reply) in REPLIES.iter().enumerate() {
+        enters(alloc, held, call, place as u64, reply)?;
+    }
     Ok(())
 }
 
-fn register_text(alloc: Global, held: &mut Held) -> Result<String, Fail> {
-    let register = take(alloc, REGISTER)?;
-    step_text(alloc, held, &register)
+/// An entry with its place, or none.
+type Made = Result<(Entry, u64), NoMemory>;
+
+/// Makes the call as pass 7 and number 3, which gives the entry and the place.
+fn enters(
+    alloc: Global,
+    held: &mut Held,
+    call: &Call,
+    place: u64,
+    reply: &str,
+) -> Result<(), Fail> {
+    let made = held.step(7, 3, call);
+    is_made(alloc, &made, call, place, reply)
 }
 
-/// Pass, number and place of the first Register at node 1, and its reply.
-const FIRST: &str = "7 3 0 604100048272640d0330303030303030303030303130303031";
-
-/// The same of the second.
-const SECOND: &str = "7 3 1 604100048272640d0330303030303030303030303230303031";
-
-/// The entry of a step as pass 7 and number 3, whose call is to be the one that was made, and its place.
-fn step_text(alloc: Global, held: &mut Held, call: &Call) -> Result<String, Fail> {
-    match held.step(7, 3, call) {
-        Ok((entry, place)) => entry_text(alloc, &entry, place, call),
-        Err(NoMemory) => Err("no memory".into()),
-    }
+fn is_made(alloc: Global, made: &Made, call: &Call, place: u64, reply: &str) -> Result<(), Fail> {
+    let Ok((entry, at)) = made else {
+        return Err("no memory".into());
+    };
+    holds("the place", *at == place)?;
+    holds("the call", entry.call.same(call))?;
+    holds("the pass", entry.pass == 7 && entry.number == 3)?;
+    same(reply_text(alloc, &entry.reply)?.as_str(), reply)
 }
 
-fn entry_text(alloc: Global, entry: &Entry, place: u64, call: &Call) -> Result<String, Fail> {
-    if !entry.call.same(call) {
-        return Err("another call".into());
-    }
-    let reply = reply_text(alloc, &entry.reply)?;
-    let (pass, number) = (entry.pass, entry.number);
-    Ok(format!(in alloc; "{pass} {number} {place} {reply}")?)
-}
+/// The sending of all, whose reply is the same again.
+const ALL: Call = Call::Send { since: 0 };
 
-/// A node that sends all gives the same reply again.
+/// A pass, a number and a sending, and whether the entry is that of the sending of all as number 2 of pass 1.
+const SENDINGS: [(u32, u64, Call, bool); 4] = [
+    (1, 2, Call::Send { since: 0 }, true),
+    (2, 2, Call::Send { since: 0 }, false),
+    (1, 3, Call::Send { since: 0 }, false),
+    (1, 2, Call::Send { since: 1 }, false),
+];
+
 #[test]
 fn entries_are_the_same_where_all_parts_are(rt: HostRuntime) -> Result<(), Fail> {
     let mut held = Held::new(rt.alloc(), 1);
-    for (pass, number, since, want) in [
-        (1, 2, 0, true),
-        (2, 2, 0, false),
-        (1, 3, 0, false),
-        (1, 2, 1, false),
-    ] {
-        assert_eq!(rt; sends_the_same(&mut held, pass, number, since)?, want);
-    }
-    Ok(())
+    are_sent(&mut held, &ALL, &SENDINGS)
 }
 
-/// Whether the entry of a sending of all, as number 2 of pass 1, is that of another sending.
-fn sends_the_same(held: &mut Held, pass: u32, number: u64, since: u64) -> Result<bool, Fail> {
-    let other = Call::Send { since };
-    are_the_same(held, &Call::Send { since: 0 }, pass, number, &other)
+fn are_sent(held: &mut Held, all: &Call, sendings: &[(u32, u64, Call, bool)]) -> Result<(), Fail> {
+    for (pass, number, sending, want) in sendings {
+        let are_same = are_the_same(held, all, *pass, *number, sending)?;
+        holds("the same", are_same == *want)?;
+    }
+    Ok(())
 }
 
 /// Two Registers have identifiers of their own.
 #[test]
 fn entries_with_other_replies_differ(rt: HostRuntime) -> Result<(), Fail> {
     let mut held = Held::new(rt.alloc(), 1);
-    assert!(rt; !registers_are_the_same(rt.alloc(), &mut held)?);
-    Ok(())
-}
-
-/// Whether the entry of a Register is that of the same one behind it.
-fn registers_are_the_same(alloc: Global, held: &mut Held) -> Result<bool, Fail> {
-    let register = take(alloc, REGISTER)?;
-    are_the_same(held, &register, 1, 2, &register)
+    let register = take(rt.alloc(), REGISTER)?;
+    let are_same = are_the_same(&mut held, &register, 1, 2, &register)?;
+    holds("another entry", !are_same)
 }
 
 /// Whether the entry of a call, as number 2 of pass 1, is that of the other call behind it.
@@ -83,25 +89,26 @@ fn are_the_same(
     pass: u32,
     number: u64,
     other: &Call,
-) -> Result<bool, Fail> {
-    let first = entry_of(held, 1, 2, call)?;
-    is_next_the_same(held, &first, pass, number, other)
+) -> Result<bool, NoMemory> {
+    let first = held.step(1, 2, call);
+    is_same_again(held, &first, pass, number, other)
 }
 
-fn is_next_the_same(
+/// Whether the entry is that of the call.
+fn is_same_again(
     held: &mut Held,
-    first: &Entry,
+    first: &Made,
     pass: u32,
     number: u64,
     call: &Call,
-) -> Result<bool, Fail> {
-    let second = entry_of(held, pass, number, call)?;
-    Ok(first.same(&second))
+) -> Result<bool, NoMemory> {
+    let second = held.step(pass, number, call);
+    are_equal(first, &second)
 }
 
-fn entry_of(held: &mut Held, pass: u32, number: u64, call: &Call) -> Result<Entry, Fail> {
-    match held.step(pass, number, call) {
-        Ok((entry, _)) => Ok(entry),
-        Err(NoMemory) => Err("no memory".into()),
+fn are_equal(first: &Made, second: &Made) -> Result<bool, NoMemory> {
+    match (first, second) {
+        (Ok((first, _)), Ok((second, _))) => Ok(first.same(second)),
+        _ => Err(NoMemory),
     }
 }

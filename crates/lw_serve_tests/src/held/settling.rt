@@ -85,20 +85,6 @@ fn made<R: Wait>(
     part_is(alloc, passes, pass, want)
 }
 
-/// The last part that was made with the pass is the one.
-fn part_is(alloc: Global, passes: &[Pass], pass: usize, want: &str) -> Result<(), Fail> {
-    let pass = passes.get(pass).ok_or("a pass")?;
-    let text = replied(alloc, pass)?;
-    if text.as_str() != want {
-        return Err(
-            format!(in alloc; "{text} in place of {want}")?
-                .as_str()
-                .into(),
-        );
-    }
-    Ok(())
-}
-
 /// Makes the rows' calls. The first that leaves another part fails.
 fn play<R: Wait>(
     rt: &R,
@@ -116,37 +102,41 @@ fn play<R: Wait>(
     Ok(())
 }
 
-/// What settles the two nodes after some of the calls, and after all: by both passes, by one, by the other, and by none.
-fn settled_by_some<R: Wait>(
+/// From which pass up to which the nodes are to settle, and what comes of it.
+type Case = (usize, usize, Result<Settled, Unsettled>);
+
+/// By all passes, by the first, by the second, and by none.
+const BY_SOME: [Case; 4] = [
+    (0, 2, Ok(Settled)),
+    (0, 1, Err(Unsettled { node: 1, place: 2 })),
+    (1, 2, Err(Unsettled { node: 1, place: 0 })),
+    (1, 1, Err(Unsettled { node: 1, place: 0 })),
+];
+
+/// The nodes settle so by some of the passes.
+fn settle_so<R: Wait>(
     rt: &R,
-    alloc: Global,
-) -> Result<[Result<Settled, Unsettled>; 5], Fail> {
-    let (shelves, mut passes) = set_up(alloc, 2, 2)?;
-    play(rt, alloc, &shelves, &mut passes, &TAKEN)?;
-    let taken = settle(rt, &shelves, &passes);
-    play(rt, alloc, &shelves, &mut passes, &OBSERVED)?;
-    let observed = settle(rt, &shelves, &passes);
-    let by_first = settle_some(rt, &shelves, &passes, 0, 1);
-    let by_second = settle_some(rt, &shelves, &passes, 1, 2);
-    let by_none = settle_some(rt, &shelves, &passes, 1, 1);
-    Ok([taken, observed, by_first, by_second, by_none])
+    shelves: &[Shelf],
+    passes: &[Pass],
+    cases: &[Case],
+) -> Result<(), Fail>
+    requires shelves { AreInOrder shelves.now }
+    requires passes { AreDistinct passes.now }
+{
+    for (first, end, want) in cases {
+        let settled = settle_some(rt, shelves, passes, *first, *end);
+        holds("what settles", settled == *want)?;
+    }
+    Ok(())
 }
 
 #[test]
 fn two_nodes_take_calls_and_settle(rt: HostRuntime) -> Result<(), Fail> {
-    let settled = settled_by_some(&rt, rt.alloc())?;
-    let unsettled = |place: u64| Err(Unsettled { node: 1, place });
-    assert_eq!(rt;
-        settled,
-        [
-            Ok(Settled),
-            Ok(Settled),
-            unsettled(2),
-            unsettled(0),
-            unsettled(0)
-        ]
-    );
-    Ok(())
+    let (shelves, mut passes) = set_up(rt.alloc(), 2, 2)?;
+    play(&rt, rt.alloc(), &shelves, &mut passes, &TAKEN)?;
+    settle_so(&rt, &shelves, &passes, &BY_SOME[..1])?;
+    play(&rt, rt.alloc(), &shelves, &mut passes, &OBSERVED)?;
+    settle_so(&rt, &shelves, &passes, &BY_SOME)
 }
 
 /// Two passes call one node, one after the other.
@@ -181,55 +171,54 @@ fn settle_two<R: Wait>(
     settle(rt, shelves, &[one, other])
 }
 
-/// What settles the node that two passes called: the second alone, the first alone, and the second before the first.
-fn settled_in_turn<R: Wait>(
-    rt: &R,
-    alloc: Global,
-) -> Result<[Result<Settled, Unsettled>; 3], Fail> {
-    let (shelves, mut passes) = set_up(alloc, 1, 2)?;
-    play(rt, alloc, &shelves, &mut passes, &BY_TWO)?;
-    let second_alone = settle_some(rt, &shelves, &passes, 1, 2);
-    let first_alone = settle_some(rt, &shelves, &passes, 0, 1);
-    let (Some(second), Some(first)) = (passes.pop(), passes.pop()) else {
-        return Err("two passes".into());
-    };
-    let turned = settle_two(rt, &shelves, second, first);
-    Ok([second_alone, first_alone, turned])
-}
+/// By each of the two passes alone.
+const ALONE: [Case; 2] = [
+    (1, 2, Err(Unsettled { node: 1, place: 0 })),
+    (0, 1, Err(Unsettled { node: 1, place: 1 })),
+];
 
 #[test]
 fn passes_settle_in_any_order_but_not_alone(rt: HostRuntime) -> Result<(), Fail> {
-    let settled = settled_in_turn(&rt, rt.alloc())?;
-    let unsettled = |place: u64| Err(Unsettled { node: 1, place });
-    assert_eq!(rt; settled, [unsettled(0), unsettled(1), Ok(Settled)]);
-    Ok(())
+    let (shelves, mut passes) = set_up(rt.alloc(), 1, 2)?;
+    play(&rt, rt.alloc(), &shelves, &mut passes, &BY_TWO)?;
+    settle_so(&rt, &shelves, &passes, &ALONE)?;
+    match (passes.pop(), passes.pop()) {
+        (Some(second), Some(first)) => {
+            let settled = settle_two(&rt, &shelves, second, first);
+            holds("the second before the first", settled == Ok(Settled))
+        }
+        _ => Err("two passes".into()),
+    }
 }
 
-/// How many shelves and passes there are, each with its own number and without calls.
-fn counted(alloc: Global, nodes: u16, passes: u32) -> Result<(usize, usize), Fail>
-    requires { (1 ≤ nodes) × (nodes ≤ 16) × (1 ≤ passes) × (passes ≤ 64) }
+/// There are so many shelves and passes, each with its own number and without calls.
+fn are_set_up(alloc: Global, nodes: u16, count: u32) -> Result<(), Fail>
+    requires { (1 ≤ nodes) × (nodes ≤ 16) × (1 ≤ count) × (count ≤ 64) }
 {
-    let Ok((shelves, passes)) = set_up(alloc, nodes, passes) else {
-        return Err("no memory".into());
-    };
+    let (shelves, passes) = set_up(alloc, nodes, count)?;
+    let are_many = shelves.len() == usize::from(nodes) && passes.len() == count as usize;
+    holds("how many", are_many && are_numbered(&shelves, &passes))
+}
+
+/// Nodes are numbered from 1 and passes, which have no calls, from 0.
+fn are_numbered(shelves: &[Shelf], passes: &[Pass]) -> bool {
     for (place, shelf) in shelves.iter().enumerate() {
         if usize::from(shelf.number()) != place.wrapping_add(1) {
-            return Err("nodes from 1".into());
+            return false;
         }
     }
     for (place, pass) in passes.iter().enumerate() {
         if pass.number() as usize != place || pass.len() != 0 || pass.part(0).is_some() {
-            return Err("passes from 0".into());
+            return false;
         }
     }
-    Ok((shelves.len(), passes.len()))
+    true
 }
 
 #[test]
 fn shelves_and_passes_are_set_up(rt: HostRuntime) -> Result<(), Fail> {
-    assert_eq!(rt; counted(rt.alloc(), 1, 1)?, (1, 1));
-    assert_eq!(rt; counted(rt.alloc(), 16, 64)?, (16, 64));
-    Ok(())
+    are_set_up(rt.alloc(), 1, 1)?;
+    are_set_up(rt.alloc(), 16, 64)
 }
 
 /// Of 16 nodes, the third and the last issue identifiers of their own.
@@ -250,9 +239,8 @@ const NUMBERED: [Row<'static>; 2] = [
 
 #[test]
 fn each_node_has_its_own_number(rt: HostRuntime) -> Result<(), Fail> {
-    let alloc = rt.alloc();
-    let (shelves, mut passes) = set_up(alloc, 16, 1)?;
-    play(&rt, alloc, &shelves, &mut passes, &NUMBERED)?;
-    assert_eq!(rt; settle(&rt, &shelves, &passes), Ok(Settled));
-    Ok(())
+    let (shelves, mut passes) = set_up(rt.alloc(), 16, 1)?;
+    play(&rt, rt.alloc(), &shelves, &mut passes, &NUMBERED)?;
+    let settled = settle(&rt, &shelves, &passes);
+    holds("all nodes settle", settled == Ok(Settled))
 }

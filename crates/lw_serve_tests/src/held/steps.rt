@@ -20,26 +20,26 @@ pub(super) enum What<'a> {
 impl What<'_> {
     pub(super) fn made(self, alloc: Global) -> Result<Call, Fail> {
         let now = Moment::START;
-        Ok(match self {
-            What::Takes(datagram) => take(alloc, datagram)?,
-            What::Observes(text, numbers, mid) => Call::Observe {
+        match self {
+            What::Takes(datagram) => take(alloc, datagram),
+            What::Observes(text, numbers, mid) => Ok(Call::Observe {
                 now,
                 id: id(text)?,
                 path: Path::new(numbers).ok_or("a path")?,
                 accept: None,
                 mid,
-            },
-            What::Cancels(text, mid) => Call::Cancel {
+            }),
+            What::Cancels(text, mid) => Ok(Call::Cancel {
                 now,
                 token: id(text)?,
                 mid,
-            },
-            What::Sends(since) => Call::Send { since },
-            What::Merges(delta) => Call::Merge {
+            }),
+            What::Sends(since) => Ok(Call::Send { since }),
+            What::Merges(delta) => Ok(Call::Merge {
                 bytes: bytes(alloc, delta)?,
-            },
-            What::ByEndpoint(endpoint) => ask(alloc, endpoint)?,
-        })
+            }),
+            What::ByEndpoint(endpoint) => ask(alloc, endpoint),
+        }
     }
 }
 
@@ -138,10 +138,7 @@ fn make(
         Whose::Its => step(alloc, held, passes, pass, what)?,
         Whose::Anothers => step(alloc, other, passes, pass, what)?,
     };
-    if place != want {
-        return Err("another place".into());
-    }
-    Ok(())
+    holds("the place", place == want)
 }
 
 /// Whether the transcripts of some passes in a row are the journals.
@@ -179,14 +176,18 @@ pub(super) fn agrees_some(
     held.agrees(node, &passes[first..end])
 }
 
-/// The last part of the transcript: node, place, number and reply.
-pub(super) fn replied(alloc: Global, pass: &Pass) -> Result<String, Fail> {
+/// The last part that was made with the pass at the place has the node, the place and the reply.
+pub(super) fn part_is(alloc: Global, passes: &[Pass], pass: usize, want: &str) -> Result<(), Fail> {
+    let pass = passes.get(pass).ok_or("a pass")?;
     let number = pass.len().checked_sub(1).ok_or("a call")?;
     let part = pass.part(number).ok_or("a part")?;
+    holds("the number", part.entry.number == number)?;
+    holds("the pass", part.entry.pass == pass.number())?;
+    same(part_text(alloc, part)?.as_str(), want)
+}
+
+fn part_text(alloc: Global, part: &Part) -> Result<String, Fail> {
     let reply = reply_text(alloc, &part.entry.reply)?;
     let (node, place) = (part.node, part.place);
-    if part.entry.number != number || part.entry.pass != pass.number() {
-        return Err("the pass's own number".into());
-    }
     Ok(format!(in alloc; "{node} {place} {reply}")?)
 }
