@@ -5,6 +5,7 @@ mod stopping;
 ghost use Rattle.std.specs.Prelude.{◌≤◌};
 
 use crate::calls::{REGISTER, ask, reply_text, take};
+use crate::hold::{holds, same};
 use lw_crew::{CrewFault, Done, Gate, Job, NoGate, Outcome, Pass, Shelf, gather, serve_jobs};
 use lw_held::{Settled, Unsettled, set_up, settle};
 use std::alloc::Global;
@@ -12,12 +13,16 @@ use std::sync::Wait;
 use std::test::Fail;
 use std::thread::Threads;
 
+fn register_at(alloc: Global, node: u16) -> Result<Job, Fail> {
+    let call = take(alloc, REGISTER)?;
+    Ok(Job { node, call })
+}
+
 /// The Register at each of the nodes.
 fn registers(alloc: Global, nodes: &[u16]) -> Result<Vec<Job>, Fail> {
     let mut jobs = Vec::new(alloc);
     for node in nodes {
-        let call = take(alloc, REGISTER)?;
-        jobs.push(Job { node: *node, call })?;
+        jobs.push(register_at(alloc, *node)?)?;
     }
     Ok(jobs)
 }
@@ -38,18 +43,33 @@ fn played<R: Threads + Wait + Sync, G: Gate>(
     let (shelves, passes) = set_up(alloc, nodes, workers)?;
     let (passes, result) = serve_jobs(rt, alloc, &shelves, passes, &jobs, gate);
     let settled = settle(rt, &shelves, &passes);
-    told(alloc, &passes, result, settled)
+    told(alloc, &passes, &result, settled)
+}
+
+/// The lines are these.
+fn is_played<R: Threads + Wait + Sync, G: Gate>(
+    rt: &R,
+    alloc: Global,
+    nodes: u16,
+    workers: u32,
+    at: &[u16],
+    gate: &G,
+    want: &str,
+) -> Result<(), Fail>
+    requires { (1 ≤ nodes) × (nodes ≤ 16) × (1 ≤ workers) × (workers ≤ 8) }
+{
+    same(played(rt, alloc, nodes, workers, at, gate)?.as_str(), want)
 }
 
 /// What came of the jobs, and a last line of the passes.
 fn told(
     alloc: Global,
     passes: &[Pass],
-    done: Result<Vec<Done>, CrewFault>,
+    done: &Result<Vec<Done>, CrewFault>,
     settled: Result<Settled, Unsettled>,
 ) -> Result<String, Fail> {
     let text = match done {
-        Ok(dones) => texts_of(alloc, passes, &dones)?,
+        Ok(dones) => texts_of(alloc, passes, dones)?,
         Err(fault) => format!(in alloc; "{fault:?}\n")?,
     };
     let (count, parts) = (passes.len(), parts_of(passes));

@@ -67,61 +67,66 @@ impl<'a, C: Clock + Sync> Meeting<'a, C> {
 #[test]
 fn two_nodes_are_called_at_once(rt: HostRuntime) -> Result<(), Fail> {
     let gate = Meeting::new(&rt);
-    let text = played(&rt, rt.alloc(), 2, 2, &[1, 2], &gate)?;
-    assert_eq!(rt; gate.counts(), (0, 1, 1));
-    assert_eq!(rt;
-        text.as_str(),
+    is_played(
+        &rt,
+        rt.alloc(),
+        2,
+        2,
+        &[1, 2],
+        &gate,
         "0: 1 0 604100048272640d0330303030303030303030303130303031\n\
          1: 2 0 604100048272640d0330303030303030303030303130303032\n\
-         2 passes, 2 parts, Ok(Settled)"
-    );
-    Ok(())
+         2 passes, 2 parts, Ok(Settled)",
+    )?;
+    holds("both at once", gate.counts() == (0, 1, 1))
 }
 
-/// Has a node take the Register, and asks it for `a` with the pass that made the call: what is shown. The transcripts do
-/// not settle without that pass.
-fn read_back<R: Threads + Wait + Sync>(rt: &R, alloc: Global) -> Result<String, Fail> {
-    let jobs = registers(alloc, &[1])?;
-    let (shelves, passes) = set_up(alloc, 2, 1)?;
-    let (mut passes, result) = serve_jobs(rt, alloc, &shelves, passes, &jobs, &NoGate);
-    if result.is_err() || settle(rt, &shelves, &[]).is_ok() {
-        return Err("a call that only its pass tells of".into());
-    }
+/// A node takes the Register, and is asked with the pass that made the call. The transcripts do not settle without that
+/// pass.
+#[test]
+fn a_pass_reads_back_what_it_wrote(rt: HostRuntime) -> Result<(), Fail> {
+    let jobs = registers(rt.alloc(), &[1])?;
+    let (shelves, passes) = set_up(rt.alloc(), 2, 1)?;
+    let (mut passes, result) = serve_jobs(&rt, rt.alloc(), &shelves, passes, &jobs, &NoGate);
+    let without = settle(&rt, &shelves, &[]);
+    holds("a call of a pass", result.is_ok() && without.is_err())?;
     match (shelves.first(), passes.first_mut()) {
-        (Some(shelf), Some(pass)) => asked(rt, alloc, shelf, pass),
+        (Some(shelf), Some(pass)) => shows(&rt, rt.alloc(), shelf, pass),
         _ => Err("a shelf and a pass".into()),
     }
 }
 
-/// Asks the node for `a` with the pass, and gives what is shown.
-fn asked<R: Wait>(rt: &R, alloc: Global, shelf: &Shelf, pass: &mut Pass) -> Result<String, Fail> {
-    shelf.call(rt, &NoGate, pass, &ask(alloc, "a")?)?;
-    let last = pass.len().checked_sub(1).ok_or("a call")?;
-    reply_text(alloc, &pass.part(last).ok_or("a part")?.entry.reply)
+fn asked<R: Wait>(rt: &R, alloc: Global, shelf: &Shelf, pass: &mut Pass) -> Result<u64, Fail> {
+    let call = ask(alloc, "a")?;
+    Ok(shelf.call(rt, &NoGate, pass, &call)?)
 }
 
-#[test]
-fn a_pass_reads_back_what_it_wrote(rt: HostRuntime) -> Result<(), Fail> {
-    let shown = read_back(&rt, rt.alloc())?;
-    assert_eq!(rt;
-        shown.as_str(),
-        "a 0000000000010001 127.0.0.1:5683 0 86400 U false </>"
-    );
-    Ok(())
+/// Asks the node for `a` with the pass, which is shown.
+fn shows<R: Wait>(rt: &R, alloc: Global, shelf: &Shelf, pass: &mut Pass) -> Result<(), Fail> {
+    asked(rt, alloc, shelf, pass)?;
+    let last = pass.len().checked_sub(1).ok_or("a call")?;
+    let part = pass.part(last).ok_or("a part")?;
+    same(
+        reply_text(alloc, &part.entry.reply)?.as_str(),
+        "a 0000000000010001 127.0.0.1:5683 0 86400 U false </>",
+    )
 }
 
 #[test]
 fn a_node_without_shelf_is_told(rt: HostRuntime) -> Result<(), Fail> {
-    let text = played(&rt, rt.alloc(), 2, 1, &[3, 0, 65535, 1], &NoGate)?;
-    assert_eq!(rt;
-        text.as_str(),
+    is_played(
+        &rt,
+        rt.alloc(),
+        2,
+        1,
+        &[3, 0, 65535, 1],
+        &NoGate,
         "0: NoSuchNode\n\
          1: NoSuchNode\n\
          2: NoSuchNode\n\
          3: 1 0 604100048272640d0330303030303030303030303130303031\n\
-         1 passes, 1 parts, Ok(Settled)"
-    );
-    Ok(())
+         1 passes, 1 parts, Ok(Settled)",
+    )
 }
 
 /// Counts the jobs that start, each of which is to be the next one, and of the first worker.
@@ -150,17 +155,20 @@ fn one_worker_does_the_jobs_in_order(rt: HostRuntime) -> Result<(), Fail> {
         next: AtomicU64::new(0),
         astray: AtomicU64::new(0),
     };
-    let text = played(&rt, rt.alloc(), 3, 1, &[3, 1, 3], &gate)?;
-    assert_eq!(rt; gate.next.load(Ordering::SeqCst), 3);
-    assert_eq!(rt; gate.astray.load(Ordering::SeqCst), 0);
-    assert_eq!(rt;
-        text.as_str(),
+    is_played(
+        &rt,
+        rt.alloc(),
+        3,
+        1,
+        &[3, 1, 3],
+        &gate,
         "0: 3 0 604100048272640d0330303030303030303030303130303033\n\
          1: 1 0 604100048272640d0330303030303030303030303130303031\n\
          2: 3 1 604100048272640d0330303030303030303030303230303033\n\
-         1 passes, 3 parts, Ok(Settled)"
-    );
-    Ok(())
+         1 passes, 3 parts, Ok(Settled)",
+    )?;
+    holds("three jobs", gate.next.load(Ordering::SeqCst) == 3)?;
+    holds("in order", gate.astray.load(Ordering::SeqCst) == 0)
 }
 
 /// Each node from 1 to 16, twenty times over.
@@ -172,39 +180,38 @@ fn all_nodes(alloc: Global) -> Result<Vec<u16>, Fail> {
     Ok(nodes)
 }
 
-/// Whether the line is of a 2.01 of the node: an identifier ends in the number of its node.
-fn is_of_node(alloc: Global, line: &str, node: u16) -> Result<bool, Fail> {
+/// The line is of a 2.01 of the node: an identifier ends in the number of its node.
+fn is_of_node(alloc: Global, line: &str, node: u16) -> Result<(), Fail> {
     let number = format!(in alloc; "{node:04x}")?;
-    let (at, end) = (
-        format!(in alloc; ": {node} ")?,
-        hex::encode(alloc, number.as_bytes())?,
-    );
-    Ok(line.contains(at.as_str()) && line.ends_with(end.as_str()))
+    ends_in(alloc, line, number.as_str())?;
+    let at = format!(in alloc; ": {node} ")?;
+    holds("the node", line.contains(at.as_str()))
 }
 
-/// How many of the lines are of their nodes.
-fn count_of_nodes(alloc: Global, text: &str, nodes: &[u16]) -> Result<u32, Fail> {
-    let mut count = 0_u32;
+/// The bytes at the end of the line are the text.
+fn ends_in(alloc: Global, line: &str, text: &str) -> Result<(), Fail> {
+    let end = hex::encode(alloc, text.as_bytes())?;
+    holds("the identifier", line.ends_with(end.as_str()))
+}
+
+/// There is a line for each of the nodes and one for the passes.
+fn are_of_nodes(alloc: Global, text: &str, nodes: &[u16]) -> Result<(), Fail> {
     for (line, node) in text.lines().zip(nodes) {
-        if is_of_node(alloc, line, *node)? {
-            count = count.saturating_add(1);
-        }
+        is_of_node(alloc, line, *node)?;
     }
-    Ok(count)
+    holds("a line for each node", text.lines().count() == 321)?;
+    holds("all", text.ends_with("\n8 passes, 320 parts, Ok(Settled)"))
 }
 
 #[test]
 fn many_jobs_are_done_by_all_workers(rt: HostRuntime) -> Result<(), Fail> {
     let nodes = all_nodes(rt.alloc())?;
     let text = played(&rt, rt.alloc(), 16, 8, &nodes, &NoGate)?;
-    assert_eq!(rt; count_of_nodes(rt.alloc(), &text, &nodes)?, 320);
-    assert!(rt; text.ends_with("\n8 passes, 320 parts, Ok(Settled)"));
-    Ok(())
+    are_of_nodes(rt.alloc(), &text, &nodes)
 }
 
 #[test]
 fn no_jobs_are_done(rt: HostRuntime) -> Result<(), Fail> {
-    let text = played(&rt, rt.alloc(), 1, 3, &[], &NoGate)?;
-    assert_eq!(rt; text.as_str(), "3 passes, 0 parts, Ok(Settled)");
-    Ok(())
+    let want = "3 passes, 0 parts, Ok(Settled)";
+    is_played(&rt, rt.alloc(), 1, 3, &[], &NoGate, want)
 }

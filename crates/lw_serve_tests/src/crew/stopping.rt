@@ -18,25 +18,14 @@ impl Gate for Refuses {
 
 #[test]
 fn a_stopped_worker_leaves_its_job(rt: HostRuntime) -> Result<(), Fail> {
-    let text = played(&rt, rt.alloc(), 1, 2, &[1, 1], &Refuses(0))?;
-    assert_eq!(rt;
-        text.as_str(),
-        "Missing { job: 0 }\n2 passes, 1 parts, Ok(Settled)"
-    );
-    Ok(())
+    let want = "Missing { job: 0 }\n2 passes, 1 parts, Ok(Settled)";
+    is_played(&rt, rt.alloc(), 1, 2, &[1, 1], &Refuses(0), want)
 }
 
 #[test]
 fn one_stopped_worker_leaves_what_comes_behind(rt: HostRuntime) -> Result<(), Fail> {
-    let none = played(&rt, rt.alloc(), 1, 1, &[1, 1], &Refuses(0))?;
-    assert_eq!(rt;
-        none.as_str(),
-        "Missing { job: 0 }\n1 passes, 0 parts, Ok(Settled)"
-    );
-    let two = played(&rt, rt.alloc(), 1, 1, &[1, 1, 1], &Refuses(2))?;
-    assert_eq!(rt;
-        two.as_str(),
-        "Missing { job: 2 }\n1 passes, 2 parts, Ok(Settled)"
-    );
-    Ok(())
+    let none = "Missing { job: 0 }\n1 passes, 0 parts, Ok(Settled)";
+    is_played(&rt, rt.alloc(), 1, 1, &[1, 1], &Refuses(0), none)?;
+    let two = "Missing { job: 2 }\n1 passes, 2 parts, Ok(Settled)";
+    is_played(&rt, rt.alloc(), 1, 1, &[1, 1, 1], &Refuses(2), two)
 }
