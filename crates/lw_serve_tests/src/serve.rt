@@ -3,15 +3,16 @@ mod udp;
 mod wire;
 
 use crate::calls::{CREATED, REGISTER};
+use crate::hold::{holds, same};
 use lw_reg::Addr;
 use lw_serve::{HostClock, Plan, ServeFault, SystemClock, UdpWire, Wire, WireFault, serve_on};
 use lw_stamp::Moment;
 use std::alloc::Global;
 use std::test::Fail;
-use wire::{Arrival, Coming, FewWrites, MemoryWire, Ticks, bytes, run, served};
+use wire::{Arrival, Coming, FewWrites, MemoryWire, Ticks, bytes, is_served, run};
 
 /// An empty message, message ID 7.
-const PING: &str = "40000007";
+const PING: &[u8] = &[0x40, 0, 0, 7];
 
 /// A Register of `b` with the object list `</>`, message ID 5.
 const OTHER_REGISTER: &str = "40020005b272644465703d62ff3c2f3e";

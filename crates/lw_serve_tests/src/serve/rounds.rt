@@ -15,44 +15,41 @@ fn alone(bytes: &[u8]) -> Arrival<'_> {
     }
 }
 
-/// Serves one Register at one node, over a wire that fails so many times before.
+/// Serves one datagram at one node, over a wire that fails so many times before.
 fn run_behind_faults<R: Threads + Wait + Sync>(
     rt: &R,
     alloc: Global,
+    datagram: &[u8],
     faults: u32,
     send_fails: bool,
-) -> Result<String, Fail> {
-    let register = bytes(alloc, REGISTER)?;
-    let arrivals = [alone(&register)];
+    want: &str,
+) -> Result<(), Fail> {
+    let arrivals = [alone(datagram)];
     let mut wire = MemoryWire::new(alloc, &arrivals);
     wire.faults = faults;
     wire.send_fails = send_fails;
-    served(rt, wire, 1, 1)
+    is_served(rt, &mut wire, 1, 1, want)
 }
 
-#[test]
-fn faults_are_passed_over(rt: HostRuntime) -> Result<(), Fail> {
-    let text = run_behind_faults(&rt, rt.alloc(), 999, false)?;
-    assert_eq!(rt;
-        text.as_str(),
+/// How often a wire fails and whether its sending fails, and what comes of the run. A thousand faults end it.
+const FAULTS: [(u32, bool, &str); 3] = [
+    (
+        999,
+        false,
         "Ok(()) 1 999 999 0\n\
          settled\n\
-         5683 604100048272640d0330303030303030303030303130303031\n"
-    );
-    Ok(())
-}
+         5683 604100048272640d0330303030303030303030303130303031\n",
+    ),
+    (1000, false, "Err(ReceiveFailed) 0 999 999 0\n"),
+    (0, true, "Ok(()) 1 1 0 1\nsettled\n"),
+];
 
 #[test]
-fn a_thousand_faults_end_a_run(rt: HostRuntime) -> Result<(), Fail> {
-    let text = run_behind_faults(&rt, rt.alloc(), 1000, false)?;
-    assert_eq!(rt; text.as_str(), "Err(ReceiveFailed) 0 999 999 0\n");
-    Ok(())
-}
-
-#[test]
-fn a_failed_send_is_logged(rt: HostRuntime) -> Result<(), Fail> {
-    let text = run_behind_faults(&rt, rt.alloc(), 0, true)?;
-    assert_eq!(rt; text.as_str(), "Ok(()) 1 1 0 1\nsettled\n");
+fn faults_of_a_wire_are_passed_over(rt: HostRuntime) -> Result<(), Fail> {
+    let register = bytes(rt.alloc(), REGISTER)?;
+    for (faults, send_fails, want) in FAULTS {
+        run_behind_faults(&rt, rt.alloc(), &register, faults, send_fails, want)?;
+    }
     Ok(())
 }
 
@@ -73,97 +70,100 @@ fn run_by<R: Threads + Wait + Sync>(
     }
 }
 
-/// How the run of one datagram ends, by a clock that gives this and with a writer of so much room, and what was written.
-fn ended_by<R: Threads + Wait + Sync>(
+/// What a clock gives, how much room a writer has, and whether its writes and its flushes fail; and how the run ends and
+/// what was written.
+const ENDS: [(Option<Moment>, usize, bool, bool, &str); 6] = [
+    (None, 8, false, false, "Err(ClockRefused) "),
+    (Some(Moment::START), 8, false, false, "Ok(()) settled\n"),
+    (
+        Some(Moment::START),
+        7,
+        false,
+        false,
+        "Err(WriteFailed) settled",
+    ),
+    (Some(Moment::START), 4, true, false, "Err(WriteFailed) sett"),
+    (Some(Moment::START), 0, false, false, "Err(WriteFailed) "),
+    (
+        Some(Moment::START),
+        8,
+        false,
+        true,
+        "Err(WriteFailed) settled\n",
+    ),
+];
+
+/// The run of one datagram ends so, by a clock that gives this and with the writer.
+fn ends_so<R: Threads + Wait + Sync>(
     rt: &R,
     alloc: Global,
-    datagram: &str,
+    datagram: &[u8],
     now: Option<Moment>,
-    room: usize,
-    fails: bool,
-    flush_fails: bool,
-) -> Result<String, Fail> {
-    let datagram = bytes(alloc, datagram)?;
-    let mut writer = FewWrites {
-        taken: Vec::new(alloc),
-        room,
-        fails,
-        flush_fails,
-    };
-    let ended = run_by(rt, alloc, &datagram, now, &mut writer);
+    writer: &mut FewWrites,
+    want: &str,
+) -> Result<(), Fail> {
+    let ended = run_by(rt, alloc, datagram, now, writer);
     let written = str::from_utf8(&writer.taken)?;
-    Ok(format!(in alloc; "{ended:?} {written}")?)
+    same(format!(in alloc; "{ended:?} {written}")?.as_str(), want)
 }
 
 #[test]
-fn a_clock_without_a_moment_ends_a_run(rt: HostRuntime) -> Result<(), Fail> {
-    let text = ended_by(&rt, rt.alloc(), REGISTER, None, 8, false, false)?;
-    assert_eq!(rt; text.as_str(), "Err(ClockRefused) ");
-    Ok(())
-}
-
-#[test]
-fn a_writer_that_fails_is_told(rt: HostRuntime) -> Result<(), Fail> {
-    for (room, fails, flush_fails, want) in [
-        (8, false, false, "Ok(()) settled\n"),
-        (7, false, false, "Err(WriteFailed) settled"),
-        (4, true, false, "Err(WriteFailed) sett"),
-        (0, false, false, "Err(WriteFailed) "),
-        (8, false, true, "Err(WriteFailed) settled\n"),
-    ] {
-        let now = Some(Moment::START);
-        let text = ended_by(&rt, rt.alloc(), PING, now, room, fails, flush_fails)?;
-        assert_eq!(rt; text.as_str(), want);
+fn a_clock_and_a_writer_that_fail_are_told(rt: HostRuntime) -> Result<(), Fail> {
+    for (now, room, fails, flush_fails, want) in ENDS {
+        let mut writer = FewWrites {
+            taken: Vec::new(rt.alloc()),
+            room,
+            fails,
+            flush_fails,
+        };
+        ends_so(&rt, rt.alloc(), PING, now, &mut writer, want)?;
     }
     Ok(())
 }
 
 /// Serves a datagram of 8,193 bytes with message ID 0x99.
-fn run_too_long<R: Threads + Wait + Sync>(rt: &R, alloc: Global) -> Result<String, Fail> {
-    let mut long = vec![in alloc; 0x41; 8_193]?;
-    long[..4].copy_from_slice(&[0x40, 0x02, 0x00, 0x99]);
-    let arrivals = [alone(&long)];
-    served(rt, MemoryWire::new(alloc, &arrivals), 1, 1)
-}
-
 #[test]
 fn a_datagram_that_is_too_long(rt: HostRuntime) -> Result<(), Fail> {
-    let text = run_too_long(&rt, rt.alloc())?;
-    assert_eq!(rt; text.as_str(), "Ok(()) 1 0 0 0\nsettled\n5683 70000099\n");
-    Ok(())
+    let mut long = vec![in rt.alloc(); 0x41; 8_193]?;
+    long[..4].copy_from_slice(&[0x40, 0x02, 0x00, 0x99]);
+    let want = "Ok(()) 1 0 0 0\nsettled\n5683 70000099\n";
+    run_behind_faults(&rt, rt.alloc(), &long, 0, false, want)
 }
 
 /// Serves a Register at each of two nodes, of which the second comes in one way or another.
 fn run_two<R: Threads + Wait + Sync>(
     rt: &R,
     alloc: Global,
+    registers: &[Vec<u8>; 2],
     coming: Coming,
-) -> Result<String, Fail> {
-    let first = bytes(alloc, REGISTER)?;
-    let second = bytes(alloc, OTHER_REGISTER)?;
+    want: &str,
+) -> Result<(), Fail> {
+    let [first, second] = registers;
     let arrivals = [
         Arrival {
             port: 56832,
-            bytes: &first,
+            bytes: first,
             coming: Coming::Alone,
         },
         Arrival {
             port: 56833,
-            bytes: &second,
+            bytes: second,
             coming,
         },
     ];
-    served(rt, MemoryWire::new(alloc, &arrivals), 2, 2)
+    is_served(rt, &mut MemoryWire::new(alloc, &arrivals), 2, 2, want)
 }
 
 #[test]
 fn nodes_tell_each_other_between_rounds(rt: HostRuntime) -> Result<(), Fail> {
+    let first = bytes(rt.alloc(), REGISTER)?;
+    let registers = [first, bytes(rt.alloc(), OTHER_REGISTER)?];
     for (coming, want) in [
         (Coming::Alone, TOLD),
         (Coming::BehindFault, TOLD),
         (Coming::AtOnce, UNTOLD),
     ] {
-        assert_eq!(rt; run_two(&rt, rt.alloc(), coming)?.as_str(), want);
+        run_two(&rt, rt.alloc(), &registers, coming, want)?;
     }
     Ok(())
 }
@@ -195,25 +195,31 @@ fn many<'a>(alloc: Global, ping: &'a [u8], nothing: &'a [u8]) -> Result<Vec<Arri
     Ok(arrivals)
 }
 
-/// Serves so many of eighty datagrams: how many were taken, how many replies were sent, and what came of the run.
-fn run_some<R: Threads + Wait + Sync>(rt: &R, alloc: Global, count: u32) -> Result<String, Fail> {
-    let (ping, nothing) = ([0x40, 0, 0, 7], [0x80, 0, 0, 7]);
-    let arrivals = many(alloc, &ping, &nothing)?;
-    let mut wire = MemoryWire::new(alloc, &arrivals);
-    let ran = run(rt, &mut wire, count, 1, 1)?;
-    let (taken, sent) = (wire.taken, wire.sent.len());
-    Ok(format!(in alloc; "{taken} {sent} {ran}")?)
+/// Serves so many of the datagrams, of which all are taken and so many have a reply.
+fn run_some<R: Threads + Wait + Sync>(
+    rt: &R,
+    wire: &mut MemoryWire<'_>,
+    count: u32,
+    replies: usize,
+    want: &str,
+) -> Result<(), Fail> {
+    let ran = run(rt, wire, count, 1, 1)?;
+    let are_taken = wire.taken == count as usize && wire.sent.len() == replies;
+    holds("what is taken and sent", are_taken)?;
+    same(ran.as_str(), want)
 }
 
 #[test]
 fn no_more_is_taken_than_asked_for(rt: HostRuntime) -> Result<(), Fail> {
-    for (count, want) in [
-        (1, "1 1 Ok(()) 1 0 0 0\nsettled\n"),
-        (32, "32 16 Ok(()) 1 0 0 0\nsettled\n"),
-        (33, "33 17 Ok(()) 2 0 0 0\nsettled\n"),
-        (70, "70 35 Ok(()) 3 0 0 0\nsettled\n"),
+    let arrivals = many(rt.alloc(), PING, &[0x80, 0, 0, 7])?;
+    for (count, replies, want) in [
+        (1, 1, "Ok(()) 1 0 0 0\nsettled\n"),
+        (32, 16, "Ok(()) 1 0 0 0\nsettled\n"),
+        (33, 17, "Ok(()) 2 0 0 0\nsettled\n"),
+        (70, 35, "Ok(()) 3 0 0 0\nsettled\n"),
     ] {
-        assert_eq!(rt; run_some(&rt, rt.alloc(), count)?.as_str(), want);
+        let mut wire = MemoryWire::new(rt.alloc(), &arrivals);
+        run_some(&rt, &mut wire, count, replies, want)?;
     }
     Ok(())
 }
@@ -293,7 +299,6 @@ fn run_all<R: Threads + Wait + Sync>(
 fn every_request_has_its_reply(rt: HostRuntime) -> Result<(), Fail> {
     let datagrams = registers(rt.alloc())?;
     let text = run_all(&rt, rt.alloc(), &datagrams)?;
-    assert!(rt; text.starts_with("400 400 Ok(()) "), "{text}");
-    assert!(rt; text.ends_with("\nsettled\n"), "{text}");
-    Ok(())
+    let are_sent = text.starts_with("400 400 Ok(()) ") && text.ends_with("\nsettled\n");
+    holds(text.as_str(), are_sent)
 }

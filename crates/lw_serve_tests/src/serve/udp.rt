@@ -15,17 +15,23 @@ fn socket_at<R: Net>(rt: &R, alloc: Global, port: u16) -> Result<UdpSocket, Fail
     Ok(socket)
 }
 
-/// Sends a datagram from the port to the server, and gives the reply in hex.
-fn ask<R: Net>(rt: &R, alloc: Global, port: u16, datagram: &str) -> Result<String, Fail> {
+/// A datagram that comes from the port has the reply.
+fn is_answered<R: Net>(
+    rt: &R,
+    alloc: Global,
+    port: u16,
+    datagram: &str,
+    reply: &str,
+) -> Result<(), Fail> {
     let datagram = bytes(alloc, datagram)?;
-    ask_from(alloc, &socket_at(rt, alloc, port)?, &datagram)
+    is_reply(alloc, &socket_at(rt, alloc, port)?, &datagram, reply)
 }
 
-fn ask_from(alloc: Global, socket: &UdpSocket, datagram: &[u8]) -> Result<String, Fail> {
+fn is_reply(alloc: Global, socket: &UdpSocket, datagram: &[u8], reply: &str) -> Result<(), Fail> {
     socket.send_to(datagram, "127.0.0.1:56831")?;
     let mut buffer = [0; 100];
     let (length, _from) = socket.recv_from(&mut buffer)?;
-    Ok(hex::encode(alloc, &buffer[..length])?)
+    same(hex::encode(alloc, &buffer[..length])?.as_str(), reply)
 }
 
 /// Serves over the socket: how the run ended, and what was written.
@@ -55,13 +61,9 @@ fn two_clients_at_two_nodes(rt: HostRuntime) -> Result<(), Fail> {
     let plan = Plan::new(2, 2, 1).ok_or("a plan")?;
     let socket = UdpSocket::bind(&rt, "127.0.0.1:56831")?;
     let server = thread::spawn(&rt, move || serve_over(&rt, rt.alloc(), socket, &plan))?;
-    assert_eq!(rt; ask(&rt, rt.alloc(), 56832, REGISTER)?.as_str(), CREATED);
-    assert_eq!(rt;
-        ask(&rt, rt.alloc(), 56833, OTHER_REGISTER)?.as_str(),
-        CREATED_SECOND
-    );
+    is_answered(&rt, rt.alloc(), 56832, REGISTER, CREATED)?;
+    is_answered(&rt, rt.alloc(), 56833, OTHER_REGISTER, CREATED_SECOND)?;
     let (ended, written) = server.join(&rt);
-    assert_eq!(rt; ended, Ok(()));
-    assert_eq!(rt; written.as_slice(), b"settled\n".as_slice());
-    Ok(())
+    let is_settled = ended == Ok(()) && written.as_slice() == b"settled\n".as_slice();
+    holds("how the run ended", is_settled)
 }

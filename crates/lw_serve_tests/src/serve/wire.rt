@@ -169,11 +169,10 @@ fn told(
     logged: &[String],
     rounds: u32,
 ) -> Result<String, Fail> {
-    let (count, received) = (logged.len(), warnings(logged, "receive passed over"));
-    let (sent, text) = (
-        warnings(logged, "send passed over"),
-        str::from_utf8(written)?,
-    );
+    let count = logged.len();
+    let received = warnings(logged, "receive passed over");
+    let sent = warnings(logged, "send passed over");
+    let text = str::from_utf8(written)?;
     Ok(format!(in alloc; "{ended:?} {rounds} {count} {received} {sent}\n{text}")?)
 }
 
@@ -188,29 +187,26 @@ fn warnings(logged: &[String], message: &str) -> u32 {
     count
 }
 
-/// A line for each datagram that was sent: the port and the bytes.
-pub(super) fn sent_text(alloc: Global, sent: &[(u16, Vec<u8>)]) -> Result<String, Fail> {
-    let mut text = String::new(alloc);
+/// Adds a line for each datagram that was sent: the port and the bytes.
+fn add_sent(alloc: Global, text: &mut String, sent: &[(u16, Vec<u8>)]) -> Result<(), Fail> {
     for (port, bytes) in sent {
-        let line = format!(in alloc; "{port} ")?;
-        text.push_str(&line)?;
-        text.push_str(&hex::encode(alloc, bytes)?)?;
-        text.push('\n')?;
+        let bytes = hex::encode(alloc, bytes)?;
+        writeln!(text, "{port} {bytes}")?;
     }
-    Ok(text)
+    Ok(())
 }
 
-/// Serves over the wire with one worker: what came of the run, and what was sent.
-pub(super) fn served<R: Threads + Wait + Sync>(
+/// Serves over the wire with one worker. What came of the run stands before what was sent.
+pub(super) fn is_served<R: Threads + Wait + Sync>(
     rt: &R,
-    mut wire: MemoryWire<'_>,
+    wire: &mut MemoryWire<'_>,
     count: u32,
     nodes: u16,
-) -> Result<String, Fail> {
-    let alloc = wire.alloc;
-    let mut text = run(rt, &mut wire, count, nodes, 1)?;
-    text.push_str(&sent_text(alloc, &wire.sent)?)?;
-    Ok(text)
+    want: &str,
+) -> Result<(), Fail> {
+    let mut text = run(rt, wire, count, nodes, 1)?;
+    add_sent(wire.alloc, &mut text, &wire.sent)?;
+    same(text.as_str(), want)
 }
 
 pub(super) fn bytes(alloc: Global, text: &str) -> Result<Vec<u8>, Fail> {
