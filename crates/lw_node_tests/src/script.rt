@@ -6,7 +6,7 @@ use std::alloc::Global;
 use std::test::Fail;
 
 /// Lines of each kind, and bounds of each field just inside.
-const LINES: [&str; 36] = [
+static LINES: [&str; 36] = [
     "take 1 0 127.0.0.1:5683 40020004b272644465703d61ff3c2f3e",
     "take 1 0 127.0.0.1:5683 ",
     "take 1 0 127.0.0.1:5683 Ff",
@@ -46,7 +46,7 @@ const LINES: [&str; 36] = [
 ];
 
 /// Bounds just outside, and other texts that are no lines.
-const REFUSED: [&str; 56] = [
+static REFUSED: [&str; 56] = [
     "",
     " ",
     "nodes 2",
@@ -105,23 +105,26 @@ const REFUSED: [&str; 56] = [
     "changes 1",
 ];
 
-/// What is wrong with a line.
-fn fault(alloc: Global, line: &str) -> Option<LineFault> {
-    read_line(alloc, line).err()
+fn is_read(alloc: Global, line: &str) -> bool {
+    read_line(alloc, line).is_ok()
 }
 
 #[test]
 fn lines_are_read(rt: HostRuntime) -> Result<(), Fail> {
-    for line in LINES {
-        holds(line, fault(rt.alloc(), line).is_none())?;
+    for line in &LINES {
+        holds(line, is_read(rt.alloc(), line))?;
     }
     Ok(())
 }
 
+fn is_refused(alloc: Global, line: &str) -> bool {
+    matches!(read_line(alloc, line), Err(LineFault::Refused))
+}
+
 #[test]
 fn other_lines_are_refused(rt: HostRuntime) -> Result<(), Fail> {
-    for line in REFUSED {
-        holds(line, fault(rt.alloc(), line) == Some(LineFault::Refused))?;
+    for line in &REFUSED {
+        holds(line, is_refused(rt.alloc(), line))?;
     }
     Ok(())
 }

@@ -134,14 +134,24 @@ fn reply_at(alloc: Global, place: usize) -> Result<Reply, Fail> {
     Ok(plain_at(place - GIVEN))
 }
 
+/// Whether the reply is the same as the one at the place.
+fn is_at(alloc: Global, reply: &Reply, place: usize) -> Result<bool, Fail> {
+    let other = reply_at(alloc, place)?;
+    Ok(reply.same(&other))
+}
+
+/// The reply is the same as the one at its own place alone.
+fn is_at_alone(alloc: Global, reply: &Reply, place: usize) -> Result<(), Fail> {
+    for other in 0..REPLIES {
+        holds("a reply", is_at(alloc, reply, other)? == (place == other))?;
+    }
+    Ok(())
+}
+
 #[test]
 fn replies_differ_where_their_content_does(rt: HostRuntime) -> Result<(), Fail> {
     for place in 0..REPLIES {
-        let reply = reply_at(rt.alloc(), place)?;
-        for other in 0..REPLIES {
-            let is_same = reply.same(&reply_at(rt.alloc(), other)?);
-            holds("a reply", is_same == (place == other))?;
-        }
+        is_at_alone(rt.alloc(), &reply_at(rt.alloc(), place)?, place)?;
     }
     Ok(())
 }
@@ -158,12 +168,21 @@ fn copy_of(alloc: Global, reply: &Reply) -> Result<Reply, Fail> {
     }
 }
 
+fn is_the_copy(alloc: Global, reply: &Reply) -> Result<bool, Fail> {
+    let copy = copy_of(alloc, reply)?;
+    Ok(copy.same(reply))
+}
+
+/// Whether a copy of what is given at the place is the same.
+fn copy_is_the_same(alloc: Global, place: usize) -> Result<bool, Fail> {
+    let reply = given_at(alloc, place)?;
+    is_the_copy(alloc, &reply)
+}
+
 #[test]
 fn copies_of_what_is_given_are_the_same(rt: HostRuntime) -> Result<(), Fail> {
     for place in 0..GIVEN {
-        let reply = given_at(rt.alloc(), place)?;
-        let copy = copy_of(rt.alloc(), &reply)?;
-        holds("a copy", copy.same(&reply))?;
+        holds("a copy", copy_is_the_same(rt.alloc(), place)?)?;
     }
     Ok(())
 }

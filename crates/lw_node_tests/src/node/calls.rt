@@ -108,8 +108,12 @@ fn call_at(alloc: Global, place: usize) -> Result<Call, Fail> {
 /// Whether a call gives at one node twice what it gives at the other.
 fn acts_alike(once: &mut Node, twice: &mut Node, call: &Call) -> bool {
     let reply = once.act(call);
-    let (first, second) = twice.act_twice(call);
-    reply.same(&first) && reply.same(&second)
+    let replies = twice.act_twice(call);
+    are_the_same(&reply, &replies)
+}
+
+fn are_the_same(reply: &Reply, replies: &(Reply, Reply)) -> bool {
+    reply.same(&replies.0) && reply.same(&replies.1)
 }
 
 /// Two Registers of `a` and one of `b`, three observations, one of which replaces another, and the end of one.
@@ -125,13 +129,28 @@ const AFTER_CALLS: [Row<'static>; 3] = [
     (Numbers, "7 7"),
 ];
 
+/// The call at the place gives at one node twice what it gives at the other.
+fn call_acts_alike(
+    alloc: Global,
+    once: &mut Node,
+    twice: &mut Node,
+    place: usize,
+) -> Result<(), Fail> {
+    let call = call_at(alloc, place)?;
+    holds("a call", acts_alike(once, twice, &call))
+}
+
+fn calls_act_alike(alloc: Global, once: &mut Node, twice: &mut Node) -> Result<(), Fail> {
+    for place in 0..CALLS {
+        call_acts_alike(alloc, once, twice, place)?;
+    }
+    play(alloc, once, &AFTER_CALLS)?;
+    play(alloc, twice, &AFTER_CALLS)
+}
+
 #[test]
 fn a_call_made_twice_gives_what_it_gives_once(rt: HostRuntime) -> Result<(), Fail> {
-    let (mut once, mut twice) = (Node::new(rt.alloc(), 1), Node::new(rt.alloc(), 1));
-    for place in 0..CALLS {
-        let call = call_at(rt.alloc(), place)?;
-        holds("a call", acts_alike(&mut once, &mut twice, &call))?;
-    }
-    play(rt.alloc(), &mut once, &AFTER_CALLS)?;
-    play(rt.alloc(), &mut twice, &AFTER_CALLS)
+    let mut once = Node::new(rt.alloc(), 1);
+    let mut twice = Node::new(rt.alloc(), 1);
+    calls_act_alike(rt.alloc(), &mut once, &mut twice)
 }

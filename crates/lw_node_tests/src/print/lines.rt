@@ -127,27 +127,44 @@ fn answers_without_text(rt: HostRuntime) -> Result<(), Fail> {
     have_lines(rt.alloc(), &NOT_FOUND)
 }
 
-/// A message that was sent, with this number and change number.
-fn sent(message: usize, change: u64) -> Outcome {
-    Outcome::Sent(Ok(Sending { message, change }))
+/// A message that was sent, with this number and change number, of these bytes, has the line.
+fn is_sent(
+    alloc: Global,
+    message: usize,
+    change: u64,
+    bytes: Option<&[u8]>,
+    text: &str,
+) -> Result<(), Fail> {
+    let outcome = Outcome::Sent(Ok(Sending { message, change }));
+    has_line(alloc, &outcome, bytes, text)
 }
 
 #[test]
 fn numbers_of_a_message(rt: HostRuntime) -> Result<(), Fail> {
-    has_line(
+    is_sent(
         rt.alloc(),
-        &sent(4_294_967_295, 18_446_744_073_709_551_615),
+        4_294_967_295,
+        18_446_744_073_709_551_615,
         Some(&[0, 255]),
         "message 4294967295 18446744073709551615 00ff\n",
     )?;
-    has_line(rt.alloc(), &sent(10, 2), None, "message 10 2 \n")
+    is_sent(rt.alloc(), 10, 2, None, "message 10 2 \n")
+}
+
+/// A message of so many bytes 0xfa has the line.
+fn is_sent_long(alloc: Global, count: usize, text: &str) -> Result<(), Fail> {
+    let bytes = vec![in alloc; 0xfa; count]?;
+    is_sent(alloc, 7, 8, Some(&bytes), text)
+}
+
+/// The line of a message of so many bytes 0xfa.
+fn long_line(alloc: Global, count: usize) -> Result<String, Fail> {
+    let bytes = "fa".repeat(alloc, count)?;
+    Ok(format!(in alloc; "message 7 8 {bytes}\n")?)
 }
 
 #[test]
 fn a_long_message(rt: HostRuntime) -> Result<(), Fail> {
-    let bytes = vec![in rt.alloc(); 0xfa; 1_000_000]?;
-    let line = outcome_line(rt.alloc(), &sent(7, 8), Some(&bytes))?;
-    holds("the length", line.len() == 12 + 2_000_000 + 1)?;
-    holds("its front", line.starts_with(b"message 7 8 fafafa"))?;
-    holds("its end", line.ends_with(b"fafafa\n"))
+    let text = long_line(rt.alloc(), 1_000_000)?;
+    is_sent_long(rt.alloc(), 1_000_000, text.as_str())
 }
