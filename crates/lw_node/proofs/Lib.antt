@@ -1,3 +1,5 @@
+pub mod OneAnswer
+pub mod LeastOfBoth
 pub mod ReadBack
 pub mod Former
 pub mod Deciding

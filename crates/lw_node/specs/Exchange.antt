@@ -77,6 +77,22 @@ pub record IsLeastOfBoth (a b c : ℕ × State) : Type 0 where
   pub above_second : IsBelow b c
   pub least : (d : ℕ × State) → IsBelow a d → IsBelow b d → IsBelow c d
 
+-- What merges leave goes by what they join alone: not by which came first, by how they are grouped, or by how often
+-- one came.
+abbrev pub LeastIsOne : Type 0
+LeastIsOne = (a b c d : ℕ × State) → IsLeastOfBoth a b c → IsLeastOfBoth a b d → c ≡ d
+
+abbrev pub LeastCommutes : Type 0
+LeastCommutes = (a b c : ℕ × State) → IsLeastOfBoth a b c → IsLeastOfBoth b a c
+
+abbrev pub LeastAssociates : Type 0
+LeastAssociates =
+    (a b c ab bc one other : ℕ × State) → IsLeastOfBoth a b ab → IsLeastOfBoth ab c one → IsLeastOfBoth b c bc → IsLeastOfBoth a bc other
+    → one ≡ other
+
+abbrev pub LeastRepeats : Type 0
+LeastRepeats = (a b ab again : ℕ × State) → IsLeastOfBoth a b ab → IsLeastOfBoth ab b again → again ≡ ab
+
 abbrev pub known_by : NodeContent → ℕ × State
 known_by node = (node.clock, node.table.state)
 

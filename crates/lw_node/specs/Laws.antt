@@ -1,6 +1,6 @@
--- What follows from what an operation leaves: it comes after all that the node knows, so that what it wrote is
--- read back, and a Register ends what was before.
-use Rattle.std.specs.Prelude.{◌≡◌, ℕ, ◌+◌, Bool, List, Option, Some, None, Contains}
+-- That a question has one answer, and what follows from what an operation leaves: it comes after all that the node
+-- knows, so that what it wrote is read back, and a Register ends what was before.
+use Rattle.std.specs.Prelude.{◌≡◌, ℕ, ◌+◌, List, Option, Some, None, Contains}
 use Rattle.lw_stamp.specs.declared.moment.Moment.{Moment}
 use Rattle.lw_stamp.specs.declared.stamp.Stamp.{Stamp}
 use Rattle.lw_stamp.specs.Moment.{ms_of}
@@ -8,9 +8,8 @@ use Rattle.lw_reg.specs.declared.addr.Addr.{Addr}
 use Rattle.lw_reg.specs.declared.binding.Binding.{Binding}
 use Rattle.lw_reg.specs.declared.op.Op.{Op}
 use Rattle.lw_reg.specs.declared.op.What.{What}
-use Rattle.lw_reg.specs.declared.op.What.TheVariants.{Register, Update, Remove, Observe, Cancel}
+use Rattle.lw_reg.specs.declared.op.What.TheVariants.{Register, Update}
 use Rattle.lw_reg.specs.declared.path.Path.{Path}
-use Rattle.lw_reg.specs.declared.version.Version.{Version}
 use Rattle.lw_reg.specs.Marks.{Has, left_by, all_marks}
 use Rattle.lw_reg.specs.Marks.Trace.{Watched}
 use Rattle.lw_reg.specs.Reading.{shown_in}
@@ -18,8 +17,18 @@ use Rattle.lw_reg.specs.Registration.{Registration}
 use Rattle.lw_reg.specs.Showing.{IsComplete, IsShown, ShownOf, queue_of}
 use Rattle.lw_reg.specs.State.{IsStateOf}
 use Rattle.lw_table.specs.LookUps.{ById, ByToken}
-use Rattle.lw_node.specs.Node.{NodeContent, Issued}
+use Rattle.lw_call.specs.declared.answer.Answer.{Answer}
+use Rattle.lw_call.specs.declared.question.Question.{Question}
+use Rattle.lw_node.specs.Node.{NodeContent, Issued, Known, marks_in}
+use Rattle.lw_node.specs.Steps.{Answers}
 use Rattle.lw_node.specs.Within.{FitsClock}
+
+-- ---- one answer
+-- over the marks that can be read from the node's state, or those of a list
+abbrev pub AnswersAreOne : Type 0
+AnswersAreOne =
+    (node : NodeContent) (known : Known) (now : ℕ) (question : Question) (one other : Answer)
+    → Answers node (marks_in node.table.state known) now question one → Answers node (marks_in node.table.state known) now question other → one ≡ other
 
 -- an operation that a node issues, whose clock is above all that it knows
 pub record Follows (old : NodeContent) (op : Op) (new : NodeContent) : Type 0 where

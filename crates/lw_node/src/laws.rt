@@ -1,7 +1,12 @@
 //! Laws of a node, each the contract of a function that does nothing.
 
-ghost use Rattle.lw_node.specs.Exchange.{DeltasBringTheRest};
-ghost use Rattle.lw_node.specs.Laws.{RegistersReadBack, UpdatesReadBack, RegistersEndTheFormer};
+ghost use Rattle.lw_node.specs.Exchange.{DeltasBringTheRest, LeastIsOne, LeastCommutes, LeastAssociates, LeastRepeats};
+ghost use Rattle.lw_node.specs.Laws.{AnswersAreOne, RegistersReadBack, UpdatesReadBack, RegistersEndTheFormer};
+
+/// A question has one answer over a set of operations at a moment.
+pub fn answers_are_one()
+    ensures { AnswersAreOne }
+{}
 
 /// What a Register or an Update wrote is read back at its moment.
 pub fn writes_are_read_back()
@@ -13,6 +18,15 @@ pub fn writes_are_read_back()
 /// under it.
 pub fn registers_end_the_former()
     ensures { RegistersEndTheFormer }
+{}
+
+/// The order and the number of merges do not matter: the least that is above both is one, whichever comes first, however
+/// they are grouped, and however often one comes.
+pub fn merges_are_joins()
+    ensures one { LeastIsOne }
+    ensures commutative { LeastCommutes }
+    ensures associative { LeastAssociates }
+    ensures idempotent { LeastRepeats }
 {}
 
 /// A delta since a change number, joined to a state that has at least each slot of the sender that did not move

@@ -33,6 +33,7 @@ record Departs (before end : History) (sender : ℕ) (l : Link) : Type 0 where
   there : slice_get end.messages l.message ≡ Some message
   change : l.change ≡ knows.count.change
   slots : IsSinceIn (known_state knows.operations) knows.count l.since message.delta.slots
+  clock : message.delta.clock ≡ knows.clock
 
 departs : (begin : History) (events : List Event) (outcomes : List Outcome) (h : History) (m : Moments begin events outcomes h) (sender : ℕ) (l : Link) → IsSent events outcomes sender l → Departs (m.at l.place) h sender l
 departs begin events outcomes h m sender l sent =
@@ -51,6 +52,7 @@ departs begin events outcomes h m sender l sent =
               (ap (slice_get (m.at (suc l.place)).messages) sends.number ∙ ap (λ (ms : List Message). slice_get ms (length old)) all ∙ last_there old (message_of sends));
           change = sends.change;
           slots = sends.slots;
+          clock = sends.clock;
         }
 
 -- a slot that has not moved since is in the message
@@ -75,13 +77,18 @@ deltas_last count events outcomes h runs sender l sent countable k at e slot num
     (d.message, d.there, holds (m.at l.place) h sender l d countable k (subst (Lasts d.knows) same later.2) e slot number has is above low)
 
 -- ---- what arrives
--- who got the whole message is above what its operations tell
+-- the message is not above what is known
+record IsIn (message : Message) (r : Knowledge) : Type 0 where
+  clock : message.delta.clock ≤ r.clock
+  state : state_below (known_state message.operations) (known_state r.operations)
+
+-- who got the whole message is above its clock, and what its operations tell
 arrives : (begin : History) (events : List Event) (outcomes : List Outcome) (h : History) (m : Moments begin events outcomes h) (receiver number : ℕ) → IsDelivered events outcomes receiver number
-    → (r : Knowledge) → at_number h.nodes receiver ≡ Some r → (message : Message) → slice_get h.messages number ≡ Some message → state_below (known_state message.operations) (known_state r.operations)
+    → (r : Knowledge) → at_number h.nodes receiver ≡ Some r → (message : Message) → slice_get h.messages number ≡ Some message → IsIn message r
 arrives begin events outcomes h m receiver number d r at message there =
     go (m.steps d.place (record { node = receiver; action = Deliver number }) (Delivered (Ok d.joined)) d.delivered.event_is d.delivered.outcome_is)
   where
-    go : Happens (m.at d.place) (record { node = receiver; action = Deliver number }) (Delivered (Ok d.joined)) (m.at (suc d.place)) → state_below (known_state message.operations) (known_state r.operations)
+    go : Happens (m.at d.place) (record { node = receiver; action = Deliver number }) (Delivered (Ok d.joined)) (m.at (suc d.place)) → IsIn message r
     go step =
         let came = step.acts in
         let same : came.0 ≡ message = some_one came.0 message (sym ((m.ends d.place).messages number came.0 came.1) ∙ there) in
@@ -92,8 +99,12 @@ arrives begin events outcomes h m receiver number d r at message there =
         let lasts : Lasts step.left.knows r = subst (Lasts step.left.knows) is later.2 in
         let grown : state_below (known_state came.0.operations) (known_state step.left.knows.operations) =
         subst (λ (os : List Op). state_below (known_state came.0.operations) (known_state os)) (sym came.2.1.gains.operations_are) (above_more came.0.operations step.knows.operations) in
-        subst (λ (x : Message). state_below (known_state x.operations) (known_state r.operations)) same
-        (state_laws.transitive (known_state came.0.operations) (known_state step.left.knows.operations) (known_state r.operations) grown lasts.below)
+        let greater = came.2.1.gains.clock_is in
+        let kept = lasts.clock in
+        subst (λ (x : Message). IsIn x r) same (record {
+          clock = omega (arith, greater, kept);
+          state = state_laws.transitive (known_state came.0.operations) (known_state step.left.knows.operations) (known_state r.operations) grown lasts.below;
+        })
 
 -- ---- a chain
 -- the receiver is above each slot of the sender whose number is not above this
@@ -115,7 +126,7 @@ module _ (begin : History) (events : List Event) (outcomes : List Outcome) (h : 
       → option_below slot_below (Some slot) (get (known_state r.operations) e)
   brought l delivered d e slot there =
       let told = slot_told d.message (m.good_end.sound d.message (contains_at h.messages l.message d.message d.there)) e slot there in
-      subst (λ o. option_below slot_below o (get (known_state r.operations) e)) told (arrives begin events outcomes h m receiver l.message delivered r r_at d.message d.there e)
+      subst (λ o. option_below slot_below o (get (known_state r.operations) e)) told ((arrives begin events outcomes h m receiver l.message delivered r r_at d.message d.there).state e)
 
   link_covers : s.count.change < LAST → (l : Link) → IsSent events outcomes sender l → l.place ≤ last.place → IsDelivered events outcomes receiver l.message → Covers s r l.since → Covers s r l.change
   link_covers short l sent before delivered covered e slot number has is low = go (nat_le number l.since) refl
@@ -170,14 +181,25 @@ module _ (begin : History) (events : List Event) (outcomes : List Outcome) (h : 
 
   -- at the last change number the last delta is whole
   pub reaches : (links : List Link) → IsChainFrom events outcomes sender 0 0 (links ++ last ∷ []) → ((l : Link) → Contains (links ++ last ∷ []) l → IsDelivered events outcomes receiver l.message)
-      → state_below (known_state s.operations) (known_state r.operations)
-  reaches links chain delivered = slots_below (go (nat_lt s.count.change LAST) refl)
+      → (s.clock ≤ r.clock) × state_below (known_state s.operations) (known_state r.operations)
+  reaches links chain delivered = (clock_reaches, slots_below (go (nat_lt s.count.change LAST) refl))
     where
       d : Departs (m.at last.place) h sender last
       d = departs begin events outcomes h m sender last (last_sent links 0 0 chain)
 
       same : d.knows ≡ s
       same = some_one d.knows s (sym d.is ∙ s_at)
+
+      last_delivered : IsDelivered events outcomes receiver last.message
+      last_delivered = delivered last (Contains-append_right links (last ∷ []) last (first_there last [] last refl))
+
+      -- the last delta has the sender's clock
+      clock_reaches : s.clock ≤ r.clock
+      clock_reaches =
+          let came = (arrives begin events outcomes h m receiver last.message last_delivered r r_at d.message d.there).clock in
+          let sent = d.clock in
+          let its = ap (λ (k : Knowledge). k.clock) same in
+          omega (arith, came, sent, its)
 
       go : (b : Bool) → nat_lt s.count.change LAST ≡ b → (e : List ℕ) (slot : Slot) → get (known_state s.operations) e ≡ Some slot → option_below slot_below (Some slot) (get (known_state r.operations) e)
       go true c e slot at =
@@ -188,7 +210,7 @@ module _ (begin : History) (events : List Event) (outcomes : List Outcome) (h : 
       go false c e slot at =
           let short = counted.last in
           let end : s.count.change ≡ LAST = grind (arith, nat_tests) in
-          brought last (delivered last (Contains-append_right links (last ∷ []) last (first_there last [] last refl))) d e slot
+          brought last last_delivered d e slot
           ((d.slots.members e slot).1 (ap (λ (k : Knowledge). get (known_state k.operations) e) same ∙ at, inl (ap (λ (k : Knowledge). k.count.change) same ∙ end)))
 
 pub chains_reach : ChainsReach

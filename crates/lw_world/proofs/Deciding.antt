@@ -41,6 +41,7 @@ use Rattle.lw_call.specs.declared.question.Question.{Question}
 use Rattle.lw_call.specs.declared.question.Question.TheVariants as questions
 use Rattle.lw_node.specs.Node.{NodeContent}
 use Rattle.lw_node.specs.Steps.{Answers}
+use Rattle.lw_node.proofs.OneAnswer.{answer_one}
 use Rattle.lw_world.specs.Known.{Knowledge, known_state, node_of}
 use Rattle.lw_world.specs.Laws.{KnownStatesAreLeast, StatesDecideAnswers, KnowTheSame, AreAlike, SameSetsAnswerAlike}
 
@@ -243,10 +244,15 @@ marks_alike os ps into m h = let x = mark_from os m h in mark_there ps x.0 m (in
 pub same_sets_answer_alike : SameSetsAnswerAlike
 same_sets_answer_alike j k same = record {
   state = members_decide (all_marks j.operations) (all_marks k.operations) marks (known_state j.operations) (known_state k.operations) (state_least (all_marks j.operations)) (state_least (all_marks k.operations));
-  answers = λ now question asked answer.
-      answers_agree (all_marks j.operations) (all_marks k.operations) (all_names j.operations) (all_names k.operations) (known_state j.operations) (state_least (all_marks j.operations))
-      (state_same (all_marks j.operations) (all_marks k.operations) marks (known_state j.operations) (state_least (all_marks j.operations))) (node_of j) (node_of k) now question (λ is. absurd (asked is)) answer;
+  answers = answers;
+  equal = λ now question asked one other h g. answer_one (node_of j) (left_by j.operations) now question one other h ((answers now question asked other).1 g);
 }
   where
     marks : (m : Mark) → Contains (all_marks j.operations) m ↔ Contains (all_marks k.operations) m
     marks m = (marks_alike j.operations k.operations (λ o. (same o).0) m, marks_alike k.operations j.operations (λ o. (same o).1) m)
+
+    answers : (now : ℕ) (question : Question) → question ≢ questions.Change → (answer : Answer)
+        → Answers (node_of j) (left_by j.operations) now question answer ↔ Answers (node_of k) (left_by k.operations) now question answer
+    answers now question asked answer =
+        answers_agree (all_marks j.operations) (all_marks k.operations) (all_names j.operations) (all_names k.operations) (known_state j.operations) (state_least (all_marks j.operations))
+        (state_same (all_marks j.operations) (all_marks k.operations) marks (known_state j.operations) (state_least (all_marks j.operations))) (node_of j) (node_of k) now question (λ is. absurd (asked is)) answer

@@ -1,4 +1,4 @@
--- What lasts of a node's knowledge along a run: its slots grow, and an endpoint keeps its slot and its number, or takes
+-- What lasts of a node's knowledge along a run: its clock and its slots grow, and an endpoint keeps its slot and its number, or takes
 -- a number above all that there were.
 use Rattle.std.proofs.Common.{◌≡◌, ◌≢◌, ℕ, zero, suc, ◌+◌, ◌<◌, ◌≤◌, List, ◌++◌, length, Option, Some, None, sym, refl, ap, ◌∙◌, subst, arith, inl, inr, ◌⊎◌}
 use Rattle.std.specs.Coded.{Coded, coded_option}
@@ -67,12 +67,14 @@ abbrev pub HasMoved : ℕ → Knowledge → List ℕ → Type 0
 HasMoved change l e = (n : ℕ) × (get l.count.numbers e ≡ Some n) × (change < n)
 
 pub record Lasts (k l : Knowledge) : Type 0 where
+  pub clock : k.clock ≤ l.clock
   pub below : state_below (known_state k.operations) (known_state l.operations)
   pub change : k.count.change ≤ l.count.change
   pub each : (c : ℕ) → c < LAST → c ≤ k.count.change → (e : List ℕ) → Stands k l e ⊎ HasMoved c l e
 
 pub lasts_itself : (k : Knowledge) → Lasts k k
 lasts_itself k = record {
+  clock = omega arith;
   below = state_laws.reflexive (known_state k.operations);
   change = omega arith;
   each = λ c countable within e. inl (record { slot = refl; number = refl });
@@ -80,6 +82,7 @@ lasts_itself k = record {
 
 pub lasts_then : (j k l : Knowledge) → Lasts j k → Lasts k l → Lasts j l
 lasts_then j k l one two = record {
+  clock = let a = one.clock in let b = two.clock in omega (arith, a, b);
   below = state_laws.transitive (known_state j.operations) (known_state k.operations) (known_state l.operations) one.below two.below;
   change = let a = one.change in let b = two.change in omega (arith, a, b);
   each = λ c countable within e. go c e (one.each c countable within e) (two.each c countable (let a = one.change in omega (arith, a, within)) e);
@@ -95,6 +98,7 @@ lasts_then j k l one two = record {
 pub record Learns (k l : Knowledge) : Type 0 where
   pub more : List Op
   pub operations : l.operations ≡ more ++ k.operations
+  pub clock : k.clock ≤ l.clock
   pub count : Recounts (known_state k.operations) (known_state l.operations) k.count l.count
 
 -- what is known grows by them, and is above what they tell
@@ -120,6 +124,7 @@ module _ (k l : Knowledge) (learns : Learns k l) where
 
   pub learns_lasts : k.count.change ≤ LAST → Lasts k l
   learns_lasts last = record {
+    clock = learns.clock;
     below = subst (λ (os : List Op). state_below (known_state k.operations) (known_state os)) (sym learns.operations) (known_grows learns.more k.operations);
     change = count_rises k.count.change l.count.change (length learns.count.moved) last learns.count.change;
     each = λ c countable within e. same_slot (get (known_state k.operations) e) (get (known_state l.operations) e)

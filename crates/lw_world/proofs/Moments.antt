@@ -39,7 +39,7 @@ idle_leaves messages k left is = record { knows = inl (ap (λ (l : Left). l.know
 
 issued_follows : (k new : Knowledge) (operation : Option Op) → IssuesOr k operation new → Follows k new
 issued_follows k new None same = inl same
-issued_follows k new (Some o) issues = inr (record { more = o ∷ []; operations = issues.operations; count = issues.count })
+issued_follows k new (Some o) issues = inr (record { more = o ∷ []; operations = issues.operations; clock = let next = issues.clock in omega (arith, next); count = issues.count })
 
 commanded_leaves : (Meant : Result (Request × Op) Refused → Type 0) (messages : List Message) (k : Knowledge) (outcome : Result OutgoingContent ObserveFault) (left : Left) → Commanded Meant messages k outcome left → Leaves messages k left
 commanded_leaves Meant messages k (Ok outgoing) left h = record { knows = issued_follows k left.knows left.operation h.0.known; messages_are = inl h.1 }
@@ -49,7 +49,10 @@ commanded_leaves Meant messages k (Err faults.NoMemory) left h = idle_leaves mes
 
 delivers_leaves : (messages : List Message) (k : Knowledge) (clock : ℕ) (operations : List Op) (left : Left) → Delivers messages k clock operations left → Leaves messages k left
 delivers_leaves messages k clock operations left h =
-    record { knows = inr (record { more = operations; operations = h.gains.operations_are; count = h.gains.count }); messages_are = inl h.messages_are }
+    record {
+      knows = inr (record { more = operations; operations = h.gains.operations_are; clock = let greater = h.gains.clock_is in omega (arith, greater); count = h.gains.count });
+      messages_are = inl h.messages_are;
+    }
 
 delivered_leaves : (messages : List Message) (k : Knowledge) (m : Message) (outcome : Result ℕ MergeFault) (left : Left) → Delivered messages k m outcome left → Leaves messages k left
 delivered_leaves messages k m (Ok count) left h = delivers_leaves messages k m.delta.clock m.operations left h.1

@@ -58,11 +58,12 @@ pub record Passes (count : ℕ) (events : List Event) (outcomes : List Outcome) 
   pub before : Runs (begun count) (take place events) (take place outcomes) mid
   pub rest : Runs mid (drop place events) (drop place outcomes) end
 
--- Who has got each delta of a chain, in any order, has at least what the sender had at the last of them, and keeps it.
+-- Who has got each delta of a chain, in any order, has at least what the sender had at the last of them, its clock and
+-- its state, and keeps it.
 abbrev pub ChainsReach : Type 0
 ChainsReach =
     (count : ℕ) (events : List Event) (outcomes : List Outcome) (sender receiver : ℕ) (links : List Link) (last : Link) → IsChain events outcomes sender (links ++ last ∷ [])
     → ((l : Link) → Contains (links ++ last ∷ []) l → IsDelivered events outcomes receiver l.message)
     → (mid h : History) → Passes count events outcomes last.place mid h
     → (s r : Knowledge) → at_number mid.nodes sender ≡ Some s → at_number h.nodes receiver ≡ Some r
-    → state_below (known_state s.operations) (known_state r.operations)
+    → (s.clock ≤ r.clock) × state_below (known_state s.operations) (known_state r.operations)

@@ -62,11 +62,14 @@ StatesDecideAnswers =
 abbrev pub KnowTheSame : Knowledge → Knowledge → Type 0
 KnowTheSame j k = (o : Op) → Contains j.operations o ↔ Contains k.operations o
 
--- two nodes that the same set reached have one state, and give the same answers; how often each has changed is its own
+-- Two nodes that the same set reached have one state, and what answers a question at one answers it at the other: both
+-- give equal answers. How often each has changed is its own.
 pub record AreAlike (j k : Knowledge) : Type 0 where
   pub state : known_state j.operations ≡ known_state k.operations
   pub answers : (now : ℕ) (question : Question) → question ≢ Change → (answer : Answer)
       → Answers (node_of j) (left_by j.operations) now question answer ↔ Answers (node_of k) (left_by k.operations) now question answer
+  pub equal : (now : ℕ) (question : Question) → question ≢ Change → (one other : Answer)
+      → Answers (node_of j) (left_by j.operations) now question one → Answers (node_of k) (left_by k.operations) now question other → one ≡ other
 
 abbrev pub SameSetsAnswerAlike : Type 0
 SameSetsAnswerAlike = (j k : Knowledge) → KnowTheSame j k → AreAlike j k
