@@ -1,5 +1,6 @@
 mod calls;
 mod deltas;
+mod largest;
 mod once;
 mod steps;
 

@@ -1,5 +1,5 @@
 ghost use Rattle.std.specs.Prelude.{◌≡◌, length, vec_len, IfOk, OnOk};
-ghost use Rattle.lw_serve.specs.Rounds.{IsRound};
+ghost use Rattle.lw_serve.specs.Rounds.{IsRound, IsFinished};
 
 use crate::fault::ServeFault;
 use crate::jobs::{round_jobs, send_jobs};
@@ -72,7 +72,9 @@ impl Server {
         self,
         rt: &R,
         alloc: Global,
-    ) -> Result<(), ServeFault> {
+    ) -> Result<(), ServeFault>
+        ensures { IfOk result (λ _. IsFinished self.nodes.shelves.items self.nodes.passes.items self.kept.items) }
+    {
         let Server { nodes, kept, .. } = self;
         let (nodes, _dones) = nodes.serve(rt, alloc, &kept)?;
         nodes.settle(rt)?;
