@@ -1,11 +1,15 @@
 //! Codes of messages (RFC 7252, section 12.1): class in the upper three bits, detail in the lower five.
 
+/// 0.00: an empty message.
 pub const EMPTY: u8 = 0x00;
 
+/// 0.01.
 pub const GET: u8 = 0x01;
 
+/// 0.02.
 pub const POST: u8 = 0x02;
 
+/// 0.04.
 pub const DELETE: u8 = 0x04;
 /// 2.01.
 pub const CREATED: u8 = 0x41;

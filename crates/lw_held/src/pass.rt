@@ -52,6 +52,7 @@ impl Pass {
         let _length = self.parts.len();
     }
 
+    /// Its number among the passes of a run, from 0.
     pub fn number(&self) -> u32
         ensures { result ≡ self.now.number }
     {

@@ -32,6 +32,7 @@ impl Shelf {
         }
     }
 
+    /// The number of its node.
     pub fn number(&self) -> u16
         ensures { result ≡ self.now.number }
     {

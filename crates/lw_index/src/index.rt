@@ -37,6 +37,7 @@ impl<K: Ord> Model for Index<K> {
 }
 
 impl<K: Ord + Drop> Index<K> {
+    /// An index without keys.
     pub fn new(alloc: Global) -> Index<K>
         ensures { result ≡ [] }
     {

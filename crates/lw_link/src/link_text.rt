@@ -84,6 +84,7 @@ impl LinkText {
         Ok(LinkText { text })
     }
 
+    /// The printing, of at most 8,192 bytes.
     pub fn as_str(&self) -> &str
         ensures value { result.now ≡ self.now }
         ensures printing { IsPrinting result.now }

@@ -63,6 +63,7 @@ impl Slot {
         self.registration.value.is_removed()
     }
 
+    /// The version and the queue mode that the Register asked for.
     pub fn base(&self) -> Option<Base>
         ensures { result ≡ base_of self.now }
     {

@@ -23,6 +23,7 @@ const FIRST_RESPONSE: u8 = 32;
 impl Role {
     ghost use Rattle.lw_request.specs.Meaning.{role_of, class_role};
 
+    /// The role of a message of the type and the code (RFC 7252, section 4.3).
     pub fn of(kind: Kind, code: u8) -> Role
         ensures { result ≡ role_of kind code }
     {

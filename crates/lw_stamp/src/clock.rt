@@ -15,12 +15,14 @@ impl Clock {
     /// The last counter.
     const END: u64 = (1 << 48) - 1;
 
+    /// The clock of a node that knows of no stamp.
     pub fn new() -> Clock
         ensures { counter_of result ≡ 0 }
     {
         Clock { counter: 0 }
     }
 
+    /// The greatest counter that the node knows of, or 0.
     pub fn counter(&self) -> u64
         ensures { result ≡ counter_of self.now }
     {

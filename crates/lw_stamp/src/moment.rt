@@ -16,7 +16,7 @@ impl Moment {
     /// The last moment, in milliseconds.
     pub const LAST_MS: u64 = (1 << 48) - 1;
 
-    /// There is none past 2^48 - 1 milliseconds.
+    /// The moment so many milliseconds after the start. There is none past 2^48 - 1.
     pub fn new(ms: u64) -> Option<Moment>
         ensures in_range { IsSome result ↔ (ms < 2 ^ 48) }
         ensures value { IfSome result (λ m. ms_of m ≡ ms) }
@@ -27,6 +27,7 @@ impl Moment {
         Some(Moment { ms })
     }
 
+    /// Its milliseconds.
     pub fn ms(&self) -> u64
         ensures value { result ≡ ms_of self.now }
         ensures in_range { result < 2 ^ 48 }

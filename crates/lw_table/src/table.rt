@@ -47,6 +47,7 @@ impl Model for Table {
 }
 
 impl Table {
+    /// A table that knows of no endpoint.
     pub fn new(alloc: Global) -> Table
         ensures { result ≡ empty_table }
     {
