@@ -193,7 +193,7 @@ module _ (M N : Marks) (now : ℕ) (a : Agree M N now) where
   late_along after (Some x) h = (h.0, first_along _ _ (λ r. (λ y. (y.0, (a.expired r).0 y.1), λ y. (y.0, (a.expired r).1 y.1))) (Some h.0) h.1, h.2)
 
   -- an answer of one node, of which one set tells, is one of the other
-  answers_along : (node other : NodeContent) (question : Question) (answer : Answer) → (question ≡ questions.Change → node.table.count.change ≡ other.table.count.change)
+  pub answers_along : (node other : NodeContent) (question : Question) (answer : Answer) → (question ≡ questions.Change → node.table.count.change ≡ other.table.count.change)
       → Answers node M now question answer → Answers other N now question answer
   answers_along node other (questions.ById id) (answers.Registration found) change h = id_along M N now a id found h
   answers_along node other (questions.ByEndpoint endpoint) (answers.Registration found) change h = endpoint_along endpoint found h
