@@ -4,4 +4,5 @@ pub mod Lawful
 pub mod Joining
 pub mod Longer
 pub mod Shown
+pub mod Stepping
 pub mod Marking

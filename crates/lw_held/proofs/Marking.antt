@@ -27,12 +27,13 @@ use Rattle.lw_node.specs.Calls.{Takes as NodeTakes}
 use Rattle.lw_node.specs.Effects.{Request, Refused, ObserveMeans, CancelMeans}
 use Rattle.lw_node.specs.Exchange.{Merged}
 use Rattle.lw_node.specs.Exchange.{Merges as NodeMerges}
-use Rattle.lw_node.specs.Node.{NodeContent, IsAfter}
+use Rattle.lw_node.specs.Node.{NodeContent, IsAfter, fresh}
 use Rattle.lw_node.specs.Node.Known.{Told}
 use Rattle.lw_node.specs.Steps.{Steps as NodeSteps}
 use Rattle.lw_held.specs.declared.entry.Entry.{Entry}
 use Rattle.lw_held.specs.History.{Leads}
 use Rattle.lw_held.specs.Marked.{Marked, unmarked, place_of, node_of, Adds, AddsOr, Commanded, Brings, Merges, Steps, MarksLead, HistoriesAreOfMarks}
+use Rattle.lw_held.proofs.Stepping.{legal_of_marks}
 use Rattle.lw_held.proofs.Shown.{about_names, marks_shown, shown_names, shown_state, state_append, are_shown}
 
 -- what is known after a step, of the node that it left
@@ -131,4 +132,7 @@ lead (entry ∷ entries) old names start node same leads =
     (rest.0, (left.known, left.step, rest.1), rest.2)
 
 pub histories_are_of_marks : HistoriesAreOfMarks
-histories_are_of_marks number entries node leads = lead entries (unmarked number) (λ e r k h. none_there (record { endpoint = e; registration = r; trace = k }) h) _ node refl leads
+histories_are_of_marks number entries node = (
+  λ leads. lead entries (unmarked number) (λ e r k h. none_there (record { endpoint = e; registration = r; trace = k }) h) _ node refl leads,
+  λ h. subst (Leads (fresh number) entries) (sym h.2) (legal_of_marks number entries h.0 h.1),
+)

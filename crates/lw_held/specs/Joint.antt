@@ -5,7 +5,7 @@ use Rattle.lw_call.specs.declared.call.Call.{Call}
 use Rattle.lw_call.specs.declared.call.Call.TheVariants as calls
 use Rattle.lw_call.specs.declared.reply.Reply.{Reply}
 use Rattle.lw_call.specs.declared.reply.Reply.TheVariants as replies
-use Rattle.lw_node.specs.Node.{NodeContent, fresh}
+use Rattle.lw_node.specs.Node.{NodeContent}
 use Rattle.lw_world.specs.declared.event.Action.{Action}
 use Rattle.lw_world.specs.declared.event.Action.TheVariants as actions
 use Rattle.lw_world.specs.declared.event.Event.{Event}
@@ -14,7 +14,7 @@ use Rattle.lw_world.specs.declared.outcome.Outcome.TheVariants as results
 use Rattle.lw_world.specs.Known.{Knowledge, node_of}
 use Rattle.lw_world.specs.Run.{History, Runs, begun, at_number}
 use Rattle.lw_held.specs.declared.entry.Entry.{Entry}
-use Rattle.lw_held.specs.History.{Leads}
+use Rattle.lw_held.specs.Marked.{IsHistory}
 
 -- ---- joint histories
 -- an entry, and the number of the node that it is of
@@ -46,11 +46,11 @@ abbrev pub ArePassedOn : List (List ℕ) → List Turn → Type 0
 ArePassedOn deltas [] = Unit {0}
 ArePassedOn deltas (turn ∷ turns) = IsPassedOn deltas turn.entry.call × ArePassedOn (with_delta deltas turn.entry.reply) turns
 
--- The turns are a joint history of so many nodes: the entries of each are a legal history, which leads from a new node to
--- its last, and deltas are passed on unaltered.
+-- The turns are a joint history of so many nodes: the entries of each are a history over its clock and marks alone, which
+-- leads from a new node to its last, and deltas are passed on unaltered.
 pub record IsJoint (count : ℕ) (turns : List Turn) (last : ℕ → NodeContent) : Type 0 where
   pub of_run : AreOfRun count turns
-  pub legal : (number : ℕ) → 1 ≤ number → number ≤ count → Leads (fresh number) (entries_of number turns) (last number)
+  pub legal : (number : ℕ) → 1 ≤ number → number ≤ count → IsHistory number (entries_of number turns) (last number)
   pub passed_on : ArePassedOn [] turns
 
 -- ---- the run of a joint history

@@ -121,8 +121,10 @@ abbrev pub MarksLead : Marked → List Entry → Marked → Type 0
 MarksLead old [] new = new ≡ old
 MarksLead old (entry ∷ entries) new = (mid : Marked) × Steps old entry.call entry.reply mid × MarksLead mid entries new
 
--- a legal history is one over clock and marks alone, and its node is the one that knows them
+-- the entries are a history of a new node over clock and marks alone, after which it knows just this
+abbrev pub IsHistory : ℕ → List Entry → NodeContent → Type 0
+IsHistory number entries node = (known : Marked) × MarksLead (unmarked number) entries known × (node ≡ node_of known)
+
+-- the legal histories are those over clock and marks alone
 abbrev pub HistoriesAreOfMarks : Type 0
-HistoriesAreOfMarks =
-    (number : ℕ) (entries : List Entry) (node : NodeContent) → Leads (fresh number) entries node
-    → (known : Marked) × MarksLead (unmarked number) entries known × (node ≡ node_of known)
+HistoriesAreOfMarks = (number : ℕ) (entries : List Entry) (node : NodeContent) → Leads (fresh number) entries node ↔ IsHistory number entries node

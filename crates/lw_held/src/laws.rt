@@ -4,8 +4,8 @@ ghost use Rattle.lw_held.specs.Joint.{JointHistoriesRun};
 ghost use Rattle.lw_held.specs.Laws.{OwnOrder};
 ghost use Rattle.lw_held.specs.Marked.{HistoriesAreOfMarks};
 
-/// The history of a node is one over its clock and the marks that reached it alone: each reply is that of what the entries
-/// before it left, and an operation, or a delta that is merged, adds its marks.
+/// The histories of a node are those over its clock and the marks that reached it alone: each reply is that of what the
+/// entries before it left, and an operation, or a delta that is merged, adds its marks.
 pub fn of_marks()
     ensures { HistoriesAreOfMarks }
 {}
