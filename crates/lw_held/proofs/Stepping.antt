@@ -1,28 +1,21 @@
 -- A history over clock and marks alone is a legal one: what a call means over some marks, it means over all that have the
 -- same state.
-use Rattle.std.proofs.Common.{◌≡◌, ℕ, List, [], ◌∷◌, Option, Some, None, Result, Ok, Err, sym, refl, ap, ◌∙◌, subst, inl, inr}
+use Rattle.std.proofs.Common.{◌≡◌, ℕ, List, [], ◌∷◌, Option, Some, None, Result, Ok, Err, sym, refl, ap, ◌∙◌, subst}
 use Rattle.std.specs.Prelude.{◌↔◌, Contains}
 use Rattle.lw_stamp.specs.declared.stamp.Stamp.{Stamp}
 use Rattle.lw_stamp.specs.Moment.{ms_of}
-use Rattle.lw_coap.specs.Message.{MessageContent}
-use Rattle.lw_reg.specs.declared.addr.Addr.{Addr}
 use Rattle.lw_reg.specs.declared.op.Op.{Op}
 use Rattle.lw_reg.specs.declared.path.Path.{Path}
 use Rattle.lw_reg.specs.declared.slot.Slot.{Slot}
-use Rattle.lw_reg.specs.declared.watch.Watch.{Watch}
 use Rattle.lw_reg.specs.Marks.{Mark, Marks, NamesAll, among, marks_of, traces_of}
 use Rattle.lw_reg.specs.Marks.Trace.{Named}
 use Rattle.lw_reg.specs.Reading.{shown_in}
-use Rattle.lw_reg.specs.Registration.{Registration}
 use Rattle.lw_reg.specs.State.{state_join, state_of, IsStateOf}
 use Rattle.lw_reg.proofs.Members.{first_there, none_there}
 use Rattle.lw_reg.proofs.Operations.{append_names}
 use Rattle.lw_reg.proofs.Same.{members_decide, state_self, state_names}
 use Rattle.lw_reg.proofs.States.{state_least}
 use Rattle.lw_table.proofs.LookUpLemmas.{marks_tell}
-use Rattle.lw_request.specs.declared.asked.Asked.{Asked}
-use Rattle.lw_request.specs.declared.asked.Asked.TheVariants.{Update, Deregister, Report}
-use Rattle.lw_request.specs.Report.{ReportContent}
 use Rattle.lw_call.specs.declared.call.Call.{Call}
 use Rattle.lw_call.specs.declared.call.Call.TheVariants as calls
 use Rattle.lw_call.specs.declared.merge_fault.MergeFault.{MergeFault}
@@ -33,13 +26,14 @@ use Rattle.lw_call.specs.declared.reply.Reply.{Reply}
 use Rattle.lw_call.specs.declared.reply.Reply.TheVariants as replies
 use Rattle.lw_call.specs.Contents.{OutgoingContent}
 use Rattle.lw_node.specs.Calls.{Sent, place_at}
-use Rattle.lw_node.specs.Effects.{Place, Effect, Request, Refused, IsNamed, IsWatched, ReportMeans, Does, DatagramMeans, ObserveMeans, CancelMeans}
+use Rattle.lw_node.specs.Effects.{Place, Request, Refused, ObserveMeans, CancelMeans}
 use Rattle.lw_node.specs.Exchange.{Merged, state_in}
 use Rattle.lw_node.specs.Exchange.{Merges as NodeMerges}
 use Rattle.lw_node.specs.Node.{NodeContent, IsAfter, fresh}
 use Rattle.lw_node.specs.Node.Known.{Shown, Told}
 use Rattle.lw_node.specs.Steps.{Steps as NodeSteps}
-use Rattle.lw_world.proofs.Deciding.{Agree, told_agree, other_way, id_along, token_along, answers_along}
+use Rattle.lw_world.proofs.Deciding.{Agree, told_agree, id_along, token_along, answers_along}
+use Rattle.lw_world.proofs.Freshness.{datagram_along}
 use Rattle.lw_held.specs.declared.entry.Entry.{Entry}
 use Rattle.lw_held.specs.History.{IsStep, Leads}
 use Rattle.lw_held.specs.Marked.{Marked, unmarked, place_of, node_of, Adds, AddsOr, Commanded, AreShown, Brings, Merges, Steps, MarksLead}
@@ -47,30 +41,6 @@ use Rattle.lw_held.proofs.Shown.{about_names, marks_shown, shown_names, shown_st
 
 -- ---- what the same state decides
 module _ (M N : Marks) (agree : (now : ℕ) → Agree M N now) where
-  named_along : (now : ℕ) (id : Option Stamp) (found : Option Registration) → IsNamed M now id found → IsNamed N now id found
-  named_along now None found h = h
-  named_along now (Some id) found h = id_along M N now (agree now) id found h
-
-  watched_along : (now : ℕ) (token : List ℕ) (x : Registration × Watch) → IsWatched M now token x → IsWatched N now token x
-  watched_along now token x h = (h.0, h.1, token_along M N now (agree now) h.0 (Some x) h.2)
-
-  watched_back : (now : ℕ) (token : List ℕ) (x : Registration × Watch) → IsWatched N now token x → IsWatched M now token x
-  watched_back now token x h = (h.0, h.1, token_along N M now (other_way M N now (agree now)) h.0 (Some x) h.2)
-
-  report_along : (place : Place) (report : ReportContent) (effect : Effect) → ReportMeans place M report effect → ReportMeans place N report effect
-  report_along place report effect (inl none) = inl (λ x h. none.0 x (watched_back place.now report.token x h), none.1)
-  report_along place report effect (inr some) = inr (some.0, watched_along place.now report.token some.0 some.1, some.2)
-
-  does_along : (place : Place) (source : Addr) (m : MessageContent) (asked : Asked) (effect : Effect) → Does place M source m asked effect → Does place N source m asked effect
-  does_along place source m (Update id lifetime binding sms objects) effect h = (h.0, named_along place.now id h.0 h.1, h.2)
-  does_along place source m (Deregister id) effect h = (h.0, named_along place.now id h.0 h.1, h.2)
-  does_along place source m (Report report) effect h = report_along place report effect h
-  does_along place source m _ effect h = h
-
-  datagram_along : (place : Place) (source : Addr) (bytes : List ℕ) (effect : Effect) → DatagramMeans place M source bytes effect → DatagramMeans place N source bytes effect
-  datagram_along place source bytes effect (inl h) = inl (h.0, h.1, (h.2.0, h.2.1, does_along place source h.0 h.2.0 effect h.2.2))
-  datagram_along place source bytes effect (inr h) = inr h
-
   observe_along : (place : Place) (id : Stamp) (path : Path) (accept : Option ℕ) (mid : ℕ) (outcome : Result (Request × Op) Refused) → ObserveMeans place M id path accept mid outcome → ObserveMeans place N id path accept mid outcome
   observe_along place id path accept mid outcome h = (h.0, id_along M N place.now (agree place.now) id h.0 h.1, h.2)
 
@@ -86,7 +56,7 @@ module _ (M N : Marks) (agree : (now : ℕ) → Agree M N now) where
 
   steps_along : (call : Call) (reply : Reply) (old new : NodeContent) → NodeSteps old M call reply new → NodeSteps old N call reply new
   steps_along (calls.Take now source bytes) (replies.Take (Ok taken)) old new s =
-      record { reply = s.reply; operation = s.operation; meant = datagram_along (place_at old (ms_of now)) source bytes _ s.meant; replied = s.replied; left = s.left }
+      record { reply = s.reply; operation = s.operation; meant = datagram_along M N (place_at old (ms_of now)) (agree (ms_of now)) source bytes _ s.meant; replied = s.replied; left = s.left }
   steps_along (calls.Take now source bytes) (replies.Take (Err refused)) old new s = s
   steps_along (calls.Observe now id path accept mid) (replies.Observe outcome) old new s = sent_along _ _ (observe_along (place_at old (ms_of now)) id path accept mid) old new outcome s
   steps_along (calls.Cancel now token mid) (replies.Cancel outcome) old new s = sent_along _ _ (cancel_along (place_at old (ms_of now)) token mid) old new outcome s

@@ -91,7 +91,7 @@ module _ (M N : Marks) (place : Place) (a : Agree M N place.now) where
   does_along source m Reject effect h = h
   does_along source m Ignore effect h = h
 
-  datagram_along : (source : Addr) (bytes : List ℕ) (effect : Effect) → DatagramMeans place M source bytes effect → DatagramMeans place N source bytes effect
+  pub datagram_along : (source : Addr) (bytes : List ℕ) (effect : Effect) → DatagramMeans place M source bytes effect → DatagramMeans place N source bytes effect
   datagram_along source bytes effect (inl (m, spelled, (asked, means, does))) = inl (m, spelled, (asked, means, does_along source m asked effect does))
   datagram_along source bytes effect (inr h) = inr h
 
