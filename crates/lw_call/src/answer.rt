@@ -2,7 +2,7 @@ use lw_reg::{Seen, Text, Watch};
 use lw_stamp::Stamp;
 
 /// What is answered to a question, owned.
-#[derive(Debug, Drop)]
+#[derive(Drop)]
 pub enum Answer {
     Registration(Option<Seen>),
     /// A live watch, and its registration.

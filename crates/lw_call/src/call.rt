@@ -4,7 +4,7 @@ use lw_reg::{Addr, Path};
 use lw_stamp::{Moment, Stamp};
 
 /// A call of a node.
-#[derive(Debug, Drop)]
+#[derive(Drop)]
 pub enum Call {
     /// A datagram comes, at a moment, from an address.
     Take {

@@ -3,7 +3,7 @@ use lw_stamp::Stamp;
 use std::marker::Model;
 
 /// What a device tells of an observation (RFC 7641, section 3).
-#[derive(Debug, Drop)]
+#[derive(Drop)]
 pub struct Notice {
     /// The token of the observation.
     pub token: Stamp,

@@ -3,7 +3,7 @@ use lw_stamp::Stamp;
 use std::marker::Model;
 
 /// A request that is to be sent to a device.
-#[derive(Debug, Drop)]
+#[derive(Drop)]
 pub struct Outgoing {
     pub to: Addr,
     /// The token of the observation.

@@ -2,7 +2,7 @@ use lw_reg::{Addr, Path, Text};
 use lw_stamp::Stamp;
 
 /// What can be asked of a node at a moment.
-#[derive(Debug, Drop)]
+#[derive(Drop)]
 pub enum Question {
     ById(Stamp),
     ByEndpoint(Text),

@@ -7,7 +7,7 @@ use crate::taken::Taken;
 use lw_stamp::NoMemory;
 
 /// What a call gives.
-#[derive(Debug, Drop)]
+#[derive(Drop)]
 pub enum Reply {
     Take(Result<Taken, NoMemory>),
     Observe(Result<Outgoing, ObserveFault>),

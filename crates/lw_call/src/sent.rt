@@ -1,7 +1,7 @@
 use std::marker::Model;
 
 /// What a node sends of its state.
-#[derive(Debug, Drop)]
+#[derive(Drop)]
 pub struct Sent {
     /// The bytes of the delta.
     pub delta: Vec<u8>,

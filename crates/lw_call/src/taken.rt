@@ -2,7 +2,7 @@ use crate::notice::Notice;
 use std::marker::Model;
 
 /// What a node gives for a datagram.
-#[derive(Debug, Drop)]
+#[derive(Drop)]
 pub struct Taken {
     /// The datagram to send back, where one is owed.
     pub reply: Option<Vec<u8>>,

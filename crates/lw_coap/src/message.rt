@@ -35,7 +35,7 @@ impl Kind {
 }
 
 /// An option of a message (RFC 7252, section 3.1).
-#[derive(Debug, Drop)]
+#[derive(Drop)]
 pub struct CoapOption {
     pub number: u16,
     pub value: Vec<u8>,
@@ -50,7 +50,7 @@ impl Model for CoapOption {
 }
 
 /// A message (RFC 7252, section 3). An empty payload is none.
-#[derive(Debug, Drop)]
+#[derive(Drop)]
 pub struct Message {
     pub kind: Kind,
     /// Class in the upper three bits, detail in the lower five.

@@ -6,7 +6,7 @@ ghost use Rattle.lw_crew.specs.Gather.{number_of};
 use lw_held::Call;
 
 /// A call that is to be made of a node. Its number is its place in the list of jobs, from 0.
-#[derive(Debug, Drop)]
+#[derive(Drop)]
 pub struct Job {
     pub node: u16,
     pub call: Call,

@@ -2,7 +2,7 @@ use lw_reg::{Endpoint, Slot};
 use std::marker::Model;
 
 /// What a node sends of its state: its clock, and slots by their endpoints, which rise.
-#[derive(Debug, Drop)]
+#[derive(Drop)]
 pub struct Delta {
     /// The counter of the sender's clock.
     pub clock: u64,

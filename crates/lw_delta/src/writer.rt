@@ -19,7 +19,7 @@ const LEAST: usize = 11;
 
 /// Puts a delta together: a clock, and slots by endpoints that rise. Contracts see the clock and the bytes so
 /// far.
-#[derive(Debug, Drop)]
+#[derive(Drop)]
 pub struct Writer {
     clock: u64,
     bytes: Vec<u8>,

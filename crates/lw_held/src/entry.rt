@@ -3,7 +3,7 @@ ghost use Rattle.std.specs.Prelude.{◌≡◌, ◌↔◌, IsTrue};
 use lw_node::{Call, Reply};
 
 /// A call that was made of a node, and its reply.
-#[derive(Debug, Drop)]
+#[derive(Drop)]
 pub struct Entry {
     /// The number of the pass that the call was made with.
     pub pass: u32,
@@ -26,7 +26,7 @@ impl Entry {
 }
 
 /// A part of a transcript: an entry, and where it stands in the journal of its node.
-#[derive(Debug, Drop)]
+#[derive(Drop)]
 pub struct Part {
     pub node: u16,
     /// The place in the node's journal, from 0.

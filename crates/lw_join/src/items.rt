@@ -8,7 +8,7 @@ use lw_stamp::NoMemory;
 use std::marker::Model;
 
 /// A `Vec` that contracts see as the list of its items, without its capacity.
-#[derive(Debug, Drop)]
+#[derive(Drop)]
 pub(crate) struct Items<T> {
     items: Vec<T>,
 }

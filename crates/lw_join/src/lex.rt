@@ -3,7 +3,7 @@ use lw_stamp::{NoMemory, Stamp};
 use std::cmp::Ordering;
 
 /// A stamp and a value: the greater stamp wins whole, and at equal stamps the values join.
-#[derive(Debug, PartialEq, Eq, Drop)]
+#[derive(PartialEq, Eq, Drop)]
 pub struct Lex<J> {
     pub stamp: Stamp,
     pub value: J,

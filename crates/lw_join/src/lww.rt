@@ -5,7 +5,7 @@ use lw_stamp::{NoMemory, Stamp};
 /// A register whose last writer wins: nothing, or a value with the stamp that wrote it.
 ///
 /// Nothing is below every write, and of two writes the greater counts, by stamp and then by value.
-#[derive(Debug, PartialEq, Eq, Drop)]
+#[derive(PartialEq, Eq, Drop)]
 pub struct Lww<V> {
     pub write: Option<(Stamp, V)>,
 }

@@ -3,7 +3,7 @@ use crate::join::{Calm, Join};
 use lw_stamp::NoMemory;
 
 /// Nothing, or a value. Nothing is below every value, and of two values the greater counts.
-#[derive(Debug, PartialEq, Eq, Drop)]
+#[derive(PartialEq, Eq, Drop)]
 pub struct Once<V> {
     pub value: Option<V>,
 }

@@ -2,7 +2,7 @@ use crate::join::{Calm, Join};
 use lw_stamp::NoMemory;
 
 /// A value, or gone for good, which is above every value.
-#[derive(Debug, PartialEq, Eq, Drop)]
+#[derive(PartialEq, Eq, Drop)]
 pub enum OrGone<J> {
     Here(J),
     Gone,

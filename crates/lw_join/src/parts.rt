@@ -11,7 +11,7 @@ use lw_stamp::NoMemory;
 use std::alloc::Global;
 
 /// A map whose values join key by key. An absent key is below every value.
-#[derive(Debug, Drop)]
+#[derive(Drop)]
 pub struct Parts<K: Ord, J> {
     entries: Items<(K, J)>,
     pub ghost rises: { Rises K.cmp entries } by { Rises-prop K.cmp entries },

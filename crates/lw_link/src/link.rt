@@ -2,7 +2,7 @@ use lw_stamp::Text;
 use std::marker::Model;
 
 /// The value of an attribute (RFC 6690, section 2). Printing keeps plain and quoted apart.
-#[derive(Debug, Drop)]
+#[derive(Drop)]
 pub enum AttrValue {
     /// The attribute is a name alone.
     Absent,
@@ -12,14 +12,14 @@ pub enum AttrValue {
 }
 
 /// An attribute of a link (RFC 6690, section 2).
-#[derive(Debug, Drop)]
+#[derive(Drop)]
 pub struct Attr {
     pub name: Text,
     pub value: AttrValue,
 }
 
 /// A link (RFC 6690, section 2).
-#[derive(Debug, Drop)]
+#[derive(Drop)]
 pub struct Link {
     /// What stands between `<` and `>`.
     pub target: Text,

@@ -9,7 +9,7 @@ use std::alloc::Global;
 use std::marker::Model;
 
 /// A text of at most 8,192 bytes that is the printing of 1 to 256 links. Contracts see its bytes.
-#[derive(Debug, Drop)]
+#[derive(Drop)]
 pub struct LinkText {
     text: String,
 }

@@ -8,7 +8,7 @@ use lw_stamp::{Moment, NoMemory};
 pub type Watching = Lex<OrGone<Once<u16>>>;
 
 /// What is known of a registration that was not removed.
-#[derive(Debug, Drop)]
+#[derive(Drop)]
 pub(crate) struct Body {
     pub(crate) base: Once<Base>,
     pub(crate) address: Lww<Addr>,

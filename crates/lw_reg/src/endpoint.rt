@@ -5,7 +5,7 @@ use crate::Text;
 use std::marker::Model;
 
 /// The name of a client: a text of 1 to 252 bytes. Contracts see its bytes, and by these it is ordered.
-#[derive(Debug, PartialEq, Eq, PartialOrd, Ord, Drop)]
+#[derive(PartialEq, Eq, PartialOrd, Ord, Drop)]
 pub struct Endpoint {
     text: Text,
 }

@@ -5,7 +5,7 @@ use lw_stamp::{Moment, Stamp};
 
 /// What a slot keeps of a registration that was not removed: its base, the last write of each field with
 /// the stamp of the operation that wrote it, and the last watch of each path.
-#[derive(Debug, Drop)]
+#[derive(Drop)]
 pub struct Fields {
     pub base: Option<Base>,
     pub address: Option<(Stamp, Addr)>,

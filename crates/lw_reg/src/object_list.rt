@@ -5,7 +5,7 @@ use lw_link::LinkText;
 use std::marker::Model;
 
 /// The object list of a slot, which lists that compare equal are one of. Contracts see its bytes.
-#[derive(Debug, PartialEq, Eq, PartialOrd, Ord, Drop)]
+#[derive(PartialEq, Eq, PartialOrd, Ord, Drop)]
 pub(crate) struct ObjectList {
     pub(crate) text: LinkText,
 }

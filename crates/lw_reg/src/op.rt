@@ -3,7 +3,7 @@ use lw_link::LinkText;
 use lw_stamp::{Moment, Stamp};
 
 /// An operation on a registration.
-#[derive(Debug, Drop)]
+#[derive(Drop)]
 pub struct Op {
     pub stamp: Stamp,
     pub endpoint: Endpoint,
@@ -13,7 +13,7 @@ pub struct Op {
 }
 
 /// What an operation does.
-#[derive(Debug, Drop)]
+#[derive(Drop)]
 pub enum What {
     Register {
         version: Version,

@@ -6,7 +6,7 @@ use lw_stamp::{Moment, Stamp};
 use std::marker::Model;
 
 /// What is shown of a registration, owned.
-#[derive(Debug, Drop)]
+#[derive(Drop)]
 pub struct Seen {
     pub endpoint: Text,
     pub id: Stamp,

@@ -20,7 +20,7 @@ use std::mem::size_of;
 
 /// What is known of an endpoint: the stamp of its current registration, and what is known of that, or
 /// gone once it was removed.
-#[derive(Debug, Drop)]
+#[derive(Drop)]
 pub struct Slot {
     pub(crate) registration: Lex<Told>,
 }

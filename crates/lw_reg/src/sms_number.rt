@@ -5,7 +5,7 @@ use std::marker::Model;
 
 /// The number that a client takes SMS at: a text of at most 251 bytes. Contracts see its bytes, and
 /// by these it is ordered.
-#[derive(Debug, PartialEq, Eq, PartialOrd, Ord, Drop)]
+#[derive(PartialEq, Eq, PartialOrd, Ord, Drop)]
 pub struct SmsNumber {
     text: Text,
 }

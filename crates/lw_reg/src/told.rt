@@ -13,12 +13,12 @@ use std::alloc::Global;
 use std::marker::Model;
 
 /// What is known of a registration, or that it was removed. Contracts see the body, also where it has no box.
-#[derive(Debug, Drop)]
+#[derive(Drop)]
 pub(crate) struct Told {
     kept: Kept,
 }
 
-#[derive(Debug, Drop)]
+#[derive(Drop)]
 enum Kept {
     Nothing,
     Known(Box<Body>),

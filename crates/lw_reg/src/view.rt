@@ -7,7 +7,7 @@ use std::alloc::Global;
 use std::marker::Model;
 
 /// What is shown of a registration, lent.
-#[derive(Debug, Drop)]
+#[derive(Drop)]
 pub struct View<'a> {
     pub endpoint: &'a str,
     pub id: Stamp,

@@ -4,7 +4,7 @@ use lw_reg::{Binding, Endpoint, SmsNumber, Version};
 use lw_stamp::Stamp;
 
 /// What a message asks of the server (LwM2M 1.1 Core, section 6.2; RFC 7252, section 4.2).
-#[derive(Debug, Drop)]
+#[derive(Drop)]
 pub enum Asked {
     /// A POST on `rd`: a new registration.
     Register {

@@ -8,7 +8,7 @@ use std::alloc::Global;
 use std::marker::Model;
 
 /// A response: a notification of an observation, or its end (RFC 7641, section 3).
-#[derive(Debug, Drop)]
+#[derive(Drop)]
 pub struct Report {
     pub kind: Kind,
     /// The message ID.

@@ -17,7 +17,7 @@ use std::marker::Model;
 use std::str;
 
 /// The number of nodes of a run, and what happens at them, in order.
-#[derive(Debug, Drop)]
+#[derive(Drop)]
 pub struct Script {
     /// From 1 to 16.
     pub nodes: u16,

@@ -52,7 +52,9 @@ pub(super) fn reply_text(alloc: Global, reply: &Reply) -> Result<String, Fail> {
         }
         Reply::Merge(Ok(count)) => Ok(format!(in alloc; "joined {count}")?),
         Reply::Ask(Ok(answer)) => answer_text(alloc, answer),
-        other => Ok(format!(in alloc; "{other:?}")?),
+        Reply::Cancel(Err(fault)) => Ok(format!(in alloc; "Cancel(Err({fault:?}))")?),
+        Reply::Merge(Err(fault)) => Ok(format!(in alloc; "Merge(Err({fault:?}))")?),
+        _ => Ok(String::from_str(alloc, "refused")?),
     }
 }
 

@@ -2,7 +2,7 @@ use lw_node::{Addr, Bytes, Path, Question};
 use lw_stamp::{Moment, Stamp};
 
 /// What happens at a node of a run.
-#[derive(Debug, Drop)]
+#[derive(Drop)]
 pub struct Event {
     /// The number of the node, from 1. It may be of no node.
     pub node: u16,
@@ -10,7 +10,7 @@ pub struct Event {
 }
 
 /// What a node of a run does.
-#[derive(Debug, Drop)]
+#[derive(Drop)]
 pub enum Action {
     /// It takes a datagram, at a moment, from an address.
     Take {

@@ -2,7 +2,7 @@ use lw_node::{Answer, MergeFault, ObserveFault, Outgoing, Taken};
 use lw_stamp::NoMemory;
 
 /// What comes of an event.
-#[derive(Debug, Drop)]
+#[derive(Drop)]
 pub enum Outcome {
     Taken(Result<Taken, NoMemory>),
     Observed(Result<Outgoing, ObserveFault>),
