@@ -48,6 +48,10 @@ module _ (place : Place) (request : MessageContent) (Does : Op → Type 0) (repl
       → Decides (Issues place request Does reply) (record { reply = bytes; notice = None; operation = Some op })
   decides_issue bytes op next does replied = record { reply = Some (reply op); meant = inr (op, next, does, refl); replied = replied }
 
+  pub decides_operation : (d : DecisionContent) (op : Op) → IsNext place op.stamp → Does op → IsReply d.reply (Some (reply op))
+      → d ≡ record { reply = d.reply; notice = None; operation = Some op } → Decides (Issues place request Does reply) d
+  decides_operation d op next does replied same = subst (Decides (Issues place request Does reply)) (sym same) (decides_issue d.reply op next does replied)
+
 module _ (place : Place) (M : Marks) (request : MessageContent) (id : Option Stamp) (Does : What → Type 0) (code : ℕ) where
   pub decides_unnamed : (d : DecisionContent) (bytes : Option (List ℕ)) → IsNamed M place.now id None → IsReply bytes (Some (answers request 132 None)) → d ≡ replying bytes
       → Decides (NamedChanges place M request id Does code) d

@@ -5,7 +5,7 @@ ghost use Rattle.lw_stamp.specs.Moment.{ms_of};
 ghost use Rattle.lw_reg.specs.Endpoint.{IsEndpoint};
 ghost use Rattle.lw_reg.specs.declared.op.What.{What as Whats};
 ghost use Rattle.lw_node.specs.Calls.{place_at, Decided, Decides, IsReply, IsSilent, silence};
-ghost use Rattle.lw_node.specs.Effects.{DatagramMeans, MessageMeans, Issues, IsNamed, NamedChanges, answers, created};
+ghost use Rattle.lw_node.specs.Effects.{DatagramMeans, MessageMeans, Issues, IsAbout, IsNamed, NamedChanges, answers, answered, created};
 ghost use Rattle.lw_node.specs.Node.{Known, IsKnown, marks_in};
 
 use crate::answering::{answered, malformed, rejected, reset_to};
@@ -99,17 +99,13 @@ impl Node {
         let Some(stamp) = self.next_stamp() else {
             return refused(self.alloc, request, SERVICE_UNAVAILABLE);
         };
-        let reply = answered(self.alloc, request, CREATED, Some(stamp))?;
-        Ok(Decision {
-            reply,
-            notice: None,
-            operation: Some(Op {
-                stamp,
-                endpoint,
-                reg: stamp,
-                what,
-            }),
-        })
+        let operation = Op {
+            stamp,
+            endpoint,
+            reg: stamp,
+            what,
+        };
+        operates(self.alloc, request, CREATED, Some(stamp), operation)
     }
 
     /// A request on a registration is answered with the code, where the registration is shown.
@@ -129,21 +125,33 @@ impl Node {
         let Some(view) = self.named(now, id) else {
             return refused(self.alloc, request, NOT_FOUND);
         };
+        self.decide_about(&view, request, what, code)
+    }
+
+    /// A request on a registration that is shown is answered with the code.
+    fn decide_about(
+        &self,
+        view: &View<'_>,
+        request: &Message,
+        what: What,
+        code: u8,
+    ) -> Result<Decision, NoMemory>
+        requires endpoint { IsEndpoint view.now.endpoint }
+        requires kind { (request.now.kind ≡ Kind.Con) ⊎ (request.now.kind ≡ Kind.Non) }
+        requires token { length request.now.token ≤ 8 }
+        requires code { 0 < code }
+        ensures { (now : ℕ) → IfOk result (Decides (Issues (place_at self.now now) request.now (λ op. IsAbout view.now op × (op.what ≡ what)) (answered request.now code))) }
+    {
         let Some(stamp) = self.next_stamp() else {
             return refused(self.alloc, request, SERVICE_UNAVAILABLE);
         };
-        let endpoint = endpoint_of(self.alloc, view.endpoint)?;
-        let reply = answered(self.alloc, request, code, None)?;
-        Ok(Decision {
-            reply,
-            notice: None,
-            operation: Some(Op {
-                stamp,
-                endpoint,
-                reg: view.id,
-                what,
-            }),
-        })
+        let operation = Op {
+            stamp,
+            endpoint: endpoint_of(self.alloc, view.endpoint)?,
+            reg: view.id,
+            what,
+        };
+        operates(self.alloc, request, code, None, operation)
     }
 
     /// The shown registration that a request names, if it names one.
@@ -184,4 +192,25 @@ fn refused(alloc: Global, request: &Message, code: u8) -> Result<Decision, NoMem
     ensures { IfOk result (λ d. IsReply d.reply (Some (answers request.now code None)) × (d ≡ record { reply = d.reply; notice = None; operation = None })) }
 {
     Ok(Decision::reply(answered(alloc, request, code, None)?))
+}
+
+/// A request that is an operation is answered with the code.
+fn operates(
+    alloc: Global,
+    request: &Message,
+    code: u8,
+    location: Option<Stamp>,
+    operation: Op,
+) -> Result<Decision, NoMemory>
+    requires kind { (request.now.kind ≡ Kind.Con) ⊎ (request.now.kind ≡ Kind.Non) }
+    requires token { length request.now.token ≤ 8 }
+    requires code { 0 < code }
+    ensures { IfOk result (λ d. IsReply d.reply (Some (answers request.now code location)) × (d ≡ record { reply = d.reply; notice = None; operation = Some operation })) }
+{
+    let reply = answered(alloc, request, code, location)?;
+    Ok(Decision {
+        reply,
+        notice: None,
+        operation: Some(operation),
+    })
 }
