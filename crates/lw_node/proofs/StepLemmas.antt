@@ -16,6 +16,7 @@ use Rattle.lw_call.specs.declared.call.Call.TheVariants as calls
 use Rattle.lw_call.specs.declared.observe_fault.ObserveFault.{ObserveFault}
 use Rattle.lw_call.specs.declared.observe_fault.ObserveFault.TheVariants as faults
 use Rattle.lw_call.specs.declared.question.Question.{Question}
+use Rattle.lw_call.specs.declared.reply.Reply.{Reply}
 use Rattle.lw_call.specs.declared.reply.Reply.TheVariants as replies
 use Rattle.lw_call.specs.Contents.{TakenContent, OutgoingContent}
 use Rattle.lw_call.specs.Found.{IsFound}
@@ -33,6 +34,10 @@ use Rattle.lw_node.proofs.NextOperation.{datagram_next, observe_next, cancel_nex
 pub by_known : (P : Marks → Type 0) (node : NodeContent) → P (shown_in node.table.state) → ((ms : List Mark) → Knows node ms → P (among ms)) → (known : Known) → IsKnown node.table.state known → P (marks_in node.table.state known)
 by_known P node read marks Shown is = read
 by_known P node read marks (Told ms) is = marks ms is
+
+-- a step of one call is one of a call of equal content
+pub steps_as : (old new : NodeContent) (M : Marks) (call given : Call) (reply : Reply) → given ≡ call → Steps old M call reply new → Steps old M given reply new
+steps_as old new M call given reply is = subst (λ (x : Call). Steps old M x reply new) (sym is)
 
 -- ---- datagrams
 pub decided_next : (node : NodeContent) (now : ℕ) (source : Addr) (bytes : List ℕ) (d e : DecisionContent) → d ≡ e → FitsClock node.clock node.table.state → Decided node.table.state (λ M. DatagramMeans (place_at node now) M source bytes) e → IfSome d.operation (IsNextOf node.clock)

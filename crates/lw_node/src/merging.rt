@@ -1,8 +1,11 @@
 //! Deltas of other nodes.
 
-ghost use Rattle.std.specs.Prelude.{◌≡◌, ◌↔◌, ℕ, [], List, IsOk, Err};
+ghost use Rattle.std.specs.Prelude.{◌≡◌, ◌↔◌, ℕ, [], List, IsOk, OnOk, OnErr, Err};
 ghost use Rattle.std.specs.List.Sorted.{IsStrictlySortedBy};
 ghost use Rattle.lw_stamp.specs.TextOrder.{text_cmp};
+ghost use Rattle.lw_join.specs.Maps.{one_key};
+ghost use Rattle.lw_reg.specs.State.{state_join};
+ghost use Rattle.lw_table.specs.Changes.{Recounts};
 ghost use Rattle.lw_delta.specs.declared.fault.DeltaFault.{DeltaFault as Faults};
 ghost use Rattle.lw_delta.specs.Delta.{DeltaContent, IsSpelling, IsFault};
 ghost use Rattle.lw_node.specs.Exchange.{Merges, IsLeastOfBoth, known_by, known_from, JoinsSlots};
@@ -11,6 +14,7 @@ use crate::node::Node;
 use lw_call::MergeFault;
 use lw_delta::{check, read};
 use lw_reg::{Endpoint, Slot};
+use lw_stamp::NoMemory;
 use lw_table::Table;
 
 impl Node {
@@ -43,11 +47,21 @@ fn join_slots(table: &mut Table, slots: Vec<(Endpoint, Slot)>) -> Result<usize, 
 {
     let count = slots.len();
     let mut joined = 0;
-    for (endpoint, slot) in slots {
-        if table.join(&endpoint, slot).is_err() {
+    for entry in slots {
+        if join_slot(table, entry).is_err() {
             return Err(MergeFault::NoMemory { joined });
         }
         joined += 1;
     }
     Ok(count)
+}
+
+/// Joins a slot to that of its endpoint.
+fn join_slot(table: &mut Table, entry: (Endpoint, Slot)) -> Result<(), NoMemory>
+    ensures state { OnOk result (table.new.state ≡ state_join table.old.state (one_key entry.0 entry.1)) }
+    ensures count { OnOk result (Recounts table.old.state table.new.state table.old.count table.new.count) }
+    ensures unchanged { OnErr result (table.new ≡ table.old) }
+{
+    let (endpoint, slot) = entry;
+    table.join(&endpoint, slot)
 }

@@ -5,22 +5,22 @@ use Rattle.lw_reg.specs.declared.slot.Slot.{Slot}
 use Rattle.lw_node.proofs.Joining.{entry_cmp, before_below, joined_none, joined_more, no_error}
 use Rattle.lw_node.proofs.merging.join_slots.Goals as goal
 
-pub loop-endpoint-init : goal.loop-endpoint-init
-loop-endpoint-init c = (
+pub loop-entry-init : goal.loop-entry-init
+loop-entry-init c = (
   tt,
   tt,
   record {
     done = [];
-    split = c.into_iter-endpoint-iterator.ensures.into_iter_gives.0;
+    split = c.into_iter-entry-iterator.ensures.into_iter_gives.0;
     counted = omega arith;
     joined_to = joined_none c.args.table.now;
   },
 )
 
-pub loop-endpoint-preserved : goal.loop-endpoint-preserved
-loop-endpoint-preserved c =
-    let so_far = c.loop-endpoint.invariant.2 in
-    let x : List ℕ × Slot = (c.in-Some.endpoint, c.in-Some.slot) in
+pub loop-entry-preserved : goal.loop-entry-preserved
+loop-entry-preserved c =
+    let so_far = c.loop-entry.invariant.2 in
+    let x : List ℕ × Slot = c.in-Some.entry in
     let rest = into_iter_items c.next.new.self in
     let split = ap (λ (left : List (List ℕ × Slot)). so_far.done ++ left) (sym c.in-Some.ensures.steps.0) ∙ so_far.split in
     let below = before_below so_far.done x rest (subst (IsStrictlySortedBy entry_cmp) (sym split) c.requires) in
@@ -31,6 +31,6 @@ loop-endpoint-preserved c =
         done = so_far.done ++ x ∷ [];
         split = append_assoc so_far.done (x ∷ []) rest ∙ split;
         counted = omega (arith, length-append so_far.done (x ∷ []), so_far.counted);
-        joined_to = joined_more c.args.table.now c.loop-endpoint.table c.join.new.self so_far.done x below so_far.joined_to (no_error c.join.result is_ok c.join.ensures.state) (no_error c.join.result is_ok c.join.ensures.count);
+        joined_to = joined_more c.args.table.now c.loop-entry.table c.join_slot.new.table so_far.done x below so_far.joined_to (no_error c.join_slot.result is_ok c.join_slot.ensures.state) (no_error c.join_slot.result is_ok c.join_slot.ensures.count);
       },
     )
