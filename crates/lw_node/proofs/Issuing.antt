@@ -1,6 +1,6 @@
 -- What a node is after an operation was joined to its table.
-use Rattle.std.proofs.Common.{◌≡◌, ◌∙◌, ℕ, ◌+◌, Bool, true, false, cond, List, Option, Some, None, Result, Ok, Err, refl, sym, ap, subst, arith}
-use Rattle.std.specs.Prelude.{IsSome, OnOk, max}
+use Rattle.std.proofs.Common.{◌≡◌, ◌∙◌, ℕ, ◌+◌, Bool, true, false, cond, List, Option, Some, None, refl, sym, ap, subst, arith}
+use Rattle.std.specs.Prelude.{IsSome, max}
 use Rattle.std.specs.FinMap.{empty, get, get-empty}
 use Rattle.std.specs.Ordering.{eq_by_cmp}
 use Rattle.std.proofs.Math.Nat.{max-eq_right}
@@ -35,10 +35,6 @@ endpoints_join s e0 slot named has e h = by_key (eq_by_cmp text_cmp e e0) refl (
     by_key true same o at some = subst IsEndpoint (sym (tells_apart text_order.exact e e0 same)) named
     by_key false same None at some = absurd (none _ (sym (λ i. option_join slot_join (at i) (cond (same i) (Some slot) None))) some)
     by_key false same (Some own) at some = has e (subst (λ (x : Option Slot). IsSome x) (sym at) refl)
-
-pub on_ok : {T E P Q : Type 0} (r : Result T E) → (P → Q) → OnOk r P → OnOk r Q
-on_ok (Ok x) f h = f h
-on_ok (Err e) f h = tt
 
 -- the slot of an operation is the state of its marks
 pub joined_marks : (s : State) (op : Op) → state_join s (one_key op.endpoint (slot_of op)) ≡ state_join s (state_of (marks_of op))

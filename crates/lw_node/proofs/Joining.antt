@@ -1,13 +1,14 @@
 -- The state of slots, joined one after another, and how the count goes on.
-use Rattle.std.proofs.Common.{◌≡◌, ◌≢◌, inl, inr, ℕ, zero, suc, ◌+◌, ◌<◌, ◌≤◌, Bool, true, false, cond, List, [], ◌∷◌, ◌++◌, length, get_or, Option, Some, None, Result, Ok, Err, refl, sym, ap, ◌∙◌, subst, arith, length-append}
+use Rattle.std.proofs.Common.{◌≡◌, ◌≢◌, inl, inr, ℕ, zero, suc, ◌+◌, ◌<◌, ◌≤◌, Bool, true, false, cond, List, [], ◌∷◌, ◌++◌, length, get_or, take, Option, Some, None, Result, Ok, Err, refl, sym, ap, ◌∙◌, subst, arith, length-append}
 use Rattle.std.specs.Prelude.{◌↔◌, Contains, slice_get}
 use Rattle.std.specs.declared.cmp.Ordering.{Ordering}
 use Rattle.std.specs.declared.cmp.Ordering.TheVariants.{Less, Equal, Greater}
 use Rattle.std.specs.Ordering.{eq_by_cmp, is_eq}
 use Rattle.std.specs.FinMap.{empty, get, get-empty}
-use Rattle.std.specs.Result.{is_err, OnOk}
+use Rattle.std.specs.Result.{is_err, OnOk, OnErr}
 use Rattle.std.specs.List.{AllByRecursion}
 use Rattle.std.specs.List.Sorted.{IsStrictlySortedBy}
+use Rattle.std.proofs.Math.Seq.{take-append_seam}
 use Rattle.std.proofs.lemmas.Cmp.{eq_by_cmp_equiv}
 use Rattle.std.proofs.lemmas.List.{get_or_append_left, get_or-append-add}
 use Rattle.std.proofs.lemmas.List.Elements.{Contains-append_left, Contains-append_right, Contains-append_cases}
@@ -214,3 +215,18 @@ joined_more old mid new done x below h state count = record {
 pub no_error : {T E P : Type 0} (r : Result T E) → is_err r ≡ false → OnOk r P → P
 no_error (Ok x) h p = p
 no_error (Err e) h p = absurd (let bad = h in cc)
+
+pub an_error : {T E P : Type 0} (r : Result T E) → is_err r ≡ true → OnErr r P → P
+an_error (Ok x) h p = absurd (let bad = h in cc)
+an_error (Err e) h p = p
+
+-- where the next has no memory, those so far are joined, fewer than all
+pub front_joined : (old now new : TableContent) (slots done rest : List (List ℕ × Slot)) (x : List ℕ × Slot) (joined : ℕ) → done ++ x ∷ rest ≡ slots → length done ≡ joined
+    → JoinedTo old done now → new ≡ now → (joined < length slots) × JoinedTo old (take joined slots) new
+front_joined old now new slots done rest x joined split counted to same = (
+  subst (λ (s : List (List ℕ × Slot)). joined < length s) split (omega (arith, length-append done (x ∷ rest), counted)),
+  subst (λ (t : TableContent). JoinedTo old (take joined slots) t) (sym same) (subst (λ (s : List (List ℕ × Slot)). JoinedTo old s now) (sym front) to),
+)
+  where
+    front : take joined slots ≡ done
+    front = ap (λ (n : ℕ). take n slots) (sym counted) ∙ ap (take (length done)) (sym split) ∙ take-append_seam done (x ∷ rest)

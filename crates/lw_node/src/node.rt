@@ -1,14 +1,10 @@
 ghost use Rattle.std.specs.Prelude.{◌≡◌, ◌↔◌, ◌+◌, ◌-◌, ◌^◌, List, IsNone, IfSome, IsOk, IfOk, OnOk, OnErr, None, Err, Some};
 ghost use Rattle.lw_stamp.specs.Moment.{ms_of};
-ghost use Rattle.lw_join.specs.Maps.{one_key};
 ghost use Rattle.lw_reg.specs.Endpoint.{IsEndpoint};
 ghost use Rattle.lw_reg.specs.Marks.{Mark, among};
 ghost use Rattle.lw_reg.specs.Reading.{shown_in};
 ghost use Rattle.lw_reg.specs.Registration.{Registration};
-ghost use Rattle.lw_reg.specs.Slot.{slot_of};
-ghost use Rattle.lw_reg.specs.State.{state_join};
 ghost use Rattle.lw_reg.specs.declared.watch.Watch.{Watch as Watches};
-ghost use Rattle.lw_table.specs.Changes.{Recounts};
 ghost use Rattle.lw_table.specs.LookUps.{ById, ByToken};
 ghost use Rattle.lw_node.specs.Calls.{Takes, IsSilent, Observes, Cancels};
 ghost use Rattle.lw_node.specs.Done.{IsDone};
@@ -184,22 +180,13 @@ impl Node {
         ensures issued { OnOk result (Issued self.old operation self.new) }
         ensures unchanged { OnErr result (self.new ≡ self.old) }
     {
+        let alloc = self.alloc;
         let counter = operation.stamp.counter;
-        join_operation(self.alloc, &mut self.table, operation)?;
+        let endpoint = endpoint_of(alloc, operation.endpoint.as_str())?;
+        self.table.join(&endpoint, atom(alloc, operation)?)?;
         self.clock.raise(counter);
         Ok(())
     }
-}
-
-/// Joins what the operation tells of its endpoint.
-fn join_operation(alloc: Global, table: &mut Table, operation: Op) -> Result<(), NoMemory>
-    ensures named { OnOk result (IsEndpoint operation.endpoint) }
-    ensures state { OnOk result (table.new.state ≡ state_join table.old.state (one_key operation.endpoint (slot_of operation))) }
-    ensures count { OnOk result (Recounts table.old.state table.new.state table.old.count table.new.count) }
-    ensures unchanged { OnErr result (table.new ≡ table.old) }
-{
-    let endpoint = endpoint_of(alloc, operation.endpoint.as_str())?;
-    table.join(&endpoint, atom(alloc, operation)?)
 }
 
 /// A copy of the name of a client.

@@ -2,7 +2,7 @@ use Rattle.std.proofs.Common.{ℕ, List, [], ◌∷◌, ◌++◌, sym, ap, ◌�
 use Rattle.std.specs.Vec.Iter.{into_iter_items}
 use Rattle.std.specs.List.Sorted.{IsStrictlySortedBy}
 use Rattle.lw_reg.specs.declared.slot.Slot.{Slot}
-use Rattle.lw_node.proofs.Joining.{entry_cmp, before_below, joined_none, joined_more, no_error}
+use Rattle.lw_node.proofs.Joining.{entry_cmp, before_below, joined_none, joined_more, front_joined, no_error, an_error}
 use Rattle.lw_node.proofs.merging.join_slots.Goals as goal
 
 pub loop-entry-init : goal.loop-entry-init
@@ -34,3 +34,13 @@ loop-entry-preserved c =
         joined_to = joined_more c.args.table.now c.loop-entry.table c.join_slot.new.table so_far.done x below so_far.joined_to (no_error c.join_slot.result is_ok c.join_slot.ensures.state) (no_error c.join_slot.result is_ok c.join_slot.ensures.count);
       },
     )
+
+pub returns-then-is_err : goal.returns-then-is_err
+returns-then-is_err c =
+    let so_far = c.loop-entry.invariant.2 in
+    let x : List ℕ × Slot = c.in-Some.entry in
+    let rest = into_iter_items c.next.new.self in
+    let split = ap (λ (left : List (List ℕ × Slot)). so_far.done ++ left) (sym c.in-Some.ensures.steps.0) ∙ so_far.split in
+    let refused = sym c.is_err.ensures.value ∙ c.if-is_err.true in
+    front_joined c.args.table.now c.loop-entry.table c.join_slot.new.table c.args.slots.items so_far.done rest x c.loop-entry.joined split so_far.counted so_far.joined_to
+    (an_error c.join_slot.result refused c.join_slot.ensures.unchanged)
