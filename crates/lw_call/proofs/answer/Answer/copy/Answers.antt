@@ -1,5 +1,4 @@
-use Rattle.std.proofs.Common.{rules}
 use Rattle.lw_call.proofs.answer.Answer.copy.Goals as goal
 
 pub returns-in-Changed-clause-found : goal.returns-in-Changed-clause-found
-returns-in-Changed-clause-found c = search rules
+returns-in-Changed-clause-found c = tt
