@@ -6,7 +6,7 @@ ghost use Rattle.std.specs.List.{join_with_byte};
 ghost use Rattle.lw_print.specs.Lines.{outcome_text, outcome_words, taken_words, command_words, sent_words, found_text, fault_number, delivery_words, notice_text};
 
 use crate::notice::notice_text;
-use crate::one::reply_text;
+use crate::one::{line_of, reply_text};
 use crate::registration::registration_text;
 use crate::value::id_text;
 use crate::watch::{stale_text, watch_text};
@@ -23,9 +23,7 @@ pub fn outcome_line(
 ) -> Result<Vec<u8>, NoMemory>
     ensures { IfOk result (λ line. line.items ≡ outcome_text outcome.now (unwrap_or (option_map (λ bytes. bytes.now) message.entry) [])) }
 {
-    let mut line = outcome_words(alloc, outcome, message.unwrap_or(&[]))?.into_bytes();
-    line.push(b'\n')?;
-    Ok(line)
+    line_of(outcome_words(alloc, outcome, message.unwrap_or(&[]))?)
 }
 
 fn outcome_words(alloc: Global, outcome: &Outcome, message: &[u8]) -> Result<String, NoMemory>

@@ -1,15 +1,16 @@
-ghost use Rattle.std.specs.Prelude.{◌≡◌, IfOk, string_bytes};
-ghost use Rattle.serde_json.specs.View.{view};
+ghost use Rattle.std.specs.Prelude.{◌≡◌, [], IfOk, OnOk, string_bytes};
+ghost use Rattle.serde_json.specs.Data.{object};
+ghost use Rattle.serde_json.specs.View.{view, members_view};
 ghost use Rattle.serde_json.specs.Written.{compact_text};
 ghost use Rattle.lw_print.specs.Json.{notice_json};
 ghost use Rattle.lw_print.specs.Members.{notice_members_json, TellsOfNotice};
 
 use crate::path::path_text;
-use crate::value::{id_text, number_value, short_value};
+use crate::value::{id_text, number_value, put_copy, put_text, short_value, value_text};
 use lw_node::Notice;
 use lw_stamp::NoMemory;
-use serde_json::{Value, json};
-use std::alloc::{AllocError, Global};
+use serde_json::{Map, Value, put};
+use std::alloc::Global;
 
 /// The values of a notice's JSON object.
 #[derive(Drop)]
@@ -30,7 +31,7 @@ pub fn notice_text(alloc: Global, notice: &Notice) -> Result<String, NoMemory>
     ensures { IfOk result (λ text. string_bytes text ≡ compact_text (notice_json notice.now)) }
 {
     let value = notice_value(alloc, notice)?;
-    Ok(value.to_string(alloc)?)
+    value_text(alloc, &value)
 }
 
 #[tactic(auto, using(crate::proofs::MemberLemmas::json_of_notice))]
@@ -38,37 +39,48 @@ fn notice_value(alloc: Global, notice: &Notice) -> Result<Value, NoMemory>
     ensures { IfOk result (λ value. view value ≡ notice_json notice.now) }
 {
     let members = notice_members(alloc, notice)?;
-    Ok(notice_object(alloc, &members)?)
+    notice_object(alloc, &members)
 }
 
 fn notice_members(alloc: Global, notice: &Notice) -> Result<NoticeMembers<'_>, NoMemory>
     ensures { IfOk result (λ members. TellsOfNotice members notice.now) }
 {
     Ok(NoticeMembers {
+        id: id_text(alloc, notice.id)?,
+        path: path_text(alloc, &notice.path)?,
+        payload: hex::encode(alloc, notice.payload.as_slice())?,
+        token: id_text(alloc, notice.token)?,
         code: notice.code,
         content_format: short_value(notice.format),
         ended: notice.ended,
         endpoint: notice.endpoint.as_str(),
-        id: id_text(alloc, notice.id)?,
         observe: number_value(notice.observe),
-        path: path_text(alloc, &notice.path)?,
-        payload: hex::encode(alloc, notice.payload.as_slice())?,
-        token: id_text(alloc, notice.token)?,
     })
 }
 
-fn notice_object(alloc: Global, members: &NoticeMembers<'_>) -> Result<Value, AllocError>
+fn notice_object(alloc: Global, members: &NoticeMembers<'_>) -> Result<Value, NoMemory>
     ensures { IfOk result (λ value. view value ≡ notice_members_json members.now) }
 {
-    json!(in alloc; {
-        "code": members.code,
-        "content_format": &members.content_format,
-        "ended": members.ended,
-        "endpoint": members.endpoint,
-        "id": &members.id,
-        "observe": &members.observe,
-        "path": &members.path,
-        "payload": &members.payload,
-        "token": &members.token
-    })
+    let mut map = Map::new(alloc);
+    put_members(&mut map, alloc, members)?;
+    Ok(Value::Object(map))
+}
+
+fn put_members(
+    map: &mut Map<String, Value>,
+    alloc: Global,
+    members: &NoticeMembers<'_>,
+) -> Result<(), NoMemory>
+    requires { map.old.entries ≡ [] }
+    ensures { OnOk result (object (members_view map.new.entries) ≡ notice_members_json members.now) }
+{
+    put(map, alloc, "code", Value::from(members.code))?;
+    put_copy(map, alloc, "content_format", &members.content_format)?;
+    put(map, alloc, "ended", Value::from(members.ended))?;
+    put_text(map, alloc, "endpoint", members.endpoint)?;
+    put_text(map, alloc, "id", members.id.as_str())?;
+    put_copy(map, alloc, "observe", &members.observe)?;
+    put_text(map, alloc, "path", members.path.as_str())?;
+    put_text(map, alloc, "payload", members.payload.as_str())?;
+    put_text(map, alloc, "token", members.token.as_str())
 }

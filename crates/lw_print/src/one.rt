@@ -1,5 +1,5 @@
-ghost use Rattle.std.specs.Prelude.{◌≡◌, ◌++◌, ◌∷◌, [], IfOk, option_map, string_bytes};
-ghost use Rattle.lw_print.specs.Answer.{answer_text, reply_text};
+ghost use Rattle.std.specs.Prelude.{◌≡◌, ◌++◌, ◌∷◌, [], IfOk, OnOk, Some, option_map, string_bytes};
+ghost use Rattle.lw_print.specs.Answer.{answer_text, reply_text, shown_lines};
 
 use crate::registration::registration_text;
 use lw_reg::View;
@@ -15,13 +15,29 @@ pub fn answer_text(
 ) -> Result<Vec<u8>, NoMemory>
     ensures { IfOk result (λ text. text.items ≡ answer_text (option_map (λ bytes. bytes.now) reply.entry) (option_map (λ s. s.now) shown.entry)) }
 {
-    let mut text = reply_text(alloc, reply)?.into_bytes();
-    text.push(b'\n')?;
+    let mut text = line_of(reply_text(alloc, reply)?)?;
     if let Some(shown) = shown {
-        text.extend_from_slice(registration_text(alloc, shown)?.as_bytes())?;
-        text.push(b'\n')?;
+        put_registration(&mut text, alloc, shown)?;
     }
     Ok(text)
+}
+
+/// The text, with a line feed.
+pub(crate) fn line_of(text: String) -> Result<Vec<u8>, NoMemory>
+    ensures { IfOk result (λ line. line.items ≡ string_bytes text ++ 10 ∷ []) }
+{
+    let mut line = text.into_bytes();
+    line.push(b'\n')?;
+    Ok(line)
+}
+
+/// Adds the line of the registration.
+fn put_registration(text: &mut Vec<u8>, alloc: Global, shown: &View<'_>) -> Result<(), NoMemory>
+    ensures { OnOk result (text.new.items ≡ text.old.items ++ shown_lines (Some shown.now)) }
+{
+    text.extend_from_slice(registration_text(alloc, shown)?.as_bytes())?;
+    text.push(b'\n')?;
+    Ok(())
 }
 
 /// The reply in lower-case hex, or a hyphen.

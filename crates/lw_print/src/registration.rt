@@ -1,14 +1,15 @@
-ghost use Rattle.std.specs.Prelude.{◌≡◌, IfOk, string_bytes};
-ghost use Rattle.serde_json.specs.View.{view};
+ghost use Rattle.std.specs.Prelude.{◌≡◌, [], IfOk, OnOk, string_bytes};
+ghost use Rattle.serde_json.specs.Data.{object as json_object};
+ghost use Rattle.serde_json.specs.View.{view, members_view};
 ghost use Rattle.serde_json.specs.Written.{compact_text};
 ghost use Rattle.lw_print.specs.Json.{registration_json};
 ghost use Rattle.lw_print.specs.Members.{members_json, TellsOf};
 
-use crate::value::{id_text, text_value};
+use crate::value::{id_text, put_copy, put_text, text_value, value_text};
 use lw_reg::View;
 use lw_stamp::NoMemory;
-use serde_json::{Value, json};
-use std::alloc::{AllocError, Global};
+use serde_json::{Map, Value, put};
+use std::alloc::Global;
 
 /// The values of a registration's JSON object.
 #[derive(Drop)]
@@ -30,7 +31,7 @@ pub fn registration_text(alloc: Global, shown: &View<'_>) -> Result<String, NoMe
     ensures { IfOk result (λ text. string_bytes text ≡ compact_text (registration_json shown.now)) }
 {
     let value = registration_value(alloc, shown)?;
-    Ok(value.to_string(alloc)?)
+    value_text(alloc, &value)
 }
 
 #[tactic(auto, using(crate::proofs::MemberLemmas::json_of_members))]
@@ -38,7 +39,7 @@ fn registration_value(alloc: Global, shown: &View<'_>) -> Result<Value, NoMemory
     ensures { IfOk result (λ value. view value ≡ registration_json shown.now) }
 {
     let members = members_of(alloc, shown)?;
-    Ok(object(alloc, &members)?)
+    object(alloc, &members)
 }
 
 fn members_of<'a>(alloc: Global, shown: &'a View<'_>) -> Result<Members<'a>, NoMemory>
@@ -58,19 +59,30 @@ fn members_of<'a>(alloc: Global, shown: &'a View<'_>) -> Result<Members<'a>, NoM
     })
 }
 
-fn object(alloc: Global, members: &Members<'_>) -> Result<Value, AllocError>
+fn object(alloc: Global, members: &Members<'_>) -> Result<Value, NoMemory>
     ensures { IfOk result (λ value. view value ≡ members_json members.now) }
 {
-    json!(in alloc; {
-        "address": &members.address,
-        "binding": members.binding,
-        "endpoint": members.endpoint,
-        "id": &members.id,
-        "lifetime": members.lifetime,
-        "lwm2m": members.lwm2m,
-        "objects": members.objects,
-        "queue": members.queue,
-        "seen": members.seen,
-        "sms": &members.sms
-    })
+    let mut map = Map::new(alloc);
+    put_members(&mut map, alloc, members)?;
+    Ok(Value::Object(map))
+}
+
+fn put_members(
+    map: &mut Map<String, Value>,
+    alloc: Global,
+    members: &Members<'_>,
+) -> Result<(), NoMemory>
+    requires { map.old.entries ≡ [] }
+    ensures { OnOk result (json_object (members_view map.new.entries) ≡ members_json members.now) }
+{
+    put_text(map, alloc, "address", members.address.as_str())?;
+    put_text(map, alloc, "binding", members.binding)?;
+    put_text(map, alloc, "endpoint", members.endpoint)?;
+    put_text(map, alloc, "id", members.id.as_str())?;
+    put(map, alloc, "lifetime", Value::from(members.lifetime))?;
+    put_text(map, alloc, "lwm2m", members.lwm2m)?;
+    put_text(map, alloc, "objects", members.objects)?;
+    put(map, alloc, "queue", Value::from(members.queue))?;
+    put(map, alloc, "seen", Value::from(members.seen))?;
+    put_copy(map, alloc, "sms", &members.sms)
 }

@@ -1,15 +1,16 @@
-ghost use Rattle.std.specs.Prelude.{◌≡◌, IfOk, string_bytes};
-ghost use Rattle.serde_json.specs.View.{view};
+ghost use Rattle.std.specs.Prelude.{◌≡◌, [], IfOk, OnOk, string_bytes};
+ghost use Rattle.serde_json.specs.Data.{object};
+ghost use Rattle.serde_json.specs.View.{view, members_view};
 ghost use Rattle.serde_json.specs.Written.{compact_text};
 ghost use Rattle.lw_print.specs.Json.{watch_json, stale_json};
 ghost use Rattle.lw_print.specs.Members.{watch_members_json, TellsOfWatch};
 
 use crate::path::path_text;
-use crate::value::{id_text, short_value};
+use crate::value::{id_text, put_copy, put_text, short_value, value_text};
 use lw_reg::{View, Watch};
 use lw_stamp::{NoMemory, Stamp};
-use serde_json::{Value, json};
-use std::alloc::{AllocError, Global};
+use serde_json::{Map, Value, put};
+use std::alloc::Global;
 
 /// The values of a watch's JSON object.
 #[derive(Drop)]
@@ -26,7 +27,7 @@ pub fn watch_text(alloc: Global, shown: &View<'_>, watch: &Watch) -> Result<Stri
     ensures { IfOk result (λ text. string_bytes text ≡ compact_text (watch_json shown.now watch.now)) }
 {
     let value = watch_value(alloc, shown, watch)?;
-    Ok(value.to_string(alloc)?)
+    value_text(alloc, &value)
 }
 
 #[tactic(auto, using(crate::proofs::MemberLemmas::json_of_watch))]
@@ -34,7 +35,7 @@ fn watch_value(alloc: Global, shown: &View<'_>, watch: &Watch) -> Result<Value, 
     ensures { IfOk result (λ value. view value ≡ watch_json shown.now watch.now) }
 {
     let members = watch_members(alloc, shown, watch)?;
-    Ok(watch_object(alloc, &members)?)
+    watch_object(alloc, &members)
 }
 
 fn watch_members<'a>(
@@ -45,24 +46,35 @@ fn watch_members<'a>(
     ensures { IfOk result (λ members. TellsOfWatch members shown.now watch.now) }
 {
     Ok(WatchMembers {
-        accept: short_value(watch.accept),
-        endpoint: shown.endpoint,
         id: id_text(alloc, shown.id)?,
         path: path_text(alloc, &watch.path)?,
         token: id_text(alloc, watch.token)?,
+        accept: short_value(watch.accept),
+        endpoint: shown.endpoint,
     })
 }
 
-fn watch_object(alloc: Global, members: &WatchMembers<'_>) -> Result<Value, AllocError>
+fn watch_object(alloc: Global, members: &WatchMembers<'_>) -> Result<Value, NoMemory>
     ensures { IfOk result (λ value. view value ≡ watch_members_json members.now) }
 {
-    json!(in alloc; {
-        "accept": &members.accept,
-        "endpoint": members.endpoint,
-        "id": &members.id,
-        "path": &members.path,
-        "token": &members.token
-    })
+    let mut map = Map::new(alloc);
+    put_members(&mut map, alloc, members)?;
+    Ok(Value::Object(map))
+}
+
+fn put_members(
+    map: &mut Map<String, Value>,
+    alloc: Global,
+    members: &WatchMembers<'_>,
+) -> Result<(), NoMemory>
+    requires { map.old.entries ≡ [] }
+    ensures { OnOk result (object (members_view map.new.entries) ≡ watch_members_json members.now) }
+{
+    put_copy(map, alloc, "accept", &members.accept)?;
+    put_text(map, alloc, "endpoint", members.endpoint)?;
+    put_text(map, alloc, "id", members.id.as_str())?;
+    put_text(map, alloc, "path", members.path.as_str())?;
+    put_text(map, alloc, "token", members.token.as_str())
 }
 
 /// The JSON object of a registration that has expired, of the endpoint and with the identifier.
@@ -70,13 +82,27 @@ pub fn stale_text(alloc: Global, endpoint: &str, id: Stamp) -> Result<String, No
     ensures { IfOk result (λ text. string_bytes text ≡ compact_text (stale_json endpoint.now id)) }
 {
     let value = stale_value(alloc, endpoint, id)?;
-    Ok(value.to_string(alloc)?)
+    value_text(alloc, &value)
 }
 
 fn stale_value(alloc: Global, endpoint: &str, id: Stamp) -> Result<Value, NoMemory>
     ensures { IfOk result (λ value. view value ≡ stale_json endpoint.now id) }
 {
-    let id = id_text(alloc, id)?;
-    let object = json!(in alloc; { "endpoint": endpoint, "id": id })?;
-    Ok(object)
+    let mut map = Map::new(alloc);
+    put_stale(&mut map, alloc, endpoint, id)?;
+    Ok(Value::Object(map))
+}
+
+fn put_stale(
+    map: &mut Map<String, Value>,
+    alloc: Global,
+    endpoint: &str,
+    id: Stamp,
+) -> Result<(), NoMemory>
+    requires { map.old.entries ≡ [] }
+    ensures { OnOk result (object (members_view map.new.entries) ≡ stale_json endpoint.now id) }
+{
+    put_text(map, alloc, "endpoint", endpoint)?;
+    let id = Value::from(id_text(alloc, id)?);
+    Ok(put(map, alloc, "id", id)?)
 }
