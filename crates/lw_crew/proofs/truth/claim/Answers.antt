@@ -1,8 +1,21 @@
-use Rattle.std.proofs.Common.{◌≡◌, subst, ◌∙◌, refl}
-use Rattle.std.proofs.lemmas.Option.{get_or_from_slice_get}
+use Rattle.std.proofs.Common.{◌≡◌, ◌<◌, length, subst, ◌∙◌, refl, arith}
+use Rattle.std.proofs.lemmas.Option.{get_or_from_slice_get, slice_get_within}
 use Rattle.lw_held.specs.Transcript.{Transcript}
 use Rattle.lw_crew.specs.Jobs.{HasMade}
 use Rattle.lw_crew.proofs.truth.claim.Goals as goal
+
+pub bounds-after-place : goal.bounds-after-place
+bounds-after-place c = slice_get_within c.args.after.now c.in-Some.place c.in-Some.ensures.pass c.in-Some.ensures.is
+
+pub bounds-next-place : goal.bounds-next-place
+bounds-next-place c =
+    let l : c.in-Some.place < length c.args.after.now = slice_get_within c.args.after.now c.in-Some.place c.in-Some.ensures.pass c.in-Some.ensures.is in
+    omega arith
+
+pub bounds-next-place-2 : goal.bounds-next-place-2
+bounds-next-place-2 c =
+    let l : c.in-Some.place < length c.args.after.now = slice_get_within c.args.after.now c.in-Some.place c.in-Some.ensures.pass c.in-Some.ensures.is in
+    omega arith
 
 pub returns : goal.returns
 returns c =
