@@ -3,3 +3,4 @@ pub mod OneLemmas
 pub mod NodeLemmas
 pub mod EndingLemmas
 pub mod ReplayLemmas
+pub mod CommandLemmas

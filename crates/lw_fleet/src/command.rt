@@ -92,8 +92,8 @@ pub fn read_request<'a, S: AsStr>(alloc: Global, words: &'a [S]) -> Result<Reque
         → kind_of e ≡ ErrorKind.OutOfMemory) }
     ensures kinds { IfErr result (HasKind (kinds_of_words (map S.text words.entry.now))) }
 {
-    let mut command = fleet_command(alloc)?;
-    let matches = command.try_get_matches_from_mut(words)?;
+    let command = fleet_command(alloc)?;
+    let matches = command.try_get_matches_from(words)?;
     match request_in(&matches) {
         Ok(request) => Ok(request),
         Err(bad) => Err(number_refused(alloc, bad)?),

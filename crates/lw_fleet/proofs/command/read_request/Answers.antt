@@ -61,12 +61,12 @@ rows_of_words words app found same parsed = parsed (ap is_simple same ∙ fleet_
 
 pub returns-in-Ok-clause-asked : goal.returns-in-Ok-clause-asked
 returns-in-Ok-clause-asked g c =
-    let rows = rows_of_words (map g.S.AsStr.text c.args.words.now) _ _ c.in_ok-command.ensures (λ h. (c.in_ok-matches.ensures.ok.2 h).1) in
+    let rows = rows_of_words (map g.S.AsStr.text c.args.words.now) _ _ c.in_ok-command.ensures (λ h. (c.in_ok-matches.ensures.matches h).1) in
     subst (λ s. IsAsked s c.in-Ok.request) rows c.in-Ok.ensures.asked
 
 pub returns-clause-refused : goal.returns-clause-refused
 returns-clause-refused g c =
-    let rows = rows_of_words (map g.S.AsStr.text c.args.words.now) _ _ c.in_ok-command.ensures (λ h. (c.in_ok-matches.ensures.ok.2 h).1) in
+    let rows = rows_of_words (map g.S.AsStr.text c.args.words.now) _ _ c.in_ok-command.ensures (λ h. (c.in_ok-matches.ensures.matches h).1) in
     λ taken request asked. absurd (c.in-Err.ensures.none request (subst (λ s. IsAsked s request) (sym rows) asked))
 
 has_kind : (words : List Text) (r : Result Request Error) (one : Error) → IsErrAnd r (λ e. e ≡ one) → HasKind (kinds_of_words words) one
