@@ -73,24 +73,9 @@ pub(crate) fn endpoint(alloc: Global, name: &str) -> Result<Endpoint, Fail> {
     }
 }
 
-fn slot(alloc: Global, stamp: Mark, reg: Mark, what: What) -> Result<Slot, Fail> {
-    let operation = Op {
-        stamp: stamp.stamp(),
-        endpoint: endpoint(alloc, "a")?,
-        reg: reg.stamp(),
-        what,
-    };
-    Ok(atom(alloc, operation)?)
-}
-
-fn registered(
-    alloc: Global,
-    id: Mark,
-    address: Addr,
-    seen: u64,
-    lifetime: u32,
-) -> Result<Slot, Fail> {
-    let what = What::Register {
+fn register(alloc: Global, address: Addr, seen: u64, lifetime: u32) -> Result<What, Fail> {
+    let objects = LinkText::read(alloc, b"</>")?;
+    Ok(What::Register {
         version: Version::V10,
         queue: false,
         address,
@@ -98,9 +83,8 @@ fn registered(
         lifetime,
         binding: Binding::U,
         sms: None,
-        objects: LinkText::read(alloc, b"</>")?,
-    };
-    slot(alloc, id, id, what)
+        objects,
+    })
 }
 
 fn update(address: Addr, seen: u64, lifetime: Option<u32>, binding: Option<&str>) -> What {
@@ -118,23 +102,37 @@ fn update(address: Addr, seen: u64, lifetime: Option<u32>, binding: Option<&str>
     }
 }
 
-/// The slot of an operation about the endpoint `a`.
-pub(crate) fn slot_of(alloc: Global, change: Change<'_>) -> Result<Slot, Fail> {
-    let (stamp, reg, act) = change;
-    let what = match act {
-        Act::Register(address, seen, lifetime) => {
-            return registered(alloc, stamp, address, seen, lifetime);
+fn path(numbers: &[u16]) -> Result<Path, Fail> {
+    Ok(Path::new(numbers).ok_or("a path")?)
+}
+
+fn what(alloc: Global, act: Act<'_>) -> Result<What, Fail> {
+    match act {
+        Act::Register(address, seen, lifetime) => register(alloc, address, seen, lifetime),
+        Act::Update(address, seen, lifetime, binding) => {
+            Ok(update(address, seen, lifetime, binding))
         }
-        Act::Update(address, seen, lifetime, binding) => update(address, seen, lifetime, binding),
-        Act::Remove => What::Remove,
-        Act::Observe(numbers, accept) => What::Observe {
-            path: Path::new(numbers).ok_or("a path")?,
+        Act::Remove => Ok(What::Remove),
+        Act::Observe(numbers, accept) => Ok(What::Observe {
+            path: path(numbers)?,
             accept,
-        },
-        Act::Cancel(numbers, token) => What::Cancel {
-            path: Path::new(numbers).ok_or("a path")?,
+        }),
+        Act::Cancel(numbers, token) => Ok(What::Cancel {
+            path: path(numbers)?,
             token: token.stamp(),
-        },
+        }),
+    }
+}
+
+/// The slot of an operation about the endpoint `a`.
+pub(crate) fn slot_of(alloc: Global, (stamp, reg, act): Change<'_>) -> Result<Slot, Fail> {
+    let endpoint = endpoint(alloc, "a")?;
+    let what = what(alloc, act)?;
+    let operation = Op {
+        stamp: stamp.stamp(),
+        endpoint,
+        reg: reg.stamp(),
+        what,
     };
-    slot(alloc, stamp, reg, what)
+    Ok(atom(alloc, operation)?)
 }

@@ -90,27 +90,32 @@ fn is_from(mut above: Above<'_, u32>, first: u32) -> bool {
     above.next().is_none()
 }
 
-/// A key, and the number whose double is the next key.
-static ABOVE: [(u32, u32); 7] = [
-    (0, 1),
-    (1, 1),
-    (998, 500),
-    (999, 500),
-    (1997, 999),
-    (1998, 1000),
-    (4000, 1000),
+/// A key or none, and the number whose double is the next key.
+static ABOVE: [(Option<u32>, u32); 8] = [
+    (None, 0),
+    (Some(0), 1),
+    (Some(1), 1),
+    (Some(998), 500),
+    (Some(999), 500),
+    (Some(1997), 999),
+    (Some(1998), 1000),
+    (Some(4000), 1000),
 ];
+
+/// Adds the keys to none, and looks at those above each.
+fn have_keys_above(index: &mut Index<u32>) -> Result<(), Fail> {
+    holds("no key", is_from(index.above(None), 1000))?;
+    add_a_thousand(index)?;
+    for row in &ABOVE {
+        holds_for(row, is_from(index.above(row.0.as_ref()), row.1))?;
+    }
+    Ok(())
+}
 
 #[test]
 fn the_keys_above_a_key(rt: HostRuntime) -> Result<(), Fail> {
     let mut index = Index::new(rt.alloc());
-    holds("no key", index.above(None).next().is_none())?;
-    add_a_thousand(&mut index)?;
-    holds("each key", is_from(index.above(None), 0))?;
-    for row in &ABOVE {
-        holds_for(row, is_from(index.above(Some(&row.0)), row.1))?;
-    }
-    Ok(())
+    have_keys_above(&mut index)
 }
 
 /// A node of a tree holds 15 entries: one more divides it.

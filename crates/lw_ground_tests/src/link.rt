@@ -1,4 +1,4 @@
-use crate::hold::{holds, text_of};
+use crate::hold::{holds, holds_for, text_of};
 use lw_link::{LinkFault, LinkText, is_printing, print, read, well_formed};
 use std::alloc::Global;
 use std::test::Fail;
@@ -111,16 +111,19 @@ fn is_missed(alloc: Global, text: &str, place: usize) -> bool {
     fault == Some(LinkFault::Grammar { place }) && !is_printing(text.as_bytes())
 }
 
+/// Whether half a character and a byte of none are refused.
+fn are_no_text(alloc: Global) -> bool {
+    let half = read(alloc, b"<>;a=\"\xc3").err();
+    let none = LinkText::read(alloc, b"<\xff>").err();
+    half == Some(LinkFault::NotText) && none == Some(LinkFault::NotText) && !is_printing(b"<\xff>")
+}
+
 #[test]
 fn near_misses(rt: HostRuntime) -> Result<(), Fail> {
     for (text, place) in &NEAR_MISSES {
         holds(text, is_missed(rt.alloc(), text, *place))?;
     }
-    let half = read(rt.alloc(), b"<>;a=\"\xc3").err();
-    holds("half a character", half == Some(LinkFault::NotText))?;
-    let none = LinkText::read(rt.alloc(), b"<\xff>").err();
-    holds("no character", none == Some(LinkFault::NotText))?;
-    holds("no printing", !is_printing(b"<\xff>"))
+    holds("half a character, and none", are_no_text(rt.alloc()))
 }
 
 /// How many links are read.
@@ -128,22 +131,31 @@ fn count(alloc: Global, given: &str) -> Result<usize, LinkFault> {
     Ok(read(alloc, given.as_bytes())?.len())
 }
 
-#[test]
-fn at_most_256_links(rt: HostRuntime) -> Result<(), Fail> {
-    let most = text_of(rt.alloc(), &[("<>", 1), (",<>", 255)])?;
-    holds("256 links", count(rt.alloc(), most.as_str()) == Ok(256))?;
-    holds("a printing", is_printing(most.as_bytes()))?;
-    let more = text_of(rt.alloc(), &[("<>", 1), (",<>", 256)])?;
-    let fault = count(rt.alloc(), more.as_str());
-    holds("257 links", fault == Err(LinkFault::TooMany))?;
-    holds("no printing", !is_printing(more.as_bytes()))
+/// Whether so many links are read of it, or the fault is found.
+fn counts_to(alloc: Global, given: &str, wanted: &Result<usize, LinkFault>) -> bool {
+    count(alloc, given) == *wanted && is_printing(given.as_bytes()) == wanted.is_ok()
 }
 
-/// Whether a printing is kept as it is.
-fn is_kept_as_it_is(alloc: Global, given: &str) -> Result<bool, Fail> {
+/// How many links follow a first one, and what is counted then.
+static COUNTS: [(usize, Result<usize, LinkFault>); 2] = [
+    (255, Ok(256)),
+    (256, Err(LinkFault::TooMany)),
+];
+
+#[test]
+fn at_most_256_links(rt: HostRuntime) -> Result<(), Fail> {
+    for row in &COUNTS {
+        let list = text_of(rt.alloc(), &[("<>", 1), (",<>", row.0)])?;
+        holds_for(row, counts_to(rt.alloc(), list.as_str(), &row.1))?;
+    }
+    Ok(())
+}
+
+/// Whether a printing of this length is kept as it is.
+fn is_kept_as_it_is(alloc: Global, given: &str, length: usize) -> Result<bool, Fail> {
     let bytes = given.as_bytes();
-    if bytes.len() > 8_192 || !is_printing(bytes) {
-        return Err(Fail::from("a printing"));
+    if bytes.len() != length || bytes.len() > 8_192 || !is_printing(bytes) {
+        return Ok(false);
     }
     let text = LinkText::of_printing(alloc, bytes)?;
     Ok(text.as_str() == given)
@@ -186,13 +198,17 @@ static PRINTINGS: [(&[Part], usize); 9] = [
     (&[("<>;ab=\"", 1), ("\\\\", 4092), ("\"", 1)], 8192),
 ];
 
+fn prints_printing(alloc: Global, parts: &[Part], length: usize) -> Result<(), Fail> {
+    let given = text_of(alloc, parts)?;
+    let is_kept = is_kept_as_it_is(alloc, given.as_str(), length)?;
+    holds(given.as_str(), is_kept)?;
+    prints(alloc, given.as_str(), given.as_str())
+}
+
 #[test]
 fn printings_at_their_bounds(rt: HostRuntime) -> Result<(), Fail> {
     for (parts, length) in &PRINTINGS {
-        let given = text_of(rt.alloc(), parts)?;
-        holds("its length", given.len() == *length)?;
-        holds("as it is", is_kept_as_it_is(rt.alloc(), given.as_str())?)?;
-        prints(rt.alloc(), given.as_str(), given.as_str())?;
+        prints_printing(rt.alloc(), parts, *length)?;
     }
     Ok(())
 }
@@ -223,12 +239,16 @@ static LONG_SPELLINGS: [(&[Part], &[Part]); 3] = [
     ),
 ];
 
+fn prints_spelling(alloc: Global, spelling: &[Part], printing: &[Part]) -> Result<(), Fail> {
+    let given = text_of(alloc, spelling)?;
+    let want = text_of(alloc, printing)?;
+    prints(alloc, given.as_str(), want.as_str())
+}
+
 #[test]
 fn long_spellings_are_printed(rt: HostRuntime) -> Result<(), Fail> {
     for (spelling, printing) in &LONG_SPELLINGS {
-        let given = text_of(rt.alloc(), spelling)?;
-        let want = text_of(rt.alloc(), printing)?;
-        prints(rt.alloc(), given.as_str(), want.as_str())?;
+        prints_spelling(rt.alloc(), spelling, printing)?;
     }
     Ok(())
 }

@@ -102,8 +102,16 @@ fn clocks_and_moments_end_below_2_to_the_48() -> Result<(), Fail> {
 fn keeps(alloc: Global, given: String, len: usize) -> Result<bool, NoMemory> {
     let copy = Text::copy_of(alloc, given.as_str())?;
     let is_copy = copy.as_str() == given.as_str() && copy.as_str().len() == len;
+    let is_taken = is_taken(given, copy);
+    Ok(is_copy && is_taken)
+}
+
+/// Whether a text that is taken over is the same as its copy.
+fn is_taken(given: String, copy: Text) -> bool {
     let taken = Text::from(given);
-    Ok(is_copy && taken == copy && copy.into_string().as_str() == taken.as_str())
+    let is_copy = taken == copy;
+    let copy = copy.into_string();
+    is_copy && copy.as_str() == taken.as_str()
 }
 
 /// A character, how many of it, and how many bytes these are.
@@ -132,11 +140,17 @@ fn texts_keep_their_bytes(rt: HostRuntime) -> Result<(), Fail> {
     holds("no memory", NoMemory::from(AllocError) == NoMemory)
 }
 
+fn is_below(alloc: Global, left: &str, right: &str) -> Result<bool, NoMemory> {
+    let left = Text::copy_of(alloc, left)?;
+    let right = Text::copy_of(alloc, right)?;
+    Ok(left < right && left != right)
+}
+
 #[test]
 fn texts_compare_by_bytes(rt: HostRuntime) -> Result<(), Fail> {
     laws::texts_are_ordered();
-    let a = Text::copy_of(rt.alloc(), "a")?;
-    let ab = Text::copy_of(rt.alloc(), "ab")?;
-    let b = Text::from(String::from_str(rt.alloc(), "b")?);
-    holds("by bytes", a < ab && ab < b && a != b)
+    for (left, right) in [("a", "ab"), ("ab", "b"), ("a", "b")] {
+        holds(left, is_below(rt.alloc(), left, right)?)?;
+    }
+    Ok(())
 }

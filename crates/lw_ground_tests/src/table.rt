@@ -3,6 +3,7 @@ use crate::change::Mark::*;
 use crate::change::*;
 use By::*;
 use lw_reg::{Addr, View};
+use lw_stamp::NoMemory;
 use lw_table::*;
 use std::alloc::Global;
 use std::test::Fail;
@@ -15,11 +16,19 @@ mod since;
 /// The endpoint that a change is about, and the change.
 type Of<'a> = (&'a str, Change<'a>);
 
-fn join(alloc: Global, table: &mut Table, (name, change): Of<'_>) -> Result<(), Fail> {
-    let slot = slot_of(alloc, change)?;
+/// What the join of a change gives.
+fn try_join(
+    alloc: Global,
+    table: &mut Table,
+    (name, change): Of<'_>,
+) -> Result<Result<(), NoMemory>, Fail> {
     let endpoint = endpoint(alloc, name)?;
-    table.join(&endpoint, slot)?;
-    Ok(())
+    let slot = slot_of(alloc, change)?;
+    Ok(table.join(&endpoint, slot))
+}
+
+fn join(alloc: Global, table: &mut Table, change: Of<'_>) -> Result<(), Fail> {
+    Ok(try_join(alloc, table, change)??)
 }
 
 fn join_all(alloc: Global, table: &mut Table, changes: &[Of<'_>]) -> Result<(), Fail> {
@@ -27,6 +36,13 @@ fn join_all(alloc: Global, table: &mut Table, changes: &[Of<'_>]) -> Result<(), 
         join(alloc, table, *change)?;
     }
     Ok(())
+}
+
+/// A table that the changes are joined to.
+fn table_of(alloc: Global, changes: &[Of<'_>]) -> Result<Table, Fail> {
+    let mut table = Table::new(alloc);
+    join_all(alloc, &mut table, changes)?;
+    Ok(table)
 }
 
 /// One of the keys of an endpoint.

@@ -1,7 +1,7 @@
 //! The largest of each part, whose bytes are put together here by hand.
 
 use super::is_written_as;
-use lw_delta::{Delta, check, read};
+use lw_delta::{DeltaFault, check, read};
 use lw_reg::{Endpoint, Slot};
 use lw_stamp::NoMemory;
 use std::alloc::{AllocError, Global};
@@ -106,6 +106,11 @@ fn read_alone(alloc: Global, bytes: &[u8]) -> Result<String, Fail> {
     }
 }
 
+fn is_read_as(alloc: Global, bytes: &[u8], text: &str) -> Result<bool, Fail> {
+    let read = read_alone(alloc, bytes)?;
+    Ok(read.as_str() == text)
+}
+
 /// What is read of the address at stamp 1 at node 1, and of what is no text.
 const V4_READ: &str = "Some(Base { version: V11, queue: true }) \
 Some((Stamp { counter: 1, node: 1 }, V4 { address: [127, 0, 0, 1], port: 5683 })) \
@@ -134,9 +139,9 @@ fn the_longest_fields_are_read_and_written_again(rt: HostRuntime) -> Result<(), 
     ];
     for (counter, host, clock, length, text) in rows {
         let bytes = full(rt.alloc(), &counter, host)?;
-        assert!(rt; holds(rt.alloc(), &bytes, clock, length)?, "clock {clock}");
-        let read = read_alone(rt.alloc(), &bytes)?;
-        assert!(rt; read.as_str() == text, "{read}");
+        let is_held = holds(rt.alloc(), &bytes, clock, length)?;
+        let is_read = is_read_as(rt.alloc(), &bytes, text)?;
+        assert!(rt; is_held && is_read, "clock {clock}");
     }
     Ok(())
 }
@@ -159,19 +164,20 @@ fn many(alloc: Global) -> Result<Vec<u8>, Fail> {
     Ok(bytes)
 }
 
-/// How many slots are read, and the name of the last.
-fn last_name<'a>(delta: &'a Delta) -> (usize, &'a str) {
+/// Whether 300 slots are read, and what the last is named.
+fn reads_many(alloc: Global, bytes: &[u8]) -> Result<bool, DeltaFault> {
+    let delta = read(alloc, bytes)?;
     match delta.slots.last() {
-        Some((endpoint, _)) => (delta.slots.len(), endpoint.as_str()),
-        None => (0, ""),
+        None => Ok(false),
+        Some((endpoint, _)) => Ok(delta.slots.len() == 300 && endpoint.as_str() == "299"),
     }
 }
 
 #[test]
 fn three_hundred_slots_are_read_and_written_again(rt: HostRuntime) -> Result<(), Fail> {
     let bytes = many(rt.alloc())?;
-    assert!(rt; holds(rt.alloc(), &bytes, 1, 4511)?);
-    let delta = read(rt.alloc(), &bytes)?;
-    assert!(rt; last_name(&delta) == (300, "299"));
+    let is_held = holds(rt.alloc(), &bytes, 1, 4511)?;
+    let is_read = reads_many(rt.alloc(), &bytes)?;
+    assert!(rt; is_held && is_read);
     Ok(())
 }

@@ -198,23 +198,19 @@ fn stamped_values_that_may_be_gone_join_in_pairs() -> Result<(), Fail> {
     Ok(())
 }
 
-/// A map beside a flag.
-fn map_and_flag(
-    alloc: Global,
-    entries: Entries,
-    raised: bool,
-) -> Result<(Parts<u16, Flag>, Flag), NoMemory> {
+/// The map that joins of one entry each make.
+fn joined(alloc: Global, entries: Entries) -> Result<Parts<u16, Flag>, NoMemory> {
     let mut map = Parts::new(alloc);
     for (key, raised) in entries {
         map.join_with(Parts::one(alloc, *key, Flag { raised: *raised })?)?;
     }
-    Ok((map, Flag { raised }))
+    Ok(map)
 }
 
 fn maps_join(alloc: Global, case: Case<Entries>) -> Result<bool, NoMemory> {
     let (left, right, below, wanted) = case;
-    let mut left = map_and_flag(alloc, left, false)?;
-    let right = map_and_flag(alloc, right, true)?;
+    let mut left = (joined(alloc, left)?, Flag { raised: false });
+    let right = (joined(alloc, right)?, Flag { raised: true });
     let is_below = left.le(&right) == below;
     left.join_with(right)?;
     Ok(is_below && are_entries(left.0.entries(), wanted) && left.1.raised)
@@ -248,6 +244,9 @@ fn maps_join_key_by_key(rt: HostRuntime) -> Result<(), Fail> {
     Ok(())
 }
 
+/// Keys that are equal, and that fall.
+static NO_MAPS: [Entries; 2] = [&[(2, true), (2, true)], &[(2, true), (1, true)]];
+
 /// Whether there is a map of the entries.
 fn is_map(alloc: Global, rows: Entries) -> Result<bool, NoMemory> {
     Ok(map_of(alloc, rows)?.is_some())
@@ -264,12 +263,10 @@ fn has_three(map: Parts<u16, Flag>) -> bool {
 
 #[test]
 fn maps_are_their_entries(rt: HostRuntime) -> Result<(), Fail> {
-    holds("equal keys", !is_map(rt.alloc(), &[(2, true), (2, true)])?)?;
-    holds(
-        "falling keys",
-        !is_map(rt.alloc(), &[(2, true), (1, true)])?,
-    )?;
-    let (map, _) = map_and_flag(rt.alloc(), &[(7, true), (2, false), (4, true)], true)?;
+    for rows in &NO_MAPS {
+        holds_for(rows, !is_map(rt.alloc(), *rows)?)?;
+    }
+    let map = joined(rt.alloc(), &[(7, true), (2, false), (4, true)])?;
     holds("three", has_three(map))
 }
 

@@ -102,16 +102,16 @@ const ODD: Keys = Keys::Odd { end: END };
 
 const ALL: Keys = Keys::From { first: 0, end: END };
 
-static CASES: [(Keys, Keys); 9] = [
-    (EVEN, ODD),
-    (ODD, EVEN),
-    (FIRST_HALF, LAST_HALF),
-    (LAST_HALF, FIRST_HALF),
-    (FIRST_HALF, FIRST_HALF),
-    (FIRST_HALF, EVEN),
-    (NONE, FIRST_HALF),
-    (FIRST_HALF, NONE),
-    (ALL, EVEN),
+static CASES: [(&str, Keys, Keys); 9] = [
+    ("even and odd", EVEN, ODD),
+    ("odd and even", ODD, EVEN),
+    ("first and last", FIRST_HALF, LAST_HALF),
+    ("last and first", LAST_HALF, FIRST_HALF),
+    ("first and first", FIRST_HALF, FIRST_HALF),
+    ("first and even", FIRST_HALF, EVEN),
+    ("none and first", NONE, FIRST_HALF),
+    ("first and none", FIRST_HALF, NONE),
+    ("all and even", ALL, EVEN),
 ];
 
 /// Whether the even keys are joined, and few of them, with the first ones, of which so many are missing.
@@ -126,8 +126,8 @@ fn joins_missing(alloc: Global, missing: u32) -> Result<bool, NoMemory> {
 
 #[test]
 fn maps_of_many_keys_join(rt: HostRuntime) -> Result<(), Fail> {
-    for (row, case) in CASES.iter().enumerate() {
-        holds_for(&row, joins_as_wanted(rt.alloc(), &case.0, &case.1)?)?;
+    for (what, left, right) in &CASES {
+        holds(what, joins_as_wanted(rt.alloc(), left, right)?)?;
     }
     // Up to eight missing keys are inserted one by one, and from nine on the maps are merged.
     for missing in 0..12u32 {

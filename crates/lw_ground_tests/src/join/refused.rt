@@ -1,7 +1,7 @@
 use super::{Entries, are_entries, map_of};
 use crate::hold::{holds, holds_for};
 use lw_join::*;
-use lw_stamp::Stamp;
+use lw_stamp::{NoMemory, Stamp};
 use std::alloc::Global;
 use std::test::Fail;
 
@@ -23,14 +23,22 @@ static CASES: [(Entries, Entries, Entries); 3] = [
     (&[], OTHER, OTHER),
 ];
 
+/// A map, where there is memory for it.
+fn map(alloc: Global, rows: Entries) -> Option<Parts<u16, Flag>> {
+    match map_of(alloc, rows) {
+        Ok(map) => map,
+        Err(NoMemory) => None,
+    }
+}
+
 /// Whether a map is joined or left, where there is memory for both.
 fn is_joined_or_left(alloc: Global, case: (Entries, Entries, Entries)) -> Option<bool> {
     let (before, other, after) = case;
-    let mut map = map_of(alloc, before).ok()??;
-    let other = map_of(alloc, other).ok()??;
-    let is_joined = map.join_with(other).is_ok();
+    let mut left = map(alloc, before)?;
+    let right = map(alloc, other)?;
+    let is_joined = left.join_with(right).is_ok();
     let wanted = if is_joined { after } else { before };
-    Some(are_entries(map.entries(), wanted))
+    Some(are_entries(left.entries(), wanted))
 }
 
 #[test]
@@ -41,38 +49,34 @@ fn a_refused_join_leaves_a_map_as_it_was(rt: HostRuntime) -> Result<(), Fail> {
     Ok(())
 }
 
-fn is_pair_joined_or_left(alloc: Global) -> Option<bool> {
-    let mut pair = (map_of(alloc, BEFORE).ok()??, Flag { raised: false });
-    let other = (map_of(alloc, OTHER).ok()??, Flag { raised: true });
-    let is_joined = pair.join_with(other).is_ok();
-    let wanted = if is_joined { AFTER } else { BEFORE };
-    Some(pair.1.raised == is_joined && are_entries(pair.0.entries(), wanted))
+/// A stamped map beside a flag.
+type Beside = (Lex<OrGone<Parts<u16, Flag>>>, Flag);
+
+fn beside(alloc: Global, rows: Entries, raised: bool) -> Option<Beside> {
+    let value = OrGone::Here(map(alloc, rows)?);
+    let stamp = EARLY;
+    Some((Lex { stamp, value }, Flag { raised }))
 }
 
-fn stamped(alloc: Global, rows: Entries) -> Option<Lex<OrGone<Parts<u16, Flag>>>> {
-    let value = OrGone::Here(map_of(alloc, rows).ok()??);
-    Some(Lex {
-        stamp: EARLY,
-        value,
-    })
-}
-
-fn is_stamped_joined_or_left(alloc: Global) -> Option<bool> {
-    let mut early = stamped(alloc, BEFORE)?;
-    let other = stamped(alloc, OTHER)?;
-    let is_joined = early.join_with(other).is_ok();
-    let wanted = if is_joined { AFTER } else { BEFORE };
-    match &early.value {
-        OrGone::Here(map) => Some(early.stamp == EARLY && are_entries(map.entries(), wanted)),
-        OrGone::Gone => Some(false),
+fn has(left: &Beside, entries: Entries, raised: bool) -> bool {
+    match &left.0.value {
+        OrGone::Gone => false,
+        OrGone::Here(map) => {
+            left.0.stamp == EARLY && left.1.raised == raised && are_entries(map.entries(), entries)
+        }
     }
+}
+
+fn is_beside_joined_or_left(alloc: Global) -> Option<bool> {
+    let mut left = beside(alloc, BEFORE, false)?;
+    let right = beside(alloc, OTHER, true)?;
+    let is_joined = left.join_with(right).is_ok();
+    let wanted = if is_joined { AFTER } else { BEFORE };
+    Some(has(&left, wanted, is_joined))
 }
 
 #[test]
 fn a_refused_join_leaves_a_map_beside_and_behind_others(rt: HostRuntime) -> Result<(), Fail> {
-    holds("a pair", is_pair_joined_or_left(rt.alloc()) != Some(false))?;
-    holds(
-        "stamped",
-        is_stamped_joined_or_left(rt.alloc()) != Some(false),
-    )
+    let is_joined = is_beside_joined_or_left(rt.alloc());
+    holds("stamped, in a pair", is_joined != Some(false))
 }

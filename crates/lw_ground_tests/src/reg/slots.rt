@@ -18,9 +18,8 @@ fn join_all(alloc: Global, slot: &mut Slot, changes: &[Change<'_>]) -> Result<()
 }
 
 /// The slots of operations, joined one behind another.
-fn joined(alloc: Global, changes: &[Change<'_>]) -> Result<Slot, Fail> {
-    let (first, others) = changes.split_first().ok_or("a change")?;
-    let mut slot = slot_of(alloc, *first)?;
+fn joined(alloc: Global, first: Change<'_>, others: &[Change<'_>]) -> Result<Slot, Fail> {
+    let mut slot = slot_of(alloc, first)?;
     join_all(alloc, &mut slot, others)?;
     Ok(slot)
 }
@@ -28,21 +27,25 @@ fn joined(alloc: Global, changes: &[Change<'_>]) -> Result<Slot, Fail> {
 /// What is shown: the identifier, the address, the moment of the last contact, the lifetime and the binding.
 type Shown = (Mark, Addr, u64, u32, &'static str);
 
+fn is_shown(view: &View<'_>, (id, address, seen, lifetime, binding): Shown) -> bool {
+    view.id == id.stamp()
+        && view.address == address
+        && view.seen.ms() == seen
+        && view.lifetime == lifetime
+        && view.binding.as_str() == binding
+        && view.queue == (binding == "UQ")
+        && view.version == Version::V10
+        && view.sms.is_none()
+        && view.objects.as_str() == "</>"
+}
+
 fn shows(slot: &Slot, now: Moment, wanted: Option<Shown>) -> bool {
-    match (slot.view("a", now), wanted) {
-        (None, None) => true,
-        (Some(view), Some((id, address, seen, lifetime, binding))) => {
-            view.id == id.stamp()
-                && view.address == address
-                && view.seen.ms() == seen
-                && view.lifetime == lifetime
-                && view.binding.as_str() == binding
-                && view.queue == (binding == "UQ")
-                && view.version == Version::V10
-                && view.sms.is_none()
-                && view.objects.as_str() == "</>"
-        }
-        _ => false,
+    let Some(view) = slot.view("a", now) else {
+        return wanted.is_none();
+    };
+    match wanted {
+        None => false,
+        Some(shown) => is_shown(&view, shown),
     }
 }
 
@@ -89,15 +92,15 @@ fn joins_in_each_order(
     let [a, b, c] = *changes else {
         return Err("three changes".into());
     };
-    for order in [
-        [a, b, c],
-        [a, c, b],
-        [b, a, c],
-        [b, c, a],
-        [c, a, b],
-        [c, b, a],
+    for (first, others) in [
+        (a, [b, c]),
+        (a, [c, b]),
+        (b, [a, c]),
+        (b, [c, a]),
+        (c, [a, b]),
+        (c, [b, a]),
     ] {
-        let slot = joined(alloc, &order)?;
+        let slot = joined(alloc, first, &others)?;
         holds("what is shown", shows(&slot, now, wanted))?;
     }
     Ok(())
@@ -109,23 +112,25 @@ fn operations_join_in_each_order(rt: HostRuntime) -> Result<(), Fail> {
         joins_in_each_order(rt.alloc(), changes, at(*ms), *wanted)?;
     }
     // an Update alone
+    let register = (First, First, Register(HOST_A, 0, 86_400));
     let update = (Third, Second, Update(HOST_B, 7, Some(120), None));
-    let slot = joined(
-        rt.alloc(),
-        &[(First, First, Register(HOST_A, 0, 86_400)), update],
-    )?;
+    let slot = joined(rt.alloc(), register, &[update])?;
     holds(
         "nothing",
         shows(&slot, at(7), None) && !slot.expired(at(86_400_000)),
     )
 }
 
-/// A registration that is removed before it is updated.
+/// A registration.
+const REGISTERED: Change<'static> = (First, First, Register(HOST_A, 0, 60));
+
+/// It is removed before it is updated.
 const REMOVED: &[Change<'static>] = &[
-    (First, First, Register(HOST_A, 0, 60)),
     (Second, First, Remove),
     (Third, First, Update(HOST_B, 0, Some(120), None)),
 ];
+
+const ONCE_MORE: Change<'static> = (Fourth, Fourth, Register(HOST_A, 1000, 60));
 
 fn is_gone(slot: &Slot) -> bool {
     slot.is_removed()
@@ -134,25 +139,23 @@ fn is_gone(slot: &Slot) -> bool {
         && slot.stamp() == First.stamp()
 }
 
-fn registers_once_more(alloc: Global, slot: &mut Slot) -> Result<(), Fail> {
-    holds("removed", is_gone(slot))?;
-    slot.join_with(slot_of(alloc, (Fourth, Fourth, Register(HOST_A, 1000, 60)))?)?;
-    holds("shown", slot.view("a", at(60_999)).is_some())?;
-    holds(
-        "over",
-        slot.view("a", at(61_000)).is_none() && slot.expired(at(61_000)),
-    )
+/// Whether it is shown until it expires.
+fn is_shown_until(slot: &Slot, end: u64) -> bool {
+    slot.view("a", at(end.saturating_sub(1))).is_some()
+        && slot.view("a", at(end)).is_none()
+        && slot.expired(at(end))
 }
 
 #[test]
 fn what_is_removed_registers_once_more_and_expires(rt: HostRuntime) -> Result<(), Fail> {
-    let mut slot = joined(rt.alloc(), REMOVED)?;
-    registers_once_more(rt.alloc(), &mut slot)
+    let mut slot = joined(rt.alloc(), REGISTERED, REMOVED)?;
+    holds("removed", is_gone(&slot))?;
+    join_all(rt.alloc(), &mut slot, &[ONCE_MORE])?;
+    holds("once more", is_shown_until(&slot, 61_000))
 }
 
-/// A registration with the watch `Fourth` of `/3/0`, an older one of that path, and `Third` of `/3/0/9`.
-static WATCHED: [Change<'static>; 4] = [
-    (First, First, Register(HOST_A, 0, 60)),
+/// The watch `Fourth` of `/3/0`, an older one of that path, and `Third` of `/3/0/9`.
+static WATCHED: [Change<'static>; 3] = [
     (Fourth, First, Observe(&[3, 0], Some(110))),
     (Second, First, Observe(&[3, 0], None)),
     (Third, First, Observe(&[3, 0, 9], Some(112))),
@@ -173,18 +176,25 @@ fn has_the_later_watch_alone(slot: &Slot) -> bool {
         && slot.watches().len() == 2
 }
 
+/// Whether the watch `Fourth` has the Content-Format 110.
+fn has_its_format(slot: &Slot) -> bool {
+    match slot.watch(at(0), Fourth.stamp()) {
+        None => false,
+        Some(watch) => watch.accept == Some(110),
+    }
+}
+
 fn loses_its_watches(alloc: Global, slot: &mut Slot) -> Result<(), Fail> {
-    let watch = slot.watch(at(0), Fourth.stamp()).ok_or("a watch")?;
-    holds("its format", watch.accept == Some(110))?;
-    slot.join_with(slot_of(alloc, (Fourth, First, Cancel(&[3, 0], Fourth)))?)?;
+    holds("its format", has_its_format(slot))?;
+    join_all(alloc, slot, &[(Fourth, First, Cancel(&[3, 0], Fourth))])?;
     holds("cancelled", has_the_later_watch_alone(slot))?;
-    slot.join_with(slot_of(alloc, (Fifth, Fifth, Register(HOST_A, 0, 60)))?)?;
+    join_all(alloc, slot, &[(Fifth, Fifth, Register(HOST_A, 0, 60))])?;
     holds("all end", slot.watches().is_empty())
 }
 
 #[test]
 fn a_watch_is_cancelled_or_ends(rt: HostRuntime) -> Result<(), Fail> {
-    let mut slot = joined(rt.alloc(), &WATCHED)?;
+    let mut slot = joined(rt.alloc(), REGISTERED, &WATCHED)?;
     loses_its_watches(rt.alloc(), &mut slot)
 }
 

@@ -1,5 +1,7 @@
 //! Meanings in words.
 
+use lw_link::LinkText;
+use lw_reg::{Binding, SmsNumber};
 use lw_request::{Asked, Report};
 use lw_stamp::Stamp;
 use std::alloc::{AllocError, Global};
@@ -36,6 +38,27 @@ fn told(alloc: Global, report: &Report) -> Result<String, AllocError> {
     format!(in alloc; "report {kind:?} {mid} [{token}] {code} {observe} {format} [{payload}]")
 }
 
+fn binding_of(binding: &Option<Binding>) -> &str {
+    match binding {
+        Some(binding) => binding.as_str(),
+        None => "-",
+    }
+}
+
+fn sms_of(sms: &Option<SmsNumber>) -> &str {
+    match sms {
+        Some(sms) => sms.as_str(),
+        None => "-",
+    }
+}
+
+fn objects_of(objects: &Option<LinkText>) -> &str {
+    match objects {
+        Some(objects) => objects.as_str(),
+        None => "-",
+    }
+}
+
 fn registered(alloc: Global, asked: &Asked) -> Result<String, AllocError> {
     let Asked::Register {
         endpoint,
@@ -52,10 +75,7 @@ fn registered(alloc: Global, asked: &Asked) -> Result<String, AllocError> {
     let endpoint = endpoint.as_str();
     let version = version.as_str();
     let binding = binding.as_str();
-    let sms = match sms {
-        Some(sms) => sms.as_str(),
-        None => "-",
-    };
+    let sms = sms_of(sms);
     let objects = objects.as_str();
     format!(in alloc; "register {endpoint} {version} {queue} {lifetime} {binding} {sms} {objects}")
 }
@@ -71,18 +91,7 @@ fn updated(alloc: Global, asked: &Asked) -> Result<String, AllocError> {
     else {
         return Ok(String::new(alloc));
     };
-    let binding = match binding {
-        Some(binding) => binding.as_str(),
-        None => "-",
-    };
-    let sms = match sms {
-        Some(sms) => sms.as_str(),
-        None => "-",
-    };
-    let objects = match objects {
-        Some(objects) => objects.as_str(),
-        None => "-",
-    };
+    let (binding, sms, objects) = (binding_of(binding), sms_of(sms), objects_of(objects));
     let of = id(alloc, *of)?;
     let lifetime = number(alloc, *lifetime)?;
     format!(in alloc; "update {of} {lifetime} {binding} {sms} {objects}")

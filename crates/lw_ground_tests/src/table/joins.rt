@@ -129,14 +129,9 @@ static JOINS: [(&[Of<'static>], State); 8] = [
     ),
 ];
 
-fn files(alloc: Global, table: &mut Table, changes: &[Of<'_>], state: State) -> Result<(), Fail> {
-    join_all(alloc, table, changes)?;
-    holds("its keys", has(table, state))
-}
-
 fn check_joins(alloc: Global, changes: &[Of<'_>], state: State) -> Result<(), Fail> {
-    let mut table = Table::new(alloc);
-    files(alloc, &mut table, changes, state)
+    let table = table_of(alloc, changes)?;
+    holds("its keys", has(&table, state))
 }
 
 #[test]

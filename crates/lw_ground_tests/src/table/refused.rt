@@ -3,13 +3,6 @@
 use super::*;
 use crate::hold::holds;
 
-/// Whether the join of the change was refused.
-fn is_refused(alloc: Global, table: &mut Table, change: Of<'_>) -> Result<bool, Fail> {
-    let slot = slot_of(alloc, change.1)?;
-    let endpoint = endpoint(alloc, change.0)?;
-    Ok(table.join(&endpoint, slot).is_err())
-}
-
 /// Joins the change. Where that is refused, the table is as before, and it is joined again.
 fn joins(
     alloc: Global,
@@ -18,7 +11,7 @@ fn joins(
     before: State,
     after: State,
 ) -> Result<(), Fail> {
-    if is_refused(alloc, table, change)? {
+    if try_join(alloc, table, change)?.is_err() {
         holds("as before", has(table, before))?;
         join(alloc, table, change)?;
     }

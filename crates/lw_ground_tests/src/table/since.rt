@@ -3,7 +3,6 @@
 use super::*;
 use crate::hold::holds;
 use lw_reg::Slot;
-use lw_stamp::NoMemory;
 use std::alloc::AllocError;
 
 /// The endpoint, the counter of its registration, and whether that was removed.
@@ -68,28 +67,20 @@ static AGAIN: [Of<'static>; 4] = [
 
 static OF_AGAIN: [(u64, &str); 4] = [(0, "b+2 c+3 "), (1, "b+2 c+3 "), (2, "c+3 "), (3, "")];
 
-fn moves(
-    alloc: Global,
-    table: &mut Table,
-    changes: &[Of<'_>],
-    number: u64,
-    rows: &[(u64, &str)],
-) -> Result<(), Fail> {
-    join_all(alloc, table, changes)?;
+fn moves(alloc: Global, changes: &[Of<'_>], number: u64, rows: &[(u64, &str)]) -> Result<(), Fail> {
+    let table = table_of(alloc, changes)?;
     holds("its number", table.change() == number)?;
-    tells(alloc, table, rows)
+    tells(alloc, &table, rows)
 }
 
 #[test]
 fn what_has_moved_since_a_number(rt: HostRuntime) -> Result<(), Fail> {
-    let mut table = Table::new(rt.alloc());
-    moves(rt.alloc(), &mut table, &FIVE, 6, &OF_FIVE)
+    moves(rt.alloc(), &FIVE, 6, &OF_FIVE)
 }
 
 #[test]
 fn what_has_moved_again(rt: HostRuntime) -> Result<(), Fail> {
-    let mut table = Table::new(rt.alloc());
-    moves(rt.alloc(), &mut table, &AGAIN, 3, &OF_AGAIN)
+    moves(rt.alloc(), &AGAIN, 3, &OF_AGAIN)
 }
 
 /// Registers the endpoint that is named `999` less the number.
