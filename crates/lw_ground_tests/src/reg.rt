@@ -124,19 +124,28 @@ static NO_BINDINGS: [&str; 6] = ["", "ABCDEFGHI", "u", "U1", "É", "U "];
 
 static NO_VERSIONS: [&str; 5] = ["", "1", "1.2", "1.10", "v1.0"];
 
+fn is_binding(text: &str) -> bool {
+    match Binding::read(text) {
+        None => false,
+        Some(binding) => binding.as_str() == text,
+    }
+}
+
+fn is_version(text: &str, version: Version) -> bool {
+    Version::read(text) == Some(version) && version.as_str() == text
+}
+
 #[test]
 fn bindings_and_versions_have_texts() -> Result<(), Fail> {
     for text in &BINDINGS {
-        let binding = Binding::read(text).ok_or("a binding")?;
-        holds(text, binding.as_str() == *text)?;
+        holds(text, is_binding(text))?;
     }
     for text in &NO_BINDINGS {
         holds(text, Binding::read(text).is_none())?;
     }
     holds("the default", Binding::default() == Binding::U)?;
     for (text, version) in [("1.0", Version::V10), ("1.1", Version::V11)] {
-        let is_version = Version::read(text) == Some(version) && version.as_str() == text;
-        holds(text, is_version)?;
+        holds(text, is_version(text, version))?;
     }
     for text in &NO_VERSIONS {
         holds(text, Version::read(text).is_none())?;

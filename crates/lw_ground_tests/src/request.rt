@@ -26,13 +26,17 @@ fn answered(
     Ok(hex::encode(alloc, &bytes)?)
 }
 
+fn meaning(alloc: Global, message: &Message, asked: &Asked) -> Result<String, Fail> {
+    match asked {
+        Asked::Refuse(refusal) => answered(alloc, message, refusal.code(), None),
+        _ => Ok(shown(alloc, asked)?),
+    }
+}
+
 /// What a message means: a refusal as the bytes of its answer, and any other meaning in words.
 fn told(alloc: Global, message: &Message) -> Result<String, Fail> {
     let asked = understand(alloc, message)?;
-    if let Asked::Refuse(refusal) = &asked {
-        return answered(alloc, message, refusal.code(), None);
-    }
-    Ok(shown(alloc, &asked)?)
+    meaning(alloc, message, &asked)
 }
 
 fn message_of(alloc: Global, datagram: &str) -> Result<Message, Fail> {
@@ -53,11 +57,16 @@ fn check_meaning(alloc: Global, datagram: &str, want: &str) -> Result<(), Fail> 
     same(datagram, meant.as_str(), want)
 }
 
+/// The datagram of a case, and what it means.
+fn case_of(line: &str) -> Option<(&str, &str)> {
+    let (_what, means) = line.split_once(": ")?;
+    means.split_once(" -> ")
+}
+
 /// Looks at cases, a line each: what it is, its datagram in hex, and what that means.
 fn check(alloc: Global, cases: &str) -> Result<(), Fail> {
-    for case in cases.trim().lines() {
-        let (_what, means) = case.split_once(": ").ok_or("a case")?;
-        let (datagram, want) = means.split_once(" -> ").ok_or("a case")?;
+    for line in cases.trim().lines() {
+        let (datagram, want) = case_of(line).ok_or("a case")?;
         check_meaning(alloc, datagram, want)?;
     }
     Ok(())

@@ -274,27 +274,30 @@ fn is_below_or_equal<V: Exact>(left: &V, right: &V) -> bool {
     left.cmp(right).is_le()
 }
 
+fn numbers_compare() -> bool {
+    is_below_or_equal(&false, &true)
+        && is_below_or_equal(&1u8, &2)
+        && !is_below_or_equal(&3u16, &2)
+        && is_below_or_equal(&2u32, &2)
+        && is_below_or_equal(&2u64, &3)
+}
+
+fn records_compare() -> bool {
+    is_below_or_equal(&Third.stamp(), &Fourth.stamp())
+        && is_below_or_equal(&Moment::START, &Moment::START)
+        && is_below_or_equal(&None, &Some(1u8))
+        && !is_below_or_equal(&(1u8, true), &(1, false))
+}
+
+fn texts_compare(alloc: Global) -> Result<bool, NoMemory> {
+    let short = Text::copy_of(alloc, "a")?;
+    let long = Text::copy_of(alloc, "ab")?;
+    Ok(is_below_or_equal(&short, &long) && !is_below_or_equal(&long, &short))
+}
+
 #[test]
 fn keys_compare_exactly(rt: HostRuntime) -> Result<(), Fail> {
-    holds(
-        "flags",
-        is_below_or_equal(&false, &true) && is_below_or_equal(&1u8, &2),
-    )?;
-    holds(
-        "numbers",
-        !is_below_or_equal(&3u16, &2) && is_below_or_equal(&2u32, &2),
-    )?;
-    holds(
-        "stamps",
-        is_below_or_equal(&2u64, &3) && is_below_or_equal(&Third.stamp(), &Fourth.stamp()),
-    )?;
-    holds("moments", is_below_or_equal(&Moment::START, &Moment::START))?;
-    holds("options", is_below_or_equal(&None, &Some(1u8)))?;
-    holds("pairs", !is_below_or_equal(&(1u8, true), &(1, false)))?;
-    let short = Text::copy_of(rt.alloc(), "a")?;
-    let long = Text::copy_of(rt.alloc(), "ab")?;
-    holds(
-        "texts",
-        is_below_or_equal(&short, &long) && !is_below_or_equal(&long, &short),
-    )
+    holds("numbers", numbers_compare())?;
+    holds("records", records_compare())?;
+    holds("texts", texts_compare(rt.alloc())?)
 }

@@ -224,8 +224,7 @@ fn shows_the_last(seen: &Seen) -> bool {
         && seen.queue
 }
 
-fn seen(alloc: Global) -> Result<Seen, Fail> {
-    let slot = whole(alloc, false)?;
+fn seen(alloc: Global, slot: &Slot) -> Result<Seen, Fail> {
     let endpoint = letters(alloc, "e", 252)?;
     let view = slot.view(endpoint.as_str(), Moment::START).ok_or("a view")?;
     Ok(view.to_seen(alloc)?)
@@ -233,9 +232,10 @@ fn seen(alloc: Global) -> Result<Seen, Fail> {
 
 #[test]
 fn a_whole_slot_is_shown_and_copied(rt: HostRuntime) -> Result<(), Fail> {
-    let seen = seen(rt.alloc())?;
-    holds("the last", shows_the_last(&seen))?;
-    holds("the longest", has_the_longest_texts(&seen.as_view()))
+    let slot = whole(rt.alloc(), false)?;
+    let seen = seen(rt.alloc(), &slot)?;
+    let is_last = shows_the_last(&seen) && has_the_longest_texts(&seen.as_view());
+    holds("the last", is_last)
 }
 
 fn no_fields(alloc: Global) -> Fields {
@@ -271,17 +271,31 @@ fn a_slot_without_fields_takes_the_others(rt: HostRuntime) -> Result<(), Fail> {
     takes_the_others(rt.alloc(), &mut slot)
 }
 
+/// Whether the endpoint has so many letters, and its text as well.
+fn has_letters(endpoint: Endpoint, length: usize) -> bool {
+    let is_text = is_letters(endpoint.as_str(), b'e', length);
+    is_text && is_letters(endpoint.into_text().as_str(), b'e', length)
+}
+
+/// Whether so many letters are an endpoint, which keeps them.
+fn is_endpoint(alloc: Global, length: usize) -> Result<bool, AllocError> {
+    match Endpoint::new(letters(alloc, "e", length)?) {
+        None => Ok(false),
+        Some(endpoint) => Ok(has_letters(endpoint, length)),
+    }
+}
+
+fn is_sms_number(alloc: Global, length: usize) -> Result<bool, AllocError> {
+    Ok(SmsNumber::new(letters(alloc, "1", length)?).is_some())
+}
+
 #[test]
 fn endpoints_and_sms_numbers_have_bounds(rt: HostRuntime) -> Result<(), Fail> {
     for (length, is_one) in [(0, false), (1, true), (252, true), (253, false)] {
-        let endpoint = Endpoint::new(letters(rt.alloc(), "e", length)?);
-        holds_for(&length, endpoint.is_some() == is_one)?;
+        holds_for(&length, is_endpoint(rt.alloc(), length)? == is_one)?;
     }
     for (length, is_one) in [(0, true), (251, true), (252, false)] {
-        let sms = SmsNumber::new(letters(rt.alloc(), "1", length)?);
-        holds_for(&length, sms.is_some() == is_one)?;
+        holds_for(&length, is_sms_number(rt.alloc(), length)? == is_one)?;
     }
-    let one = Endpoint::new(letters(rt.alloc(), "e", 252)?).ok_or("an endpoint")?;
-    holds("its text", is_letters(one.as_str(), b'e', 252))?;
-    holds("its text", is_letters(one.into_text().as_str(), b'e', 252))
+    Ok(())
 }
