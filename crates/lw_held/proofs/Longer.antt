@@ -9,7 +9,7 @@ use Rattle.lw_held.specs.declared.entry.Part.{Part}
 use Rattle.lw_held.specs.declared.shelf.Shelf.{Shelf}
 use Rattle.lw_held.specs.Agree.{Agrees, IsSettled}
 use Rattle.lw_held.specs.History.{HeldContent, Leads, IsLegal, Enters}
-use Rattle.lw_held.specs.Shelves.{AreInOrder, IsAnswered}
+use Rattle.lw_held.specs.Shelves.{AreInOrder, AreNew, IsAnswered}
 use Rattle.lw_held.specs.Transcript.{Transcript, IsNumbered}
 
 -- what lies at a place was there before, or is the new one
@@ -34,6 +34,14 @@ in_order_longer shelves longer shelf before pushed next k x at =
     elim (there_or_last shelves shelf k x (ap (λ (ss : List Shelf). slice_get ss k) (sym pushed) ∙ at)) [
       | inl earlier ↦ before k x earlier
       | inr last ↦ ap (λ (s : Shelf). s.number) (sym last.1) ∙ next ∙ ap (λ n. n + 1) (sym last.0)
+    ]
+
+-- one pass more, of the next number
+pub new_longer : (passes longer : List Transcript) (pass : Transcript) → AreNew passes → longer ≡ passes ++ pass ∷ [] → pass ≡ record { number = length passes; parts = [] } → AreNew longer
+new_longer passes longer pass before pushed next k x at =
+    elim (there_or_last passes pass k x (ap (λ (ps : List Transcript). slice_get ps k) (sym pushed) ∙ at)) [
+      | inl earlier ↦ before k x earlier
+      | inr last ↦ subst (λ n. x ≡ record { number = n; parts = [] }) (sym last.0) (sym last.1 ∙ next)
     ]
 
 -- what has answered had a legal history

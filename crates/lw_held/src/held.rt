@@ -65,8 +65,7 @@ impl Held {
         ensures unchanged { OnErr result (self.new ≡ self.old) }
     {
         self.journal.reserve(1)?;
-        let first = call.copy(self.alloc)?;
-        let second = call.copy(self.alloc)?;
+        let (first, second) = two_copies(self.alloc, call)?;
         let place = self.journal.len() as u64;
         let (reply, again) = self.node.act_twice(call);
         self.journal.push_reserved(Entry {
@@ -100,4 +99,12 @@ impl Held {
             Some(place) => Err(place),
         }
     }
+}
+
+fn two_copies(alloc: Global, call: &Call) -> Result<(Call, Call), NoMemory>
+    ensures { IfOk result (λ r. (r.0 ≡ call.now) × (r.1 ≡ call.now)) }
+{
+    let first = call.copy(alloc)?;
+    let second = call.copy(alloc)?;
+    Ok((first, second))
 }

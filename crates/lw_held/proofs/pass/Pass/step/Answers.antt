@@ -5,7 +5,7 @@ use Rattle.lw_held.proofs.pass.Pass.step.Goals as goal
 pub invariant_of-self-2 : goal.invariant_of-self-2
 invariant_of-self-2 c =
     let next : c.in_ok-entry.entry.number ≡ length c.reserve.new.self.items = search rules in
-    numbered_longer c.self.inside.number c.self.inside.parts.items c.reserve.new.self.items c.push_reserved.new.self.items (record { node = c.args.node; place = c.in_ok-entry.place; entry = c.in_ok-entry.entry })
+    numbered_longer c.self.inside.number c.self.inside.parts.items c.reserve.new.self.items c.push_reserved.new.self.items _
     c.self.invariant c.reserve.ensures.items c.push_reserved.ensures.items c.in_ok-entry.ensures.entered.pass_is next
 
 pub returns-clause-entered : goal.returns-clause-entered
