@@ -1,5 +1,5 @@
 /// Which spellings of a list are meant.
-#[derive(Clone, Copy, PartialEq, Eq)]
+#[derive(Clone, Copy)]
 pub(crate) enum Style {
     /// All that the grammar allows.
     Any,

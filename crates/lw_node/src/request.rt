@@ -16,7 +16,7 @@ use lw_stamp::{NoMemory, Stamp};
 use std::alloc::Global;
 
 /// What a GET says of an observation (RFC 7641, section 2).
-#[derive(Clone, Copy, PartialEq, Eq)]
+#[derive(Clone, Copy)]
 pub(crate) enum Observe {
     Register,
     Deregister,

@@ -10,7 +10,7 @@ use lw_stamp::NoMemory;
 use std::alloc::Global;
 
 /// Why a payload was not read as an object list.
-#[derive(Clone, Copy, PartialEq, Eq)]
+#[derive(Clone, Copy)]
 pub(crate) enum Unread {
     /// More links than a list has, or more bytes than a datagram.
     TooLarge,

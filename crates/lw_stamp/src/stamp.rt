@@ -7,7 +7,7 @@ use hex::FromHex;
 /// The stamp of an operation: the number that a node's clock gave it, and that node's number.
 ///
 /// Stamps are ordered by counter, then node. The counter is from 1 to 2^48 - 1.
-#[derive(Clone, Copy, Debug, PartialEq, Eq, PartialOrd, Ord, Hash)]
+#[derive(Clone, Copy, Debug, PartialEq, Eq, PartialOrd, Ord)]
 pub struct Stamp {
     pub counter: u64,
     pub node: u16,
