@@ -10,7 +10,7 @@ pub returns-in_err-enter : goal.returns-in_err-enter
 returns-in_err-enter c = record {
   others = c.enter.ensures.others;
   moved = err_not _ c.from_residual.result c.from_residual.ensures.0;
-  unchanged = err_then _ c.from_residual.result (refl, over_old c.args.filed.now c.enter.new.self c.args.endpoint.now _ c.args.keys.now c.args.number c.enter.ensures.between (Some c.args.row.now) c.requires.filed);
+  unchanged = err_then _ c.from_residual.result (refl, over_old c.args.filed.now c.enter.new.self c.args.endpoint.now c.may_revive.result c.args.keys.now c.args.number c.enter.ensures.between (Some c.args.row.now) c.requires.filed);
 }
 
 pub returns-in_err-join_with : goal.returns-in_err-join_with
@@ -24,7 +24,7 @@ returns-in_err-join_with c =
       unchanged = err_then _ c.from_residual-in_err-join_with.result (
         same,
         subst (λ r. IsOver c.enter.new.self c.args.endpoint.now (Some r) c.args.keys.now c.args.number) (sym same)
-            (over_old c.args.filed.now c.enter.new.self c.args.endpoint.now _ c.args.keys.now c.args.number c.enter.ensures.between (Some row) c.requires.filed),
+            (over_old c.args.filed.now c.enter.new.self c.args.endpoint.now c.may_revive.result c.args.keys.now c.args.number c.enter.ensures.between (Some row) c.requires.filed),
       );
     }
 
@@ -38,7 +38,7 @@ returns c =
       moved = (
         moved,
         subst (λ r. IsOver c.enter.new.self c.args.endpoint.now (Some r) c.args.keys.now row.number) (sym moved)
-            (over_moved c.args.filed.now c.enter.new.self c.args.endpoint.now _ c.args.keys.now c.args.number c.enter.ensures.between c.in_ok-enter.ensures.all c.args.slot
+            (over_moved c.args.filed.now c.enter.new.self c.args.endpoint.now c.may_revive.result c.args.keys.now c.args.number c.enter.ensures.between c.in_ok-enter.ensures.all c.args.slot
             row c.requires.filed (λ gone here. c.may_revive.ensures.1 (gone, here)) c.requires.keys),
       );
       unchanged = tt;
