@@ -20,18 +20,17 @@ use Rattle.lw_reg.specs.declared.path.Path.{Path}
 use Rattle.lw_reg.specs.declared.slot.Slot.{Slot}
 use Rattle.lw_reg.specs.declared.watch.Watch.{Watch}
 use Rattle.lw_reg.specs.Laws.{ShowTheSame}
-use Rattle.lw_reg.specs.Marks.{Trace, Mark, Has, among, left_by, marks_about, marks_of, all_marks, traces_of, written}
-use Rattle.lw_reg.specs.Marks.Trace.{Named, Based, AddressAt, SeenAt, LifetimeAt, BindingAt, SmsAt, ObjectsAt, Removed, Watched, Cancelled}
+use Rattle.lw_reg.specs.Marks.{Trace, Mark, Has, left_by, marks_about, marks_of, all_marks, traces_of, written}
+use Rattle.lw_reg.specs.Marks.Trace.{Named, Based, LifetimeAt, BindingAt, SmsAt, ObjectsAt, Watched}
 use Rattle.lw_reg.specs.Reading.{shown_in, stamp_of}
 use Rattle.lw_reg.specs.Registration.{Registration}
-use Rattle.lw_reg.specs.Showing.{IsComplete, IsShown, IsLive, LivesOf}
-use Rattle.lw_reg.specs.State.{State, IsStateOf, state_join, state_of}
+use Rattle.lw_reg.specs.Showing.{IsComplete, IsLive}
+use Rattle.lw_reg.specs.State.{IsStateOf, state_of}
 use Rattle.lw_reg.proofs.Members.{none_there, first_there, more_there, there_or_first}
 use Rattle.lw_reg.proofs.Operations.{all_names}
 use Rattle.lw_reg.proofs.Same.{states_show_sets}
 use Rattle.lw_reg.proofs.States.{state_laws, state_least, state_union}
 use Rattle.lw_reg.proofs.Tells.{SlotTells}
-use Rattle.lw_table.specs.LookUps.{ById, HasToken, ByToken}
 use Rattle.lw_table.proofs.LookUpLemmas.{marks_tell}
 use Rattle.lw_node.specs.Laws.{Follows, IsRegister, WellStamped, RegistersEndTheFormer}
 use Rattle.lw_node.specs.Node.{NodeContent}

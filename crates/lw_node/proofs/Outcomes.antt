@@ -1,5 +1,5 @@
 -- What a command gives, and what it leaves, of what it was to do.
-use Rattle.std.proofs.Common.{◌≡◌, ℕ, ◌↔◌, Option, Some, None, Ok, Err, inl, inr, refl, sym, ap, subst, arith}
+use Rattle.std.proofs.Common.{◌≡◌, ℕ, ◌↔◌, Option, Some, None, Ok, Err, inl, inr, refl, arith}
 use Rattle.std.specs.Prelude.{Result}
 use Rattle.lw_stamp.specs.declared.stamp.Stamp.{Stamp}
 use Rattle.lw_reg.specs.declared.op.Op.{Op}

@@ -1,11 +1,11 @@
 -- What a Register or an Update wrote is read back.
-use Rattle.std.proofs.Common.{◌≡◌, ◌⊎◌, inl, inr, ℕ, zero, suc, ◌+◌, ◌*◌, ◌<◌, ◌≤◌, ◌||◌, ◌==◌, nat_lt, Bool, true, false, cond, List, Option, Some, None, refl, sym, ap, subst, ◌∙◌, arith}
+use Rattle.std.proofs.Common.{◌≡◌, inl, ℕ, zero, suc, ◌+◌, ◌*◌, ◌<◌, ◌≤◌, ◌||◌, ◌==◌, nat_lt, Bool, true, false, cond, List, Option, Some, None, refl, sym, ap, subst, ◌∙◌, arith}
 use Rattle.std.proofs.lemmas.Bool.Decides.{nat_tests}
 use Rattle.std.specs.Cmp.{nat_cmp_is, tied_itself}
 use Rattle.std.specs.FinMap.{get}
 use Rattle.std.specs.Ordering.{nat_cmp, ordering_then, match_ordering, max_by_ordering}
 use Rattle.std.specs.declared.cmp.Ordering.{Ordering}
-use Rattle.std.specs.declared.cmp.Ordering.TheVariants.{Less, Equal, Greater}
+use Rattle.std.specs.declared.cmp.Ordering.TheVariants.{Less}
 use Rattle.lw_stamp.specs.declared.moment.Moment.{Moment}
 use Rattle.lw_stamp.specs.declared.stamp.Stamp.{Stamp}
 use Rattle.lw_stamp.specs.Moment.{ms_of}
@@ -13,7 +13,7 @@ use Rattle.lw_stamp.specs.StampOrder.{stamp_cmp}
 use Rattle.lw_stamp.specs.TextOrder.{text_cmp}
 use Rattle.lw_stamp.proofs.StampLemmas.{stamp_order}
 use Rattle.lw_join.specs.Greater.{greater}
-use Rattle.lw_join.specs.Lww.{write_cmp, lww_join}
+use Rattle.lw_join.specs.Lww.{write_cmp}
 use Rattle.lw_join.specs.Maps.{one_key}
 use Rattle.lw_join.specs.Options.{option_join}
 use Rattle.lw_join.specs.OrGone.{gone_join}
@@ -29,13 +29,13 @@ use Rattle.lw_reg.specs.declared.op.What.{What}
 use Rattle.lw_reg.specs.declared.op.What.TheVariants.{Register, Update, Remove, Observe, Cancel}
 use Rattle.lw_reg.specs.declared.slot.Slot.{Slot}
 use Rattle.lw_reg.specs.Body.{body_join, no_watches}
-use Rattle.lw_reg.specs.Marks.{Trace, Mark, marks_of}
+use Rattle.lw_reg.specs.Marks.{Trace, marks_of}
 use Rattle.lw_reg.specs.Marks.Trace.{Named, AddressAt, SeenAt, LifetimeAt, BindingAt, SmsAt, ObjectsAt}
 use Rattle.lw_reg.specs.OrderLaws.{text_order}
 use Rattle.lw_reg.specs.Orders.{addr_cmp, base_cmp, binding_cmp, moment_cmp, sms_cmp}
-use Rattle.lw_reg.specs.Reading.{Shows, shown_in, shown_by_option, stamp_of, registration_of, registered_in, in_time, timely, view_in}
+use Rattle.lw_reg.specs.Reading.{Shows, shown_in, shown_by_option, stamp_of, registration_of, registered_in, in_time, timely}
 use Rattle.lw_reg.specs.Registration.{Registration}
-use Rattle.lw_reg.specs.Showing.{IsShown, ShownOf, queue_of}
+use Rattle.lw_reg.specs.Showing.{ShownOf, queue_of}
 use Rattle.lw_reg.specs.Slot.{slot_join, slot_at, slot_of, told_of, write_of, some_text}
 use Rattle.lw_reg.specs.State.{State, state_join, state_of}
 use Rattle.lw_reg.proofs.Operations.{marks_state}
@@ -43,8 +43,7 @@ use Rattle.lw_reg.proofs.States.{state_is}
 use Rattle.lw_table.specs.Found.{view_with, view_at}
 use Rattle.lw_table.proofs.Answering.{read_by_endpoint}
 use Rattle.lw_table.proofs.LookUpLemmas.{view_reads, read_tells, read_names}
-use Rattle.lw_node.specs.Laws.{Follows, registered, RegistersReadBack, or_before, or_kept, IsUpdated, UpdatesReadBack}
-use Rattle.lw_node.specs.Node.{NodeContent, Issued}
+use Rattle.lw_node.specs.Laws.{registered, RegistersReadBack, or_before, or_kept, IsUpdated, UpdatesReadBack}
 use Rattle.lw_node.specs.Within.{FitsClock, MarkWithin}
 
 some_is : {A : Type 0} (v w : A) → Some v ≡ Some w → v ≡ w

@@ -1,5 +1,5 @@
 -- What is decided and done is a step.
-use Rattle.std.proofs.Common.{◌≡◌, ℕ, List, Option, Some, None, Ok, Err, refl, sym, ap, subst}
+use Rattle.std.proofs.Common.{◌≡◌, ℕ, List, Option, Ok, Err, sym, subst}
 use Rattle.std.specs.Prelude.{Result, IfSome, IfOk, IsOk, OnErr}
 use Rattle.lw_stamp.specs.declared.moment.Moment.{Moment}
 use Rattle.lw_stamp.specs.declared.no_memory.NoMemory.{NoMemory}

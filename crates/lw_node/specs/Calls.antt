@@ -1,5 +1,5 @@
 -- What the calls of a node give, and what they leave.
-use Rattle.std.specs.Prelude.{◌≡◌, ℕ, ◌+◌, List, Option, Some, None, Result, Ok, Err}
+use Rattle.std.specs.Prelude.{◌≡◌, ℕ, List, Option, Some, None, Result, Ok, Err}
 use Rattle.lw_stamp.specs.declared.stamp.Stamp.{Stamp}
 use Rattle.lw_coap.specs.declared.fault.Fault.{Fault}
 use Rattle.lw_coap.specs.Faults.{IsFault}
@@ -10,7 +10,6 @@ use Rattle.lw_reg.specs.declared.op.Op.{Op}
 use Rattle.lw_reg.specs.declared.path.Path.{Path}
 use Rattle.lw_reg.specs.Marks.{Marks}
 use Rattle.lw_reg.specs.State.{State}
-use Rattle.lw_table.specs.LookUps.{ById, ByToken}
 use Rattle.lw_call.specs.declared.observe_fault.ObserveFault.{ObserveFault}
 use Rattle.lw_call.specs.declared.observe_fault.ObserveFault.TheVariants as faults
 use Rattle.lw_call.specs.Contents.{NoticeContent, TakenContent, OutgoingContent}

@@ -1,4 +1,4 @@
-use Rattle.std.proofs.Common.{◌≡◌, ◌≢◌, ◌∙◌, [], Err, sym, ap, subst, refl, arith}
+use Rattle.std.proofs.Common.{◌≡◌, ◌≢◌, [], Err, sym, ap, subst, refl}
 use Rattle.lw_stamp.specs.Clock.{counter_of}
 use Rattle.lw_delta.specs.Delta.{DeltaContent, IsSpelling}
 use Rattle.lw_delta.proofs.Answering.{one_delta, apart}

@@ -1,6 +1,6 @@
-use Rattle.std.proofs.Common.{◌≡◌, ℕ, List, subst, sym}
+use Rattle.std.proofs.Common.{subst, sym}
 use Rattle.lw_stamp.specs.Moment.{ms_of}
-use Rattle.lw_reg.specs.Marks.{Mark, among}
+use Rattle.lw_reg.specs.Marks.{among}
 use Rattle.lw_reg.specs.Reading.{shown_in}
 use Rattle.lw_node.specs.Calls.{DecisionContent, Decided, place_at}
 use Rattle.lw_node.specs.Effects.{DatagramMeans}
