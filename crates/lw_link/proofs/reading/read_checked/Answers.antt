@@ -1,4 +1,4 @@
-use Rattle.std.proofs.Common.{◌≡◌, ◌≤◌, ◌∙◌, List, ℕ, ap, refl, subst, sym, inl, chars, length}
+use Rattle.std.proofs.Common.{◌≡◌, ◌≤◌, ◌∙◌, List, ℕ, ap, refl, subst, sym, inl, inr, chars, length}
 use Rattle.std.proofs.lemmas.Result.{err_from_is_err_and}
 use Rattle.lw_link.specs.declared.style.Style.TheVariants.{Any}
 use Rattle.lw_link.specs.declared.state.State.TheVariants.{Start}
@@ -21,3 +21,8 @@ returns-clause-found c =
     let same : c.in_ok-links.field-0.items ≡ (read_on Any Start (chars bytes)).links =
     c.in_ok-links.ensures ∙ ap (λ (x : List ℕ). (read_on Any Start (chars x)).links) c.in_ok-text.ensures.text.0 in
     subst (λ (links : List LinkContent). Spells bytes links × (length links ≤ 256)) (sym same) found
+
+pub returns-in_err-text-clause-refused : goal.returns-in_err-text-clause-refused
+returns-in_err-text-clause-refused c =
+    let p = err_from_is_err_and c.from_residual.result c.from_residual.ensures.1 in
+    rw (p.1, p.2) (inr (rw c.in_err-text.was at c.check.ensures.fault))
