@@ -1,5 +1,5 @@
 -- What a function of the reading answers is what the message means.
-use Rattle.std.proofs.Common.{◌≡◌, ◌≢◌, ◌↔◌, ℕ, ◌≤◌, ◌⊎◌, Bool, false, List, [], ◌∷◌, length, codes, Option, Some, None, Result, Ok, Err, refl, sym, ap, subst, ◌∙◌, inl, inr}
+use Rattle.std.proofs.Common.{◌≡◌, ◌≢◌, ◌↔◌, ℕ, ◌≤◌, ◌⊎◌, Bool, true, false, List, [], ◌∷◌, length, codes, Option, Some, None, Result, Ok, Err, refl, sym, ap, subst, ◌∙◌, inl, inr}
 use Rattle.std.specs.Prelude.{unwrap_or, is_some, IsTrue, IsSome, IsErr, IfOk, OnErr}
 use Rattle.std.proofs.lemmas.Bool.{both_ways}
 use Rattle.lw_stamp.specs.declared.no_memory.NoMemory.{NoMemory}
@@ -12,7 +12,7 @@ use Rattle.lw_reg.specs.Binding.{binding_text}
 use Rattle.lw_reg.specs.Version.{version_text}
 use Rattle.lw_request.specs.declared.asked.Asked.{Asked}
 use Rattle.lw_request.specs.declared.asked.Asked.TheVariants.{Register, Update, Deregister, Refuse}
-use Rattle.lw_request.specs.declared.refusal.Refusal.TheVariants.{BadRequest, PreconditionFailed, RequestEntityTooLarge}
+use Rattle.lw_request.specs.declared.refusal.Refusal.TheVariants.{BadRequest, PreconditionFailed, RequestEntityTooLarge, UnsupportedContentFormat}
 use Rattle.lw_request.specs.declared.objects.Unread.{Unread}
 use Rattle.lw_request.specs.declared.objects.Unread.TheVariants.{TooLarge, NoLinks as NoList, NoMemory as WantOfMemory}
 use Rattle.lw_request.specs.Options.{values_of, content_format}
@@ -63,6 +63,10 @@ HasOtherFormat options b = IsTrue b ↔ ((format : ℕ) × (content_format optio
 pub right_format : (m : MessageContent) (options : List OptionContent) (b : Bool) → options ≡ m.options → HasOtherFormat options b → b ≡ false → Cause WrongFormat m → ⊥
 right_format m options b same iff e (post, wrong) =
     both_ways b e (iff.1 (subst (λ (os : List OptionContent). (format : ℕ) × (content_format os ≡ Some format) × (format ≢ 40)) (sym same) wrong))
+
+pub wrong_format : (m : MessageContent) (options : List OptionContent) (b : Bool) → options ≡ m.options → HasOtherFormat options b → b ≡ true → IsPost m → MeansBy post_steps m (Refuse UnsupportedContentFormat)
+wrong_format m options b same iff e post =
+    inl ((post, subst (λ (os : List OptionContent). (format : ℕ) × (content_format os ≡ Some format) × (format ≢ 40)) same (iff.0 e)), refl)
 
 -- ---- a Register
 

@@ -11,8 +11,13 @@ use Rattle.lw_request.specs.Objects.{IsObjectList, IsUnread}
 use Rattle.lw_request.specs.Steps.{post_steps}
 use Rattle.lw_request.specs.Meaning.{MeansBy}
 use Rattle.lw_request.proofs.QueryLemmas.{endpoint_short, sms_short}
-use Rattle.lw_request.proofs.Meanings.{IsSpoken, understands_made, any_error, right_format, register_read, good_queries, register_bad, register_other, read_register_asks, register_unread}
+use Rattle.lw_request.proofs.Meanings.{IsSpoken, understands_made, any_error, right_format, wrong_format, register_read, good_queries, register_bad, register_other, read_register_asks, register_unread}
 use Rattle.lw_request.proofs.register.register.Goals as goal
+
+pub returns-then-has_other_format : goal.returns-then-has_other_format
+returns-then-has_other_format c =
+    let same = c.as_slice-options.ensures.value ∙ ap (λ (m : MessageContent). m.options) c.request.view_is in
+    wrong_format c.args.request.now c.as_slice-options.result.now c.has_other_format.result same c.has_other_format.ensures c.if-has_other_format.true c.requires.form.1
 
 pub returns-in_default : goal.returns-in_default
 returns-in_default c =

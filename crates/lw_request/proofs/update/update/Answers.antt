@@ -9,8 +9,13 @@ use Rattle.lw_request.specs.Objects.{IsUnread}
 use Rattle.lw_request.specs.Steps.{post_steps}
 use Rattle.lw_request.specs.Meaning.{AreObjects, MeansBy}
 use Rattle.lw_request.proofs.QueryLemmas.{sms_short}
-use Rattle.lw_request.proofs.Meanings.{understands_made, right_format, update_read, update_bad, read_update_asks, update_unread, owns_number}
+use Rattle.lw_request.proofs.Meanings.{understands_made, right_format, wrong_format, update_read, update_bad, read_update_asks, update_unread, owns_number}
 use Rattle.lw_request.proofs.update.update.Goals as goal
+
+pub returns-then-has_other_format : goal.returns-then-has_other_format
+returns-then-has_other_format c =
+    let same = c.as_slice-options.ensures.value ∙ ap (λ (m : MessageContent). m.options) c.request.view_is in
+    wrong_format c.args.request.now c.as_slice-options.result.now c.has_other_format.result same c.has_other_format.ensures c.if-has_other_format.true c.requires.form.1
 
 pub returns-in_default : goal.returns-in_default
 returns-in_default c =
