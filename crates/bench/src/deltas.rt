@@ -54,21 +54,48 @@ impl DeltaCall {
         ensures { IfOk result (λ cost. cost.calls ≡ count) }
     {
         let bytes = bytes_of(alloc, &names(alloc, Order::Rising, count)?)?;
-        let delta = read(alloc, &bytes)?;
-        let start = clock.thread_cpu_time()?;
-        let _kept = match self {
-            DeltaCall::Write => {
-                write(alloc, delta.clock, &delta.slots)?;
-                None
-            }
-            DeltaCall::Check => {
-                check(&bytes)?;
-                None
-            }
-            DeltaCall::Read => Some(read(alloc, &bytes)?),
-        };
-        Cost::since(clock, start, count, bytes.len() as u64)
+        match self {
+            DeltaCall::Write => cost_of_write(clock, alloc, &bytes, count),
+            DeltaCall::Check => cost_of_check(clock, &bytes, count),
+            DeltaCall::Read => cost_of_read(clock, alloc, &bytes, count),
+        }
     }
+}
+
+fn cost_of_write<C: CpuClock>(
+    clock: &C,
+    alloc: Global,
+    bytes: &[u8],
+    count: u32,
+) -> Result<Cost, BenchFault>
+    ensures { IfOk result (λ cost. cost.calls ≡ count) }
+{
+    let delta = read(alloc, bytes)?;
+    let start = clock.thread_cpu_time()?;
+    write(alloc, delta.clock, &delta.slots)?;
+    Cost::since(clock, start, count, bytes.len() as u64)
+}
+
+fn cost_of_check<C: CpuClock>(clock: &C, bytes: &[u8], count: u32) -> Result<Cost, BenchFault>
+    ensures { IfOk result (λ cost. cost.calls ≡ count) }
+{
+    let start = clock.thread_cpu_time()?;
+    check(bytes)?;
+    Cost::since(clock, start, count, bytes.len() as u64)
+}
+
+/// What was read is given back behind the reading of the clock.
+fn cost_of_read<C: CpuClock>(
+    clock: &C,
+    alloc: Global,
+    bytes: &[u8],
+    count: u32,
+) -> Result<Cost, BenchFault>
+    ensures { IfOk result (λ cost. cost.calls ≡ count) }
+{
+    let start = clock.thread_cpu_time()?;
+    let _kept = read(alloc, bytes)?;
+    Cost::since(clock, start, count, bytes.len() as u64)
 }
 
 /// The bytes of a delta with a registration of each name.

@@ -49,21 +49,24 @@ impl NodeCalls {
     {
         let mut node = self.node(alloc, count)?;
         let names = names(alloc, self.names, count)?;
-        let start = clock.thread_cpu_time()?;
-        make_all(alloc, &mut node, self.call, &names)?;
-        Cost::since(clock, start, count, 0)
+        self.call.cost(clock, alloc, &mut node, &names, count)
     }
 
     fn node(self, alloc: Global, count: u32) -> Result<Node, BenchFault> {
-        let Some(order) = self.known else {
-            return Ok(Node::new(alloc, 1));
-        };
-        let names = names(alloc, order, count)?;
-        let mut node = node_of(alloc, 1, &names)?;
-        if let NodeCall::ByToken = self.call {
-            make_all(alloc, &mut node, NodeCall::Observe, &names)?;
+        let mut node = Node::new(alloc, 1);
+        if let Some(order) = self.known {
+            self.fill(alloc, &mut node, &names(alloc, order, count)?)?;
         }
         Ok(node)
+    }
+
+    /// The endpoints register, and where tokens are looked for, a path of each is observed.
+    fn fill(self, alloc: Global, node: &mut Node, names: &[String]) -> Result<(), BenchFault> {
+        make_all(alloc, node, NodeCall::Take, names)?;
+        if let NodeCall::ByToken = self.call {
+            make_all(alloc, node, NodeCall::Observe, names)?;
+        }
+        Ok(())
     }
 }
 
@@ -116,6 +119,22 @@ pub(crate) fn source_at(place: u32) -> Addr {
 }
 
 impl NodeCall {
+    /// The cost of the calls with so many names.
+    fn cost<C: CpuClock>(
+        self,
+        clock: &C,
+        alloc: Global,
+        node: &mut Node,
+        names: &[String],
+        count: u32,
+    ) -> Result<Cost, BenchFault>
+        ensures { IfOk result (λ cost. cost.calls ≡ count) }
+    {
+        let start = clock.thread_cpu_time()?;
+        make_all(alloc, node, self, names)?;
+        Cost::since(clock, start, count, 0)
+    }
+
     /// Whether there was an answer.
     fn make(
         self,
@@ -124,28 +143,41 @@ impl NodeCall {
         name: &str,
         place: u32,
     ) -> Result<bool, BenchFault> {
-        let now = Moment::START;
-        let source = source_at(place);
         match self {
             NodeCall::Take => {
                 put_register(datagram, name, 0, 0)?;
-                Ok(node.take(now, source, datagram)?.reply.is_some())
+                take(node, datagram, place)
             }
             NodeCall::Update => {
                 put_update(datagram, stamp_at(0, place)?)?;
-                Ok(node.take(now, source, datagram)?.reply.is_some())
+                take(node, datagram, place)
             }
             NodeCall::Observe => observe(node, stamp_at(0, place)?),
+            look_up => look_up.finds(node, name, place),
+        }
+    }
+
+    /// Whether a look-up finds something.
+    fn finds(self, node: &Node, name: &str, place: u32) -> Result<bool, BenchFault> {
+        let now = Moment::START;
+        match self {
             NodeCall::ById => Ok(node.by_id(now, stamp_at(0, place)?).is_some()),
             NodeCall::ByEndpoint => Ok(node.by_endpoint(now, name).is_some()),
-            NodeCall::ByAddress => Ok(node.by_address(now, source).is_some()),
+            NodeCall::ByAddress => Ok(node.by_address(now, source_at(place)).is_some()),
             NodeCall::ByToken => {
                 let token = stamp_at(node.clock() / 2, place)?;
                 Ok(node.by_token(now, token).is_some())
             }
             NodeCall::FirstAfter => Ok(node.first_after(now, Some(name)).is_some()),
+            NodeCall::Take | NodeCall::Update | NodeCall::Observe => Err(BenchFault::Unexpected),
         }
     }
+}
+
+/// Takes the datagram from the device of this place. Whether there was a reply.
+fn take(node: &mut Node, datagram: &[u8], place: u32) -> Result<bool, BenchFault> {
+    let taken = node.take(Moment::START, source_at(place), datagram)?;
+    Ok(taken.reply.is_some())
 }
 
 /// Observes the device's path of the registration.
