@@ -148,10 +148,15 @@ fn is_at_alone(alloc: Global, reply: &Reply, place: usize) -> Result<(), Fail> {
     Ok(())
 }
 
+fn reply_is_alone(alloc: Global, place: usize) -> Result<(), Fail> {
+    let reply = reply_at(alloc, place)?;
+    is_at_alone(alloc, &reply, place)
+}
+
 #[test]
 fn replies_differ_where_their_content_does(rt: HostRuntime) -> Result<(), Fail> {
     for place in 0..REPLIES {
-        is_at_alone(rt.alloc(), &reply_at(rt.alloc(), place)?, place)?;
+        reply_is_alone(rt.alloc(), place)?;
     }
     Ok(())
 }

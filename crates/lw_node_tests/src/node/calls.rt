@@ -107,9 +107,11 @@ fn call_at(alloc: Global, place: usize) -> Result<Call, Fail> {
 
 /// Whether a call gives at one node twice what it gives at the other.
 fn acts_alike(once: &mut Node, twice: &mut Node, call: &Call) -> bool {
-    let reply = once.act(call);
-    let replies = twice.act_twice(call);
-    are_the_same(&reply, &replies)
+    gives_twice(twice, call, &once.act(call))
+}
+
+fn gives_twice(node: &mut Node, call: &Call, reply: &Reply) -> bool {
+    are_the_same(reply, &node.act_twice(call))
 }
 
 fn are_the_same(reply: &Reply, replies: &(Reply, Reply)) -> bool {
