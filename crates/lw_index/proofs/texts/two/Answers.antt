@@ -10,4 +10,4 @@ pub returns-clause-members : goal.returns-clause-members
 returns-clause-members c = λ e.
     c.in_ok-put-2.ensures.members e
     ∙ ap (λ b. b || bytes_eq c.args.second.now e)
-        (c.in_ok-put.ensures.members e ∙ only c.new-set.result e (bytes_eq c.args.first.now e) c.new-set.ensures.empty)
+    (c.in_ok-put.ensures.members e ∙ only c.new-set.result e (bytes_eq c.args.first.now e) c.new-set.ensures.empty)

@@ -16,15 +16,15 @@ loop-entry-preserved c =
     let entries = c.watches-entry-items.result.now in
     let rest = tokens_in (drop (c.loop-entry.entry-index + 1) entries) in
     let here : tokens_in (drop c.loop-entry.entry-index entries) ≡ token_then c.watch_of.result rest =
-        at_drop_more tokens_in entries c.loop-entry.entry-index c.entry-item.result c.loop-entry-test.true
-        ∙ ap (λ x. token_then (watch_of x) rest) (sym c.entry-item.is)
-        ∙ ap (λ o. token_then o rest) (sym c.watch_of.ensures) in
+    at_drop_more tokens_in entries c.loop-entry.entry-index c.entry-item.result c.loop-entry-test.true
+    ∙ ap (λ x. token_then (watch_of x) rest) (sym c.entry-item.is)
+    ∙ ap (λ o. token_then o rest) (sym c.watch_of.ensures) in
     let before = ap (λ ts. slice_get ts left) (sym here) ∙ c.loop-entry.invariant in
     elim c.match-watch_of.branch [
-    | in-Some+else-left-eq0 w ↦
-        ap (slice_get rest) w.left-is
-        ∙ sym (one_less w.in-Some.watch.token rest left w.if-left-eq0.false)
-        ∙ ap (λ o. slice_get (token_then o rest) left) (sym w.in-Some.is)
-        ∙ before
-    | in_default w ↦ ap (slice_get rest) w.left-is ∙ ap (λ o. slice_get (token_then o rest) left) (sym w.in_default.is) ∙ before
+      | in-Some+else-left-eq0 w ↦
+          ap (slice_get rest) w.left-is
+          ∙ sym (one_less w.in-Some.watch.token rest left w.if-left-eq0.false)
+          ∙ ap (λ o. slice_get (token_then o rest) left) (sym w.in-Some.is)
+          ∙ before
+      | in_default w ↦ ap (slice_get rest) w.left-is ∙ ap (λ o. slice_get (token_then o rest) left) (sym w.in_default.is) ∙ before
     ]
