@@ -207,6 +207,35 @@ fn faults(rt: HostRuntime) -> Result<(), Fail> {
     Ok(())
 }
 
+/// Whether the bytes are written again as they are, or are no message.
+fn is_written_again(alloc: Global, bytes: &[u8]) -> Result<bool, NoMemory> {
+    match decode(alloc, bytes) {
+        Ok(message) => is_written(alloc, &message, bytes),
+        Err(fault) => Ok(fault != Fault::NoMemory),
+    }
+}
+
+/// Whether that is so of each value of the byte at the place.
+fn are_written_again(alloc: Global, bytes: &mut [u8; 41], place: usize) -> Result<bool, NoMemory> {
+    for byte in 0..=255u8 {
+        bytes[place] = byte;
+        if !is_written_again(alloc, bytes)? {
+            return Ok(false);
+        }
+    }
+    Ok(true)
+}
+
+#[test]
+fn each_byte_of_a_register_is_changed(rt: HostRuntime) -> Result<(), Fail> {
+    for place in 0..41usize {
+        let mut bytes = REGISTER;
+        let is_so = are_written_again(rt.alloc(), &mut bytes, place)?;
+        holds("each value of a byte", is_so)?;
+    }
+    Ok(())
+}
+
 static TOO_LONG: [&[u8]; 3] = [&[0xff, 0], &[0xbe, 0x1e, 0xec, 0], &[0x01, 0x02, 0xff]];
 
 /// Looks at a datagram of 8,193 bytes, whose first byte is this.

@@ -1,4 +1,5 @@
 mod calls;
+mod changed;
 mod deltas;
 mod largest;
 mod once;

@@ -3,7 +3,7 @@
 use super::*;
 
 /// The delta of a node that has taken a Register of `a`: 98 bytes.
-const DELTA: &str =
+pub(super) const DELTA: &str =
     "4c57443100000000000101016100000000000100017f000000000000010001047f0000011633000000000001000100000000000000000000000100010001518000000000000100010155000000000001000100000000000001000100033c2f3e0000";
 
 /// Deltas that a node sends and merges.
@@ -45,6 +45,9 @@ fn a_delta_is_sent_and_merged(rt: HostRuntime) -> Result<(), Fail> {
     play_new(rt.alloc(), &SENT_AND_MERGED)
 }
 
+/// The delta of a node that has taken that Register and a Deregister of it.
+pub(super) const REMOVED: &str = "4c5744310000000000010101610000000000010001800000";
+
 /// A fuller spelling of a removal, and writes to what was removed.
 const FULLER: [Row<'static>; 5] = [
     (
@@ -53,10 +56,7 @@ const FULLER: [Row<'static>; 5] = [
         ),
         "Ok(1)",
     ),
-    (
-        DeltaSince(0),
-        "4c5744310000000000010101610000000000010001800000",
-    ),
+    (DeltaSince(0), REMOVED),
     (Merges(DELTA), "Ok(1)"),
     (Numbers, "1 1"),
     (ByEndpoint(0, "a"), "-"),

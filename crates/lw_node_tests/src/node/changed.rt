@@ -1,0 +1,63 @@
+//! A delta with one byte changed, at a new node.
+
+use super::deltas::{DELTA, REMOVED};
+use super::*;
+use lw_delta::check;
+use lw_stamp::NoMemory;
+
+/// What a new node sends that knows nothing.
+const NOTHING: &[u8] = b"LWD1\0\0\0\0\0\0\0";
+
+/// Whether the node then sends these bytes.
+fn sends(node: &Node, bytes: &[u8]) -> Result<bool, NoMemory> {
+    let sent = node.delta_since(0)?;
+    Ok(sent.as_slice() == bytes)
+}
+
+/// Whether a new node refuses the bytes with the fault that they have, and stays as it was, or else merges them and sends
+/// the same again, or the removal that they are a fuller spelling of.
+fn is_merged(alloc: Global, bytes: &[u8], removal: &[u8]) -> Result<bool, NoMemory> {
+    let mut node = Node::new(alloc, 1);
+    let merged = node.merge(bytes);
+    match check(bytes) {
+        Err(fault) => Ok(merged == Err(MergeFault::Malformed(fault)) && sends(&node, NOTHING)?),
+        Ok(_) => { Ok(merged == Ok(1) && (sends(&node, bytes)? || sends(&node, removal)?)) }
+    }
+}
+
+/// Whether that is so of each value of the byte at the place.
+fn are_merged(
+    alloc: Global,
+    bytes: &mut [u8],
+    place: usize,
+    removal: &[u8],
+) -> Result<bool, NoMemory> {
+    if bytes.len() <= place {
+        return Ok(false);
+    }
+    let kept = bytes[place];
+    for byte in 0..=255u8 {
+        bytes[place] = byte;
+        if !is_merged(alloc, bytes, removal)? {
+            return Ok(false);
+        }
+    }
+    bytes[place] = kept;
+    Ok(true)
+}
+
+fn all_are_merged(alloc: Global, bytes: &mut [u8], removal: &[u8]) -> Result<(), Fail> {
+    for place in 0..98usize {
+        if !are_merged(alloc, bytes, place, removal)? {
+            return Err(Fail::new(format_args!("a changed byte at {place}")));
+        }
+    }
+    Ok(())
+}
+
+#[test]
+fn each_byte_of_a_delta_is_changed(rt: HostRuntime) -> Result<(), Fail> {
+    let removal = hex::decode(rt.alloc(), REMOVED)?;
+    let mut bytes = hex::decode(rt.alloc(), DELTA)?;
+    all_are_merged(rt.alloc(), &mut bytes, &removal)
+}
