@@ -216,7 +216,10 @@ fn is_written_again(alloc: Global, bytes: &[u8]) -> Result<bool, NoMemory> {
 }
 
 /// Whether that is so of each value of the byte at the place.
-fn are_written_again(alloc: Global, bytes: &mut [u8; 41], place: usize) -> Result<bool, NoMemory> {
+fn are_written_again(alloc: Global, bytes: &mut [u8], place: usize) -> Result<bool, NoMemory> {
+    if bytes.len() <= place {
+        return Ok(false);
+    }
     for byte in 0..=255u8 {
         bytes[place] = byte;
         if !is_written_again(alloc, bytes)? {
