@@ -1,5 +1,6 @@
 mod agreeing;
 mod entries;
+mod largest;
 mod settling;
 mod steps;
 

@@ -27,7 +27,7 @@ fn enters_all(alloc: Global, held: &mut Held, call: &Call) -> Result<(), Fail> {
 type Made = Result<(Entry, u64), NoMemory>;
 
 /// Makes the call as pass 7 and number 3, which gives the entry and the place.
-fn enters(
+pub(super) fn enters(
     alloc: Global,
     held: &mut Held,
     call: &Call,

@@ -7,7 +7,7 @@ ghost use Rattle.lw_held.specs.Shelves.{AreInOrder};
 use super::*;
 
 /// The places of a shelf and of a pass, a call, and the part that it leaves: node, place and reply.
-type Row<'a> = (usize, usize, steps::What<'a>, &'a str);
+pub(super) type Row<'a> = (usize, usize, steps::What<'a>, &'a str);
 
 /// Two nodes take a Register each, with a pass each. The delta of the first comes to the second, where the later of both
 /// counts, and the first is asked with the pass of the other.
@@ -86,7 +86,7 @@ fn made<R: Wait>(
 }
 
 /// Makes the rows' calls. The first that leaves another part fails.
-fn play<R: Wait>(
+pub(super) fn play<R: Wait>(
     rt: &R,
     alloc: Global,
     shelves: &[Shelf],
