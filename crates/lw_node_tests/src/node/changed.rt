@@ -21,7 +21,7 @@ fn is_merged(alloc: Global, bytes: &[u8], removal: &[u8]) -> Result<bool, NoMemo
     let merged = node.merge(bytes);
     match check(bytes) {
         Err(fault) => Ok(merged == Err(MergeFault::Malformed(fault)) && sends(&node, NOTHING)?),
-        Ok(_) => { Ok(merged == Ok(1) && (sends(&node, bytes)? || sends(&node, removal)?)) }
+        Ok(_) => Ok(merged == Ok(1) && (sends(&node, bytes)? || sends(&node, removal)?)),
     }
 }
 

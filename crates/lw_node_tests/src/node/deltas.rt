@@ -45,7 +45,7 @@ fn a_delta_is_sent_and_merged(rt: HostRuntime) -> Result<(), Fail> {
     play_new(rt.alloc(), &SENT_AND_MERGED)
 }
 
-/// The delta of a node that has taken that Register and a Deregister of it.
+/// The delta of a node that knows only that this registration was removed.
 pub(super) const REMOVED: &str = "4c5744310000000000010101610000000000010001800000";
 
 /// A fuller spelling of a removal, and writes to what was removed.
