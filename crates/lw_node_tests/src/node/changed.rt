@@ -8,20 +8,34 @@ use lw_stamp::NoMemory;
 /// What a new node sends that knows nothing.
 const NOTHING: &[u8] = b"LWD1\0\0\0\0\0\0\0";
 
+/// Where the delta of one slot, under an endpoint of one byte, has the flags of the slot.
+const FLAGS: usize = 21;
+
+/// The flags of a slot with all fields whose registration was removed.
+const ALL_FIELDS_REMOVED: u8 = 0xff;
+
 /// Whether the node then sends these bytes.
 fn sends(node: &Node, bytes: &[u8]) -> Result<bool, NoMemory> {
     let sent = node.delta_since(0)?;
     Ok(sent.as_slice() == bytes)
 }
 
+/// The bytes, or the removal where the slot's flags tell one.
+fn shortest<'a>(bytes: &'a [u8], removal: &'a [u8]) -> &'a [u8] {
+    match bytes.get(FLAGS) {
+        Some(&ALL_FIELDS_REMOVED) => removal,
+        _ => bytes,
+    }
+}
+
 /// Whether a new node refuses the bytes with the fault that they have, and stays as it was, or else merges them and sends
-/// the same again, or the removal that they are a fuller spelling of.
+/// the same again; or the removal, where they are its fuller spelling.
 fn is_merged(alloc: Global, bytes: &[u8], removal: &[u8]) -> Result<bool, NoMemory> {
     let mut node = Node::new(alloc, 1);
     let merged = node.merge(bytes);
     match check(bytes) {
         Err(fault) => Ok(merged == Err(MergeFault::Malformed(fault)) && sends(&node, NOTHING)?),
-        Ok(_) => Ok(merged == Ok(1) && (sends(&node, bytes)? || sends(&node, removal)?)),
+        Ok(_) => Ok(merged == Ok(1) && sends(&node, shortest(bytes, removal))?),
     }
 }
 
