@@ -1,6 +1,7 @@
 -- The figures of the table.
-use Rattle.std.specs.Prelude.{ℕ, zero, suc, ◌*◌, ◌/◌, ◌==◌, if◌then◌else◌, Option, Some, None}
+use Rattle.std.specs.Prelude.{ℕ, ◌≤◌, zero, suc, ◌*◌, ◌/◌, ◌==◌, if◌then◌else◌, Option, Some, None}
 use Rattle.bench.specs.declared.cost.Cost.{Cost}
+use Rattle.bench.specs.declared.cost.Costs.{Costs}
 
 -- a quotient, where there is one
 abbrev pub quotient : ℕ → ℕ → Option ℕ
@@ -21,3 +22,8 @@ megabytes_each_second cost = if cost.bytes == 0 then None else quotient (cost.by
 -- the time of a call, in hundredths of that of the other's
 abbrev pub hundredths_of : Cost → Cost → Option ℕ
 hundredths_of cost other = quotient (cost.nanos * other.calls * 100) (other.nanos * cost.calls)
+
+-- at no size more time than the others took
+abbrev pub AreWithin : Costs → Costs → Type 0
+AreWithin costs others =
+    (costs.small.nanos ≤ others.small.nanos) × (costs.medium.nanos ≤ others.medium.nanos) × (costs.large.nanos ≤ others.large.nanos)

@@ -1,7 +1,7 @@
 -- The text of a row of the table.
 use Rattle.std.specs.Prelude.{ℕ, ◌-◌, ◌^◌, ◌++◌, ◌∷◌, [], List, Option, Some, None, codes}
 use Rattle.std.specs.Fmt.{decimal, format_spec, styled_text, styled_decimal}
-use Rattle.bench.specs.declared.cost.Cost.{Cost}
+use Rattle.bench.specs.declared.cost.Costs.{Costs}
 use Rattle.bench.specs.Cost.{nanos_each, megabytes_each_second, hundredths_of}
 
 -- a text filled up with spaces behind it, as `{:<width}` does
@@ -22,8 +22,8 @@ figure_text (Some n) = decimal n
 
 -- the name, the nanoseconds of a call at three sizes, the growth from size to size in hundredths, and megabytes
 -- in a second
-abbrev pub row_text : List ℕ → Cost → Cost → Cost → List ℕ
-row_text name small medium large =
-    left 48 name ++ (right_number 10 (nanos_each small) ++ (right_number 10 (nanos_each medium)
-    ++ (right_number 10 (nanos_each large) ++ (right 8 (figure_text (hundredths_of medium small))
-    ++ (right 8 (figure_text (hundredths_of large medium)) ++ (right 8 (figure_text (megabytes_each_second large)) ++ 10 ∷ []))))))
+abbrev pub row_text : List ℕ → Costs → List ℕ
+row_text name costs =
+    left 48 name ++ (right_number 10 (nanos_each costs.small) ++ (right_number 10 (nanos_each costs.medium)
+    ++ (right_number 10 (nanos_each costs.large) ++ (right 8 (figure_text (hundredths_of costs.medium costs.small))
+    ++ (right 8 (figure_text (hundredths_of costs.large costs.medium)) ++ (right 8 (figure_text (megabytes_each_second costs.large)) ++ 10 ∷ []))))))

@@ -1,5 +1,5 @@
 ghost use Rattle.std.specs.Prelude.{◌≡◌, ◌≤◌, ◌<◌, ◌↔◌, IsSome, IsTrue, IfOk, ◌⊎◌};
-ghost use Rattle.bench.specs.Cost.{nanos_each, megabytes_each_second, hundredths_of};
+ghost use Rattle.bench.specs.Cost.{nanos_each, megabytes_each_second, hundredths_of, AreWithin};
 
 use crate::fault::BenchFault;
 use std::time::{CpuClock, Duration};
@@ -69,5 +69,29 @@ impl Cost {
     {
         let mine = u128::from(self.nanos) * u128::from(other.calls) * 100;
         mine.checked_div(u128::from(other.nanos) * u128::from(self.calls))
+    }
+}
+
+/// What a call costs at three sizes.
+#[derive(Clone, Copy)]
+pub(crate) struct Costs {
+    pub small: Cost,
+    pub medium: Cost,
+    pub large: Cost,
+}
+
+impl Costs {
+    /// At each size the one that took less time.
+    pub(crate) fn least(self, other: Costs) -> Costs
+        ensures small { (result.small ≡ self.small) ⊎ (result.small ≡ other.small) }
+        ensures medium { (result.medium ≡ self.medium) ⊎ (result.medium ≡ other.medium) }
+        ensures large { (result.large ≡ self.large) ⊎ (result.large ≡ other.large) }
+        ensures least { AreWithin result self × AreWithin result other }
+    {
+        Costs {
+            small: self.small.least(other.small),
+            medium: self.medium.least(other.medium),
+            large: self.large.least(other.large),
+        }
     }
 }

@@ -1,6 +1,6 @@
 ghost use Rattle.std.specs.Prelude.{◌≡◌, IfOk};
 
-use crate::cost::Cost;
+use crate::cost::{Cost, Costs};
 use crate::deltas::DeltaCall;
 use crate::exchange::ExchangeCall;
 use crate::fault::BenchFault;
@@ -10,6 +10,7 @@ use crate::nodes::{NodeCall, NodeCalls};
 use crate::requests::RequestCall;
 use crate::runs::RunCall;
 use crate::slots::SlotCall;
+use crate::table::Plan;
 use std::alloc::Global;
 use std::time::CpuClock;
 
@@ -173,7 +174,7 @@ pub(crate) const ROWS: [(&str, Operation); 27] = [
 ];
 
 impl Operation {
-    ghost use Rattle.bench.specs.Calls.{calls_of};
+    ghost use Rattle.bench.specs.Calls.{calls_of, AreOf};
 
     /// The cost of a round at this size. An answer that is not the expected one is a fault.
     pub(crate) fn round<C: CpuClock>(
@@ -195,19 +196,29 @@ impl Operation {
         }
     }
 
-    /// The least cost of several rounds.
+    /// A round at each size.
+    fn turn<C: CpuClock>(self, clock: &C, alloc: Global, plan: Plan) -> Result<Costs, BenchFault>
+        ensures { IfOk result (λ costs. AreOf self plan costs) }
+    {
+        Ok(Costs {
+            small: self.round(clock, alloc, plan.small)?,
+            medium: self.round(clock, alloc, plan.medium)?,
+            large: self.round(clock, alloc, plan.large)?,
+        })
+    }
+
+    /// The least costs of several rounds. The sizes take turns, so that a slow spell of the machine is met by all.
     pub(crate) fn least<C: CpuClock>(
         self,
         clock: &C,
         alloc: Global,
-        count: u32,
-        rounds: u32,
-    ) -> Result<Cost, BenchFault>
-        ensures { IfOk result (λ cost. cost.calls ≡ calls_of self count) }
+        plan: Plan,
+    ) -> Result<Costs, BenchFault>
+        ensures { IfOk result (λ costs. AreOf self plan costs) }
     {
-        let mut least = self.round(clock, alloc, count)?;
-        for _ in 1..rounds {
-            least = least.least(self.round(clock, alloc, count)?);
+        let mut least = self.turn(clock, alloc, plan)?;
+        for _ in 1..plan.rounds {
+            least = least.least(self.turn(clock, alloc, plan)?);
         }
         Ok(least)
     }

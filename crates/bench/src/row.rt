@@ -1,19 +1,18 @@
 ghost use Rattle.std.specs.Prelude.{◌≡◌, IfOk, string_bytes};
 ghost use Rattle.bench.specs.Row.{row_text, figure_text};
 
-use crate::cost::Cost;
+use crate::cost::Costs;
 use std::alloc::{AllocError, Global};
 
 /// A row of the table: what a call costs at three sizes.
-pub(crate) fn row(
-    alloc: Global,
-    name: &str,
-    small: Cost,
-    medium: Cost,
-    large: Cost,
-) -> Result<String, AllocError>
-    ensures { IfOk result (λ text. string_bytes text ≡ row_text name.now small medium large) }
+pub(crate) fn row(alloc: Global, name: &str, costs: Costs) -> Result<String, AllocError>
+    ensures { IfOk result (λ text. string_bytes text ≡ row_text name.now costs) }
 {
+    let Costs {
+        small,
+        medium,
+        large,
+    } = costs;
     let first = figure(alloc, medium.hundredths_of(&small))?;
     let second = figure(alloc, large.hundredths_of(&medium))?;
     let speed = figure(alloc, large.megabytes_each_second())?;

@@ -75,8 +75,6 @@ fn row_text<R: AllocGlobal + CpuClock>(
     name: &str,
     operation: Operation,
 ) -> Result<String, BenchFault> {
-    let small = operation.least(rt, rt.alloc(), plan.small, plan.rounds)?;
-    let medium = operation.least(rt, rt.alloc(), plan.medium, plan.rounds)?;
-    let large = operation.least(rt, rt.alloc(), plan.large, plan.rounds)?;
-    Ok(row(rt.alloc(), name, small, medium, large)?)
+    let costs = operation.least(rt, rt.alloc(), plan)?;
+    Ok(row(rt.alloc(), name, costs)?)
 }
