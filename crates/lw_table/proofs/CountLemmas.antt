@@ -1,8 +1,7 @@
 -- How a count goes on where one slot moves, or none.
 use Rattle.std.proofs.Common.{◌≡◌, inl, inr, ℕ, zero, suc, ◌+◌, ◌≤◌, Bool, true, false, cond, List, [], ◌∷◌, Option, Some, None, refl, sym, ap, ◌∙◌, subst, arith}
-use Rattle.std.specs.Prelude.{String, bytes_eq, min, slice_get}
+use Rattle.std.specs.Prelude.{bytes_eq, min, slice_get}
 use Rattle.std.specs.Option.{IsSomeAnd}
-use Rattle.std.specs.BTreeMap.{BTreeMap, get_by_text}
 use Rattle.std.specs.Cmp.Lexicographic.{bytes_decides}
 use Rattle.std.specs.FinMap.{get}
 use Rattle.std.specs.Ordering.{eq_by_cmp}
@@ -21,10 +20,11 @@ use Rattle.lw_reg.proofs.Members.{none_there, first_there, there_or_first}
 use Rattle.lw_table.specs.Changes.{Count, LAST, Recounts, counted}
 use Rattle.lw_table.specs.Filed.{slot_of, number_of}
 use Rattle.lw_table.specs.Moves.{next_row}
-use Rattle.lw_table.specs.Rows.{state_in, numbers_in}
+use Rattle.lw_table.specs.Rows.{IsRows, row_at, state_in, numbers_in}
 use Rattle.lw_table.specs.Turning.{joined_with}
-use Rattle.lw_table.specs.declared.row.Row.{Row}
-use Rattle.lw_table.proofs.TableLemmas.{get-state, get-number, same_or_not}
+use Rattle.lw_table.specs.declared.rows.Rows.{Rows}
+use Rattle.lw_table.proofs.RowLemmas.{same_or_not}
+use Rattle.lw_table.proofs.TableLemmas.{get-state, get-number}
 
 one_slot : (a b : Slot) → ◌≡◌ {A = Option Slot} (Some a) (Some b) → a ≡ b
 one_slot a b h = ap of h
@@ -50,45 +50,45 @@ recount_none state count = record {
     stays : (n : ℕ) → n ≡ counted n 0
     stays n = omega arith
 
-module _ {Z : Type 0} (m n : BTreeMap (String Z) Row) (e0 : List ℕ) (slot : Slot) (number change : ℕ)
-    (at : (e : List ℕ) → get_by_text n e ≡ cond (bytes_eq e0 e) (Some (next_row (get_by_text m e0) slot number)) (get_by_text m e)) where
-  row_here : (e : List ℕ) → bytes_eq e0 e ≡ true → get_by_text n e ≡ Some (next_row (get_by_text m e0) slot number)
-  row_here e h = at e ∙ ap (λ b. cond b (Some (next_row (get_by_text m e0) slot number)) (get_by_text m e)) h
+module _ (m n : Rows) (rows_m : IsRows m) (rows_n : IsRows n) (e0 : List ℕ) (slot : Slot) (number change : ℕ)
+    (at : (e : List ℕ) → row_at n e ≡ cond (bytes_eq e0 e) (Some (next_row (row_at m e0) slot number)) (row_at m e)) where
+  row_here : (e : List ℕ) → bytes_eq e0 e ≡ true → row_at n e ≡ Some (next_row (row_at m e0) slot number)
+  row_here e h = at e ∙ ap (λ b. cond b (Some (next_row (row_at m e0) slot number)) (row_at m e)) h
 
-  row_apart : (e : List ℕ) → bytes_eq e0 e ≡ false → get_by_text n e ≡ get_by_text m e
-  row_apart e h = at e ∙ ap (λ b. cond b (Some (next_row (get_by_text m e0) slot number)) (get_by_text m e)) h
+  row_apart : (e : List ℕ) → bytes_eq e0 e ≡ false → row_at n e ≡ row_at m e
+  row_apart e h = at e ∙ ap (λ b. cond b (Some (next_row (row_at m e0) slot number)) (row_at m e)) h
 
-  state_apart : (e : List ℕ) → bytes_eq e0 e ≡ false → get (state_in m.entries) e ≡ get (state_in n.entries) e
-  state_apart e h = get-state m e ∙ ap slot_of (sym (row_apart e h)) ∙ sym (get-state n e)
+  state_apart : (e : List ℕ) → bytes_eq e0 e ≡ false → get (state_in m) e ≡ get (state_in n) e
+  state_apart e h = get-state m rows_m e ∙ ap slot_of (sym (row_apart e h)) ∙ sym (get-state n rows_n e)
 
-  pub recount_one : (IsSomeAnd (get (state_in m.entries) e0) (slot_below slot) → ⊥) → number ≡ counted change 1
-      → Recounts (state_in m.entries) (state_in n.entries) (record { change = change; numbers = numbers_in m.entries }) (record { change = number; numbers = numbers_in n.entries })
+  pub recount_one : (IsSomeAnd (get (state_in m) e0) (slot_below slot) → ⊥) → number ≡ counted change 1
+      → Recounts (state_in m) (state_in n) (record { change = change; numbers = numbers_in m }) (record { change = number; numbers = numbers_in n })
   recount_one news is = record {
     moved = e0 ∷ [];
     rising = one_rises e0;
     all = λ e. (
-      λ h. elim (there_or_first e0 [] e h) [ inl same ↦ (λ still. moves (subst (λ k. get (state_in m.entries) k ≡ get (state_in n.entries) k) same still)) | inr none ↦ none_there e none ],
+      λ h. elim (there_or_first e0 [] e h) [ inl same ↦ (λ still. moves (subst (λ k. get (state_in m) k ≡ get (state_in n) k) same still)) | inr none ↦ none_there e none ],
       λ other. same_or_not e0 e (λ t same. first_there e0 [] e (sym same)) (λ f apart. absurd (other (state_apart e f))),
     );
     change = is;
     numbered = numbers;
     kept = λ e h. same_or_not e0 e
-        (λ t same. absurd (moves (subst (λ k. get (state_in m.entries) k ≡ get (state_in n.entries) k) (sym same) h)))
-        (λ f apart. get-number n e ∙ ap number_of (row_apart e f) ∙ sym (get-number m e));
+        (λ t same. absurd (moves (subst (λ k. get (state_in m) k ≡ get (state_in n) k) (sym same) h)))
+        (λ f apart. get-number n rows_n e ∙ ap number_of (row_apart e f) ∙ sym (get-number m rows_m e));
   }
     where
       own : bytes_eq e0 e0 ≡ true
       own = (bytes_decides e0 e0).1 refl
 
-      moves : get (state_in m.entries) e0 ≡ get (state_in n.entries) e0 → ⊥
+      moves : get (state_in m) e0 ≡ get (state_in n) e0 → ⊥
       moves still =
-          news_moves (slot_of (get_by_text m e0)) slot (λ below. news (subst (λ o. IsSomeAnd o (slot_below slot)) (sym (get-state m e0)) below))
-          (sym (get-state m e0) ∙ still ∙ get-state n e0 ∙ ap slot_of (row_here e0 own))
+          news_moves (slot_of (row_at m e0)) slot (λ below. news (subst (λ o. IsSomeAnd o (slot_below slot)) (sym (get-state m rows_m e0)) below))
+          (sym (get-state m rows_m e0) ∙ still ∙ get-state n rows_n e0 ∙ ap slot_of (row_here e0 own))
 
-      numbers : (i : ℕ) (e : List ℕ) → slice_get (e0 ∷ []) i ≡ Some e → get (numbers_in n.entries) e ≡ Some (counted change (i + 1))
+      numbers : (i : ℕ) (e : List ℕ) → slice_get (e0 ∷ []) i ≡ Some e → get (numbers_in n) e ≡ Some (counted change (i + 1))
       numbers zero e h =
           let same : e0 ≡ e = cc in
-          get-number n e ∙ ap number_of (row_here e ((bytes_decides e0 e).1 same)) ∙ ap Some is
+          get-number n rows_n e ∙ ap number_of (row_here e ((bytes_decides e0 e).1 same)) ∙ ap Some is
       numbers (suc i) e h = absurd (let bad = h in cc)
 
 known_slot : (o : Option Slot) (slot : Slot) → IsSomeAnd o (slot_below slot) → o ≡ option_join slot_join o (Some slot)

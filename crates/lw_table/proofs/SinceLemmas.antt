@@ -1,6 +1,6 @@
 -- What is gathered of numbers and of endpoints.
 use Rattle.std.proofs.Common.{◌≡◌, ◌⊎◌, inl, inr, ℕ, ◌<◌, Bool, true, false, cond, List, [], ◌∷◌, ◌++◌, map, Option, Some, None, refl, sym, ap, subst, ◌∙◌}
-use Rattle.std.specs.Prelude.{◌↔◌, Contains, filter, unwrap_or, Result, Ok, Err, IfOk}
+use Rattle.std.specs.Prelude.{◌↔◌, Contains, IsSome, filter, unwrap_or, Result, Ok, Err, IfOk}
 use Rattle.std.proofs.Common.{arith}
 use Rattle.std.proofs.lemmas.Bool.Decides.{nat_tests}
 use Rattle.std.specs.FinMap.{get}
@@ -18,13 +18,8 @@ use Rattle.lw_reg.proofs.Members.{none_there, first_there, more_there, there_or_
 use Rattle.lw_table.specs.Names.{is_after}
 use Rattle.lw_table.specs.Since.{AnyHas, slot_or, slots_at}
 use Rattle.lw_table.specs.Changes.{Count, LAST, IsSince, IsSinceIn}
-use Rattle.lw_table.specs.Rows.{state_in, numbers_in}
-use Rattle.lw_table.specs.declared.row.Row.{Row}
-use Rattle.lw_table.proofs.RowLemmas.{has_bytes, get-each_in}
-use Rattle.lw_reg.specs.OrderLaws.{text_order}
-use Rattle.std.specs.Option.{option_map}
-use Rattle.std.specs.Prelude.{String, string_bytes}
-use Rattle.std.proofs.lemmas.Map.Views.{tells_apart}
+use Rattle.lw_table.specs.Table.{TableContent, IsTable}
+use Rattle.lw_table.specs.declared.filed.Filed.{Filed}
 
 -- ---- a walk that gathers what it passes
 -- what is gathered, and what is left, are all
@@ -32,21 +27,6 @@ abbrev pub Gathers : {A B : Type 0} → (A → List ℕ → Type 0) → List (Li
 Gathers Left names left All all = (e : List ℕ) → (Contains names e ⊎ Left left e) ↔ All all e
 
 module _ {B : Type 0} (All : B → List ℕ → Type 0) (all : B) where
-  pub one_gathered : (names more : List (List ℕ)) (x : List ℕ) (rest : List (List ℕ)) → ((e : List ℕ) → Contains more e ↔ (Contains names e ⊎ (e ≡ x)))
-      → Gathers Contains names (x ∷ rest) All all → Gathers Contains more rest All all
-  one_gathered names more x rest added h e = (there, back)
-    where
-      there : Contains more e ⊎ Contains rest e → All all e
-      there (inl m) = (h e).0 (elim ((added e).0 m) [ inl old ↦ inl old | inr same ↦ inr (first_there x rest e same) ])
-      there (inr r) = (h e).0 (inr (more_there x rest e r))
-
-      split : (e ≡ x) ⊎ Contains rest e → Contains more e ⊎ Contains rest e
-      split (inl same) = inl ((added e).1 (inr same))
-      split (inr r) = inr r
-
-      back : All all e → Contains more e ⊎ Contains rest e
-      back a = elim ((h e).1 a) [ inl old ↦ inl ((added e).1 (inl old)) | inr c ↦ split (there_or_first x rest e c) ]
-
   pub entry_gathered : (names more : List (List ℕ)) (x : ℕ × List (List ℕ)) (rest : List (ℕ × List (List ℕ))) → ((e : List ℕ) → Contains more e ↔ (Contains names e ⊎ Contains x.1 e))
       → Gathers AnyHas names (x ∷ rest) All all → Gathers AnyHas more rest All all
   entry_gathered names more x rest added h e = (there, back)
@@ -60,9 +40,6 @@ module _ {B : Type 0} (All : B → List ℕ → Type 0) (all : B) where
 
 pub begin_gather : {A : Type 0} (All : A → List ℕ → Type 0) (all : A) → Gathers All [] all All all
 begin_gather All all e = (elim [ inl c ↦ none_there e c | inr a ↦ a ], λ a. inr a)
-
-pub all_gathered : {B : Type 0} (All : B → List ℕ → Type 0) (all : B) (names : List (List ℕ)) → Gathers Contains names [] All all → (e : List ℕ) → Contains names e ↔ All all e
-all_gathered All all names h e = (λ c. (h e).0 (inl c), λ a. elim ((h e).1 a) [ inl c ↦ c | inr c ↦ none_there e c ])
 
 pub entries_gathered : {B : Type 0} (All : B → List ℕ → Type 0) (all : B) (names : List (List ℕ)) → Gathers AnyHas names [] All all → (e : List ℕ) → Contains names e ↔ All all e
 entries_gathered All all names h e = (λ c. (h e).0 (inl c), λ a. elim ((h e).1 a) [ inl c ↦ c | inr c ↦ absurd c ])
@@ -230,18 +207,6 @@ module _ (since : ℕ) where
       go false above c = later c
 
 -- ---- what has moved since a number
-key_there : {Z : Type 0} (entries : List (String Z × Row)) (e : List ℕ) (row : Row) → lookup (has_bytes e) entries ≡ Some row → Contains (map (λ entry. string_bytes entry.0) entries) e
-key_there [] e row h = absurd cc
-key_there (p ∷ ps) e row h = go (has_bytes e p.0) refl h (key_there ps e row)
-  where
-    go : (b : Bool) → has_bytes e p.0 ≡ b → cond b (Some p.1) (lookup (has_bytes e) ps) ≡ Some row → (lookup (has_bytes e) ps ≡ Some row → Contains (map (λ entry. string_bytes entry.0) ps) e) → Contains (map (λ entry. string_bytes entry.0) (p ∷ ps)) e
-    go true is h more = first_there (string_bytes p.0) (map (λ entry. string_bytes entry.0) ps) e (tells_apart text_order.exact e (string_bytes p.0) is)
-    go false is h more = more_there (string_bytes p.0) (map (λ entry. string_bytes entry.0) ps) e (more h)
-
-option_from : {A B : Type 0} (f : A → B) (o : Option A) (b : B) → option_map f o ≡ Some b → (a : A) × (o ≡ Some a)
-option_from f None b h = absurd cc
-option_from f (Some a) b h = (a, refl)
-
 module _ (state : State) (count : Count) (since : ℕ) (names : List (List ℕ)) (rise : IsStrictlySortedBy text_cmp names) where
   -- the names are those that moved since
   pub since_is : ((e : List ℕ) (slot : Slot) → get state e ≡ Some slot → Contains names e ↔ IsSince count since e) → IsSinceIn state count since (slots_at state names)
@@ -253,12 +218,26 @@ module _ (state : State) (count : Count) (since : ℕ) (names : List (List ℕ))
     );
   }
 
+any_has : (entries : List (ℕ × List (List ℕ))) (n : ℕ) (e : List ℕ) → Has nat_cmp entries n e → AnyHas entries e
+any_has [] n e c = none_there e c
+any_has (x ∷ xs) n e c = go (is_eq (nat_cmp n x.0)) c (any_has xs n e)
+  where
+    go : (b : Bool) → Contains (unwrap_or (cond b (Some x.1) (lookup (λ k. is_eq (nat_cmp n k)) xs)) []) e → (Has nat_cmp xs n e → AnyHas xs e) → AnyHas (x ∷ xs) e
+    go true c more = inl c
+    go false c more = inr (more c)
+
+some_there : (o : Option ℕ) → IsSome o → (n : ℕ) × (o ≡ Some n)
+some_there None h = absurd (let bad : false ≡ true = h in cc)
+some_there (Some n) h = (n, refl)
+
 -- all have moved, at the last number
-pub all_since : {Z : Type 0} (entries : List (String Z × Row)) (change since : ℕ) (names : List (List ℕ)) → change ≡ LAST → ((e : List ℕ) → Contains names e ↔ Contains (map (λ entry. string_bytes entry.0) entries) e)
-    → (e : List ℕ) (slot : Slot) → get (state_in entries) e ≡ Some slot → Contains names e ↔ IsSince (record { change = change; numbers = numbers_in entries }) since e
-all_since entries change since names last are e slot h = (
+pub all_since : (filed : Filed) (table : TableContent) (since : ℕ) (names : List (List ℕ)) → IsTable filed.names filed.keys filed.numbers table → table.count.change ≡ LAST
+    → ((e : List ℕ) → Contains names e ↔ AnyHas filed.numbers e) → (e : List ℕ) (slot : Slot) → get table.state e ≡ Some slot → Contains names e ↔ IsSince table.count since e
+all_since filed table since names is last are e slot h = (
   λ c. inl last,
-  λ s. let row = option_from (λ (r : Row). r.slot) (lookup (has_bytes e) entries) slot (sym (get-each_in (λ r. r.slot) entries e) ∙ h) in (are e).1 (key_there entries e row.0 row.1),
+  λ s.
+  let number = some_there (get table.count.numbers e) ((is.numbered e).0 (subst IsSome (sym h) refl)) in
+  (are e).1 (any_has filed.numbers number.0 e ((is.numbers_are number.0 e).1 number.1)),
 )
 
 -- those that are filed above the number

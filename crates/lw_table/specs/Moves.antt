@@ -1,12 +1,15 @@
--- Rows that are put into the map of a table.
-use Rattle.std.specs.Prelude.{◌≡◌, ℕ, List, Option, Some, String, bytes_eq, cond}
-use Rattle.std.specs.BTreeMap.{BTreeMap, IsOrdered, get_by_text}
-use Rattle.std.specs.String.{string_cmp}
+-- Rows that are put into a table.
+use Rattle.std.specs.Prelude.{◌≡◌, ℕ, false, List, Option, Some, string_bytes, bytes_eq, cond}
+use Rattle.std.specs.Option.{IsSomeAnd}
+use Rattle.std.specs.BTreeMap.{get}
+use Rattle.std.specs.Ordering.{nat_cmp}
 use Rattle.lw_reg.specs.declared.slot.Slot.{Slot}
 use Rattle.lw_reg.specs.Slot.{slot_join}
 use Rattle.lw_table.specs.Filed.{slot_of}
+use Rattle.lw_table.specs.Rows.{IsRows, end_of, row_at}
 use Rattle.lw_table.specs.Turning.{joined_with}
 use Rattle.lw_table.specs.declared.row.Row.{Row}
+use Rattle.lw_table.specs.declared.rows.Rows.{Rows}
 
 abbrev pub moved_row : Row → Slot → ℕ → Row
 moved_row row slot number = record { slot = slot_join row.slot slot; number = number }
@@ -16,11 +19,15 @@ abbrev pub next_row : Option Row → Slot → ℕ → Row
 next_row row slot number = record { slot = joined_with (slot_of row) slot; number = number }
 
 -- the row is put under the endpoint, and nothing else changes
-pub record PutsRow {Z : Type 0} (endpoint : List ℕ) (row : Row) (old new : BTreeMap (String Z) Row) : Type 0 where
-  pub at : (e : List ℕ) → get_by_text new e ≡ cond (bytes_eq endpoint e) (Some row) (get_by_text old e)
-  pub ordered : IsOrdered string_cmp new
+pub record PutsRow (endpoint : List ℕ) (row : Row) (old new : Rows) : Type 0 where
+  pub at : (e : List ℕ) → row_at new e ≡ cond (bytes_eq endpoint e) (Some row) (row_at old e)
+  pub rows : IsRows new
 
 -- each endpoint has the row that it had
-pub record SameRows {Z : Type 0} (old new : BTreeMap (String Z) Row) : Type 0 where
-  pub same : (e : List ℕ) → get_by_text new e ≡ get_by_text old e
-  pub ordered : IsOrdered string_cmp new
+pub record SameRows (old new : Rows) : Type 0 where
+  pub same : (e : List ℕ) → row_at new e ≡ row_at old e
+  pub rows : IsRows new
+
+-- the first row with the end of the endpoint is that of another
+abbrev pub IsTaken : Rows → List ℕ → Type 0
+IsTaken rows endpoint = IsSomeAnd (get nat_cmp rows.firsts (end_of endpoint)) (λ first. bytes_eq (string_bytes first.endpoint) endpoint ≡ false)

@@ -8,6 +8,7 @@ mod look_ups;
 mod moves;
 mod names;
 mod row;
+mod rows;
 mod since;
 mod table;
 mod turning;

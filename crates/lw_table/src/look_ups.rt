@@ -99,8 +99,8 @@ impl Table {
         ensures named { IfSome result (λ x. x.0.now ≡ endpoint.now) }
         ensures slot { option_map (λ x. x.1.now) result ≡ get self.now.state endpoint.now }
     {
-        let (endpoint, row) = self.rows.get_key_value(endpoint)?;
-        Some((endpoint.as_str(), &row.slot))
+        let (endpoint, row) = self.rows.get(endpoint)?;
+        Some((endpoint, &row.slot))
     }
 
     fn view(&self, now: Moment, endpoint: &str) -> Option<View<'_>>

@@ -1,39 +1,66 @@
 //! A row that comes or moves, and what is filed of its endpoint.
 
 ghost use Rattle.std.specs.Prelude.{◌≡◌, ◌≢◌, ◌↔◌, ℕ, List, Some, None, OnOk, OnErr, IsTrue};
-ghost use Rattle.std.specs.BTreeMap.{IsOrdered, get_by_text};
-ghost use Rattle.std.specs.String.{string_cmp};
 ghost use Rattle.lw_reg.specs.Reading.{IsRemoved};
 ghost use Rattle.lw_table.specs.Filed.{IsFiled, IsOver, OthersSame};
-ghost use Rattle.lw_table.specs.Moves.{moved_row, next_row, PutsRow, SameRows};
+ghost use Rattle.lw_table.specs.Moves.{moved_row, next_row, IsTaken, PutsRow, SameRows};
+ghost use Rattle.lw_table.specs.Rows.{IsRows, row_at};
 ghost use Rattle.lw_table.specs.Turning.{IsTurning};
 
 use crate::filed::Filed;
 use crate::key::Key;
 use crate::row::Row;
+use crate::rows::{Rows, end_of};
 use crate::turning::turning;
 use lw_join::Join;
 use lw_reg::Slot;
 use lw_stamp::NoMemory;
 use std::alloc::Global;
-use std::collections::BTreeMap;
 
 /// Joins the slot to that of the endpoint, whose row takes the number.
 pub(crate) fn put(
     alloc: Global,
     filed: &mut Filed,
-    rows: &mut BTreeMap<String, Row>,
+    rows: &mut Rows,
     endpoint: &str,
     slot: Slot,
     number: u64,
 ) -> Result<(), NoMemory>
-    requires filed { IsFiled filed.old endpoint.now (get_by_text rows.old endpoint.now) }
-    requires ordered { IsOrdered string_cmp rows.old }
+    requires filed { IsFiled filed.old endpoint.now (row_at rows.old endpoint.now) }
+    requires rows { IsRows rows.old }
     ensures others { OthersSame filed.old filed.new endpoint.now }
-    ensures put { OnOk result (PutsRow endpoint.now (next_row (get_by_text rows.old endpoint.now) slot number) rows.old rows.new × IsFiled filed.new endpoint.now (Some (next_row (get_by_text rows.old endpoint.now) slot number))) }
-    ensures unchanged { OnErr result (SameRows rows.old rows.new × IsFiled filed.new endpoint.now (get_by_text rows.old endpoint.now)) }
+    ensures put { OnOk result (PutsRow endpoint.now (next_row (row_at rows.old endpoint.now) slot number) rows.old rows.new × IsFiled filed.new endpoint.now (Some (next_row (row_at rows.old endpoint.now) slot number))) }
+    ensures unchanged { OnErr result (SameRows rows.old rows.new × IsFiled filed.new endpoint.now (row_at rows.old endpoint.now)) }
 {
-    match rows.get_mut(endpoint) {
+    match rows.firsts.get_mut(&end_of(endpoint)) {
+        None => add_row(alloc, filed, rows, endpoint, Row { slot, number }),
+        Some(first) => {
+            if first.endpoint.as_str() == endpoint {
+                move_row(alloc, filed, &mut first.row, endpoint, slot, number)
+            } else {
+                put_other(alloc, filed, rows, endpoint, slot, number)
+            }
+        }
+    }
+}
+
+// The same for an endpoint that ends as that of an earlier row.
+fn put_other(
+    alloc: Global,
+    filed: &mut Filed,
+    rows: &mut Rows,
+    endpoint: &str,
+    slot: Slot,
+    number: u64,
+) -> Result<(), NoMemory>
+    requires filed { IsFiled filed.old endpoint.now (row_at rows.old endpoint.now) }
+    requires rows { IsRows rows.old }
+    requires taken { IsTaken rows.old endpoint.now }
+    ensures others { OthersSame filed.old filed.new endpoint.now }
+    ensures put { OnOk result (PutsRow endpoint.now (next_row (row_at rows.old endpoint.now) slot number) rows.old rows.new × IsFiled filed.new endpoint.now (Some (next_row (row_at rows.old endpoint.now) slot number))) }
+    ensures unchanged { OnErr result (SameRows rows.old rows.new × IsFiled filed.new endpoint.now (row_at rows.old endpoint.now)) }
+{
+    match rows.others.get_mut(endpoint) {
         Some(row) => move_row(alloc, filed, row, endpoint, slot, number),
         None => add_row(alloc, filed, rows, endpoint, Row { slot, number }),
     }
@@ -97,16 +124,17 @@ fn may_revive(row: &Row, slot: &Slot) -> bool
     row.slot.is_removed() && !slot.is_removed()
 }
 
-// Puts the first row of an endpoint into the map.
+// Puts the first row of an endpoint.
 fn add_row(
     alloc: Global,
     filed: &mut Filed,
-    rows: &mut BTreeMap<String, Row>,
+    rows: &mut Rows,
     endpoint: &str,
     row: Row,
 ) -> Result<(), NoMemory>
     requires filed { IsFiled filed.old endpoint.now None }
-    requires ordered { IsOrdered string_cmp rows.old }
+    requires rows { IsRows rows.old }
+    requires absent { row_at rows.old endpoint.now ≡ None }
     ensures others { OthersSame filed.old filed.new endpoint.now }
     ensures added { OnOk result (PutsRow endpoint.now row rows.old rows.new × IsFiled filed.new endpoint.now (Some row)) }
     ensures unchanged { OnErr result (SameRows rows.old rows.new × IsFiled filed.new endpoint.now None) }
@@ -125,19 +153,19 @@ fn add_row(
 fn try_add(
     alloc: Global,
     filed: &mut Filed,
-    rows: &mut BTreeMap<String, Row>,
+    rows: &mut Rows,
     endpoint: &str,
     row: Row,
     keys: &[Key],
 ) -> Result<(), NoMemory>
     requires filed { IsFiled filed.old endpoint.now None }
     requires keys { IsTurning None row.slot keys.now }
-    requires ordered { IsOrdered string_cmp rows.old }
+    requires rows { IsRows rows.old }
+    requires absent { row_at rows.old endpoint.now ≡ None }
     ensures others { OthersSame filed.old filed.new endpoint.now }
     ensures added { OnOk result (PutsRow endpoint.now row rows.old rows.new × IsFiled filed.new endpoint.now (Some row)) }
     ensures unchanged { OnErr result (SameRows rows.old rows.new × IsOver filed.new endpoint.now None keys.now row.number) }
 {
     filed.enter(alloc, endpoint, !row.slot.is_removed(), keys, row.number)?;
-    rows.insert(String::from_str(alloc, endpoint)?, row)?;
-    Ok(())
+    rows.insert(alloc, endpoint, row)
 }

@@ -1,6 +1,6 @@
 //! Which slots have moved since a change number.
 
-ghost use Rattle.std.specs.Prelude.{◌≡◌, ◌↔◌, ◌⊎◌, ℕ, List, Some, Contains, IfOk, OnOk, map, string_bytes};
+ghost use Rattle.std.specs.Prelude.{◌≡◌, ◌↔◌, ◌⊎◌, ℕ, List, Contains, IfOk, OnOk, map};
 ghost use Rattle.std.specs.Ordering.{nat_cmp};
 ghost use Rattle.std.specs.List.Sorted.{IsStrictlySortedBy};
 ghost use Rattle.lw_index.specs.Index.{entries_above, IsIndex};
@@ -9,13 +9,11 @@ ghost use Rattle.lw_table.specs.Changes.{IsSinceIn};
 ghost use Rattle.lw_table.specs.Since.{AnyHas, slots_at};
 
 use crate::names::Names;
-use crate::row::Row;
 use crate::table::Table;
 use lw_index::{Endpoints, Index};
 use lw_reg::Slot;
 use lw_stamp::NoMemory;
 use std::alloc::Global;
-use std::collections::BTreeMap;
 
 impl Table {
     /// The slots that moved after this change number, endpoints rising; all of them once numbers have come to
@@ -24,9 +22,9 @@ impl Table {
         ensures { IfOk result (λ slots. IsSinceIn self.now.state self.now.count since (map (λ x. (x.0.now, x.1.now)) slots.items)) }
     {
         if self.change == u64::MAX {
-            self.slots(&all_names(self.alloc, &self.rows)?)
+            self.slots(&names_above(self.alloc, &self.filed.numbers, None)?)
         } else {
-            self.slots(&names_since(self.alloc, &self.filed.numbers, since)?)
+            self.slots(&names_above(self.alloc, &self.filed.numbers, Some(since))?)
         }
     }
 
@@ -45,24 +43,13 @@ impl Table {
     }
 }
 
-/// The endpoints of all rows.
-fn all_names(alloc: Global, rows: &BTreeMap<String, Row>) -> Result<Names, NoMemory>
-    ensures { IfOk result (λ names. (e : List ℕ) → Contains names e ↔ Contains (map (λ entry. string_bytes entry.0) rows.now.entries) e) }
-{
-    let mut names = Names::new(alloc);
-    for (endpoint, _) in rows {
-        names.add(alloc, endpoint.as_str())?;
-    }
-    Ok(names)
-}
-
-/// The endpoints that are filed under a number above this one.
-fn names_since(alloc: Global, numbers: &Index<u64>, since: u64) -> Result<Names, NoMemory>
-    ensures names { IfOk result (λ names. (e : List ℕ) → Contains names e ↔ AnyHas (entries_above nat_cmp (Some since) numbers.now) e) }
+/// The endpoints that are filed under a number above this one, or under any.
+fn names_above(alloc: Global, numbers: &Index<u64>, since: Option<u64>) -> Result<Names, NoMemory>
+    ensures names { IfOk result (λ names. (e : List ℕ) → Contains names e ↔ AnyHas (entries_above nat_cmp since numbers.now) e) }
     ensures is_index { IsIndex nat_cmp numbers.now }
 {
     let mut names = Names::new(alloc);
-    for (_, endpoints) in numbers.above(Some(&since)) {
+    for (_, endpoints) in numbers.above(since.as_ref()) {
         add_all(alloc, &mut names, endpoints)?;
     }
     Ok(names)

@@ -13,37 +13,34 @@ ghost use Rattle.lw_table.specs.Table.{empty_table};
 use crate::filed::Filed;
 use crate::key::Key;
 use crate::moves::put;
-use crate::row::Row;
+use crate::rows::Rows;
 use lw_index::Index;
 use lw_join::Join;
 use lw_reg::{Endpoint, Slot};
 use lw_stamp::NoMemory;
 use std::alloc::Global;
-use std::collections::BTreeMap;
 use std::marker::Model;
 
 /// The slots of the endpoints that a node knows of.
 #[derive(Drop)]
 pub struct Table {
     pub(crate) alloc: Global,
-    pub(crate) rows: BTreeMap<String, Row>,
+    pub(crate) rows: Rows,
     pub(crate) filed: Filed,
     pub(crate) change: u64,
 }
 
 impl Model for Table {
-    ghost use Rattle.std.specs.BTreeMap.{IsOrdered};
-    ghost use Rattle.std.specs.String.{string_cmp};
-    ghost use Rattle.lw_table.specs.Rows.{table_in};
+    ghost use Rattle.lw_table.specs.Rows.{IsRows, table_in};
     ghost use Rattle.lw_table.specs.Table.{TableContent, table_code, IsTable};
 
     ghost Value = { TableContent };
 
     ghost coded = { table_code };
 
-    ghost view = { λ t. table_in t.rows.entries t.change };
+    ghost view = { λ t. table_in t.rows t.change };
 
-    ghost invariant = { λ t. IsOrdered string_cmp t.rows × IsTable t.filed.names t.filed.keys t.filed.numbers (table_in t.rows.entries t.change) };
+    ghost invariant = { λ t. IsRows t.rows × IsTable t.filed.names t.filed.keys t.filed.numbers (table_in t.rows t.change) };
 }
 
 impl Table {
@@ -53,7 +50,7 @@ impl Table {
     {
         Table {
             alloc,
-            rows: BTreeMap::new(alloc),
+            rows: Rows::new(alloc),
             filed: Filed::new(alloc),
             change: 0,
         }
@@ -79,7 +76,7 @@ impl Table {
     {
         match self.rows.get(endpoint) {
             None => false,
-            Some(row) => slot.le(&row.slot),
+            Some((_, row)) => slot.le(&row.slot),
         }
     }
 

@@ -1,0 +1,99 @@
+//! Rows, found by their endpoints.
+
+ghost use Rattle.std.specs.Prelude.{◌≡◌, ℕ, List, None, IfSome, OnOk, OnErr};
+ghost use Rattle.std.specs.Option.{option_map};
+ghost use Rattle.lw_table.specs.Moves.{PutsRow, SameRows};
+ghost use Rattle.lw_table.specs.Rows.{IsRows, appended, end_of, row_at};
+
+use crate::row::Row;
+use lw_stamp::NoMemory;
+use std::alloc::Global;
+use std::collections::BTreeMap;
+
+/// Rows by their endpoints. A row is found by the last bytes of its endpoint, as a number that stands in the tree
+/// itself: names of one kind begin alike, and to compare whole texts is to read as many places of memory. Where the
+/// endpoint of another row came first with the same last bytes, it is found by the whole text.
+#[derive(Drop)]
+pub(crate) struct Rows {
+    /// Of each end the first row that came.
+    pub(crate) firsts: BTreeMap<u64, First>,
+    /// The rows that came later.
+    pub(crate) others: BTreeMap<String, Row>,
+}
+
+/// The first row of those whose endpoints end alike.
+#[derive(Drop)]
+pub(crate) struct First {
+    pub(crate) endpoint: String,
+    pub(crate) row: Row,
+}
+
+/// So many bytes at the end of an endpoint are the number by which it is found.
+const END_LENGTH: usize = 8;
+
+/// The last bytes of an endpoint as a number.
+pub(crate) fn end_of(endpoint: &str) -> u64
+    ensures { result ≡ end_of endpoint.now }
+{
+    let bytes = endpoint.as_bytes();
+    number_of(&bytes[bytes.len().saturating_sub(END_LENGTH)..])
+}
+
+/// Bytes as a number, in which the first weighs most. Of more than eight the last count.
+fn number_of(bytes: &[u8]) -> u64
+    ensures { result ≡ appended 0 bytes.now }
+{
+    let mut number = 0;
+    for byte in bytes {
+        number = (number << 8) | u64::from(*byte);
+    }
+    number
+}
+
+impl Rows {
+    pub(crate) fn new(alloc: Global) -> Rows
+        ensures none { (e : List ℕ) → row_at result e ≡ None }
+        ensures rows { IsRows result }
+    {
+        Rows {
+            firsts: BTreeMap::new(alloc),
+            others: BTreeMap::new(alloc),
+        }
+    }
+
+    /// The row of the endpoint, with the endpoint's text as it is kept.
+    pub(crate) fn get(&self, endpoint: &str) -> Option<(&str, &Row)>
+        requires { IsRows self.now }
+        ensures named { IfSome result (λ x. x.0.now ≡ endpoint.now) }
+        ensures row { option_map (λ x. x.1.now) result ≡ row_at self.now endpoint.now }
+    {
+        let first = self.firsts.get(&end_of(endpoint))?;
+        if first.endpoint.as_str() == endpoint {
+            return Some((first.endpoint.as_str(), &first.row));
+        }
+        let (endpoint, row) = self.others.get_key_value(endpoint)?;
+        Some((endpoint.as_str(), row))
+    }
+
+    /// Puts the first row of an endpoint.
+    pub(crate) fn insert(
+        &mut self,
+        alloc: Global,
+        endpoint: &str,
+        row: Row,
+    ) -> Result<(), NoMemory>
+        requires rows { IsRows self.old }
+        requires absent { row_at self.old endpoint.now ≡ None }
+        ensures put { OnOk result (PutsRow endpoint.now row self.old self.new) }
+        ensures unchanged { OnErr result (SameRows self.old self.new) }
+    {
+        let end = end_of(endpoint);
+        let endpoint = String::from_str(alloc, endpoint)?;
+        if self.firsts.contains_key(&end) {
+            self.others.insert(endpoint, row)?;
+        } else {
+            self.firsts.insert(end, First { endpoint, row })?;
+        }
+        Ok(())
+    }
+}
