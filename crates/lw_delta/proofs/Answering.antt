@@ -1,5 +1,5 @@
 -- What is answered of bytes, from what is known of the answer.
-use Rattle.std.proofs.Common.{◌≡◌, ◌==◌, true, false, length, arith, ℕ, ◌⊎◌, List, [], ◌∷◌, Result, Ok, Err, IfOk, refl, sym, ap, ◌∙◌, subst, inl, inr}
+use Rattle.std.proofs.Common.{◌≡◌, ◌↔◌, ◌==◌, true, false, length, arith, ℕ, ◌⊎◌, List, [], ◌∷◌, Result, Ok, Err, IfOk, refl, sym, ap, ◌∙◌, subst, inl, inr}
 use mathlib.Core.Bool.{true≢false}
 use Rattle.std.proofs.lemmas.Bool.{ne_eqb}
 use Rattle.lw_reg.specs.declared.slot.Slot.{Slot}
@@ -56,6 +56,13 @@ err_is r f g h k = cc
 
 ok_is_no_err : {A : Type 0} (r : Result A DeltaFault) (a : A) (f : DeltaFault) → r ≡ Ok a → r ≡ Err f → ⊥
 ok_is_no_err r a f h k = cc
+
+-- what is answered is the first fault, or there is none
+pub fault_answered : {A : Type 0} (bytes : List ℕ) (g : DeltaFault) → IsFault bytes g → (f : DeltaFault) → (◌≡◌ {A = Result A DeltaFault} (Err g) (Err f)) ↔ IsFault bytes f
+fault_answered {A} bytes g first f = (λ e. subst (IsFault bytes) (err_is (Err g) g f refl e) first, λ h. ap (λ y. let r : Result A DeltaFault = Err y in r) (one_fault bytes g f first h))
+
+pub no_fault_answered : {A : Type 0} (bytes : List ℕ) (a : A) (d : DeltaContent) → IsSpelling bytes d → (f : DeltaFault) → (◌≡◌ {A = Result A DeltaFault} (Ok a) (Err f)) ↔ IsFault bytes f
+no_fault_answered bytes a d s f = (λ e. absurd (ok_is_no_err (Ok a) a f refl e), λ h. absurd (apart bytes d f s h))
 
 pub checked_fault : (bytes : List ℕ) (r : Result ℕ DeltaFault) → Checks bytes r → (f : DeltaFault) → r ≡ Err f → IsFault bytes f
 checked_fault bytes (Ok clock) h f e = absurd (ok_is_no_err (Ok clock) clock f refl e)

@@ -8,6 +8,7 @@ pub mod Hosts
 pub mod Kept
 pub mod FieldParts
 pub mod Again
+pub mod Left
 pub mod Answering
 pub mod Behind
 pub mod Owning

@@ -4,6 +4,7 @@ pub mod Values
 pub mod Format
 pub mod Delta
 pub mod Lent
+pub mod Unread
 pub mod Writing
 pub mod Removals
 pub mod Writable

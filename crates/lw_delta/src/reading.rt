@@ -150,7 +150,7 @@ fn kept_fields(alloc: Global, clock: u64, lent: LentSlot) -> Result<Option<Field
 }
 
 /// An owned slot and its endpoint.
-fn slot(alloc: Global, clock: u64, lent: LentSlot) -> Result<(Endpoint, Slot), DeltaFault>
+pub(crate) fn slot(alloc: Global, clock: u64, lent: LentSlot) -> Result<(Endpoint, Slot), DeltaFault>
     requires { (ws : List (Paths × Watchings)) × Holds clock lent ws }
     ensures value { (ws : List (Paths × Watchings)) → Holds clock lent.entry ws → IfOk result (λ x. x ≡ lent_slot lent.entry ws) }
     ensures fault { IfErr result (λ fault. fault ≡ DeltaFault.NoMemory) }

@@ -8,6 +8,7 @@ use lw_table::*;
 use std::alloc::Global;
 use std::test::Fail;
 
+mod alike;
 mod joins;
 mod look_ups;
 mod refused;

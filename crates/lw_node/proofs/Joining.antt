@@ -30,7 +30,7 @@ use Rattle.lw_reg.proofs.States.{state_laws}
 use Rattle.lw_table.specs.Changes.{Count, Recounts, Moves, counted}
 use Rattle.lw_table.specs.Table.{TableContent}
 use Rattle.lw_table.proofs.CountLemmas.{recount_none}
-use Rattle.lw_table.proofs.TableLemmas.{same_or_not}
+use Rattle.lw_table.proofs.RowLemmas.{same_or_not}
 use Rattle.lw_node.specs.Exchange.{state_in, JoinedTo}
 
 laws : IsSemilattice state_join

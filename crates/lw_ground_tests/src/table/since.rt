@@ -27,7 +27,7 @@ fn told(alloc: Global, table: &Table, since: u64) -> Result<String, Fail> {
     Ok(text)
 }
 
-fn tells(alloc: Global, table: &Table, rows: &[(u64, &str)]) -> Result<(), Fail> {
+pub(super) fn tells(alloc: Global, table: &Table, rows: &[(u64, &str)]) -> Result<(), Fail> {
     for (since, wanted) in rows {
         let text = told(alloc, table, *since)?;
         holds(wanted, text.as_str() == *wanted)?;
