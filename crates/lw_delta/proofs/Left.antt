@@ -1,7 +1,11 @@
 -- What is left of parts that stand one after another, behind the first.
 use Rattle.std.proofs.Common.{◌≡◌, ℕ, List, [], ◌∷◌, Option, Some, None, refl, sym, ap, subst}
 use Rattle.lw_delta.specs.Part.{Part, Found, optional, last_key, Walks, repeated}
-use Rattle.lw_delta.proofs.Decided.{Decided, optional_decided}
+use Rattle.lw_reg.specs.declared.slot.Slot.{Slot}
+use Rattle.lw_delta.specs.Format.{slot}
+use Rattle.lw_delta.specs.Unread.{Unread, IsLeft}
+use Rattle.lw_delta.proofs.Decided.{Decided, optional_decided, repeated_decided}
+use Rattle.lw_delta.proofs.Grammar.{slot_decided}
 
 module _ {K A : Type 0} (item : Option K → Part A) (key : A → K) (d : (k : Option K) → Decided (item k)) (after : Option K) where
   apart_some : {G : Type 0} (x : A) → ◌≡◌ {A = Option A} None (Some x) → G
@@ -40,3 +44,7 @@ module _ {K A : Type 0} (item : Option K → Part A) (key : A → K) (d : (k : O
 
 pub no_first : {A G : Type 0} {x : A} {ys : List A} → [] ≡ x ∷ ys → G
 no_first e = absurd cc
+
+-- what is left is left in one way
+pub one_left : (unread : Unread) (a b : List (List ℕ × Slot)) → IsLeft unread a → IsLeft unread b → a ≡ b
+one_left unread a b f g = ((repeated_decided (slot unread.clock) (λ s. s.0) (slot_decided unread.clock) unread.after).one unread.bytes a b [] [] f g).0

@@ -1,11 +1,13 @@
-ghost use Rattle.std.specs.Prelude.{◌≡◌, ◌↔◌, ◌<◌, ℕ, [], List, length, IsOk, IsOkAnd, IfOk, OnErr, OnSome, Err};
+ghost use Rattle.std.specs.Prelude.{◌≡◌, ◌↔◌, ◌<◌, ◌^◌, ℕ, [], List, length, IsOk, IsOkAnd, IfOk, OnErr, OnSome, Err};
 ghost use Rattle.lw_reg.specs.declared.slot.Slot.{Slot as Slots};
 ghost use Rattle.lw_delta.specs.declared.fault.DeltaFault.{DeltaFault as Faults};
 ghost use Rattle.lw_delta.specs.Delta.{DeltaContent, IsSpelling, IsFault};
-ghost use Rattle.lw_delta.specs.Unread.{IsLeft, Leaves};
+ghost use Rattle.lw_delta.specs.Part.{Found};
+ghost use Rattle.lw_delta.specs.Format.{slots as slots_part};
+ghost use Rattle.lw_delta.specs.Unread.{IsLeft, Leaves, unread_of};
 
 use crate::DeltaFault;
-use crate::checking::walk;
+use crate::checking::{Walked, walk};
 use crate::reading::slot;
 use crate::slots::next_slot;
 use lw_reg::{Endpoint, Slot};
@@ -46,14 +48,24 @@ impl<'a> Reader<'a> {
         ensures only { (d : DeltaContent) → IsSpelling bytes.now d → IsOkAnd result (λ reader. (reader.clock ≡ d.clock) × IsLeft reader d.slots) }
         // Each fault is answered exactly where it is the first.
         ensures faults { (fault : Faults) → (result ≡ Err fault) ↔ IsFault bytes.now fault }
+        // So the slots can be counted.
+        ensures fits { IfOk result (λ reader. length reader.bytes < 2 ^ 64) }
     {
         let walked = walk(bytes)?;
-        Ok(Reader {
+        Ok(Reader::of(alloc, walked))
+    }
+
+    /// All slots of a delta that was walked.
+    pub(crate) fn of(alloc: Global, walked: Walked<'a>) -> Reader<'a>
+        requires { (slots : List (List ℕ × Slots)) × Found (slots_part walked.clock) walked.slots.now slots [] }
+        ensures { result ≡ unread_of walked.entry }
+    {
+        Reader {
             alloc,
             clock: walked.clock,
             after: None,
             rest: walked.slots,
-        })
+        }
     }
 
     /// The counter of the sender's clock.

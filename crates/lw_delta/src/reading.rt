@@ -1,19 +1,22 @@
 ghost use Rattle.std.specs.Prelude.{◌≡◌, ◌≢◌, ℕ, ◌⊎◌, ◌↔◌, [], List, IsOk, IfOk, IfErr, Ok, Err};
 ghost use Rattle.lw_join.specs.Parts.{made};
 ghost use Rattle.lw_reg.specs.declared.path.Path.{Path as Paths};
+ghost use Rattle.lw_reg.specs.declared.slot.Slot.{Slot as Slots};
 ghost use Rattle.lw_reg.specs.Body.{Watching as Watchings};
 ghost use Rattle.lw_reg.specs.Endpoint.{IsEndpoint};
 ghost use Rattle.lw_delta.specs.declared.fault.DeltaFault.{DeltaFault as Faults};
-ghost use Rattle.lw_delta.specs.Part.{Found, Fails, IsFound};
-ghost use Rattle.lw_delta.specs.Format.{watches as watches_part, slots as slots_part};
+ghost use Rattle.lw_delta.specs.Part.{Found, Fails};
+ghost use Rattle.lw_delta.specs.Format.{watches as watches_part};
 ghost use Rattle.lw_delta.specs.Values.{all_fields, fields_from};
 ghost use Rattle.lw_delta.specs.Delta.{DeltaContent, IsSpelling, IsFault, Reads};
 ghost use Rattle.lw_delta.specs.Lent.{content_of, Holds, lent_slot};
+ghost use Rattle.lw_delta.specs.Unread.{IsLeft};
 
 use crate::checking::walk;
 use crate::fields::LentFields;
 use crate::lent::{LentNumber, LentObjects};
-use crate::slots::{LentSlot, next_slot};
+use crate::reader::Reader;
+use crate::slots::LentSlot;
 use crate::watches::next_watch;
 use crate::{Delta, DeltaFault};
 use lw_join::Parts;
@@ -150,7 +153,11 @@ fn kept_fields(alloc: Global, clock: u64, lent: LentSlot) -> Result<Option<Field
 }
 
 /// An owned slot and its endpoint.
-pub(crate) fn slot(alloc: Global, clock: u64, lent: LentSlot) -> Result<(Endpoint, Slot), DeltaFault>
+pub(crate) fn slot(
+    alloc: Global,
+    clock: u64,
+    lent: LentSlot,
+) -> Result<(Endpoint, Slot), DeltaFault>
     requires { (ws : List (Paths × Watchings)) × Holds clock lent ws }
     ensures value { (ws : List (Paths × Watchings)) → Holds clock lent.entry ws → IfOk result (λ x. x ≡ lent_slot lent.entry ws) }
     ensures fault { IfErr result (λ fault. fault ≡ DeltaFault.NoMemory) }
@@ -162,29 +169,20 @@ pub(crate) fn slot(alloc: Global, clock: u64, lent: LentSlot) -> Result<(Endpoin
     Ok((endpoint, slot))
 }
 
-/// So many slots, which were walked before.
+/// The slots that are left, so many.
 fn slots(
     alloc: Global,
-    clock: u64,
+    mut reader: Reader<'_>,
     count: usize,
-    bytes: &[u8],
-) -> Result<Vec<(Endpoint, Slot)>, DeltaFault>
-    requires { IsFound (slots_part clock) bytes.now }
-    ensures found { IfOk result (λ ss. (rest : List ℕ) × Found (slots_part clock) bytes.now ss.items rest) }
-    ensures fault { IfErr result (λ fault. fault ≡ DeltaFault.NoMemory) }
+) -> Result<Vec<(Endpoint, Slot)>, NoMemory>
+    requires { (ss : List (List ℕ × Slots)) × IsLeft reader ss }
+    ensures { IfOk result (λ ss. IsLeft reader.entry ss.items) }
 {
     let mut slots = Vec::with_capacity(alloc, count)?;
-    let mut after = None;
-    let mut rest = bytes;
-    loop {
-        let (next, behind) = next_slot(clock, after, true, rest)?;
-        rest = behind;
-        let Some(lent) = next else {
-            return Ok(slots);
-        };
-        after = Some(lent.endpoint);
-        slots.push(slot(alloc, clock, lent)?)?;
+    while let Some(entry) = reader.next()? {
+        slots.push(entry)?;
     }
+    Ok(slots)
 }
 
 /// The delta, once the walk has found no fault.
@@ -198,7 +196,7 @@ fn read_walked(alloc: Global, bytes: &[u8]) -> Result<Delta, DeltaFault>
         let slots = Vec::new(alloc);
         return Ok(Delta { clock, slots });
     }
-    let slots = slots(alloc, clock, walked.slot_count, walked.slots)?;
+    let slots = slots(alloc, Reader::of(alloc, walked), walked.slot_count)?;
     Ok(Delta { clock, slots })
 }
 

@@ -251,11 +251,15 @@ static ACCEPTED: [(&str, u64, usize, &str); 9] = [
     (TWO_REMOVED, 1, 2, TWO_REMOVED),
 ];
 
-/// The walk and the reading of the bytes both end with this fault.
+/// The walk of the bytes, and both ways to read them, end with this fault.
 fn refuses(alloc: Global, text: &str, fault: DeltaFault) -> Result<(), Fail> {
     let bytes = hex::decode(alloc, text)?;
     let is_found = check(&bytes).err() == Some(fault);
-    holds(text, is_found && read(alloc, &bytes).err() == Some(fault))
+    let is_answered = Reader::new(alloc, &bytes).err() == Some(fault);
+    holds(
+        text,
+        is_found && is_answered && read(alloc, &bytes).err() == Some(fault),
+    )
 }
 
 /// Whether the bytes are a delta that is written like this.
@@ -291,6 +295,45 @@ fn accepts(
 fn deltas_are_read_and_written(rt: HostRuntime) -> Result<(), Fail> {
     for row in &ACCEPTED {
         accepts(rt.alloc(), *row)?;
+    }
+    Ok(())
+}
+
+/// Deltas, their clocks, and of each slot the endpoint, whether it was removed, and the counter of the registration.
+static SLOTS: [(&str, u64, &str); 6] = [
+    (FRESH, 0, ""),
+    (LAST, 281_474_976_710_655, ""),
+    (REGISTERED, 1, "a+1 "),
+    (REMOVED_IN_FULL, 1, "a-1 "),
+    (WATCHED, 1, "a+1 "),
+    (TWO_REMOVED, 1, "a-1 b-1 "),
+];
+
+/// The slots that a reader gives.
+fn told(alloc: Global, reader: &mut Reader<'_>) -> Result<String, Fail> {
+    let mut text = String::new(alloc);
+    while let Some((endpoint, slot)) = reader.next()? {
+        let sign = if slot.is_removed() { "-" } else { "+" };
+        let counter = slot.stamp().counter;
+        let endpoint = endpoint.as_str();
+        let one = format!(in alloc; "{endpoint}{sign}{counter} ")?;
+        text.push_str(one.as_str())?;
+    }
+    Ok(text)
+}
+
+/// Whether it is read so, and nothing is left behind the end.
+fn reads(alloc: Global, bytes: &[u8], clock: u64, slots: &str) -> Result<bool, Fail> {
+    let mut reader = Reader::new(alloc, bytes)?;
+    let text = told(alloc, &mut reader)?;
+    Ok(reader.clock() == clock && text.as_str() == slots && reader.next()?.is_none())
+}
+
+#[test]
+fn slots_are_read_one_by_one(rt: HostRuntime) -> Result<(), Fail> {
+    for (text, clock, slots) in &SLOTS {
+        let bytes = hex::decode(rt.alloc(), text)?;
+        holds(text, reads(rt.alloc(), &bytes, *clock, slots)?)?;
     }
     Ok(())
 }

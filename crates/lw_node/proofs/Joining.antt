@@ -230,3 +230,9 @@ front_joined old now new slots done rest x joined split counted to same = (
   where
     front : take joined slots ≡ done
     front = ap (λ (n : ℕ). take n slots) (sym counted) ∙ ap (take (length done)) (sym split) ∙ take-append_seam done (x ∷ rest)
+
+-- and where the next can't be read
+pub front_refused : (old now : TableContent) (done rest : List (List ℕ × Slot)) (joined : ℕ) → (rest ≡ [] → ⊥) → length done ≡ joined → JoinedTo old done now
+    → (joined < length (done ++ rest)) × JoinedTo old (take joined (done ++ rest)) now
+front_refused old now done [] joined some counted to = absurd (some refl)
+front_refused old now done (x ∷ rest) joined some counted to = front_joined old now now (done ++ x ∷ rest) done rest x joined refl counted to refl

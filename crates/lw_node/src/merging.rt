@@ -1,18 +1,20 @@
 //! Deltas of other nodes.
 
-ghost use Rattle.std.specs.Prelude.{◌≡◌, ◌↔◌, ℕ, [], List, IsOk, OnOk, OnErr, Err};
+ghost use Rattle.std.specs.Prelude.{◌≡◌, ◌↔◌, ℕ, ◌<◌, ◌^◌, [], List, length, IsOk, OnOk, OnErr, Err};
 ghost use Rattle.std.specs.List.Sorted.{IsStrictlySortedBy};
 ghost use Rattle.lw_stamp.specs.TextOrder.{text_cmp};
 ghost use Rattle.lw_join.specs.Maps.{one_key};
+ghost use Rattle.lw_reg.specs.declared.slot.Slot.{Slot as Slots};
 ghost use Rattle.lw_reg.specs.State.{state_join};
 ghost use Rattle.lw_table.specs.Changes.{Recounts};
 ghost use Rattle.lw_delta.specs.declared.fault.DeltaFault.{DeltaFault as Faults};
 ghost use Rattle.lw_delta.specs.Delta.{DeltaContent, IsSpelling, IsFault};
+ghost use Rattle.lw_delta.specs.Unread.{IsLeft};
 ghost use Rattle.lw_node.specs.Exchange.{Merges, IsLeastOfBoth, known_by, known_from, JoinsSlots};
 
 use crate::node::Node;
 use lw_call::MergeFault;
-use lw_delta::{check, read};
+use lw_delta::Reader;
 use lw_reg::{Endpoint, Slot};
 use lw_stamp::NoMemory;
 use lw_table::Table;
@@ -28,32 +30,35 @@ impl Node {
         // A delta without slots takes no memory.
         ensures none { (clock : ℕ) → IsSpelling bytes.now (record { clock = clock; slots = [] }) → IsOk result }
     {
-        let clock = match check(bytes) {
-            Ok(clock) => clock,
+        let slots = match Reader::new(self.alloc, bytes) {
+            Ok(slots) => slots,
             Err(fault) => return Err(MergeFault::Malformed(fault)),
         };
-        self.clock.raise(clock);
-        match read(self.alloc, bytes) {
-            Ok(delta) => join_slots(&mut self.table, delta.slots),
-            Err(_) => Err(MergeFault::NoMemory { joined: 0 }),
-        }
+        self.clock.raise(slots.clock());
+        join_slots(&mut self.table, slots)
     }
 }
 
-/// Joins slots to those of their endpoints, which rise.
-fn join_slots(table: &mut Table, slots: Vec<(Endpoint, Slot)>) -> Result<usize, MergeFault>
-    requires { IsStrictlySortedBy (λ x y. text_cmp x.0 y.0) slots.items }
-    ensures { JoinsSlots table.old slots.items result table.new }
+/// Joins the slots of a delta to those of their endpoints, which rise.
+fn join_slots(table: &mut Table, mut slots: Reader<'_>) -> Result<usize, MergeFault>
+    requires fits { length slots.bytes < 2 ^ 64 }
+    requires rise { (ss : List (List ℕ × Slots)) × IsLeft slots ss × IsStrictlySortedBy (λ x y. text_cmp x.0 y.0) ss }
+    ensures { (ss : List (List ℕ × Slots)) × IsLeft slots.entry ss × JoinsSlots table.old ss result table.new }
 {
-    let count = slots.len();
     let mut joined = 0;
-    for entry in slots {
+    loop {
+        let next = match slots.next() {
+            Ok(next) => next,
+            Err(NoMemory) => return Err(MergeFault::NoMemory { joined }),
+        };
+        let Some(entry) = next else {
+            return Ok(joined);
+        };
         if join_slot(table, entry).is_err() {
             return Err(MergeFault::NoMemory { joined });
         }
         joined += 1;
     }
-    Ok(count)
 }
 
 /// Joins a slot to that of its endpoint.

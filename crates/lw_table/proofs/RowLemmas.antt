@@ -246,10 +246,10 @@ module _ (m n : Rows) (e0 : List ℕ) (row : Row) (rows : IsRows m) (firsts : n.
       ap (λ (ms : BTreeMap ℕ First). first_or e (tree.get nat_cmp ms (end_of e)) (get_by_text n.others e)) firsts
       ∙ ap (λ (o : Option Row). first_or e (tree.get nat_cmp m.firsts (end_of e)) o) (at e)
       ∙ same_or_not e0 e
-          (λ t same. ap (λ b. first_or e (tree.get nat_cmp m.firsts (end_of e)) (cond b (Some row) (get_by_text m.others e))) t
-          ∙ passed (tree.get nat_cmp m.firsts (end_of e)) (subst (λ k. IsTaken m k) same taken)
-          ∙ ap (λ b. cond b (Some row) (row_at m e)) (sym t))
-          (λ f apart. ap (λ b. first_or e (tree.get nat_cmp m.firsts (end_of e)) (cond b (Some row) (get_by_text m.others e))) f ∙ ap (λ b. cond b (Some row) (row_at m e)) (sym f))
+      (λ t same. ap (λ b. first_or e (tree.get nat_cmp m.firsts (end_of e)) (cond b (Some row) (get_by_text m.others e))) t
+      ∙ passed (tree.get nat_cmp m.firsts (end_of e)) (subst (λ k. IsTaken m k) same taken)
+      ∙ ap (λ b. cond b (Some row) (row_at m e)) (sym t))
+      (λ f apart. ap (λ b. first_or e (tree.get nat_cmp m.firsts (end_of e)) (cond b (Some row) (get_by_text m.others e))) f ∙ ap (λ b. cond b (Some row) (row_at m e)) (sym f))
     where
       passed : (o : Option First) → IsSomeAnd o (λ first. bytes_eq (name_of first) e ≡ false) → first_or e o (Some row) ≡ Some row
       passed None h = absurd h
@@ -265,8 +265,8 @@ module _ (m n : Rows) (e0 : List ℕ) (row : Row) (rows : IsRows m) (firsts : n.
       came_first = λ e h.
           let none : tree.get nat_cmp m.firsts (end_of e) ≡ None = ap (λ (ms : BTreeMap ℕ First). tree.get nat_cmp ms (end_of e)) (sym firsts) ∙ h in
           at e ∙ same_or_not e0 e
-              (λ t same. absurd (not_taken (tree.get nat_cmp m.firsts (end_of e0)) (ap (λ k. tree.get nat_cmp m.firsts (end_of k)) same ∙ none) taken))
-              (λ f apart. ap (λ b. cond b (Some row) (get_by_text m.others e)) f ∙ rows.came_first e none);
+          (λ t same. absurd (not_taken (tree.get nat_cmp m.firsts (end_of e0)) (ap (λ k. tree.get nat_cmp m.firsts (end_of k)) same ∙ none) taken))
+          (λ f apart. ap (λ b. cond b (Some row) (get_by_text m.others e)) f ∙ rows.came_first e none);
     };
   }
     where

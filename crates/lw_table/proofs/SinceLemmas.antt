@@ -236,8 +236,8 @@ pub all_since : (filed : Filed) (table : TableContent) (since : ℕ) (names : Li
 all_since filed table since names is last are e slot h = (
   λ c. inl last,
   λ s.
-  let number = some_there (get table.count.numbers e) ((is.numbered e).0 (subst IsSome (sym h) refl)) in
-  (are e).1 (any_has filed.numbers number.0 e ((is.numbers_are number.0 e).1 number.1)),
+      let number = some_there (get table.count.numbers e) ((is.numbered e).0 (subst IsSome (sym h) refl)) in
+      (are e).1 (any_has filed.numbers number.0 e ((is.numbers_are number.0 e).1 number.1)),
 )
 
 -- those that are filed above the number

@@ -76,12 +76,7 @@ impl Rows {
     }
 
     /// Puts the first row of an endpoint.
-    pub(crate) fn insert(
-        &mut self,
-        alloc: Global,
-        endpoint: &str,
-        row: Row,
-    ) -> Result<(), NoMemory>
+    pub(crate) fn insert(&mut self, alloc: Global, endpoint: &str, row: Row) -> Result<(), NoMemory>
         requires rows { IsRows self.old }
         requires absent { row_at self.old endpoint.now ≡ None }
         ensures put { OnOk result (PutsRow endpoint.now row self.old self.new) }

@@ -34,7 +34,8 @@ static SHOWN: [(&str, Option<Mark>); 7] = [
 ];
 
 /// Rising by their bytes, in whatever order they came.
-const ALL: &str = "\056789ab+11 456789ab+13 56789ab+5 9456789ab+4 urn:dev:eui:0123456789ab+3 urn:dev:mac:0123456789ab-1 ";
+const ALL: &str =
+    "\056789ab+11 456789ab+13 56789ab+5 9456789ab+4 urn:dev:eui:0123456789ab+3 urn:dev:mac:0123456789ab-1 ";
 
 fn are_shown(table: &Table) -> bool {
     for (endpoint, id) in &SHOWN {
@@ -59,7 +60,10 @@ fn endpoints_that_end_alike_are_told_apart(rt: HostRuntime) -> Result<(), Fail> 
         &table,
         &[
             (0, ALL),
-            (6, "456789ab+13 urn:dev:eui:0123456789ab+3 urn:dev:mac:0123456789ab-1 "),
+            (
+                6,
+                "456789ab+13 urn:dev:eui:0123456789ab+3 urn:dev:mac:0123456789ab-1 ",
+            ),
             (8, "urn:dev:eui:0123456789ab+3 "),
         ],
     )

@@ -1,15 +1,15 @@
-use Rattle.std.proofs.Common.{length}
-use Rattle.std.specs.Option.{option_copied}
-use Rattle.lw_delta.specs.Part.{IsFound, repeated}
-use Rattle.lw_delta.specs.Format.{slot}
-use Rattle.lw_delta.proofs.Parts.{Walked}
+use Rattle.std.proofs.Common.{ℕ, List, length, ◌++◌}
+use Rattle.lw_reg.specs.declared.slot.Slot.{Slot}
+use Rattle.lw_delta.specs.Unread.{IsLeft}
 use Rattle.lw_delta.proofs.reading.slots.Given as goal
 
+-- the slots so far, and those that are left, are all
 abbrev pub invariant-loop-slots : goal.invariant-loop-slots
 invariant-loop-slots l = record {
-  walked : Walked (slot l.clock) (λ s. s.0) l.bytes l.slots.items (option_copied l.after) l.rest;
-  left : IsFound (repeated (slot l.clock) (λ s. s.0) (option_copied l.after)) l.rest;
+  rest : List (List ℕ × Slot);
+  left : IsLeft l.reader rest;
+  whole : IsLeft l.fn.reader (l.slots.items ++ rest);
 }
 
 abbrev pub decreases-loop-slots : goal.decreases-loop-slots
-decreases-loop-slots l = length l.rest
+decreases-loop-slots l = length l.reader.bytes

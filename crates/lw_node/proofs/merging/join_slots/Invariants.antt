@@ -1,16 +1,23 @@
-use Rattle.std.proofs.Common.{◌≡◌, ℕ, List, length, ◌++◌}
-use Rattle.std.specs.Vec.Iter.{into_iter_items}
+use Rattle.std.proofs.Common.{◌≡◌, ℕ, ◌+◌, ◌≤◌, List, length, ◌++◌}
+use Rattle.std.specs.List.Sorted.{IsStrictlySortedBy}
 use Rattle.lw_reg.specs.declared.slot.Slot.{Slot}
+use Rattle.lw_delta.specs.Unread.{IsLeft}
 use Rattle.lw_node.specs.Exchange.{JoinedTo}
+use Rattle.lw_node.proofs.Joining.{entry_cmp}
 use Rattle.lw_node.proofs.merging.join_slots.Given as goal
 
 -- the slots so far are joined, and those that are left follow
-abbrev pub invariant-loop-entry : goal.invariant-loop-entry
-invariant-loop-entry l =
-    (goal.iterator-loop-entry).can_next l.entry-iterator × (goal.iterator-loop-entry).is_finite l.entry-iterator
-    × record {
-      done : List (List ℕ × Slot);
-      split : done ++ into_iter_items l.entry-iterator ≡ l.fn.slots.items;
-      counted : length done ≡ l.joined;
-      joined_to : JoinedTo l.fn.table done l.table;
-    }
+abbrev pub invariant-loop-table : goal.invariant-loop-table
+invariant-loop-table l = record {
+  done : List (List ℕ × Slot);
+  rest : List (List ℕ × Slot);
+  left : IsLeft l.slots rest;
+  whole : IsLeft l.fn.slots (done ++ rest);
+  rise : IsStrictlySortedBy entry_cmp (done ++ rest);
+  counted : length done ≡ l.joined;
+  fits : l.joined + length l.slots.bytes ≤ length l.fn.slots.bytes;
+  joined_to : JoinedTo l.fn.table done l.table;
+}
+
+abbrev pub decreases-loop-table : goal.decreases-loop-table
+decreases-loop-table l = length l.slots.bytes

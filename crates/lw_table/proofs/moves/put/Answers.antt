@@ -73,8 +73,8 @@ returns-then-eq c =
     let number = c.args.number in
     let written = (c.get_mut.follows.holds w).3 (search rules) in
     let put = first_put m n e w c.requires.rows named refl (c.get_mut.follows.holds w).4
-            (λ k. subst (λ end. tree.get nat_cmp firsts k ≡ cond (is_at (nat_cmp end) k) (Some w) (tree.get nat_cmp m.firsts k)) c.end_of.ensures (written.0 k))
-            (subst (λ o. IfSome o (λ (x : First). string_bytes x.endpoint ≡ e)) there named) in
+    (λ k. subst (λ end. tree.get nat_cmp firsts k ≡ cond (is_at (nat_cmp end) k) (Some w) (tree.get nat_cmp m.firsts k)) c.end_of.ensures (written.0 k))
+    (subst (λ o. IfSome o (λ (x : First). string_bytes x.endpoint ≡ e)) there named) in
     record {
       others = c.move_row.ensures.others;
       put = on_ok _ _ c.move_row.result
@@ -102,8 +102,8 @@ put_other-requires c =
     let firsts = c.get_mut.follows.lender first in
     let written = (c.get_mut.follows.holds first).3 (search rules) in
     let passed = passed_over m firsts e first c.requires.rows there apart
-            (λ k. subst (λ end. tree.get nat_cmp firsts k ≡ cond (is_at (nat_cmp end) k) (Some first) (tree.get nat_cmp m.firsts k)) c.end_of.ensures (written.0 k))
-            (c.get_mut.follows.holds first).4 in
+    (λ k. subst (λ end. tree.get nat_cmp firsts k ≡ cond (is_at (nat_cmp end) k) (Some first) (tree.get nat_cmp m.firsts k)) c.end_of.ensures (written.0 k))
+    (c.get_mut.follows.holds first).4 in
     record {
       filed = subst (IsFiled c.args.filed.now e) (sym (passed.0.same e)) c.requires.filed;
       rows = passed.0.rows;
@@ -124,8 +124,8 @@ returns-else-eq c =
     let n : Rows = record m { firsts = firsts } in
     let written = (c.get_mut.follows.holds first).3 (search rules) in
     let same = (passed_over m firsts e first c.requires.rows there apart
-            (λ k. subst (λ end. tree.get nat_cmp firsts k ≡ cond (is_at (nat_cmp end) k) (Some first) (tree.get nat_cmp m.firsts k)) c.end_of.ensures (written.0 k))
-            (c.get_mut.follows.holds first).4).0 in
+    (λ k. subst (λ end. tree.get nat_cmp firsts k ≡ cond (is_at (nat_cmp end) k) (Some first) (tree.get nat_cmp m.firsts k)) c.end_of.ensures (written.0 k))
+    (c.get_mut.follows.holds first).4).0 in
     record {
       others = c.put_other.ensures.others;
       put = on_ok _ _ c.put_other.result

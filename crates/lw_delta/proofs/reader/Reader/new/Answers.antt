@@ -1,8 +1,9 @@
-use Rattle.std.proofs.Common.{◌≡◌, ℕ, List, [], Result, Ok, Err, ap, subst}
+use Rattle.std.proofs.Common.{◌≡◌, ℕ, List, [], ap, sym, subst}
 use Rattle.lw_reg.specs.declared.slot.Slot.{Slot}
-use Rattle.lw_delta.specs.Delta.{DeltaContent}
+use Rattle.lw_delta.specs.Delta.{DeltaContent, IsSpelling}
 use Rattle.lw_delta.specs.Part.{Found}
 use Rattle.lw_delta.specs.Format.{slots}
+use Rattle.lw_delta.specs.Unread.{Unread, IsLeft}
 use Rattle.lw_delta.proofs.Answering.{apart, one_delta, walked_spelled, fault_answered, no_fault_answered}
 use Rattle.std.proofs.lemmas.Result.{err_from_is_err_and}
 use Rattle.lw_delta.proofs.reader.Reader.new.Goals as goal
@@ -15,18 +16,20 @@ returns-in_err-walked-clause-faults c =
     let p = err_from_is_err_and c.from_residual.result c.from_residual.ensures.1 in
     rw (p.1, p.2) (fault_answered c.args.bytes.now _ c.in_err-walked.ensures.fault)
 
-pub invariant_of-result : goal.invariant_of-result
-invariant_of-result c = let w = c.in_ok-walked.ensures.found in (w.ss, w.found)
-
 pub returns-clause-found : goal.returns-clause-found
-returns-clause-found c = let w = c.in_ok-walked.ensures.found in (w.ss, w.found, walked_spelled c.args.bytes.now c.in_ok-walked.walked w)
+returns-clause-found c =
+    let w = c.in_ok-walked.ensures.found in
+    let bytes = c.args.bytes.now in
+    subst (λ (u : Unread). (ss : List (List ℕ × Slot)) × IsLeft u ss × IsSpelling bytes (record { clock = u.clock; slots = ss })) (sym c.of.ensures) (w.ss, w.found, walked_spelled bytes c.in_ok-walked.walked w)
 
 pub returns-clause-only : goal.returns-clause-only
 returns-clause-only c = λ d s.
     let w = c.in_ok-walked.ensures.found in
-    let same = one_delta c.args.bytes.now (record { clock = c.in_ok-walked.walked.clock; slots = w.ss }) d (walked_spelled c.args.bytes.now c.in_ok-walked.walked w) s in (
+    let walked = c.in_ok-walked.walked in
+    let same = one_delta c.args.bytes.now (record { clock = walked.clock; slots = w.ss }) d (walked_spelled c.args.bytes.now walked w) s in
+    subst (λ (u : Unread). (u.clock ≡ d.clock) × IsLeft u d.slots) (sym c.of.ensures) (
       ap (λ (x : DeltaContent). x.clock) same,
-      subst (λ (ss : List (List ℕ × Slot)). Found (slots c.in_ok-walked.walked.clock) c.in_ok-walked.walked.slots.now ss []) (ap (λ (x : DeltaContent). x.slots) same) w.found,
+      subst (λ (ss : List (List ℕ × Slot)). Found (slots walked.clock) walked.slots.now ss []) (ap (λ (x : DeltaContent). x.slots) same) w.found,
     )
 
 pub returns-clause-faults : goal.returns-clause-faults
