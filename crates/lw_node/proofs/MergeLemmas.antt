@@ -23,11 +23,12 @@ use Rattle.lw_table.specs.Table.{TableContent}
 use Rattle.lw_delta.specs.declared.fault.DeltaFault.{DeltaFault}
 use Rattle.lw_delta.specs.Delta.{DeltaContent, IsSpelling}
 use Rattle.lw_delta.specs.Writable.{AllFollow}
-use Rattle.lw_delta.proofs.Answering.{one_delta}
+use Rattle.lw_delta.specs.Unread.{Unread, IsLeft}
 use Rattle.lw_delta.proofs.Fitting.{spelled_fits}
+use Rattle.lw_delta.proofs.Left.{one_left}
 use Rattle.lw_call.specs.declared.merge_fault.MergeFault.{MergeFault}
 use Rattle.lw_call.specs.declared.merge_fault.MergeFault.TheVariants.{Malformed, NoMemory}
-use Rattle.lw_node.specs.Exchange.{state_in, JoinedTo, JoinsSlots, Merged, Merges, MergesFront, IsLeastOfBoth}
+use Rattle.lw_node.specs.Exchange.{state_in, JoinedTo, JoinsSlots, Merged, Merges, IsLeastOfBoth}
 use Rattle.lw_node.specs.Node.{NodeContent, HasEndpoints}
 use Rattle.lw_node.specs.Within.{FitsClock}
 use Rattle.lw_node.proofs.Joining.{entry_cmp, get-joined}
@@ -130,15 +131,10 @@ same_fault f g h = ap of h
     of (Err (Malformed x)) = x
     of (Err (NoMemory n)) = f
 
-pub not_memory : (n : ℕ) (g : DeltaFault) → ◌≡◌ {A = Result ℕ MergeFault} (Err (NoMemory n)) (Err (Malformed g)) → ⊥
-not_memory n g h = cc
-
 -- ---- the outcome of a merge
--- what is read has the clock that was checked
-pub read_clock : (bytes : List ℕ) (clock : ℕ) → ((slots : List (List ℕ × Slot)) × IsSpelling bytes (record { clock = clock; slots = slots })) → (d : DeltaContent) → IsSpelling bytes d → IsSpelling bytes (record { clock = clock; slots = d.slots })
-read_clock bytes clock checked d h =
-    let same : d.clock ≡ clock = ap (λ (x : DeltaContent). x.clock) (one_delta bytes d (record { clock = clock; slots = checked.0 }) h checked.1) in
-    subst (λ (n : ℕ). IsSpelling bytes (record { clock = n; slots = d.slots })) same h
+-- the slots that were left are those of the delta
+pub left_spelled : (bytes : List ℕ) (unread : Unread) → ((slots : List (List ℕ × Slot)) × IsLeft unread slots × IsSpelling bytes (record { clock = unread.clock; slots = slots })) → (ss : List (List ℕ × Slot)) → IsLeft unread ss → IsSpelling bytes (record { clock = unread.clock; slots = ss })
+left_spelled bytes unread found ss left = subst (λ (slots : List (List ℕ × Slot)). IsSpelling bytes (record { clock = unread.clock; slots = slots })) (one_left unread found.0 ss found.1 left) found.2
 
 merged : (old new : NodeContent) (clock : ℕ) (slots : List (List ℕ × Slot)) → new.number ≡ old.number → new.clock ≡ max old.clock clock → JoinedTo old.table slots new.table → Merged old clock slots new
 merged old new clock slots number is h = record { number = number; clock_is = is; state = h.state; count = h.count }
@@ -148,12 +144,3 @@ pub merges_joined : (old new : NodeContent) (bytes : List ℕ) (clock : ℕ) (sl
 merges_joined old new bytes clock slots (Ok count) spelled number is h = record { delta = record { clock = clock; slots = slots }; spelled = spelled; counted = h.0; merged = merged old new clock slots number is h.1 }
 merges_joined old new bytes clock slots (Err (NoMemory joined)) spelled number is h = record { delta = record { clock = clock; slots = slots }; spelled = spelled; fewer = h.0; merged = merged old new clock (take joined slots) number is h.1 }
 merges_joined old new bytes clock slots (Err (Malformed fault)) spelled number is h = absurd h
-
-some_first : (slots : List (List ℕ × Slot)) → slots ≢ [] → 0 < length slots
-some_first [] h = absurd (h refl)
-some_first (s ∷ ss) h = omega arith
-
--- the clock alone is raised
-pub merges_none : (old new : NodeContent) (bytes : List ℕ) (clock : ℕ) (slots : List (List ℕ × Slot)) → IsSpelling bytes (record { clock = clock; slots = slots }) → slots ≢ []
-    → new.number ≡ old.number → new.clock ≡ max old.clock clock → JoinedTo old.table [] new.table → MergesFront old bytes 0 new
-merges_none old new bytes clock slots spelled some number is h = record { delta = record { clock = clock; slots = slots }; spelled = spelled; fewer = some_first slots some; merged = merged old new clock [] number is h }

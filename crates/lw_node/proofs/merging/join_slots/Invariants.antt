@@ -7,8 +7,8 @@ use Rattle.lw_node.proofs.Joining.{entry_cmp}
 use Rattle.lw_node.proofs.merging.join_slots.Given as goal
 
 -- the slots so far are joined, and those that are left follow
-abbrev pub invariant-loop-table : goal.invariant-loop-table
-invariant-loop-table l = record {
+abbrev pub invariant-loop-next : goal.invariant-loop-next
+invariant-loop-next l = record {
   done : List (List ℕ × Slot);
   rest : List (List ℕ × Slot);
   left : IsLeft l.slots rest;
@@ -19,5 +19,5 @@ invariant-loop-table l = record {
   joined_to : JoinedTo l.fn.table done l.table;
 }
 
-abbrev pub decreases-loop-table : goal.decreases-loop-table
-decreases-loop-table l = length l.slots.bytes
+abbrev pub decreases-loop-next : goal.decreases-loop-next
+decreases-loop-next l = length l.slots.bytes
