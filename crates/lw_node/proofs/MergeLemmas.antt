@@ -1,6 +1,6 @@
 -- What is merged: a delta's slots rise, its endpoints are names of clients, and the node that has them joined keeps
 -- its invariant and is the least above both.
-use Rattle.std.proofs.Common.{◌≡◌, ◌≢◌, ℕ, zero, suc, ◌<◌, ◌≤◌, ◌^◌, Bool, true, false, cond, List, [], ◌∷◌, length, take, Option, Some, None, Result, Ok, Err, refl, sym, ap, subst, arith}
+use Rattle.std.proofs.Common.{◌≡◌, ℕ, zero, suc, ◌<◌, ◌≤◌, ◌^◌, Bool, true, false, cond, List, [], ◌∷◌, length, take, Option, Some, None, Result, Ok, Err, refl, sym, ap, subst, arith}
 use Rattle.std.specs.Prelude.{max, IsSome, IsOk}
 use Rattle.std.specs.FinMap.{get, get-empty}
 use Rattle.std.specs.List.{AllByRecursion}

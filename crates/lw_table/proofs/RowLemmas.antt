@@ -1,5 +1,5 @@
 -- What the rows hold, endpoint by endpoint, and how that changes.
-use Rattle.std.proofs.Common.{◌≡◌, ◌≢◌, ℕ, zero, suc, ◌<◌, Bool, true, false, cond, List, [], ◌∷◌, ◌++◌, map, Option, None, Some, refl, sym, ap, ◌∙◌, subst, arith, slice_get}
+use Rattle.std.proofs.Common.{◌≡◌, ◌≢◌, ℕ, zero, suc, ◌<◌, Bool, true, false, cond, List, [], ◌∷◌, ◌++◌, Option, None, Some, refl, sym, ap, ◌∙◌, subst, arith, slice_get}
 use Rattle.std.specs.Prelude.{String, string_bytes, bytes_eq, is_some}
 use Rattle.std.specs.Option.{IfSome, IsSomeAnd, option_map}
 use Rattle.std.specs.BTreeMap.{BTreeMap, IsOrdered, get_by_text, is_at}

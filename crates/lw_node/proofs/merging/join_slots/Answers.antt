@@ -3,7 +3,6 @@ use Rattle.std.specs.Option.{OnSome}
 use Rattle.std.specs.List.Sorted.{IsStrictlySortedBy}
 use Rattle.lw_reg.specs.declared.slot.Slot.{Slot}
 use Rattle.lw_delta.specs.Unread.{IsLeft, Leaves}
-use Rattle.lw_node.specs.Exchange.{JoinedTo}
 use Rattle.lw_node.proofs.Joining.{entry_cmp, before_below, joined_none, joined_more, front_joined, front_refused, no_error, an_error}
 use Rattle.lw_node.proofs.merging.join_slots.Goals as goal
 

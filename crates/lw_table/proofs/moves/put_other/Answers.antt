@@ -1,6 +1,4 @@
-use Rattle.std.proofs.Common.{◌≡◌, Some, None, cond, refl, sym, ap, ◌∙◌, subst, rules}
-use Rattle.std.specs.Prelude.{String}
-use Rattle.std.specs.BTreeMap.{BTreeMap}
+use Rattle.std.proofs.Common.{◌≡◌, Some, None, refl, sym, ap, ◌∙◌, subst, rules}
 use Rattle.std.proofs.lemmas.Map.Text.{btree_map_updates_text}
 use Rattle.lw_table.specs.Filed.{IsFiled}
 use Rattle.lw_table.specs.Moves.{next_row, PutsRow, SameRows}

@@ -1,8 +1,8 @@
-use Rattle.std.proofs.Common.{◌≡◌, ◌<◌, List, [], ◌∷◌, ℕ, Some, length, sym, ap, ◌∙◌, subst}
+use Rattle.std.proofs.Common.{◌<◌, List, [], ◌∷◌, ℕ, length, sym, ap, ◌∙◌, subst}
 use Rattle.std.specs.Option.{option_copied}
 use Rattle.lw_reg.specs.declared.slot.Slot.{Slot}
 use Rattle.lw_delta.specs.Format.{slot as slot_part}
-use Rattle.lw_delta.specs.Lent.{NextAt, lent_slot}
+use Rattle.lw_delta.specs.Lent.{NextAt}
 use Rattle.lw_delta.specs.Unread.{Unread, IsLeft}
 use Rattle.lw_delta.proofs.Again.{next_found}
 use Rattle.lw_delta.proofs.Behind.{next_takes}

@@ -1,4 +1,4 @@
-use Rattle.std.proofs.Common.{◌≡◌, ℕ, ◌<◌, ◌^◌, [], Err, sym, ap, subst, refl, ◌∙◌}
+use Rattle.std.proofs.Common.{◌≡◌, ◌<◌, ◌^◌, [], Err, sym, ap, subst, refl, ◌∙◌}
 use Rattle.std.specs.Prelude.{max}
 use Rattle.lw_stamp.specs.Clock.{counter_of}
 use Rattle.lw_delta.specs.Delta.{DeltaContent}

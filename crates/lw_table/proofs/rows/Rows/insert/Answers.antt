@@ -1,4 +1,4 @@
-use Rattle.std.proofs.Common.{◌≡◌, ℕ, List, Bool, true, false, cond, Option, None, Some, refl, sym, ap, ◌∙◌, subst}
+use Rattle.std.proofs.Common.{◌≡◌, ℕ, List, true, false, cond, Option, None, Some, refl, sym, ap, ◌∙◌, subst}
 use Rattle.std.specs.Prelude.{bytes_eq, string_bytes, is_some}
 use Rattle.std.specs.BTreeMap.{get_by_text, is_at}
 use Rattle.std.specs.BTreeMap as tree
@@ -7,7 +7,7 @@ use Rattle.std.specs.Ordering.{nat_cmp}
 use Rattle.std.proofs.lemmas.Map.Text.{btree_map_updates_text}
 use Rattle.lw_table.specs.declared.rows.First.{First}
 use Rattle.lw_table.specs.declared.rows.Rows.{Rows}
-use Rattle.lw_table.proofs.RowLemmas.{first_put, other_put, taken_of, same_maps, same_firsts, same_others}
+use Rattle.lw_table.proofs.RowLemmas.{first_put, other_put, taken_of}
 use Rattle.lw_table.proofs.rows.Rows.insert.Goals as goal
 
 pub returns-in_ok-insert-clause-put : goal.returns-in_ok-insert-clause-put
