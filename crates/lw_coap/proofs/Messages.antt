@@ -245,8 +245,3 @@ pub faults_all : (bytes : List ℕ) (r : Result MessageContent Fault) → Reads 
 faults_all bytes (Ok n) h f g = absurd (never_both bytes n f h g)
 faults_all bytes (Err e) (inl h) f g = absurd (never_both bytes h.1 f h.2 g)
 faults_all bytes (Err e) (inr h) f g = ap failed (one_fault bytes e f h g)
-
-pub want_only : (bytes : List ℕ) (r : Result MessageContent Fault) → Reads bytes r → r ≡ Err NoMemory → (m : MessageContent) × IsSpelling bytes m
-want_only bytes (Ok n) h e = absurd cc
-want_only bytes (Err f) (inl h) e = (h.1, h.2)
-want_only bytes (Err f) (inr h) e = absurd (subst (λ (x : Fault). IsFault bytes x) (failed_one f NoMemory e) h)

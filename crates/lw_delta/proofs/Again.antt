@@ -2,7 +2,7 @@
 use Rattle.std.proofs.Common.{◌≡◌, ℕ, Bool, true, List, [], ◌∷◌, Option, Some, None, sym, subst}
 use Rattle.lw_delta.specs.declared.fault.DeltaFault.{DeltaFault}
 use Rattle.lw_delta.specs.Part.{Part, Found, IsFound, must, followed, when, tag, optional, last_key, Walks, repeated}
-use Rattle.lw_delta.proofs.Decided.{Decided, optional_decided, tag_decided}
+use Rattle.lw_delta.proofs.Decided.{Decided, tag_decided}
 
 pub behind : {A B : Type 0} {part : Part A} (next : A → Part B) → Decided part → {bytes : List ℕ} {first : A} {rest : List ℕ}
     → Found part bytes first rest → IsFound (followed part next) bytes → IsFound (next first) rest
@@ -43,25 +43,3 @@ next_of item key after (x ∷ xs) bytes behind rest w f = record { value = Some 
 pub next_found : {K A : Type 0} (item : Option K → Part A) (key : A → K) (after : Option K) {bytes : List ℕ} → IsFound (repeated item key after) bytes → IsFound (optional (item after)) bytes
 unfolding repeated
 next_found item key after {bytes} g = let f = g.found.is in next_of item key after g.value bytes f.0 g.rest f.1 f.2
-
-no_some : {A : Type 0} (x : A) → None ≡ Some x → ⊥
-no_some x e = cc
-
-same_some : {A : Type 0} (x y : A) → Some x ≡ Some y → x ≡ y
-same_some x y e = cc
-
-more_of : {K A : Type 0} (item : Option K → Part A) (key : A → K) (d : (k : Option K) → Decided (item k)) (after : Option K) (xs : List A) (bytes behind rest : List ℕ) (x : A) (r : List ℕ)
-    → Walks item key after bytes xs behind → Found (optional (item (last_key key after xs))) behind None rest → Found (optional (item after)) bytes (Some x) r → IsFound (repeated item key (Some (key x))) r
-unfolding repeated
-more_of item key d after [] bytes behind rest x r w f g =
-    absurd (no_some x ((optional_decided (d after)).one bytes None (Some x) rest r (subst (λ (b : List ℕ). Found (optional (item after)) b None rest) (sym w) f) g).0)
-more_of item key d after (y ∷ ys) bytes behind rest x r w f g =
-    let e = (optional_decided (d after)).one bytes (Some y) (Some x) w.0 r w.1 g in
-    let same : y ≡ x = same_some y x e.0 in
-    let all : Found (repeated item key (Some (key y))) w.0 ys rest = record { is = (behind, w.2, f) } in
-    record { value = ys; rest = rest; found = subst (λ (b : List ℕ). Found (repeated item key (Some (key x))) b ys rest) e.1 (subst (λ z. Found (repeated item key (Some (key z))) w.0 ys rest) same all) }
-
-pub more_found : {K A : Type 0} {item : Option K → Part A} (key : A → K) → ((k : Option K) → Decided (item k)) → (after : Option K) {bytes : List ℕ} {x : A} {rest : List ℕ}
-    → Found (optional (item after)) bytes (Some x) rest → IsFound (repeated item key after) bytes → IsFound (repeated item key (Some (key x))) rest
-unfolding repeated
-more_found {item} key d after {bytes} {x} {rest} f g = let h = g.found.is in more_of item key d after g.value bytes h.0 g.rest x rest h.1 h.2 f

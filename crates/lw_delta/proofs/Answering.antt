@@ -13,9 +13,6 @@ use Rattle.lw_delta.specs.Delta.{DeltaContent, IsSpelling, HasTrailing, IsFault,
 use Rattle.lw_delta.proofs.Grammar.{slots_decided, delta_decided}
 use Rattle.lw_delta.proofs.Parts.{both, given}
 
-pair : DeltaContent → ℕ × List (List ℕ × Slot)
-pair d = (d.clock, d.slots)
-
 nothing_behind : (b : ℕ) (rest : List ℕ) → [] ≡ b ∷ rest → ⊥
 nothing_behind b rest e = cc
 

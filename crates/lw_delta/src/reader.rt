@@ -1,4 +1,4 @@
-ghost use Rattle.std.specs.Prelude.{◌≡◌, ◌↔◌, ◌<◌, ◌^◌, ℕ, [], List, length, IsOk, IsOkAnd, IfOk, OnErr, OnSome, Err};
+ghost use Rattle.std.specs.Prelude.{◌≡◌, ◌≢◌, ◌↔◌, ◌<◌, ◌^◌, ℕ, [], List, length, IsOk, IsOkAnd, IfOk, OnErr, OnSome, Err};
 ghost use Rattle.lw_reg.specs.declared.slot.Slot.{Slot as Slots};
 ghost use Rattle.lw_delta.specs.declared.fault.DeltaFault.{DeltaFault as Faults};
 ghost use Rattle.lw_delta.specs.Delta.{DeltaContent, IsSpelling, IsFault};
@@ -48,6 +48,7 @@ impl<'a> Reader<'a> {
         ensures only { (d : DeltaContent) → IsSpelling bytes.now d → IsOkAnd result (λ reader. (reader.clock ≡ d.clock) × IsLeft reader d.slots) }
         // Each fault is answered exactly where it is the first.
         ensures faults { (fault : Faults) → (result ≡ Err fault) ↔ IsFault bytes.now fault }
+        ensures memory { result ≢ Err Faults.NoMemory }
         // So the slots can be counted.
         ensures fits { IfOk result (λ reader. length reader.bytes < 2 ^ 64) }
     {

@@ -1,8 +1,8 @@
 -- What taking the greatest entry off two lists of entries leaves.
-use Rattle.std.proofs.Common.{◌≡◌, suc, ◌-◌, List, [], ◌∷◌, ◌++◌, length, Option, Some, None, IfSome, IfNone, reverse, append_assoc, refl, sym, ap, ◌∙◌, subst, arith}
+use Rattle.std.proofs.Common.{◌≡◌, suc, ◌-◌, List, [], ◌∷◌, ◌++◌, length, Option, Some, None, IfSome, IfNone, reverse, refl, sym, ap, ◌∙◌, subst, arith}
 use Rattle.std.specs.List.{slice_get}
 use Rattle.std.specs.Option.{option_cmp, option_to_list}
-use Rattle.std.proofs.lemmas.List.{append-nil, nil_from_length, reverse-append, reverse-reverse}
+use Rattle.std.proofs.lemmas.List.{append-nil, nil_from_length, reverse-reverse}
 use Rattle.std.specs.declared.cmp.Ordering.{Ordering}
 use Rattle.std.specs.declared.cmp.Ordering.TheVariants.{Less, Equal, Greater}
 use Rattle.std.specs.Ordering.{match_ordering}
@@ -177,11 +177,6 @@ module _ {K J : Type 0} (cmp : K → K → Ordering) where
 pub always_none : {X P : Type 0} (r : Option X) → P → IfNone r P
 always_none None p = p
 always_none (Some x) p = tt
-
--- one more entry is moved
-pub moved_one : {X : Type 0} (moved whole rest all : List X) (e : X) → whole ≡ rest ++ e ∷ [] → whole ++ reverse moved ≡ all → rest ++ reverse (moved ++ e ∷ []) ≡ all
-moved_one moved whole rest all e split h =
-    ap (λ l. rest ++ l) (reverse-append moved (e ∷ [])) ∙ sym (append_assoc rest (e ∷ []) (reverse moved)) ∙ ap (λ l. l ++ reverse moved) (sym split) ∙ h
 
 -- all entries are moved
 pub moved_all : {X : Type 0} (moved whole all : List X) → whole ≡ [] → whole ++ reverse moved ≡ all → moved ≡ reverse all

@@ -1,16 +1,15 @@
 -- Bytes spell a list or have a fault.
-use Rattle.std.proofs.Common.{◌≡◌, ◌≢◌, ℕ, ◌+◌, ◌≤◌, ◌⊎◌, Bool, true, false, List, [], ◌∷◌, length, refl, sym, ap, ◌∙◌, inl, inr, arith, chars, IsUtf8}
+use Rattle.std.proofs.Common.{◌≡◌, ◌≢◌, ℕ, ◌+◌, ◌⊎◌, true, List, [], ◌∷◌, length, refl, inl, inr, chars}
 use Rattle.std.specs.Str.{is_utf8}
 use Rattle.std.specs.Char.{len_utf8}
 use Rattle.std.proofs.lemmas.Bool.{both_ways, cases_Bool, cases_lt}
 use Rattle.std.proofs.lemmas.Str.{IsUtf8-from_is_utf8, is_utf8-from_IsUtf8}
 use Rattle.lw_link.specs.declared.fault.LinkFault.{LinkFault}
-use Rattle.lw_link.specs.declared.fault.LinkFault.TheVariants.{NotText, Grammar, TooMany, NoMemory}
+use Rattle.lw_link.specs.declared.fault.LinkFault.TheVariants.{NotText, Grammar, TooMany}
 use Rattle.lw_link.specs.declared.style.Style.{Style}
 use Rattle.lw_link.specs.declared.style.Style.TheVariants.{Any}
 use Rattle.lw_link.specs.declared.state.State.{State}
 use Rattle.lw_link.specs.declared.state.State.TheVariants.{Start, Target, Closed, Comma, Semicolon, Name, Equals, Word, Quotation, Backslash, Stop}
-use Rattle.lw_link.specs.Link.{LinkContent}
 use Rattle.lw_link.specs.Spelling.{Spells}
 use Rattle.lw_link.specs.Faults.{IsFault, IsRead}
 use Rattle.lw_link.specs.Machine.{read_on, next_state, is_end, Leaves}

@@ -4,14 +4,14 @@ use Rattle.std.proofs.lemmas.List.{append-nil}
 use Rattle.std.proofs.lemmas.Bool.{eqb-true, ne_eqb, false≢true, cases_Bool, false_from_ne_true}
 use Rattle.lw_link.specs.declared.style.Style.TheVariants.{Any}
 use Rattle.lw_link.specs.declared.state.State.{State}
-use Rattle.lw_link.specs.declared.state.State.TheVariants.{Start, Target, Closed, Comma, Semicolon, Name, Equals, Word, Quotation}
+use Rattle.lw_link.specs.declared.state.State.TheVariants.{Start, Target, Closed, Comma, Semicolon, Name, Equals, Word}
 use Rattle.lw_link.specs.declared.link.Attr.{Attr}
 use Rattle.lw_link.specs.declared.link.AttrValue.{AttrValue}
-use Rattle.lw_link.specs.declared.link.AttrValue.TheVariants.{Absent, Plain, Quoted}
+use Rattle.lw_link.specs.declared.link.AttrValue.TheVariants.{Absent, Plain}
 use Rattle.lw_link.specs.Link.{LinkContent}
 use Rattle.lw_link.specs.Characters.{is_target_char, is_name_char, is_plain_char}
 use Rattle.lw_link.specs.Machine.{Rest, read_on, next_state, fresh, with_link, with_value}
-use Rattle.lw_link.specs.Taking.{IsLeft, IsPastAttrs, IsPastSpaces, with_text, ended_text, with_whole_attr, TakesText, TakesQuoted, TakesValue, TakesAttr, TakesAttrs, TakesLink}
+use Rattle.lw_link.specs.Taking.{IsLeft, IsPastAttrs, IsPastSpaces, with_text, ended_text, with_whole_attr, TakesText, TakesValue, TakesAttr, TakesAttrs, TakesLink}
 use Rattle.lw_link.proofs.Sound.{Are, whole_are}
 use Rattle.lw_link.proofs.Walk.{goes_on}
 
@@ -66,14 +66,6 @@ taken_value value old new h = record {
   links = ap (λ (r : Rest). r.links) h;
 }
 
-pub quoted_whole : (old mid rest : List ℕ) → old ≡ 61 ∷ mid → mid ≡ 34 ∷ rest → (read_on Any Name old).whole ≡ true → (read_on Any Quotation rest).whole ≡ true
-quoted_whole old mid rest e f h =
-    ap (λ (x : List ℕ). (read_on Any Name x).whole) (ap (λ (x : List ℕ). 61 ∷ x) (sym f) ∙ sym e) ∙ h
-
-pub value_quoted : (old mid rest new text : List ℕ) → old ≡ 61 ∷ mid → mid ≡ 34 ∷ rest → TakesQuoted text rest new → TakesValue (Quoted text) old new
-value_quoted old mid rest new text e f h =
-    taken_value (Quoted text) old new (ap (read_on Any Name) (e ∙ ap (λ (x : List ℕ). 61 ∷ x) f) ∙ ap (λ (r : Rest). with_value (Quoted r.text) r) h)
-
 plain_read : (mid : List ℕ) → (read_on Any Equals mid).whole ≡ true → ((rest : List ℕ) → mid ≡ 34 ∷ rest → ⊥) → read_on Any Equals mid ≡ with_value (Plain (read_on Any Word mid).text) (read_on Any Word mid)
 plain_read [] h other = absurd (false≢true h)
 plain_read (c ∷ cs) h other =
@@ -125,12 +117,6 @@ pub record IsTakingAttrs (first attrs_left : List ℕ) (attrs : List Attr) : Typ
   pub attrs_are : (read_on Any Closed first).attrs ≡ attrs ++ (read_on Any Closed attrs_left).attrs
   pub links : (read_on Any Closed first).links ≡ (read_on Any Closed attrs_left).links
   pub whole : (read_on Any Closed attrs_left).whole ≡ true
-
-pub attrs_start : (first : List ℕ) → (read_on Any Closed first).whole ≡ true → IsTakingAttrs first first []
-attrs_start first h = record { attrs_are = refl; links = refl; whole = h }
-
-pub attr_waits : (first old mid : List ℕ) (attrs : List Attr) → old ≡ 59 ∷ mid → IsTakingAttrs first old attrs → (read_on Any Semicolon mid).whole ≡ true
-attr_waits first old mid attrs e h = ap (λ (x : List ℕ). (read_on Any Closed x).whole) (sym e) ∙ h.whole
 
 pub attrs_more : (first old mid new : List ℕ) (attrs : List Attr) (attr : Attr) → old ≡ 59 ∷ mid → TakesAttr attr mid new → IsTakingAttrs first old attrs → IsTakingAttrs first new (attrs ++ attr ∷ [])
 attrs_more first old mid new attrs attr e t h =
@@ -291,7 +277,3 @@ links_more first old mid new links link c e t h =
       whole = t.whole;
       past = t.past;
     }
-
-pub links_end : (first old : List ℕ) (links : List LinkContent) → old ≡ [] → IsTakingLinks first old links → links ≡ (read_on Any Start first).links
-links_end first old links e h =
-    sym (h.links_are ∙ ap (λ (x : List ℕ). links ++ (read_on Any Closed x).links) e ∙ append-nil links)

@@ -96,13 +96,6 @@ scanned_more k text s links place old new c e live h =
       few = omega (arith, h.few, len_utf8_bounds c, opened_le s c);
     }
 
--- there is room for a character more
-pub scanned_room : (k : Style) (text : List ℕ) (s : State) (links place : ℕ) (old new : List ℕ) (c : ℕ) → old ≡ c ∷ new → IsScanned k text s links place old
-    → (links + 1 ≤ length text) × (place + len_utf8 c ≤ length text)
-scanned_room k text s links place old new c e h =
-    let sum : place + (len_utf8 c + length (encode_utf8_all new)) ≡ length text = omega (arith, h.room, ap (λ (x : List ℕ). length (encode_utf8_all x)) e, length_cons c new) in
-    (omega (arith, h.few, (len_utf8_bounds c).0, sum), omega (arith, sum))
-
 pub scanned_stop : (k : Style) (text : List ℕ) (s : State) (links place : ℕ) (old new : List ℕ) (c : ℕ) → old ≡ c ∷ new → next_state k s c ≡ Stop → IsScanned k text s links place old → Leaves k (chars text) place
 scanned_stop k text s links place old new c e stop h = record {
   front = h.front;

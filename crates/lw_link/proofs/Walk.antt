@@ -1,12 +1,12 @@
 -- What a part of a list takes of the characters that are left.
-use Rattle.std.proofs.Common.{◌≡◌, ◌≢◌, ℕ, true, false, ◌==◌, cond, List, [], ◌∷◌, ◌++◌, refl, ap, subst, sym, ◌∙◌, append_assoc, encode_utf8, inl, inr}
+use Rattle.std.proofs.Common.{◌≡◌, ◌≢◌, ℕ, true, false, ◌==◌, cond, List, [], ◌∷◌, ◌++◌, refl, ap, sym, ◌∙◌, append_assoc, encode_utf8, inl, inr}
 use Rattle.std.proofs.lemmas.Bool.{ne_eqb, false≢true, cases_Bool}
 use Rattle.lw_link.specs.declared.style.Style.TheVariants.{Any}
 use Rattle.lw_link.specs.declared.state.State.{State}
 use Rattle.lw_link.specs.declared.state.State.TheVariants.{Start, Target, Closed, Comma, Semicolon, Name, Equals, Word, Quotation, Backslash, Stop}
 use Rattle.lw_link.specs.Characters.{is_target_char, is_name_char, is_plain_char, is_quoted_char, is_escaped_char}
 use Rattle.lw_link.specs.Machine.{Rest, read_on, next_state, separated, fresh, more_text}
-use Rattle.lw_link.specs.Taking.{HoldsText, IsLeft, with_text}
+use Rattle.lw_link.specs.Taking.{HoldsText, with_text}
 use Rattle.lw_link.proofs.Sound.{same_end}
 
 -- nothing holds a list behind a stop
@@ -73,12 +73,6 @@ pub text_more : (s : State) (first old new text next : List ℕ) (c : ℕ) → H
     → read_on Any s first ≡ with_text text (read_on Any s old) → read_on Any s first ≡ with_text next (read_on Any s new)
 text_more s first old new text next c holds e same n h =
     h ∙ ap (λ (x : List ℕ). with_text text (read_on Any s x)) e ∙ ap (with_text text) (stays s c new holds same) ∙ grown text c (read_on Any s new) ∙ ap (λ (x : List ℕ). with_text x (read_on Any s new)) (sym n)
-
-pub left_at_end : (s : State) (old : List ℕ) → old ≡ [] → IsLeft s old
-left_at_end s old e = subst (IsLeft s) (sym e) tt
-
-pub left_at : (s : State) (old new : List ℕ) (c : ℕ) → old ≡ c ∷ new → next_state Any s c ≢ s → IsLeft s old
-left_at s old new c e h = subst (IsLeft s) (sym e) h
 
 -- ---- between quotes
 

@@ -1,4 +1,3 @@
-pub mod OptionValues
 pub mod Recognised
 pub mod Paths
 pub mod ObjectLemmas

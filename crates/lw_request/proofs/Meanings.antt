@@ -22,8 +22,8 @@ use Rattle.lw_request.specs.Objects.{IsObjectList, IsTooLarge, SpellsNone, IsUnr
 use Rattle.lw_request.specs.Steps.{IsPost, IsRegister, IsUpdate, IsDeregister, IsLookedAt, queries_of, Cause, post_steps, path_steps, steps}
 use Rattle.lw_request.specs.Steps.Step.{WrongFormat, BadQuery, OtherVersion, TooManyLinks, NoLinks}
 use Rattle.lw_request.specs.declared.role.Role.{Role}
-use Rattle.lw_request.specs.declared.role.Role.TheVariants.{Request, Response}
-use Rattle.lw_request.specs.Meaning.{Names, AreObjects, MeansBy, ResponseMeans, role_of, RoleMeans, Means, Owns, Understands, UnreadAsks}
+use Rattle.lw_request.specs.declared.role.Role.TheVariants.{Request}
+use Rattle.lw_request.specs.Meaning.{Names, AreObjects, MeansBy, role_of, RoleMeans, Means, Owns, Understands, UnreadAsks}
 use Rattle.lw_request.proofs.ObjectLemmas.{list_fits, none_fits, nothing_fits, nothing_spelled}
 use Rattle.lw_request.proofs.Paths.{not_both, entry_known, delete_allowed, delete_is_no_post}
 use Rattle.lw_request.proofs.QueryLemmas.{bad_more, good_register, good_update, given_or}
@@ -41,10 +41,6 @@ understands_made P (Err e) made Why h is err owned = (made, h, owned err)
 pub any_error : (r : Result Asked NoMemory) → OnErr r (Unit {0})
 any_error (Ok asked) = tt
 any_error (Err e) = tt
-
-pub if_understood : (P : Asked → Type 0) (r : Result Asked NoMemory) → Understands P r → IfOk r P
-if_understood P (Ok asked) h = h
-if_understood P (Err e) h = tt
 
 pub if_not_understood : (P : Asked → Type 0) (r : Result Asked NoMemory) → Understands P r → OnErr r ((asked : Asked) × P asked × Owns asked)
 if_not_understood P (Ok asked) h = tt
@@ -291,6 +287,3 @@ deregister_asks m segment id form names =
 
 pub request_means : (m : MessageContent) (role : Role) (asked : Asked) → role ≡ role_of m.kind m.code → role ≡ Request → MeansBy steps m asked → Means m asked
 request_means m role asked is e h = subst (λ (r : Role). RoleMeans r m asked) (sym e ∙ is) h
-
-pub response_means : (m : MessageContent) (role : Role) (asked : Asked) → role ≡ role_of m.kind m.code → role ≡ Response → ResponseMeans m asked → Means m asked
-response_means m role asked is e h = subst (λ (r : Role). RoleMeans r m asked) (sym e ∙ is) h

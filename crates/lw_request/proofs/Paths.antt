@@ -1,15 +1,22 @@
 -- The segments of a path, and where a request goes.
-use Rattle.std.proofs.Common.{◌≡◌, ℕ, List, [], ◌∷◌, length, codes, Option, Some, None, refl, sym, ap, ◌∙◌, inl, inr, arith, Bool, true, false, not, ◌↔◌}
-use Rattle.std.specs.Prelude.{slice_get, nat_lt, nat_eq, is_some, option_copied, IsTrue}
+use Rattle.std.proofs.Common.{◌≡◌, ℕ, List, [], ◌∷◌, length, codes, Option, Some, None, refl, sym, ap, ◌∙◌, inl, inr, arith, Bool, true, false, not, bytes_eq, ◌↔◌}
+use Rattle.std.specs.Prelude.{slice_get, nat_eq, is_some, option_copied, IsTrue}
 use Rattle.std.specs.Borrow.{Bor}
 use Rattle.std.specs.Cmp.Lexicographic.{pointwise}
 use Rattle.std.proofs.lemmas.Slice.Eq.{bytes_eq-Decides}
-use Rattle.std.proofs.lemmas.Bool.{lt-ltb, both_ways, true_from_ne_false}
+use Rattle.std.proofs.lemmas.Bool.{both_ways, true_from_ne_false, false≢true}
 use Rattle.lw_coap.specs.Message.{OptionContent, MessageContent}
 use Rattle.lw_request.specs.Options.{values_of}
-use Rattle.lw_request.proofs.OptionValues.{same_bytes}
 use Rattle.lw_request.specs.Steps.{IsDirectory, IsEntry, IsPost, IsDelete, Cause}
 use Rattle.lw_request.specs.Steps.Step.{UnknownPath, WrongMethod}
+
+true_from_not : (b : Bool) → not b ≡ false → b ≡ true
+true_from_not true e = refl
+true_from_not false e = absurd (false≢true (sym e))
+
+-- `!=` answered that the bytes are the same
+same_bytes : (xs ys : List ℕ) (differ : Bool) → differ ≡ not (bytes_eq xs ys) → differ ≡ false → xs ≡ ys
+same_bytes xs ys differ is e = (bytes_eq-Decides xs ys).0 (true_from_not _ (sym is ∙ e))
 
 none_some : {V : Type 0} (v : V) → (◌≡◌ {A = Option V} None (Some v)) → ⊥
 none_some v e = cc
@@ -28,12 +35,6 @@ two_segments [] first second h k l = absurd (none_some first h)
 two_segments (a ∷ []) first second h k l = absurd (none_some second k)
 two_segments (a ∷ b ∷ []) first second h k l = λ i. some_is a first h i ∷ some_is b second k i ∷ []
 two_segments (a ∷ b ∷ d ∷ segments) first second h k l = absurd (none_some d (sym l))
-
--- a list with a second element is longer than one
-pub has_second : (values : List (List ℕ)) → is_some (slice_get values 1) ≡ nat_lt 1 (length values)
-has_second [] = refl
-has_second (a ∷ []) = refl
-has_second (a ∷ b ∷ values) = sym (lt-ltb 1 (length (a ∷ b ∷ values)) (omega arith))
 
 pub not_both : (m : MessageContent) (segment : List ℕ) → IsDirectory m → IsEntry m segment → ⊥
 not_both m segment d e =

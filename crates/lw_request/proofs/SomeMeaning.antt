@@ -1,5 +1,5 @@
 -- Each message has a meaning.
-use Rattle.std.proofs.Common.{◌≡◌, ◌≢◌, ℕ, ◌-◌, ◌≤◌, ◌^◌, ◌⊎◌, Bool, true, false, List, [], ◌∷◌, ◌++◌, length, replicate, codes, Option, Some, None, Result, Ok, Err, refl, sym, ap, subst, ◌∙◌, inl, inr, arith, chars, IsUtf8, bytes_eq}
+use Rattle.std.proofs.Common.{◌≡◌, ◌≢◌, ℕ, ◌-◌, ◌≤◌, ◌^◌, ◌⊎◌, Bool, false, List, [], ◌∷◌, ◌++◌, length, replicate, codes, Option, Some, None, Result, Ok, Err, refl, sym, ap, subst, ◌∙◌, inl, inr, arith, IsUtf8, bytes_eq}
 use Rattle.std.specs.Prelude.{unwrap_or, is_some}
 use Rattle.std.specs.Char.{is_ascii_uppercase}
 use Rattle.std.specs.List.{AllByRecursion, list_all}
@@ -15,13 +15,11 @@ use Rattle.lw_stamp.specs.Stamp.{id_of, stamp_bytes}
 use Rattle.lw_stamp.specs.StampBytes.{counter_in, node_in}
 use Rattle.lw_stamp.proofs.StampLemmas.{id_decodes, same_stamp, spelled_counter, spelled_node}
 use Rattle.lw_coap.specs.Message.{MessageContent}
-use Rattle.lw_link.specs.Link.{LinkContent}
 use Rattle.lw_link.specs.declared.fault.LinkFault.{LinkFault}
 use Rattle.lw_link.specs.declared.fault.LinkFault.TheVariants.{NotText, Grammar, TooMany, NoMemory}
 use Rattle.lw_link.specs.Faults.{IsFault}
 use Rattle.lw_link.specs.Printing.{printing}
 use Rattle.lw_link.proofs.Decided.{read_or_fault}
-use Rattle.lw_link.specs.Spelling.{Spells}
 use Rattle.lw_reg.specs.declared.binding.Binding.{Binding}
 use Rattle.lw_reg.specs.declared.version.Version.{Version}
 use Rattle.lw_reg.specs.declared.version.Version.TheVariants.{V10, V11}

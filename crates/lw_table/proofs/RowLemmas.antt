@@ -159,11 +159,6 @@ pub own_first : (m : Rows) (e : List ℕ) (first : First) → Some first ≡ tre
 own_first m e first is named =
     sym (ap (λ b. cond b (Some first.row) (get_by_text m.others e)) ((bytes_decides (name_of first) e).1 named)) ∙ ap (λ (o : Option First). first_or e o (get_by_text m.others e)) is
 
--- the others have the row, where the first with its end is another's
-pub not_first : (m : Rows) (e : List ℕ) (first : First) → Some first ≡ tree.get nat_cmp m.firsts (end_of e) → bytes_eq (name_of first) e ≡ false → get_by_text m.others e ≡ row_at m e
-not_first m e first is apart =
-    sym (ap (λ b. cond b (Some first.row) (get_by_text m.others e)) apart) ∙ ap (λ (o : Option First). first_or e o (get_by_text m.others e)) is
-
 -- where there is one with its end, and no row has the endpoint
 pub taken_of : (m : Rows) (e : List ℕ) → is_some (tree.get nat_cmp m.firsts (end_of e)) ≡ true → row_at m e ≡ None → IsTaken m e
 taken_of m e there absent = go (tree.get nat_cmp m.firsts (end_of e)) there absent
@@ -295,12 +290,6 @@ same_maps m n rows firsts others firsts_rise others_rise = record {
     came_first = λ e h. others e ∙ rows.came_first e (sym (firsts (end_of e)) ∙ h);
   };
 }
-
-pub same_firsts : (m n : BTreeMap ℕ First) → n.entries ≡ m.entries → (k : ℕ) → tree.get nat_cmp n k ≡ tree.get nat_cmp m k
-same_firsts m n same k = ap (λ (es : List (ℕ × First)). lookup (is_at (nat_cmp k)) es) same
-
-pub same_others : {Z : Type 0} (m n : BTreeMap (String Z) Row) → n.entries ≡ m.entries → (e : List ℕ) → get_by_text n e ≡ get_by_text m e
-same_others {Z} m n same e = ap (λ (es : List (String Z × Row)). lookup (has_bytes e) es) same
 
 -- a first that is written as it was
 pub written_again : (m n : BTreeMap ℕ First) (k0 : ℕ) (w : First) → ((k : ℕ) → tree.get nat_cmp n k ≡ cond (is_at (nat_cmp k0) k) (Some w) (tree.get nat_cmp m k)) → Some w ≡ tree.get nat_cmp m k0 → (k : ℕ) → tree.get nat_cmp n k ≡ tree.get nat_cmp m k

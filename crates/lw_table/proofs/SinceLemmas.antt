@@ -1,5 +1,5 @@
 -- What is gathered of numbers and of endpoints.
-use Rattle.std.proofs.Common.{◌≡◌, ◌⊎◌, inl, inr, ℕ, ◌<◌, Bool, true, false, cond, List, [], ◌∷◌, ◌++◌, Option, Some, None, refl, sym, ap, subst, ◌∙◌}
+use Rattle.std.proofs.Common.{◌≡◌, ◌⊎◌, inl, inr, ℕ, ◌<◌, Bool, true, false, cond, List, [], ◌∷◌, Option, Some, None, refl, sym, ap, subst, ◌∙◌}
 use Rattle.std.specs.Prelude.{◌↔◌, Contains, IsSome, filter, unwrap_or, Result, Ok, Err, IfOk}
 use Rattle.std.proofs.Common.{arith}
 use Rattle.std.proofs.lemmas.Bool.Decides.{nat_tests}
@@ -38,16 +38,6 @@ module _ {B : Type 0} (All : B → List ℕ → Type 0) (all : B) where
       back : All all e → Contains more e ⊎ AnyHas rest e
       back a = elim ((h e).1 a) [ inl old ↦ inl ((added e).1 (inl old)) | inr c ↦ elim c [ inl d ↦ inl ((added e).1 (inr d)) | inr r ↦ inr r ] ]
 
-pub begin_gather : {A : Type 0} (All : A → List ℕ → Type 0) (all : A) → Gathers All [] all All all
-begin_gather All all e = (elim [ inl c ↦ none_there e c | inr a ↦ a ], λ a. inr a)
-
-pub entries_gathered : {B : Type 0} (All : B → List ℕ → Type 0) (all : B) (names : List (List ℕ)) → Gathers AnyHas names [] All all → (e : List ℕ) → Contains names e ↔ All all e
-entries_gathered All all names h e = (λ c. (h e).0 (inl c), λ a. elim ((h e).1 a) [ inl c ↦ c | inr c ↦ absurd c ])
-
--- the endpoints of one number, one by one
-pub none_added : (names : List (List ℕ)) (e : List ℕ) → Contains names e ↔ (Contains names e ⊎ Contains [] e)
-none_added names e = (inl, elim [ inl c ↦ c | inr c ↦ none_there e c ])
-
 pub rest_added : (names mid more : List (List ℕ)) (x : List ℕ) (rest : List (List ℕ)) → ((e : List ℕ) → Contains mid e ↔ (Contains names e ⊎ (e ≡ x)))
     → ((e : List ℕ) → Contains more e ↔ (Contains mid e ⊎ Contains rest e)) → (e : List ℕ) → Contains more e ↔ (Contains names e ⊎ Contains (x ∷ rest) e)
 rest_added names mid more x rest one others e = (there, back)
@@ -71,9 +61,6 @@ rest_added names mid more x rest one others e = (there, back)
 pub unfiltered : (es : List (List ℕ)) → filter (is_after None) es ≡ es
 unfiltered [] = refl
 unfiltered (e ∷ es) = ap (λ rest. e ∷ rest) (unfiltered es)
-
-pub slots_found : (state : State) (done : List (List ℕ × Slot)) (e : List ℕ) (rest : List (List ℕ)) (o : Option Slot) → get state e ≡ o → done ++ slots_at state (e ∷ rest) ≡ done ++ slot_or e o (slots_at state rest)
-slots_found state done e rest o h = ap (λ (s : Option Slot). done ++ slot_or e s (slots_at state rest)) h
 
 module _ (state : State) where
   slots_member : (es : List (List ℕ)) (e : List ℕ) (slot : Slot) → Contains (slots_at state es) (e, slot) → Contains es e × (get state e ≡ Some slot)

@@ -42,10 +42,6 @@ use Rattle.lw_table.specs.declared.key.Key.{Key}
 use Rattle.lw_table.specs.declared.key.Key.TheVariants.{Id, Address, Token}
 use Rattle.lw_table.proofs.KeyLemmas.{address_same, some_write, stamp_same, then_token, tokens_cons, then_first, then_more, then_cases, tokens_same}
 
-by_bool : {G : Type 0} (b : Bool) → (b ≡ true → G) → (b ≡ false → G) → G
-by_bool true f g = f refl
-by_bool false f g = g refl
-
 -- ---- tokens by path
 pub token_there : (ws : List (Path × Watching)) (p : Path) (t : Stamp) → token_was (entry_of path_cmp ws p) ≡ Some t → Contains (tokens_in ws) t
 token_there [] p t h = absurd cc

@@ -1,10 +1,11 @@
 use Rattle.std.proofs.Common.{◌≡◌, ℕ, List, [], ap, sym, subst}
 use Rattle.lw_reg.specs.declared.slot.Slot.{Slot}
+use Rattle.lw_delta.specs.declared.fault.DeltaFault.TheVariants.{NoMemory}
 use Rattle.lw_delta.specs.Delta.{DeltaContent, IsSpelling}
 use Rattle.lw_delta.specs.Part.{Found}
 use Rattle.lw_delta.specs.Format.{slots}
 use Rattle.lw_delta.specs.Unread.{Unread, IsLeft}
-use Rattle.lw_delta.proofs.Answering.{apart, one_delta, walked_spelled, fault_answered, no_fault_answered}
+use Rattle.lw_delta.proofs.Answering.{apart, one_delta, walked_spelled, fault_answered, no_fault_answered, no_want}
 use Rattle.std.proofs.lemmas.Result.{err_from_is_err_and}
 use Rattle.lw_delta.proofs.reader.Reader.new.Goals as goal
 
@@ -36,3 +37,9 @@ pub returns-clause-faults : goal.returns-clause-faults
 returns-clause-faults c =
     let w = c.in_ok-walked.ensures.found in
     no_fault_answered c.args.bytes.now _ (record { clock = c.in_ok-walked.walked.clock; slots = w.ss }) (walked_spelled c.args.bytes.now c.in_ok-walked.walked w)
+
+pub returns-in_err-walked-clause-memory : goal.returns-in_err-walked-clause-memory
+returns-in_err-walked-clause-memory c = λ want. no_want c.args.bytes.now ((returns-in_err-walked-clause-faults c NoMemory).0 want)
+
+pub returns-clause-memory : goal.returns-clause-memory
+returns-clause-memory c = λ want. no_want c.args.bytes.now ((returns-clause-faults c NoMemory).0 want)
