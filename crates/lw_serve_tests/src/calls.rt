@@ -1,8 +1,8 @@
 //! Datagrams, the calls that take and ask for them, and what is given as a text.
 
-use lw_node::{Addr, Answer, Bytes, Call, Question, Reply, Text};
+use lw_node::{Addr, Answer, Bytes, Call, Question, Reply, Seen, Sent, Text};
 use lw_stamp::Moment;
-use std::alloc::Global;
+use std::alloc::{AllocError, Global};
 use std::test::Fail;
 
 /// A Register of `a` with the object list `</>`, message ID 4.
@@ -36,38 +36,49 @@ pub(super) fn ask(alloc: Global, endpoint: &str) -> Result<Call, Fail> {
     })
 }
 
-pub(super) fn reply_text(alloc: Global, reply: &Reply) -> Result<String, Fail> {
+pub(super) fn reply_text(alloc: Global, reply: &Reply) -> Result<String, AllocError> {
     match reply {
         Reply::Take(Ok(taken)) => match &taken.reply {
-            Some(reply) => Ok(hex::encode(alloc, reply)?),
-            None => Ok(String::from_str(alloc, "-")?),
+            Some(reply) => hex::encode(alloc, reply),
+            None => String::from_str(alloc, "-"),
         },
         Reply::Observe(Ok(outgoing)) | Reply::Cancel(Ok(outgoing)) => {
-            Ok(hex::encode(alloc, &outgoing.bytes)?)
+            hex::encode(alloc, &outgoing.bytes)
         }
-        Reply::Send(Ok(sent)) => {
-            let delta = hex::encode(alloc, &sent.delta)?;
-            let change = sent.change;
-            Ok(format!(in alloc; "{delta} {change}")?)
-        }
-        Reply::Merge(Ok(count)) => Ok(format!(in alloc; "joined {count}")?),
-        Reply::Ask(Ok(answer)) => answer_text(alloc, answer),
-        Reply::Cancel(Err(fault)) => Ok(format!(in alloc; "Cancel(Err({fault:?}))")?),
-        Reply::Merge(Err(fault)) => Ok(format!(in alloc; "Merge(Err({fault:?}))")?),
-        _ => Ok(String::from_str(alloc, "refused")?),
+        Reply::Send(Ok(sent)) => sent_text(alloc, sent),
+        Reply::Merge(Ok(count)) => format!(in alloc; "joined {count}"),
+        Reply::Ask(Ok(Answer::Registration(Some(seen)))) => seen_text(alloc, seen),
+        Reply::Ask(Ok(_)) => String::from_str(alloc, "-"),
+        Reply::Cancel(Err(fault)) => format!(in alloc; "Cancel(Err({fault:?}))"),
+        Reply::Merge(Err(fault)) => format!(in alloc; "Merge(Err({fault:?}))"),
+        _ => String::from_str(alloc, "refused"),
     }
 }
 
-/// What is shown, its endpoint first and its objects last; `-` where nothing is.
-fn answer_text(alloc: Global, answer: &Answer) -> Result<String, Fail> {
-    let Answer::Registration(Some(seen)) = answer else {
-        return Ok(String::from_str(alloc, "-")?);
+fn sent_text(alloc: Global, sent: &Sent) -> Result<String, AllocError> {
+    let delta = hex::encode(alloc, &sent.delta)?;
+    let change = sent.change;
+    let text = format!(in alloc; "{delta} {change}");
+    drop(delta);
+    text
+}
+
+/// What is shown, its endpoint first and its objects last.
+fn seen_text(alloc: Global, seen: &Seen) -> Result<String, AllocError> {
+    let Ok(address) = seen.address.print(alloc) else {
+        return Err(AllocError);
     };
-    let id = hex::encode(alloc, seen.id.to_bytes())?;
-    let address = seen.address.print(alloc)?;
+    let text = shown_at(alloc, seen, &address);
+    drop(address);
+    text
+}
+
+fn shown_at(alloc: Global, seen: &Seen, address: &str) -> Result<String, AllocError> {
+    let id = u64::from_be_bytes(seen.id.to_bytes());
     let (endpoint, moment) = (seen.endpoint.as_str(), seen.seen.ms());
-    let text = format!(in alloc; "{endpoint} {id} {address} {moment}")?;
     let (lifetime, binding) = (seen.lifetime, seen.binding.as_str());
     let (queue, objects) = (seen.queue, seen.objects.as_str());
-    Ok(format!(in alloc; "{text} {lifetime} {binding} {queue} {objects}")?)
+    format!(in alloc;
+        "{endpoint} {id:016x} {address} {moment} {lifetime} {binding} {queue} {objects}"
+    )
 }

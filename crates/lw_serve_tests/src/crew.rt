@@ -5,10 +5,10 @@ mod stopping;
 ghost use Rattle.std.specs.Prelude.{◌≤◌};
 
 use crate::calls::{REGISTER, ask, reply_text, take};
-use crate::hold::{holds, same};
+use crate::hold::{holds, is_text, same};
 use lw_crew::{CrewFault, Done, Gate, Job, NoGate, Outcome, Pass, Shelf, gather, serve_jobs};
-use lw_held::{Settled, Unsettled, set_up, settle};
-use std::alloc::Global;
+use lw_held::{Part, Settled, Unsettled, set_up, settle};
+use std::alloc::{AllocError, Global};
 use std::sync::Wait;
 use std::test::Fail;
 use std::thread::Threads;
@@ -40,8 +40,22 @@ fn played<R: Threads + Wait + Sync, G: Gate>(
     requires { (1 ≤ nodes) × (nodes ≤ 16) × (1 ≤ workers) × (workers ≤ 8) }
 {
     let jobs = registers(alloc, at)?;
+    done_by(rt, alloc, nodes, workers, &jobs, gate)
+}
+
+/// Has new nodes do the jobs.
+fn done_by<R: Threads + Wait + Sync, G: Gate>(
+    rt: &R,
+    alloc: Global,
+    nodes: u16,
+    workers: u32,
+    jobs: &[Job],
+    gate: &G,
+) -> Result<String, Fail>
+    requires { (1 ≤ nodes) × (nodes ≤ 16) × (1 ≤ workers) × (workers ≤ 8) }
+{
     let (shelves, passes) = set_up(alloc, nodes, workers)?;
-    let (passes, result) = serve_jobs(rt, alloc, &shelves, passes, &jobs, gate);
+    let (passes, result) = serve_jobs(rt, alloc, &shelves, passes, jobs, gate);
     let settled = settle(rt, &shelves, &passes);
     told(alloc, &passes, &result, settled)
 }
@@ -68,40 +82,58 @@ fn told(
     done: &Result<Vec<Done>, CrewFault>,
     settled: Result<Settled, Unsettled>,
 ) -> Result<String, Fail> {
-    let text = match done {
-        Ok(dones) => texts_of(alloc, passes, dones)?,
-        Err(fault) => format!(in alloc; "{fault:?}\n")?,
-    };
-    let (count, parts) = (passes.len(), parts_of(passes));
-    Ok(format!(in alloc; "{text}{count} passes, {parts} parts, {settled:?}")?)
-}
-
-/// A line for each job.
-fn texts_of(alloc: Global, passes: &[Pass], dones: &[Done]) -> Result<String, Fail> {
     let mut text = String::new(alloc);
-    for done in dones {
-        text.push_str(&text_of(alloc, passes, done)?)?;
-        text.push('\n')?;
+    match done {
+        Ok(dones) => add_dones(alloc, &mut text, passes, dones)?,
+        Err(fault) => writeln!(text, "{fault:?}")?,
     }
+    let (count, parts) = (passes.len(), parts_of(passes));
+    write!(text, "{count} passes, {parts} parts, {settled:?}")?;
     Ok(text)
 }
 
-/// What became of the job: the node, the place and the reply of its part, or why there is none.
-fn text_of(alloc: Global, passes: &[Pass], done: &Done) -> Result<String, Fail> {
+/// Adds a line for each job.
+fn add_dones(
+    alloc: Global,
+    text: &mut String,
+    passes: &[Pass],
+    dones: &[Done],
+) -> Result<(), Fail> {
+    for done in dones {
+        add_done(alloc, text, passes, done)?;
+    }
+    Ok(())
+}
+
+/// Adds what became of the job: the node, the place and the reply of its part, or why there is none.
+fn add_done(alloc: Global, text: &mut String, passes: &[Pass], done: &Done) -> Result<(), Fail> {
     let (job, result) = (done.job, done.result);
     let Outcome::At { pass, number } = result else {
-        return Ok(format!(in alloc; "{job}: {result:?}")?);
+        return Ok(writeln!(text, "{job}: {result:?}")?);
     };
-    let made = passes.get(pass as usize).ok_or("a pass")?;
-    let part = made.part(number).ok_or("a part")?;
-    let (node, place) = (part.node, part.place);
+    match part_of(passes, pass as usize, number) {
+        Some(part) => Ok(add_part(alloc, text, job, part)?),
+        None => Err(Fail::new("a part")),
+    }
+}
+
+fn part_of(passes: &[Pass], pass: usize, number: u64) -> Option<&Part> {
+    passes.get(pass)?.part(number)
+}
+
+fn add_part(alloc: Global, text: &mut String, job: u64, part: &Part) -> Result<(), AllocError> {
     let reply = reply_text(alloc, &part.entry.reply)?;
-    Ok(format!(in alloc; "{job}: {node} {place} {reply}")?)
+    let (node, place) = (part.node, part.place);
+    let added = writeln!(text, "{job}: {node} {place} {reply}");
+    drop(reply);
+    added
 }
 
 /// How many parts the passes have together.
 fn parts_of(passes: &[Pass]) -> u64 {
-    passes
-        .iter()
-        .fold(0, |sum: u64, pass| sum.wrapping_add(pass.len()))
+    let mut sum = 0_u64;
+    for pass in passes {
+        sum = sum.wrapping_add(pass.len());
+    }
+    sum
 }

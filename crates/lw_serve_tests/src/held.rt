@@ -5,11 +5,11 @@ mod settling;
 mod steps;
 
 use crate::calls::{REGISTER, ask, bytes, reply_text, take};
-use crate::hold::{holds, same};
+use crate::hold::{holds, is_text};
 use lw_held::{Entry, Held, NoGate, Part, Pass, Settled, Shelf, Unsettled, set_up, settle};
 use lw_node::{Call, Path};
 use lw_stamp::{Moment, NoMemory, Stamp};
-use std::alloc::Global;
+use std::alloc::{AllocError, Global};
 use std::sync::Wait;
 use std::test::Fail;
 use steps::What::*;

@@ -1,5 +1,6 @@
 //! How a test tells what does not hold.
 
+use std::alloc::AllocError;
 use std::test::Fail;
 
 /// Fails with the text where it is not so.
@@ -16,4 +17,9 @@ pub(crate) fn same(text: &str, want: &str) -> Result<(), Fail> {
         return Ok(());
     }
     Err(Fail::new(format_args!("{text} in place of {want}")))
+}
+
+/// Fails where there is no text, or another than it is to be.
+pub(crate) fn is_text(text: Result<String, AllocError>, want: &str) -> Result<(), Fail> {
+    same(text?.as_str(), want)
 }

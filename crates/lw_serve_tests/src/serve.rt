@@ -3,7 +3,7 @@ mod udp;
 mod wire;
 
 use crate::calls::{CREATED, REGISTER};
-use crate::hold::{holds, same};
+use crate::hold::{holds, is_text, same};
 use lw_reg::Addr;
 use lw_serve::{HostClock, Plan, ServeFault, SystemClock, UdpWire, Wire, WireFault, serve_on};
 use lw_stamp::Moment;

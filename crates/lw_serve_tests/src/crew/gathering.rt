@@ -54,7 +54,7 @@ fn many_results_are_put_in_order(rt: HostRuntime) -> Result<(), Fail> {
 }
 
 /// How many jobs there are, those that results came of, and the fault with its number.
-const FAULTS: [(u64, &[u64], &str); 6] = [
+static FAULTS: [(u64, &[u64], &str); 6] = [
     (2, &[0, 0], "2 Double { job: 0 }"),
     (2, &[0, 5], "3 Stranger { job: 5 }"),
     (2, &[0], "1 Missing { job: 1 }"),
@@ -73,13 +73,13 @@ fn have_fault(alloc: Global, count: u64, jobs: &[u64], want: &str) -> Result<(),
 
 fn is_fault(alloc: Global, fault: CrewFault, want: &str) -> Result<(), Fail> {
     let number = fault.number();
-    same(format!(in alloc; "{number} {fault:?}")?.as_str(), want)
+    is_text(format!(in alloc; "{number} {fault:?}"), want)
 }
 
 #[test]
 fn faults_have_numbers(rt: HostRuntime) -> Result<(), Fail> {
-    for (count, jobs, want) in FAULTS {
-        have_fault(rt.alloc(), count, jobs, want)?;
+    for (count, jobs, want) in &FAULTS {
+        have_fault(rt.alloc(), *count, jobs, want)?;
     }
     is_fault(rt.alloc(), CrewFault::NoMemory, "4 NoMemory")
 }

@@ -67,7 +67,7 @@ impl<'a, C: Clock + Sync> Meeting<'a, C> {
 #[test]
 fn two_nodes_are_called_at_once(rt: HostRuntime) -> Result<(), Fail> {
     let gate = Meeting::new(&rt);
-    is_played(
+    let played = is_played(
         &rt,
         rt.alloc(),
         2,
@@ -77,8 +77,11 @@ fn two_nodes_are_called_at_once(rt: HostRuntime) -> Result<(), Fail> {
         "0: 1 0 604100048272640d0330303030303030303030303130303031\n\
          1: 2 0 604100048272640d0330303030303030303030303130303032\n\
          2 passes, 2 parts, Ok(Settled)",
-    )?;
-    holds("both at once", gate.counts() == (0, 1, 1))
+    );
+    let counts = gate.counts();
+    drop(gate);
+    played?;
+    holds("both at once", counts == (0, 1, 1))
 }
 
 /// A node takes the Register, and is asked with the pass that made the call. The transcripts do not settle without that
@@ -86,30 +89,53 @@ fn two_nodes_are_called_at_once(rt: HostRuntime) -> Result<(), Fail> {
 #[test]
 fn a_pass_reads_back_what_it_wrote(rt: HostRuntime) -> Result<(), Fail> {
     let jobs = registers(rt.alloc(), &[1])?;
-    let (shelves, passes) = set_up(rt.alloc(), 2, 1)?;
-    let (mut passes, result) = serve_jobs(&rt, rt.alloc(), &shelves, passes, &jobs, &NoGate);
-    let without = settle(&rt, &shelves, &[]);
-    holds("a call of a pass", result.is_ok() && without.is_err())?;
+    read_back(&rt, rt.alloc(), &jobs)
+}
+
+fn read_back<R: Threads + Wait + Sync>(rt: &R, alloc: Global, jobs: &[Job]) -> Result<(), Fail> {
+    let (shelves, passes) = set_up(alloc, 2, 1)?;
+    let (mut passes, result) = serve_jobs(rt, alloc, &shelves, passes, jobs, &NoGate);
+    let without = settle(rt, &shelves, &[]);
+    let is_called = result.is_ok() && without.is_err();
+    shows_first(rt, alloc, &shelves, &mut passes, is_called)
+}
+
+/// Asks the first node with the first pass, where the call before was made.
+fn shows_first<R: Wait>(
+    rt: &R,
+    alloc: Global,
+    shelves: &[Shelf],
+    passes: &mut [Pass],
+    is_called: bool,
+) -> Result<(), Fail> {
+    holds("a call of a pass", is_called)?;
     match (shelves.first(), passes.first_mut()) {
-        (Some(shelf), Some(pass)) => shows(&rt, rt.alloc(), shelf, pass),
+        (Some(shelf), Some(pass)) => shows(rt, alloc, shelf, pass),
         _ => Err("a shelf and a pass".into()),
     }
 }
 
 fn asked<R: Wait>(rt: &R, alloc: Global, shelf: &Shelf, pass: &mut Pass) -> Result<u64, Fail> {
     let call = ask(alloc, "a")?;
-    Ok(shelf.call(rt, &NoGate, pass, &call)?)
+    let asked = shelf.call(rt, &NoGate, pass, &call);
+    drop(call);
+    Ok(asked?)
 }
 
 /// Asks the node for `a` with the pass, which is shown.
 fn shows<R: Wait>(rt: &R, alloc: Global, shelf: &Shelf, pass: &mut Pass) -> Result<(), Fail> {
     asked(rt, alloc, shelf, pass)?;
-    let last = pass.len().checked_sub(1).ok_or("a call")?;
-    let part = pass.part(last).ok_or("a part")?;
-    same(
-        reply_text(alloc, &part.entry.reply)?.as_str(),
-        "a 0000000000010001 127.0.0.1:5683 0 86400 U false </>",
-    )
+    match last_part(pass) {
+        Some(part) => is_text(
+            reply_text(alloc, &part.entry.reply),
+            "a 0000000000010001 127.0.0.1:5683 0 86400 U false </>",
+        ),
+        None => Err("a part".into()),
+    }
+}
+
+fn last_part(pass: &Pass) -> Option<&Part> {
+    pass.part(pass.len().checked_sub(1)?)
 }
 
 #[test]
@@ -136,6 +162,13 @@ struct Counts {
     astray: AtomicU64,
 }
 
+impl Counts {
+    fn counts(&self) -> (u64, u64) {
+        let (next, astray) = (&self.next, &self.astray);
+        (next.load(Ordering::SeqCst), astray.load(Ordering::SeqCst))
+    }
+}
+
 impl Gate for Counts {
     fn start(&self, worker: u32, job: u64) -> bool {
         if worker != 0 || self.next.fetch_add(1, Ordering::SeqCst) != job {
@@ -155,7 +188,7 @@ fn one_worker_does_the_jobs_in_order(rt: HostRuntime) -> Result<(), Fail> {
         next: AtomicU64::new(0),
         astray: AtomicU64::new(0),
     };
-    is_played(
+    let played = is_played(
         &rt,
         rt.alloc(),
         3,
@@ -166,9 +199,12 @@ fn one_worker_does_the_jobs_in_order(rt: HostRuntime) -> Result<(), Fail> {
          1: 1 0 604100048272640d0330303030303030303030303130303031\n\
          2: 3 1 604100048272640d0330303030303030303030303230303033\n\
          1 passes, 3 parts, Ok(Settled)",
-    )?;
-    holds("three jobs", gate.next.load(Ordering::SeqCst) == 3)?;
-    holds("in order", gate.astray.load(Ordering::SeqCst) == 0)
+    );
+    let (next, astray) = gate.counts();
+    drop(gate);
+    played?;
+    holds("three jobs", next == 3)?;
+    holds("in order", astray == 0)
 }
 
 /// Each node from 1 to 16, twenty times over.
@@ -182,10 +218,13 @@ fn all_nodes(alloc: Global) -> Result<Vec<u16>, Fail> {
 
 /// The line is of a 2.01 of the node: an identifier ends in the number of its node.
 fn is_of_node(alloc: Global, line: &str, node: u16) -> Result<(), Fail> {
+    holds_at(line, format!(in alloc; ": {node} "))?;
     let number = format!(in alloc; "{node:04x}")?;
-    ends_in(alloc, line, number.as_str())?;
-    let at = format!(in alloc; ": {node} ")?;
-    holds("the node", line.contains(at.as_str()))
+    ends_in(alloc, line, number.as_str())
+}
+
+fn holds_at(line: &str, at: Result<String, AllocError>) -> Result<(), Fail> {
+    holds("the node", line.contains(at?.as_str()))
 }
 
 /// The bytes at the end of the line are the text.

@@ -1,5 +1,8 @@
 //! Whether transcripts are a journal.
 
+ghost use Rattle.std.specs.Prelude.{IfOk};
+ghost use Rattle.lw_held.specs.Agree.{AreDistinct};
+
 use super::steps::Row;
 use super::steps::Whose::*;
 use super::*;
@@ -41,7 +44,7 @@ type Case = (
 );
 
 /// Transcripts that are the journal, and those of another node.
-const WHOLE: [Case; 6] = [
+static WHOLE: [Case; 6] = [
     (&NO_CALLS, &NO_CALLS, 0, 2, 1, Ok(())),
     (&NO_CALLS, &NO_CALLS, 0, 2, 2, Err(0)),
     (&REGISTERED, &REGISTERED, 0, 2, 1, Ok(())),
@@ -51,7 +54,7 @@ const WHOLE: [Case; 6] = [
 ];
 
 /// Transcripts from which a part is missing, or that have one of another node.
-const ASTRAY: [Case; 7] = [
+static ASTRAY: [Case; 7] = [
     (&SENT_BY_TWO, &SENT_BY_TWO, 1, 2, 1, Err(0)),
     (&SENT_BY_TWO, &SENT_BY_TWO, 0, 1, 1, Err(1)),
     (&ONE_PLACE, &ONE_PLACE, 0, 2, 1, Err(0)),
@@ -63,15 +66,28 @@ const ASTRAY: [Case; 7] = [
 
 /// The node says of the transcripts what it is to say.
 fn is_said(alloc: Global, case: &Case) -> Result<(), Fail> {
-    let (held, _) = played(alloc, case.0)?;
-    is_said_by(alloc, &held, case)
+    let mut held = Held::new(alloc, 1);
+    let said = is_said_by(alloc, &mut held, case);
+    drop(held);
+    said
 }
 
-fn is_said_by(alloc: Global, held: &Held, case: &Case) -> Result<(), Fail> {
-    let (_, others, first, end, node, want) = *case;
-    let (_, passes) = played(alloc, others)?;
+fn is_said_by(alloc: Global, held: &mut Held, case: &Case) -> Result<(), Fail> {
+    let (its, others, first, end, node, want) = *case;
+    let _passes = played(alloc, held, its)?;
+    let passes = played_by_another(alloc, others)?;
     let said = agrees_some(held, node, &passes, first, end);
     holds("what is said", said == want)
+}
+
+/// The passes after the calls of a node that is let go.
+fn played_by_another(alloc: Global, rows: &[Row<'_>]) -> Result<Vec<Pass>, Fail>
+    ensures { IfOk result (λ passes. AreDistinct passes.items) }
+{
+    let mut held = Held::new(alloc, 1);
+    let passes = played(alloc, &mut held, rows);
+    drop(held);
+    passes
 }
 
 #[test]
@@ -92,7 +108,7 @@ fn other_transcripts_fail(rt: HostRuntime) -> Result<(), Fail> {
 
 #[test]
 fn a_pass_reads_what_another_wrote(rt: HostRuntime) -> Result<(), Fail> {
-    let (_, passes) = played(rt.alloc(), &REGISTERED)?;
+    let passes = played_by_another(rt.alloc(), &REGISTERED)?;
     part_is(
         rt.alloc(),
         &passes,

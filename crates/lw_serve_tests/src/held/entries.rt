@@ -10,14 +10,20 @@ const REPLIES: [&str; 2] = [
 
 #[test]
 fn a_step_gives_the_entry_and_its_place(rt: HostRuntime) -> Result<(), Fail> {
-    let mut held = Held::new(rt.alloc(), 1);
-    let register = take(rt.alloc(), REGISTER)?;
-    enters_all(rt.alloc(), &mut held, &register)
+    enters_all(rt.alloc(), take(rt.alloc(), REGISTER)?, &REPLIES)
 }
 
-/// Makes the call once for each of the replies.
-fn enters_all(alloc: Global, held: &mut Held, call: &Call) -> Result<(), Fail> {
-    for (place, reply) in REPLIES.iter().enumerate() {
+/// Makes the call of node 1 once for each of the replies.
+pub(super) fn enters_all(alloc: Global, call: Call, replies: &[&str]) -> Result<(), Fail> {
+    let mut held = Held::new(alloc, 1);
+    let entered = enters_each(alloc, &mut held, &call, replies);
+    drop(held);
+    drop(call);
+    entered
+}
+
+fn enters_each(alloc: Global, held: &mut Held, call: &Call, replies: &[&str]) -> Result<(), Fail> {
+    for (place, reply) in replies.iter().enumerate() {
         enters(alloc, held, call, place as u64, reply)?;
     }
     Ok(())
@@ -27,7 +33,7 @@ fn enters_all(alloc: Global, held: &mut Held, call: &Call) -> Result<(), Fail> {
 type Made = Result<(Entry, u64), NoMemory>;
 
 /// Makes the call as pass 7 and number 3, which gives the entry and the place.
-pub(super) fn enters(
+fn enters(
     alloc: Global,
     held: &mut Held,
     call: &Call,
@@ -35,7 +41,9 @@ pub(super) fn enters(
     reply: &str,
 ) -> Result<(), Fail> {
     let made = held.step(7, 3, call);
-    is_made(alloc, &made, call, place, reply)
+    let entered = is_made(alloc, &made, call, place, reply);
+    drop(made);
+    entered
 }
 
 fn is_made(alloc: Global, made: &Made, call: &Call, place: u64, reply: &str) -> Result<(), Fail> {
@@ -45,41 +53,50 @@ fn is_made(alloc: Global, made: &Made, call: &Call, place: u64, reply: &str) -> 
     holds("the place", *at == place)?;
     holds("the call", entry.call.same(call))?;
     holds("the pass", entry.pass == 7 && entry.number == 3)?;
-    same(reply_text(alloc, &entry.reply)?.as_str(), reply)
+    is_text(reply_text(alloc, &entry.reply), reply)
 }
 
-/// The sending of all, whose reply is the same again.
-const ALL: Call = Call::Send { since: 0 };
-
-/// A pass, a number and a sending, and whether the entry is that of the sending of all as number 2 of pass 1.
-const SENDINGS: [(u32, u64, Call, bool); 4] = [
-    (1, 2, Call::Send { since: 0 }, true),
-    (2, 2, Call::Send { since: 0 }, false),
-    (1, 3, Call::Send { since: 0 }, false),
-    (1, 2, Call::Send { since: 1 }, false),
+/// A pass, a number and what a sending is since, and whether the entry is that of the sending of all as number 2 of
+/// pass 1, whose reply is the same again.
+static SENDINGS: [(u32, u64, u64, bool); 4] = [
+    (1, 2, 0, true),
+    (2, 2, 0, false),
+    (1, 3, 0, false),
+    (1, 2, 1, false),
 ];
 
 #[test]
 fn entries_are_the_same_where_all_parts_are(rt: HostRuntime) -> Result<(), Fail> {
     let mut held = Held::new(rt.alloc(), 1);
-    are_sent(&mut held, &ALL, &SENDINGS)
+    let are_same = are_sent(&mut held);
+    drop(held);
+    are_same
 }
 
-fn are_sent(held: &mut Held, all: &Call, sendings: &[(u32, u64, Call, bool)]) -> Result<(), Fail> {
-    for (pass, number, sending, want) in sendings {
-        let are_same = are_the_same(held, all, *pass, *number, sending)?;
-        holds("the same", are_same == *want)?;
+fn are_sent(held: &mut Held) -> Result<(), Fail> {
+    for (pass, number, since, want) in &SENDINGS {
+        is_sent(held, *pass, *number, *since, *want)?;
     }
     Ok(())
+}
+
+fn is_sent(held: &mut Held, pass: u32, number: u64, since: u64, want: bool) -> Result<(), Fail> {
+    let (all, sending) = (Call::Send { since: 0 }, Call::Send { since });
+    let are_same = are_the_same(held, &all, pass, number, &sending);
+    drop(all);
+    drop(sending);
+    holds("the same", are_same? == want)
 }
 
 /// Two Registers have identifiers of their own.
 #[test]
 fn entries_with_other_replies_differ(rt: HostRuntime) -> Result<(), Fail> {
-    let mut held = Held::new(rt.alloc(), 1);
     let register = take(rt.alloc(), REGISTER)?;
-    let are_same = are_the_same(&mut held, &register, 1, 2, &register)?;
-    holds("another entry", !are_same)
+    let mut held = Held::new(rt.alloc(), 1);
+    let are_same = are_the_same(&mut held, &register, 1, 2, &register);
+    drop(held);
+    drop(register);
+    holds("another entry", !are_same?)
 }
 
 /// Whether the entry of a call, as number 2 of pass 1, is that of the other call behind it.
@@ -91,19 +108,11 @@ fn are_the_same(
     other: &Call,
 ) -> Result<bool, NoMemory> {
     let first = held.step(1, 2, call);
-    is_same_again(held, &first, pass, number, other)
-}
-
-/// Whether the entry is that of the call.
-fn is_same_again(
-    held: &mut Held,
-    first: &Made,
-    pass: u32,
-    number: u64,
-    call: &Call,
-) -> Result<bool, NoMemory> {
-    let second = held.step(pass, number, call);
-    are_equal(first, &second)
+    let second = held.step(pass, number, other);
+    let are_same = are_equal(&first, &second);
+    drop(first);
+    drop(second);
+    are_same
 }
 
 fn are_equal(first: &Made, second: &Made) -> Result<bool, NoMemory> {

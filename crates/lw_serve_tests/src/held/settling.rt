@@ -7,11 +7,11 @@ ghost use Rattle.lw_held.specs.Shelves.{AreInOrder};
 use super::*;
 
 /// The places of a shelf and of a pass, a call, and the part that it leaves: node, place and reply.
-pub(super) type Row<'a> = (usize, usize, steps::What<'a>, &'a str);
+type Row<'a> = (usize, usize, steps::What<'a>, &'a str);
 
 /// Two nodes take a Register each, with a pass each. The delta of the first comes to the second, where the later of both
 /// counts, and the first is asked with the pass of the other.
-const TAKEN: [Row<'static>; 6] = [
+static TAKEN: [Row<'static>; 6] = [
     (
         0,
         0,
@@ -46,7 +46,7 @@ const TAKEN: [Row<'static>; 6] = [
 ];
 
 /// An observation and its end, and bytes that are no delta.
-const OBSERVED: [Row<'static>; 4] = [
+static OBSERVED: [Row<'static>; 4] = [
     (
         0,
         1,
@@ -80,13 +80,15 @@ fn made<R: Wait>(
     ensures { AreDistinct passes.new }
 {
     let (shelf, pass, what, want) = *row;
-    let shelf = shelves.get(shelf).ok_or("a shelf")?;
+    let Some(shelf) = shelves.get(shelf) else {
+        return Err("a shelf".into());
+    };
     call(rt, alloc, shelf, passes, pass, what)?;
     part_is(alloc, passes, pass, want)
 }
 
 /// Makes the rows' calls. The first that leaves another part fails.
-pub(super) fn play<R: Wait>(
+fn play<R: Wait>(
     rt: &R,
     alloc: Global,
     shelves: &[Shelf],
@@ -106,7 +108,7 @@ pub(super) fn play<R: Wait>(
 type Case = (usize, usize, Result<Settled, Unsettled>);
 
 /// By all passes, by the first, by the second, and by none.
-const BY_SOME: [Case; 4] = [
+static BY_SOME: [Case; 4] = [
     (0, 2, Ok(Settled)),
     (0, 1, Err(Unsettled { node: 1, place: 2 })),
     (1, 2, Err(Unsettled { node: 1, place: 0 })),
@@ -130,17 +132,49 @@ fn settle_so<R: Wait>(
     Ok(())
 }
 
+/// Calls, and how the nodes settle behind them.
+type Turn<'a> = (&'a [Row<'a>], &'a [Case]);
+
+/// New nodes take turns with new passes.
+pub(super) fn take_turns<R: Wait>(
+    rt: &R,
+    alloc: Global,
+    nodes: u16,
+    count: u32,
+    turns: &[Turn<'_>],
+) -> Result<(), Fail>
+    requires { (1 ≤ nodes) × (nodes ≤ 16) × (1 ≤ count) × (count ≤ 64) }
+{
+    let (shelves, mut passes) = set_up(alloc, nodes, count)?;
+    take_each(rt, alloc, &shelves, &mut passes, turns)
+}
+
+fn take_each<R: Wait>(
+    rt: &R,
+    alloc: Global,
+    shelves: &[Shelf],
+    passes: &mut [Pass],
+    turns: &[Turn<'_>],
+) -> Result<(), Fail>
+    requires shelves { AreInOrder shelves.now }
+    requires passes { AreDistinct passes.old }
+{
+    for turn in turns {
+        let (rows, cases) = *turn;
+        play(rt, alloc, shelves, passes, rows)?;
+        settle_so(rt, shelves, passes, cases)?;
+    }
+    Ok(())
+}
+
 #[test]
 fn two_nodes_take_calls_and_settle(rt: HostRuntime) -> Result<(), Fail> {
-    let (shelves, mut passes) = set_up(rt.alloc(), 2, 2)?;
-    play(&rt, rt.alloc(), &shelves, &mut passes, &TAKEN)?;
-    settle_so(&rt, &shelves, &passes, &BY_SOME[..1])?;
-    play(&rt, rt.alloc(), &shelves, &mut passes, &OBSERVED)?;
-    settle_so(&rt, &shelves, &passes, &BY_SOME)
+    let turns: [Turn<'_>; 2] = [(&TAKEN, &BY_SOME[..1]), (&OBSERVED, &BY_SOME)];
+    take_turns(&rt, rt.alloc(), 2, 2, &turns)
 }
 
 /// Two passes call one node, one after the other.
-const BY_TWO: [Row<'static>; 2] = [
+static BY_TWO: [Row<'static>; 2] = [
     (
         0,
         0,
@@ -165,30 +199,42 @@ fn settle_two<R: Wait>(
 ) -> Result<Settled, Unsettled>
     requires { AreInOrder shelves.now }
 {
-    if one.number() == other.number() {
-        return Err(Unsettled { node: 0, place: 0 });
-    }
-    settle(rt, shelves, &[one, other])
+    let are_apart = one.number() != other.number();
+    let both = [one, other];
+    let settled = if are_apart {
+        settle(rt, shelves, &both)
+    } else {
+        Err(Unsettled { node: 0, place: 0 })
+    };
+    drop(both);
+    settled
 }
 
 /// By each of the two passes alone.
-const ALONE: [Case; 2] = [
+static ALONE: [Case; 2] = [
     (1, 2, Err(Unsettled { node: 1, place: 0 })),
     (0, 1, Err(Unsettled { node: 1, place: 1 })),
 ];
 
+/// The last two of the passes, the last first.
+fn last_two(passes: &mut Vec<Pass>) -> Option<(Pass, Pass)> {
+    let second = passes.pop()?;
+    let Some(first) = passes.pop() else {
+        drop(second);
+        return None;
+    };
+    Some((second, first))
+}
+
 #[test]
 fn passes_settle_in_any_order_but_not_alone(rt: HostRuntime) -> Result<(), Fail> {
     let (shelves, mut passes) = set_up(rt.alloc(), 1, 2)?;
-    play(&rt, rt.alloc(), &shelves, &mut passes, &BY_TWO)?;
-    settle_so(&rt, &shelves, &passes, &ALONE)?;
-    match (passes.pop(), passes.pop()) {
-        (Some(second), Some(first)) => {
-            let settled = settle_two(&rt, &shelves, second, first);
-            holds("the second before the first", settled == Ok(Settled))
-        }
-        _ => Err("two passes".into()),
-    }
+    take_each(&rt, rt.alloc(), &shelves, &mut passes, &[(&BY_TWO, &ALONE)])?;
+    let Some((second, first)) = last_two(&mut passes) else {
+        return Err("two passes".into());
+    };
+    let settled = settle_two(&rt, &shelves, second, first);
+    holds("the second before the first", settled == Ok(Settled))
 }
 
 /// There are so many shelves and passes, each with its own number and without calls.
@@ -222,7 +268,7 @@ fn shelves_and_passes_are_set_up(rt: HostRuntime) -> Result<(), Fail> {
 }
 
 /// Of 16 nodes, the third and the last issue identifiers of their own.
-const NUMBERED: [Row<'static>; 2] = [
+static NUMBERED: [Row<'static>; 2] = [
     (
         2,
         0,
@@ -239,8 +285,11 @@ const NUMBERED: [Row<'static>; 2] = [
 
 #[test]
 fn each_node_has_its_own_number(rt: HostRuntime) -> Result<(), Fail> {
-    let (shelves, mut passes) = set_up(rt.alloc(), 16, 1)?;
-    play(&rt, rt.alloc(), &shelves, &mut passes, &NUMBERED)?;
-    let settled = settle(&rt, &shelves, &passes);
-    holds("all nodes settle", settled == Ok(Settled))
+    take_turns(
+        &rt,
+        rt.alloc(),
+        16,
+        1,
+        &[(&NUMBERED, &[(0, 1, Ok(Settled))])],
+    )
 }

@@ -22,18 +22,22 @@ impl What<'_> {
         let now = Moment::START;
         match self {
             What::Takes(datagram) => take(alloc, datagram),
-            What::Observes(text, numbers, mid) => Ok(Call::Observe {
-                now,
-                id: id(text)?,
-                path: Path::new(numbers).ok_or("a path")?,
-                accept: None,
-                mid,
-            }),
-            What::Cancels(text, mid) => Ok(Call::Cancel {
-                now,
-                token: id(text)?,
-                mid,
-            }),
+            What::Observes(text, numbers, mid) => {
+                match (Stamp::read_id(text.as_bytes()), Path::new(numbers)) {
+                    (Some(id), Some(path)) => Ok(Call::Observe {
+                        now,
+                        id,
+                        path,
+                        accept: None,
+                        mid,
+                    }),
+                    _ => Err("an identifier and a path".into()),
+                }
+            }
+            What::Cancels(text, mid) => match Stamp::read_id(text.as_bytes()) {
+                Some(token) => Ok(Call::Cancel { now, token, mid }),
+                None => Err("an identifier".into()),
+            },
             What::Sends(since) => Ok(Call::Send { since }),
             What::Merges(delta) => Ok(Call::Merge {
                 bytes: bytes(alloc, delta)?,
@@ -41,10 +45,6 @@ impl What<'_> {
             What::ByEndpoint(endpoint) => ask(alloc, endpoint),
         }
     }
-}
-
-fn id(text: &str) -> Result<Stamp, Fail> {
-    Ok(Stamp::read_id(text.as_bytes()).ok_or("an identifier")?)
 }
 
 /// Makes the call through the shelf, with the pass at the place.
@@ -64,7 +64,9 @@ pub(super) fn call<R: Wait>(
     }
     let made = what.made(alloc)?;
     let lent = &mut passes[pass];
-    match shelf.call(rt, &NoGate, lent, &made) {
+    let placed = shelf.call(rt, &NoGate, lent, &made);
+    drop(made);
+    match placed {
         Ok(place) => Ok(place),
         Err(NoMemory) => Err("no memory".into()),
     }
@@ -86,7 +88,9 @@ pub(super) fn step(
     }
     let made = what.made(alloc)?;
     let lent = &mut passes[pass];
-    match lent.step(1, held, &made) {
+    let placed = lent.step(1, held, &made);
+    drop(made);
+    match placed {
         Ok(place) => Ok(place),
         Err(NoMemory) => Err("no memory".into()),
     }
@@ -102,23 +106,42 @@ pub(super) enum Whose {
 /// A call of a node, the place of the pass that it is made with, and the place that it is to have in the journal.
 pub(super) type Row<'a> = (Whose, usize, What<'a>, u64);
 
-/// A node of number 1 and two passes, after the calls.
-pub(super) fn played(alloc: Global, rows: &[Row<'_>]) -> Result<(Held, Vec<Pass>), Fail>
-    ensures { IfOk result (λ r. AreDistinct r.1.items) }
+/// Two passes after the calls, of which some are made of the node, whose number is 1.
+pub(super) fn played(alloc: Global, held: &mut Held, rows: &[Row<'_>]) -> Result<Vec<Pass>, Fail>
+    ensures { IfOk result (λ passes. AreDistinct passes.items) }
 {
-    let (_, mut passes) = set_up(alloc, 1, 2)?;
-    let mut held = Held::new(alloc, 1);
-    play(alloc, &mut held, &mut passes, rows)?;
-    Ok((held, passes))
+    let (_shelves, mut passes) = set_up(alloc, 1, 2)?;
+    play_with_another(alloc, held, &mut passes, rows)?;
+    Ok(passes)
 }
 
-fn play(alloc: Global, held: &mut Held, passes: &mut [Pass], rows: &[Row<'_>]) -> Result<(), Fail>
+fn play_with_another(
+    alloc: Global,
+    held: &mut Held,
+    passes: &mut [Pass],
+    rows: &[Row<'_>],
+) -> Result<(), Fail>
     requires { AreDistinct passes.old }
     ensures { AreDistinct passes.new }
 {
     let mut other = Held::new(alloc, 1);
+    let made = play(alloc, held, &mut other, passes, rows);
+    drop(other);
+    made
+}
+
+fn play(
+    alloc: Global,
+    held: &mut Held,
+    other: &mut Held,
+    passes: &mut [Pass],
+    rows: &[Row<'_>],
+) -> Result<(), Fail>
+    requires { AreDistinct passes.old }
+    ensures { AreDistinct passes.new }
+{
     for row in rows {
-        make(alloc, held, &mut other, passes, row)?;
+        make(alloc, held, other, passes, row)?;
     }
     Ok(())
 }
@@ -178,16 +201,23 @@ pub(super) fn agrees_some(
 
 /// The last part that was made with the pass at the place has the node, the place and the reply.
 pub(super) fn part_is(alloc: Global, passes: &[Pass], pass: usize, want: &str) -> Result<(), Fail> {
-    let pass = passes.get(pass).ok_or("a pass")?;
-    let number = pass.len().checked_sub(1).ok_or("a call")?;
-    let part = pass.part(number).ok_or("a part")?;
+    let Some((pass, number, part)) = last_part(passes, pass) else {
+        return Err("a call".into());
+    };
     holds("the number", part.entry.number == number)?;
-    holds("the pass", part.entry.pass == pass.number())?;
-    same(part_text(alloc, part)?.as_str(), want)
+    holds("the pass", part.entry.pass == pass)?;
+    is_text(part_text(alloc, part), want)
 }
 
-fn part_text(alloc: Global, part: &Part) -> Result<String, Fail> {
+/// The numbers of the pass and of its last part, and that part.
+fn last_part(passes: &[Pass], pass: usize) -> Option<(u32, u64, &Part)> {
+    let pass = passes.get(pass)?;
+    let number = pass.len().checked_sub(1)?;
+    Some((pass.number(), number, pass.part(number)?))
+}
+
+fn part_text(alloc: Global, part: &Part) -> Result<String, AllocError> {
     let reply = reply_text(alloc, &part.entry.reply)?;
     let (node, place) = (part.node, part.place);
-    Ok(format!(in alloc; "{node} {place} {reply}")?)
+    format!(in alloc; "{node} {place} {reply}")
 }

@@ -32,7 +32,7 @@ fn run_behind_faults<R: Threads + Wait + Sync>(
 }
 
 /// How often a wire fails and whether its sending fails, and what comes of the run. A thousand faults end it.
-const FAULTS: [(u32, bool, &str); 3] = [
+static FAULTS: [(u32, bool, &str); 3] = [
     (
         999,
         false,
@@ -47,8 +47,8 @@ const FAULTS: [(u32, bool, &str); 3] = [
 #[test]
 fn faults_of_a_wire_are_passed_over(rt: HostRuntime) -> Result<(), Fail> {
     let register = bytes(rt.alloc(), REGISTER)?;
-    for (faults, send_fails, want) in FAULTS {
-        run_behind_faults(&rt, rt.alloc(), &register, faults, send_fails, want)?;
+    for (faults, send_fails, want) in &FAULTS {
+        run_behind_faults(&rt, rt.alloc(), &register, *faults, *send_fails, want)?;
     }
     Ok(())
 }
@@ -97,26 +97,34 @@ const ENDS: [(Option<Moment>, usize, bool, bool, &str); 6] = [
 fn ends_so<R: Threads + Wait + Sync>(
     rt: &R,
     alloc: Global,
-    datagram: &[u8],
     now: Option<Moment>,
-    writer: &mut FewWrites,
+    mut writer: FewWrites,
     want: &str,
 ) -> Result<(), Fail> {
-    let ended = run_by(rt, alloc, datagram, now, writer);
-    let written = str::from_utf8(&writer.taken)?;
-    same(format!(in alloc; "{ended:?} {written}")?.as_str(), want)
+    let ended = run_by(rt, alloc, PING, now, &mut writer);
+    is_ended(alloc, ended, &writer.taken, want)
+}
+
+fn is_ended(
+    alloc: Global,
+    ended: Result<(), ServeFault>,
+    written: &[u8],
+    want: &str,
+) -> Result<(), Fail> {
+    let written = str::from_utf8(written)?;
+    is_text(format!(in alloc; "{ended:?} {written}"), want)
 }
 
 #[test]
 fn a_clock_and_a_writer_that_fail_are_told(rt: HostRuntime) -> Result<(), Fail> {
-    for (now, room, fails, flush_fails, want) in ENDS {
-        let mut writer = FewWrites {
+    for (now, room, fails, flush_fails, want) in &ENDS {
+        let writer = FewWrites {
             taken: Vec::new(rt.alloc()),
-            room,
-            fails,
-            flush_fails,
+            room: *room,
+            fails: *fails,
+            flush_fails: *flush_fails,
         };
-        ends_so(&rt, rt.alloc(), PING, now, &mut writer, want)?;
+        ends_so(&rt, rt.alloc(), *now, writer, want)?;
     }
     Ok(())
 }

@@ -58,12 +58,19 @@ fn serve_over<R: Clock + Threads + Wait + Sync>(
 
 #[test]
 fn two_clients_at_two_nodes(rt: HostRuntime) -> Result<(), Fail> {
-    let plan = Plan::new(2, 2, 1).ok_or("a plan")?;
+    let Some(plan) = Plan::new(2, 2, 1) else {
+        return Err("a plan".into());
+    };
     let socket = UdpSocket::bind(&rt, "127.0.0.1:56831")?;
     let server = thread::spawn(&rt, move || serve_over(&rt, rt.alloc(), socket, &plan))?;
-    is_answered(&rt, rt.alloc(), 56832, REGISTER, CREATED)?;
-    is_answered(&rt, rt.alloc(), 56833, OTHER_REGISTER, CREATED_SECOND)?;
+    are_answered(&rt, rt.alloc())?;
     let (ended, written) = server.join(&rt);
     let is_settled = ended == Ok(()) && written.as_slice() == b"settled\n".as_slice();
     holds("how the run ended", is_settled)
+}
+
+/// Both clients have their replies.
+fn are_answered<R: Net>(rt: &R, alloc: Global) -> Result<(), Fail> {
+    is_answered(rt, alloc, 56832, REGISTER, CREATED)?;
+    is_answered(rt, alloc, 56833, OTHER_REGISTER, CREATED_SECOND)
 }

@@ -150,7 +150,9 @@ pub(super) fn run<R: Threads + Wait + Sync>(
     workers: u32,
 ) -> Result<String, Fail> {
     let alloc = wire.alloc;
-    let plan = Plan::new(count, nodes, workers).ok_or("a plan")?;
+    let Some(plan) = Plan::new(count, nodes, workers) else {
+        return Err("a plan".into());
+    };
     let log = Memory::new(alloc);
     let mut clock = Ticks {
         now: Some(Moment::START),
@@ -205,8 +207,13 @@ pub(super) fn is_served<R: Threads + Wait + Sync>(
     want: &str,
 ) -> Result<(), Fail> {
     let mut text = run(rt, wire, count, nodes, 1)?;
-    add_sent(wire.alloc, &mut text, &wire.sent)?;
-    same(text.as_str(), want)
+    is_sent(wire, &mut text, want)
+}
+
+/// The text, and behind it what was sent.
+fn is_sent(wire: &MemoryWire<'_>, text: &mut String, want: &str) -> Result<(), Fail> {
+    add_sent(wire.alloc, text, &wire.sent)?;
+    same(text, want)
 }
 
 pub(super) fn bytes(alloc: Global, text: &str) -> Result<Vec<u8>, Fail> {
