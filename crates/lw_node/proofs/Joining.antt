@@ -1,5 +1,5 @@
 -- The state of slots, joined one after another, and how the count goes on.
-use Rattle.std.proofs.Common.{◌≡◌, ◌≢◌, inl, inr, ℕ, zero, suc, ◌+◌, ◌<◌, Bool, true, false, cond, List, [], ◌∷◌, ◌++◌, length, get_or, take, Option, Some, None, Result, Ok, Err, refl, sym, ap, ◌∙◌, subst, arith, length-append}
+use Rattle.std.proofs.Common.{◌≡◌, ◌≢◌, inl, inr, ℕ, zero, suc, ◌+◌, ◌<◌, Bool, true, false, cond, List, [], ◌∷◌, ◌++◌, length, take, Option, Some, None, Result, Ok, Err, refl, sym, ap, ◌∙◌, subst, arith, length-append}
 use Rattle.std.specs.Prelude.{◌↔◌, Contains, slice_get}
 use Rattle.std.specs.declared.cmp.Ordering.{Ordering}
 use Rattle.std.specs.declared.cmp.Ordering.TheVariants.{Less, Equal, Greater}
@@ -25,7 +25,7 @@ use Rattle.lw_reg.specs.declared.slot.Slot.{Slot}
 use Rattle.lw_reg.specs.Slot.{slot_join}
 use Rattle.lw_reg.specs.SlotLaws.{slot_laws}
 use Rattle.lw_reg.specs.State.{State, state_join}
-use Rattle.lw_reg.proofs.Members.{none_there, first_there}
+use Rattle.lw_reg.proofs.Members.{first_there}
 use Rattle.lw_reg.proofs.States.{state_laws}
 use Rattle.lw_table.specs.Changes.{Count, Recounts, Moves, counted}
 use Rattle.lw_table.specs.Table.{TableContent}
@@ -115,22 +115,6 @@ rising_append (x ∷ xs) ys h g apart = (
   above_append x xs ys h.0 (all_of (λ b. text_cmp x b ≡ Less) ys (λ b c. apart x b (first_there x xs x refl) c)),
   rising_append xs ys h.1 g (λ a b c d. apart a b (Contains-append_right (x ∷ []) xs a c) d),
 )
-
-member_or_not : {G : Type 0} (xs : List (List ℕ)) (e : List ℕ) → (Contains xs e → G) → ((Contains xs e → ⊥) → G) → G
-member_or_not [] e there absent = absent (λ c. none_there e c)
-member_or_not {G} (x ∷ xs) e there absent =
-    same_or_not e x
-    (λ t same. there (first_there x xs e same))
-    (λ f other. member_or_not xs e
-    (λ c. there (Contains-append_right (x ∷ []) xs e c))
-    (λ no. absent (λ c. elim (Contains-append_cases (x ∷ []) xs e c) [ inl d ↦ only x e d other | inr d ↦ no d ])))
-  where
-    only : (x e : List ℕ) → Contains (x ∷ []) e → e ≢ x → ⊥
-    only x e c other = at c.0 c.1 c.2
-      where
-        at : (k : ℕ) → k < 1 → get_or (x ∷ []) k e ≡ e → ⊥
-        at zero lt is = other (sym is)
-        at (suc k) lt is = absurd (omega arith)
 
 get_first : (xs ys : List (List ℕ)) (i : ℕ) (e : List ℕ) → i < length xs → slice_get (xs ++ ys) i ≡ Some e → slice_get xs i ≡ Some e
 get_first xs ys i e lt h = slice_get_read xs (length xs) i e refl lt (sym (sym (get_or_append_left xs ys e i lt) ∙ get_or_from_slice_get (xs ++ ys) i e e h))

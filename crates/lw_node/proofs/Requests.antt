@@ -1,11 +1,10 @@
 -- The options of the requests that a node sends, and that the requests have a spelling.
-use Rattle.std.proofs.Common.{◌≡◌, ◌∙◌, ℕ, ◌+◌, ◌*◌, ◌/◌, ◌%◌, ◌<◌, ◌≤◌, ◌-◌, ◌^◌, Bool, true, false, cond, List, [], ◌∷◌, ◌++◌, length, drop, get_or, Option, Some, None, sym, ap, arith, append_assoc, ◌&&◌}
+use Rattle.std.proofs.Common.{◌≡◌, ◌∙◌, ℕ, ◌+◌, ◌*◌, ◌/◌, ◌%◌, ◌<◌, ◌≤◌, ◌-◌, ◌^◌, Bool, true, false, cond, List, [], ◌∷◌, ◌++◌, length, Option, Some, None, ap, arith, ◌&&◌}
 use Rattle.std.specs.Prelude.{map, nat_lt, IsTrue, IfSome}
 use Rattle.std.specs.Fmt.{decimal}
 use Rattle.std.specs.Int.Digits.{digits_of}
 use Rattle.std.specs.List.{list_all}
 use Rattle.std.proofs.lemmas.Int.Digits.{digits_of_step, length-digits_of-le}
-use Rattle.std.proofs.lemmas.List.{append-nil, at_drop_more, at_drop_all}
 use Rattle.std.proofs.lemmas.Bool.{leb-true}
 use Rattle.std.proofs.lemmas.Fmt.{length-decimal-le}
 use Rattle.lw_stamp.specs.declared.stamp.Stamp.{Stamp}
@@ -92,16 +91,6 @@ get_fits mid observe token path accept mid_fits observe_fits accept_fits path_fi
       empty = λ e. absurd (omega (arith, e));
       within = omega (arith, eight, few, first, others);
     }
-
--- ---- segments that are pushed one by one
-pub segments_step : (first os now : List OptionContent) (xs : List ℕ) (i x : ℕ) → i < length xs → x ≡ get_or xs i x → now ≡ os ++ (segment x ∷ []) → os ++ map segment (drop i xs) ≡ first ++ map segment xs → now ++ map segment (drop (i + 1) xs) ≡ first ++ map segment xs
-segments_step first os now xs i x within is more so_far =
-    ap (λ l. l ++ map segment (drop (i + 1) xs)) more ∙ append_assoc os (segment x ∷ []) (map segment (drop (i + 1) xs))
-    ∙ ap (λ l. os ++ l) (sym (at_drop_more (map segment) xs i x within ∙ ap (λ y. map segment (y ∷ drop (i + 1) xs)) (sym is)))
-    ∙ so_far
-
-pub segments_end : (first os : List OptionContent) (xs : List ℕ) (i : ℕ) → length xs ≤ i → os ++ map segment (drop i xs) ≡ first ++ map segment xs → os ≡ first ++ map segment xs
-segments_end first os xs i past so_far = sym (append-nil os) ∙ ap (λ l. os ++ l) (sym (at_drop_all (map segment) xs i past)) ∙ so_far
 
 pub observe_small : (o : Observe) → observe_number o < 2
 observe_small Register = omega arith
