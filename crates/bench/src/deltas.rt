@@ -5,8 +5,8 @@ ghost use Rattle.lw_delta.specs.Writable.{AllFollow};
 
 use crate::cost::Cost;
 use crate::fault::BenchFault;
-use crate::messages::OBJECTS;
-use crate::names::{Order, names};
+use crate::messages::{OBJECTS, put_parts};
+use crate::names::name_of;
 use lw_delta::{Writer, check, read};
 use lw_reg::{Endpoint, Slot};
 use lw_stamp::NoMemory;
@@ -41,7 +41,7 @@ const FIELDS: &[u8] = &[
 ];
 
 /// What ends the watches, and what ends the slots.
-const END: u8 = 0;
+const END: &[u8] = &[0];
 
 impl DeltaCall {
     /// The cost of a delta of so many slots: each call is one on a slot.
@@ -53,7 +53,7 @@ impl DeltaCall {
     ) -> Result<Cost, BenchFault>
         ensures { IfOk result (λ cost. cost.calls ≡ count) }
     {
-        let bytes = bytes_of(alloc, &names(alloc, Order::Rising, count)?)?;
+        let bytes = bytes_of(alloc, count)?;
         match self {
             DeltaCall::Write => cost_of_write(clock, alloc, &bytes, count),
             DeltaCall::Check => cost_of_check(clock, &bytes, count),
@@ -98,18 +98,19 @@ fn cost_of_read<C: CpuClock>(
     Cost::since(clock, start, count, bytes.len() as u64)
 }
 
-/// The bytes of a delta with a registration of each name.
-fn bytes_of(alloc: Global, names: &[String]) -> Result<Vec<u8>, AllocError> {
+/// The bytes of a delta with a registration of each of the first names, rising.
+fn bytes_of(alloc: Global, count: u32) -> Result<Vec<u8>, AllocError> {
     let mut bytes = Vec::from_slice(alloc, HEADER)?;
-    for name in names {
-        bytes.extend_from_slice(SLOT_BEGIN)?;
-        bytes.extend_from_slice(name.as_bytes())?;
-        bytes.extend_from_slice(FIELDS)?;
-        bytes.extend_from_slice(OBJECTS)?;
-        bytes.push(END)?;
-    }
-    bytes.push(END)?;
+    put_slots(alloc, count, &mut bytes)?;
     Ok(bytes)
+}
+
+fn put_slots(alloc: Global, count: u32, bytes: &mut Vec<u8>) -> Result<(), AllocError> {
+    for place in 0..count {
+        let name = name_of(alloc, u64::from(place))?;
+        put_parts(bytes, &[SLOT_BEGIN, name.as_bytes(), FIELDS, OBJECTS, END])?;
+    }
+    bytes.extend_from_slice(END)
 }
 
 fn write(alloc: Global, clock: u64, slots: &[(Endpoint, Slot)]) -> Result<Vec<u8>, NoMemory>

@@ -61,9 +61,7 @@ pub(crate) fn events(alloc: Global, order: Order, count: u32) -> Result<Vec<Even
         known: 0,
         sent: 0,
     };
-    story.take_turns(alloc, Doing::Register, count)?;
-    story.take_turns(alloc, Doing::Update, count)?;
-    story.put_all(alloc, Doing::LookUp, 0, count)?;
+    story.tell(alloc, count)?;
     Ok(story.events)
 }
 
@@ -91,6 +89,15 @@ fn node_at(place: u32) -> u16 {
 }
 
 impl Story {
+    /// So many endpoints, from the first Register to the last look-up.
+    fn tell(&mut self, alloc: Global, count: u32) -> Result<(), BenchFault>
+        ensures { OnOk result (vec_len self.new.events ≡ vec_len self.old.events + events_of count) }
+    {
+        self.take_turns(alloc, Doing::Register, count)?;
+        self.take_turns(alloc, Doing::Update, count)?;
+        self.put_all(alloc, Doing::LookUp, 0, count)
+    }
+
     /// All endpoints, with an exchange after each turn.
     fn take_turns(&mut self, alloc: Global, doing: Doing, count: u32) -> Result<(), BenchFault>
         ensures { OnOk result (vec_len self.new.events ≡ vec_len self.old.events + count + 16 * div_ceil count 100) }
@@ -117,13 +124,15 @@ impl Story {
         ensures { OnOk result (vec_len self.new.events ≡ vec_len self.old.events + (end - first)) }
     {
         for place in first..end {
-            let event = Event {
-                node: doing.node(place),
-                action: doing.action(alloc, self.order, place)?,
-            };
-            self.events.push(event)?;
+            self.push(doing.node(place), doing.action(alloc, self.order, place)?)?;
         }
         Ok(())
+    }
+
+    fn push(&mut self, node: u16, action: Action) -> Result<(), BenchFault>
+        ensures { OnOk result (vec_len self.new.events ≡ vec_len self.old.events + 1) }
+    {
+        Ok(self.events.push(Event { node, action })?)
     }
 
     /// What follows on so many operations.
@@ -144,10 +153,7 @@ impl Story {
         ensures { OnOk result (vec_len self.new.events ≡ vec_len self.old.events + 4) }
     {
         for place in 0..NODES {
-            self.events.push(Event {
-                node: place + 1,
-                action: Action::Send { since: self.sent },
-            })?;
+            self.push(place + 1, Action::Send { since: self.sent })?;
         }
         Ok(())
     }
@@ -159,10 +165,7 @@ impl Story {
             let sender = place / RECEIVERS;
             let node = (sender + 1 + place % RECEIVERS) % NODES + 1;
             let message = self.messages.saturating_add(usize::from(sender));
-            self.events.push(Event {
-                node,
-                action: Action::Deliver { message },
-            })?;
+            self.push(node, Action::Deliver { message })?;
         }
         Ok(())
     }
@@ -178,23 +181,36 @@ impl Doing {
     }
 
     fn action(self, alloc: Global, order: Order, place: u32) -> Result<Action, BenchFault> {
+        match self {
+            Doing::Register | Doing::Update => self.take(alloc, order, place),
+            Doing::LookUp => look_up(id_at(place)),
+        }
+    }
+
+    fn take(self, alloc: Global, order: Order, place: u32) -> Result<Action, BenchFault> {
         let mut bytes = Vec::new(alloc);
-        let now = match self {
-            Doing::Register => {
-                put_register(&mut bytes, endpoint_at(alloc, order, place)?.as_str(), 0, 0)?;
-                Moment::START
-            }
-            Doing::Update => {
-                put_update(&mut bytes, id_at(place))?;
-                updated()?
-            }
-            Doing::LookUp => return look_up(id_at(place)),
-        };
+        let now = self.put(alloc, order, place, &mut bytes)?;
         Ok(Action::Take {
             now,
             from: source_at(place),
             bytes: Bytes::from_vec(bytes)?,
         })
+    }
+
+    /// Puts what is sent, and tells when.
+    fn put(
+        self,
+        alloc: Global,
+        order: Order,
+        place: u32,
+        bytes: &mut Vec<u8>,
+    ) -> Result<Moment, BenchFault> {
+        if let Doing::Update = self {
+            put_update(bytes, id_at(place))?;
+            return updated();
+        }
+        put_register(bytes, endpoint_at(alloc, order, place)?.as_str(), 0, 0)?;
+        Ok(Moment::START)
     }
 }
 

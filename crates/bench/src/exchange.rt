@@ -5,7 +5,7 @@ ghost use Rattle.std.specs.Prelude.{◌≡◌, IfOk};
 use crate::cost::Cost;
 use crate::fault::BenchFault;
 use crate::names::{Order, names};
-use crate::nodes::{NodeCall, make_all, node_of};
+use crate::nodes::{NodeCall, make_all};
 use lw_node::Node;
 use std::alloc::Global;
 use std::time::CpuClock;
@@ -31,18 +31,33 @@ impl ExchangeCall {
         ensures { IfOk result (λ cost. cost.calls ≡ 32) }
     {
         let all = names(alloc, Order::Scattered, count)?;
-        let mut node = node_of(alloc, 1, &all)?;
+        let mut node = Node::new(alloc, 1);
+        self.cost(clock, alloc, &mut node, &all)
+    }
+
+    /// The cost at an empty node, to which these endpoints register first.
+    fn cost<C: CpuClock>(
+        self,
+        clock: &C,
+        alloc: Global,
+        node: &mut Node,
+        all: &[String],
+    ) -> Result<Cost, BenchFault>
+        ensures { IfOk result (λ cost. cost.calls ≡ 32) }
+    {
+        make_all(alloc, node, NodeCall::Take, all)?;
         let since = node.change();
-        let changed = names(alloc, Order::Scattered, CHANGED)?;
-        make_all(alloc, &mut node, NodeCall::Take, &changed)?;
+        change(alloc, node)?;
         match self {
-            ExchangeCall::DeltaSince => send(clock, &node, since),
-            ExchangeCall::Merge => {
-                let other = node_of(alloc, 2, &all)?;
-                merge(clock, other, &node.delta_since(since)?)
-            }
+            ExchangeCall::DeltaSince => send(clock, node, since),
+            ExchangeCall::Merge => merge(clock, alloc, all, &node.delta_since(since)?),
         }
     }
+}
+
+fn change(alloc: Global, node: &mut Node) -> Result<(), BenchFault> {
+    let changed = names(alloc, Order::Scattered, CHANGED)?;
+    make_all(alloc, node, NodeCall::Take, &changed)
 }
 
 fn send<C: CpuClock>(clock: &C, node: &Node, since: u64) -> Result<Cost, BenchFault>
@@ -53,12 +68,32 @@ fn send<C: CpuClock>(clock: &C, node: &Node, since: u64) -> Result<Cost, BenchFa
     Cost::since(clock, start, CHANGED, bytes.len() as u64)
 }
 
-fn merge<C: CpuClock>(clock: &C, mut node: Node, bytes: &[u8]) -> Result<Cost, BenchFault>
+/// The delta is merged into another node that knows all endpoints.
+fn merge<C: CpuClock>(
+    clock: &C,
+    alloc: Global,
+    all: &[String],
+    delta: &[u8],
+) -> Result<Cost, BenchFault>
     ensures { IfOk result (λ cost. cost.calls ≡ 32) }
 {
+    let mut node = Node::new(alloc, 2);
+    fill_and_merge(clock, alloc, &mut node, all, delta)
+}
+
+fn fill_and_merge<C: CpuClock>(
+    clock: &C,
+    alloc: Global,
+    node: &mut Node,
+    all: &[String],
+    delta: &[u8],
+) -> Result<Cost, BenchFault>
+    ensures { IfOk result (λ cost. cost.calls ≡ 32) }
+{
+    make_all(alloc, node, NodeCall::Take, all)?;
     let start = clock.thread_cpu_time()?;
-    let merged = node.merge(bytes)?;
-    let cost = Cost::since(clock, start, CHANGED, bytes.len() as u64)?;
+    let merged = node.merge(delta)?;
+    let cost = Cost::since(clock, start, CHANGED, delta.len() as u64)?;
     if merged == CHANGED as usize {
         Ok(cost)
     } else {

@@ -1,12 +1,15 @@
 //! What the process keeps in memory for each thing that it stores.
 
 use crate::fault::BenchFault;
-use crate::indexes::index_of;
-use crate::journal::journal_of;
+use crate::indexes::add_all;
+use crate::journal::take_all;
 use crate::names::{Order, names};
-use crate::nodes::node_of;
+use crate::nodes::{NodeCall, make_all};
 use crate::slots::FIRST;
-use lw_reg::Slot;
+use lw_held::set_up;
+use lw_index::Index;
+use lw_node::Node;
+use lw_reg::{Addr, Slot};
 use std::alloc::Global;
 use std::collections::BTreeMap;
 use std::rt::Files;
@@ -37,15 +40,29 @@ pub(crate) fn measure_sizes<R: Files + Wait>(
     count: u32,
 ) -> Result<Sizes, BenchFault> {
     let names = names(alloc, Order::Rising, count)?;
+    let mut node = Node::new(alloc, 1);
+    let mut slots = BTreeMap::new(alloc);
+    let mut index = Index::new(alloc);
+    fill_all(rt, alloc, &names, &mut node, &mut slots, &mut index)
+}
+
+fn fill_all<R: Files + Wait>(
+    rt: &R,
+    alloc: Global,
+    names: &[String],
+    node: &mut Node,
+    slots: &mut BTreeMap<String, Slot>,
+    index: &mut Index<Addr>,
+) -> Result<Sizes, BenchFault> {
+    let count = names.len() as u64;
     let empty = resident(rt, alloc);
-    let _node = node_of(alloc, 1, &names)?;
+    make_all(alloc, node, NodeCall::Take, names)?;
     let with_node = resident(rt, alloc);
-    let _slots = removals(alloc, &names)?;
+    put_removals(alloc, slots, names)?;
     let with_slots = resident(rt, alloc);
-    let _index = index_of(alloc, &names)?;
+    add_all(index, names)?;
     let with_index = resident(rt, alloc);
-    let _journal = journal_of(rt, alloc, count)?;
-    let with_journal = resident(rt, alloc);
+    let with_journal = resident_with_journal(rt, alloc, count)?;
     Ok(Sizes {
         registration: growth_each(empty, with_node, count),
         removed: growth_each(with_node, with_slots, count),
@@ -54,10 +71,21 @@ pub(crate) fn measure_sizes<R: Files + Wait>(
     })
 }
 
+/// The bytes in memory while a journal of so many Updates is kept.
+fn resident_with_journal<R: Files + Wait>(
+    rt: &R,
+    alloc: Global,
+    count: u64,
+) -> Result<u64, BenchFault> {
+    let (shelves, mut passes) = set_up(alloc, 1, 1)?;
+    take_all(rt, alloc, &shelves, &mut passes, count)?;
+    Ok(resident(rt, alloc))
+}
+
 /// The difference for each of so many, rounded down; 0 where the process shrank.
-fn growth_each(before: u64, after: u64, count: u32) -> u64 {
+fn growth_each(before: u64, after: u64, count: u64) -> u64 {
     let growth = after.saturating_sub(before);
-    growth.checked_div(u64::from(count)).unwrap_or(0)
+    growth.checked_div(count).unwrap_or(0)
 }
 
 /// The bytes of the process that are in memory (proc(5), `/proc/self/statm`); 0 where the system does not tell.
@@ -80,10 +108,14 @@ fn second_number(text: &str) -> u64 {
 }
 
 /// Slots of removed registrations by name.
-fn removals(alloc: Global, names: &[String]) -> Result<BTreeMap<String, Slot>, BenchFault> {
-    let mut slots = BTreeMap::new(alloc);
+fn put_removals(
+    alloc: Global,
+    slots: &mut BTreeMap<String, Slot>,
+    names: &[String],
+) -> Result<(), BenchFault> {
     for name in names {
-        slots.insert(name.clone()?, Slot::from_parts(alloc, FIRST, None)?)?;
+        let slot = Slot::from_parts(alloc, FIRST, None)?;
+        slots.insert(name.clone()?, slot)?;
     }
-    Ok(slots)
+    Ok(())
 }

@@ -32,17 +32,27 @@ impl IndexCall {
         ensures { IfOk result (λ cost. cost.calls ≡ count) }
     {
         let names = names(alloc, Order::Scattered, count)?;
-        let mut index = self.index(alloc, &names)?;
-        let start = clock.thread_cpu_time()?;
-        make_all(&mut index, self, &names)?;
-        Cost::since(clock, start, count, 0)
+        let mut index = Index::new(alloc);
+        self.cost(clock, &mut index, &names, count)
     }
 
-    fn index(self, alloc: Global, names: &[String]) -> Result<Index<Addr>, BenchFault> {
+    /// The cost of the calls of an empty index, which is filled first where they look something up.
+    fn cost<C: CpuClock>(
+        self,
+        clock: &C,
+        index: &mut Index<Addr>,
+        names: &[String],
+        count: u32,
+    ) -> Result<Cost, BenchFault>
+        ensures { IfOk result (λ cost. cost.calls ≡ count) }
+    {
         match self {
-            IndexCall::Add => Ok(Index::new(alloc)),
-            IndexCall::Of | IndexCall::DropOne => index_of(alloc, names),
+            IndexCall::Add => (),
+            IndexCall::Of | IndexCall::DropOne => add_all(index, names)?,
         }
+        let start = clock.thread_cpu_time()?;
+        make_all(index, self, names)?;
+        Cost::since(clock, start, count, 0)
     }
 
     /// Whether there was an answer, where one is given.
@@ -56,11 +66,9 @@ impl IndexCall {
     }
 }
 
-/// An index of as many addresses, each with one of these endpoints.
-pub(crate) fn index_of(alloc: Global, names: &[String]) -> Result<Index<Addr>, BenchFault> {
-    let mut index = Index::new(alloc);
-    make_all(&mut index, IndexCall::Add, names)?;
-    Ok(index)
+/// Adds each of these endpoints at an address of its own.
+pub(crate) fn add_all(index: &mut Index<Addr>, names: &[String]) -> Result<(), BenchFault> {
+    make_all(index, IndexCall::Add, names)
 }
 
 fn make_all(index: &mut Index<Addr>, call: IndexCall, names: &[String]) -> Result<(), BenchFault> {

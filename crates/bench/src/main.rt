@@ -29,25 +29,43 @@ use crate::fault::BenchFault;
 use crate::serving::{FULL_REQUESTS, TRIAL_REQUESTS, serving};
 use crate::table::{ALL, FULL, TRIAL, table};
 use std::env;
+use std::net::Net;
+use std::rt::{Env, Files};
+use std::sync::Wait;
+use std::thread::Threads;
+use std::time::{Clock, CpuClock};
 
 fn main(rt: HostRuntime) -> Result<(), BenchFault> {
-    let mut words = env::args(&rt)?;
-    let (_program, table_word, row_word) = (words.next(), words.next(), words.next());
-    match table_word.as_deref() {
-        Some("serving") => {
-            let text = serving(&rt, rt.alloc(), FULL_REQUESTS)?;
-            println!(rt; "{}", text.as_str())?;
-        }
-        Some("full") => {
-            let text = table(&rt, FULL, row_word.as_deref().unwrap_or(ALL))?;
-            println!(rt; "{}", text.as_str())?;
-        }
-        Some(_) => return Err(BenchFault::UnknownWord),
-        None => {
-            table(&rt, TRIAL, ALL)?;
-            serving(&rt, rt.alloc(), TRIAL_REQUESTS)?;
-            println!(rt; "ok")?;
-        }
+    let text = answer(&rt)?;
+    Ok(println!(rt; "{}", text.as_str())?)
+}
+
+/// What is printed to the words of the command line.
+fn answer<R: Env + AllocGlobal + CpuClock + Files + Wait + Threads + Net + Clock + Sync>(
+    rt: &R,
+) -> Result<String, BenchFault> {
+    let mut words = env::args(rt)?;
+    words.next();
+    text_of(rt, words.next().as_deref(), words.next().as_deref())
+}
+
+fn text_of<R: AllocGlobal + CpuClock + Files + Wait + Threads + Net + Clock + Sync>(
+    rt: &R,
+    table_word: Option<&str>,
+    row_word: Option<&str>,
+) -> Result<String, BenchFault> {
+    match table_word {
+        Some("serving") => serving(rt, rt.alloc(), FULL_REQUESTS),
+        Some("full") => table(rt, FULL, row_word.unwrap_or(ALL)),
+        Some(_) => Err(BenchFault::UnknownWord),
+        None => trial(rt),
     }
-    Ok(())
+}
+
+fn trial<R: AllocGlobal + CpuClock + Files + Wait + Threads + Net + Clock + Sync>(
+    rt: &R,
+) -> Result<String, BenchFault> {
+    table(rt, TRIAL, ALL)?;
+    serving(rt, rt.alloc(), TRIAL_REQUESTS)?;
+    Ok(String::from_str(rt.alloc(), "ok")?)
 }

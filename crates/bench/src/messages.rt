@@ -28,7 +28,13 @@ const BEFORE_NAME: &[u8] = &[
 /// Two queries behind the endpoint.
 const BEHIND_NAME: &[u8] = b"\x06lt=300\x09lwm2m=1.1";
 
-const PAYLOAD_MARKER: u8 = 0xff;
+const PAYLOAD_MARKER: &[u8] = &[0xff];
+
+/// An Update up to the identifier of 16 bytes.
+const BEFORE_ID: &[u8] = b"\x40\x02\0\x01\xb2rd\x0d\x03";
+
+/// A query behind the identifier.
+const LIFETIME: &[u8] = b"\x46lt=300";
 
 /// Puts the Register of an endpoint with ten objects in the place of what was there: 136 bytes. So many empty
 /// queries stand behind the others, and so many links behind those objects.
@@ -39,21 +45,24 @@ pub(crate) fn put_register(
     links: u32,
 ) -> Result<(), AllocError> {
     bytes.clear();
-    bytes.extend_from_slice(BEFORE_NAME)?;
-    bytes.extend_from_slice(name.as_bytes())?;
-    bytes.extend_from_slice(BEHIND_NAME)?;
+    put_parts(bytes, &[BEFORE_NAME, name.as_bytes(), BEHIND_NAME])?;
     put_often(bytes, &[0], queries)?;
-    bytes.push(PAYLOAD_MARKER)?;
-    bytes.extend_from_slice(OBJECTS)?;
+    put_parts(bytes, &[PAYLOAD_MARKER, OBJECTS])?;
     put_often(bytes, b",</3303/0>", links)
 }
 
 /// Puts the Update of a registration's lifetime in the place of what was there.
 pub(crate) fn put_update(bytes: &mut Vec<u8>, id: Stamp) -> Result<(), AllocError> {
     bytes.clear();
-    bytes.extend_from_slice(b"\x40\x02\0\x01\xb2rd\x0d\x03")?;
-    bytes.extend_from_slice(&id.id_text())?;
-    bytes.extend_from_slice(b"\x46lt=300")
+    put_parts(bytes, &[BEFORE_ID, &id.id_text(), LIFETIME])
+}
+
+/// Puts one part behind another.
+pub(crate) fn put_parts(bytes: &mut Vec<u8>, parts: &[&[u8]]) -> Result<(), AllocError> {
+    for part in parts {
+        bytes.extend_from_slice(part)?;
+    }
+    Ok(())
 }
 
 fn put_often(bytes: &mut Vec<u8>, part: &[u8], times: u32) -> Result<(), AllocError> {

@@ -47,34 +47,34 @@ impl NodeCalls {
     ) -> Result<Cost, BenchFault>
         ensures { IfOk result (λ cost. cost.calls ≡ count) }
     {
-        let mut node = self.node(alloc, count)?;
-        let names = names(alloc, self.names, count)?;
-        self.call.cost(clock, alloc, &mut node, &names, count)
+        let mut node = Node::new(alloc, 1);
+        self.cost(clock, alloc, &mut node, count)
     }
 
-    fn node(self, alloc: Global, count: u32) -> Result<Node, BenchFault> {
-        let mut node = Node::new(alloc, 1);
+    fn cost<C: CpuClock>(
+        self,
+        clock: &C,
+        alloc: Global,
+        node: &mut Node,
+        count: u32,
+    ) -> Result<Cost, BenchFault>
+        ensures { IfOk result (λ cost. cost.calls ≡ count) }
+    {
         if let Some(order) = self.known {
-            self.fill(alloc, &mut node, &names(alloc, order, count)?)?;
+            self.fill(alloc, node, &names(alloc, order, count)?)?;
         }
-        Ok(node)
+        let names = names(alloc, self.names, count)?;
+        self.call.cost(clock, alloc, node, &names, count)
     }
 
     /// The endpoints register, and where tokens are looked for, a path of each is observed.
     fn fill(self, alloc: Global, node: &mut Node, names: &[String]) -> Result<(), BenchFault> {
         make_all(alloc, node, NodeCall::Take, names)?;
-        if let NodeCall::ByToken = self.call {
-            make_all(alloc, node, NodeCall::Observe, names)?;
+        match self.call {
+            NodeCall::ByToken => make_all(alloc, node, NodeCall::Observe, names),
+            _ => Ok(()),
         }
-        Ok(())
     }
-}
-
-/// A node that knows these endpoints, each at an address of its own.
-pub(crate) fn node_of(alloc: Global, number: u16, names: &[String]) -> Result<Node, BenchFault> {
-    let mut node = Node::new(alloc, number);
-    make_all(alloc, &mut node, NodeCall::Take, names)?;
-    Ok(node)
 }
 
 /// Makes the call with each name; all but one must find something. Behind the last endpoint there is none.
@@ -85,10 +85,19 @@ pub(crate) fn make_all(
     names: &[String],
 ) -> Result<(), BenchFault> {
     let mut datagram = Vec::new(alloc);
+    make_each(node, &mut datagram, call, names)
+}
+
+fn make_each(
+    node: &mut Node,
+    datagram: &mut Vec<u8>,
+    call: NodeCall,
+    names: &[String],
+) -> Result<(), BenchFault> {
     let mut place = 0_u32;
     let mut has_last = false;
     for name in names {
-        let is_found = call.make(node, &mut datagram, name.as_str(), place)?;
+        let is_found = call.make(node, datagram, name.as_str(), place)?;
         if !is_found && has_last {
             return Err(BenchFault::Unexpected);
         }

@@ -30,7 +30,7 @@ pub(crate) enum Operation {
 const LONG_CALLS: u32 = 1000;
 
 /// What is measured and its name, in the order of the table.
-pub(crate) const ROWS: [(&str, Operation); 27] = [
+pub(crate) static ROWS: [(&str, Operation); 27] = [
     (
         "take of a new Register, names rising",
         Operation::Node(NodeCalls {

@@ -37,9 +37,22 @@ impl RequestCall {
     {
         let datagram = self.datagram(alloc)?;
         let message = decode(alloc, &datagram)?;
+        self.cost(clock, alloc, &datagram, &message, count)
+    }
+
+    fn cost<C: CpuClock>(
+        self,
+        clock: &C,
+        alloc: Global,
+        datagram: &[u8],
+        message: &Message,
+        count: u32,
+    ) -> Result<Cost, BenchFault>
+        ensures { IfOk result (λ cost. cost.calls ≡ count) }
+    {
         let start = clock.thread_cpu_time()?;
         for _ in 0..count {
-            self.make(alloc, &datagram, &message)?;
+            self.make(alloc, datagram, message)?;
         }
         let bytes = u64::from(count).saturating_mul(datagram.len() as u64);
         Cost::since(clock, start, count, bytes)
@@ -65,16 +78,15 @@ impl RequestCall {
     }
 }
 
-fn is_register(asked: &Asked) -> bool {
-    matches!(asked, Asked::Register { .. })
+fn see_register(asked: &Asked) -> Result<(), BenchFault> {
+    match asked {
+        Asked::Register { .. } => Ok(()),
+        _ => Err(BenchFault::Unexpected),
+    }
 }
 
 fn understand_register(alloc: Global, message: &Message) -> Result<(), BenchFault> {
-    if is_register(&understand(alloc, message)?) {
-        Ok(())
-    } else {
-        Err(BenchFault::Unexpected)
-    }
+    see_register(&understand(alloc, message)?)
 }
 
 fn read_links(alloc: Global, text: &[u8]) -> Result<(), BenchFault> {

@@ -11,7 +11,7 @@ use crate::script::script_of;
 use lw_node::Answer;
 use lw_script::read_script;
 use lw_stamp::{Moment, Stamp};
-use lw_world::{Event, Outcome, World, run};
+use lw_world::{Event, Node, Outcome, World, run};
 use std::alloc::Global;
 use std::time::CpuClock;
 
@@ -52,16 +52,26 @@ fn run_all<C: CpuClock>(
     ensures { IfOk result (λ cost. cost.calls ≡ events_of count) }
 {
     let events = events(alloc, order, count)?;
-    let calls = calls_of(&events)?;
+    run_these(clock, alloc, &events, order, count)
+}
+
+/// The cost of the events of a run of so many endpoints in this order.
+fn run_these<C: CpuClock>(
+    clock: &C,
+    alloc: Global,
+    events: &[Event],
+    order: Order,
+    count: u32,
+) -> Result<Cost, BenchFault>
+    ensures { IfOk result (λ cost. cost.calls ≡ length events.now) }
+{
+    let calls = calls_of(events)?;
     let start = clock.thread_cpu_time()?;
-    let (world, outcomes) = run(alloc, NODES, &events)?;
+    let (world, outcomes) = run(alloc, NODES, events)?;
     let cost = Cost::since(clock, start, calls, 0)?;
-    if outcomes.len() == events.len() && outcomes.iter().all(is_good) {
-        see_all(alloc, &world, order, count)?;
-        Ok(cost)
-    } else {
-        Err(BenchFault::Unexpected)
-    }
+    see_outcomes(&outcomes, events.len())?;
+    see_all(alloc, &world, order, count)?;
+    Ok(cost)
 }
 
 fn read_all<C: CpuClock>(clock: &C, alloc: Global, events: &[Event]) -> Result<Cost, BenchFault>
@@ -69,10 +79,21 @@ fn read_all<C: CpuClock>(clock: &C, alloc: Global, events: &[Event]) -> Result<C
 {
     let calls = calls_of(events)?;
     let text = script_of(alloc, events)?;
+    read_text(clock, alloc, text.as_bytes(), calls)
+}
+
+fn read_text<C: CpuClock>(
+    clock: &C,
+    alloc: Global,
+    text: &[u8],
+    calls: u32,
+) -> Result<Cost, BenchFault>
+    ensures { IfOk result (λ cost. cost.calls ≡ calls) }
+{
     let start = clock.thread_cpu_time()?;
-    let script = read_script(alloc, text.as_bytes())?;
+    let script = read_script(alloc, text)?;
     let cost = Cost::since(clock, start, calls, text.len() as u64)?;
-    if script.nodes == NODES && script.events.len() == events.len() {
+    if script.nodes == NODES && script.events.len() == calls as usize {
         Ok(cost)
     } else {
         Err(BenchFault::Unexpected)
@@ -82,13 +103,30 @@ fn read_all<C: CpuClock>(clock: &C, alloc: Global, events: &[Event]) -> Result<C
 fn calls_of(events: &[Event]) -> Result<u32, BenchFault>
     ensures { IfOk result (λ calls. calls ≡ length events.now) }
 {
-    u32::try_from(events.len()).map_err(|_| BenchFault::Unexpected)
+    match u32::try_from(events.len()) {
+        Ok(calls) => Ok(calls),
+        Err(_) => Err(BenchFault::Unexpected),
+    }
+}
+
+/// Each of so many events has to have done what it should.
+fn see_outcomes(outcomes: &[Outcome], events: usize) -> Result<(), BenchFault> {
+    for outcome in outcomes {
+        if !is_good(outcome) {
+            return Err(BenchFault::Unexpected);
+        }
+    }
+    if outcomes.len() == events {
+        Ok(())
+    } else {
+        Err(BenchFault::Unexpected)
+    }
 }
 
 /// Whether the event did what it should.
 fn is_good(outcome: &Outcome) -> bool {
     match outcome {
-        Outcome::Taken(Ok(taken)) => taken.reply.as_ref().is_some_and(|reply| is_success(reply)),
+        Outcome::Taken(Ok(taken)) => is_success(taken.reply.as_deref()),
         Outcome::Answered(Ok(Answer::Registration(seen))) => seen.is_some(),
         Outcome::Sent(sent) => sent.is_ok(),
         Outcome::Delivered(joined) => joined.is_ok(),
@@ -96,9 +134,12 @@ fn is_good(outcome: &Outcome) -> bool {
     }
 }
 
-/// Whether the code of a message, its second byte, is one of success.
-fn is_success(message: &[u8]) -> bool {
-    message.get(1).is_some_and(|code| code / 32 == SUCCESS)
+/// Whether there is a message and its code, the second byte, is one of success.
+fn is_success(message: Option<&[u8]>) -> bool {
+    match message {
+        Some([_, code, ..]) => code / 32 == SUCCESS,
+        _ => false,
+    }
 }
 
 /// Each endpoint has to be shown at every node, as it was updated.
@@ -106,23 +147,30 @@ fn see_all(alloc: Global, world: &World, order: Order, count: u32) -> Result<(),
     let now = updated()?;
     for place in 0..count {
         let name = endpoint_at(alloc, order, place)?;
-        if !is_shown(world, now, name.as_str(), id_at(place)) {
+        see_one(world, now, name.as_str(), id_at(place))?;
+    }
+    Ok(())
+}
+
+fn see_one(world: &World, now: Moment, name: &str, id: Stamp) -> Result<(), BenchFault> {
+    for place in 0..NODES {
+        if !is_shown_at(world, place + 1, now, name, id) {
             return Err(BenchFault::Unexpected);
         }
     }
     Ok(())
 }
 
-fn is_shown(world: &World, now: Moment, name: &str, id: Stamp) -> bool {
-    (1..=NODES).all(|number| is_shown_at(world, number, now, name, id))
+fn is_shown_at(world: &World, number: u16, now: Moment, name: &str, id: Stamp) -> bool {
+    match world.node(number) {
+        Some(node) => is_shown(node, now, name, id),
+        None => false,
+    }
 }
 
-fn is_shown_at(world: &World, number: u16, now: Moment, name: &str, id: Stamp) -> bool {
-    let Some(node) = world.node(number) else {
-        return false;
-    };
-    let Some(view) = node.by_endpoint(now, name) else {
-        return false;
-    };
-    view.id == id && view.seen == now
+fn is_shown(node: &Node, now: Moment, name: &str, id: Stamp) -> bool {
+    match node.by_endpoint(now, name) {
+        Some(view) => view.id == id && view.seen == now,
+        None => false,
+    }
 }

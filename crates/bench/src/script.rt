@@ -9,10 +9,15 @@ use std::alloc::{AllocError, Global};
 /// The text of a script with these events, of the kinds that a run has here.
 pub(crate) fn script_of(alloc: Global, events: &[Event]) -> Result<String, BenchFault> {
     let mut text = format!(in alloc; "nodes {NODES}\n")?;
+    put_lines(alloc, events, &mut text)?;
+    Ok(text)
+}
+
+fn put_lines(alloc: Global, events: &[Event], text: &mut String) -> Result<(), BenchFault> {
     for event in events {
         text.push_str(line_of(alloc, event)?.as_str())?;
     }
-    Ok(text)
+    Ok(())
 }
 
 fn line_of(alloc: Global, event: &Event) -> Result<String, BenchFault> {
@@ -37,8 +42,18 @@ fn take_line(
     datagram: &[u8],
 ) -> Result<String, BenchFault> {
     let from = from.print(alloc)?;
+    Ok(line_from(alloc, node, now, from.as_str(), datagram)?)
+}
+
+fn line_from(
+    alloc: Global,
+    node: u16,
+    now: Moment,
+    from: &str,
+    datagram: &[u8],
+) -> Result<String, AllocError> {
     let hex = hex::encode(alloc, datagram)?;
-    Ok(format!(in alloc; "take {node} {} {from} {hex}\n", now.ms())?)
+    format!(in alloc; "take {node} {} {from} {hex}\n", now.ms())
 }
 
 fn id_line(alloc: Global, node: u16, now: Moment, id: Stamp) -> Result<String, AllocError> {

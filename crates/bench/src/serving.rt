@@ -27,8 +27,18 @@ pub(crate) fn serving<R: Threads + Wait + Net + Clock + Sync>(
     alloc: Global,
     requests: u32,
 ) -> Result<String, BenchFault> {
-    let all = requests.saturating_mul(u32::from(CLIENTS));
     let mut text = String::from_str(alloc, "nodes/workers  replies/s  echo/s  hundredths\n")?;
+    put_rows(rt, alloc, requests, &mut text)?;
+    Ok(text)
+}
+
+fn put_rows<R: Threads + Wait + Net + Clock + Sync>(
+    rt: &R,
+    alloc: Global,
+    requests: u32,
+    text: &mut String,
+) -> Result<(), BenchFault> {
+    let all = requests.saturating_mul(u32::from(CLIENTS));
     for (nodes, workers) in PEERS {
         let echo = per_second(all, measure(rt, alloc, Peer::Echo, requests)?);
         let peer = Peer::Rounds { nodes, workers };
@@ -37,7 +47,7 @@ pub(crate) fn serving<R: Threads + Wait + Net + Clock + Sync>(
         let row = format!(in alloc; "{nodes}/{workers}{served:>21}{echo:>8}{ratio:>12}\n")?;
         text.push_str(&row)?;
     }
-    Ok(text)
+    Ok(())
 }
 
 /// How many there are in a second, rounded down; 0 where no time has passed.

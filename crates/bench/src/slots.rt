@@ -47,13 +47,29 @@ impl SlotCall {
     ) -> Result<Cost, BenchFault>
         ensures { IfOk result (λ cost. cost.calls ≡ count) }
     {
-        let mut slot = atom(alloc, operation(alloc, FIRST, update())?)?;
+        let mut slot = atom(alloc, operation(endpoint(alloc)?, FIRST, update()))?;
+        self.cost(clock, alloc, &mut slot, count)
+    }
+
+    fn cost<C: CpuClock>(
+        self,
+        clock: &C,
+        alloc: Global,
+        slot: &mut Slot,
+        count: u32,
+    ) -> Result<Cost, BenchFault>
+        ensures { IfOk result (λ cost. cost.calls ≡ count) }
+    {
         let start = clock.thread_cpu_time()?;
         for place in 0..count {
-            let made = operation(alloc, stamp(place), self.what(place)?)?;
-            slot.join_with(atom(alloc, made)?)?;
+            slot.join_with(self.atom(alloc, place)?)?;
         }
         Cost::since(clock, start, count, 0)
+    }
+
+    fn atom(self, alloc: Global, place: u32) -> Result<Slot, BenchFault> {
+        let endpoint = endpoint(alloc)?;
+        Ok(atom(alloc, operation(endpoint, stamp(place), self.what(place)?))?)
     }
 
     fn what(self, place: u32) -> Result<What, BenchFault> {
@@ -75,14 +91,17 @@ fn stamp(place: u32) -> Stamp {
     }
 }
 
-fn operation(alloc: Global, stamp: Stamp, what: What) -> Result<Op, BenchFault> {
-    let text = Text::copy_of(alloc, ENDPOINT)?;
-    Ok(Op {
+fn endpoint(alloc: Global) -> Result<Endpoint, BenchFault> {
+    Endpoint::new(Text::copy_of(alloc, ENDPOINT)?).ok_or(BenchFault::Unexpected)
+}
+
+fn operation(endpoint: Endpoint, stamp: Stamp, what: What) -> Op {
+    Op {
         stamp,
-        endpoint: Endpoint::new(text).ok_or(BenchFault::Unexpected)?,
+        endpoint,
         reg: FIRST,
         what,
-    })
+    }
 }
 
 fn update() -> What {

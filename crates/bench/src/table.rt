@@ -1,9 +1,10 @@
 //! The table of all costs.
 
 use crate::fault::BenchFault;
-use crate::heap::measure_sizes;
-use crate::operation::{Operation, ROWS};
+use crate::heap::{Sizes, measure_sizes};
+use crate::operation::ROWS;
 use crate::row::row;
+use std::alloc::{AllocError, Global};
 use std::rt::Files;
 use std::sync::Wait;
 use std::time::CpuClock;
@@ -46,35 +47,42 @@ pub(crate) fn table<R: AllocGlobal + CpuClock + Files + Wait>(
     plan: Plan,
     word: &str,
 ) -> Result<String, BenchFault> {
-    let mut text = String::new(rt.alloc());
-    if word == ALL {
-        text.push_str(sizes_text(rt, plan)?.as_str())?;
-    }
-    text.push_str(HEADING)?;
-    for (name, operation) in ROWS {
-        if name.contains(word) {
-            let row = row_text(rt, plan, name, operation)?;
-            text.push_str(row.as_str())?;
-        }
-    }
+    let mut text = head(rt, plan, word)?;
+    put_rows(rt, plan, word, &mut text)?;
     Ok(text)
 }
 
-fn sizes_text<R: AllocGlobal + Files + Wait>(rt: &R, plan: Plan) -> Result<String, BenchFault> {
-    let sizes = measure_sizes(rt, rt.alloc(), plan.large)?;
-    let text = format!(in rt.alloc();
-        "bytes of a registration: {}\nbytes of a removed one: {}\nbytes of an index key: {}\nbytes of an Update in journal and transcript: {}\n\n",
-        sizes.registration, sizes.removed, sizes.index_key, sizes.update
-    )?;
-    Ok(text)
-}
-
-fn row_text<R: AllocGlobal + CpuClock>(
+/// What stands above the rows.
+fn head<R: AllocGlobal + Files + Wait>(
     rt: &R,
     plan: Plan,
-    name: &str,
-    operation: Operation,
+    word: &str,
 ) -> Result<String, BenchFault> {
-    let costs = operation.least(rt, rt.alloc(), plan)?;
-    Ok(row(rt.alloc(), name, costs)?)
+    if word != ALL {
+        return Ok(String::from_str(rt.alloc(), HEADING)?);
+    }
+    let sizes = measure_sizes(rt, rt.alloc(), plan.large)?;
+    Ok(sizes_text(rt.alloc(), sizes)?)
+}
+
+fn sizes_text(alloc: Global, sizes: Sizes) -> Result<String, AllocError> {
+    format!(in alloc;
+        "bytes of a registration: {}\nbytes of a removed one: {}\nbytes of an index key: {}\nbytes of an Update in journal and transcript: {}\n\n{HEADING}",
+        sizes.registration, sizes.removed, sizes.index_key, sizes.update
+    )
+}
+
+fn put_rows<R: AllocGlobal + CpuClock>(
+    rt: &R,
+    plan: Plan,
+    word: &str,
+    text: &mut String,
+) -> Result<(), BenchFault> {
+    for (name, operation) in &ROWS {
+        if name.contains(word) {
+            let costs = operation.least(rt, rt.alloc(), plan)?;
+            text.push_str(row(rt.alloc(), name, costs)?.as_str())?;
+        }
+    }
+    Ok(())
 }

@@ -1,6 +1,7 @@
 //! A device over UDP: it registers, and then updates its registration again and again.
 
 use crate::fault::BenchFault;
+use std::io;
 use std::net::{IpAddr, Ipv4Addr, Net, SocketAddr, UdpSocket};
 use std::time::Duration;
 
@@ -32,8 +33,7 @@ impl Client {
     /// A client of the server at the port, which waits five seconds for a reply.
     pub(super) fn new<R: Net>(rt: &R, name: u8, server: u16) -> Result<Client, BenchFault> {
         let socket = UdpSocket::bind(rt, loopback(0))?;
-        socket.connect(loopback(server))?;
-        socket.set_read_timeout(Some(Duration::from_secs(5)))?;
+        connect(&socket, server)?;
         Ok(Client {
             socket,
             name,
@@ -76,6 +76,11 @@ impl Client {
         self.answered = self.answered.saturating_add(1);
         Some((buffer, length))
     }
+}
+
+fn connect(socket: &UdpSocket, server: u16) -> io::Result<()> {
+    socket.connect(loopback(server))?;
+    socket.set_read_timeout(Some(Duration::from_secs(5)))
 }
 
 /// A confirmable Register of `ep=cN` with the object list `</>`.

@@ -3,7 +3,7 @@
 use super::client::{Client, Codes, loopback};
 use crate::fault::BenchFault;
 use log::sink::Discard;
-use lw_serve::{Plan, SystemClock, UdpWire, serve_on};
+use lw_serve::{Plan, ServeFault, SystemClock, UdpWire, serve_on};
 use std::alloc::Global;
 use std::io;
 use std::net::{Net, UdpSocket};
@@ -47,19 +47,45 @@ pub(super) fn measure<R: Threads + Wait + Net + Clock + Sync>(
 ) -> Result<Duration, BenchFault> {
     let socket = UdpSocket::bind(rt, loopback(0))?;
     let mut clients = clients(rt, alloc, socket.local_addr()?.port())?;
-    let all = requests.saturating_mul(u32::from(CLIENTS));
+    time_of(rt, alloc, peer, socket, &mut clients, requests)
+}
+
+fn time_of<R: Threads + Wait + Net + Clock + Sync>(
+    rt: &R,
+    alloc: Global,
+    peer: Peer,
+    socket: UdpSocket,
+    clients: &mut [Client],
+    requests: u32,
+) -> Result<Duration, BenchFault> {
     let start = Instant::now(rt)?;
+    let answered = exchange(rt, alloc, peer, socket, clients, requests);
+    let time = start.elapsed(rt)?;
+    answered?;
+    for client in clients {
+        if client.answered != requests {
+            return Err(BenchFault::Unexpected);
+        }
+    }
+    Ok(time)
+}
+
+/// All clients ask while they are answered.
+fn exchange<R: Threads + Wait + Clock + Sync>(
+    rt: &R,
+    alloc: Global,
+    peer: Peer,
+    socket: UdpSocket,
+    clients: &mut [Client],
+    requests: u32,
+) -> Result<(), BenchFault> {
+    let all = requests.saturating_mul(u32::from(CLIENTS));
     let (answered, ()) = thread::join(
         rt,
         || answer(rt, alloc, peer, socket, all),
-        || ask(rt, &mut clients, requests, peer.codes()),
+        || ask(rt, clients, requests, peer.codes()),
     );
-    let time = start.elapsed(rt)?;
-    answered?;
-    if clients.iter().any(|client| client.answered != requests) {
-        return Err(BenchFault::Unexpected);
-    }
-    Ok(time)
+    answered
 }
 
 fn clients<R: Net>(rt: &R, alloc: Global, server: u16) -> Result<Vec<Client>, BenchFault> {
@@ -85,16 +111,24 @@ fn answer<R: Threads + Wait + Clock + Sync>(
     count: u32,
 ) -> Result<(), BenchFault> {
     match peer {
-        Peer::Rounds { nodes, workers } => {
-            let plan = Plan::new(count, nodes, workers).ok_or(BenchFault::Unexpected)?;
-            let mut written = Vec::new(alloc);
-            let wire = &mut UdpWire::new(socket);
-            let clock = &mut SystemClock { clock: rt };
-            serve_on(rt, alloc, wire, clock, &Discard, &plan, &mut written)?;
-            Ok(())
-        }
+        Peer::Rounds { nodes, workers } => match Plan::new(count, nodes, workers) {
+            Some(plan) => Ok(serve(rt, alloc, socket, &plan)?),
+            None => Err(BenchFault::Unexpected),
+        },
         Peer::Echo => Ok(echo(&socket, count)?),
     }
+}
+
+fn serve<R: Threads + Wait + Clock + Sync>(
+    rt: &R,
+    alloc: Global,
+    socket: UdpSocket,
+    plan: &Plan,
+) -> Result<(), ServeFault> {
+    let mut written = Vec::new(alloc);
+    let wire = &mut UdpWire::new(socket);
+    let clock = &mut SystemClock { clock: rt };
+    serve_on(rt, alloc, wire, clock, &Discard, plan, &mut written)
 }
 
 /// Sends so many datagrams back.
