@@ -58,9 +58,7 @@ pub(super) fn reply_text(alloc: Global, reply: &Reply) -> Result<String, AllocEr
 fn sent_text(alloc: Global, sent: &Sent) -> Result<String, AllocError> {
     let delta = hex::encode(alloc, &sent.delta)?;
     let change = sent.change;
-    let text = format!(in alloc; "{delta} {change}");
-    drop(delta);
-    text
+    format!(in alloc; "{delta} {change}")
 }
 
 /// What is shown, its endpoint first and its objects last.
@@ -68,9 +66,7 @@ fn seen_text(alloc: Global, seen: &Seen) -> Result<String, AllocError> {
     let Ok(address) = seen.address.print(alloc) else {
         return Err(AllocError);
     };
-    let text = shown_at(alloc, seen, &address);
-    drop(address);
-    text
+    shown_at(alloc, seen, &address)
 }
 
 fn shown_at(alloc: Global, seen: &Seen, address: &str) -> Result<String, AllocError> {

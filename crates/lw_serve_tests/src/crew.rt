@@ -124,9 +124,7 @@ fn part_of(passes: &[Pass], pass: usize, number: u64) -> Option<&Part> {
 fn add_part(alloc: Global, text: &mut String, job: u64, part: &Part) -> Result<(), AllocError> {
     let reply = reply_text(alloc, &part.entry.reply)?;
     let (node, place) = (part.node, part.place);
-    let added = writeln!(text, "{job}: {node} {place} {reply}");
-    drop(reply);
-    added
+    writeln!(text, "{job}: {node} {place} {reply}")
 }
 
 /// How many parts the passes have together.
