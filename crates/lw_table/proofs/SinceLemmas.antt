@@ -38,24 +38,34 @@ module _ {B : Type 0} (All : B → List ℕ → Type 0) (all : B) where
       back : All all e → Contains more e ⊎ AnyHas rest e
       back a = elim ((h e).1 a) [ inl old ↦ inl ((added e).1 (inl old)) | inr c ↦ elim c [ inl d ↦ inl ((added e).1 (inr d)) | inr r ↦ inr r ] ]
 
-pub rest_added : (names mid more : List (List ℕ)) (x : List ℕ) (rest : List (List ℕ)) → ((e : List ℕ) → Contains mid e ↔ (Contains names e ⊎ (e ≡ x)))
-    → ((e : List ℕ) → Contains more e ↔ (Contains mid e ⊎ Contains rest e)) → (e : List ℕ) → Contains more e ↔ (Contains names e ⊎ Contains (x ∷ rest) e)
-rest_added names mid more x rest one others e = (there, back)
-  where
-    from_mid : Contains names e ⊎ (e ≡ x) → Contains names e ⊎ Contains (x ∷ rest) e
-    from_mid (inl c) = inl c
-    from_mid (inr same) = inr (first_there x rest e same)
+  pub endpoint_gathered : (names more : List (List ℕ)) (x : List ℕ) (rest : List (List ℕ)) → ((e : List ℕ) → Contains more e ↔ (Contains names e ⊎ (e ≡ x)))
+      → Gathers Contains names (x ∷ rest) All all → Gathers Contains more rest All all
+  endpoint_gathered names more x rest added h e = (there, back)
+    where
+      one : Contains names e ⊎ (e ≡ x) → All all e
+      one (inl old) = (h e).0 (inl old)
+      one (inr same) = (h e).0 (inr (first_there x rest e same))
 
-    there : Contains more e → Contains names e ⊎ Contains (x ∷ rest) e
-    there m = elim ((others e).0 m) [ inl c ↦ from_mid ((one e).0 c) | inr r ↦ inr (more_there x rest e r) ]
+      there : Contains more e ⊎ Contains rest e → All all e
+      there (inl m) = one ((added e).0 m)
+      there (inr r) = (h e).0 (inr (more_there x rest e r))
 
-    split : (e ≡ x) ⊎ Contains rest e → Contains more e
-    split (inl same) = (others e).1 (inl ((one e).1 (inr same)))
-    split (inr r) = (others e).1 (inr r)
+      split : (e ≡ x) ⊎ Contains rest e → Contains more e ⊎ Contains rest e
+      split (inl same) = inl ((added e).1 (inr same))
+      split (inr r) = inr r
 
-    back : Contains names e ⊎ Contains (x ∷ rest) e → Contains more e
-    back (inl c) = (others e).1 (inl ((one e).1 (inl c)))
-    back (inr c) = split (there_or_first x rest e c)
+      back : All all e → Contains more e ⊎ Contains rest e
+      back a = elim ((h e).1 a) [ inl old ↦ inl ((added e).1 (inl old)) | inr c ↦ split (there_or_first x rest e c) ]
+
+  -- where nothing is left, all are gathered
+  pub all_gathered : (names left : List (List ℕ)) → left ≡ [] → Gathers Contains names left All all → (e : List ℕ) → Contains names e ↔ All all e
+  all_gathered names left none h e = (there, back)
+    where
+      there : Contains names e → All all e
+      there c = (h e).0 (inl c)
+
+      back : All all e → Contains names e
+      back a = elim ((h e).1 a) [ inl c ↦ c | inr c ↦ none_there e (subst (λ (l : List (List ℕ)). Contains l e) none c) ]
 
 -- ---- the slots of endpoints
 pub unfiltered : (es : List (List ℕ)) → filter (is_after None) es ≡ es

@@ -35,8 +35,9 @@ impl Table {
         self.view(now, endpoint)
     }
 
-    /// The shown registration with the identifier. Each call below costs a descent, and one for each
-    /// registration that it passes over as expired.
+    /// The shown registration with the identifier. Each call below costs a descent, and one for each registration that it
+    /// passes over as expired. `by_address` looks at all that have the address, and a text longer than an endpoint is
+    /// looked for from the first name on.
     pub fn by_id(&self, now: Moment, id: Stamp) -> Option<View<'_>>
         ensures read { ById (shown_in self.now.state) (ms_of now) id result }
         ensures marks { (ms : List Mark) → NamesAll (among ms) → IsStateOf ms self.now.state → ById (among ms) (ms_of now) id result }

@@ -56,14 +56,11 @@ fn names_above(alloc: Global, numbers: &Index<u64>, since: Option<u64>) -> Resul
 }
 
 /// Adds the endpoints of one number, of which there is one but at the last.
-fn add_all(alloc: Global, names: &mut Names, mut endpoints: Endpoints<'_>) -> Result<(), NoMemory>
+fn add_all(alloc: Global, names: &mut Names, endpoints: Endpoints<'_>) -> Result<(), NoMemory>
     ensures { OnOk result ((e : List ℕ) → Contains names.new e ↔ (Contains names.old e ⊎ Contains endpoints.entry e)) }
 {
-    match endpoints.next() {
-        None => Ok(()),
-        Some(endpoint) => {
-            names.add(alloc, endpoint)?;
-            add_all(alloc, names, endpoints)
-        }
+    for endpoint in endpoints {
+        names.add(alloc, endpoint)?;
     }
+    Ok(())
 }
