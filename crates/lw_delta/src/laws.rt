@@ -13,7 +13,8 @@ pub fn written_deltas_read_back()
     ensures { (clock : ℕ) (slots : List (List ℕ × Slots)) → clock < 2 ^ 48 → AreGood clock None slots → IsSpelling (delta_bytes clock slots) (record { clock = clock; slots = slots }) }
 {}
 
-/// Bytes are one delta or have one first fault, never both.
+/// Bytes spell no two deltas, have no two first faults, and never both. That they have one of these is what `check`
+/// answers.
 pub fn bytes_are_a_delta_or_a_fault()
     ensures delta { (bytes : List ℕ) (a b : DeltaContent) → IsSpelling bytes a → IsSpelling bytes b → a ≡ b }
     ensures apart { (bytes : List ℕ) (d : DeltaContent) (fault : Faults) → IsSpelling bytes d → IsFault bytes fault → ⊥ }

@@ -1,5 +1,5 @@
-//! Deltas as bytes: the clock of a sender and slots, by one grammar. `check` and `read` take them apart, and
-//! a `Writer` puts them together.
+//! Deltas as bytes: the clock of a sender and slots, by one grammar. `check`, `read` and a
+//! `Reader` take them apart, and a `Writer` puts them together.
 #![tactic(auto)]
 
 mod checking;

@@ -22,17 +22,13 @@ use crate::{Delta, DeltaFault};
 use lw_join::Parts;
 use lw_link::LinkText;
 use lw_reg::{Endpoint, Fields, Path, Slot, SmsNumber, Watching};
-use lw_stamp::{NoMemory, Stamp, Text};
+use lw_stamp::{NoMemory, Stamp};
 use std::alloc::Global;
 
 fn sms_number(alloc: Global, lent: LentNumber) -> Result<SmsNumber, NoMemory>
     ensures { IfOk result (λ number. number ≡ lent.entry) }
 {
-    let text = Text::copy_of(alloc, lent.text)?;
-    let Some(number) = SmsNumber::new(text) else {
-        unreachable!()
-    };
-    Ok(number)
+    SmsNumber::copy_of(alloc, lent.text)
 }
 
 fn sms(
@@ -127,17 +123,6 @@ fn fields(
     })
 }
 
-fn endpoint(alloc: Global, name: &str) -> Result<Endpoint, NoMemory>
-    requires { IsEndpoint name.now }
-    ensures { IfOk result (λ endpoint. endpoint ≡ name.now) }
-{
-    let text = Text::copy_of(alloc, name)?;
-    let Some(endpoint) = Endpoint::new(text) else {
-        unreachable!()
-    };
-    Ok(endpoint)
-}
-
 /// What is kept of a slot. Of a removed registration neither fields nor watches are kept.
 fn kept_fields(alloc: Global, clock: u64, lent: LentSlot) -> Result<Option<Fields>, DeltaFault>
     requires { (ws : List (Paths × Watchings)) × Holds clock lent ws }
@@ -162,7 +147,7 @@ pub(crate) fn slot(
     ensures value { (ws : List (Paths × Watchings)) → Holds clock lent.entry ws → IfOk result (λ x. x ≡ lent_slot lent.entry ws) }
     ensures fault { IfErr result (λ fault. fault ≡ DeltaFault.NoMemory) }
 {
-    let endpoint = endpoint(alloc, lent.endpoint)?;
+    let endpoint = Endpoint::copy_of(alloc, lent.endpoint)?;
     let registration = lent.registration;
     let fields = kept_fields(alloc, clock, lent)?;
     let slot = Slot::from_parts(alloc, registration, fields)?;

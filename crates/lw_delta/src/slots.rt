@@ -14,12 +14,10 @@ use crate::fields::{LentFields, fields};
 use crate::numbers::{byte, is_set, is_within, stamp, tag};
 use crate::values::text;
 use crate::watches::check_watches;
+use lw_reg::Endpoint;
 use lw_stamp::Stamp;
 
 pub(crate) const REMOVED: u8 = 0x80;
-
-/// The most bytes of an endpoint.
-const MAX_ENDPOINT: usize = 252;
 
 /// A slot where it stands in the bytes of a delta.
 #[derive(Drop)]
@@ -47,7 +45,7 @@ fn endpoint<'a>(after: Option<&str>, bytes: &'a [u8]) -> Result<(&'a str, &'a [u
     ensures fault { IfErr result (Fails (endpoint_part (option_copied after.entry)) bytes.now) }
 {
     let (count, rest) = byte(bytes)?;
-    if !is_within(count as usize, MAX_ENDPOINT) {
+    if !is_within(count as usize, Endpoint::MAX_LENGTH) {
         return Err(DeltaFault::Range);
     }
     let (name, rest) = text(rest, count)?;

@@ -1,6 +1,5 @@
 ghost use Rattle.std.specs.Prelude.{◌≡◌, ◌↔◌, ◌+◌, ◌-◌, ◌^◌, List, IsNone, IfSome, IsOk, IfOk, OnOk, OnErr, None, Err, Some};
 ghost use Rattle.lw_stamp.specs.Moment.{ms_of};
-ghost use Rattle.lw_reg.specs.Endpoint.{IsEndpoint};
 ghost use Rattle.lw_reg.specs.Marks.{Mark, among};
 ghost use Rattle.lw_reg.specs.Reading.{shown_in};
 ghost use Rattle.lw_reg.specs.Registration.{Registration};
@@ -14,7 +13,7 @@ ghost use Rattle.lw_node.specs.Within.{FitsClock, IsNextOf};
 use crate::command::Command;
 use crate::decision::Decision;
 use lw_call::{ObserveFault, Outgoing, Taken};
-use lw_reg::{Addr, Endpoint, Op, Path, Text, atom};
+use lw_reg::{Addr, Op, Path, atom_with_endpoint};
 use lw_stamp::{Clock, Moment, NoMemory, Stamp};
 use lw_table::Table;
 use std::alloc::Global;
@@ -113,7 +112,8 @@ impl Node {
         self.carry_out(command)
     }
 
-    /// The number of the last operation that is known of. No stamp that can be read from the node is above it.
+    /// The greatest counter that the node has issued, or that a delta brought. No stamp that can be read from the node is
+    /// above it.
     pub fn clock(&self) -> u64
         ensures value { result ≡ self.now.clock }
         ensures within { FitsClock result self.now.table.state }
@@ -180,22 +180,10 @@ impl Node {
         ensures issued { OnOk result (Issued self.old operation self.new) }
         ensures unchanged { OnErr result (self.new ≡ self.old) }
     {
-        let alloc = self.alloc;
         let counter = operation.stamp.counter;
-        let endpoint = endpoint_of(alloc, operation.endpoint.as_str())?;
-        self.table.join(&endpoint, atom(alloc, operation)?)?;
+        let (endpoint, slot) = atom_with_endpoint(self.alloc, operation)?;
+        self.table.join(&endpoint, slot)?;
         self.clock.raise(counter);
         Ok(())
     }
-}
-
-/// A copy of the name of a client.
-pub(crate) fn endpoint_of(alloc: Global, endpoint: &str) -> Result<Endpoint, NoMemory>
-    requires { IsEndpoint endpoint.now }
-    ensures { IfOk result (λ e. e ≡ endpoint.now) }
-{
-    let Some(endpoint) = Endpoint::new(Text::copy_of(alloc, endpoint)?) else {
-        unreachable!()
-    };
-    Ok(endpoint)
 }

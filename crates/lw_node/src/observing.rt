@@ -7,10 +7,10 @@ ghost use Rattle.lw_node.specs.Calls.{place_at, Commanded, IsSent};
 ghost use Rattle.lw_node.specs.Effects.{ObserveMeans, CancelMeans, IsAbout, observes, ends};
 
 use crate::command::Command;
-use crate::node::{Node, endpoint_of};
+use crate::node::Node;
 use crate::request::{Observe, get};
 use lw_call::{ObserveFault, Outgoing};
-use lw_reg::{Op, Path, View, Watch, What};
+use lw_reg::{Endpoint, Op, Path, View, Watch, What};
 use lw_stamp::{Moment, NoMemory, Stamp};
 use std::alloc::Global;
 
@@ -66,7 +66,7 @@ fn observation(
     ensures sent { IfOk result (λ c. IsSent c.outgoing (observes mid path accept view.now c.operation)) }
 {
     let bytes = get(alloc, mid, Observe::Register, &token, &path, accept)?;
-    let endpoint = endpoint_of(alloc, view.endpoint)?;
+    let endpoint = Endpoint::copy_of(alloc, view.endpoint)?;
     Ok(Command {
         outgoing: Outgoing {
             to: view.address,
@@ -100,7 +100,7 @@ fn end(
         accept,
     } = watch;
     let bytes = get(alloc, mid, Observe::Deregister, &token, &path, accept)?;
-    let endpoint = endpoint_of(alloc, view.endpoint)?;
+    let endpoint = Endpoint::copy_of(alloc, view.endpoint)?;
     Ok(Command {
         outgoing: Outgoing {
             to: view.address,

@@ -13,9 +13,9 @@ ghost use Rattle.lw_node.specs.Node.{Known, IsKnown, marks_in};
 
 use crate::answering::{acknowledged, rejected, unwanted};
 use crate::decision::Decision;
-use crate::node::{Node, endpoint_of};
+use crate::node::Node;
 use lw_call::Notice;
-use lw_reg::{Op, Text, View, Watch, What};
+use lw_reg::{Endpoint, Op, Text, View, Watch, What};
 use lw_request::Report;
 use lw_stamp::{Moment, NoMemory, Stamp};
 use std::alloc::Global;
@@ -105,7 +105,7 @@ impl Node {
             return Ok(Decision::reply(reply));
         };
         let reply = acknowledged(self.alloc, report.kind, report.mid)?;
-        let endpoint = endpoint_of(self.alloc, view.endpoint)?;
+        let endpoint = Endpoint::copy_of(self.alloc, view.endpoint)?;
         Ok(Decision {
             reply,
             notice: Some(notice_of(self.alloc, report, view, watch, true)?),

@@ -10,7 +10,7 @@ ghost use Rattle.lw_node.specs.Node.{Known, IsKnown, marks_in};
 
 use crate::answering::{answered, malformed, rejected, reset_to};
 use crate::decision::Decision;
-use crate::node::{Node, endpoint_of};
+use crate::node::Node;
 use lw_coap::codes::{CHANGED, CREATED, DELETED, NOT_FOUND, SERVICE_UNAVAILABLE};
 use lw_coap::{Fault, Kind, Message, decode};
 use lw_link::LinkText;
@@ -147,7 +147,7 @@ impl Node {
         };
         let operation = Op {
             stamp,
-            endpoint: endpoint_of(self.alloc, view.endpoint)?,
+            endpoint: Endpoint::copy_of(self.alloc, view.endpoint)?,
             reg: view.id,
             what,
         };

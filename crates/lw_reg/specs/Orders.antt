@@ -20,6 +20,7 @@ use Rattle.lw_reg.specs.contracts.addr.AddrOrd.TheImpl as addrs
 use Rattle.lw_reg.specs.contracts.base.BaseOrd.TheImpl as bases
 use Rattle.lw_reg.specs.contracts.binding.BindingOrd.TheImpl as bindings
 use Rattle.lw_reg.specs.contracts.endpoint.EndpointOrd.TheImpl as endpoints
+use Rattle.lw_reg.specs.contracts.path.PathOrd.TheImpl as paths
 use Rattle.lw_reg.specs.contracts.sms_number.SmsNumberOrd.TheImpl as sms_numbers
 use Rattle.lw_reg.specs.contracts.version.VersionOrd.TheImpl as versions
 
@@ -82,6 +83,9 @@ binding_cmp = (bindings.ghosts).cmp
 
 abbrev pub endpoint_cmp : List ℕ → List ℕ → Ordering
 endpoint_cmp = (endpoints.ghosts).cmp
+
+abbrev pub path_given_cmp : Path → Path → Ordering
+path_given_cmp = (paths.ghosts).cmp
 
 abbrev pub sms_number_cmp : List ℕ → List ℕ → Ordering
 sms_number_cmp = (sms_numbers.ghosts).cmp

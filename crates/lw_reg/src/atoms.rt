@@ -2,10 +2,11 @@
 
 ghost use Rattle.std.specs.Prelude.{◌≡◌, IfOk, IsOk, Ok, None};
 ghost use Rattle.lw_reg.specs.Body.{no_watches};
+ghost use Rattle.lw_reg.specs.Endpoint.{IsEndpoint};
 ghost use Rattle.lw_reg.specs.Slot.{slot_of, told_of, write_of, observed, cancelled};
 ghost use Rattle.lw_reg.specs.Fields.{told_fields, watched_fields};
 
-use crate::{Base, Fields, Op, Path, Slot, Watching, What};
+use crate::{Base, Endpoint, Fields, Op, Path, Slot, Watching, What};
 use lw_join::{Lex, Once, OrGone, Parts};
 use lw_stamp::{NoMemory, Stamp};
 use std::alloc::Global;
@@ -15,13 +16,27 @@ pub fn atom(alloc: Global, op: Op) -> Result<Slot, NoMemory>
     ensures slot { IfOk result (λ slot. slot ≡ slot_of op) }
     ensures calm { op.what ≡ What.Remove → IsOk result }
 {
+    let (_, slot) = atom_with_endpoint(alloc, op)?;
+    Ok(slot)
+}
+
+/// The slot that the one operation makes, with the endpoint that it is about. A removal takes no memory.
+pub fn atom_with_endpoint(alloc: Global, op: Op) -> Result<(Endpoint, Slot), NoMemory>
+    ensures endpoint { IfOk result (λ x. x.0 ≡ op.endpoint) }
+    ensures within { IfOk result (λ x. IsEndpoint x.0) }
+    ensures slot { IfOk result (λ x. x.1 ≡ slot_of op) }
+    ensures calm { op.what ≡ What.Remove → IsOk result }
+{
     let Op {
         stamp,
+        endpoint,
         reg,
         what,
-        ..
     } = op;
-    Slot::from_parts(alloc, reg, told(alloc, stamp, what)?)
+    // The name is read for what is known of it alone.
+    let _name = endpoint.as_str();
+    let slot = Slot::from_parts(alloc, reg, told(alloc, stamp, what)?)?;
+    Ok((endpoint, slot))
 }
 
 /// What the operation with the stamp tells of its registration; nothing once it removes it.

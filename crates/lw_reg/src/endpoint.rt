@@ -1,7 +1,9 @@
-ghost use Rattle.std.specs.Prelude.{◌≡◌, ◌↔◌, IsSome, IfSome};
+ghost use Rattle.std.specs.Prelude.{◌≡◌, ◌↔◌, IsSome, IfSome, IfOk};
 ghost use Rattle.lw_reg.specs.Endpoint.{IsEndpoint};
 
 use crate::Text;
+use lw_stamp::NoMemory;
+use std::alloc::Global;
 use std::marker::Model;
 
 /// The name of a client: a text of 1 to 252 bytes. Contracts see its bytes, and by these it is ordered.
@@ -39,19 +41,21 @@ impl Endpoint {
         Some(Endpoint { text })
     }
 
+    /// The endpoint of that name, which is copied.
+    pub fn copy_of(alloc: Global, name: &str) -> Result<Endpoint, NoMemory>
+        requires { IsEndpoint name.now }
+        ensures { IfOk result (λ e. e ≡ name.now) }
+    {
+        match Endpoint::new(Text::copy_of(alloc, name)?) {
+            Some(endpoint) => Ok(endpoint),
+            None => unreachable!(),
+        }
+    }
+
     pub fn as_str(&self) -> &str
         ensures value { result.now ≡ self.now }
         ensures within { IsEndpoint result.now }
     {
         self.text.as_str()
-    }
-
-    /// Its text, with no copy.
-    pub fn into_text(self) -> Text
-        ensures value { result ≡ self }
-        ensures within { IsEndpoint result }
-    {
-        let Endpoint { text } = self;
-        text
     }
 }

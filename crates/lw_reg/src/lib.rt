@@ -28,7 +28,7 @@ mod watch;
 mod watches;
 
 pub use addr::Addr;
-pub use atoms::atom;
+pub use atoms::{atom, atom_with_endpoint};
 pub use base::Base;
 pub use binding::Binding;
 pub use body::Watching;

@@ -1,6 +1,8 @@
-ghost use Rattle.std.specs.Prelude.{◌≡◌, ◌≤◌, ◌↔◌, IsSome, IfSome, length};
+ghost use Rattle.std.specs.Prelude.{◌≡◌, ◌≤◌, ◌↔◌, IsSome, IfSome, IfOk, length};
 
 use crate::Text;
+use lw_stamp::NoMemory;
+use std::alloc::Global;
 use std::marker::Model;
 
 /// The number that a client takes SMS at: a text of at most 251 bytes. Contracts see its bytes, and
@@ -35,6 +37,17 @@ impl SmsNumber {
             return None;
         }
         Some(SmsNumber { text })
+    }
+
+    /// The number of that text, which is copied.
+    pub fn copy_of(alloc: Global, text: &str) -> Result<SmsNumber, NoMemory>
+        requires { length text.now ≤ 251 }
+        ensures { IfOk result (λ s. s ≡ text.now) }
+    {
+        match SmsNumber::new(Text::copy_of(alloc, text)?) {
+            Some(number) => Ok(number),
+            None => unreachable!(),
+        }
     }
 
     pub fn as_str(&self) -> &str

@@ -10,7 +10,7 @@ ghost use Rattle.lw_request.specs.Parameters.{value_in};
 
 use lw_coap::CoapOption;
 use lw_coap::option_numbers::URI_QUERY;
-use lw_reg::{Binding, SmsNumber, Text};
+use lw_reg::{Binding, SmsNumber};
 use lw_stamp::NoMemory;
 use std::alloc::Global;
 use std::str;
@@ -191,6 +191,6 @@ pub(crate) fn sms_number(alloc: Global, text: Option<&str>) -> Result<Option<Sms
 {
     match text {
         None => Ok(None),
-        Some(text) => Ok(SmsNumber::new(Text::copy_of(alloc, text)?)),
+        Some(text) => Ok(Some(SmsNumber::copy_of(alloc, text)?)),
     }
 }

@@ -17,7 +17,7 @@ use crate::queries::{BadQuery, parameters_of, settings_of, sms_number};
 use crate::{Asked, Refusal};
 use lw_coap::{CoapOption, Message};
 use lw_link::LinkText;
-use lw_reg::{Binding, Endpoint, Text, Version};
+use lw_reg::{Binding, Endpoint, Version};
 use lw_stamp::NoMemory;
 use std::alloc::Global;
 
@@ -114,7 +114,7 @@ fn make(
     ensures { IfOk result (λ asked. asked ≡ Asked.Register queries.now.endpoint.now version queries.now.queue queries.now.lifetime queries.now.binding (option_copied queries.now.sms) objects) }
 {
     Ok(Asked::Register {
-        endpoint: endpoint_of(alloc, queries.endpoint)?,
+        endpoint: Endpoint::copy_of(alloc, queries.endpoint)?,
         version,
         queue: queries.queue,
         lifetime: queries.lifetime,
@@ -122,14 +122,4 @@ fn make(
         sms: sms_number(alloc, queries.sms)?,
         objects,
     })
-}
-
-fn endpoint_of(alloc: Global, text: &str) -> Result<Endpoint, NoMemory>
-    requires { IsEndpoint text.now }
-    ensures { IfOk result (λ endpoint. endpoint ≡ text.now) }
-{
-    match Endpoint::new(Text::copy_of(alloc, text)?) {
-        Some(endpoint) => Ok(endpoint),
-        None => unreachable!(),
-    }
 }

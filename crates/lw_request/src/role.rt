@@ -3,7 +3,7 @@ ghost use Rattle.std.specs.Prelude.{◌≡◌};
 use lw_coap::Kind;
 
 /// What a message is, by its type and its code (RFC 7252, sections 4.2, 4.3 and 12.1).
-#[derive(Clone, Copy, Debug, PartialEq, Eq)]
+#[derive(Clone, Copy)]
 pub enum Role {
     /// It asks for nothing.
     Ignored,

@@ -4,7 +4,7 @@ use crate::hold::{holds, holds_for};
 use lw_join::{Join, Lex, Once, OrGone, Parts};
 use lw_link::LinkText;
 use lw_reg::*;
-use lw_stamp::{Moment, Stamp};
+use lw_stamp::{Moment, NoMemory, Stamp};
 use std::alloc::{AllocError, Global};
 use std::test::Fail;
 
@@ -271,22 +271,22 @@ fn a_slot_without_fields_takes_the_others(rt: HostRuntime) -> Result<(), Fail> {
     takes_the_others(rt.alloc(), &mut slot)
 }
 
-/// Whether the endpoint has so many letters, and its text as well.
-fn has_letters(endpoint: Endpoint, length: usize) -> bool {
-    let is_text = is_letters(endpoint.as_str(), b'e', length);
-    is_text && is_letters(endpoint.into_text().as_str(), b'e', length)
+/// Whether so many letters are an endpoint, which keeps them, as its copy does.
+fn is_endpoint(alloc: Global, length: usize) -> Result<bool, NoMemory> {
+    let Some(endpoint) = Endpoint::new(letters(alloc, "e", length)?) else {
+        return Ok(false);
+    };
+    let copy = Endpoint::copy_of(alloc, endpoint.as_str())?;
+    Ok(is_letters(copy.as_str(), b'e', length))
 }
 
-/// Whether so many letters are an endpoint, which keeps them.
-fn is_endpoint(alloc: Global, length: usize) -> Result<bool, AllocError> {
-    match Endpoint::new(letters(alloc, "e", length)?) {
-        None => Ok(false),
-        Some(endpoint) => Ok(has_letters(endpoint, length)),
-    }
-}
-
-fn is_sms_number(alloc: Global, length: usize) -> Result<bool, AllocError> {
-    Ok(SmsNumber::new(letters(alloc, "1", length)?).is_some())
+/// The same of SMS numbers.
+fn is_sms_number(alloc: Global, length: usize) -> Result<bool, NoMemory> {
+    let Some(number) = SmsNumber::new(letters(alloc, "1", length)?) else {
+        return Ok(false);
+    };
+    let copy = SmsNumber::copy_of(alloc, number.as_str())?;
+    Ok(is_letters(copy.as_str(), b'1', length))
 }
 
 #[test]

@@ -10,7 +10,7 @@ ghost use Rattle.lw_reg.specs.declared.path.Path.{Path};
 ghost use Rattle.lw_reg.specs.declared.version.Version.{Version};
 ghost use Rattle.lw_reg.specs.Binding.{binding_text};
 ghost use Rattle.lw_reg.specs.Path.{path_numbers};
-ghost use Rattle.lw_reg.specs.Orders.{addr_cmp, addr_by_parts, base_cmp, base_by_parts, binding_cmp, binding_by_text, endpoint_cmp, path_cmp, sms_number_cmp, version_cmp, version_by_number};
+ghost use Rattle.lw_reg.specs.Orders.{addr_cmp, addr_by_parts, base_cmp, base_by_parts, binding_cmp, binding_by_text, endpoint_cmp, path_cmp, path_given_cmp, sms_number_cmp, version_cmp, version_by_number};
 
 /// IPv4 is below IPv6; then come the bytes, then the port.
 pub fn addresses_are_ordered()
@@ -37,6 +37,7 @@ pub fn bindings_have_texts_of_their_own()
 
 /// Paths are ordered number by number, a path before those that it begins, and no two have one list of numbers.
 pub fn paths_are_ordered()
+    ensures by_numbers { (a b : Path) → path_given_cmp a b ≡ path_cmp a b }
     ensures total { IsExactOrder path_cmp }
     ensures own_numbers { (a b : Path) → path_numbers a ≡ path_numbers b → a ≡ b }
 {}

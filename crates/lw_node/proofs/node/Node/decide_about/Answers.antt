@@ -16,6 +16,6 @@ returns c now =
     if_ok _ _ c.operates.result
     (λ d h. decides_operation place c.args.request.now _ (answered c.args.request.now c.args.code) d _
     (record { counter = c.in-Some.ensures.stamp.0; node = c.in-Some.ensures.stamp.1 })
-    (record { endpoint = c.in_ok-endpoint_of.ensures ∙ ap (λ (r : Registration). r.endpoint) c.view.view_is; registration = ap (λ (r : Registration). r.id) c.view.view_is }, refl)
+    (record { endpoint = c.in_ok-copy_of.ensures ∙ ap (λ (r : Registration). r.endpoint) c.view.view_is; registration = ap (λ (r : Registration). r.id) c.view.view_is }, refl)
     h.0 h.1)
     c.operates.ensures

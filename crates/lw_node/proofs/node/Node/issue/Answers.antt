@@ -13,14 +13,14 @@ pub invariant_of-self-2 : goal.invariant_of-self-2
 invariant_of-self-2 c =
     let op = c.args.operation in
     let next : IsNextOf (counter_of c.self.inside.clock) op = subst (λ (n : NodeContent). IsNextOf n.clock op) (sym c.self.view_is) c.requires in
-    let named : IsEndpoint op.endpoint = subst IsEndpoint c.as_str.ensures.value c.as_str.ensures.within in
-    let joined = joined_slot c.self.inside.table.state c.join.new.self.state op c.in_ok-endpoint.endpoint c.in_ok-atom.field-0 c.in_ok-join.ensures.state (c.in_ok-endpoint.ensures ∙ c.as_str.ensures.value) c.in_ok-atom.ensures.slot in
+    let named : IsEndpoint op.endpoint = subst IsEndpoint c.in_ok-endpoint.ensures.endpoint c.in_ok-endpoint.ensures.within in
+    let joined = joined_slot c.self.inside.table.state c.join.new.self.state op c.in_ok-endpoint.endpoint c.in_ok-endpoint.slot c.in_ok-join.ensures.state c.in_ok-endpoint.ensures.endpoint c.in_ok-endpoint.ensures.slot in
     still_node (counter_of c.self.inside.clock) _ c.self.inside.table.state c.join.new.self.state op op.stamp.counter next named c.self.invariant.0 c.self.invariant.1 joined c.raise.ensures refl
 
 pub returns-clause-issued : goal.returns-clause-issued
 returns-clause-issued c =
     let op = c.args.operation in
-    let joined = joined_slot c.self.inside.table.state c.join.new.self.state op c.in_ok-endpoint.endpoint c.in_ok-atom.field-0 c.in_ok-join.ensures.state (c.in_ok-endpoint.ensures ∙ c.as_str.ensures.value) c.in_ok-atom.ensures.slot in
+    let joined = joined_slot c.self.inside.table.state c.join.new.self.state op c.in_ok-endpoint.endpoint c.in_ok-endpoint.slot c.in_ok-join.ensures.state c.in_ok-endpoint.ensures.endpoint c.in_ok-endpoint.ensures.slot in
     record {
       number = ap (λ (n : NodeContent). n.number) c.self.view_is;
       clock = c.raise.ensures ∙ next_clock (counter_of c.self.inside.clock) op.stamp.counter (c.requires.next ∙ ap (λ (n : NodeContent). n.clock + 1) (sym c.self.view_is)) ∙ ap (λ (n : NodeContent). n.clock + 1) c.self.view_is;

@@ -1,8 +1,0 @@
-use Rattle.std.proofs.Common.{rules}
-use Rattle.lw_reg.proofs.endpoint.Endpoint.into_text.Goals as goal
-
-pub returns-clause-value : goal.returns-clause-value
-returns-clause-value c = search rules
-
-pub returns-clause-within : goal.returns-clause-within
-returns-clause-within c = search rules
