@@ -118,17 +118,17 @@ module _ (node : ℕ) (journal : List Entry) (xs : List Transcript) (distinct : 
         held = λ e at.
             let w = told e at in
             let v = w.4 in
-            let is : IsPart xs w.0 v.0 w.1 v.1 = record { pass_is = w.3; part_is = v.2 } in
+            let is : IsPart xs w.0 e.number w.1 v.1 = record { pass_is = w.3; part_is = v.2 } in
             record {
               i = w.0;
-              k = v.0;
+              k = e.number;
               pass = w.1;
               part = v.1;
               is = is;
               of = v.3;
-              same = v.4;
-              own = sym (numbered w.0 w.1 w.3 v.0 v.1 v.2).0 ∙ ap (λ (f : Entry). f.pass) v.4;
-              order = subst (λ q. IsInOrder node w.1.parts v.0 q) v.3.1 (fits w.0 v.0 w.1 v.1 is v.3).1;
+              same = same_some v.1.entry e _ (there w.0 e.number w.1 v.1 is v.3) at;
+              own = v.0;
+              order = subst (λ q. IsInOrder node w.1.parts e.number q) v.3.1 (fits w.0 e.number w.1 v.1 is v.3).1;
             };
         alone = λ i k j l x y t u is of is2 of2.
             let same : t.entry ≡ u.entry = same_some t.entry u.entry _ (there i k x t is of) (there j l y u is2 of2) in
@@ -157,23 +157,14 @@ module _ (node : ℕ) (journal : List Entry) (xs : List Transcript) (distinct : 
               (there, order)
           | inr w ↦ absurd (omega (arith, w.0))
         ],
-    λ e at. let h = fine.held e at in (h.i, h.pass, slice_get_within xs h.i h.pass h.is.pass_is, h.is.pass_is, (h.k, h.part, h.is.part_is, h.of, h.same)),
+    λ e at.
+        let h = fine.held e at in
+        let own : h.k ≡ e.number = sym (numbered h.i h.pass h.is.pass_is h.k h.part h.is.part_is).1 ∙ ap (λ (f : Entry). f.number) h.same in
+        (h.i, h.pass, slice_get_within xs h.i h.pass h.is.pass_is, h.is.pass_is, (h.own, h.part, subst (λ m. slice_get h.pass.parts m ≡ Some h.part) own h.is.part_is, h.of)),
   )
 
   pub fine_breaks : (a b : Option ℕ) → IsFirstBreak (AllFitBelow node journal xs (length xs)) a → IsFirstBreak (IsTold node journal xs) b → IsFirstBreak (IsFine node journal xs) (lesser_of a b)
   fine_breaks = breaks_both {P = AllFitBelow node journal xs (length xs)} {Q = IsTold node journal xs} fine_from fine_to
-
--- whether a transcript has an entry is seen at the entry's number
-pub has_at : (node place : ℕ) (e : Entry) (x : Transcript) (t : Part) → IsNumbered x → slice_get x.parts e.number ≡ Some t → Has node place e x → IsOf node place t × (t.entry ≡ e)
-has_at node place e x t numbered at h =
-    let is : h.0 ≡ e.number = sym (numbered h.0 h.1 h.2).1 ∙ ap (λ (f : Entry). f.number) h.4 in
-    let same : h.1 ≡ t = same_some h.1 t _ (subst (λ m. slice_get x.parts m ≡ Some h.1) is h.2) at in
-    subst (λ (v : Part). IsOf node place v × (v.entry ≡ e)) same (h.3, h.4)
-
-pub has_none : (node place : ℕ) (e : Entry) (x : Transcript) → IsNumbered x → slice_get x.parts e.number ≡ None → Has node place e x → ⊥
-has_none node place e x numbered at h =
-    let is : h.0 ≡ e.number = sym (numbered h.0 h.1 h.2).1 ∙ ap (λ (f : Entry). f.number) h.4 in
-    let c : None ≡ Some h.1 = sym at ∙ subst (λ m. slice_get x.parts m ≡ Some h.1) is h.2 in cc
 
 pub all_of : (node : ℕ) (journal : List Entry) (xs : List Transcript) (n : ℕ) (o : Option ℕ) → length xs ≤ n → n ≤ length xs → IsFirstBreak (AllFitBelow node journal xs n) o → IsFirstBreak (AllFitBelow node journal xs (length xs)) o
 all_of node journal xs n o a b k = let e : n ≡ length xs = omega arith in subst (λ m. IsFirstBreak (AllFitBelow node journal xs m) o) e k
@@ -182,8 +173,12 @@ pub numbered_more : (xs : List Transcript) (n : ℕ) (x : Transcript) → slice_
 numbered_more xs n x item here before i y lt at =
     below_more (λ j. (w : Transcript) → slice_get xs j ≡ Some w → IsNumbered w) n (λ j l w a. before j w l a) (λ w a. subst IsNumbered (same_some x w _ item a) here) i lt y at
 
-pub has_iff : (node place : ℕ) (e : Entry) (x : Transcript) (t : Part) (b : Bool) → IsNumbered x → Some t ≡ slice_get x.parts e.number → (IsTrue b ↔ (IsOf node place t × (t.entry ≡ e))) → (IsTrue b ↔ Has node place e x)
-has_iff node place e x t b numbered at h = (λ w. let f = h.0 w in (e.number, t, sym at, f.0, f.1), λ w. h.1 (has_at node place e x t numbered (sym at) w))
+-- whether a transcript has an entry is seen at the part of the entry's number
+pub has_iff : (node place : ℕ) (e : Entry) (x : Transcript) (t : Part) (b : Bool) → x.number ≡ e.pass → Some t ≡ slice_get x.parts e.number → (IsTrue b ↔ IsOf node place t) → (IsTrue b ↔ Has node place e x)
+has_iff node place e x t b own at h = (
+  λ w. (own, t, sym at, h.0 w),
+  λ w. h.1 (subst (λ (v : Part). IsOf node place v) (same_some w.1 t _ w.2 (sym at)) w.3),
+)
 
-pub has_not : (node place : ℕ) (e : Entry) (x : Transcript) → IsNumbered x → None ≡ slice_get x.parts e.number → (IsTrue false ↔ Has node place e x)
-has_not node place e x numbered at = (λ w. absurd (let f : false ≡ true = w in cc), λ w. absurd (has_none node place e x numbered (sym at) w))
+pub has_not : (node place : ℕ) (e : Entry) (x : Transcript) → None ≡ slice_get x.parts e.number → (IsTrue false ↔ Has node place e x)
+has_not node place e x at = (λ w. absurd (let f : false ≡ true = w in cc), λ w. absurd (let c : None ≡ Some w.1 = at ∙ w.2 in cc))

@@ -1,15 +1,15 @@
 -- Lists that are longer by one, and what is known of a call under a lock.
 use Rattle.std.proofs.Common.{◌≡◌, ℕ, zero, suc, ◌+◌, List, [], ◌∷◌, ◌++◌, length, Option, Some, None, Result, Ok, Err, refl, sym, ap, ◌∙◌, subst, inl, inr, ◌⊎◌}
-use Rattle.std.specs.Prelude.{slice_get, IfOk, OnOk}
+use Rattle.std.specs.Prelude.{slice_get, IfErr, IfOk, OnOk}
 use Rattle.lw_stamp.specs.declared.no_memory.NoMemory.{NoMemory}
 use Rattle.lw_call.specs.declared.call.Call.{Call}
 use Rattle.lw_node.specs.Node.{fresh}
 use Rattle.lw_held.specs.declared.entry.Entry.{Entry}
 use Rattle.lw_held.specs.declared.entry.Part.{Part}
 use Rattle.lw_held.specs.declared.shelf.Shelf.{Shelf}
-use Rattle.lw_held.specs.Agree.{Agrees, IsSettled}
+use Rattle.lw_held.specs.Agree.{Agrees, Fails, IsSettled}
 use Rattle.lw_held.specs.History.{HeldContent, Leads, IsLegal, Enters}
-use Rattle.lw_held.specs.Shelves.{AreInOrder, AreNew, IsAnswered}
+use Rattle.lw_held.specs.Shelves.{AreInOrder, AreNew, FailsAt, IsAnswered}
 use Rattle.lw_held.specs.Transcript.{Transcript, IsNumbered}
 
 -- what lies at a place was there before, or is the new one
@@ -54,3 +54,8 @@ answered (Err refused) pass number call old new Q legal entered = tt
 pub settles : {T E : Type 0} (r : Result T E) (node : ℕ) (held : HeldContent) (passes : List Transcript) → IsLegal held → OnOk r (Agrees node held passes) → OnOk r (IsSettled node passes)
 settles (Ok t) node held passes legal agrees = record { journal = held.journal; last = held.node; legal = subst (λ n. Leads (fresh n) held.journal held.node) agrees.0 legal; fine = agrees.1 }
 settles (Err e) node held passes legal agrees = tt
+
+-- a journal that fails is a legal history that fails
+pub fails_at : {T : Type 0} (r : Result T ℕ) (node : ℕ) (held : HeldContent) (passes : List Transcript) → IsLegal held → IfErr r (λ place. Fails node held passes place) → IfErr r (λ place. FailsAt node passes place)
+fails_at (Ok t) node held passes legal fails = tt
+fails_at (Err place) node held passes legal fails = (held, legal, fails)

@@ -54,15 +54,15 @@ Looks node journal part old new =
     ⊎ (((part.node ≡ node) × IsThere journal part × IsAfter old.last part.place × (new ≡ record { least = old.least; last = greater_of old.last part.place }))
     ⊎ ((part.node ≡ node) × (¬ (IsThere journal part × IsAfter old.last part.place)) × (new ≡ record { least = lesser_of old.least (Some part.place); last = greater_of old.last part.place })))
 
--- the transcript has the entry, as a part for that node and place
+-- the entry is of the pass, and the part of its number is for that node and place
 abbrev pub Has : ℕ → ℕ → Entry → Transcript → Type 0
-Has node place entry pass = (k : ℕ) × (part : Part) × (slice_get pass.parts k ≡ Some part) × IsOf node place part × (part.entry ≡ entry)
+Has node place entry pass = (pass.number ≡ entry.pass) × (part : Part) × (slice_get pass.parts entry.number ≡ Some part) × IsOf node place part
 
 -- one of the first n transcripts has it
 abbrev pub HasBelow : ℕ → ℕ → Entry → List Transcript → ℕ → Type 0
 HasBelow node place entry passes n = (i : ℕ) × (pass : Transcript) × (i < n) × (slice_get passes i ≡ Some pass) × Has node place entry pass
 
--- the journal's entry at the place stands in a transcript
+-- the pass of the journal's entry at the place has a part for it
 abbrev pub IsTold : ℕ → List Entry → List Transcript → ℕ → Type 0
 IsTold node journal passes place = (entry : Entry) → slice_get journal place ≡ Some entry → HasBelow node place entry passes (length passes)
 

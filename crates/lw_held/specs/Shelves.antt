@@ -1,9 +1,10 @@
 -- Lists of shelves and of passes, and what is known of a call behind a lock.
-use Rattle.std.specs.Prelude.{◌≡◌, ℕ, ◌+◌, List, [], Some, slice_get}
+use Rattle.std.specs.Prelude.{◌≡◌, ℕ, ◌+◌, ◌<◌, List, [], Some, slice_get}
 use Rattle.lw_call.specs.declared.call.Call.{Call}
 use Rattle.lw_held.specs.declared.entry.Entry.{Entry}
 use Rattle.lw_held.specs.declared.shelf.Shelf.{Shelf}
-use Rattle.lw_held.specs.Agree.{IsSettled}
+use Rattle.lw_held.specs.declared.shelf.Unsettled.{Unsettled}
+use Rattle.lw_held.specs.Agree.{Fails, IsSettled}
 use Rattle.lw_held.specs.History.{HeldContent, IsLegal, Enters}
 use Rattle.lw_held.specs.Transcript.{Transcript}
 
@@ -22,3 +23,17 @@ IsAnswered pass number call entry place = (old : HeldContent) × (new : HeldCont
 -- the passes' parts are legal histories of the nodes of the shelves
 abbrev pub AreSettled : List Shelf → List Transcript → Type 0
 AreSettled shelves passes = (i : ℕ) (shelf : Shelf) → slice_get shelves i ≡ Some shelf → IsSettled shelf.number passes
+
+-- some node with a legal history, taken for that of the number, fails at the place
+abbrev pub FailsAt : ℕ → List Transcript → ℕ → Type 0
+FailsAt node passes place = (held : HeldContent) × IsLegal held × Fails node held passes place
+
+-- The node that is named is that of a shelf, and some node with a legal history, taken for it, fails at the place. The
+-- passes' parts are legal histories of the nodes of all shelves before it.
+pub record IsUnsettled (shelves : List Shelf) (passes : List Transcript) (unsettled : Unsettled) : Type 0 where
+  pub i : ℕ
+  pub shelf : Shelf
+  pub is : slice_get shelves i ≡ Some shelf
+  pub node_is : unsettled.node ≡ shelf.number
+  pub before : (j : ℕ) (earlier : Shelf) → j < i → slice_get shelves j ≡ Some earlier → IsSettled earlier.number passes
+  pub fails : FailsAt unsettled.node passes unsettled.place

@@ -1,8 +1,9 @@
 //! Whether the transcripts of passes are a journal, without memory.
 //!
 //! Two walks find the least place that fails: one over the parts of each pass, which asks whether each is the journal's
-//! entry at its place and behind the parts before it, and one over the journal, which asks whether each entry stands in
-//! a transcript. Since a part's number is its place in its transcript, each question looks at one place.
+//! entry at its place and behind the parts before it, and one over the journal, which asks whether each entry's pass has
+//! a part for its place. Since a part's number is its place in its transcript, each question looks at one place, and a
+//! part is compared with an entry once.
 
 ghost use Rattle.std.specs.Prelude.{◌≡◌, ◌↔◌, ℕ, length, Some, None, slice_get, IsTrue};
 ghost use Rattle.lw_held.specs.Agree.{IsOf, IsFirstBreak, AreDistinct, IsFine};
@@ -120,7 +121,7 @@ fn lesser(left: Option<u64>, right: Option<u64>) -> Option<u64>
     }
 }
 
-/// The least place of an entry that stands in no transcript.
+/// The least place of an entry for which its pass has no part.
 fn first_untold(node: u16, journal: &[Entry], passes: &[Pass]) -> Option<u64>
     ensures { IsFirstBreak (IsTold node journal.now passes.now) result }
 {
@@ -143,9 +144,9 @@ fn is_told(node: u16, place: u64, entry: &Entry, passes: &[Pass]) -> bool
     false
 }
 
-/// Whether the part is for that node and place, and has the entry.
-pub(crate) fn is_entry(node: u16, place: u64, entry: &Entry, part: &Part) -> bool
-    ensures { IsTrue result ↔ (IsOf node place part.now × (part.now.entry ≡ entry.now)) }
+/// Whether the part is for that node and place.
+pub(crate) fn is_of(node: u16, place: u64, part: &Part) -> bool
+    ensures { IsTrue result ↔ IsOf node place part.now }
 {
-    part.node == node && part.place == place && part.entry.same(entry)
+    part.node == node && part.place == place
 }

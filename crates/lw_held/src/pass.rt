@@ -84,13 +84,15 @@ impl Pass {
         Ok(place)
     }
 
-    /// Whether the transcript has the entry, as a part for that node and place.
+    /// Whether the entry is of this pass, and the part of its number is for that node and place.
     pub(crate) fn has(&self, node: u16, place: u64, entry: &Entry) -> bool
         ensures { IsTrue result ↔ Has node place entry.now self.now }
     {
-        self.lawful();
+        if self.number() != entry.pass {
+            return false;
+        }
         match self.part(entry.number) {
-            Some(part) => agreeing::is_entry(node, place, entry, part),
+            Some(part) => agreeing::is_of(node, place, part),
             None => false,
         }
     }

@@ -1,8 +1,8 @@
 //! Nodes behind locks of their own.
 
-ghost use Rattle.std.specs.Prelude.{◌≡◌, ◌≤◌, length, vec_len, IfOk, OnOk, OnErr};
+ghost use Rattle.std.specs.Prelude.{◌≡◌, ◌≤◌, length, vec_len, IfErr, IfOk, OnOk, OnErr};
 ghost use Rattle.lw_held.specs.Agree.{AreDistinct, IsSettled};
-ghost use Rattle.lw_held.specs.Shelves.{AreInOrder, AreNew, AreSettled, IsAnswered};
+ghost use Rattle.lw_held.specs.Shelves.{AreInOrder, AreNew, AreSettled, FailsAt, IsAnswered, IsUnsettled};
 ghost use Rattle.lw_held.specs.Transcript.{with_part};
 ghost use Rattle.lw_held.specs.declared.entry.Entry.{Entry};
 
@@ -79,7 +79,8 @@ impl Shelf {
     /// Whether the passes' parts for the node are the journal behind the lock.
     fn agrees<R: Wait>(&self, rt: &R, passes: &[Pass]) -> Result<(), u64>
         requires { AreDistinct passes.now }
-        ensures { OnOk result (IsSettled self.now.number passes.now) }
+        ensures settled { OnOk result (IsSettled self.now.number passes.now) }
+        ensures fails { IfErr result (λ place. FailsAt self.now.number passes.now place) }
     {
         let mut held = self.held.lock(rt);
         let held: &mut Held = &mut held;
@@ -103,7 +104,8 @@ pub struct Unsettled {
 pub fn settle<R: Wait>(rt: &R, shelves: &[Shelf], passes: &[Pass]) -> Result<Settled, Unsettled>
     requires shelves { AreInOrder shelves.now }
     requires passes { AreDistinct passes.now }
-    ensures { OnOk result (AreSettled shelves.now passes.now) }
+    ensures settled { OnOk result (AreSettled shelves.now passes.now) }
+    ensures unsettled { IfErr result (λ unsettled. IsUnsettled shelves.now passes.now unsettled) }
 {
     for shelf in shelves {
         if let Err(place) = shelf.agrees(rt, passes) {
