@@ -14,8 +14,7 @@ use Rattle.lw_crew.specs.declared.job.Done.{Done}
 use Rattle.lw_crew.specs.declared.job.Outcome.{Outcome}
 use Rattle.lw_crew.specs.declared.job.Outcome.TheVariants.{At, NoMemory, NoSuchNode}
 use Rattle.lw_crew.specs.Claims.{AreTrueBelow, Claims, Holds, IsAt, IsTold}
-use Rattle.lw_crew.specs.Gather.{IsGathered}
-use Rattle.lw_crew.specs.Jobs.{AreDone, AreTrue, IsOutcome, IsPartOf}
+use Rattle.lw_crew.specs.Jobs.{AreTrue, IsOutcome, IsPartOf}
 use Rattle.lw_crew.proofs.Slots.{equal_or_not, same_some}
 
 -- ---- one result more
@@ -146,18 +145,3 @@ all_true shelves before next after jobs dones n whole known = record {
   where
     inside : (i : ℕ) (done : Done) → slice_get dones i ≡ Some done → i < n
     inside i done at = let l = slice_get_within dones i done at in omega (arith, l, whole)
-
--- results that are true are true in the order of their jobs
-pub done_in_order : (shelves : List Shelf) (before : List ℕ) (after : List Transcript) (jobs : List Job) (dones all : List Done) → AreTrue shelves before after jobs dones → IsGathered (length jobs) dones all → AreDone shelves before after jobs all
-done_in_order shelves before after jobs dones all known gathered = record {
-  order = gathered.order;
-  true = record {
-    each = λ k done at. let of = gathered.from k done at in known.each of.0 done of.1;
-    apart = λ k l pass number one other at there first second.
-        let here = gathered.from k one at in
-        let else_ = gathered.from l other there in
-        let same : here.0 ≡ else_.0 = known.apart here.0 else_.0 pass number one other here.1 else_.1 first second in
-        let equal : one ≡ other = same_some one other _ here.1 (subst (λ i. slice_get dones i ≡ Some other) (sym same) else_.1) in
-        sym (gathered.order.each k one at) ∙ ap (λ (x : Done). x.job) equal ∙ gathered.order.each l other there;
-  };
-}

@@ -1,9 +1,8 @@
 //! Results in the order of their jobs.
 
-ghost use Rattle.std.specs.Prelude.{◌≡◌, length, IfOk, IfErr};
+ghost use Rattle.std.specs.Prelude.{length, IfOk, IfErr};
 ghost use Rattle.lw_crew.specs.Filling.{AreFilled};
 ghost use Rattle.lw_crew.specs.Gather.{IsFault, IsGathered};
-ghost use Rattle.lw_crew.specs.declared.job.CrewFault.TheVariants.{NoMemory as OutOfMemory};
 
 use crate::job::{CrewFault, Done};
 use std::alloc::Global;
@@ -15,17 +14,7 @@ pub fn gather(alloc: Global, count: u64, dones: Vec<Done>) -> Result<Vec<Done>, 
     ensures err { IfErr result (λ fault. IsFault count dones.items fault) }
 {
     let slots = filled(alloc, count, &dones)?;
-    in_order(alloc, &dones, &slots)
-}
-
-fn empty(alloc: Global, count: u64, dones: &[Done]) -> Result<Vec<Option<Done>>, CrewFault>
-    ensures ok { IfOk result (λ slots. AreFilled count dones.now 0 slots.items) }
-    ensures err { IfErr result (λ fault. fault ≡ OutOfMemory) }
-{
-    match Vec::from_elem(alloc, None, count as usize) {
-        Ok(slots) => Ok(slots),
-        Err(_refused) => Err(CrewFault::NoMemory),
-    }
+    in_order(&slots, dones)
 }
 
 /// A slot for each job, with its result.
@@ -33,7 +22,9 @@ fn filled(alloc: Global, count: u64, dones: &[Done]) -> Result<Vec<Option<Done>>
     ensures ok { IfOk result (λ slots. AreFilled count dones.now (length dones.now) slots.items) }
     ensures err { IfErr result (λ fault. IsFault count dones.now fault) }
 {
-    let mut slots = empty(alloc, count, dones)?;
+    let Ok(mut slots) = Vec::from_elem(alloc, None, count as usize) else {
+        return Err(CrewFault::NoMemory);
+    };
     for done in dones {
         if done.job >= count {
             return Err(CrewFault::Stranger { job: done.job });
@@ -47,12 +38,14 @@ fn filled(alloc: Global, count: u64, dones: &[Done]) -> Result<Vec<Option<Done>>
     Ok(slots)
 }
 
-fn in_order(alloc: Global, dones: &[Done], slots: &[Option<Done>]) -> Result<Vec<Done>, CrewFault>
-    requires { AreFilled (length slots.now) dones.now (length dones.now) slots.now }
-    ensures ok { IfOk result (λ gathered. IsGathered (length slots.now) dones.now gathered.items) }
-    ensures err { IfErr result (λ fault. IsFault (length slots.now) dones.now fault) }
+/// What the slots hold, in order, in the room of the results.
+fn in_order(slots: &[Option<Done>], dones: Vec<Done>) -> Result<Vec<Done>, CrewFault>
+    requires { AreFilled (length slots.now) dones.items (length dones.items) slots.now }
+    ensures ok { IfOk result (λ gathered. IsGathered (length slots.now) dones.items gathered.items) }
+    ensures err { IfErr result (λ fault. IsFault (length slots.now) dones.items fault) }
 {
-    let mut all = Vec::new(alloc);
+    let mut all = dones;
+    all.clear();
     for job in 0..slots.len() {
         let Some(done) = slots[job] else {
             return Err(CrewFault::Missing { job: job as u64 });
