@@ -1,7 +1,8 @@
 //! Copies of calls, and of what they give.
 
-ghost use Rattle.std.specs.Prelude.{◌≡◌, IfOk, IsOk, None, OnErr, option_map};
+ghost use Rattle.std.specs.Prelude.{◌≡◌, IfOk, IsOk, IsSome, None, OnErr, option_map};
 ghost use Rattle.lw_call.specs.Found.{IsFound};
+ghost use Rattle.lw_call.specs.Owned.{OwnsText, OwnsTextOrBytes};
 
 use crate::answer::Answer;
 use crate::call::Call;
@@ -15,9 +16,11 @@ use lw_stamp::NoMemory;
 use std::alloc::Global;
 
 impl Call {
-    /// A call of equal content. Its bytes are those of this one, not copied.
+    /// A call of equal content. Its bytes are those of this one, not copied. It takes no memory where there are neither
+    /// bytes nor a text.
     pub fn copy(&self, alloc: Global) -> Result<Call, NoMemory>
-        ensures { IfOk result (λ call. call ≡ self.now) }
+        ensures value { IfOk result (λ call. call ≡ self.now) }
+        ensures calm { OnErr result (OwnsTextOrBytes self.now) }
     {
         match self {
             Call::Take { now, from, bytes } => Ok(Call::Take {
@@ -56,9 +59,10 @@ impl Call {
 }
 
 impl Question {
-    /// A question of equal content.
+    /// A question of equal content. It takes no memory where there is no text.
     pub fn copy(&self, alloc: Global) -> Result<Question, NoMemory>
-        ensures { IfOk result (λ question. question ≡ self.now) }
+        ensures value { IfOk result (λ question. question ≡ self.now) }
+        ensures calm { OnErr result (OwnsText self.now) }
     {
         match self {
             Question::ById(id) => Ok(Question::ById(*id)),
@@ -166,7 +170,8 @@ fn seen(alloc: Global, seen: &Seen) -> Result<Seen, NoMemory>
 }
 
 fn text(alloc: Global, text: &Option<Text>) -> Result<Option<Text>, NoMemory>
-    ensures { IfOk result (λ copy. copy ≡ text.now) }
+    ensures value { IfOk result (λ copy. copy ≡ text.now) }
+    ensures calm { OnErr result (IsSome text.now) }
 {
     match text {
         None => Ok(None),

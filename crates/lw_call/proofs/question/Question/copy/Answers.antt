@@ -1,5 +1,5 @@
 use Rattle.std.proofs.Common.{sym}
 use Rattle.lw_call.proofs.question.Question.copy.Goals as goal
 
-pub returns-in-WatchAfter : goal.returns-in-WatchAfter
-returns-in-WatchAfter c = sym c.in-WatchAfter.is
+pub returns-in-WatchAfter-clause-value : goal.returns-in-WatchAfter-clause-value
+returns-in-WatchAfter-clause-value c = sym c.in-WatchAfter.is
