@@ -50,18 +50,9 @@ fn outcome_words(alloc: Global, outcome: &Outcome, message: &[u8]) -> Result<Str
 fn taken_words(alloc: Global, taken: &Taken) -> Result<String, NoMemory>
     ensures { IfOk result (λ text. string_bytes text ≡ join_with_byte 32 (taken_words taken.now)) }
 {
-    let reply = reply_text(alloc, reply_of(taken))?;
+    let reply = reply_text(alloc, taken.reply.as_deref())?;
     let notice = notice_or_hyphen(alloc, taken.notice.as_ref())?;
     Ok(format!(in alloc; "taken {reply} {notice}")?)
-}
-
-fn reply_of(taken: &Taken) -> Option<&[u8]>
-    ensures { option_map (λ bytes. bytes.now) result ≡ taken.now.reply }
-{
-    match &taken.reply {
-        Some(reply) => Some(reply.as_slice()),
-        None => None,
-    }
 }
 
 fn notice_or_hyphen(alloc: Global, notice: Option<&Notice>) -> Result<String, NoMemory>

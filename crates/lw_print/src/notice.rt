@@ -6,7 +6,7 @@ ghost use Rattle.lw_print.specs.Json.{notice_json};
 ghost use Rattle.lw_print.specs.Members.{notice_members_json, TellsOfNotice};
 
 use crate::path::path_text;
-use crate::value::{id_text, number_value, put_copy, put_text, short_value, value_text};
+use crate::value::{id_text, number_value, put_text, short_value, value_text};
 use lw_node::Notice;
 use lw_stamp::NoMemory;
 use serde_json::{Map, Value, put};
@@ -39,7 +39,7 @@ fn notice_value(alloc: Global, notice: &Notice) -> Result<Value, NoMemory>
     ensures { IfOk result (λ value. view value ≡ notice_json notice.now) }
 {
     let members = notice_members(alloc, notice)?;
-    notice_object(alloc, &members)
+    notice_object(alloc, members)
 }
 
 fn notice_members(alloc: Global, notice: &Notice) -> Result<NoticeMembers<'_>, NoMemory>
@@ -58,8 +58,8 @@ fn notice_members(alloc: Global, notice: &Notice) -> Result<NoticeMembers<'_>, N
     })
 }
 
-fn notice_object(alloc: Global, members: &NoticeMembers<'_>) -> Result<Value, NoMemory>
-    ensures { IfOk result (λ value. view value ≡ notice_members_json members.now) }
+fn notice_object(alloc: Global, members: NoticeMembers<'_>) -> Result<Value, NoMemory>
+    ensures { IfOk result (λ value. view value ≡ notice_members_json members.entry) }
 {
     let mut map = Map::new(alloc);
     put_members(&mut map, alloc, members)?;
@@ -69,18 +69,18 @@ fn notice_object(alloc: Global, members: &NoticeMembers<'_>) -> Result<Value, No
 fn put_members(
     map: &mut Map<String, Value>,
     alloc: Global,
-    members: &NoticeMembers<'_>,
+    members: NoticeMembers<'_>,
 ) -> Result<(), NoMemory>
     requires { map.old.entries ≡ [] }
-    ensures { OnOk result (object (members_view map.new.entries) ≡ notice_members_json members.now) }
+    ensures { OnOk result (object (members_view map.new.entries) ≡ notice_members_json members.entry) }
 {
     put(map, alloc, "code", Value::from(members.code))?;
-    put_copy(map, alloc, "content_format", &members.content_format)?;
+    put(map, alloc, "content_format", members.content_format)?;
     put(map, alloc, "ended", Value::from(members.ended))?;
     put_text(map, alloc, "endpoint", members.endpoint)?;
-    put_text(map, alloc, "id", members.id.as_str())?;
-    put_copy(map, alloc, "observe", &members.observe)?;
-    put_text(map, alloc, "path", members.path.as_str())?;
-    put_text(map, alloc, "payload", members.payload.as_str())?;
-    put_text(map, alloc, "token", members.token.as_str())
+    put(map, alloc, "id", Value::from(members.id))?;
+    put(map, alloc, "observe", members.observe)?;
+    put(map, alloc, "path", Value::from(members.path))?;
+    put(map, alloc, "payload", Value::from(members.payload))?;
+    Ok(put(map, alloc, "token", Value::from(members.token))?)
 }

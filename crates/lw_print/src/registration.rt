@@ -5,7 +5,7 @@ ghost use Rattle.serde_json.specs.Written.{compact_text};
 ghost use Rattle.lw_print.specs.Json.{registration_json};
 ghost use Rattle.lw_print.specs.Members.{members_json, TellsOf};
 
-use crate::value::{id_text, put_copy, put_text, text_value, value_text};
+use crate::value::{id_text, put_text, text_value, value_text};
 use lw_reg::View;
 use lw_stamp::NoMemory;
 use serde_json::{Map, Value, put};
@@ -39,7 +39,7 @@ fn registration_value(alloc: Global, shown: &View<'_>) -> Result<Value, NoMemory
     ensures { IfOk result (λ value. view value ≡ registration_json shown.now) }
 {
     let members = members_of(alloc, shown)?;
-    object(alloc, &members)
+    object(alloc, members)
 }
 
 fn members_of<'a>(alloc: Global, shown: &'a View<'_>) -> Result<Members<'a>, NoMemory>
@@ -59,8 +59,8 @@ fn members_of<'a>(alloc: Global, shown: &'a View<'_>) -> Result<Members<'a>, NoM
     })
 }
 
-fn object(alloc: Global, members: &Members<'_>) -> Result<Value, NoMemory>
-    ensures { IfOk result (λ value. view value ≡ members_json members.now) }
+fn object(alloc: Global, members: Members<'_>) -> Result<Value, NoMemory>
+    ensures { IfOk result (λ value. view value ≡ members_json members.entry) }
 {
     let mut map = Map::new(alloc);
     put_members(&mut map, alloc, members)?;
@@ -70,19 +70,19 @@ fn object(alloc: Global, members: &Members<'_>) -> Result<Value, NoMemory>
 fn put_members(
     map: &mut Map<String, Value>,
     alloc: Global,
-    members: &Members<'_>,
+    members: Members<'_>,
 ) -> Result<(), NoMemory>
     requires { map.old.entries ≡ [] }
-    ensures { OnOk result (json_object (members_view map.new.entries) ≡ members_json members.now) }
+    ensures { OnOk result (json_object (members_view map.new.entries) ≡ members_json members.entry) }
 {
-    put_text(map, alloc, "address", members.address.as_str())?;
+    put(map, alloc, "address", Value::from(members.address))?;
     put_text(map, alloc, "binding", members.binding)?;
     put_text(map, alloc, "endpoint", members.endpoint)?;
-    put_text(map, alloc, "id", members.id.as_str())?;
+    put(map, alloc, "id", Value::from(members.id))?;
     put(map, alloc, "lifetime", Value::from(members.lifetime))?;
     put_text(map, alloc, "lwm2m", members.lwm2m)?;
     put_text(map, alloc, "objects", members.objects)?;
     put(map, alloc, "queue", Value::from(members.queue))?;
     put(map, alloc, "seen", Value::from(members.seen))?;
-    put_copy(map, alloc, "sms", &members.sms)
+    Ok(put(map, alloc, "sms", members.sms)?)
 }

@@ -39,19 +39,6 @@ pub(crate) fn put_text(
     Ok(put(map, alloc, key, text)?)
 }
 
-/// Adds a member with a copy of the value.
-pub(crate) fn put_copy(
-    map: &mut Map<String, Value>,
-    alloc: Global,
-    key: &str,
-    value: &Value,
-) -> Result<(), NoMemory>
-    ensures { OnOk result (members_view map.new.entries ≡ with_member key.now (view value.now) (members_view map.old.entries)) }
-{
-    let copy = value.clone()?;
-    Ok(put(map, alloc, key, copy)?)
-}
-
 pub(crate) fn text_value(alloc: Global, text: Option<&str>) -> Result<Value, AllocError>
     ensures { IfOk result (λ value. view value ≡ text_or_null (option_map (λ t. t.now) text.entry)) }
 {

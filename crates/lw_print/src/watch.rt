@@ -6,7 +6,7 @@ ghost use Rattle.lw_print.specs.Json.{watch_json, stale_json};
 ghost use Rattle.lw_print.specs.Members.{watch_members_json, TellsOfWatch};
 
 use crate::path::path_text;
-use crate::value::{id_text, put_copy, put_text, short_value, value_text};
+use crate::value::{id_text, put_text, short_value, value_text};
 use lw_reg::{View, Watch};
 use lw_stamp::{NoMemory, Stamp};
 use serde_json::{Map, Value, put};
@@ -35,7 +35,7 @@ fn watch_value(alloc: Global, shown: &View<'_>, watch: &Watch) -> Result<Value, 
     ensures { IfOk result (λ value. view value ≡ watch_json shown.now watch.now) }
 {
     let members = watch_members(alloc, shown, watch)?;
-    watch_object(alloc, &members)
+    watch_object(alloc, members)
 }
 
 fn watch_members<'a>(
@@ -54,8 +54,8 @@ fn watch_members<'a>(
     })
 }
 
-fn watch_object(alloc: Global, members: &WatchMembers<'_>) -> Result<Value, NoMemory>
-    ensures { IfOk result (λ value. view value ≡ watch_members_json members.now) }
+fn watch_object(alloc: Global, members: WatchMembers<'_>) -> Result<Value, NoMemory>
+    ensures { IfOk result (λ value. view value ≡ watch_members_json members.entry) }
 {
     let mut map = Map::new(alloc);
     put_members(&mut map, alloc, members)?;
@@ -65,16 +65,16 @@ fn watch_object(alloc: Global, members: &WatchMembers<'_>) -> Result<Value, NoMe
 fn put_members(
     map: &mut Map<String, Value>,
     alloc: Global,
-    members: &WatchMembers<'_>,
+    members: WatchMembers<'_>,
 ) -> Result<(), NoMemory>
     requires { map.old.entries ≡ [] }
-    ensures { OnOk result (object (members_view map.new.entries) ≡ watch_members_json members.now) }
+    ensures { OnOk result (object (members_view map.new.entries) ≡ watch_members_json members.entry) }
 {
-    put_copy(map, alloc, "accept", &members.accept)?;
+    put(map, alloc, "accept", members.accept)?;
     put_text(map, alloc, "endpoint", members.endpoint)?;
-    put_text(map, alloc, "id", members.id.as_str())?;
-    put_text(map, alloc, "path", members.path.as_str())?;
-    put_text(map, alloc, "token", members.token.as_str())
+    put(map, alloc, "id", Value::from(members.id))?;
+    put(map, alloc, "path", Value::from(members.path))?;
+    Ok(put(map, alloc, "token", Value::from(members.token))?)
 }
 
 /// The JSON object of a registration that has expired, of the endpoint and with the identifier.
