@@ -1,5 +1,3 @@
-use std::alloc::{AllocError, AllocFailed};
-
 /// Why a line was not read.
 #[derive(Clone, Copy, Debug, PartialEq, Eq)]
 pub enum LineFault {
