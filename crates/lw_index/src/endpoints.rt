@@ -7,7 +7,7 @@ ghost use Rattle.std.specs.Iterator.{YieldsFirstRef, item_count};
 use std::collections::{BTreeSet, btree_set};
 use std::marker::Model;
 
-/// The endpoints of a key, rising by their bytes.
+/// The endpoints of a key, rising, as `Index::of` says.
 #[derive(Drop)]
 pub struct Endpoints<'a> {
     first: Option<&'a str>,

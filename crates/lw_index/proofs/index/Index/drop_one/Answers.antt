@@ -1,4 +1,4 @@
-use Rattle.std.proofs.Common.{rules, sym, ◌∙◌, refl, Some, None}
+use Rattle.std.proofs.Common.{rules, sym, refl, Some, None}
 use Rattle.std.specs.Ordering.{is_eq}
 use Rattle.lw_index.proofs.IndexLemmas.{each_found, each_remove, each_set}
 use Rattle.lw_index.proofs.IndexCalls.{has_not, has_one, less_has, none_of_one, none_update, same_has, twice}

@@ -1,4 +1,4 @@
-use Rattle.std.proofs.Common.{◌≡◌, ◌≢◌, ◌||◌, map, true, sym, ap, ◌∙◌, subst}
+use Rattle.std.proofs.Common.{◌≡◌, ◌||◌, map, true, sym, ap, ◌∙◌, subst}
 use Rattle.std.specs.Prelude.{bytes_eq, string_bytes}
 use Rattle.lw_index.specs.Shown.{texts_in}
 use Rattle.lw_index.specs.Texts.{has_text}
