@@ -10,47 +10,19 @@ use Rattle.lw_link.specs.declared.link.AttrValue.{AttrValue}
 use Rattle.lw_link.specs.declared.link.AttrValue.TheVariants.{Absent, Plain}
 use Rattle.lw_link.specs.Link.{LinkContent}
 use Rattle.lw_link.specs.Characters.{is_target_char, is_name_char, is_plain_char}
-use Rattle.lw_link.specs.Machine.{Rest, read_on, next_state, fresh, with_link, with_value}
+use Rattle.lw_link.specs.Machine.{Rest, read_on, next_state, with_link, with_value}
 use Rattle.lw_link.specs.Taking.{IsLeft, IsPastAttrs, IsPastSpaces, with_text, ended_text, with_whole_attr, TakesText, TakesValue, TakesAttr, TakesAttrs, TakesLink}
 use Rattle.lw_link.proofs.Sound.{Are, whole_are}
 use Rattle.lw_link.proofs.Walk.{goes_on}
 
--- ---- behind a name or a plain value
-
-not_name : (c : ℕ) → next_state Any Name c ≢ Name → is_name_char c ≡ false
-not_name c h = false_from_ne_true (is_name_char c) (λ t. h (rw t refl))
+-- ---- behind a plain value
 
 not_word : (c : ℕ) → next_state Any Word c ≢ Word → is_plain_char c ≡ false
 not_word c h = false_from_ne_true (is_plain_char c) (λ t. h (rw t refl))
 
-closed_text : (cs : List ℕ) → (read_on Any Closed cs).text ≡ []
-closed_text [] = refl
-closed_text (c ∷ cs) = refl
-
-closed_value : (cs : List ℕ) → (read_on Any Closed cs).value ≡ Absent
-closed_value [] = refl
-closed_value (c ∷ cs) = refl
-
 word_left : (cs : List ℕ) → IsLeft Word cs → read_on Any Word cs ≡ read_on Any Closed cs
 word_left [] h = refl
 word_left (c ∷ cs) h = rw (not_word c h) refl
-
-name_left : (cs : List ℕ) → IsLeft Name cs → ((rest : List ℕ) → cs ≡ 61 ∷ rest → ⊥) → read_on Any Name cs ≡ read_on Any Closed cs
-name_left [] h other = refl
-name_left (c ∷ cs) h other =
-    let none : (c == 61) ≡ false = ne_eqb c 61 (λ e. other cs (ap (λ (x : ℕ). x ∷ cs) e)) in
-    rw (not_name c h, none) refl
-
-pub value_none : (cs : List ℕ) → IsLeft Name cs → ((rest : List ℕ) → cs ≡ 61 ∷ rest → ⊥) → TakesValue Absent cs cs
-value_none cs h other =
-    let same = name_left cs h other in
-    record {
-      text = ap (λ (r : Rest). r.text) same ∙ closed_text cs;
-      value_is = ap (λ (r : Rest). r.value) same ∙ closed_value cs;
-      whole = ap (λ (r : Rest). r.whole) same;
-      attrs = ap (λ (r : Rest). r.attrs) same;
-      links = ap (λ (r : Rest). r.links) same;
-    }
 
 -- a text with nothing behind it
 text_closed : (text cs : List ℕ) → with_text text (read_on Any Closed cs) ≡ ended_text text (read_on Any Closed cs)
@@ -117,15 +89,6 @@ pub record IsTakingAttrs (first attrs_left : List ℕ) (attrs : List Attr) : Typ
   pub attrs_are : (read_on Any Closed first).attrs ≡ attrs ++ (read_on Any Closed attrs_left).attrs
   pub links : (read_on Any Closed first).links ≡ (read_on Any Closed attrs_left).links
   pub whole : (read_on Any Closed attrs_left).whole ≡ true
-
-pub attrs_more : (first old mid new : List ℕ) (attrs : List Attr) (attr : Attr) → old ≡ 59 ∷ mid → TakesAttr attr mid new → IsTakingAttrs first old attrs → IsTakingAttrs first new (attrs ++ attr ∷ [])
-attrs_more first old mid new attrs attr e t h =
-    let here : read_on Any Closed old ≡ with_whole_attr attr (read_on Any Closed new) = ap (read_on Any Closed) e ∙ ap fresh t in
-    record {
-      attrs_are = h.attrs_are ∙ ap (λ (r : Rest). attrs ++ r.attrs) here ∙ sym (append_assoc attrs (attr ∷ []) (read_on Any Closed new).attrs);
-      links = h.links ∙ ap (λ (r : Rest). r.links) here;
-      whole = ap (λ (r : Rest). r.whole) (sym here) ∙ h.whole;
-    }
 
 comma_attrs : (cs : List ℕ) (r : Rest) → Are Any Comma cs r → r.attrs ≡ []
 comma_attrs cs r (gap, front, rest, link, links, e, ok, is, more, g, none) = none

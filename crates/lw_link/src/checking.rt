@@ -1,9 +1,9 @@
 //! Whether the grammar allows a list of links.
 
-ghost use Rattle.std.specs.Prelude.{◌≡◌, ◌≤◌, ◌↔◌, true, length, chars, IsTrue};
+ghost use Rattle.std.specs.Prelude.{◌↔◌, chars, IsTrue};
 ghost use Rattle.std.specs.List.{AllByRecursion};
 ghost use Rattle.lw_link.specs.Characters.{Each, is_target_char, is_name_char, is_plain_char, is_shown};
-ghost use Rattle.lw_link.specs.WellFormed.{IsTextOf, IsGoodValue, IsGoodAttr, IsGoodLink, AreWellFormed};
+ghost use Rattle.lw_link.specs.WellFormed.{IsGoodValue, IsGoodAttr, IsGoodLink, AreWellFormed};
 
 use crate::characters;
 use crate::limits::MAX_LINKS;

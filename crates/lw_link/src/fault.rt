@@ -2,7 +2,6 @@ ghost use Rattle.std.specs.Prelude.{◌≡◌};
 ghost use Rattle.lw_link.specs.declared.fault.LinkFault.TheVariants.{NoMemory as WantOfMemory};
 
 use lw_stamp::NoMemory;
-use std::alloc::{AllocError, AllocFailed};
 
 /// Why bytes were not read as links.
 #[derive(Clone, Copy, Debug, PartialEq, Eq)]
@@ -22,22 +21,6 @@ impl From<NoMemory> for LinkFault {
     ghost from_gives = { λ _ fault. fault ≡ WantOfMemory };
 
     fn from(_error: NoMemory) -> LinkFault {
-        LinkFault::NoMemory
-    }
-}
-
-impl From<AllocError> for LinkFault {
-    ghost from_gives = { λ _ fault. fault ≡ WantOfMemory };
-
-    fn from(_error: AllocError) -> LinkFault {
-        LinkFault::NoMemory
-    }
-}
-
-impl<T: Drop> From<AllocFailed<T>> for LinkFault {
-    ghost from_gives = { λ _ fault. fault ≡ WantOfMemory };
-
-    fn from(_error: AllocFailed<T>) -> LinkFault {
         LinkFault::NoMemory
     }
 }
