@@ -1,5 +1,4 @@
 -- Each kind of joined value tells of a set: one lemma a kind, to be put together as the types are.
-use Rattle.std.specs.Prelude.{◌||◌}
 use Rattle.std.proofs.Common.{◌≡◌, ◌↔◌, Bool, true, false, Option, Some, None, refl, sym, ap, ◌∙◌, subst, inl, inr, [], ◌∷◌, cond}
 use Rattle.std.specs.declared.cmp.Ordering.{Ordering}
 use Rattle.std.specs.declared.cmp.Ordering.TheVariants.{Less, Equal, Greater}
@@ -15,24 +14,21 @@ use Rattle.lw_join.specs.Greater.{greater}
 use Rattle.lw_join.specs.GreaterLaws.{at_most_refl, at_most_trans, at_most_antisymm}
 use Rattle.lw_join.specs.Options.{option_join}
 use Rattle.lw_join.specs.Keyed.{keyed_join}
-use Rattle.lw_join.specs.Flag.{flag_join}
 use Rattle.lw_join.specs.Once.{once_join}
 use Rattle.lw_join.specs.Lww.{lww_join, write_cmp}
 use Rattle.lw_join.specs.LwwLaws.{write_order}
 use Rattle.lw_join.specs.Lex.{lex_join, lex_pair, lex_of}
 use Rattle.lw_join.specs.OrGone.{gone_join}
-use Rattle.lw_join.specs.Pair.{pair_join}
 use Rattle.lw_join.specs.Entries.{get}
 use Rattle.lw_join.specs.EntriesLaws.{turned, same_key}
 use Rattle.lw_join.specs.Parts.{entries_of, parts_join, value_at}
 use Rattle.lw_join.specs.PartsLaws.{value_at-join, same_values}
-use Rattle.lw_join.specs.declared.flag.Flag.{Flag}
 use Rattle.lw_join.specs.declared.once.Once.{Once}
 use Rattle.lw_join.specs.declared.lww.Lww.{Lww}
 use Rattle.lw_join.specs.declared.or_gone.OrGone.{OrGone}
 use Rattle.lw_join.specs.declared.or_gone.OrGone.TheVariants.{Here, Gone}
 use Rattle.lw_join.specs.declared.parts.Parts.{Parts}
-use Rattle.lw_join.specs.Facets.{Either, IsFacet, TellsSome, Through, OptionTells, KeyedTells, HasTold, FlagTells, OnceTells, LwwTells, LexTells, GoneTells, PairTells, PartsTells}
+use Rattle.lw_join.specs.Facets.{Either, IsFacet, TellsSome, Through, OptionTells, KeyedTells, OnceTells, LwwTells, LexTells, GoneTells, PartsTells}
 
 -- nothing in the left, nothing in the right
 left_empty : {T : Type 0} (P Q : T → Type 0) → ((t : T) → ¬ P t) → (t : T) → Q t ↔ Either P Q t
@@ -194,9 +190,6 @@ module _ {K T A : Type 0} {cmp : K → K → Ordering} {join : A → A → A} {R
   pub keyed_facet : IsFacet (keyed_join cmp join) (KeyedTells cmp R)
   keyed_facet = record { union = keyed_union; same = keyed_same; one = keyed_one }
 
-pub keyed_some : {K T A : Type 0} (cmp : K → K → Ordering) (R : (T → Type 0) → A → Type 0) → TellsSome (KeyedTells cmp R)
-keyed_some cmp R = record { some = λ P x g. ((x.0, g.key.member.0), g.key.member.1) }
-
 -- what is told of a set whose members have one key
 pub keyed_single : {K T A : Type 0} {cmp : K → K → Ordering} → IsExactOrder cmp → (R : (T → Type 0) → A → Type 0) (P : K × T → Type 0) (k : K) (t : T) (a : A) → P (k, t) → ((u : K) (s : T) → P (u, s) → u ≡ k) → R (λ s. P (k, s)) a → KeyedTells cmp R P (k, a)
 keyed_single order R P k t a p only told = record { key = greatest_single order _ k (t, p) (λ u q. only u q.0 q.1); told = told }
@@ -206,43 +199,6 @@ lex_facet r = facet_along lex_pair lex_of (λ s. refl) (λ t. refl) (keyed_facet
 
 pub lex_some : {T J : Type 0} (R : (T → Type 0) → J → Type 0) → TellsSome (LexTells R)
 lex_some R = record { some = λ P x g. ((x.stamp, g.key.member.0), g.key.member.1) }
-
--- ---- flags
-module _ {T : Type 0} (t : T) where
-  flag_union : (P Q : T → Type 0) (a b : Flag) → FlagTells t P a → FlagTells t Q b → FlagTells t (Either P Q) (flag_join a b)
-  flag_union P Q a b g h = go a.raised b.raised g h
-    where
-      go : (a b : Bool) → HasTold t P a → HasTold t Q b → HasTold t (Either P Q) (a || b)
-      go true b g h = inl g
-      go false true g h = inr h
-      go false false g h = elim [ inl p ↦ g p | inr q ↦ h q ]
-
-  flag_same : (P Q : T → Type 0) (a : Flag) → ((u : T) → P u ↔ Q u) → FlagTells t P a → FlagTells t Q a
-  flag_same P Q a h g = go a.raised g
-    where
-      go : (a : Bool) → HasTold t P a → HasTold t Q a
-      go true g = (h t).0 g
-      go false g = λ q. g ((h t).1 q)
-
-  flag_one : (P : T → Type 0) (a b : Flag) → FlagTells t P a → FlagTells t P b → a ≡ b
-  flag_one P a b g h = let same = go a.raised b.raised g h in λ i. record { raised = same i }
-    where
-      go : (a b : Bool) → HasTold t P a → HasTold t P b → a ≡ b
-      go true true g h = refl
-      go true false g h = absurd (h g)
-      go false true g h = absurd (g h)
-      go false false g h = refl
-
-  pub flag_facet : IsFacet flag_join (FlagTells t)
-  flag_facet = record { union = flag_union; same = flag_same; one = flag_one }
-
--- ---- pairs
-pub pair_facet : {T A B : Type 0} {f : A → A → A} {g : B → B → B} {R : (T → Type 0) → A → Type 0} {S : (T → Type 0) → B → Type 0} → IsFacet f R → IsFacet g S → IsFacet (pair_join f g) (PairTells R S)
-pair_facet r s = record {
-  union = λ P Q a b g h. (r.union P Q a.0 b.0 g.0 h.0, s.union P Q a.1 b.1 g.1 h.1);
-  same = λ P Q a h g. (r.same P Q a.0 h g.0, s.same P Q a.1 h g.1);
-  one = λ P a b g h i. (r.one P a.0 b.0 g.0 h.0 i, s.one P a.1 b.1 g.1 h.1 i);
-}
 
 -- ---- key by key
 pub parts_facet : {K T J : Type 0} {o : ord.Ghosts K} {e : partial_eq.Ghosts K} {p : partial_ord.Ghosts K} → IsExactOrder o.cmp → {join : J → J → J} {R : (T → Type 0) → J → Type 0} → IsFacet join R → TellsSome R → IsFacet (parts_join {o = o} {e = e} {p = p} join) (PartsTells R)

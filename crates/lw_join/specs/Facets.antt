@@ -1,6 +1,6 @@
 -- What a joined value tells of a set. A set is a predicate `T → Type 0`, seen through membership alone, so
 -- that neither the order of its members nor a repeat of one matters.
-use Rattle.std.specs.Prelude.{◌≡◌, ◌↔◌, ◌⊎◌, Bool, true, false, Option, Some, None}
+use Rattle.std.specs.Prelude.{◌≡◌, ◌↔◌, ◌⊎◌, Option, Some, None}
 use Rattle.std.specs.declared.cmp.Ordering.{Ordering}
 use Rattle.std.specs.declared.cmp.Ord as ord
 use Rattle.std.specs.declared.cmp.PartialEq as partial_eq
@@ -12,7 +12,6 @@ use Rattle.lw_stamp.specs.declared.stamp.Stamp.{Stamp}
 use Rattle.lw_join.specs.Lww.{write_cmp}
 use Rattle.lw_join.specs.Lex.{lex_pair}
 use Rattle.lw_join.specs.Parts.{value_at}
-use Rattle.lw_join.specs.declared.flag.Flag.{Flag}
 use Rattle.lw_join.specs.declared.once.Once.{Once}
 use Rattle.lw_join.specs.declared.lww.Lww.{Lww}
 use Rattle.lw_join.specs.declared.lex.Lex.{Lex}
@@ -49,15 +48,6 @@ pub record KeyedTells {K T A : Type 0} (cmp : K → K → Ordering) (R : (T → 
   pub key : IsGreatest cmp (λ k. (t : T) × P (k, t)) x.0
   pub told : R (λ t. P (x.0, t)) x.1
 
--- whether t is in the set
-abbrev pub HasTold : {T : Type 0} → T → (T → Type 0) → Bool → Type 0
-HasTold t P true = P t
-HasTold t P false = ¬ P t
-
--- raised where t is in the set
-abbrev pub FlagTells : {T : Type 0} → T → (T → Type 0) → Flag → Type 0
-FlagTells t P flag = HasTold t P flag.raised
-
 -- the greatest member, if there is one
 abbrev pub OnceTells : {V : Type 0} → (V → V → Ordering) → (V → Type 0) → Once V → Type 0
 OnceTells cmp P once = OptionTells (IsGreatest cmp) P once.value
@@ -74,10 +64,6 @@ LexTells R P lex = KeyedTells stamp_cmp R P (lex_pair lex)
 abbrev pub GoneTells : {T J : Type 0} → T → ((T → Type 0) → J → Type 0) → (T → Type 0) → OrGone J → Type 0
 GoneTells t R P Gone = P t
 GoneTells t R P (Here a) = (¬ P t) × R P a
-
--- two things of one set
-abbrev pub PairTells : {T A B : Type 0} → ((T → Type 0) → A → Type 0) → ((T → Type 0) → B → Type 0) → (T → Type 0) → A × B → Type 0
-PairTells R S P x = R P x.0 × S P x.1
 
 -- at each key nothing, where the set has no member there, and otherwise what R says of the members there
 abbrev pub PartsTells : {K T J : Type 0} {o : ord.Ghosts K} {e : partial_eq.Ghosts K} {p : partial_ord.Ghosts K} → ((T → Type 0) → J → Type 0) → (K × T → Type 0) → Parts K J o e p → Type 0

@@ -1,5 +1,5 @@
 //! The join of two maps: entry by entry where few keys are missing, and otherwise by a merge from the
-//! greatest key down, in time linear in their entries.
+//! greatest key down, in time linear in their entries, behind one search for each entry that comes.
 ghost use Rattle.std.specs.Prelude.{◌≡◌, ◌+◌, ◌<◌, ◌≤◌, [], ◌∷◌, ◌++◌, length, vec_len, vec_capacity, IsOk, OnOk, OnErr, OnSome, IfSome, IfNone, reverse};
 ghost use Rattle.lw_join.specs.Entries.{Rises, entries_join, missing};
 ghost use Rattle.lw_join.specs.Ends.{ends_cmp};

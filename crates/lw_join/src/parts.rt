@@ -6,7 +6,6 @@ use crate::entries::{entries_le, rises, value_of};
 use crate::exact::Exact;
 use crate::items::Items;
 use crate::join::{Calm, Join};
-use crate::merge::join_entries;
 use lw_stamp::NoMemory;
 use std::alloc::Global;
 
