@@ -64,7 +64,7 @@ pub record IsOptionsFault (bytes : List ℕ) (fault : Fault) : Type 0 where
   pub whole : AreOptions 0 front options
   pub next : IsPartFault (number_after 0 options) rest fault
 
--- the header is that of a message within the limit, with a good version
+-- the bytes, within the limit, begin with a header of this version, token length and code
 pub record HasHead (bytes : List ℕ) (version token_length code : ℕ) (rest : List ℕ) : Type 0 where
   pub kind : ℕ
   pub mid : ℕ
