@@ -25,6 +25,8 @@ pub(crate) enum Mark {
     Third,
     Fourth,
     Fifth,
+    /// Of node 2, with the counter of the second.
+    Elsewhere,
     /// One with a counter above this number.
     Above(u16),
 }
@@ -37,6 +39,7 @@ impl Mark {
             Mark::Third => (3, 2),
             Mark::Fourth => (4, 1),
             Mark::Fifth => (5, 1),
+            Mark::Elsewhere => (2, 2),
             Mark::Above(number) => (1 + u64::from(number), 1),
         };
         Stamp { counter, node }

@@ -40,6 +40,23 @@ fn the_endpoints_of_a_key(rt: HostRuntime) -> Result<(), Fail> {
     goes_and_comes(&mut index, longest.as_str())
 }
 
+/// Whether an endpoint of two is dropped, and one that the key does not have changes nothing.
+fn keeps_the_other(index: &mut Index<u32>) -> Result<(), Fail> {
+    index.add(7, "b")?;
+    index.add(7, "a")?;
+    holds("both, rising", has_only(index, 7, &["a", "b"]))?;
+    index.drop_one(&7, "b");
+    holds("the other", has_only(index, 7, &["a"]))?;
+    index.drop_one(&7, "z");
+    holds("still the other", has_only(index, 7, &["a"]))
+}
+
+#[test]
+fn a_key_keeps_what_is_not_dropped(rt: HostRuntime) -> Result<(), Fail> {
+    let mut index = Index::new(rt.alloc());
+    keeps_the_other(&mut index)
+}
+
 /// Adds the numbers from 100 to 199, each once, in no order.
 fn add_a_hundred(alloc: Global, index: &mut Index<u32>) -> Result<(), NoMemory> {
     for place in 0..100u32 {

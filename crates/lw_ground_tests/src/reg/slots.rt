@@ -6,7 +6,7 @@ use crate::change::*;
 use crate::hold::{holds, holds_for};
 use lw_join::{Join, OrGone};
 use lw_reg::*;
-use lw_stamp::Moment;
+use lw_stamp::{Moment, Stamp};
 use std::alloc::Global;
 use std::test::Fail;
 
@@ -55,11 +55,11 @@ static SCENES: [(&[Change<'static>], u64, Option<Shown>); 3] = [
     (
         &[
             (First, First, Register(HOST_A, 0, 86_400)),
-            (Third, Second, Update(HOST_B, 7, Some(120), None)),
-            (Second, Second, Register(HOST_A, 0, 86_400)),
+            (Third, Elsewhere, Update(HOST_B, 7, Some(120), None)),
+            (Elsewhere, Elsewhere, Register(HOST_A, 0, 86_400)),
         ],
         7,
-        Some((Second, HOST_B, 7, 120, "U")),
+        Some((Elsewhere, HOST_B, 7, 120, "U")),
     ),
     // two Updates
     (
@@ -111,9 +111,11 @@ fn operations_join_in_each_order(rt: HostRuntime) -> Result<(), Fail> {
     for (changes, ms, wanted) in &SCENES {
         joins_in_each_order(rt.alloc(), changes, at(*ms), *wanted)?;
     }
+    let id = Stamp::read_id(b"0000000000020002");
+    holds("the identifier", id == Some(Elsewhere.stamp()))?;
     // an Update alone
     let register = (First, First, Register(HOST_A, 0, 86_400));
-    let update = (Third, Second, Update(HOST_B, 7, Some(120), None));
+    let update = (Third, Elsewhere, Update(HOST_B, 7, Some(120), None));
     let slot = joined(rt.alloc(), register, &[update])?;
     holds(
         "nothing",
