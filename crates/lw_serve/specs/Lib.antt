@@ -3,3 +3,4 @@ pub mod Jobs
 pub mod Outcomes
 pub mod Rounds
 pub mod Ending
+pub mod Udp

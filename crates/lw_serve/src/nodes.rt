@@ -1,6 +1,6 @@
 ghost use Rattle.std.specs.Prelude.{◌≡◌, length, vec_len, IfOk, OnOk};
 ghost use Rattle.lw_held.specs.Agree.{AreDistinct};
-ghost use Rattle.lw_held.specs.Shelves.{AreInOrder, AreSettled};
+ghost use Rattle.lw_held.specs.Shelves.{AreInOrder, AreNew, AreSettled};
 ghost use Rattle.lw_serve.specs.Plan.{AreNodes, AreWorkers};
 ghost use Rattle.lw_serve.specs.Rounds.{AreNumbered, Serves};
 
@@ -28,7 +28,8 @@ impl Nodes {
     #[tactic(auto, using(crate::proofs::Numbering::numbered_new))]
     /// Nodes and passes that no call was made with.
     pub(crate) fn new(alloc: Global, plan: &Plan) -> Result<Nodes, NoMemory>
-        ensures { IfOk result (λ nodes. vec_len nodes.shelves ≡ plan.now.nodes) }
+        ensures shelves { IfOk result (λ nodes. vec_len nodes.shelves ≡ plan.now.nodes) }
+        ensures passes { IfOk result (λ nodes. (vec_len nodes.passes ≡ plan.now.workers) × AreNew nodes.passes.items) }
     {
         let (shelves, passes) = set_up(alloc, plan.nodes, plan.workers)?;
         Ok(Nodes { shelves, passes })

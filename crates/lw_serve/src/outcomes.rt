@@ -9,7 +9,7 @@ use crate::jobs::put_merges;
 use bytes::Bytes;
 use lw_crew::{Done, Job, Outcome};
 use lw_held::{Part, Pass};
-use lw_node::{Call, MergeFault, Reply, Sent, Taken};
+use lw_node::{Call, MergeFault, Reply, Sent};
 use lw_reg::Addr;
 use lw_stamp::NoMemory;
 use std::alloc::Global;
@@ -30,17 +30,8 @@ pub(crate) fn reply_in(part: &Part) -> Option<(Addr, &[u8])>
     ensures { option_map (λ reply. (reply.0, reply.1.now)) result ≡ reply_told part.now }
 {
     match (&part.entry.call, &part.entry.reply) {
-        (Call::Take { from, .. }, Reply::Take(Ok(taken))) => Some((*from, reply_of(taken)?)),
+        (Call::Take { from, .. }, Reply::Take(Ok(taken))) => Some((*from, taken.reply.as_deref()?)),
         _ => None,
-    }
-}
-
-fn reply_of(taken: &Taken) -> Option<&[u8]>
-    ensures { option_map (λ bytes. bytes.now) result ≡ taken.now.reply }
-{
-    match &taken.reply {
-        Some(reply) => Some(reply.as_slice()),
-        None => None,
     }
 }
 

@@ -1,4 +1,4 @@
-ghost use Rattle.std.specs.Prelude.{◌≡◌, length, vec_len, IfOk, OnOk};
+ghost use Rattle.std.specs.Prelude.{◌≡◌, [], length, replicate, vec_len, IfOk, OnOk};
 ghost use Rattle.lw_serve.specs.Rounds.{IsRound, IsFinished};
 
 use crate::fault::ServeFault;
@@ -30,7 +30,8 @@ pub(crate) struct Server {
 impl Server {
     /// New nodes that have sent nothing.
     pub(crate) fn new(alloc: Global, plan: &Plan) -> Result<Server, NoMemory>
-        ensures { IfOk result (λ server. vec_len server.nodes.shelves ≡ plan.now.nodes) }
+        ensures shelves { IfOk result (λ server. vec_len server.nodes.shelves ≡ plan.now.nodes) }
+        ensures begun { IfOk result (λ server. (server.since.items ≡ replicate plan.now.nodes 0) × (server.kept.items ≡ [])) }
     {
         Ok(Server {
             nodes: Nodes::new(alloc, plan)?,

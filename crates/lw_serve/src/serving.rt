@@ -42,7 +42,9 @@ fn serve_rounds<R: Threads + Wait + Sync, W: Wire, C: HostClock, L: Log>(
     clock: &mut C,
     log: &L,
     plan: &Plan,
-) -> Result<Server, ServeFault> {
+) -> Result<Server, ServeFault>
+    ensures { IfOk result (λ server. vec_len server.nodes.shelves ≡ plan.now.nodes) }
+{
     let mut server = Server::new(alloc, plan)?;
     let mut buffer = vec![in alloc; 0; BUFFER]?;
     let mut left = plan.count;

@@ -1,4 +1,5 @@
 ghost use Rattle.std.specs.Prelude.{◌≡◌, true};
+ghost use Rattle.lw_serve.specs.Udp.{addr_of, IsAt};
 
 use crate::wire::{Wire, WireFault};
 use lw_reg::Addr;
@@ -63,7 +64,9 @@ impl Wire for UdpWire {
     }
 }
 
-fn address_of(address: &SocketAddr) -> Addr {
+fn address_of(address: &SocketAddr) -> Addr
+    ensures { result ≡ addr_of address.now }
+{
     let port = address.port();
     match address.ip() {
         IpAddr::V4(ip) => Addr::V4 {
@@ -77,7 +80,9 @@ fn address_of(address: &SocketAddr) -> Addr {
     }
 }
 
-fn socket_address_of(address: &Addr) -> SocketAddr {
+fn socket_address_of(address: &Addr) -> SocketAddr
+    ensures { IsAt address.now result }
+{
     match *address {
         Addr::V4 { address, port } => SocketAddr::new(IpAddr::V4(Ipv4Addr::from(address)), port),
         Addr::V6 { address, port } => SocketAddr::new(IpAddr::V6(Ipv6Addr::from(address)), port),
