@@ -12,7 +12,6 @@ pub mod laws;
 mod limits;
 mod link;
 mod link_text;
-mod order;
 mod printing;
 mod reading;
 mod scan;

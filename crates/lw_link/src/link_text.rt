@@ -4,25 +4,28 @@ use crate::fault::LinkFault;
 use crate::printing::print;
 use crate::reading::read;
 use crate::scan::printed_text;
-use lw_stamp::NoMemory;
+use lw_stamp::{NoMemory, Text};
 use std::alloc::Global;
 use std::marker::Model;
 
-/// A text of at most 8,192 bytes that is the printing of 1 to 256 links. Contracts see its bytes.
-#[derive(Drop)]
+/// A text of at most 8,192 bytes that is the printing of 1 to 256 links. Contracts see its bytes, and by
+/// these it is ordered.
+#[derive(PartialEq, Eq, PartialOrd, Ord, Drop)]
 pub struct LinkText {
-    text: String,
+    text: Text,
 }
 
 impl Model for LinkText {
-    ghost use Rattle.std.specs.Prelude.{ℕ, List, ◌≤◌, length, string_bytes};
+    ghost use Rattle.std.specs.Prelude.{ℕ, List, ◌≤◌, length};
     ghost use Rattle.lw_link.specs.WellFormed.{IsPrinting};
 
     ghost Value = { List ℕ };
 
-    ghost view = { λ t. string_bytes t.text };
+    ghost view = { λ t. t.text };
 
-    ghost invariant = { λ t. IsPrinting (string_bytes t.text) × (length (string_bytes t.text) ≤ 8192) };
+    ghost invariant = { λ t. IsPrinting t.text × (length t.text ≤ 8192) };
+
+    ghost inverse = { λ text. record { text = text } };
 }
 
 impl LinkText {
@@ -51,7 +54,7 @@ impl LinkText {
         ensures { IfOk result (λ copy. copy ≡ text.now) }
     {
         Ok(LinkText {
-            text: String::from_str(alloc, text)?,
+            text: Text::copy_of(alloc, text)?,
         })
     }
 
@@ -81,7 +84,9 @@ impl LinkText {
         }
         let links = read(alloc, bytes)?;
         let text = print(alloc, &links)?;
-        Ok(LinkText { text })
+        Ok(LinkText {
+            text: Text::from(text),
+        })
     }
 
     /// The printing, of at most 8,192 bytes.

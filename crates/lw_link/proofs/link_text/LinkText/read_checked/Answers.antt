@@ -1,4 +1,4 @@
-use Rattle.std.proofs.Common.{◌≡◌, ◌≤◌, ◌∙◌, length, ap, subst, sym, arith, string_bytes, refl, inl}
+use Rattle.std.proofs.Common.{◌≡◌, ◌≤◌, ◌∙◌, length, ap, subst, sym, arith, refl, inl}
 use Rattle.std.proofs.lemmas.Result.{err_from_is_err_and}
 use Rattle.lw_link.specs.Printing.{printing}
 use Rattle.lw_link.specs.WellFormed.{AreWellFormed}
@@ -26,6 +26,6 @@ pub invariant_of-result : goal.invariant_of-result
 invariant_of-result c =
     let links = c.in_ok-links.links.items in
     let found = c.in_ok-links.ensures.found in
-    let text : string_bytes c.in_ok-text.text ≡ printing links = c.in_ok-text.ensures ∙ ap printing c.deref.ensures.value in
+    let text : c.from.result ≡ printing links = c.from.ensures ∙ c.in_ok-text.ensures ∙ ap printing c.deref.ensures.value in
     let size : length (printing links) ≤ length c.args.bytes.now = spelled_size c.args.bytes.now links found.0 in
     ((links, spelled_good c.args.bytes.now links found.0 found.1, text), omega (arith, c.requires, size, ap length text))
