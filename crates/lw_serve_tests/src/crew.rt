@@ -4,7 +4,7 @@ mod stopping;
 
 ghost use Rattle.std.specs.Prelude.{◌≤◌};
 
-use crate::calls::{REGISTER, ask, reply_text, take};
+use crate::calls::{REGISTER, reply_text, take};
 use crate::hold::{holds, is_text, same};
 use lw_crew::{CrewFault, Done, Gate, Job, NoGate, Outcome, Pass, Shelf, gather, serve_jobs};
 use lw_held::{Part, Settled, Unsettled, set_up, settle};

@@ -2,7 +2,7 @@ mod agreeing;
 mod entries;
 mod largest;
 mod settling;
-mod steps;
+pub(crate) mod steps;
 
 use crate::calls::{REGISTER, ask, bytes, reply_text, take};
 use crate::hold::{holds, is_text};

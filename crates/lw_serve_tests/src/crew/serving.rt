@@ -1,6 +1,10 @@
 //! Jobs at several nodes by several workers.
 
+ghost use Rattle.lw_held.specs.Agree.{AreDistinct};
+ghost use Rattle.lw_held.specs.Shelves.{AreInOrder};
+
 use super::*;
+use crate::held::steps::{What, call, part_is, settle_some};
 use std::sync::atomic::{AtomicU64, Ordering};
 use std::thread;
 use std::time::{Clock, Duration};
@@ -64,78 +68,128 @@ impl<'a, C: Clock + Sync> Meeting<'a, C> {
     }
 }
 
+/// What comes of a Register at each of two nodes, where each of two passes makes a call.
+const REGISTERED: &str = "0: 1 0 604100048272640d0330303030303030303030303130303031
+1: 2 0 604100048272640d0330303030303030303030303130303032
+2 passes, 2 parts, Ok(Settled)";
+
 #[test]
 fn two_nodes_are_called_at_once(rt: HostRuntime) -> Result<(), Fail> {
     let gate = Meeting::new(&rt);
-    let played = is_played(
-        &rt,
-        rt.alloc(),
-        2,
-        2,
-        &[1, 2],
-        &gate,
-        "0: 1 0 604100048272640d0330303030303030303030303130303031\n\
-         1: 2 0 604100048272640d0330303030303030303030303130303032\n\
-         2 passes, 2 parts, Ok(Settled)",
-    );
+    let registered = register_at_once(&rt, rt.alloc(), &gate);
     let counts = gate.counts();
     drop(gate);
-    played?;
+    registered?;
     holds("both at once", counts == (0, 1, 1))
 }
 
-/// A node takes the Register, and is asked with the pass that made the call. The transcripts do not settle without that
-/// pass.
-#[test]
-fn a_pass_reads_back_what_it_wrote(rt: HostRuntime) -> Result<(), Fail> {
-    let jobs = registers(rt.alloc(), &[1])?;
-    read_back(&rt, rt.alloc(), &jobs)
+/// Has two workers register at two nodes. The pass of the first job then reads back what it wrote, and neither pass
+/// settles alone.
+fn register_at_once<R: Threads + Wait + Sync, G: Gate>(
+    rt: &R,
+    alloc: Global,
+    gate: &G,
+) -> Result<(), Fail> {
+    let jobs = registers(alloc, &[1, 2])?;
+    do_at_once(rt, alloc, &jobs, gate)
 }
 
-fn read_back<R: Threads + Wait + Sync>(rt: &R, alloc: Global, jobs: &[Job]) -> Result<(), Fail> {
-    let (shelves, passes) = set_up(alloc, 2, 1)?;
-    let (mut passes, result) = serve_jobs(rt, alloc, &shelves, passes, jobs, &NoGate);
-    let without = settle(rt, &shelves, &[]);
-    let is_called = result.is_ok() && without.is_err();
-    shows_first(rt, alloc, &shelves, &mut passes, is_called)
+fn do_at_once<R: Threads + Wait + Sync, G: Gate>(
+    rt: &R,
+    alloc: Global,
+    jobs: &[Job],
+    gate: &G,
+) -> Result<(), Fail> {
+    let (shelves, passes) = set_up(alloc, 2, 2)?;
+    let (mut passes, result) = serve_jobs(rt, alloc, &shelves, passes, jobs, gate);
+    are_registered(rt, alloc, &shelves, &mut passes, &result)
 }
 
-/// Asks the first node with the first pass, where the call before was made.
-fn shows_first<R: Wait>(
+fn are_registered<R: Wait>(
     rt: &R,
     alloc: Global,
     shelves: &[Shelf],
     passes: &mut [Pass],
-    is_called: bool,
+    done: &Result<Vec<Done>, CrewFault>,
+) -> Result<(), Fail>
+    requires shelves { AreInOrder shelves.now }
+    requires passes { AreDistinct passes.old }
+{
+    let settled = settle(rt, shelves, passes);
+    is_told(alloc, passes, done, settled, REGISTERED)?;
+    match first_pass(done) {
+        Some(first) => read_back(rt, alloc, shelves, passes, first),
+        None => Err("a result".into()),
+    }
+}
+
+fn is_told(
+    alloc: Global,
+    passes: &[Pass],
+    done: &Result<Vec<Done>, CrewFault>,
+    settled: Result<Settled, Unsettled>,
+    want: &str,
 ) -> Result<(), Fail> {
-    holds("a call of a pass", is_called)?;
-    match (shelves.first(), passes.first_mut()) {
-        (Some(shelf), Some(pass)) => shows(rt, alloc, shelf, pass),
-        _ => Err("a shelf and a pass".into()),
+    same(told(alloc, passes, done, settled)?.as_str(), want)
+}
+
+/// The place of the pass that did the first job.
+fn first_pass(done: &Result<Vec<Done>, CrewFault>) -> Option<usize> {
+    match done {
+        Ok(dones) => pass_of(dones.first()?.result),
+        Err(_) => None,
     }
 }
 
-fn asked<R: Wait>(rt: &R, alloc: Global, shelf: &Shelf, pass: &mut Pass) -> Result<u64, Fail> {
-    let call = ask(alloc, "a")?;
-    let asked = shelf.call(rt, &NoGate, pass, &call);
-    drop(call);
-    Ok(asked?)
-}
-
-/// Asks the node for `a` with the pass, which is shown.
-fn shows<R: Wait>(rt: &R, alloc: Global, shelf: &Shelf, pass: &mut Pass) -> Result<(), Fail> {
-    asked(rt, alloc, shelf, pass)?;
-    match last_part(pass) {
-        Some(part) => is_text(
-            reply_text(alloc, &part.entry.reply),
-            "a 0000000000010001 127.0.0.1:5683 0 86400 U false </>",
-        ),
-        None => Err("a part".into()),
+fn pass_of(outcome: Outcome) -> Option<usize> {
+    match outcome {
+        Outcome::At { pass, .. } => Some(pass as usize),
+        _ => None,
     }
 }
 
-fn last_part(pass: &Pass) -> Option<&Part> {
-    pass.part(pass.len().checked_sub(1)?)
+/// Asks the first node for `a` with the pass that registered there, which is shown. By this pass alone the second node
+/// does not settle, and by the other alone the first does not.
+fn read_back<R: Wait>(
+    rt: &R,
+    alloc: Global,
+    shelves: &[Shelf],
+    passes: &mut [Pass],
+    first: usize,
+) -> Result<(), Fail>
+    requires shelves { AreInOrder shelves.now }
+    requires passes { AreDistinct passes.old }
+{
+    let Some(shelf) = shelves.first() else {
+        return Err("a shelf".into());
+    };
+    call(rt, alloc, shelf, passes, first, What::ByEndpoint("a"))?;
+    part_is(
+        alloc,
+        passes,
+        first,
+        "1 1 a 0000000000010001 127.0.0.1:5683 0 86400 U false </>",
+    )?;
+    settles_not(rt, shelves, passes, first, 2)?;
+    settles_not(rt, shelves, passes, 1_usize.wrapping_sub(first), 1)
+}
+
+/// By the pass at the place alone the node lacks its first call.
+fn settles_not<R: Wait>(
+    rt: &R,
+    shelves: &[Shelf],
+    passes: &[Pass],
+    pass: usize,
+    node: u16,
+) -> Result<(), Fail>
+    requires shelves { AreInOrder shelves.now }
+    requires passes { AreDistinct passes.now }
+{
+    let settled = settle_some(rt, shelves, passes, pass, pass.wrapping_add(1));
+    holds(
+        "a pass is left out",
+        settled == Err(Unsettled { node, place: 0 }),
+    )
 }
 
 #[test]

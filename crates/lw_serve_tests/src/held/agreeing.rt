@@ -3,6 +3,7 @@
 ghost use Rattle.std.specs.Prelude.{IfOk};
 ghost use Rattle.lw_held.specs.Agree.{AreDistinct};
 
+use super::settling::last_two;
 use super::steps::Row;
 use super::steps::Whose::*;
 use super::*;
@@ -115,4 +116,57 @@ fn a_pass_reads_what_another_wrote(rt: HostRuntime) -> Result<(), Fail> {
         1,
         "1 1 a 0000000000010001 127.0.0.1:5683 0 86400 U false </>",
     )
+}
+
+/// From which of two passes up to which and by which number the node is asked that both called, the first pass before the
+/// second; and what it says.
+static BY_ONE_OR_BOTH: [(usize, usize, u16, Result<(), u64>); 4] = [
+    (1, 2, 1, Err(0)),
+    (0, 1, 1, Err(1)),
+    (0, 2, 1, Ok(())),
+    (0, 2, 2, Err(0)),
+];
+
+/// Whether the transcripts of the two are the journal, the one before the other.
+#[tactic(auto, using(crate::proofs::Keeping::distinct_two))]
+fn agrees_two(held: &Held, one: Pass, other: Pass) -> Result<(), u64> {
+    let are_apart = one.number() != other.number();
+    let both = [one, other];
+    let said = if are_apart {
+        held.agrees(1, &both)
+    } else {
+        Err(u64::MAX)
+    };
+    drop(both);
+    said
+}
+
+/// The node says of some of the passes what it is to say.
+fn agrees_so(held: &Held, passes: &[Pass]) -> Result<(), Fail>
+    requires { AreDistinct passes.now }
+{
+    for (first, end, node, want) in &BY_ONE_OR_BOTH {
+        let said = agrees_some(held, *node, passes, *first, *end);
+        holds("what is said", said == *want)?;
+    }
+    Ok(())
+}
+
+/// Two passes call the node, which agrees with both in either order and with neither alone.
+fn agrees_with_both(alloc: Global, held: &mut Held) -> Result<(), Fail> {
+    let mut passes = played(alloc, held, &REGISTERED)?;
+    agrees_so(held, &passes)?;
+    let Some((second, first)) = last_two(&mut passes) else {
+        return Err("two passes".into());
+    };
+    let said = agrees_two(held, second, first);
+    holds("the second before the first", said == Ok(()))
+}
+
+#[test]
+fn passes_agree_in_any_order_but_not_alone(rt: HostRuntime) -> Result<(), Fail> {
+    let mut held = Held::new(rt.alloc(), 1);
+    let agrees = agrees_with_both(rt.alloc(), &mut held);
+    drop(held);
+    agrees
 }

@@ -210,14 +210,15 @@ fn settle_two<R: Wait>(
     settled
 }
 
-/// By each of the two passes alone.
-static ALONE: [Case; 2] = [
+/// By the second of the two passes alone, by the first alone, and by both.
+static BY_ONE_OR_BOTH: [Case; 3] = [
     (1, 2, Err(Unsettled { node: 1, place: 0 })),
     (0, 1, Err(Unsettled { node: 1, place: 1 })),
+    (0, 2, Ok(Settled)),
 ];
 
 /// The last two of the passes, the last first.
-fn last_two(passes: &mut Vec<Pass>) -> Option<(Pass, Pass)> {
+pub(super) fn last_two(passes: &mut Vec<Pass>) -> Option<(Pass, Pass)> {
     let second = passes.pop()?;
     let Some(first) = passes.pop() else {
         drop(second);
@@ -229,7 +230,8 @@ fn last_two(passes: &mut Vec<Pass>) -> Option<(Pass, Pass)> {
 #[test]
 fn passes_settle_in_any_order_but_not_alone(rt: HostRuntime) -> Result<(), Fail> {
     let (shelves, mut passes) = set_up(rt.alloc(), 1, 2)?;
-    take_each(&rt, rt.alloc(), &shelves, &mut passes, &[(&BY_TWO, &ALONE)])?;
+    let turns: [Turn<'_>; 1] = [(&BY_TWO, &BY_ONE_OR_BOTH)];
+    take_each(&rt, rt.alloc(), &shelves, &mut passes, &turns)?;
     let Some((second, first)) = last_two(&mut passes) else {
         return Err("two passes".into());
     };

@@ -8,7 +8,7 @@ use super::*;
 
 /// What is asked of a node. Datagrams and deltas are in hex, moments are 0 and addresses 127.0.0.1:5683.
 #[derive(Clone, Copy)]
-pub(super) enum What<'a> {
+pub(crate) enum What<'a> {
     Takes(&'a str),
     Observes(&'a str, &'a [u16], u16),
     Cancels(&'a str, u16),
@@ -48,7 +48,7 @@ impl What<'_> {
 }
 
 /// Makes the call through the shelf, with the pass at the place.
-pub(super) fn call<R: Wait>(
+pub(crate) fn call<R: Wait>(
     rt: &R,
     alloc: Global,
     shelf: &Shelf,
@@ -166,7 +166,7 @@ fn make(
 
 /// Whether the transcripts of some passes in a row are the journals.
 #[tactic(auto, using(crate::proofs::Keeping::distinct_within))]
-pub(super) fn settle_some<R: Wait>(
+pub(crate) fn settle_some<R: Wait>(
     rt: &R,
     shelves: &[Shelf],
     passes: &[Pass],
@@ -200,7 +200,7 @@ pub(super) fn agrees_some(
 }
 
 /// The last part that was made with the pass at the place has the node, the place and the reply.
-pub(super) fn part_is(alloc: Global, passes: &[Pass], pass: usize, want: &str) -> Result<(), Fail> {
+pub(crate) fn part_is(alloc: Global, passes: &[Pass], pass: usize, want: &str) -> Result<(), Fail> {
     let Some((pass, number, part)) = last_part(passes, pass) else {
         return Err("a call".into());
     };

@@ -138,15 +138,15 @@ fn a_datagram_that_is_too_long(rt: HostRuntime) -> Result<(), Fail> {
     run_behind_faults(&rt, rt.alloc(), &long, 0, false, want)
 }
 
-/// Serves a Register at each of two nodes, of which the second comes in one way or another.
+/// Serves a datagram at each of two nodes, of which the second comes in one way or another.
 fn run_two<R: Threads + Wait + Sync>(
     rt: &R,
     alloc: Global,
-    registers: &[Vec<u8>; 2],
+    datagrams: &[Vec<u8>; 2],
     coming: Coming,
     want: &str,
 ) -> Result<(), Fail> {
-    let [first, second] = registers;
+    let [first, second] = datagrams;
     let arrivals = [
         Arrival {
             port: 56832,
@@ -189,6 +189,23 @@ settled
 56832 604100048272640d0330303030303030303030303130303031
 56833 604100058272640d0330303030303030303030303130303032
 ";
+
+/// An Update of lifetime 120 of what node 1 registers first, message ID 16.
+const UPDATE: &str = "40020010b272640d0330303030303030303030303130303031466c743d313230";
+
+/// What comes of two rounds: the second node updates what the first has registered.
+const UPDATED: &str = "Ok(()) 2 0 0 0
+settled
+56832 604100048272640d0330303030303030303030303130303031
+56833 60440010
+";
+
+#[test]
+fn a_node_updates_what_another_registered(rt: HostRuntime) -> Result<(), Fail> {
+    let register = bytes(rt.alloc(), REGISTER)?;
+    let datagrams = [register, bytes(rt.alloc(), UPDATE)?];
+    run_two(&rt, rt.alloc(), &datagrams, Coming::Alone, UPDATED)
+}
 
 /// Eighty datagrams that are there at once, of which every second has a reply.
 fn many<'a>(alloc: Global, ping: &'a [u8], nothing: &'a [u8]) -> Result<Vec<Arrival<'a>>, Fail> {

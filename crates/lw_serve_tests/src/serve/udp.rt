@@ -2,15 +2,21 @@
 
 use super::*;
 use log::sink::Discard;
+use std::io;
 use std::net::{Net, UdpSocket};
 use std::sync::Wait;
 use std::thread::{self, Threads};
 use std::time::{Clock, Duration};
 
-/// A socket at the port, which waits for 20 seconds.
+/// A socket at the port of 127.0.0.1.
 fn socket_at<R: Net>(rt: &R, alloc: Global, port: u16) -> Result<UdpSocket, Fail> {
     let address = format!(in alloc; "127.0.0.1:{port}")?;
-    let socket = UdpSocket::bind(rt, address.as_str())?;
+    Ok(bound(rt, address.as_str())?)
+}
+
+/// A socket at the address, which waits for 20 seconds.
+fn bound<R: Net>(rt: &R, address: &str) -> io::Result<UdpSocket> {
+    let socket = UdpSocket::bind(rt, address)?;
     socket.set_read_timeout(Some(Duration::from_secs(20)))?;
     Ok(socket)
 }
@@ -73,4 +79,27 @@ fn two_clients_at_two_nodes(rt: HostRuntime) -> Result<(), Fail> {
 fn are_answered<R: Net>(rt: &R, alloc: Global) -> Result<(), Fail> {
     is_answered(rt, alloc, 56832, REGISTER, CREATED)?;
     is_answered(rt, alloc, 56833, OTHER_REGISTER, CREATED_SECOND)
+}
+
+/// A datagram of the client comes over the wire, and goes back to where it came from.
+fn is_sent_back(wire: &mut UdpWire, client: &UdpSocket) -> Result<(), Fail> {
+    client.send_to(PING, "[::1]:56834")?;
+    let mut buffer = [0; 8];
+    let Ok((length, from)) = wire.wait(&mut buffer) else {
+        return Err("a datagram".into());
+    };
+    let client_at = Addr::read("[0000:0000:0000:0000:0000:0000:0000:0001]:56835");
+    holds("where it comes from", client_at == Some(from))?;
+    holds("a reply", wire.send(from, &buffer[..length]).is_ok())?;
+    let (length, _from) = client.recv_from(&mut buffer)?;
+    holds("the same datagram", &buffer[..length] == PING)
+}
+
+#[test]
+fn a_datagram_is_sent_back_over_ipv6(rt: HostRuntime) -> Result<(), Fail> {
+    match (bound(&rt, "[::1]:56834"), bound(&rt, "[::1]:56835")) {
+        (Ok(socket), Ok(client)) => is_sent_back(&mut UdpWire::new(socket), &client),
+        // The machine has no IPv6.
+        _ => Ok(()),
+    }
 }
