@@ -1,6 +1,5 @@
 -- What `serve` writes, and the lines of its faults.
-use Rattle.std.specs.Prelude.{◌++◌, ℕ, List, [], ◌∷◌, codes, Bool, true, false, Option}
-use Rattle.std.specs.Fmt.{decimal}
+use Rattle.std.specs.Prelude.{◌++◌, ℕ, List, [], codes, Bool, true, false, Option}
 use Rattle.std.specs.Io.KnownBytes.{Appends, Keeps}
 use Rattle.lw_crew.specs.Gather.{number_of}
 use Rattle.lw_serve.specs.Ending.{settled_line, IsStopped}
@@ -8,11 +7,7 @@ use Rattle.lw_serve.specs.declared.fault.ServeFault.{ServeFault}
 use Rattle.lw_serve.specs.declared.fault.ServeFault.TheVariants.{ReceiveFailed, ClockRefused, Crew, Unsettled, WriteFailed, NoMemory}
 use Rattle.lw_fleet.specs.declared.serving.ServingFault.{ServingFault}
 use Rattle.lw_fleet.specs.declared.serving.ServingFault.TheVariants.{BindFailed, Run}
-use Rattle.lw_fleet.specs.Output.{AppendsFront}
-
--- a number between two texts
-abbrev pub numbered : List ℕ → ℕ → List ℕ → List ℕ
-numbered before number after = before ++ (decimal number ++ after)
+use Rattle.lw_fleet.specs.Output.{numbered, AppendsFront}
 
 -- the line of a fault of a run, with its line feed
 abbrev pub run_line : ServeFault → List ℕ

@@ -1,11 +1,10 @@
-ghost use Rattle.std.specs.Prelude.{◌≡◌, ◌++◌, OnOk, OnErr, codes, decimal};
+ghost use Rattle.std.specs.Prelude.{◌≡◌, OnOk, OnErr};
 ghost use Rattle.std.specs.Io.KnownBytes.{Appends};
 ghost use Rattle.lw_fleet.specs.Fault.{fault_line, IsTold};
 ghost use Rattle.lw_fleet.specs.Output.{AppendsFront};
-ghost use Rattle.lw_fleet.specs.declared.fault.Fault.TheVariants.{LineRefused, NoMemory as OutOfMemory};
+ghost use Rattle.lw_fleet.specs.declared.fault.Fault.TheVariants.{NoMemory as OutOfMemory};
 
-use crate::output::write_text;
-use itoa::Buffer;
+use crate::output::{write_number, write_text};
 use lw_stamp::NoMemory;
 use std::io::Write;
 
@@ -45,21 +44,13 @@ impl Fault {
             Fault::ReadFailed => write_text(errors, b"read failed\n"),
             Fault::TooLong => write_text(errors, b"script too long\n"),
             Fault::HexRefused => write_text(errors, b"hex refused\n"),
-            Fault::LineRefused { line } => write_refused(errors, line),
+            Fault::LineRefused { line } => {
+                write_number(errors, b"line ", line as u64, b" refused\n")
+            }
             Fault::WriteFailed => write_text(errors, b"write failed\n"),
             Fault::NoMemory => write_text(errors, b"no memory\n"),
         }
     }
-}
-
-fn write_refused<E: Write>(errors: &mut E, line: usize) -> Result<(), Fault>
-    ensures whole { OnOk result (Appends (E.contents errors.old) (E.contents errors.new) (fault_line (LineRefused line))) }
-    ensures front { OnErr result (AppendsFront (E.contents errors.old) (E.contents errors.new) (fault_line (LineRefused line))) }
-{
-    let mut number = Buffer::new();
-    write_text(errors, b"line ")?;
-    write_text(errors, number.format(line).as_bytes())?;
-    write_text(errors, b" refused\n")
 }
 
 impl From<NoMemory> for Fault {

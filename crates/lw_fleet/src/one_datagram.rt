@@ -1,4 +1,4 @@
-ghost use Rattle.std.specs.Prelude.{◌≡◌, ◌≢◌, ◌↔◌, Ok, OnOk, OnErr, IfOk, IfErr, IfSome, Err, IsErr, length, ◌<◌, ℕ, option_map};
+ghost use Rattle.std.specs.Prelude.{◌≡◌, ◌≢◌, ◌↔◌, Ok, OnOk, OnErr, IfOk, IfErr, IfSome, Err, IsErr, length, ◌<◌, ℕ};
 ghost use Rattle.std.specs.Io.KnownBytes.{Keeps};
 ghost use Rattle.hex.specs.Hex.{decode_of};
 ghost use Rattle.lw_stamp.specs.Moment.{ms_of};
@@ -10,7 +10,7 @@ use crate::fault::Fault;
 use crate::hex_line::bytes_of_hex;
 use crate::input::read_line;
 use crate::output::write_text;
-use lw_node::{Node, Taken};
+use lw_node::Node;
 use lw_print::answer_text;
 use lw_reg::Addr;
 use lw_stamp::{Moment, NoMemory};
@@ -63,14 +63,5 @@ fn answered(
     let mut node = Node::new(alloc, number);
     let taken = node.take(now, source, datagram)?;
     let shown = node.first_after(now, None);
-    answer_text(alloc, reply_of(&taken), shown.as_ref())
-}
-
-fn reply_of(taken: &Taken) -> Option<&[u8]>
-    ensures { option_map (λ bytes. bytes.now) result ≡ taken.now.reply }
-{
-    match &taken.reply {
-        Some(reply) => Some(reply.as_slice()),
-        None => None,
-    }
+    answer_text(alloc, taken.reply.as_deref(), shown.as_ref())
 }

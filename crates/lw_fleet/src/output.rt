@@ -1,8 +1,9 @@
 ghost use Rattle.std.specs.Prelude.{◌≤◌, length, take, IfOk, OnOk, OnErr, IsOkUnless};
 ghost use Rattle.std.specs.Io.KnownBytes.{Appends, Keeps};
-ghost use Rattle.lw_fleet.specs.Output.{AppendsFront};
+ghost use Rattle.lw_fleet.specs.Output.{numbered, AppendsFront};
 
 use crate::fault::Fault;
+use itoa::Buffer;
 use std::io::{ErrorKind, Write};
 
 /// Writes the whole text, and what the writer holds back. Where it fails, a front of the text may
@@ -14,6 +15,22 @@ pub fn write_text<W: Write>(writer: &mut W, text: &[u8]) -> Result<(), Fault>
 {
     write_all(writer, text)?;
     flush(writer)
+}
+
+/// Writes a number between two texts.
+pub(crate) fn write_number<W: Write>(
+    writer: &mut W,
+    before: &[u8],
+    number: u64,
+    after: &[u8],
+) -> Result<(), Fault>
+    ensures whole { OnOk result (Appends (W.contents writer.old) (W.contents writer.new) (numbered before.now number after.now)) }
+    ensures front { OnErr result (AppendsFront (W.contents writer.old) (W.contents writer.new) (numbered before.now number after.now)) }
+{
+    let mut digits = Buffer::new();
+    write_text(writer, before)?;
+    write_text(writer, digits.format(number).as_bytes())?;
+    write_text(writer, after)
 }
 
 /// Writes the whole text, of which the writer may hold back some.

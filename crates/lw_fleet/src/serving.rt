@@ -4,14 +4,13 @@ ghost use Rattle.std.specs.Prelude.{◌≡◌, ◌++◌, [], codes, decimal, OnO
 ghost use Rattle.std.specs.Io.KnownBytes.{Appends};
 ghost use Rattle.std.specs.Thread.{IsSync};
 ghost use Rattle.lw_fleet.specs.Output.{AppendsFront};
-ghost use Rattle.lw_fleet.specs.Serving.{numbered, run_line, serving_line, IsServed, IsServingTold, IsUnserved};
+ghost use Rattle.lw_fleet.specs.Serving.{run_line, serving_line, IsServed, IsServingTold, IsUnserved};
 ghost use Rattle.lw_fleet.specs.declared.serving.ServingFault.TheVariants.{Run as OfRun};
 ghost use Rattle.lw_serve.specs.declared.fault.ServeFault.TheVariants.{Unsettled as NotSettled};
 
 use crate::command::ServeOptions;
 use crate::fault::Fault;
-use crate::output::write_text;
-use itoa::Buffer;
+use crate::output::{write_number, write_text};
 use lw_serve::ServeFault;
 use std::io::Write;
 use std::sync::Wait;
@@ -83,22 +82,6 @@ fn write_unsettled<E: Write>(errors: &mut E, node: u16, place: u64) -> Result<()
 {
     write_number(errors, b"unsettled ", node as u64, b" ")?;
     write_number(errors, b"", place, b"\n")
-}
-
-/// Writes a number between two texts.
-fn write_number<E: Write>(
-    errors: &mut E,
-    before: &[u8],
-    number: u64,
-    after: &[u8],
-) -> Result<(), Fault>
-    ensures whole { OnOk result (Appends (E.contents errors.old) (E.contents errors.new) (numbered before.now number after.now)) }
-    ensures front { OnErr result (AppendsFront (E.contents errors.old) (E.contents errors.new) (numbered before.now number after.now)) }
-{
-    let mut digits = Buffer::new();
-    write_text(errors, before)?;
-    write_text(errors, digits.format(number).as_bytes())?;
-    write_text(errors, after)
 }
 
 impl From<ServeFault> for ServingFault {

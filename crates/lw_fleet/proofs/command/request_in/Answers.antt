@@ -1,5 +1,4 @@
-use Rattle.std.proofs.Common.{◌≡◌, Result, Ok, Err, Option, List, IsTrue, ◌↔◌, ◌∙◌, sym, Bool, true, false}
-use Rattle.std.specs.Prelude.{OnErr}
+use Rattle.std.proofs.Common.{Option, List}
 use Rattle.clap.specs.Words.{Row, Text}
 use Rattle.lw_fleet.specs.CommandLine.{option_rows, IsAsked, IsGiven, IsGivenToServe, NamesReplay, NamesServe}
 use Rattle.lw_fleet.specs.declared.command.OneOptions.{OneOptions}

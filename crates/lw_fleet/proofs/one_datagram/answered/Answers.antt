@@ -1,7 +1,8 @@
-use Rattle.std.proofs.Common.{◌≡◌, [], sym, subst, ◌∙◌}
+use Rattle.std.proofs.Common.{◌≡◌, [], sym, ap, subst, ◌∙◌}
 use Rattle.lw_stamp.specs.Moment.{ms_of}
 use Rattle.lw_reg.specs.Marks.{all_marks, left_by}
 use Rattle.std.specs.Option.{option_to_list}
+use Rattle.lw_call.specs.Contents.{TakenContent}
 use Rattle.lw_node.specs.Calls.{Takes}
 use Rattle.lw_node.specs.Node.{NodeContent, Knows, fresh}
 use Rattle.lw_print.specs.Answer.{answer_text}
@@ -23,5 +24,5 @@ returns c =
       shown = c.first_after-shown.result;
       takes = takes;
       first = c.first_after-shown.ensures.marks (all_marks (option_to_list takes.operation)) (knows_after c.args.number takes.operation c.take.new.self takes.left);
-      text_is = is ∙ (λ i. answer_text (c.reply_of.ensures i) (c.as_ref.ensures.value i));
+      text_is = is ∙ (λ i. answer_text ((c.as_deref.ensures.value ∙ ap (λ (t : TakenContent). t.reply) c.taken.view_is) i) (c.as_ref.ensures.value i));
     })

@@ -1,4 +1,4 @@
-use Rattle.std.proofs.Common.{◌≤◌, ℕ, List, Err, length, ap, sym, subst, ◌∙◌, refl, arith}
+use Rattle.std.proofs.Common.{ℕ, List, Err, ap, sym, subst, refl, arith}
 use Rattle.lw_world.specs.declared.outcome.Outcome.{Outcome}
 use Rattle.lw_world.specs.Run.{Runs, begun}
 use Rattle.lw_script.specs.Script.{lines_of, IsFirstBad}

@@ -1,6 +1,5 @@
-use Rattle.std.proofs.KnownBytes.{Appends-nil}
-use Rattle.lw_fleet.proofs.OneLemmas.{on_err, on_ok}
-use Rattle.lw_fleet.proofs.ReplayLemmas.{appends_kept, front_whole, lines_front, lines_on, lines_whole}
+use Rattle.lw_fleet.proofs.OneLemmas.{on_err}
+use Rattle.lw_fleet.proofs.ReplayLemmas.{lines_front, lines_on}
 use Rattle.lw_fleet.proofs.replaying.write_lines.Goals as goal
 
 pub loop-outcome-preserved : goal.loop-outcome-preserved

@@ -1,5 +1,5 @@
 use Rattle.std.proofs.Common.{[], codes}
-use Rattle.lw_fleet.specs.Serving.{numbered}
+use Rattle.lw_fleet.specs.Output.{numbered}
 use Rattle.lw_fleet.proofs.OneLemmas.{err_then, on_err}
 use Rattle.lw_fleet.proofs.ReplayLemmas.{front_after, front_before}
 use Rattle.lw_fleet.proofs.serving.write_unsettled.Goals as goal
