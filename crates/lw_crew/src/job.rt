@@ -4,6 +4,7 @@ ghost use Rattle.std.specs.Prelude.{◌≡◌};
 ghost use Rattle.lw_crew.specs.Gather.{number_of};
 
 use lw_held::Call;
+use thiserror::Error;
 
 /// A call that is to be made of a node. Its number is its place in the list of jobs, from 0.
 #[derive(Drop)]
@@ -31,15 +32,19 @@ pub struct Done {
 }
 
 /// Why there is no list with one `Done` for each job.
-#[derive(Clone, Copy, Debug, PartialEq, Eq)]
+#[derive(Clone, Copy, Debug, PartialEq, Eq, Error)]
 pub enum CrewFault {
     /// The job is not among the results.
+    #[error("job {job} has no result")]
     Missing { job: u64 },
     /// A second result of the job came.
+    #[error("job {job} has a second result")]
     Double { job: u64 },
     /// There is no such job, or what is told of it is not so.
+    #[error("a result is of job {job}, which was not given, or says of it what is not so")]
     Stranger { job: u64 },
     /// Memory ran out.
+    #[error("out of memory")]
     NoMemory,
 }
 

@@ -3,25 +3,34 @@ ghost use Rattle.lw_delta.specs.declared.fault.DeltaFault.TheVariants.{NoMemory 
 
 use lw_stamp::NoMemory;
 use std::alloc::{AllocError, AllocFailed};
+use thiserror::Error;
 
 /// Why bytes were not read as a delta.
-#[derive(Clone, Copy, Debug, PartialEq, Eq)]
+#[derive(Clone, Copy, Debug, PartialEq, Eq, Error)]
 pub enum DeltaFault {
     /// The first four bytes are not `LWD1`.
+    #[error("the delta does not begin with LWD1")]
     Magic,
     /// The bytes end before a part does.
+    #[error("the delta ends before one of its parts does")]
     Truncated,
     /// An endpoint or path is not above the one before.
+    #[error("an endpoint or a path is not above the one before")]
     Order,
     /// A length, tag, flag or number out of its range, or a stamp with counter 0.
+    #[error("a length, tag, flag, number or stamp is out of its range")]
     Range,
     /// Not UTF-8, not letters A to Z, or no printing of links.
+    #[error("a text is not UTF-8, a binding is not letters A to Z, or objects are no printed links")]
     Text,
     /// A stamp above the sender's clock.
+    #[error("a stamp is above the sender's clock")]
     ClockBelow,
     /// A byte behind the end.
+    #[error("bytes follow the end of the delta")]
     Trailing,
     /// A growth was refused. The bytes are a delta.
+    #[error("out of memory")]
     NoMemory,
 }
 

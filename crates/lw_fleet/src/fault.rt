@@ -7,23 +7,31 @@ ghost use Rattle.lw_fleet.specs.declared.fault.Fault.TheVariants.{NoMemory as Ou
 use crate::output::{write_number, write_text};
 use lw_stamp::NoMemory;
 use std::io::Write;
+use thiserror::Error;
 
 /// What ends a command early. Each is told as a line of its own on standard error.
-#[derive(Clone, Copy, Debug, PartialEq, Eq)]
+#[derive(Clone, Copy, Debug, PartialEq, Eq, Error)]
 pub enum Fault {
     /// The text of the option `--from` is no address.
+    #[error("address refused: the text of --from is no address")]
     AddressRefused,
     /// Standard input could not be read.
+    #[error("read failed: standard input could not be read to its end")]
     ReadFailed,
     /// The line or the script has more bytes than are taken.
+    #[error("script too long: the input has more than 1048576 bytes")]
     TooLong,
     /// The line is not written in pairs of hex digits.
+    #[error("hex refused: the line is not pairs of hex digits")]
     HexRefused,
     /// A line of the script, the first that is none. It is counted from 1.
+    #[error("line {line} refused: it is no line of a script")]
     LineRefused { line: usize },
     /// Standard output did not take all.
+    #[error("write failed: standard output did not take all")]
     WriteFailed,
     /// Memory ran out.
+    #[error("no memory: a growth was refused")]
     NoMemory,
 }
 

@@ -15,6 +15,7 @@ use lw_serve::ServeFault;
 use std::io::Write;
 use std::sync::Wait;
 use std::thread::Threads;
+use thiserror::Error;
 
 /// What serves the datagrams that come to a port.
 pub trait Serves {
@@ -33,11 +34,13 @@ pub trait Serves {
 }
 
 /// What ends `serve` early. Each is told as a line of its own on standard error.
-#[derive(Clone, Copy, Debug, PartialEq, Eq)]
+#[derive(Clone, Copy, Debug, PartialEq, Eq, Error)]
 pub enum ServingFault {
     /// No socket could be bound to the port.
+    #[error("bind failed: no socket could be bound to the port")]
     BindFailed,
     /// The run ended at a fault of its own.
+    #[error(transparent)]
     Run(ServeFault),
 }
 

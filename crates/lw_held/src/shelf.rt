@@ -13,6 +13,7 @@ use lw_node::Call;
 use lw_stamp::NoMemory;
 use std::alloc::Global;
 use std::sync::{Mutex, Wait};
+use thiserror::Error;
 
 /// A number, and a lock round a node with its journal.
 #[derive(Drop)]
@@ -94,7 +95,8 @@ impl Shelf {
 pub struct Settled;
 
 /// The first node whose journal is not what the transcripts say, and the least place that fails there.
-#[derive(Clone, Copy, Debug, PartialEq, Eq)]
+#[derive(Clone, Copy, Debug, PartialEq, Eq, Error)]
+#[error("the journal of node {node} is not what the transcripts say, first at place {place}")]
 pub struct Unsettled {
     pub node: u16,
     pub place: u64,

@@ -15,6 +15,7 @@ use lw_world::Event;
 use std::alloc::Global;
 use std::marker::Model;
 use std::str;
+use thiserror::Error;
 
 /// The number of nodes of a run, and what happens at them, in order.
 #[derive(Drop)]
@@ -33,11 +34,13 @@ impl Model for Script {
 }
 
 /// Why a script was not read.
-#[derive(Clone, Copy, Debug, PartialEq, Eq)]
+#[derive(Clone, Copy, Debug, PartialEq, Eq, Error)]
 pub enum ScriptFault {
     /// The first line that is none of a script, counted from 1.
+    #[error("line {line} is no line of a script")]
     Refused { line: usize },
     /// A growth was refused. The bytes are a script.
+    #[error("out of memory")]
     NoMemory,
 }
 

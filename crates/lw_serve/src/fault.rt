@@ -5,21 +5,28 @@ use lw_crew::CrewFault;
 use lw_held::Unsettled;
 use lw_stamp::NoMemory;
 use std::alloc::{AllocError, AllocFailed};
+use thiserror::Error;
 
 /// What ends a run early.
-#[derive(Clone, Copy, Debug, PartialEq, Eq)]
+#[derive(Clone, Copy, Debug, PartialEq, Eq, Error)]
 pub enum ServeFault {
     /// The wire failed 1,000 times in a row while it was waited for.
+    #[error("receive failed: the wire failed 1000 times in a row")]
     ReceiveFailed,
     /// The host's clock gave no moment.
+    #[error("clock refused: the host's clock gave no moment in range")]
     ClockRefused,
     /// The workers' results are not one for each job.
+    #[error("crew fault {number}: {0}", number = .0.number())]
     Crew(CrewFault),
     /// The journal of the node is not what the transcripts say, first at the place.
+    #[error("unsettled {node} {place}: the journal of the node is not what the transcripts say, first at the place")]
     Unsettled { node: u16, place: u64 },
     /// The writer did not take the whole line.
+    #[error("write failed: the writer did not take the whole line")]
     WriteFailed,
     /// A growth of the run's own was refused.
+    #[error("no memory: a growth of the run's own was refused")]
     NoMemory,
 }
 

@@ -1,7 +1,9 @@
 use std::alloc::{AllocError, AllocFailed};
+use thiserror::Error;
 
 /// A growth was refused.
-#[derive(Clone, Copy, Debug, PartialEq, Eq)]
+#[derive(Clone, Copy, Debug, PartialEq, Eq, Error)]
+#[error("out of memory")]
 pub struct NoMemory;
 
 impl From<AllocError> for NoMemory {
