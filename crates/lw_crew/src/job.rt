@@ -35,16 +35,16 @@ pub struct Done {
 #[derive(Clone, Copy, Debug, PartialEq, Eq, Error)]
 pub enum CrewFault {
     /// The job is not among the results.
-    #[error("job {job} has no result")]
+    #[error("crew fault 1: job {job} has no result")]
     Missing { job: u64 },
     /// A second result of the job came.
-    #[error("job {job} has a second result")]
+    #[error("crew fault 2: job {job} has a second result")]
     Double { job: u64 },
     /// There is no such job, or what is told of it is not so.
-    #[error("a result is of job {job}, which was not given, or says of it what is not so")]
+    #[error("crew fault 3: a result is of job {job}, which was not given, or says of it what is not so")]
     Stranger { job: u64 },
     /// Memory ran out.
-    #[error("out of memory")]
+    #[error("crew fault 4: out of memory")]
     NoMemory,
 }
 

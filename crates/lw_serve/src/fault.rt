@@ -17,7 +17,7 @@ pub enum ServeFault {
     #[error("clock refused: the host's clock gave no moment in range")]
     ClockRefused,
     /// The workers' results are not one for each job.
-    #[error("crew fault {number}: {0}", number = .0.number())]
+    #[error(transparent)]
     Crew(CrewFault),
     /// The journal of the node is not what the transcripts say, first at the place.
     #[error("unsettled {node} {place}: the journal of the node is not what the transcripts say, first at the place")]
