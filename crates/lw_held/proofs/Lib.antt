@@ -3,6 +3,5 @@ pub mod Agreement
 pub mod Lawful
 pub mod Joining
 pub mod Longer
-pub mod Shown
 pub mod Stepping
 pub mod Marking

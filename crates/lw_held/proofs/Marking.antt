@@ -34,7 +34,7 @@ use Rattle.lw_held.specs.declared.entry.Entry.{Entry}
 use Rattle.lw_held.specs.History.{Leads}
 use Rattle.lw_held.specs.Marked.{Marked, unmarked, place_of, node_of, Adds, AddsOr, Commanded, Brings, Merges, Steps, MarksLead, HistoriesAreOfMarks}
 use Rattle.lw_held.proofs.Stepping.{legal_of_marks}
-use Rattle.lw_held.proofs.Shown.{about_names, marks_shown, shown_names, shown_state, state_append, are_shown}
+use Rattle.lw_node.proofs.Shown.{about_names, marks_shown, shown_names, shown_state, state_append, are_shown}
 
 -- what is known after a step, of the node that it left
 record Left (Step : Marked → Type 0) (node : NodeContent) : Type 0 where

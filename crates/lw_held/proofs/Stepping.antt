@@ -27,7 +27,7 @@ use Rattle.lw_call.specs.declared.reply.Reply.TheVariants as replies
 use Rattle.lw_call.specs.Contents.{OutgoingContent}
 use Rattle.lw_node.specs.Calls.{Sent, place_at}
 use Rattle.lw_node.specs.Effects.{Place, Request, Refused, ObserveMeans, CancelMeans}
-use Rattle.lw_node.specs.Exchange.{Merged, state_in}
+use Rattle.lw_node.specs.Exchange.{Merged, AreShown, state_in}
 use Rattle.lw_node.specs.Exchange.{Merges as NodeMerges}
 use Rattle.lw_node.specs.Node.{NodeContent, IsAfter, fresh}
 use Rattle.lw_node.specs.Node.Known.{Shown, Told}
@@ -36,8 +36,8 @@ use Rattle.lw_world.proofs.Deciding.{Agree, told_agree, id_along, token_along, a
 use Rattle.lw_world.proofs.Freshness.{datagram_along}
 use Rattle.lw_held.specs.declared.entry.Entry.{Entry}
 use Rattle.lw_held.specs.History.{IsStep, Leads}
-use Rattle.lw_held.specs.Marked.{Marked, unmarked, place_of, node_of, Adds, AddsOr, Commanded, AreShown, Brings, Merges, Steps, MarksLead}
-use Rattle.lw_held.proofs.Shown.{about_names, marks_shown, shown_names, shown_state, state_append, are_shown}
+use Rattle.lw_held.specs.Marked.{Marked, unmarked, place_of, node_of, Adds, AddsOr, Commanded, Brings, Merges, Steps, MarksLead}
+use Rattle.lw_node.proofs.Shown.{about_names, marks_shown, shown_names, shown_state, state_append, are_shown}
 
 -- ---- what the same state decides
 module _ (M N : Marks) (agree : (now : ℕ) → Agree M N now) where

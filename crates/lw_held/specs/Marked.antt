@@ -1,14 +1,13 @@
 -- Legal histories over clock and marks alone: before the first entry the clock is 0 and no mark is known, and each reply is
 -- that of the clock and the marks which the entries before it left (Shapiro et al., Conflict-free Replicated Data Types,
 -- 2011).
-use Rattle.std.specs.Prelude.{◌≡◌, ◌↔◌, ℕ, ◌+◌, ◌<◌, max, List, [], ◌∷◌, ◌++◌, length, take, Option, Some, None, Result, Ok, Err, IfOk, Contains}
+use Rattle.std.specs.Prelude.{◌≡◌, ◌↔◌, ℕ, ◌+◌, ◌<◌, max, List, [], ◌∷◌, ◌++◌, length, take, Option, Some, None, Result, Ok, Err, IfOk}
 use Rattle.lw_stamp.specs.Moment.{ms_of}
 use Rattle.lw_coap.specs.Message.{MessageContent}
 use Rattle.lw_reg.specs.declared.addr.Addr.{Addr}
 use Rattle.lw_reg.specs.declared.op.Op.{Op}
 use Rattle.lw_reg.specs.declared.slot.Slot.{Slot}
 use Rattle.lw_reg.specs.Marks.{Mark, among, marks_of}
-use Rattle.lw_reg.specs.Reading.{shown_by}
 use Rattle.lw_reg.specs.State.{state_of}
 use Rattle.lw_table.specs.Changes.{Count, Recounts}
 use Rattle.lw_table.specs.Table.{none_counted}
@@ -25,7 +24,7 @@ use Rattle.lw_call.specs.Contents.{TakenContent, OutgoingContent}
 use Rattle.lw_node.specs.Calls.{IsReply, IsSilent, IsSent}
 use Rattle.lw_node.specs.Effects.{Place, Request, Refused, DatagramMeans, ObserveMeans, CancelMeans}
 use Rattle.lw_node.specs.Effects.Refused.{NotFound, ClockEnd}
-use Rattle.lw_node.specs.Exchange.{IsDeltaSince}
+use Rattle.lw_node.specs.Exchange.{AreShown, IsDeltaSince}
 use Rattle.lw_node.specs.Node.{NodeContent, fresh}
 use Rattle.lw_node.specs.Steps.{Asks}
 use Rattle.lw_held.specs.declared.entry.Entry.{Entry}
@@ -86,10 +85,6 @@ Commanded Meant old (Err faults.ClockEnd) new = Meant (Err ClockEnd) × (new ≡
 Commanded Meant old (Err faults.NoMemory) new = ((request : Request) × (operation : Op) × Meant (Ok (request, operation))) × (new ≡ old)
 
 -- ---- deltas
--- exactly the marks that the slots show
-abbrev pub AreShown : List (List ℕ × Slot) → List Mark → Type 0
-AreShown slots marks = (m : Mark) → Contains marks m ↔ ((e : List ℕ) × (slot : Slot) × Contains slots (e, slot) × shown_by e slot m)
-
 -- the marks that these slots show are added, and the clock is the greater of both
 pub record Brings (old : Marked) (clock : ℕ) (slots : List (List ℕ × Slot)) (new : Marked) : Type 0 where
   pub marks : List Mark

@@ -16,3 +16,5 @@ pub mod RestLemmas
 pub mod NextOperation
 pub mod Outcomes
 pub mod StepLemmas
+pub mod Shown
+pub mod Knowing

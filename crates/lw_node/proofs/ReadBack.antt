@@ -29,13 +29,13 @@ use Rattle.lw_reg.specs.declared.op.What.{What}
 use Rattle.lw_reg.specs.declared.op.What.TheVariants.{Register, Update, Remove, Observe, Cancel}
 use Rattle.lw_reg.specs.declared.slot.Slot.{Slot}
 use Rattle.lw_reg.specs.Body.{body_join, no_watches}
-use Rattle.lw_reg.specs.Marks.{Trace, marks_of}
-use Rattle.lw_reg.specs.Marks.Trace.{Named, AddressAt, SeenAt, LifetimeAt, BindingAt, SmsAt, ObjectsAt}
+use Rattle.lw_reg.specs.Marks.{Trace, Marks, Has, marks_of}
+use Rattle.lw_reg.specs.Marks.Trace.{Named, Based, AddressAt, SeenAt, LifetimeAt, BindingAt, SmsAt, ObjectsAt}
 use Rattle.lw_reg.specs.OrderLaws.{text_order}
 use Rattle.lw_reg.specs.Orders.{addr_cmp, base_cmp, binding_cmp, moment_cmp, sms_cmp}
 use Rattle.lw_reg.specs.Reading.{Shows, shown_in, shown_by_option, stamp_of, registration_of, registered_in, in_time, timely}
 use Rattle.lw_reg.specs.Registration.{Registration}
-use Rattle.lw_reg.specs.Showing.{ShownOf, queue_of}
+use Rattle.lw_reg.specs.Showing.{IsBase, ShownOf, queue_of}
 use Rattle.lw_reg.specs.Slot.{slot_join, slot_at, slot_of, told_of, write_of, some_text}
 use Rattle.lw_reg.specs.State.{State, state_join, state_of}
 use Rattle.lw_reg.proofs.Operations.{marks_state}
@@ -228,14 +228,14 @@ record IsBefore (t : Stamp) {e : List ℕ} {r : Stamp} {b : Body} {v : Registrat
   sms : stamp_cmp w.sms.0 t ≡ Less
   objects : stamp_cmp w.objects.0 t ≡ Less
 
-record Updated (e : List ℕ) (before : Registration) (c : Body) (address : Addr) (seen : Moment) (lifetime : Option ℕ) (binding : Option Binding) (sms objects : Option (List ℕ)) : Type 0 where
+record Updated (M : Marks) (e : List ℕ) (before : Registration) (c : Body) (address : Addr) (seen : Moment) (lifetime : Option ℕ) (binding : Option Binding) (sms objects : Option (List ℕ)) : Type 0 where
   registration : Registration
   shown : registered_in e (slot_at before.id (Here c)) ≡ Some registration
-  is : IsUpdated before address seen lifetime binding sms objects registration
+  is : IsUpdated M before address seen lifetime binding sms objects registration
 
-updates : (e : List ℕ) (before : Registration) (b : Body) (w : IsWhole e before.id b before) (t : Stamp) (address : Addr) (seen : Moment) (lifetime : Option ℕ) (binding : Option Binding) (sms objects : Option (List ℕ))
-    → IsBefore t w → Updated e before (updated_body b t address seen lifetime binding sms objects) address seen lifetime binding sms objects
-updates e before b w t address seen lifetime binding sms objects older =
+updates : (M : Marks) (e : List ℕ) (before : Registration) (b : Body) (w : IsWhole e before.id b before) (t : Stamp) (address : Addr) (seen : Moment) (lifetime : Option ℕ) (binding : Option Binding) (sms objects : Option (List ℕ))
+    → ((base : Base) → IsBase M before.endpoint before.id base → w.base ≡ base) → IsBefore t w → Updated M e before (updated_body b t address seen lifetime binding sms objects) address seen lifetime binding sms objects
+updates M e before b w t address seen lifetime binding sms objects stood older =
     let hb = ap (λ o. option_join (greater base_cmp) o None) w.base_is in
     let ha = field_after addr_cmp b.address.write w.address t (Some address) w.address_is older.address in
     let hs = field_after moment_cmp b.seen.write w.seen t (Some seen) w.seen_is older.seen in
@@ -273,7 +273,7 @@ updates e before b w t address seen lifetime binding sms objects older =
       objects = or_before objects w.objects.1;
     }
 
-    updated : IsUpdated before address seen lifetime binding sms objects r
+    updated : IsUpdated M before address seen lifetime binding sms objects r
     updated = record {
       endpoint = ap (λ (x : Registration). x.endpoint) same;
       id = refl;
@@ -282,7 +282,7 @@ updates e before b w t address seen lifetime binding sms objects older =
       lifetime_is = ap (λ (x : Registration). or_before lifetime x.lifetime) same;
       version = ap (λ (x : Registration). x.version) same;
       binding_is = ap (λ (x : Registration). or_before binding x.binding) same;
-      queue = λ h. ap (λ o. queue_of w.base (or_before o w.binding.1)) h ∙ ap (λ (x : Registration). x.queue) same;
+      queue = λ base is. ap (λ b. queue_of b (or_before binding w.binding.1)) (stood base is);
       sms_is = sms_kept sms w.sms.1 ∙ ap (λ (x : Registration). or_kept sms x.sms) same;
       objects_is = ap (λ (x : Registration). or_before objects x.objects) same;
     }
@@ -309,7 +309,7 @@ updates_read_back old new op f now before s here own address seen lifetime bindi
     go (get old.table.state op.endpoint) refl ((view_reads (shown_in old.table.state) (read_names old.table.state) old.table.state (read_tells old.table.state) now op.endpoint before).1 (sym here, s))
   where
     go : (o : Option Slot) → get old.table.state op.endpoint ≡ o → view_with now op.endpoint o ≡ Some before
-        → (r : Registration) × IsUpdated before address seen lifetime binding sms objects r × ShownOf (shown_in new.table.state) (ms_of seen) op.endpoint (Some r)
+        → (r : Registration) × IsUpdated (shown_in old.table.state) before address seen lifetime binding sms objects r × ShownOf (shown_in new.table.state) (ms_of seen) op.endpoint (Some r)
     go None h k = absurd cc
     go (Some slot) h k = (u.registration, u.is, read_by_endpoint new.table.state (ms_of seen) op.endpoint (Some u.registration) (sym found))
       where
@@ -319,8 +319,15 @@ updates_read_back old new op f now before s here own address seen lifetime bindi
         there : get old.table.state op.endpoint ≡ Some (slot_at before.id (Here body.body))
         there = h ∙ ap (λ x. Some x) body.is
 
-        u : Updated op.endpoint before (updated_body body.body op.stamp address seen lifetime binding sms objects) address seen lifetime binding sms objects
-        u = updates op.endpoint before body.body body.whole_is op.stamp address seen lifetime binding sms objects (older_than old.clock old.table.state f.fits op f.next before body.body there body.whole_is)
+        stood : (base : Base) → IsBase (shown_in old.table.state) before.endpoint before.id base → body.whole_is.base ≡ base
+        stood base is =
+            some_is body.whole_is.base base
+            (sym body.whole_is.base_is
+            ∙ (subst (λ o. shown_by_option op.endpoint o (record { endpoint = op.endpoint; registration = before.id; trace = Based base })) there
+            (subst (λ e. Has (shown_in old.table.state) e before.id (Based base)) (sym here) is.member)).2)
+
+        u : Updated (shown_in old.table.state) op.endpoint before (updated_body body.body op.stamp address seen lifetime binding sms objects) address seen lifetime binding sms objects
+        u = updates (shown_in old.table.state) op.endpoint before body.body body.whole_is op.stamp address seen lifetime binding sms objects stood (older_than old.clock old.table.state f.fits op f.next before body.body there body.whole_is)
 
         joined : option_join slot_join (get old.table.state op.endpoint) (Some (slot_of op)) ≡ Some (slot_at before.id (Here (updated_body body.body op.stamp address seen lifetime binding sms objects)))
         joined =

@@ -1,9 +1,11 @@
 -- What a node sends of its state, and what it is after a delta was merged (Shapiro et al., Conflict-free
 -- Replicated Data Types, 2011).
-use Rattle.std.specs.Prelude.{◌≡◌, ℕ, ◌<◌, ◌≤◌, max, List, [], ◌∷◌, length, take, Result, Ok, Err, Some, IsSomeAnd}
+use Rattle.std.specs.Prelude.{◌≡◌, ◌↔◌, ℕ, ◌<◌, ◌≤◌, max, List, [], ◌∷◌, length, take, Contains, Result, Ok, Err, Some, IsSomeAnd}
 use Rattle.std.specs.FinMap.{empty, get}
 use Rattle.lw_join.specs.Maps.{one_key}
 use Rattle.lw_reg.specs.declared.slot.Slot.{Slot}
+use Rattle.lw_reg.specs.Marks.{Mark}
+use Rattle.lw_reg.specs.Reading.{shown_by}
 use Rattle.lw_reg.specs.Slot.{slot_below}
 use Rattle.lw_reg.specs.State.{State, state_below, state_join}
 use Rattle.lw_table.specs.Changes.{Recounts, IsSince, IsSinceIn}
@@ -35,6 +37,10 @@ pub record Merged (old : NodeContent) (clock : ℕ) (slots : List (List ℕ × S
   pub clock_is : new.clock ≡ max old.clock clock
   pub state : new.table.state ≡ state_join old.table.state (state_in slots)
   pub count : Recounts old.table.state new.table.state old.table.count new.table.count
+
+-- exactly the marks that the slots show
+abbrev pub AreShown : List (List ℕ × Slot) → List Mark → Type 0
+AreShown slots marks = (m : Mark) → Contains marks m ↔ ((e : List ℕ) × (slot : Slot) × Contains slots (e, slot) × shown_by e slot m)
 
 -- ---- the slots of a delta, joined to a table
 pub record JoinedTo (old : TableContent) (slots : List (List ℕ × Slot)) (new : TableContent) : Type 0 where

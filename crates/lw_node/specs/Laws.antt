@@ -1,27 +1,55 @@
--- That a question has one answer, and what follows from what an operation leaves: it comes after all that the node
--- knows, so that what it wrote is read back, and a Register ends what was before.
-use Rattle.std.specs.Prelude.{◌≡◌, ℕ, ◌+◌, List, Option, Some, None, Contains}
+-- What a node knows from one call to the next; that a question has one answer; and what follows from what an operation
+-- leaves: it comes after all that the node knows, so that what it wrote is read back, and a Register ends what was
+-- before.
+use Rattle.std.specs.Prelude.{◌≡◌, ℕ, ◌+◌, List, [], ◌++◌, Option, Some, None, Contains}
 use Rattle.lw_stamp.specs.declared.moment.Moment.{Moment}
 use Rattle.lw_stamp.specs.declared.stamp.Stamp.{Stamp}
 use Rattle.lw_stamp.specs.Moment.{ms_of}
 use Rattle.lw_reg.specs.declared.addr.Addr.{Addr}
+use Rattle.lw_reg.specs.declared.base.Base.{Base}
 use Rattle.lw_reg.specs.declared.binding.Binding.{Binding}
 use Rattle.lw_reg.specs.declared.op.Op.{Op}
 use Rattle.lw_reg.specs.declared.op.What.{What}
 use Rattle.lw_reg.specs.declared.op.What.TheVariants.{Register, Update}
 use Rattle.lw_reg.specs.declared.path.Path.{Path}
-use Rattle.lw_reg.specs.Marks.{Has, left_by, all_marks}
+use Rattle.lw_reg.specs.declared.slot.Slot.{Slot}
+use Rattle.lw_reg.specs.Marks.{Mark, Marks, Has, left_by, marks_of, all_marks}
 use Rattle.lw_reg.specs.Marks.Trace.{Watched}
 use Rattle.lw_reg.specs.Reading.{shown_in}
 use Rattle.lw_reg.specs.Registration.{Registration}
-use Rattle.lw_reg.specs.Showing.{IsComplete, IsShown, ShownOf, queue_of}
+use Rattle.lw_reg.specs.Showing.{IsBase, IsComplete, IsShown, ShownOf, queue_of}
 use Rattle.lw_reg.specs.State.{IsStateOf}
 use Rattle.lw_table.specs.LookUps.{ById, ByToken}
 use Rattle.lw_call.specs.declared.answer.Answer.{Answer}
 use Rattle.lw_call.specs.declared.question.Question.{Question}
-use Rattle.lw_node.specs.Node.{NodeContent, Issued, Known, marks_in}
+use Rattle.lw_node.specs.Exchange.{Merged, AreShown}
+use Rattle.lw_node.specs.Node.{NodeContent, fresh, Issued, IsAfter, Knows, Known, marks_in}
 use Rattle.lw_node.specs.Steps.{Answers}
 use Rattle.lw_node.specs.Within.{FitsClock}
+
+-- ---- what is known
+-- a new node knows no mark
+abbrev pub NewKnowsNothing : Type 0
+NewKnowsNothing = (number : ℕ) → Knows (fresh number) []
+
+-- the marks of an operation, if there is one, and those that were known
+abbrev pub known_after : Option Op → List Mark → List Mark
+known_after None ms = ms
+known_after (Some operation) ms = marks_of operation ++ ms
+
+-- after a call that issues an operation, or none, these are known
+abbrev pub OperationsAreKnown : Type 0
+OperationsAreKnown = (old new : NodeContent) (operation : Option Op) (ms : List Mark) → Knows old ms → IsAfter old operation new → Knows new (known_after operation ms)
+
+-- after a merge, those that the slots show, and those that were known
+abbrev pub MergesAreKnown : Type 0
+MergesAreKnown =
+    (old new : NodeContent) (clock : ℕ) (slots : List (List ℕ × Slot)) (shown ms : List Mark) → Knows old ms → Merged old clock slots new → AreShown slots shown
+    → Knows new (shown ++ ms)
+
+-- slots show the marks of a list
+abbrev pub SlotsShowMarks : Type 0
+SlotsShowMarks = (slots : List (List ℕ × Slot)) → (shown : List Mark) × AreShown slots shown
 
 -- ---- one answer
 -- over the marks that can be read from the node's state, or those of a list
@@ -69,8 +97,9 @@ abbrev pub or_kept : {V : Type 0} → Option V → Option V → Option V
 or_kept None before = before
 or_kept (Some value) before = Some value
 
--- the registration, with what an Update writes; a binding that it does not write leaves the queue mode
-pub record IsUpdated (before : Registration) (address : Addr) (seen : Moment) (lifetime : Option ℕ) (binding : Option Binding) (sms objects : Option (List ℕ)) (r : Registration) : Type 0 where
+-- The registration, with what an Update writes. Its queue mode is that of the base, as it stands in these marks, and of the
+-- binding that it has now.
+pub record IsUpdated (M : Marks) (before : Registration) (address : Addr) (seen : Moment) (lifetime : Option ℕ) (binding : Option Binding) (sms objects : Option (List ℕ)) (r : Registration) : Type 0 where
   pub endpoint : r.endpoint ≡ before.endpoint
   pub id : r.id ≡ before.id
   pub address_is : r.address ≡ address
@@ -78,7 +107,7 @@ pub record IsUpdated (before : Registration) (address : Addr) (seen : Moment) (l
   pub lifetime_is : r.lifetime ≡ or_before lifetime before.lifetime
   pub version : r.version ≡ before.version
   pub binding_is : r.binding ≡ or_before binding before.binding
-  pub queue : binding ≡ None → r.queue ≡ before.queue
+  pub queue : (base : Base) → IsBase M before.endpoint before.id base → r.queue ≡ queue_of base r.binding
   pub sms_is : r.sms ≡ or_kept sms before.sms
   pub objects_is : r.objects ≡ or_before objects before.objects
 
@@ -88,7 +117,7 @@ UpdatesReadBack =
     (old new : NodeContent) (op : Op) → Follows old op new → (now : ℕ) (before : Registration) → IsShown (shown_in old.table.state) now before
     → op.endpoint ≡ before.endpoint → op.reg ≡ before.id
     → (address : Addr) (seen : Moment) (lifetime : Option ℕ) (binding : Option Binding) (sms objects : Option (List ℕ)) → op.what ≡ Update address seen lifetime binding sms objects
-    → (r : Registration) × IsUpdated before address seen lifetime binding sms objects r × ShownOf (shown_in new.table.state) (ms_of seen) op.endpoint (Some r)
+    → (r : Registration) × IsUpdated (shown_in old.table.state) before address seen lifetime binding sms objects r × ShownOf (shown_in new.table.state) (ms_of seen) op.endpoint (Some r)
 
 -- ---- a Register ends what was before
 abbrev pub IsRegister : What → Type 0

@@ -1,7 +1,16 @@
 //! Laws of a node, each the contract of a function that does nothing.
 
 ghost use Rattle.lw_node.specs.Exchange.{DeltasBringTheRest, LeastIsOne, LeastCommutes, LeastAssociates, LeastRepeats};
-ghost use Rattle.lw_node.specs.Laws.{AnswersAreOne, RegistersReadBack, UpdatesReadBack, RegistersEndTheFormer};
+ghost use Rattle.lw_node.specs.Laws.{NewKnowsNothing, OperationsAreKnown, MergesAreKnown, SlotsShowMarks, AnswersAreOne, RegistersReadBack, UpdatesReadBack, RegistersEndTheFormer};
+
+/// What a node knows, from one call to the next: a new node knows no mark, an operation adds its marks, and a merge
+/// those that the slots show. A call that leaves the node as it was leaves what it knows.
+pub fn calls_add_to_what_is_known()
+    ensures new { NewKnowsNothing }
+    ensures operations { OperationsAreKnown }
+    ensures merges { MergesAreKnown }
+    ensures shown { SlotsShowMarks }
+{}
 
 /// A question has one answer over a set of operations at a moment.
 pub fn answers_are_one()

@@ -30,8 +30,7 @@ use Rattle.lw_reg.proofs.Operations.{append_names}
 use Rattle.lw_reg.proofs.SlotMarks.{slot_self}
 use Rattle.lw_reg.proofs.States.{state_is, state_least, state_union}
 use Rattle.lw_reg.proofs.Tells.{SlotTells, Holds, mark_at, field_trace, slot_facet, state_facet, state_tells}
-use Rattle.lw_node.specs.Exchange.{state_in}
-use Rattle.lw_held.specs.Marked.{AreShown}
+use Rattle.lw_node.specs.Exchange.{state_in, AreShown}
 
 -- ---- the traces of a slot
 -- a field that is written, before what comes after it
