@@ -27,8 +27,9 @@ node_code =
 abbrev pub fresh : ℕ → NodeContent
 fresh number = record { number = number; clock = 0; table = empty_table }
 
--- An operation takes the next number of the clock. The state of its marks is joined to the node's, and the
--- endpoint that moves takes the next change number.
+-- An operation takes the next number of the clock. The state of its marks is joined to the node's, and the endpoint
+-- that moves takes the next change number. The fold `state_of` is the least state above the atoms of the marks, and the
+-- join the least above both: these are laws of states.
 pub record Issued (old : NodeContent) (operation : Op) (new : NodeContent) : Type 0 where
   pub number : new.number ≡ old.number
   pub clock : new.clock ≡ old.clock + 1

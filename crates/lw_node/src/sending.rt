@@ -9,7 +9,7 @@ use lw_stamp::NoMemory;
 
 impl Node {
     /// The bytes of a delta: the clock, and the slots that moved after this change number, or all once the
-    /// numbers have come to their end. It costs what it gives.
+    /// numbers have come to their end. It costs what it gives, which is in no contract.
     pub fn delta_since(&self, since: u64) -> Result<Vec<u8>, NoMemory>
         ensures { IfOk result (λ bytes. IsDeltaSince self.now since bytes.items) }
     {

@@ -26,9 +26,9 @@ use lw_reg::{Addr, Path, Slot, View, Watch};
 use lw_stamp::{Moment, Stamp};
 
 impl Table {
-    /// What is shown of the endpoint. A descent of the tree of the endpoints.
+    /// What is shown of the endpoint. It is one descent of the tree of the endpoints. Here and below what a call costs is in
+    /// no contract.
     pub fn by_endpoint(&self, now: Moment, endpoint: &str) -> Option<View<'_>>
-        ensures value { result ≡ view_at (ms_of now) self.now.state endpoint.now }
         ensures read { ShownOf (shown_in self.now.state) (ms_of now) endpoint.now result }
         ensures marks { (ms : List Mark) → NamesAll (among ms) → IsStateOf ms self.now.state → ShownOf (among ms) (ms_of now) endpoint.now result }
     {

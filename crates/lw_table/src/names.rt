@@ -17,7 +17,7 @@ use std::ops::Bound;
 pub(crate) struct Names {
     names: BTreeSet<String>,
     /// Room for the text that a look-up goes on from, so that it takes no memory: as long as an endpoint, and made
-    /// before the first name is kept.
+    /// before the first name is kept. How much room there is, and what a look-up costs, is in no contract.
     room: Cell<Option<String>>,
 }
 

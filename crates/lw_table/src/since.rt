@@ -17,7 +17,7 @@ use std::alloc::Global;
 
 impl Table {
     /// The slots that moved after this change number, endpoints rising; all of them once numbers have come to
-    /// their end. It costs what it gives.
+    /// their end. It costs what it gives, which is in no contract.
     pub fn changed_since(&self, since: u64) -> Result<Vec<(&str, &Slot)>, NoMemory>
         ensures { IfOk result (λ slots. IsSinceIn self.now.state self.now.count since (map (λ x. (x.0.now, x.1.now)) slots.items)) }
     {

@@ -25,7 +25,7 @@ pub record Knowledge : Type 0 where
 abbrev pub knows_nothing : ℕ → Knowledge
 knows_nothing number = record { number = number; clock = 0; operations = []; count = none_counted }
 
--- the state of the marks that the operations leave
+-- the state of the marks that the operations leave: a law of the run says that it is the least above their atoms
 abbrev pub known_state : List Op → State
 known_state os = state_of (all_marks os)
 
