@@ -16,8 +16,8 @@ use lw_stamp::NoMemory;
 use std::alloc::Global;
 
 impl Call {
-    /// A call of equal content. It takes no memory where there are neither bytes nor a text. Its bytes are those of this
-    /// one, not copied; that is a matter of cost, and in no contract.
+    /// A call of equal content. It takes no memory where there are neither bytes nor a text. Its bytes are those of
+    /// this one, not copied; that is a matter of cost, and in no contract.
     pub fn copy(&self, alloc: Global) -> Result<Call, NoMemory>
         ensures value { IfOk result (λ call. call ≡ self.now) }
         ensures calm { OnErr result (OwnsTextOrBytes self.now) }

@@ -29,8 +29,8 @@ pub fn registers_end_the_former()
     ensures { RegistersEndTheFormer }
 {}
 
-/// The order and the number of merges do not matter: the least that is above both is one, whichever comes first, however
-/// they are grouped, and however often one comes.
+/// The order and the number of merges do not matter: the least that is above both is one, whichever comes first,
+/// however they are grouped, and however often one comes.
 pub fn merges_are_joins()
     ensures one { LeastIsOne }
     ensures commutative { LeastCommutes }

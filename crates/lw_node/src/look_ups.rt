@@ -47,7 +47,8 @@ impl Node {
         self.table.by_token(now, token)
     }
 
-    /// Of the registration that `by_id` gives, the live watch on the least path above the given one, or on the least of all.
+    /// Of the registration that `by_id` gives, the live watch on the least path above the given one, or on the least
+    /// of all.
     pub fn watch_after(
         &self,
         now: Moment,

@@ -112,8 +112,8 @@ impl Node {
         self.carry_out(command)
     }
 
-    /// The greatest counter that the node has issued, or that a delta brought. No stamp that can be read from the node is
-    /// above it.
+    /// The greatest counter that the node has issued, or that a delta brought. No stamp that can be read from the node
+    /// is above it.
     pub fn clock(&self) -> u64
         ensures value { result ≡ self.now.clock }
         ensures within { FitsClock result self.now.table.state }

@@ -26,8 +26,8 @@ use lw_reg::{Addr, Path, Slot, View, Watch};
 use lw_stamp::{Moment, Stamp};
 
 impl Table {
-    /// What is shown of the endpoint. It is one descent of the tree of the endpoints. Here and below what a call costs is in
-    /// no contract.
+    /// What is shown of the endpoint. It is one descent of the tree of the endpoints. Here and below, what a call costs
+    /// is in no contract.
     pub fn by_endpoint(&self, now: Moment, endpoint: &str) -> Option<View<'_>>
         ensures read { ShownOf (shown_in self.now.state) (ms_of now) endpoint.now result }
         ensures marks { (ms : List Mark) → NamesAll (among ms) → IsStateOf ms self.now.state → ShownOf (among ms) (ms_of now) endpoint.now result }
@@ -35,8 +35,8 @@ impl Table {
         self.view(now, endpoint)
     }
 
-    /// The shown registration with the identifier. Each call below costs a descent, and one for each registration that it
-    /// passes over as expired. `by_address` looks at all that have the address, and a text longer than an endpoint is
+    /// The shown registration with the identifier. Each call below costs a descent, and one for each registration that
+    /// it passes over as expired. `by_address` looks at all that have the address, and a text longer than an endpoint is
     /// looked for from the first name on.
     pub fn by_id(&self, now: Moment, id: Stamp) -> Option<View<'_>>
         ensures read { ById (shown_in self.now.state) (ms_of now) id result }

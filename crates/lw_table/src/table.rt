@@ -56,7 +56,8 @@ impl Table {
         }
     }
 
-    /// Joins a slot to that of the endpoint. A slot that tells nothing new takes no memory. Refused, nothing is changed.
+    /// Joins a slot to that of the endpoint. A slot that tells nothing new takes no memory. Refused, nothing is
+    /// changed.
     pub fn join(&mut self, endpoint: &Endpoint, slot: Slot) -> Result<(), NoMemory>
         ensures state { OnOk result (self.new.state ≡ state_join self.old.state (one_key endpoint.now slot)) }
         ensures count { OnOk result (Recounts self.old.state self.new.state self.old.count self.new.count) }
