@@ -16,7 +16,7 @@ AreInOrder shelves = (i : ℕ) (shelf : Shelf) → slice_get shelves i ≡ Some 
 abbrev pub AreNew : List Transcript → Type 0
 AreNew passes = (i : ℕ) (pass : Transcript) → slice_get passes i ≡ Some pass → pass ≡ record { number = i; parts = [] }
 
--- the call is made of some node with a legal history
+-- the call is made of some node with a legal history, which may have any number
 abbrev pub IsAnswered : ℕ → ℕ → Call → Entry → ℕ → Type 0
 IsAnswered pass number call entry place = (old : HeldContent) × (new : HeldContent) × IsLegal old × Enters old pass number call entry place new
 
@@ -24,12 +24,14 @@ IsAnswered pass number call entry place = (old : HeldContent) × (new : HeldCont
 abbrev pub AreSettled : List Shelf → List Transcript → Type 0
 AreSettled shelves passes = (i : ℕ) (shelf : Shelf) → slice_get shelves i ≡ Some shelf → IsSettled shelf.number passes
 
--- some node with a legal history, taken for that of the number, fails at the place
+-- Some node with a legal history, taken for that of the number, fails at the place. A node of another number fails at
+-- place 0, whatever the passes are: so at place 0 this says nothing of the journal.
 abbrev pub FailsAt : ℕ → List Transcript → ℕ → Type 0
 FailsAt node passes place = (held : HeldContent) × IsLegal held × Fails node held passes place
 
--- The node that is named is that of a shelf, and some node with a legal history, taken for it, fails at the place. The
--- passes' parts are legal histories of the nodes of all shelves before it.
+-- The node that is named is that of a shelf, and some node with a legal history, taken for it, fails at the place, which
+-- says nothing of the journal where the place is 0. The passes' parts are legal histories of the nodes of all shelves
+-- before it.
 pub record IsUnsettled (shelves : List Shelf) (passes : List Transcript) (unsettled : Unsettled) : Type 0 where
   pub i : ℕ
   pub shelf : Shelf
