@@ -87,12 +87,17 @@ IsRefusal Refused = ⊤
 abbrev pub EndsRefused : Option (List ℕ) → Option (List ℕ) → Ending → Type 0
 EndsRefused before after ending = IsRefusal ending × Keeps before after
 
--- the end of a run with these words: of what they ask for; else of a text that they ask for, or of a refused command
--- line
+-- the end of a run whose words ask for nothing: a text that they ask for is shown, or the command line is refused
+abbrev pub EndsOtherwise : Option (List ℕ) → Option (List ℕ) → Ending → Type 0
+EndsOtherwise before after ending = EndsShown before after ending ⊎ EndsRefused before after ending
+
+-- The end of a run with these words: of what they ask for; else of a text that they ask for, or of a refused command
+-- line. Of some words, as those that begin with `help`, it is not said which of these two.
 pub record IsEnd (words : List Text) (input before after : Option (List ℕ)) (ending : Ending) : Type 0 where
   pub asked : (request : Request) → Asks words request → EndsRequest request input before after ending
   pub shown : AsksForText words → EndsShown before after ending
   pub refused : IsMistaken words → EndsRefused before after ending
+  pub otherwise : ((request : Request) → ¬ Asks words request) → EndsOtherwise before after ending
 
 -- a request that is answered from the standard input
 abbrev pub IsOfInput : Request → Type 0

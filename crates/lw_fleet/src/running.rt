@@ -5,7 +5,7 @@ ghost use Rattle.clap.specs.Words.{kind_of};
 ghost use Rattle.clap.specs.declared.error.kind.ErrorKind.TheVariants.{OutOfMemory};
 ghost use Rattle.lw_fleet.specs.CommandLine.{IsRequest};
 ghost use Rattle.lw_fleet.specs.One.{IsAddressText};
-ghost use Rattle.lw_fleet.specs.Program.{status_of, EndsOne, EndsRefused, EndsReplay, EndsRequest, EndsServe, EndsShown, EndsWithoutMemory, IsEnd, IsOfInput, IsRefusal, Reads, Tells};
+ghost use Rattle.lw_fleet.specs.Program.{status_of, EndsOne, EndsOtherwise, EndsRefused, EndsReplay, EndsRequest, EndsServe, EndsShown, EndsWithoutMemory, IsEnd, IsOfInput, IsRefusal, Reads, Tells};
 
 use crate::command::{OneOptions, Request, ServeOptions, not_utf8, read_request};
 use crate::fault::Fault;
@@ -199,6 +199,7 @@ fn explain<W: Write, E: Write>(
         → EndsShown (W.contents writer.old) (W.contents writer.new) result }
     ensures refused { ¬ IsRequest (kind_of error.now)
         → EndsRefused (W.contents writer.old) (W.contents writer.new) result }
+    ensures otherwise { EndsOtherwise (W.contents writer.old) (W.contents writer.new) result }
     ensures told { Tells result (E.contents errors.old) (E.contents errors.new) }
 {
     match error.kind() {

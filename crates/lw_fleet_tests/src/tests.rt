@@ -6,6 +6,7 @@ use std::io::{self, ErrorKind, Read, Write};
 use std::test::Fail;
 
 mod command_line;
+mod derived_texts;
 mod gossip;
 mod program;
 mod replay;

@@ -76,12 +76,7 @@ fn ended_text(alloc: Global, status: u8, output: &[u8], errors: &[u8]) -> Result
     Ok(format!(in alloc; "{status} {output}|{errors}")?)
 }
 
-#[test]
-fn help_of_the_program(rt: HostRuntime) -> Result<(), Fail> {
-    let text = printed(&rt, rt.alloc(), &["fleet", "--help"])?;
-    same(
-        text.as_str(),
-        "0 \
+const FLEET_HELP: &str = "0 \
 The registration store behind LwM2M servers; without a command, `fleet one`
 
 Usage: fleet [COMMAND]
@@ -95,16 +90,18 @@ Commands:
 Options:
   -h, --help     Print help
   -V, --version  Print version
-|",
-    )
-}
+|";
 
 #[test]
-fn help_of_one(rt: HostRuntime) -> Result<(), Fail> {
-    let text = printed(&rt, rt.alloc(), &["fleet", "one", "--help"])?;
-    same(
-        text.as_str(),
-        "0 \
+fn help_of_the_program(rt: HostRuntime) -> Result<(), Fail> {
+    for &word in &["--help", "-h", "help"] {
+        let text = printed(&rt, rt.alloc(), &["fleet", word])?;
+        same(text.as_str(), FLEET_HELP)?;
+    }
+    Ok(())
+}
+
+const ONE_HELP: &str = "0 \
 Takes one datagram, a line of hex on standard input, and prints the reply and the registration
 
 Usage: fleet one [OPTIONS]
@@ -114,8 +111,15 @@ Options:
       --now <MS>     Moment in milliseconds, 0 to 281474976710655 [default: 0]
       --from <ADDR>  Address and port of the client, IPv6 as [eight groups of four digits] [default: 127.0.0.1:5683]
   -h, --help         Print help
-|",
-    )
+|";
+
+#[test]
+fn help_of_one(rt: HostRuntime) -> Result<(), Fail> {
+    for words in [["fleet", "one", "--help"], ["fleet", "help", "one"]] {
+        let text = printed(&rt, rt.alloc(), &words)?;
+        same(text.as_str(), ONE_HELP)?;
+    }
+    Ok(())
 }
 
 #[test]
@@ -276,7 +280,7 @@ const REPLAY: &str = "Usage: fleet replay\n\n";
 const SERVE: &str = "Usage: fleet serve [OPTIONS] --count <K>\n\n";
 
 /// Words that are refused, with the lines.
-const REFUSED_WORDS: [(&[&str], &str, &str); 10] = [
+const REFUSED_WORDS: [(&[&str], &str, &str); 12] = [
     (
         &["fleet", "replay", "two"],
         "unexpected argument 'two' found",
@@ -293,6 +297,16 @@ const REFUSED_WORDS: [(&[&str], &str, &str); 10] = [
         FLEET,
     ),
     (&["fleet", "two"], "unrecognized subcommand 'two'", FLEET),
+    (
+        &["fleet", "help", "two"],
+        "unrecognized subcommand 'two'",
+        FLEET,
+    ),
+    (
+        &["fleet", "help", "one", "two"],
+        "unrecognized subcommand 'two'",
+        ONE,
+    ),
     (
         &["fleet", "one", "two"],
         "unexpected argument 'two' found",

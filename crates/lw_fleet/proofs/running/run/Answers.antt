@@ -11,6 +11,7 @@ returns-in-Ok-clause-end g c =
       asked = λ request asked. end_of_asked (subcommand_of fleet_app words) c.in-Ok.request request _ _ _ _ c.in-Ok.ensures.asked asked.1 c.answer.ensures.end;
       shown = λ asks. absurd (asks_not words c.in-Ok.ensures.accepted asks);
       refused = λ mistaken. absurd (mistaken.nothing c.in-Ok.request (c.in-Ok.ensures.accepted, c.in-Ok.ensures.asked));
+      otherwise = λ nothing. absurd (nothing c.in-Ok.request (c.in-Ok.ensures.accepted, c.in-Ok.ensures.asked));
     }
 
 pub returns-in-Ok-clause-unread : goal.returns-in-Ok-clause-unread
@@ -28,4 +29,5 @@ returns-in-Err-clause-end g c = record {
     | inl memory ↦ refused_without_memory _ _ _ (c.explain.ensures.no_memory memory)
     | inr among ↦ c.explain.ensures.refused (mistaken.no_text _ among)
   ];
+  otherwise = λ nothing. c.explain.ensures.otherwise;
 }
