@@ -1,2 +1,3 @@
+mod Causes
 mod JobLemmas
 mod Numbering

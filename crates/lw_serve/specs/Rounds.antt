@@ -1,8 +1,7 @@
--- What a round makes of the passes, the kept merges and the change numbers, and what ends a run.
+-- What a round makes of the passes, the kept merges and the change numbers.
 use Rattle.std.specs.Prelude.{◌≡◌, ℕ, List, ◌++◌, length, map, Some, slice_get}
 use Rattle.lw_stamp.specs.declared.moment.Moment.{Moment}
 use Rattle.lw_held.specs.declared.shelf.Shelf.{Shelf}
-use Rattle.lw_held.specs.Shelves.{AreSettled}
 use Rattle.lw_held.specs.Transcript.{Transcript}
 use Rattle.lw_crew.specs.Continues.{AllContinue}
 use Rattle.lw_crew.specs.Jobs.{AreDone, lengths}
@@ -31,10 +30,3 @@ pub record IsRound (shelves : List Shelf) (now : Moment) (batch : List Datagram)
   pub asked : Serves shelves mid new (sends_from 1 since) sent
   pub keeps_is : keeps ≡ refused_merges (jobs_of_round kept (length shelves) now batch) mid dones ++ merges_after_all (length shelves) new sent
   pub sinces_is : sinces ≡ map (change_after since new) sent
-
--- The end of a run: the kept merges are done, and then the passes are settled.
-pub record IsFinished (shelves : List Shelf) (passes : List Transcript) (kept : List Job) : Type 0 where
-  pub last : List Transcript
-  pub dones : List Done
-  pub served : Serves shelves passes last kept dones
-  pub settled : AreSettled shelves last

@@ -1,6 +1,6 @@
-ghost use Rattle.std.specs.Prelude.{◌≡◌, length, vec_len, IfOk, OnOk};
+ghost use Rattle.std.specs.Prelude.{◌≡◌, length, vec_len, IfErr, IfOk, OnOk};
 ghost use Rattle.lw_held.specs.Agree.{AreDistinct};
-ghost use Rattle.lw_held.specs.Shelves.{AreInOrder, AreNew, AreSettled};
+ghost use Rattle.lw_held.specs.Shelves.{AreInOrder, AreNew, AreSettled, IsUnsettled};
 ghost use Rattle.lw_serve.specs.Plan.{AreNodes, AreWorkers};
 ghost use Rattle.lw_serve.specs.Rounds.{AreNumbered, Serves};
 
@@ -69,7 +69,8 @@ impl Nodes {
 
     /// Compares the transcripts of the passes with the journals of the nodes.
     pub(crate) fn settle<R: Wait>(&self, rt: &R) -> Result<Settled, Unsettled>
-        ensures { OnOk result (AreSettled self.now.shelves.items self.now.passes.items) }
+        ensures settled { OnOk result (AreSettled self.now.shelves.items self.now.passes.items) }
+        ensures unsettled { IfErr result (IsUnsettled self.now.shelves.items self.now.passes.items) }
     {
         settle(rt, &self.shelves, &self.passes)
     }

@@ -1,7 +1,8 @@
 //! Batches of datagrams.
 
-ghost use Rattle.std.specs.Prelude.{◌≡◌, ◌≤◌, length, min, vec_len, IfOk, IsOkUnless};
+ghost use Rattle.std.specs.Prelude.{◌≡◌, ◌≤◌, length, min, vec_len, IfErr, IfOk, IsOkUnless};
 ghost use Rattle.lw_serve.specs.Plan.{most_at_once};
+ghost use Rattle.lw_serve.specs.Runs.{EndsReceiving};
 
 use crate::fault::ServeFault;
 use crate::wire::{Wire, WireFault};
@@ -49,7 +50,8 @@ pub(crate) fn receive<W: Wire, L: Log>(
     left: u32,
 ) -> Result<Vec<Datagram>, ServeFault>
     requires { 1 ≤ left }
-    ensures { IfOk result (λ batch. (1 ≤ vec_len batch) × (vec_len batch ≤ min left most_at_once)) }
+    ensures size { IfOk result (λ batch. (1 ≤ vec_len batch) × (vec_len batch ≤ min left most_at_once)) }
+    ensures fault { IfErr result EndsReceiving }
 {
     let (length, from) = wait(wire, log, buffer)?;
     let mut batch = Vec::new(alloc);

@@ -1,6 +1,10 @@
-ghost use Rattle.std.specs.Prelude.{◌≡◌, [], length, replicate, vec_len, IfOk, OnOk};
-ghost use Rattle.lw_serve.specs.Rounds.{IsRound, IsFinished};
+ghost use Rattle.std.specs.Prelude.{◌≡◌, vec_len, IfErr, IfOk, OnOk};
+ghost use Rattle.std.specs.Io.KnownBytes.{Appends};
+ghost use Rattle.lw_serve.specs.Ending.{settled_line, IsStopped};
+ghost use Rattle.lw_serve.specs.Rounds.{IsRound};
+ghost use Rattle.lw_serve.specs.Runs.{EndsFinish, EndsRound, IsBegun, IsFinished};
 
+use crate::ending::write_settled;
 use crate::fault::ServeFault;
 use crate::jobs::{round_jobs, send_jobs};
 use crate::nodes::Nodes;
@@ -13,6 +17,7 @@ use log::Log;
 use lw_crew::Job;
 use lw_stamp::{Moment, NoMemory};
 use std::alloc::Global;
+use std::io::Write;
 use std::sync::Wait;
 use std::thread::Threads;
 
@@ -31,7 +36,8 @@ impl Server {
     /// New nodes that have sent nothing.
     pub(crate) fn new(alloc: Global, plan: &Plan) -> Result<Server, NoMemory>
         ensures shelves { IfOk result (λ server. vec_len server.nodes.shelves ≡ plan.now.nodes) }
-        ensures begun { IfOk result (λ server. (server.since.items ≡ replicate plan.now.nodes 0) × (server.kept.items ≡ [])) }
+        ensures begun { IfOk result (λ server. IsBegun plan.now (record {
+            left = plan.now.count; passes = server.nodes.passes.items; kept = server.kept.items; since = server.since.items })) }
     {
         Ok(Server {
             nodes: Nodes::new(alloc, plan)?,
@@ -54,6 +60,7 @@ impl Server {
         ensures shelves { IfOk result (λ server. server.nodes.shelves ≡ self.nodes.shelves) }
         ensures round { IfOk result (λ server. IsRound self.nodes.shelves.items now batch.items
             self.nodes.passes.items server.nodes.passes.items self.kept.items server.kept.items self.since.items server.since.items) }
+        ensures fault { IfErr result EndsRound }
     {
         let Server { nodes, kept, since } = self;
         let count = nodes.count();
@@ -68,17 +75,21 @@ impl Server {
         Ok(Server { nodes, kept, since })
     }
 
-    /// Has the last merges done, and compares the transcripts with the journals.
-    pub(crate) fn finish<R: Threads + Wait + Sync>(
+    /// Has the last merges done, and writes `settled` where the journals are then what the transcripts say.
+    pub(crate) fn finish<R: Threads + Wait + Sync, O: Write>(
         self,
         rt: &R,
         alloc: Global,
+        writer: &mut O,
     ) -> Result<(), ServeFault>
-        ensures { IfOk result (λ _. IsFinished self.nodes.shelves.items self.nodes.passes.items self.kept.items) }
+        ensures finished { OnOk result (IsFinished self.nodes.shelves.items self.nodes.passes.items self.kept.items) }
+        ensures settled { OnOk result (Appends (O.contents writer.old) (O.contents writer.new) settled_line) }
+        ensures stopped { IfErr result (λ fault. IsStopped fault (O.contents writer.old) (O.contents writer.new)) }
+        ensures fault { IfErr result (EndsFinish self.nodes.shelves.items self.nodes.passes.items self.kept.items) }
     {
         let Server { nodes, kept, .. } = self;
         let (nodes, _dones) = nodes.serve(rt, alloc, &kept)?;
         nodes.settle(rt)?;
-        Ok(())
+        write_settled(writer)
     }
 }

@@ -1,9 +1,9 @@
-ghost use Rattle.std.specs.Prelude.{◌≡◌, ◌≤◌, OnOk, IfErr, IfOk, vec_len};
+ghost use Rattle.std.specs.Prelude.{OnOk, IfErr, IfOk};
 ghost use Rattle.std.specs.Io.KnownBytes.{Appends};
 ghost use Rattle.lw_serve.specs.Ending.{settled_line, IsStopped};
+ghost use Rattle.lw_serve.specs.Runs.{AreOver, EndsRounds, HasCause, IsServed};
 
 use crate::clock::HostClock;
-use crate::ending::write_settled;
 use crate::fault::ServeFault;
 use crate::plan::Plan;
 use crate::receiving::{BUFFER, receive};
@@ -26,12 +26,13 @@ pub fn serve_on<R: Threads + Wait + Sync, W: Wire, C: HostClock, L: Log, O: Writ
     plan: &Plan,
     writer: &mut O,
 ) -> Result<(), ServeFault>
+    ensures served { OnOk result (IsServed plan.now) }
     ensures settled { OnOk result (Appends (O.contents writer.old) (O.contents writer.new) settled_line) }
     ensures stopped { IfErr result (λ fault. IsStopped fault (O.contents writer.old) (O.contents writer.new)) }
+    ensures cause { IfErr result (HasCause plan.now) }
 {
     let server = serve_rounds(rt, alloc, wire, clock, log, plan)?;
-    server.finish(rt, alloc)?;
-    write_settled(writer)
+    server.finish(rt, alloc, writer)
 }
 
 /// Serves all rounds: the nodes that they leave.
@@ -43,16 +44,13 @@ fn serve_rounds<R: Threads + Wait + Sync, W: Wire, C: HostClock, L: Log>(
     log: &L,
     plan: &Plan,
 ) -> Result<Server, ServeFault>
-    ensures { IfOk result (λ server. vec_len server.nodes.shelves ≡ plan.now.nodes) }
+    ensures over { IfOk result (λ server. AreOver plan.now server.nodes.shelves.items server.nodes.passes.items server.kept.items) }
+    ensures fault { IfErr result EndsRounds }
 {
     let mut server = Server::new(alloc, plan)?;
     let mut buffer = vec![in alloc; 0; BUFFER]?;
     let mut left = plan.count;
-    // Each round takes a datagram at least.
-    for _round in 0..plan.count {
-        if left == 0 {
-            break;
-        }
+    while left > 0 {
         let batch = receive(alloc, wire, log, &mut buffer, left)?;
         left -= batch.len() as u32;
         let Some(now) = clock.now() else {

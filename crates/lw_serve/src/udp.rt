@@ -9,9 +9,9 @@ use std::net::{IpAddr, Ipv4Addr, Ipv6Addr, SocketAddr, UdpSocket};
 /// A UDP socket as a wire.
 #[derive(Drop)]
 pub struct UdpWire {
-    pub socket: UdpSocket,
+    socket: UdpSocket,
     /// Whether the socket waits where no datagram is there.
-    pub waits: bool,
+    waits: bool,
 }
 
 impl UdpWire {

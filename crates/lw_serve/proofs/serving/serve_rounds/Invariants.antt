@@ -1,6 +1,14 @@
--- There are as many nodes as the plan says.
-use Rattle.std.proofs.Common.{◌≡◌, vec_len}
+-- Rounds lead from the beginning to where the server stands, and each takes a datagram at least.
+use Rattle.std.proofs.Common.{◌≡◌, ℕ, vec_len}
+use Rattle.lw_serve.specs.Runs.{IsReached}
 use Rattle.lw_serve.proofs.serving.serve_rounds.Given as goal
 
-abbrev pub invariant-loop-round : goal.invariant-loop-round
-invariant-loop-round g l = vec_len l.server.nodes.shelves ≡ l.plan.nodes
+abbrev pub invariant-loop-left : goal.invariant-loop-left
+invariant-loop-left g l = record {
+  nodes : vec_len l.server.nodes.shelves ≡ l.plan.nodes;
+  rounds : ℕ;
+  reached : IsReached l.plan l.server.nodes.shelves.items rounds (record { left = l.left; passes = l.server.nodes.passes.items; kept = l.server.kept.items; since = l.server.since.items });
+}
+
+abbrev pub decreases-loop-left : goal.decreases-loop-left
+decreases-loop-left g l = l.left

@@ -1,0 +1,121 @@
+-- Whole runs of a plan: the rounds that serve its datagrams, the end, and what ends a run early.
+use Rattle.std.specs.Prelude.{◌≡◌, ◌≤◌, ℕ, zero, suc, ◌+◌, List, [], length, replicate}
+use Rattle.lw_stamp.specs.declared.moment.Moment.{Moment}
+use Rattle.lw_held.specs.declared.shelf.Shelf.{Shelf}
+use Rattle.lw_held.specs.declared.shelf.Unsettled.{Unsettled}
+use Rattle.lw_held.specs.Shelves.{AreInOrder, AreNew, AreSettled, IsUnsettled}
+use Rattle.lw_held.specs.Transcript.{Transcript}
+use Rattle.lw_crew.specs.declared.job.Done.{Done}
+use Rattle.lw_crew.specs.declared.job.Job.{Job}
+use Rattle.lw_serve.specs.Plan.{most_at_once}
+use Rattle.lw_serve.specs.Rounds.{IsRound, Serves}
+use Rattle.lw_serve.specs.declared.fault.ServeFault.{ServeFault}
+use Rattle.lw_serve.specs.declared.fault.ServeFault.TheVariants as faults
+use Rattle.lw_serve.specs.declared.plan.Plan.{Plan}
+use Rattle.lw_serve.specs.declared.receiving.Datagram.{Datagram}
+
+-- ---- the rounds
+-- Where a run stands between two rounds: how many datagrams are still to be taken, the passes, the merges that are kept,
+-- and for each node the change number since which it sends next.
+pub record Standing : Type 0 where
+  pub left : ℕ
+  pub passes : List Transcript
+  pub kept : List Job
+  pub since : List ℕ
+
+-- A run begins: all datagrams of the plan are still to be taken, there is a pass for each worker with which no call was
+-- made, no merge is kept, and each node sends since 0.
+pub record IsBegun (plan : Plan) (standing : Standing) : Type 0 where
+  pub left : standing.left ≡ plan.count
+  pub workers : length standing.passes ≡ plan.workers
+  pub new : AreNew standing.passes
+  pub kept : standing.kept ≡ []
+  pub since : standing.since ≡ replicate plan.nodes 0
+
+-- One round leads from the one to the other: it takes 1 to 32 of the datagrams that are left.
+pub record Leads (shelves : List Shelf) (old new : Standing) : Type 0 where
+  pub now : Moment
+  pub batch : List Datagram
+  pub some : 1 ≤ length batch
+  pub most : length batch ≤ most_at_once
+  pub left : old.left ≡ length batch + new.left
+  pub round : IsRound shelves now batch old.passes new.passes old.kept new.kept old.since new.since
+
+-- So many rounds lead from where a run begins to where it stands.
+abbrev pub IsReached : Plan → List Shelf → ℕ → Standing → Type 0
+IsReached plan shelves zero standing = IsBegun plan standing
+IsReached plan shelves (suc rounds) standing = (before : Standing) × IsReached plan shelves rounds before × Leads shelves before standing
+
+-- The rounds of a run are over: of so many nodes as the plan says, numbered from 1, rounds lead to these passes and kept
+-- merges, and no datagram is left.
+pub record AreOver (plan : Plan) (shelves : List Shelf) (passes : List Transcript) (kept : List Job) : Type 0 where
+  pub nodes : length shelves ≡ plan.nodes
+  pub order : AreInOrder shelves
+  pub rounds : ℕ
+  pub since : List ℕ
+  pub reached : IsReached plan shelves rounds (record { left = 0; passes = passes; kept = kept; since = since })
+
+-- ---- the end
+-- The kept merges are done, and the passes are then settled.
+pub record IsFinished (shelves : List Shelf) (passes : List Transcript) (kept : List Job) : Type 0 where
+  pub last : List Transcript
+  pub dones : List Done
+  pub served : Serves shelves passes last kept dones
+  pub settled : AreSettled shelves last
+
+-- The kept merges are done, and the passes are then not settled, first at that node and place.
+pub record IsRefused (shelves : List Shelf) (passes : List Transcript) (kept : List Job) (unsettled : Unsettled) : Type 0 where
+  pub last : List Transcript
+  pub dones : List Done
+  pub served : Serves shelves passes last kept dones
+  pub unsettled : IsUnsettled shelves last unsettled
+
+-- The plan was served whole: its rounds are over, and the passes that served them are settled with their nodes.
+pub record IsServed (plan : Plan) : Type 0 where
+  pub shelves : List Shelf
+  pub passes : List Transcript
+  pub kept : List Job
+  pub over : AreOver plan shelves passes kept
+  pub finished : IsFinished shelves passes kept
+
+-- The rounds of the plan are over, and the passes that served them are not settled with their nodes.
+pub record IsUnserved (plan : Plan) (unsettled : Unsettled) : Type 0 where
+  pub shelves : List Shelf
+  pub passes : List Transcript
+  pub kept : List Job
+  pub over : AreOver plan shelves passes kept
+  pub refused : IsRefused shelves passes kept unsettled
+
+-- ---- what ends a run early
+-- what may end the receiving of a batch: a wire that fails, or want of memory
+abbrev pub EndsReceiving : ServeFault → Type 0
+EndsReceiving faults.ReceiveFailed = Unit {0}
+EndsReceiving faults.NoMemory = Unit {0}
+EndsReceiving _ = ⊥
+
+-- what may end a round: a fault of the crew, or want of memory
+abbrev pub EndsRound : ServeFault → Type 0
+EndsRound (faults.Crew fault) = Unit {0}
+EndsRound faults.NoMemory = Unit {0}
+EndsRound _ = ⊥
+
+-- what may end the rounds: also a wire or a clock that fails, but no journal and no writer
+abbrev pub EndsRounds : ServeFault → Type 0
+EndsRounds (faults.Unsettled node place) = ⊥
+EndsRounds faults.WriteFailed = ⊥
+EndsRounds _ = Unit {0}
+
+-- what may end a run whose rounds are over: a fault of the crew; passes that are not settled; or a writer that fails,
+-- and then they are
+abbrev pub EndsFinish : List Shelf → List Transcript → List Job → ServeFault → Type 0
+EndsFinish shelves passes kept (faults.Crew fault) = Unit {0}
+EndsFinish shelves passes kept (faults.Unsettled node place) = IsRefused shelves passes kept (record { node = node; place = place })
+EndsFinish shelves passes kept faults.WriteFailed = IsFinished shelves passes kept
+EndsFinish shelves passes kept _ = ⊥
+
+-- Why a run of the plan ended at a fault, where its passes tell: `Unsettled` where the passes that served the plan are
+-- not settled, first at that node and place; `WriteFailed` where they are.
+abbrev pub HasCause : Plan → ServeFault → Type 0
+HasCause plan (faults.Unsettled node place) = IsUnserved plan (record { node = node; place = place })
+HasCause plan faults.WriteFailed = IsServed plan
+HasCause plan _ = Unit {0}
