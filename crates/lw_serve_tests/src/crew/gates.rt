@@ -7,24 +7,24 @@ use std::time::{Clock, Duration};
 
 /// A number that threads count, and wait for.
 #[derive(Drop)]
-struct Count(AtomicU64);
+pub(super) struct Count(AtomicU64);
 
 impl Count {
-    fn new() -> Count {
+    pub(super) fn new() -> Count {
         Count(AtomicU64::new(0))
     }
 
-    fn get(&self) -> u64 {
+    pub(super) fn get(&self) -> u64 {
         self.0.load(Ordering::SeqCst)
     }
 
     /// Counts one, and gives how many there were before.
-    fn add_one(&self) -> u64 {
+    pub(super) fn add_one(&self) -> u64 {
         self.0.fetch_add(1, Ordering::SeqCst)
     }
 
     /// Waits for up to five seconds until there are so many, and tells whether there are.
-    fn comes_to<C: Clock>(&self, clock: &C, want: u64) -> bool {
+    pub(super) fn comes_to<C: Clock>(&self, clock: &C, want: u64) -> bool {
         for _turn in 0..5_000 {
             if self.get() >= want {
                 return true;
@@ -54,11 +54,26 @@ impl Notes {
         }
     }
 
-    fn is_at(&self, job: u64, number: u64) -> bool {
-        match self.0.get(job as usize) {
-            Some(note) => note.load(Ordering::SeqCst) == number,
-            None => false,
+    /// Whether the job was done in its round, and what was told of it is the pass, counted from 1.
+    fn is_of(&self, done: &Done) -> bool {
+        match (self.0.get(done.job as usize), done.result) {
+            (Some(note), Outcome::At { pass, number }) => {
+                number == done.job / 3
+                    && note.load(Ordering::SeqCst) == u64::from(pass).wrapping_add(1)
+            }
+            _ => false,
         }
+    }
+
+    /// For how many that is so.
+    fn of(&self, dones: &[Done]) -> u64 {
+        let mut count = 0_u64;
+        for done in dones {
+            if self.is_of(done) {
+                count = count.wrapping_add(1);
+            }
+        }
+        count
     }
 }
 
@@ -101,26 +116,15 @@ impl<'a, C: Clock + Sync> Rounds<'a, C> {
         first
     }
 
-    /// Whether the job was started in its round, by the worker of the pass, which alone was told inside and when it was
-    /// answered.
-    fn is_noted(&self, done: &Done) -> bool {
-        let Outcome::At { pass, number } = done.result else {
-            return false;
-        };
-        let told = u64::from(pass).wrapping_add(1);
-        number == done.job / 3
-            && self.workers.is_at(done.job, told)
-            && self.passes_inside.is_at(done.job, told)
-            && self.passes_answered.is_at(done.job, told)
-    }
-
-    fn are_noted(&self, dones: &[Done]) -> bool {
-        for done in dones {
-            if !self.is_noted(done) {
-                return false;
-            }
-        }
-        dones.len() == 9
+    /// How many waited in vain; of how many jobs the worker that was noted has the pass that made the call; and for how
+    /// many that pass was told inside, and when it was answered.
+    fn counts(&self, dones: &[Done]) -> (u64, u64, u64, u64) {
+        (
+            self.lost.get(),
+            self.workers.of(dones),
+            self.passes_inside.of(dones),
+            self.passes_answered.of(dones),
+        )
     }
 }
 
@@ -137,9 +141,10 @@ fn job_at(first: u64, node: u16) -> u64 {
 impl<C: Clock + Sync> Gate for Rounds<'_, C> {
     fn start(&self, worker: u32, job: u64) -> bool {
         let first = self.meet(&self.started);
-        // A job of another round is noted with another number.
-        let astray = first ^ first_of_round(job);
-        self.workers.add(job, u64::from(worker).wrapping_add(1).wrapping_add(astray));
+        // A job of another round is not noted.
+        if first_of_round(job) == first {
+            self.workers.add(job, u64::from(worker).wrapping_add(1));
+        }
         true
     }
 
@@ -155,33 +160,27 @@ impl<C: Clock + Sync> Gate for Rounds<'_, C> {
     }
 }
 
-/// Has three workers register at three nodes in three rounds.
-fn do_in_rounds<R: Threads + Wait + Clock + Sync>(rt: &R, alloc: Global) -> Result<(), Fail> {
-    let gate = Rounds::new(alloc, rt)?;
-    let done = are_done(rt, alloc, &gate);
-    let lost = gate.lost.get();
-    drop(gate);
-    done?;
-    holds("three at once", lost == 0)
-}
-
-fn are_done<R: Threads + Wait + Sync, C: Clock + Sync>(
+/// Has three workers register at three nodes in three rounds: what the gate has counted.
+fn counted<R: Threads + Wait + Sync, C: Clock + Sync>(
     rt: &R,
     alloc: Global,
     gate: &Rounds<'_, C>,
-) -> Result<(), Fail> {
+) -> Result<String, Fail> {
     let jobs = registers(alloc, &[1, 2, 3, 1, 2, 3, 1, 2, 3])?;
     let (shelves, passes) = set_up(alloc, 3, 3)?;
     let (_passes, result) = serve_jobs(rt, alloc, &shelves, passes, &jobs, gate);
     match result {
-        Ok(dones) => holds("what is told of each job", gate.are_noted(&dones)),
+        Ok(dones) => Ok(format!(in alloc; "{:?}", gate.counts(&dones))?),
         Err(_) => Err("results".into()),
     }
 }
 
 #[test]
 fn three_workers_do_jobs_at_once_and_in_order(rt: HostRuntime) -> Result<(), Fail> {
-    do_in_rounds(&rt, rt.alloc())
+    let gate = Rounds::new(rt.alloc(), &rt)?;
+    let counted = counted(&rt, rt.alloc(), &gate);
+    drop(gate);
+    same(counted?.as_str(), "(0, 9, 9, 9)")
 }
 
 /// Watches two workers that call one node. The first call stays inside for a while when the other worker has its job, and
@@ -224,7 +223,7 @@ impl<C: Clock + Sync> Gate for Turns<'_, C> {
 }
 
 #[test]
-fn a_call_is_alone_inside_and_answered_behind_the_lock(rt: HostRuntime) -> Result<(), Fail> {
+fn a_call_is_alone_inside_and_answered_after_the_lock(rt: HostRuntime) -> Result<(), Fail> {
     let gate = Turns {
         clock: &rt,
         started: Count::new(),

@@ -88,49 +88,48 @@ fn wire_at<R: Net>(rt: &R, host: &str) -> io::Result<(UdpWire, SocketAddr)> {
     Ok((UdpWire::new(socket), at))
 }
 
-/// The datagram comes from the client, and arrives there when it is sent back.
-fn is_sent_back(
-    wire: &mut UdpWire,
-    client: &UdpSocket,
-    client_at: Addr,
-    from: Addr,
-    datagram: &[u8],
-) -> Result<(), Fail> {
-    holds("where it comes from", from == client_at)?;
-    holds("a reply", wire.send(from, datagram).is_ok())?;
+/// A socket at a port of the IPv4 address, and where it is.
+fn client_at<R: Net>(rt: &R, alloc: Global, address: [u8; 4]) -> Result<(UdpSocket, Addr), Fail> {
+    let [a, b, c, d] = address;
+    let at = format!(in alloc; "{a}.{b}.{c}.{d}:0")?;
+    let client = bound(rt, at.as_str())?;
+    let port = client.local_addr()?.port();
+    Ok((client, Addr::V4 { address, port }))
+}
+
+/// What the wire sends to the address arrives at the client.
+fn arrives(wire: &mut UdpWire, to: Addr, client: &UdpSocket) -> Result<(), Fail> {
+    holds("a reply", wire.send(to, PING).is_ok())?;
     let mut buffer = [0; 8];
     let (length, _from) = client.recv_from(&mut buffer)?;
     holds("the same datagram", &buffer[..length] == PING)
 }
 
-/// A datagram of the client is waited for, and sent back.
+/// A datagram of the client is waited for.
 fn is_waited_for(
     wire: &mut UdpWire,
     at: SocketAddr,
     client: &UdpSocket,
-    client_at: Addr,
+    from: Addr,
 ) -> Result<(), Fail> {
     client.send_to(PING, at)?;
-    let mut buffer = [0; 8];
-    match wire.wait(&mut buffer) {
-        Ok((length, from)) => is_sent_back(wire, client, client_at, from, &buffer[..length]),
-        Err(WireFault) => Err("a datagram".into()),
-    }
+    let taken = wire.wait(&mut [0; 8]);
+    holds("where it comes from", taken == Ok((4, from)))
 }
 
-/// A datagram of the client is there when it has come, and is sent back.
+/// A datagram of the client is there when it has come.
 fn is_there<C: Clock>(
     clock: &C,
     wire: &mut UdpWire,
     at: SocketAddr,
     client: &UdpSocket,
-    client_at: Addr,
+    from: Addr,
 ) -> Result<(), Fail> {
     client.send_to(PING, at)?;
     for _turn in 0..5_000 {
-        let mut buffer = [0; 8];
-        if let Ok(Some((length, from))) = wire.more(&mut buffer) {
-            return is_sent_back(wire, client, client_at, from, &buffer[..length]);
+        let there = wire.more(&mut [0; 8]);
+        if there != Ok(None) {
+            return holds("where it comes from", there == Ok(Some((4, from))));
         }
         thread::sleep(clock, Duration::from_millis(1));
     }
@@ -138,18 +137,20 @@ fn is_there<C: Clock>(
 }
 
 #[test]
-fn a_client_at_another_address_is_answered_there(rt: HostRuntime) -> Result<(), Fail> {
+fn a_client_at_another_address_is_told(rt: HostRuntime) -> Result<(), Fail> {
     let (mut wire, at) = wire_at(&rt, "127.0.0.1:0")?;
-    let client = bound(&rt, "127.0.0.2:0")?;
-    let client_at = Addr::V4 {
-        address: [127, 0, 0, 2],
-        port: client.local_addr()?.port(),
-    };
+    let (client, from) = client_at(&rt, rt.alloc(), [127, 0, 0, 2])?;
+    is_waited_for(&mut wire, at, &client, from)?;
     let nothing = wire.more(&mut [0; 8]);
     holds("no datagram yet", nothing == Ok(None))?;
-    is_waited_for(&mut wire, at, &client, client_at)?;
-    is_there(&rt, &mut wire, at, &client, client_at)?;
-    is_waited_for(&mut wire, at, &client, client_at)
+    is_there(&rt, &mut wire, at, &client, from)
+}
+
+#[test]
+fn a_reply_arrives_at_another_address(rt: HostRuntime) -> Result<(), Fail> {
+    let (mut wire, _at) = wire_at(&rt, "127.0.0.1:0")?;
+    let (client, to) = client_at(&rt, rt.alloc(), [127, 0, 0, 2])?;
+    arrives(&mut wire, to, &client)
 }
 
 /// No datagram can be sent to port 0.
@@ -169,7 +170,9 @@ fn a_datagram_is_sent_back_over_ipv6(rt: HostRuntime) -> Result<(), Fail> {
         (Ok((mut wire, at)), Ok(client)) => {
             let address = [0, 0, 0, 0, 0, 0, 0, 0, 0, 0, 0, 0, 0, 0, 0, 1];
             let port = client.local_addr()?.port();
-            is_waited_for(&mut wire, at, &client, Addr::V6 { address, port })
+            let from = Addr::V6 { address, port };
+            is_waited_for(&mut wire, at, &client, from)?;
+            arrives(&mut wire, from, &client)
         }
         // The machine has no IPv6.
         _ => Ok(()),
