@@ -77,9 +77,9 @@ impl Notes {
     }
 }
 
-/// Holds three workers with nine jobs, of which each three in a row are at nodes 1 to 3. Each worker is held until three
-/// have started a job, and each call until three are inside. So the jobs are done in three rounds. Of each job are noted
-/// the worker that started it and the pass that was told inside and when it was answered, counted from 1.
+/// Holds three workers with nine jobs, of which each three in a row are at nodes 1 to 3. Each worker is held until
+/// three have started a job, and each call until three are inside. So the jobs are done in three rounds. Of each job
+/// are noted the worker that started it and the pass that was told inside and when it was answered, counted from 1.
 #[derive(Drop)]
 struct Rounds<'a, C: Clock + Sync> {
     clock: &'a C,
@@ -183,8 +183,8 @@ fn three_workers_do_jobs_at_once_and_in_order(rt: HostRuntime) -> Result<(), Fai
     same(counted?.as_str(), "(0, 9, 9, 9)")
 }
 
-/// Watches two workers that call one node. The first call stays inside for a while when the other worker has its job, and
-/// then, when it was answered, waits until the other is inside.
+/// Watches two workers that call one node. The first call stays inside for a while when the other worker has its job,
+/// and then, when it was answered, waits until the other is inside.
 #[derive(Drop)]
 struct Turns<'a, C: Clock + Sync> {
     clock: &'a C,

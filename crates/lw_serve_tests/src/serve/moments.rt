@@ -16,8 +16,8 @@ const UPDATES: [&str; 2] = [
     "40020011b272640d0330303030303030303030303130303031",
 ];
 
-/// When the Register and the two Updates are served, in milliseconds, and the replies to the Updates: 2.04 before 60,000
-/// milliseconds have passed since it was seen last, and 4.04 from then on.
+/// When the Register and the two Updates are served, in milliseconds, and the replies to the Updates: 2.04 before
+/// 60,000 milliseconds have passed since it was seen last, and 4.04 from then on.
 const LIVES: [([u64; 3], &str, &str); 4] = [
     ([0, 59_999, 119_998], "60440010", "60440011"),
     ([0, 59_999, 119_999], "60440010", "60840011"),

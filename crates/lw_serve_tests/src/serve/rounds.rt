@@ -71,8 +71,8 @@ fn run_by<R: Threads + Wait + Sync>(
     }
 }
 
-/// What a clock gives, how much room a writer has, and whether its writes and its flushes fail; and how the run ends and
-/// what was written.
+/// What a clock gives, how much room a writer has, and whether its writes and its flushes fail; and how the run ends
+/// and what was written.
 const ENDS: [(Option<Moment>, usize, bool, bool, &str); 6] = [
     (None, 8, false, false, "Err(ClockRefused) "),
     (Some(Moment::START), 8, false, false, "Ok(()) settled\n"),

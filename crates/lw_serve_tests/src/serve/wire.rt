@@ -98,7 +98,7 @@ impl Wire for MemoryWire<'_> {
     }
 }
 
-/// A clock in memory, which counts how often it is read. It gives the moments in turn, and the last of them from then on.
+/// A clock in memory, which counts its readings. It gives the moments in turn, and the last of them from then on.
 #[derive(Drop)]
 pub(super) struct Ticks<'a> {
     pub(super) moments: &'a [Option<Moment>],
@@ -155,8 +155,8 @@ impl Write for FewWrites {
     }
 }
 
-/// Serves over the wire, at moment 0, with a writer that takes all: how the run ended, how often the clock was read, how
-/// many records were logged and how many of them warn of receiving and of sending, and what was written.
+/// Serves over the wire, at moment 0, with a writer that takes all: how the run ended, how often the clock was read,
+/// how many records were logged and how many of them warn of receiving and of sending, and what was written.
 pub(super) fn run<R: Threads + Wait + Sync>(
     rt: &R,
     wire: &mut MemoryWire<'_>,
