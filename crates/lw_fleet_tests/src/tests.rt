@@ -50,14 +50,15 @@ impl Read for FewBytes<'_> {
     }
 }
 
-/// Takes a few bytes at a time while there is room, and then takes none or fails. What it holds is handed on
-/// by a flush, which may fail.
+/// Takes a few bytes at a time while there is room, and then takes none or fails. Every other write is interrupted.
+/// What it holds is handed on by a flush, which may fail.
 #[derive(Drop)]
 struct FewWrites {
     taken: Vec<u8>,
     most: usize,
     room: usize,
     fails: bool,
+    interrupts: bool,
     flush_fails: bool,
     flushed: usize,
 }
@@ -69,6 +70,7 @@ impl FewWrites {
             most,
             room,
             fails,
+            interrupts: false,
             flush_fails: false,
             flushed: 0,
         }
@@ -82,6 +84,10 @@ impl FewWrites {
 
 impl Write for FewWrites {
     fn write(&mut self, buf: &[u8]) -> io::Result<usize> {
+        self.interrupts = !self.interrupts;
+        if self.interrupts {
+            return Err(io::Error::from(ErrorKind::Interrupted));
+        }
         let count = self.most.min(buf.len()).min(self.room);
         if count == 0 && self.fails {
             return Err(io::Error::from(ErrorKind::Other));

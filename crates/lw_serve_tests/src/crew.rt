@@ -1,3 +1,4 @@
+mod gates;
 mod gathering;
 mod serving;
 mod stopping;

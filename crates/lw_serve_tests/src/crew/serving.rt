@@ -3,6 +3,7 @@
 ghost use Rattle.lw_held.specs.Agree.{AreDistinct};
 ghost use Rattle.lw_held.specs.Shelves.{AreInOrder};
 
+use super::gates::Count;
 use super::*;
 use crate::held::steps::{What, call, part_is, settle_some};
 use std::sync::atomic::{AtomicU64, Ordering};
@@ -296,11 +297,42 @@ fn are_of_nodes(alloc: Global, text: &str, nodes: &[u16]) -> Result<(), Fail> {
     holds("all", text.ends_with("\n8 passes, 320 parts, Ok(Settled)"))
 }
 
+/// Holds workers until eight have started a job.
+#[derive(Drop)]
+struct Assembly<'a, C: Clock + Sync> {
+    clock: &'a C,
+    started: Count,
+    /// How many waited in vain.
+    lost: Count,
+}
+
+impl<C: Clock + Sync> Gate for Assembly<'_, C> {
+    fn start(&self, _worker: u32, _job: u64) -> bool {
+        self.started.add_one();
+        if self.lost.get() == 0 && !self.started.comes_to(self.clock, 8) {
+            self.lost.add_one();
+        }
+        true
+    }
+
+    fn inside(&self, _node: u16, _pass: u32) {}
+
+    fn answered(&self, _node: u16, _pass: u32) {}
+}
+
 #[test]
 fn many_jobs_are_done_by_all_workers(rt: HostRuntime) -> Result<(), Fail> {
     let nodes = all_nodes(rt.alloc())?;
-    let text = played(&rt, rt.alloc(), 16, 8, &nodes, &NoGate)?;
-    are_of_nodes(rt.alloc(), &text, &nodes)
+    let gate = Assembly {
+        clock: &rt,
+        started: Count::new(),
+        lost: Count::new(),
+    };
+    let played = played(&rt, rt.alloc(), 16, 8, &nodes, &gate);
+    let lost = gate.lost.get();
+    drop(gate);
+    are_of_nodes(rt.alloc(), played?.as_str(), &nodes)?;
+    holds("eight at once", lost == 0)
 }
 
 #[test]

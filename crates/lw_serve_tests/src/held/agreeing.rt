@@ -118,8 +118,8 @@ fn a_pass_reads_what_another_wrote(rt: HostRuntime) -> Result<(), Fail> {
     )
 }
 
-/// From which of two passes up to which and by which number the node is asked that both called, the first pass before the
-/// second; and what it says.
+/// From which of two passes up to which and by which number the node is asked that both called, the first pass before
+/// the second; and what it says.
 static BY_ONE_OR_BOTH: [(usize, usize, u16, Result<(), u64>); 4] = [
     (1, 2, 1, Err(0)),
     (0, 1, 1, Err(1)),

@@ -9,8 +9,8 @@ use super::*;
 /// The places of a shelf and of a pass, a call, and the part that it leaves: node, place and reply.
 type Row<'a> = (usize, usize, steps::What<'a>, &'a str);
 
-/// Two nodes take a Register each, with a pass each. The delta of the first comes to the second, where the later of both
-/// counts, and the first is asked with the pass of the other.
+/// Two nodes take a Register each, with a pass each. The delta of the first comes to the second, where the later of
+/// both counts, and the first is asked with the pass of the other.
 static TAKEN: [Row<'static>; 6] = [
     (
         0,

@@ -7,7 +7,7 @@ use std::sync::Wait;
 use std::thread::Threads;
 
 /// A datagram that comes from port 5683 when it is waited for.
-fn alone(bytes: &[u8]) -> Arrival<'_> {
+pub(super) fn alone(bytes: &[u8]) -> Arrival<'_> {
     Arrival {
         port: 5683,
         bytes,
@@ -63,15 +63,16 @@ fn run_by<R: Threads + Wait + Sync>(
 ) -> Result<(), ServeFault> {
     let arrivals = [alone(datagram)];
     let mut wire = MemoryWire::new(alloc, &arrivals);
-    let mut clock = Ticks { now, readings: 0 };
+    let moments = [now];
+    let mut clock = Ticks::new(&moments);
     match Plan::new(1, 1, 1) {
         Some(plan) => serve_on(rt, alloc, &mut wire, &mut clock, &Discard, &plan, writer),
         None => Err(ServeFault::NoMemory),
     }
 }
 
-/// What a clock gives, how much room a writer has, and whether its writes and its flushes fail; and how the run ends and
-/// what was written.
+/// What a clock gives, how much room a writer has, and whether its writes and its flushes fail; and how the run ends
+/// and what was written.
 const ENDS: [(Option<Moment>, usize, bool, bool, &str); 6] = [
     (None, 8, false, false, "Err(ClockRefused) "),
     (Some(Moment::START), 8, false, false, "Ok(()) settled\n"),
@@ -123,6 +124,7 @@ fn a_clock_and_a_writer_that_fail_are_told(rt: HostRuntime) -> Result<(), Fail> 
             room: *room,
             fails: *fails,
             flush_fails: *flush_fails,
+            interrupts: false,
         };
         ends_so(&rt, rt.alloc(), *now, writer, want)?;
     }

@@ -3,7 +3,7 @@
 use super::*;
 use log::sink::Discard;
 use std::io;
-use std::net::{Net, UdpSocket};
+use std::net::{Net, SocketAddr, UdpSocket};
 use std::sync::Wait;
 use std::thread::{self, Threads};
 use std::time::{Clock, Duration};
@@ -81,24 +81,99 @@ fn are_answered<R: Net>(rt: &R, alloc: Global) -> Result<(), Fail> {
     is_answered(rt, alloc, 56833, OTHER_REGISTER, CREATED_SECOND)
 }
 
-/// A datagram of the client comes over the wire, and goes back to where it came from.
-fn is_sent_back(wire: &mut UdpWire, client: &UdpSocket) -> Result<(), Fail> {
-    client.send_to(PING, "[::1]:56834")?;
+/// The wire of a socket at a port of the host, and where it is.
+fn wire_at<R: Net>(rt: &R, host: &str) -> io::Result<(UdpWire, SocketAddr)> {
+    let socket = bound(rt, host)?;
+    let at = socket.local_addr()?;
+    Ok((UdpWire::new(socket), at))
+}
+
+/// A socket at a port of the IPv4 address, and where it is.
+fn client_at<R: Net>(rt: &R, alloc: Global, address: [u8; 4]) -> Result<(UdpSocket, Addr), Fail> {
+    let [a, b, c, d] = address;
+    let at = format!(in alloc; "{a}.{b}.{c}.{d}:0")?;
+    let client = bound(rt, at.as_str())?;
+    let port = client.local_addr()?.port();
+    Ok((client, Addr::V4 { address, port }))
+}
+
+/// What the wire sends to the address arrives at the client.
+fn arrives(wire: &mut UdpWire, to: Addr, client: &UdpSocket) -> Result<(), Fail> {
+    holds("a reply", wire.send(to, PING).is_ok())?;
     let mut buffer = [0; 8];
-    let Ok((length, from)) = wire.wait(&mut buffer) else {
-        return Err("a datagram".into());
-    };
-    let client_at = Addr::read("[0000:0000:0000:0000:0000:0000:0000:0001]:56835");
-    holds("where it comes from", client_at == Some(from))?;
-    holds("a reply", wire.send(from, &buffer[..length]).is_ok())?;
     let (length, _from) = client.recv_from(&mut buffer)?;
     holds("the same datagram", &buffer[..length] == PING)
 }
 
+/// A datagram of the client is waited for.
+fn is_waited_for(
+    wire: &mut UdpWire,
+    at: SocketAddr,
+    client: &UdpSocket,
+    from: Addr,
+) -> Result<(), Fail> {
+    client.send_to(PING, at)?;
+    let taken = wire.wait(&mut [0; 8]);
+    holds("where it comes from", taken == Ok((4, from)))
+}
+
+/// A datagram of the client is there when it has come.
+fn is_there<C: Clock>(
+    clock: &C,
+    wire: &mut UdpWire,
+    at: SocketAddr,
+    client: &UdpSocket,
+    from: Addr,
+) -> Result<(), Fail> {
+    client.send_to(PING, at)?;
+    for _turn in 0..5_000 {
+        let there = wire.more(&mut [0; 8]);
+        if there != Ok(None) {
+            return holds("where it comes from", there == Ok(Some((4, from))));
+        }
+        thread::sleep(clock, Duration::from_millis(1));
+    }
+    Err("a datagram that is there".into())
+}
+
+#[test]
+fn a_client_at_another_address_is_told(rt: HostRuntime) -> Result<(), Fail> {
+    let (mut wire, at) = wire_at(&rt, "127.0.0.1:0")?;
+    let (client, from) = client_at(&rt, rt.alloc(), [127, 0, 0, 2])?;
+    is_waited_for(&mut wire, at, &client, from)?;
+    let nothing = wire.more(&mut [0; 8]);
+    holds("no datagram yet", nothing == Ok(None))?;
+    is_there(&rt, &mut wire, at, &client, from)
+}
+
+#[test]
+fn a_reply_arrives_at_another_address(rt: HostRuntime) -> Result<(), Fail> {
+    let (mut wire, _at) = wire_at(&rt, "127.0.0.1:0")?;
+    let (client, to) = client_at(&rt, rt.alloc(), [127, 0, 0, 2])?;
+    arrives(&mut wire, to, &client)
+}
+
+/// No datagram can be sent to port 0.
+#[test]
+fn a_send_that_fails_is_told(rt: HostRuntime) -> Result<(), Fail> {
+    let (mut wire, _at) = wire_at(&rt, "127.0.0.1:0")?;
+    let nowhere = Addr::V4 {
+        address: [127, 0, 0, 1],
+        port: 0,
+    };
+    holds("a fault", wire.send(nowhere, PING) == Err(WireFault))
+}
+
 #[test]
 fn a_datagram_is_sent_back_over_ipv6(rt: HostRuntime) -> Result<(), Fail> {
-    match (bound(&rt, "[::1]:56834"), bound(&rt, "[::1]:56835")) {
-        (Ok(socket), Ok(client)) => is_sent_back(&mut UdpWire::new(socket), &client),
+    match (wire_at(&rt, "[::1]:0"), bound(&rt, "[::1]:0")) {
+        (Ok((mut wire, at)), Ok(client)) => {
+            let address = [0, 0, 0, 0, 0, 0, 0, 0, 0, 0, 0, 0, 0, 0, 0, 1];
+            let port = client.local_addr()?.port();
+            let from = Addr::V6 { address, port };
+            is_waited_for(&mut wire, at, &client, from)?;
+            arrives(&mut wire, from, &client)
+        }
         // The machine has no IPv6.
         _ => Ok(()),
     }

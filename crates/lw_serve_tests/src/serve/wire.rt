@@ -98,31 +98,46 @@ impl Wire for MemoryWire<'_> {
     }
 }
 
-/// A clock in memory, which counts how often it is read.
+/// A clock in memory, which counts its readings. It gives the moments in turn, and the last of them from then on.
 #[derive(Drop)]
-pub(super) struct Ticks {
-    pub(super) now: Option<Moment>,
+pub(super) struct Ticks<'a> {
+    pub(super) moments: &'a [Option<Moment>],
     pub(super) readings: u32,
 }
 
-impl HostClock for Ticks {
-    fn now(&mut self) -> Option<Moment> {
-        self.readings = self.readings.wrapping_add(1);
-        self.now
+impl<'a> Ticks<'a> {
+    pub(super) fn new(moments: &'a [Option<Moment>]) -> Ticks<'a> {
+        Ticks {
+            moments,
+            readings: 0,
+        }
     }
 }
 
-/// Takes three bytes at a time while there is room, and then takes none or fails.
+impl HostClock for Ticks<'_> {
+    fn now(&mut self) -> Option<Moment> {
+        let moment = self.moments.get(self.readings as usize);
+        self.readings = self.readings.wrapping_add(1);
+        *moment.or(self.moments.last())?
+    }
+}
+
+/// Takes three bytes at a time while there is room, and then takes none or fails. Every other write is interrupted.
 #[derive(Drop)]
 pub(super) struct FewWrites {
     pub(super) taken: Vec<u8>,
     pub(super) room: usize,
     pub(super) fails: bool,
     pub(super) flush_fails: bool,
+    pub(super) interrupts: bool,
 }
 
 impl Write for FewWrites {
     fn write(&mut self, buf: &[u8]) -> io::Result<usize> {
+        self.interrupts = !self.interrupts;
+        if self.interrupts {
+            return Err(io::Error::from(ErrorKind::Interrupted));
+        }
         let count = buf.len().min(3).min(self.room);
         if count == 0 && self.fails {
             return Err(io::Error::from(ErrorKind::Other));
@@ -140,8 +155,8 @@ impl Write for FewWrites {
     }
 }
 
-/// Serves over the wire, at moment 0, with a writer that takes all: how the run ended, how often the clock was read, how
-/// many records were logged and how many of them warn of receiving and of sending, and what was written.
+/// Serves over the wire, at moment 0, with a writer that takes all: how the run ended, how often the clock was read,
+/// how many records were logged and how many of them warn of receiving and of sending, and what was written.
 pub(super) fn run<R: Threads + Wait + Sync>(
     rt: &R,
     wire: &mut MemoryWire<'_>,
@@ -149,17 +164,24 @@ pub(super) fn run<R: Threads + Wait + Sync>(
     nodes: u16,
     workers: u32,
 ) -> Result<String, Fail> {
+    match Plan::new(count, nodes, workers) {
+        Some(plan) => run_at(rt, wire, &[Some(Moment::START)], &plan),
+        None => Err("a plan".into()),
+    }
+}
+
+/// The same, at the moments of the rounds.
+fn run_at<R: Threads + Wait + Sync>(
+    rt: &R,
+    wire: &mut MemoryWire<'_>,
+    moments: &[Option<Moment>],
+    plan: &Plan,
+) -> Result<String, Fail> {
     let alloc = wire.alloc;
-    let Some(plan) = Plan::new(count, nodes, workers) else {
-        return Err("a plan".into());
-    };
     let log = Memory::new(alloc);
-    let mut clock = Ticks {
-        now: Some(Moment::START),
-        readings: 0,
-    };
+    let mut clock = Ticks::new(moments);
     let mut written = Vec::new(alloc);
-    let ended = serve_on(rt, alloc, wire, &mut clock, &log, &plan, &mut written);
+    let ended = serve_on(rt, alloc, wire, &mut clock, &log, plan, &mut written);
     let logged = log.into_lines().into_vec();
     told(alloc, ended, &written, &logged, clock.readings)
 }
@@ -207,6 +229,20 @@ pub(super) fn is_served<R: Threads + Wait + Sync>(
     want: &str,
 ) -> Result<(), Fail> {
     let mut text = run(rt, wire, count, nodes, 1)?;
+    is_sent(wire, &mut text, want)
+}
+
+/// Serves over the wire by one worker at one node, a round at each of the moments.
+pub(super) fn is_served_at<R: Threads + Wait + Sync>(
+    rt: &R,
+    wire: &mut MemoryWire<'_>,
+    moments: &[Option<Moment>],
+    want: &str,
+) -> Result<(), Fail> {
+    let Some(plan) = Plan::new(u32::try_from(moments.len())?, 1, 1) else {
+        return Err("a plan".into());
+    };
+    let mut text = run_at(rt, wire, moments, &plan)?;
     is_sent(wire, &mut text, want)
 }
 

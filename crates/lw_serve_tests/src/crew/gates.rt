@@ -1,0 +1,244 @@
+//! What a gate is told, and when.
+
+use super::*;
+use std::sync::atomic::{AtomicU64, Ordering};
+use std::thread;
+use std::time::{Clock, Duration};
+
+/// A number that threads count, and wait for.
+#[derive(Drop)]
+pub(super) struct Count(AtomicU64);
+
+impl Count {
+    pub(super) fn new() -> Count {
+        Count(AtomicU64::new(0))
+    }
+
+    pub(super) fn get(&self) -> u64 {
+        self.0.load(Ordering::SeqCst)
+    }
+
+    /// Counts one, and gives how many there were before.
+    pub(super) fn add_one(&self) -> u64 {
+        self.0.fetch_add(1, Ordering::SeqCst)
+    }
+
+    /// Waits for up to five seconds until there are so many, and tells whether there are.
+    pub(super) fn comes_to<C: Clock>(&self, clock: &C, want: u64) -> bool {
+        for _turn in 0..5_000 {
+            if self.get() >= want {
+                return true;
+            }
+            thread::sleep(clock, Duration::from_millis(1));
+        }
+        false
+    }
+}
+
+/// For each of nine jobs, the sum of what was told of it.
+#[derive(Drop)]
+struct Notes(Vec<AtomicU64>);
+
+impl Notes {
+    fn new(alloc: Global) -> Result<Notes, AllocError> {
+        let mut notes = Vec::new(alloc);
+        for _job in 0..9 {
+            notes.push(AtomicU64::new(0))?;
+        }
+        Ok(Notes(notes))
+    }
+
+    fn add(&self, job: u64, number: u64) {
+        if let Some(note) = self.0.get(job as usize) {
+            note.fetch_add(number, Ordering::SeqCst);
+        }
+    }
+
+    /// Whether the job was done in its round, and what was told of it is the pass, counted from 1.
+    fn is_of(&self, done: &Done) -> bool {
+        match (self.0.get(done.job as usize), done.result) {
+            (Some(note), Outcome::At { pass, number }) => {
+                number == done.job / 3
+                    && note.load(Ordering::SeqCst) == u64::from(pass).wrapping_add(1)
+            }
+            _ => false,
+        }
+    }
+
+    /// For how many that is so.
+    fn of(&self, dones: &[Done]) -> u64 {
+        let mut count = 0_u64;
+        for done in dones {
+            if self.is_of(done) {
+                count = count.wrapping_add(1);
+            }
+        }
+        count
+    }
+}
+
+/// Holds three workers with nine jobs, of which each three in a row are at nodes 1 to 3. Each worker is held until
+/// three have started a job, and each call until three are inside. So the jobs are done in three rounds. Of each job
+/// are noted the worker that started it and the pass that was told inside and when it was answered, counted from 1.
+#[derive(Drop)]
+struct Rounds<'a, C: Clock + Sync> {
+    clock: &'a C,
+    started: Count,
+    inside: Count,
+    answered: Count,
+    /// How many waited in vain.
+    lost: Count,
+    workers: Notes,
+    passes_inside: Notes,
+    passes_answered: Notes,
+}
+
+impl<'a, C: Clock + Sync> Rounds<'a, C> {
+    fn new(alloc: Global, clock: &'a C) -> Result<Rounds<'a, C>, AllocError> {
+        Ok(Rounds {
+            clock,
+            started: Count::new(),
+            inside: Count::new(),
+            answered: Count::new(),
+            lost: Count::new(),
+            workers: Notes::new(alloc)?,
+            passes_inside: Notes::new(alloc)?,
+            passes_answered: Notes::new(alloc)?,
+        })
+    }
+
+    /// Counts one more, and waits until all of its round are counted. Gives the first job of the round.
+    fn meet(&self, count: &Count) -> u64 {
+        let first = first_of_round(count.add_one());
+        if self.lost.get() == 0 && !count.comes_to(self.clock, first.wrapping_add(3)) {
+            self.lost.add_one();
+        }
+        first
+    }
+
+    /// How many waited in vain; of how many jobs the worker that was noted has the pass that made the call; and for how
+    /// many that pass was told inside, and when it was answered.
+    fn counts(&self, dones: &[Done]) -> (u64, u64, u64, u64) {
+        (
+            self.lost.get(),
+            self.workers.of(dones),
+            self.passes_inside.of(dones),
+            self.passes_answered.of(dones),
+        )
+    }
+}
+
+/// The first job of the round in which so many came before.
+fn first_of_round(before: u64) -> u64 {
+    before.wrapping_sub(before % 3)
+}
+
+/// The job at the node in the round of the first job.
+fn job_at(first: u64, node: u16) -> u64 {
+    first.wrapping_add(u64::from(node)).wrapping_sub(1)
+}
+
+impl<C: Clock + Sync> Gate for Rounds<'_, C> {
+    fn start(&self, worker: u32, job: u64) -> bool {
+        let first = self.meet(&self.started);
+        // A job of another round is not noted.
+        if first_of_round(job) == first {
+            self.workers.add(job, u64::from(worker).wrapping_add(1));
+        }
+        true
+    }
+
+    fn inside(&self, node: u16, pass: u32) {
+        let job = job_at(self.meet(&self.inside), node);
+        self.passes_inside.add(job, u64::from(pass).wrapping_add(1));
+    }
+
+    fn answered(&self, node: u16, pass: u32) {
+        let job = job_at(first_of_round(self.answered.add_one()), node);
+        self.passes_answered
+            .add(job, u64::from(pass).wrapping_add(1));
+    }
+}
+
+/// Has three workers register at three nodes in three rounds: what the gate has counted.
+fn counted<R: Threads + Wait + Sync, C: Clock + Sync>(
+    rt: &R,
+    alloc: Global,
+    gate: &Rounds<'_, C>,
+) -> Result<String, Fail> {
+    let jobs = registers(alloc, &[1, 2, 3, 1, 2, 3, 1, 2, 3])?;
+    let (shelves, passes) = set_up(alloc, 3, 3)?;
+    let (_passes, result) = serve_jobs(rt, alloc, &shelves, passes, &jobs, gate);
+    match result {
+        Ok(dones) => Ok(format!(in alloc; "{:?}", gate.counts(&dones))?),
+        Err(_) => Err("results".into()),
+    }
+}
+
+#[test]
+fn three_workers_do_jobs_at_once_and_in_order(rt: HostRuntime) -> Result<(), Fail> {
+    let gate = Rounds::new(rt.alloc(), &rt)?;
+    let counted = counted(&rt, rt.alloc(), &gate);
+    drop(gate);
+    same(counted?.as_str(), "(0, 9, 9, 9)")
+}
+
+/// Watches two workers that call one node. The first call stays inside for a while when the other worker has its job,
+/// and then, when it was answered, waits until the other is inside.
+#[derive(Drop)]
+struct Turns<'a, C: Clock + Sync> {
+    clock: &'a C,
+    started: Count,
+    inside: Count,
+    /// How many were inside with another.
+    met: Count,
+    /// How many waited in vain.
+    lost: Count,
+}
+
+impl<C: Clock + Sync> Gate for Turns<'_, C> {
+    fn start(&self, _worker: u32, _job: u64) -> bool {
+        self.started.add_one();
+        true
+    }
+
+    fn inside(&self, _node: u16, _pass: u32) {
+        if self.inside.add_one() > 0 {
+            return;
+        }
+        if !self.started.comes_to(self.clock, 2) {
+            self.lost.add_one();
+        }
+        thread::sleep(self.clock, Duration::from_millis(200));
+        if self.inside.get() > 1 {
+            self.met.add_one();
+        }
+    }
+
+    fn answered(&self, _node: u16, _pass: u32) {
+        if !self.inside.comes_to(self.clock, 2) {
+            self.lost.add_one();
+        }
+    }
+}
+
+#[test]
+fn a_call_is_alone_inside_and_answered_after_the_lock(rt: HostRuntime) -> Result<(), Fail> {
+    let gate = Turns {
+        clock: &rt,
+        started: Count::new(),
+        inside: Count::new(),
+        met: Count::new(),
+        lost: Count::new(),
+    };
+    let played = played(&rt, rt.alloc(), 1, 2, &[1, 1], &gate);
+    let (met, lost) = (gate.met.get(), gate.lost.get());
+    drop(gate);
+    let lines = played?;
+    holds("one alone inside", met == 0)?;
+    holds("the lock is let go", lost == 0)?;
+    holds(
+        "both settle",
+        lines.ends_with("\n2 passes, 2 parts, Ok(Settled)"),
+    )
+}
