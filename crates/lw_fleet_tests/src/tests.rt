@@ -6,10 +6,8 @@ use std::io::{self, ErrorKind, Read, Write};
 use std::test::Fail;
 
 mod command_line;
-mod gossip;
 mod program;
 mod replay;
-mod scripts;
 mod serving;
 
 /// Gives its bytes a few at a time, and then ends or fails. Every other read is interrupted.
