@@ -63,7 +63,9 @@ def address_bytes(address):
 
 
 def sized(text, width=1):
-    return len(text).to_bytes(width, "big") + text.encode()
+    """The length of a text in bytes, and the text."""
+    encoded = text.encode()
+    return len(encoded).to_bytes(width, "big") + encoded
 
 
 @dataclass(frozen=True)
