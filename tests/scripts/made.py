@@ -5,7 +5,12 @@ from store import ACK, CON, KEPT, NON, From, Run
 
 # names from one byte to 252, among them some in other letters
 NAMES = ["7", "a", "aa", "ab", "b", "bb", "urn:imei:0123", "zähler", "门", "🐝" * 63, "n" * 252]
-HOSTS = ["127.0.0.1", "10.0.0.255", "[2001:0db8:0000:0000:0000:0000:0000:0001]", "[0000:0000:0000:0000:0000:ffff:7f00:0001]"]
+HOSTS = [
+    "127.0.0.1",
+    "10.0.0.255",
+    "[2001:0db8:0000:0000:0000:0000:0000:0001]",
+    "[0000:0000:0000:0000:0000:ffff:7f00:0001]",
+]
 PATHS = [(3,), (3, 0), (3, 0, 9), (3, 1), (65534, 0, 65534, 1)]
 
 
@@ -148,15 +153,17 @@ class Chance:
     def ask(self):
         node, run = self.node(), self.run
         name, stamp = self.one_of(*NAMES), self.known(node)
-        match self.random.randrange(8):
-            case 0: run.ask_id(node, self.now, stamp)
-            case 1: run.ask_endpoint(node, self.now, name)
-            case 2: run.ask_address(node, self.now, f"{self.one_of(*HOSTS)}:5683")
-            case 3: run.ask_token(node, self.now, self.token(node))
-            case 4: run.ask_watch(node, self.now, stamp, self.one_of((), *PATHS))
-            case 5: run.ask_next(node, self.now, self.one_of("", name))
-            case 6: run.ask_expired(node, self.now, self.one_of("", name))
-            case _: run.ask_change(node)
+        questions = (
+            lambda: run.ask_id(node, self.now, stamp),
+            lambda: run.ask_endpoint(node, self.now, name),
+            lambda: run.ask_address(node, self.now, f"{self.one_of(*HOSTS)}:5683"),
+            lambda: run.ask_token(node, self.now, self.token(node)),
+            lambda: run.ask_watch(node, self.now, stamp, self.one_of((), (), *PATHS)),
+            lambda: run.ask_next(node, self.now, self.one_of("", name)),
+            lambda: run.ask_expired(node, self.now, self.one_of("", name)),
+            lambda: run.ask_change(node),
+        )
+        self.one_of(*questions)()
 
     def event(self):
         self.now += self.random.randrange(400)

@@ -1,7 +1,7 @@
 """The store once more, as plain as it can be: what a made script is to print.
 
-An event is added as a line of a script, and is done here beside it. Nothing is read back: datagrams (RFC 7252) and deltas
-are only written. Each endpoint has one slot, which is never changed but replaced.
+An event is added as a line of a script, and is done here beside it. Nothing is read back: datagrams (RFC 7252) and
+deltas are only written. Each endpoint has one slot, which is never changed but replaced.
 """
 import ipaddress
 import json
@@ -297,7 +297,8 @@ class Run:
         if ended:
             self.end(node, found)
         notice = {"code": code, "content_format": format, "ended": ended, "endpoint": endpoint, "observe": number}
-        notice |= {"id": id_text(slot.stamp), "path": path_text(path), "payload": payload.hex(), "token": id_text(token)}
+        notice |= {"id": id_text(slot.stamp), "token": id_text(token)}
+        notice |= {"path": path_text(path), "payload": payload.hex()}
         self.take(it, datagram, message(ACK, 0, it.mid) if it.kind == CON else b"", notice)
 
     def end(self, node, found):
@@ -362,7 +363,8 @@ class Run:
         self.add(f"endpoint {number} {now} {endpoint}", json_text(view(shown)))
 
     def ask_token(self, number, now, token):
-        self.add(f"token {number} {now} {id_text(token)}", json_text(watch_view(self.nodes[number].by_token(now, token))))
+        found = self.nodes[number].by_token(now, token)
+        self.add(f"token {number} {now} {id_text(token)}", json_text(watch_view(found)))
 
     def ask_watch(self, number, now, stamp, above=()):
         found = self.nodes[number].by_id(now, stamp)
