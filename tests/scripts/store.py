@@ -267,8 +267,8 @@ class Run:
         found = node.by_id(it.now, stamp)
         values = {"lifetime": lifetime, "binding": binding, "sms": sms, "objects": objects}
         if found:
-            values |= {"address": it.address, "seen": it.now}
-            node.put(found[0], found[1].written(node.stamp(), values))
+            always = {"address": it.address, "seen": it.now}
+            node.put(found[0], found[1].written(node.stamp(), {**values, **always}))
         named = (("lt", lifetime), ("b", binding), ("sms", sms))
         queries = [f"{name}={value}" for name, value in named if value is not KEPT]
         segments = [b"rd", id_text(stamp).encode()]
@@ -296,10 +296,9 @@ class Run:
         ended = code >> 5 != 2 or number is None
         if ended:
             self.end(node, found)
-        notice = {"code": code, "content_format": format, "ended": ended, "endpoint": endpoint, "observe": number}
-        notice |= {"id": id_text(slot.stamp), "token": id_text(token)}
-        notice |= {"path": path_text(path), "payload": payload.hex()}
-        self.take(it, datagram, message(ACK, 0, it.mid) if it.kind == CON else b"", notice)
+        of_watch = {"endpoint": endpoint, "id": id_text(slot.stamp), "path": path_text(path), "token": id_text(token)}
+        told = {"code": code, "content_format": format, "ended": ended, "observe": number, "payload": payload.hex()}
+        self.take(it, datagram, message(ACK, 0, it.mid) if it.kind == CON else b"", {**of_watch, **told})
 
     def end(self, node, found):
         (endpoint, slot), path = found
