@@ -7,10 +7,8 @@ use std::test::Fail;
 
 mod command_line;
 mod derived_texts;
-mod gossip;
 mod program;
 mod replay;
-mod scripts;
 mod serving;
 
 /// Gives its bytes a few at a time, and then ends or fails. Every other read is interrupted.

@@ -1,5 +1,6 @@
 mod calls;
 mod changed;
+mod counters;
 mod deltas;
 mod largest;
 mod once;

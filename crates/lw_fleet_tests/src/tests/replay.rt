@@ -1,119 +1,46 @@
-//! Scripts that are replayed, refused, and cut short.
+//! A script that is replayed, refused ones, and devices that fail. More scripts are played on the built program.
 
-use super::scripts::{observations, refusals, registers, updates};
-use super::{FewBytes, FewWrites, scripts};
+use super::{FewBytes, FewWrites};
 use crate::hold::{holds, holds_for, same};
 use lw_fleet::{Fault, replay};
 use std::alloc::Global;
 use std::test::Fail;
 
+/// A delta reaches another node, which then shows what the first does.
+const SCRIPT: &str = r#"nodes 2
+take 1 0 127.0.0.1:5683 40020004b272644465703d61ff3c2f3e
+send 1 0
+deliver 2 0
+id 2 0 0000000000010001
+endpoint 3 0 a
+deliver 2 1
+"#;
+
+/// What is printed for it.
+const LINES: &str = r#"taken 604100048272640d0330303030303030303030303130303031 -
+message 0 1 4c57443100000000000101016100000000000100017f000000000000010001047f0000011633000000000001000100000000000000000000000100010001518000000000000100010155000000000001000100000000000001000100033c2f3e0000
+joined 1
+{"address":"127.0.0.1:5683","binding":"U","endpoint":"a","id":"0000000000010001","lifetime":86400,"lwm2m":"1.0","objects":"</>","queue":false,"seen":0,"sms":null}
+no node
+no message
+"#;
+
 /// What is printed for a script.
-pub(super) fn replayed(alloc: Global, script: &[u8]) -> Result<String, Fail> {
+fn replayed(alloc: Global, script: &[u8]) -> Result<String, Fail> {
     let mut writer = Vec::new(alloc);
     replay(alloc, &mut &*script, &mut writer)?;
     Ok(String::from_utf8(writer)?)
 }
 
-/// Each script prints its lines.
-fn all_print(alloc: Global, scripts: &[(&str, &str)]) -> Result<(), Fail> {
-    for (script, text) in scripts {
-        if replayed(alloc, script.as_bytes())?.as_str() != *text {
-            return Err(Fail::from(*script));
-        }
-    }
-    Ok(())
-}
-
 #[test]
-fn two_servers(rt: HostRuntime) -> Result<(), Fail> {
-    all_print(
-        rt.alloc(),
-        &[
-            scripts::A_DELTA,
-            scripts::TWO_REGISTERS,
-            scripts::TWO_UPDATES,
-            scripts::REMOVED_AND_UPDATED,
-            scripts::REPEATED_AND_LATE,
-            scripts::LOST_AND_REPEATED,
-            scripts::NOTHING_TO_SEND,
-        ],
-    )
-}
-
-#[test]
-fn registers(rt: HostRuntime) -> Result<(), Fail> {
-    all_print(
-        rt.alloc(),
-        &[
-            registers::ALL_PARAMETERS,
-            registers::AFTER_BAD_ONES,
-            registers::LIFETIMES,
-            registers::LAST_WRITER_OF_AN_ADDRESS,
-            registers::IN_ORDER,
-        ],
-    )
-}
-
-#[test]
-fn updates(rt: HostRuntime) -> Result<(), Fail> {
-    all_print(
-        rt.alloc(),
-        &[
-            updates::WRITTEN,
-            updates::REMOVED,
-            updates::REGISTERED_AGAIN,
-            updates::EXPIRED,
-        ],
-    )
-}
-
-#[test]
-fn observations(rt: HostRuntime) -> Result<(), Fail> {
-    all_print(
-        rt.alloc(),
-        &[
-            observations::NOTIFICATIONS,
-            observations::WITHOUT_A_NUMBER,
-            observations::REGISTERED_AGAIN,
-            observations::A_CANCEL,
-            observations::PATHS_AND_FORMATS,
-        ],
-    )
-}
-
-#[test]
-fn refusals(rt: HostRuntime) -> Result<(), Fail> {
-    all_print(rt.alloc(), &[refusals::REPLIES])
-}
-
-/// The line of a Register of `a` with the link `</>` this often.
-fn line_of_links(alloc: Global, count: usize) -> Result<String, Fail> {
-    let links = "2c3c2f3e".repeat(alloc, count.saturating_sub(1))?;
-    let script = format!(in alloc;
-        "nodes 1\ntake 1 0 127.0.0.1:5683 40020004b272644465703d61ff3c2f3e{links}\n"
-    )?;
-    replayed(alloc, script.as_bytes())
-}
-
-#[test]
-fn a_register_has_at_most_256_links(rt: HostRuntime) -> Result<(), Fail> {
-    same(
-        line_of_links(rt.alloc(), 256)?.as_str(),
-        "taken 604100048272640d0330303030303030303030303130303031 -\n",
-    )?;
-    same(
-        line_of_links(rt.alloc(), 257)?.as_str(),
-        "taken 608d0004 -\n",
-    )
-}
-
-#[test]
-fn a_last_line_feed_may_be_missing(rt: HostRuntime) -> Result<(), Fail> {
-    let (script, text) = scripts::A_DELTA;
-    let Some(front) = script.strip_suffix('\n') else {
+fn a_script_prints_its_lines(rt: HostRuntime) -> Result<(), Fail> {
+    let Some(front) = SCRIPT.strip_suffix('\n') else {
         return Err(Fail::from("no line feed"));
     };
-    same(replayed(rt.alloc(), front.as_bytes())?.as_str(), text)
+    for script in [SCRIPT, front] {
+        same(replayed(rt.alloc(), script.as_bytes())?.as_str(), LINES)?;
+    }
+    Ok(())
 }
 
 /// What comes of a script, and how many bytes are printed.
@@ -197,7 +124,7 @@ fn the_longest_script(rt: HostRuntime) -> Result<(), Fail> {
 
 #[test]
 fn a_reader_that_fails_after_any_byte(rt: HostRuntime) -> Result<(), Fail> {
-    let script = scripts::A_DELTA.0.as_bytes();
+    let script = SCRIPT.as_bytes();
     for count in 0..=script.len() {
         let reader = FewBytes::new(&script[..count], 7, true);
         holds(
@@ -217,20 +144,19 @@ fn written(
     fails: bool,
     flush_fails: bool,
 ) -> (Result<(), Fault>, bool) {
-    let (script, text) = scripts::A_DELTA;
     let mut writer = FewWrites::new(alloc, most, room, fails);
     writer.flush_fails = flush_fails;
-    let result = replay(alloc, &mut script.as_bytes(), &mut writer);
+    let result = replay(alloc, &mut SCRIPT.as_bytes(), &mut writer);
     (
         result,
-        writer.has_front(text.as_bytes(), room.min(text.len())),
+        writer.has_front(LINES.as_bytes(), room.min(LINES.len())),
     )
 }
 
 #[test]
 fn a_writer_that_fails_after_any_byte(rt: HostRuntime) -> Result<(), Fail> {
     let failed = (Err(Fault::WriteFailed), true);
-    for room in 0..scripts::A_DELTA.1.len() {
+    for room in 0..LINES.len() {
         holds_for(&room, written(rt.alloc(), 1, room, false, false) == failed)?;
         holds_for(&room, written(rt.alloc(), 64, room, true, false) == failed)?;
     }

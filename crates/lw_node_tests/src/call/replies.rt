@@ -70,6 +70,28 @@ fn watched(alloc: Global, accept: Option<u16>) -> Result<Answer, Fail> {
     Ok(Answer::Watched(Some((seen(alloc, 60)?, watch))))
 }
 
+/// A registration in queue mode, at an address of IPv6, under a longer name.
+fn queued(alloc: Global) -> Result<Seen, Fail> {
+    let mut queued = seen(alloc, 60)?;
+    queued.endpoint = text(alloc, "device-17")?;
+    queued.address = Addr::V6 {
+        address: [254, 128, 0, 0, 0, 0, 0, 0, 0, 0, 0, 0, 0, 0, 0, 1],
+        port: 5683,
+    };
+    queued.queue = true;
+    queued.sms = Some(text(alloc, "49")?);
+    Ok(queued)
+}
+
+fn watched_in_queue_mode(alloc: Global) -> Result<Answer, Fail> {
+    let watch = Watch {
+        token: SECOND,
+        path: path(&[3, 0])?,
+        accept: None,
+    };
+    Ok(Answer::Watched(Some((queued(alloc)?, watch))))
+}
+
 fn answer_at(alloc: Global, place: usize) -> Result<Answer, Fail> {
     match place {
         0 => Ok(Answer::Registration(Some(seen(alloc, 60)?))),
@@ -82,7 +104,10 @@ fn answer_at(alloc: Global, place: usize) -> Result<Answer, Fail> {
         7 => Ok(Answer::Expired(Some((text(alloc, "a")?, SECOND)))),
         8 => Ok(Answer::Expired(None)),
         9 => Ok(Answer::Changed(0)),
-        _ => Ok(Answer::Changed(1)),
+        10 => Ok(Answer::Changed(1)),
+        11 => Ok(Answer::Registration(Some(queued(alloc)?))),
+        12 => watched_in_queue_mode(alloc),
+        _ => Ok(Answer::Expired(Some((text(alloc, "device-17")?, FIRST)))),
     }
 }
 
@@ -104,7 +129,7 @@ fn given_at(alloc: Global, place: usize) -> Result<Reply, Fail> {
     }
 }
 
-const GIVEN: usize = 8 + 11;
+const GIVEN: usize = 8 + 14;
 
 /// Refusals, and what a merge gives.
 fn plain_at(place: usize) -> Reply {

@@ -1,6 +1,7 @@
 //! Calls as values.
 
 use super::*;
+use lw_stamp::NoMemory;
 
 fn bytes(alloc: Global, datagram: &str) -> Result<Bytes, Fail> {
     Ok(Bytes::from_vec(hex::decode(alloc, datagram)?)?)
@@ -10,13 +11,28 @@ fn text(alloc: Global, text: &str) -> Result<Text, Fail> {
     Ok(Text::copy_of(alloc, text).map_err(|_| "a text")?)
 }
 
-fn take(alloc: Global, port: u16, datagram: &str) -> Result<Call, Fail> {
+fn take_from(alloc: Global, from: Addr, datagram: &str) -> Result<Call, Fail> {
     Ok(Call::Take {
         now: Moment::START,
-        from: steps::host(port),
+        from,
         bytes: bytes(alloc, datagram)?,
     })
 }
+
+fn take(alloc: Global, port: u16, datagram: &str) -> Result<Call, Fail> {
+    take_from(alloc, steps::host(port), datagram)
+}
+
+/// An address of IPv6.
+const FAR: Addr = Addr::V6 {
+    address: [254, 128, 0, 0, 0, 0, 0, 0, 0, 0, 0, 0, 0, 0, 0, 1],
+    port: 5683,
+};
+
+/// A Register of `bb` in queue mode, for 30 seconds, and an Update of it; neither is confirmable.
+const REGISTER_BB: &str = "50020006b272644565703d6262056c743d33300151ff3c2f3e";
+
+const UPDATE_BB: &str = "50020007b272640d0330303030303030303030303830303031";
 
 fn observe(text: &str, numbers: &[u16], accept: Option<u16>, mid: u16) -> Result<Call, Fail> {
     Ok(Call::Observe {
@@ -59,7 +75,10 @@ fn command_at(alloc: Global, place: usize) -> Result<Call, Fail> {
         10 => Ok(Call::Send { since: 0 }),
         11 => Ok(Call::Send { since: 1 }),
         12 => merge(alloc, "4c57443100000000000000"),
-        _ => merge(alloc, ""),
+        13 => merge(alloc, ""),
+        14 => take_from(alloc, FAR, REGISTER_BB),
+        15 => observe("0000000000080001", &[3, 0], None, 7),
+        _ => take_from(alloc, FAR, UPDATE_BB),
     }
 }
 
@@ -86,23 +105,53 @@ fn question_at(alloc: Global, place: usize) -> Result<Question, Fail> {
         11 => Ok(Question::FirstAfter(Some(text(alloc, "a")?))),
         12 => Ok(Question::ExpiredAfter(None)),
         13 => Ok(Question::ExpiredAfter(Some(text(alloc, "a")?))),
+        14 => Ok(Question::ByAddress(FAR)),
+        15 => Ok(Question::ByToken(id("0000000000090001")?)),
         _ => Ok(Question::Change),
     }
 }
 
-const COMMANDS: usize = 14;
+const COMMANDS: usize = 17;
 
-const CALLS: usize = COMMANDS + 15;
+const QUESTIONS: usize = 17;
+
+const CALLS: usize = COMMANDS + QUESTIONS + 2;
 
 /// Calls of each kind.
 fn call_at(alloc: Global, place: usize) -> Result<Call, Fail> {
     if place < COMMANDS {
         return command_at(alloc, place);
     }
+    let place = place - COMMANDS;
+    if place < QUESTIONS {
+        return ask(0, question_at(alloc, place)?);
+    }
+    // at the end of the registration of `bb`
+    let above = (place == QUESTIONS).then_some("b");
+    match above {
+        None => ask(30_000, Question::ExpiredAfter(None)),
+        Some(above) => ask(30_000, Question::ExpiredAfter(Some(text(alloc, above)?))),
+    }
+}
+
+fn ask(now: u64, question: Question) -> Result<Call, Fail> {
     Ok(Call::Ask {
-        now: Moment::START,
-        question: question_at(alloc, place - COMMANDS)?,
+        now: at(now)?,
+        question,
     })
+}
+
+/// Whether a reply is want of memory.
+fn wants_memory(reply: &Reply) -> bool {
+    matches!(
+        reply,
+        Reply::Take(Err(NoMemory))
+            | Reply::Observe(Err(ObserveFault::NoMemory))
+            | Reply::Cancel(Err(ObserveFault::NoMemory))
+            | Reply::Send(Err(NoMemory))
+            | Reply::Merge(Err(MergeFault::NoMemory { .. }))
+            | Reply::Ask(Err(NoMemory))
+    )
 }
 
 /// Whether a call gives at one node twice what it gives at the other.
@@ -111,15 +160,15 @@ fn acts_alike(once: &mut Node, twice: &mut Node, call: &Call) -> bool {
 }
 
 fn gives_twice(node: &mut Node, call: &Call, reply: &Reply) -> bool {
-    are_the_same(reply, &node.act_twice(call))
+    !wants_memory(reply) && are_the_same(reply, &node.act_twice(call))
 }
 
 fn are_the_same(reply: &Reply, replies: &(Reply, Reply)) -> bool {
     reply.same(&replies.0) && reply.same(&replies.1)
 }
 
-/// Two Registers of `a` and one of `b`, three observations, one of which replaces another, and the end of one.
-const AFTER_CALLS: [Row<'static>; 3] = [
+/// Two Registers of `a`, one of `b` and one of `bb`, four observations, one of which replaces another, and the end of one.
+const AFTER_CALLS: [Row<'static>; 6] = [
     (
         ByEndpoint(0, "a"),
         r#"{"address":"127.0.0.1:5684","binding":"U","endpoint":"a","id":"0000000000020001","lifetime":86400,"lwm2m":"1.0","objects":"</>","queue":false,"seen":0,"sms":null}"#,
@@ -128,7 +177,19 @@ const AFTER_CALLS: [Row<'static>; 3] = [
         WatchAfter("0000000000020001", false),
         r#"{"accept":0,"endpoint":"a","id":"0000000000020001","path":"/3/0","token":"0000000000060001"}"#,
     ),
-    (Numbers, "7 7"),
+    (
+        ByEndpoint(0, "bb"),
+        r#"{"address":"[fe80:0000:0000:0000:0000:0000:0000:0001]:5683","binding":"U","endpoint":"bb","id":"0000000000080001","lifetime":30,"lwm2m":"1.0","objects":"</>","queue":true,"seen":0,"sms":null}"#,
+    ),
+    (
+        ByToken("0000000000090001"),
+        r#"{"accept":null,"endpoint":"bb","id":"0000000000080001","path":"/3/0","token":"0000000000090001"}"#,
+    ),
+    (
+        ExpiredAfter(30_000, Some("b")),
+        r#"{"endpoint":"bb","id":"0000000000080001"}"#,
+    ),
+    (Numbers, "10 10"),
 ];
 
 /// The call at the place gives at one node twice what it gives at the other.

@@ -68,7 +68,7 @@ fn a_fuller_spelling_of_a_removal_comes_back_short(rt: HostRuntime) -> Result<()
 }
 
 /// A clock one before its end.
-const AT_THE_END: [Row<'static>; 7] = [
+const AT_THE_END: [Row<'static>; 8] = [
     (Merges("4c574431fffffffffffe00"), "Ok(0)"),
     (
         Takes(REGISTER),
@@ -79,6 +79,7 @@ const AT_THE_END: [Row<'static>; 7] = [
         r#"{"address":"127.0.0.1:5683","binding":"U","endpoint":"a","id":"ffffffffffff0001","lifetime":86400,"lwm2m":"1.0","objects":"</>","queue":false,"seen":0,"sms":null}"#,
     ),
     (Takes(REGISTER_B), "60a30005"),
+    (Takes("50020005b272644465703d62ff3c2f3e"), "50a30005"),
     (Observes("ffffffffffff0001"), "ClockEnd"),
     (
         ByEndpoint(0, "a"),
