@@ -3,6 +3,7 @@ mod changed;
 mod deltas;
 mod largest;
 mod once;
+mod refused;
 mod steps;
 
 use crate::hold::holds;
