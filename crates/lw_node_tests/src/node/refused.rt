@@ -13,6 +13,7 @@ const FIRST: &str =
 0102000300000000000000030001010001020003000100000000000400010101006e0000";
 
 /// The front of a delta with no slot, and with its first, and all of it with both and with the second alone.
+#[derive(Drop)]
 struct Deltas {
     fronts: [Vec<u8>; 2],
     both: Vec<u8>,
