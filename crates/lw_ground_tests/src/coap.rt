@@ -1,3 +1,5 @@
+mod refused;
+
 use crate::hold::holds;
 use lw_coap::*;
 use lw_stamp::NoMemory;

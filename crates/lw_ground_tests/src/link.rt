@@ -1,3 +1,5 @@
+mod refused;
+
 use crate::hold::{holds, holds_for, text_of};
 use lw_link::{LinkFault, LinkText, is_printing, print, read, well_formed};
 use std::alloc::Global;

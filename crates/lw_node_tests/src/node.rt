@@ -4,6 +4,7 @@ mod counters;
 mod deltas;
 mod largest;
 mod once;
+mod refused;
 mod steps;
 
 use crate::hold::holds;

@@ -1,6 +1,7 @@
 mod agreeing;
 mod entries;
 mod largest;
+mod refused;
 mod settling;
 pub(crate) mod steps;
 

@@ -57,6 +57,12 @@ fn a_refused_join_leaves_the_slot(rt: HostRuntime) -> Result<(), Fail> {
     registers_and_moves(rt.alloc(), &mut table)
 }
 
+const WITHOUT: State = State {
+    change: 0,
+    filed: &[(Token(Second), &[]), (Token(Third), &[])],
+    first: None,
+};
+
 const WITH_SECOND: State = State {
     change: 1,
     filed: &[(Token(Second), &["a"]), (Token(Third), &[])],
@@ -70,9 +76,10 @@ const WITH_THIRD: State = State {
 };
 
 fn observes_twice(alloc: Global, table: &mut Table) -> Result<(), Fail> {
-    join(alloc, table, ("a", (Second, First, Observe(&[3], None))))?;
-    let observe = ("a", (Third, First, Observe(&[3], None)));
-    joins(alloc, table, observe, WITH_SECOND, WITH_THIRD)
+    let first = ("a", (Second, First, Observe(&[3], None)));
+    joins(alloc, table, first, WITHOUT, WITH_SECOND)?;
+    let another = ("a", (Third, First, Observe(&[3], None)));
+    joins(alloc, table, another, WITH_SECOND, WITH_THIRD)
 }
 
 #[test]

@@ -1,0 +1,18 @@
+//! What a datagram is read as where the first try is refused memory.
+
+use super::*;
+
+/// What the bytes are read as. Where that is refused, they are read again.
+fn read_in_two_tries(alloc: Global, bytes: &[u8]) -> Result<Message, Fault> {
+    match decode(alloc, bytes) {
+        Err(Fault::NoMemory) => decode(alloc, bytes),
+        read => read,
+    }
+}
+
+#[test]
+fn a_refused_decode_gives_the_message_when_it_is_made_again(rt: HostRuntime) -> Result<(), Fail> {
+    let message = read_in_two_tries(rt.alloc(), &REGISTER)?;
+    let is_read = is_register(&message) && have_values(&message.options, &REGISTER_OPTIONS);
+    holds("its parts", is_read)
+}

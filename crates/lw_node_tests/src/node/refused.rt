@@ -1,0 +1,64 @@
+//! What a node knows and sends where a merge or a delta is refused memory.
+
+use super::deltas::{SECOND, TWO};
+use super::*;
+use lw_stamp::NoMemory;
+
+/// The delta of two slots without a slot, and with the first alone.
+const NONE: &str = "4c57443100000000000600";
+
+const FIRST: &str =
+    "4c57443100000000000601016100000000000100017f000000000000010001047f000001163300000000000100010000\
+0000000000000000000100010001518000000000000100010155000000000001000100000000000001000100033c2f3e\
+0102000300000000000000030001010001020003000100000000000400010101006e0000";
+
+/// The front of a delta with no slot, and with its first, and all of it with both and with the second alone.
+#[derive(Drop)]
+struct Deltas {
+    fronts: [Vec<u8>; 2],
+    both: Vec<u8>,
+    second: Vec<u8>,
+}
+
+/// Whether these bytes are sent since the number. Where that is refused, they are asked for again.
+fn sends(node: &Node, since: u64, wanted: &[u8]) -> Result<bool, NoMemory> {
+    let sent = match node.delta_since(since) {
+        Err(NoMemory) => node.delta_since(since)?,
+        Ok(sent) => sent,
+    };
+    Ok(sent.as_slice() == wanted)
+}
+
+/// Whether the node has the clock of the delta and as many of its slots as were joined, which are not all.
+fn has_joined(node: &Node, fault: MergeFault, fronts: &[Vec<u8>; 2]) -> Result<bool, NoMemory> {
+    let MergeFault::NoMemory { joined } = fault else {
+        return Ok(false);
+    };
+    let Some(front) = fronts.get(joined) else {
+        return Ok(false);
+    };
+    Ok(node.change() == joined as u64 && sends(node, 0, front)?)
+}
+
+/// Merges the delta of two slots. Where that is refused, the first slots are there, and it is merged again.
+fn merges_in_two_tries(node: &mut Node, deltas: &Deltas) -> Result<(), Fail> {
+    if let Err(fault) = node.merge(&deltas.both) {
+        holds("the first", has_joined(node, fault, &deltas.fronts)?)?;
+        holds("both", node.merge(&deltas.both) == Ok(2))?;
+    }
+    holds("the change number", node.change() == 2)?;
+    holds("both are sent", sends(node, 0, &deltas.both)?)?;
+    holds("the second is sent", sends(node, 1, &deltas.second)?)
+}
+
+#[test]
+fn a_refused_merge_leaves_the_first_slots(rt: HostRuntime) -> Result<(), Fail> {
+    let alloc = rt.alloc();
+    let deltas = Deltas {
+        fronts: [hex::decode(alloc, NONE)?, hex::decode(alloc, FIRST)?],
+        both: hex::decode(alloc, TWO)?,
+        second: hex::decode(alloc, SECOND)?,
+    };
+    let mut node = Node::new(alloc, 2);
+    merges_in_two_tries(&mut node, &deltas)
+}

@@ -1,0 +1,148 @@
+//! What a node knows after a call that is refused memory, and what the same call then gives.
+
+use super::*;
+use lw_node::{MergeFault, ObserveFault, Reply};
+use steps::What;
+
+/// A Register of `b` with the object list `</>`, message ID 5, and the reply to the first at node 1.
+const REGISTER_B: &str = "40020005b272644465703d62ff3c2f3e";
+
+const CREATED_B: &str = "604100058272640d0330303030303030303030303130303031";
+
+/// What the node then sends of all, with its change number.
+const OF_B: &str =
+    "4c57443100000000000101016200000000000100017f000000000000010001047f0000011633000000000001000100000000000000000000000100010001518000000000000100010155000000000001000100000000000001000100033c2f3e0000 1";
+
+/// A call of a node that has taken the Register, what it gives, and what is sent of all after it.
+struct Row {
+    what: What<'static>,
+    gives: &'static str,
+    after: &'static str,
+}
+
+static ROWS: [Row; 5] = [
+    Row {
+        what: Takes(REGISTER),
+        gives: "604100048272640d0330303030303030303030303230303031",
+        after: "4c57443100000000000201016100000000000200017f000000000000020001047f0000011633000000000002000100000000000000000000000200010001518000000000000200010155000000000002000100000000000002000100033c2f3e0001016200000000000100017f000000000000010001047f0000011633000000000001000100000000000000000000000100010001518000000000000100010155000000000001000100000000000001000100033c2f3e0000 2",
+    },
+    Row {
+        what: Observes(ID, &[3, 0], 32),
+        gives: "4801002000000000000200016051330130",
+        after: "4c57443100000000000201016200000000000100017f000000000000010001047f0000011633000000000001000100000000000000000000000100010001518000000000000100010155000000000001000100000000000001000100033c2f3e010200030000000000000002000101000000 2",
+    },
+    Row {
+        what: Sends(0),
+        gives: OF_B,
+        after: OF_B,
+    },
+    // of `a`, which registered at node 2
+    Row {
+        what: Merges(
+            "4c57443100000000000101016100000000000100027f000000000000010002047f0000011633000000000001000200000000000000000000000100020001518000000000000100020155000000000001000200000000000001000200033c2f3e0000",
+        ),
+        gives: "joined 1",
+        after: "4c57443100000000000101016100000000000100027f000000000000010002047f0000011633000000000001000200000000000000000000000100020001518000000000000100020155000000000001000200000000000001000200033c2f3e0001016200000000000100017f000000000000010001047f0000011633000000000001000100000000000000000000000100010001518000000000000100010155000000000001000100000000000001000100033c2f3e0000 2",
+    },
+    Row {
+        what: ByEndpoint("b"),
+        gives: "b 0000000000010001 127.0.0.1:5683 0 86400 U false </>",
+        after: OF_B,
+    },
+];
+
+/// An entry with its place, or none.
+type Made = Result<(Entry, u64), NoMemory>;
+
+fn is_want_of_memory(reply: &Reply) -> bool {
+    matches!(
+        reply,
+        Reply::Take(Err(NoMemory))
+            | Reply::Observe(Err(ObserveFault::NoMemory))
+            | Reply::Cancel(Err(ObserveFault::NoMemory))
+            | Reply::Send(Err(NoMemory))
+            | Reply::Merge(Err(MergeFault::NoMemory { joined: 0 }))
+            | Reply::Ask(Err(NoMemory))
+    )
+}
+
+/// Whether a call is refused, and how many entries there are of it then.
+fn entries_of_a_refusal(made: &Made) -> Option<u64> {
+    match made {
+        Err(NoMemory) => Some(0),
+        Ok((entry, _)) if is_want_of_memory(&entry.reply) => Some(1),
+        Ok(_) => None,
+    }
+}
+
+/// The call is an entry at the place, with the reply.
+fn is_entered(alloc: Global, made: &Made, place: u64, want: &str) -> Result<(), Fail> {
+    if entries_of_a_refusal(made).is_some() {
+        return Err(NoMemory.into());
+    }
+    let Ok((entry, at)) = made else {
+        return Err(NoMemory.into());
+    };
+    holds("the place", *at == place)?;
+    is_text(reply_text(alloc, &entry.reply), want)
+}
+
+fn gives(
+    alloc: Global,
+    held: &mut Held,
+    what: What<'_>,
+    place: u64,
+    want: &str,
+) -> Result<(), Fail> {
+    let call = what.made(alloc)?;
+    let made = held.step(1, 0, &call);
+    let entered = is_entered(alloc, &made, place, want);
+    drop(made);
+    drop(call);
+    entered
+}
+
+/// Makes the call at place 1. Where it is refused, gives how many entries there are of it.
+fn tries(alloc: Global, held: &mut Held, row: &Row) -> Result<Option<u64>, Fail> {
+    let call = row.what.made(alloc)?;
+    let made = held.step(1, 0, &call);
+    let refused = entries_of_a_refusal(&made);
+    let entered = match refused {
+        None => is_entered(alloc, &made, 1, row.gives),
+        Some(_) => Ok(()),
+    };
+    drop(made);
+    drop(call);
+    entered?;
+    Ok(refused)
+}
+
+/// Where the call is refused, the node knows what it knew, and the same call is made again.
+fn gives_in_two_tries(alloc: Global, held: &mut Held, row: &Row) -> Result<(), Fail> {
+    gives(alloc, held, Takes(REGISTER_B), 0, CREATED_B)?;
+    let Some(entries) = tries(alloc, held, row)? else {
+        return gives(alloc, held, Sends(0), 2, row.after);
+    };
+    let calls = [
+        (Sends(0), OF_B),
+        (ByEndpoint("a"), "-"),
+        (row.what, row.gives),
+        (Sends(0), row.after),
+    ];
+    for (number, (what, want)) in calls.iter().enumerate() {
+        let place = entries.saturating_add(1).saturating_add(number as u64);
+        gives(alloc, held, *what, place, want)?;
+    }
+    Ok(())
+}
+
+#[test]
+fn a_refused_step_leaves_what_the_node_knows(rt: HostRuntime) -> Result<(), Fail> {
+    for row in &ROWS {
+        let mut held = Held::new(rt.alloc(), 1);
+        let given = gives_in_two_tries(rt.alloc(), &mut held, row);
+        drop(held);
+        given?;
+    }
+    Ok(())
+}
