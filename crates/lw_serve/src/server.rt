@@ -37,7 +37,11 @@ impl Server {
     pub(crate) fn new(alloc: Global, plan: &Plan) -> Result<Server, NoMemory>
         ensures shelves { IfOk result (λ server. vec_len server.nodes.shelves ≡ plan.now.nodes) }
         ensures begun { IfOk result (λ server. IsBegun plan.now (record {
-            left = plan.now.count; passes = server.nodes.passes.items; kept = server.kept.items; since = server.since.items })) }
+          left = plan.now.count;
+          passes = server.nodes.passes.items;
+          kept = server.kept.items;
+          since = server.since.items;
+        })) }
     {
         Ok(Server {
             nodes: Nodes::new(alloc, plan)?,
