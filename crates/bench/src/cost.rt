@@ -1,6 +1,3 @@
-ghost use Rattle.std.specs.Prelude.{◌≡◌, ◌≤◌, ◌<◌, ◌↔◌, IsSome, IsTrue, IfOk, ◌⊎◌};
-ghost use Rattle.bench.specs.Cost.{nanos_each, megabytes_each_second, hundredths_of, AreWithin};
-
 use crate::fault::BenchFault;
 use std::time::{CpuClock, Duration};
 
@@ -21,9 +18,7 @@ impl Cost {
         start: Duration,
         calls: u32,
         bytes: u64,
-    ) -> Result<Cost, BenchFault>
-        ensures { IfOk result (λ cost. (cost.calls ≡ calls) × (cost.bytes ≡ bytes)) }
-    {
+    ) -> Result<Cost, BenchFault> {
         let time = clock.thread_cpu_time()?.saturating_sub(start);
         Ok(Cost {
             nanos: u64::try_from(time.as_nanos()).unwrap_or(u64::MAX),
@@ -33,10 +28,7 @@ impl Cost {
     }
 
     /// The one that took less time.
-    pub(crate) fn least(self, other: Cost) -> Cost
-        ensures one { (result ≡ self) ⊎ (result ≡ other) }
-        ensures least { (result.nanos ≤ self.nanos) × (result.nanos ≤ other.nanos) }
-    {
+    pub(crate) fn least(self, other: Cost) -> Cost {
         if other.nanos < self.nanos {
             other
         } else {
@@ -45,16 +37,12 @@ impl Cost {
     }
 
     /// Nanoseconds for each call, rounded down; 0 where there is none.
-    pub(crate) fn nanos_each(&self) -> u64
-        ensures { result ≡ nanos_each self.now }
-    {
+    pub(crate) fn nanos_each(&self) -> u64 {
         self.nanos.checked_div(u64::from(self.calls)).unwrap_or(0)
     }
 
     /// Millions of bytes in a second, rounded down; none where no time has passed or no bytes were counted.
-    pub(crate) fn megabytes_each_second(&self) -> Option<u128>
-        ensures { result ≡ megabytes_each_second self.now }
-    {
+    pub(crate) fn megabytes_each_second(&self) -> Option<u128> {
         if self.bytes == 0 {
             return None;
         }
@@ -64,9 +52,7 @@ impl Cost {
 
     /// The time of a call, in hundredths of that of the other's, rounded down; none where the other took no time
     /// or there is no call.
-    pub(crate) fn hundredths_of(&self, other: &Cost) -> Option<u128>
-        ensures { result ≡ hundredths_of self.now other.now }
-    {
+    pub(crate) fn hundredths_of(&self, other: &Cost) -> Option<u128> {
         let mine = u128::from(self.nanos) * u128::from(other.calls) * 100;
         mine.checked_div(u128::from(other.nanos) * u128::from(self.calls))
     }
@@ -82,12 +68,7 @@ pub(crate) struct Costs {
 
 impl Costs {
     /// At each size the one that took less time.
-    pub(crate) fn least(self, other: Costs) -> Costs
-        ensures small { (result.small ≡ self.small) ⊎ (result.small ≡ other.small) }
-        ensures medium { (result.medium ≡ self.medium) ⊎ (result.medium ≡ other.medium) }
-        ensures large { (result.large ≡ self.large) ⊎ (result.large ≡ other.large) }
-        ensures least { AreWithin result self × AreWithin result other }
-    {
+    pub(crate) fn least(self, other: Costs) -> Costs {
         Costs {
             small: self.small.least(other.small),
             medium: self.medium.least(other.medium),

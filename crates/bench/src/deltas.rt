@@ -1,6 +1,6 @@
 //! What reading and writing a delta of N slots costs.
 
-ghost use Rattle.std.specs.Prelude.{◌≡◌, ◌<◌, ◌^◌, IfOk, None};
+ghost use Rattle.std.specs.Prelude.{◌<◌, ◌^◌, None};
 ghost use Rattle.lw_delta.specs.Writable.{AllFollow};
 
 use crate::cost::Cost;
@@ -50,9 +50,7 @@ impl DeltaCall {
         clock: &C,
         alloc: Global,
         count: u32,
-    ) -> Result<Cost, BenchFault>
-        ensures { IfOk result (λ cost. cost.calls ≡ count) }
-    {
+    ) -> Result<Cost, BenchFault> {
         let bytes = bytes_of(alloc, count)?;
         match self {
             DeltaCall::Write => cost_of_write(clock, alloc, &bytes, count),
@@ -67,18 +65,14 @@ fn cost_of_write<C: CpuClock>(
     alloc: Global,
     bytes: &[u8],
     count: u32,
-) -> Result<Cost, BenchFault>
-    ensures { IfOk result (λ cost. cost.calls ≡ count) }
-{
+) -> Result<Cost, BenchFault> {
     let delta = read(alloc, bytes)?;
     let start = clock.thread_cpu_time()?;
     write(alloc, delta.clock, &delta.slots)?;
     Cost::since(clock, start, count, bytes.len() as u64)
 }
 
-fn cost_of_check<C: CpuClock>(clock: &C, bytes: &[u8], count: u32) -> Result<Cost, BenchFault>
-    ensures { IfOk result (λ cost. cost.calls ≡ count) }
-{
+fn cost_of_check<C: CpuClock>(clock: &C, bytes: &[u8], count: u32) -> Result<Cost, BenchFault> {
     let start = clock.thread_cpu_time()?;
     check(bytes)?;
     Cost::since(clock, start, count, bytes.len() as u64)
@@ -90,9 +84,7 @@ fn cost_of_read<C: CpuClock>(
     alloc: Global,
     bytes: &[u8],
     count: u32,
-) -> Result<Cost, BenchFault>
-    ensures { IfOk result (λ cost. cost.calls ≡ count) }
-{
+) -> Result<Cost, BenchFault> {
     let start = clock.thread_cpu_time()?;
     let _kept = read(alloc, bytes)?;
     Cost::since(clock, start, count, bytes.len() as u64)

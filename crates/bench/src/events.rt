@@ -1,10 +1,6 @@
 //! The events of a run: endpoints register at four nodes, are updated and looked up, and the nodes tell one another
 //! what has changed.
 
-ghost use Rattle.std.specs.Prelude.{◌≡◌, ◌+◌, ◌-◌, ◌*◌, ◌≤◌, IfOk, OnOk, vec_len};
-ghost use Rattle.std.specs.Int.{div_ceil};
-ghost use Rattle.bench.specs.Calls.{events_of};
-
 use crate::fault::BenchFault;
 use crate::messages::{put_register, put_update};
 use crate::names::{Order, name_of};
@@ -51,9 +47,7 @@ struct Story {
 
 /// So many endpoints register, then each is updated, and then each is looked up. After each turn of the first two, and
 /// after the last, every node sends what has changed since it sent last, and every message is delivered at each other node.
-pub(crate) fn events(alloc: Global, order: Order, count: u32) -> Result<Vec<Event>, BenchFault>
-    ensures { IfOk result (λ events. vec_len events ≡ events_of count) }
-{
+pub(crate) fn events(alloc: Global, order: Order, count: u32) -> Result<Vec<Event>, BenchFault> {
     let mut story = Story {
         order,
         events: Vec::new(alloc),
@@ -90,18 +84,14 @@ fn node_at(place: u32) -> u16 {
 
 impl Story {
     /// So many endpoints, from the first Register to the last look-up.
-    fn tell(&mut self, alloc: Global, count: u32) -> Result<(), BenchFault>
-        ensures { OnOk result (vec_len self.new.events ≡ vec_len self.old.events + events_of count) }
-    {
+    fn tell(&mut self, alloc: Global, count: u32) -> Result<(), BenchFault> {
         self.take_turns(alloc, Doing::Register, count)?;
         self.take_turns(alloc, Doing::Update, count)?;
         self.put_all(alloc, Doing::LookUp, 0, count)
     }
 
     /// All endpoints, with an exchange after each turn.
-    fn take_turns(&mut self, alloc: Global, doing: Doing, count: u32) -> Result<(), BenchFault>
-        ensures { OnOk result (vec_len self.new.events ≡ vec_len self.old.events + count + 16 * div_ceil count 100) }
-    {
+    fn take_turns(&mut self, alloc: Global, doing: Doing, count: u32) -> Result<(), BenchFault> {
         let mut first = 0;
         for _turn in 0..count.div_ceil(TURN) {
             let end = first + TURN.min(count - first);
@@ -119,26 +109,19 @@ impl Story {
         doing: Doing,
         first: u32,
         end: u32,
-    ) -> Result<(), BenchFault>
-        requires { first ≤ end }
-        ensures { OnOk result (vec_len self.new.events ≡ vec_len self.old.events + (end - first)) }
-    {
+    ) -> Result<(), BenchFault> {
         for place in first..end {
             self.push(doing.node(place), doing.action(alloc, self.order, place)?)?;
         }
         Ok(())
     }
 
-    fn push(&mut self, node: u16, action: Action) -> Result<(), BenchFault>
-        ensures { OnOk result (vec_len self.new.events ≡ vec_len self.old.events + 1) }
-    {
+    fn push(&mut self, node: u16, action: Action) -> Result<(), BenchFault> {
         Ok(self.events.push(Event { node, action })?)
     }
 
     /// What follows on so many operations.
-    fn exchange(&mut self, made: u32) -> Result<(), BenchFault>
-        ensures { OnOk result (vec_len self.new.events ≡ vec_len self.old.events + 16) }
-    {
+    fn exchange(&mut self, made: u32) -> Result<(), BenchFault> {
         self.send_all()?;
         self.deliver_all()?;
         self.messages = self.messages.saturating_add(usize::from(NODES));
@@ -149,18 +132,14 @@ impl Story {
         Ok(())
     }
 
-    fn send_all(&mut self) -> Result<(), BenchFault>
-        ensures { OnOk result (vec_len self.new.events ≡ vec_len self.old.events + 4) }
-    {
+    fn send_all(&mut self) -> Result<(), BenchFault> {
         for place in 0..NODES {
             self.push(place + 1, Action::Send { since: self.sent })?;
         }
         Ok(())
     }
 
-    fn deliver_all(&mut self) -> Result<(), BenchFault>
-        ensures { OnOk result (vec_len self.new.events ≡ vec_len self.old.events + 12) }
-    {
+    fn deliver_all(&mut self) -> Result<(), BenchFault> {
         for place in 0..NODES * RECEIVERS {
             let sender = place / RECEIVERS;
             let node = (sender + 1 + place % RECEIVERS) % NODES + 1;

@@ -1,7 +1,5 @@
 //! What the exchange of a few changes costs, between nodes of N endpoints.
 
-ghost use Rattle.std.specs.Prelude.{◌≡◌, IfOk};
-
 use crate::cost::Cost;
 use crate::fault::BenchFault;
 use crate::names::{Order, names};
@@ -27,9 +25,7 @@ impl ExchangeCall {
         clock: &C,
         alloc: Global,
         count: u32,
-    ) -> Result<Cost, BenchFault>
-        ensures { IfOk result (λ cost. cost.calls ≡ 32) }
-    {
+    ) -> Result<Cost, BenchFault> {
         let all = names(alloc, Order::Scattered, count)?;
         let mut node = Node::new(alloc, 1);
         self.cost(clock, alloc, &mut node, &all)
@@ -42,9 +38,7 @@ impl ExchangeCall {
         alloc: Global,
         node: &mut Node,
         all: &[String],
-    ) -> Result<Cost, BenchFault>
-        ensures { IfOk result (λ cost. cost.calls ≡ 32) }
-    {
+    ) -> Result<Cost, BenchFault> {
         make_all(alloc, node, NodeCall::Take, all)?;
         let since = node.change();
         change(alloc, node)?;
@@ -60,9 +54,7 @@ fn change(alloc: Global, node: &mut Node) -> Result<(), BenchFault> {
     make_all(alloc, node, NodeCall::Take, &changed)
 }
 
-fn send<C: CpuClock>(clock: &C, node: &Node, since: u64) -> Result<Cost, BenchFault>
-    ensures { IfOk result (λ cost. cost.calls ≡ 32) }
-{
+fn send<C: CpuClock>(clock: &C, node: &Node, since: u64) -> Result<Cost, BenchFault> {
     let start = clock.thread_cpu_time()?;
     let bytes = node.delta_since(since)?;
     Cost::since(clock, start, CHANGED, bytes.len() as u64)
@@ -74,9 +66,7 @@ fn merge<C: CpuClock>(
     alloc: Global,
     all: &[String],
     delta: &[u8],
-) -> Result<Cost, BenchFault>
-    ensures { IfOk result (λ cost. cost.calls ≡ 32) }
-{
+) -> Result<Cost, BenchFault> {
     let mut node = Node::new(alloc, 2);
     fill_and_merge(clock, alloc, &mut node, all, delta)
 }
@@ -87,9 +77,7 @@ fn fill_and_merge<C: CpuClock>(
     node: &mut Node,
     all: &[String],
     delta: &[u8],
-) -> Result<Cost, BenchFault>
-    ensures { IfOk result (λ cost. cost.calls ≡ 32) }
-{
+) -> Result<Cost, BenchFault> {
     make_all(alloc, node, NodeCall::Take, all)?;
     let start = clock.thread_cpu_time()?;
     let merged = node.merge(delta)?;

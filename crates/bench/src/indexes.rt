@@ -1,7 +1,5 @@
 //! What the calls of an index of N addresses cost, each with one endpoint.
 
-ghost use Rattle.std.specs.Prelude.{◌≡◌, IfOk};
-
 use crate::cost::Cost;
 use crate::fault::BenchFault;
 use crate::names::{Order, names};
@@ -28,9 +26,7 @@ impl IndexCall {
         clock: &C,
         alloc: Global,
         count: u32,
-    ) -> Result<Cost, BenchFault>
-        ensures { IfOk result (λ cost. cost.calls ≡ count) }
-    {
+    ) -> Result<Cost, BenchFault> {
         let names = names(alloc, Order::Scattered, count)?;
         let mut index = Index::new(alloc);
         self.cost(clock, &mut index, &names, count)
@@ -43,9 +39,7 @@ impl IndexCall {
         index: &mut Index<Addr>,
         names: &[String],
         count: u32,
-    ) -> Result<Cost, BenchFault>
-        ensures { IfOk result (λ cost. cost.calls ≡ count) }
-    {
+    ) -> Result<Cost, BenchFault> {
         match self {
             IndexCall::Add => (),
             IndexCall::Of | IndexCall::DropOne => add_all(index, names)?,

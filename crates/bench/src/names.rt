@@ -1,8 +1,5 @@
 //! The names of the endpoints that are measured with.
 
-ghost use Rattle.std.specs.Prelude.{◌≡◌, IfOk, string_bytes, vec_len};
-ghost use Rattle.bench.specs.Names.{number_at, name_of};
-
 use std::alloc::{AllocError, Global};
 
 /// In which order names come, by their bytes.
@@ -23,9 +20,7 @@ const NUMBERS: u128 = 1 << 48;
 
 impl Order {
     /// The number of the name at this place.
-    pub(crate) fn number_at(self, place: u32) -> u64
-        ensures { result ≡ number_at self place }
-    {
+    pub(crate) fn number_at(self, place: u32) -> u64 {
         match self {
             Order::Rising => u64::from(place),
             Order::Scattered => (u128::from(place) * STEP % NUMBERS) as u64,
@@ -35,18 +30,14 @@ impl Order {
 }
 
 /// The name of the number, of 24 bytes: the device with this MAC address (RFC 9039, section 4.1).
-pub(crate) fn name_of(alloc: Global, number: u64) -> Result<String, AllocError>
-    ensures { IfOk result (λ name. string_bytes name ≡ name_of number) }
-{
+pub(crate) fn name_of(alloc: Global, number: u64) -> Result<String, AllocError> {
     let [_, _, a, b, c, d, e, f] = number.to_be_bytes();
     let address = hex::encode(alloc, [a, b, c, d, e, f])?;
     format!(in alloc; "urn:dev:mac:{address}")
 }
 
 /// The names at the first places.
-pub(crate) fn names(alloc: Global, order: Order, count: u32) -> Result<Vec<String>, AllocError>
-    ensures { IfOk result (λ names. vec_len names ≡ count) }
-{
+pub(crate) fn names(alloc: Global, order: Order, count: u32) -> Result<Vec<String>, AllocError> {
     let mut names = Vec::new(alloc);
     for place in 0..count {
         names.push(name_of(alloc, order.number_at(place))?)?;

@@ -1,7 +1,5 @@
 //! What a node's calls cost, with N endpoints.
 
-ghost use Rattle.std.specs.Prelude.{◌≡◌, IfOk};
-
 use crate::cost::Cost;
 use crate::fault::BenchFault;
 use crate::messages::{put_register, put_update};
@@ -44,9 +42,7 @@ impl NodeCalls {
         clock: &C,
         alloc: Global,
         count: u32,
-    ) -> Result<Cost, BenchFault>
-        ensures { IfOk result (λ cost. cost.calls ≡ count) }
-    {
+    ) -> Result<Cost, BenchFault> {
         let mut node = Node::new(alloc, 1);
         self.cost(clock, alloc, &mut node, count)
     }
@@ -57,9 +53,7 @@ impl NodeCalls {
         alloc: Global,
         node: &mut Node,
         count: u32,
-    ) -> Result<Cost, BenchFault>
-        ensures { IfOk result (λ cost. cost.calls ≡ count) }
-    {
+    ) -> Result<Cost, BenchFault> {
         if let Some(order) = self.known {
             self.fill(alloc, node, &names(alloc, order, count)?)?;
         }
@@ -136,9 +130,7 @@ impl NodeCall {
         node: &mut Node,
         names: &[String],
         count: u32,
-    ) -> Result<Cost, BenchFault>
-        ensures { IfOk result (λ cost. cost.calls ≡ count) }
-    {
+    ) -> Result<Cost, BenchFault> {
         let start = clock.thread_cpu_time()?;
         make_all(alloc, node, self, names)?;
         Cost::since(clock, start, count, 0)

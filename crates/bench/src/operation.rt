@@ -1,5 +1,3 @@
-ghost use Rattle.std.specs.Prelude.{◌≡◌, IfOk};
-
 use crate::cost::{Cost, Costs};
 use crate::deltas::DeltaCall;
 use crate::exchange::ExchangeCall;
@@ -174,17 +172,13 @@ pub(crate) static ROWS: [(&str, Operation); 27] = [
 ];
 
 impl Operation {
-    ghost use Rattle.bench.specs.Calls.{calls_of, AreOf};
-
     /// The cost of a round at this size. An answer that is not the expected one is a fault.
     pub(crate) fn round<C: CpuClock>(
         self,
         clock: &C,
         alloc: Global,
         count: u32,
-    ) -> Result<Cost, BenchFault>
-        ensures { IfOk result (λ cost. cost.calls ≡ calls_of self count) }
-    {
+    ) -> Result<Cost, BenchFault> {
         match self {
             Operation::Node(call) => call.round(clock, alloc, count),
             Operation::Exchange(call) => call.round(clock, alloc, count),
@@ -197,9 +191,7 @@ impl Operation {
     }
 
     /// A round at each size.
-    fn turn<C: CpuClock>(self, clock: &C, alloc: Global, plan: Plan) -> Result<Costs, BenchFault>
-        ensures { IfOk result (λ costs. AreOf self plan costs) }
-    {
+    fn turn<C: CpuClock>(self, clock: &C, alloc: Global, plan: Plan) -> Result<Costs, BenchFault> {
         Ok(Costs {
             small: self.round(clock, alloc, plan.small)?,
             medium: self.round(clock, alloc, plan.medium)?,
@@ -213,9 +205,7 @@ impl Operation {
         clock: &C,
         alloc: Global,
         plan: Plan,
-    ) -> Result<Costs, BenchFault>
-        ensures { IfOk result (λ costs. AreOf self plan costs) }
-    {
+    ) -> Result<Costs, BenchFault> {
         let mut least = self.turn(clock, alloc, plan)?;
         for _ in 1..plan.rounds {
             least = least.least(self.turn(clock, alloc, plan)?);

@@ -1,7 +1,5 @@
 //! What reading a message costs, whatever a node knows.
 
-ghost use Rattle.std.specs.Prelude.{◌≡◌, IfOk};
-
 use crate::cost::Cost;
 use crate::fault::BenchFault;
 use crate::messages::{EMPTY_QUERIES, ENDPOINT, MORE_LINKS, put_register};
@@ -32,9 +30,7 @@ impl RequestCall {
         clock: &C,
         alloc: Global,
         count: u32,
-    ) -> Result<Cost, BenchFault>
-        ensures { IfOk result (λ cost. cost.calls ≡ count) }
-    {
+    ) -> Result<Cost, BenchFault> {
         let datagram = self.datagram(alloc)?;
         let message = decode(alloc, &datagram)?;
         self.cost(clock, alloc, &datagram, &message, count)
@@ -47,9 +43,7 @@ impl RequestCall {
         datagram: &[u8],
         message: &Message,
         count: u32,
-    ) -> Result<Cost, BenchFault>
-        ensures { IfOk result (λ cost. cost.calls ≡ count) }
-    {
+    ) -> Result<Cost, BenchFault> {
         let start = clock.thread_cpu_time()?;
         for _ in 0..count {
             self.make(alloc, datagram, message)?;

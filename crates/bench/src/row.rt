@@ -1,13 +1,8 @@
-ghost use Rattle.std.specs.Prelude.{◌≡◌, IfOk, string_bytes};
-ghost use Rattle.bench.specs.Row.{row_text, figure_text};
-
 use crate::cost::Costs;
 use std::alloc::{AllocError, Global};
 
 /// A row of the table: what a call costs at three sizes.
-pub(crate) fn row(alloc: Global, name: &str, costs: Costs) -> Result<String, AllocError>
-    ensures { IfOk result (λ text. string_bytes text ≡ row_text name.now costs) }
-{
+pub(crate) fn row(alloc: Global, name: &str, costs: Costs) -> Result<String, AllocError> {
     let Costs {
         small,
         medium,
@@ -25,9 +20,7 @@ pub(crate) fn row(alloc: Global, name: &str, costs: Costs) -> Result<String, All
 }
 
 /// A number, or `-`.
-fn figure(alloc: Global, number: Option<u128>) -> Result<String, AllocError>
-    ensures { IfOk result (λ text. string_bytes text ≡ figure_text number) }
-{
+fn figure(alloc: Global, number: Option<u128>) -> Result<String, AllocError> {
     match number {
         Some(number) => number.to_string(alloc),
         None => String::from_str(alloc, "-"),

@@ -1,8 +1,5 @@
 //! What a run of several nodes costs, and what reading its script costs.
 
-ghost use Rattle.std.specs.Prelude.{◌≡◌, IfOk, length};
-ghost use Rattle.bench.specs.Calls.{events_of};
-
 use crate::cost::Cost;
 use crate::events::{NODES, endpoint_at, events, id_at, updated};
 use crate::fault::BenchFault;
@@ -33,9 +30,7 @@ impl RunCall {
         clock: &C,
         alloc: Global,
         count: u32,
-    ) -> Result<Cost, BenchFault>
-        ensures { IfOk result (λ cost. cost.calls ≡ events_of count) }
-    {
+    ) -> Result<Cost, BenchFault> {
         match self {
             RunCall::Run(order) => run_all(clock, alloc, order, count),
             RunCall::ReadScript => read_all(clock, alloc, &events(alloc, Order::Scattered, count)?),
@@ -48,9 +43,7 @@ fn run_all<C: CpuClock>(
     alloc: Global,
     order: Order,
     count: u32,
-) -> Result<Cost, BenchFault>
-    ensures { IfOk result (λ cost. cost.calls ≡ events_of count) }
-{
+) -> Result<Cost, BenchFault> {
     let events = events(alloc, order, count)?;
     run_these(clock, alloc, &events, order, count)
 }
@@ -62,9 +55,7 @@ fn run_these<C: CpuClock>(
     events: &[Event],
     order: Order,
     count: u32,
-) -> Result<Cost, BenchFault>
-    ensures { IfOk result (λ cost. cost.calls ≡ length events.now) }
-{
+) -> Result<Cost, BenchFault> {
     let calls = calls_of(events)?;
     let start = clock.thread_cpu_time()?;
     let (world, outcomes) = run(alloc, NODES, events)?;
@@ -74,9 +65,7 @@ fn run_these<C: CpuClock>(
     Ok(cost)
 }
 
-fn read_all<C: CpuClock>(clock: &C, alloc: Global, events: &[Event]) -> Result<Cost, BenchFault>
-    ensures { IfOk result (λ cost. cost.calls ≡ length events.now) }
-{
+fn read_all<C: CpuClock>(clock: &C, alloc: Global, events: &[Event]) -> Result<Cost, BenchFault> {
     let calls = calls_of(events)?;
     let text = script_of(alloc, events)?;
     read_text(clock, alloc, text.as_bytes(), calls)
@@ -87,9 +76,7 @@ fn read_text<C: CpuClock>(
     alloc: Global,
     text: &[u8],
     calls: u32,
-) -> Result<Cost, BenchFault>
-    ensures { IfOk result (λ cost. cost.calls ≡ calls) }
-{
+) -> Result<Cost, BenchFault> {
     let start = clock.thread_cpu_time()?;
     let script = read_script(alloc, text)?;
     let cost = Cost::since(clock, start, calls, text.len() as u64)?;
@@ -100,9 +87,7 @@ fn read_text<C: CpuClock>(
     }
 }
 
-fn calls_of(events: &[Event]) -> Result<u32, BenchFault>
-    ensures { IfOk result (λ calls. calls ≡ length events.now) }
-{
+fn calls_of(events: &[Event]) -> Result<u32, BenchFault> {
     match u32::try_from(events.len()) {
         Ok(calls) => Ok(calls),
         Err(_) => Err(BenchFault::Unexpected),

@@ -1,7 +1,5 @@
 //! What a join into one slot costs.
 
-ghost use Rattle.std.specs.Prelude.{◌≡◌, IfOk};
-
 use crate::cost::Cost;
 use crate::fault::BenchFault;
 use crate::messages::ENDPOINT;
@@ -44,9 +42,7 @@ impl SlotCall {
         clock: &C,
         alloc: Global,
         count: u32,
-    ) -> Result<Cost, BenchFault>
-        ensures { IfOk result (λ cost. cost.calls ≡ count) }
-    {
+    ) -> Result<Cost, BenchFault> {
         let mut slot = atom(alloc, operation(endpoint(alloc)?, FIRST, update()))?;
         self.cost(clock, alloc, &mut slot, count)
     }
@@ -57,9 +53,7 @@ impl SlotCall {
         alloc: Global,
         slot: &mut Slot,
         count: u32,
-    ) -> Result<Cost, BenchFault>
-        ensures { IfOk result (λ cost. cost.calls ≡ count) }
-    {
+    ) -> Result<Cost, BenchFault> {
         let start = clock.thread_cpu_time()?;
         for place in 0..count {
             slot.join_with(self.atom(alloc, place)?)?;

@@ -1,4 +1,0 @@
-pub mod Calls
-pub mod Cost
-pub mod Names
-pub mod Row
