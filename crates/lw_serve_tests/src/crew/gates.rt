@@ -33,6 +33,16 @@ impl Count {
         }
         false
     }
+
+    /// Counts one, and waits until all three of its round are counted. What waits in vain is counted too. Gives how
+    /// many there were before the round.
+    fn meet<C: Clock>(&self, clock: &C, lost: &Count) -> u64 {
+        let first = first_of_round(self.add_one());
+        if lost.get() == 0 && !self.comes_to(clock, first.wrapping_add(3)) {
+            lost.add_one();
+        }
+        first
+    }
 }
 
 /// For each of nine jobs, the sum of what was told of it.
@@ -107,15 +117,6 @@ impl<'a, C: Clock + Sync> Rounds<'a, C> {
         })
     }
 
-    /// Counts one more, and waits until all of its round are counted. Gives the first job of the round.
-    fn meet(&self, count: &Count) -> u64 {
-        let first = first_of_round(count.add_one());
-        if self.lost.get() == 0 && !count.comes_to(self.clock, first.wrapping_add(3)) {
-            self.lost.add_one();
-        }
-        first
-    }
-
     /// How many waited in vain; of how many jobs the worker that was noted has the pass that made the call; and for how
     /// many that pass was told inside, and when it was answered.
     fn counts(&self, dones: &[Done]) -> (u64, u64, u64, u64) {
@@ -140,7 +141,7 @@ fn job_at(first: u64, node: u16) -> u64 {
 
 impl<C: Clock + Sync> Gate for Rounds<'_, C> {
     fn start(&self, worker: u32, job: u64) -> bool {
-        let first = self.meet(&self.started);
+        let first = self.started.meet(self.clock, &self.lost);
         // A job of another round is not noted.
         if first_of_round(job) == first {
             self.workers.add(job, u64::from(worker).wrapping_add(1));
@@ -149,7 +150,7 @@ impl<C: Clock + Sync> Gate for Rounds<'_, C> {
     }
 
     fn inside(&self, node: u16, pass: u32) {
-        let job = job_at(self.meet(&self.inside), node);
+        let job = job_at(self.inside.meet(self.clock, &self.lost), node);
         self.passes_inside.add(job, u64::from(pass).wrapping_add(1));
     }
 
