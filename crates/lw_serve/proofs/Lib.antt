@@ -1,3 +1,4 @@
 mod Causes
 mod JobLemmas
 mod Numbering
+mod Reaching

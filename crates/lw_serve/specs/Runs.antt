@@ -63,12 +63,12 @@ pub record IsFinished (shelves : List Shelf) (passes : List Transcript) (kept : 
   pub served : Serves shelves passes last kept dones
   pub settled : AreSettled shelves last
 
--- The kept merges are done, and the passes are then not settled, first at that node and place.
-pub record IsRefused (shelves : List Shelf) (passes : List Transcript) (kept : List Job) (unsettled : Unsettled) : Type 0 where
+-- The kept merges are done, and the passes are then not settled, first at the node and place that are told.
+pub record IsRefused (shelves : List Shelf) (passes : List Transcript) (kept : List Job) (told : Unsettled) : Type 0 where
   pub last : List Transcript
   pub dones : List Done
   pub served : Serves shelves passes last kept dones
-  pub unsettled : IsUnsettled shelves last unsettled
+  pub unsettled : IsUnsettled shelves last told
 
 -- The plan was served whole: its rounds are over, and the passes that served them are settled with their nodes.
 pub record IsServed (plan : Plan) : Type 0 where
@@ -79,12 +79,12 @@ pub record IsServed (plan : Plan) : Type 0 where
   pub finished : IsFinished shelves passes kept
 
 -- The rounds of the plan are over, and the passes that served them are not settled with their nodes.
-pub record IsUnserved (plan : Plan) (unsettled : Unsettled) : Type 0 where
+pub record IsUnserved (plan : Plan) (told : Unsettled) : Type 0 where
   pub shelves : List Shelf
   pub passes : List Transcript
   pub kept : List Job
   pub over : AreOver plan shelves passes kept
-  pub refused : IsRefused shelves passes kept unsettled
+  pub refused : IsRefused shelves passes kept told
 
 -- ---- what ends a run early
 -- what may end the receiving of a batch: a wire that fails, or want of memory
