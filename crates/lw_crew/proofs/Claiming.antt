@@ -13,7 +13,7 @@ use Rattle.lw_crew.specs.declared.job.Job.{Job}
 use Rattle.lw_crew.specs.declared.job.Done.{Done}
 use Rattle.lw_crew.specs.declared.job.Outcome.{Outcome}
 use Rattle.lw_crew.specs.declared.job.Outcome.TheVariants.{At, NoMemory, NoSuchNode}
-use Rattle.lw_crew.specs.Claims.{AreTrueBelow, Claims, Holds, IsAt, IsLast, IsTold, MayBeTold, MayClaim, MayHold}
+use Rattle.lw_crew.specs.Claims.{AreTrueBelow, Claims, Holds, IsAt, IsTold, MayBeTold, MayClaim, MayHold}
 use Rattle.lw_crew.specs.Jobs.{AreTrue, HasMade, IsGained, IsOutcome, IsPartOf}
 use Rattle.lw_crew.specs.Refusals.{AreTrueTo, IsTrueAt}
 use Rattle.lw_crew.proofs.Slots.{equal_or_not, same_some}
