@@ -1,9 +1,9 @@
 -- Results that are held against transcripts one by one.
-use Rattle.std.proofs.Common.{◌≡◌, ℕ, ◌+◌, ◌<◌, ◌≤◌, List, length, Some, refl, sym, ap, ◌∙◌, subst, inl, inr, arith}
+use Rattle.std.proofs.Common.{◌≡◌, ℕ, ◌+◌, ◌<◌, ◌≤◌, List, length, Some, refl, sym, ap, ◌∙◌, subst, ◌⊎◌, inl, inr, arith}
 use Rattle.std.specs.Prelude.{set, slice_get, slice_index}
-use Rattle.std.proofs.Math.ListN.{length-set}
+use Rattle.std.proofs.Math.ListN.{get_or, length-set}
 use Rattle.std.proofs.lemmas.List.{get_or-set_same, get_or-set_other}
-use Rattle.std.proofs.lemmas.Option.{slice_get_within}
+use Rattle.std.proofs.lemmas.Option.{get_or_from_slice_get, slice_get_within}
 use Rattle.std.proofs.lemmas.Bool.{cases_lt}
 use borrow.Author.Count.{below_more}
 use Rattle.lw_held.specs.declared.shelf.Shelf.{Shelf}
@@ -13,8 +13,9 @@ use Rattle.lw_crew.specs.declared.job.Job.{Job}
 use Rattle.lw_crew.specs.declared.job.Done.{Done}
 use Rattle.lw_crew.specs.declared.job.Outcome.{Outcome}
 use Rattle.lw_crew.specs.declared.job.Outcome.TheVariants.{At, NoMemory, NoSuchNode}
-use Rattle.lw_crew.specs.Claims.{AreTrueBelow, Claims, Holds, IsAt, IsTold}
-use Rattle.lw_crew.specs.Jobs.{AreTrue, IsOutcome, IsPartOf}
+use Rattle.lw_crew.specs.Claims.{AreTrueBelow, Claims, Holds, IsAt, IsTold, MayBeTold, MayClaim, MayHold}
+use Rattle.lw_crew.specs.Jobs.{AreTrue, HasMade, IsGained, IsOutcome, IsPartOf}
+use Rattle.lw_crew.specs.Refusals.{AreTrueTo, IsTrueAt}
 use Rattle.lw_crew.proofs.Slots.{equal_or_not, same_some}
 
 -- ---- one result more
@@ -24,8 +25,9 @@ pub record Rises (old new : List ℕ) (after : List Transcript) (outcome : Outco
   pub up : (i : ℕ) → slice_index old i ≤ slice_index new i
   pub free : (pass number place : ℕ) → IsPartOf outcome pass number → IsAt after pass place → slice_index old place ≤ number
   pub taken : (pass number place : ℕ) → IsPartOf outcome pass number → IsAt after pass place → number < slice_index new place
+  pub last : (place : ℕ) → (slice_index new place ≡ slice_index old place) ⊎ ((pass : ℕ) × (number : ℕ) × IsPartOf outcome pass number × IsAt after pass place × (slice_index new place ≡ number + 1))
 
-one_place : (after : List Transcript) (pass i k : ℕ) → AreDistinct after → IsAt after pass i → IsAt after pass k → i ≡ k
+pub one_place : (after : List Transcript) (pass i k : ℕ) → AreDistinct after → IsAt after pass i → IsAt after pass k → i ≡ k
 one_place after pass i k distinct one other = distinct i k one.pass other.pass one.is other.is (one.number_is ∙ sym other.number_is)
 
 claims_rise : (old new : List ℕ) (after : List Transcript) (job : Job) (pass number : ℕ) → length old ≡ length after → AreDistinct after → Claims old new after job pass number → Rises old new after (At pass number)
@@ -42,6 +44,7 @@ claims_rise old new after job pass number len distinct claim = record {
       let set_here : slice_index (set old claim.place (number + 1)) claim.place ≡ number + 1 = get_or-set_same old claim.place (number + 1) 0 within in
       let new_here : slice_index new place ≡ number + 1 = subst (λ p. slice_index new p ≡ number + 1) same (ap (λ ns. slice_index ns claim.place) claim.next ∙ set_here) in
       omega (arith, new_here, is.1);
+  last = λ place. subst (λ ns. (slice_index ns place ≡ slice_index old place) ⊎ ((of : ℕ) × (at : ℕ) × IsPartOf (At pass number) of at × IsAt after of place × (slice_index ns place ≡ at + 1))) (sym claim.next) (last place);
 }
   where
     within : claim.place < length old
@@ -59,12 +62,21 @@ claims_rise old new after job pass number len distinct claim = record {
           omega (arith, same)
     ]
 
+    last : (place : ℕ) → (slice_index (set old claim.place (number + 1)) place ≡ slice_index old place) ⊎ ((of : ℕ) × (at : ℕ) × IsPartOf (At pass number) of at × IsAt after of place × (slice_index (set old claim.place (number + 1)) place ≡ at + 1))
+    last place = elim (equal_or_not place claim.place) [
+      | inl e ↦
+          let high : slice_index (set old claim.place (number + 1)) place ≡ number + 1 = subst (λ p. slice_index (set old claim.place (number + 1)) p ≡ number + 1) (sym e) (get_or-set_same old claim.place (number + 1) 0 within) in
+          inr (pass, number, (refl, refl), subst (λ p. IsAt after pass p) (sym e) claim.at, high)
+      | inr n ↦ inl (get_or-set_other old claim.place place (number + 1) 0 n)
+    ]
+
 stays : (old new : List ℕ) (after : List Transcript) (outcome : Outcome) → ((pass number : ℕ) → ¬ IsPartOf outcome pass number) → new ≡ old → Rises old new after outcome
 stays old new after outcome none same = record {
   len = ap length same;
   up = λ i. let e : slice_index new i ≡ slice_index old i = ap (λ ns. slice_index ns i) same in omega (arith, e);
   free = λ pass number place is found. absurd (none pass number is);
   taken = λ pass number place is found. absurd (none pass number is);
+  last = λ place. inl (ap (λ ns. slice_index ns place) same);
 }
 
 rises : (shelves : List Shelf) (old new : List ℕ) (after : List Transcript) (job : Job) (outcome : Outcome) → length old ≡ length after → AreDistinct after → Holds shelves old new after job outcome → Rises old new after outcome
@@ -94,7 +106,8 @@ none_yet shelves before after jobs dones = record {
   above = λ i. omega arith;
   each = λ i done l. absurd (omega (arith, l));
   behind = λ i place pass number done l. absurd (omega (arith, l));
-  apart = λ i k pass number one other l m. absurd (omega (arith, m));
+  rising = λ i k pass number more one other l m. absurd (omega (arith, m));
+  last = λ place. inl refl;
 }
 
 -- the pass of a part that a result tells of is there
@@ -116,15 +129,22 @@ one_more shelves before old new after jobs dones n done len distinct item told k
       (λ j m y there part. (let a = known.behind j place pass number y m there part has in let b = rise.up place in omega (arith, a, b)))
       (λ y there part. rise.taken pass number place (subst (λ (z : Done). IsPartOf z.result pass number) (sym (same_some done y _ item there)) part) has)
       i l x at is;
-  apart = λ i k pass number one other l m at there first second. below_more (λ j. i < j → (y : Done) → slice_get dones j ≡ Some y → IsPartOf y.result pass number → ⊥) n
-      (λ j less under y where_ part. known.apart i j pass number one y under less at where_ first part)
+  rising = λ i k pass number more one other l m at there first second. below_more (λ j. i < j → (y : Done) → slice_get dones j ≡ Some y → IsPartOf y.result pass more → number < more) n
+      (λ j less under y where_ part. known.rising i j pass number more one y under less at where_ first part)
       (λ under y where_ part.
-      let mine : IsPartOf done.result pass number = subst (λ (z : Done). IsPartOf z.result pass number) (sym (same_some done y _ item where_)) part in
-      let place = found shelves old new after told.job done.result pass number told.holds mine in
-      let low = rise.free pass number place.0 mine place.1 in
+      let mine : IsPartOf done.result pass more = subst (λ (z : Done). IsPartOf z.result pass more) (sym (same_some done y _ item where_)) part in
+      let place = found shelves old new after told.job done.result pass more told.holds mine in
+      let low = rise.free pass more place.0 mine place.1 in
       let high = known.behind i place.0 pass number one under at first place.1 in
       omega (arith, low, high))
       k m l other there second;
+  last = λ place. elim (rise.last place) [
+    | inl same ↦ elim (known.last place) [
+      | inl first ↦ inl (same ∙ first)
+      | inr w ↦ inr (record { i = w.i; done = w.done; pass = w.pass; number = w.number; below = (let l = w.below in omega (arith, l)); at = w.at; told = w.told; there = w.there; next_is = same ∙ w.next_is })
+    ]
+    | inr w ↦ inr (record { i = n; done = done; pass = w.0; number = w.1; below = omega arith; at = item; told = w.2; there = w.3; next_is = w.4 })
+  ];
 }
   where
     rise : Rises old new after done.result
@@ -135,9 +155,9 @@ pub all_true : (shelves : List Shelf) (before next : List ℕ) (after : List Tra
 all_true shelves before next after jobs dones n whole known = record {
   each = λ i done at. known.each i done (inside i done at) at;
   apart = λ i k pass number one other at there first second. elim (cases_lt i k) [
-    | inl l ↦ absurd (known.apart i k pass number one other l (inside k other there) at there first second)
+    | inl l ↦ (let less : number < number = known.rising i k pass number number one other l (inside k other there) at there first second in absurd (omega (arith, less)))
     | inr l ↦ elim (cases_lt k i) [
-      | inl m ↦ absurd (known.apart k i pass number other one m (inside i one at) there at second first)
+      | inl m ↦ (let less : number < number = known.rising k i pass number number other one m (inside i one at) there at second first in absurd (omega (arith, less)))
       | inr m ↦ omega (arith, l, m)
     ]
   ];
@@ -145,3 +165,62 @@ all_true shelves before next after jobs dones n whole known = record {
   where
     inside : (i : ℕ) (done : Done) → slice_get dones i ≡ Some done → i < n
     inside i done at = let l = slice_get_within dones i done at in omega (arith, l, whole)
+
+pub each_true : (shelves : List Shelf) (before next : List ℕ) (after : List Transcript) (jobs : List Job) (dones : List Done) (n m : ℕ) → m ≤ n → AreTrueBelow shelves before next after jobs dones n → AreTrueTo shelves before after jobs dones m
+each_true shelves before next after jobs dones n m low known = λ i done l at.
+    let under : i < n = omega (arith, l, low) in
+    let w = known.each i done under at in
+    record {
+      job = w.0;
+      is = w.1;
+      outcome = w.2;
+      later = λ k pass earlier number other less there one two. known.rising k i pass earlier number other done less under there at one two;
+    }
+
+-- ---- what is true is told
+may_hold : (shelves : List Shelf) (before next : List ℕ) (after : List Transcript) (jobs : List Job) (dones : List Done) (n : ℕ) (job : Job) (outcome : Outcome) → AreTrueBelow shelves before next after jobs dones n
+    → IsOutcome shelves before after job outcome
+    → ((k pass earlier number : ℕ) (other : Done) → k < n → slice_get dones k ≡ Some other → IsPartOf other.result pass earlier → IsPartOf outcome pass number → earlier < number)
+    → MayHold shelves next after job outcome
+may_hold shelves before next after jobs dones n job NoMemory known is later = is
+may_hold shelves before next after jobs dones n job NoSuchNode known is later = is
+may_hold shelves before next after jobs dones n job (At pass number) known is later = (is.0, record { place = gain.place; at = here; free = free; made = gain.made })
+  where
+    gain : IsGained before after job pass number
+    gain = is.1
+
+    here : IsAt after pass gain.place
+    here = record { pass = gain.gainer; is = gain.is; number_is = gain.pass_is }
+
+    free : slice_index next gain.place ≤ number
+    free = elim (known.last gain.place) [
+      | inl same ↦ (let low = gain.beyond in omega (arith, same, low))
+      | inr w ↦
+          let same : w.there.pass ≡ gain.gainer = same_some w.there.pass gain.gainer _ w.there.is gain.is in
+          let of : pass ≡ w.pass = sym gain.pass_is ∙ ap (λ (t : Transcript). t.number) (sym same) ∙ w.there.number_is in
+          let less : w.number < number = later w.i w.pass w.number number w.done w.below w.at w.told (of, refl) in
+          let high = w.next_is in
+          omega (arith, less, high)
+    ]
+
+pub may_be_told : (shelves : List Shelf) (before next : List ℕ) (after : List Transcript) (jobs : List Job) (dones : List Done) (n : ℕ) (done : Done) → AreTrueBelow shelves before next after jobs dones n → IsTrueAt shelves before after jobs dones n done → MayBeTold shelves next after jobs done
+may_be_told shelves before next after jobs dones n done known is = record {
+  job = is.job;
+  is = is.is;
+  holds = may_hold shelves before next after jobs dones n is.job done.result known is.outcome is.later;
+}
+
+-- ---- a part that cannot be claimed
+pub no_claim_below : (old : List ℕ) (after : List Transcript) (job : Job) (pass number place : ℕ) → AreDistinct after → IsAt after pass place → number < slice_index old place → ¬ MayClaim old after job pass number
+no_claim_below old after job pass number place distinct at low may =
+    let same : may.place ≡ place = one_place after pass may.place place distinct may.at at in
+    let free : slice_index old may.place ≤ number = may.free in
+    let here : slice_index old place ≤ number = subst (λ p. slice_index old p ≤ number) same free in
+    omega (arith, here, low)
+
+pub may_made : (old : List ℕ) (after : List Transcript) (job : Job) (pass number place : ℕ) (made : Transcript) → AreDistinct after → IsAt after pass place → made ≡ get_or after place made → MayClaim old after job pass number → HasMade made number job
+may_made old after job pass number place made distinct at is may =
+    let same : may.place ≡ place = one_place after pass may.place place distinct may.at at in
+    let here : slice_get after place ≡ Some may.at.pass = subst (λ p. slice_get after p ≡ Some may.at.pass) same may.at.is in
+    let e : made ≡ may.at.pass = is ∙ get_or_from_slice_get after place may.at.pass made here in
+    subst (λ (t : Transcript). HasMade t number job) (sym e) may.made

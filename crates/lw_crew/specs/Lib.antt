@@ -3,3 +3,4 @@ pub mod Jobs
 pub mod Gather
 pub mod Filling
 pub mod Claims
+pub mod Refusals

@@ -9,6 +9,8 @@ use std::alloc::Global;
 
 /// The results of the jobs with the numbers below the count, in the order of the jobs. The first result that is of no
 /// job, or the second of one, comes before the least job that has none.
+///
+/// It takes room for a result for each job below the count at once, however few the results are.
 pub fn gather(alloc: Global, count: u64, dones: Vec<Done>) -> Result<Vec<Done>, CrewFault>
     ensures ok { IfOk result (λ gathered. IsGathered count dones.items gathered.items) }
     ensures err { IfErr result (λ fault. IsFault count dones.items fault) }

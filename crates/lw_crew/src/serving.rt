@@ -1,10 +1,12 @@
 //! Jobs done by workers.
 
-ghost use Rattle.std.specs.Prelude.{◌≡◌, ◌≤◌, length, vec_len, IfOk};
+ghost use Rattle.std.specs.Prelude.{◌≡◌, ◌↔◌, ◌≤◌, List, length, vec_len, IfErr, IfOk, IsTrue};
 ghost use Rattle.lw_held.specs.Agree.{AreDistinct};
 ghost use Rattle.lw_held.specs.Shelves.{AreInOrder};
 ghost use Rattle.lw_crew.specs.Continues.{AllContinue};
 ghost use Rattle.lw_crew.specs.Jobs.{AreDone, lengths};
+ghost use Rattle.lw_crew.specs.Refusals.{IsMissing, IsRefused};
+ghost use Rattle.lw_crew.specs.declared.job.Done.{Done as Told};
 
 use crate::board::Board;
 use crate::gathering::gather;
@@ -20,6 +22,9 @@ use std::thread::Threads;
 /// Has the jobs done by one worker for each pass, the first on the thread that calls and each other on its own. The jobs
 /// are handed out in order. A worker that the gate stops does not do the job that it holds, and one that cannot be
 /// started does none. The passes come back with each call that was made, whatever the result is.
+///
+/// Whatever was told of the jobs, the first result that is not true of the passes is a stranger, and the first that is the
+/// second of its job a double. The one that comes first is the fault, and else the least job without a result.
 pub fn serve_jobs<R: Threads + Wait + Sync, G: Gate>(
     rt: &R,
     alloc: Global,
@@ -34,6 +39,8 @@ pub fn serve_jobs<R: Threads + Wait + Sync, G: Gate>(
     ensures passes { AllContinue passes.items result.0.items }
     ensures distinct { AreDistinct result.0.items }
     ensures done { IfOk result.1 (λ dones. AreDone shelves.now (lengths passes.items) result.0.items jobs.now dones.items) }
+    // The list is what the channel brought, of which nothing is known.
+    ensures refused { IfErr result.1 (λ fault. (told : List Told) × IsRefused shelves.now (lengths passes.items) result.0.items jobs.now told fault) }
 {
     let Ok(before) = lengths_of(alloc, &passes) else {
         return (passes, Err(CrewFault::NoMemory));
@@ -82,7 +89,8 @@ fn checked(
     requires shelves { AreInOrder shelves.now }
     requires before { vec_len before ≡ length after.now }
     requires distinct { AreDistinct after.now }
-    ensures { IfOk result (λ all. AreDone shelves.now before.items after.now jobs.now all.items) }
+    ensures ok { IfOk result (λ all. AreDone shelves.now before.items after.now jobs.now all.items) }
+    ensures err { IfErr result (λ fault. IsRefused shelves.now before.items after.now jobs.now dones.items fault) }
 {
     let count = jobs.len() as u64;
     let Some(place) = first_untrue(shelves, &mut before, after, jobs, &dones) else {
@@ -93,7 +101,21 @@ fn checked(
     };
     dones.truncate(place);
     match gather(alloc, count, dones) {
-        Ok(_) | Err(CrewFault::Missing { .. }) => Err(stranger),
-        Err(earlier) => Err(earlier),
+        Ok(_) => Err(stranger),
+        Err(earlier) => Err(if is_missing(earlier) {
+            stranger
+        } else {
+            earlier
+        }),
+    }
+}
+
+/// Whether the fault is that a job has no result.
+fn is_missing(fault: CrewFault) -> bool
+    ensures { IsTrue result ↔ IsMissing fault }
+{
+    match fault {
+        CrewFault::Missing { .. } => true,
+        CrewFault::Double { .. } | CrewFault::Stranger { .. } | CrewFault::NoMemory => false,
     }
 }

@@ -1,10 +1,11 @@
 //! Whether what is told of jobs is so.
 
-ghost use Rattle.std.specs.Prelude.{◌≡◌, ◌↔◌, ◌<◌, length, slice_get, IfNone, IfOk, IfSome, IsSome, IsTrue, option_copied};
+ghost use Rattle.std.specs.Prelude.{◌≡◌, ◌↔◌, ℕ, ◌<◌, length, slice_get, IfNone, IfOk, IfSome, IsSome, IsTrue, option_copied};
 ghost use Rattle.lw_held.specs.Agree.{AreDistinct};
 ghost use Rattle.lw_held.specs.Shelves.{AreInOrder};
 ghost use Rattle.lw_crew.specs.Jobs.{AreTrue, HasMade, HasShelf, lengths};
-ghost use Rattle.lw_crew.specs.Claims.{Claims, IsAt, IsTold};
+ghost use Rattle.lw_crew.specs.Claims.{Claims, IsAt, IsTold, MayBeTold, MayClaim};
+ghost use Rattle.lw_crew.specs.Refusals.{AreTrueTo, IsFirstUntrue};
 
 use crate::job::{Done, Job, Outcome};
 use lw_held::{Pass, Shelf};
@@ -32,9 +33,17 @@ pub(crate) fn shelf_of(shelves: &[Shelf], node: u16) -> Option<&Shelf>
     shelves.get(node as usize - 1)
 }
 
+/// Whether a shelf has the node, among shelves in order.
+fn has_shelf(shelves: &[Shelf], node: u16) -> bool
+    requires { AreInOrder shelves.now }
+    ensures { IsTrue result ↔ HasShelf shelves.now node }
+{
+    shelf_of(shelves, node).is_some()
+}
+
 /// Whether the pass has the part, of the job's node and with its call.
 fn has_made(pass: &Pass, number: u64, job: &Job) -> bool
-    ensures { IsTrue result → HasMade pass.now number job.now }
+    ensures { IsTrue result ↔ HasMade pass.now number job.now }
 {
     match pass.part(number) {
         Some(part) => part.node == job.node && part.entry.call.same(&job.call),
@@ -44,7 +53,8 @@ fn has_made(pass: &Pass, number: u64, job: &Job) -> bool
 
 /// The place of the pass with the number.
 fn place_of(passes: &[Pass], number: u32) -> Option<usize>
-    ensures { IfSome result (λ place. IsAt passes.now number place) }
+    ensures found { IfSome result (λ place. IsAt passes.now number place) }
+    ensures none { IfNone result ((place : ℕ) → ¬ IsAt passes.now number place) }
 {
     for place in 0..passes.len() {
         if passes[place].number() == number {
@@ -56,14 +66,22 @@ fn place_of(passes: &[Pass], number: u32) -> Option<usize>
 
 /// Whether the pass has the part, and none of its parts from there on was claimed. Then it is claimed.
 fn claim(next: &mut [u64], after: &[Pass], job: &Job, pass: u32, number: u64) -> bool
-    requires { length next.old ≡ length after.now }
-    ensures { IsTrue result → Claims next.old next.new after.now job.now pass number }
+    requires next { length next.old ≡ length after.now }
+    requires passes { AreDistinct after.now }
+    ensures claimed { IsTrue result → Claims next.old next.new after.now job.now pass number }
+    ensures refused { (¬ IsTrue result) → ¬ MayClaim next.old after.now job.now pass number }
 {
     let Some(place) = place_of(after, pass) else {
         return false;
     };
     let made = &after[place];
-    if number < next[place] || number >= made.len() || !has_made(made, number, job) {
+    if number < next[place] {
+        return false;
+    }
+    if number >= made.len() {
+        return false;
+    }
+    if !has_made(made, number, job) {
         return false;
     }
     next[place] = number + 1;
@@ -74,12 +92,14 @@ fn claim(next: &mut [u64], after: &[Pass], job: &Job, pass: u32, number: u64) ->
 fn is_told(shelves: &[Shelf], next: &mut [u64], after: &[Pass], jobs: &[Job], done: Done) -> bool
     requires shelves { AreInOrder shelves.now }
     requires next { length next.old ≡ length after.now }
-    ensures { IsTrue result → IsTold shelves.now next.old next.new after.now jobs.now done }
+    requires passes { AreDistinct after.now }
+    ensures told { IsTrue result → IsTold shelves.now next.old next.new after.now jobs.now done }
+    ensures refused { (¬ IsTrue result) → ¬ MayBeTold shelves.now next.old after.now jobs.now done }
 {
     let Some(job) = jobs.get(done.job as usize) else {
         return false;
     };
-    let found = shelf_of(shelves, job.node).is_some();
+    let found = has_shelf(shelves, job.node);
     match done.result {
         Outcome::At { pass, number } => found && claim(next, after, job, pass, number),
         Outcome::NoMemory => found,
@@ -87,8 +107,8 @@ fn is_told(shelves: &[Shelf], next: &mut [u64], after: &[Pass], jobs: &[Job], do
     }
 }
 
-/// The place of the first result that is not what became of its job, or tells of a part that was told of before. The
-/// numbers are how many parts the transcripts had before the jobs.
+/// The place of the first result that is not what became of its job, or tells of a part that does not come after those
+/// of its pass that were told of before. The numbers are how many parts the transcripts had before the jobs.
 pub(crate) fn first_untrue(
     shelves: &[Shelf],
     next: &mut [u64],
@@ -100,6 +120,8 @@ pub(crate) fn first_untrue(
     requires next { length next.old ≡ length after.now }
     requires passes { AreDistinct after.now }
     ensures all { IfNone result (AreTrue shelves.now next.old after.now jobs.now dones.now) }
+    ensures each { IfNone result (AreTrueTo shelves.now next.old after.now jobs.now dones.now (length dones.now)) }
+    ensures untrue { IfSome result (λ place. IsFirstUntrue shelves.now next.old after.now jobs.now dones.now place) }
     ensures within { IfSome result (λ place. place < length dones.now) }
 {
     for place in 0..dones.len() {
