@@ -1,7 +1,7 @@
 use super::{Entries, are_entries, map_of};
 use crate::hold::{holds, holds_for};
 use lw_join::*;
-use lw_stamp::{NoMemory, Stamp};
+use lw_stamp::Stamp;
 use std::alloc::Global;
 use std::test::Fail;
 
@@ -23,28 +23,24 @@ static CASES: [(Entries, Entries, Entries); 3] = [
     (&[], OTHER, OTHER),
 ];
 
-/// A map, where there is memory for it.
-fn map(alloc: Global, rows: Entries) -> Option<Parts<u16, Flag>> {
-    match map_of(alloc, rows) {
-        Ok(map) => map,
-        Err(NoMemory) => None,
-    }
+fn map(alloc: Global, rows: Entries) -> Result<Parts<u16, Flag>, Fail> {
+    Ok(map_of(alloc, rows)?.ok_or("rising keys")?)
 }
 
 /// Whether a map is joined or left, where there is memory for both.
-fn is_joined_or_left(alloc: Global, case: (Entries, Entries, Entries)) -> Option<bool> {
+fn is_joined_or_left(alloc: Global, case: (Entries, Entries, Entries)) -> Result<bool, Fail> {
     let (before, other, after) = case;
     let mut left = map(alloc, before)?;
     let right = map(alloc, other)?;
     let is_joined = left.join_with(right).is_ok();
     let wanted = if is_joined { after } else { before };
-    Some(are_entries(left.entries(), wanted))
+    Ok(are_entries(left.entries(), wanted))
 }
 
 #[test]
 fn a_refused_join_leaves_a_map_as_it_was(rt: HostRuntime) -> Result<(), Fail> {
     for case in &CASES {
-        holds_for(case, is_joined_or_left(rt.alloc(), *case) != Some(false))?;
+        holds_for(case, is_joined_or_left(rt.alloc(), *case)?)?;
     }
     Ok(())
 }
@@ -52,10 +48,10 @@ fn a_refused_join_leaves_a_map_as_it_was(rt: HostRuntime) -> Result<(), Fail> {
 /// A stamped map beside a flag.
 type Beside = (Lex<OrGone<Parts<u16, Flag>>>, Flag);
 
-fn beside(alloc: Global, rows: Entries, raised: bool) -> Option<Beside> {
+fn beside(alloc: Global, rows: Entries, raised: bool) -> Result<Beside, Fail> {
     let value = OrGone::Here(map(alloc, rows)?);
     let stamp = EARLY;
-    Some((Lex { stamp, value }, Flag { raised }))
+    Ok((Lex { stamp, value }, Flag { raised }))
 }
 
 fn has(left: &Beside, entries: Entries, raised: bool) -> bool {
@@ -67,16 +63,15 @@ fn has(left: &Beside, entries: Entries, raised: bool) -> bool {
     }
 }
 
-fn is_beside_joined_or_left(alloc: Global) -> Option<bool> {
+fn is_beside_joined_or_left(alloc: Global) -> Result<bool, Fail> {
     let mut left = beside(alloc, BEFORE, false)?;
     let right = beside(alloc, OTHER, true)?;
     let is_joined = left.join_with(right).is_ok();
     let wanted = if is_joined { AFTER } else { BEFORE };
-    Some(has(&left, wanted, is_joined))
+    Ok(has(&left, wanted, is_joined))
 }
 
 #[test]
 fn a_refused_join_leaves_a_map_beside_and_behind_others(rt: HostRuntime) -> Result<(), Fail> {
-    let is_joined = is_beside_joined_or_left(rt.alloc());
-    holds("stamped, in a pair", is_joined != Some(false))
+    holds("stamped, in a pair", is_beside_joined_or_left(rt.alloc())?)
 }
