@@ -15,6 +15,7 @@ use Rattle.lw_join.specs.GreaterLaws.{at_most_refl, at_most_trans, at_most_antis
 use Rattle.lw_join.specs.Options.{option_join}
 use Rattle.lw_join.specs.Keyed.{keyed_join}
 use Rattle.lw_join.specs.Once.{once_join}
+use Rattle.lw_join.specs.Last.{last_join}
 use Rattle.lw_join.specs.Lww.{lww_join, write_cmp}
 use Rattle.lw_join.specs.LwwLaws.{write_order}
 use Rattle.lw_join.specs.Lex.{lex_join, lex_pair, lex_of}
@@ -24,11 +25,12 @@ use Rattle.lw_join.specs.EntriesLaws.{turned, same_key}
 use Rattle.lw_join.specs.Parts.{entries_of, parts_join, value_at}
 use Rattle.lw_join.specs.PartsLaws.{value_at-join, same_values}
 use Rattle.lw_join.specs.declared.once.Once.{Once}
+use Rattle.lw_join.specs.declared.last.Last.{Last}
 use Rattle.lw_join.specs.declared.lww.Lww.{Lww}
 use Rattle.lw_join.specs.declared.or_gone.OrGone.{OrGone}
 use Rattle.lw_join.specs.declared.or_gone.OrGone.TheVariants.{Here, Gone}
 use Rattle.lw_join.specs.declared.parts.Parts.{Parts}
-use Rattle.lw_join.specs.Facets.{Either, IsFacet, TellsSome, Through, OptionTells, KeyedTells, OnceTells, LwwTells, LexTells, GoneTells, PartsTells}
+use Rattle.lw_join.specs.Facets.{Either, IsFacet, TellsSome, Through, OptionTells, KeyedTells, OnceTells, LwwTells, LastTells, LexTells, GoneTells, PartsTells}
 
 -- nothing in the left, nothing in the right
 left_empty : {T : Type 0} (P Q : T → Type 0) → ((t : T) → ¬ P t) → (t : T) → Q t ↔ Either P Q t
@@ -123,6 +125,12 @@ once_facet {V} {cmp} order = facet_along (λ (x : Once V). x.value) (λ o. recor
 
 pub lww_facet : {V : Type 0} {cmp : V → V → Ordering} → IsExactOrder cmp → IsFacet (lww_join cmp) (LwwTells cmp)
 lww_facet {V} {cmp} order = facet_along (λ (x : Lww V). x.write) (λ o. record { write = o }) (λ s. refl) (λ t. refl) (option_facet (greatest_facet (write_order order)) (greatest_some (write_cmp cmp)))
+
+pub last_facet : {V : Type 0} {cmp : V → V → Ordering} → IsExactOrder cmp → IsFacet (last_join cmp) (LastTells cmp)
+last_facet {V} {cmp} order = facet_along (λ (x : Last V). x.write) (λ w. record { write = w }) (λ s. refl) (λ t. refl) (greatest_facet (write_order order))
+
+pub last_some : {V : Type 0} (cmp : V → V → Ordering) → TellsSome (LastTells cmp)
+last_some cmp = record { some = λ P x g. (x.write, g.member) }
 
 -- ---- gone, where t is in the set
 module _ {T J : Type 0} {join : J → J → J} {R : (T → Type 0) → J → Type 0} (t : T) (r : IsFacet join R) where

@@ -2,6 +2,7 @@ pub mod Search
 pub mod MapLemmas
 pub mod Lookups
 pub mod Edits
+pub mod Each
 pub mod Greatest
 pub mod JoinedParts
 pub mod FacetLemmas

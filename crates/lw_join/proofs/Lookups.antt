@@ -1,11 +1,11 @@
 -- What a look-up in entries whose keys rise finds.
-use Rattle.std.proofs.Common.{◌≡◌, ℕ, zero, suc, ◌<◌, ◌≤◌, List, [], ◌∷◌, length, get_or, Bool, true, false, cond, Some, None, refl, sym, ap, ◌∙◌, subst, arith}
+use Rattle.std.proofs.Common.{◌≡◌, ℕ, zero, suc, ◌<◌, ◌≤◌, List, [], ◌∷◌, length, get_or, Bool, true, false, cond, Option, Some, None, map, option_map, refl, sym, ap, ◌∙◌, subst, arith}
 use Rattle.std.specs.declared.cmp.Ordering.{Ordering}
 use Rattle.std.specs.declared.cmp.Ordering.TheVariants.{Less, Greater}
 use Rattle.std.specs.Ordering.{is_eq}
 use Rattle.lw_stamp.specs.Order.{IsExactOrder}
 use Rattle.lw_join.specs.Options.{option_below}
-use Rattle.lw_join.specs.Entries.{Rises, get, entries_below}
+use Rattle.lw_join.specs.Entries.{AllAbove, Rises, get, entries_below}
 use Rattle.lw_join.specs.EntriesLaws.{turned, same_key, get_first}
 use Rattle.lw_join.specs.Place.{IsAt, IsGap}
 use Rattle.lw_join.proofs.Search.{above_at}
@@ -49,3 +49,21 @@ module _ {K J : Type 0} {cmp : K → K → Ordering} (order : IsExactOrder cmp) 
     each_from_below xs ys k e rises lt read all =
         subst (λ (f : K × J). option_below below (Some f.1) (get cmp ys f.0)) (sym read)
         (subst (λ o. option_below below o (get cmp ys (get_or xs k e).0)) (get_at xs k e rises lt) (all (get_or xs k e).0))
+
+-- other values under the same keys
+module _ {K J L : Type 0} (cmp : K → K → Ordering) (f : J → L) where
+  get_map_by : (s : Bool) (v : J) (x : Option L) (y : Option J) → x ≡ option_map f y → cond s (Some (f v)) x ≡ option_map f (cond s (Some v) y)
+  get_map_by true v x y same = refl
+  get_map_by false v x y same = same
+
+  pub get-map : (es : List (K × J)) (k : K) → get cmp (map (λ (e : K × J). (e.0, f e.1)) es) k ≡ option_map f (get cmp es k)
+  get-map [] k = refl
+  get-map (e ∷ es) k = get_map_by (is_eq (cmp k e.0)) e.1 (get cmp (map (λ (e : K × J). (e.0, f e.1)) es) k) (get cmp es k) (get-map es k)
+
+  above_map : (k : K) (es : List (K × J)) → AllAbove cmp k es → AllAbove cmp k (map (λ (e : K × J). (e.0, f e.1)) es)
+  above_map k [] above = tt
+  above_map k (e ∷ es) above = (above.0, above_map k es above.1)
+
+  pub Rises-map : (es : List (K × J)) → Rises cmp es → Rises cmp (map (λ (e : K × J). (e.0, f e.1)) es)
+  Rises-map [] rises = tt
+  Rises-map (e ∷ es) rises = (above_map e.0 es rises.0, Rises-map es rises.1)

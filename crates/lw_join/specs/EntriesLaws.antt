@@ -47,7 +47,7 @@ pub rises_true : {K J : Type 0} (cmp : K → K → Ordering) (es : List (K × J)
 rises_true cmp [] a = refl
 rises_true cmp (e ∷ es) a = and_true (all_above cmp e.0 es) (rises cmp es) (all_above_true cmp e.0 es a.0) (rises_true cmp es a.1)
 
-some_none : {V : Type 0} {G : Type 0} (v : V) → Some v ≡ None → G
+pub some_none : {V : Type 0} {G : Type 0} (v : V) → Some v ≡ None → G
 some_none v e = cc
 
 pub join_none : {V : Type 0} (join : V → V → V) (o : Option V) → option_join join o None ≡ o
@@ -142,7 +142,7 @@ module _ {K J : Type 0} {cmp : K → K → Ordering} (order : IsExactOrder cmp) 
         ∙ get_join_by xs es e q (is_eq (cmp q e.0)) refl ry.0 (get-join xs es rx ry.1 q)
 
   -- rising entries are told apart by what their keys have
-  same_value : (x y : J) → Some x ≡ Some y → x ≡ y
+  pub same_value : (x y : J) → Some x ≡ Some y → x ≡ y
   same_value x y e = cc
 
   pub get_first : (e : K × J) (es : List (K × J)) → get cmp (e ∷ es) e.0 ≡ Some e.1

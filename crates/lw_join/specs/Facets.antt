@@ -14,6 +14,7 @@ use Rattle.lw_join.specs.Lex.{lex_pair}
 use Rattle.lw_join.specs.Parts.{value_at}
 use Rattle.lw_join.specs.declared.once.Once.{Once}
 use Rattle.lw_join.specs.declared.lww.Lww.{Lww}
+use Rattle.lw_join.specs.declared.last.Last.{Last}
 use Rattle.lw_join.specs.declared.lex.Lex.{Lex}
 use Rattle.lw_join.specs.declared.or_gone.OrGone.{OrGone}
 use Rattle.lw_join.specs.declared.or_gone.OrGone.TheVariants.{Here, Gone}
@@ -55,6 +56,10 @@ OnceTells cmp P once = OptionTells (IsGreatest cmp) P once.value
 -- the last write in the set, if there is one
 abbrev pub LwwTells : {V : Type 0} → (V → V → Ordering) → (Stamp × V → Type 0) → Lww V → Type 0
 LwwTells cmp P lww = OptionTells (IsGreatest (write_cmp cmp)) P lww.write
+
+-- the last write in the set, which is not empty
+abbrev pub LastTells : {V : Type 0} → (V → V → Ordering) → (Stamp × V → Type 0) → Last V → Type 0
+LastTells cmp P last = IsGreatest (write_cmp cmp) P last.write
 
 -- the greatest stamp of the set, and what R says of the members at that stamp
 abbrev pub LexTells : {T J : Type 0} → ((T → Type 0) → J → Type 0) → (Stamp × T → Type 0) → Lex J → Type 0

@@ -11,6 +11,8 @@ pub mod Once
 pub mod OnceLaws
 pub mod Lww
 pub mod LwwLaws
+pub mod Last
+pub mod LastLaws
 pub mod Keyed
 pub mod KeyedLaws
 pub mod Lex
@@ -23,8 +25,11 @@ pub mod Entries
 pub mod EntriesLaws
 pub mod Ends
 pub mod Place
+pub mod Room
 pub mod Parts
 pub mod PartsLaws
+pub mod Both
+pub mod BothLaws
 pub mod Facets
 pub mod Least
 pub mod Maps

@@ -3,7 +3,7 @@ ghost use Rattle.lw_join.specs.Entries.{Rises, entries_join, missing};
 
 use crate::exact::Exact;
 use crate::join::Calm;
-use crate::merge::join_entries;
+use crate::merge::{join_in, make_room};
 use lw_stamp::NoMemory;
 use std::marker::Model;
 
@@ -47,6 +47,32 @@ impl<K: Exact, J: Calm> Items<(K, J)> {
         ensures err { OnErr result (self.new ≡ self.old) }
         ensures never_refused { missing K.cmp self.old other ≡ 0 → IsOk result }
     {
-        join_entries(&mut self.items, other.items)
+        let room = make_room(&mut self.items, &other.items)?;
+        join_in(&mut self.items, other.items, room);
+        Ok(())
+    }
+
+    // Makes all room before either changes.
+    pub(crate) fn join_both<L: Exact, M: Calm>(
+        &mut self,
+        other: Items<(K, J)>,
+        right: &mut Items<(L, M)>,
+        other_right: Items<(L, M)>,
+    ) -> Result<(), NoMemory>
+        requires left { Rises K.cmp self.old }
+        requires other { Rises K.cmp other }
+        requires right { Rises L.cmp right.old }
+        requires other_right { Rises L.cmp other_right }
+        ensures left { OnOk result (self.new ≡ entries_join K.cmp J.join self.old other) }
+        ensures right { OnOk result (right.new ≡ entries_join L.cmp M.join right.old other_right) }
+        ensures left_kept { OnErr result (self.new ≡ self.old) }
+        ensures right_kept { OnErr result (right.new ≡ right.old) }
+        ensures never_refused { missing K.cmp self.old other ≡ 0 → missing L.cmp right.old other_right ≡ 0 → IsOk result }
+    {
+        let left_room = make_room(&mut self.items, &other.items)?;
+        let right_room = make_room(&mut right.items, &other_right.items)?;
+        join_in(&mut self.items, other.items, left_room);
+        join_in(&mut right.items, other_right.items, right_room);
+        Ok(())
     }
 }

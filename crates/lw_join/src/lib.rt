@@ -3,12 +3,14 @@
 //! Whatever order the values of a set arrive in, and however often, their join is one.
 #![tactic(auto)]
 
+mod both;
 mod entries;
 mod exact;
 mod flag;
 mod in_place;
 mod items;
 mod join;
+mod last;
 pub mod laws;
 mod lex;
 mod lww;
@@ -18,9 +20,11 @@ mod or_gone;
 mod pair;
 mod parts;
 
+pub use both::Both;
 pub use exact::Exact;
 pub use flag::Flag;
 pub use join::{Calm, Join};
+pub use last::Last;
 pub use lex::Lex;
 pub use lww::Lww;
 pub use once::Once;

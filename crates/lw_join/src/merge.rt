@@ -1,8 +1,9 @@
 //! The join of two maps: entry by entry where few keys are missing, and otherwise by a merge from the
 //! greatest key down, in time linear in their entries, behind one search for each entry that comes.
-ghost use Rattle.std.specs.Prelude.{◌≡◌, ◌+◌, ◌<◌, ◌≤◌, [], ◌∷◌, ◌++◌, length, vec_len, vec_capacity, IsOk, OnOk, OnErr, OnSome, IfSome, IfNone, reverse};
+ghost use Rattle.std.specs.Prelude.{◌≡◌, ◌+◌, ◌<◌, ◌≤◌, [], ◌∷◌, ◌++◌, length, vec_len, vec_capacity, IsOk, OnSome, IfOk, IfSome, IfNone, reverse};
 ghost use Rattle.lw_join.specs.Entries.{Rises, entries_join, missing};
 ghost use Rattle.lw_join.specs.Ends.{ends_cmp};
+ghost use Rattle.lw_join.specs.Room.{HasRoom};
 
 use crate::entries::count_missing;
 use crate::exact::Exact;
@@ -65,46 +66,48 @@ fn merge<K: Exact, J: Calm>(
     }
 }
 
-// Goes by a new vector with room for the entries of both.
-fn merge_entries<K: Exact, J: Calm>(
-    into: &mut Vec<(K, J)>,
-    from: Vec<(K, J)>,
-    room: usize,
-) -> Result<(), NoMemory>
-    requires left { Rises K.cmp into.old.items }
-    requires right { Rises K.cmp from.items }
-    requires room { length (entries_join K.cmp J.join into.old.items from.items) ≤ room }
-    ensures ok { OnOk result (into.new.items ≡ entries_join K.cmp J.join into.old.items from.items) }
-    ensures err { OnErr result (into.new.items ≡ into.old.items) }
-{
-    let mut joined = Vec::with_capacity(*into.allocator(), room)?;
-    merge(into, from, &mut joined);
-    joined.reverse();
-    *into = joined;
-    Ok(())
-}
-
 // The most missing keys that are inserted one by one. An insert moves at most the entries above it, and
 // at once; the merge takes each entry out, puts it in and turns the whole round, one by one.
 const MOST_INSERTS: usize = 8;
 
-// All room is made before anything changes, and none where no key is missing.
-pub(crate) fn join_entries<K: Exact, J: Calm>(
+// Makes the room for the keys that are missing, and none where none is: where they are many, in a new vector
+// with room for the entries of both.
+pub(crate) fn make_room<K: Exact, J>(
     into: &mut Vec<(K, J)>,
-    from: Vec<(K, J)>,
-) -> Result<(), NoMemory>
-    requires left { Rises K.cmp into.old.items }
-    requires right { Rises K.cmp from.items }
-    ensures ok { OnOk result (into.new.items ≡ entries_join K.cmp J.join into.old.items from.items) }
-    ensures err { OnErr result (into.new.items ≡ into.old.items) }
-    ensures never_refused { missing K.cmp into.old.items from.items ≡ 0 → IsOk result }
+    from: &[(K, J)],
+) -> Result<Option<Vec<(K, J)>>, NoMemory>
+    requires { Rises K.cmp into.old.items }
+    ensures same { into.new.items ≡ into.old.items }
+    ensures room { IfOk result (HasRoom K.cmp into.new from.now) }
+    ensures never_refused { missing K.cmp into.old.items from.now ≡ 0 → IsOk result }
 {
-    let missing = count_missing(into, &from);
+    let missing = count_missing(into, from);
     if missing > MOST_INSERTS {
-        let room = into.len().checked_add(missing).ok_or(NoMemory)?;
-        return merge_entries(into, from, room);
+        let len = into.len().checked_add(missing).ok_or(NoMemory)?;
+        let room = Vec::with_capacity(*into.allocator(), len)?;
+        return Ok(Some(room));
     }
     into.reserve(missing)?;
-    fill(into, from);
-    Ok(())
+    Ok(None)
+}
+
+// Joins in the room that was made.
+pub(crate) fn join_in<K: Exact, J: Calm>(
+    into: &mut Vec<(K, J)>,
+    from: Vec<(K, J)>,
+    room: Option<Vec<(K, J)>>,
+)
+    requires left { Rises K.cmp into.old.items }
+    requires right { Rises K.cmp from.items }
+    requires room { HasRoom K.cmp into.old from.items room }
+    ensures { into.new.items ≡ entries_join K.cmp J.join into.old.items from.items }
+{
+    match room {
+        None => fill(into, from),
+        Some(mut joined) => {
+            merge(into, from, &mut joined);
+            joined.reverse();
+            *into = joined;
+        }
+    }
 }

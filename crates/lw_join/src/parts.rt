@@ -89,6 +89,28 @@ impl<K: Exact, J: Drop> Parts<K, J> {
     }
 }
 
+impl<K: Exact, J: Calm> Parts<K, J> {
+    ghost use Rattle.std.specs.Prelude.{IsOk, OnOk, OnErr};
+    ghost use Rattle.lw_join.specs.Parts.{parts_join, parts_in_place};
+
+    // Joins two maps at once: where there is no memory for one of them, neither changes.
+    pub(crate) fn join_both<L: Exact, M: Calm>(
+        &mut self,
+        other: Parts<K, J>,
+        right: &mut Parts<L, M>,
+        other_right: Parts<L, M>,
+    ) -> Result<(), NoMemory>
+        ensures left { OnOk result (self.new ≡ parts_join J.join self.old other) }
+        ensures right { OnOk result (right.new ≡ parts_join M.join right.old other_right) }
+        ensures left_kept { OnErr result (self.new ≡ self.old) }
+        ensures right_kept { OnErr result (right.new ≡ right.old) }
+        ensures never_refused { parts_in_place self.old other → parts_in_place right.old other_right → IsOk result }
+    {
+        self.entries
+            .join_both(other.entries, &mut right.entries, other_right.entries)
+    }
+}
+
 impl<K: Exact, J: Calm> Join for Parts<K, J> {
     ghost use Rattle.lw_join.specs.Parts.{parts_below, parts_join, parts_in_place};
     ghost use Rattle.lw_join.specs.PartsLaws.{parts_laws};

@@ -116,6 +116,31 @@ fn the_last_write_wins() -> Result<(), Fail> {
     Ok(())
 }
 
+fn last((mark, value): (Mark, u16)) -> Last<u16> {
+    Last {
+        write: (mark.stamp(), value),
+    }
+}
+
+static LAST_WRITES: [Case<(Mark, u16)>; 5] = [
+    ((Third, 7), (Third, 7), true, (Third, 7)),
+    ((Third, 7), (Fourth, 3), true, (Fourth, 3)),
+    ((Fourth, 3), (Third, 7), false, (Fourth, 3)),
+    ((Fourth, 3), (Fourth, 4), true, (Fourth, 4)),
+    ((Fourth, 4), (Fourth, 3), false, (Fourth, 4)),
+];
+
+#[test]
+fn the_last_write_that_is_always_there_wins() -> Result<(), Fail> {
+    for (row, case) in LAST_WRITES.iter().enumerate() {
+        let (left, right, below, wanted) = *case;
+        let wanted = last(wanted);
+        holds_for(&row, joins_to(last(left), last(right), below, &wanted)?)?;
+        holds_for(&row, joins_calmly_to(last(left), last(right), &wanted))?;
+    }
+    Ok(())
+}
+
 /// A stamp, a flag that may be gone, and a number.
 type Parted = (Mark, Option<bool>, u32);
 
@@ -240,6 +265,43 @@ static MAPS: [Case<Entries>; 7] = [
 fn maps_join_key_by_key(rt: HostRuntime) -> Result<(), Fail> {
     for case in &MAPS {
         holds_for(case, maps_join(rt.alloc(), *case)?)?;
+    }
+    Ok(())
+}
+
+fn both(
+    alloc: Global,
+    left: Entries,
+    right: Entries,
+) -> Result<Both<u16, Flag, u16, Flag>, NoMemory> {
+    Ok(Both {
+        left: joined(alloc, left)?,
+        right: joined(alloc, right)?,
+    })
+}
+
+fn two_maps_join(
+    alloc: Global,
+    left: Case<Entries>,
+    right: Case<Entries>,
+) -> Result<bool, NoMemory> {
+    let mut maps = both(alloc, left.0, right.0)?;
+    let other = both(alloc, left.1, right.1)?;
+    let is_below = maps.le(&other) == (left.2 && right.2);
+    maps.join_with(other)?;
+    let are_joined =
+        are_entries(maps.left.entries(), left.3) && are_entries(maps.right.entries(), right.3);
+    let is_empty = left.3.is_empty() && right.3.is_empty();
+    Ok(is_below && are_joined && maps.is_empty() == is_empty)
+}
+
+#[test]
+fn two_maps_join_at_once(rt: HostRuntime) -> Result<(), Fail> {
+    for left in &MAPS {
+        for right in &MAPS {
+            let is_joined = two_maps_join(rt.alloc(), *left, *right)?;
+            holds_for(&(*left, *right), is_joined)?;
+        }
     }
     Ok(())
 }

@@ -16,11 +16,25 @@ const OTHER: Entries = &[(1, true), (5, true), (8, false)];
 
 const AFTER: Entries = &[(1, true), (3, false), (5, true), (7, true), (8, false)];
 
+/// More keys than are inserted one by one.
+const MANY: Entries = &[
+    (10, true),
+    (11, false),
+    (12, true),
+    (13, false),
+    (14, true),
+    (15, false),
+    (16, true),
+    (17, false),
+    (18, true),
+];
+
 /// The maps before a join, and what it gives.
-static CASES: [(Entries, Entries, Entries); 3] = [
+static CASES: [(Entries, Entries, Entries); 4] = [
     (BEFORE, OTHER, AFTER),
     (OTHER, BEFORE, AFTER),
     (&[], OTHER, OTHER),
+    (&[], MANY, MANY),
 ];
 
 fn map(alloc: Global, rows: Entries) -> Result<Parts<u16, Flag>, Fail> {
@@ -41,6 +55,45 @@ fn is_joined_or_left(alloc: Global, case: (Entries, Entries, Entries)) -> Result
 fn a_refused_join_leaves_a_map_as_it_was(rt: HostRuntime) -> Result<(), Fail> {
     for case in &CASES {
         holds_for(case, is_joined_or_left(rt.alloc(), *case)?)?;
+    }
+    Ok(())
+}
+
+fn both(
+    alloc: Global,
+    left: Entries,
+    right: Entries,
+) -> Result<Both<u16, Flag, u16, Flag>, Fail> {
+    Ok(Both {
+        left: map(alloc, left)?,
+        right: map(alloc, right)?,
+    })
+}
+
+/// Whether both maps are joined or both left, where there is memory for all four.
+fn are_joined_or_left(
+    alloc: Global,
+    left: (Entries, Entries, Entries),
+    right: (Entries, Entries, Entries),
+) -> Result<bool, Fail> {
+    let mut maps = both(alloc, left.0, right.0)?;
+    let other = both(alloc, left.1, right.1)?;
+    let is_joined = maps.join_with(other).is_ok();
+    let (left, right) = if is_joined {
+        (left.2, right.2)
+    } else {
+        (left.0, right.0)
+    };
+    Ok(are_entries(maps.left.entries(), left) && are_entries(maps.right.entries(), right))
+}
+
+#[test]
+fn a_refused_join_leaves_both_maps_as_they_were(rt: HostRuntime) -> Result<(), Fail> {
+    for left in &CASES {
+        for right in &CASES {
+            let is_whole = are_joined_or_left(rt.alloc(), *left, *right)?;
+            holds_for(&(*left, *right), is_whole)?;
+        }
     }
     Ok(())
 }
