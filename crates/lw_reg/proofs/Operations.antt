@@ -1,10 +1,11 @@
 -- The slot of an operation is the state of its marks, and joined slots are the state of all of them.
-use Rattle.std.proofs.Common.{◌≡◌, ℕ, List, [], ◌∷◌, ◌++◌, Some, None, sym, refl, ap, ◌∙◌, subst, inl, inr, ◌⊎◌}
+use Rattle.std.proofs.Common.{◌≡◌, ℕ, List, [], ◌∷◌, ◌++◌, Option, Some, None, sym, refl, ap, ◌∙◌, subst, inl, inr, ◌⊎◌}
 use Rattle.std.specs.Prelude.{map}
 use Rattle.std.specs.Cmp.{tied_itself}
 use Rattle.std.specs.FinMap.{empty, get, get-empty}
 use Rattle.std.specs.Ordering.{match_ordering}
 use Rattle.std.proofs.lemmas.List.Elements.{Contains-append_left, Contains-append_right, Contains-append_cases}
+use Rattle.lw_stamp.specs.declared.moment.Moment.{Moment}
 use Rattle.lw_stamp.specs.declared.stamp.Stamp.{Stamp}
 use Rattle.lw_stamp.specs.TextOrder.{text_cmp}
 use Rattle.lw_stamp.proofs.StampLemmas.{stamp_order}
@@ -20,10 +21,13 @@ use Rattle.lw_join.specs.Parts.{parts_below, parts_join, value_at}
 use Rattle.lw_join.specs.PartsLaws.{parts_laws, entries_made}
 use Rattle.lw_join.specs.declared.or_gone.OrGone.{OrGone}
 use Rattle.lw_join.proofs.MapLemmas.{get-map_join, get-own_key, join-one_key, empty_below}
+use Rattle.lw_reg.specs.declared.addr.Addr.{Addr}
+use Rattle.lw_reg.specs.declared.binding.Binding.{Binding}
 use Rattle.lw_reg.specs.declared.body.Body.{Body}
 use Rattle.lw_reg.specs.declared.op.Op.{Op}
 use Rattle.lw_reg.specs.declared.op.What.{What}
 use Rattle.lw_reg.specs.declared.op.What.TheVariants.{Register, Update, Remove, Observe, Cancel}
+use Rattle.lw_reg.specs.declared.settings.GivenSettings.{GivenSettings}
 use Rattle.lw_reg.specs.declared.slot.Slot.{Slot}
 use Rattle.lw_reg.specs.Body.{Watches, watching_below, watching_join, body_join, no_watches}
 use Rattle.lw_reg.specs.BodyLaws.{watching_laws}
@@ -91,25 +95,32 @@ none_first w = laws.antisymmetric _ _ (laws.least no_watches w w (no_watches_bel
     laws : IsJoin {S = Watches} (parts_below watching_below) (parts_join watching_join)
     laws = parts_laws path_order watching_laws
 
+given : Option ℕ → Option Binding → Option (List ℕ) → Option (List ℕ) → GivenSettings
+given lifetime binding sms objects = record { lifetime = lifetime; binding = binding; sms = sms; objects = objects }
+
+told_given : (s : Stamp) (address : Addr) (seen : Moment) (l : Option ℕ) (b : Option Binding) (m o : Option (List ℕ)) → tell_all Named (traces_of s (Update address seen (given l b m o))) ≡ told_of s (Update address seen (given l b m o))
+unfolding tell_all, given
+told_given s address seen None None None None = simp none_first
+told_given s address seen None None None (Some o) = simp none_first
+told_given s address seen None None (Some m) None = simp none_first
+told_given s address seen None None (Some m) (Some o) = simp none_first
+told_given s address seen None (Some b) None None = simp none_first
+told_given s address seen None (Some b) None (Some o) = simp none_first
+told_given s address seen None (Some b) (Some m) None = simp none_first
+told_given s address seen None (Some b) (Some m) (Some o) = simp none_first
+told_given s address seen (Some l) None None None = simp none_first
+told_given s address seen (Some l) None None (Some o) = simp none_first
+told_given s address seen (Some l) None (Some m) None = simp none_first
+told_given s address seen (Some l) None (Some m) (Some o) = simp none_first
+told_given s address seen (Some l) (Some b) None None = simp none_first
+told_given s address seen (Some l) (Some b) None (Some o) = simp none_first
+told_given s address seen (Some l) (Some b) (Some m) None = simp none_first
+told_given s address seen (Some l) (Some b) (Some m) (Some o) = simp none_first
+
 told_all : (s : Stamp) (w : What) → tell_all Named (traces_of s w) ≡ told_of s w
-unfolding tell_all
-told_all s (Register version queue address seen lifetime binding sms objects) = simp none_first
-told_all s (Update address seen None None None None) = simp none_first
-told_all s (Update address seen None None None (Some o)) = simp none_first
-told_all s (Update address seen None None (Some m) None) = simp none_first
-told_all s (Update address seen None None (Some m) (Some o)) = simp none_first
-told_all s (Update address seen None (Some b) None None) = simp none_first
-told_all s (Update address seen None (Some b) None (Some o)) = simp none_first
-told_all s (Update address seen None (Some b) (Some m) None) = simp none_first
-told_all s (Update address seen None (Some b) (Some m) (Some o)) = simp none_first
-told_all s (Update address seen (Some l) None None None) = simp none_first
-told_all s (Update address seen (Some l) None None (Some o)) = simp none_first
-told_all s (Update address seen (Some l) None (Some m) None) = simp none_first
-told_all s (Update address seen (Some l) None (Some m) (Some o)) = simp none_first
-told_all s (Update address seen (Some l) (Some b) None None) = simp none_first
-told_all s (Update address seen (Some l) (Some b) None (Some o)) = simp none_first
-told_all s (Update address seen (Some l) (Some b) (Some m) None) = simp none_first
-told_all s (Update address seen (Some l) (Some b) (Some m) (Some o)) = simp none_first
+unfolding tell_all, given
+told_all s (Register version queue address seen settings) = simp none_first
+told_all s (Update address seen settings) = told_given s address seen settings.lifetime settings.binding settings.sms settings.objects
 told_all s Remove = refl
 told_all s (Observe path accept) = simp none_first
 told_all s (Cancel path token) = simp none_first

@@ -3,6 +3,7 @@ pub mod Orders
 pub mod BindingText
 pub mod Binding
 pub mod Endpoint
+pub mod Attribute
 pub mod Version
 pub mod Registration
 pub mod Marks

@@ -40,10 +40,10 @@ written field (Some v) = field v ∷ []
 -- and writes each field; an Update writes address and moment, and each other field that it carries; the token
 -- of an observation is the operation's stamp.
 abbrev pub traces_of : Stamp → What → List Trace
-traces_of s (Register version queue address seen lifetime binding sms objects) =
-    Based (record { version = version; queue = queue }) ∷ AddressAt s address ∷ SeenAt s seen ∷ LifetimeAt s lifetime ∷ BindingAt s binding ∷ SmsAt s sms ∷ ObjectsAt s objects ∷ []
-traces_of s (Update address seen lifetime binding sms objects) =
-    AddressAt s address ∷ SeenAt s seen ∷ (written (LifetimeAt s) lifetime ++ written (BindingAt s) binding ++ written (λ text. SmsAt s (Some text)) sms ++ written (ObjectsAt s) objects)
+traces_of s (Register version queue address seen settings) =
+    Based (record { version = version; queue = queue }) ∷ AddressAt s address ∷ SeenAt s seen ∷ LifetimeAt s settings.lifetime ∷ BindingAt s settings.binding ∷ SmsAt s settings.sms ∷ ObjectsAt s settings.objects ∷ []
+traces_of s (Update address seen settings) =
+    AddressAt s address ∷ SeenAt s seen ∷ (written (LifetimeAt s) settings.lifetime ++ written (BindingAt s) settings.binding ++ written (λ text. SmsAt s (Some text)) settings.sms ++ written (ObjectsAt s) settings.objects)
 traces_of s Remove = Removed ∷ []
 traces_of s (Observe path accept) = Watched path s accept ∷ []
 traces_of s (Cancel path token) = Cancelled path token ∷ []

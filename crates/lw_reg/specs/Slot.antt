@@ -99,24 +99,24 @@ some_text None = None
 some_text (Some text) = Some (Some text)
 
 abbrev pub told_of : Stamp → What → OrGone Body
-told_of s (Register version queue address seen lifetime binding sms objects) = Here (record {
+told_of s (Register version queue address seen settings) = Here (record {
   base = record { value = Some (record { version = version; queue = queue }) };
   address = record { write = Some (s, address) };
   seen = record { write = Some (s, seen) };
-  lifetime = record { write = Some (s, lifetime) };
-  binding = record { write = Some (s, binding) };
-  sms = record { write = Some (s, sms) };
-  objects = record { write = Some (s, objects) };
+  lifetime = record { write = Some (s, settings.lifetime) };
+  binding = record { write = Some (s, settings.binding) };
+  sms = record { write = Some (s, settings.sms) };
+  objects = record { write = Some (s, settings.objects) };
   watches = no_watches;
 })
-told_of s (Update address seen lifetime binding sms objects) = Here (record {
+told_of s (Update address seen settings) = Here (record {
   base = record { value = None };
   address = record { write = Some (s, address) };
   seen = record { write = Some (s, seen) };
-  lifetime = record { write = write_of s lifetime };
-  binding = record { write = write_of s binding };
-  sms = record { write = write_of s (some_text sms) };
-  objects = record { write = write_of s objects };
+  lifetime = record { write = write_of s settings.lifetime };
+  binding = record { write = write_of s settings.binding };
+  sms = record { write = write_of s (some_text settings.sms) };
+  objects = record { write = write_of s settings.objects };
   watches = no_watches;
 })
 told_of s Remove = Gone

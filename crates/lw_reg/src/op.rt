@@ -1,5 +1,4 @@
-use crate::{Addr, Binding, Endpoint, Path, SmsNumber, Version};
-use lw_link::LinkText;
+use crate::{Addr, Endpoint, GivenSettings, Path, Settings, Version};
 use lw_stamp::{Moment, Stamp};
 
 /// An operation on a registration.
@@ -21,21 +20,13 @@ pub enum What {
         queue: bool,
         address: Addr,
         seen: Moment,
-        /// In seconds; 0 never expires.
-        lifetime: u32,
-        binding: Binding,
-        sms: Option<SmsNumber>,
-        objects: LinkText,
+        settings: Settings,
     },
-    /// Writes the address, the moment, and what else it has.
+    /// Writes the address, the moment, and each setting that is given.
     Update {
         address: Addr,
         seen: Moment,
-        /// In seconds; 0 never expires.
-        lifetime: Option<u32>,
-        binding: Option<Binding>,
-        sms: Option<SmsNumber>,
-        objects: Option<LinkText>,
+        settings: GivenSettings,
     },
     Remove,
     /// The operation's stamp is the token.
