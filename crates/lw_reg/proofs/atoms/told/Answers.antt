@@ -6,3 +6,6 @@ returns-in-Remove-clause-removed c = search rules
 
 pub returns-clause-told : goal.returns-clause-told
 returns-clause-told c = search rules
+
+pub returns-clause-keeps : goal.returns-clause-keeps
+returns-clause-keeps c = ?
