@@ -2,6 +2,7 @@ pub mod Addresses
 pub mod BindingLemmas
 pub mod WatchLemmas
 pub mod AboveLemmas
+pub mod AttributeLemmas
 pub mod NothingLemmas
 pub mod Members
 pub mod Tells
