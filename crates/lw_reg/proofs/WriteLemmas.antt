@@ -1,13 +1,12 @@
 -- Attributes are their entries: of none, of one, and those that an operation writes.
-use Rattle.std.proofs.Common.{◌≡◌, ℕ, Bool, true, false, cond, List, [], ◌∷◌, Option, Some, None, ◌∙◌, refl, sym, ap, subst}
+use Rattle.std.proofs.Common.{◌≡◌, ℕ, Bool, true, false, cond, List, [], ◌∷◌, Some, None, ◌∙◌, refl, sym, ap, subst}
 use Rattle.std.specs.Prelude.{map}
 use Rattle.std.specs.List.{AllByRecursion}
 use Rattle.std.specs.Ordering.{is_eq}
-use Rattle.std.specs.declared.cmp.Ordering.TheVariants.{Less}
 use Rattle.lw_stamp.specs.TextOrder.{text_cmp}
 use Rattle.lw_stamp.specs.declared.stamp.Stamp.{Stamp}
 use Rattle.lw_join.specs.Entries.{AllAbove, Rises, get}
-use Rattle.lw_join.specs.EntriesLaws.{get_below, join_none, same_key}
+use Rattle.lw_join.specs.EntriesLaws.{get_below, same_key}
 use Rattle.lw_join.specs.Join.{IsJoin}
 use Rattle.lw_join.specs.Last.{last_below, last_join}
 use Rattle.lw_join.specs.LastLaws.{last_laws}
