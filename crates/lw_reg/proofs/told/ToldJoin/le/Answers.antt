@@ -21,4 +21,4 @@ pub returns-in-Removed-default-2 : goal.returns-in-Removed-default-2
 returns-in-Removed-default-2 c = search rules
 
 pub returns-in-Nothing-default : goal.returns-in-Nothing-default
-returns-in-Nothing-default c = ?
+returns-in-Nothing-default c = (λ h. nothing_below_told c.args.self.now c.args.other.now (sym c.self.view_is ∙ ap told_in c.in-Nothing-default.is-0), λ h. refl)
