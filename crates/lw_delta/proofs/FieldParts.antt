@@ -1,11 +1,14 @@
 -- The parts of which the fields of a slot, and a slot, are put together.
-use Rattle.std.proofs.Common.{◌≡◌, ℕ, List, Option, sym, subst}
+use Rattle.std.proofs.Common.{◌≡◌, ℕ, List, [], Option, Some, None, IfSome, refl, sym, subst}
 use Rattle.lw_stamp.specs.declared.stamp.Stamp.{Stamp}
+use Rattle.lw_join.specs.declared.last.Last.{Last}
 use Rattle.lw_reg.specs.declared.slot.Slot.{Slot}
 use Rattle.lw_delta.specs.declared.form.Form.{Form}
+use Rattle.lw_delta.specs.Form.{has_attributes}
 use Rattle.lw_delta.specs.Part.{Found, byte, means, followed, when, optional}
-use Rattle.lw_delta.specs.Format.{number32, stamp, written, base as base_part, address as address_part, moment, binding as binding_part, sms_number, objects as objects_part, watches as watches_part, behind, endpoint, fields, slot}
-use Rattle.lw_delta.specs.Values.{is_set, FieldContent, Behind, slot_from}
+use Rattle.lw_delta.specs.Format.{number32, stamp, written, base as base_part, address as address_part, moment, binding as binding_part, sms_number, objects as objects_part, attributes as attributes_part, watches as watches_part, behind, endpoint, fields, slot}
+use Rattle.lw_delta.specs.Values.{is_set, FieldContent, Behind, slot_from, list_or_none}
+use Rattle.lw_delta.proofs.Kept.{Each, when_each}
 
 -- each field where its flag is set, one behind the other
 pub record FieldsAt (clock flags : ℕ) (bytes : List ℕ) (k : FieldContent) (rest : List ℕ) : Type 0 where
@@ -51,13 +54,34 @@ fields_at clock flags bytes k rest f =
 
 -- what stands behind the fields, part by part
 pub record BehindAt (form : Form) (clock : ℕ) (bytes : List ℕ) (more : Behind) (rest : List ℕ) : Type 0 where
-  pub watches : Found (watches_part clock) bytes more.watches rest
+  pub there : Option (List (List ℕ × Last (List ℕ)))
+  pub behind_attributes : List ℕ
+  pub attributes : Found (when (has_attributes form) (attributes_part clock)) bytes there behind_attributes
+  pub watches : Found (watches_part clock) behind_attributes more.watches rest
+  pub same : more.attributes ≡ list_or_none there
 
 pub behind_at : (form : Form) (clock : ℕ) (bytes : List ℕ) (more : Behind) (rest : List ℕ) → Found (behind form clock) bytes more rest → BehindAt form clock bytes more rest
 unfolding followed means
 behind_at form clock bytes more rest f =
-    let last = f.is.3.is in
-    subst (λ x. BehindAt form clock bytes x rest) (sym last.1) (record { watches = subst (λ (x : List ℕ). Found (watches_part clock) bytes f.is.0 x) last.0 f.is.2 })
+    let ws = f.is.3.is in
+    let last = ws.3.is in
+    subst (λ x. BehindAt form clock bytes x rest) (sym last.1) (record {
+      there = f.is.0;
+      behind_attributes = f.is.1;
+      attributes = f.is.2;
+      watches = subst (λ (x : List ℕ). Found (watches_part clock) f.is.1 ws.0 x) last.0 ws.2;
+      same = refl;
+    })
+
+none_or_each : {A : Type 0} (P : List A → Type 0) → P [] → (o : Option (List A)) → IfSome o P → P (list_or_none o)
+none_or_each P none None h = none
+none_or_each P none (Some xs) h = h
+
+-- what holds of attributes, and of none, holds of those that stand behind the fields
+pub attributes_each : (form : Form) (clock : ℕ) (P : List (List ℕ × Last (List ℕ)) → Type 0) → P [] → Each (attributes_part clock) P → Each (behind form clock) (λ more. P more.attributes)
+attributes_each form clock P none each bytes more rest f =
+    let parts = behind_at form clock bytes more rest f in
+    subst P (sym parts.same) (none_or_each P none parts.there (when_each (attributes_part clock) P each (has_attributes form) bytes parts.there parts.behind_attributes parts.attributes))
 
 -- the endpoint, the stamp of the registration, the flags, the fields and what stands behind them
 pub record SlotAt (form : Form) (clock : ℕ) (after : Option (List ℕ)) (bytes : List ℕ) (s : List ℕ × Slot) (rest : List ℕ) : Type 0 where

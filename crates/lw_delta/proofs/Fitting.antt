@@ -4,17 +4,18 @@ use Rattle.std.specs.Int.{w64, from_be_bytes}
 use Rattle.lw_stamp.specs.declared.stamp.Stamp.{Stamp}
 use Rattle.lw_stamp.specs.TextOrder.{text_cmp}
 use Rattle.lw_stamp.proofs.StampLemmas.{spelled_counter}
+use Rattle.lw_join.specs.declared.last.Last.{Last}
 use Rattle.lw_reg.specs.declared.path.Path.{Path}
 use Rattle.lw_reg.specs.declared.slot.Slot.{Slot}
 use Rattle.lw_reg.specs.Body.{Watching}
 use Rattle.lw_delta.specs.declared.form.Form.{Form}
 use Rattle.lw_delta.specs.Order.{IsAbove}
 use Rattle.lw_delta.specs.Part.{Part, Found, bytes_of, means, must, followed, when, last_key, Walks, repeated}
-use Rattle.lw_delta.specs.Format.{number48, stamp, written, watch, behind, endpoint, fields, slot, header}
+use Rattle.lw_delta.specs.Format.{number48, stamp, written, attribute, watch, behind, endpoint, fields, slot, header}
 use Rattle.lw_delta.specs.Values.{FieldContent, Behind, behind_of, slot_from, watching_from}
 use Rattle.lw_delta.specs.Delta.{DeltaContent, IsSpelling}
-use Rattle.lw_delta.specs.Writable.{TokensWithin, StampsWithin, Follows, AllFollow}
-use Rattle.lw_delta.proofs.FieldParts.{fields_at, behind_at, slot_at}
+use Rattle.lw_delta.specs.Writable.{AttributesWithin, TokensWithin, StampsWithin, Follows, AllFollow}
+use Rattle.lw_delta.proofs.FieldParts.{fields_at, behind_at, attributes_each, slot_at}
 use Rattle.lw_delta.proofs.Kept.{Each, when_each, some_each, repeated_each}
 use Rattle.lw_delta.proofs.Owning.{behind_again}
 
@@ -80,17 +81,27 @@ watch_within clock after bytes w rest f =
     let same = last.3.is.1 in
     subst (λ (x : Path × Watching). x.1.stamp.counter ≤ clock) (sym same) (subst (λ (s : Stamp). s.counter ≤ clock) (sym (token_is t.0 _ last.0)) (stamp_within clock f.is.1 t.0 t.1 t.2))
 
+attribute_within : (clock : ℕ) (after : Option (List ℕ)) → Each (attribute clock after) (λ a. a.1.write.0.counter ≤ clock)
+unfolding followed means
+attribute_within clock after bytes a rest f =
+    let w = f.is.3.is in
+    subst (λ (x : List ℕ × Last (List ℕ)). x.1.write.0.counter ≤ clock) (sym w.3.is.1) (written_within clock _ f.is.1 w.0 w.1 w.2)
+
 record BehindWithin (clock : ℕ) (more : Behind) : Type 0 where
+  pub attributes : AttributesWithin clock more.attributes
   pub watches : TokensWithin clock more.watches
 
 behind_within : (form : Form) (clock : ℕ) → Each (behind form clock) (BehindWithin clock)
 behind_within form clock bytes more rest f =
     let parts = behind_at form clock bytes more rest f in
-    record { watches = repeated_each (watch clock) (λ w. w.0) (λ w. w.1.stamp.counter ≤ clock) (watch_within clock) _ _ _ parts.watches }
+    record {
+      attributes = attributes_each form clock (AttributesWithin clock) tt (repeated_each (attribute clock) (λ a. a.0) (λ a. a.1.write.0.counter ≤ clock) (attribute_within clock)) bytes more rest f;
+      watches = repeated_each (watch clock) (λ w. w.0) (λ w. w.1.stamp.counter ≤ clock) (watch_within clock) _ _ _ parts.watches;
+    }
 
 kept_within : (clock : ℕ) (r : Stamp) (removed : Bool) (k : FieldContent) (more : Behind) → r.counter ≤ clock → FieldStamps clock k → BehindWithin clock (behind_of (slot_from r false k more)) → StampsWithin clock (slot_from r removed k more)
-kept_within clock r true k more h f b = record { registration = h; address = tt; seen = tt; lifetime = tt; binding = tt; sms = tt; objects = tt; watches = tt }
-kept_within clock r false k more h f b = record { registration = h; address = f.address; seen = f.seen; lifetime = f.lifetime; binding = f.binding; sms = f.sms; objects = f.objects; watches = b.watches }
+kept_within clock r true k more h f b = record { registration = h; address = tt; seen = tt; lifetime = tt; binding = tt; sms = tt; objects = tt; attributes = tt; watches = tt }
+kept_within clock r false k more h f b = record { registration = h; address = f.address; seen = f.seen; lifetime = f.lifetime; binding = f.binding; sms = f.sms; objects = f.objects; attributes = b.attributes; watches = b.watches }
 
 record IsEndpoint (after : Option (List ℕ)) (e : List ℕ) : Type 0 where
   pub some : 1 ≤ length e

@@ -2,23 +2,28 @@
 use Rattle.std.specs.declared.cmp.Ordering.{Ordering}
 use Rattle.std.proofs.Common.{ℕ, ◌<◌, ◌≤◌, ◌^◌, true, false, List, [], ◌∷◌, ◌++◌, Option, Some, None, IfSome, refl, sym, subst, arith, append_assoc}
 use Rattle.lw_stamp.specs.declared.stamp.Stamp.{Stamp}
+use Rattle.std.specs.Prelude.{IsTrue, length, ◌-◌}
+use mathlib.Core.Bool.{true≢false}
 use Rattle.lw_stamp.specs.Stamp.{stamp_bytes}
+use Rattle.lw_stamp.specs.TextOrder.{text_cmp}
+use Rattle.lw_join.specs.declared.last.Last.{Last}
 use Rattle.lw_join.specs.declared.or_gone.OrGone.{OrGone}
 use Rattle.lw_join.specs.declared.or_gone.OrGone.TheVariants.{Here, Gone}
 use Rattle.lw_join.specs.Entries.{AllAbove, Rises}
 use Rattle.lw_join.specs.declared.once.Once.{Once}
 use Rattle.lw_reg.specs.declared.path.Path.{Path}
+use Rattle.lw_reg.specs.Attribute.{is_attribute_name}
 use Rattle.lw_reg.specs.Body.{Watching}
 use Rattle.lw_reg.specs.Orders.{path_cmp}
 use Rattle.lw_delta.specs.Order.{IsAbove}
 use Rattle.lw_delta.specs.Part.{Part, Found, optional, Walks, repeated}
-use Rattle.lw_delta.specs.Format.{number16, watch, watches, behind}
+use Rattle.lw_delta.specs.Format.{number16, written, attribute_name, attribute_value, attribute, attributes, watch, watches, behind}
 use Rattle.lw_delta.specs.declared.form.Form.{Form}
 use Rattle.lw_delta.specs.Form.{latest}
 use Rattle.lw_delta.specs.Values.{Behind}
-use Rattle.lw_delta.specs.Writable.{TokensWithin, AcceptTyped, AcceptsTyped, BehindTyped}
-use Rattle.lw_delta.specs.Writing.{number16_bytes, optional_bytes, path_bytes, watch_bytes, repeated_bytes, watches_bytes, behind_bytes}
-use Rattle.lw_delta.proofs.Prints.{Prints, prints_both, prints_then, prints_meant, prints_held, prints_byte, prints_tag, prints_optional, prints_number16, prints_stamp, prints_path}
+use Rattle.lw_delta.specs.Writable.{AttributesWithin, TokensWithin, IsOwnText, AttributeTyped, AttributesTyped, AcceptTyped, AcceptsTyped, BehindTyped}
+use Rattle.lw_delta.specs.Writing.{text_bytes, attribute_bytes, number16_bytes, optional_bytes, path_bytes, watch_bytes, repeated_bytes, watches_bytes, behind_bytes}
+use Rattle.lw_delta.proofs.Prints.{Prints, prints_both, prints_then, prints_meant, prints_held, prints_byte, prints_tag, prints_optional, prints_number16, prints_stamp, prints_path, prints_text}
 
 format_prints : (o : Option ℕ) → IfSome o (λ n. n < 2 ^ 16) → Prints (optional number16) (optional_bytes number16_bytes o) o
 format_prints None h = prints_optional _ number16_bytes None tt
@@ -71,6 +76,39 @@ pub none_before : {K V : Type 0} (cmp : K → K → Ordering) (es : List (K × V
 none_before cmp [] = tt
 none_before cmp (e ∷ es) = tt
 
+-- ---- attributes
+name_some : (name : List ℕ) → IsTrue (is_attribute_name name) → 1 ≤ length name
+name_some [] h = absurd (true≢false (sym h))
+name_some (c ∷ name) h = omega arith
+
+prints_name : (after : Option (List ℕ)) (name : List ℕ) → IsOwnText name → IsTrue (is_attribute_name name) → length name ≤ 255 → IsAbove text_cmp after name → Prints (attribute_name after) (text_bytes name) name
+prints_name after name own named most above =
+    prints_both _ _ (length name ∷ []) name (length name) name (prints_byte (length name) (omega (arith, most))) (prints_held _ _ _ name name (name_some name named)
+    (prints_then _ _ name name name (prints_text name own.0 own.1) (prints_held _ _ _ [] name named (prints_held _ _ _ [] name above (prints_meant _ name refl)))))
+
+prints_value : (name value : List ℕ) → IsOwnText value → length value ≤ 254 - length name → Prints (attribute_value name) (text_bytes value) value
+prints_value name value own room =
+    prints_both _ _ (length value ∷ []) value (length value) value (prints_byte (length value) (omega (arith, room))) (prints_held _ _ _ value value room (prints_text value own.0 own.1))
+
+prints_attribute : (clock : ℕ) (after : Option (List ℕ)) (name : List ℕ) (s : Stamp) (value : List ℕ) → AttributeTyped (name, record { write = (s, value) }) → s.counter ≤ clock → IsAbove text_cmp after name
+    → Prints (attribute clock after) (attribute_bytes (name, record { write = (s, value) })) (name, record { write = (s, value) })
+prints_attribute clock after name s value typed within above =
+    let a : List ℕ × Last (List ℕ) = (name, record { write = (s, value) }) in
+    let w : Stamp × List ℕ = (s, value) in
+    let bytes = stamp_bytes s ++ text_bytes value in
+    let write : Prints (written clock (attribute_value name)) bytes w =
+    prints_both _ _ (stamp_bytes s) (text_bytes value) s w (prints_stamp clock s within) (prints_then _ _ (text_bytes value) value w (prints_value name value typed.value typed.is.room) (prints_meant _ w refl)) in
+    prints_both _ _ (text_bytes name) bytes name a (prints_name after name typed.name typed.is.named typed.is.most above) (prints_then _ _ bytes w a write (prints_meant _ a refl))
+
+attributes_print : (clock : ℕ) (after : Option (List ℕ)) (es : List (List ℕ × Last (List ℕ))) → FirstAbove text_cmp after es → Rises text_cmp es → AttributesWithin clock es → AttributesTyped es → AllPrint (attribute clock) attribute_bytes after es
+attributes_print clock after [] above rises within typed = tt
+attributes_print clock after (a ∷ es) above rises within typed =
+    (prints_attribute clock after a.0 a.1.write.0 a.1.write.1 typed.0 within.0 above, attributes_print clock (Some a.0) es (first_above text_cmp a.0 es rises.0) rises.1 within.1 typed.1)
+
+prints_attributes : (clock : ℕ) (es : List (List ℕ × Last (List ℕ))) → Rises text_cmp es → AttributesWithin clock es → AttributesTyped es → Prints (attributes clock) (repeated_bytes attribute_bytes es) es
+prints_attributes clock es rises within typed = prints_repeated (attribute clock) attribute_bytes es (attributes_print clock None es (none_before text_cmp es) rises within typed)
+
+-- ---- watches
 watches_print : (clock : ℕ) (after : Option Path) (ws : List (Path × Watching)) → FirstAbove path_cmp after ws → Rises path_cmp ws → TokensWithin clock ws → AcceptsTyped ws → AllPrint (watch clock) watch_bytes after ws
 watches_print clock after [] above rises tokens typed = tt
 watches_print clock after (w ∷ ws) above rises tokens typed =
@@ -79,12 +117,18 @@ watches_print clock after (w ∷ ws) above rises tokens typed =
 prints_watches : (clock : ℕ) (ws : List (Path × Watching)) → Rises path_cmp ws → TokensWithin clock ws → AcceptsTyped ws → Prints (watches clock) (watches_bytes ws) ws
 prints_watches clock ws rises tokens typed = prints_repeated (watch clock) watch_bytes ws (watches_print clock None ws (none_before path_cmp ws) rises tokens typed)
 
--- what stands behind the fields of a slot that may be written
+-- ---- what stands behind the fields of a slot that may be written
 pub record BehindFits (clock : ℕ) (more : Behind) : Type 0 where
+  pub names_rise : Rises text_cmp more.attributes
+  pub within : AttributesWithin clock more.attributes
   pub watches_rise : Rises path_cmp more.watches
   pub tokens : TokensWithin clock more.watches
   pub typed : BehindTyped more
 
 pub prints_behind : (clock : ℕ) (more : Behind) → BehindFits clock more → Prints (behind latest clock) (behind_bytes latest more) more
 prints_behind clock more h =
-    prints_then _ _ (watches_bytes more.watches) more.watches more (prints_watches clock more.watches h.watches_rise h.tokens h.typed.accepts) (prints_meant _ more refl)
+    let es = more.attributes in
+    let front = repeated_bytes attribute_bytes es in
+    prints_both _ _ front (watches_bytes more.watches) (Some es) more
+    (prints_then _ _ front es (Some es) (prints_attributes clock es h.names_rise h.within h.typed.attributes) (prints_meant _ (Some es) refl))
+    (prints_then _ _ (watches_bytes more.watches) more.watches more (prints_watches clock more.watches h.watches_rise h.tokens h.typed.accepts) (prints_meant _ more refl))

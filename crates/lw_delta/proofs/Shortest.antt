@@ -5,27 +5,27 @@ use mathlib.Core.Bool.{true≢false}
 use Rattle.lw_stamp.specs.declared.stamp.Stamp.{Stamp}
 use Rattle.lw_stamp.specs.Stamp.{stamp_bytes}
 use Rattle.lw_join.specs.declared.or_gone.OrGone.TheVariants.{Gone}
+use Rattle.lw_join.specs.declared.last.Last.{Last}
 use Rattle.lw_reg.specs.declared.base.Base.{Base}
 use Rattle.lw_reg.specs.declared.path.Path.{Path}
 use Rattle.lw_reg.specs.declared.slot.Slot.{Slot}
 use Rattle.lw_reg.specs.Body.{Watching}
 use Rattle.lw_delta.specs.declared.form.Form.{Form}
-use Rattle.lw_delta.specs.declared.form.Form.TheVariants.{First}
-use Rattle.lw_delta.specs.Form.{magic_of}
+use Rattle.lw_delta.specs.Form.{magic_of, has_attributes}
 use Rattle.lw_delta.specs.Part.{Found, byte, bytes_of, means, must, followed, when, optional, Walks, repeated}
 use Rattle.lw_delta.specs.Format.{number16, base, watch, watches, behind, fields, slot, magic, header}
 use Rattle.lw_delta.specs.Values.{is_set, FieldContent, Behind, behind_of, slot_from, watching_from}
 use Rattle.lw_delta.specs.Delta.{DeltaContent, IsSpelling, IsSpellingIn}
 use Rattle.lw_delta.specs.Removals.{HasCancelled, HasRemoval, HaveRemoval}
-use Rattle.lw_delta.specs.Writing.{Begins, number16_bytes, number32_bytes, number48_bytes, optional_bytes, written_bytes, base_bytes, addr_bytes, moment_bytes, text_bytes, binding_bytes, sms_bytes, objects_bytes, path_bytes, accept_bytes, watch_bytes, repeated_bytes, watches_bytes, behind_bytes, flag_if, flags_byte, fields_bytes, slot_bytes, slots_bytes, begun_bytes_in, delta_bytes_in}
+use Rattle.lw_delta.specs.Writing.{Begins, number16_bytes, number32_bytes, number48_bytes, optional_bytes, written_bytes, base_bytes, addr_bytes, moment_bytes, text_bytes, binding_bytes, sms_bytes, objects_bytes, path_bytes, accept_bytes, watch_bytes, repeated_bytes, attribute_bytes, attributes_bytes, watches_bytes, behind_bytes, flag_if, flags_byte, fields_bytes, slot_bytes, slots_bytes, begun_bytes_in, delta_bytes_in}
 use Rattle.lw_delta.proofs.Decided.{optional_takes}
 use Rattle.lw_delta.proofs.FieldParts.{fields_at, behind_at, slot_at}
 use Rattle.lw_delta.proofs.FlagBits.{sum7}
 use Rattle.lw_delta.proofs.FlagSums.{sum_again}
 use Rattle.lw_delta.proofs.Fitting.{token_is}
-use Rattle.lw_delta.proofs.Grammar.{number16_decided}
+use Rattle.lw_delta.proofs.Grammar.{number16_decided, one_front}
 use Rattle.lw_delta.proofs.Owning.{behind_again}
-use Rattle.lw_delta.proofs.Spellings.{Spells, chain, ending, some_spelled, none_spelled, spells_when, spells_when_written, spells_optional, spells_number16, spells_number32, spells_number48, spells_stamp, spells_base, spells_address, spells_moment, spells_binding, spells_sms, spells_objects, spells_path, spells_endpoint}
+use Rattle.lw_delta.proofs.Spellings.{Spells, chain, ending, some_spelled, none_spelled, spells_when, spells_when_written, spells_optional, spells_number16, spells_number32, spells_number48, spells_stamp, spells_base, spells_address, spells_moment, spells_binding, spells_sms, spells_objects, spells_path, spells_attributes, spells_endpoint}
 
 -- these bytes and the rest, or more where something is gone
 abbrev Spelled : Type 0 → List ℕ → List ℕ → List ℕ → Type 0
@@ -93,46 +93,52 @@ spelled_watches : (clock : ℕ) (bytes : List ℕ) (ws : List (Path × Watching)
 unfolding repeated
 spelled_watches clock bytes ws rest f = spelled_watches_walk clock None bytes ws f.is.0 rest f.is.1 (none_spelled _ f.is.0 rest f.is.2)
 
+-- ---- what stands behind the fields
+spelled_behind : (form : Form) (clock : ℕ) (bytes : List ℕ) (more : Behind) (rest : List ℕ) → Found (behind form clock) bytes more rest → Spelled (HasCancelled more.watches) (behind_bytes form more) bytes rest
+spelled_behind form clock bytes more rest f =
+    let parts = behind_at form clock bytes more rest f in
+    let flag = has_attributes form in
+    let attributes : bytes ≡ attributes_bytes flag more.attributes ++ parts.behind_attributes =
+    spells_attributes clock flag bytes parts.there parts.behind_attributes parts.attributes ∙ ap (λ (es : List (List ℕ × Last (List ℕ))). attributes_bytes flag es ++ parts.behind_attributes) (sym parts.same) in
+    behind_front bytes parts.behind_attributes rest (attributes_bytes flag more.attributes) (watches_bytes more.watches) attributes (spelled_watches clock parts.behind_attributes more.watches rest parts.watches)
+
+-- these bytes, or more
+abbrev Least : List ℕ → List ℕ → Type 0
+Least least all = (all ≡ least) ⊎ (length least < length all)
+
+least_both : (a b x y : List ℕ) → Least a x → Least b y → Least (a ++ b) (x ++ y)
+least_both a b x y (inl e) (inl h) = inl (ap (λ (z : List ℕ). z ++ y) e ∙ ap (λ (z : List ℕ). a ++ z) h)
+least_both a b x y (inl e) (inr l) = inr (omega (arith, ap length e, l, length-append a b, length-append x y))
+least_both a b x y (inr k) (inl h) = inr (omega (arith, k, ap length h, length-append a b, length-append x y))
+least_both a b x y (inr k) (inr l) = inr (omega (arith, k, l, length-append a b, length-append x y))
+
 -- the end of repeated parts alone is one byte, and any part takes more
-repeated_longer : {A : Type 0} (write : A → List ℕ) (xs : List A) → (xs ≡ []) ⊎ (1 < length (repeated_bytes write xs))
-repeated_longer write [] = inl refl
-repeated_longer {A} write (x ∷ xs) = inr (omega (arith, length-append (write x) (repeated_bytes write xs), ends xs))
+repeated_least : {A : Type 0} (write : A → List ℕ) (xs : List A) → Least (0 ∷ []) (repeated_bytes write xs)
+repeated_least write [] = inl refl
+repeated_least {A} write (x ∷ xs) = inr (omega (arith, length-append (write x) (repeated_bytes write xs), ends xs))
   where
     ends : (ys : List A) → 1 ≤ length (repeated_bytes write ys)
     ends [] = omega arith
     ends (y ∷ ys) = omega arith
 
--- ---- what stands behind the fields
-spelled_behind : (form : Form) (clock : ℕ) (bytes : List ℕ) (more : Behind) (rest : List ℕ) → Found (behind form clock) bytes more rest → Spelled (HasCancelled more.watches) (behind_bytes form more) bytes rest
-spelled_behind form clock bytes more rest f = spelled_watches clock bytes more.watches rest (behind_at form clock bytes more rest f).watches
+attributes_least : (flag : Bool) (es : List (List ℕ × Last (List ℕ))) → Least (attributes_bytes flag []) (attributes_bytes flag es)
+attributes_least true es = repeated_least attribute_bytes es
+attributes_least false es = inl refl
 
 -- as of a removed registration
 abbrev nothing : Behind
-nothing = record { watches = [] }
+nothing = record { attributes = []; watches = [] }
 
--- where something stands behind the fields, it takes more bytes than where nothing does
-behind_longer : (form : Form) (more : Behind) → (more ≡ nothing) ⊎ (length (behind_bytes form nothing) < length (behind_bytes form more))
-behind_longer form more = told (repeated_longer watch_bytes more.watches)
-  where
-    told : (more.watches ≡ []) ⊎ (1 < length (watches_bytes more.watches)) → (more ≡ nothing) ⊎ (length (behind_bytes form nothing) < length (behind_bytes form more))
-    told (inl e) = inl (ap (λ (ws : List (Path × Watching)). let b : Behind = record { watches = ws } in b) e)
-    told (inr l) = inr l
+behind_least : (form : Form) (more : Behind) → Least (behind_bytes form nothing) (behind_bytes form more)
+behind_least form more =
+    let flag = has_attributes form in
+    least_both (attributes_bytes flag []) (watches_bytes []) (attributes_bytes flag more.attributes) (watches_bytes more.watches) (attributes_least flag more.attributes) (repeated_least watch_bytes more.watches)
 
-nothing_or_longer : {gone : Type 0} (form : Form) (bytes : List ℕ) (more : Behind) (rest : List ℕ) → Spelled gone (behind_bytes form more) bytes rest
-    → (bytes ≡ behind_bytes form nothing ++ rest) ⊎ (length (behind_bytes form nothing ++ rest) < length bytes)
-nothing_or_longer {gone} form bytes more rest s = told s (behind_longer form more)
-  where
-    none : List ℕ
-    none = behind_bytes form nothing
-
-    all : List ℕ
-    all = behind_bytes form more
-
-    told : Spelled gone all bytes rest → (more ≡ nothing) ⊎ (length none < length all) → (bytes ≡ none ++ rest) ⊎ (length (none ++ rest) < length bytes)
-    told (inl e) (inl same) = inl (e ∙ ap (λ (b : Behind). behind_bytes form b ++ rest) same)
-    told (inl e) (inr l) = inr (omega (arith, ap length e ∙ length-append all rest, length-append none rest, l))
-    told (inr k) (inl same) = inr (omega (arith, k.1, ap (λ (b : Behind). length (behind_bytes form b ++ rest)) same))
-    told (inr k) (inr l) = inr (omega (arith, k.1, length-append all rest, length-append none rest, l))
+nothing_or_longer : {gone : Type 0} (bytes rest least all : List ℕ) → Spelled gone all bytes rest → Least least all → (bytes ≡ least ++ rest) ⊎ (length (least ++ rest) < length bytes)
+nothing_or_longer bytes rest least all (inl e) (inl same) = inl (e ∙ ap (λ (x : List ℕ). x ++ rest) same)
+nothing_or_longer bytes rest least all (inl e) (inr l) = inr (omega (arith, ap length e ∙ length-append all rest, length-append least rest, l))
+nothing_or_longer bytes rest least all (inr k) (inl same) = inr (omega (arith, k.1, ap (λ (x : List ℕ). length (x ++ rest)) same))
+nothing_or_longer bytes rest least all (inr k) (inr l) = inr (omega (arith, k.1, length-append all rest, length-append least rest, l))
 
 -- ---- fields
 -- the bytes of what the fields keep
@@ -282,7 +288,7 @@ kept_told form clock r flags bytes k behind_fields more rest fits here c f =
 spelled_told : (form : Form) (clock : ℕ) (r : Stamp) (flags : ℕ) (bytes : List ℕ) (k : FieldContent) (behind_fields : List ℕ) (more : Behind) (rest : List ℕ) (removed : Bool) → flags < 256 → is_set flags 128 ≡ removed
     → ContentSpelled flags bytes k behind_fields → Found (behind form clock) behind_fields more rest → Spelled (HasRemoval (slot_from r removed k more)) (told_bytes form (slot_from r removed k more)) (flags ∷ bytes) rest
 spelled_told form clock r flags bytes k behind_fields more rest true fits e c f =
-    removed_told form r flags bytes k behind_fields more rest fits e c (nothing_or_longer form behind_fields more rest (spelled_behind form clock behind_fields more rest f)) (fields_some k)
+    removed_told form r flags bytes k behind_fields more rest fits e c (nothing_or_longer behind_fields rest (behind_bytes form nothing) (behind_bytes form more) (spelled_behind form clock behind_fields more rest f) (behind_least form more)) (fields_some k)
 spelled_told form clock r flags bytes k behind_fields more rest false fits e c f = kept_told form clock r flags bytes k behind_fields more rest fits e c f
 
 spelled_slot : (form : Form) (clock : ℕ) (after : Option (List ℕ)) (bytes : List ℕ) (s : List ℕ × Slot) (rest : List ℕ) → Found (slot form clock after) bytes s rest → Spelled (HasRemoval s.1) (slot_bytes form s) bytes rest
@@ -342,14 +348,10 @@ spelled_delta bytes d f =
       spelled = subst (λ (p : ℕ × List (List ℕ × Slot)). Spelled (HaveRemoval p.1) (begun_bytes_in h.0 p.0 p.1) bytes (0 ∷ [])) (sym last.1) whole;
     }
 
--- bytes begin as one format does
-one_front : (a b : Form) (bytes : List ℕ) → Begins (magic_of a) bytes → Begins (magic_of b) bytes → a ≡ b
-one_front First First bytes f g = refl
-
 spelled_in : (form : Form) (bytes : List ℕ) (d : DeltaContent) → IsSpellingIn form bytes d → Spelled (HaveRemoval d.slots) (begun_bytes_in form d.clock d.slots) bytes (0 ∷ [])
 spelled_in form bytes d s =
     let t = spelled_delta bytes d s.1 in
-    subst (λ f. Spelled (HaveRemoval d.slots) (begun_bytes_in f d.clock d.slots) bytes (0 ∷ [])) (one_front t.form form bytes t.front s.0) t.spelled
+    subst (λ f. Spelled (HaveRemoval d.slots) (begun_bytes_in f d.clock d.slots) bytes (0 ∷ [])) (one_front t.form form t.front.more s.0.more (sym t.front.is ∙ s.0.is)) t.spelled
 
 one_or_longer : {gone : Type 0} (bytes front : List ℕ) → Spelled gone front bytes (0 ∷ []) → (bytes ≡ front ++ 0 ∷ []) ⊎ (length (front ++ 0 ∷ []) < length bytes)
 one_or_longer bytes front (inl e) = inl e

@@ -1,5 +1,5 @@
 -- The format of a delta, part by part. Numbers are big-endian.
-use Rattle.std.specs.Prelude.{◌≡◌, ℕ, zero, suc, ◌≤◌, ◌⊎◌, ◌==◌, Bool, true, false, List, [], ◌∷◌, ◌++◌, Option, None, IsUtf8}
+use Rattle.std.specs.Prelude.{◌≡◌, ℕ, zero, suc, ◌-◌, ◌≤◌, ◌⊎◌, ◌==◌, Bool, true, false, List, [], ◌∷◌, ◌++◌, length, Option, None, IsTrue, IsUtf8}
 use Rattle.std.specs.Int.{w16, w32, w64, from_be_bytes}
 use Rattle.lw_stamp.specs.declared.stamp.Stamp.{Stamp}
 use Rattle.lw_stamp.specs.declared.moment.Moment.{Moment}
@@ -7,6 +7,7 @@ use Rattle.lw_stamp.specs.Moment.{ms_of}
 use Rattle.lw_stamp.specs.Stamp.{stamp_bytes}
 use Rattle.lw_stamp.specs.StampBytes.{counter_in}
 use Rattle.lw_stamp.specs.TextOrder.{text_cmp}
+use Rattle.lw_join.specs.declared.last.Last.{Last}
 use Rattle.lw_link.specs.WellFormed.{IsPrinting}
 use Rattle.lw_reg.specs.declared.addr.Addr.{Addr}
 use Rattle.lw_reg.specs.declared.addr.Addr.TheVariants.{V4, V6}
@@ -14,6 +15,7 @@ use Rattle.lw_reg.specs.declared.base.Base.{Base}
 use Rattle.lw_reg.specs.declared.binding.Binding.{Binding}
 use Rattle.lw_reg.specs.declared.path.Path.{Path}
 use Rattle.lw_reg.specs.declared.slot.Slot.{Slot}
+use Rattle.lw_reg.specs.Attribute.{is_attribute_name}
 use Rattle.lw_reg.specs.Binding.{binding_text}
 use Rattle.lw_reg.specs.BindingText.{IsBindingText}
 use Rattle.lw_reg.specs.Body.{Watching}
@@ -21,10 +23,10 @@ use Rattle.lw_reg.specs.Orders.{path_cmp}
 use Rattle.lw_reg.specs.Path.{path_numbers}
 use Rattle.lw_delta.specs.declared.form.Form.{Form}
 use Rattle.lw_delta.specs.declared.fault.DeltaFault.TheVariants.{Magic, Order, Range, Text, ClockBelow}
-use Rattle.lw_delta.specs.Form.{magic_of}
+use Rattle.lw_delta.specs.Form.{magic_of, has_attributes}
 use Rattle.lw_delta.specs.Order.{IsAbove}
 use Rattle.lw_delta.specs.Part.{Part, byte, bytes_of, means, gives, must, followed, when, optional, repeated}
-use Rattle.lw_delta.specs.Values.{is_set, base_in, FieldContent, Behind, slot_from, watching_from}
+use Rattle.lw_delta.specs.Values.{is_set, base_in, FieldContent, Behind, slot_from, list_or_none, watching_from}
 
 -- ---- numbers
 abbrev pub number16 : Part ℕ
@@ -87,6 +89,22 @@ abbrev pub objects : Part (List ℕ)
 objects = followed number16 (λ count. must ((1 ≤ count) × (count ≤ 8192)) Range (
     followed (bytes_of count) (λ text. must (IsPrinting text) Text (gives text))))
 
+-- ---- attributes
+-- 1 to 255 bytes of UTF-8, the name of an attribute, above the name before
+abbrev pub attribute_name : Option (List ℕ) → Part (List ℕ)
+attribute_name after = followed byte (λ count. must (1 ≤ count) Range (
+    followed (text count) (λ name. must (IsTrue (is_attribute_name name)) Text (must (IsAbove text_cmp after name) Order (gives name)))))
+
+-- what a query of 255 bytes has room for behind the name and `=`
+abbrev pub attribute_value : List ℕ → Part (List ℕ)
+attribute_value name = followed byte (λ count. must (count ≤ 254 - length name) Range (text count))
+
+abbrev pub attribute : ℕ → Option (List ℕ) → Part (List ℕ × Last (List ℕ))
+attribute clock after = followed (attribute_name after) (λ name. followed (written clock (attribute_value name)) (λ w. gives (name, record { write = w })))
+
+abbrev pub attributes : ℕ → Part (List (List ℕ × Last (List ℕ)))
+attributes clock = repeated (attribute clock) (λ a. a.0) None
+
 -- ---- watches
 abbrev pub path_number : Part ℕ
 path_number = followed number16 (λ number. must (number ≤ 65534) Range (gives number))
@@ -112,7 +130,8 @@ watches clock = repeated (watch clock) (λ w. w.0) None
 
 -- what stands behind the fields of a slot, by the format
 abbrev pub behind : Form → ℕ → Part Behind
-behind form clock = followed (watches clock) (λ ws. gives (record { watches = ws }))
+behind form clock = followed (when (has_attributes form) (attributes clock)) (λ es. followed (watches clock) (λ ws.
+    gives (record { attributes = list_or_none es; watches = ws })))
 
 -- ---- slots
 -- 1 to 252 bytes of UTF-8, above the endpoint before

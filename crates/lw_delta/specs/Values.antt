@@ -1,7 +1,8 @@
 -- What the bytes of a delta stand for.
-use Rattle.std.specs.Prelude.{ℕ, ◌/◌, ◌%◌, ◌==◌, nat_lt, Bool, if◌then◌else◌, List, Option, Some, None, bit_and}
+use Rattle.std.specs.Prelude.{ℕ, ◌/◌, ◌%◌, ◌==◌, nat_lt, Bool, if◌then◌else◌, List, [], Option, Some, None, bit_and}
 use Rattle.lw_stamp.specs.declared.stamp.Stamp.{Stamp}
 use Rattle.lw_stamp.specs.declared.moment.Moment.{Moment}
+use Rattle.lw_join.specs.declared.last.Last.{Last}
 use Rattle.lw_join.specs.Parts.{made}
 use Rattle.lw_reg.specs.declared.addr.Addr.{Addr}
 use Rattle.lw_reg.specs.declared.base.Base.{Base}
@@ -12,7 +13,7 @@ use Rattle.lw_reg.specs.declared.slot.Slot.{Slot}
 use Rattle.lw_reg.specs.declared.version.Version.TheVariants.{V10, V11}
 use Rattle.lw_reg.specs.Body.{Watching}
 use Rattle.lw_reg.specs.Fields.{slot_of_fields}
-use Rattle.lw_reg.specs.Reading.{watches_of}
+use Rattle.lw_reg.specs.Reading.{attributes_of, watches_of}
 use Rattle.lw_reg.specs.Slot.{observed, cancelled}
 
 abbrev pub is_set : ℕ → ℕ → Bool
@@ -24,12 +25,13 @@ base_in bits = record { version = if bits % 2 == 1 then V11 else V10; queue = bi
 
 -- what a slot has behind its fields
 pub record Behind : Type 0 where
+  pub attributes : List (List ℕ × Last (List ℕ))
   pub watches : List (Path × Watching)
 
 abbrev pub behind_of : Slot → Behind
-behind_of slot = record { watches = watches_of slot }
+behind_of slot = record { attributes = attributes_of slot; watches = watches_of slot }
 
--- the fields of a registration but for its watches
+-- the fields of a registration but for its attributes and watches
 pub record FieldContent : Type 0 where
   pub base : Option Base
   pub address : Option (Stamp × Addr)
@@ -48,6 +50,7 @@ all_fields f behind = record {
   binding = f.binding;
   sms = f.sms;
   objects = f.objects;
+  attributes = made behind.attributes;
   watches = made behind.watches;
 }
 
@@ -57,6 +60,10 @@ fields_from removed f behind = if removed then None else Some (all_fields f behi
 
 abbrev pub slot_from : Stamp → Bool → FieldContent → Behind → Slot
 slot_from stamp removed f behind = slot_of_fields stamp (fields_from removed f behind)
+
+abbrev pub list_or_none : {A : Type 0} → Option (List A) → List A
+list_or_none None = []
+list_or_none (Some xs) = xs
 
 abbrev pub accept_from : Option (Option ℕ) → Option ℕ
 accept_from None = None

@@ -1,10 +1,11 @@
 -- The bytes of a delta, part by part. A removed registration is a flag byte alone, and so is a cancelled watch.
-use Rattle.std.specs.Prelude.{◌≡◌, ℕ, ◌+◌, Bool, if◌then◌else◌, is_some, List, [], ◌∷◌, ◌++◌, length, drop, Option, Some, None}
+use Rattle.std.specs.Prelude.{◌≡◌, ℕ, ◌+◌, Bool, true, false, if◌then◌else◌, is_some, List, [], ◌∷◌, ◌++◌, length, drop, Option, Some, None}
 use Rattle.std.specs.Int.{w16, w32, w64, to_be_bytes}
 use Rattle.lw_stamp.specs.declared.stamp.Stamp.{Stamp}
 use Rattle.lw_stamp.specs.declared.moment.Moment.{Moment}
 use Rattle.lw_stamp.specs.Moment.{ms_of}
 use Rattle.lw_stamp.specs.Stamp.{stamp_bytes}
+use Rattle.lw_join.specs.declared.last.Last.{Last}
 use Rattle.lw_join.specs.declared.once.Once.{Once}
 use Rattle.lw_join.specs.declared.or_gone.OrGone.{OrGone}
 use Rattle.lw_join.specs.declared.or_gone.OrGone.TheVariants.{Here, Gone}
@@ -22,7 +23,7 @@ use Rattle.lw_reg.specs.Body.{Watching}
 use Rattle.lw_reg.specs.Path.{path_numbers}
 use Rattle.lw_reg.specs.Reading.{stamp_of, base_of, address_of, seen_of, lifetime_of, binding_of, sms_of, objects_of}
 use Rattle.lw_delta.specs.declared.form.Form.{Form}
-use Rattle.lw_delta.specs.Form.{magic_of, latest}
+use Rattle.lw_delta.specs.Form.{magic_of, has_attributes, latest}
 use Rattle.lw_delta.specs.Values.{Behind, behind_of}
 
 -- the bytes begin with these
@@ -105,9 +106,17 @@ repeated_bytes bytes (x ∷ xs) = 1 ∷ (bytes x ++ repeated_bytes bytes xs)
 abbrev pub watches_bytes : List (Path × Watching) → List ℕ
 watches_bytes ws = repeated_bytes watch_bytes ws
 
+abbrev pub attribute_bytes : List ℕ × Last (List ℕ) → List ℕ
+attribute_bytes a = text_bytes a.0 ++ (stamp_bytes a.1.write.0 ++ text_bytes a.1.write.1)
+
+-- nothing, where the format has no attributes
+abbrev pub attributes_bytes : Bool → List (List ℕ × Last (List ℕ)) → List ℕ
+attributes_bytes true attributes = repeated_bytes attribute_bytes attributes
+attributes_bytes false attributes = []
+
 -- what stands behind the fields of a slot
 abbrev pub behind_bytes : Form → Behind → List ℕ
-behind_bytes form more = watches_bytes more.watches
+behind_bytes form more = attributes_bytes (has_attributes form) more.attributes ++ watches_bytes more.watches
 
 abbrev pub flag_if : ℕ → Bool → ℕ
 flag_if flag set = if set then flag else 0

@@ -2,19 +2,20 @@
 
 ghost use Rattle.std.specs.Prelude.{◌≡◌, Option, IfSome, Some};
 ghost use Rattle.lw_delta.specs.declared.form.Form.{Form as Forms};
-ghost use Rattle.lw_delta.specs.Form.{magic_of, latest};
+ghost use Rattle.lw_delta.specs.Form.{magic_of, has_attributes, latest};
 
 /// A format of a delta, by its first four bytes.
 #[derive(Clone, Copy)]
 pub(crate) enum Form {
     First,
+    Second,
 }
 
 /// The format that is written.
 pub(crate) fn latest() -> Form
     ensures { result ≡ latest }
 {
-    Form::First
+    Form::Second
 }
 
 /// The four bytes that a format begins with.
@@ -23,6 +24,7 @@ pub(crate) fn magic(form: Form) -> [u8; 4]
 {
     match form {
         Form::First => *b"LWD1",
+        Form::Second => *b"LWD2",
     }
 }
 
@@ -33,6 +35,17 @@ pub(crate) fn form_of(magic: &[u8]) -> Option<Form>
 {
     match magic {
         b"LWD1" => Some(Form::First),
+        b"LWD2" => Some(Form::Second),
         _ => None,
+    }
+}
+
+/// Whether a slot of that format has attributes.
+pub(crate) fn has_attributes(form: Form) -> bool
+    ensures { result ≡ has_attributes form }
+{
+    match form {
+        Form::First => false,
+        Form::Second => true,
     }
 }

@@ -2,6 +2,7 @@
 //! `Reader` take them apart, and a `Writer` puts them together.
 #![tactic(auto)]
 
+mod attributes;
 mod behind;
 mod checking;
 mod delta;

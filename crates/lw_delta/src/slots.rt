@@ -1,10 +1,8 @@
 //! Slots, one after another.
 
-ghost use Rattle.std.specs.Prelude.{◌≡◌, ℕ, ◌↔◌, List, length, IsTrue, IfOk, IfErr};
+ghost use Rattle.std.specs.Prelude.{◌≡◌, ℕ, List, length, IsTrue, IfOk, IfErr};
 ghost use Rattle.std.specs.Option.{option_copied};
-ghost use Rattle.lw_stamp.specs.TextOrder.{text_cmp};
 ghost use Rattle.lw_reg.specs.declared.slot.Slot.{Slot as Slots};
-ghost use Rattle.lw_delta.specs.Order.{IsAbove};
 ghost use Rattle.lw_delta.specs.Part.{Found, Fails, IsFound, optional};
 ghost use Rattle.lw_delta.specs.Format.{endpoint as endpoint_part, slot as slot_part, slots as slots_part};
 ghost use Rattle.lw_delta.specs.Lent.{LentAt, NextAt};
@@ -14,7 +12,7 @@ use crate::behind::{LentBehind, check_behind};
 use crate::fields::{LentFields, fields};
 use crate::form::Form;
 use crate::numbers::{byte, is_set, is_within, stamp, tag};
-use crate::values::text;
+use crate::values::{is_above, text};
 use lw_reg::Endpoint;
 use lw_stamp::Stamp;
 
@@ -28,15 +26,6 @@ pub(crate) struct LentSlot<'a> {
     pub removed: bool,
     pub fields: LentFields<'a>,
     pub behind: LentBehind<'a>,
-}
-
-fn is_above(after: Option<&str>, endpoint: &str) -> bool
-    ensures { IsTrue result ↔ IsAbove text_cmp (option_copied after.entry) endpoint.now }
-{
-    match after {
-        None => true,
-        Some(before) => before < endpoint,
-    }
 }
 
 fn endpoint<'a>(after: Option<&str>, bytes: &'a [u8]) -> Result<(&'a str, &'a [u8]), DeltaFault>
