@@ -10,7 +10,7 @@ use Rattle.lw_reg.specs.declared.slot.Slot.{Slot}
 use Rattle.lw_reg.specs.Body.{Watching}
 use Rattle.lw_delta.specs.declared.form.Form.{Form}
 use Rattle.lw_delta.specs.Order.{IsAbove}
-use Rattle.lw_delta.specs.Part.{Part, Found, bytes_of, means, must, followed, when, last_key, Walks, repeated}
+use Rattle.lw_delta.specs.Part.{Part, bytes_of, means, must, followed, last_key, Walks, repeated}
 use Rattle.lw_delta.specs.Format.{number48, stamp, written, attribute, watch, behind, endpoint, fields, slot, header}
 use Rattle.lw_delta.specs.Values.{FieldContent, Behind, behind_of, slot_from, watching_from}
 use Rattle.lw_delta.specs.Delta.{DeltaContent, IsSpelling}

@@ -20,7 +20,7 @@ use Rattle.lw_delta.specs.Form.{magic_of, latest}
 use Rattle.lw_delta.specs.Order.{IsAbove}
 use Rattle.lw_delta.specs.Part.{Part, Found, when, optional, Walks, repeated}
 use Rattle.lw_delta.specs.Format.{base, endpoint, fields, slot, slots, magic, header, delta}
-use Rattle.lw_delta.specs.Values.{is_set, FieldContent, Behind, behind_of, slot_from}
+use Rattle.lw_delta.specs.Values.{is_set, FieldContent, behind_of, slot_from}
 use Rattle.lw_delta.specs.Delta.{IsSpelling}
 use Rattle.lw_delta.specs.Writable.{StampsWithin, Follows, IsOwnText, FieldsTyped, IsTyped, AreGood}
 use Rattle.lw_delta.specs.Writing.{base_byte, base_bytes, addr_bytes, moment_bytes, number32_bytes, binding_bytes, sms_bytes, objects_bytes, written_bytes, number48_bytes, text_bytes, behind_bytes, field_flags, fields_bytes, slot_bytes, slots_bytes, delta_bytes}

@@ -18,7 +18,6 @@ use Rattle.lw_reg.specs.Orders.{path_cmp}
 use Rattle.lw_delta.specs.Order.{IsAbove}
 use Rattle.lw_delta.specs.Part.{Part, Found, optional, Walks, repeated}
 use Rattle.lw_delta.specs.Format.{number16, written, attribute_name, attribute_value, attribute, attributes, watch, watches, behind}
-use Rattle.lw_delta.specs.declared.form.Form.{Form}
 use Rattle.lw_delta.specs.Form.{latest}
 use Rattle.lw_delta.specs.Values.{Behind}
 use Rattle.lw_delta.specs.Writable.{AttributesWithin, TokensWithin, IsOwnText, AttributeTyped, AttributesTyped, AcceptTyped, AcceptsTyped, BehindTyped}

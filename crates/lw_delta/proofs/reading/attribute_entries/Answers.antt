@@ -1,4 +1,4 @@
-use Rattle.std.proofs.Common.{ℕ, List, Some, ◌++◌, ◌∷◌, [], ◌∙◌, sym, ap, subst, inl, inr}
+use Rattle.std.proofs.Common.{ℕ, List, Some, ◌++◌, ◌∷◌, [], sym, subst, inr}
 use Rattle.std.specs.Option.{option_copied}
 use Rattle.lw_join.specs.declared.last.Last.{Last}
 use Rattle.lw_delta.specs.Part.{Found, optional}

@@ -1,4 +1,3 @@
-use Rattle.std.proofs.Common.{sym}
 use Rattle.lw_delta.proofs.Grammar.{attributes_decided}
 use Rattle.lw_delta.proofs.Owning.{only_want, attributes_rise, attributes_are, no_attributes_are, there_found}
 use Rattle.lw_delta.proofs.Parts.{raised, refuted}
