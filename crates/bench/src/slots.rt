@@ -4,7 +4,7 @@ use crate::cost::Cost;
 use crate::fault::BenchFault;
 use crate::messages::ENDPOINT;
 use lw_join::Join;
-use lw_reg::{Addr, Endpoint, Op, Path, Slot, Text, What, atom};
+use lw_reg::{Addr, Endpoint, GivenSettings, Op, Path, Slot, Text, What, atom};
 use lw_stamp::{Moment, Stamp};
 use std::alloc::Global;
 use std::time::CpuClock;
@@ -102,10 +102,12 @@ fn update() -> What {
     What::Update {
         address: SOURCE,
         seen: Moment::START,
-        lifetime: Some(LIFETIME),
-        binding: None,
-        sms: None,
-        objects: None,
+        settings: GivenSettings {
+            lifetime: Some(LIFETIME),
+            binding: None,
+            sms: None,
+            objects: None,
+        },
     }
 }
 

@@ -1,7 +1,9 @@
 //! The slots of operations, which tables of tests list.
 
 use lw_link::LinkText;
-use lw_reg::{Addr, Binding, Endpoint, Op, Path, Slot, Text, Version, What, atom};
+use lw_reg::{
+    Addr, Binding, Endpoint, GivenSettings, Op, Path, Settings, Slot, Text, Version, What, atom,
+};
 use lw_stamp::{Moment, Stamp};
 use std::alloc::Global;
 use std::test::Fail;
@@ -83,10 +85,12 @@ fn register(alloc: Global, address: Addr, seen: u64, lifetime: u32) -> Result<Wh
         queue: false,
         address,
         seen: at(seen),
-        lifetime,
-        binding: Binding::U,
-        sms: None,
-        objects,
+        settings: Settings {
+            lifetime,
+            binding: Binding::U,
+            sms: None,
+            objects,
+        },
     })
 }
 
@@ -98,10 +102,12 @@ fn update(address: Addr, seen: u64, lifetime: Option<u32>, binding: Option<&str>
     What::Update {
         address,
         seen: at(seen),
-        lifetime,
-        binding,
-        sms: None,
-        objects: None,
+        settings: GivenSettings {
+            lifetime,
+            binding,
+            sms: None,
+            objects: None,
+        },
     }
 }
 

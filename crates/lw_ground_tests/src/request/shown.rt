@@ -1,7 +1,7 @@
 //! Meanings in words.
 
 use lw_link::LinkText;
-use lw_reg::{Binding, SmsNumber};
+use lw_reg::{Binding, GivenSettings, Settings, SmsNumber};
 use lw_request::{Asked, Report};
 use lw_stamp::Stamp;
 use std::alloc::{AllocError, Global};
@@ -59,42 +59,45 @@ fn objects_of(objects: &Option<LinkText>) -> &str {
     }
 }
 
+fn all(alloc: Global, settings: &Settings) -> Result<String, AllocError> {
+    let lifetime = settings.lifetime;
+    let binding = settings.binding.as_str();
+    let sms = sms_of(&settings.sms);
+    let objects = settings.objects.as_str();
+    format!(in alloc; "{lifetime} {binding} {sms} {objects}")
+}
+
+fn given(alloc: Global, settings: &GivenSettings) -> Result<String, AllocError> {
+    let lifetime = number(alloc, settings.lifetime)?;
+    let binding = binding_of(&settings.binding);
+    let sms = sms_of(&settings.sms);
+    let objects = objects_of(&settings.objects);
+    format!(in alloc; "{lifetime} {binding} {sms} {objects}")
+}
+
 fn registered(alloc: Global, asked: &Asked) -> Result<String, AllocError> {
     let Asked::Register {
         endpoint,
         version,
         queue,
-        lifetime,
-        binding,
-        sms,
-        objects,
+        settings,
     } = asked
     else {
         return Ok(String::new(alloc));
     };
     let endpoint = endpoint.as_str();
     let version = version.as_str();
-    let binding = binding.as_str();
-    let sms = sms_of(sms);
-    let objects = objects.as_str();
-    format!(in alloc; "register {endpoint} {version} {queue} {lifetime} {binding} {sms} {objects}")
+    let settings = all(alloc, settings)?;
+    format!(in alloc; "register {endpoint} {version} {queue} {settings}")
 }
 
 fn updated(alloc: Global, asked: &Asked) -> Result<String, AllocError> {
-    let Asked::Update {
-        id: of,
-        lifetime,
-        binding,
-        sms,
-        objects,
-    } = asked
-    else {
+    let Asked::Update { id: of, settings } = asked else {
         return Ok(String::new(alloc));
     };
-    let (binding, sms, objects) = (binding_of(binding), sms_of(sms), objects_of(objects));
     let of = id(alloc, *of)?;
-    let lifetime = number(alloc, *lifetime)?;
-    format!(in alloc; "update {of} {lifetime} {binding} {sms} {objects}")
+    let settings = given(alloc, settings)?;
+    format!(in alloc; "update {of} {settings}")
 }
 
 /// A meaning in words: its name and its fields. A refusal has but its name.
