@@ -63,7 +63,7 @@ fn other_registration<'a>(endpoint: &'a str, objects: &'a LinkText) -> View<'a> 
 }
 
 const SHOWN: &str =
-    r#"{"address":"127.0.0.1:5683","binding":"U","endpoint":"a","id":"0000000000010001","lifetime":60,"lwm2m":"1.1","objects":"</3/0>","queue":false,"seen":0,"sms":null}"#;
+    r#"{"address":"127.0.0.1:5683","attributes":{},"binding":"U","endpoint":"a","id":"0000000000010001","lifetime":60,"lwm2m":"1.1","objects":"</3/0>","queue":false,"seen":0,"sms":null}"#;
 
 /// A list of 256 links, of 7,909 bytes.
 fn long_list(alloc: Global) -> Result<LinkText, Fail> {

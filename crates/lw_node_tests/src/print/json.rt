@@ -14,7 +14,7 @@ fn a_registration(rt: HostRuntime) -> Result<(), Fail> {
 }
 
 const OTHER: &str =
-    r#"{"address":"[2001:0db8:0000:0000:0000:0000:0000:0001]:65535","binding":"U","endpoint":"a\"b\n","id":"0000000000010001","lifetime":4294967295,"lwm2m":"1.0","objects":"</3/0>;ct=\"1\\\"\"","queue":true,"seen":281474976710655,"sms":"+49"}"#;
+    r#"{"address":"[2001:0db8:0000:0000:0000:0000:0000:0001]:65535","attributes":{},"binding":"U","endpoint":"a\"b\n","id":"0000000000010001","lifetime":4294967295,"lwm2m":"1.0","objects":"</3/0>;ct=\"1\\\"\"","queue":true,"seen":281474976710655,"sms":"+49"}"#;
 
 #[test]
 fn another_registration(rt: HostRuntime) -> Result<(), Fail> {
