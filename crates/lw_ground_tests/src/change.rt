@@ -2,7 +2,8 @@
 
 use lw_link::LinkText;
 use lw_reg::{
-    Addr, Binding, Endpoint, GivenSettings, Op, Path, Settings, Slot, Text, Version, What, atom,
+    Addr, Attributes, Binding, Endpoint, GivenSettings, Op, Path, Settings, Slot, Text, Version,
+    What, atom,
 };
 use lw_stamp::{Moment, Stamp};
 use std::alloc::Global;
@@ -90,11 +91,18 @@ fn register(alloc: Global, address: Addr, seen: u64, lifetime: u32) -> Result<Wh
             binding: Binding::U,
             sms: None,
             objects,
+            attributes: Attributes::new(alloc),
         },
     })
 }
 
-fn update(address: Addr, seen: u64, lifetime: Option<u32>, binding: Option<&str>) -> What {
+fn update(
+    alloc: Global,
+    address: Addr,
+    seen: u64,
+    lifetime: Option<u32>,
+    binding: Option<&str>,
+) -> What {
     let binding = match binding {
         None => None,
         Some(letters) => Binding::read(letters),
@@ -107,6 +115,7 @@ fn update(address: Addr, seen: u64, lifetime: Option<u32>, binding: Option<&str>
             binding,
             sms: None,
             objects: None,
+            attributes: Attributes::new(alloc),
         },
     }
 }
@@ -119,7 +128,7 @@ fn what(alloc: Global, act: Act<'_>) -> Result<What, Fail> {
     match act {
         Act::Register(address, seen, lifetime) => register(alloc, address, seen, lifetime),
         Act::Update(address, seen, lifetime, binding) => {
-            Ok(update(address, seen, lifetime, binding))
+            Ok(update(alloc, address, seen, lifetime, binding))
         }
         Act::Remove => Ok(What::Remove),
         Act::Observe(numbers, accept) => Ok(What::Observe {
