@@ -99,7 +99,7 @@ given : Option ℕ → Option Binding → Option (List ℕ) → Option (List ℕ
 given lifetime binding sms objects = record { lifetime = lifetime; binding = binding; sms = sms; objects = objects }
 
 told_given : (s : Stamp) (address : Addr) (seen : Moment) (l : Option ℕ) (b : Option Binding) (m o : Option (List ℕ)) → tell_all Named (traces_of s (Update address seen (given l b m o))) ≡ told_of s (Update address seen (given l b m o))
-unfolding tell_all, given
+unfolding tell_all given
 told_given s address seen None None None None = simp none_first
 told_given s address seen None None None (Some o) = simp none_first
 told_given s address seen None None (Some m) None = simp none_first
@@ -118,7 +118,7 @@ told_given s address seen (Some l) (Some b) (Some m) None = simp none_first
 told_given s address seen (Some l) (Some b) (Some m) (Some o) = simp none_first
 
 told_all : (s : Stamp) (w : What) → tell_all Named (traces_of s w) ≡ told_of s w
-unfolding tell_all, given
+unfolding tell_all given
 told_all s (Register version queue address seen settings) = simp none_first
 told_all s (Update address seen settings) = told_given s address seen settings.lifetime settings.binding settings.sms settings.objects
 told_all s Remove = refl

@@ -1,7 +1,7 @@
 -- The attributes of a registration: the queries of a Register and an Update whose names are no parameters' (LwM2M
 -- 1.1 Core, section 6.2.1).
 use Rattle.std.specs.Prelude.{ℕ, ◌-◌, ◌≤◌, ◌==◌, Bool, ◌&&◌, not, nat_lt, IsTrue, List, [], ◌∷◌, length, codes, map}
-use Rattle.core.specs.Str.{bytes_eq}
+use Rattle.std.specs.Str.{bytes_eq}
 use Rattle.std.specs.List.{list_any, AllByRecursion}
 use Rattle.lw_stamp.specs.TextOrder.{text_cmp}
 use Rattle.lw_join.specs.Entries.{Rises}
