@@ -26,6 +26,7 @@ use Rattle.lw_reg.specs.declared.binding.Binding.{Binding}
 use Rattle.lw_reg.specs.declared.body.Body.{Body}
 use Rattle.lw_reg.specs.declared.op.Op.{Op}
 use Rattle.lw_reg.specs.declared.op.What.{What}
+use Rattle.lw_reg.specs.declared.settings.GivenSettings.{GivenSettings}
 use Rattle.lw_reg.specs.declared.op.What.TheVariants.{Register, Update, Remove, Observe, Cancel}
 use Rattle.lw_reg.specs.declared.slot.Slot.{Slot}
 use Rattle.lw_reg.specs.Body.{body_join, no_watches}
@@ -105,8 +106,8 @@ timely_own : (r : Registration) → timely (ms_of r.seen) (Some r) ≡ Some r
 timely_own r = ap (λ b. cond b (Some r) None) (in_own_time r)
 
 registers : (e : List ℕ) (id s : Stamp) (what : What) (r : Registration) → registered e id what ≡ Some r → registered_in e (slot_at id (told_of s what)) ≡ Some r
-registers e id s (Register version queue address seen lifetime binding sms objects) r h = h
-registers e id s (Update address seen lifetime binding sms objects) r h = absurd cc
+registers e id s (Register version queue address seen settings) r h = h
+registers e id s (Update address seen settings) r h = absurd cc
 registers e id s Remove r h = absurd cc
 registers e id s (Observe path accept) r h = absurd cc
 registers e id s (Cancel path token) r h = absurd cc
@@ -207,15 +208,15 @@ sms_kept None v = refl
 sms_kept (Some m) v = refl
 
 -- what an Update leaves of a body
-abbrev updated_body : Body → Stamp → Addr → Moment → Option ℕ → Option Binding → Option (List ℕ) → Option (List ℕ) → Body
-updated_body b t address seen lifetime binding sms objects = body_join b (record {
+abbrev updated_body : Body → Stamp → Addr → Moment → GivenSettings → Body
+updated_body b t address seen given = body_join b (record {
   base = record { value = None };
   address = record { write = Some (t, address) };
   seen = record { write = Some (t, seen) };
-  lifetime = record { write = write_of t lifetime };
-  binding = record { write = write_of t binding };
-  sms = record { write = write_of t (some_text sms) };
-  objects = record { write = write_of t objects };
+  lifetime = record { write = write_of t given.lifetime };
+  binding = record { write = write_of t given.binding };
+  sms = record { write = write_of t (some_text given.sms) };
+  objects = record { write = write_of t given.objects };
   watches = no_watches;
 })
 
@@ -228,21 +229,21 @@ record IsBefore (t : Stamp) {e : List ℕ} {r : Stamp} {b : Body} {v : Registrat
   sms : stamp_cmp w.sms.0 t ≡ Less
   objects : stamp_cmp w.objects.0 t ≡ Less
 
-record Updated (M : Marks) (e : List ℕ) (before : Registration) (c : Body) (address : Addr) (seen : Moment) (lifetime : Option ℕ) (binding : Option Binding) (sms objects : Option (List ℕ)) : Type 0 where
+record Updated (M : Marks) (e : List ℕ) (before : Registration) (c : Body) (address : Addr) (seen : Moment) (given : GivenSettings) : Type 0 where
   registration : Registration
   shown : registered_in e (slot_at before.id (Here c)) ≡ Some registration
-  is : IsUpdated M before address seen lifetime binding sms objects registration
+  is : IsUpdated M before address seen given registration
 
-updates : (M : Marks) (e : List ℕ) (before : Registration) (b : Body) (w : IsWhole e before.id b before) (t : Stamp) (address : Addr) (seen : Moment) (lifetime : Option ℕ) (binding : Option Binding) (sms objects : Option (List ℕ))
-    → ((base : Base) → IsBase M before.endpoint before.id base → w.base ≡ base) → IsBefore t w → Updated M e before (updated_body b t address seen lifetime binding sms objects) address seen lifetime binding sms objects
-updates M e before b w t address seen lifetime binding sms objects stood older =
+updates : (M : Marks) (e : List ℕ) (before : Registration) (b : Body) (w : IsWhole e before.id b before) (t : Stamp) (address : Addr) (seen : Moment) (given : GivenSettings)
+    → ((base : Base) → IsBase M before.endpoint before.id base → w.base ≡ base) → IsBefore t w → Updated M e before (updated_body b t address seen given) address seen given
+updates M e before b w t address seen given stood older =
     let hb = ap (λ o. option_join (greater base_cmp) o None) w.base_is in
     let ha = field_after addr_cmp b.address.write w.address t (Some address) w.address_is older.address in
     let hs = field_after moment_cmp b.seen.write w.seen t (Some seen) w.seen_is older.seen in
-    let hl = field_after nat_cmp b.lifetime.write w.lifetime t lifetime w.lifetime_is older.lifetime in
-    let hi = field_after binding_cmp b.binding.write w.binding t binding w.binding_is older.binding in
-    let hm = field_after sms_cmp b.sms.write w.sms t (some_text sms) w.sms_is older.sms in
-    let ho = field_after text_cmp b.objects.write w.objects t objects w.objects_is older.objects in
+    let hl = field_after nat_cmp b.lifetime.write w.lifetime t given.lifetime w.lifetime_is older.lifetime in
+    let hi = field_after binding_cmp b.binding.write w.binding t given.binding w.binding_is older.binding in
+    let hm = field_after sms_cmp b.sms.write w.sms t (some_text given.sms) w.sms_is older.sms in
+    let ho = field_after text_cmp b.objects.write w.objects t given.objects w.objects_is older.objects in
     record { registration = r; shown = λ i. registration_of e before.id (hb i) (ha i) (hs i) (hl i) (hi i) (hm i) (ho i); is = updated }
   where
     same : ◌≡◌ {A = Registration} (record {
@@ -265,26 +266,26 @@ updates M e before b w t address seen lifetime binding sms objects stood older =
       id = before.id;
       address = address;
       seen = seen;
-      lifetime = or_before lifetime w.lifetime.1;
+      lifetime = or_before given.lifetime w.lifetime.1;
       version = w.base.version;
-      binding = or_before binding w.binding.1;
-      queue = queue_of w.base (or_before binding w.binding.1);
-      sms = or_before (some_text sms) w.sms.1;
-      objects = or_before objects w.objects.1;
+      binding = or_before given.binding w.binding.1;
+      queue = queue_of w.base (or_before given.binding w.binding.1);
+      sms = or_before (some_text given.sms) w.sms.1;
+      objects = or_before given.objects w.objects.1;
     }
 
-    updated : IsUpdated M before address seen lifetime binding sms objects r
+    updated : IsUpdated M before address seen given r
     updated = record {
       endpoint = ap (λ (x : Registration). x.endpoint) same;
       id = refl;
       address_is = refl;
       seen_is = refl;
-      lifetime_is = ap (λ (x : Registration). or_before lifetime x.lifetime) same;
+      lifetime_is = ap (λ (x : Registration). or_before given.lifetime x.lifetime) same;
       version = ap (λ (x : Registration). x.version) same;
-      binding_is = ap (λ (x : Registration). or_before binding x.binding) same;
-      queue = λ base is. ap (λ b. queue_of b (or_before binding w.binding.1)) (stood base is);
-      sms_is = sms_kept sms w.sms.1 ∙ ap (λ (x : Registration). or_kept sms x.sms) same;
-      objects_is = ap (λ (x : Registration). or_before objects x.objects) same;
+      binding_is = ap (λ (x : Registration). or_before given.binding x.binding) same;
+      queue = λ base is. ap (λ b. queue_of b (or_before given.binding w.binding.1)) (stood base is);
+      sms_is = sms_kept given.sms w.sms.1 ∙ ap (λ (x : Registration). or_kept given.sms x.sms) same;
+      objects_is = ap (λ (x : Registration). or_before given.objects x.objects) same;
     }
 
 -- all that the state shows is older than the operation
@@ -305,11 +306,11 @@ older_than clock s fits op next before b h w = record {
         counter_less t op.stamp (omega arith)
 
 pub updates_read_back : UpdatesReadBack
-updates_read_back old new op f now before s here own address seen lifetime binding sms objects what =
+updates_read_back old new op f now before s here own address seen given what =
     go (get old.table.state op.endpoint) refl ((view_reads (shown_in old.table.state) (read_names old.table.state) old.table.state (read_tells old.table.state) now op.endpoint before).1 (sym here, s))
   where
     go : (o : Option Slot) → get old.table.state op.endpoint ≡ o → view_with now op.endpoint o ≡ Some before
-        → (r : Registration) × IsUpdated (shown_in old.table.state) before address seen lifetime binding sms objects r × ShownOf (shown_in new.table.state) (ms_of seen) op.endpoint (Some r)
+        → (r : Registration) × IsUpdated (shown_in old.table.state) before address seen given r × ShownOf (shown_in new.table.state) (ms_of seen) op.endpoint (Some r)
     go None h k = absurd cc
     go (Some slot) h k = (u.registration, u.is, read_by_endpoint new.table.state (ms_of seen) op.endpoint (Some u.registration) (sym found))
       where
@@ -326,14 +327,14 @@ updates_read_back old new op f now before s here own address seen lifetime bindi
             ∙ (subst (λ o. shown_by_option op.endpoint o (record { endpoint = op.endpoint; registration = before.id; trace = Based base })) there
             (subst (λ e. Has (shown_in old.table.state) e before.id (Based base)) (sym here) is.member)).2)
 
-        u : Updated (shown_in old.table.state) op.endpoint before (updated_body body.body op.stamp address seen lifetime binding sms objects) address seen lifetime binding sms objects
-        u = updates (shown_in old.table.state) op.endpoint before body.body body.whole_is op.stamp address seen lifetime binding sms objects stood (older_than old.clock old.table.state f.fits op f.next before body.body there body.whole_is)
+        u : Updated (shown_in old.table.state) op.endpoint before (updated_body body.body op.stamp address seen given) address seen given
+        u = updates (shown_in old.table.state) op.endpoint before body.body body.whole_is op.stamp address seen given stood (older_than old.clock old.table.state f.fits op f.next before body.body there body.whole_is)
 
-        joined : option_join slot_join (get old.table.state op.endpoint) (Some (slot_of op)) ≡ Some (slot_at before.id (Here (updated_body body.body op.stamp address seen lifetime binding sms objects)))
+        joined : option_join slot_join (get old.table.state op.endpoint) (Some (slot_of op)) ≡ Some (slot_at before.id (Here (updated_body body.body op.stamp address seen given)))
         joined =
             ap (λ o. option_join slot_join o (Some (slot_of op))) there
             ∙ ap (λ (p : Stamp × What). Some (slot_join (slot_at before.id (Here body.body)) (slot_at p.0 (told_of op.stamp p.1)))) (λ i. (own i, what i))
-            ∙ ap (λ x. Some x) (slot_same before.id (Here body.body) (told_of op.stamp (Update address seen lifetime binding sms objects)))
+            ∙ ap (λ x. Some x) (slot_same before.id (Here body.body) (told_of op.stamp (Update address seen given)))
 
         found : view_at (ms_of seen) new.table.state op.endpoint ≡ Some u.registration
         found =

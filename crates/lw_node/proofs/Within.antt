@@ -136,16 +136,16 @@ written_within c field each None = tt
 written_within c field each (Some v) = (each v, tt)
 
 traces_within : (c : ℕ) (s : Stamp) (w : What) → s.counter ≤ c → TokenWithin c w → TracesWithin c (traces_of s w)
-traces_within c s (Register version queue address seen lifetime binding sms objects) le token = (tt, (le, (le, (le, (le, (le, (le, tt)))))))
-traces_within c s (Update address seen lifetime binding sms objects) le token =
-    (le, (le, append_within c _ _ (append_within c _ _ (append_within c _ _ (written_within c (LifetimeAt s) (λ v. le) lifetime) (written_within c (BindingAt s) (λ v. le) binding)) (written_within c (λ text. SmsAt s (Some text)) (λ v. le) sms)) (written_within c (ObjectsAt s) (λ v. le) objects)))
+traces_within c s (Register version queue address seen settings) le token = (tt, (le, (le, (le, (le, (le, (le, tt)))))))
+traces_within c s (Update address seen settings) le token =
+    (le, (le, append_within c _ _ (append_within c _ _ (append_within c _ _ (written_within c (LifetimeAt s) (λ v. le) settings.lifetime) (written_within c (BindingAt s) (λ v. le) settings.binding)) (written_within c (λ text. SmsAt s (Some text)) (λ v. le) settings.sms)) (written_within c (ObjectsAt s) (λ v. le) settings.objects)))
 traces_within c s Remove le token = (tt, tt)
 traces_within c s (Observe path accept) le token = (le, tt)
 traces_within c s (Cancel path t) le token = (token, tt)
 
 token_more : (c d : ℕ) → c ≤ d → (w : What) → TokenWithin c w → TokenWithin d w
-token_more c d le (Register version queue address seen lifetime binding sms objects) h = tt
-token_more c d le (Update address seen lifetime binding sms objects) h = tt
+token_more c d le (Register version queue address seen settings) h = tt
+token_more c d le (Update address seen settings) h = tt
 token_more c d le Remove h = tt
 token_more c d le (Observe path accept) h = tt
 token_more c d le (Cancel path t) h = omega arith

@@ -7,11 +7,11 @@ use Rattle.lw_stamp.specs.declared.stamp.Stamp.{Stamp}
 use Rattle.lw_stamp.specs.Moment.{ms_of}
 use Rattle.lw_reg.specs.declared.addr.Addr.{Addr}
 use Rattle.lw_reg.specs.declared.base.Base.{Base}
-use Rattle.lw_reg.specs.declared.binding.Binding.{Binding}
 use Rattle.lw_reg.specs.declared.op.Op.{Op}
 use Rattle.lw_reg.specs.declared.op.What.{What}
 use Rattle.lw_reg.specs.declared.op.What.TheVariants.{Register, Update}
 use Rattle.lw_reg.specs.declared.path.Path.{Path}
+use Rattle.lw_reg.specs.declared.settings.GivenSettings.{GivenSettings}
 use Rattle.lw_reg.specs.declared.slot.Slot.{Slot}
 use Rattle.lw_reg.specs.Marks.{Mark, Marks, Has, left_by, marks_of, all_marks}
 use Rattle.lw_reg.specs.Marks.Trace.{Watched}
@@ -67,17 +67,17 @@ pub record Follows (old : NodeContent) (op : Op) (new : NodeContent) : Type 0 wh
 -- ---- read back
 -- what is shown of a Register
 abbrev pub registered : List ℕ → Stamp → What → Option Registration
-registered endpoint id (Register version queue address seen lifetime binding sms objects) = Some (record {
+registered endpoint id (Register version queue address seen settings) = Some (record {
   endpoint = endpoint;
   id = id;
   address = address;
   seen = seen;
-  lifetime = lifetime;
+  lifetime = settings.lifetime;
   version = version;
-  binding = binding;
-  queue = queue_of (record { version = version; queue = queue }) binding;
-  sms = sms;
-  objects = objects;
+  binding = settings.binding;
+  queue = queue_of (record { version = version; queue = queue }) settings.binding;
+  sms = settings.sms;
+  objects = settings.objects;
 })
 registered endpoint id _ = None
 
@@ -99,29 +99,29 @@ or_kept (Some value) before = Some value
 
 -- The registration, with what an Update writes. Its queue mode is that of the base, as it stands in these marks, and of the
 -- binding that it has now.
-pub record IsUpdated (M : Marks) (before : Registration) (address : Addr) (seen : Moment) (lifetime : Option ℕ) (binding : Option Binding) (sms objects : Option (List ℕ)) (r : Registration) : Type 0 where
+pub record IsUpdated (M : Marks) (before : Registration) (address : Addr) (seen : Moment) (given : GivenSettings) (r : Registration) : Type 0 where
   pub endpoint : r.endpoint ≡ before.endpoint
   pub id : r.id ≡ before.id
   pub address_is : r.address ≡ address
   pub seen_is : r.seen ≡ seen
-  pub lifetime_is : r.lifetime ≡ or_before lifetime before.lifetime
+  pub lifetime_is : r.lifetime ≡ or_before given.lifetime before.lifetime
   pub version : r.version ≡ before.version
-  pub binding_is : r.binding ≡ or_before binding before.binding
+  pub binding_is : r.binding ≡ or_before given.binding before.binding
   pub queue : (base : Base) → IsBase M before.endpoint before.id base → r.queue ≡ queue_of base r.binding
-  pub sms_is : r.sms ≡ or_kept sms before.sms
-  pub objects_is : r.objects ≡ or_before objects before.objects
+  pub sms_is : r.sms ≡ or_kept given.sms before.sms
+  pub objects_is : r.objects ≡ or_before given.objects before.objects
 
 -- an Update of what is shown is shown at its moment as it was written
 abbrev pub UpdatesReadBack : Type 0
 UpdatesReadBack =
     (old new : NodeContent) (op : Op) → Follows old op new → (now : ℕ) (before : Registration) → IsShown (shown_in old.table.state) now before
     → op.endpoint ≡ before.endpoint → op.reg ≡ before.id
-    → (address : Addr) (seen : Moment) (lifetime : Option ℕ) (binding : Option Binding) (sms objects : Option (List ℕ)) → op.what ≡ Update address seen lifetime binding sms objects
-    → (r : Registration) × IsUpdated (shown_in old.table.state) before address seen lifetime binding sms objects r × ShownOf (shown_in new.table.state) (ms_of seen) op.endpoint (Some r)
+    → (address : Addr) (seen : Moment) (given : GivenSettings) → op.what ≡ Update address seen given
+    → (r : Registration) × IsUpdated (shown_in old.table.state) before address seen given r × ShownOf (shown_in new.table.state) (ms_of seen) op.endpoint (Some r)
 
 -- ---- a Register ends what was before
 abbrev pub IsRegister : What → Type 0
-IsRegister (Register version queue address seen lifetime binding sms objects) = Unit {0}
+IsRegister (Register version queue address seen settings) = Unit {0}
 IsRegister _ = ⊥
 
 -- no two operations have one stamp, and a Register is about the registration with its own
