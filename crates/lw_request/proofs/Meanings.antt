@@ -268,7 +268,7 @@ pub owns_number : (id : Option Stamp) (settings : GivenSettings) → IsSome sett
 owns_number id settings h = inl h
 
 pub owns_list : (id : Option Stamp) (l : Option ℕ) (b : Option Binding) (s : Option (List ℕ)) (o : List ℕ) → Owns (Update id (given_of l b s (Some o)))
-owns_list id l b s o = inr tt
+owns_list id l b s o = inr refl
 
 pub read_update_asks : (m : MessageContent) (segment : List ℕ) (id : Option Stamp) (l : Option ℕ) (b : Option Binding) (s : Option (List ℕ)) (o : Option (List ℕ))
     → IsReadUpdate m segment id l b s → AreObjects m.payload o → MeansBy post_steps m (Update id (given_of l b s o))
