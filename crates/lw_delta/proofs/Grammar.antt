@@ -1,5 +1,5 @@
 -- Each part of a delta is decided, and so is the whole.
-use Rattle.std.proofs.Common.{◌≡◌, ℕ, zero, suc, ◌<◌, ◌^◌, ◌==◌, Bool, true, false, List, Option, None, sym, ◌∙◌}
+use Rattle.std.proofs.Common.{◌≡◌, ℕ, zero, suc, ◌<◌, ◌^◌, ◌==◌, Bool, true, false, List, Option, None, refl, sym, ◌∙◌}
 use Rattle.std.specs.Coded.{le_prop}
 use mathlib.Core.HLevel.{is_prop→PathP}
 use Rattle.lw_stamp.specs.declared.moment.Moment.{Moment}
@@ -8,9 +8,12 @@ use Rattle.lw_stamp.proofs.StampLemmas.{one_of_bytes}
 use Rattle.lw_reg.specs.declared.path.Path.{Path}
 use Rattle.lw_reg.specs.BindingLaws.{same_binding}
 use Rattle.lw_reg.specs.OrderLaws.{same_path}
+use Rattle.lw_delta.specs.declared.form.Form.{Form}
+use Rattle.lw_delta.specs.declared.form.Form.TheVariants.{First}
 use Rattle.lw_delta.specs.declared.fault.DeltaFault.TheVariants.{Magic, Order, Range, Text, ClockBelow, NoMemory}
+use Rattle.lw_delta.specs.Form.{magic_of}
 use Rattle.lw_delta.specs.Part.{Part}
-use Rattle.lw_delta.specs.Format.{number16, number32, number48, stamp, written, base, host, address, moment, binding, text, sms_number, objects, numbers, path, watch, watches, endpoint, fields, slot, slots, header, delta}
+use Rattle.lw_delta.specs.Format.{number16, number32, number48, stamp, written, base, host, address, moment, binding, text, sms_number, objects, numbers, path, watch, watches, behind, endpoint, fields, slot, slots, magic, header, delta}
 use Rattle.lw_delta.proofs.Decided.{Decided, byte_decided, bytes_decided, means_decided, gives_decided, must_decided, followed_decided, when_decided, optional_decided, repeated_decided}
 
 no_magic : NoMemory ≡ Magic → ⊥
@@ -96,15 +99,24 @@ fields_decided clock flags =
     followed_decided (when_decided _ (written_decided clock binding_decided)) (λ e. followed_decided (when_decided _ (written_decided clock (optional_decided sms_decided))) (λ f.
     followed_decided (when_decided _ (written_decided clock objects_decided)) (λ g. gives_decided _)))))))
 
-pub slot_decided : (clock : ℕ) (after : Option (List ℕ)) → Decided (slot clock after)
-slot_decided clock after = followed_decided (endpoint_decided after) (λ e. followed_decided (stamp_decided clock) (λ r. followed_decided byte_decided (λ flags.
-    followed_decided (fields_decided clock flags) (λ kept. followed_decided (watches_decided clock) (λ ws. gives_decided _)))))
+pub behind_decided : (form : Form) (clock : ℕ) → Decided (behind form clock)
+behind_decided form clock = followed_decided (watches_decided clock) (λ ws. gives_decided _)
 
-pub slots_decided : (clock : ℕ) → Decided (slots clock)
-slots_decided clock = repeated_decided _ _ (slot_decided clock) None
+pub slot_decided : (form : Form) (clock : ℕ) (after : Option (List ℕ)) → Decided (slot form clock after)
+slot_decided form clock after = followed_decided (endpoint_decided after) (λ e. followed_decided (stamp_decided clock) (λ r. followed_decided byte_decided (λ flags.
+    followed_decided (fields_decided clock flags) (λ kept. followed_decided (behind_decided form clock) (λ more. gives_decided _)))))
+
+pub slots_decided : (form : Form) (clock : ℕ) → Decided (slots form clock)
+slots_decided form clock = repeated_decided _ _ (slot_decided form clock) None
+
+one_magic : (a b : Form) (bytes : List ℕ) → magic_of a ≡ bytes → magic_of b ≡ bytes → a ≡ b
+one_magic First First bytes h k = refl
+
+pub magic_decided : Decided magic
+magic_decided = followed_decided (bytes_decided 4) (λ bytes. must_decided _ no_magic (means_decided _ (λ a b h k. one_magic a b bytes h k)))
 
 pub header_decided : Decided header
-header_decided = followed_decided (bytes_decided 4) (λ m. must_decided _ no_magic number48_decided)
+header_decided = followed_decided magic_decided (λ form. followed_decided number48_decided (λ clock. gives_decided _))
 
 pub delta_decided : Decided delta
-delta_decided = followed_decided header_decided (λ clock. followed_decided (slots_decided clock) (λ ss. gives_decided _))
+delta_decided = followed_decided header_decided (λ h. followed_decided (slots_decided h.0 h.1) (λ ss. gives_decided _))

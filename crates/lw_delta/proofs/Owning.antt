@@ -1,6 +1,9 @@
 -- What is read from bytes that were walked before.
-use Rattle.std.proofs.Common.{◌≡◌, ℕ, ◌⊎◌, List, [], ◌∷◌, Bool, true, false, Option, Some, None, refl, sym, ◌∙◌, subst, inl, inr}
+use Rattle.std.proofs.Common.{◌≡◌, ℕ, ◌⊎◌, List, [], ◌∷◌, Bool, true, false, Option, Some, None, sym, ap, ◌∙◌, subst, inl, inr}
+use Rattle.std.specs.declared.cmp.Ordering.{Ordering}
 use Rattle.std.specs.declared.cmp.Ordering.TheVariants.{Less}
+use Rattle.lw_stamp.specs.declared.stamp.Stamp.{Stamp}
+use Rattle.lw_stamp.specs.Order.{IsExactOrder}
 use Rattle.lw_join.specs.Entries.{AllAbove, Rises}
 use Rattle.lw_join.specs.EntriesLaws.{above_from}
 use Rattle.lw_join.specs.Parts.{entries_of, made}
@@ -9,12 +12,16 @@ use Rattle.lw_reg.specs.declared.path.Path.{Path}
 use Rattle.lw_reg.specs.Body.{Watching, Watches}
 use Rattle.lw_reg.specs.OrderLaws.{path_order}
 use Rattle.lw_reg.specs.Orders.{path_cmp}
+use Rattle.lw_delta.specs.declared.form.Form.{Form}
 use Rattle.lw_delta.specs.declared.fault.DeltaFault.{DeltaFault}
 use Rattle.lw_delta.specs.declared.fault.DeltaFault.TheVariants.{NoMemory}
 use Rattle.lw_delta.specs.Order.{IsAbove}
-use Rattle.lw_delta.specs.Part.{Part, Found, Fails, means, must, followed, when, optional, Walks, repeated}
-use Rattle.lw_delta.specs.Format.{path, watch, watches}
+use Rattle.lw_delta.specs.Part.{Part, Found, Fails, means, must, followed, Walks, repeated}
+use Rattle.lw_delta.specs.Format.{path, watch, watches, behind}
+use Rattle.lw_delta.specs.Values.{FieldContent, Behind, behind_of, slot_from}
 use Rattle.lw_delta.proofs.Decided.{Decided}
+use Rattle.lw_delta.proofs.FieldParts.{behind_at}
+use Rattle.lw_delta.proofs.Kept.{Each, some_each}
 use Rattle.lw_delta.proofs.Grammar.{watches_decided}
 
 -- ---- watches rise
@@ -30,39 +37,39 @@ watch_above clock after bytes w rest f =
     let same = f.is.3.is.3.is.3.is.1.is.3.is.1 in
     subst (λ (x : Path × Watching). IsAbove path_cmp after x.0) (sym same) (path_above after bytes f.is.0 f.is.1 f.is.2)
 
-some_is : {A : Type 0} (x y : A) → Some x ≡ Some y → x ≡ y
-some_is x y e = cc
+abbrev AllAfter : {K V : Type 0} → (K → K → Ordering) → Option K → List (K × V) → Type 0
+AllAfter cmp None es = Unit {0}
+AllAfter cmp (Some k) es = AllAbove cmp k es
 
-some_no : {A : Type 0} (o : Option A) (x : A) → o ≡ Some x → o ≡ None → ⊥
-some_no o x e f = cc
+-- parts whose keys are each above the one before
+pub record AreAbove {K V : Type 0} (cmp : K → K → Ordering) (item : Option K → Part (K × V)) : Type 0 where
+  pub order : IsExactOrder cmp
+  pub above : (after : Option K) → Each (item after) (λ e. IsAbove cmp after e.0)
 
-there_found : (clock : ℕ) (after : Option Path) (bytes : List ℕ) (w : Path × Watching) (rest : List ℕ) (flag : Bool) → Found (when flag (watch clock after)) bytes (Some w) rest → IsAbove path_cmp after w.0
-unfolding followed means
-there_found clock after bytes w rest true f = subst (λ (x : Path × Watching). IsAbove path_cmp after x.0) (sym (some_is w f.is.0 f.is.3.is.1)) (watch_above clock after bytes f.is.0 f.is.1 f.is.2)
-there_found clock after bytes w rest false f = absurd (some_no (Some w) w refl f.is.1)
-
-some_found : (clock : ℕ) (after : Option Path) (bytes : List ℕ) (w : Path × Watching) (rest : List ℕ) → Found (optional (watch clock after)) bytes (Some w) rest → IsAbove path_cmp after w.0
-unfolding followed means
-some_found clock after bytes w rest f = there_found clock after f.is.1 w rest f.is.0 f.is.3
-
-abbrev AllAfter : Option Path → List (Path × Watching) → Type 0
-AllAfter None ws = Unit {0}
-AllAfter (Some p) ws = AllAbove path_cmp p ws
-
-walks_rise : (clock : ℕ) (after : Option Path) (bytes : List ℕ) (ws : List (Path × Watching)) (rest : List ℕ) → Walks (watch clock) (λ w. w.0) after bytes ws rest → AllAfter after ws × Rises path_cmp ws
-walks_rise clock None bytes [] rest w = (tt, tt)
-walks_rise clock (Some p) bytes [] rest w = (tt, tt)
-walks_rise clock None bytes (e ∷ es) rest w =
-    let more = walks_rise clock (Some e.0) w.0 es rest w.2 in
+walks_rise : {K V : Type 0} (cmp : K → K → Ordering) (item : Option K → Part (K × V)) → AreAbove cmp item → (after : Option K) (bytes : List ℕ) (es : List (K × V)) (rest : List ℕ) → Walks item (λ e. e.0) after bytes es rest
+    → AllAfter cmp after es × Rises cmp es
+walks_rise cmp item h None bytes [] rest w = (tt, tt)
+walks_rise cmp item h (Some k) bytes [] rest w = (tt, tt)
+walks_rise cmp item h None bytes (e ∷ es) rest w =
+    let more = walks_rise cmp item h (Some e.0) w.0 es rest w.2 in
     (tt, more)
-walks_rise clock (Some p) bytes (e ∷ es) rest w =
-    let more = walks_rise clock (Some e.0) w.0 es rest w.2 in
-    let here : path_cmp p e.0 ≡ Less = some_found clock (Some p) bytes e w.0 w.1 in
-    ((here, above_from path_order p e.0 es here more.0), more)
+walks_rise cmp item h (Some k) bytes (e ∷ es) rest w =
+    let more = walks_rise cmp item h (Some e.0) w.0 es rest w.2 in
+    let here : cmp k e.0 ≡ Less = some_each _ _ (h.above (Some k)) bytes e w.0 w.1 in
+    ((here, above_from h.order k e.0 es here more.0), more)
 
-pub watches_rise : (clock : ℕ) (bytes : List ℕ) (ws : List (Path × Watching)) (rest : List ℕ) → Found (watches clock) bytes ws rest → Rises path_cmp ws
+pub repeated_rise : {K V : Type 0} (cmp : K → K → Ordering) (item : Option K → Part (K × V)) → AreAbove cmp item → Each (repeated item (λ e. e.0) None) (λ es. Rises cmp es)
 unfolding repeated
-watches_rise clock bytes ws rest f = (walks_rise clock None bytes ws f.is.0 f.is.1).1
+repeated_rise cmp item h bytes es rest f = (walks_rise cmp item h None bytes es f.is.0 f.is.1).1
+
+pub watches_rise : (clock : ℕ) → Each (watches clock) (λ ws. Rises path_cmp ws)
+watches_rise clock = repeated_rise path_cmp (watch clock) (record { order = path_order; above = watch_above clock })
+
+-- what stands behind the fields is kept
+pub behind_again : (form : Form) (clock : ℕ) (bytes : List ℕ) (more : Behind) (rest : List ℕ) → Found (behind form clock) bytes more rest → (r : Stamp) (k : FieldContent) → behind_of (slot_from r false k more) ≡ more
+behind_again form clock bytes more rest f r k =
+    let parts = behind_at form clock bytes more rest f in
+    ap (λ (ws : List (Path × Watching)). let b : Behind = record { watches = ws } in b) (entries_made _ _ _ more.watches (watches_rise clock _ _ _ parts.watches))
 
 pub parts_are : (clock : ℕ) (bytes : List ℕ) (parts : Watches) (es ws : List (Path × Watching)) (r s : List ℕ) → Found (watches clock) bytes es r → Found (watches clock) bytes ws s → entries_of parts ≡ es → parts ≡ made ws
 parts_are clock bytes parts es ws r s f g e =

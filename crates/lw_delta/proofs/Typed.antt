@@ -2,23 +2,22 @@
 use Rattle.std.proofs.Common.{◌≡◌, ℕ, ◌==◌, ◌<◌, ◌≤◌, ◌^◌, Bool, true, false, List, [], ◌∷◌, length, slice_index, Option, Some, None, IfSome, sym, subst, arith}
 use Rattle.std.specs.Int.{w16, w32, from_be_bytes}
 use Rattle.lw_stamp.specs.declared.stamp.Stamp.{Stamp}
-use Rattle.lw_join.specs.Parts.{entries_of, made}
-use Rattle.lw_join.specs.PartsLaws.{entries_made}
 use Rattle.lw_reg.specs.declared.addr.Addr.{Addr}
 use Rattle.lw_reg.specs.declared.path.Path.{Path}
 use Rattle.lw_reg.specs.declared.slot.Slot.{Slot}
 use Rattle.lw_reg.specs.Addr.{IsAddr}
-use Rattle.lw_reg.specs.Body.{Watching, Watches}
+use Rattle.lw_reg.specs.Body.{Watching}
+use Rattle.lw_delta.specs.declared.form.Form.{Form}
 use Rattle.lw_delta.specs.Part.{bytes_of, means, must, followed, optional, Walks, repeated}
-use Rattle.lw_delta.specs.Format.{number16, number32, host, address, text, sms_number, objects, watch, watches, endpoint, fields, slot}
-use Rattle.lw_delta.specs.Values.{is_set, FieldContent, slot_from, watching_from}
+use Rattle.lw_delta.specs.Format.{number16, number32, host, address, text, sms_number, objects, watch, behind, endpoint, fields, slot}
+use Rattle.lw_delta.specs.Values.{is_set, FieldContent, Behind, behind_of, slot_from, watching_from}
 use Rattle.lw_delta.specs.Delta.{DeltaContent, IsSpelling}
-use Rattle.lw_delta.specs.Writable.{IsOwnText, AcceptTyped, AcceptsTyped, IsOwnObjects, IsTyped, IsGood, AreGood}
+use Rattle.lw_delta.specs.Writable.{IsOwnText, AcceptTyped, IsOwnObjects, BehindTyped, IsTyped, IsGood, AreGood}
 use Rattle.lw_delta.specs.Writing.{delta_bytes}
-use Rattle.lw_delta.proofs.FieldParts.{fields_at, slot_at}
-use Rattle.lw_delta.proofs.Fitting.{header_below, slot_follows, some_each}
-use Rattle.lw_delta.proofs.Kept.{Each, when_each, optional_each, written_each}
-use Rattle.lw_delta.proofs.Owning.{watches_rise}
+use Rattle.lw_delta.proofs.FieldParts.{fields_at, behind_at, slot_at}
+use Rattle.lw_delta.proofs.Fitting.{header_below, slot_follows}
+use Rattle.lw_delta.proofs.Kept.{Each, when_each, some_each, optional_each, written_each, repeated_each}
+use Rattle.lw_delta.proofs.Owning.{behind_again}
 use Rattle.lw_delta.proofs.PrintsDelta.{delta_reads_back}
 
 -- ---- numbers
@@ -115,40 +114,37 @@ watch_typed clock after bytes w rest f =
     let h = when_each (optional number16) _ (optional_each _ _ number16_below) _ t.3.is.1 a.0 a.1 a.2 in
     subst (λ (x : Path × Watching). AcceptTyped x.1.value) (sym a.3.is.1) (watching_typed t.0 _ a.0 h)
 
-watches_walk_typed : (clock : ℕ) (after : Option Path) (bytes : List ℕ) (ws : List (Path × Watching)) (rest : List ℕ) → Walks (watch clock) (λ w. w.0) after bytes ws rest → AcceptsTyped ws
-watches_walk_typed clock after bytes [] rest w = tt
-watches_walk_typed clock after bytes (x ∷ xs) rest w = (some_each _ _ (watch_typed clock after) bytes x w.0 w.1, watches_walk_typed clock (Some x.0) w.0 xs rest w.2)
-
-watches_typed : (clock : ℕ) → Each (watches clock) AcceptsTyped
-unfolding repeated
-watches_typed clock bytes ws rest f = watches_walk_typed clock None bytes ws f.is.0 f.is.1
+behind_typed : (form : Form) (clock : ℕ) → Each (behind form clock) BehindTyped
+behind_typed form clock bytes more rest f =
+    let parts = behind_at form clock bytes more rest f in
+    record { accepts = repeated_each (watch clock) (λ w. w.0) (λ w. AcceptTyped w.1.value) (watch_typed clock) _ _ _ parts.watches }
 
 -- ---- slots
-kept_typed : (r : Stamp) (removed : Bool) (k : FieldContent) (ws : List (Path × Watching)) → ContentTyped k → AcceptsTyped (entries_of (let m : Watches = made ws in m)) → IsTyped (slot_from r removed k ws)
-kept_typed r true k ws h a = record { fields = record { address = tt; lifetime = tt; sms = tt; objects = tt }; accepts = tt }
-kept_typed r false k ws h a = record { fields = record { address = h.address; lifetime = h.lifetime; sms = h.sms; objects = h.objects }; accepts = a }
+kept_typed : (r : Stamp) (removed : Bool) (k : FieldContent) (more : Behind) → ContentTyped k → BehindTyped (behind_of (slot_from r false k more)) → IsTyped (slot_from r removed k more)
+kept_typed r true k more h b = record { fields = record { address = tt; lifetime = tt; sms = tt; objects = tt }; behind = record { accepts = tt } }
+kept_typed r false k more h b = record { fields = record { address = h.address; lifetime = h.lifetime; sms = h.sms; objects = h.objects }; behind = b }
 
-slot_typed : (clock : ℕ) (after : Option (List ℕ)) → Each (slot clock after) (λ s. IsTyped s.1 × IsOwnText s.0)
-slot_typed clock after bytes s rest f =
-    let parts = slot_at clock after bytes s rest f in
-    let accepts = subst (λ es. AcceptsTyped es) (sym (entries_made _ _ _ parts.watched (watches_rise clock _ _ _ parts.watching))) (watches_typed clock _ _ _ parts.watching) in
+slot_typed : (form : Form) (clock : ℕ) (after : Option (List ℕ)) → Each (slot form clock after) (λ s. IsTyped s.1 × IsOwnText s.0)
+slot_typed form clock after bytes s rest f =
+    let parts = slot_at form clock after bytes s rest f in
+    let more = subst (λ (b : Behind). BehindTyped b) (sym (behind_again form clock _ parts.more _ parts.ended parts.registration parts.kept)) (behind_typed form clock _ parts.more _ parts.ended) in
     subst (λ (x : List ℕ × Slot). IsTyped x.1 × IsOwnText x.0) (sym parts.same)
-    (kept_typed parts.registration (is_set parts.flags 128) parts.kept parts.watched (fields_typed clock _ _ _ _ parts.fielded) accepts, endpoint_own after _ _ _ parts.named)
+    (kept_typed parts.registration (is_set parts.flags 128) parts.kept parts.more (fields_typed clock _ _ _ _ parts.fielded) more, endpoint_own after _ _ _ parts.named)
 
-slot_good : (clock : ℕ) (after : Option (List ℕ)) → Each (slot clock after) (λ s. IsGood clock after s)
-slot_good clock after bytes s rest f =
-    let t = slot_typed clock after bytes s rest f in
-    (slot_follows clock after bytes s rest f, t.0, t.1)
+slot_good : (form : Form) (clock : ℕ) (after : Option (List ℕ)) → Each (slot form clock after) (λ s. IsGood clock after s)
+slot_good form clock after bytes s rest f =
+    let t = slot_typed form clock after bytes s rest f in
+    (slot_follows form clock after bytes s rest f, t.0, t.1)
 
-slots_good : (clock : ℕ) (after : Option (List ℕ)) (bytes : List ℕ) (ss : List (List ℕ × Slot)) (rest : List ℕ) → Walks (slot clock) (λ s. s.0) after bytes ss rest → AreGood clock after ss
-slots_good clock after bytes [] rest w = tt
-slots_good clock after bytes (x ∷ xs) rest w = (some_each _ _ (slot_good clock after) bytes x w.0 w.1, slots_good clock (Some x.0) w.0 xs rest w.2)
+slots_good : (form : Form) (clock : ℕ) (after : Option (List ℕ)) (bytes : List ℕ) (ss : List (List ℕ × Slot)) (rest : List ℕ) → Walks (slot form clock) (λ s. s.0) after bytes ss rest → AreGood clock after ss
+slots_good form clock after bytes [] rest w = tt
+slots_good form clock after bytes (x ∷ xs) rest w = (some_each _ _ (slot_good form clock after) bytes x w.0 w.1, slots_good form clock (Some x.0) w.0 xs rest w.2)
 
 spelled_good : (bytes : List ℕ) (d : DeltaContent) → IsSpelling bytes d → (d.clock < 2 ^ 48) × AreGood d.clock None d.slots
 unfolding followed means repeated
 spelled_good bytes d f =
     let ss = f.is.3.is in
-    let good = slots_good f.is.0 None f.is.1 ss.0 ss.2.is.0 ss.2.is.1 in
+    let good = slots_good f.is.0.0 f.is.0.1 None f.is.1 ss.0 ss.2.is.0 ss.2.is.1 in
     let P : ℕ × List (List ℕ × Slot) → Type 0 = λ p. (p.0 < 2 ^ 48) × AreGood p.0 None p.1 in
     subst P (sym ss.3.is.1) (header_below bytes f.is.0 f.is.1 f.is.2, good)
 

@@ -1,5 +1,5 @@
 -- The format of a delta, part by part. Numbers are big-endian.
-use Rattle.std.specs.Prelude.{◌≡◌, ℕ, zero, suc, ◌≤◌, ◌⊎◌, ◌==◌, Bool, true, false, List, [], ◌∷◌, ◌++◌, Option, None, IsUtf8, codes}
+use Rattle.std.specs.Prelude.{◌≡◌, ℕ, zero, suc, ◌≤◌, ◌⊎◌, ◌==◌, Bool, true, false, List, [], ◌∷◌, ◌++◌, Option, None, IsUtf8}
 use Rattle.std.specs.Int.{w16, w32, w64, from_be_bytes}
 use Rattle.lw_stamp.specs.declared.stamp.Stamp.{Stamp}
 use Rattle.lw_stamp.specs.declared.moment.Moment.{Moment}
@@ -19,10 +19,12 @@ use Rattle.lw_reg.specs.BindingText.{IsBindingText}
 use Rattle.lw_reg.specs.Body.{Watching}
 use Rattle.lw_reg.specs.Orders.{path_cmp}
 use Rattle.lw_reg.specs.Path.{path_numbers}
+use Rattle.lw_delta.specs.declared.form.Form.{Form}
 use Rattle.lw_delta.specs.declared.fault.DeltaFault.TheVariants.{Magic, Order, Range, Text, ClockBelow}
+use Rattle.lw_delta.specs.Form.{magic_of}
 use Rattle.lw_delta.specs.Order.{IsAbove}
 use Rattle.lw_delta.specs.Part.{Part, byte, bytes_of, means, gives, must, followed, when, optional, repeated}
-use Rattle.lw_delta.specs.Values.{is_set, base_in, FieldContent, slot_from, watching_from}
+use Rattle.lw_delta.specs.Values.{is_set, base_in, FieldContent, Behind, slot_from, watching_from}
 
 -- ---- numbers
 abbrev pub number16 : Part ℕ
@@ -108,6 +110,10 @@ watch clock after = followed (path after) (λ p. followed (stamp clock) (λ toke
 abbrev pub watches : ℕ → Part (List (Path × Watching))
 watches clock = repeated (watch clock) (λ w. w.0) None
 
+-- what stands behind the fields of a slot, by the format
+abbrev pub behind : Form → ℕ → Part Behind
+behind form clock = followed (watches clock) (λ ws. gives (record { watches = ws }))
+
 -- ---- slots
 -- 1 to 252 bytes of UTF-8, above the endpoint before
 abbrev pub endpoint : Option (List ℕ) → Part (List ℕ)
@@ -127,17 +133,21 @@ fields clock flags =
     gives (record { base = base; address = address; seen = seen; lifetime = lifetime; binding = binding; sms = sms; objects = objects }))))))))
 
 -- what stands behind the endpoint and the stamp of the registration
-abbrev pub slot : ℕ → Option (List ℕ) → Part (List ℕ × Slot)
-slot clock after = followed (endpoint after) (λ e. followed (stamp clock) (λ registration.
-    followed byte (λ flags. followed (fields clock flags) (λ kept. followed (watches clock) (λ ws.
-    gives (e, slot_from registration (is_set flags 128) kept ws))))))
+abbrev pub slot : Form → ℕ → Option (List ℕ) → Part (List ℕ × Slot)
+slot form clock after = followed (endpoint after) (λ e. followed (stamp clock) (λ registration.
+    followed byte (λ flags. followed (fields clock flags) (λ kept. followed (behind form clock) (λ more.
+    gives (e, slot_from registration (is_set flags 128) kept more))))))
 
-abbrev pub slots : ℕ → Part (List (List ℕ × Slot))
-slots clock = repeated (slot clock) (λ s. s.0) None
+abbrev pub slots : Form → ℕ → Part (List (List ℕ × Slot))
+slots form clock = repeated (slot form clock) (λ s. s.0) None
 
--- `LWD1`, and the clock
-abbrev pub header : Part ℕ
-header = followed (bytes_of 4) (λ magic. must (magic ≡ codes "LWD1") Magic number48)
+-- the four bytes of a format
+abbrev pub magic : Part Form
+magic = followed (bytes_of 4) (λ bytes. must ((form : Form) × (magic_of form ≡ bytes)) Magic (means (λ (form : Form). magic_of form ≡ bytes)))
+
+-- the format, and the clock
+abbrev pub header : Part (Form × ℕ)
+header = followed magic (λ form. followed number48 (λ clock. gives (form, clock)))
 
 abbrev pub delta : Part (ℕ × List (List ℕ × Slot))
-delta = followed header (λ clock. followed (slots clock) (λ ss. gives (clock, ss)))
+delta = followed header (λ h. followed (slots h.0 h.1) (λ ss. gives (h.1, ss)))

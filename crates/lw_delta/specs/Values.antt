@@ -12,6 +12,7 @@ use Rattle.lw_reg.specs.declared.slot.Slot.{Slot}
 use Rattle.lw_reg.specs.declared.version.Version.TheVariants.{V10, V11}
 use Rattle.lw_reg.specs.Body.{Watching}
 use Rattle.lw_reg.specs.Fields.{slot_of_fields}
+use Rattle.lw_reg.specs.Reading.{watches_of}
 use Rattle.lw_reg.specs.Slot.{observed, cancelled}
 
 abbrev pub is_set : ℕ → ℕ → Bool
@@ -20,6 +21,13 @@ is_set flags flag = nat_lt 0 (bit_and flags flag)
 -- bit 0 for version 1.1, bit 1 for queue mode
 abbrev pub base_in : ℕ → Base
 base_in bits = record { version = if bits % 2 == 1 then V11 else V10; queue = bits / 2 == 1 }
+
+-- what a slot has behind its fields
+pub record Behind : Type 0 where
+  pub watches : List (Path × Watching)
+
+abbrev pub behind_of : Slot → Behind
+behind_of slot = record { watches = watches_of slot }
 
 -- the fields of a registration but for its watches
 pub record FieldContent : Type 0 where
@@ -31,8 +39,8 @@ pub record FieldContent : Type 0 where
   pub sms : Option (Stamp × Option (List ℕ))
   pub objects : Option (Stamp × List ℕ)
 
-abbrev pub all_fields : FieldContent → List (Path × Watching) → Fields
-all_fields f watches = record {
+abbrev pub all_fields : FieldContent → Behind → Fields
+all_fields f behind = record {
   base = f.base;
   address = f.address;
   seen = f.seen;
@@ -40,15 +48,15 @@ all_fields f watches = record {
   binding = f.binding;
   sms = f.sms;
   objects = f.objects;
-  watches = made watches;
+  watches = made behind.watches;
 }
 
--- of a removed registration neither fields nor watches are kept
-abbrev pub fields_from : Bool → FieldContent → List (Path × Watching) → Option Fields
-fields_from removed f watches = if removed then None else Some (all_fields f watches)
+-- of a removed registration none of it is kept
+abbrev pub fields_from : Bool → FieldContent → Behind → Option Fields
+fields_from removed f behind = if removed then None else Some (all_fields f behind)
 
-abbrev pub slot_from : Stamp → Bool → FieldContent → List (Path × Watching) → Slot
-slot_from stamp removed f watches = slot_of_fields stamp (fields_from removed f watches)
+abbrev pub slot_from : Stamp → Bool → FieldContent → Behind → Slot
+slot_from stamp removed f behind = slot_of_fields stamp (fields_from removed f behind)
 
 abbrev pub accept_from : Option (Option ℕ) → Option ℕ
 accept_from None = None

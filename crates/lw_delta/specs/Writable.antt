@@ -1,5 +1,6 @@
 -- Which slots a writer takes, and what it has written.
 use Rattle.std.specs.Prelude.{◌≡◌, ℕ, ◌<◌, ◌≤◌, ◌^◌, List, [], ◌∷◌, length, slice_index, Option, Some, None, IfSome, IsUtf8}
+use Rattle.std.specs.List.{AllByRecursion}
 use Rattle.lw_stamp.specs.TextOrder.{text_cmp}
 use Rattle.lw_join.specs.declared.once.Once.{Once}
 use Rattle.lw_join.specs.declared.or_gone.OrGone.{OrGone}
@@ -12,11 +13,11 @@ use Rattle.lw_reg.specs.Body.{Watching}
 use Rattle.lw_reg.specs.Reading.{stamp_of, address_of, seen_of, lifetime_of, binding_of, sms_of, objects_of, watches_of}
 use Rattle.lw_delta.specs.Order.{IsAbove}
 use Rattle.lw_delta.specs.Part.{last_key}
+use Rattle.lw_delta.specs.Values.{Behind, behind_of}
 use Rattle.lw_delta.specs.Writing.{begun_bytes}
 
 abbrev pub TokensWithin : ℕ → List (Path × Watching) → Type 0
-TokensWithin clock [] = Unit {0}
-TokensWithin clock (w ∷ ws) = (w.1.stamp.counter ≤ clock) × TokensWithin clock ws
+TokensWithin clock = AllByRecursion (λ w. w.1.stamp.counter ≤ clock)
 
 -- no stamp of the slot is above the clock
 pub record StampsWithin (clock : ℕ) (slot : Slot) : Type 0 where
@@ -55,8 +56,7 @@ AcceptTyped Gone = Unit {0}
 AcceptTyped (Here accept) = IfSome accept.value (λ n. n < 2 ^ 16)
 
 abbrev pub AcceptsTyped : List (Path × Watching) → Type 0
-AcceptsTyped [] = Unit {0}
-AcceptsTyped (w ∷ ws) = AcceptTyped w.1.value × AcceptsTyped ws
+AcceptsTyped = AllByRecursion (λ w. AcceptTyped w.1.value)
 
 -- a printing of at most 8192 bytes, which has a link
 abbrev pub IsOwnObjects : List ℕ → Type 0
@@ -68,9 +68,12 @@ pub record FieldsTyped (slot : Slot) : Type 0 where
   pub sms : IfSome (sms_of slot) (λ w. IfSome w.1 (λ text. IsOwnText text × (length text ≤ 251)))
   pub objects : IfSome (objects_of slot) (λ w. IsOwnObjects w.1)
 
+pub record BehindTyped (more : Behind) : Type 0 where
+  pub accepts : AcceptsTyped more.watches
+
 pub record IsTyped (slot : Slot) : Type 0 where
   pub fields : FieldsTyped slot
-  pub accepts : AcceptsTyped (watches_of slot)
+  pub behind : BehindTyped (behind_of slot)
 
 -- slots that were written one after another
 abbrev pub IsGood : ℕ → Option (List ℕ) → List ℕ × Slot → Type 0

@@ -2,10 +2,12 @@
 //! `Reader` take them apart, and a `Writer` puts them together.
 #![tactic(auto)]
 
+mod behind;
 mod checking;
 mod delta;
 mod fault;
 mod fields;
+mod form;
 pub mod laws;
 mod lent;
 mod numbers;

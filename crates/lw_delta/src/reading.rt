@@ -6,14 +6,16 @@ ghost use Rattle.lw_reg.specs.Body.{Watching as Watchings};
 ghost use Rattle.lw_reg.specs.Endpoint.{IsEndpoint};
 ghost use Rattle.lw_delta.specs.declared.fault.DeltaFault.{DeltaFault as Faults};
 ghost use Rattle.lw_delta.specs.Part.{Found, Fails};
-ghost use Rattle.lw_delta.specs.Format.{watches as watches_part};
-ghost use Rattle.lw_delta.specs.Values.{all_fields, fields_from};
+ghost use Rattle.lw_delta.specs.Format.{watches as watches_part, behind as behind_part};
+ghost use Rattle.lw_delta.specs.Values.{Behind as Behinds, all_fields, fields_from};
 ghost use Rattle.lw_delta.specs.Delta.{DeltaContent, IsSpelling, IsFault, Reads};
-ghost use Rattle.lw_delta.specs.Lent.{content_of, Holds, lent_slot};
+ghost use Rattle.lw_delta.specs.Lent.{content_of, Told, Holds, lent_slot};
 ghost use Rattle.lw_delta.specs.Unread.{IsLeft};
 
+use crate::behind::LentBehind;
 use crate::checking::walk;
 use crate::fields::LentFields;
+use crate::form::Form;
 use crate::lent::{LentNumber, LentObjects};
 use crate::reader::Reader;
 use crate::slots::LentSlot;
@@ -104,12 +106,26 @@ fn parts(
     Ok(parts)
 }
 
+/// What stands behind the fields, which was walked before.
+fn behind(
+    alloc: Global,
+    _form: Form,
+    clock: u64,
+    lent: LentBehind,
+) -> Result<Parts<Path, Watching>, DeltaFault>
+    requires { (more : Behinds) × Told _form clock lent more }
+    ensures value { (more : Behinds) → Told _form clock lent.entry more → IfOk result (λ watches. watches ≡ made more.watches) }
+    ensures fault { IfErr result (λ fault. fault ≡ DeltaFault.NoMemory) }
+{
+    parts(alloc, clock, lent.watch_count, lent.bytes)
+}
+
 fn fields(
     alloc: Global,
     lent: LentFields,
     watches: Parts<Path, Watching>,
 ) -> Result<Fields, NoMemory>
-    ensures { (ws : List (Paths × Watchings)) → watches ≡ made ws → IfOk result (λ fields. fields ≡ all_fields (content_of lent.entry) ws) }
+    ensures { (more : Behinds) → watches ≡ made more.watches → IfOk result (λ fields. fields ≡ all_fields (content_of lent.entry) more) }
 {
     Ok(Fields {
         base: lent.base,
@@ -123,16 +139,21 @@ fn fields(
     })
 }
 
-/// What is kept of a slot. Of a removed registration neither fields nor watches are kept.
-fn kept_fields(alloc: Global, clock: u64, lent: LentSlot) -> Result<Option<Fields>, DeltaFault>
-    requires { (ws : List (Paths × Watchings)) × Holds clock lent ws }
-    ensures value { (ws : List (Paths × Watchings)) → Holds clock lent.entry ws → IfOk result (λ fields. fields ≡ fields_from lent.entry.removed (content_of lent.entry.fields) ws) }
+/// What is kept of a slot, and nothing of a removed registration.
+fn kept_fields(
+    alloc: Global,
+    form: Form,
+    clock: u64,
+    lent: LentSlot,
+) -> Result<Option<Fields>, DeltaFault>
+    requires { (more : Behinds) × Holds form clock lent more }
+    ensures value { (more : Behinds) → Holds form clock lent.entry more → IfOk result (λ fields. fields ≡ fields_from lent.entry.removed (content_of lent.entry.fields) more) }
     ensures fault { IfErr result (λ fault. fault ≡ DeltaFault.NoMemory) }
 {
     if lent.removed {
         return Ok(None);
     }
-    let watches = parts(alloc, clock, lent.watch_count, lent.watches)?;
+    let watches = behind(alloc, form, clock, lent.behind)?;
     let fields = fields(alloc, lent.fields, watches)?;
     Ok(Some(fields))
 }
@@ -140,16 +161,17 @@ fn kept_fields(alloc: Global, clock: u64, lent: LentSlot) -> Result<Option<Field
 /// An owned slot and its endpoint.
 pub(crate) fn slot(
     alloc: Global,
+    form: Form,
     clock: u64,
     lent: LentSlot,
 ) -> Result<(Endpoint, Slot), DeltaFault>
-    requires { (ws : List (Paths × Watchings)) × Holds clock lent ws }
-    ensures value { (ws : List (Paths × Watchings)) → Holds clock lent.entry ws → IfOk result (λ x. x ≡ lent_slot lent.entry ws) }
+    requires { (more : Behinds) × Holds form clock lent more }
+    ensures value { (more : Behinds) → Holds form clock lent.entry more → IfOk result (λ x. x ≡ lent_slot lent.entry more) }
     ensures fault { IfErr result (λ fault. fault ≡ DeltaFault.NoMemory) }
 {
     let endpoint = Endpoint::copy_of(alloc, lent.endpoint)?;
     let registration = lent.registration;
-    let fields = kept_fields(alloc, clock, lent)?;
+    let fields = kept_fields(alloc, form, clock, lent)?;
     let slot = Slot::from_parts(alloc, registration, fields)?;
     Ok((endpoint, slot))
 }
