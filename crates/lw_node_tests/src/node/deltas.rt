@@ -45,6 +45,72 @@ fn a_delta_is_sent_and_merged(rt: HostRuntime) -> Result<(), Fail> {
     play_new(rt.alloc(), &SENT_AND_MERGED)
 }
 
+/// The same in format 1, and in format 2 with the attribute `x`.
+const IN_FORMAT_1: &str =
+    "4c57443100000000000101016100000000000100017f000000000000010001047f0000011633000000000001000100000000000000000000000100010001518000000000000100010155000000000001000100000000000001000100033c2f3e0000";
+
+const WITH_AN_ATTRIBUTE: &str =
+    "4c57443200000000000101016100000000000100017f000000000000010001047f0000011633000000000001000100000000000000000000000100010001518000000000000100010155000000000001000100000000000001000100033c2f3e01017800000000000100010131000000";
+
+/// What is merged in format 1 is sent in format 2.
+const FORMATS: [Row<'static>; 9] = [
+    (Merges(IN_FORMAT_1), "Ok(1)"),
+    (ByEndpoint(0, "a"), SHOWN),
+    (DeltaSince(0), DELTA),
+    (Numbers, "1 1"),
+    (Merges(DELTA), "Ok(1)"),
+    (Numbers, "1 1"),
+    (Merges(WITH_AN_ATTRIBUTE), "Ok(1)"),
+    (DeltaSince(1), WITH_AN_ATTRIBUTE),
+    (Numbers, "1 2"),
+];
+
+#[test]
+fn a_delta_of_format_1_comes_back_in_format_2(rt: HostRuntime) -> Result<(), Fail> {
+    play_new(rt.alloc(), &FORMATS)
+}
+
+/// A Register with the attribute `x`, an Update of it by `x` and `y`, and one without attributes.
+const ATTRIBUTES: [Row<'static>; 10] = [
+    (Takes("40020004b272644465703d6103783d31ff3c2f3e"), CREATED),
+    (DeltaSince(0), WITH_AN_ATTRIBUTE),
+    (
+        ByEndpoint(0, "a"),
+        r#"{"address":"127.0.0.1:5683","attributes":{"x":"1"},"binding":"U","endpoint":"a","id":"0000000000010001","lifetime":86400,"lwm2m":"1.0","objects":"</>","queue":false,"seen":0,"sms":null}"#,
+    ),
+    (
+        Takes("40020023b272640d0330303030303030303030303130303031417903783d33"),
+        "60440023",
+    ),
+    (
+        Takes("40020024b272640d0330303030303030303030303130303031"),
+        "60440024",
+    ),
+    (
+        ByEndpoint(0, "a"),
+        r#"{"address":"127.0.0.1:5683","attributes":{"x":"3","y":""},"binding":"U","endpoint":"a","id":"0000000000010001","lifetime":86400,"lwm2m":"1.0","objects":"</>","queue":false,"seen":0,"sms":null}"#,
+    ),
+    // older writes are not shown
+    (Merges(WITH_AN_ATTRIBUTE), "Ok(1)"),
+    (
+        FirstAfter(None),
+        r#"{"address":"127.0.0.1:5683","attributes":{"x":"3","y":""},"binding":"U","endpoint":"a","id":"0000000000010001","lifetime":86400,"lwm2m":"1.0","objects":"</>","queue":false,"seen":0,"sms":null}"#,
+    ),
+    (
+        Takes(REGISTER),
+        "604100048272640d0330303030303030303030303430303031",
+    ),
+    (
+        ByEndpoint(0, "a"),
+        r#"{"address":"127.0.0.1:5683","attributes":{},"binding":"U","endpoint":"a","id":"0000000000040001","lifetime":86400,"lwm2m":"1.0","objects":"</>","queue":false,"seen":0,"sms":null}"#,
+    ),
+];
+
+#[test]
+fn attributes_are_taken_sent_and_shown(rt: HostRuntime) -> Result<(), Fail> {
+    play_new(rt.alloc(), &ATTRIBUTES)
+}
+
 /// The delta of a node that knows only that this registration was removed.
 pub(super) const REMOVED: &str = "4c574432000000000001010161000000000001000180000000";
 
