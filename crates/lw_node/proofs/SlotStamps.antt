@@ -12,6 +12,7 @@ use Rattle.lw_join.specs.Parts.{entries_of}
 use Rattle.lw_join.specs.declared.once.Once.{Once}
 use Rattle.lw_join.specs.declared.or_gone.OrGone.{OrGone}
 use Rattle.lw_join.specs.declared.or_gone.OrGone.TheVariants.{Here, Gone}
+use Rattle.lw_join.proofs.Each.{each_get, each_from_get}
 use Rattle.lw_join.proofs.MapLemmas.{get-one_key}
 use Rattle.lw_reg.specs.OrderLaws.{path_order, text_order}
 use Rattle.lw_reg.specs.Orders.{path_cmp}
@@ -20,7 +21,7 @@ use Rattle.lw_reg.specs.declared.path.Path.{Path}
 use Rattle.lw_reg.specs.declared.slot.Slot.{Slot}
 use Rattle.lw_reg.specs.Body.{Watching}
 use Rattle.lw_reg.specs.Marks.{Trace, Mark}
-use Rattle.lw_reg.specs.Marks.Trace.{Named, Based, AddressAt, SeenAt, LifetimeAt, BindingAt, SmsAt, ObjectsAt, Removed, Watched, Cancelled}
+use Rattle.lw_reg.specs.Marks.Trace.{Named, Based, AddressAt, SeenAt, LifetimeAt, BindingAt, SmsAt, ObjectsAt, AttributeAt, Removed, Watched, Cancelled}
 use Rattle.lw_reg.specs.Reading.{BodyShows, Shows, shown_by_option}
 use Rattle.lw_reg.specs.Slot.{slot_at, observed, cancelled}
 use Rattle.lw_reg.specs.State.{State}
@@ -50,9 +51,10 @@ body_within clock r b h (LifetimeAt s v) shows = write_within clock b.lifetime.w
 body_within clock r b h (BindingAt s v) shows = write_within clock b.binding.write s v shows h.binding
 body_within clock r b h (SmsAt s v) shows = write_within clock b.sms.write s v shows h.sms
 body_within clock r b h (ObjectsAt s v) shows = write_within clock b.objects.write s v shows h.objects
+body_within clock r b h (AttributeAt name s v) shows = each_get text_order (λ w. w.1.write.0.counter ≤ clock) (entries_of b.maps.left) name (record { write = (s, v) }) h.attributes shows
 body_within clock r b h Removed shows = tt
-body_within clock r b h (Watched p t a) shows = token_within clock (entries_of b.watches) p (observed t a) shows h.watches
-body_within clock r b h (Cancelled p t) shows = token_within clock (entries_of b.watches) p (cancelled t) shows h.watches
+body_within clock r b h (Watched p t a) shows = token_within clock (entries_of b.maps.right) p (observed t a) shows h.watches
+body_within clock r b h (Cancelled p t) shows = token_within clock (entries_of b.maps.right) p (cancelled t) shows h.watches
 
 told_within : (clock : ℕ) (r : Stamp) (x : OrGone Body) → StampsWithin clock (slot_at r x) → (k : Trace) → Shows x k → TraceWithin clock k
 told_within clock r Gone h k (inl e) = subst (TraceWithin clock) (sym e) tt
@@ -98,11 +100,11 @@ module _ (clock : ℕ) (state : State) (fits : FitsClock clock state) (e : List 
   each_write r b field is reads None shows = tt
   each_write r b field is reads (Some w) shows = reads w.0 w.1 (shown_within r (Here b) is (field w.0 w.1) (shows w.0 w.1 refl)).1
 
-  token_of : (r : Stamp) (b : Body) → get state e ≡ Some (slot_at r (Here b)) → (p : Path) (t : Stamp) (x : OrGone (Once ℕ)) → entry_of path_cmp (entries_of b.watches) p ≡ Some (record { stamp = t; value = x }) → t.counter ≤ clock
+  token_of : (r : Stamp) (b : Body) → get state e ≡ Some (slot_at r (Here b)) → (p : Path) (t : Stamp) (x : OrGone (Once ℕ)) → entry_of path_cmp (entries_of b.maps.right) p ≡ Some (record { stamp = t; value = x }) → t.counter ≤ clock
   token_of r b is p t Gone there = (shown_within r (Here b) is (Cancelled p t) there).1
   token_of r b is p t (Here a) there = (shown_within r (Here b) is (Watched p t a.value) there).1
 
-  each_token : (r : Stamp) (b : Body) → get state e ≡ Some (slot_at r (Here b)) → (ws : List (Path × Watching)) → Rises path_cmp ws → ((p : Path) (w : Watching) → entry_of path_cmp ws p ≡ Some w → entry_of path_cmp (entries_of b.watches) p ≡ Some w) → TokensWithin clock ws
+  each_token : (r : Stamp) (b : Body) → get state e ≡ Some (slot_at r (Here b)) → (ws : List (Path × Watching)) → Rises path_cmp ws → ((p : Path) (w : Watching) → entry_of path_cmp ws p ≡ Some w → entry_of path_cmp (entries_of b.maps.right) p ≡ Some w) → TokensWithin clock ws
   each_token r b is [] rises there = tt
   each_token r b is (w ∷ ws) rises there = (
     token_of r b is w.0 w.1.stamp w.1.value (there w.0 w.1 (get_first path_order w ws)),
@@ -110,7 +112,7 @@ module _ (clock : ℕ) (state : State) (fits : FitsClock clock state) (e : List 
   )
 
   told_stamps : (r : Stamp) (x : OrGone Body) → get state e ≡ Some (slot_at r x) → StampsWithin clock (slot_at r x)
-  told_stamps r Gone is = record { registration = (shown_within r Gone is Named (inl refl)).0; address = tt; seen = tt; lifetime = tt; binding = tt; sms = tt; objects = tt; watches = tt }
+  told_stamps r Gone is = record { registration = (shown_within r Gone is Named (inl refl)).0; address = tt; seen = tt; lifetime = tt; binding = tt; sms = tt; objects = tt; attributes = tt; watches = tt }
   told_stamps r (Here b) is = record {
     registration = (shown_within r (Here b) is Named tt).0;
     address = each_write r b AddressAt is (λ s v h. h) b.address.write (λ s v h. h);
@@ -119,7 +121,8 @@ module _ (clock : ℕ) (state : State) (fits : FitsClock clock state) (e : List 
     binding = each_write r b BindingAt is (λ s v h. h) b.binding.write (λ s v h. h);
     sms = each_write r b SmsAt is (λ s v h. h) b.sms.write (λ s v h. h);
     objects = each_write r b ObjectsAt is (λ s v h. h) b.objects.write (λ s v h. h);
-    watches = each_token r b is (entries_of b.watches) b.watches.rises (λ p w h. h);
+    attributes = each_from_get text_order (λ w. w.1.write.0.counter ≤ clock) (entries_of b.maps.left) b.maps.left.rises (λ name w there. (shown_within r (Here b) is (AttributeAt name w.write.0 w.write.1) there).1);
+    watches = each_token r b is (entries_of b.maps.right) b.maps.right.rises (λ p w h. h);
   }
 
   -- no stamp of a slot is above a clock that fits the state
