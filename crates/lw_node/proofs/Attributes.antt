@@ -1,13 +1,12 @@
 -- The attributes of a registration: what an operation writes of them, and what they are after an Update.
-use Rattle.std.proofs.Common.{◌≡◌, ◌∙◌, refl, sym, ap, subst, List, [], ◌∷◌, Bool, true, false, cond, Option, Some, None, option_map, ℕ}
+use Rattle.std.proofs.Common.{◌≡◌, ◌∙◌, refl, sym, ap, List, [], ◌∷◌, Option, Some, None, option_map, ℕ}
 use Rattle.std.specs.declared.cmp.Ordering.{Ordering}
 use Rattle.std.specs.declared.cmp.Ordering.TheVariants.{Less}
-use Rattle.std.specs.Ordering.{is_eq, ordering_then, max_by_ordering}
+use Rattle.std.specs.Ordering.{ordering_then, max_by_ordering}
 use Rattle.lw_stamp.specs.declared.stamp.Stamp.{Stamp}
 use Rattle.lw_stamp.specs.StampOrder.{stamp_cmp}
 use Rattle.lw_stamp.specs.TextOrder.{text_cmp}
-use Rattle.lw_join.specs.Entries.{AllAbove, Rises, get}
-use Rattle.lw_join.specs.EntriesLaws.{get_below, same_entries, same_key}
+use Rattle.lw_join.specs.Entries.{Rises, get}
 use Rattle.lw_join.specs.Greater.{greater}
 use Rattle.lw_join.specs.Last.{last_join}
 use Rattle.lw_join.specs.Lww.{write_cmp}
@@ -17,9 +16,10 @@ use Rattle.lw_join.specs.PartsLaws.{entries_made, value_at-join}
 use Rattle.lw_join.specs.declared.last.Last.{Last}
 use Rattle.lw_join.proofs.Lookups.{get-map, Rises-map}
 use Rattle.lw_reg.specs.Attribute.{values_of}
-use Rattle.lw_reg.specs.Body.{AttributeMap, one_attribute}
+use Rattle.lw_reg.specs.Body.{AttributeMap}
 use Rattle.lw_reg.specs.OrderLaws.{text_order}
 use Rattle.lw_reg.specs.Slot.{writes_of}
+use Rattle.lw_reg.proofs.WriteLemmas.{write_at, stamped_pairs, stamped_rise, writes_made}
 use Rattle.lw_node.specs.Laws.{or_kept}
 
 -- of two writes the later counts
@@ -29,34 +29,24 @@ write_later cmp s t v w h = ap (λ o. max_by_ordering (ordering_then o (cmp v w)
 abbrev text_of : Last (List ℕ) → List ℕ
 text_of last = last.write.1
 
-abbrev last_at : Stamp → List ℕ → Last (List ℕ)
-last_at s value = record { write = (s, value) }
-
 -- ---- what an operation writes
-first_value : (s : Stamp) (a : List ℕ × List ℕ) (as : List (List ℕ × List ℕ)) (name : List ℕ) (b : Bool) → is_eq (text_cmp name a.0) ≡ b → AllAbove text_cmp a.0 as
-    → option_join (last_join text_cmp) (cond b (Some (last_at s a.1)) None) (option_map (last_at s) (get text_cmp as name)) ≡ option_map (last_at s) (cond b (Some a.1) (get text_cmp as name))
-first_value s a as name true same above =
-    let absent : get text_cmp as name ≡ None = get_below text_order name as (subst (λ k. AllAbove text_cmp k as) (sym (same_key text_order name a.0 same)) above) in
-    ap (λ o. option_join (last_join text_cmp) (Some (last_at s a.1)) (option_map (last_at s) o)) absent
-first_value s a as name false other above = refl
-
 -- under each name that an operation carries stands its value
-written_at : (s : Stamp) (as : List (List ℕ × List ℕ)) → Rises text_cmp as → (name : List ℕ) → value_at (writes_of s as) name ≡ option_map (last_at s) (get text_cmp as name)
-written_at s [] rise name = ap (λ (es : List (List ℕ × Last (List ℕ))). get text_cmp es name) (entries_made [] tt)
-written_at s (a ∷ as) rise name =
-    value_at-join text_order (last_join text_cmp) (one_attribute a.0 (s, a.1)) (writes_of s as) name
-    ∙ (λ i. option_join (last_join text_cmp) (get text_cmp (entries_made ((a.0, last_at s a.1) ∷ []) (tt, tt) i) name) (written_at s as rise.1 name i))
-    ∙ first_value s a as name (is_eq (text_cmp name a.0)) refl rise.0
+written_at : (s : Stamp) (as : List (List ℕ × List ℕ)) → Rises text_cmp as → (name : List ℕ) → value_at (writes_of s as) name ≡ option_map (write_at s) (get text_cmp as name)
+written_at s as rise name =
+    ap (λ (m : AttributeMap). value_at m name) (writes_made s as rise)
+    ∙ ap (λ es. get text_cmp es name) (entries_made _ _ _ (stamped_pairs s as) (stamped_rise s as rise))
+    ∙ get-map text_cmp (write_at s) as name
 
-undone : (s : Stamp) (o : Option (List ℕ)) → option_map text_of (option_map (last_at s) o) ≡ o
-undone s None = refl
-undone s (Some value) = refl
+stamped_values : (s : Stamp) (as : List (List ℕ × List ℕ)) → values_of (stamped_pairs s as) ≡ as
+stamped_values s [] = refl
+stamped_values s (a ∷ as) = ap (λ rest. a ∷ rest) (stamped_values s as)
 
 -- the writes of an operation have the values that it carries
 pub written_values : (s : Stamp) (as : List (List ℕ × List ℕ)) → Rises text_cmp as → values_of (entries_of (writes_of s as)) ≡ as
 written_values s as rise =
-    same_entries text_order (values_of (entries_of (writes_of s as))) as (Rises-map text_cmp text_of (entries_of (writes_of s as)) (writes_of s as).rises) rise
-    (λ name. get-map text_cmp text_of (entries_of (writes_of s as)) name ∙ ap (option_map text_of) (written_at s as rise name) ∙ undone s (get text_cmp as name))
+    ap (λ (m : AttributeMap). values_of (entries_of m)) (writes_made s as rise)
+    ∙ ap values_of (entries_made _ _ _ (stamped_pairs s as) (stamped_rise s as rise))
+    ∙ stamped_values s as
 
 -- ---- after an Update
 -- each write of the map is older
@@ -64,7 +54,7 @@ abbrev pub AreOlder : AttributeMap → Stamp → Type 0
 AreOlder attributes t = (name : List ℕ) (last : Last (List ℕ)) → value_at attributes name ≡ Some last → stamp_cmp last.write.0 t ≡ Less
 
 value_after : (t : Stamp) (o : Option (Last (List ℕ))) (given : Option (List ℕ)) → ((last : Last (List ℕ)) → o ≡ Some last → stamp_cmp last.write.0 t ≡ Less)
-    → option_map text_of (option_join (last_join text_cmp) o (option_map (last_at t) given)) ≡ or_kept given (option_map text_of o)
+    → option_map text_of (option_join (last_join text_cmp) o (option_map (write_at t) given)) ≡ or_kept given (option_map text_of o)
 value_after t None None older = refl
 value_after t None (Some value) older = refl
 value_after t (Some last) None older = refl

@@ -20,6 +20,7 @@ use Rattle.lw_reg.specs.Marks.{Marks, Trace, Has}
 use Rattle.lw_reg.specs.Marks.Trace.{Named, Based, AddressAt, SeenAt, LifetimeAt, BindingAt, SmsAt, ObjectsAt, Watched}
 use Rattle.lw_reg.specs.Registration.{Registration}
 use Rattle.lw_reg.specs.Showing.{IsCurrent, IsBase, IsValue, HasAttributes, IsComplete, IsShown, IsExpired, IsToken, IsLive, IsFirstOfWatches, IsAbove, ShownOf, queue_of}
+use Rattle.lw_reg.proofs.Readings.{attributes_one}
 use Rattle.lw_table.specs.Answers.{IsFirstAnswer}
 use Rattle.lw_table.specs.LookUps.{ById, ByAddress, IsHolder, ByToken, HasToken, WatchOfIdAfter, ExpiredAfter, IsExpiredAfter, named_by}
 use Rattle.lw_call.specs.declared.answer.Answer.{Answer}
