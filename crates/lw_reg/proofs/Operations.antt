@@ -3,7 +3,7 @@ use Rattle.std.proofs.Common.{◌≡◌, ℕ, List, [], ◌∷◌, ◌++◌, Opt
 use Rattle.std.specs.Prelude.{map}
 use Rattle.std.specs.Cmp.{tied_itself}
 use Rattle.std.specs.FinMap.{empty, get, get-empty}
-use Rattle.std.specs.Ordering.{match_ordering}
+use Rattle.std.specs.Ordering.{match_ordering, nat_cmp}
 use Rattle.std.proofs.lemmas.List.Elements.{Contains-append_left, Contains-append_right, Contains-append_cases}
 use Rattle.lw_stamp.specs.declared.moment.Moment.{Moment}
 use Rattle.lw_stamp.specs.declared.stamp.Stamp.{Stamp}
@@ -11,15 +11,17 @@ use Rattle.lw_stamp.specs.TextOrder.{text_cmp}
 use Rattle.lw_stamp.proofs.StampLemmas.{stamp_order}
 use Rattle.lw_join.specs.Both.{both_join}
 use Rattle.lw_join.specs.EntriesLaws.{join_none}
+use Rattle.lw_join.specs.Greater.{greater}
 use Rattle.lw_join.specs.Join.{IsJoin}
 use Rattle.lw_join.specs.JoinLaws.{semilattice, absorbed}
 use Rattle.lw_join.specs.Last.{last_join}
 use Rattle.lw_join.specs.Least.{joined_all}
+use Rattle.lw_join.specs.Lww.{write_cmp}
 use Rattle.lw_join.specs.Maps.{one_key}
 use Rattle.lw_join.specs.OptionLaws.{option_laws}
 use Rattle.lw_join.specs.Options.{option_below, option_join}
 use Rattle.lw_join.specs.OrGone.{gone_join}
-use Rattle.lw_join.specs.Parts.{parts_below, parts_join, value_at}
+use Rattle.lw_join.specs.Parts.{parts_below, parts_join}
 use Rattle.lw_join.specs.PartsLaws.{parts_laws, entries_made}
 use Rattle.lw_join.specs.OrGoneLaws.{gone_laws}
 use Rattle.lw_join.specs.declared.or_gone.OrGone.{OrGone}
@@ -32,7 +34,6 @@ use Rattle.lw_reg.specs.declared.body.Body.{Body}
 use Rattle.lw_reg.specs.declared.op.Op.{Op}
 use Rattle.lw_reg.specs.declared.op.What.{What}
 use Rattle.lw_reg.specs.declared.op.What.TheVariants.{Register, Update, Remove, Observe, Cancel}
-use Rattle.lw_reg.specs.declared.settings.GivenSettings.{GivenSettings}
 use Rattle.lw_reg.specs.declared.path.Path.{Path}
 use Rattle.lw_reg.specs.declared.slot.Slot.{Slot}
 use Rattle.lw_reg.specs.Body.{Watches, Maps, watching_below, watching_join, body_join, no_watches, maps_of, no_maps, maps_alone}
@@ -40,6 +41,7 @@ use Rattle.lw_reg.specs.BodyLaws.{watching_laws, body_laws}
 use Rattle.lw_reg.specs.Marks.{Trace, Mark, Has, NamesAll, AllAbout, among, left_by, marks_about, marks_of, all_marks, traces_of, written, attribute_traces}
 use Rattle.lw_reg.specs.Marks.Trace.{Named, Based, AddressAt, SeenAt, LifetimeAt, BindingAt, SmsAt, ObjectsAt, AttributeAt}
 use Rattle.lw_reg.specs.OrderLaws.{path_order, text_order}
+use Rattle.lw_reg.specs.Orders.{addr_cmp, base_cmp, binding_cmp, moment_cmp, sms_cmp}
 use Rattle.lw_reg.specs.Reading.{IsSlotOf}
 use Rattle.lw_reg.specs.Slot.{slot_join, slot_at, told_by, told_of, slot_of, write_of, writes_of, some_text}
 use Rattle.lw_reg.specs.SlotLaws.{slot_laws}
@@ -133,13 +135,13 @@ maps_joined : (b : Body) (m : Maps) → b.maps ≡ no_maps → body_join b (maps
 maps_joined b m none =
     let maps = ap (λ n. both_join (last_join text_cmp) watching_join n m) none ∙ no_maps_first m in
     λ i. record {
-      base = record { value = join_none _ b.base.value i };
-      address = record { write = join_none _ b.address.write i };
-      seen = record { write = join_none _ b.seen.write i };
-      lifetime = record { write = join_none _ b.lifetime.write i };
-      binding = record { write = join_none _ b.binding.write i };
-      sms = record { write = join_none _ b.sms.write i };
-      objects = record { write = join_none _ b.objects.write i };
+      base = record { value = join_none (greater base_cmp) b.base.value i };
+      address = record { write = join_none (greater (write_cmp addr_cmp)) b.address.write i };
+      seen = record { write = join_none (greater (write_cmp moment_cmp)) b.seen.write i };
+      lifetime = record { write = join_none (greater (write_cmp nat_cmp)) b.lifetime.write i };
+      binding = record { write = join_none (greater (write_cmp binding_cmp)) b.binding.write i };
+      sms = record { write = join_none (greater (write_cmp sms_cmp)) b.sms.write i };
+      objects = record { write = join_none (greater (write_cmp text_cmp)) b.objects.write i };
       maps = maps i;
     }
 

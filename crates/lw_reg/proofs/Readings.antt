@@ -1,5 +1,5 @@
 -- What a slot shows is what the relations say of the set that it tells of.
-use Rattle.std.proofs.Common.{◌≡◌, ℕ, List, Option, Some, None, sym, ap, ◌∙◌, subst, inl, inr}
+use Rattle.std.proofs.Common.{◌≡◌, ℕ, List, Option, Some, None, refl, sym, ap, ◌∙◌, subst, inl, inr}
 use Rattle.std.specs.Prelude.{◌↔◌}
 use Rattle.std.specs.declared.cmp.Ordering.{Ordering}
 use Rattle.std.specs.Option.{option_map}
@@ -70,8 +70,8 @@ pub record ShownParts (e : List ℕ) (r : Stamp) (base : Option Base) (address :
 some_registration : (v w : Registration) → Some v ≡ Some w → v ≡ w
 some_registration v w e = cc
 
-parts_shown : (e : List ℕ) (r : Stamp) (ob : Option Base) (oa : Option (Stamp × Addr)) (os : Option (Stamp × Moment)) (ol : Option (Stamp × ℕ)) (oi : Option (Stamp × Binding)) (om : Option (Stamp × Option (List ℕ))) (oo : Option (Stamp × List ℕ)) (as : List (List ℕ × List ℕ)) (v : Registration) → registration_of e r ob oa os ol oi om oo as ≡ Some v → ShownParts e r ob oa os ol oi om oo as v
-parts_shown e r (Some b) (Some a) (Some s) (Some l) (Some i) (Some m) (Some o) as v h =
+parts_shown : (e : List ℕ) (r : Stamp) (ob : Option Base) (oa : Option (Stamp × Addr)) (os : Option (Stamp × Moment)) (ol : Option (Stamp × ℕ)) (oi : Option (Stamp × Binding)) (om : Option (Stamp × Option (List ℕ))) (oo : Option (Stamp × List ℕ)) (pairs : List (List ℕ × List ℕ)) (v : Registration) → registration_of e r ob oa os ol oi om oo pairs ≡ Some v → ShownParts e r ob oa os ol oi om oo pairs v
+parts_shown e r (Some b) (Some a) (Some s) (Some l) (Some i) (Some m) (Some o) pairs v h =
     let same = some_registration _ v h in
     record {
       endpoint = ap (λ (w : Registration). w.endpoint) same;
@@ -94,10 +94,10 @@ parts_shown e r (Some b) (Some a) (Some s) (Some l) (Some i) (Some m) (Some o) a
       objects_is = ap (λ (w : Registration). Some (o.0, w.objects)) same;
       attributes_are = ap (λ (w : Registration). w.attributes) same;
     }
-parts_shown e r _ _ _ _ _ _ _ as v h = absurd cc
+parts_shown e r _ _ _ _ _ _ _ pairs v h = absurd cc
 
-shown_of_parts : (e : List ℕ) (r : Stamp) (ob : Option Base) (oa : Option (Stamp × Addr)) (os : Option (Stamp × Moment)) (ol : Option (Stamp × ℕ)) (oi : Option (Stamp × Binding)) (om : Option (Stamp × Option (List ℕ))) (oo : Option (Stamp × List ℕ)) (as : List (List ℕ × List ℕ)) (v : Registration) → ShownParts e r ob oa os ol oi om oo as v → registration_of e r ob oa os ol oi om oo as ≡ Some v
-shown_of_parts e r ob oa os ol oi om oo as v p =
+shown_of_parts : (e : List ℕ) (r : Stamp) (ob : Option Base) (oa : Option (Stamp × Addr)) (os : Option (Stamp × Moment)) (ol : Option (Stamp × ℕ)) (oi : Option (Stamp × Binding)) (om : Option (Stamp × Option (List ℕ))) (oo : Option (Stamp × List ℕ)) (pairs : List (List ℕ × List ℕ)) (v : Registration) → ShownParts e r ob oa os ol oi om oo pairs v → registration_of e r ob oa os ol oi om oo pairs ≡ Some v
+shown_of_parts e r ob oa os ol oi om oo pairs v p =
     (λ j. registration_of (p.endpoint j) (p.id j) (p.base_is j) (p.address_is j) (p.seen_is j) (p.lifetime_is j) (p.binding_is j) (p.sms_is j) (p.objects_is j) (p.attributes_are j))
     ∙ (λ j. Some (record {
       endpoint = v.endpoint;

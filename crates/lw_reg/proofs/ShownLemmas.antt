@@ -73,9 +73,9 @@ named_for e v = record {
   attributes = v.attributes;
 }
 
-renamed_parts : (e f : List ℕ) (r : Stamp) (ob : Option Base) (oa : Option (Stamp × Addr)) (os : Option (Stamp × Moment)) (ol : Option (Stamp × ℕ)) (oi : Option (Stamp × Binding)) (om : Option (Stamp × Option (List ℕ))) (oo : Option (Stamp × List ℕ)) (as : List (List ℕ × List ℕ)) → registration_of f r ob oa os ol oi om oo as ≡ option_map (named_for f) (registration_of e r ob oa os ol oi om oo as)
-renamed_parts e f r (Some b) (Some a) (Some s) (Some l) (Some i) (Some m) (Some o) as = refl
-renamed_parts e f r _ _ _ _ _ _ _ as = refl
+renamed_parts : (e f : List ℕ) (r : Stamp) (ob : Option Base) (oa : Option (Stamp × Addr)) (os : Option (Stamp × Moment)) (ol : Option (Stamp × ℕ)) (oi : Option (Stamp × Binding)) (om : Option (Stamp × Option (List ℕ))) (oo : Option (Stamp × List ℕ)) (pairs : List (List ℕ × List ℕ)) → registration_of f r ob oa os ol oi om oo pairs ≡ option_map (named_for f) (registration_of e r ob oa os ol oi om oo pairs)
+renamed_parts e f r (Some b) (Some a) (Some s) (Some l) (Some i) (Some m) (Some o) pairs = refl
+renamed_parts e f r _ _ _ _ _ _ _ pairs = refl
 
 renamed : (e f : List ℕ) (r : Stamp) (x : OrGone Body) → registered_in f (slot_at r x) ≡ option_map (named_for f) (registered_in e (slot_at r x))
 renamed e f r Gone = refl

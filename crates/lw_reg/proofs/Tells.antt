@@ -217,7 +217,7 @@ no_attribute k none = parts_empty (LastTells text_cmp) (λ y. With k (attribute_
     go name s v (inl e) = none name s v e
     go name s v (inr e) = cc
 
-same_attribute : (m n : List ℕ) (s t : Stamp) (v u : List ℕ) → With (AttributeAt n t u) (AttributeAt m s v) → (m ≡ n) × ((s ≡ t) × (v ≡ u))
+same_attribute : (m n : List ℕ) (s t : Stamp) (v u : List ℕ) → With (AttributeAt n t u) (AttributeAt m s v) → (m ≡ n) × (s ≡ t) × (v ≡ u)
 same_attribute m n s t v u (inl e) = (cc, (cc), (cc))
 same_attribute m n s t v u (inr e) = absurd cc
 
@@ -226,7 +226,7 @@ attributes_told (AttributeAt name s v) =
     parts_single (LastTells text_cmp) (λ y. With (AttributeAt name s v) (attribute_trace y)) (one_attribute name (s, v)) text_order name (record { write = (s, v) })
     (entries_made _ _ _ ((name, record { write = (s, v) }) ∷ []) (tt, tt))
     (λ n w e. (same_attribute n name w.0 s w.1 v e).0)
-    (greatest_single (write_order text_order) _ (s, v) (inl refl) (λ w e. let same = (same_attribute name name w.0 s w.1 v e).1 in λ i. (same.0 i, same.1 i)))
+    (greatest_single (write_order text_order) _ (s, v) (inl refl) (λ w e. let same = same_attribute name name w.0 s w.1 v e in λ i. (same.1 i, same.2 i)))
 attributes_told _ = no_attribute _ (λ name s v e. cc)
 
 -- a trace of no watch

@@ -36,6 +36,13 @@ no_attribute_first a = laws.antisymmetric _ _ (laws.least no_attributes a a (no_
     laws : IsJoin {S = AttributeMap} (parts_below (last_below text_cmp)) (parts_join (last_join text_cmp))
     laws = parts_laws text_order (last_laws text_order)
 
+-- each write is of an attribute
+abbrev pub AreWrites : AttributeMap → Type 0
+AreWrites writes = AllByRecursion (λ (w : List ℕ × Last (List ℕ)). IsAttribute w.0 w.1.write.1) (entries_of writes)
+
+pub no_writes_are : AreWrites no_attributes
+no_writes_are = subst (AllByRecursion (λ (w : List ℕ × Last (List ℕ)). IsAttribute w.0 w.1.write.1)) (sym (entries_made _ _ _ [] tt)) tt
+
 -- ---- the writes of an operation, one by one
 abbrev pub write_at : Stamp → List ℕ → Last (List ℕ)
 write_at s value = record { write = (s, value) }
