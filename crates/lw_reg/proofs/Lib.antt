@@ -1,6 +1,7 @@
 pub mod Addresses
 pub mod BindingLemmas
 pub mod WatchLemmas
+pub mod WriteLemmas
 pub mod AboveLemmas
 pub mod NothingLemmas
 pub mod Members
