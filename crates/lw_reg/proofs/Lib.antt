@@ -3,6 +3,7 @@ pub mod BindingLemmas
 pub mod WatchLemmas
 pub mod WriteLemmas
 pub mod AboveLemmas
+pub mod AttributeLemmas
 pub mod NothingLemmas
 pub mod Members
 pub mod Tells

@@ -1,6 +1,6 @@
 //! The attributes of a registration (LwM2M 1.1 Core, section 6.2.1).
 
-ghost use Rattle.std.specs.Prelude.{◌≡◌, ◌↔◌, ℕ, List, [], length, IsTrue, IsSome, IfSome, IfOk, slice_get, option_map, bytes_eq};
+ghost use Rattle.std.specs.Prelude.{◌≡◌, ◌↔◌, ℕ, List, [], ◌==◌, length, IsTrue, IsSome, IfSome, IfOk, slice_get, option_map, bytes_eq};
 ghost use Rattle.std.specs.List.{list_any, AllByRecursion};
 ghost use Rattle.lw_stamp.specs.TextOrder.{text_cmp};
 ghost use Rattle.lw_join.specs.Entries.{Rises};
@@ -23,7 +23,13 @@ const MAX_PAIR_LENGTH: usize = 254;
 pub fn is_attribute_name(name: &str) -> bool
     ensures { result ≡ is_attribute_name name.now }
 {
-    !name.is_empty() && !name.contains('=') && !is_parameter_name(name)
+    !name.is_empty() && !has_equals_sign(name) && !is_parameter_name(name)
+}
+
+fn has_equals_sign(name: &str) -> bool
+    ensures { result ≡ list_any (λ c. c == 61) name.now }
+{
+    name.as_bytes().iter().any(|byte| *byte == b'=')
 }
 
 fn is_parameter_name(name: &str) -> bool
@@ -43,9 +49,12 @@ fn is_attribute(name: &str, value: &str) -> bool
 fn are_attributes(pairs: &[(Text, Text)]) -> bool
     ensures { IsTrue result ↔ AllByRecursion (λ (a : List ℕ × List ℕ). IsAttribute a.0 a.1) pairs.now }
 {
-    pairs
-        .iter()
-        .all(|pair| is_attribute(pair.0.as_str(), pair.1.as_str()))
+    for (name, value) in pairs {
+        if !is_attribute(name.as_str(), value.as_str()) {
+            return false;
+        }
+    }
+    true
 }
 
 /// Attributes, each with its name and its value. Contracts see these pairs, names rising.
@@ -158,7 +167,8 @@ impl<'a> AttributesView<'a> {
     }
 
     pub fn len(&self) -> usize
-        ensures { result ≡ length self.now }
+        ensures value { result ≡ length self.now }
+        ensures attributes { AreAttributes self.now }
     {
         match self.lent {
             Lent::Written(writes) => writes.len(),
@@ -193,7 +203,8 @@ impl<'a> AttributesView<'a> {
     }
 
     fn copied_pairs(&self, alloc: Global) -> Result<Vec<(Text, Text)>, NoMemory>
-        ensures { IfOk result (λ pairs. pairs.items ≡ self.now) }
+        ensures value { IfOk result (λ pairs. pairs.items ≡ self.now) }
+        ensures attributes { AreAttributes self.now }
     {
         let mut pairs = Vec::with_capacity(alloc, self.len())?;
         while let Some((name, value)) = self.get(pairs.len()) {
