@@ -44,7 +44,7 @@ module _ (slot : Slot) (now : ℕ) where
     where
       go : (x : OrGone Body) → Rises path_cmp (watches_of (slot_at slot.registration.stamp x))
       go Gone = tt
-      go (Here b) = b.watches.rises
+      go (Here b) = b.maps.right.rises
 
   pub token_decides : (token : Stamp) (w : Watch) → (has_token token w ≡ true) ↔ (w.token ≡ token)
   token_decides token w = (λ h. let p = and_parts (nat_eq w.token.counter token.counter) (nat_eq w.token.node token.node) h in same_stamp w.token token (eqb-true _ _ p.0) (eqb-true _ _ p.1), λ e. alike w.token e)

@@ -1,7 +1,9 @@
 pub mod Addresses
 pub mod BindingLemmas
 pub mod WatchLemmas
+pub mod WriteLemmas
 pub mod AboveLemmas
+pub mod AttributeLemmas
 pub mod NothingLemmas
 pub mod Members
 pub mod Tells

@@ -9,14 +9,15 @@ use Rattle.lw_join.specs.PartsLaws.{entries_made}
 use Rattle.lw_join.specs.declared.or_gone.OrGone.{OrGone}
 use Rattle.lw_join.specs.declared.or_gone.OrGone.TheVariants.{Here, Gone}
 use Rattle.lw_reg.specs.declared.body.Body.{Body}
-use Rattle.lw_reg.specs.Body.{BodyBelow, body_join, nothing}
+use Rattle.lw_reg.specs.Body.{BodyBelow, body_join, maps_of, nothing}
 use Rattle.lw_reg.specs.BodyLaws.{body_laws}
-use Rattle.lw_reg.specs.Reading.{told_watches}
+use Rattle.lw_reg.specs.Reading.{told_attributes, told_watches}
 use Rattle.lw_reg.specs.Told.{known_in, has_no_fields}
+use Rattle.lw_reg.proofs.WriteLemmas.{no_attributes_are, no_attributes_below}
 use Rattle.lw_reg.proofs.WatchLemmas.{no_watches_are, no_watches_below}
 
 nothing_below : (b : Body) → BodyBelow nothing b
-nothing_below b = record { base = tt; address = tt; seen = tt; lifetime = tt; binding = tt; sms = tt; objects = tt; watches = no_watches_below b.watches }
+nothing_below b = record { base = tt; address = tt; seen = tt; lifetime = tt; binding = tt; sms = tt; objects = tt; maps = (no_attributes_below b.maps.left, no_watches_below b.maps.right) }
 
 below_told : (x : OrGone Body) → gone_below BodyBelow (Here nothing) x
 below_told Gone = tt
@@ -41,7 +42,7 @@ pub joined_to_nothing : (x : OrGone Body) (b : Body) → x ≡ Here nothing → 
 joined_to_nothing x b e = ap Here (sym ((semilattice body_laws).commutative nothing b ∙ nothing_right b)) ∙ ap (λ y. gone_join body_join y (Here b)) (sym e)
 
 -- nothing joined
-joined_nothing : (x : OrGone Body) → x ≡ gone_join body_join x (Here nothing)
+pub joined_nothing : (x : OrGone Body) → x ≡ gone_join body_join x (Here nothing)
 joined_nothing Gone = refl
 joined_nothing (Here b) = ap Here (sym (nothing_right b))
 
@@ -52,7 +53,7 @@ none_is : {A : Type 0} (o : Option A) → is_none o ≡ true → o ≡ None
 none_is None h = refl
 none_is (Some x) h = absurd cc
 
-pub is_nothing_known : (b : Body) → has_no_fields b ≡ true → entries_of b.watches ≡ [] → b ≡ nothing
+pub is_nothing_known : (b : Body) → has_no_fields b ≡ true → (entries_of b.maps.left ≡ []) × (entries_of b.maps.right ≡ []) → b ≡ nothing
 is_nothing_known b h empty =
     let a = and_parts _ _ h in
     let c = and_parts _ _ a.0 in
@@ -67,7 +68,8 @@ is_nothing_known b h empty =
     let binding = none_is b.binding.write d.1 in
     let sms = none_is b.sms.write c.1 in
     let objects = none_is b.objects.write a.1 in
-    let watches = no_watches_are b.watches empty in
+    let attributes = no_attributes_are b.maps.left empty.0 in
+    let watches = no_watches_are b.maps.right empty.1 in
     λ i. record {
       base = record { value = base i };
       address = record { write = address i };
@@ -76,22 +78,33 @@ is_nothing_known b h empty =
       binding = record { write = binding i };
       sms = record { write = sms i };
       objects = record { write = objects i };
-      watches = watches i;
+      maps = maps_of (attributes i) (watches i);
     }
 
 pub nothing_has_no_fields : (b : Body) → b ≡ nothing → has_no_fields b ≡ true
 nothing_has_no_fields b e = ap has_no_fields e
 
-pub nothing_has_no_watches : (b : Body) → b ≡ nothing → entries_of b.watches ≡ []
-nothing_has_no_watches b e = ap (λ (x : Body). entries_of x.watches) e ∙ entries_made _ _ _ [] tt
+pub nothing_has_no_entries : (b : Body) → b ≡ nothing → (entries_of b.maps.left ≡ []) × (entries_of b.maps.right ≡ [])
+nothing_has_no_entries b e = (ap (λ (x : Body). entries_of x.maps.left) e ∙ entries_made _ _ _ [] tt, ap (λ (x : Body). entries_of x.maps.right) e ∙ entries_made _ _ _ [] tt)
 
 -- the watches of what is known
-watches_known : (x : OrGone Body) → entries_of (known_in x).watches ≡ told_watches x
+watches_known : (x : OrGone Body) → entries_of (known_in x).maps.right ≡ told_watches x
 watches_known Gone = entries_made _ _ _ [] tt
 watches_known (Here b) = refl
 
-pub watches_of_known : (x : OrGone Body) (b : Body) → b ≡ known_in x → entries_of b.watches ≡ told_watches x
-watches_of_known x b e = ap (λ (y : Body). entries_of y.watches) e ∙ watches_known x
+pub watches_of_known : (x : OrGone Body) (b : Body) → b ≡ known_in x → entries_of b.maps.right ≡ told_watches x
+watches_of_known x b e = ap (λ (y : Body). entries_of y.maps.right) e ∙ watches_known x
 
 pub watches_of_nothing : (x : OrGone Body) → nothing ≡ known_in x → [] ≡ told_watches x
 watches_of_nothing x e = sym (entries_made _ _ _ [] tt) ∙ watches_of_known x nothing e
+
+-- the attributes of what is known
+attributes_known : (x : OrGone Body) → entries_of (known_in x).maps.left ≡ told_attributes x
+attributes_known Gone = entries_made _ _ _ [] tt
+attributes_known (Here b) = refl
+
+pub attributes_of_known : (x : OrGone Body) (b : Body) → b ≡ known_in x → entries_of b.maps.left ≡ told_attributes x
+attributes_of_known x b e = ap (λ (y : Body). entries_of y.maps.left) e ∙ attributes_known x
+
+pub attributes_of_nothing : (x : OrGone Body) → nothing ≡ known_in x → [] ≡ told_attributes x
+attributes_of_nothing x e = sym (entries_made _ _ _ [] tt) ∙ attributes_of_known x nothing e

@@ -1,7 +1,8 @@
 -- What a slot shows is what the relations say of the set that it tells of.
-use Rattle.std.proofs.Common.{◌≡◌, ℕ, List, Option, Some, None, sym, ap, ◌∙◌, subst, inl, inr}
+use Rattle.std.proofs.Common.{◌≡◌, ℕ, List, Option, Some, None, refl, sym, ap, ◌∙◌, subst, inl, inr}
 use Rattle.std.specs.Prelude.{◌↔◌}
 use Rattle.std.specs.declared.cmp.Ordering.{Ordering}
+use Rattle.std.specs.Option.{option_map}
 use Rattle.std.specs.Ordering.{nat_cmp}
 use Rattle.lw_stamp.specs.declared.moment.Moment.{Moment}
 use Rattle.lw_stamp.specs.declared.stamp.Stamp.{Stamp}
@@ -9,35 +10,43 @@ use Rattle.lw_stamp.specs.Order.{IsExactOrder, IsGreatest}
 use Rattle.lw_stamp.specs.StampOrder.{stamp_cmp}
 use Rattle.lw_stamp.specs.TextOrder.{text_cmp}
 use Rattle.lw_stamp.proofs.StampLemmas.{stamp_order}
-use Rattle.lw_join.specs.Facets.{OptionTells, KeyedTells}
+use Rattle.lw_join.specs.Facets.{OptionTells, KeyedTells, LastTells}
 use Rattle.lw_join.specs.Lww.{write_cmp}
 use Rattle.lw_join.specs.Entries.{get}
-use Rattle.lw_join.specs.Parts.{value_at}
+use Rattle.lw_join.specs.EntriesLaws.{same_entries}
+use Rattle.lw_join.specs.LwwLaws.{write_order}
+use Rattle.lw_join.specs.Parts.{entries_of, value_at}
+use Rattle.lw_join.specs.declared.last.Last.{Last}
 use Rattle.lw_join.specs.declared.lww.Lww.{Lww}
 use Rattle.lw_join.specs.declared.once.Once.{Once}
 use Rattle.lw_join.specs.declared.or_gone.OrGone.{OrGone}
 use Rattle.lw_join.specs.declared.or_gone.OrGone.TheVariants.{Here, Gone}
 use Rattle.lw_join.proofs.FacetLemmas.{greatest_same, greatest_one}
+use Rattle.lw_join.proofs.Lookups.{get-map, Rises-map}
 use Rattle.lw_reg.specs.declared.addr.Addr.{Addr}
 use Rattle.lw_reg.specs.declared.base.Base.{Base}
 use Rattle.lw_reg.specs.declared.binding.Binding.{Binding}
 use Rattle.lw_reg.specs.declared.body.Body.{Body}
 use Rattle.lw_reg.specs.declared.path.Path.{Path}
 use Rattle.lw_reg.specs.BindingLaws.{binding_order}
-use Rattle.lw_reg.specs.Body.{Watching}
+use Rattle.lw_reg.specs.Attribute.{values_of}
+use Rattle.lw_reg.specs.Body.{Watching, AttributeMap}
 use Rattle.lw_reg.specs.Marks.{Trace, Marks, Has}
-use Rattle.lw_reg.specs.Marks.Trace.{Named, Based, AddressAt, SeenAt, LifetimeAt, BindingAt, SmsAt, ObjectsAt, Watched, Cancelled}
+use Rattle.lw_reg.specs.Marks.Trace.{Named, Based, AddressAt, SeenAt, LifetimeAt, BindingAt, SmsAt, ObjectsAt, AttributeAt, Watched, Cancelled}
 use Rattle.lw_reg.specs.OrderLaws.{addr_order, moment_order, number_order, sms_order, text_order, format_order}
 use Rattle.lw_reg.specs.Orders.{addr_cmp, base_cmp, binding_cmp, moment_cmp, path_cmp, sms_cmp, format_cmp}
 use Rattle.lw_reg.specs.Reading.{registration_of, registered_in, watches_of}
 use Rattle.lw_reg.specs.Registration.{Registration}
-use Rattle.lw_reg.specs.Showing.{IsCurrent, IsRegistered, IsToken, queue_of}
+use Rattle.lw_reg.specs.Showing.{IsCurrent, IsRegistered, IsToken, IsNamedValue, HasAttributes, queue_of}
 use Rattle.lw_reg.specs.Slot.{slot_at, observed}
-use Rattle.lw_reg.proofs.Tells.{Sign, sign_trace, FieldTells, WatchTells, ToldTells, base_facet, field_facet}
+use Rattle.lw_reg.proofs.Tells.{Sign, sign_trace, FieldTells, AttributesTell, WatchTells, ToldTells, base_facet, field_facet}
 use Rattle.lw_reg.proofs.Tells.Sign.{Asked, Ended}
 
+abbrev value_in : Last (List ℕ) → List ℕ
+value_in l = l.write.1
+
 -- the parts that a registration is shown of
-pub record ShownParts (e : List ℕ) (r : Stamp) (base : Option Base) (address : Option (Stamp × Addr)) (seen : Option (Stamp × Moment)) (lifetime : Option (Stamp × ℕ)) (binding : Option (Stamp × Binding)) (sms : Option (Stamp × Option (List ℕ))) (objects : Option (Stamp × List ℕ)) (v : Registration) : Type 0 where
+pub record ShownParts (e : List ℕ) (r : Stamp) (base : Option Base) (address : Option (Stamp × Addr)) (seen : Option (Stamp × Moment)) (lifetime : Option (Stamp × ℕ)) (binding : Option (Stamp × Binding)) (sms : Option (Stamp × Option (List ℕ))) (objects : Option (Stamp × List ℕ)) (attributes : List (List ℕ × List ℕ)) (v : Registration) : Type 0 where
   endpoint : e ≡ v.endpoint
   id : r ≡ v.id
   base_value : Base
@@ -56,12 +65,13 @@ pub record ShownParts (e : List ℕ) (r : Stamp) (base : Option Base) (address :
   sms_is : sms ≡ Some (sms_at, v.sms)
   objects_at : Stamp
   objects_is : objects ≡ Some (objects_at, v.objects)
+  attributes_are : attributes ≡ v.attributes
 
 some_registration : (v w : Registration) → Some v ≡ Some w → v ≡ w
 some_registration v w e = cc
 
-parts_shown : (e : List ℕ) (r : Stamp) (ob : Option Base) (oa : Option (Stamp × Addr)) (os : Option (Stamp × Moment)) (ol : Option (Stamp × ℕ)) (oi : Option (Stamp × Binding)) (om : Option (Stamp × Option (List ℕ))) (oo : Option (Stamp × List ℕ)) (v : Registration) → registration_of e r ob oa os ol oi om oo ≡ Some v → ShownParts e r ob oa os ol oi om oo v
-parts_shown e r (Some b) (Some a) (Some s) (Some l) (Some i) (Some m) (Some o) v h =
+parts_shown : (e : List ℕ) (r : Stamp) (ob : Option Base) (oa : Option (Stamp × Addr)) (os : Option (Stamp × Moment)) (ol : Option (Stamp × ℕ)) (oi : Option (Stamp × Binding)) (om : Option (Stamp × Option (List ℕ))) (oo : Option (Stamp × List ℕ)) (pairs : List (List ℕ × List ℕ)) (v : Registration) → registration_of e r ob oa os ol oi om oo pairs ≡ Some v → ShownParts e r ob oa os ol oi om oo pairs v
+parts_shown e r (Some b) (Some a) (Some s) (Some l) (Some i) (Some m) (Some o) pairs v h =
     let same = some_registration _ v h in
     record {
       endpoint = ap (λ (w : Registration). w.endpoint) same;
@@ -82,12 +92,13 @@ parts_shown e r (Some b) (Some a) (Some s) (Some l) (Some i) (Some m) (Some o) v
       sms_is = ap (λ (w : Registration). Some (m.0, w.sms)) same;
       objects_at = o.0;
       objects_is = ap (λ (w : Registration). Some (o.0, w.objects)) same;
+      attributes_are = ap (λ (w : Registration). w.attributes) same;
     }
-parts_shown e r _ _ _ _ _ _ _ v h = absurd cc
+parts_shown e r _ _ _ _ _ _ _ pairs v h = absurd cc
 
-shown_of_parts : (e : List ℕ) (r : Stamp) (ob : Option Base) (oa : Option (Stamp × Addr)) (os : Option (Stamp × Moment)) (ol : Option (Stamp × ℕ)) (oi : Option (Stamp × Binding)) (om : Option (Stamp × Option (List ℕ))) (oo : Option (Stamp × List ℕ)) (v : Registration) → ShownParts e r ob oa os ol oi om oo v → registration_of e r ob oa os ol oi om oo ≡ Some v
-shown_of_parts e r ob oa os ol oi om oo v p =
-    (λ j. registration_of (p.endpoint j) (p.id j) (p.base_is j) (p.address_is j) (p.seen_is j) (p.lifetime_is j) (p.binding_is j) (p.sms_is j) (p.objects_is j))
+shown_of_parts : (e : List ℕ) (r : Stamp) (ob : Option Base) (oa : Option (Stamp × Addr)) (os : Option (Stamp × Moment)) (ol : Option (Stamp × ℕ)) (oi : Option (Stamp × Binding)) (om : Option (Stamp × Option (List ℕ))) (oo : Option (Stamp × List ℕ)) (pairs : List (List ℕ × List ℕ)) (v : Registration) → ShownParts e r ob oa os ol oi om oo pairs v → registration_of e r ob oa os ol oi om oo pairs ≡ Some v
+shown_of_parts e r ob oa os ol oi om oo pairs v p =
+    (λ j. registration_of (p.endpoint j) (p.id j) (p.base_is j) (p.address_is j) (p.seen_is j) (p.lifetime_is j) (p.binding_is j) (p.sms_is j) (p.objects_is j) (p.attributes_are j))
     ∙ (λ j. Some (record {
       endpoint = v.endpoint;
       id = v.id;
@@ -99,7 +110,31 @@ shown_of_parts e r ob oa os ol oi om oo v p =
       queue = p.queue j;
       sms = v.sms;
       objects = v.objects;
+      attributes = v.attributes;
     }))
+
+-- ---- attributes
+module _ (M : Marks) (e : List ℕ) (r : Stamp) where
+  named_from : (name : List ℕ) (o : Option (Last (List ℕ))) → OptionTells (LastTells text_cmp) (λ (w : Stamp × List ℕ). Has M e r (AttributeAt name w.0 w.1)) o → IsNamedValue M e r name (option_map value_in o)
+  named_from name None told = λ at value has. told (at, value) has
+  named_from name (Some l) told = (l.write.0, told)
+
+  -- the values of writes that tell of a set are the set's attributes
+  pub attributes_from : (writes : AttributeMap) → AttributesTell (λ k. Has M e r k) writes → HasAttributes M e r (values_of (entries_of writes))
+  attributes_from writes told = record {
+    rise = Rises-map text_cmp value_in (entries_of writes) writes.rises;
+    each = λ name. subst (IsNamedValue M e r name) (sym (get-map text_cmp value_in (entries_of writes) name)) (named_from name (value_at writes name) (told name));
+  }
+
+  named_one : (name : List ℕ) (x y : Option (List ℕ)) → IsNamedValue M e r name x → IsNamedValue M e r name y → x ≡ y
+  named_one name None None g h = refl
+  named_one name None (Some v) g h = absurd (g h.0 v h.1.member)
+  named_one name (Some v) None g h = absurd (h g.0 v g.1.member)
+  named_one name (Some v) (Some u) g h = ap (λ (w : Stamp × List ℕ). Some w.1) (greatest_one (write_order text_order) (λ w. Has M e r (AttributeAt name w.0 w.1)) (g.0, v) (h.0, u) g.1 h.1)
+
+  -- the attributes of one set are one
+  pub attributes_one : (xs ys : List (List ℕ × List ℕ)) → HasAttributes M e r xs → HasAttributes M e r ys → xs ≡ ys
+  attributes_one xs ys g h = same_entries text_order xs ys g.rise h.rise (λ name. named_one name (get text_cmp xs name) (get text_cmp ys name) (g.each name) (h.each name))
 
 module _ (M : Marks) (e : List ℕ) (names : (r : Stamp) (k : Trace) → Has M e r k → Has M e r Named) where
   abbrev pub Told : Stamp × OrGone Body → Type 0
@@ -118,7 +153,7 @@ module _ (M : Marks) (e : List ℕ) (names : (r : Stamp) (k : Trace) → Has M e
   pub shown_from : (r : Stamp) (x : OrGone Body) (v : Registration) → Told (r, x) → registered_in e (slot_at r x) ≡ Some v → (v.endpoint ≡ e) × IsRegistered M v
   shown_from r Gone v g h = absurd cc
   shown_from r (Here b) v g h =
-      let p = parts_shown e r b.base.value b.address.write b.seen.write b.lifetime.write b.binding.write b.sms.write b.objects.write v h in
+      let p = parts_shown e r b.base.value b.address.write b.seen.write b.lifetime.write b.binding.write b.sms.write b.objects.write (values_of (entries_of b.maps.left)) v h in
       let place = place_of r v p.endpoint p.id in
       let told : ToldTells (λ k. Has M v.endpoint v.id k) (Here b) = subst (λ (x : List ℕ × Stamp). ToldTells (λ k. Has M x.0 x.1 k) (Here b)) place g.told in (
         sym p.endpoint,
@@ -135,6 +170,7 @@ module _ (M : Marks) (e : List ℕ) (names : (r : Stamp) (k : Trace) → Has M e
             binding = (p.binding_at, subst (OptionTells (IsGreatest (write_cmp binding_cmp)) (λ w. Has M v.endpoint v.id (BindingAt w.0 w.1))) p.binding_is told.1.binding);
             sms = (p.sms_at, subst (OptionTells (IsGreatest (write_cmp sms_cmp)) (λ w. Has M v.endpoint v.id (SmsAt w.0 w.1))) p.sms_is told.1.sms);
             objects = (p.objects_at, subst (OptionTells (IsGreatest (write_cmp text_cmp)) (λ w. Has M v.endpoint v.id (ObjectsAt w.0 w.1))) p.objects_is told.1.objects);
+            attributes = subst (HasAttributes M v.endpoint v.id) p.attributes_are (attributes_from M v.endpoint v.id b.maps.left told.1.attributes);
           };
           kept = told.0;
         },
@@ -162,7 +198,7 @@ module _ (M : Marks) (e : List ℕ) (names : (r : Stamp) (k : Trace) → Has M e
           let told = told_at (Here b) g in
           let P : Trace → Type 0 = λ k. Has M v.endpoint v.id k in
           let c = h.complete in
-          shown_of_parts e r b.base.value b.address.write b.seen.write b.lifetime.write b.binding.write b.sms.write b.objects.write v (record {
+          shown_of_parts e r b.base.value b.address.write b.seen.write b.lifetime.write b.binding.write b.sms.write b.objects.write (values_of (entries_of b.maps.left)) v (record {
             endpoint = sym same;
             id = id_is (Here b) g;
             base_value = c.base;
@@ -181,6 +217,7 @@ module _ (M : Marks) (e : List ℕ) (names : (r : Stamp) (k : Trace) → Has M e
             sms_is = write_is sms_order SmsAt P b.sms c.sms.0 v.sms told.1.sms c.sms.1;
             objects_at = c.objects.0;
             objects_is = write_is text_order ObjectsAt P b.objects c.objects.0 v.objects told.1.objects c.objects.1;
+            attributes_are = attributes_one M v.endpoint v.id _ v.attributes (attributes_from M v.endpoint v.id b.maps.left told.1.attributes) c.attributes;
           })
 
   -- ---- watches
@@ -226,8 +263,8 @@ module _ (M : Marks) (e : List ℕ) (names : (r : Stamp) (k : Trace) → Has M e
   -- the watches of a slot that shows a registration
   pub watch_from : (r : Stamp) (x : OrGone Body) (v : Registration) (p : Path) (t : Stamp) (a : Option ℕ) → Told (r, x) → registered_in e (slot_at r x) ≡ Some v → get path_cmp (watches_of (slot_at r x)) p ≡ Some (observed t a) → IsWatch r p t a
   watch_from r Gone v p t a g h k = absurd cc
-  watch_from r (Here b) v p t a g h k = path_from r p (value_at b.watches p) t a (g.told.1.watches p) k
+  watch_from r (Here b) v p t a g h k = path_from r p (value_at b.maps.right p) t a (g.told.1.watches p) k
 
   pub watch_to : (r : Stamp) (x : OrGone Body) (v : Registration) (p : Path) (t : Stamp) (a : Option ℕ) → Told (r, x) → registered_in e (slot_at r x) ≡ Some v → IsWatch r p t a → get path_cmp (watches_of (slot_at r x)) p ≡ Some (observed t a)
   watch_to r Gone v p t a g h k = absurd cc
-  watch_to r (Here b) v p t a g h k = path_to r p (value_at b.watches p) t a (g.told.1.watches p) k
+  watch_to r (Here b) v p t a g h k = path_to r p (value_at b.maps.right p) t a (g.told.1.watches p) k

@@ -9,6 +9,7 @@ use Rattle.lw_stamp.specs.Moment.{ms_of}
 use Rattle.lw_stamp.specs.Order.{IsGreatest}
 use Rattle.lw_stamp.specs.StampOrder.{stamp_cmp}
 use Rattle.lw_join.specs.Entries.{Rises}
+use Rattle.lw_join.specs.Parts.{entries_of}
 use Rattle.lw_join.specs.declared.or_gone.OrGone.{OrGone}
 use Rattle.lw_join.specs.declared.or_gone.OrGone.TheVariants.{Here, Gone}
 use Rattle.lw_reg.specs.declared.addr.Addr.{Addr}
@@ -17,12 +18,13 @@ use Rattle.lw_reg.specs.declared.binding.Binding.{Binding}
 use Rattle.lw_reg.specs.declared.body.Body.{Body}
 use Rattle.lw_reg.specs.declared.slot.Slot.{Slot}
 use Rattle.lw_reg.specs.declared.watch.Watch.{Watch}
+use Rattle.lw_reg.specs.Attribute.{values_of}
 use Rattle.lw_reg.specs.Marks.{Trace, Marks, Has}
 use Rattle.lw_reg.specs.Marks.Trace.{Named, Watched, Cancelled}
 use Rattle.lw_reg.specs.Orders.{path_cmp, format_cmp}
 use Rattle.lw_reg.specs.Reading.{registration_of, registered_in, in_time, timely, view_in, is_late, watches_of, first_watch, if_shown, live_watch}
 use Rattle.lw_reg.specs.Registration.{Registration}
-use Rattle.lw_reg.specs.Showing.{IsCurrent, IsToken, IsInTime, IsShown, IsAnswer, ShownOf, LivesOf, HasExpired, IsFirstOfWatches}
+use Rattle.lw_reg.specs.Showing.{IsCurrent, IsToken, IsInTime, IsShown, ShownOf, LivesOf, HasExpired, IsFirstOfWatches}
 use Rattle.lw_reg.specs.Slot.{slot_at}
 use Rattle.lw_reg.proofs.FirstWatch.{HasWatch, FirstOf, first_is}
 use Rattle.lw_reg.proofs.Readings.{shown_from, shown_to, one_current, IsWatch, watch_from, watch_to}
@@ -68,15 +70,16 @@ named_for e v = record {
   queue = v.queue;
   sms = v.sms;
   objects = v.objects;
+  attributes = v.attributes;
 }
 
-renamed_parts : (e f : List ℕ) (r : Stamp) (ob : Option Base) (oa : Option (Stamp × Addr)) (os : Option (Stamp × Moment)) (ol : Option (Stamp × ℕ)) (oi : Option (Stamp × Binding)) (om : Option (Stamp × Option (List ℕ))) (oo : Option (Stamp × List ℕ)) → registration_of f r ob oa os ol oi om oo ≡ option_map (named_for f) (registration_of e r ob oa os ol oi om oo)
-renamed_parts e f r (Some b) (Some a) (Some s) (Some l) (Some i) (Some m) (Some o) = refl
-renamed_parts e f r _ _ _ _ _ _ _ = refl
+renamed_parts : (e f : List ℕ) (r : Stamp) (ob : Option Base) (oa : Option (Stamp × Addr)) (os : Option (Stamp × Moment)) (ol : Option (Stamp × ℕ)) (oi : Option (Stamp × Binding)) (om : Option (Stamp × Option (List ℕ))) (oo : Option (Stamp × List ℕ)) (pairs : List (List ℕ × List ℕ)) → registration_of f r ob oa os ol oi om oo pairs ≡ option_map (named_for f) (registration_of e r ob oa os ol oi om oo pairs)
+renamed_parts e f r (Some b) (Some a) (Some s) (Some l) (Some i) (Some m) (Some o) pairs = refl
+renamed_parts e f r _ _ _ _ _ _ _ pairs = refl
 
 renamed : (e f : List ℕ) (r : Stamp) (x : OrGone Body) → registered_in f (slot_at r x) ≡ option_map (named_for f) (registered_in e (slot_at r x))
 renamed e f r Gone = refl
-renamed e f r (Here b) = renamed_parts e f r b.base.value b.address.write b.seen.write b.lifetime.write b.binding.write b.sms.write b.objects.write
+renamed e f r (Here b) = renamed_parts e f r b.base.value b.address.write b.seen.write b.lifetime.write b.binding.write b.sms.write b.objects.write (values_of (entries_of b.maps.left))
 
 late_named : (now : ℕ) (f : List ℕ) (o : Option Registration) → is_late now (option_map (named_for f) o) ≡ is_late now o
 late_named now f None = refl

@@ -5,14 +5,16 @@ use Rattle.std.specs.declared.cmp.Ordering.{Ordering}
 use Rattle.lw_stamp.specs.declared.stamp.Stamp.{Stamp}
 use Rattle.lw_stamp.specs.Order.{IsExactOrder, IsGreatest}
 use Rattle.lw_stamp.proofs.StampLemmas.{stamp_order}
-use Rattle.lw_join.specs.Facets.{OptionTells}
+use Rattle.lw_join.specs.Facets.{OptionTells, LastTells}
 use Rattle.lw_join.specs.Lww.{write_cmp}
 use Rattle.lw_join.specs.LwwLaws.{write_order}
 use Rattle.lw_join.specs.Parts.{value_at}
+use Rattle.lw_join.specs.declared.last.Last.{Last}
 use Rattle.lw_join.specs.declared.or_gone.OrGone.{OrGone}
 use Rattle.lw_join.specs.declared.or_gone.OrGone.TheVariants.{Here, Gone}
 use Rattle.lw_join.proofs.FacetLemmas.{greatest_single, keyed_single}
 use Rattle.lw_join.specs.declared.once.Once.{Once}
+use Rattle.lw_stamp.specs.TextOrder.{text_cmp}
 use Rattle.lw_reg.specs.declared.body.Body.{Body}
 use Rattle.lw_reg.specs.declared.path.Path.{Path}
 use Rattle.lw_reg.specs.declared.slot.Slot.{Slot}
@@ -23,7 +25,7 @@ use Rattle.lw_reg.specs.Marks.Trace.{Named}
 use Rattle.lw_reg.specs.OrderLaws.{addr_order, base_order, moment_order, number_order, sms_order, text_order, format_order}
 use Rattle.lw_reg.specs.Reading.{BodyShows, Shows, shown_by}
 use Rattle.lw_reg.proofs.FirstWatch.{one_watching}
-use Rattle.lw_reg.proofs.Tells.{Sign, sign_trace, EndTells, WatchTells, WatchesTell, BodyTells, ToldTells, SlotTells, told_facet}
+use Rattle.lw_reg.proofs.Tells.{Sign, sign_trace, EndTells, WatchTells, AttributesTell, WatchesTell, BodyTells, ToldTells, SlotTells, told_facet}
 use Rattle.lw_reg.proofs.Tells.Sign.{Asked, Ended}
 
 -- an option tells of what it has
@@ -57,12 +59,19 @@ watch_self (Some w) P h = go w.stamp w.value h
         not_gone : ◌≡◌ {A = OrGone (Once ℕ)} (Here a) Gone → ⊥
         not_gone e = cc
 
-watches_self : (b : Body) → WatchesTell (BodyShows b) b.watches
-watches_self b = λ p. watch_self (value_at b.watches p) (λ y. BodyShows b (sign_trace p y.0 y.1)) (signs p)
+watches_self : (b : Body) → WatchesTell (BodyShows b) b.maps.right
+watches_self b = λ p. watch_self (value_at b.maps.right p) (λ y. BodyShows b (sign_trace p y.0 y.1)) (signs p)
   where
-    signs : (p : Path) (t : Stamp) (g : Sign) → BodyShows b (sign_trace p t g) ↔ (value_at b.watches p ≡ Some (signed t g))
+    signs : (p : Path) (t : Stamp) (g : Sign) → BodyShows b (sign_trace p t g) ↔ (value_at b.maps.right p ≡ Some (signed t g))
     signs p t (Asked a) = (λ h. h, λ h. h)
     signs p t Ended = (λ h. h, λ h. h)
+
+last_self : (o : Option (Last (List ℕ))) → OptionTells (LastTells text_cmp) (λ (w : Stamp × List ℕ). o ≡ Some (record { write = (w.0, w.1) })) o
+last_self None = λ w e. cc
+last_self (Some l) = greatest_single (write_order text_order) _ l.write refl (λ w e. (let same : l ≡ record { write = (w.0, w.1) } = cc in sym (ap (λ (x : Last (List ℕ)). x.write) same)))
+
+attributes_self : (b : Body) → AttributesTell (BodyShows b) b.maps.left
+attributes_self b = λ name. last_self (value_at b.maps.left name)
 
 body_self : (b : Body) → BodyTells (BodyShows b) b
 body_self b = record {
@@ -74,6 +83,7 @@ body_self b = record {
   binding = field_self binding_order b.binding.write;
   sms = field_self sms_order b.sms.write;
   objects = field_self text_order b.objects.write;
+  attributes = attributes_self b;
   watches = watches_self b;
 }
 

@@ -8,7 +8,8 @@ use Rattle.lw_stamp.specs.declared.stamp.Stamp.{Stamp}
 use Rattle.lw_stamp.specs.Order.{IsExactOrder, IsGreatest}
 use Rattle.lw_stamp.specs.TextOrder.{text_cmp}
 use Rattle.lw_stamp.proofs.StampLemmas.{stamp_order}
-use Rattle.lw_join.specs.Facets.{IsFacet, Through, OnceTells, LwwTells, LexTells, GoneTells, PartsTells, MapTells}
+use Rattle.lw_join.specs.Facets.{IsFacet, Through, OnceTells, LwwTells, LastTells, LexTells, GoneTells, PartsTells, MapTells}
+use Rattle.lw_join.specs.Last.{last_join}
 use Rattle.lw_join.specs.Lww.{lww_join}
 use Rattle.lw_join.specs.LwwLaws.{write_order}
 use Rattle.lw_join.specs.Greater.{greater}
@@ -22,19 +23,19 @@ use Rattle.lw_join.specs.declared.lww.Lww.{Lww}
 use Rattle.lw_join.specs.declared.once.Once.{Once}
 use Rattle.lw_join.specs.declared.or_gone.OrGone.{OrGone}
 use Rattle.lw_join.specs.declared.or_gone.OrGone.TheVariants.{Here, Gone}
-use Rattle.lw_join.proofs.FacetLemmas.{greatest_facet, greatest_single, through_facet, facet_along, once_facet, lww_facet, gone_facet, keyed_single, lex_facet, lex_some, parts_facet, parts_empty, parts_single}
+use Rattle.lw_join.proofs.FacetLemmas.{greatest_facet, greatest_single, through_facet, facet_along, once_facet, lww_facet, last_facet, last_some, gone_facet, keyed_single, lex_facet, lex_some, parts_facet, parts_empty, parts_single}
 use Rattle.lw_join.proofs.MapLemmas.{map_facet, map_empty, map_single}
 use Rattle.lw_reg.specs.declared.base.Base.{Base}
 use Rattle.lw_reg.specs.declared.body.Body.{Body}
 use Rattle.lw_reg.specs.declared.path.Path.{Path}
 use Rattle.lw_reg.specs.declared.slot.Slot.{Slot}
 use Rattle.lw_reg.specs.BindingLaws.{binding_order}
-use Rattle.lw_reg.specs.Body.{Watching, Watches, watching_join, body_join, no_watches, one_watch}
+use Rattle.lw_reg.specs.Body.{Watching, Watches, AttributeMap, watching_join, body_join, no_watches, one_watch, no_attributes, one_attribute, maps_of}
 use Rattle.lw_reg.specs.Marks.{Trace, Mark, Marks, among, NamesAll}
-use Rattle.lw_reg.specs.Marks.Trace.{Named, Based, AddressAt, SeenAt, LifetimeAt, BindingAt, SmsAt, ObjectsAt, Removed, Watched, Cancelled}
+use Rattle.lw_reg.specs.Marks.Trace.{Named, Based, AddressAt, SeenAt, LifetimeAt, BindingAt, SmsAt, ObjectsAt, AttributeAt, Removed, Watched, Cancelled}
 use Rattle.lw_reg.specs.OrderLaws.{addr_order, base_order, moment_order, number_order, path_order, sms_order, text_order, format_order}
 use Rattle.lw_reg.specs.Orders.{addr_cmp, base_cmp, binding_cmp, format_cmp, moment_cmp, sms_cmp}
-use Rattle.lw_reg.specs.Slot.{slot_join, slot_at, base_in, address_in, seen_in, lifetime_in, binding_in, sms_in, objects_in, watches_in, body_in, told_by}
+use Rattle.lw_reg.specs.Slot.{slot_join, slot_at, base_in, address_in, seen_in, lifetime_in, binding_in, sms_in, objects_in, attributes_in, watches_in, body_in, told_by}
 use Rattle.lw_reg.specs.State.{State, state_join, atom_of, state_of}
 use Rattle.lw_reg.proofs.Members.{none_there, first_there, more_there, there_or_first}
 
@@ -49,6 +50,9 @@ sign_trace p t Ended = Cancelled p t
 
 abbrev pub watch_trace : Path × (Stamp × Sign) → Trace
 watch_trace x = sign_trace x.0 x.1.0 x.1.1
+
+abbrev pub attribute_trace : List ℕ × (Stamp × List ℕ) → Trace
+attribute_trace x = AttributeAt x.0 x.1.0 x.1.1
 
 abbrev pub field_trace : {V : Type 0} → (Stamp → V → Trace) → Stamp × V → Trace
 field_trace field w = field w.0 w.1
@@ -72,6 +76,9 @@ WatchTells = LexTells EndTells
 abbrev pub WatchesTell : (Trace → Type 0) → Watches → Type 0
 WatchesTell = Through watch_trace (PartsTells WatchTells)
 
+abbrev pub AttributesTell : (Trace → Type 0) → AttributeMap → Type 0
+AttributesTell = Through attribute_trace (PartsTells (LastTells text_cmp))
+
 pub record BodyTells (P : Trace → Type 0) (b : Body) : Type 0 where
   pub named : P Named
   pub base : BaseTells P b.base
@@ -81,7 +88,8 @@ pub record BodyTells (P : Trace → Type 0) (b : Body) : Type 0 where
   pub binding : FieldTells binding_cmp BindingAt P b.binding
   pub sms : FieldTells sms_cmp SmsAt P b.sms
   pub objects : FieldTells text_cmp ObjectsAt P b.objects
-  pub watches : WatchesTell P b.watches
+  pub attributes : AttributesTell P b.maps.left
+  pub watches : WatchesTell P b.maps.right
 
 abbrev pub ToldTells : (Trace → Type 0) → OrGone Body → Type 0
 ToldTells = GoneTells Removed BodyTells
@@ -119,6 +127,9 @@ accept_facet =
 pub watches_facet : IsFacet (parts_join watching_join) WatchesTell
 watches_facet = through_facet watch_trace (parts_facet path_order (lex_facet (gone_facet Ended (through_facet Asked accept_facet))) (lex_some EndTells))
 
+pub attributes_facet : IsFacet (parts_join (last_join text_cmp)) AttributesTell
+attributes_facet = through_facet attribute_trace (parts_facet text_order (last_facet text_order) (last_some text_cmp))
+
 pub body_facet : IsFacet body_join BodyTells
 body_facet =
     let address = field_facet addr_order AddressAt in
@@ -137,7 +148,8 @@ body_facet =
         binding = binding.union P Q a.binding b.binding g.binding h.binding;
         sms = sms.union P Q a.sms b.sms g.sms h.sms;
         objects = objects.union P Q a.objects b.objects g.objects h.objects;
-        watches = watches_facet.union P Q a.watches b.watches g.watches h.watches;
+        attributes = attributes_facet.union P Q a.maps.left b.maps.left g.attributes h.attributes;
+        watches = watches_facet.union P Q a.maps.right b.maps.right g.watches h.watches;
       };
       same = λ P Q a h g. record {
         named = (h Named).0 g.named;
@@ -148,7 +160,8 @@ body_facet =
         binding = binding.same P Q a.binding h g.binding;
         sms = sms.same P Q a.sms h g.sms;
         objects = objects.same P Q a.objects h g.objects;
-        watches = watches_facet.same P Q a.watches h g.watches;
+        attributes = attributes_facet.same P Q a.maps.left h g.attributes;
+        watches = watches_facet.same P Q a.maps.right h g.watches;
       };
       one = λ P a b g h i. record {
         base = base_facet.one P a.base b.base g.base h.base i;
@@ -158,7 +171,7 @@ body_facet =
         binding = binding.one P a.binding b.binding g.binding h.binding i;
         sms = sms.one P a.sms b.sms g.sms h.sms i;
         objects = objects.one P a.objects b.objects g.objects h.objects i;
-        watches = watches_facet.one P a.watches b.watches g.watches h.watches i;
+        maps = maps_of (attributes_facet.one P a.maps.left b.maps.left g.attributes h.attributes i) (watches_facet.one P a.maps.right b.maps.right g.watches h.watches i);
       };
     }
 
@@ -195,6 +208,26 @@ module _ {V : Type 0} {cmp : V → V → Ordering} (order : IsExactOrder cmp) (f
       go : (read k ≡ None) ⊎ ((w : Stamp × V) × (k ≡ field_trace field w)) → FieldTells cmp field (With k) (record { write = read k })
       go (inl e) = rw e (none_read k e)
       go (inr x) = rw (ap read x.1 ∙ written x.0) (greatest_single (write_order order) _ x.0 (inl (sym x.1)) (one_read k x.0 x.1))
+
+-- a trace of no attribute
+no_attribute : (k : Trace) → ((name : List ℕ) (s : Stamp) (v : List ℕ) → ¬ (AttributeAt name s v ≡ k)) → AttributesTell (With k) no_attributes
+no_attribute k none = parts_empty (LastTells text_cmp) (λ y. With k (attribute_trace y)) no_attributes (entries_made _ _ _ [] tt) (λ name w. go name w.0 w.1)
+  where
+    go : (name : List ℕ) (s : Stamp) (v : List ℕ) → ¬ With k (AttributeAt name s v)
+    go name s v (inl e) = none name s v e
+    go name s v (inr e) = cc
+
+same_attribute : (m n : List ℕ) (s t : Stamp) (v u : List ℕ) → With (AttributeAt n t u) (AttributeAt m s v) → (m ≡ n) × (s ≡ t) × (v ≡ u)
+same_attribute m n s t v u (inl e) = (cc, (cc), (cc))
+same_attribute m n s t v u (inr e) = absurd cc
+
+attributes_told : (k : Trace) → AttributesTell (With k) (attributes_in k)
+attributes_told (AttributeAt name s v) =
+    parts_single (LastTells text_cmp) (λ y. With (AttributeAt name s v) (attribute_trace y)) (one_attribute name (s, v)) text_order name (record { write = (s, v) })
+    (entries_made _ _ _ ((name, record { write = (s, v) }) ∷ []) (tt, tt))
+    (λ n w e. (same_attribute n name w.0 s w.1 v e).0)
+    (greatest_single (write_order text_order) _ (s, v) (inl refl) (λ w e. let same = same_attribute name name w.0 s w.1 v e in λ i. (same.1 i, same.2 i)))
+attributes_told _ = no_attribute _ (λ name s v e. cc)
 
 -- a trace of no watch
 no_watch : (k : Trace) → ((p : Path) (t : Stamp) (g : Sign) → ¬ (sign_trace p t g ≡ k)) → WatchesTell (With k) no_watches
@@ -245,6 +278,7 @@ watches_told (SeenAt s v) = no_watch (SeenAt s v) (λ p t. elim [ Asked a ↦ λ
 watches_told (LifetimeAt s v) = no_watch (LifetimeAt s v) (λ p t. elim [ Asked a ↦ λ e. cc | Ended ↦ λ e. cc ])
 watches_told (BindingAt s v) = no_watch (BindingAt s v) (λ p t. elim [ Asked a ↦ λ e. cc | Ended ↦ λ e. cc ])
 watches_told (SmsAt s v) = no_watch (SmsAt s v) (λ p t. elim [ Asked a ↦ λ e. cc | Ended ↦ λ e. cc ])
+watches_told (AttributeAt n s v) = no_watch (AttributeAt n s v) (λ p t. elim [ Asked a ↦ λ e. cc | Ended ↦ λ e. cc ])
 watches_told (ObjectsAt s v) = no_watch (ObjectsAt s v) (λ p t. elim [ Asked a ↦ λ e. cc | Ended ↦ λ e. cc ])
 watches_told Removed = no_watch Removed (λ p t. elim [ Asked a ↦ λ e. cc | Ended ↦ λ e. cc ])
 
@@ -258,6 +292,7 @@ body_told k = record {
   binding = field_told binding_order BindingAt binding_in (λ w. refl) refl (elim [ BindingAt s v ↦ inr ((s, v), refl) | _ ↦ inl refl ]) k;
   sms = field_told sms_order SmsAt sms_in (λ w. refl) refl (elim [ SmsAt s v ↦ inr ((s, v), refl) | _ ↦ inl refl ]) k;
   objects = field_told text_order ObjectsAt objects_in (λ w. refl) refl (elim [ ObjectsAt s v ↦ inr ((s, v), refl) | _ ↦ inl refl ]) k;
+  attributes = attributes_told k;
   watches = watches_told k;
 }
 
@@ -275,6 +310,7 @@ trace_told (LifetimeAt s v) = (not_removed (LifetimeAt s v) (λ e. cc), body_tol
 trace_told (BindingAt s v) = (not_removed (BindingAt s v) (λ e. cc), body_told (BindingAt s v))
 trace_told (SmsAt s v) = (not_removed (SmsAt s v) (λ e. cc), body_told (SmsAt s v))
 trace_told (ObjectsAt s v) = (not_removed (ObjectsAt s v) (λ e. cc), body_told (ObjectsAt s v))
+trace_told (AttributeAt n s v) = (not_removed (AttributeAt n s v) (λ e. cc), body_told (AttributeAt n s v))
 trace_told (Watched p t a) = (not_removed (Watched p t a) (λ e. cc), body_told (Watched p t a))
 trace_told (Cancelled p t) = (not_removed (Cancelled p t) (λ e. cc), body_told (Cancelled p t))
 

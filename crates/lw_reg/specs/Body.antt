@@ -1,12 +1,20 @@
 -- What is known of a registration, its order and its join, part by part.
-use Rattle.std.specs.Prelude.{ℕ, [], ◌∷◌, None}
+use Rattle.std.specs.Prelude.{ℕ, List, [], ◌∷◌, None}
 use Rattle.std.specs.Ordering.{nat_cmp}
 use Rattle.lw_stamp.specs.TextOrder.{text_cmp}
+use Rattle.lw_stamp.specs.contracts.text.TextOrd.TheImpl as text_ord
+use Rattle.lw_stamp.specs.contracts.text.TextPartialEq.TheImpl as text_eq
+use Rattle.lw_stamp.specs.contracts.text.TextPartialOrd.TheImpl as text_partial_ord
+use Rattle.lw_stamp.specs.declared.stamp.Stamp.{Stamp}
+use Rattle.lw_join.specs.Both.{both_below, both_join, both_in_place}
+use Rattle.lw_join.specs.Last.{last_below, last_join}
 use Rattle.lw_join.specs.Lex.{lex_below, lex_join}
 use Rattle.lw_join.specs.Lww.{lww_below, lww_join}
 use Rattle.lw_join.specs.Once.{once_below, once_join}
 use Rattle.lw_join.specs.OrGone.{gone_below, gone_join}
-use Rattle.lw_join.specs.Parts.{made, parts_below, parts_join, parts_in_place}
+use Rattle.lw_join.specs.Parts.{made}
+use Rattle.lw_join.specs.declared.both.Both.{Both}
+use Rattle.lw_join.specs.declared.last.Last.{Last}
 use Rattle.lw_join.specs.declared.lex.Lex.{Lex}
 use Rattle.lw_join.specs.declared.once.Once.{Once}
 use Rattle.lw_join.specs.declared.or_gone.OrGone.{OrGone}
@@ -33,6 +41,26 @@ no_watches = made []
 abbrev pub one_watch : Path → Watching → Watches
 one_watch path watch = made ((path, watch) ∷ [])
 
+-- the last write of each name
+abbrev pub AttributeMap : Type 0
+AttributeMap = Parts (List ℕ) (Last (List ℕ)) (text_ord.ghosts) (text_eq.ghosts) (text_partial_ord.ghosts)
+
+abbrev pub no_attributes : AttributeMap
+no_attributes = made []
+
+abbrev pub one_attribute : List ℕ → Stamp × List ℕ → AttributeMap
+one_attribute name write = made ((name, record { write = write }) ∷ [])
+
+-- the attributes, and the watches
+abbrev pub Maps : Type 0
+Maps = Both (List ℕ) (Last (List ℕ)) Path Watching (text_ord.ghosts) (text_eq.ghosts) (text_partial_ord.ghosts) (path_ord.ghosts) (path_eq.ghosts) (path_partial_ord.ghosts)
+
+abbrev pub maps_of : AttributeMap → Watches → Maps
+maps_of attributes watches = record { left = attributes; right = watches }
+
+abbrev pub no_maps : Maps
+no_maps = maps_of no_attributes no_watches
+
 abbrev pub watching_below : Watching → Watching → Type 0
 watching_below = lex_below (gone_below (once_below nat_cmp))
 
@@ -47,7 +75,7 @@ pub record BodyBelow (x y : Body) : Type 0 where
   pub binding : lww_below binding_cmp x.binding y.binding
   pub sms : lww_below sms_cmp x.sms y.sms
   pub objects : lww_below text_cmp x.objects y.objects
-  pub watches : parts_below watching_below x.watches y.watches
+  pub maps : both_below (last_below text_cmp) watching_below x.maps y.maps
 
 abbrev pub body_join : Body → Body → Body
 body_join x y = record {
@@ -58,16 +86,16 @@ body_join x y = record {
   binding = lww_join binding_cmp x.binding y.binding;
   sms = lww_join sms_cmp x.sms y.sms;
   objects = lww_join text_cmp x.objects y.objects;
-  watches = parts_join watching_join x.watches y.watches;
+  maps = both_join (last_join text_cmp) watching_join x.maps y.maps;
 }
 
--- no path that is watched in the right is new to the left
+-- no name that is written and no path that is watched in the right is new to the left
 abbrev pub body_in_place : Body → Body → Type 0
-body_in_place x y = parts_in_place x.watches y.watches
+body_in_place x y = both_in_place x.maps y.maps
 
--- nothing is known but the watches
-abbrev pub watched_alone : Watches → Body
-watched_alone watches = record {
+-- nothing is known but the maps
+abbrev pub maps_alone : Maps → Body
+maps_alone maps = record {
   base = record { value = None };
   address = record { write = None };
   seen = record { write = None };
@@ -75,9 +103,9 @@ watched_alone watches = record {
   binding = record { write = None };
   sms = record { write = None };
   objects = record { write = None };
-  watches = watches;
+  maps = maps;
 }
 
 -- nothing is known
 abbrev pub nothing : Body
-nothing = watched_alone no_watches
+nothing = maps_alone no_maps

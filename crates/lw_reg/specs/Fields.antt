@@ -7,7 +7,7 @@ use Rattle.lw_reg.specs.declared.body.Body.{Body}
 use Rattle.lw_reg.specs.declared.fields.Fields.{Fields}
 use Rattle.lw_reg.specs.declared.slot.Slot.{Slot}
 use Rattle.lw_reg.specs.declared.path.Path.{Path}
-use Rattle.lw_reg.specs.Body.{Watching, one_watch}
+use Rattle.lw_reg.specs.Body.{Watching, one_watch, no_attributes, maps_of}
 use Rattle.lw_reg.specs.Slot.{slot_at}
 
 abbrev pub fields_body : Fields → Body
@@ -19,7 +19,7 @@ fields_body f = record {
   binding = record { write = f.binding };
   sms = record { write = f.sms };
   objects = record { write = f.objects };
-  watches = f.watches;
+  maps = maps_of f.attributes f.watches;
 }
 
 abbrev pub told_fields : Option Fields → OrGone Body
@@ -40,5 +40,6 @@ watched_fields path watching = record {
   binding = None;
   sms = None;
   objects = None;
+  attributes = no_attributes;
   watches = one_watch path watching;
 }

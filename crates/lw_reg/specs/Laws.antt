@@ -74,7 +74,8 @@ fields_in (Some b) = Some (record {
   binding = b.binding.write;
   sms = b.sms.write;
   objects = b.objects.write;
-  watches = b.watches;
+  attributes = b.maps.left;
+  watches = b.maps.right;
 })
 
 -- a slot is put together from its stamp and its fields

@@ -4,6 +4,7 @@ pub mod BindingText
 pub mod Binding
 pub mod Endpoint
 pub mod Attribute
+pub mod Lent
 pub mod Version
 pub mod Registration
 pub mod Marks

@@ -10,8 +10,9 @@ use Rattle.lw_reg.specs.declared.op.Op.{Op}
 use Rattle.lw_reg.specs.declared.op.What.{What}
 use Rattle.lw_reg.specs.declared.op.What.TheVariants.{Register, Update, Remove, Observe, Cancel}
 
--- What a mark tells of a registration: that it is named; its base; a write of a field, by the operation with
--- that stamp; that it was removed; that a path was watched with a token, or the watch with a token cancelled.
+-- What a mark tells of a registration: that it is named; its base; a write of a field, or of the attribute of a
+-- name, by the operation with that stamp; that it was removed; that a path was watched with a token, or the watch
+-- with a token cancelled.
 pub data Trace : Type 0 where
   Named : Trace
   Based : Base → Trace
@@ -21,6 +22,7 @@ pub data Trace : Type 0 where
   BindingAt : Stamp → Binding → Trace
   SmsAt : Stamp → Option (List ℕ) → Trace
   ObjectsAt : Stamp → List ℕ → Trace
+  AttributeAt : List ℕ → Stamp → List ℕ → Trace
   Removed : Trace
   Watched : Path → Stamp → Option ℕ → Trace
   Cancelled : Path → Stamp → Trace
@@ -36,14 +38,19 @@ abbrev pub written : {V : Type 0} → (V → Trace) → Option V → List Trace
 written field None = []
 written field (Some v) = field v ∷ []
 
+-- a write of each attribute
+abbrev pub attribute_traces : Stamp → List (List ℕ × List ℕ) → List Trace
+attribute_traces s [] = []
+attribute_traces s (a ∷ attributes) = AttributeAt a.0 s a.1 ∷ attribute_traces s attributes
+
 -- What an operation with the stamp s tells of its registration, beside naming it. A Register gives the base
--- and writes each field; an Update writes address and moment, and each other field that it carries; the token
--- of an observation is the operation's stamp.
+-- and writes each field, and each attribute that it carries; an Update writes address and moment, and each other
+-- field and each attribute that it carries; the token of an observation is the operation's stamp.
 abbrev pub traces_of : Stamp → What → List Trace
 traces_of s (Register version queue address seen settings) =
-    Based (record { version = version; queue = queue }) ∷ AddressAt s address ∷ SeenAt s seen ∷ LifetimeAt s settings.lifetime ∷ BindingAt s settings.binding ∷ SmsAt s settings.sms ∷ ObjectsAt s settings.objects ∷ []
+    Based (record { version = version; queue = queue }) ∷ AddressAt s address ∷ SeenAt s seen ∷ LifetimeAt s settings.lifetime ∷ BindingAt s settings.binding ∷ SmsAt s settings.sms ∷ ObjectsAt s settings.objects ∷ attribute_traces s settings.attributes
 traces_of s (Update address seen settings) =
-    AddressAt s address ∷ SeenAt s seen ∷ (written (LifetimeAt s) settings.lifetime ++ written (BindingAt s) settings.binding ++ written (λ text. SmsAt s (Some text)) settings.sms ++ written (ObjectsAt s) settings.objects)
+    (AddressAt s address ∷ SeenAt s seen ∷ (written (LifetimeAt s) settings.lifetime ++ written (BindingAt s) settings.binding ++ written (λ text. SmsAt s (Some text)) settings.sms ++ written (ObjectsAt s) settings.objects)) ++ attribute_traces s settings.attributes
 traces_of s Remove = Removed ∷ []
 traces_of s (Observe path accept) = Watched path s accept ∷ []
 traces_of s (Cancel path token) = Cancelled path token ∷ []

@@ -8,6 +8,7 @@ use Rattle.lw_stamp.specs.declared.moment.Moment.{Moment}
 use Rattle.lw_stamp.specs.Moment.{ms_of}
 use Rattle.lw_join.specs.Entries.{get as entry_of}
 use Rattle.lw_join.specs.Parts.{entries_of, value_at}
+use Rattle.lw_join.specs.declared.last.Last.{Last}
 use Rattle.lw_join.specs.declared.once.Once.{Once}
 use Rattle.lw_join.specs.declared.or_gone.OrGone.{OrGone}
 use Rattle.lw_join.specs.declared.or_gone.OrGone.TheVariants.{Here, Gone}
@@ -18,6 +19,7 @@ use Rattle.lw_reg.specs.declared.body.Body.{Body}
 use Rattle.lw_reg.specs.declared.path.Path.{Path}
 use Rattle.lw_reg.specs.declared.slot.Slot.{Slot}
 use Rattle.lw_reg.specs.declared.watch.Watch.{Watch}
+use Rattle.lw_reg.specs.Attribute.{values_of}
 use Rattle.lw_reg.specs.Body.{Watching}
 use Rattle.lw_reg.specs.Told.{known_in}
 use Rattle.lw_reg.specs.Slot.{observed, cancelled}
@@ -26,7 +28,7 @@ use Rattle.lw_reg.specs.Registration.{Registration}
 use Rattle.lw_reg.specs.Orders.{path_cmp}
 use Rattle.lw_reg.specs.Showing.{queue_of}
 use Rattle.lw_reg.specs.Marks.{Trace, Mark, Marks, among, NamesAll}
-use Rattle.lw_reg.specs.Marks.Trace.{Named, Based, AddressAt, SeenAt, LifetimeAt, BindingAt, SmsAt, ObjectsAt, Removed, Watched, Cancelled}
+use Rattle.lw_reg.specs.Marks.Trace.{Named, Based, AddressAt, SeenAt, LifetimeAt, BindingAt, SmsAt, ObjectsAt, AttributeAt, Removed, Watched, Cancelled}
 
 -- ---- the parts of a slot; of a removed registration there are none
 abbrev pub here : OrGone Body → Option Body
@@ -68,9 +70,17 @@ sms_of slot = (known_of slot).sms.write
 abbrev pub objects_of : Slot → Option (Stamp × List ℕ)
 objects_of slot = (known_of slot).objects.write
 
+abbrev pub told_attributes : OrGone Body → List (List ℕ × Last (List ℕ))
+told_attributes Gone = []
+told_attributes (Here body) = entries_of body.maps.left
+
+-- the last write of each attribute, names rising
+abbrev pub attributes_of : Slot → List (List ℕ × Last (List ℕ))
+attributes_of slot = told_attributes slot.registration.value
+
 abbrev pub told_watches : OrGone Body → List (Path × Watching)
 told_watches Gone = []
-told_watches (Here body) = entries_of body.watches
+told_watches (Here body) = entries_of body.maps.right
 
 -- the watches, paths rising
 abbrev pub watches_of : Slot → List (Path × Watching)
@@ -82,8 +92,8 @@ watching_of slot path = entry_of path_cmp (watches_of slot) path
 
 -- ---- what is shown
 -- the registration of these parts, where all are there
-abbrev pub registration_of : List ℕ → Stamp → Option Base → Option (Stamp × Addr) → Option (Stamp × Moment) → Option (Stamp × ℕ) → Option (Stamp × Binding) → Option (Stamp × Option (List ℕ)) → Option (Stamp × List ℕ) → Option Registration
-registration_of e r (Some base) (Some address) (Some seen) (Some lifetime) (Some binding) (Some sms) (Some objects) = Some (record {
+abbrev pub registration_of : List ℕ → Stamp → Option Base → Option (Stamp × Addr) → Option (Stamp × Moment) → Option (Stamp × ℕ) → Option (Stamp × Binding) → Option (Stamp × Option (List ℕ)) → Option (Stamp × List ℕ) → List (List ℕ × List ℕ) → Option Registration
+registration_of e r (Some base) (Some address) (Some seen) (Some lifetime) (Some binding) (Some sms) (Some objects) attributes = Some (record {
   endpoint = e;
   id = r;
   address = address.1;
@@ -94,11 +104,12 @@ registration_of e r (Some base) (Some address) (Some seen) (Some lifetime) (Some
   queue = queue_of base binding.1;
   sms = sms.1;
   objects = objects.1;
+  attributes = attributes;
 })
-registration_of e r _ _ _ _ _ _ _ = None
+registration_of e r _ _ _ _ _ _ _ _ = None
 
 abbrev pub registered_in : List ℕ → Slot → Option Registration
-registered_in e slot = registration_of e (stamp_of slot) (base_of slot) (address_of slot) (seen_of slot) (lifetime_of slot) (binding_of slot) (sms_of slot) (objects_of slot)
+registered_in e slot = registration_of e (stamp_of slot) (base_of slot) (address_of slot) (seen_of slot) (lifetime_of slot) (binding_of slot) (sms_of slot) (objects_of slot) (values_of (attributes_of slot))
 
 abbrev pub in_time : ℕ → Registration → Bool
 in_time now r = (r.lifetime == 0) || nat_lt now (ms_of r.seen + 1000 * r.lifetime)
@@ -166,9 +177,10 @@ BodyShows b (LifetimeAt s v) = b.lifetime.write ≡ Some (s, v)
 BodyShows b (BindingAt s v) = b.binding.write ≡ Some (s, v)
 BodyShows b (SmsAt s v) = b.sms.write ≡ Some (s, v)
 BodyShows b (ObjectsAt s v) = b.objects.write ≡ Some (s, v)
+BodyShows b (AttributeAt name s v) = value_at b.maps.left name ≡ Some (record { write = (s, v) })
 BodyShows b Removed = ⊥
-BodyShows b (Watched path t accept) = value_at b.watches path ≡ Some (observed t accept)
-BodyShows b (Cancelled path t) = value_at b.watches path ≡ Some (cancelled t)
+BodyShows b (Watched path t accept) = value_at b.maps.right path ≡ Some (observed t accept)
+BodyShows b (Cancelled path t) = value_at b.maps.right path ≡ Some (cancelled t)
 
 -- what is gone shows that it is named and removed, alone
 abbrev pub Shows : OrGone Body → Trace → Type 0

@@ -6,7 +6,7 @@ use Rattle.lw_reg.specs.declared.addr.Addr.{Addr}
 use Rattle.lw_reg.specs.declared.binding.Binding.{Binding}
 use Rattle.lw_reg.specs.declared.version.Version.{Version}
 
--- texts are bytes, `lifetime` is in seconds
+-- texts are bytes, `lifetime` is in seconds, `attributes` are name and value, names rising
 pub record Registration : Type 0 where
   pub endpoint : List ℕ
   pub id : Stamp
@@ -18,3 +18,4 @@ pub record Registration : Type 0 where
   pub queue : Bool
   pub sms : Option (List ℕ)
   pub objects : List ℕ
+  pub attributes : List (List ℕ × List ℕ)

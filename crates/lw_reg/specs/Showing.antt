@@ -11,6 +11,7 @@ use Rattle.lw_stamp.specs.Moment.{ms_of}
 use Rattle.lw_stamp.specs.Order.{AtMost, IsGreatest}
 use Rattle.lw_stamp.specs.StampOrder.{stamp_cmp}
 use Rattle.lw_stamp.specs.TextOrder.{text_cmp}
+use Rattle.lw_join.specs.Entries.{Rises, get}
 use Rattle.lw_join.specs.Lww.{write_cmp}
 use Rattle.lw_reg.specs.declared.base.Base.{Base}
 use Rattle.lw_reg.specs.declared.binding.Binding.{Binding}
@@ -20,7 +21,7 @@ use Rattle.lw_reg.specs.Binding.{binding_text}
 use Rattle.lw_reg.specs.Orders.{addr_cmp, binding_cmp, base_cmp, moment_cmp, sms_cmp, format_cmp, path_cmp}
 use Rattle.lw_reg.specs.Registration.{Registration}
 use Rattle.lw_reg.specs.Marks.{Trace, Marks, Has}
-use Rattle.lw_reg.specs.Marks.Trace.{Named, Based, AddressAt, SeenAt, LifetimeAt, BindingAt, SmsAt, ObjectsAt, Removed, Watched, Cancelled}
+use Rattle.lw_reg.specs.Marks.Trace.{Named, Based, AddressAt, SeenAt, LifetimeAt, BindingAt, SmsAt, ObjectsAt, AttributeAt, Removed, Watched, Cancelled}
 
 -- the current registration of an endpoint: the greatest that is named
 abbrev pub IsCurrent : Marks → List ℕ → Stamp → Type 0
@@ -37,12 +38,22 @@ IsWrite cmp field M e r w = IsGreatest (write_cmp cmp) (λ x. Has M e r (field x
 abbrev pub IsValue : {V : Type 0} → (V → V → Ordering) → (Stamp → V → Trace) → Marks → List ℕ → Stamp → V → Type 0
 IsValue cmp field M e r v = (at : Stamp) × IsWrite cmp field M e r (at, v)
 
+-- the value of a name that was written, and none of one that was not
+abbrev pub IsNamedValue : Marks → List ℕ → Stamp → List ℕ → Option (List ℕ) → Type 0
+IsNamedValue M e r name None = (at : Stamp) (value : List ℕ) → ¬ Has M e r (AttributeAt name at value)
+IsNamedValue M e r name (Some value) = IsValue text_cmp (AttributeAt name) M e r value
+
+-- the attributes of a registration, names rising
+pub record HasAttributes (M : Marks) (e : List ℕ) (r : Stamp) (attributes : List (List ℕ × List ℕ)) : Type 0 where
+  pub rise : Rises text_cmp attributes
+  pub each : (name : List ℕ) → IsNamedValue M e r name (get text_cmp attributes name)
+
 -- queue mode is on where the Register asked for it, or the binding holds the letter Q
 abbrev pub queue_of : Base → Binding → Bool
 queue_of base binding = base.queue || list_any (λ c. c == 81) (binding_text binding)
 
--- The current registration of its endpoint is complete: it has a base and a write of each field, and these
--- are what it shows.
+-- The current registration of its endpoint is complete: it has a base and a write of each field, and these and its
+-- attributes are what it shows.
 pub record IsComplete (M : Marks) (r : Registration) : Type 0 where
   pub current : IsCurrent M r.endpoint r.id
   pub base : Base
@@ -55,6 +66,7 @@ pub record IsComplete (M : Marks) (r : Registration) : Type 0 where
   pub binding : IsValue binding_cmp BindingAt M r.endpoint r.id r.binding
   pub sms : IsValue sms_cmp SmsAt M r.endpoint r.id r.sms
   pub objects : IsValue text_cmp ObjectsAt M r.endpoint r.id r.objects
+  pub attributes : HasAttributes M r.endpoint r.id r.attributes
 
 -- it is complete, and was not removed
 pub record IsRegistered (M : Marks) (r : Registration) : Type 0 where

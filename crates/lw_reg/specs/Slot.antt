@@ -1,9 +1,12 @@
 -- What is known of an endpoint, its order and its join; the slot of a mark, and that of an operation.
-use Rattle.std.specs.Prelude.{ℕ, List, Option, Some, None}
+use Rattle.std.specs.Prelude.{ℕ, List, [], ◌∷◌, Option, Some, None}
 use Rattle.lw_stamp.specs.declared.stamp.Stamp.{Stamp}
 use Rattle.lw_stamp.specs.declared.moment.Moment.{Moment}
+use Rattle.lw_stamp.specs.TextOrder.{text_cmp}
+use Rattle.lw_join.specs.Last.{last_join}
 use Rattle.lw_join.specs.Lex.{lex_below, lex_join, lex_in_place}
 use Rattle.lw_join.specs.OrGone.{gone_below, gone_join, gone_in_place}
+use Rattle.lw_join.specs.Parts.{parts_join}
 use Rattle.lw_join.specs.declared.or_gone.OrGone.{OrGone}
 use Rattle.lw_join.specs.declared.or_gone.OrGone.TheVariants.{Here, Gone}
 use Rattle.lw_reg.specs.declared.addr.Addr.{Addr}
@@ -13,11 +16,10 @@ use Rattle.lw_reg.specs.declared.body.Body.{Body}
 use Rattle.lw_reg.specs.declared.op.Op.{Op}
 use Rattle.lw_reg.specs.declared.op.What.{What}
 use Rattle.lw_reg.specs.declared.op.What.TheVariants.{Register, Update, Remove, Observe, Cancel}
-use Rattle.lw_reg.specs.declared.path.Path.{Path}
 use Rattle.lw_reg.specs.declared.slot.Slot.{Slot}
-use Rattle.lw_reg.specs.Body.{Watching, Watches, no_watches, one_watch, watched_alone, BodyBelow, body_join, body_in_place}
+use Rattle.lw_reg.specs.Body.{Watching, Watches, AttributeMap, no_watches, one_watch, no_attributes, one_attribute, maps_of, maps_alone, BodyBelow, body_join, body_in_place}
 use Rattle.lw_reg.specs.Marks.{Trace}
-use Rattle.lw_reg.specs.Marks.Trace.{Based, AddressAt, SeenAt, LifetimeAt, BindingAt, SmsAt, ObjectsAt, Removed, Watched, Cancelled}
+use Rattle.lw_reg.specs.Marks.Trace.{Based, AddressAt, SeenAt, LifetimeAt, BindingAt, SmsAt, ObjectsAt, AttributeAt, Removed, Watched, Cancelled}
 
 abbrev pub slot_below : Slot → Slot → Type 0
 slot_below x y = lex_below (gone_below BodyBelow) x.registration y.registration
@@ -25,7 +27,8 @@ slot_below x y = lex_below (gone_below BodyBelow) x.registration y.registration
 abbrev pub slot_join : Slot → Slot → Slot
 slot_join x y = record { registration = lex_join (gone_join body_join) x.registration y.registration }
 
--- where both are about one registration that neither removed, no path that is watched in the right is new
+-- where both are about one registration that neither removed, no name that is written and no path that is watched
+-- in the right is new
 abbrev pub slot_in_place : Slot → Slot → Type 0
 slot_in_place x y = lex_in_place (gone_in_place body_in_place) x.registration y.registration
 
@@ -61,6 +64,10 @@ abbrev pub objects_in : Trace → Option (Stamp × List ℕ)
 objects_in (ObjectsAt s v) = Some (s, v)
 objects_in _ = None
 
+abbrev pub attributes_in : Trace → AttributeMap
+attributes_in (AttributeAt name s v) = one_attribute name (s, v)
+attributes_in _ = no_attributes
+
 -- a watch with a token: observed, or cancelled
 abbrev pub observed : Stamp → Option ℕ → Watching
 observed t accept = record { stamp = t; value = Here (record { value = accept }) }
@@ -82,7 +89,7 @@ body_in k = record {
   binding = record { write = binding_in k };
   sms = record { write = sms_in k };
   objects = record { write = objects_in k };
-  watches = watches_in k;
+  maps = maps_of (attributes_in k) (watches_in k);
 }
 
 abbrev pub told_by : Trace → OrGone Body
@@ -98,6 +105,11 @@ abbrev pub some_text : Option (List ℕ) → Option (Option (List ℕ))
 some_text None = None
 some_text (Some text) = Some (Some text)
 
+-- the writes of one operation
+abbrev pub writes_of : Stamp → List (List ℕ × List ℕ) → AttributeMap
+writes_of s [] = no_attributes
+writes_of s (a ∷ attributes) = parts_join (last_join text_cmp) (one_attribute a.0 (s, a.1)) (writes_of s attributes)
+
 abbrev pub told_of : Stamp → What → OrGone Body
 told_of s (Register version queue address seen settings) = Here (record {
   base = record { value = Some (record { version = version; queue = queue }) };
@@ -107,7 +119,7 @@ told_of s (Register version queue address seen settings) = Here (record {
   binding = record { write = Some (s, settings.binding) };
   sms = record { write = Some (s, settings.sms) };
   objects = record { write = Some (s, settings.objects) };
-  watches = no_watches;
+  maps = maps_of (writes_of s settings.attributes) no_watches;
 })
 told_of s (Update address seen settings) = Here (record {
   base = record { value = None };
@@ -117,11 +129,11 @@ told_of s (Update address seen settings) = Here (record {
   binding = record { write = write_of s settings.binding };
   sms = record { write = write_of s (some_text settings.sms) };
   objects = record { write = write_of s settings.objects };
-  watches = no_watches;
+  maps = maps_of (writes_of s settings.attributes) no_watches;
 })
 told_of s Remove = Gone
-told_of s (Observe path accept) = Here (watched_alone (one_watch path (observed s accept)))
-told_of s (Cancel path token) = Here (watched_alone (one_watch path (cancelled token)))
+told_of s (Observe path accept) = Here (maps_alone (maps_of no_attributes (one_watch path (observed s accept))))
+told_of s (Cancel path token) = Here (maps_alone (maps_of no_attributes (one_watch path (cancelled token))))
 
 abbrev pub slot_of : Op → Slot
 slot_of o = slot_at o.reg (told_of o.stamp o.what)

@@ -1,14 +1,18 @@
 //! The slot that one operation makes.
 
 ghost use Rattle.std.specs.Prelude.{◌≡◌, IfOk, IsOk, Ok, None};
-ghost use Rattle.lw_reg.specs.Body.{no_watches};
+ghost use Rattle.std.specs.List.{AllByRecursion};
+ghost use Rattle.lw_join.specs.Parts.{entries_of};
+ghost use Rattle.lw_reg.specs.Attribute.{IsAttribute};
+ghost use Rattle.lw_reg.specs.Body.{no_watches, no_attributes};
 ghost use Rattle.lw_reg.specs.Endpoint.{IsEndpoint};
-ghost use Rattle.lw_reg.specs.Slot.{slot_of, told_of, write_of, observed, cancelled};
+ghost use Rattle.lw_reg.specs.Slot.{slot_of, told_of, write_of, writes_of, observed, cancelled};
 ghost use Rattle.lw_reg.specs.Fields.{told_fields, watched_fields};
+ghost use Rattle.lw_reg.specs.Told.{KeepsAttributes};
 
-use crate::{Base, Endpoint, Fields, Op, Path, Slot, Watching, What};
-use lw_join::{Lex, Once, OrGone, Parts};
-use lw_stamp::{NoMemory, Stamp};
+use crate::{Attributes, Base, Endpoint, Fields, Op, Path, Slot, Watching, What};
+use lw_join::{Last, Lex, Once, OrGone, Parts};
+use lw_stamp::{NoMemory, Stamp, Text};
 use std::alloc::Global;
 
 /// The slot that the one operation makes. A removal takes no memory.
@@ -42,6 +46,7 @@ pub fn atom_with_endpoint(alloc: Global, op: Op) -> Result<(Endpoint, Slot), NoM
 /// What the operation with the stamp tells of its registration; nothing once it removes it.
 fn told(alloc: Global, stamp: Stamp, what: What) -> Result<Option<Fields>, NoMemory>
     ensures told { IfOk result (λ fields. told_fields fields ≡ told_of stamp what) }
+    ensures keeps { IfOk result (λ fields. KeepsAttributes (told_fields fields)) }
     ensures removed { what ≡ What.Remove → result ≡ Ok None }
 {
     let fields = match what {
@@ -59,20 +64,22 @@ fn told(alloc: Global, stamp: Stamp, what: What) -> Result<Option<Fields>, NoMem
             binding: Some((stamp, settings.binding)),
             sms: Some((stamp, settings.sms)),
             objects: Some((stamp, settings.objects)),
+            attributes: written(alloc, stamp, settings.attributes)?,
             watches: unwatched(alloc),
         },
         What::Update {
             address,
             seen,
-            settings,
+            settings: given,
         } => Fields {
             base: None,
             address: Some((stamp, address)),
             seen: Some((stamp, seen)),
-            lifetime: stamped(stamp, settings.lifetime),
-            binding: stamped(stamp, settings.binding),
-            sms: stamped(stamp, settings.sms.map(Some)),
-            objects: stamped(stamp, settings.objects),
+            lifetime: stamped(stamp, given.lifetime),
+            binding: stamped(stamp, given.binding),
+            sms: stamped(stamp, given.sms.map(Some)),
+            objects: stamped(stamp, given.objects),
+            attributes: written(alloc, stamp, given.attributes)?,
             watches: unwatched(alloc),
         },
         What::Remove => return Ok(None),
@@ -89,6 +96,33 @@ fn stamped<V>(stamp: Stamp, value: Option<V>) -> Option<(Stamp, V)>
         None => None,
         Some(value) => Some((stamp, value)),
     }
+}
+
+/// The writes of an operation. Where it has none they take no memory.
+fn written(
+    alloc: Global,
+    stamp: Stamp,
+    attributes: Attributes,
+) -> Result<Parts<Text, Last<Text>>, NoMemory>
+    ensures writes { IfOk result (λ writes. writes ≡ writes_of stamp attributes) }
+    ensures keeps { IfOk result (λ writes. AllByRecursion (λ w. IsAttribute w.0 w.1.write.1) (entries_of writes)) }
+{
+    let pairs = attributes.into_pairs();
+    let mut writes = Vec::with_capacity(alloc, pairs.len())?;
+    for (name, value) in pairs {
+        let write = (stamp, value);
+        writes.push((name, Last { write }))?;
+    }
+    match Parts::from_entries(writes) {
+        Some(writes) => Ok(writes),
+        None => unreachable!(),
+    }
+}
+
+fn unwritten(alloc: Global) -> Parts<Text, Last<Text>>
+    ensures { result ≡ no_attributes }
+{
+    Parts::new(alloc)
 }
 
 fn unwatched(alloc: Global) -> Parts<Path, Watching>
@@ -128,6 +162,7 @@ fn watched(alloc: Global, path: Path, watching: Watching) -> Result<Fields, NoMe
         binding: None,
         sms: None,
         objects: None,
+        attributes: unwritten(alloc),
         watches: Parts::one(alloc, path, watching)?,
     })
 }

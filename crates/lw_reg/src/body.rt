@@ -1,7 +1,7 @@
 use crate::object_list::ObjectList;
 use crate::{Addr, Base, Binding, Path, SmsNumber};
-use lw_join::{Calm, Join, Lex, Lww, Once, OrGone, Parts};
-use lw_stamp::{Moment, NoMemory};
+use lw_join::{Both, Calm, Join, Last, Lex, Lww, Once, OrGone};
+use lw_stamp::{Moment, NoMemory, Text};
 
 /// The last watch of a path: its token, and the Content-Format that it accepts, if it names one, or gone once
 /// it was cancelled.
@@ -17,7 +17,8 @@ pub(crate) struct Body {
     pub(crate) binding: Lww<Binding>,
     pub(crate) sms: Lww<Option<SmsNumber>>,
     pub(crate) objects: Lww<ObjectList>,
-    pub(crate) watches: Parts<Path, Watching>,
+    /// The last write of each attribute, and the last watch of each path.
+    pub(crate) maps: Both<Text, Last<Text>, Path, Watching>,
 }
 
 impl Body {
@@ -29,7 +30,7 @@ impl Body {
     pub(crate) fn is_nothing(&self) -> bool
         ensures { IsTrue result ↔ (self.now ≡ nothing) }
     {
-        self.has_no_fields() && self.watches.is_empty()
+        self.has_no_fields() && self.maps.is_empty()
     }
 
     fn has_no_fields(&self) -> bool
@@ -65,12 +66,12 @@ impl Join for Body {
             && self.binding.le(&other.binding)
             && self.sms.le(&other.sms)
             && self.objects.le(&other.objects)
-            && self.watches.le(&other.watches)
+            && self.maps.le(&other.maps)
     }
 
-    /// The watches alone may want memory, so they come first.
+    /// The maps alone may want memory, so they come first.
     fn join_with(&mut self, other: Body) -> Result<(), NoMemory> {
-        self.watches.join_with(other.watches)?;
+        self.maps.join_with(other.maps)?;
         self.base.join_calm(other.base);
         self.address.join_calm(other.address);
         self.seen.join_calm(other.seen);

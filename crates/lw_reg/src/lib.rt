@@ -7,6 +7,7 @@
 
 mod addr;
 mod atoms;
+mod attributes;
 mod base;
 mod binding;
 mod body;
@@ -30,6 +31,7 @@ mod watches;
 
 pub use addr::Addr;
 pub use atoms::{atom, atom_with_endpoint};
+pub use attributes::{Attributes, AttributesView, is_attribute_name};
 pub use base::Base;
 pub use binding::Binding;
 pub use body::Watching;

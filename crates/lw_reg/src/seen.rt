@@ -1,6 +1,6 @@
 ghost use Rattle.std.specs.Prelude.{◌≡◌};
 
-use crate::{Addr, Binding, Text, Version, View};
+use crate::{Addr, Attributes, Binding, Text, Version, View};
 use lw_link::LinkText;
 use lw_stamp::{Moment, Stamp};
 use std::marker::Model;
@@ -20,6 +20,7 @@ pub struct Seen {
     pub queue: bool,
     pub sms: Option<Text>,
     pub objects: LinkText,
+    pub attributes: Attributes,
 }
 
 impl Model for Seen {
@@ -38,6 +39,7 @@ impl Model for Seen {
       queue = s.queue;
       sms = s.sms;
       objects = s.objects;
+      attributes = s.attributes;
     } };
 }
 
@@ -56,6 +58,7 @@ impl Seen {
             queue: self.queue,
             sms: self.sms.as_ref().map(|sms| sms.as_str()),
             objects: &self.objects,
+            attributes: self.attributes.as_view(),
         }
     }
 }

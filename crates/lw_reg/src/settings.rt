@@ -1,4 +1,4 @@
-use crate::{Binding, SmsNumber};
+use crate::{Attributes, Binding, SmsNumber};
 use lw_link::LinkText;
 
 /// What a Register sets, beside its base, its address and its moment.
@@ -9,6 +9,7 @@ pub struct Settings {
     pub binding: Binding,
     pub sms: Option<SmsNumber>,
     pub objects: LinkText,
+    pub attributes: Attributes,
 }
 
 /// The settings that an Update gives. What it does not give is kept.
@@ -19,4 +20,6 @@ pub struct GivenSettings {
     pub binding: Option<Binding>,
     pub sms: Option<SmsNumber>,
     pub objects: Option<LinkText>,
+    /// The attributes that it gives; a name that it does not give keeps its value.
+    pub attributes: Attributes,
 }

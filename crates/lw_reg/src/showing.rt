@@ -8,7 +8,7 @@ ghost use Rattle.lw_reg.specs.Marks.{Mark, among};
 ghost use Rattle.lw_reg.specs.Reading.{registered_in, view_in, in_time, is_late, shown_by, IsSlotOf};
 ghost use Rattle.lw_reg.specs.Showing.{ShownOf, HasExpired};
 
-use crate::{Binding, Slot, View};
+use crate::{AttributesView, Binding, Slot, View};
 use lw_stamp::Moment;
 
 impl Slot {
@@ -74,6 +74,7 @@ impl Slot {
             queue: base.queue || asks_for_queue(&binding),
             sms: sms.map(|sms| sms.as_str()),
             objects,
+            attributes: AttributesView::of_writes(self.attributes()),
         })
     }
 }

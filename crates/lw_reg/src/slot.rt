@@ -1,20 +1,23 @@
-ghost use Rattle.std.specs.Prelude.{◌≡◌, ◌↔◌, IsTrue, IsOk, IfOk, None};
+ghost use Rattle.std.specs.Prelude.{◌≡◌, ◌↔◌, IsTrue, IsOk, IfOk, IfSome, None};
+ghost use Rattle.std.specs.List.{AllByRecursion};
 ghost use Rattle.std.specs.Option.{option_copied, option_map};
+ghost use Rattle.lw_stamp.specs.TextOrder.{text_cmp};
 ghost use Rattle.lw_join.specs.declared.or_gone.OrGone.TheVariants.{Here};
 ghost use Rattle.lw_join.specs.Entries.{Rises};
+ghost use Rattle.lw_reg.specs.Attribute.{IsAttribute};
 ghost use Rattle.lw_reg.specs.Body.{nothing};
 ghost use Rattle.lw_reg.specs.Fields.{fields_body, told_fields, slot_of_fields};
 ghost use Rattle.lw_reg.specs.Orders.{path_cmp};
-ghost use Rattle.lw_reg.specs.Told.{body_or_nothing};
-ghost use Rattle.lw_reg.specs.Reading.{known_of, stamp_of, IsRemoved, base_of, address_of, seen_of, lifetime_of, binding_of, sms_of, objects_of, watches_of};
+ghost use Rattle.lw_reg.specs.Told.{body_or_nothing, KeepsAttributes};
+ghost use Rattle.lw_reg.specs.Reading.{known_of, stamp_of, IsRemoved, base_of, address_of, seen_of, lifetime_of, binding_of, sms_of, objects_of, attributes_of, watches_of};
 
 use crate::body::Body;
 use crate::object_list::ObjectList;
 use crate::told::Told;
 use crate::{Addr, Base, Binding, Fields, Path, SmsNumber, Watching};
-use lw_join::{Join, Lex, Lww, Once};
+use lw_join::{Both, Join, Last, Lex, Lww, Once};
 use lw_link::LinkText;
-use lw_stamp::{Moment, NoMemory, Stamp};
+use lw_stamp::{Moment, NoMemory, Stamp, Text};
 use std::alloc::Global;
 use std::mem::size_of;
 
@@ -29,7 +32,9 @@ const _: () = prove!(size_of::<Slot>() <= 32);
 
 impl Slot {
     /// The slot with these fields, or of a removed registration. It takes memory only where something is known.
+    /// What is written under a name must be an attribute.
     pub fn from_parts(alloc: Global, stamp: Stamp, fields: Option<Fields>) -> Result<Slot, NoMemory>
+        requires { KeepsAttributes (told_fields fields) }
         ensures slot { IfOk result (λ slot. slot ≡ slot_of_fields stamp fields) }
         ensures removed { fields ≡ None → IsOk result }
         ensures unknown { told_fields fields ≡ Here nothing → IsOk result }
@@ -44,7 +49,8 @@ impl Slot {
     }
 
     pub(crate) fn body(&self) -> Option<&Body>
-        ensures { body_or_nothing (option_copied result) ≡ known_of self.now }
+        ensures known { body_or_nothing (option_copied result) ≡ known_of self.now }
+        ensures keeps { IfSome result (λ body. KeepsAttributes (Here body.now)) }
     {
         self.registration.value.body()
     }
@@ -114,6 +120,18 @@ impl Slot {
         Some((*stamp, &objects.text))
     }
 
+    /// The last write of each attribute, names rising.
+    pub fn attributes(&self) -> &[(Text, Last<Text>)]
+        ensures attributes { result.now ≡ attributes_of self.now }
+        ensures rise { Rises text_cmp result.now }
+        ensures within { AllByRecursion (λ w. IsAttribute w.0 w.1.write.1) result.now }
+    {
+        match self.body() {
+            None => &[],
+            Some(body) => body.maps.left.entries(),
+        }
+    }
+
     /// The last watch of each path, paths rising.
     pub fn watches(&self) -> &[(Path, Watching)]
         ensures watches { result.now ≡ watches_of self.now }
@@ -121,7 +139,7 @@ impl Slot {
     {
         match self.body() {
             None => &[],
-            Some(body) => body.watches.entries(),
+            Some(body) => body.maps.right.entries(),
         }
     }
 }
@@ -137,6 +155,7 @@ fn body_of_fields(fields: Fields) -> Body
         binding,
         sms,
         objects,
+        attributes,
         watches,
     } = fields;
     Body {
@@ -149,7 +168,10 @@ fn body_of_fields(fields: Fields) -> Body
         objects: Lww {
             write: objects.map(|(stamp, text)| (stamp, ObjectList { text })),
         },
-        watches,
+        maps: Both {
+            left: attributes,
+            right: watches,
+        },
     }
 }
 

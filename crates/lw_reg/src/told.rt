@@ -1,10 +1,10 @@
 //! What is known of a registration, with memory only where something is known.
 
-ghost use Rattle.std.specs.Prelude.{◌≡◌, ◌↔◌, IsTrue, IsOk, IfOk};
+ghost use Rattle.std.specs.Prelude.{◌≡◌, ◌↔◌, IsTrue, IsOk, IfOk, IfSome};
 ghost use Rattle.std.specs.Option.{option_copied};
 ghost use Rattle.lw_join.specs.declared.or_gone.OrGone.TheVariants.{Here, Gone};
 ghost use Rattle.lw_reg.specs.Body.{nothing};
-ghost use Rattle.lw_reg.specs.Told.{known_in, body_or_nothing};
+ghost use Rattle.lw_reg.specs.Told.{known_in, body_or_nothing, KeepsAttributes};
 
 use crate::body::Body;
 use lw_join::Join;
@@ -13,6 +13,7 @@ use std::alloc::Global;
 use std::marker::Model;
 
 /// What is known of a registration, or that it was removed. Contracts see the body, also where it has no box.
+/// What is kept under a name is an attribute.
 #[derive(Drop)]
 pub(crate) struct Told {
     kept: Kept,
@@ -39,6 +40,10 @@ impl Model for Told {
     ghost use Rattle.lw_reg.specs.Kept.{told_in};
 
     ghost view = { λ t. told_in t.kept };
+
+    ghost use Rattle.lw_reg.specs.Told.{KeepsAttributes};
+
+    ghost invariant = { λ t. KeepsAttributes (told_in t.kept) };
 }
 
 impl Told {
@@ -51,6 +56,7 @@ impl Told {
     }
 
     pub(crate) fn of(alloc: Global, body: Body) -> Result<Told, NoMemory>
+        requires { KeepsAttributes (Here body) }
         ensures told { IfOk result (λ told. told ≡ Here body) }
         ensures calm { body ≡ nothing → IsOk result }
     {
@@ -70,7 +76,8 @@ impl Told {
 
     /// What is known; nothing of a removed registration.
     pub(crate) fn body(&self) -> Option<&Body>
-        ensures { body_or_nothing (option_copied result) ≡ known_in self.now }
+        ensures known { body_or_nothing (option_copied result) ≡ known_in self.now }
+        ensures keeps { IfSome result (λ body. KeepsAttributes (Here body.now)) }
     {
         match &self.kept {
             Kept::Known(body) => Some(body),
@@ -122,6 +129,7 @@ impl Told {
 
     /// A box is moved in where nothing was known.
     fn join_body(&mut self, other: Box<Body>) -> Result<(), NoMemory>
+        requires { KeepsAttributes (Here other.value) }
         ensures ok { OnOk result (self.new ≡ gone_join body_join self.old (Here other.value)) }
         ensures err { OnErr result (self.new ≡ self.old) }
         ensures never_refused { gone_in_place body_in_place self.old (Here other.value) → IsOk result }

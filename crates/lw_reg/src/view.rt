@@ -1,6 +1,6 @@
 ghost use Rattle.std.specs.Prelude.{◌≡◌, IfOk};
 
-use crate::{Addr, Binding, Seen, Text, Version};
+use crate::{Addr, AttributesView, Binding, Seen, Text, Version};
 use lw_link::LinkText;
 use lw_stamp::{Moment, NoMemory, Stamp};
 use std::alloc::Global;
@@ -21,6 +21,7 @@ pub struct View<'a> {
     pub queue: bool,
     pub sms: Option<&'a str>,
     pub objects: &'a LinkText,
+    pub attributes: AttributesView<'a>,
 }
 
 impl<'a> Model for View<'a> {
@@ -40,6 +41,7 @@ impl<'a> Model for View<'a> {
       queue = v.queue;
       sms = option_map (λ s. s.now) v.sms;
       objects = v.objects.now;
+      attributes = v.attributes;
     } };
 }
 
@@ -63,6 +65,7 @@ impl View<'_> {
             queue: self.queue,
             sms,
             objects: self.objects.copy_of(alloc)?,
+            attributes: self.attributes.to_attributes(alloc)?,
         })
     }
 }

@@ -62,7 +62,7 @@ impl Slot {
     {
         match self.body() {
             None => None,
-            Some(body) => body.watches.get(path),
+            Some(body) => body.maps.right.get(path),
         }
     }
 

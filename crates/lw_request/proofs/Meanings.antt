@@ -7,6 +7,8 @@ use Rattle.lw_stamp.specs.declared.stamp.Stamp.{Stamp}
 use Rattle.lw_coap.specs.Message.{OptionContent, MessageContent}
 use Rattle.lw_link.specs.Spelling.{Spells}
 use Rattle.lw_reg.specs.declared.binding.Binding.{Binding}
+use Rattle.lw_reg.specs.declared.settings.GivenSettings.{GivenSettings}
+use Rattle.lw_reg.specs.declared.settings.Settings.{Settings}
 use Rattle.lw_reg.specs.declared.version.Version.{Version}
 use Rattle.lw_reg.specs.Binding.{binding_text}
 use Rattle.lw_reg.specs.Version.{version_text}
@@ -49,6 +51,14 @@ if_not_understood P (Err e) h = h
 pub understands_error : (P : Asked → Type 0) (r : Result Asked NoMemory) (meant : Asked) → IsErr r → P meant → Owns meant → Understands P r
 understands_error P (Ok asked) meant e h owned = absurd cc
 understands_error P (Err e) meant is h owned = (meant, h, owned)
+
+-- ---- settings
+
+abbrev pub settings_of : ℕ → Binding → Option (List ℕ) → List ℕ → Settings
+settings_of l b s o = record { lifetime = l; binding = b; sms = s; objects = o }
+
+abbrev pub given_of : Option ℕ → Option Binding → Option (List ℕ) → Option (List ℕ) → GivenSettings
+given_of l b s o = record { lifetime = l; binding = b; sms = s; objects = o }
 
 -- ---- formats
 
@@ -136,7 +146,7 @@ list_is_some m objects (within, (links, spells, few, is)) (post, inr (some, none
 
 pub register_asks : (m : MessageContent) (e : List ℕ) (v : Version) (q : Bool) (l : ℕ) (b : Binding) (s : Option (List ℕ)) (o : List ℕ)
     → IsRegister m → (Cause WrongFormat m → ⊥) → HasQueries (queries_of m) e q l b s → version_text v ≡ unwrap_or (given Lwm2m (queries_of m)) (codes "1.0")
-    → IsObjectList m.payload o → MeansBy post_steps m (Register e v q l b s o)
+    → IsObjectList m.payload o → MeansBy post_steps m (Register e v q (settings_of l b s o))
 register_asks m e v q l b s o form format h version objects =
     inr (
       format,
@@ -165,7 +175,7 @@ register_asks m e v q l b s o form format h version objects =
     )
 
 pub read_register_asks : (m : MessageContent) (e : List ℕ) (v : Version) (q : Bool) (l : ℕ) (b : Binding) (s : Option (List ℕ)) (o : List ℕ)
-    → IsReadRegister m e q l b s → IsSpoken v m.options → IsObjectList m.payload o → MeansBy post_steps m (Register e v q l b s o)
+    → IsReadRegister m e q l b s → IsSpoken v m.options → IsObjectList m.payload o → MeansBy post_steps m (Register e v q (settings_of l b s o))
 read_register_asks m e v q l b s o read spoken objects = register_asks m e v q l b s o read.form read.format read.queries spoken objects
 
 -- a Register whose payload was not read
@@ -176,7 +186,7 @@ register_unread m e v q l b s TooLarge r read spoken large is =
 register_unread m e v q l b s NoList r read spoken none is =
     rw is (register_no_links m read.form read.format (good_queries m e q l b s read.queries) (right_version m v spoken) none)
 register_unread m e v q l b s WantOfMemory r read spoken (objects, list) is =
-    understands_error (MeansBy post_steps m) r (Register e v q l b s objects) is (read_register_asks m e v q l b s objects read spoken list) tt
+    understands_error (MeansBy post_steps m) r (Register e v q (settings_of l b s objects)) is (read_register_asks m e v q l b s objects read spoken list) tt
 
 -- ---- an Update
 
@@ -228,7 +238,7 @@ objects_are_some m segment (Some objects) form h cause = list_is_some m objects 
 
 pub update_asks : (m : MessageContent) (segment : List ℕ) (id : Option Stamp) (l : Option ℕ) (b : Option Binding) (s : Option (List ℕ)) (o : Option (List ℕ))
     → IsUpdate m segment → (Cause WrongFormat m → ⊥) → AreTexts (queries_of m) → AreSettings (queries_of m) l b s → Names segment id → AreObjects m.payload o
-    → MeansBy post_steps m (Update id l b s o)
+    → MeansBy post_steps m (Update id (given_of l b s o))
 update_asks m segment id l b s o form format texts h names objects =
     inr (
       format,
@@ -244,7 +254,7 @@ update_asks m segment id l b s o form format texts h names objects =
                 segment = segment;
                 form = form;
                 id_is = names;
-                settings = h;
+                settings_are = h;
                 objects_are = objects;
               },
             ),
@@ -254,16 +264,14 @@ update_asks m segment id l b s o form format texts h names objects =
     )
 
 -- an Update with an SMS number or an object list owns it
-pub owns_number : (id : Option Stamp) (l : Option ℕ) (b : Option Binding) (s : Option (List ℕ)) (o : Option (List ℕ)) → IsSome s → Owns (Update id l b s o)
-owns_number id l b None o h = absurd cc
-owns_number id l b (Some s) o h = tt
+pub owns_number : (id : Option Stamp) (settings : GivenSettings) → IsSome settings.sms → Owns (Update id settings)
+owns_number id settings h = inl h
 
-pub owns_list : (id : Option Stamp) (l : Option ℕ) (b : Option Binding) (s : Option (List ℕ)) (o : List ℕ) → Owns (Update id l b s (Some o))
-owns_list id l b None o = tt
-owns_list id l b (Some s) o = tt
+pub owns_list : (id : Option Stamp) (l : Option ℕ) (b : Option Binding) (s : Option (List ℕ)) (o : List ℕ) → Owns (Update id (given_of l b s (Some o)))
+owns_list id l b s o = inr refl
 
 pub read_update_asks : (m : MessageContent) (segment : List ℕ) (id : Option Stamp) (l : Option ℕ) (b : Option Binding) (s : Option (List ℕ)) (o : Option (List ℕ))
-    → IsReadUpdate m segment id l b s → AreObjects m.payload o → MeansBy post_steps m (Update id l b s o)
+    → IsReadUpdate m segment id l b s → AreObjects m.payload o → MeansBy post_steps m (Update id (given_of l b s o))
 read_update_asks m segment id l b s o read objects = update_asks m segment id l b s o read.form read.format read.texts read.settings read.id_is objects
 
 -- an Update whose payload was not read
@@ -274,7 +282,7 @@ update_unread m segment id l b s TooLarge r read (some, large) is =
 update_unread m segment id l b s NoList r read (some, none) is =
     rw is (update_no_links m segment read.form read.format (good_settings m segment l b s read.form read.texts read.settings) some none)
 update_unread m segment id l b s WantOfMemory r read (some, (objects, list)) is =
-    understands_error (MeansBy post_steps m) r (Update id l b s (Some objects)) is (read_update_asks m segment id l b s (Some objects) read (some, list)) (owns_list id l b s objects)
+    understands_error (MeansBy post_steps m) r (Update id (given_of l b s (Some objects))) is (read_update_asks m segment id l b s (Some objects) read (some, list)) (owns_list id l b s objects)
 
 -- ---- a Deregister
 

@@ -5,6 +5,8 @@ use Rattle.std.specs.Option.{option_map}
 use Rattle.lw_stamp.specs.declared.stamp.Stamp.{Stamp}
 use Rattle.lw_coap.specs.Message.{MessageContent}
 use Rattle.lw_reg.specs.declared.binding.Binding.{Binding}
+use Rattle.lw_reg.specs.declared.settings.GivenSettings.{GivenSettings}
+use Rattle.lw_reg.specs.declared.settings.Settings.{Settings}
 use Rattle.lw_reg.specs.declared.version.Version.{Version}
 use Rattle.lw_reg.specs.declared.version.Version.TheVariants.{V10, V11}
 use Rattle.lw_reg.specs.Binding.{binding_text}
@@ -65,47 +67,47 @@ one_objects payload None (Some b) h k = absurd (k.0 h)
 one_objects payload (Some a) None h k = absurd (h.0 k)
 one_objects payload (Some a) (Some b) h k = ap (λ (x : List ℕ). Some x) (one_list payload a b h.1 k.1)
 
-register_one : (m : MessageContent) (e e' : List ℕ) (v v' : Version) (q q' : Bool) (l l' : ℕ) (b b' : Binding) (s s' : Option (List ℕ)) (o o' : List ℕ)
-    → AsksRegister m e v q l b s o → AsksRegister m e' v' q' l' b' s' o' → Register e v q l b s o ≡ Register e' v' q' l' b' s' o'
-register_one m e e' v v' q q' l l' b b' s s' o o' h k =
+register_one : (m : MessageContent) (e e' : List ℕ) (v v' : Version) (q q' : Bool) (s s' : Settings)
+    → AsksRegister m e v q s → AsksRegister m e' v' q' s' → Register e v q s ≡ Register e' v' q' s'
+register_one m e e' v v' q q' s s' h k =
     let endpoint = some_is e e' (sym h.endpoint_is ∙ k.endpoint_is) in
     let version = one_version v v' (h.version_is ∙ sym k.version_is) in
     let queue = h.queue_is ∙ sym k.queue_is in
-    let lifetime = one_lifetime (unwrap_or (given Lifetime (queries_of m)) (codes "86400")) l l' h.lifetime_is k.lifetime_is in
-    let binding = same_binding b b' (h.binding_is ∙ sym k.binding_is) in
+    let lifetime = one_lifetime (unwrap_or (given Lifetime (queries_of m)) (codes "86400")) s.lifetime s'.lifetime h.lifetime_is k.lifetime_is in
+    let binding = same_binding s.binding s'.binding (h.binding_is ∙ sym k.binding_is) in
     let sms = h.sms_is ∙ sym k.sms_is in
-    let objects = one_list m.payload o o' h.objects_are k.objects_are in
-    λ i. Register (endpoint i) (version i) (queue i) (lifetime i) (binding i) (sms i) (objects i)
+    let objects = one_list m.payload s.objects s'.objects h.objects_are k.objects_are in
+    λ i. Register (endpoint i) (version i) (queue i) (record { lifetime = lifetime i; binding = binding i; sms = sms i; objects = objects i })
 
-update_one : (m : MessageContent) (i i' : Option Stamp) (l l' : Option ℕ) (b b' : Option Binding) (s s' : Option (List ℕ)) (o o' : Option (List ℕ))
-    → AsksUpdate m i l b s o → AsksUpdate m i' l' b' s' o' → Update i l b s o ≡ Update i' l' b' s' o'
-update_one m i i' l l' b b' s s' o o' h k =
+update_one : (m : MessageContent) (i i' : Option Stamp) (s s' : GivenSettings)
+    → AsksUpdate m i s → AsksUpdate m i' s' → Update i s ≡ Update i' s'
+update_one m i i' s s' h k =
     let id = one_id h.segment i i' h.id_is (subst (λ (segment : List ℕ). Names segment i') (one_entry m k.segment h.segment k.form.0 h.form.0) k.id_is) in
-    let lifetime = one_given (given Lifetime (queries_of m)) l l' h.settings.lifetime_is k.settings.lifetime_is in
-    let binding = one_binding b b' (h.settings.binding_is ∙ sym k.settings.binding_is) in
-    let sms = h.settings.sms_is ∙ sym k.settings.sms_is in
-    let objects = one_objects m.payload o o' h.objects_are k.objects_are in
-    λ j. Update (id j) (lifetime j) (binding j) (sms j) (objects j)
+    let lifetime = one_given (given Lifetime (queries_of m)) s.lifetime s'.lifetime h.settings_are.lifetime_is k.settings_are.lifetime_is in
+    let binding = one_binding s.binding s'.binding (h.settings_are.binding_is ∙ sym k.settings_are.binding_is) in
+    let sms = h.settings_are.sms_is ∙ sym k.settings_are.sms_is in
+    let objects = one_objects m.payload s.objects s'.objects h.objects_are k.objects_are in
+    λ j. Update (id j) (record { lifetime = lifetime j; binding = binding j; sms = sms j; objects = objects j })
 
 asks_one : (m : MessageContent) (a b : Asked) → Asks m a → Asks m b → a ≡ b
-asks_one m (Register e v q l b s o) (Register e' v' q' l' b' s' o') h k = register_one m e e' v v' q q' l l' b b' s s' o o' h k
-asks_one m (Register e v q l b s o) (Update i' l' b' s' o') h k = absurd (not_both m k.segment h.form.0 k.form.0)
-asks_one m (Register e v q l b s o) (Deregister i') h k = absurd (not_both m k.0 h.form.0 k.1.0)
-asks_one m (Register e v q l b s o) (Report r') h k = absurd k
-asks_one m (Register e v q l b s o) Ping h k = absurd k
-asks_one m (Register e v q l b s o) (Refuse f') h k = absurd k
-asks_one m (Register e v q l b s o) Reject h k = absurd k
-asks_one m (Register e v q l b s o) Ignore h k = absurd k
-asks_one m (Update i l b s o) (Register e' v' q' l' b' s' o') h k = absurd (not_both m h.segment k.form.0 h.form.0)
-asks_one m (Update i l b s o) (Update i' l' b' s' o') h k = update_one m i i' l l' b b' s s' o o' h k
-asks_one m (Update i l b s o) (Deregister i') h k = absurd (delete_is_no_post m k.1.1 h.form.1)
-asks_one m (Update i l b s o) (Report r') h k = absurd k
-asks_one m (Update i l b s o) Ping h k = absurd k
-asks_one m (Update i l b s o) (Refuse f') h k = absurd k
-asks_one m (Update i l b s o) Reject h k = absurd k
-asks_one m (Update i l b s o) Ignore h k = absurd k
-asks_one m (Deregister i) (Register e' v' q' l' b' s' o') h k = absurd (not_both m h.0 k.form.0 h.1.0)
-asks_one m (Deregister i) (Update i' l' b' s' o') h k = absurd (delete_is_no_post m h.1.1 k.form.1)
+asks_one m (Register e v q s) (Register e' v' q' s') h k = register_one m e e' v v' q q' s s' h k
+asks_one m (Register e v q s) (Update i' s') h k = absurd (not_both m k.segment h.form.0 k.form.0)
+asks_one m (Register e v q s) (Deregister i') h k = absurd (not_both m k.0 h.form.0 k.1.0)
+asks_one m (Register e v q s) (Report r') h k = absurd k
+asks_one m (Register e v q s) Ping h k = absurd k
+asks_one m (Register e v q s) (Refuse f') h k = absurd k
+asks_one m (Register e v q s) Reject h k = absurd k
+asks_one m (Register e v q s) Ignore h k = absurd k
+asks_one m (Update i s) (Register e' v' q' s') h k = absurd (not_both m h.segment k.form.0 h.form.0)
+asks_one m (Update i s) (Update i' s') h k = update_one m i i' s s' h k
+asks_one m (Update i s) (Deregister i') h k = absurd (delete_is_no_post m k.1.1 h.form.1)
+asks_one m (Update i s) (Report r') h k = absurd k
+asks_one m (Update i s) Ping h k = absurd k
+asks_one m (Update i s) (Refuse f') h k = absurd k
+asks_one m (Update i s) Reject h k = absurd k
+asks_one m (Update i s) Ignore h k = absurd k
+asks_one m (Deregister i) (Register e' v' q' s') h k = absurd (not_both m h.0 k.form.0 h.1.0)
+asks_one m (Deregister i) (Update i' s') h k = absurd (delete_is_no_post m h.1.1 k.form.1)
 asks_one m (Deregister i) (Deregister i') h k = ap (λ (id : Option Stamp). Deregister id) (one_id h.0 i i' h.2 (subst (λ (segment : List ℕ). Names segment i') (one_entry m k.0 h.0 k.1.0 h.1.0) k.2))
 asks_one m (Deregister i) (Report r') h k = absurd k
 asks_one m (Deregister i) Ping h k = absurd k

@@ -1,12 +1,13 @@
 -- What a message means (RFC 7252, sections 4.2, 4.3 and 5.2; RFC 7641, section 3; LwM2M 1.1 Core, section 6.2).
-use Rattle.std.specs.Prelude.{◌≡◌, ℕ, ◌/◌, ◌==◌, nat_lt, Bool, ◌||◌, ◌⊎◌, ◌↔◌, ◌≢◌, if◌then◌else◌, IsTrue, is_some, unwrap_or, IsErr, List, [], ◌∷◌, codes, Option, Some, None, Result, Ok, Err}
+use Rattle.std.specs.Prelude.{◌≡◌, ℕ, ◌/◌, ◌==◌, nat_lt, Bool, ◌||◌, ◌⊎◌, ◌↔◌, ◌≢◌, if◌then◌else◌, IsTrue, is_some, IsSome, unwrap_or, IsErr, List, [], ◌∷◌, codes, Option, Some, None, Result, Ok, Err}
 use Rattle.lw_stamp.specs.declared.no_memory.NoMemory.{NoMemory}
 use Rattle.lw_stamp.specs.declared.stamp.Stamp.{Stamp}
 use Rattle.lw_stamp.specs.Stamp.{id_of}
 use Rattle.lw_coap.specs.declared.message.Kind.{Kind}
 use Rattle.lw_coap.specs.declared.message.Kind.TheVariants.{Con, Non, Ack, Rst}
 use Rattle.lw_coap.specs.Message.{MessageContent}
-use Rattle.lw_reg.specs.declared.binding.Binding.{Binding}
+use Rattle.lw_reg.specs.declared.settings.GivenSettings.{GivenSettings}
+use Rattle.lw_reg.specs.declared.settings.Settings.{Settings}
 use Rattle.lw_reg.specs.declared.version.Version.{Version}
 use Rattle.lw_reg.specs.Binding.{binding_text}
 use Rattle.lw_reg.specs.Version.{version_text}
@@ -31,15 +32,15 @@ Names segment id = (stamp : Stamp) → (id ≡ Some stamp) ↔ (segment ≡ id_o
 
 -- What a Register asks for. The parameters that it does not give are a lifetime of 86400 seconds, version 1.0 and
 -- the binding `U`; queue mode is on where `Q` is given.
-pub record AsksRegister (m : MessageContent) (endpoint : List ℕ) (version : Version) (queue : Bool) (lifetime : ℕ) (binding : Binding) (sms : Option (List ℕ)) (objects : List ℕ) : Type 0 where
+pub record AsksRegister (m : MessageContent) (endpoint : List ℕ) (version : Version) (queue : Bool) (settings : Settings) : Type 0 where
   pub form : IsRegister m
   pub endpoint_is : given Ep (queries_of m) ≡ Some endpoint
   pub version_is : version_text version ≡ unwrap_or (given Lwm2m (queries_of m)) (codes "1.0")
   pub queue_is : queue ≡ is_some (given Q (queries_of m))
-  pub lifetime_is : IsLifetime (unwrap_or (given Lt (queries_of m)) (codes "86400")) lifetime
-  pub binding_is : binding_text binding ≡ unwrap_or (given B (queries_of m)) (codes "U")
-  pub sms_is : sms ≡ given Sms (queries_of m)
-  pub objects_are : IsObjectList m.payload objects
+  pub lifetime_is : IsLifetime (unwrap_or (given Lt (queries_of m)) (codes "86400")) settings.lifetime
+  pub binding_is : binding_text settings.binding ≡ unwrap_or (given B (queries_of m)) (codes "U")
+  pub sms_is : settings.sms ≡ given Sms (queries_of m)
+  pub objects_are : IsObjectList m.payload settings.objects
 
 -- no payload leaves the object list as it is, and any other replaces it whole
 abbrev pub AreObjects : List ℕ → Option (List ℕ) → Type 0
@@ -47,17 +48,17 @@ AreObjects payload None = payload ≡ []
 AreObjects payload (Some objects) = (payload ≢ []) × IsObjectList payload objects
 
 -- what an Update asks for: the parameters that it gives
-pub record AsksUpdate (m : MessageContent) (id : Option Stamp) (lifetime : Option ℕ) (binding : Option Binding) (sms : Option (List ℕ)) (objects : Option (List ℕ)) : Type 0 where
+pub record AsksUpdate (m : MessageContent) (id : Option Stamp) (settings : GivenSettings) : Type 0 where
   pub segment : List ℕ
   pub form : IsUpdate m segment
   pub id_is : Names segment id
-  pub settings : AreSettings (queries_of m) lifetime binding sms
-  pub objects_are : AreObjects m.payload objects
+  pub settings_are : AreSettings (queries_of m) settings.lifetime settings.binding settings.sms
+  pub objects_are : AreObjects m.payload settings.objects
 
 -- what a request asks for that is not refused
 abbrev pub Asks : MessageContent → Asked → Type 0
-Asks m (Register endpoint version queue lifetime binding sms objects) = AsksRegister m endpoint version queue lifetime binding sms objects
-Asks m (Update id lifetime binding sms objects) = AsksUpdate m id lifetime binding sms objects
+Asks m (Register endpoint version queue settings) = AsksRegister m endpoint version queue settings
+Asks m (Update id settings) = AsksUpdate m id settings
 Asks m (Deregister id) = (segment : List ℕ) × IsDeregister m segment × Names segment id
 Asks m (Report report) = ⊥
 Asks m Ping = ⊥
@@ -105,11 +106,14 @@ RoleMeans Reserved m asked = asked ≡ Reject
 abbrev pub Means : MessageContent → Asked → Type 0
 Means m asked = RoleMeans (role_of m.kind m.code) m asked
 
+-- an SMS number or an object list is given
+abbrev pub GivesText : GivenSettings → Type 0
+GivesText settings = IsSome settings.sms ⊎ IsSome settings.objects
+
 -- it owns a text or bytes
 abbrev pub Owns : Asked → Type 0
-Owns (Register endpoint version queue lifetime binding sms objects) = Unit {0}
-Owns (Update id lifetime binding None None) = ⊥
-Owns (Update id lifetime binding sms objects) = Unit {0}
+Owns (Register endpoint version queue settings) = Unit {0}
+Owns (Update id settings) = GivesText settings
 Owns (Deregister id) = ⊥
 Owns (Report report) = Unit {0}
 Owns Ping = ⊥

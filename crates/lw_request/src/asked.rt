@@ -1,6 +1,5 @@
 use crate::{Refusal, Report};
-use lw_link::LinkText;
-use lw_reg::{Binding, Endpoint, SmsNumber, Version};
+use lw_reg::{Endpoint, GivenSettings, Settings, Version};
 use lw_stamp::Stamp;
 
 /// What a message asks of the server (LwM2M 1.1 Core, section 6.2; RFC 7252, section 4.2).
@@ -12,21 +11,13 @@ pub enum Asked {
         version: Version,
         /// Whether it asks for queue mode.
         queue: bool,
-        /// In seconds; 0 never expires.
-        lifetime: u32,
-        binding: Binding,
-        sms: Option<SmsNumber>,
-        objects: LinkText,
+        settings: Settings,
     },
     /// A POST on a registration: what is absent is kept.
     Update {
         /// There is none where the segment is no identifier.
         id: Option<Stamp>,
-        /// In seconds; 0 never expires.
-        lifetime: Option<u32>,
-        binding: Option<Binding>,
-        sms: Option<SmsNumber>,
-        objects: Option<LinkText>,
+        settings: GivenSettings,
     },
     /// A DELETE on a registration.
     Deregister {

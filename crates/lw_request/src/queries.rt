@@ -108,20 +108,20 @@ fn split_query(query: &str) -> (&str, &str)
 
 /// What a Register and an Update may both say, lent by the message: what is absent was not given.
 #[derive(Clone, Copy)]
-pub(crate) struct Settings<'a> {
+pub(crate) struct LentSettings<'a> {
     /// In seconds; 0 never expires.
     pub lifetime: Option<u32>,
     pub binding: Option<Binding>,
     pub sms: Option<&'a str>,
 }
 
-pub(crate) fn settings_of<'a>(parameters: &Parameters<'a>) -> Result<Settings<'a>, BadQuery>
+pub(crate) fn settings_of<'a>(parameters: &Parameters<'a>) -> Result<LentSettings<'a>, BadQuery>
     ensures lifetime { IfOk result (λ s. IsGiven IsLifetime (value_in parameters.now Lt) s.lifetime) }
     ensures binding { IfOk result (λ s. option_map binding_text s.binding ≡ value_in parameters.now B) }
     ensures sms { IfOk result (λ s. option_copied s.sms ≡ value_in parameters.now Sms) }
     ensures err { OnErr result (IsNotAccepted Lt (value_in parameters.now Lt) ⊎ IsNotAccepted B (value_in parameters.now B)) }
 {
-    Ok(Settings {
+    Ok(LentSettings {
         lifetime: lifetime_in(parameters.lifetime)?,
         binding: binding_in(parameters.binding)?,
         sms: parameters.sms,

@@ -17,7 +17,7 @@ use crate::queries::{BadQuery, parameters_of, settings_of, sms_number};
 use crate::{Asked, Refusal};
 use lw_coap::{CoapOption, Message};
 use lw_link::LinkText;
-use lw_reg::{Binding, Endpoint, Version};
+use lw_reg::{Binding, Endpoint, Settings, Version};
 use lw_stamp::NoMemory;
 use std::alloc::Global;
 
@@ -111,15 +111,17 @@ fn make(
 ) -> Result<Asked, NoMemory>
     requires endpoint { IsEndpoint queries.now.endpoint.now }
     requires sms { IsWithin 251 (option_copied queries.now.sms) }
-    ensures { IfOk result (λ asked. asked ≡ Asked.Register queries.now.endpoint.now version queries.now.queue queries.now.lifetime queries.now.binding (option_copied queries.now.sms) objects) }
+    ensures { IfOk result (λ asked. asked ≡ Asked.Register queries.now.endpoint.now version queries.now.queue (record { lifetime = queries.now.lifetime; binding = queries.now.binding; sms = option_copied queries.now.sms; objects = objects })) }
 {
     Ok(Asked::Register {
         endpoint: Endpoint::copy_of(alloc, queries.endpoint)?,
         version,
         queue: queries.queue,
-        lifetime: queries.lifetime,
-        binding: queries.binding,
-        sms: sms_number(alloc, queries.sms)?,
-        objects,
+        settings: Settings {
+            lifetime: queries.lifetime,
+            binding: queries.binding,
+            sms: sms_number(alloc, queries.sms)?,
+            objects,
+        },
     })
 }

@@ -9,10 +9,11 @@ ghost use Rattle.lw_request.specs.Meaning.{AreObjects, MeansBy, Understands};
 
 use crate::objects::{Unread, read_objects};
 use crate::options::has_other_format;
-use crate::queries::{BadQuery, Settings, parameters_of, settings_of, sms_number};
+use crate::queries::{BadQuery, LentSettings, parameters_of, settings_of, sms_number};
 use crate::{Asked, Refusal};
 use lw_coap::{CoapOption, Message};
 use lw_link::LinkText;
+use lw_reg::GivenSettings;
 use lw_stamp::{NoMemory, Stamp};
 use std::alloc::Global;
 
@@ -27,7 +28,7 @@ fn read_replacement(alloc: Global, payload: &[u8]) -> Result<Option<LinkText>, U
     Ok(Some(read_objects(alloc, payload)?))
 }
 
-fn settings_in(options: &[CoapOption]) -> Result<Settings<'_>, BadQuery>
+fn settings_in(options: &[CoapOption]) -> Result<LentSettings<'_>, BadQuery>
     ensures texts { OnOk result (AreTexts (values_of 15 options.now)) }
     ensures ok { IfOk result (λ s. AreSettings (values_of 15 options.now) s.lifetime s.binding (option_copied s.sms)) }
     ensures err { OnErr result (HasBadQuery IsOfUpdate (values_of 15 options.now)) }
@@ -58,18 +59,20 @@ pub(crate) fn update(alloc: Global, request: &Message, segment: &[u8]) -> Result
 fn make(
     alloc: Global,
     id: Option<Stamp>,
-    settings: &Settings<'_>,
+    settings: &LentSettings<'_>,
     objects: Option<LinkText>,
 ) -> Result<Asked, NoMemory>
     requires { IsWithin 251 (option_copied settings.now.sms) }
-    ensures ok { IfOk result (λ asked. asked ≡ Asked.Update id settings.now.lifetime settings.now.binding (option_copied settings.now.sms) objects) }
+    ensures ok { IfOk result (λ asked. asked ≡ Asked.Update id (record { lifetime = settings.now.lifetime; binding = settings.now.binding; sms = option_copied settings.now.sms; objects = objects })) }
     ensures err { OnErr result (IsSome settings.now.sms) }
 {
     Ok(Asked::Update {
         id,
-        lifetime: settings.lifetime,
-        binding: settings.binding,
-        sms: sms_number(alloc, settings.sms)?,
-        objects,
+        settings: GivenSettings {
+            lifetime: settings.lifetime,
+            binding: settings.binding,
+            sms: sms_number(alloc, settings.sms)?,
+            objects,
+        },
     })
 }

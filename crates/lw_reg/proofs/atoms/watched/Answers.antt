@@ -5,4 +5,5 @@ use Rattle.lw_reg.proofs.atoms.watched.Goals as goal
 pub returns : goal.returns
 returns c =
     let same = one_watch_is c.in_ok-one.field-0 c.args.path c.args.watching c.in_ok-one.ensures in
-    λ i. record { base = None; address = None; seen = None; lifetime = None; binding = None; sms = None; objects = None; watches = same i }
+    let unwritten = c.unwritten.ensures in
+    λ i. record { base = None; address = None; seen = None; lifetime = None; binding = None; sms = None; objects = None; attributes = unwritten i; watches = same i }

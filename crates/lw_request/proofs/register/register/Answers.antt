@@ -11,7 +11,7 @@ use Rattle.lw_request.specs.Objects.{IsObjectList, IsUnread}
 use Rattle.lw_request.specs.Steps.{post_steps}
 use Rattle.lw_request.specs.Meaning.{MeansBy}
 use Rattle.lw_request.proofs.QueryLemmas.{endpoint_short, sms_short}
-use Rattle.lw_request.proofs.Meanings.{IsSpoken, understands_made, any_error, right_format, wrong_format, register_read, good_queries, register_bad, register_other, read_register_asks, register_unread}
+use Rattle.lw_request.proofs.Meanings.{settings_of, IsSpoken, understands_made, any_error, right_format, wrong_format, register_read, good_queries, register_bad, register_other, read_register_asks, register_unread}
 use Rattle.lw_request.proofs.register.register.Goals as goal
 
 pub returns-then-has_other_format : goal.returns-then-has_other_format
@@ -57,7 +57,7 @@ returns-in-Ok-read_objects c =
     (record { texts = e.texts; endpoint_is = e.endpoint.0; named = e.endpoint.1; queue_is = e.queue; lifetime_is = e.lifetime; binding_is = e.binding; sms_is = e.sms }) in
     let spoken = subst (IsSpoken c.in-Some.version) (c.as_slice-options.ensures.value ∙ ap (λ (m : MessageContent). m.options) c.request.view_is) (c.in-Some.ensures.some ∙ ap (λ (o : Option (List ℕ)). unwrap_or o (codes "1.0")) e.version) in
     let objects = subst (λ (bytes : List ℕ). IsObjectList bytes c.in-Ok-read_objects.objects) (c.deref.ensures.value ∙ ap (λ (m : MessageContent). m.payload) c.request.view_is) c.in-Ok-read_objects.ensures.found in
-    understands_made (MeansBy post_steps c.args.request.now) c.make.result (Register q.endpoint.now c.in-Some.version q.queue q.lifetime q.binding (option_copied q.sms) c.in-Ok-read_objects.objects) (Unit {0})
+    understands_made (MeansBy post_steps c.args.request.now) c.make.result (Register q.endpoint.now c.in-Some.version q.queue (settings_of q.lifetime q.binding (option_copied q.sms) c.in-Ok-read_objects.objects)) (Unit {0})
     (read_register_asks c.args.request.now q.endpoint.now c.in-Some.version q.queue q.lifetime q.binding (option_copied q.sms) c.in-Ok-read_objects.objects read spoken objects)
     c.make.ensures (any_error c.make.result) (λ t. tt)
 

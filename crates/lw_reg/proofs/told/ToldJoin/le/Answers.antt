@@ -19,3 +19,6 @@ returns-in-Removed-default c = search rules
 
 pub returns-in-Removed-default-2 : goal.returns-in-Removed-default-2
 returns-in-Removed-default-2 c = search rules
+
+pub returns-in-Nothing-default : goal.returns-in-Nothing-default
+returns-in-Nothing-default c = (λ h. nothing_below_told c.args.self.now c.args.other.now (sym c.self.view_is ∙ ap told_in c.in-Nothing-default.is-0), λ h. refl)
