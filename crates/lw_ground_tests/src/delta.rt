@@ -326,7 +326,7 @@ static REFUSED: [(&str, DeltaFault); 51] = [
     // attribute in format 1
     (
         "4c57443100000000000101016100000000000100010001017800000000000100010131000000",
-        DeltaFault::Range,
+        DeltaFault::ClockBelow,
     ),
 ];
 
