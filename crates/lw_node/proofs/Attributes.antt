@@ -31,22 +31,22 @@ text_of last = last.write.1
 
 -- ---- what an operation writes
 -- under each name that an operation carries stands its value
-written_at : (s : Stamp) (as : List (List ℕ × List ℕ)) → Rises text_cmp as → (name : List ℕ) → value_at (writes_of s as) name ≡ option_map (write_at s) (get text_cmp as name)
-written_at s as rise name =
-    ap (λ (m : AttributeMap). value_at m name) (writes_made s as rise)
-    ∙ ap (λ es. get text_cmp es name) (entries_made _ _ _ (stamped_pairs s as) (stamped_rise s as rise))
-    ∙ get-map text_cmp (write_at s) as name
+written_at : (s : Stamp) (pairs : List (List ℕ × List ℕ)) → Rises text_cmp pairs → (name : List ℕ) → value_at (writes_of s pairs) name ≡ option_map (write_at s) (get text_cmp pairs name)
+written_at s pairs rise name =
+    ap (λ (m : AttributeMap). value_at m name) (writes_made s pairs rise)
+    ∙ ap (λ es. get text_cmp es name) (entries_made _ _ _ (stamped_pairs s pairs) (stamped_rise s pairs rise))
+    ∙ get-map text_cmp (write_at s) pairs name
 
-stamped_values : (s : Stamp) (as : List (List ℕ × List ℕ)) → values_of (stamped_pairs s as) ≡ as
+stamped_values : (s : Stamp) (pairs : List (List ℕ × List ℕ)) → values_of (stamped_pairs s pairs) ≡ pairs
 stamped_values s [] = refl
-stamped_values s (a ∷ as) = ap (λ rest. a ∷ rest) (stamped_values s as)
+stamped_values s (a ∷ pairs) = ap (λ rest. a ∷ rest) (stamped_values s pairs)
 
 -- the writes of an operation have the values that it carries
-pub written_values : (s : Stamp) (as : List (List ℕ × List ℕ)) → Rises text_cmp as → values_of (entries_of (writes_of s as)) ≡ as
-written_values s as rise =
-    ap (λ (m : AttributeMap). values_of (entries_of m)) (writes_made s as rise)
-    ∙ ap values_of (entries_made _ _ _ (stamped_pairs s as) (stamped_rise s as rise))
-    ∙ stamped_values s as
+pub written_values : (s : Stamp) (pairs : List (List ℕ × List ℕ)) → Rises text_cmp pairs → values_of (entries_of (writes_of s pairs)) ≡ pairs
+written_values s pairs rise =
+    ap (λ (m : AttributeMap). values_of (entries_of m)) (writes_made s pairs rise)
+    ∙ ap values_of (entries_made _ _ _ (stamped_pairs s pairs) (stamped_rise s pairs rise))
+    ∙ stamped_values s pairs
 
 -- ---- after an Update
 -- each write of the map is older

@@ -192,7 +192,7 @@ module _ (b : Body) where
       (by_written (field_trace BindingAt) b.binding.write (from_sms b) k (λ w e same. subst (BodyShows b) (sym same) e)
       (by_written (field_trace SmsAt) b.sms.write (from_objects b) k (λ w e same. subst (BodyShows b) (sym same) e)
       (by_written (field_trace ObjectsAt) b.objects.write (from_maps b) k (λ w e same. subst (BodyShows b) (sym same) e)
-      (maps_shown k))))))))
+      (maps_shown k)))))))
 
 listed : (x : OrGone Body) (k : Trace) → Shows x k → Contains (traces_in x) k
 listed Gone k (inl e) = first_there Named (Removed ∷ []) k e

@@ -144,9 +144,9 @@ attributes_within c s (a ∷ attributes) le = (le, attributes_within c s attribu
 traces_within : (c : ℕ) (s : Stamp) (w : What) → s.counter ≤ c → TokenWithin c w → TracesWithin c (traces_of s w)
 traces_within c s (Register version queue address seen settings) le token = (tt, (le, (le, (le, (le, (le, (le, attributes_within c s settings.attributes le)))))))
 traces_within c s (Update address seen settings) le token =
-    append_within c _ _
-    (le, (le, append_within c _ _ (append_within c _ _ (append_within c _ _ (written_within c (LifetimeAt s) (λ v. le) settings.lifetime) (written_within c (BindingAt s) (λ v. le) settings.binding)) (written_within c (λ text. SmsAt s (Some text)) (λ v. le) settings.sms)) (written_within c (ObjectsAt s) (λ v. le) settings.objects)))
-    (attributes_within c s settings.attributes le)
+    let fields : TracesWithin c (written (LifetimeAt s) settings.lifetime ++ written (BindingAt s) settings.binding ++ written (λ text. SmsAt s (Some text)) settings.sms ++ written (ObjectsAt s) settings.objects) =
+    append_within c _ _ (append_within c _ _ (append_within c _ _ (written_within c (LifetimeAt s) (λ v. le) settings.lifetime) (written_within c (BindingAt s) (λ v. le) settings.binding)) (written_within c (λ text. SmsAt s (Some text)) (λ v. le) settings.sms)) (written_within c (ObjectsAt s) (λ v. le) settings.objects) in
+    (le, (le, append_within c _ _ fields (attributes_within c s settings.attributes le)))
 traces_within c s Remove le token = (tt, tt)
 traces_within c s (Observe path accept) le token = (le, tt)
 traces_within c s (Cancel path t) le token = (token, tt)

@@ -16,6 +16,7 @@ use Rattle.lw_join.specs.Facets.{OptionTells}
 use Rattle.lw_join.specs.GreaterLaws.{at_most_antisymm}
 use Rattle.lw_join.specs.Lww.{write_cmp}
 use Rattle.lw_join.specs.LwwLaws.{write_order}
+use Rattle.lw_join.specs.Parts.{entries_of}
 use Rattle.lw_join.specs.declared.once.Once.{Once}
 use Rattle.lw_join.specs.declared.or_gone.OrGone.{OrGone}
 use Rattle.lw_join.specs.declared.or_gone.OrGone.TheVariants.{Here, Gone}
@@ -66,9 +67,9 @@ both_some (Some a) None x h = absurd cc
 both_some (Some a) (Some b) x h = let same = some_is (a, b) x h in (ap (λ w. Some w.0) same, ap (λ w. Some w.1) same)
 
 -- ---- what is shown of a slot is what it keeps
-parts_kept : (e : List ℕ) (r : Stamp) (ob : Option Base) (oa : Option (Stamp × Addr)) (os : Option (Stamp × Moment)) (ol : Option (Stamp × ℕ)) (oi : Option (Stamp × Binding)) (om : Option (Stamp × Option (List ℕ))) (oo : Option (Stamp × List ℕ)) (as : List (List ℕ × List ℕ)) (v : Registration)
-    → registration_of e r ob oa os ol oi om oo as ≡ Some v → (r ≡ v.id) × ((at : Stamp) × (oa ≡ Some (at, v.address)))
-parts_kept e r (Some b) (Some a) (Some s) (Some l) (Some i) (Some m) (Some o) as v h =
+parts_kept : (e : List ℕ) (r : Stamp) (ob : Option Base) (oa : Option (Stamp × Addr)) (os : Option (Stamp × Moment)) (ol : Option (Stamp × ℕ)) (oi : Option (Stamp × Binding)) (om : Option (Stamp × Option (List ℕ))) (oo : Option (Stamp × List ℕ)) (oc : List (List ℕ × List ℕ)) (v : Registration)
+    → registration_of e r ob oa os ol oi om oo oc ≡ Some v → (r ≡ v.id) × ((at : Stamp) × (oa ≡ Some (at, v.address)))
+parts_kept e r (Some b) (Some a) (Some s) (Some l) (Some i) (Some m) (Some o) oc v h =
     let same = some_is _ v h in
     (ap (λ (w : Registration). w.id) same, (a.0, ap (λ (w : Registration). Some (a.0, w.address)) same))
 parts_kept e r _ _ _ _ _ _ _ _ v h = absurd cc
