@@ -2,6 +2,7 @@ pub mod Recognised
 pub mod Paths
 pub mod ObjectLemmas
 pub mod QueryLemmas
+pub mod AttributeLemmas
 pub mod Meanings
 pub mod Replies
 pub mod OneMeaning

@@ -18,7 +18,7 @@ use Rattle.lw_request.specs.declared.refusal.Refusal.TheVariants.{BadRequest, Pr
 use Rattle.lw_request.specs.declared.objects.Unread.{Unread}
 use Rattle.lw_request.specs.declared.objects.Unread.TheVariants.{TooLarge, NoLinks as NoList, NoMemory as WantOfMemory}
 use Rattle.lw_request.specs.Options.{values_of, content_format}
-use Rattle.lw_request.specs.Queries.{given, IsLifetime, AreTexts, IsOfUpdate, HasBadQuery, EachIsLookedAt, AreSettings}
+use Rattle.lw_request.specs.Queries.{given, IsLifetime, AreTexts, IsOfUpdate, HasBadQuery, EachIsLookedAt, AreSettings, GiveAttributes, GivesAttribute}
 use Rattle.lw_request.specs.Queries.Parameter.{Ep, Lt, Lwm2m, B, Q, Sms}
 use Rattle.lw_request.specs.Objects.{IsObjectList, IsTooLarge, SpellsNone, IsUnread}
 use Rattle.lw_request.specs.Steps.{IsPost, IsRegister, IsUpdate, IsDeregister, IsLookedAt, queries_of, Cause, post_steps, path_steps, steps}
@@ -26,6 +26,7 @@ use Rattle.lw_request.specs.Steps.Step.{WrongFormat, BadQuery, OtherVersion, Too
 use Rattle.lw_request.specs.declared.role.Role.{Role}
 use Rattle.lw_request.specs.declared.role.Role.TheVariants.{Request}
 use Rattle.lw_request.specs.Meaning.{Names, AreObjects, MeansBy, role_of, RoleMeans, Means, Owns, Understands, UnreadAsks}
+use Rattle.lw_request.proofs.AttributeLemmas.{attributes_in, attributes_given, gives_some}
 use Rattle.lw_request.proofs.ObjectLemmas.{list_fits, none_fits, nothing_fits, nothing_spelled}
 use Rattle.lw_request.proofs.Paths.{not_both, entry_known, delete_allowed, delete_is_no_post}
 use Rattle.lw_request.proofs.QueryLemmas.{bad_more, good_register, good_update, given_or}
@@ -39,6 +40,12 @@ understands_as P R (Err e) f h = (h.0, f h.0 h.1, h.2)
 pub understands_made : (P : Asked → Type 0) (r : Result Asked NoMemory) (made : Asked) (Why : Type 0) → P made → IfOk r (λ asked. asked ≡ made) → OnErr r Why → (Why → Owns made) → Understands P r
 understands_made P (Ok asked) made Why h is err owned = subst P (sym is) h
 understands_made P (Err e) made Why h is err owned = (made, h, owned err)
+
+-- what is made with the attributes that the queries give is meant
+pub understands_given : (P : Asked → Type 0) (r : Result Asked NoMemory) (queries : List (List ℕ)) (made : List (List ℕ × List ℕ) → Asked) (Why : Type 0) → ((a : List (List ℕ × List ℕ)) → GiveAttributes queries a → P (made a))
+    → IfOk r (λ asked. (a : List (List ℕ × List ℕ)) × GiveAttributes queries a × (asked ≡ made a)) → OnErr r Why → (Why → Owns (made (attributes_in queries))) → Understands P r
+understands_given P (Ok asked) queries made Why meant is err owned = subst P (sym is.2) (meant is.0 is.1)
+understands_given P (Err e) queries made Why meant is err owned = (made (attributes_in queries), meant (attributes_in queries) (attributes_given queries), owned err)
 
 pub any_error : (r : Result Asked NoMemory) → OnErr r (Unit {0})
 any_error (Ok asked) = tt
@@ -54,11 +61,11 @@ understands_error P (Err e) meant is h owned = (meant, h, owned)
 
 -- ---- settings
 
-abbrev pub settings_of : ℕ → Binding → Option (List ℕ) → List ℕ → Settings
-settings_of l b s o = record { lifetime = l; binding = b; sms = s; objects = o }
+abbrev pub settings_of : ℕ → Binding → Option (List ℕ) → List ℕ → List (List ℕ × List ℕ) → Settings
+settings_of l b s o a = record { lifetime = l; binding = b; sms = s; objects = o; attributes = a }
 
-abbrev pub given_of : Option ℕ → Option Binding → Option (List ℕ) → Option (List ℕ) → GivenSettings
-given_of l b s o = record { lifetime = l; binding = b; sms = s; objects = o }
+abbrev pub given_of : Option ℕ → Option Binding → Option (List ℕ) → Option (List ℕ) → List (List ℕ × List ℕ) → GivenSettings
+given_of l b s o a = record { lifetime = l; binding = b; sms = s; objects = o; attributes = a }
 
 -- ---- formats
 
@@ -144,10 +151,10 @@ list_is_some m objects (within, (links, spells, few, is)) (post, inl (directory,
     nothing_spelled links (subst (λ (bytes : List ℕ). Spells bytes links) empty spells)
 list_is_some m objects (within, (links, spells, few, is)) (post, inr (some, none)) = none links spells
 
-pub register_asks : (m : MessageContent) (e : List ℕ) (v : Version) (q : Bool) (l : ℕ) (b : Binding) (s : Option (List ℕ)) (o : List ℕ)
+pub register_asks : (m : MessageContent) (e : List ℕ) (v : Version) (q : Bool) (l : ℕ) (b : Binding) (s : Option (List ℕ)) (o : List ℕ) (a : List (List ℕ × List ℕ))
     → IsRegister m → (Cause WrongFormat m → ⊥) → HasQueries (queries_of m) e q l b s → version_text v ≡ unwrap_or (given Lwm2m (queries_of m)) (codes "1.0")
-    → IsObjectList m.payload o → MeansBy post_steps m (Register e v q (settings_of l b s o))
-register_asks m e v q l b s o form format h version objects =
+    → IsObjectList m.payload o → GiveAttributes (queries_of m) a → MeansBy post_steps m (Register e v q (settings_of l b s o a))
+register_asks m e v q l b s o a form format h version objects attributes =
     inr (
       format,
       inr (
@@ -167,6 +174,7 @@ register_asks m e v q l b s o form format h version objects =
                 binding_is = h.binding_is;
                 sms_is = h.sms_is;
                 objects_are = objects;
+                attributes_are = attributes;
               },
             ),
           ),
@@ -174,9 +182,9 @@ register_asks m e v q l b s o form format h version objects =
       ),
     )
 
-pub read_register_asks : (m : MessageContent) (e : List ℕ) (v : Version) (q : Bool) (l : ℕ) (b : Binding) (s : Option (List ℕ)) (o : List ℕ)
-    → IsReadRegister m e q l b s → IsSpoken v m.options → IsObjectList m.payload o → MeansBy post_steps m (Register e v q (settings_of l b s o))
-read_register_asks m e v q l b s o read spoken objects = register_asks m e v q l b s o read.form read.format read.queries spoken objects
+pub read_register_asks : (m : MessageContent) (e : List ℕ) (v : Version) (q : Bool) (l : ℕ) (b : Binding) (s : Option (List ℕ)) (o : List ℕ) (a : List (List ℕ × List ℕ))
+    → IsReadRegister m e q l b s → IsSpoken v m.options → IsObjectList m.payload o → GiveAttributes (queries_of m) a → MeansBy post_steps m (Register e v q (settings_of l b s o a))
+read_register_asks m e v q l b s o a read spoken objects attributes = register_asks m e v q l b s o a read.form read.format read.queries spoken objects attributes
 
 -- a Register whose payload was not read
 pub register_unread : (m : MessageContent) (e : List ℕ) (v : Version) (q : Bool) (l : ℕ) (b : Binding) (s : Option (List ℕ)) (unread : Unread) (r : Result Asked NoMemory)
@@ -186,7 +194,8 @@ register_unread m e v q l b s TooLarge r read spoken large is =
 register_unread m e v q l b s NoList r read spoken none is =
     rw is (register_no_links m read.form read.format (good_queries m e q l b s read.queries) (right_version m v spoken) none)
 register_unread m e v q l b s WantOfMemory r read spoken (objects, list) is =
-    understands_error (MeansBy post_steps m) r (Register e v q (settings_of l b s objects)) is (read_register_asks m e v q l b s objects read spoken list) tt
+    let a = attributes_in (queries_of m) in
+    understands_error (MeansBy post_steps m) r (Register e v q (settings_of l b s objects a)) is (read_register_asks m e v q l b s objects a read spoken list (attributes_given (queries_of m))) tt
 
 -- ---- an Update
 
@@ -236,10 +245,10 @@ objects_are_some m segment None form h (post, inl (directory, empty)) = not_both
 objects_are_some m segment None form h (post, inr (some, none)) = some h
 objects_are_some m segment (Some objects) form h cause = list_is_some m objects h.1 cause
 
-pub update_asks : (m : MessageContent) (segment : List ℕ) (id : Option Stamp) (l : Option ℕ) (b : Option Binding) (s : Option (List ℕ)) (o : Option (List ℕ))
-    → IsUpdate m segment → (Cause WrongFormat m → ⊥) → AreTexts (queries_of m) → AreSettings (queries_of m) l b s → Names segment id → AreObjects m.payload o
-    → MeansBy post_steps m (Update id (given_of l b s o))
-update_asks m segment id l b s o form format texts h names objects =
+pub update_asks : (m : MessageContent) (segment : List ℕ) (id : Option Stamp) (l : Option ℕ) (b : Option Binding) (s : Option (List ℕ)) (o : Option (List ℕ)) (a : List (List ℕ × List ℕ))
+    → IsUpdate m segment → (Cause WrongFormat m → ⊥) → AreTexts (queries_of m) → AreSettings (queries_of m) l b s → Names segment id → AreObjects m.payload o → GiveAttributes (queries_of m) a
+    → MeansBy post_steps m (Update id (given_of l b s o a))
+update_asks m segment id l b s o a form format texts h names objects attributes =
     inr (
       format,
       inr (
@@ -256,6 +265,7 @@ update_asks m segment id l b s o form format texts h names objects =
                 id_is = names;
                 settings_are = h;
                 objects_are = objects;
+                attributes_are = attributes;
               },
             ),
           ),
@@ -263,16 +273,14 @@ update_asks m segment id l b s o form format texts h names objects =
       ),
     )
 
--- an Update with an SMS number or an object list owns it
-pub owns_number : (id : Option Stamp) (settings : GivenSettings) → IsSome settings.sms → Owns (Update id settings)
-owns_number id settings h = inl h
+pub read_update_asks : (m : MessageContent) (segment : List ℕ) (id : Option Stamp) (l : Option ℕ) (b : Option Binding) (s : Option (List ℕ)) (o : Option (List ℕ)) (a : List (List ℕ × List ℕ))
+    → IsReadUpdate m segment id l b s → AreObjects m.payload o → GiveAttributes (queries_of m) a → MeansBy post_steps m (Update id (given_of l b s o a))
+read_update_asks m segment id l b s o a read objects attributes = update_asks m segment id l b s o a read.form read.format read.texts read.settings read.id_is objects attributes
 
-pub owns_list : (id : Option Stamp) (l : Option ℕ) (b : Option Binding) (s : Option (List ℕ)) (o : List ℕ) → Owns (Update id (given_of l b s (Some o)))
-owns_list id l b s o = inr refl
-
-pub read_update_asks : (m : MessageContent) (segment : List ℕ) (id : Option Stamp) (l : Option ℕ) (b : Option Binding) (s : Option (List ℕ)) (o : Option (List ℕ))
-    → IsReadUpdate m segment id l b s → AreObjects m.payload o → MeansBy post_steps m (Update id (given_of l b s o))
-read_update_asks m segment id l b s o read objects = update_asks m segment id l b s o read.form read.format read.texts read.settings read.id_is objects
+-- an Update owns the SMS number and the attributes that it gives
+pub owns_given : (queries : List (List ℕ)) (id : Option Stamp) (l : Option ℕ) (b : Option Binding) (s o : Option (List ℕ)) → IsSome s ⊎ GivesAttribute queries → Owns (Update id (given_of l b s o (attributes_in queries)))
+owns_given queries id l b s o (inl number) = inl number
+owns_given queries id l b s o (inr attribute) = inr (inr (gives_some queries attribute))
 
 -- an Update whose payload was not read
 pub update_unread : (m : MessageContent) (segment : List ℕ) (id : Option Stamp) (l : Option ℕ) (b : Option Binding) (s : Option (List ℕ)) (unread : Unread) (r : Result Asked NoMemory)
@@ -282,7 +290,8 @@ update_unread m segment id l b s TooLarge r read (some, large) is =
 update_unread m segment id l b s NoList r read (some, none) is =
     rw is (update_no_links m segment read.form read.format (good_settings m segment l b s read.form read.texts read.settings) some none)
 update_unread m segment id l b s WantOfMemory r read (some, (objects, list)) is =
-    understands_error (MeansBy post_steps m) r (Update id (given_of l b s (Some objects))) is (read_update_asks m segment id l b s (Some objects) read (some, list)) (owns_list id l b s objects)
+    let a = attributes_in (queries_of m) in
+    understands_error (MeansBy post_steps m) r (Update id (given_of l b s (Some objects) a)) is (read_update_asks m segment id l b s (Some objects) a read (some, list) (attributes_given (queries_of m))) (inr (inl refl))
 
 -- ---- a Deregister
 

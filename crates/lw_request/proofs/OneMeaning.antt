@@ -20,6 +20,7 @@ use Rattle.lw_request.specs.Queries.{given, IsLifetime, IsGiven}
 use Rattle.lw_request.specs.Queries.Parameter.{Lt as Lifetime}
 use Rattle.lw_request.specs.Steps.{IsEntry, queries_of, Step, steps}
 use Rattle.lw_request.specs.Meaning.{Names, AreObjects, AsksRegister, AsksUpdate, Asks, MeansBy, role_of, RoleMeans, Means}
+use Rattle.lw_request.proofs.AttributeLemmas.{one_attributes}
 use Rattle.lw_request.proofs.ObjectLemmas.{one_list}
 use Rattle.lw_request.proofs.Paths.{not_both, delete_is_no_post}
 
@@ -77,7 +78,8 @@ register_one m e e' v v' q q' s s' h k =
     let binding = same_binding s.binding s'.binding (h.binding_is ∙ sym k.binding_is) in
     let sms = h.sms_is ∙ sym k.sms_is in
     let objects = one_list m.payload s.objects s'.objects h.objects_are k.objects_are in
-    λ i. Register (endpoint i) (version i) (queue i) (record { lifetime = lifetime i; binding = binding i; sms = sms i; objects = objects i })
+    let attributes = one_attributes (queries_of m) s.attributes s'.attributes h.attributes_are k.attributes_are in
+    λ i. Register (endpoint i) (version i) (queue i) (record { lifetime = lifetime i; binding = binding i; sms = sms i; objects = objects i; attributes = attributes i })
 
 update_one : (m : MessageContent) (i i' : Option Stamp) (s s' : GivenSettings)
     → AsksUpdate m i s → AsksUpdate m i' s' → Update i s ≡ Update i' s'
@@ -87,7 +89,8 @@ update_one m i i' s s' h k =
     let binding = one_binding s.binding s'.binding (h.settings_are.binding_is ∙ sym k.settings_are.binding_is) in
     let sms = h.settings_are.sms_is ∙ sym k.settings_are.sms_is in
     let objects = one_objects m.payload s.objects s'.objects h.objects_are k.objects_are in
-    λ j. Update (id j) (record { lifetime = lifetime j; binding = binding j; sms = sms j; objects = objects j })
+    let attributes = one_attributes (queries_of m) s.attributes s'.attributes h.attributes_are k.attributes_are in
+    λ j. Update (id j) (record { lifetime = lifetime j; binding = binding j; sms = sms j; objects = objects j; attributes = attributes j })
 
 asks_one : (m : MessageContent) (a b : Asked) → Asks m a → Asks m b → a ≡ b
 asks_one m (Register e v q s) (Register e' v' q' s') h k = register_one m e e' v v' q q' s s' h k

@@ -33,7 +33,7 @@ pub record AreGathered (all left : List (List ℕ)) (values : Parameter → Opti
 
 -- ---- the length of a value
 
-value_short : (query name : List ℕ) → IsShortQuery query → name_of query ≡ name → length (value_of query) ≤ 254 - length name
+pub value_short : (query name : List ℕ) → IsShortQuery query → name_of query ≡ name → length (value_of query) ≤ 254 - length name
 value_short query name short named =
     let n = position_or_len (λ (c : ℕ). c == 61) query in
     let front = length-take n query in

@@ -40,6 +40,7 @@ use Rattle.lw_request.specs.Report.{report_of}
 use Rattle.lw_request.specs.Steps.{IsPost, IsDirectory, IsEntry, IsRegister, IsUpdate, path_of, queries_of, Cause, post_steps, path_steps, steps}
 use Rattle.lw_request.specs.Steps.Step.{UnrecognisedOption, WrongFormat}
 use Rattle.lw_request.specs.Meaning.{Names, MeansBy, refused, ResponseMeans, role_of, RoleMeans, Means}
+use Rattle.lw_request.proofs.AttributeLemmas.{attributes_in, attributes_given}
 use Rattle.lw_request.proofs.Paths.{directory_known, entry_known, post_allowed}
 use Rattle.lw_request.proofs.Meanings.{settings_of, given_of, HasQueries, good_queries, right_version, register_bad, register_other, post_too_large, register_no_links, register_asks, good_settings, no_version, update_bad, update_no_links, update_asks, deregister_asks}
 
@@ -245,7 +246,7 @@ register_objects : (m : MessageContent) (e : List ℕ) (v : Version) (q : Bool) 
     → version_text v ≡ unwrap_or (given Lwm2m (queries_of m)) (codes "1.0") → IsTooLarge m.payload ⊎ (((objects : List ℕ) × IsObjectList m.payload objects) ⊎ ((length m.payload ≤ 8192) × SpellsNone m.payload)) → HasMeaningByPost m
 register_objects m e v q l b s form format has version (inl large) =
     (Refuse RequestEntityTooLarge, post_too_large m form.1 format (good_queries m e q l b s has) (right_version m v version) large)
-register_objects m e v q l b s form format has version (inr (inl list)) = (Register e v q (settings_of l b s list.0), register_asks m e v q l b s list.0 form format has version list.1)
+register_objects m e v q l b s form format has version (inr (inl list)) = (Register e v q (settings_of l b s list.0 (attributes_in (queries_of m))), register_asks m e v q l b s list.0 (attributes_in (queries_of m)) form format has version list.1 (attributes_given (queries_of m)))
 register_objects m e v q l b s form format has version (inr (inr none)) =
     (Refuse BadRequest, register_no_links m form format (good_queries m e q l b s has) (right_version m v version) none)
 
@@ -281,11 +282,11 @@ register_queries m form format (inl texts) (inr (value, is, inl long)) (inl lt) 
 
 update_objects : (m : MessageContent) (segment : List ℕ) (id : Option Stamp) (l : Option ℕ) (b : Option Binding) (s : Option (List ℕ)) (payload : List ℕ) → payload ≡ m.payload → IsUpdate m segment → (Cause WrongFormat m → ⊥)
     → AreTexts (queries_of m) → AreSettings (queries_of m) l b s → Names segment id → IsTooLarge payload ⊎ (((objects : List ℕ) × IsObjectList payload objects) ⊎ ((length payload ≤ 8192) × SpellsNone payload)) → HasMeaningByPost m
-update_objects m segment id l b s [] same form format texts settings names objects = (Update id (given_of l b s None), update_asks m segment id l b s None form format texts settings names (sym same))
+update_objects m segment id l b s [] same form format texts settings names objects = (Update id (given_of l b s None (attributes_in (queries_of m))), update_asks m segment id l b s None (attributes_in (queries_of m)) form format texts settings names (sym same) (attributes_given (queries_of m)))
 update_objects m segment id l b s (c ∷ payload) same form format texts settings names (inl large) =
     (Refuse RequestEntityTooLarge, post_too_large m form.1 format (good_settings m segment l b s form texts settings) (no_version m segment form) (subst IsTooLarge same large))
 update_objects m segment id l b s (c ∷ payload) same form format texts settings names (inr (inl list)) =
-    (Update id (given_of l b s (Some list.0)), update_asks m segment id l b s (Some list.0) form format texts settings names ((λ e. filled c payload (same ∙ e)), subst (λ (bytes : List ℕ). IsObjectList bytes list.0) same list.1))
+    (Update id (given_of l b s (Some list.0) (attributes_in (queries_of m))), update_asks m segment id l b s (Some list.0) (attributes_in (queries_of m)) form format texts settings names ((λ e. filled c payload (same ∙ e)), subst (λ (bytes : List ℕ). IsObjectList bytes list.0) same list.1) (attributes_given (queries_of m)))
   where
     filled : (c : ℕ) (payload : List ℕ) → c ∷ payload ≢ []
     filled c payload e = cc

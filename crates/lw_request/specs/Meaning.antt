@@ -19,7 +19,7 @@ use Rattle.lw_request.specs.declared.refusal.Refusal.TheVariants.{BadRequest, Re
 use Rattle.lw_request.specs.declared.role.Role.{Role}
 use Rattle.lw_request.specs.declared.role.Role.TheVariants.{Ignored, Ping as Probe, Request, Response, Reserved}
 use Rattle.lw_request.specs.Options.{has_critical}
-use Rattle.lw_request.specs.Queries.{given, IsLifetime, AreSettings}
+use Rattle.lw_request.specs.Queries.{given, IsLifetime, AreSettings, GiveAttributes}
 use Rattle.lw_request.specs.Queries.Parameter.{Ep, Lt, Lwm2m, B, Q, Sms}
 use Rattle.lw_request.specs.Objects.{IsObjectList}
 use Rattle.lw_request.specs.Report.{report_of}
@@ -41,19 +41,21 @@ pub record AsksRegister (m : MessageContent) (endpoint : List ℕ) (version : Ve
   pub binding_is : binding_text settings.binding ≡ unwrap_or (given B (queries_of m)) (codes "U")
   pub sms_is : settings.sms ≡ given Sms (queries_of m)
   pub objects_are : IsObjectList m.payload settings.objects
+  pub attributes_are : GiveAttributes (queries_of m) settings.attributes
 
 -- no payload leaves the object list as it is, and any other replaces it whole
 abbrev pub AreObjects : List ℕ → Option (List ℕ) → Type 0
 AreObjects payload None = payload ≡ []
 AreObjects payload (Some objects) = (payload ≢ []) × IsObjectList payload objects
 
--- what an Update asks for: the parameters that it gives
+-- what an Update asks for: the parameters and the attributes that it gives
 pub record AsksUpdate (m : MessageContent) (id : Option Stamp) (settings : GivenSettings) : Type 0 where
   pub segment : List ℕ
   pub form : IsUpdate m segment
   pub id_is : Names segment id
   pub settings_are : AreSettings (queries_of m) settings.lifetime settings.binding settings.sms
   pub objects_are : AreObjects m.payload settings.objects
+  pub attributes_are : GiveAttributes (queries_of m) settings.attributes
 
 -- what a request asks for that is not refused
 abbrev pub Asks : MessageContent → Asked → Type 0
@@ -106,9 +108,9 @@ RoleMeans Reserved m asked = asked ≡ Reject
 abbrev pub Means : MessageContent → Asked → Type 0
 Means m asked = RoleMeans (role_of m.kind m.code) m asked
 
--- an SMS number or an object list is given
+-- an SMS number, an object list or an attribute is given
 abbrev pub GivesText : GivenSettings → Type 0
-GivesText settings = IsSome settings.sms ⊎ IsSome settings.objects
+GivesText settings = IsSome settings.sms ⊎ (IsSome settings.objects ⊎ (settings.attributes ≢ []))
 
 -- it owns a text or bytes
 abbrev pub Owns : Asked → Type 0

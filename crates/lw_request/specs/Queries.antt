@@ -1,8 +1,11 @@
 -- The Uri-Queries of a Register and an Update (LwM2M 1.1 Core, section 6.2.1; LwM2M 1.1 Transport, section
 -- 6.4.3).
-use Rattle.std.specs.Prelude.{◌≡◌, ℕ, ◌+◌, ◌*◌, ◌-◌, ◌<◌, ◌≤◌, ◌⊎◌, ◌==◌, Bool, true, false, IsTrue, IsUtf8, if◌then◌else◌, List, [], ◌∷◌, length, fold, codes, Option, Some, None, bytes_eq}
+use Rattle.std.specs.Prelude.{◌≡◌, ℕ, ◌+◌, ◌*◌, ◌-◌, ◌<◌, ◌≤◌, ◌⊎◌, ◌==◌, Bool, true, false, IsTrue, IsUtf8, if◌then◌else◌, List, [], ◌∷◌, length, fold, codes, Option, Some, None, IsSome, bytes_eq}
 use Rattle.std.specs.List.{before_first, after_first, AllByRecursion}
 use Rattle.std.specs.Option.{option_map}
+use Rattle.lw_stamp.specs.TextOrder.{text_cmp}
+use Rattle.lw_join.specs.Entries.{Rises, get}
+use Rattle.lw_reg.specs.Attribute.{is_attribute_name}
 use Rattle.lw_reg.specs.declared.binding.Binding.{Binding}
 use Rattle.lw_reg.specs.Binding.{binding_text}
 use Rattle.lw_reg.specs.BindingText.{IsBindingText}
@@ -23,6 +26,19 @@ abbrev pub last_value : List ℕ → List (List ℕ) → Option (List ℕ)
 last_value name [] = None
 last_value name (query ∷ queries) =
     later_or (last_value name queries) (if bytes_eq (name_of query) name then Some (value_of query) else None)
+
+-- the value that the queries give to a name, if it is an attribute's
+abbrev pub attribute_given : List ℕ → List (List ℕ) → Option (List ℕ)
+attribute_given name queries = if is_attribute_name name then last_value name queries else None
+
+-- the attributes that the queries give: of a repeated name the last value, names rising
+pub record GiveAttributes (queries : List (List ℕ)) (attributes : List (List ℕ × List ℕ)) : Type 0 where
+  pub rise : Rises text_cmp attributes
+  pub each : (name : List ℕ) → get text_cmp attributes name ≡ attribute_given name queries
+
+-- the queries give some attribute
+abbrev pub GivesAttribute : List (List ℕ) → Type 0
+GivesAttribute queries = (name : List ℕ) × IsSome (attribute_given name queries)
 
 -- the parameters: endpoint, lifetime, version, binding, queue mode, SMS number
 pub data Parameter : Type 0 where

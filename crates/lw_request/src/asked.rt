@@ -2,7 +2,8 @@ use crate::{Refusal, Report};
 use lw_reg::{Endpoint, GivenSettings, Settings, Version};
 use lw_stamp::Stamp;
 
-/// What a message asks of the server (LwM2M 1.1 Core, section 6.2; RFC 7252, section 4.2).
+/// What a message asks of the server (LwM2M 1.1 Core, section 6.2; RFC 7252, section 4.2). The queries whose names
+/// are no parameters' are attributes.
 #[derive(Drop)]
 pub enum Asked {
     /// A POST on `rd`: a new registration.

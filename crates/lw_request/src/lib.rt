@@ -5,6 +5,7 @@
 #![tactic(auto)]
 
 mod asked;
+mod attributes;
 pub mod laws;
 mod objects;
 mod options;

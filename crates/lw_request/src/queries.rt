@@ -99,7 +99,7 @@ impl<'a> Parameters<'a> {
 }
 
 /// The name and the value of a query.
-fn split_query(query: &str) -> (&str, &str)
+pub(crate) fn split_query(query: &str) -> (&str, &str)
     ensures name { result.0.now ≡ name_of query.now }
     ensures value { result.1.now ≡ value_of query.now }
 {

@@ -6,11 +6,12 @@ ghost use Rattle.lw_reg.specs.Endpoint.{IsEndpoint};
 ghost use Rattle.lw_reg.specs.Version.{version_text};
 ghost use Rattle.lw_reg.specs.declared.version.Version.{Version as Versions};
 ghost use Rattle.lw_request.specs.Options.{values_of, has_unrecognised};
-ghost use Rattle.lw_request.specs.Queries.{given, AreTexts, IsLifetime, IsNotAccepted, HasBadQuery, EachIsLookedAt, IsWithin};
+ghost use Rattle.lw_request.specs.Queries.{given, AreTexts, GiveAttributes, IsLifetime, IsNotAccepted, HasBadQuery, EachIsLookedAt, IsWithin};
 ghost use Rattle.lw_request.specs.Queries.Parameter.{Ep, Lt, Lwm2m, B, Q, Sms};
 ghost use Rattle.lw_request.specs.Steps.{IsRegister, post_steps};
 ghost use Rattle.lw_request.specs.Meaning.{MeansBy, Understands};
 
+use crate::attributes::attributes_of;
 use crate::objects::read_objects;
 use crate::options::has_other_format;
 use crate::queries::{BadQuery, parameters_of, settings_of, sms_number};
@@ -98,7 +99,7 @@ pub(crate) fn register(alloc: Global, request: &Message) -> Result<Asked, NoMemo
         return Ok(Asked::Refuse(Refusal::PreconditionFailed));
     };
     match read_objects(alloc, &request.payload) {
-        Ok(objects) => make(alloc, &queries, version, objects),
+        Ok(objects) => make(alloc, &queries, version, objects, options),
         Err(unread) => unread.asked(),
     }
 }
@@ -108,10 +109,13 @@ fn make(
     queries: &Queries<'_>,
     version: Version,
     objects: LinkText,
+    options: &[CoapOption],
 ) -> Result<Asked, NoMemory>
     requires endpoint { IsEndpoint queries.now.endpoint.now }
     requires sms { IsWithin 251 (option_copied queries.now.sms) }
-    ensures { IfOk result (λ asked. asked ≡ Asked.Register queries.now.endpoint.now version queries.now.queue (record { lifetime = queries.now.lifetime; binding = queries.now.binding; sms = option_copied queries.now.sms; objects = objects })) }
+    requires texts { AreTexts (values_of 15 options.now) }
+    requires recognised { IsTrue (has_unrecognised options.now) → ⊥ }
+    ensures { IfOk result (λ asked. (attributes : List (List ℕ × List ℕ)) × GiveAttributes (values_of 15 options.now) attributes × (asked ≡ Asked.Register queries.now.endpoint.now version queries.now.queue (record { lifetime = queries.now.lifetime; binding = queries.now.binding; sms = option_copied queries.now.sms; objects = objects; attributes = attributes }))) }
 {
     Ok(Asked::Register {
         endpoint: Endpoint::copy_of(alloc, queries.endpoint)?,
@@ -122,6 +126,7 @@ fn make(
             binding: queries.binding,
             sms: sms_number(alloc, queries.sms)?,
             objects,
+            attributes: attributes_of(alloc, options)?,
         },
     })
 }

@@ -1,12 +1,13 @@
 //! An Update (LwM2M 1.1 Core, section 6.2.2).
 
-ghost use Rattle.std.specs.Prelude.{◌≡◌, ◌≢◌, [], IsTrue, IsSome, IfOk, OnOk, IfErr, OnErr, option_copied};
+ghost use Rattle.std.specs.Prelude.{◌≡◌, ◌≢◌, ◌⊎◌, ℕ, List, [], IsTrue, IsSome, IfOk, OnOk, IfErr, OnErr, option_copied};
 ghost use Rattle.lw_request.specs.Options.{values_of, has_unrecognised};
-ghost use Rattle.lw_request.specs.Queries.{AreTexts, AreSettings, IsOfUpdate, HasBadQuery, IsWithin};
+ghost use Rattle.lw_request.specs.Queries.{AreTexts, AreSettings, GiveAttributes, GivesAttribute, IsOfUpdate, HasBadQuery, IsWithin};
 ghost use Rattle.lw_request.specs.Objects.{IsUnread};
 ghost use Rattle.lw_request.specs.Steps.{IsUpdate, post_steps};
 ghost use Rattle.lw_request.specs.Meaning.{AreObjects, MeansBy, Understands};
 
+use crate::attributes::attributes_of;
 use crate::objects::{Unread, read_objects};
 use crate::options::has_other_format;
 use crate::queries::{BadQuery, LentSettings, parameters_of, settings_of, sms_number};
@@ -51,7 +52,7 @@ pub(crate) fn update(alloc: Global, request: &Message, segment: &[u8]) -> Result
     };
     let id = Stamp::read_id(segment);
     match read_replacement(alloc, &request.payload) {
-        Ok(objects) => make(alloc, id, &settings, objects),
+        Ok(objects) => make(alloc, id, &settings, objects, options),
         Err(unread) => unread.asked(),
     }
 }
@@ -61,10 +62,13 @@ fn make(
     id: Option<Stamp>,
     settings: &LentSettings<'_>,
     objects: Option<LinkText>,
+    options: &[CoapOption],
 ) -> Result<Asked, NoMemory>
-    requires { IsWithin 251 (option_copied settings.now.sms) }
-    ensures ok { IfOk result (λ asked. asked ≡ Asked.Update id (record { lifetime = settings.now.lifetime; binding = settings.now.binding; sms = option_copied settings.now.sms; objects = objects })) }
-    ensures err { OnErr result (IsSome settings.now.sms) }
+    requires sms { IsWithin 251 (option_copied settings.now.sms) }
+    requires texts { AreTexts (values_of 15 options.now) }
+    requires recognised { IsTrue (has_unrecognised options.now) → ⊥ }
+    ensures ok { IfOk result (λ asked. (attributes : List (List ℕ × List ℕ)) × GiveAttributes (values_of 15 options.now) attributes × (asked ≡ Asked.Update id (record { lifetime = settings.now.lifetime; binding = settings.now.binding; sms = option_copied settings.now.sms; objects = objects; attributes = attributes }))) }
+    ensures err { OnErr result (IsSome settings.now.sms ⊎ GivesAttribute (values_of 15 options.now)) }
 {
     Ok(Asked::Update {
         id,
@@ -73,6 +77,7 @@ fn make(
             binding: settings.binding,
             sms: sms_number(alloc, settings.sms)?,
             objects,
+            attributes: attributes_of(alloc, options)?,
         },
     })
 }

@@ -1,15 +1,15 @@
-use Rattle.std.proofs.Common.{rules, ◌≢◌, ℕ, List, [], sym, ap, subst, ◌∙◌}
-use Rattle.std.specs.Prelude.{option_copied, IsSome}
+use Rattle.std.proofs.Common.{◌≢◌, ◌⊎◌, Option, Some, None, Bor, ℕ, List, [], sym, ap, subst, ◌∙◌}
+use Rattle.std.specs.Prelude.{option_copied, IsSome, IsTrue}
 use Rattle.lw_coap.specs.Message.{OptionContent, MessageContent}
 use Rattle.lw_request.specs.declared.asked.Asked.TheVariants.{Update}
-use Rattle.lw_request.specs.Options.{values_of}
-use Rattle.lw_request.specs.Queries.{given as given_to, HasBadQuery, IsOfUpdate, IsWithin}
+use Rattle.lw_request.specs.Options.{values_of, has_unrecognised}
+use Rattle.lw_request.specs.Queries.{given as given_to, GiveAttributes, GivesAttribute, HasBadQuery, IsOfUpdate, IsWithin}
 use Rattle.lw_request.specs.Queries.Parameter.{Sms}
 use Rattle.lw_request.specs.Objects.{IsUnread}
 use Rattle.lw_request.specs.Steps.{post_steps}
 use Rattle.lw_request.specs.Meaning.{AreObjects, MeansBy}
 use Rattle.lw_request.proofs.QueryLemmas.{sms_short}
-use Rattle.lw_request.proofs.Meanings.{given_of, understands_made, right_format, wrong_format, update_read, update_bad, read_update_asks, update_unread, owns_number}
+use Rattle.lw_request.proofs.Meanings.{given_of, understands_given, right_format, wrong_format, update_read, update_bad, read_update_asks, update_unread, owns_given}
 use Rattle.lw_request.proofs.update.update.Goals as goal
 
 pub returns-then-has_other_format : goal.returns-then-has_other_format
@@ -24,8 +24,8 @@ returns-in_default c =
     update_bad m c.args.segment.now c.requires.form (right_format m c.as_slice-options.result.now c.has_other_format.result same c.has_other_format.ensures c.if-has_other_format.false)
     (subst (HasBadQuery IsOfUpdate) (ap (values_of 15) same) c.in_default.ensures.err)
 
-pub make-requires : goal.make-requires
-make-requires c =
+pub make-requires-clause-sms : goal.make-requires-clause-sms
+make-requires-clause-sms c =
     let same = c.as_slice-options.ensures.value ∙ ap (λ (m : MessageContent). m.options) c.request.view_is in
     subst (IsWithin 251) (sym (c.in-Ok.ensures.ok.sms_is ∙ ap (λ (os : List OptionContent). given_to Sms (values_of 15 os)) same)) (sms_short c.args.request.now.options c.requires.recognised)
 
@@ -37,10 +37,24 @@ returns-in-Ok-read_replacement c =
     let read = update_read m _ c.args.segment.now c.as_slice-options.result.now c.has_other_format.result c.read_id-id.result s.lifetime s.binding (option_copied s.sms) c.as_slice-options.ensures.value c.request.view_is c.requires.form c.has_other_format.ensures c.if-has_other_format.false c.in-Ok.ensures.texts c.in-Ok.ensures.ok c.read_id-id.ensures in
     let o = c.in-Ok-read_replacement.objects in
     let objects = subst (λ (bytes : List ℕ). AreObjects bytes o) payload c.in-Ok-read_replacement.ensures.objects in
-    let given = given_of s.lifetime s.binding (option_copied s.sms) o in
-    understands_made (MeansBy post_steps m) c.make.result (Update c.read_id-id.result given) (IsSome s.sms)
-    (read_update_asks m c.args.segment.now c.read_id-id.result s.lifetime s.binding (option_copied s.sms) o read objects)
-    c.make.ensures.ok c.make.ensures.err (λ some. owns_number c.read_id-id.result given (search rules))
+    let same = c.as_slice-options.ensures.value ∙ ap (λ (m : MessageContent). m.options) c.request.view_is in
+    understands_given (MeansBy post_steps m) c.make.result (values_of 15 c.as_slice-options.result.now)
+    (λ a. Update c.read_id-id.result (given_of s.lifetime s.binding (option_copied s.sms) o a)) (IsSome s.sms ⊎ GivesAttribute (values_of 15 c.as_slice-options.result.now))
+    (λ a given. read_update_asks m c.args.segment.now c.read_id-id.result s.lifetime s.binding (option_copied s.sms) o a read objects
+    (subst (λ (os : List OptionContent). GiveAttributes (values_of 15 os) a) same given))
+    c.make.ensures.ok c.make.ensures.err (λ why. owns_given (values_of 15 c.as_slice-options.result.now) c.read_id-id.result s.lifetime s.binding (option_copied s.sms) o (copied_some s.sms why))
+  where
+    copied_some : {V : Type 0} (o : Option (Bor (List ℕ))) → IsSome o ⊎ V → IsSome (option_copied o) ⊎ V
+    copied_some None h = h
+    copied_some (Some text) h = h
+
+pub make-requires-clause-texts : goal.make-requires-clause-texts
+make-requires-clause-texts c = c.in-Ok.ensures.texts
+
+pub make-requires-clause-recognised : goal.make-requires-clause-recognised
+make-requires-clause-recognised c =
+    let same = c.as_slice-options.ensures.value ∙ ap (λ (m : MessageContent). m.options) c.request.view_is in
+    subst (λ (os : List OptionContent). IsTrue (has_unrecognised os) → ⊥) (sym same) c.requires.recognised
 
 pub returns-in-Err : goal.returns-in-Err
 returns-in-Err c =
