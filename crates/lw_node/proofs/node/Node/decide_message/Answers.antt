@@ -1,8 +1,7 @@
-use Rattle.std.proofs.Common.{◌≡◌, refl, subst}
+use Rattle.std.proofs.Common.{refl}
 use Rattle.lw_stamp.specs.Moment.{ms_of}
-use Rattle.lw_reg.specs.declared.op.What.{What}
-use Rattle.lw_node.specs.Calls.{place_at, Decided, Decides}
-use Rattle.lw_node.specs.Effects.{NamedChanges, MessageMeans}
+use Rattle.lw_node.specs.Calls.{place_at, Decided}
+use Rattle.lw_node.specs.Effects.{MessageMeans}
 use Rattle.lw_node.specs.Node.{marks_in}
 use Rattle.lw_node.proofs.Deciding.{if_ok}
 use Rattle.lw_node.proofs.Messages.{decides_register, decides_update, decides_ping, decides_refusal, decides_reject}
