@@ -1,4 +1,4 @@
--- The bytes of watches, of slots and of a delta are read as what they were written from.
+-- The bytes of what stands behind the fields of a slot are read as what they were written from.
 use Rattle.std.specs.declared.cmp.Ordering.{Ordering}
 use Rattle.std.proofs.Common.{ℕ, ◌<◌, ◌≤◌, ◌^◌, true, false, List, [], ◌∷◌, ◌++◌, Option, Some, None, IfSome, refl, sym, subst, arith, append_assoc}
 use Rattle.lw_stamp.specs.declared.stamp.Stamp.{Stamp}

@@ -12,7 +12,7 @@ use Rattle.lw_reg.specs.Addr.{IsAddr}
 use Rattle.lw_reg.specs.Fields.{told_fields}
 use Rattle.lw_reg.specs.Told.{KeepsAttributes}
 use Rattle.lw_delta.specs.declared.slots.LentSlot.{LentSlot}
-use Rattle.lw_delta.specs.Lent.{Holds, content_of}
+use Rattle.lw_delta.specs.Lent.{Holds}
 use Rattle.lw_reg.specs.Body.{Watching}
 use Rattle.lw_delta.specs.declared.form.Form.{Form}
 use Rattle.lw_delta.specs.Part.{byte, bytes_of, means, must, followed, optional, Walks, repeated}
@@ -198,10 +198,10 @@ kept_good r true k more h = tt
 kept_good r false k more h = attributes_good (behind_of (slot_from r false k more)).attributes h
 
 -- the attributes of a slot that was found are attributes
-pub keeps_attributes : (form : Form) (clock : ℕ) (lent : LentSlot) (more : Behind) → Holds form clock lent more → KeepsAttributes (told_fields (fields_from lent.removed (content_of lent.fields) more))
+pub keeps_attributes : (form : Form) (clock : ℕ) (lent : LentSlot) (more : Behind) → Holds form clock lent more → KeepsAttributes (told_fields (fields_from lent.removed lent.fields more))
 keeps_attributes form clock lent more h =
     let bytes = lent.behind.bytes.now in
-    let k = content_of lent.fields in
+    let k = lent.fields in
     let same = behind_again form clock bytes more h.told.rest h.told.found lent.registration k in
     kept_good lent.registration lent.removed k more (subst (λ (b : Behind). AttributesTyped b.attributes) (sym same) (attributes_typed form clock bytes more h.told.rest h.told.found))
 

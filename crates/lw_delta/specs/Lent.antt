@@ -4,27 +4,15 @@ use Rattle.lw_reg.specs.declared.slot.Slot.{Slot}
 use Rattle.lw_reg.specs.Endpoint.{IsEndpoint}
 use Rattle.lw_delta.specs.declared.behind.LentBehind.{LentBehind}
 use Rattle.lw_delta.specs.declared.checking.Walked.{Walked}
-use Rattle.lw_delta.specs.declared.fields.LentFields.{LentFields}
 use Rattle.lw_delta.specs.declared.form.Form.{Form}
 use Rattle.lw_delta.specs.declared.slots.LentSlot.{LentSlot}
 use Rattle.lw_delta.specs.Part.{Found, optional}
 use Rattle.lw_delta.specs.Format.{header, behind, slot, slots}
-use Rattle.lw_delta.specs.Values.{FieldContent, Behind, slot_from}
-
-abbrev pub content_of : LentFields → FieldContent
-content_of f = record {
-  base = f.base;
-  address = f.address;
-  seen = f.seen;
-  lifetime = f.lifetime;
-  binding = f.binding;
-  sms = f.sms;
-  objects = f.objects;
-}
+use Rattle.lw_delta.specs.Values.{Behind, slot_from}
 
 -- the slot and its endpoint, with this behind its fields
 abbrev pub lent_slot : LentSlot → Behind → List ℕ × Slot
-lent_slot lent more = (lent.endpoint.now, slot_from lent.registration lent.removed (content_of lent.fields) more)
+lent_slot lent more = (lent.endpoint.now, slot_from lent.registration lent.removed lent.fields more)
 
 -- the bytes begin with what stands behind the fields of a slot
 pub record BehindAt (form : Form) (clock : ℕ) (bytes : List ℕ) (lent : LentBehind) (rest : List ℕ) : Type 0 where

@@ -1,12 +1,10 @@
 -- What the bytes of a delta stand for.
 use Rattle.std.specs.Prelude.{ℕ, ◌/◌, ◌%◌, ◌==◌, nat_lt, Bool, if◌then◌else◌, List, [], Option, Some, None, bit_and}
 use Rattle.lw_stamp.specs.declared.stamp.Stamp.{Stamp}
-use Rattle.lw_stamp.specs.declared.moment.Moment.{Moment}
 use Rattle.lw_join.specs.declared.last.Last.{Last}
 use Rattle.lw_join.specs.Parts.{made}
-use Rattle.lw_reg.specs.declared.addr.Addr.{Addr}
 use Rattle.lw_reg.specs.declared.base.Base.{Base}
-use Rattle.lw_reg.specs.declared.binding.Binding.{Binding}
+use Rattle.lw_reg.specs.declared.fields.FieldWrites.{FieldWrites}
 use Rattle.lw_reg.specs.declared.fields.Fields.{Fields}
 use Rattle.lw_reg.specs.declared.path.Path.{Path}
 use Rattle.lw_reg.specs.declared.slot.Slot.{Slot}
@@ -32,27 +30,11 @@ abbrev pub behind_of : Slot → Behind
 behind_of slot = record { attributes = attributes_of slot; watches = watches_of slot }
 
 -- the fields of a registration but for its attributes and watches
-pub record FieldContent : Type 0 where
-  pub base : Option Base
-  pub address : Option (Stamp × Addr)
-  pub seen : Option (Stamp × Moment)
-  pub lifetime : Option (Stamp × ℕ)
-  pub binding : Option (Stamp × Binding)
-  pub sms : Option (Stamp × Option (List ℕ))
-  pub objects : Option (Stamp × List ℕ)
+abbrev pub FieldContent : Type 0
+FieldContent = FieldWrites (List ℕ) (List ℕ)
 
 abbrev pub all_fields : FieldContent → Behind → Fields
-all_fields f behind = record {
-  base = f.base;
-  address = f.address;
-  seen = f.seen;
-  lifetime = f.lifetime;
-  binding = f.binding;
-  sms = f.sms;
-  objects = f.objects;
-  attributes = made behind.attributes;
-  watches = made behind.watches;
-}
+all_fields f behind = record { writes = f; attributes = made behind.attributes; watches = made behind.watches }
 
 -- of a removed registration none of it is kept
 abbrev pub fields_from : Bool → FieldContent → Behind → Option Fields

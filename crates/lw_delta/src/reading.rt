@@ -10,7 +10,7 @@ ghost use Rattle.lw_delta.specs.Part.{Found, Fails, when};
 ghost use Rattle.lw_delta.specs.Format.{attributes as attributes_part, watches as watches_part};
 ghost use Rattle.lw_delta.specs.Values.{Behind as Behinds, list_or_none, all_fields, fields_from};
 ghost use Rattle.lw_delta.specs.Delta.{DeltaContent, IsSpelling, IsFault, Reads};
-ghost use Rattle.lw_delta.specs.Lent.{content_of, Told, Holds, lent_slot};
+ghost use Rattle.lw_delta.specs.Lent.{Told, Holds, lent_slot};
 ghost use Rattle.lw_delta.specs.Unread.{IsLeft};
 
 use crate::attributes::next_attribute;
@@ -25,7 +25,7 @@ use crate::watches::next_watch;
 use crate::{Delta, DeltaFault};
 use lw_join::{Both, Last, Parts};
 use lw_link::LinkText;
-use lw_reg::{Endpoint, Fields, Path, Slot, SmsNumber, Watching};
+use lw_reg::{Endpoint, FieldWrites, Fields, Path, Slot, SmsNumber, Watching};
 use lw_stamp::{NoMemory, Stamp, Text};
 use std::alloc::Global;
 
@@ -191,9 +191,9 @@ fn fields(
     lent: LentFields,
     maps: Both<Text, Last<Text>, Path, Watching>,
 ) -> Result<Fields, NoMemory>
-    ensures { (more : Behinds) → maps ≡ maps_of (made more.attributes) (made more.watches) → IfOk result (λ fields. fields ≡ all_fields (content_of lent.entry) more) }
+    ensures { (more : Behinds) → maps ≡ maps_of (made more.attributes) (made more.watches) → IfOk result (λ fields. fields ≡ all_fields lent.entry more) }
 {
-    Ok(Fields {
+    let writes = FieldWrites {
         base: lent.base,
         address: lent.address,
         seen: lent.seen,
@@ -201,6 +201,9 @@ fn fields(
         binding: lent.binding,
         sms: sms(alloc, lent.sms)?,
         objects: objects(alloc, lent.objects)?,
+    };
+    Ok(Fields {
+        writes,
         attributes: maps.left,
         watches: maps.right,
     })
@@ -214,7 +217,7 @@ fn kept_fields(
     lent: LentSlot,
 ) -> Result<Option<Fields>, DeltaFault>
     requires { (more : Behinds) × Holds form clock lent more }
-    ensures value { (more : Behinds) → Holds form clock lent.entry more → IfOk result (λ fields. fields ≡ fields_from lent.entry.removed (content_of lent.entry.fields) more) }
+    ensures value { (more : Behinds) → Holds form clock lent.entry more → IfOk result (λ fields. fields ≡ fields_from lent.entry.removed lent.entry.fields more) }
     ensures fault { IfErr result (λ fault. fault ≡ DeltaFault.NoMemory) }
 {
     if lent.removed {

@@ -140,16 +140,18 @@ fn first_fields(alloc: Global) -> Result<Fields, Fail>
 {
     let objects = link(alloc, "f")?;
     Ok(Fields {
-        base: Some(Base {
-            version: Version::V10,
-            queue: false,
-        }),
-        address: Some((FIRST, FIRST_HOST)),
-        seen: Some((FIRST, Moment::START)),
-        lifetime: Some((FIRST, 1)),
-        binding: Some((FIRST, Binding::U)),
-        sms: Some((FIRST, None)),
-        objects: Some((FIRST, objects)),
+        writes: FieldWrites {
+            base: Some(Base {
+                version: Version::V10,
+                queue: false,
+            }),
+            address: Some((FIRST, FIRST_HOST)),
+            seen: Some((FIRST, Moment::START)),
+            lifetime: Some((FIRST, 1)),
+            binding: Some((FIRST, Binding::U)),
+            sms: Some((FIRST, None)),
+            objects: Some((FIRST, objects)),
+        },
         attributes: Parts::new(alloc),
         watches: watches(alloc, false)?,
     })
@@ -162,16 +164,18 @@ fn last_fields(alloc: Global) -> Result<Fields, Fail>
     let sms = SmsNumber::new(letters(alloc, "1", 251)?);
     let objects = link(alloc, "l")?;
     Ok(Fields {
-        base: Some(Base {
-            version: Version::V11,
-            queue: true,
-        }),
-        address: Some((LAST, LAST_HOST)),
-        seen: Some((LAST, Moment::START)),
-        lifetime: Some((LAST, 4_294_967_295)),
-        binding: Some((LAST, binding)),
-        sms: Some((LAST, sms)),
-        objects: Some((LAST, objects)),
+        writes: FieldWrites {
+            base: Some(Base {
+                version: Version::V11,
+                queue: true,
+            }),
+            address: Some((LAST, LAST_HOST)),
+            seen: Some((LAST, Moment::START)),
+            lifetime: Some((LAST, 4_294_967_295)),
+            binding: Some((LAST, binding)),
+            sms: Some((LAST, sms)),
+            objects: Some((LAST, objects)),
+        },
         attributes: Parts::new(alloc),
         watches: watches(alloc, true)?,
     })
@@ -310,13 +314,15 @@ fn no_fields(alloc: Global) -> Fields
     ensures { KeepsAttributes (told_fields (Some result)) }
 {
     Fields {
-        base: None,
-        address: None,
-        seen: None,
-        lifetime: None,
-        binding: None,
-        sms: None,
-        objects: None,
+        writes: FieldWrites {
+            base: None,
+            address: None,
+            seen: None,
+            lifetime: None,
+            binding: None,
+            sms: None,
+            objects: None,
+        },
         attributes: Parts::new(alloc),
         watches: Parts::new(alloc),
     }

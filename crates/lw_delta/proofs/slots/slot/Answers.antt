@@ -3,7 +3,6 @@ use Rattle.lw_reg.specs.declared.slot.Slot.{Slot}
 use Rattle.lw_delta.specs.Values.{slot_from}
 use Rattle.lw_delta.specs.Part.{Found}
 use Rattle.lw_delta.specs.Format.{behind as behind_part}
-use Rattle.lw_delta.specs.Lent.{content_of}
 use Rattle.lw_delta.proofs.Again.{behind, front}
 use Rattle.lw_delta.proofs.Decided.{byte_decided}
 use Rattle.lw_delta.proofs.Grammar.{endpoint_decided, stamp_decided}
@@ -30,7 +29,7 @@ pub returns-clause-found : goal.returns-clause-found
 returns-clause-found c =
     let b = c.in_ok-behind.ensures.found in
     let rest = c.in_ok-behind.rest.now in
-    let slot_of : Bool → List ℕ × Slot = λ removed. (c.in_ok-endpoint.endpoint.now, slot_from c.in_ok-registration.registration removed (content_of c.in_ok-fields.fields) b.more) in
+    let slot_of : Bool → List ℕ × Slot = λ removed. (c.in_ok-endpoint.endpoint.now, slot_from c.in_ok-registration.registration removed c.in_ok-fields.fields b.more) in
     record {
       more = b.more;
       holds = record {
