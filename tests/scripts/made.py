@@ -11,6 +11,16 @@ HOSTS = [
     "[2001:0db8:0000:0000:0000:0000:0000:0001]",
     "[0000:0000:0000:0000:0000:ffff:7f00:0001]",
 ]
+# queries that no parameter has: empty and repeated ones, some without a value or a name, the longest
+OTHERS = [
+    (),
+    ("x=1",),
+    ("x=2", "y"),
+    ("y=", "=no name", "", "x=a=b"),
+    ("Lt=4", "ep2=b", "z=1", "z=2", "門=é\"\\"),
+    ("x" * 255,),
+    ("n" * 100 + "=" + "v" * 154, "x=3"),
+]
 PATHS = [(3,), (3, 0), (3, 0, 9), (3, 1), (65534, 0, 65534, 1)]
 
 
@@ -35,6 +45,28 @@ def three_hundred_slots():
         run.ask_token(3, 0, (2 * number, 1))
         run.ask_expired(3, 200_000, name)
         run.ask_next(2, 200_000, name)
+    return run
+
+
+def many_attributes():
+    """Registrations with about as many attributes as a datagram can name, written at two nodes."""
+    run = Run(2)
+    letters = "ABCDEFGHIJKLMNOPQRSTUVWXYZabcdefghijklmnopqrstuvwxyz"
+    names = [first + second for first in letters for second in letters if first + second not in ("ep", "lt")]
+    chance = random.Random(3)
+    run.register(From(1), "a", others=chance.sample(names, 2_500))
+    run.send(1, 0)
+    run.deliver(2, 0)
+    run.update(From(1), (1, 1), others=[f"{name}=1" for name in chance.sample(names, 1_000)])
+    run.update(From(2), (1, 1), others=[f"{name}=2" for name in chance.sample(names, 750)] * 2)
+    run.update(From(2), (1, 1), others=["x"] * 4_000)
+    run.send(1, 0)
+    run.send(2, 0)
+    run.deliver(1, 2)
+    run.deliver(2, 1)
+    for node in run.nodes:
+        run.ask_endpoint(node, 0, "a")
+        run.send(node, 0)
     return run
 
 
@@ -108,7 +140,8 @@ class Chance:
         has_queue, is_v11 = self.one_of(False, True), self.one_of(False, True)
         self.run.register(
             self.sender(), self.one_of(*NAMES), self.one_of(0, 1, 60, 86400, 4294967295), is_v11,
-            self.one_of("U", "UQ", "ABCDEFGH"), self.one_of(None, "", "1" * 251), has_queue, self.objects()
+            self.one_of("U", "UQ", "ABCDEFGH"), self.one_of(None, "", "1" * 251), has_queue, self.objects(),
+            self.one_of(*OTHERS)
         )
 
     def objects(self):
@@ -118,7 +151,8 @@ class Chance:
         sender = self.sender()
         self.run.update(
             sender, self.known(sender.node), self.one_of(KEPT, 0, 30, 4294967295), self.one_of(KEPT, "Q", "US"),
-            self.one_of(KEPT, "", "49"), self.one_of(KEPT, self.objects())
+            self.one_of(KEPT, "", "49"), self.one_of(KEPT, self.objects()),
+            self.one_of(*OTHERS, ("ep=c", "Q", "lwm2m=2", "w=1"))
         )
 
     def deregister(self):
@@ -203,4 +237,4 @@ def gossip():
     return run
 
 
-ALL = (three_hundred_slots, most_registers, most_events, five_thousand_events, gossip)
+ALL = (three_hundred_slots, many_attributes, most_registers, most_events, five_thousand_events, gossip)

@@ -11,6 +11,8 @@ CON, NON, ACK, RST = range(4)
 NOTHING = "-"
 # a field that an Update leaves as it is
 KEPT = object()
+# the queries with these names are no attributes
+PARAMETERS = ("ep", "lt", "lwm2m", "b", "Q", "sms")
 
 
 def id_text(stamp):
@@ -68,6 +70,12 @@ def sized(text, width=1):
     return len(encoded).to_bytes(width, "big") + encoded
 
 
+def attributes_of(queries):
+    """The value of each attribute: of a repeated name the last."""
+    pairs = (query.partition("=")[::2] for query in queries)
+    return {name: value for name, value in pairs if name and name not in PARAMETERS}
+
+
 @dataclass(frozen=True)
 class Watch:
     token: tuple
@@ -84,10 +92,11 @@ class Watch:
 
 @dataclass(frozen=True)
 class Slot:
-    """What is known of an endpoint: its last registration, with the stamp and the value of each field."""
+    """What is known of an endpoint: its last registration, with the stamp and the value of each field and attribute."""
     stamp: tuple
     base: tuple = (False, False)
     fields: dict = field(default_factory=dict)
+    attributes: dict = field(default_factory=dict)
     watches: dict = field(default_factory=dict)
     is_removed: bool = False
 
@@ -107,11 +116,11 @@ class Slot:
     def live(self):
         """The paths of the watches that are not cancelled, rising."""
         return sorted(path for path, watch in self.watches.items() if not watch.is_cancelled)
-
-    def written(self, stamp, values):
-        """With the values that are written."""
+    def written(self, stamp, values, queries):
+        """With the values that are written, and the attributes of the queries."""
         new = {name: (stamp, value) for name, value in values.items() if value is not KEPT}
-        return replace(self, fields={**self.fields, **new})
+        named = {name: (stamp, value) for name, value in attributes_of(queries).items()}
+        return replace(self, fields={**self.fields, **new}, attributes={**self.attributes, **named})
 
     def watched(self, path, watch):
         return replace(self, watches={**self.watches, path: watch})
@@ -122,15 +131,18 @@ class Slot:
         if self.is_removed or other.is_removed:
             return Slot(self.stamp, is_removed=True)
         fields = {name: max(self.fields[name], other.fields[name], key=lambda it: it[0]) for name in self.fields}
+        attributes = dict(self.attributes)
+        for name, write in other.attributes.items():
+            attributes[name] = max(attributes.get(name, write), write)
         watches = dict(self.watches)
         for path, watch in other.watches.items():
             watches[path] = max(watches.get(path, watch), watch, key=lambda it: (it.token, it.is_cancelled))
-        return replace(self, fields=fields, watches=watches)
+        return replace(self, fields=fields, attributes=attributes, watches=watches)
 
     def bytes(self, endpoint):
         head = b"\x01" + sized(endpoint) + stamp_bytes(self.stamp)
         if self.is_removed:
-            return head + b"\x80\0"
+            return head + b"\x80\0\0"
         sms = self.value("sms")
         values = {
             "address": address_bytes(self.value("address")),
@@ -141,8 +153,13 @@ class Slot:
             "objects": sized(self.value("objects"), 2),
         }
         fields = b"".join(stamp_bytes(self.fields[name][0]) + values[name] for name in values)
+        attributes = b"".join(
+            b"\x01" + sized(name) + stamp_bytes(stamp) + sized(value)
+            for name, (stamp, value) in sorted(self.attributes.items())
+        )
         watches = b"".join(self.watches[path].bytes(path) for path in sorted(self.watches))
-        return head + b"\x7f" + bytes([self.base[0] | self.base[1] << 1]) + fields + watches + b"\0"
+        base = bytes([self.base[0] | self.base[1] << 1])
+        return head + b"\x7f" + base + fields + attributes + b"\0" + watches + b"\0"
 
 
 class Node:
@@ -193,6 +210,7 @@ def view(found):
     names = ("address", "binding", "lifetime", "objects", "seen", "sms")
     return {
         **{name: slot.value(name) for name in names},
+        "attributes": {name: value for name, (_, value) in slot.attributes.items()},
         "endpoint": endpoint,
         "id": id_text(slot.stamp),
         "lwm2m": "1.1" if slot.base[0] else "1.0",
@@ -212,7 +230,7 @@ def watch_view(found):
 
 
 def delta(clock, slots):
-    return b"LWD1" + clock.to_bytes(6, "big") + b"".join(slot.bytes(name) for name, slot in slots) + b"\0"
+    return b"LWD2" + clock.to_bytes(6, "big") + b"".join(slot.bytes(name) for name, slot in slots) + b"\0"
 
 
 @dataclass(frozen=True)
@@ -251,29 +269,33 @@ class Run:
         where = [(8, b"rd"), (8, location[0].encode())] if location else []
         self.take(it, datagram, message(ACK if it.kind == CON else NON, answer, it.mid, it.token, where))
 
-    def register(self, it, name, lifetime=86400, is_v11=False, binding="U", sms=None, has_queue=False, objects="</>"):
+    def register(
+        self, it, name, lifetime=86400, is_v11=False, binding="U", sms=None, has_queue=False, objects="</>", others=()
+    ):
+        """A Register, and behind its parameters the other queries."""
         node = self.nodes[it.node]
         stamp = node.stamp()
         values = {"address": it.address, "seen": it.now, "lifetime": lifetime, "binding": binding, "sms": sms}
-        slot = Slot(stamp, (is_v11, has_queue)).written(stamp, {**values, "objects": objects})
+        slot = Slot(stamp, (is_v11, has_queue)).written(stamp, {**values, "objects": objects}, others)
         node.put(name, slot)
         queries = [f"ep={name}", f"lt={lifetime}", f"lwm2m=1.{int(is_v11)}", f"b={binding}"]
         queries += [f"sms={sms}"] if sms is not None else []
         queries += ["Q"] if has_queue else []
-        self.request(it, 0x02, [b"rd"], queries, objects, (0x41, id_text(stamp)))
+        self.request(it, 0x02, [b"rd"], [*queries, *others], objects, (0x41, id_text(stamp)))
 
-    def update(self, it, stamp, lifetime=KEPT, binding=KEPT, sms=KEPT, objects=KEPT):
+    def update(self, it, stamp, lifetime=KEPT, binding=KEPT, sms=KEPT, objects=KEPT, others=()):
+        """An Update, and behind its parameters the other queries."""
         node = self.nodes[it.node]
         found = node.by_id(it.now, stamp)
         values = {"lifetime": lifetime, "binding": binding, "sms": sms, "objects": objects}
         if found:
             always = {"address": it.address, "seen": it.now}
-            node.put(found[0], found[1].written(node.stamp(), {**values, **always}))
+            node.put(found[0], found[1].written(node.stamp(), {**values, **always}, others))
         named = (("lt", lifetime), ("b", binding), ("sms", sms))
         queries = [f"{name}={value}" for name, value in named if value is not KEPT]
         segments = [b"rd", id_text(stamp).encode()]
         objects = None if objects is KEPT else objects
-        self.request(it, 0x02, segments, queries, objects, (0x44,) if found else (0x84,))
+        self.request(it, 0x02, segments, [*queries, *others], objects, (0x44,) if found else (0x84,))
 
     def deregister(self, it, stamp):
         node = self.nodes[it.node]

@@ -22,7 +22,7 @@ pub(crate) enum DeltaCall {
 }
 
 /// The magic bytes and a clock of 1.
-const HEADER: &[u8] = &[b'L', b'W', b'D', b'1', 0, 0, 0, 0, 0, 1];
+const HEADER: &[u8] = &[b'L', b'W', b'D', b'2', 0, 0, 0, 0, 0, 1];
 
 /// What stands before an endpoint of 24 bytes.
 const SLOT_BEGIN: &[u8] = &[1, 24];
@@ -40,7 +40,7 @@ const FIELDS: &[u8] = &[
     0, 0, 0, 0, 0, 1, 0, 1, 0, 72, // an object list
 ];
 
-/// What ends the watches, and what ends the slots.
+/// What ends the attributes, the watches and the slots.
 const END: &[u8] = &[0];
 
 impl DeltaCall {
@@ -100,7 +100,10 @@ fn bytes_of(alloc: Global, count: u32) -> Result<Vec<u8>, AllocError> {
 fn put_slots(alloc: Global, count: u32, bytes: &mut Vec<u8>) -> Result<(), AllocError> {
     for place in 0..count {
         let name = name_of(alloc, u64::from(place))?;
-        put_parts(bytes, &[SLOT_BEGIN, name.as_bytes(), FIELDS, OBJECTS, END])?;
+        put_parts(
+            bytes,
+            &[SLOT_BEGIN, name.as_bytes(), FIELDS, OBJECTS, END, END],
+        )?;
     }
     bytes.extend_from_slice(END)
 }

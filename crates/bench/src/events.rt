@@ -188,7 +188,7 @@ impl Doing {
             put_update(bytes, id_at(place))?;
             return updated();
         }
-        put_register(bytes, endpoint_at(alloc, order, place)?.as_str(), 0, 0)?;
+        put_register(bytes, endpoint_at(alloc, order, place)?.as_str(), &[], 0)?;
         Ok(Moment::START)
     }
 }

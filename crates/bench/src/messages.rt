@@ -1,7 +1,7 @@
 //! The Registers that are measured with, as clients send them.
 
 use lw_stamp::Stamp;
-use std::alloc::AllocError;
+use std::alloc::{AllocError, Global};
 
 /// An object list of 72 bytes: the printing of ten links.
 pub(crate) const OBJECTS: &[u8] =
@@ -11,7 +11,7 @@ pub(crate) const OBJECTS: &[u8] =
 pub(crate) const MORE_LINKS: u32 = 246;
 
 /// How many empty queries nearly fill a message of 8,192 bytes.
-pub(crate) const EMPTY_QUERIES: u32 = 8000;
+const EMPTY_QUERIES: usize = 8000;
 
 /// The endpoint of what is measured by itself.
 pub(crate) const ENDPOINT: &str = "urn:dev:mac:0024be804ff1";
@@ -36,19 +36,42 @@ const BEFORE_ID: &[u8] = b"\x40\x02\0\x01\xb2rd\x0d\x03";
 /// A query behind the identifier.
 const LIFETIME: &[u8] = b"\x46lt=300";
 
-/// Puts the Register of an endpoint with ten objects in the place of what was there: 136 bytes. So many empty
-/// queries stand behind the others, and so many links behind those objects.
+/// Puts the Register of an endpoint with ten objects in the place of what was there: 136 bytes. The queries stand
+/// behind the others, and so many links behind those objects.
 pub(crate) fn put_register(
     bytes: &mut Vec<u8>,
     name: &str,
-    queries: u32,
+    queries: &[u8],
     links: u32,
 ) -> Result<(), AllocError> {
     bytes.clear();
-    put_parts(bytes, &[BEFORE_NAME, name.as_bytes(), BEHIND_NAME])?;
-    put_often(bytes, &[0], queries)?;
+    put_parts(bytes, &[BEFORE_NAME, name.as_bytes(), BEHIND_NAME, queries])?;
     put_parts(bytes, &[PAYLOAD_MARKER, OBJECTS])?;
     put_often(bytes, b",</3303/0>", links)
+}
+
+/// Queries without a character, which nearly fill a message of 8,192 bytes.
+pub(crate) fn empty_queries(alloc: Global) -> Result<Vec<u8>, AllocError> {
+    vec![in alloc; 0; EMPTY_QUERIES]
+}
+
+/// Queries of 2,604 attributes without a value, whose names do not rise: they nearly fill a message of 8,192 bytes.
+pub(crate) fn attribute_queries(alloc: Global) -> Result<Vec<u8>, AllocError> {
+    let mut queries = Vec::new(alloc);
+    for second in b'!'..=b'~' {
+        if second != b'=' {
+            put_names(&mut queries, second)?;
+        }
+    }
+    Ok(queries)
+}
+
+/// The queries whose second byte is this one.
+fn put_names(queries: &mut Vec<u8>, second: u8) -> Result<(), AllocError> {
+    for first in b'A'..=b'\\' {
+        queries.extend_from_slice(&[2, first, second])?;
+    }
+    Ok(())
 }
 
 /// Puts the Update of a registration's lifetime in the place of what was there.

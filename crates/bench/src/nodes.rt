@@ -146,7 +146,7 @@ impl NodeCall {
     ) -> Result<bool, BenchFault> {
         match self {
             NodeCall::Take => {
-                put_register(datagram, name, 0, 0)?;
+                put_register(datagram, name, &[], 0)?;
                 take(node, datagram, place)
             }
             NodeCall::Update => {

@@ -28,7 +28,7 @@ pub(crate) enum Operation {
 const LONG_CALLS: u32 = 1000;
 
 /// What is measured and its name, in the order of the table.
-pub(crate) static ROWS: [(&str, Operation); 27] = [
+pub(crate) static ROWS: [(&str, Operation); 28] = [
     (
         "take of a new Register, names rising",
         Operation::Node(NodeCalls {
@@ -152,6 +152,10 @@ pub(crate) static ROWS: [(&str, Operation); 27] = [
     (
         "understand, 8 KB of empty queries",
         Operation::Request(RequestCall::UnderstandQueries),
+    ),
+    (
+        "understand, 8 KB of attributes",
+        Operation::Request(RequestCall::UnderstandAttributes),
     ),
     (
         "LinkText::read, a printing of 256 links",

@@ -2,7 +2,7 @@
 
 use crate::cost::Cost;
 use crate::fault::BenchFault;
-use crate::messages::{EMPTY_QUERIES, ENDPOINT, MORE_LINKS, put_register};
+use crate::messages::{ENDPOINT, MORE_LINKS, attribute_queries, empty_queries, put_register};
 use lw_coap::{Message, decode};
 use lw_link::LinkText;
 use lw_request::{Asked, understand};
@@ -16,6 +16,8 @@ pub(crate) enum RequestCall {
     Understand,
     /// `understand` of 8,000 empty queries.
     UnderstandQueries,
+    /// `understand` of 2,604 attributes.
+    UnderstandAttributes,
     /// `LinkText::read` of a printing of 256 links.
     ReadLinks,
 }
@@ -54,19 +56,33 @@ impl RequestCall {
 
     fn datagram(self, alloc: Global) -> Result<Vec<u8>, AllocError> {
         let mut bytes = Vec::new(alloc);
-        let (queries, links) = match self {
-            RequestCall::Understand => (0, 0),
-            RequestCall::UnderstandQueries => (EMPTY_QUERIES, 0),
-            RequestCall::ReadLinks => (0, MORE_LINKS),
-        };
-        put_register(&mut bytes, ENDPOINT, queries, links)?;
+        let queries = self.queries(alloc)?;
+        put_register(&mut bytes, ENDPOINT, &queries, self.links())?;
         Ok(bytes)
+    }
+
+    fn queries(self, alloc: Global) -> Result<Vec<u8>, AllocError> {
+        match self {
+            RequestCall::UnderstandQueries => empty_queries(alloc),
+            RequestCall::UnderstandAttributes => attribute_queries(alloc),
+            RequestCall::Understand | RequestCall::ReadLinks => Ok(Vec::new(alloc)),
+        }
+    }
+
+    fn links(self) -> u32 {
+        if let RequestCall::ReadLinks = self {
+            MORE_LINKS
+        } else {
+            0
+        }
     }
 
     fn make(self, alloc: Global, datagram: &[u8], message: &Message) -> Result<(), BenchFault> {
         match self {
             RequestCall::Understand => understand_register(alloc, &decode(alloc, datagram)?),
-            RequestCall::UnderstandQueries => understand_register(alloc, message),
+            RequestCall::UnderstandQueries | RequestCall::UnderstandAttributes => {
+                understand_register(alloc, message)
+            }
             RequestCall::ReadLinks => read_links(alloc, &message.payload),
         }
     }

@@ -4,7 +4,7 @@ use crate::cost::Cost;
 use crate::fault::BenchFault;
 use crate::messages::ENDPOINT;
 use lw_join::Join;
-use lw_reg::{Addr, Endpoint, Op, Path, Slot, Text, What, atom};
+use lw_reg::{Addr, Attributes, Endpoint, GivenSettings, Op, Path, Slot, Text, What, atom};
 use lw_stamp::{Moment, Stamp};
 use std::alloc::Global;
 use std::time::CpuClock;
@@ -43,7 +43,7 @@ impl SlotCall {
         alloc: Global,
         count: u32,
     ) -> Result<Cost, BenchFault> {
-        let mut slot = atom(alloc, operation(endpoint(alloc)?, FIRST, update()))?;
+        let mut slot = atom(alloc, operation(endpoint(alloc)?, FIRST, update(alloc)))?;
         self.cost(clock, alloc, &mut slot, count)
     }
 
@@ -63,12 +63,15 @@ impl SlotCall {
 
     fn atom(self, alloc: Global, place: u32) -> Result<Slot, BenchFault> {
         let endpoint = endpoint(alloc)?;
-        Ok(atom(alloc, operation(endpoint, stamp(place), self.what(place)?))?)
+        Ok(atom(
+            alloc,
+            operation(endpoint, stamp(place), self.what(alloc, place)?),
+        )?)
     }
 
-    fn what(self, place: u32) -> Result<What, BenchFault> {
+    fn what(self, alloc: Global, place: u32) -> Result<What, BenchFault> {
         match self {
-            SlotCall::Update => Ok(update()),
+            SlotCall::Update => Ok(update(alloc)),
             SlotCall::Observe => Ok(What::Observe {
                 path: path(place)?,
                 accept: None,
@@ -98,14 +101,17 @@ fn operation(endpoint: Endpoint, stamp: Stamp, what: What) -> Op {
     }
 }
 
-fn update() -> What {
+fn update(alloc: Global) -> What {
     What::Update {
         address: SOURCE,
         seen: Moment::START,
-        lifetime: Some(LIFETIME),
-        binding: None,
-        sms: None,
-        objects: None,
+        settings: GivenSettings {
+            lifetime: Some(LIFETIME),
+            binding: None,
+            sms: None,
+            objects: None,
+            attributes: Attributes::new(alloc),
+        },
     }
 }
 

@@ -14,7 +14,7 @@ use crate::sent::Sent;
 use crate::taken::Taken;
 use lw_delta::DeltaFault;
 use lw_link::LinkText;
-use lw_reg::{Addr, Binding, Path, Seen, Text, Version, Watch};
+use lw_reg::{Addr, Attributes, Binding, Path, Seen, Text, Version, Watch};
 use lw_stamp::{Moment, NoMemory, Stamp};
 
 impl Call {
@@ -328,6 +328,7 @@ fn same_seen(a: &Seen, b: &Seen) -> bool
         && a.queue == b.queue
         && same_optional_text(&a.sms, &b.sms)
         && same_objects(&a.objects, &b.objects)
+        && same_attributes(&a.attributes, &b.attributes)
 }
 
 fn same_watch(a: &Watch, b: &Watch) -> bool
@@ -429,6 +430,12 @@ fn same_objects(a: &LinkText, b: &LinkText) -> bool
     ensures { IsTrue result ↔ (a.now ≡ b.now) }
 {
     a.as_str() == b.as_str()
+}
+
+fn same_attributes(a: &Attributes, b: &Attributes) -> bool
+    ensures { IsTrue result ↔ (a.now ≡ b.now) }
+{
+    a.same(b)
 }
 
 fn same_text(a: &Text, b: &Text) -> bool

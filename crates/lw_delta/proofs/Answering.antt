@@ -108,9 +108,9 @@ read_found bytes (Err f) h = tt
 pub walked_spelled : (bytes : List ℕ) (w : Walked) (h : WalkedAs bytes w) → IsSpelling bytes (record { clock = w.clock; slots = h.ss })
 walked_spelled bytes w h = both _ h.begun (both _ h.found given)
 
-pub walked_again : (bytes : List ℕ) (w : Walked) → WalkedAs bytes w → (ss : List (List ℕ × Slot)) (rest : List ℕ) → Found (slots w.clock) w.slots.now ss rest → IsSpelling bytes (record { clock = w.clock; slots = ss })
+pub walked_again : (bytes : List ℕ) (w : Walked) → WalkedAs bytes w → (ss : List (List ℕ × Slot)) (rest : List ℕ) → Found (slots w.form w.clock) w.slots.now ss rest → IsSpelling bytes (record { clock = w.clock; slots = ss })
 walked_again bytes w h ss rest f =
-    let e = ((slots_decided w.clock).one w.slots.now ss h.ss rest [] f h.found).0 in
+    let e = ((slots_decided w.form w.clock).one w.slots.now ss h.ss rest [] f h.found).0 in
     subst (λ xs. IsSpelling bytes (record { clock = w.clock; slots = xs })) (sym e) (walked_spelled bytes w h)
 
 no_items : {A : Type 0} (xs : List A) → length xs ≡ 0 → xs ≡ []

@@ -4,6 +4,7 @@ use Rattle.lw_reg.specs.declared.slot.Slot.{Slot}
 use Rattle.lw_delta.specs.Part.{last_key}
 use Rattle.lw_delta.specs.Delta.{DeltaContent, IsSpelling}
 use Rattle.lw_delta.specs.Writable.{Begun, IsBegun, IsGood, AreGood, Follows, IsTyped, IsOwnText, last_endpoint}
+use Rattle.lw_delta.specs.Form.{latest}
 use Rattle.lw_delta.specs.Writing.{slot_bytes, delta_bytes}
 use Rattle.lw_delta.proofs.Answering.{one_delta}
 use Rattle.lw_delta.proofs.PrintsDelta.{delta_reads_back}
@@ -24,9 +25,9 @@ begun_once w a b h k =
     ap (λ (d : DeltaContent). d.slots) (one_delta (delta_bytes w.clock a) (record { clock = w.clock; slots = a }) (record { clock = w.clock; slots = b }) (begun_spelled w a h) second)
 
 pub begun_more : (w : Begun) (slots : List (List ℕ × Slot)) (s : List ℕ × Slot) (bytes entry : List ℕ) → IsBegun w slots → Follows w.clock (last_endpoint slots) s → IsTyped s.1 → IsOwnText s.0
-    → bytes ≡ w.bytes ++ entry → entry ≡ 1 ∷ slot_bytes s → IsBegun (record { clock = w.clock; bytes = bytes }) (slots ++ s ∷ [])
+    → bytes ≡ w.bytes ++ entry → entry ≡ 1 ∷ slot_bytes latest s → IsBegun (record { clock = w.clock; bytes = bytes }) (slots ++ s ∷ [])
 begun_more w slots s bytes entry h follows typed own e f = record {
-  bytes = begun_push w.clock slots s w.bytes bytes entry e f h.bytes;
+  bytes = begun_push latest w.clock slots s w.bytes bytes entry e f h.bytes;
   in_range = h.in_range;
   good = good_push w.clock None slots s h.good (follows, typed, own);
 }

@@ -1,12 +1,14 @@
 -- The parts of which the fields of a slot, and a slot, are put together.
-use Rattle.std.proofs.Common.{◌≡◌, ℕ, List, Option, sym, subst}
+use Rattle.std.proofs.Common.{◌≡◌, ℕ, List, [], Option, Some, None, IfSome, refl, sym, subst}
 use Rattle.lw_stamp.specs.declared.stamp.Stamp.{Stamp}
-use Rattle.lw_reg.specs.declared.path.Path.{Path}
+use Rattle.lw_join.specs.declared.last.Last.{Last}
 use Rattle.lw_reg.specs.declared.slot.Slot.{Slot}
-use Rattle.lw_reg.specs.Body.{Watching}
+use Rattle.lw_delta.specs.declared.form.Form.{Form}
+use Rattle.lw_delta.specs.Form.{has_attributes}
 use Rattle.lw_delta.specs.Part.{Found, byte, means, followed, when, optional}
-use Rattle.lw_delta.specs.Format.{number32, stamp, written, base as base_part, address as address_part, moment, binding as binding_part, sms_number, objects as objects_part, watches, endpoint, fields, slot}
-use Rattle.lw_delta.specs.Values.{is_set, FieldContent, slot_from}
+use Rattle.lw_delta.specs.Format.{number32, stamp, written, base as base_part, address as address_part, moment, binding as binding_part, sms_number, objects as objects_part, attributes as attributes_part, watches as watches_part, behind, endpoint, fields, slot}
+use Rattle.lw_delta.specs.Values.{is_set, FieldContent, Behind, slot_from, list_or_none}
+use Rattle.lw_delta.proofs.Kept.{Each, when_each}
 
 -- each field where its flag is set, one behind the other
 pub record FieldsAt (clock flags : ℕ) (bytes : List ℕ) (k : FieldContent) (rest : List ℕ) : Type 0 where
@@ -50,13 +52,44 @@ fields_at clock flags bytes k rest f =
       objects = subst (λ (x : List ℕ). Found (when (is_set flags 64) (written clock objects_part)) n.1 o.0 x) last.0 o.2;
     })
 
--- the endpoint, the stamp of the registration, the flags, the fields and the watches
-pub record SlotAt (clock : ℕ) (after : Option (List ℕ)) (bytes : List ℕ) (s : List ℕ × Slot) (rest : List ℕ) : Type 0 where
+-- what stands behind the fields, part by part
+pub record BehindAt (form : Form) (clock : ℕ) (bytes : List ℕ) (more : Behind) (rest : List ℕ) : Type 0 where
+  pub there : Option (List (List ℕ × Last (List ℕ)))
+  pub behind_attributes : List ℕ
+  pub attributes : Found (when (has_attributes form) (attributes_part clock)) bytes there behind_attributes
+  pub watches : Found (watches_part clock) behind_attributes more.watches rest
+  pub same : more.attributes ≡ list_or_none there
+
+pub behind_at : (form : Form) (clock : ℕ) (bytes : List ℕ) (more : Behind) (rest : List ℕ) → Found (behind form clock) bytes more rest → BehindAt form clock bytes more rest
+unfolding followed means
+behind_at form clock bytes more rest f =
+    let ws = f.is.3.is in
+    let last = ws.3.is in
+    subst (λ x. BehindAt form clock bytes x rest) (sym last.1) (record {
+      there = f.is.0;
+      behind_attributes = f.is.1;
+      attributes = f.is.2;
+      watches = subst (λ (x : List ℕ). Found (watches_part clock) f.is.1 ws.0 x) last.0 ws.2;
+      same = refl;
+    })
+
+none_or_each : {A : Type 0} (P : List A → Type 0) → P [] → (o : Option (List A)) → IfSome o P → P (list_or_none o)
+none_or_each P none None h = none
+none_or_each P none (Some xs) h = h
+
+-- what holds of attributes, and of none, holds of those that stand behind the fields
+pub attributes_each : (form : Form) (clock : ℕ) (P : List (List ℕ × Last (List ℕ)) → Type 0) → P [] → Each (attributes_part clock) P → Each (behind form clock) (λ more. P more.attributes)
+attributes_each form clock P none each bytes more rest f =
+    let parts = behind_at form clock bytes more rest f in
+    subst P (sym parts.same) (none_or_each P none parts.there (when_each (attributes_part clock) P each (has_attributes form) bytes parts.there parts.behind_attributes parts.attributes))
+
+-- the endpoint, the stamp of the registration, the flags, the fields and what stands behind them
+pub record SlotAt (form : Form) (clock : ℕ) (after : Option (List ℕ)) (bytes : List ℕ) (s : List ℕ × Slot) (rest : List ℕ) : Type 0 where
   pub name : List ℕ
   pub registration : Stamp
   pub flags : ℕ
   pub kept : FieldContent
-  pub watched : List (Path × Watching)
+  pub more : Behind
   pub behind_name : List ℕ
   pub behind_registration : List ℕ
   pub behind_flags : List ℕ
@@ -65,23 +98,23 @@ pub record SlotAt (clock : ℕ) (after : Option (List ℕ)) (bytes : List ℕ) (
   pub stamped : Found (stamp clock) behind_name registration behind_registration
   pub flagged : Found byte behind_registration flags behind_flags
   pub fielded : Found (fields clock flags) behind_flags kept behind_fields
-  pub watching : Found (watches clock) behind_fields watched rest
-  pub same : s ≡ (name, slot_from registration (is_set flags 128) kept watched)
+  pub ended : Found (behind form clock) behind_fields more rest
+  pub same : s ≡ (name, slot_from registration (is_set flags 128) kept more)
 
-pub slot_at : (clock : ℕ) (after : Option (List ℕ)) (bytes : List ℕ) (s : List ℕ × Slot) (rest : List ℕ) → Found (slot clock after) bytes s rest → SlotAt clock after bytes s rest
+pub slot_at : (form : Form) (clock : ℕ) (after : Option (List ℕ)) (bytes : List ℕ) (s : List ℕ × Slot) (rest : List ℕ) → Found (slot form clock after) bytes s rest → SlotAt form clock after bytes s rest
 unfolding followed means
-slot_at clock after bytes s rest f =
+slot_at form clock after bytes s rest f =
     let r = f.is.3.is in
     let flags = r.3.is in
     let k = flags.3.is in
-    let ws = k.3.is in
-    let last = ws.3.is in
+    let b = k.3.is in
+    let last = b.3.is in
     record {
       name = f.is.0;
       registration = r.0;
       flags = flags.0;
       kept = k.0;
-      watched = ws.0;
+      more = b.0;
       behind_name = f.is.1;
       behind_registration = r.1;
       behind_flags = flags.1;
@@ -90,6 +123,6 @@ slot_at clock after bytes s rest f =
       stamped = r.2;
       flagged = flags.2;
       fielded = k.2;
-      watching = subst (λ (x : List ℕ). Found (watches clock) k.1 ws.0 x) last.0 ws.2;
+      ended = subst (λ (x : List ℕ). Found (behind form clock) k.1 b.0 x) last.0 b.2;
       same = last.1;
     }

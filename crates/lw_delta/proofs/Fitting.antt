@@ -4,20 +4,20 @@ use Rattle.std.specs.Int.{w64, from_be_bytes}
 use Rattle.lw_stamp.specs.declared.stamp.Stamp.{Stamp}
 use Rattle.lw_stamp.specs.TextOrder.{text_cmp}
 use Rattle.lw_stamp.proofs.StampLemmas.{spelled_counter}
-use Rattle.lw_join.specs.Parts.{entries_of, made}
-use Rattle.lw_join.specs.PartsLaws.{entries_made}
+use Rattle.lw_join.specs.declared.last.Last.{Last}
 use Rattle.lw_reg.specs.declared.path.Path.{Path}
 use Rattle.lw_reg.specs.declared.slot.Slot.{Slot}
-use Rattle.lw_reg.specs.Body.{Watching, Watches}
+use Rattle.lw_reg.specs.Body.{Watching}
+use Rattle.lw_delta.specs.declared.form.Form.{Form}
 use Rattle.lw_delta.specs.Order.{IsAbove}
-use Rattle.lw_delta.specs.Part.{Part, Found, bytes_of, means, must, followed, when, optional, last_key, Walks, repeated}
-use Rattle.lw_delta.specs.Format.{number48, stamp, written, watch, watches, endpoint, fields, slot, header}
-use Rattle.lw_delta.specs.Values.{FieldContent, slot_from, watching_from}
+use Rattle.lw_delta.specs.Part.{Part, bytes_of, means, must, followed, last_key, Walks, repeated}
+use Rattle.lw_delta.specs.Format.{number48, stamp, written, attribute, watch, behind, endpoint, fields, slot, header}
+use Rattle.lw_delta.specs.Values.{FieldContent, Behind, behind_of, slot_from, watching_from}
 use Rattle.lw_delta.specs.Delta.{DeltaContent, IsSpelling}
-use Rattle.lw_delta.specs.Writable.{TokensWithin, StampsWithin, Follows, AllFollow}
-use Rattle.lw_delta.proofs.FieldParts.{fields_at, slot_at}
-use Rattle.lw_delta.proofs.Kept.{Each, when_each}
-use Rattle.lw_delta.proofs.Owning.{watches_rise}
+use Rattle.lw_delta.specs.Writable.{AttributesWithin, TokensWithin, StampsWithin, Follows, AllFollow}
+use Rattle.lw_delta.proofs.FieldParts.{fields_at, behind_at, attributes_each, slot_at}
+use Rattle.lw_delta.proofs.Kept.{Each, when_each, some_each, repeated_each}
+use Rattle.lw_delta.proofs.Owning.{behind_again}
 
 six_below : (b : List ℕ) → length b ≡ 6 → ((i : ℕ) → slice_index b i < 256) → from_be_bytes w64 (0 ∷ 0 ∷ b) < 2 ^ 48
 six_below [] e fits = absurd (omega arith)
@@ -33,9 +33,11 @@ number48_below : Each number48 (λ n. n < 2 ^ 48)
 unfolding followed means bytes_of
 number48_below bytes n rest f = subst (λ (x : ℕ). x < 2 ^ 48) (sym f.is.3.is.1) (six_below f.is.0 f.is.2.is.1 f.is.2.is.2)
 
-pub header_below : Each header (λ n. n < 2 ^ 48)
-unfolding followed must
-header_below bytes n rest f = number48_below f.is.1 n rest f.is.3.is.1
+pub header_below : Each header (λ h. h.1 < 2 ^ 48)
+unfolding followed means
+header_below bytes h rest f =
+    let n = f.is.3.is in
+    subst (λ (x : Form × ℕ). x.1 < 2 ^ 48) (sym n.3.is.1) (number48_below f.is.1 n.0 n.1 n.2)
 
 stamp_within : (clock : ℕ) → Each (stamp clock) (λ s. s.counter ≤ clock)
 unfolding followed must means
@@ -79,24 +81,27 @@ watch_within clock after bytes w rest f =
     let same = last.3.is.1 in
     subst (λ (x : Path × Watching). x.1.stamp.counter ≤ clock) (sym same) (subst (λ (s : Stamp). s.counter ≤ clock) (sym (token_is t.0 _ last.0)) (stamp_within clock f.is.1 t.0 t.1 t.2))
 
-there_is : {A : Type 0} (part : Part A) (Q : A → Type 0) → Each part Q → (flag : Bool) (bytes : List ℕ) (x : A) (rest : List ℕ) → Found (when flag part) bytes (Some x) rest → Q x
-there_is part Q each flag bytes x rest f = when_each part Q each flag bytes (Some x) rest f
+attribute_within : (clock : ℕ) (after : Option (List ℕ)) → Each (attribute clock after) (λ a. a.1.write.0.counter ≤ clock)
+unfolding followed means
+attribute_within clock after bytes a rest f =
+    let w = f.is.3.is in
+    subst (λ (x : List ℕ × Last (List ℕ)). x.1.write.0.counter ≤ clock) (sym w.3.is.1) (written_within clock _ f.is.1 w.0 w.1 w.2)
 
-pub some_each : {A : Type 0} (part : Part A) (Q : A → Type 0) → Each part Q → (bytes : List ℕ) (x : A) (rest : List ℕ) → Found (optional part) bytes (Some x) rest → Q x
-unfolding followed
-some_each part Q each bytes x rest f = there_is part Q each f.is.0 f.is.1 x rest f.is.3
+record BehindWithin (clock : ℕ) (more : Behind) : Type 0 where
+  pub attributes : AttributesWithin clock more.attributes
+  pub watches : TokensWithin clock more.watches
 
-tokens_within : (clock : ℕ) (after : Option Path) (bytes : List ℕ) (ws : List (Path × Watching)) (rest : List ℕ) → Walks (watch clock) (λ w. w.0) after bytes ws rest → TokensWithin clock ws
-tokens_within clock after bytes [] rest w = tt
-tokens_within clock after bytes (x ∷ xs) rest w = (some_each _ _ (watch_within clock after) bytes x w.0 w.1, tokens_within clock (Some x.0) w.0 xs rest w.2)
+behind_within : (form : Form) (clock : ℕ) → Each (behind form clock) (BehindWithin clock)
+behind_within form clock bytes more rest f =
+    let parts = behind_at form clock bytes more rest f in
+    record {
+      attributes = attributes_each form clock (AttributesWithin clock) tt (repeated_each (attribute clock) (λ a. a.0) (λ a. a.1.write.0.counter ≤ clock) (attribute_within clock)) bytes more rest f;
+      watches = repeated_each (watch clock) (λ w. w.0) (λ w. w.1.stamp.counter ≤ clock) (watch_within clock) _ _ _ parts.watches;
+    }
 
-watches_within : (clock : ℕ) → Each (watches clock) (λ ws. TokensWithin clock ws)
-unfolding repeated
-watches_within clock bytes ws rest f = tokens_within clock None bytes ws f.is.0 f.is.1
-
-kept_within : (clock : ℕ) (r : Stamp) (removed : Bool) (k : FieldContent) (ws : List (Path × Watching)) → r.counter ≤ clock → FieldStamps clock k → TokensWithin clock (entries_of (let m : Watches = made ws in m)) → StampsWithin clock (slot_from r removed k ws)
-kept_within clock r true k ws h f t = record { registration = h; address = tt; seen = tt; lifetime = tt; binding = tt; sms = tt; objects = tt; watches = tt }
-kept_within clock r false k ws h f t = record { registration = h; address = f.address; seen = f.seen; lifetime = f.lifetime; binding = f.binding; sms = f.sms; objects = f.objects; watches = t }
+kept_within : (clock : ℕ) (r : Stamp) (removed : Bool) (k : FieldContent) (more : Behind) → r.counter ≤ clock → FieldStamps clock k → BehindWithin clock (behind_of (slot_from r false k more)) → StampsWithin clock (slot_from r removed k more)
+kept_within clock r true k more h f b = record { registration = h; address = tt; seen = tt; lifetime = tt; binding = tt; sms = tt; objects = tt; attributes = tt; watches = tt }
+kept_within clock r false k more h f b = record { registration = h; address = f.address; seen = f.seen; lifetime = f.lifetime; binding = f.binding; sms = f.sms; objects = f.objects; attributes = b.attributes; watches = b.watches }
 
 record IsEndpoint (after : Option (List ℕ)) (e : List ℕ) : Type 0 where
   pub some : 1 ≤ length e
@@ -113,28 +118,28 @@ endpoint_is after bytes e rest f =
     let same = t.3.is.1.is.1 in
     subst (λ x. IsEndpoint after x) (sym same) (record { some = omega (arith, long, count.0.0); most = omega (arith, long, count.0.1); above = t.3.is.0 })
 
-pub slot_follows : (clock : ℕ) (after : Option (List ℕ)) → Each (slot clock after) (λ s. Follows clock after s)
-slot_follows clock after bytes s rest f =
-    let parts = slot_at clock after bytes s rest f in
+pub slot_follows : (form : Form) (clock : ℕ) (after : Option (List ℕ)) → Each (slot form clock after) (λ s. Follows clock after s)
+slot_follows form clock after bytes s rest f =
+    let parts = slot_at form clock after bytes s rest f in
     let e = endpoint_is after _ _ _ parts.named in
-    let tokens = subst (λ es. TokensWithin clock es) (sym (entries_made _ _ _ parts.watched (watches_rise clock _ _ _ parts.watching))) (watches_within clock _ _ _ parts.watching) in
+    let more = subst (λ (b : Behind). BehindWithin clock b) (sym (behind_again form clock _ parts.more _ parts.ended parts.registration parts.kept)) (behind_within form clock _ parts.more _ parts.ended) in
     subst (λ (x : List ℕ × Slot). Follows clock after x) (sym parts.same) (record {
       some = e.some;
       most = e.most;
       above = e.above;
-      stamps = kept_within clock parts.registration _ parts.kept parts.watched (stamp_within clock _ _ _ parts.stamped) (fields_within clock _ _ _ _ parts.fielded) tokens;
+      stamps = kept_within clock parts.registration _ parts.kept parts.more (stamp_within clock _ _ _ parts.stamped) (fields_within clock _ _ _ _ parts.fielded) more;
     })
 
-slots_follow : (clock : ℕ) (after : Option (List ℕ)) (bytes : List ℕ) (ss : List (List ℕ × Slot)) (rest : List ℕ) → Walks (slot clock) (λ s. s.0) after bytes ss rest → AllFollow clock after ss
-slots_follow clock after bytes [] rest w = tt
-slots_follow clock after bytes (x ∷ xs) rest w = (some_each _ _ (slot_follows clock after) bytes x w.0 w.1, slots_follow clock (Some x.0) w.0 xs rest w.2)
+slots_follow : (form : Form) (clock : ℕ) (after : Option (List ℕ)) (bytes : List ℕ) (ss : List (List ℕ × Slot)) (rest : List ℕ) → Walks (slot form clock) (λ s. s.0) after bytes ss rest → AllFollow clock after ss
+slots_follow form clock after bytes [] rest w = tt
+slots_follow form clock after bytes (x ∷ xs) rest w = (some_each _ _ (slot_follows form clock after) bytes x w.0 w.1, slots_follow form clock (Some x.0) w.0 xs rest w.2)
 
 pub spelled_fits : (bytes : List ℕ) (d : DeltaContent) → IsSpelling bytes d → (d.clock < 2 ^ 48) × AllFollow d.clock None d.slots
 unfolding followed means repeated
 spelled_fits bytes d f =
     let ss = f.is.3.is in
     let same = ss.3.is.1 in
-    let all = slots_follow f.is.0 None f.is.1 ss.0 ss.2.is.0 ss.2.is.1 in
+    let all = slots_follow f.is.0.0 f.is.0.1 None f.is.1 ss.0 ss.2.is.0 ss.2.is.1 in
     let P : ℕ × List (List ℕ × Slot) → Type 0 = λ p. (p.0 < 2 ^ 48) × AllFollow p.0 None p.1 in
     subst P (sym same) (header_below bytes f.is.0 f.is.1 f.is.2, all)
 

@@ -1,5 +1,6 @@
 -- Each part of a delta is decided, and so is the whole.
-use Rattle.std.proofs.Common.{◌≡◌, ℕ, zero, suc, ◌<◌, ◌^◌, ◌==◌, Bool, true, false, List, Option, None, sym, ◌∙◌}
+use Rattle.std.proofs.Common.{◌≡◌, ℕ, zero, suc, ◌++◌, slice_index, ap, arith, ◌<◌, ◌^◌, ◌==◌, Bool, true, false, List, [], Option, None, refl, sym, ◌∙◌}
+use Rattle.std.specs.Prelude.{codes}
 use Rattle.std.specs.Coded.{le_prop}
 use mathlib.Core.HLevel.{is_prop→PathP}
 use Rattle.lw_stamp.specs.declared.moment.Moment.{Moment}
@@ -8,9 +9,12 @@ use Rattle.lw_stamp.proofs.StampLemmas.{one_of_bytes}
 use Rattle.lw_reg.specs.declared.path.Path.{Path}
 use Rattle.lw_reg.specs.BindingLaws.{same_binding}
 use Rattle.lw_reg.specs.OrderLaws.{same_path}
+use Rattle.lw_delta.specs.declared.form.Form.{Form}
+use Rattle.lw_delta.specs.declared.form.Form.TheVariants.{First, Second}
 use Rattle.lw_delta.specs.declared.fault.DeltaFault.TheVariants.{Magic, Order, Range, Text, ClockBelow, NoMemory}
+use Rattle.lw_delta.specs.Form.{magic_of}
 use Rattle.lw_delta.specs.Part.{Part}
-use Rattle.lw_delta.specs.Format.{number16, number32, number48, stamp, written, base, host, address, moment, binding, text, sms_number, objects, numbers, path, watch, watches, endpoint, fields, slot, slots, header, delta}
+use Rattle.lw_delta.specs.Format.{number16, number32, number48, stamp, written, base, host, address, moment, binding, text, sms_number, objects, numbers, attribute_name, attribute_value, attribute, attributes, path, watch, watches, behind, endpoint, fields, slot, slots, magic, header, delta}
 use Rattle.lw_delta.proofs.Decided.{Decided, byte_decided, bytes_decided, means_decided, gives_decided, must_decided, followed_decided, when_decided, optional_decided, repeated_decided}
 
 no_magic : NoMemory ≡ Magic → ⊥
@@ -96,15 +100,46 @@ fields_decided clock flags =
     followed_decided (when_decided _ (written_decided clock binding_decided)) (λ e. followed_decided (when_decided _ (written_decided clock (optional_decided sms_decided))) (λ f.
     followed_decided (when_decided _ (written_decided clock objects_decided)) (λ g. gives_decided _)))))))
 
-pub slot_decided : (clock : ℕ) (after : Option (List ℕ)) → Decided (slot clock after)
-slot_decided clock after = followed_decided (endpoint_decided after) (λ e. followed_decided (stamp_decided clock) (λ r. followed_decided byte_decided (λ flags.
-    followed_decided (fields_decided clock flags) (λ kept. followed_decided (watches_decided clock) (λ ws. gives_decided _)))))
+pub attribute_name_decided : (after : Option (List ℕ)) → Decided (attribute_name after)
+attribute_name_decided after = followed_decided byte_decided (λ n. must_decided _ no_range (followed_decided (text_decided n) (λ t. must_decided _ no_text (must_decided _ no_order (gives_decided _)))))
 
-pub slots_decided : (clock : ℕ) → Decided (slots clock)
-slots_decided clock = repeated_decided _ _ (slot_decided clock) None
+pub attribute_value_decided : (name : List ℕ) → Decided (attribute_value name)
+attribute_value_decided name = followed_decided byte_decided (λ n. must_decided _ no_range (text_decided n))
+
+pub attribute_decided : (clock : ℕ) (after : Option (List ℕ)) → Decided (attribute clock after)
+attribute_decided clock after = followed_decided (attribute_name_decided after) (λ name. followed_decided (written_decided clock (attribute_value_decided name)) (λ w. gives_decided _))
+
+pub attributes_decided : (clock : ℕ) → Decided (attributes clock)
+attributes_decided clock = repeated_decided _ _ (attribute_decided clock) None
+
+pub behind_decided : (form : Form) (clock : ℕ) → Decided (behind form clock)
+behind_decided form clock = followed_decided (when_decided _ (attributes_decided clock)) (λ es. followed_decided (watches_decided clock) (λ ws. gives_decided _))
+
+pub slot_decided : (form : Form) (clock : ℕ) (after : Option (List ℕ)) → Decided (slot form clock after)
+slot_decided form clock after = followed_decided (endpoint_decided after) (λ e. followed_decided (stamp_decided clock) (λ r. followed_decided byte_decided (λ flags.
+    followed_decided (fields_decided clock flags) (λ kept. followed_decided (behind_decided form clock) (λ more. gives_decided _)))))
+
+pub slots_decided : (form : Form) (clock : ℕ) → Decided (slots form clock)
+slots_decided form clock = repeated_decided _ _ (slot_decided form clock) None
+
+fronts_apart : (x y : List ℕ) → codes "LWD1" ++ x ≡ codes "LWD2" ++ y → ⊥
+fronts_apart x y e = omega (arith, ap (λ (z : List ℕ). slice_index z 3) e)
+
+-- bytes begin as one format does
+pub one_front : (a b : Form) (x y : List ℕ) → magic_of a ++ x ≡ magic_of b ++ y → a ≡ b
+one_front First First x y e = refl
+one_front First Second x y e = absurd (fronts_apart x y e)
+one_front Second First x y e = absurd (fronts_apart y x (sym e))
+one_front Second Second x y e = refl
+
+one_magic : (a b : Form) (bytes : List ℕ) → magic_of a ≡ bytes → magic_of b ≡ bytes → a ≡ b
+one_magic a b bytes h k = one_front a b [] [] (ap (λ (x : List ℕ). x ++ []) (h ∙ sym k))
+
+pub magic_decided : Decided magic
+magic_decided = followed_decided (bytes_decided 4) (λ bytes. must_decided _ no_magic (means_decided _ (λ a b h k. one_magic a b bytes h k)))
 
 pub header_decided : Decided header
-header_decided = followed_decided (bytes_decided 4) (λ m. must_decided _ no_magic number48_decided)
+header_decided = followed_decided magic_decided (λ form. followed_decided number48_decided (λ clock. gives_decided _))
 
 pub delta_decided : Decided delta
-delta_decided = followed_decided header_decided (λ clock. followed_decided (slots_decided clock) (λ ss. gives_decided _))
+delta_decided = followed_decided header_decided (λ h. followed_decided (slots_decided h.0 h.1) (λ ss. gives_decided _))

@@ -1,7 +1,8 @@
 -- What the texts that were found keep.
-use Rattle.std.proofs.Common.{◌≡◌, ℕ, Bool, true, false, List, length, Option, IfSome, subst, sym, ap, ◌∙◌, arith}
+use Rattle.std.proofs.Common.{◌≡◌, ℕ, Bool, true, false, List, [], ◌∷◌, length, Option, Some, None, IfSome, subst, sym, ap, ◌∙◌, arith}
+use Rattle.std.specs.List.{AllByRecursion}
 use Rattle.lw_reg.specs.Endpoint.{IsEndpoint}
-use Rattle.lw_delta.specs.Part.{Part, Found, bytes_of, means, must, followed, when, optional}
+use Rattle.lw_delta.specs.Part.{Part, Found, bytes_of, means, must, followed, when, optional, Walks, repeated}
 use Rattle.lw_delta.specs.Format.{written, text, endpoint}
 
 -- what holds of each value of a part holds of the one that is there
@@ -16,6 +17,22 @@ when_each part Q each false bytes o rest f = subst (λ x. IfSome x Q) (sym f.is.
 pub optional_each : {A : Type 0} (part : Part A) (Q : A → Type 0) → Each part Q → Each (optional part) (λ o. IfSome o Q)
 unfolding followed
 optional_each part Q each bytes o rest f = when_each part Q each f.is.0 f.is.1 o rest f.is.3
+
+there_is : {A : Type 0} (part : Part A) (Q : A → Type 0) → Each part Q → (flag : Bool) (bytes : List ℕ) (x : A) (rest : List ℕ) → Found (when flag part) bytes (Some x) rest → Q x
+there_is part Q each flag bytes x rest f = when_each part Q each flag bytes (Some x) rest f
+
+pub some_each : {A : Type 0} (part : Part A) (Q : A → Type 0) → Each part Q → (bytes : List ℕ) (x : A) (rest : List ℕ) → Found (optional part) bytes (Some x) rest → Q x
+unfolding followed
+some_each part Q each bytes x rest f = there_is part Q each f.is.0 f.is.1 x rest f.is.3
+
+walks_each : {K A : Type 0} (item : Option K → Part A) (key : A → K) (Q : A → Type 0) → ((after : Option K) → Each (item after) Q) → (after : Option K) (bytes : List ℕ) (xs : List A) (rest : List ℕ)
+    → Walks item key after bytes xs rest → AllByRecursion Q xs
+walks_each item key Q each after bytes [] rest w = tt
+walks_each item key Q each after bytes (x ∷ xs) rest w = (some_each (item after) Q (each after) bytes x w.0 w.1, walks_each item key Q each (Some (key x)) w.0 xs rest w.2)
+
+pub repeated_each : {K A : Type 0} (item : Option K → Part A) (key : A → K) (Q : A → Type 0) → ((after : Option K) → Each (item after) Q) → Each (repeated item key None) (λ xs. AllByRecursion Q xs)
+unfolding repeated
+repeated_each item key Q each bytes xs rest f = walks_each item key Q each None bytes xs f.is.0 f.is.1
 
 pub written_each : {A : Type 0} (clock : ℕ) (part : Part A) (Q : A → Type 0) → Each part Q → Each (written clock part) (λ w. Q w.1)
 unfolding followed means

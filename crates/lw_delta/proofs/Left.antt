@@ -47,4 +47,4 @@ no_first e = absurd cc
 
 -- what is left is left in one way
 pub one_left : (unread : Unread) (a b : List (List ℕ × Slot)) → IsLeft unread a → IsLeft unread b → a ≡ b
-one_left unread a b f g = ((repeated_decided (slot unread.clock) (λ s. s.0) (slot_decided unread.clock) unread.after).one unread.bytes a b [] [] f g).0
+one_left unread a b f g = ((repeated_decided (slot unread.form unread.clock) (λ s. s.0) (slot_decided unread.form unread.clock) unread.after).one unread.bytes a b [] [] f g).0

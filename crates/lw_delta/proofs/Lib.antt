@@ -10,7 +10,7 @@ pub mod FieldParts
 pub mod Again
 pub mod Left
 pub mod Answering
-pub mod Behind
+pub mod Takes
 pub mod Owning
 pub mod Flags
 pub mod Begins

@@ -1,31 +1,31 @@
 -- A delta is spelled as it is written, or longer, and longer only where something of it is gone.
 use Rattle.std.proofs.Common.{◌≡◌, ℕ, zero, suc, ◌+◌, ◌<◌, ◌≤◌, ◌⊎◌, Bool, true, false, List, [], ◌∷◌, ◌++◌, length, Option, Some, None, is_some, refl, sym, ap, ◌∙◌, subst, arith, inl, inr, append_assoc}
-use Rattle.std.specs.Prelude.{codes}
 use Rattle.std.proofs.lemmas.List.{length-append}
 use mathlib.Core.Bool.{true≢false}
 use Rattle.lw_stamp.specs.declared.stamp.Stamp.{Stamp}
 use Rattle.lw_stamp.specs.Stamp.{stamp_bytes}
 use Rattle.lw_join.specs.declared.or_gone.OrGone.TheVariants.{Gone}
-use Rattle.lw_join.specs.PartsLaws.{entries_made}
+use Rattle.lw_join.specs.declared.last.Last.{Last}
 use Rattle.lw_reg.specs.declared.base.Base.{Base}
 use Rattle.lw_reg.specs.declared.path.Path.{Path}
 use Rattle.lw_reg.specs.declared.slot.Slot.{Slot}
 use Rattle.lw_reg.specs.Body.{Watching}
-use Rattle.lw_reg.specs.Reading.{watches_of}
+use Rattle.lw_delta.specs.declared.form.Form.{Form}
+use Rattle.lw_delta.specs.Form.{magic_of, has_attributes}
 use Rattle.lw_delta.specs.Part.{Found, byte, bytes_of, means, must, followed, when, optional, Walks, repeated}
-use Rattle.lw_delta.specs.Format.{number16, base, watch, watches, fields, slot, header}
-use Rattle.lw_delta.specs.Values.{is_set, FieldContent, slot_from, watching_from}
-use Rattle.lw_delta.specs.Delta.{DeltaContent, IsSpelling}
+use Rattle.lw_delta.specs.Format.{number16, base, watch, watches, behind, fields, slot, magic, header}
+use Rattle.lw_delta.specs.Values.{is_set, FieldContent, Behind, behind_of, slot_from, watching_from}
+use Rattle.lw_delta.specs.Delta.{DeltaContent, IsSpelling, IsSpellingIn}
 use Rattle.lw_delta.specs.Removals.{HasCancelled, HasRemoval, HaveRemoval}
-use Rattle.lw_delta.specs.Writing.{number16_bytes, number32_bytes, number48_bytes, optional_bytes, written_bytes, base_bytes, addr_bytes, moment_bytes, text_bytes, binding_bytes, sms_bytes, objects_bytes, path_bytes, accept_bytes, watch_bytes, watches_bytes, flag_if, flags_byte, fields_bytes, slot_bytes, slots_bytes, begun_bytes, delta_bytes}
+use Rattle.lw_delta.specs.Writing.{Begins, number16_bytes, number32_bytes, number48_bytes, optional_bytes, written_bytes, base_bytes, addr_bytes, moment_bytes, text_bytes, binding_bytes, sms_bytes, objects_bytes, path_bytes, accept_bytes, watch_bytes, repeated_bytes, attribute_bytes, attributes_bytes, watches_bytes, behind_bytes, flag_if, flags_byte, fields_bytes, slot_bytes, slots_bytes, begun_bytes_in, delta_bytes_in}
 use Rattle.lw_delta.proofs.Decided.{optional_takes}
-use Rattle.lw_delta.proofs.FieldParts.{fields_at, slot_at}
+use Rattle.lw_delta.proofs.FieldParts.{fields_at, behind_at, slot_at}
 use Rattle.lw_delta.proofs.FlagBits.{sum7}
 use Rattle.lw_delta.proofs.FlagSums.{sum_again}
 use Rattle.lw_delta.proofs.Fitting.{token_is}
-use Rattle.lw_delta.proofs.Grammar.{number16_decided}
-use Rattle.lw_delta.proofs.Owning.{watches_rise}
-use Rattle.lw_delta.proofs.Spellings.{Spells, chain, ending, some_spelled, none_spelled, spells_when, spells_when_written, spells_optional, spells_number16, spells_number32, spells_number48, spells_stamp, spells_base, spells_address, spells_moment, spells_binding, spells_sms, spells_objects, spells_path, spells_endpoint}
+use Rattle.lw_delta.proofs.Grammar.{number16_decided, one_front}
+use Rattle.lw_delta.proofs.Owning.{behind_again}
+use Rattle.lw_delta.proofs.Spellings.{Spells, chain, ending, some_spelled, none_spelled, spells_when, spells_when_written, spells_optional, spells_number16, spells_number32, spells_number48, spells_stamp, spells_base, spells_address, spells_moment, spells_binding, spells_sms, spells_objects, spells_path, spells_attributes, spells_endpoint}
 
 -- these bytes and the rest, or more where something is gone
 abbrev Spelled : Type 0 → List ℕ → List ℕ → List ℕ → Type 0
@@ -93,19 +93,52 @@ spelled_watches : (clock : ℕ) (bytes : List ℕ) (ws : List (Path × Watching)
 unfolding repeated
 spelled_watches clock bytes ws rest f = spelled_watches_walk clock None bytes ws f.is.0 rest f.is.1 (none_spelled _ f.is.0 rest f.is.2)
 
--- the end of the watches alone is one byte, and any watch takes more
-one_or_more : (clock : ℕ) (bytes : List ℕ) (ws : List (Path × Watching)) (rest : List ℕ) → Spelled (HasCancelled ws) (watches_bytes ws) bytes rest → (bytes ≡ 0 ∷ rest) ⊎ (suc (length rest) < length bytes)
-one_or_more clock bytes [] rest (inl e) = inl e
-one_or_more clock bytes [] rest (inr l) = absurd l.0
-one_or_more clock bytes (x ∷ xs) rest (inl e) = inr (omega (arith, ap length e, longer x xs rest))
+-- ---- what stands behind the fields
+spelled_behind : (form : Form) (clock : ℕ) (bytes : List ℕ) (more : Behind) (rest : List ℕ) → Found (behind form clock) bytes more rest → Spelled (HasCancelled more.watches) (behind_bytes form more) bytes rest
+spelled_behind form clock bytes more rest f =
+    let parts = behind_at form clock bytes more rest f in
+    let flag = has_attributes form in
+    let attributes : bytes ≡ attributes_bytes flag more.attributes ++ parts.behind_attributes =
+    spells_attributes clock flag bytes parts.there parts.behind_attributes parts.attributes ∙ ap (λ (es : List (List ℕ × Last (List ℕ))). attributes_bytes flag es ++ parts.behind_attributes) (sym parts.same) in
+    behind_front bytes parts.behind_attributes rest (attributes_bytes flag more.attributes) (watches_bytes more.watches) attributes (spelled_watches clock parts.behind_attributes more.watches rest parts.watches)
+
+-- these bytes, or more
+abbrev Least : List ℕ → List ℕ → Type 0
+Least least all = (all ≡ least) ⊎ (length least < length all)
+
+least_both : (a b x y : List ℕ) → Least a x → Least b y → Least (a ++ b) (x ++ y)
+least_both a b x y (inl e) (inl h) = inl (ap (λ (z : List ℕ). z ++ y) e ∙ ap (λ (z : List ℕ). a ++ z) h)
+least_both a b x y (inl e) (inr l) = inr (omega (arith, ap length e, l, length-append a b, length-append x y))
+least_both a b x y (inr k) (inl h) = inr (omega (arith, k, ap length h, length-append a b, length-append x y))
+least_both a b x y (inr k) (inr l) = inr (omega (arith, k, l, length-append a b, length-append x y))
+
+-- the end of repeated parts alone is one byte, and any part takes more
+repeated_least : {A : Type 0} (write : A → List ℕ) (xs : List A) → Least (0 ∷ []) (repeated_bytes write xs)
+repeated_least write [] = inl refl
+repeated_least {A} write (x ∷ xs) = inr (omega (arith, length-append (write x) (repeated_bytes write xs), ends xs))
   where
-    longer : (y : Path × Watching) (ys : List (Path × Watching)) (r : List ℕ) → suc (length r) < length (watches_bytes (y ∷ ys) ++ r)
-    longer y ys r = omega (arith, length-append (watches_bytes (y ∷ ys)) r, length-append (watch_bytes y) (watches_bytes ys), ends ys)
-      where
-        ends : (zs : List (Path × Watching)) → 1 ≤ length (watches_bytes zs)
-        ends [] = omega arith
-        ends (z ∷ zs) = omega arith
-one_or_more clock bytes (x ∷ xs) rest (inr l) = inr (omega (arith, l.1, length-append (watches_bytes (x ∷ xs)) rest))
+    ends : (ys : List A) → 1 ≤ length (repeated_bytes write ys)
+    ends [] = omega arith
+    ends (y ∷ ys) = omega arith
+
+attributes_least : (flag : Bool) (es : List (List ℕ × Last (List ℕ))) → Least (attributes_bytes flag []) (attributes_bytes flag es)
+attributes_least true es = repeated_least attribute_bytes es
+attributes_least false es = inl refl
+
+-- as of a removed registration
+abbrev nothing : Behind
+nothing = record { attributes = []; watches = [] }
+
+behind_least : (form : Form) (more : Behind) → Least (behind_bytes form nothing) (behind_bytes form more)
+behind_least form more =
+    let flag = has_attributes form in
+    least_both (attributes_bytes flag []) (watches_bytes []) (attributes_bytes flag more.attributes) (watches_bytes more.watches) (attributes_least flag more.attributes) (repeated_least watch_bytes more.watches)
+
+nothing_or_longer : {gone : Type 0} (bytes rest least all : List ℕ) → Spelled gone all bytes rest → Least least all → (bytes ≡ least ++ rest) ⊎ (length (least ++ rest) < length bytes)
+nothing_or_longer bytes rest least all (inl e) (inl same) = inl (e ∙ ap (λ (x : List ℕ). x ++ rest) same)
+nothing_or_longer bytes rest least all (inl e) (inr l) = inr (omega (arith, ap length e ∙ length-append all rest, length-append least rest, l))
+nothing_or_longer bytes rest least all (inr k) (inl same) = inr (omega (arith, k.1, ap (λ (x : List ℕ). length (x ++ rest)) same))
+nothing_or_longer bytes rest least all (inr k) (inr l) = inr (omega (arith, k.1, length-append all rest, length-append least rest, l))
 
 -- ---- fields
 -- the bytes of what the fields keep
@@ -229,68 +262,96 @@ more_gone front bytes rest f (inl e) = inl e
 more_gone front bytes rest f (inr l) = inr (f l.0, l.1)
 
 -- the flags of a slot and what stands behind them
-abbrev told_bytes : Slot → List ℕ
-told_bytes s = flags_byte s ∷ (fields_bytes s ++ watches_bytes (watches_of s))
+abbrev told_bytes : Form → Slot → List ℕ
+told_bytes form s = flags_byte s ∷ (fields_bytes s ++ behind_bytes form (behind_of s))
 
--- the fields and the watches of a removed registration are read, and not written
-removed_told : (r : Stamp) (flags : ℕ) (bytes : List ℕ) (k : FieldContent) (behind : List ℕ) (ws : List (Path × Watching)) (rest : List ℕ) → flags < 256 → is_set flags 128 ≡ true → ContentSpelled flags bytes k behind
-    → (behind ≡ 0 ∷ rest) ⊎ (suc (length rest) < length behind) → NoFields k ⊎ (1 ≤ length (content_bytes k)) → Spelled (HasRemoval (slot_from r true k ws)) (told_bytes (slot_from r true k ws)) (flags ∷ bytes) rest
-removed_told r flags bytes k behind ws rest fits gone c (inl e) (inl none) =
+-- what a removed registration has is read, and not written
+removed_told : (form : Form) (r : Stamp) (flags : ℕ) (bytes : List ℕ) (k : FieldContent) (behind : List ℕ) (more : Behind) (rest : List ℕ) → flags < 256 → is_set flags 128 ≡ true → ContentSpelled flags bytes k behind
+    → (behind ≡ behind_bytes form nothing ++ rest) ⊎ (length (behind_bytes form nothing ++ rest) < length behind) → NoFields k ⊎ (1 ≤ length (content_bytes k))
+    → Spelled (HasRemoval (slot_from r true k more)) (told_bytes form (slot_from r true k more)) (flags ∷ bytes) rest
+removed_told form r flags bytes k behind more rest fits gone c (inl e) (inl none) =
     inl (ap (λ (n : ℕ). n ∷ bytes) (removed_flags flags k fits c.told gone none) ∙ ap (λ (x : List ℕ). 128 ∷ x) (c.spelled ∙ ap (λ (x : List ℕ). x ++ behind) (no_bytes k none) ∙ e))
-removed_told r flags bytes k behind ws rest fits gone c (inl e) (inr some) = inr (inl refl, omega (arith, ap length c.spelled ∙ length-append (content_bytes k) behind, ap length e, some))
-removed_told r flags bytes k behind ws rest fits gone c (inr l) some = inr (inl refl, omega (arith, ap length c.spelled ∙ length-append (content_bytes k) behind, l))
+removed_told form r flags bytes k behind more rest fits gone c (inl e) (inr some) = inr (inl refl, omega (arith, ap length c.spelled ∙ length-append (content_bytes k) behind, ap length e, some))
+removed_told form r flags bytes k behind more rest fits gone c (inr l) some = inr (inl refl, omega (arith, ap length c.spelled ∙ length-append (content_bytes k) behind, l))
 
-kept_told : (clock : ℕ) (r : Stamp) (flags : ℕ) (bytes : List ℕ) (k : FieldContent) (behind : List ℕ) (ws : List (Path × Watching)) (rest : List ℕ) → flags < 256 → is_set flags 128 ≡ false → ContentSpelled flags bytes k behind
-    → Found (watches clock) behind ws rest → Spelled (HasRemoval (slot_from r false k ws)) (told_bytes (slot_from r false k ws)) (flags ∷ bytes) rest
-kept_told clock r flags bytes k behind ws rest fits here c f =
-    let s = slot_from r false k ws in
-    let w : Spelled (HasCancelled (watches_of s)) (watches_bytes (watches_of s)) behind rest =
-    subst (λ (es : List (Path × Watching)). Spelled (HasCancelled es) (watches_bytes es) behind rest) (sym (entries_made _ _ _ ws (watches_rise clock behind ws rest f))) (spelled_watches clock behind ws rest f) in
-    let content : Spelled (HasCancelled (watches_of s)) (fields_bytes s ++ watches_bytes (watches_of s)) bytes rest = behind_front bytes behind rest (fields_bytes s) (watches_bytes (watches_of s)) c.spelled w in
-    let all : Spelled (HasCancelled (watches_of s)) (told_bytes s) (flags ∷ bytes) rest =
-    behind_front (flags ∷ bytes) bytes rest (flags_byte s ∷ []) (fields_bytes s ++ watches_bytes (watches_of s)) (ap (λ (n : ℕ). n ∷ bytes) (kept_flags flags k fits c.told here)) content in
-    more_gone (told_bytes s) (flags ∷ bytes) rest (λ g. inr g) all
+kept_told : (form : Form) (clock : ℕ) (r : Stamp) (flags : ℕ) (bytes : List ℕ) (k : FieldContent) (behind_fields : List ℕ) (more : Behind) (rest : List ℕ) → flags < 256 → is_set flags 128 ≡ false → ContentSpelled flags bytes k behind_fields
+    → Found (behind form clock) behind_fields more rest → Spelled (HasRemoval (slot_from r false k more)) (told_bytes form (slot_from r false k more)) (flags ∷ bytes) rest
+kept_told form clock r flags bytes k behind_fields more rest fits here c f =
+    let s = slot_from r false k more in
+    let w : Spelled (HasCancelled (behind_of s).watches) (behind_bytes form (behind_of s)) behind_fields rest =
+    subst (λ (b : Behind). Spelled (HasCancelled b.watches) (behind_bytes form b) behind_fields rest) (sym (behind_again form clock behind_fields more rest f r k)) (spelled_behind form clock behind_fields more rest f) in
+    let content : Spelled (HasCancelled (behind_of s).watches) (fields_bytes s ++ behind_bytes form (behind_of s)) bytes rest = behind_front bytes behind_fields rest (fields_bytes s) (behind_bytes form (behind_of s)) c.spelled w in
+    let all : Spelled (HasCancelled (behind_of s).watches) (told_bytes form s) (flags ∷ bytes) rest =
+    behind_front (flags ∷ bytes) bytes rest (flags_byte s ∷ []) (fields_bytes s ++ behind_bytes form (behind_of s)) (ap (λ (n : ℕ). n ∷ bytes) (kept_flags flags k fits c.told here)) content in
+    more_gone (told_bytes form s) (flags ∷ bytes) rest (λ g. inr g) all
 
-spelled_told : (clock : ℕ) (r : Stamp) (flags : ℕ) (bytes : List ℕ) (k : FieldContent) (behind : List ℕ) (ws : List (Path × Watching)) (rest : List ℕ) (removed : Bool) → flags < 256 → is_set flags 128 ≡ removed → ContentSpelled flags bytes k behind
-    → Found (watches clock) behind ws rest → Spelled (HasRemoval (slot_from r removed k ws)) (told_bytes (slot_from r removed k ws)) (flags ∷ bytes) rest
-spelled_told clock r flags bytes k behind ws rest true fits e c f = removed_told r flags bytes k behind ws rest fits e c (one_or_more clock behind ws rest (spelled_watches clock behind ws rest f)) (fields_some k)
-spelled_told clock r flags bytes k behind ws rest false fits e c f = kept_told clock r flags bytes k behind ws rest fits e c f
+spelled_told : (form : Form) (clock : ℕ) (r : Stamp) (flags : ℕ) (bytes : List ℕ) (k : FieldContent) (behind_fields : List ℕ) (more : Behind) (rest : List ℕ) (removed : Bool) → flags < 256 → is_set flags 128 ≡ removed
+    → ContentSpelled flags bytes k behind_fields → Found (behind form clock) behind_fields more rest → Spelled (HasRemoval (slot_from r removed k more)) (told_bytes form (slot_from r removed k more)) (flags ∷ bytes) rest
+spelled_told form clock r flags bytes k behind_fields more rest true fits e c f =
+    removed_told form r flags bytes k behind_fields more rest fits e c (nothing_or_longer behind_fields rest (behind_bytes form nothing) (behind_bytes form more) (spelled_behind form clock behind_fields more rest f) (behind_least form more)) (fields_some k)
+spelled_told form clock r flags bytes k behind_fields more rest false fits e c f = kept_told form clock r flags bytes k behind_fields more rest fits e c f
 
-spelled_slot : (clock : ℕ) (after : Option (List ℕ)) (bytes : List ℕ) (s : List ℕ × Slot) (rest : List ℕ) → Found (slot clock after) bytes s rest → Spelled (HasRemoval s.1) (slot_bytes s) bytes rest
+spelled_slot : (form : Form) (clock : ℕ) (after : Option (List ℕ)) (bytes : List ℕ) (s : List ℕ × Slot) (rest : List ℕ) → Found (slot form clock after) bytes s rest → Spelled (HasRemoval s.1) (slot_bytes form s) bytes rest
 unfolding byte
-spelled_slot clock after bytes s rest f =
-    let parts = slot_at clock after bytes s rest f in
-    let kept = slot_from parts.registration (is_set parts.flags 128) parts.kept parts.watched in
-    let told : Spelled (HasRemoval kept) (told_bytes kept) parts.behind_registration rest =
-    subst (λ (x : List ℕ). Spelled (HasRemoval kept) (told_bytes kept) x rest) (sym parts.flagged.is.0)
-    (spelled_told clock parts.registration parts.flags parts.behind_flags parts.kept parts.behind_fields parts.watched rest (is_set parts.flags 128) parts.flagged.is.1 refl (spelled_fields clock _ _ _ _ parts.fielded) parts.watching) in
-    let stamped = behind_front parts.behind_name parts.behind_registration rest (stamp_bytes parts.registration) (told_bytes kept) (spells_stamp clock _ _ _ parts.stamped) told in
-    let whole = behind_front bytes parts.behind_name rest (text_bytes parts.name) (stamp_bytes parts.registration ++ told_bytes kept) (spells_endpoint after _ _ _ parts.named) stamped in
-    subst (λ (x : List ℕ × Slot). Spelled (HasRemoval x.1) (slot_bytes x) bytes rest) (sym parts.same) whole
+spelled_slot form clock after bytes s rest f =
+    let parts = slot_at form clock after bytes s rest f in
+    let kept = slot_from parts.registration (is_set parts.flags 128) parts.kept parts.more in
+    let told : Spelled (HasRemoval kept) (told_bytes form kept) parts.behind_registration rest =
+    subst (λ (x : List ℕ). Spelled (HasRemoval kept) (told_bytes form kept) x rest) (sym parts.flagged.is.0)
+    (spelled_told form clock parts.registration parts.flags parts.behind_flags parts.kept parts.behind_fields parts.more rest (is_set parts.flags 128) parts.flagged.is.1 refl (spelled_fields clock _ _ _ _ parts.fielded) parts.ended) in
+    let stamped = behind_front parts.behind_name parts.behind_registration rest (stamp_bytes parts.registration) (told_bytes form kept) (spells_stamp clock _ _ _ parts.stamped) told in
+    let whole = behind_front bytes parts.behind_name rest (text_bytes parts.name) (stamp_bytes parts.registration ++ told_bytes form kept) (spells_endpoint after _ _ _ parts.named) stamped in
+    subst (λ (x : List ℕ × Slot). Spelled (HasRemoval x.1) (slot_bytes form x) bytes rest) (sym parts.same) whole
 
-spelled_slots : (clock : ℕ) (after : Option (List ℕ)) (bytes : List ℕ) (ss : List (List ℕ × Slot)) (rest : List ℕ) → Walks (slot clock) (λ s. s.0) after bytes ss rest → Spelled (HaveRemoval ss) (slots_bytes ss) bytes rest
-spelled_slots clock after bytes [] rest w = inl w
-spelled_slots clock after bytes (x ∷ xs) rest w =
-    let s = some_spelled (slot clock after) bytes x w.0 w.1 in
-    behind_front bytes s.behind rest (1 ∷ []) (slot_bytes x ++ slots_bytes xs) s.tagged
-    (both_spelled s.behind w.0 rest (slot_bytes x) (slots_bytes xs) (λ g. inl g) (λ g. inr g) (spelled_slot clock after s.behind x w.0 s.found) (spelled_slots clock (Some x.0) w.0 xs rest w.2))
+spelled_slots : (form : Form) (clock : ℕ) (after : Option (List ℕ)) (bytes : List ℕ) (ss : List (List ℕ × Slot)) (rest : List ℕ) → Walks (slot form clock) (λ s. s.0) after bytes ss rest → Spelled (HaveRemoval ss) (slots_bytes form ss) bytes rest
+spelled_slots form clock after bytes [] rest w = inl w
+spelled_slots form clock after bytes (x ∷ xs) rest w =
+    let s = some_spelled (slot form clock after) bytes x w.0 w.1 in
+    behind_front bytes s.behind rest (1 ∷ []) (slot_bytes form x ++ slots_bytes form xs) s.tagged
+    (both_spelled s.behind w.0 rest (slot_bytes form x) (slots_bytes form xs) (λ g. inl g) (λ g. inr g) (spelled_slot form clock after s.behind x w.0 s.found) (spelled_slots form clock (Some x.0) w.0 xs rest w.2))
 
-spells_header : Spells header (λ clock. codes "LWD1" ++ number48_bytes clock)
-unfolding followed must bytes_of
-spells_header bytes clock rest f =
-    let m = f.is.3.is in
-    chain rest (codes "LWD1") (number48_bytes clock) (f.is.2.is.0 ∙ ap (λ (x : List ℕ). x ++ f.is.1) m.0) (spells_number48 f.is.1 clock rest m.1)
+spells_magic : Spells magic magic_of
+unfolding followed must means bytes_of
+spells_magic bytes form rest f =
+    let last = f.is.3.is.1.is in
+    ending f.is.0 f.is.2.is.0 last.0 ∙ ap (λ (x : List ℕ). x ++ rest) (sym last.1)
 
-spelled_delta : (bytes : List ℕ) (d : DeltaContent) → IsSpelling bytes d → Spelled (HaveRemoval d.slots) (begun_bytes d.clock d.slots) bytes (0 ∷ [])
+spells_header : Spells header (λ h. magic_of h.0 ++ number48_bytes h.1)
+unfolding followed means
+spells_header bytes h rest f =
+    let n = f.is.3.is in
+    let last = n.3.is in
+    subst (λ (x : Form × ℕ). bytes ≡ (magic_of x.0 ++ number48_bytes x.1) ++ rest) (sym last.1)
+    (chain rest (magic_of f.is.0) (number48_bytes n.0) (spells_magic bytes f.is.0 f.is.1 f.is.2) (ending (number48_bytes n.0) (spells_number48 f.is.1 n.0 n.1 n.2) last.0))
+
+-- the delta is of a format, and spelled in it
+record SpelledIn (bytes : List ℕ) (d : DeltaContent) : Type 0 where
+  pub form : Form
+  pub front : Begins (magic_of form) bytes
+  pub spelled : Spelled (HaveRemoval d.slots) (begun_bytes_in form d.clock d.slots) bytes (0 ∷ [])
+
+spelled_delta : (bytes : List ℕ) (d : DeltaContent) → IsSpelling bytes d → SpelledIn bytes d
 unfolding followed means repeated
 spelled_delta bytes d f =
+    let h = f.is.0 in
     let ss = f.is.3.is in
     let last = ss.3.is in
     let w = ss.2.is in
     let e : w.0 ≡ 0 ∷ [] = none_spelled _ w.0 ss.1 w.2 ∙ ap (λ (x : List ℕ). 0 ∷ x) last.0 in
-    let walked : Spelled (HaveRemoval ss.0) (slots_bytes ss.0) f.is.1 (0 ∷ []) = spelled_slots f.is.0 None f.is.1 ss.0 (0 ∷ []) (subst (λ (x : List ℕ). Walks (slot f.is.0) (λ s. s.0) None f.is.1 ss.0 x) e w.1) in
-    let whole = behind_front bytes f.is.1 (0 ∷ []) (codes "LWD1" ++ number48_bytes f.is.0) (slots_bytes ss.0) (spells_header bytes f.is.0 f.is.1 f.is.2) walked in
-    subst (λ (p : ℕ × List (List ℕ × Slot)). Spelled (HaveRemoval p.1) (begun_bytes p.0 p.1) bytes (0 ∷ [])) (sym last.1) whole
+    let walked : Spelled (HaveRemoval ss.0) (slots_bytes h.0 ss.0) f.is.1 (0 ∷ []) =
+    spelled_slots h.0 h.1 None f.is.1 ss.0 (0 ∷ []) (subst (λ (x : List ℕ). Walks (slot h.0 h.1) (λ s. s.0) None f.is.1 ss.0 x) e w.1) in
+    let begun = spells_header bytes h f.is.1 f.is.2 in
+    let whole = behind_front bytes f.is.1 (0 ∷ []) (magic_of h.0 ++ number48_bytes h.1) (slots_bytes h.0 ss.0) begun walked in
+    record {
+      form = h.0;
+      front = record { more = number48_bytes h.1 ++ f.is.1; is = begun ∙ append_assoc (magic_of h.0) (number48_bytes h.1) f.is.1 };
+      spelled = subst (λ (p : ℕ × List (List ℕ × Slot)). Spelled (HaveRemoval p.1) (begun_bytes_in h.0 p.0 p.1) bytes (0 ∷ [])) (sym last.1) whole;
+    }
+
+spelled_in : (form : Form) (bytes : List ℕ) (d : DeltaContent) → IsSpellingIn form bytes d → Spelled (HaveRemoval d.slots) (begun_bytes_in form d.clock d.slots) bytes (0 ∷ [])
+spelled_in form bytes d s =
+    let t = spelled_delta bytes d s.1 in
+    subst (λ f. Spelled (HaveRemoval d.slots) (begun_bytes_in f d.clock d.slots) bytes (0 ∷ [])) (one_front t.form form t.front.more s.0.more (sym t.front.is ∙ s.0.is)) t.spelled
 
 one_or_longer : {gone : Type 0} (bytes front : List ℕ) → Spelled gone front bytes (0 ∷ []) → (bytes ≡ front ++ 0 ∷ []) ⊎ (length (front ++ 0 ∷ []) < length bytes)
 one_or_longer bytes front (inl e) = inl e
@@ -300,8 +361,8 @@ only_one : {gone : Type 0} (bytes front : List ℕ) → Spelled gone front bytes
 only_one bytes front (inl e) none = e
 only_one bytes front (inr l) none = absurd (none l.0)
 
-pub written_is_shortest : (bytes : List ℕ) (d : DeltaContent) → IsSpelling bytes d → (bytes ≡ delta_bytes d.clock d.slots) ⊎ (length (delta_bytes d.clock d.slots) < length bytes)
-written_is_shortest bytes d s = one_or_longer bytes (begun_bytes d.clock d.slots) (spelled_delta bytes d s)
+pub written_is_shortest : (form : Form) (bytes : List ℕ) (d : DeltaContent) → IsSpellingIn form bytes d → (bytes ≡ delta_bytes_in form d.clock d.slots) ⊎ (length (delta_bytes_in form d.clock d.slots) < length bytes)
+written_is_shortest form bytes d s = one_or_longer bytes (begun_bytes_in form d.clock d.slots) (spelled_in form bytes d s)
 
-pub written_is_alone : (bytes : List ℕ) (d : DeltaContent) → IsSpelling bytes d → (HaveRemoval d.slots → ⊥) → bytes ≡ delta_bytes d.clock d.slots
-written_is_alone bytes d s none = only_one bytes (begun_bytes d.clock d.slots) (spelled_delta bytes d s) none
+pub written_is_alone : (form : Form) (bytes : List ℕ) (d : DeltaContent) → IsSpellingIn form bytes d → (HaveRemoval d.slots → ⊥) → bytes ≡ delta_bytes_in form d.clock d.slots
+written_is_alone form bytes d s none = only_one bytes (begun_bytes_in form d.clock d.slots) (spelled_in form bytes d s) none

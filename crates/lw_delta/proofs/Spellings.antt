@@ -6,15 +6,16 @@ use Rattle.std.proofs.lemmas.Nat.{be_bytes_2, be_bytes_4, be_bytes_8}
 use mathlib.Core.Bool.{true≢false}
 use Rattle.lw_stamp.specs.declared.stamp.Stamp.{Stamp}
 use Rattle.lw_stamp.specs.Stamp.{stamp_bytes}
+use Rattle.lw_join.specs.declared.last.Last.{Last}
 use Rattle.lw_reg.specs.declared.addr.Addr.{Addr}
 use Rattle.lw_reg.specs.declared.base.Base.{Base}
 use Rattle.lw_reg.specs.declared.path.Path.{Path}
 use Rattle.lw_reg.specs.Binding.{binding_text}
 use Rattle.lw_reg.specs.Path.{path_numbers}
-use Rattle.lw_delta.specs.Part.{Part, Found, byte, bytes_of, means, must, followed, when, tag, optional}
-use Rattle.lw_delta.specs.Format.{number16, number32, number48, stamp, written, base, v4, v6, host, address, moment, binding, text, sms_number, objects, path_number, numbers, path, endpoint}
-use Rattle.lw_delta.specs.Values.{base_in}
-use Rattle.lw_delta.specs.Writing.{number16_bytes, number32_bytes, number48_bytes, optional_bytes, written_bytes, base_byte, addr_bytes, moment_bytes, text_bytes, binding_bytes, objects_bytes, numbers_bytes, path_bytes}
+use Rattle.lw_delta.specs.Part.{Part, Found, byte, bytes_of, means, must, followed, when, tag, optional, Walks, repeated}
+use Rattle.lw_delta.specs.Format.{number16, number32, number48, stamp, written, base, v4, v6, host, address, moment, binding, text, sms_number, objects, path_number, numbers, path, attribute_name, attribute_value, attribute, attributes, endpoint}
+use Rattle.lw_delta.specs.Values.{base_in, list_or_none}
+use Rattle.lw_delta.specs.Writing.{number16_bytes, number32_bytes, number48_bytes, optional_bytes, written_bytes, base_byte, addr_bytes, moment_bytes, text_bytes, binding_bytes, objects_bytes, numbers_bytes, path_bytes, repeated_bytes, attribute_bytes, attributes_bytes}
 use Rattle.lw_delta.proofs.Paths.{numbers_are}
 
 abbrev pub Spells : {A : Type 0} → Part A → (A → List ℕ) → Type 0
@@ -233,6 +234,52 @@ spells_objects bytes t rest f =
     let e : bytes ≡ (number16_bytes f.is.0 ++ b.0) ++ rest = chain rest (number16_bytes f.is.0) b.0 (spells_number16 bytes f.is.0 f.is.1 f.is.2) (ending b.0 b.2.is.0 last.0) in
     let long : (number16_bytes f.is.0 ++ b.0) ≡ objects_bytes b.0 = ap (λ (n : ℕ). number16_bytes n ++ b.0) (sym b.2.is.1) in
     other_front rest (number16_bytes f.is.0 ++ b.0) (objects_bytes t) e (long ∙ ap (λ (x : List ℕ). objects_bytes x) (sym last.1))
+
+-- ---- parts one after another
+spells_walk : {K A : Type 0} (item : Option K → Part A) (key : A → K) (write : A → List ℕ) → ((after : Option K) → Spells (item after) write) → (after : Option K) (bytes : List ℕ) (xs : List A) (behind rest : List ℕ)
+    → Walks item key after bytes xs behind → behind ≡ 0 ∷ rest → bytes ≡ repeated_bytes write xs ++ rest
+spells_walk item key write spells after bytes [] behind rest w e = w ∙ e
+spells_walk item key write spells after bytes (x ∷ xs) behind rest w e =
+    let s = some_spelled (item after) bytes x w.0 w.1 in
+    let more = spells_walk item key write spells (Some (key x)) w.0 xs behind rest w.2 e in
+    chain rest (1 ∷ []) (write x ++ repeated_bytes write xs) s.tagged (chain rest (write x) (repeated_bytes write xs) (spells after s.behind x w.0 s.found) more)
+
+spells_repeated : {K A : Type 0} (item : Option K → Part A) (key : A → K) (write : A → List ℕ) → ((after : Option K) → Spells (item after) write) → Spells (repeated item key None) (repeated_bytes write)
+unfolding repeated
+spells_repeated item key write spells bytes xs rest f = spells_walk item key write spells None bytes xs f.is.0 rest f.is.1 (none_spelled _ f.is.0 rest f.is.2)
+
+-- ---- attributes
+spells_name : (after : Option (List ℕ)) → Spells (attribute_name after) text_bytes
+unfolding followed must means byte
+spells_name after bytes e rest f =
+    let t = f.is.3.is.1.is in
+    let last = t.3.is.1.is.1.is in
+    let s = spells_text f.is.0 f.is.1 t.0 t.1 t.2 in
+    counted rest f.is.0 t.0 e f.is.2.is.0 (ending t.0 s.spelled last.0) s.long (sym last.1)
+
+spells_value : (name : List ℕ) → Spells (attribute_value name) text_bytes
+unfolding followed must byte
+spells_value name bytes t rest f =
+    let s = spells_text f.is.0 f.is.1 t rest f.is.3.is.1 in
+    counted rest f.is.0 t t f.is.2.is.0 s.spelled s.long refl
+
+spells_attribute : (clock : ℕ) (after : Option (List ℕ)) → Spells (attribute clock after) attribute_bytes
+unfolding followed means
+spells_attribute clock after bytes a rest f =
+    let w = f.is.3.is in
+    let last = w.3.is in
+    let write = stamp_bytes w.0.0 ++ text_bytes w.0.1 in
+    subst (λ (x : List ℕ × Last (List ℕ)). bytes ≡ attribute_bytes x ++ rest) (sym last.1)
+    (chain rest (text_bytes f.is.0) write (spells_name after bytes f.is.0 f.is.1 f.is.2) (ending write (spells_written clock (attribute_value f.is.0) text_bytes (spells_value f.is.0) f.is.1 w.0 w.1 w.2) last.0))
+
+-- the attributes, where the format has them
+pub spells_attributes : (clock : ℕ) (flag : Bool) (bytes : List ℕ) (o : Option (List (List ℕ × Last (List ℕ)))) (rest : List ℕ) → Found (when flag (attributes clock)) bytes o rest → bytes ≡ attributes_bytes flag (list_or_none o) ++ rest
+unfolding followed means
+spells_attributes clock true bytes o rest f =
+    let last = f.is.3.is in
+    let all = spells_repeated (attribute clock) (λ a. a.0) attribute_bytes (spells_attribute clock) bytes f.is.0 f.is.1 f.is.2 in
+    subst (λ x. bytes ≡ attributes_bytes true (list_or_none x) ++ rest) (sym last.1) (ending (repeated_bytes attribute_bytes f.is.0) all last.0)
+spells_attributes clock false bytes o rest f = f.is.0
 
 -- ---- paths
 numbers_push : (ns : List ℕ) (n : ℕ) → numbers_bytes ns ++ number16_bytes n ≡ numbers_bytes (ns ++ n ∷ [])

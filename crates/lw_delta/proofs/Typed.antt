@@ -1,24 +1,30 @@
 -- What was read may be written: its values are of their types.
-use Rattle.std.proofs.Common.{◌≡◌, ℕ, ◌==◌, ◌<◌, ◌≤◌, ◌^◌, Bool, true, false, List, [], ◌∷◌, length, slice_index, Option, Some, None, IfSome, sym, subst, arith}
+use Rattle.std.proofs.Common.{◌≡◌, ℕ, ◌-◌, IsTrue, ◌==◌, ◌<◌, ◌≤◌, ◌^◌, Bool, true, false, List, [], ◌∷◌, length, slice_index, Option, Some, None, IfSome, sym, subst, arith}
 use Rattle.std.specs.Int.{w16, w32, from_be_bytes}
 use Rattle.lw_stamp.specs.declared.stamp.Stamp.{Stamp}
-use Rattle.lw_join.specs.Parts.{entries_of, made}
-use Rattle.lw_join.specs.PartsLaws.{entries_made}
+use Rattle.lw_join.specs.declared.last.Last.{Last}
 use Rattle.lw_reg.specs.declared.addr.Addr.{Addr}
 use Rattle.lw_reg.specs.declared.path.Path.{Path}
 use Rattle.lw_reg.specs.declared.slot.Slot.{Slot}
+use Rattle.std.specs.List.{AllByRecursion}
+use Rattle.lw_reg.specs.Attribute.{is_attribute_name, IsAttribute}
 use Rattle.lw_reg.specs.Addr.{IsAddr}
-use Rattle.lw_reg.specs.Body.{Watching, Watches}
-use Rattle.lw_delta.specs.Part.{bytes_of, means, must, followed, optional, Walks, repeated}
-use Rattle.lw_delta.specs.Format.{number16, number32, host, address, text, sms_number, objects, watch, watches, endpoint, fields, slot}
-use Rattle.lw_delta.specs.Values.{is_set, FieldContent, slot_from, watching_from}
+use Rattle.lw_reg.specs.Fields.{told_fields}
+use Rattle.lw_reg.specs.Told.{KeepsAttributes}
+use Rattle.lw_delta.specs.declared.slots.LentSlot.{LentSlot}
+use Rattle.lw_delta.specs.Lent.{Holds}
+use Rattle.lw_reg.specs.Body.{Watching}
+use Rattle.lw_delta.specs.declared.form.Form.{Form}
+use Rattle.lw_delta.specs.Part.{byte, bytes_of, means, must, followed, optional, Walks, repeated}
+use Rattle.lw_delta.specs.Format.{number16, number32, host, address, text, sms_number, objects, attribute_name, attribute_value, attribute, watch, behind, endpoint, fields, slot}
+use Rattle.lw_delta.specs.Values.{is_set, FieldContent, Behind, behind_of, fields_from, slot_from, watching_from}
 use Rattle.lw_delta.specs.Delta.{DeltaContent, IsSpelling}
-use Rattle.lw_delta.specs.Writable.{IsOwnText, AcceptTyped, AcceptsTyped, IsOwnObjects, IsTyped, IsGood, AreGood}
+use Rattle.lw_delta.specs.Writable.{IsOwnText, AttributeTyped, AttributesTyped, AcceptTyped, IsOwnObjects, BehindTyped, IsTyped, IsGood, AreGood}
 use Rattle.lw_delta.specs.Writing.{delta_bytes}
-use Rattle.lw_delta.proofs.FieldParts.{fields_at, slot_at}
-use Rattle.lw_delta.proofs.Fitting.{header_below, slot_follows, some_each}
-use Rattle.lw_delta.proofs.Kept.{Each, when_each, optional_each, written_each}
-use Rattle.lw_delta.proofs.Owning.{watches_rise}
+use Rattle.lw_delta.proofs.FieldParts.{fields_at, behind_at, attributes_each, slot_at}
+use Rattle.lw_delta.proofs.Fitting.{header_below, slot_follows}
+use Rattle.lw_delta.proofs.Kept.{Each, when_each, some_each, optional_each, written_each, repeated_each}
+use Rattle.lw_delta.proofs.Owning.{behind_again}
 use Rattle.lw_delta.proofs.PrintsDelta.{delta_reads_back}
 
 -- ---- numbers
@@ -101,6 +107,36 @@ fields_typed clock flags bytes k rest f =
       objects = when_each _ _ (written_each clock _ _ objects_own) _ _ _ _ parts.objects;
     }
 
+-- ---- attributes
+record NameTyped (name : List ℕ) : Type 0 where
+  pub own : IsOwnText name
+  pub named : IsTrue (is_attribute_name name)
+  pub most : length name ≤ 255
+
+name_typed : (after : Option (List ℕ)) → Each (attribute_name after) NameTyped
+unfolding followed must means byte
+name_typed after bytes name rest f =
+    let t = f.is.3.is.1.is in
+    let named = t.3.is in
+    subst (λ (x : List ℕ). NameTyped x) (sym named.1.is.1.is.1) (record { own = text_own f.is.0 f.is.1 t.0 t.1 t.2; named = named.0; most = omega (arith, text_long f.is.0 f.is.1 t.0 t.1 t.2, f.is.2.is.1) })
+
+value_typed : (name : List ℕ) → Each (attribute_value name) (λ v. IsOwnText v × (length v ≤ 254 - length name))
+unfolding followed must
+value_typed name bytes v rest f =
+    let t = f.is.3.is in
+    (text_own f.is.0 f.is.1 v rest t.1, subst (λ (n : ℕ). n ≤ 254 - length name) (sym (text_long f.is.0 f.is.1 v rest t.1)) t.0)
+
+attribute_typed : (clock : ℕ) (after : Option (List ℕ)) → Each (attribute clock after) AttributeTyped
+unfolding followed means
+attribute_typed clock after bytes a rest f =
+    let w = f.is.3.is in
+    let n = name_typed after bytes f.is.0 f.is.1 f.is.2 in
+    let v = written_each clock (attribute_value f.is.0) _ (value_typed f.is.0) f.is.1 w.0 w.1 w.2 in
+    subst (λ (x : List ℕ × Last (List ℕ)). AttributeTyped x) (sym w.3.is.1) (record { name = n.own; value = v.0; is = record { named = n.named; most = n.most; room = v.1 } })
+
+pub attributes_typed : (form : Form) (clock : ℕ) → Each (behind form clock) (λ more. AttributesTyped more.attributes)
+attributes_typed form clock = attributes_each form clock AttributesTyped tt (repeated_each (attribute clock) (λ a. a.0) AttributeTyped (attribute_typed clock))
+
 -- ---- watches
 watching_typed : (token : Stamp) (gone : Bool) (accept : Option (Option ℕ)) → IfSome accept (λ o. IfSome o (λ n. n < 2 ^ 16)) → AcceptTyped (watching_from token gone accept).value
 watching_typed token true accept h = tt
@@ -115,42 +151,59 @@ watch_typed clock after bytes w rest f =
     let h = when_each (optional number16) _ (optional_each _ _ number16_below) _ t.3.is.1 a.0 a.1 a.2 in
     subst (λ (x : Path × Watching). AcceptTyped x.1.value) (sym a.3.is.1) (watching_typed t.0 _ a.0 h)
 
-watches_walk_typed : (clock : ℕ) (after : Option Path) (bytes : List ℕ) (ws : List (Path × Watching)) (rest : List ℕ) → Walks (watch clock) (λ w. w.0) after bytes ws rest → AcceptsTyped ws
-watches_walk_typed clock after bytes [] rest w = tt
-watches_walk_typed clock after bytes (x ∷ xs) rest w = (some_each _ _ (watch_typed clock after) bytes x w.0 w.1, watches_walk_typed clock (Some x.0) w.0 xs rest w.2)
-
-watches_typed : (clock : ℕ) → Each (watches clock) AcceptsTyped
-unfolding repeated
-watches_typed clock bytes ws rest f = watches_walk_typed clock None bytes ws f.is.0 f.is.1
+behind_typed : (form : Form) (clock : ℕ) → Each (behind form clock) BehindTyped
+behind_typed form clock bytes more rest f =
+    let parts = behind_at form clock bytes more rest f in
+    record {
+      attributes = attributes_typed form clock bytes more rest f;
+      accepts = repeated_each (watch clock) (λ w. w.0) (λ w. AcceptTyped w.1.value) (watch_typed clock) _ _ _ parts.watches;
+    }
 
 -- ---- slots
-kept_typed : (r : Stamp) (removed : Bool) (k : FieldContent) (ws : List (Path × Watching)) → ContentTyped k → AcceptsTyped (entries_of (let m : Watches = made ws in m)) → IsTyped (slot_from r removed k ws)
-kept_typed r true k ws h a = record { fields = record { address = tt; lifetime = tt; sms = tt; objects = tt }; accepts = tt }
-kept_typed r false k ws h a = record { fields = record { address = h.address; lifetime = h.lifetime; sms = h.sms; objects = h.objects }; accepts = a }
+kept_typed : (r : Stamp) (removed : Bool) (k : FieldContent) (more : Behind) → ContentTyped k → BehindTyped (behind_of (slot_from r false k more)) → IsTyped (slot_from r removed k more)
+kept_typed r true k more h b = record { fields = record { address = tt; lifetime = tt; sms = tt; objects = tt }; behind = record { attributes = tt; accepts = tt } }
+kept_typed r false k more h b = record { fields = record { address = h.address; lifetime = h.lifetime; sms = h.sms; objects = h.objects }; behind = b }
 
-slot_typed : (clock : ℕ) (after : Option (List ℕ)) → Each (slot clock after) (λ s. IsTyped s.1 × IsOwnText s.0)
-slot_typed clock after bytes s rest f =
-    let parts = slot_at clock after bytes s rest f in
-    let accepts = subst (λ es. AcceptsTyped es) (sym (entries_made _ _ _ parts.watched (watches_rise clock _ _ _ parts.watching))) (watches_typed clock _ _ _ parts.watching) in
+slot_typed : (form : Form) (clock : ℕ) (after : Option (List ℕ)) → Each (slot form clock after) (λ s. IsTyped s.1 × IsOwnText s.0)
+slot_typed form clock after bytes s rest f =
+    let parts = slot_at form clock after bytes s rest f in
+    let more = subst (λ (b : Behind). BehindTyped b) (sym (behind_again form clock _ parts.more _ parts.ended parts.registration parts.kept)) (behind_typed form clock _ parts.more _ parts.ended) in
     subst (λ (x : List ℕ × Slot). IsTyped x.1 × IsOwnText x.0) (sym parts.same)
-    (kept_typed parts.registration (is_set parts.flags 128) parts.kept parts.watched (fields_typed clock _ _ _ _ parts.fielded) accepts, endpoint_own after _ _ _ parts.named)
+    (kept_typed parts.registration (is_set parts.flags 128) parts.kept parts.more (fields_typed clock _ _ _ _ parts.fielded) more, endpoint_own after _ _ _ parts.named)
 
-slot_good : (clock : ℕ) (after : Option (List ℕ)) → Each (slot clock after) (λ s. IsGood clock after s)
-slot_good clock after bytes s rest f =
-    let t = slot_typed clock after bytes s rest f in
-    (slot_follows clock after bytes s rest f, t.0, t.1)
+slot_good : (form : Form) (clock : ℕ) (after : Option (List ℕ)) → Each (slot form clock after) (λ s. IsGood clock after s)
+slot_good form clock after bytes s rest f =
+    let t = slot_typed form clock after bytes s rest f in
+    (slot_follows form clock after bytes s rest f, t.0, t.1)
 
-slots_good : (clock : ℕ) (after : Option (List ℕ)) (bytes : List ℕ) (ss : List (List ℕ × Slot)) (rest : List ℕ) → Walks (slot clock) (λ s. s.0) after bytes ss rest → AreGood clock after ss
-slots_good clock after bytes [] rest w = tt
-slots_good clock after bytes (x ∷ xs) rest w = (some_each _ _ (slot_good clock after) bytes x w.0 w.1, slots_good clock (Some x.0) w.0 xs rest w.2)
+slots_good : (form : Form) (clock : ℕ) (after : Option (List ℕ)) (bytes : List ℕ) (ss : List (List ℕ × Slot)) (rest : List ℕ) → Walks (slot form clock) (λ s. s.0) after bytes ss rest → AreGood clock after ss
+slots_good form clock after bytes [] rest w = tt
+slots_good form clock after bytes (x ∷ xs) rest w = (some_each _ _ (slot_good form clock after) bytes x w.0 w.1, slots_good form clock (Some x.0) w.0 xs rest w.2)
 
 spelled_good : (bytes : List ℕ) (d : DeltaContent) → IsSpelling bytes d → (d.clock < 2 ^ 48) × AreGood d.clock None d.slots
 unfolding followed means repeated
 spelled_good bytes d f =
     let ss = f.is.3.is in
-    let good = slots_good f.is.0 None f.is.1 ss.0 ss.2.is.0 ss.2.is.1 in
+    let good = slots_good f.is.0.0 f.is.0.1 None f.is.1 ss.0 ss.2.is.0 ss.2.is.1 in
     let P : ℕ × List (List ℕ × Slot) → Type 0 = λ p. (p.0 < 2 ^ 48) × AreGood p.0 None p.1 in
     subst P (sym ss.3.is.1) (header_below bytes f.is.0 f.is.1 f.is.2, good)
+
+-- ---- what is kept
+attributes_good : (es : List (List ℕ × Last (List ℕ))) → AttributesTyped es → AllByRecursion (λ (w : List ℕ × Last (List ℕ)). IsAttribute w.0 w.1.write.1) es
+attributes_good [] h = tt
+attributes_good (e ∷ es) h = (h.0.is, attributes_good es h.1)
+
+kept_good : (r : Stamp) (removed : Bool) (k : FieldContent) (more : Behind) → AttributesTyped (behind_of (slot_from r false k more)).attributes → KeepsAttributes (told_fields (fields_from removed k more))
+kept_good r true k more h = tt
+kept_good r false k more h = attributes_good (behind_of (slot_from r false k more)).attributes h
+
+-- the attributes of a slot that was found are attributes
+pub keeps_attributes : (form : Form) (clock : ℕ) (lent : LentSlot) (more : Behind) → Holds form clock lent more → KeepsAttributes (told_fields (fields_from lent.removed lent.fields more))
+keeps_attributes form clock lent more h =
+    let bytes = lent.behind.bytes.now in
+    let k = lent.fields in
+    let same = behind_again form clock bytes more h.told.rest h.told.found lent.registration k in
+    kept_good lent.registration lent.removed k more (subst (λ (b : Behind). AttributesTyped b.attributes) (sym same) (attributes_typed form clock bytes more h.told.rest h.told.found))
 
 -- what is written of a delta that was read is a spelling of it
 pub written_again : (bytes : List ℕ) (d : DeltaContent) → IsSpelling bytes d → IsSpelling (delta_bytes d.clock d.slots) d

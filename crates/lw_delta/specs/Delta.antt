@@ -3,8 +3,11 @@ use Rattle.std.specs.Prelude.{◌≡◌, ℕ, ◌⊎◌, List, [], ◌∷◌, Re
 use Rattle.lw_reg.specs.declared.slot.Slot.{Slot}
 use Rattle.lw_delta.specs.declared.fault.DeltaFault.{DeltaFault}
 use Rattle.lw_delta.specs.declared.fault.DeltaFault.TheVariants.{Trailing, NoMemory}
+use Rattle.lw_delta.specs.declared.form.Form.{Form}
+use Rattle.lw_delta.specs.Form.{magic_of}
 use Rattle.lw_delta.specs.Part.{Found, Fails}
 use Rattle.lw_delta.specs.Format.{delta}
+use Rattle.lw_delta.specs.Writing.{Begins}
 
 -- the sender's clock, and slots by endpoint
 pub record DeltaContent : Type 0 where
@@ -14,6 +17,10 @@ pub record DeltaContent : Type 0 where
 -- the bytes are a delta, and nothing stands behind it
 abbrev pub IsSpelling : List ℕ → DeltaContent → Type 0
 IsSpelling bytes d = Found delta bytes (d.clock, d.slots) []
+
+-- the bytes are a delta of this format
+abbrev pub IsSpellingIn : Form → List ℕ → DeltaContent → Type 0
+IsSpellingIn form bytes d = Begins (magic_of form) bytes × IsSpelling bytes d
 
 -- a whole delta, and a byte behind it
 abbrev pub HasTrailing : List ℕ → Type 0

@@ -1,5 +1,5 @@
 -- The format of a delta, part by part. Numbers are big-endian.
-use Rattle.std.specs.Prelude.{◌≡◌, ℕ, zero, suc, ◌≤◌, ◌⊎◌, ◌==◌, Bool, true, false, List, [], ◌∷◌, ◌++◌, Option, None, IsUtf8, codes}
+use Rattle.std.specs.Prelude.{◌≡◌, ℕ, zero, suc, ◌-◌, ◌≤◌, ◌⊎◌, ◌==◌, Bool, true, false, List, [], ◌∷◌, ◌++◌, length, Option, None, IsTrue, IsUtf8}
 use Rattle.std.specs.Int.{w16, w32, w64, from_be_bytes}
 use Rattle.lw_stamp.specs.declared.stamp.Stamp.{Stamp}
 use Rattle.lw_stamp.specs.declared.moment.Moment.{Moment}
@@ -7,6 +7,7 @@ use Rattle.lw_stamp.specs.Moment.{ms_of}
 use Rattle.lw_stamp.specs.Stamp.{stamp_bytes}
 use Rattle.lw_stamp.specs.StampBytes.{counter_in}
 use Rattle.lw_stamp.specs.TextOrder.{text_cmp}
+use Rattle.lw_join.specs.declared.last.Last.{Last}
 use Rattle.lw_link.specs.WellFormed.{IsPrinting}
 use Rattle.lw_reg.specs.declared.addr.Addr.{Addr}
 use Rattle.lw_reg.specs.declared.addr.Addr.TheVariants.{V4, V6}
@@ -14,15 +15,18 @@ use Rattle.lw_reg.specs.declared.base.Base.{Base}
 use Rattle.lw_reg.specs.declared.binding.Binding.{Binding}
 use Rattle.lw_reg.specs.declared.path.Path.{Path}
 use Rattle.lw_reg.specs.declared.slot.Slot.{Slot}
+use Rattle.lw_reg.specs.Attribute.{is_attribute_name}
 use Rattle.lw_reg.specs.Binding.{binding_text}
 use Rattle.lw_reg.specs.BindingText.{IsBindingText}
 use Rattle.lw_reg.specs.Body.{Watching}
 use Rattle.lw_reg.specs.Orders.{path_cmp}
 use Rattle.lw_reg.specs.Path.{path_numbers}
+use Rattle.lw_delta.specs.declared.form.Form.{Form}
 use Rattle.lw_delta.specs.declared.fault.DeltaFault.TheVariants.{Magic, Order, Range, Text, ClockBelow}
+use Rattle.lw_delta.specs.Form.{magic_of, has_attributes}
 use Rattle.lw_delta.specs.Order.{IsAbove}
 use Rattle.lw_delta.specs.Part.{Part, byte, bytes_of, means, gives, must, followed, when, optional, repeated}
-use Rattle.lw_delta.specs.Values.{is_set, base_in, FieldContent, slot_from, watching_from}
+use Rattle.lw_delta.specs.Values.{is_set, base_in, FieldContent, Behind, slot_from, list_or_none, watching_from}
 
 -- ---- numbers
 abbrev pub number16 : Part ℕ
@@ -85,6 +89,22 @@ abbrev pub objects : Part (List ℕ)
 objects = followed number16 (λ count. must ((1 ≤ count) × (count ≤ 8192)) Range (
     followed (bytes_of count) (λ text. must (IsPrinting text) Text (gives text))))
 
+-- ---- attributes
+-- 1 to 255 bytes of UTF-8, the name of an attribute, above the name before
+abbrev pub attribute_name : Option (List ℕ) → Part (List ℕ)
+attribute_name after = followed byte (λ count. must (1 ≤ count) Range (
+    followed (text count) (λ name. must (IsTrue (is_attribute_name name)) Text (must (IsAbove text_cmp after name) Order (gives name)))))
+
+-- what a query of 255 bytes has room for behind the name and `=`
+abbrev pub attribute_value : List ℕ → Part (List ℕ)
+attribute_value name = followed byte (λ count. must (count ≤ 254 - length name) Range (text count))
+
+abbrev pub attribute : ℕ → Option (List ℕ) → Part (List ℕ × Last (List ℕ))
+attribute clock after = followed (attribute_name after) (λ name. followed (written clock (attribute_value name)) (λ w. gives (name, record { write = w })))
+
+abbrev pub attributes : ℕ → Part (List (List ℕ × Last (List ℕ)))
+attributes clock = repeated (attribute clock) (λ a. a.0) None
+
 -- ---- watches
 abbrev pub path_number : Part ℕ
 path_number = followed number16 (λ number. must (number ≤ 65534) Range (gives number))
@@ -108,6 +128,11 @@ watch clock after = followed (path after) (λ p. followed (stamp clock) (λ toke
 abbrev pub watches : ℕ → Part (List (Path × Watching))
 watches clock = repeated (watch clock) (λ w. w.0) None
 
+-- what stands behind the fields of a slot, by the format
+abbrev pub behind : Form → ℕ → Part Behind
+behind form clock = followed (when (has_attributes form) (attributes clock)) (λ es. followed (watches clock) (λ ws.
+    gives (record { attributes = list_or_none es; watches = ws })))
+
 -- ---- slots
 -- 1 to 252 bytes of UTF-8, above the endpoint before
 abbrev pub endpoint : Option (List ℕ) → Part (List ℕ)
@@ -127,17 +152,21 @@ fields clock flags =
     gives (record { base = base; address = address; seen = seen; lifetime = lifetime; binding = binding; sms = sms; objects = objects }))))))))
 
 -- what stands behind the endpoint and the stamp of the registration
-abbrev pub slot : ℕ → Option (List ℕ) → Part (List ℕ × Slot)
-slot clock after = followed (endpoint after) (λ e. followed (stamp clock) (λ registration.
-    followed byte (λ flags. followed (fields clock flags) (λ kept. followed (watches clock) (λ ws.
-    gives (e, slot_from registration (is_set flags 128) kept ws))))))
+abbrev pub slot : Form → ℕ → Option (List ℕ) → Part (List ℕ × Slot)
+slot form clock after = followed (endpoint after) (λ e. followed (stamp clock) (λ registration.
+    followed byte (λ flags. followed (fields clock flags) (λ kept. followed (behind form clock) (λ more.
+    gives (e, slot_from registration (is_set flags 128) kept more))))))
 
-abbrev pub slots : ℕ → Part (List (List ℕ × Slot))
-slots clock = repeated (slot clock) (λ s. s.0) None
+abbrev pub slots : Form → ℕ → Part (List (List ℕ × Slot))
+slots form clock = repeated (slot form clock) (λ s. s.0) None
 
--- `LWD1`, and the clock
-abbrev pub header : Part ℕ
-header = followed (bytes_of 4) (λ magic. must (magic ≡ codes "LWD1") Magic number48)
+-- the four bytes of a format
+abbrev pub magic : Part Form
+magic = followed (bytes_of 4) (λ bytes. must ((form : Form) × (magic_of form ≡ bytes)) Magic (means (λ (form : Form). magic_of form ≡ bytes)))
+
+-- the format, and the clock
+abbrev pub header : Part (Form × ℕ)
+header = followed magic (λ form. followed number48 (λ clock. gives (form, clock)))
 
 abbrev pub delta : Part (ℕ × List (List ℕ × Slot))
-delta = followed header (λ clock. followed (slots clock) (λ ss. gives (clock, ss)))
+delta = followed header (λ h. followed (slots h.0 h.1) (λ ss. gives (h.1, ss)))

@@ -1,3 +1,4 @@
+pub mod Form
 pub mod Part
 pub mod Order
 pub mod Values

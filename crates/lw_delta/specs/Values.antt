@@ -1,17 +1,17 @@
 -- What the bytes of a delta stand for.
-use Rattle.std.specs.Prelude.{ℕ, ◌/◌, ◌%◌, ◌==◌, nat_lt, Bool, if◌then◌else◌, List, Option, Some, None, bit_and}
+use Rattle.std.specs.Prelude.{ℕ, ◌/◌, ◌%◌, ◌==◌, nat_lt, Bool, if◌then◌else◌, List, [], Option, Some, None, bit_and}
 use Rattle.lw_stamp.specs.declared.stamp.Stamp.{Stamp}
-use Rattle.lw_stamp.specs.declared.moment.Moment.{Moment}
+use Rattle.lw_join.specs.declared.last.Last.{Last}
 use Rattle.lw_join.specs.Parts.{made}
-use Rattle.lw_reg.specs.declared.addr.Addr.{Addr}
 use Rattle.lw_reg.specs.declared.base.Base.{Base}
-use Rattle.lw_reg.specs.declared.binding.Binding.{Binding}
+use Rattle.lw_reg.specs.declared.fields.FieldWrites.{FieldWrites}
 use Rattle.lw_reg.specs.declared.fields.Fields.{Fields}
 use Rattle.lw_reg.specs.declared.path.Path.{Path}
 use Rattle.lw_reg.specs.declared.slot.Slot.{Slot}
 use Rattle.lw_reg.specs.declared.version.Version.TheVariants.{V10, V11}
 use Rattle.lw_reg.specs.Body.{Watching}
 use Rattle.lw_reg.specs.Fields.{slot_of_fields}
+use Rattle.lw_reg.specs.Reading.{attributes_of, watches_of}
 use Rattle.lw_reg.specs.Slot.{observed, cancelled}
 
 abbrev pub is_set : ℕ → ℕ → Bool
@@ -21,34 +21,31 @@ is_set flags flag = nat_lt 0 (bit_and flags flag)
 abbrev pub base_in : ℕ → Base
 base_in bits = record { version = if bits % 2 == 1 then V11 else V10; queue = bits / 2 == 1 }
 
--- the fields of a registration but for its watches
-pub record FieldContent : Type 0 where
-  pub base : Option Base
-  pub address : Option (Stamp × Addr)
-  pub seen : Option (Stamp × Moment)
-  pub lifetime : Option (Stamp × ℕ)
-  pub binding : Option (Stamp × Binding)
-  pub sms : Option (Stamp × Option (List ℕ))
-  pub objects : Option (Stamp × List ℕ)
+-- what a slot has behind its fields
+pub record Behind : Type 0 where
+  pub attributes : List (List ℕ × Last (List ℕ))
+  pub watches : List (Path × Watching)
 
-abbrev pub all_fields : FieldContent → List (Path × Watching) → Fields
-all_fields f watches = record {
-  base = f.base;
-  address = f.address;
-  seen = f.seen;
-  lifetime = f.lifetime;
-  binding = f.binding;
-  sms = f.sms;
-  objects = f.objects;
-  watches = made watches;
-}
+abbrev pub behind_of : Slot → Behind
+behind_of slot = record { attributes = attributes_of slot; watches = watches_of slot }
 
--- of a removed registration neither fields nor watches are kept
-abbrev pub fields_from : Bool → FieldContent → List (Path × Watching) → Option Fields
-fields_from removed f watches = if removed then None else Some (all_fields f watches)
+-- the fields of a registration but for its attributes and watches
+abbrev pub FieldContent : Type 0
+FieldContent = FieldWrites (List ℕ) (List ℕ)
 
-abbrev pub slot_from : Stamp → Bool → FieldContent → List (Path × Watching) → Slot
-slot_from stamp removed f watches = slot_of_fields stamp (fields_from removed f watches)
+abbrev pub all_fields : FieldContent → Behind → Fields
+all_fields f behind = record { writes = f; attributes = made behind.attributes; watches = made behind.watches }
+
+-- of a removed registration none of it is kept
+abbrev pub fields_from : Bool → FieldContent → Behind → Option Fields
+fields_from removed f behind = if removed then None else Some (all_fields f behind)
+
+abbrev pub slot_from : Stamp → Bool → FieldContent → Behind → Slot
+slot_from stamp removed f behind = slot_of_fields stamp (fields_from removed f behind)
+
+abbrev pub list_or_none : {A : Type 0} → Option (List A) → List A
+list_or_none None = []
+list_or_none (Some xs) = xs
 
 abbrev pub accept_from : Option (Option ℕ) → Option ℕ
 accept_from None = None

@@ -1,10 +1,11 @@
 -- The bytes of a delta, part by part. A removed registration is a flag byte alone, and so is a cancelled watch.
-use Rattle.std.specs.Prelude.{◌≡◌, ℕ, ◌+◌, Bool, if◌then◌else◌, is_some, List, [], ◌∷◌, ◌++◌, length, drop, Option, Some, None, codes}
+use Rattle.std.specs.Prelude.{◌≡◌, ℕ, ◌+◌, Bool, true, false, if◌then◌else◌, is_some, List, [], ◌∷◌, ◌++◌, length, drop, Option, Some, None}
 use Rattle.std.specs.Int.{w16, w32, w64, to_be_bytes}
 use Rattle.lw_stamp.specs.declared.stamp.Stamp.{Stamp}
 use Rattle.lw_stamp.specs.declared.moment.Moment.{Moment}
 use Rattle.lw_stamp.specs.Moment.{ms_of}
 use Rattle.lw_stamp.specs.Stamp.{stamp_bytes}
+use Rattle.lw_join.specs.declared.last.Last.{Last}
 use Rattle.lw_join.specs.declared.once.Once.{Once}
 use Rattle.lw_join.specs.declared.or_gone.OrGone.{OrGone}
 use Rattle.lw_join.specs.declared.or_gone.OrGone.TheVariants.{Here, Gone}
@@ -20,7 +21,10 @@ use Rattle.lw_reg.specs.declared.version.Version.TheVariants.{V10, V11}
 use Rattle.lw_reg.specs.Binding.{binding_text}
 use Rattle.lw_reg.specs.Body.{Watching}
 use Rattle.lw_reg.specs.Path.{path_numbers}
-use Rattle.lw_reg.specs.Reading.{stamp_of, base_of, address_of, seen_of, lifetime_of, binding_of, sms_of, objects_of, watches_of}
+use Rattle.lw_reg.specs.Reading.{stamp_of, base_of, address_of, seen_of, lifetime_of, binding_of, sms_of, objects_of}
+use Rattle.lw_delta.specs.declared.form.Form.{Form}
+use Rattle.lw_delta.specs.Form.{magic_of, has_attributes, latest}
+use Rattle.lw_delta.specs.Values.{Behind, behind_of}
 
 -- the bytes begin with these
 pub record Begins (front bytes : List ℕ) : Type 0 where
@@ -94,9 +98,25 @@ accept_bytes Gone = 2 ∷ []
 abbrev pub watch_bytes : Path × Watching → List ℕ
 watch_bytes w = path_bytes w.0 ++ (stamp_bytes w.1.stamp ++ accept_bytes w.1.value)
 
+-- each behind 01, up to a 00
+abbrev pub repeated_bytes : {A : Type 0} → (A → List ℕ) → List A → List ℕ
+repeated_bytes bytes [] = 0 ∷ []
+repeated_bytes bytes (x ∷ xs) = 1 ∷ (bytes x ++ repeated_bytes bytes xs)
+
 abbrev pub watches_bytes : List (Path × Watching) → List ℕ
-watches_bytes [] = 0 ∷ []
-watches_bytes (w ∷ ws) = 1 ∷ (watch_bytes w ++ watches_bytes ws)
+watches_bytes ws = repeated_bytes watch_bytes ws
+
+abbrev pub attribute_bytes : List ℕ × Last (List ℕ) → List ℕ
+attribute_bytes a = text_bytes a.0 ++ (stamp_bytes a.1.write.0 ++ text_bytes a.1.write.1)
+
+-- nothing, where the format has no attributes
+abbrev pub attributes_bytes : Bool → List (List ℕ × Last (List ℕ)) → List ℕ
+attributes_bytes true attributes = repeated_bytes attribute_bytes attributes
+attributes_bytes false attributes = []
+
+-- what stands behind the fields of a slot
+abbrev pub behind_bytes : Form → Behind → List ℕ
+behind_bytes form more = attributes_bytes (has_attributes form) more.attributes ++ watches_bytes more.watches
 
 abbrev pub flag_if : ℕ → Bool → ℕ
 flag_if flag set = if set then flag else 0
@@ -124,16 +144,24 @@ abbrev pub slot_head_bytes : List ℕ × Slot → List ℕ
 slot_head_bytes s = 1 ∷ (text_bytes s.0 ++ (stamp_bytes (stamp_of s.1) ++ flags_byte s.1 ∷ []))
 
 -- a slot behind its 01
-abbrev pub slot_bytes : List ℕ × Slot → List ℕ
-slot_bytes s = text_bytes s.0 ++ (stamp_bytes (stamp_of s.1) ++ (flags_byte s.1 ∷ (fields_bytes s.1 ++ watches_bytes (watches_of s.1))))
+abbrev pub slot_bytes : Form → List ℕ × Slot → List ℕ
+slot_bytes form s = text_bytes s.0 ++ (stamp_bytes (stamp_of s.1) ++ (flags_byte s.1 ∷ (fields_bytes s.1 ++ behind_bytes form (behind_of s.1))))
 
-abbrev pub slots_bytes : List (List ℕ × Slot) → List ℕ
-slots_bytes [] = []
-slots_bytes (s ∷ ss) = 1 ∷ (slot_bytes s ++ slots_bytes ss)
+abbrev pub slots_bytes : Form → List (List ℕ × Slot) → List ℕ
+slots_bytes form [] = []
+slots_bytes form (s ∷ ss) = 1 ∷ (slot_bytes form s ++ slots_bytes form ss)
 
+-- ---- by the format
 -- what stands before the end
+abbrev pub begun_bytes_in : Form → ℕ → List (List ℕ × Slot) → List ℕ
+begun_bytes_in form clock slots = (magic_of form ++ number48_bytes clock) ++ slots_bytes form slots
+
+abbrev pub delta_bytes_in : Form → ℕ → List (List ℕ × Slot) → List ℕ
+delta_bytes_in form clock slots = begun_bytes_in form clock slots ++ 0 ∷ []
+
+-- ---- in the format that is written
 abbrev pub begun_bytes : ℕ → List (List ℕ × Slot) → List ℕ
-begun_bytes clock slots = (codes "LWD1" ++ number48_bytes clock) ++ slots_bytes slots
+begun_bytes clock slots = begun_bytes_in latest clock slots
 
 abbrev pub delta_bytes : ℕ → List (List ℕ × Slot) → List ℕ
-delta_bytes clock slots = begun_bytes clock slots ++ 0 ∷ []
+delta_bytes clock slots = delta_bytes_in latest clock slots

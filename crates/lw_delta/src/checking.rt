@@ -1,36 +1,41 @@
-ghost use Rattle.std.specs.Prelude.{◌≡◌, ◌↔◌, ℕ, List, IsTrue, IfOk, IfErr, Ok, Err, codes};
+ghost use Rattle.std.specs.Prelude.{◌≡◌, ◌↔◌, ℕ, List, IfOk, IfErr, Ok, Err};
 ghost use Rattle.lw_reg.specs.declared.slot.Slot.{Slot as Slots};
 ghost use Rattle.lw_delta.specs.declared.fault.DeltaFault.{DeltaFault as Faults};
 ghost use Rattle.lw_delta.specs.Part.{Found, Fails};
-ghost use Rattle.lw_delta.specs.Format.{header as header_part};
+ghost use Rattle.lw_delta.specs.Format.{magic as magic_part, header as header_part};
 ghost use Rattle.lw_delta.specs.Delta.{DeltaContent, IsSpelling, IsFault, Checks};
 ghost use Rattle.lw_delta.specs.Lent.{WalkedAs};
 
 use crate::DeltaFault;
+use crate::form::{Form, form_of};
 use crate::numbers::{front, number48};
 use crate::slots::check_slots;
 
-fn is_magic(bytes: &[u8]) -> bool
-    ensures { IsTrue result ↔ (bytes.now ≡ codes "LWD1") }
+fn magic(bytes: &[u8]) -> Result<(Form, &[u8]), DeltaFault>
+    ensures found { IfOk result (λ x. Found magic_part bytes.now x.0 x.1.now) }
+    ensures fault { IfErr result (Fails magic_part bytes.now) }
 {
-    matches!(bytes, [b'L', b'W', b'D', b'1'])
+    let (magic, rest) = front(bytes, 4)?;
+    let Some(form) = form_of(magic) else {
+        return Err(DeltaFault::Magic);
+    };
+    Ok((form, rest))
 }
 
-/// The clock, behind the magic bytes.
-fn header(bytes: &[u8]) -> Result<(u64, &[u8]), DeltaFault>
+/// The format and the clock.
+fn header(bytes: &[u8]) -> Result<((Form, u64), &[u8]), DeltaFault>
     ensures found { IfOk result (λ x. Found header_part bytes.now x.0 x.1.now) }
     ensures fault { IfErr result (Fails header_part bytes.now) }
 {
-    let (magic, rest) = front(bytes, 4)?;
-    if !is_magic(magic) {
-        return Err(DeltaFault::Magic);
-    }
-    number48(rest)
+    let (form, rest) = magic(bytes)?;
+    let (clock, rest) = number48(rest)?;
+    Ok(((form, clock), rest))
 }
 
-/// A delta that was walked: its clock, how many slots it has, and its bytes from the first slot on.
+/// A delta that was walked: its format and clock, how many slots it has, and its bytes from the first slot on.
 #[derive(Clone, Copy)]
 pub(crate) struct Walked<'a> {
+    pub form: Form,
     pub clock: u64,
     pub slot_count: usize,
     pub slots: &'a [u8],
@@ -41,12 +46,13 @@ pub(crate) fn walk(bytes: &[u8]) -> Result<Walked<'_>, DeltaFault>
     ensures found { IfOk result (λ walked. WalkedAs bytes.now walked) }
     ensures fault { IfErr result (IsFault bytes.now) }
 {
-    let (clock, slots) = header(bytes)?;
-    let (slot_count, rest) = check_slots(clock, slots)?;
+    let ((form, clock), slots) = header(bytes)?;
+    let (slot_count, rest) = check_slots(form, clock, slots)?;
     if !rest.is_empty() {
         return Err(DeltaFault::Trailing);
     }
     Ok(Walked {
+        form,
         clock,
         slot_count,
         slots,

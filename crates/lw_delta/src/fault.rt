@@ -8,8 +8,8 @@ use thiserror::Error;
 /// Why bytes were not read as a delta.
 #[derive(Clone, Copy, Debug, PartialEq, Eq, Error)]
 pub enum DeltaFault {
-    /// The first four bytes are not `LWD1`.
-    #[error("the delta does not begin with LWD1")]
+    /// The first four bytes are neither `LWD1` nor `LWD2`.
+    #[error("the delta begins with neither LWD1 nor LWD2")]
     Magic,
     /// The bytes end before a part does.
     #[error("the delta ends before one of its parts does")]

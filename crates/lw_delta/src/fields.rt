@@ -3,14 +3,12 @@
 ghost use Rattle.std.specs.Prelude.{IsTrue, IfOk, IfErr};
 ghost use Rattle.lw_delta.specs.Part.{Found, Fails, IsFound};
 ghost use Rattle.lw_delta.specs.Format.{fields as fields_part};
-ghost use Rattle.lw_delta.specs.Lent.{content_of};
 
 use crate::DeltaFault;
 use crate::lent::{LentNumber, LentObjects};
 use crate::numbers::is_set;
 use crate::parse::parse_if;
-use lw_reg::{Addr, Base, Binding};
-use lw_stamp::{Moment, Stamp};
+use lw_reg::FieldWrites;
 
 pub(crate) const BASE: u8 = 0x01;
 
@@ -27,16 +25,7 @@ pub(crate) const SMS: u8 = 0x20;
 pub(crate) const OBJECTS: u8 = 0x40;
 
 /// The fields of a slot, whose texts lie in the bytes of the delta.
-#[derive(Drop)]
-pub(crate) struct LentFields<'a> {
-    pub base: Option<Base>,
-    pub address: Option<(Stamp, Addr)>,
-    pub seen: Option<(Stamp, Moment)>,
-    pub lifetime: Option<(Stamp, u32)>,
-    pub binding: Option<(Stamp, Binding)>,
-    pub sms: Option<(Stamp, Option<LentNumber<'a>>)>,
-    pub objects: Option<(Stamp, LentObjects<'a>)>,
-}
+pub(crate) type LentFields<'a> = FieldWrites<LentNumber<'a>, LentObjects<'a>>;
 
 /// Of bytes that were walked before, object lists are not checked again.
 pub(crate) fn fields(
@@ -46,7 +35,7 @@ pub(crate) fn fields(
     bytes: &[u8],
 ) -> Result<(LentFields<'_>, &[u8]), DeltaFault>
     requires { IsTrue again → IsFound (fields_part clock flags) bytes.now }
-    ensures found { IfOk result (λ x. Found (fields_part clock flags) bytes.now (content_of x.0) x.1.now) }
+    ensures found { IfOk result (λ x. Found (fields_part clock flags) bytes.now x.0 x.1.now) }
     ensures fault { IfErr result (Fails (fields_part clock flags) bytes.now) }
 {
     let (base, rest) = parse_if(is_set(flags, BASE), clock, again, bytes)?;
@@ -56,7 +45,7 @@ pub(crate) fn fields(
     let (binding, rest) = parse_if(is_set(flags, BINDING), clock, again, rest)?;
     let (sms, rest) = parse_if(is_set(flags, SMS), clock, again, rest)?;
     let (objects, rest) = parse_if(is_set(flags, OBJECTS), clock, again, rest)?;
-    let fields = LentFields {
+    let fields = FieldWrites {
         base,
         address,
         seen,

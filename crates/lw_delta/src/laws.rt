@@ -3,10 +3,11 @@
 ghost use Rattle.std.specs.Prelude.{◌≡◌, ℕ, ◌<◌, ◌^◌, ◌⊎◌, List, length, None};
 ghost use Rattle.lw_reg.specs.declared.slot.Slot.{Slot as Slots};
 ghost use Rattle.lw_delta.specs.declared.fault.DeltaFault.{DeltaFault as Faults};
-ghost use Rattle.lw_delta.specs.Delta.{DeltaContent, IsSpelling, IsFault};
+ghost use Rattle.lw_delta.specs.declared.form.Form.{Form as Forms};
+ghost use Rattle.lw_delta.specs.Delta.{DeltaContent, IsSpelling, IsSpellingIn, IsFault};
 ghost use Rattle.lw_delta.specs.Removals.{HaveRemoval};
 ghost use Rattle.lw_delta.specs.Writable.{AllFollow, AreGood};
-ghost use Rattle.lw_delta.specs.Writing.{delta_bytes};
+ghost use Rattle.lw_delta.specs.Writing.{delta_bytes, delta_bytes_in};
 
 /// What is written reads as its clock and slots, so no two deltas are written alike.
 pub fn written_deltas_read_back()
@@ -26,10 +27,10 @@ pub fn deltas_can_be_written()
     ensures { (bytes : List ℕ) (d : DeltaContent) → IsSpelling bytes d → (d.clock < 2 ^ 48) × AllFollow d.clock None d.slots }
 {}
 
-/// A delta has one shortest spelling, the one that is written: any other is a fuller spelling of what is
-/// removed or cancelled, and longer.
+/// A delta that was read can be written, and in each format it has one shortest spelling: any other of that format is
+/// a fuller spelling of what is removed or cancelled, and longer.
 pub fn written_deltas_are_shortest()
     ensures spelling { (bytes : List ℕ) (d : DeltaContent) → IsSpelling bytes d → IsSpelling (delta_bytes d.clock d.slots) d }
-    ensures shortest { (bytes : List ℕ) (d : DeltaContent) → IsSpelling bytes d → (bytes ≡ delta_bytes d.clock d.slots) ⊎ (length (delta_bytes d.clock d.slots) < length bytes) }
-    ensures alone { (bytes : List ℕ) (d : DeltaContent) → IsSpelling bytes d → (HaveRemoval d.slots → ⊥) → bytes ≡ delta_bytes d.clock d.slots }
+    ensures shortest { (form : Forms) (bytes : List ℕ) (d : DeltaContent) → IsSpellingIn form bytes d → (bytes ≡ delta_bytes_in form d.clock d.slots) ⊎ (length (delta_bytes_in form d.clock d.slots) < length bytes) }
+    ensures alone { (form : Forms) (bytes : List ℕ) (d : DeltaContent) → IsSpellingIn form bytes d → (HaveRemoval d.slots → ⊥) → bytes ≡ delta_bytes_in form d.clock d.slots }
 {}

@@ -1,5 +1,8 @@
 //! Texts where they stand in the bytes of a delta.
 
+ghost use Rattle.std.specs.Prelude.{◌≡◌};
+
+use lw_stamp::Stamp;
 use std::marker::Model;
 
 /// An SMS number: at most 251 bytes. Contracts see its bytes.
@@ -33,4 +36,29 @@ impl<'a> Model for LentObjects<'a> {
     ghost view = { λ o. o.bytes.now };
 
     ghost invariant = { λ o. IsPrinting o.bytes.now × (length o.bytes.now ≤ 8192) };
+}
+
+/// The last write of an attribute. Contracts see its name, and the write of its value.
+#[derive(Drop)]
+pub(crate) struct LentAttribute<'a> {
+    pub name: &'a str,
+    pub stamp: Stamp,
+    pub value: &'a str,
+}
+
+impl<'a> Model for LentAttribute<'a> {
+    ghost use Rattle.std.specs.Prelude.{ℕ, List};
+    ghost use Rattle.lw_join.specs.declared.last.Last.{Last};
+
+    ghost Value = { List ℕ × Last (List ℕ) };
+
+    ghost view = { λ a. (a.name.now, record { write = (a.stamp, a.value.now) }) };
+}
+
+impl<'a> LentAttribute<'a> {
+    pub(crate) fn name(&self) -> &'a str
+        ensures { result.now ≡ self.now.0 }
+    {
+        self.name
+    }
 }

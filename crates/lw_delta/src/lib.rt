@@ -2,10 +2,13 @@
 //! `Reader` take them apart, and a `Writer` puts them together.
 #![tactic(auto)]
 
+mod attributes;
+mod behind;
 mod checking;
 mod delta;
 mod fault;
 mod fields;
+mod form;
 pub mod laws;
 mod lent;
 mod numbers;

@@ -1,8 +1,9 @@
 //! What is written in a delta, and the shapes that parts share.
 
 ghost use Rattle.std.specs.Prelude.{◌≡◌, ℕ, ◌++◌, ◌∷◌, [], List, OnOk, IfSome};
+ghost use Rattle.std.specs.List.{AllByRecursion};
 ghost use Rattle.lw_stamp.specs.Stamp.{stamp_bytes};
-ghost use Rattle.lw_delta.specs.Writing.{Begins, present_bytes, optional_bytes};
+ghost use Rattle.lw_delta.specs.Writing.{Begins, present_bytes, optional_bytes, repeated_bytes};
 
 use lw_stamp::{NoMemory, Stamp};
 
@@ -45,6 +46,37 @@ pub(crate) fn put_present<T: Put + Drop>(out: &mut Vec<u8>, part: Option<T>) -> 
         None => Ok(()),
         Some(value) => value.put(out),
     }
+}
+
+/// One of many values that stand one after another.
+pub(crate) trait PutEntry {
+    ghost bytes: { Self → List ℕ };
+
+    /// What is known of the value before.
+    ghost fits: { Self → Type 0 };
+
+    ghost typed: { Self → Type 0 };
+
+    /// Writes the value behind what is there. Refused, a front of it may stand there.
+    fn put_entry(&self, out: &mut Vec<u8>) -> Result<(), NoMemory>
+        requires { fits self.now }
+        ensures written { OnOk result (out.new.items ≡ out.old.items ++ bytes self.now) }
+        ensures typed { OnOk result (typed self.now) }
+        ensures kept { Begins out.old.items out.new.items };
+}
+
+/// Values one after another, each behind 01, up to a 00.
+pub(crate) fn put_all<T: PutEntry>(out: &mut Vec<u8>, values: &[T]) -> Result<(), NoMemory>
+    requires { AllByRecursion T.fits values.now }
+    ensures written { OnOk result (out.new.items ≡ out.old.items ++ repeated_bytes T.bytes values.now) }
+    ensures typed { OnOk result (AllByRecursion T.typed values.now) }
+    ensures kept { Begins out.old.items out.new.items }
+{
+    for value in values {
+        put_byte(out, 1)?;
+        value.put_entry(out)?;
+    }
+    put_byte(out, 0)
 }
 
 impl Put for Stamp {

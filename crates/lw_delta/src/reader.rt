@@ -8,6 +8,7 @@ ghost use Rattle.lw_delta.specs.Unread.{IsLeft, Leaves, unread_of};
 
 use crate::DeltaFault;
 use crate::checking::{Walked, walk};
+use crate::form::Form;
 use crate::reading::slot;
 use crate::slots::next_slot;
 use lw_reg::{Endpoint, Slot};
@@ -19,6 +20,7 @@ use std::marker::Model;
 #[derive(Drop)]
 pub struct Reader<'a> {
     alloc: Global,
+    form: Form,
     clock: u64,
     after: Option<&'a str>,
     rest: &'a [u8],
@@ -32,10 +34,10 @@ impl<'a> Model for Reader<'a> {
 
     ghost Value = { Unread };
 
-    ghost view = { λ r. record { clock = r.clock; after = option_copied r.after; bytes = r.rest.now } };
+    ghost view = { λ r. record { form = r.form; clock = r.clock; after = option_copied r.after; bytes = r.rest.now } };
 
     // slots are left, and nothing stands behind them
-    ghost invariant = { λ r. (slots : List (List ℕ × Slot)) × IsLeft (record { clock = r.clock; after = option_copied r.after; bytes = r.rest.now }) slots };
+    ghost invariant = { λ r. (slots : List (List ℕ × Slot)) × IsLeft (record { form = r.form; clock = r.clock; after = option_copied r.after; bytes = r.rest.now }) slots };
 }
 
 impl<'a> Reader<'a> {
@@ -58,11 +60,12 @@ impl<'a> Reader<'a> {
 
     /// All slots of a delta that was walked.
     pub(crate) fn of(alloc: Global, walked: Walked<'a>) -> Reader<'a>
-        requires { (slots : List (List ℕ × Slots)) × Found (slots_part walked.clock) walked.slots.now slots [] }
+        requires { (slots : List (List ℕ × Slots)) × Found (slots_part walked.form walked.clock) walked.slots.now slots [] }
         ensures { result ≡ unread_of walked.entry }
     {
         Reader {
             alloc,
+            form: walked.form,
             clock: walked.clock,
             after: None,
             rest: walked.slots,
@@ -85,14 +88,15 @@ impl<'a> Reader<'a> {
         // The end takes no memory.
         ensures end { IsLeft self.old [] → IsOk result }
     {
-        let Ok((next, behind)) = next_slot(self.clock, self.after, true, self.rest) else {
+        let Ok((next, behind)) = next_slot(self.form, self.clock, self.after, true, self.rest)
+        else {
             unreachable!()
         };
         let Some(lent) = next else {
             return Ok(None);
         };
         let endpoint = lent.endpoint;
-        let Ok(entry) = slot(self.alloc, self.clock, lent) else {
+        let Ok(entry) = slot(self.alloc, self.form, self.clock, lent) else {
             return Err(NoMemory);
         };
         self.after = Some(endpoint);

@@ -1,28 +1,32 @@
-ghost use Rattle.std.specs.Prelude.{◌≡◌, ◌≢◌, ℕ, ◌⊎◌, ◌↔◌, [], List, IsOk, IfOk, IfErr, Ok, Err};
+ghost use Rattle.std.specs.Prelude.{◌≡◌, ◌≢◌, ℕ, ◌⊎◌, ◌↔◌, [], List, Option, IsOk, IfOk, IfErr, Ok, Err};
 ghost use Rattle.lw_join.specs.Parts.{made};
+ghost use Rattle.lw_join.specs.declared.last.Last.{Last as Lasts};
 ghost use Rattle.lw_reg.specs.declared.path.Path.{Path as Paths};
 ghost use Rattle.lw_reg.specs.declared.slot.Slot.{Slot as Slots};
-ghost use Rattle.lw_reg.specs.Body.{Watching as Watchings};
+ghost use Rattle.lw_reg.specs.Body.{Watching as Watchings, maps_of};
 ghost use Rattle.lw_reg.specs.Endpoint.{IsEndpoint};
 ghost use Rattle.lw_delta.specs.declared.fault.DeltaFault.{DeltaFault as Faults};
-ghost use Rattle.lw_delta.specs.Part.{Found, Fails};
-ghost use Rattle.lw_delta.specs.Format.{watches as watches_part};
-ghost use Rattle.lw_delta.specs.Values.{all_fields, fields_from};
+ghost use Rattle.lw_delta.specs.Part.{Found, Fails, when};
+ghost use Rattle.lw_delta.specs.Format.{attributes as attributes_part, watches as watches_part};
+ghost use Rattle.lw_delta.specs.Values.{Behind as Behinds, list_or_none, all_fields, fields_from};
 ghost use Rattle.lw_delta.specs.Delta.{DeltaContent, IsSpelling, IsFault, Reads};
-ghost use Rattle.lw_delta.specs.Lent.{content_of, Holds, lent_slot};
+ghost use Rattle.lw_delta.specs.Lent.{Told, Holds, lent_slot};
 ghost use Rattle.lw_delta.specs.Unread.{IsLeft};
 
+use crate::attributes::next_attribute;
+use crate::behind::LentBehind;
 use crate::checking::walk;
 use crate::fields::LentFields;
-use crate::lent::{LentNumber, LentObjects};
+use crate::form::{Form, has_attributes};
+use crate::lent::{LentAttribute, LentNumber, LentObjects};
 use crate::reader::Reader;
 use crate::slots::LentSlot;
 use crate::watches::next_watch;
 use crate::{Delta, DeltaFault};
-use lw_join::Parts;
+use lw_join::{Both, Last, Parts};
 use lw_link::LinkText;
-use lw_reg::{Endpoint, Fields, Path, Slot, SmsNumber, Watching};
-use lw_stamp::{NoMemory, Stamp};
+use lw_reg::{Endpoint, FieldWrites, Fields, Path, Slot, SmsNumber, Watching};
+use lw_stamp::{NoMemory, Stamp, Text};
 use std::alloc::Global;
 
 fn sms_number(alloc: Global, lent: LentNumber) -> Result<SmsNumber, NoMemory>
@@ -60,6 +64,64 @@ fn objects(
         return Ok(None);
     };
     Ok(Some((stamp, link_text(alloc, objects)?)))
+}
+
+fn attribute(alloc: Global, lent: LentAttribute) -> Result<(Text, Last<Text>), NoMemory>
+    ensures { IfOk result (λ attribute. attribute ≡ lent.entry) }
+{
+    let name = Text::copy_of(alloc, lent.name)?;
+    let value = Text::copy_of(alloc, lent.value)?;
+    let last = Last {
+        write: (lent.stamp, value),
+    };
+    Ok((name, last))
+}
+
+/// So many attributes, which were walked before. What stands behind them is left.
+fn attribute_entries(
+    alloc: Global,
+    clock: u64,
+    count: usize,
+    bytes: &[u8],
+) -> Result<(Vec<(Text, Last<Text>)>, &[u8]), DeltaFault>
+    ensures found { IfOk result (λ x. Found (attributes_part clock) bytes.now x.0.items x.1.now) }
+    ensures fault { IfErr result (λ fault. (fault ≡ DeltaFault.NoMemory) ⊎ Fails (attributes_part clock) bytes.now fault) }
+{
+    let mut entries = Vec::with_capacity(alloc, count)?;
+    let mut after = None;
+    let mut rest = bytes;
+    loop {
+        let (next, behind) = next_attribute(clock, after, rest)?;
+        rest = behind;
+        let Some(lent) = next else {
+            return Ok((entries, rest));
+        };
+        after = Some(lent.name());
+        let entry = attribute(alloc, lent)?;
+        entries.push(entry)?;
+    }
+}
+
+/// The attributes, which were walked before. A format may have none.
+fn attributes(
+    alloc: Global,
+    present: bool,
+    clock: u64,
+    count: usize,
+    bytes: &[u8],
+) -> Result<(Parts<Text, Last<Text>>, &[u8]), DeltaFault>
+    requires { (es : Option (List (List ℕ × Lasts (List ℕ)))) × (rest : List ℕ) × Found (when present (attributes_part clock)) bytes.now es rest }
+    ensures value { (es : Option (List (List ℕ × Lasts (List ℕ)))) (rest : List ℕ) → Found (when present (attributes_part clock)) bytes.now es rest → IfOk result (λ x. (x.0 ≡ made (list_or_none es)) × (x.1.now ≡ rest)) }
+    ensures fault { IfErr result (λ fault. fault ≡ DeltaFault.NoMemory) }
+{
+    if !present {
+        return Ok((Parts::new(alloc), bytes));
+    }
+    let (entries, rest) = attribute_entries(alloc, clock, count, bytes)?;
+    let Some(parts) = Parts::from_entries(entries) else {
+        unreachable!()
+    };
+    Ok((parts, rest))
 }
 
 /// So many watches, which were walked before.
@@ -104,14 +166,34 @@ fn parts(
     Ok(parts)
 }
 
+/// What stands behind the fields, which was walked before.
+fn behind(
+    alloc: Global,
+    form: Form,
+    clock: u64,
+    lent: LentBehind,
+) -> Result<Both<Text, Last<Text>, Path, Watching>, DeltaFault>
+    requires { (more : Behinds) × Told form clock lent more }
+    ensures value { (more : Behinds) → Told form clock lent.entry more → IfOk result (λ maps. maps ≡ maps_of (made more.attributes) (made more.watches)) }
+    ensures fault { IfErr result (λ fault. fault ≡ DeltaFault.NoMemory) }
+{
+    let present = has_attributes(form);
+    let (attributes, rest) = attributes(alloc, present, clock, lent.attribute_count, lent.bytes)?;
+    let watches = parts(alloc, clock, lent.watch_count, rest)?;
+    Ok(Both {
+        left: attributes,
+        right: watches,
+    })
+}
+
 fn fields(
     alloc: Global,
     lent: LentFields,
-    watches: Parts<Path, Watching>,
+    maps: Both<Text, Last<Text>, Path, Watching>,
 ) -> Result<Fields, NoMemory>
-    ensures { (ws : List (Paths × Watchings)) → watches ≡ made ws → IfOk result (λ fields. fields ≡ all_fields (content_of lent.entry) ws) }
+    ensures { (more : Behinds) → maps ≡ maps_of (made more.attributes) (made more.watches) → IfOk result (λ fields. fields ≡ all_fields lent.entry more) }
 {
-    Ok(Fields {
+    let writes = FieldWrites {
         base: lent.base,
         address: lent.address,
         seen: lent.seen,
@@ -119,37 +201,47 @@ fn fields(
         binding: lent.binding,
         sms: sms(alloc, lent.sms)?,
         objects: objects(alloc, lent.objects)?,
-        watches,
+    };
+    Ok(Fields {
+        writes,
+        attributes: maps.left,
+        watches: maps.right,
     })
 }
 
-/// What is kept of a slot. Of a removed registration neither fields nor watches are kept.
-fn kept_fields(alloc: Global, clock: u64, lent: LentSlot) -> Result<Option<Fields>, DeltaFault>
-    requires { (ws : List (Paths × Watchings)) × Holds clock lent ws }
-    ensures value { (ws : List (Paths × Watchings)) → Holds clock lent.entry ws → IfOk result (λ fields. fields ≡ fields_from lent.entry.removed (content_of lent.entry.fields) ws) }
+/// What is kept of a slot, and nothing of a removed registration.
+fn kept_fields(
+    alloc: Global,
+    form: Form,
+    clock: u64,
+    lent: LentSlot,
+) -> Result<Option<Fields>, DeltaFault>
+    requires { (more : Behinds) × Holds form clock lent more }
+    ensures value { (more : Behinds) → Holds form clock lent.entry more → IfOk result (λ fields. fields ≡ fields_from lent.entry.removed lent.entry.fields more) }
     ensures fault { IfErr result (λ fault. fault ≡ DeltaFault.NoMemory) }
 {
     if lent.removed {
         return Ok(None);
     }
-    let watches = parts(alloc, clock, lent.watch_count, lent.watches)?;
-    let fields = fields(alloc, lent.fields, watches)?;
+    let maps = behind(alloc, form, clock, lent.behind)?;
+    let fields = fields(alloc, lent.fields, maps)?;
     Ok(Some(fields))
 }
 
 /// An owned slot and its endpoint.
 pub(crate) fn slot(
     alloc: Global,
+    form: Form,
     clock: u64,
     lent: LentSlot,
 ) -> Result<(Endpoint, Slot), DeltaFault>
-    requires { (ws : List (Paths × Watchings)) × Holds clock lent ws }
-    ensures value { (ws : List (Paths × Watchings)) → Holds clock lent.entry ws → IfOk result (λ x. x ≡ lent_slot lent.entry ws) }
+    requires { (more : Behinds) × Holds form clock lent more }
+    ensures value { (more : Behinds) → Holds form clock lent.entry more → IfOk result (λ x. x ≡ lent_slot lent.entry more) }
     ensures fault { IfErr result (λ fault. fault ≡ DeltaFault.NoMemory) }
 {
     let endpoint = Endpoint::copy_of(alloc, lent.endpoint)?;
     let registration = lent.registration;
-    let fields = kept_fields(alloc, clock, lent)?;
+    let fields = kept_fields(alloc, form, clock, lent)?;
     let slot = Slot::from_parts(alloc, registration, fields)?;
     Ok((endpoint, slot))
 }

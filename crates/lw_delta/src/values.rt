@@ -1,9 +1,12 @@
 //! The values of fields.
 
 ghost use Rattle.std.specs.Prelude.{◌≡◌, ◌↔◌, IsTrue, IsSome, IfSome, IfOk, IfErr};
+ghost use Rattle.std.specs.Option.{option_copied};
+ghost use Rattle.lw_stamp.specs.TextOrder.{text_cmp};
 ghost use Rattle.lw_link.specs.WellFormed.{IsPrinting};
 ghost use Rattle.lw_reg.specs.Binding.{binding_text};
 ghost use Rattle.lw_reg.specs.BindingText.{IsBindingText};
+ghost use Rattle.lw_delta.specs.Order.{IsAbove};
 ghost use Rattle.lw_delta.specs.Part.{Found, Fails};
 ghost use Rattle.lw_delta.specs.Format.{base as base_part, v4 as v4_part, v6 as v6_part, address as address_part, moment as moment_part, binding as binding_part, text as text_part, sms_number as sms_part, objects as objects_part, number16 as number16_part, number32 as number32_part};
 ghost use Rattle.lw_delta.specs.Values.{base_in};
@@ -134,6 +137,16 @@ pub(crate) fn text(bytes: &[u8], count: u8) -> Result<(&str, &[u8]), DeltaFault>
         return Err(DeltaFault::Text);
     };
     Ok((text, rest))
+}
+
+/// Whether a text is above the one before, where there is one.
+pub(crate) fn is_above(after: Option<&str>, text: &str) -> bool
+    ensures { IsTrue result ↔ IsAbove text_cmp (option_copied after.entry) text.now }
+{
+    match after {
+        None => true,
+        Some(before) => before < text,
+    }
 }
 
 impl<'a> Parse<'a> for LentNumber<'a> {

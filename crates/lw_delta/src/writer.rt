@@ -7,6 +7,7 @@ ghost use Rattle.lw_delta.specs.Delta.{DeltaContent, IsSpelling};
 ghost use Rattle.lw_delta.specs.Writable.{IsBegun, StampsWithin, last_endpoint};
 ghost use Rattle.lw_delta.specs.Writing.{delta_bytes};
 
+use crate::form::{latest, magic};
 use crate::put::put_bytes;
 use crate::writing::{put_number48, put_slot};
 use lw_reg::Slot;
@@ -14,7 +15,7 @@ use lw_stamp::NoMemory;
 use std::alloc::Global;
 use std::marker::Model;
 
-/// The bytes of a delta without slots: `LWD1`, the clock and the end.
+/// The bytes of a delta without slots: the four of its format, the clock and the end.
 const LEAST: usize = 11;
 
 /// Puts a delta together: a clock, and slots by endpoints that rise. Contracts see the clock and the bytes so
@@ -46,7 +47,7 @@ impl Writer {
         ensures begun { IfOk result (λ writer. IsBegun writer []) }
     {
         let mut bytes = Vec::with_capacity(alloc, LEAST)?;
-        put_bytes(&mut bytes, b"LWD1")?;
+        put_bytes(&mut bytes, &magic(latest()))?;
         put_number48(&mut bytes, clock)?;
         Ok(Writer { clock, bytes })
     }

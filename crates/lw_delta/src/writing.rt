@@ -2,19 +2,22 @@
 
 ghost use Rattle.std.specs.Prelude.{◌≡◌, ◌<◌, ◌≤◌, ◌++◌, ◌^◌, ◌∷◌, [], length, OnOk, is_some, IfSome};
 ghost use Rattle.lw_reg.specs.Reading.{sms_of, objects_of};
+ghost use Rattle.lw_reg.specs.Attribute.{IsAttribute};
 ghost use Rattle.lw_reg.specs.Addr.{IsAddr, IsHost};
 ghost use Rattle.lw_reg.specs.Endpoint.{IsEndpoint};
-ghost use Rattle.lw_delta.specs.Writable.{IsOwnText, IsOwnObjects, FieldsTyped, AcceptTyped, AcceptsTyped, IsTyped};
-ghost use Rattle.lw_delta.specs.Writing.{Begins, number48_bytes, number16_bytes, number32_bytes, base_byte, addr_bytes, moment_bytes, text_bytes, binding_bytes, sms_bytes, objects_bytes, written_bytes, numbers_bytes, path_bytes, accept_bytes, watch_bytes, watches_bytes, flag_if, field_flags, flags_byte, fields_bytes, slot_head_bytes, slot_bytes};
+ghost use Rattle.lw_delta.specs.Writable.{IsOwnText, IsOwnObjects, FieldsTyped, AttributeTyped, AcceptTyped, BehindTyped, IsTyped};
+ghost use Rattle.lw_delta.specs.Form.{latest};
+ghost use Rattle.lw_delta.specs.Values.{behind_of};
+ghost use Rattle.lw_delta.specs.Writing.{Begins, number48_bytes, number16_bytes, number32_bytes, base_byte, addr_bytes, moment_bytes, text_bytes, binding_bytes, sms_bytes, objects_bytes, written_bytes, numbers_bytes, path_bytes, attribute_bytes, accept_bytes, watch_bytes, behind_bytes, flag_if, field_flags, flags_byte, fields_bytes, slot_head_bytes, slot_bytes};
 
 use crate::fields::{ADDRESS, BASE, BINDING, LIFETIME, OBJECTS, SEEN, SMS};
-use crate::put::{Put, put_byte, put_bytes, put_present};
+use crate::put::{Put, PutEntry, put_all, put_byte, put_bytes, put_present};
 use crate::slots::REMOVED;
 use crate::watches::{CANCELLED, OBSERVED};
-use lw_join::{Once, OrGone};
+use lw_join::{Last, Once, OrGone};
 use lw_link::LinkText;
 use lw_reg::{Addr, Base, Binding, Path, Slot, SmsNumber, Version, Watching};
-use lw_stamp::{Moment, NoMemory};
+use lw_stamp::{Moment, NoMemory, Text};
 
 pub(crate) fn put_number48(out: &mut Vec<u8>, number: u64) -> Result<(), NoMemory>
     ensures written { OnOk result (out.new.items ≡ out.old.items ++ number48_bytes number) }
@@ -235,27 +238,47 @@ fn put_accept(out: &mut Vec<u8>, accept: &OrGone<Once<u16>>) -> Result<(), NoMem
     }
 }
 
-fn put_watch(out: &mut Vec<u8>, entry: &(Path, Watching)) -> Result<(), NoMemory>
-    ensures written { OnOk result (out.new.items ≡ out.old.items ++ watch_bytes entry.now) }
-    ensures typed { OnOk result (AcceptTyped entry.now.1.value) }
-    ensures kept { Begins out.old.items out.new.items }
-{
-    let (path, watching) = entry;
-    path.put(out)?;
-    watching.stamp.put(out)?;
-    put_accept(out, &watching.value)
+/// The last write of an attribute.
+impl PutEntry for (Text, Last<Text>) {
+    ghost bytes = { attribute_bytes };
+
+    ghost fits = { λ w. IsAttribute w.0 w.1.write.1 };
+
+    ghost typed = { AttributeTyped };
+
+    fn put_entry(&self, out: &mut Vec<u8>) -> Result<(), NoMemory> {
+        let (name, last) = self;
+        let (stamp, value) = &last.write;
+        put_text(out, name.as_str())?;
+        stamp.put(out)?;
+        put_text(out, value.as_str())
+    }
 }
 
-fn put_watches(out: &mut Vec<u8>, entries: &[(Path, Watching)]) -> Result<(), NoMemory>
-    ensures written { OnOk result (out.new.items ≡ out.old.items ++ watches_bytes entries.now) }
-    ensures typed { OnOk result (AcceptsTyped entries.now) }
+/// A watch.
+impl PutEntry for (Path, Watching) {
+    ghost bytes = { watch_bytes };
+
+    ghost fits = { λ _. Unit {0} };
+
+    ghost typed = { λ w. AcceptTyped w.1.value };
+
+    fn put_entry(&self, out: &mut Vec<u8>) -> Result<(), NoMemory> {
+        let (path, watching) = self;
+        path.put(out)?;
+        watching.stamp.put(out)?;
+        put_accept(out, &watching.value)
+    }
+}
+
+/// What stands behind the fields of a slot.
+fn put_behind(out: &mut Vec<u8>, slot: &Slot) -> Result<(), NoMemory>
+    ensures written { OnOk result (out.new.items ≡ out.old.items ++ behind_bytes latest (behind_of slot.now)) }
+    ensures typed { OnOk result (BehindTyped (behind_of slot.now)) }
     ensures kept { Begins out.old.items out.new.items }
 {
-    for entry in entries {
-        put_byte(out, 1)?;
-        put_watch(out, entry)?;
-    }
-    put_byte(out, 0)
+    put_all(out, slot.attributes())?;
+    put_all(out, slot.watches())
 }
 
 fn flag_if(flag: u8, set: bool) -> u8
@@ -316,12 +339,12 @@ fn put_head(out: &mut Vec<u8>, endpoint: &str, slot: &Slot) -> Result<(), NoMemo
 /// A slot, and the 01 before it. Refused, a front of it may stand there.
 pub(crate) fn put_slot(out: &mut Vec<u8>, endpoint: &str, slot: &Slot) -> Result<(), NoMemory>
     requires { IsEndpoint endpoint.now }
-    ensures written { OnOk result (out.new.items ≡ out.old.items ++ 1 ∷ slot_bytes (endpoint.now, slot.now)) }
+    ensures written { OnOk result (out.new.items ≡ out.old.items ++ 1 ∷ slot_bytes latest (endpoint.now, slot.now)) }
     ensures typed { OnOk result (IsTyped slot.now) }
     ensures named { OnOk result (IsOwnText endpoint.now) }
     ensures kept { Begins out.old.items out.new.items }
 {
     put_head(out, endpoint, slot)?;
     put_fields(out, slot)?;
-    put_watches(out, slot.watches())
+    put_behind(out, slot)
 }

@@ -293,7 +293,7 @@ const REGISTER: &[u8] =
     b"4402000101020304b2726411283465703d61056c743d3630096c776d326d3d312e31ff3c2f332f303e\n";
 
 const ANSWER: &str = "64410001010203048272640d0330303030303030303030303130303031
-{\"address\":\"127.0.0.1:5683\",\"binding\":\"U\",\"endpoint\":\"a\",\"id\":\"0000000000010001\",\"lifetime\":60,\"lwm2m\":\"1.1\",\"objects\":\"</3/0>\",\"queue\":false,\"seen\":0,\"sms\":null}
+{\"address\":\"127.0.0.1:5683\",\"attributes\":{},\"binding\":\"U\",\"endpoint\":\"a\",\"id\":\"0000000000010001\",\"lifetime\":60,\"lwm2m\":\"1.1\",\"objects\":\"</3/0>\",\"queue\":false,\"seen\":0,\"sms\":null}
 ";
 
 const OPTIONS: OneOptions<'static> = OneOptions {
@@ -367,7 +367,7 @@ fn longest_answer(alloc: Global, ones: usize) -> Result<String, Fail> {
     let ones = "1".repeat(alloc, ones)?;
     Ok(format!(in alloc;
         r#"604100048272640d0330303030303030303030303130303031
-{{"address":"127.0.0.1:5683","binding":"U","endpoint":"a","id":"0000000000010001","lifetime":86400,"lwm2m":"1.0","objects":"</{ones}>","queue":false,"seen":0,"sms":null}}
+{{"address":"127.0.0.1:5683","attributes":{{}},"binding":"U","endpoint":"a","id":"0000000000010001","lifetime":86400,"lwm2m":"1.0","objects":"</{ones}>","queue":false,"seen":0,"sms":null}}
 "#
     )?)
 }

@@ -1,7 +1,10 @@
 //! The slots of operations, which tables of tests list.
 
 use lw_link::LinkText;
-use lw_reg::{Addr, Binding, Endpoint, Op, Path, Slot, Text, Version, What, atom};
+use lw_reg::{
+    Addr, Attributes, Binding, Endpoint, GivenSettings, Op, Path, Settings, Slot, Text, Version,
+    What, atom,
+};
 use lw_stamp::{Moment, Stamp};
 use std::alloc::Global;
 use std::test::Fail;
@@ -83,14 +86,23 @@ fn register(alloc: Global, address: Addr, seen: u64, lifetime: u32) -> Result<Wh
         queue: false,
         address,
         seen: at(seen),
-        lifetime,
-        binding: Binding::U,
-        sms: None,
-        objects,
+        settings: Settings {
+            lifetime,
+            binding: Binding::U,
+            sms: None,
+            objects,
+            attributes: Attributes::new(alloc),
+        },
     })
 }
 
-fn update(address: Addr, seen: u64, lifetime: Option<u32>, binding: Option<&str>) -> What {
+fn update(
+    alloc: Global,
+    address: Addr,
+    seen: u64,
+    lifetime: Option<u32>,
+    binding: Option<&str>,
+) -> What {
     let binding = match binding {
         None => None,
         Some(letters) => Binding::read(letters),
@@ -98,10 +110,13 @@ fn update(address: Addr, seen: u64, lifetime: Option<u32>, binding: Option<&str>
     What::Update {
         address,
         seen: at(seen),
-        lifetime,
-        binding,
-        sms: None,
-        objects: None,
+        settings: GivenSettings {
+            lifetime,
+            binding,
+            sms: None,
+            objects: None,
+            attributes: Attributes::new(alloc),
+        },
     }
 }
 
@@ -113,7 +128,7 @@ fn what(alloc: Global, act: Act<'_>) -> Result<What, Fail> {
     match act {
         Act::Register(address, seen, lifetime) => register(alloc, address, seen, lifetime),
         Act::Update(address, seen, lifetime, binding) => {
-            Ok(update(address, seen, lifetime, binding))
+            Ok(update(alloc, address, seen, lifetime, binding))
         }
         Act::Remove => Ok(What::Remove),
         Act::Observe(numbers, accept) => Ok(What::Observe {

@@ -16,6 +16,8 @@ mod join;
 #[cfg(test)]
 mod link;
 #[cfg(test)]
+mod recent;
+#[cfg(test)]
 mod reg;
 #[cfg(test)]
 mod request;

@@ -3,6 +3,7 @@ use lw_reg::*;
 use std::alloc::Global;
 use std::test::Fail;
 
+mod attributes;
 mod slots;
 mod whole;
 

@@ -17,11 +17,12 @@ use Rattle.lw_reg.specs.declared.op.Op.{Op}
 use Rattle.lw_reg.specs.declared.op.What.{What}
 use Rattle.lw_reg.specs.declared.op.What.TheVariants.{Register, Update, Remove, Observe, Cancel}
 use Rattle.lw_reg.specs.declared.path.Path.{Path}
+use Rattle.lw_reg.specs.declared.settings.GivenSettings.{GivenSettings}
 use Rattle.lw_reg.specs.declared.slot.Slot.{Slot}
 use Rattle.lw_reg.specs.declared.watch.Watch.{Watch}
 use Rattle.lw_reg.specs.Laws.{ShowTheSame}
-use Rattle.lw_reg.specs.Marks.{Trace, Mark, Has, left_by, marks_about, marks_of, all_marks, traces_of, written}
-use Rattle.lw_reg.specs.Marks.Trace.{Named, Based, LifetimeAt, BindingAt, SmsAt, ObjectsAt, Watched}
+use Rattle.lw_reg.specs.Marks.{Trace, Mark, Has, left_by, marks_about, marks_of, all_marks, attribute_traces, traces_of, written}
+use Rattle.lw_reg.specs.Marks.Trace.{Named, Based, LifetimeAt, BindingAt, SmsAt, ObjectsAt, AttributeAt, Watched}
 use Rattle.lw_reg.specs.Reading.{shown_in, stamp_of}
 use Rattle.lw_reg.specs.Registration.{Registration}
 use Rattle.lw_reg.specs.Showing.{IsComplete, IsLive}
@@ -74,18 +75,24 @@ abbrev is_watch : Trace → Bool
 is_watch (Watched path token accept) = true
 is_watch _ = false
 
+none_attributes : (test : Trace → Bool) (s : Stamp) (attributes : List (List ℕ × List ℕ)) → ((name v : List ℕ) → test (AttributeAt name s v) ≡ false) → any test (attribute_traces s attributes) ≡ false
+none_attributes test s [] h = refl
+none_attributes test s (a ∷ attributes) h = (λ i. h a.0 a.1 i || any test (attribute_traces s attributes)) ∙ none_attributes test s attributes h
+
 -- an Update gives neither base nor watch
-update_none : (test : Trace → Bool) (s : Stamp) (lifetime : Option ℕ) (binding : _) (sms objects : Option (List ℕ)) → ((v : ℕ) → test (LifetimeAt s v) ≡ false) → ((v : _) → test (BindingAt s v) ≡ false) → ((v : Option (List ℕ)) → test (SmsAt s v) ≡ false) → ((v : List ℕ) → test (ObjectsAt s v) ≡ false)
-    → any test (written (LifetimeAt s) lifetime ++ written (BindingAt s) binding ++ written (λ text. SmsAt s (Some text)) sms ++ written (ObjectsAt s) objects) ≡ false
-update_none test s lifetime binding sms objects l b m o =
-    none_more test _ _ (none_more test _ _ (none_more test _ _ (none_written test (LifetimeAt s) lifetime l) (none_written test (BindingAt s) binding b)) (none_written test (λ text. SmsAt s (Some text)) sms (λ text. m (Some text)))) (none_written test (ObjectsAt s) objects o)
+update_none : (test : Trace → Bool) (s : Stamp) (given : GivenSettings) → ((v : ℕ) → test (LifetimeAt s v) ≡ false) → ((v : _) → test (BindingAt s v) ≡ false) → ((v : Option (List ℕ)) → test (SmsAt s v) ≡ false) → ((v : List ℕ) → test (ObjectsAt s v) ≡ false) → ((name v : List ℕ) → test (AttributeAt name s v) ≡ false)
+    → any test ((written (LifetimeAt s) given.lifetime ++ written (BindingAt s) given.binding ++ written (λ text. SmsAt s (Some text)) given.sms ++ written (ObjectsAt s) given.objects) ++ attribute_traces s given.attributes) ≡ false
+update_none test s given l b m o a =
+    none_more test _ _
+    (none_more test _ _ (none_more test _ _ (none_more test _ _ (none_written test (LifetimeAt s) given.lifetime l) (none_written test (BindingAt s) given.binding b)) (none_written test (λ text. SmsAt s (Some text)) given.sms (λ text. m (Some text)))) (none_written test (ObjectsAt s) given.objects o))
+    (none_attributes test s given.attributes a)
 
 -- a base is given by a Register alone
 based_by : (s : Stamp) (what : What) (base : Base) → Contains (Named ∷ traces_of s what) (Based base) → IsRegister what
-based_by s (Register version queue address seen lifetime binding sms objects) base h = tt
-based_by s (Update address seen lifetime binding sms objects) base h =
-    absurd (let yes = any_there is_base (Named ∷ traces_of s (Update address seen lifetime binding sms objects)) (Based base) h refl in
-    let no : any is_base (Named ∷ traces_of s (Update address seen lifetime binding sms objects)) ≡ false = update_none is_base s lifetime binding sms objects (λ v. refl) (λ v. refl) (λ v. refl) (λ v. refl) in
+based_by s (Register version queue address seen settings) base h = tt
+based_by s (Update address seen settings) base h =
+    absurd (let yes = any_there is_base (Named ∷ traces_of s (Update address seen settings)) (Based base) h refl in
+    let no : any is_base (Named ∷ traces_of s (Update address seen settings)) ≡ false = update_none is_base s settings (λ v. refl) (λ v. refl) (λ v. refl) (λ v. refl) (λ name v. refl) in
     let bad : true ≡ false = sym yes ∙ no in cc)
 based_by s Remove base h = absurd (let bad = any_there is_base (Named ∷ traces_of s Remove) (Based base) h refl in cc)
 based_by s (Observe path accept) base h = absurd (let bad = any_there is_base (Named ∷ traces_of s (Observe path accept)) (Based base) h refl in cc)
@@ -101,11 +108,13 @@ record IsWatching (s : Stamp) (what : What) (token : Stamp) : Type 0 where
   other : IsRegister what → ⊥
 
 watched_by : (s : Stamp) (what : What) (path : Path) (token : Stamp) (accept : Option ℕ) → Contains (Named ∷ traces_of s what) (Watched path token accept) → IsWatching s what token
-watched_by s (Register version queue address seen lifetime binding sms objects) path token accept h =
-    absurd (let bad = any_there is_watch (Named ∷ traces_of s (Register version queue address seen lifetime binding sms objects)) (Watched path token accept) h refl in cc)
-watched_by s (Update address seen lifetime binding sms objects) path token accept h =
-    absurd (let yes = any_there is_watch (Named ∷ traces_of s (Update address seen lifetime binding sms objects)) (Watched path token accept) h refl in
-    let no : any is_watch (Named ∷ traces_of s (Update address seen lifetime binding sms objects)) ≡ false = update_none is_watch s lifetime binding sms objects (λ v. refl) (λ v. refl) (λ v. refl) (λ v. refl) in
+watched_by s (Register version queue address seen settings) path token accept h =
+    absurd (let yes = any_there is_watch (Named ∷ traces_of s (Register version queue address seen settings)) (Watched path token accept) h refl in
+    let no : any is_watch (Named ∷ traces_of s (Register version queue address seen settings)) ≡ false = none_attributes is_watch s settings.attributes (λ name v. refl) in
+    let bad : true ≡ false = sym yes ∙ no in cc)
+watched_by s (Update address seen settings) path token accept h =
+    absurd (let yes = any_there is_watch (Named ∷ traces_of s (Update address seen settings)) (Watched path token accept) h refl in
+    let no : any is_watch (Named ∷ traces_of s (Update address seen settings)) ≡ false = update_none is_watch s settings (λ v. refl) (λ v. refl) (λ v. refl) (λ v. refl) (λ name v. refl) in
     let bad : true ≡ false = sym yes ∙ no in cc)
 watched_by s Remove path token accept h = absurd (let bad = any_there is_watch (Named ∷ traces_of s Remove) (Watched path token accept) h refl in cc)
 watched_by s (Cancel p t) path token accept h = absurd (let bad = any_there is_watch (Named ∷ traces_of s (Cancel p t)) (Watched path token accept) h refl in cc)

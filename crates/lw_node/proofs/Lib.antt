@@ -1,5 +1,6 @@
 pub mod OneAnswer
 pub mod LeastOfBoth
+pub mod Attributes
 pub mod ReadBack
 pub mod Former
 pub mod Deciding

@@ -7,10 +7,11 @@ use Rattle.lw_coap.specs.declared.fault.Fault.{Fault}
 use Rattle.lw_coap.specs.Faults.{IsFault}
 use Rattle.lw_coap.specs.Message.{MessageContent}
 use Rattle.lw_reg.specs.declared.addr.Addr.{Addr}
-use Rattle.lw_reg.specs.declared.binding.Binding.{Binding}
 use Rattle.lw_reg.specs.declared.op.Op.{Op}
 use Rattle.lw_reg.specs.declared.op.What.{What}
 use Rattle.lw_reg.specs.declared.op.What.TheVariants as whats
+use Rattle.lw_reg.specs.declared.settings.GivenSettings.{GivenSettings}
+use Rattle.lw_reg.specs.declared.settings.Settings.{Settings}
 use Rattle.lw_reg.specs.declared.version.Version.{Version}
 use Rattle.lw_reg.specs.Marks.{Marks}
 use Rattle.lw_reg.specs.Registration.{Registration}
@@ -39,30 +40,30 @@ module _ (place : Place) (M : Marks) (source : Addr) (m : MessageContent) (asked
   decides_asked wanted is h =
       decides_as (Does place M source m wanted) (MessageMeans place M source m) d (λ e does. (wanted, subst (Means m) is means, does)) h
 
-  pub decides_register : (endpoint : List ℕ) (v : Version) (q : Bool) (seen : Moment) (l : ℕ) (b : Binding) (s : Option (List ℕ)) (o : List ℕ)
-      → asked ≡ Register endpoint v q l b s o → ms_of seen ≡ place.now
-      → Decides (Issues place m (λ op. (op.endpoint ≡ endpoint) × (op.reg ≡ op.stamp) × (op.what ≡ whats.Register v q source seen l b s o)) (created m)) d
+  pub decides_register : (endpoint : List ℕ) (v : Version) (q : Bool) (seen : Moment) (settings : Settings)
+      → asked ≡ Register endpoint v q settings → ms_of seen ≡ place.now
+      → Decides (Issues place m (λ op. (op.endpoint ≡ endpoint) × (op.reg ≡ op.stamp) × (op.what ≡ whats.Register v q source seen settings)) (created m)) d
       → Decides (MessageMeans place M source m) d
-  decides_register endpoint v q seen l b s o is now h =
-      let P : Op → Type 0 = λ op. (op.endpoint ≡ endpoint) × (op.reg ≡ op.stamp) × (op.what ≡ whats.Register v q source seen l b s o) in
-      let Q : Op → Type 0 = Registers place.now source endpoint v q l b s o in
-      decides_asked (Register endpoint v q l b s o) is
+  decides_register endpoint v q seen settings is now h =
+      let P : Op → Type 0 = λ op. (op.endpoint ≡ endpoint) × (op.reg ≡ op.stamp) × (op.what ≡ whats.Register v q source seen settings) in
+      let Q : Op → Type 0 = Registers place.now source endpoint v q settings in
+      decides_asked (Register endpoint v q settings) is
       (decides_as (Issues place m P (created m)) (Issues place m Q (created m)) d
       (λ e issues. issues_as place m (created m) P Q e
-      (λ op x. record { endpoint_is = x.0; registration = x.1; writes = subst (WritesAll place.now source v q l b s o) (sym x.2) (refl, refl, refl, now, refl, refl, refl, refl) })
+      (λ op x. record { endpoint_is = x.0; registration = x.1; writes = subst (WritesAll place.now source v q settings) (sym x.2) (refl, refl, refl, now, refl) })
       issues)
       h)
 
-  pub decides_update : (id : Option Stamp) (seen : Moment) (l : Option ℕ) (b : Option Binding) (s o : Option (List ℕ))
-      → asked ≡ Update id l b s o → ms_of seen ≡ place.now
-      → Decides (NamedChanges place M m id (λ w. w ≡ whats.Update source seen l b s o) 68) d
+  pub decides_update : (id : Option Stamp) (seen : Moment) (settings : GivenSettings)
+      → asked ≡ Update id settings → ms_of seen ≡ place.now
+      → Decides (NamedChanges place M m id (λ w. w ≡ whats.Update source seen settings) 68) d
       → Decides (MessageMeans place M source m) d
-  decides_update id seen l b s o is now h =
-      let P : What → Type 0 = λ w. w ≡ whats.Update source seen l b s o in
-      let Q : What → Type 0 = WritesGiven place.now source l b s o in
-      decides_asked (Update id l b s o) is
+  decides_update id seen settings is now h =
+      let P : What → Type 0 = λ w. w ≡ whats.Update source seen settings in
+      let Q : What → Type 0 = WritesGiven place.now source settings in
+      decides_asked (Update id settings) is
       (decides_as (NamedChanges place M m id P 68) (NamedChanges place M m id Q 68) d
-      (λ e x. (x.0, x.1, changes_as place m P Q 68 x.0 e (λ w same. subst Q (sym same) (refl, now, refl, refl, refl, refl)) x.2))
+      (λ e x. (x.0, x.1, changes_as place m P Q 68 x.0 e (λ w same. subst Q (sym same) (refl, now, refl)) x.2))
       h)
 
   module _ (bytes : Option (List ℕ)) (same : d ≡ replying bytes) where

@@ -5,11 +5,12 @@ use Rattle.std.specs.Prelude.{Result, IfSome}
 use Rattle.lw_stamp.specs.declared.stamp.Stamp.{Stamp}
 use Rattle.lw_coap.specs.Message.{MessageContent}
 use Rattle.lw_reg.specs.declared.addr.Addr.{Addr}
-use Rattle.lw_reg.specs.declared.binding.Binding.{Binding}
 use Rattle.lw_reg.specs.declared.op.Op.{Op}
 use Rattle.lw_reg.specs.declared.op.What.{What}
 use Rattle.lw_reg.specs.declared.op.What.TheVariants as whats
 use Rattle.lw_reg.specs.declared.path.Path.{Path}
+use Rattle.lw_reg.specs.declared.settings.GivenSettings.{GivenSettings}
+use Rattle.lw_reg.specs.declared.settings.Settings.{Settings}
 use Rattle.lw_reg.specs.declared.version.Version.{Version}
 use Rattle.lw_reg.specs.declared.watch.Watch.{Watch}
 use Rattle.lw_reg.specs.Reading.{shown_in}
@@ -27,19 +28,19 @@ use Rattle.lw_node.specs.Within.{FitsClock, TokenWithin, IsNextOf}
 abbrev pub NextIn : ℕ → Effect → Type 0
 NextIn clock effect = IfSome effect.operation (IsNextOf clock)
 
-all_token : (clock now : ℕ) (source : Addr) (version : Version) (queue : Bool) (lifetime : ℕ) (binding : Binding) (sms : Option (List ℕ)) (objects : List ℕ) (what : What) → WritesAll now source version queue lifetime binding sms objects what → TokenWithin clock what
-all_token clock now source version queue lifetime binding sms objects (whats.Register v q address seen l b s o) h = tt
-all_token clock now source version queue lifetime binding sms objects (whats.Update address seen l b s o) h = tt
-all_token clock now source version queue lifetime binding sms objects whats.Remove h = tt
-all_token clock now source version queue lifetime binding sms objects (whats.Observe path accept) h = tt
-all_token clock now source version queue lifetime binding sms objects (whats.Cancel path token) h = absurd h
+all_token : (clock now : ℕ) (source : Addr) (version : Version) (queue : Bool) (settings : Settings) (what : What) → WritesAll now source version queue settings what → TokenWithin clock what
+all_token clock now source version queue settings (whats.Register v q address seen s) h = tt
+all_token clock now source version queue settings (whats.Update address seen s) h = tt
+all_token clock now source version queue settings whats.Remove h = tt
+all_token clock now source version queue settings (whats.Observe path accept) h = tt
+all_token clock now source version queue settings (whats.Cancel path token) h = absurd h
 
-given_token : (clock now : ℕ) (source : Addr) (lifetime : Option ℕ) (binding : Option Binding) (sms objects : Option (List ℕ)) (what : What) → WritesGiven now source lifetime binding sms objects what → TokenWithin clock what
-given_token clock now source lifetime binding sms objects (whats.Register v q address seen l b s o) h = tt
-given_token clock now source lifetime binding sms objects (whats.Update address seen l b s o) h = tt
-given_token clock now source lifetime binding sms objects whats.Remove h = tt
-given_token clock now source lifetime binding sms objects (whats.Observe path accept) h = tt
-given_token clock now source lifetime binding sms objects (whats.Cancel path token) h = absurd h
+given_token : (clock now : ℕ) (source : Addr) (settings : GivenSettings) (what : What) → WritesGiven now source settings what → TokenWithin clock what
+given_token clock now source settings (whats.Register v q address seen s) h = tt
+given_token clock now source settings (whats.Update address seen s) h = tt
+given_token clock now source settings whats.Remove h = tt
+given_token clock now source settings (whats.Observe path accept) h = tt
+given_token clock now source settings (whats.Cancel path token) h = absurd h
 
 same_operation : (a b : Request) (o p : Op) → ◌≡◌ {A = Result (Request × Op) Refused} (Ok (a, o)) (Ok (b, p)) → p ≡ o
 same_operation a b o p e = ap of (sym e)
@@ -94,12 +95,12 @@ module _ (place : Place) where
     report_next report effect (inr (x, watched, inr h)) = ends_next report x effect watched.2.fits.lives h.1
 
     does_next : (source : Addr) (m : MessageContent) (asked : Asked) (effect : Effect) → Does place (shown_in state) source m asked effect → NextIn place.clock effect
-    does_next source m (Register endpoint version queue lifetime binding sms objects) effect h =
-        issues_next m _ _ effect (λ op next registers. next_of op next (own op next registers.registration) (all_token place.clock place.now source version queue lifetime binding sms objects op.what registers.writes)) h
+    does_next source m (Register endpoint version queue settings) effect h =
+        issues_next m _ _ effect (λ op next registers. next_of op next (own op next registers.registration) (all_token place.clock place.now source version queue settings op.what registers.writes)) h
       where
         own : (op : Op) → IsNext place op.stamp → op.reg ≡ op.stamp → op.reg.counter ≤ place.clock + 1
         own op next e = let is : op.reg.counter ≡ place.clock + 1 = ap (λ (s : Stamp). s.counter) e ∙ next.counter in omega (arith, is)
-    does_next source m (Update id lifetime binding sms objects) effect h = changes_next m _ 68 id effect (λ what writes. given_token place.clock place.now source lifetime binding sms objects what writes) h
+    does_next source m (Update id settings) effect h = changes_next m _ 68 id effect (λ what writes. given_token place.clock place.now source settings what writes) h
     does_next source m (Deregister id) effect h = changes_next m _ 66 id effect (λ what removes. subst (TokenWithin place.clock) (sym removes) tt) h
     does_next source m (Report report) effect h = report_next report effect h
     does_next source m Ping effect h = subst (NextIn place.clock) (sym h) tt

@@ -19,7 +19,8 @@ use Rattle.lw_reg.specs.Orders.{format_cmp}
 use Rattle.lw_reg.specs.Marks.{Marks, Trace, Has}
 use Rattle.lw_reg.specs.Marks.Trace.{Named, Based, AddressAt, SeenAt, LifetimeAt, BindingAt, SmsAt, ObjectsAt, Watched}
 use Rattle.lw_reg.specs.Registration.{Registration}
-use Rattle.lw_reg.specs.Showing.{IsCurrent, IsBase, IsValue, IsComplete, IsShown, IsExpired, IsToken, IsLive, IsFirstOfWatches, IsAbove, ShownOf, queue_of}
+use Rattle.lw_reg.specs.Showing.{IsCurrent, IsBase, IsValue, HasAttributes, IsComplete, IsShown, IsExpired, IsToken, IsLive, IsFirstOfWatches, IsAbove, ShownOf, queue_of}
+use Rattle.lw_reg.proofs.Readings.{attributes_one}
 use Rattle.lw_table.specs.Answers.{IsFirstAnswer}
 use Rattle.lw_table.specs.LookUps.{ById, ByAddress, IsHolder, ByToken, HasToken, WatchOfIdAfter, ExpiredAfter, IsExpiredAfter, named_by}
 use Rattle.lw_call.specs.declared.answer.Answer.{Answer}
@@ -51,6 +52,7 @@ module _ (M : Marks) where
     queue = queue i;
     sms = sms i;
     objects = objects i;
+    attributes = attributes i;
   }
     where
       ids : r.id ≡ q.id
@@ -82,6 +84,9 @@ module _ (M : Marks) where
 
       objects : r.objects ≡ q.objects
       objects = one text_order ObjectsAt r.objects q.objects h.objects g.objects
+
+      attributes : r.attributes ≡ q.attributes
+      attributes = attributes_one M r.endpoint r.id r.attributes q.attributes h.attributes (subst (λ (x : List ℕ × Stamp). HasAttributes M x.0 x.1 q.attributes) names g.attributes)
 
       version : r.version ≡ q.version
       version = h.version ∙ ap (λ (b : Base). b.version) base ∙ sym g.version

@@ -3,7 +3,7 @@ use Rattle.std.proofs.Common.{◌≡◌, inl, ℕ, zero, suc, ◌+◌, ◌*◌, 
 use Rattle.std.proofs.lemmas.Bool.Decides.{nat_tests}
 use Rattle.std.specs.Cmp.{nat_cmp_is, tied_itself}
 use Rattle.std.specs.FinMap.{get}
-use Rattle.std.specs.Ordering.{nat_cmp, ordering_then, match_ordering, max_by_ordering}
+use Rattle.std.specs.Ordering.{nat_cmp, ordering_then, match_ordering}
 use Rattle.std.specs.declared.cmp.Ordering.{Ordering}
 use Rattle.std.specs.declared.cmp.Ordering.TheVariants.{Less}
 use Rattle.lw_stamp.specs.declared.moment.Moment.{Moment}
@@ -13,10 +13,12 @@ use Rattle.lw_stamp.specs.StampOrder.{stamp_cmp}
 use Rattle.lw_stamp.specs.TextOrder.{text_cmp}
 use Rattle.lw_stamp.proofs.StampLemmas.{stamp_order}
 use Rattle.lw_join.specs.Greater.{greater}
+use Rattle.lw_join.specs.Entries.{Rises, get as entry_of}
 use Rattle.lw_join.specs.Lww.{write_cmp}
 use Rattle.lw_join.specs.Maps.{one_key}
 use Rattle.lw_join.specs.Options.{option_join}
 use Rattle.lw_join.specs.OrGone.{gone_join}
+use Rattle.lw_join.specs.Parts.{entries_of}
 use Rattle.lw_join.specs.declared.or_gone.OrGone.{OrGone}
 use Rattle.lw_join.specs.declared.or_gone.OrGone.TheVariants.{Here, Gone}
 use Rattle.lw_join.proofs.MapLemmas.{get-map_join, get-own_key}
@@ -26,25 +28,28 @@ use Rattle.lw_reg.specs.declared.binding.Binding.{Binding}
 use Rattle.lw_reg.specs.declared.body.Body.{Body}
 use Rattle.lw_reg.specs.declared.op.Op.{Op}
 use Rattle.lw_reg.specs.declared.op.What.{What}
+use Rattle.lw_reg.specs.declared.settings.GivenSettings.{GivenSettings}
 use Rattle.lw_reg.specs.declared.op.What.TheVariants.{Register, Update, Remove, Observe, Cancel}
 use Rattle.lw_reg.specs.declared.slot.Slot.{Slot}
-use Rattle.lw_reg.specs.Body.{body_join, no_watches}
+use Rattle.lw_reg.specs.Attribute.{values_of}
+use Rattle.lw_reg.specs.Body.{body_join, no_watches, maps_of}
 use Rattle.lw_reg.specs.Marks.{Trace, Marks, Has, marks_of}
-use Rattle.lw_reg.specs.Marks.Trace.{Named, Based, AddressAt, SeenAt, LifetimeAt, BindingAt, SmsAt, ObjectsAt}
+use Rattle.lw_reg.specs.Marks.Trace.{Named, Based, AddressAt, SeenAt, LifetimeAt, BindingAt, SmsAt, ObjectsAt, AttributeAt}
 use Rattle.lw_reg.specs.OrderLaws.{text_order}
 use Rattle.lw_reg.specs.Orders.{addr_cmp, base_cmp, binding_cmp, moment_cmp, sms_cmp}
 use Rattle.lw_reg.specs.Reading.{Shows, shown_in, shown_by_option, stamp_of, registration_of, registered_in, in_time, timely}
 use Rattle.lw_reg.specs.Registration.{Registration}
 use Rattle.lw_reg.specs.Showing.{IsBase, ShownOf, queue_of}
-use Rattle.lw_reg.specs.Slot.{slot_join, slot_at, slot_of, told_of, write_of, some_text}
+use Rattle.lw_reg.specs.Slot.{slot_join, slot_at, slot_of, told_of, write_of, writes_of, some_text}
 use Rattle.lw_reg.specs.State.{State, state_join, state_of}
 use Rattle.lw_reg.proofs.Operations.{marks_state}
 use Rattle.lw_reg.proofs.States.{state_is}
 use Rattle.lw_table.specs.Found.{view_with, view_at}
 use Rattle.lw_table.proofs.Answering.{read_by_endpoint}
 use Rattle.lw_table.proofs.LookUpLemmas.{view_reads, read_tells, read_names}
-use Rattle.lw_node.specs.Laws.{registered, RegistersReadBack, or_before, or_kept, IsUpdated, UpdatesReadBack}
+use Rattle.lw_node.specs.Laws.{registered, AttributesRise, RegistersReadBack, or_before, or_kept, IsUpdated, UpdatesReadBack}
 use Rattle.lw_node.specs.Within.{FitsClock, MarkWithin}
+use Rattle.lw_node.proofs.Attributes.{write_later, written_values, AreOlder, after_writes, after_rises, after_values}
 
 some_is : {A : Type 0} (v w : A) → Some v ≡ Some w → v ≡ w
 some_is v w e = cc
@@ -61,10 +66,6 @@ slot_later slot r x h =
 -- at one registration the bodies are joined
 slot_same : (r : Stamp) (x y : OrGone Body) → slot_join (slot_at r x) (slot_at r y) ≡ slot_at r (gone_join body_join x y)
 slot_same r x y = ap (λ (p : Stamp × OrGone Body). slot_at p.0 p.1) (ap (λ o. match_ordering {X = Stamp × OrGone Body} o (r, y) (r, gone_join body_join x y) (r, x)) (tied_itself stamp_order.total r))
-
--- of two writes the later counts
-write_later : {V : Type 0} (cmp : V → V → Ordering) (s t : Stamp) (v w : V) → stamp_cmp s t ≡ Less → greater (write_cmp cmp) (s, v) (t, w) ≡ (t, w)
-write_later cmp s t v w h = ap (λ o. max_by_ordering (ordering_then o (cmp v w)) (s, v) (t, w)) h
 
 -- ---- the state after an operation
 mark_state : (op : Op) → state_of (marks_of op) ≡ one_key op.endpoint (slot_of op)
@@ -104,15 +105,17 @@ in_own_time r = go r.lifetime
 timely_own : (r : Registration) → timely (ms_of r.seen) (Some r) ≡ Some r
 timely_own r = ap (λ b. cond b (Some r) None) (in_own_time r)
 
-registers : (e : List ℕ) (id s : Stamp) (what : What) (r : Registration) → registered e id what ≡ Some r → registered_in e (slot_at id (told_of s what)) ≡ Some r
-registers e id s (Register version queue address seen lifetime binding sms objects) r h = h
-registers e id s (Update address seen lifetime binding sms objects) r h = absurd cc
-registers e id s Remove r h = absurd cc
-registers e id s (Observe path accept) r h = absurd cc
-registers e id s (Cancel path token) r h = absurd cc
+registers : (e : List ℕ) (id s : Stamp) (what : What) (r : Registration) → AttributesRise what → registered e id what ≡ Some r → registered_in e (slot_at id (told_of s what)) ≡ Some r
+registers e id s (Register version queue address seen settings) r rise h =
+    ap (registration_of e id (Some (record { version = version; queue = queue })) (Some (s, address)) (Some (s, seen)) (Some (s, settings.lifetime)) (Some (s, settings.binding)) (Some (s, settings.sms)) (Some (s, settings.objects))) (written_values s settings.attributes rise)
+    ∙ h
+registers e id s (Update address seen settings) r rise h = absurd cc
+registers e id s Remove r rise h = absurd cc
+registers e id s (Observe path accept) r rise h = absurd cc
+registers e id s (Cancel path token) r rise h = absurd cc
 
 pub registers_read_back : RegistersReadBack
-registers_read_back old new op f own r h =
+registers_read_back old new op f rise own r h =
     read_by_endpoint new.table.state (ms_of r.seen) op.endpoint (Some r) (sym found)
   where
     at : get new.table.state op.endpoint ≡ Some (slot_of op)
@@ -121,7 +124,7 @@ registers_read_back old new op f own r h =
     found : view_at (ms_of r.seen) new.table.state op.endpoint ≡ Some r
     found =
         ap (view_with (ms_of r.seen) op.endpoint) at
-        ∙ ap (timely (ms_of r.seen)) (registers op.endpoint op.reg op.stamp op.what r (ap (λ t. registered op.endpoint t op.what) own ∙ h))
+        ∙ ap (timely (ms_of r.seen)) (registers op.endpoint op.reg op.stamp op.what r rise (ap (λ t. registered op.endpoint t op.what) own ∙ h))
         ∙ timely_own r
 
 -- ---- an Update
@@ -141,11 +144,11 @@ pub record IsWhole (e : List ℕ) (r : Stamp) (b : Body) (v : Registration) : Ty
   pub binding_is : b.binding.write ≡ Some binding
   pub sms_is : b.sms.write ≡ Some sms
   pub objects_is : b.objects.write ≡ Some objects
-  pub shown : registration_of e r (Some base) (Some address) (Some seen) (Some lifetime) (Some binding) (Some sms) (Some objects) ≡ Some v
+  pub shown : registration_of e r (Some base) (Some address) (Some seen) (Some lifetime) (Some binding) (Some sms) (Some objects) (values_of (entries_of b.maps.left)) ≡ Some v
 
 whole : (e : List ℕ) (r : Stamp) (b : Body) (v : Registration) (ob : Option Base) (oa : Option (Stamp × Addr)) (os : Option (Stamp × Moment)) (ol : Option (Stamp × ℕ)) (oi : Option (Stamp × Binding)) (om : Option (Stamp × Option (List ℕ))) (oo : Option (Stamp × List ℕ))
     → b.base.value ≡ ob → b.address.write ≡ oa → b.seen.write ≡ os → b.lifetime.write ≡ ol → b.binding.write ≡ oi → b.sms.write ≡ om → b.objects.write ≡ oo
-    → registration_of e r ob oa os ol oi om oo ≡ Some v → IsWhole e r b v
+    → registration_of e r ob oa os ol oi om oo (values_of (entries_of b.maps.left)) ≡ Some v → IsWhole e r b v
 whole e r b v (Some base) (Some address) (Some seen) (Some lifetime) (Some binding) (Some sms) (Some objects) hb ha hs hl hi hm ho h = record {
   base = base;
   address = address;
@@ -207,16 +210,16 @@ sms_kept None v = refl
 sms_kept (Some m) v = refl
 
 -- what an Update leaves of a body
-abbrev updated_body : Body → Stamp → Addr → Moment → Option ℕ → Option Binding → Option (List ℕ) → Option (List ℕ) → Body
-updated_body b t address seen lifetime binding sms objects = body_join b (record {
+abbrev updated_body : Body → Stamp → Addr → Moment → GivenSettings → Body
+updated_body b t address seen given = body_join b (record {
   base = record { value = None };
   address = record { write = Some (t, address) };
   seen = record { write = Some (t, seen) };
-  lifetime = record { write = write_of t lifetime };
-  binding = record { write = write_of t binding };
-  sms = record { write = write_of t (some_text sms) };
-  objects = record { write = write_of t objects };
-  watches = no_watches;
+  lifetime = record { write = write_of t given.lifetime };
+  binding = record { write = write_of t given.binding };
+  sms = record { write = write_of t (some_text given.sms) };
+  objects = record { write = write_of t given.objects };
+  maps = maps_of (writes_of t given.attributes) no_watches;
 })
 
 -- each field of the body was written before
@@ -227,23 +230,24 @@ record IsBefore (t : Stamp) {e : List ℕ} {r : Stamp} {b : Body} {v : Registrat
   binding : stamp_cmp w.binding.0 t ≡ Less
   sms : stamp_cmp w.sms.0 t ≡ Less
   objects : stamp_cmp w.objects.0 t ≡ Less
+  attributes : AreOlder b.maps.left t
 
-record Updated (M : Marks) (e : List ℕ) (before : Registration) (c : Body) (address : Addr) (seen : Moment) (lifetime : Option ℕ) (binding : Option Binding) (sms objects : Option (List ℕ)) : Type 0 where
+record Updated (M : Marks) (e : List ℕ) (before : Registration) (c : Body) (address : Addr) (seen : Moment) (given : GivenSettings) : Type 0 where
   registration : Registration
   shown : registered_in e (slot_at before.id (Here c)) ≡ Some registration
-  is : IsUpdated M before address seen lifetime binding sms objects registration
+  is : IsUpdated M before address seen given registration
 
-updates : (M : Marks) (e : List ℕ) (before : Registration) (b : Body) (w : IsWhole e before.id b before) (t : Stamp) (address : Addr) (seen : Moment) (lifetime : Option ℕ) (binding : Option Binding) (sms objects : Option (List ℕ))
-    → ((base : Base) → IsBase M before.endpoint before.id base → w.base ≡ base) → IsBefore t w → Updated M e before (updated_body b t address seen lifetime binding sms objects) address seen lifetime binding sms objects
-updates M e before b w t address seen lifetime binding sms objects stood older =
+updates : (M : Marks) (e : List ℕ) (before : Registration) (b : Body) (w : IsWhole e before.id b before) (t : Stamp) (address : Addr) (seen : Moment) (given : GivenSettings)
+    → ((base : Base) → IsBase M before.endpoint before.id base → w.base ≡ base) → Rises text_cmp given.attributes → IsBefore t w → Updated M e before (updated_body b t address seen given) address seen given
+updates M e before b w t address seen given stood rise older =
     let hb = ap (λ o. option_join (greater base_cmp) o None) w.base_is in
     let ha = field_after addr_cmp b.address.write w.address t (Some address) w.address_is older.address in
     let hs = field_after moment_cmp b.seen.write w.seen t (Some seen) w.seen_is older.seen in
-    let hl = field_after nat_cmp b.lifetime.write w.lifetime t lifetime w.lifetime_is older.lifetime in
-    let hi = field_after binding_cmp b.binding.write w.binding t binding w.binding_is older.binding in
-    let hm = field_after sms_cmp b.sms.write w.sms t (some_text sms) w.sms_is older.sms in
-    let ho = field_after text_cmp b.objects.write w.objects t objects w.objects_is older.objects in
-    record { registration = r; shown = λ i. registration_of e before.id (hb i) (ha i) (hs i) (hl i) (hi i) (hm i) (ho i); is = updated }
+    let hl = field_after nat_cmp b.lifetime.write w.lifetime t given.lifetime w.lifetime_is older.lifetime in
+    let hi = field_after binding_cmp b.binding.write w.binding t given.binding w.binding_is older.binding in
+    let hm = field_after sms_cmp b.sms.write w.sms t (some_text given.sms) w.sms_is older.sms in
+    let ho = field_after text_cmp b.objects.write w.objects t given.objects w.objects_is older.objects in
+    record { registration = r; shown = λ i. registration_of e before.id (hb i) (ha i) (hs i) (hl i) (hi i) (hm i) (ho i) (after_writes b.maps.left t given.attributes); is = updated }
   where
     same : ◌≡◌ {A = Registration} (record {
       endpoint = e;
@@ -256,6 +260,7 @@ updates M e before b w t address seen lifetime binding sms objects stood older =
       queue = queue_of w.base w.binding.1;
       sms = w.sms.1;
       objects = w.objects.1;
+      attributes = values_of (entries_of b.maps.left);
     }) before
     same = some_is _ before w.shown
 
@@ -265,26 +270,31 @@ updates M e before b w t address seen lifetime binding sms objects stood older =
       id = before.id;
       address = address;
       seen = seen;
-      lifetime = or_before lifetime w.lifetime.1;
+      lifetime = or_before given.lifetime w.lifetime.1;
       version = w.base.version;
-      binding = or_before binding w.binding.1;
-      queue = queue_of w.base (or_before binding w.binding.1);
-      sms = or_before (some_text sms) w.sms.1;
-      objects = or_before objects w.objects.1;
+      binding = or_before given.binding w.binding.1;
+      queue = queue_of w.base (or_before given.binding w.binding.1);
+      sms = or_before (some_text given.sms) w.sms.1;
+      objects = or_before given.objects w.objects.1;
+      attributes = after_writes b.maps.left t given.attributes;
     }
 
-    updated : IsUpdated M before address seen lifetime binding sms objects r
+    updated : IsUpdated M before address seen given r
     updated = record {
       endpoint = ap (λ (x : Registration). x.endpoint) same;
       id = refl;
       address_is = refl;
       seen_is = refl;
-      lifetime_is = ap (λ (x : Registration). or_before lifetime x.lifetime) same;
+      lifetime_is = ap (λ (x : Registration). or_before given.lifetime x.lifetime) same;
       version = ap (λ (x : Registration). x.version) same;
-      binding_is = ap (λ (x : Registration). or_before binding x.binding) same;
-      queue = λ base is. ap (λ b. queue_of b (or_before binding w.binding.1)) (stood base is);
-      sms_is = sms_kept sms w.sms.1 ∙ ap (λ (x : Registration). or_kept sms x.sms) same;
-      objects_is = ap (λ (x : Registration). or_before objects x.objects) same;
+      binding_is = ap (λ (x : Registration). or_before given.binding x.binding) same;
+      queue = λ base is. ap (λ b. queue_of b (or_before given.binding w.binding.1)) (stood base is);
+      sms_is = sms_kept given.sms w.sms.1 ∙ ap (λ (x : Registration). or_kept given.sms x.sms) same;
+      objects_is = ap (λ (x : Registration). or_before given.objects x.objects) same;
+      attributes_rise = after_rises b.maps.left t given.attributes;
+      attributes_are = λ name.
+          after_values b.maps.left t given.attributes rise older.attributes name
+          ∙ ap (λ (x : Registration). or_kept (entry_of text_cmp given.attributes name) (entry_of text_cmp x.attributes name)) same;
     }
 
 -- all that the state shows is older than the operation
@@ -296,6 +306,7 @@ older_than clock s fits op next before b h w = record {
   binding = less (BindingAt w.binding.0 w.binding.1) w.binding.0 w.binding_is (λ m. m.1);
   sms = less (SmsAt w.sms.0 w.sms.1) w.sms.0 w.sms_is (λ m. m.1);
   objects = less (ObjectsAt w.objects.0 w.objects.1) w.objects.0 w.objects_is (λ m. m.1);
+  attributes = λ name last there. less (AttributeAt name last.write.0 last.write.1) last.write.0 there (λ m. m.1);
 }
   where
     less : (k : Trace) (t : Stamp) → Shows (Here b) k → (MarkWithin clock (record { endpoint = op.endpoint; registration = before.id; trace = k }) → t.counter ≤ clock) → stamp_cmp t op.stamp ≡ Less
@@ -305,11 +316,11 @@ older_than clock s fits op next before b h w = record {
         counter_less t op.stamp (omega arith)
 
 pub updates_read_back : UpdatesReadBack
-updates_read_back old new op f now before s here own address seen lifetime binding sms objects what =
+updates_read_back old new op f rise now before s here own address seen given what =
     go (get old.table.state op.endpoint) refl ((view_reads (shown_in old.table.state) (read_names old.table.state) old.table.state (read_tells old.table.state) now op.endpoint before).1 (sym here, s))
   where
     go : (o : Option Slot) → get old.table.state op.endpoint ≡ o → view_with now op.endpoint o ≡ Some before
-        → (r : Registration) × IsUpdated (shown_in old.table.state) before address seen lifetime binding sms objects r × ShownOf (shown_in new.table.state) (ms_of seen) op.endpoint (Some r)
+        → (r : Registration) × IsUpdated (shown_in old.table.state) before address seen given r × ShownOf (shown_in new.table.state) (ms_of seen) op.endpoint (Some r)
     go None h k = absurd cc
     go (Some slot) h k = (u.registration, u.is, read_by_endpoint new.table.state (ms_of seen) op.endpoint (Some u.registration) (sym found))
       where
@@ -326,14 +337,14 @@ updates_read_back old new op f now before s here own address seen lifetime bindi
             ∙ (subst (λ o. shown_by_option op.endpoint o (record { endpoint = op.endpoint; registration = before.id; trace = Based base })) there
             (subst (λ e. Has (shown_in old.table.state) e before.id (Based base)) (sym here) is.member)).2)
 
-        u : Updated (shown_in old.table.state) op.endpoint before (updated_body body.body op.stamp address seen lifetime binding sms objects) address seen lifetime binding sms objects
-        u = updates (shown_in old.table.state) op.endpoint before body.body body.whole_is op.stamp address seen lifetime binding sms objects stood (older_than old.clock old.table.state f.fits op f.next before body.body there body.whole_is)
+        u : Updated (shown_in old.table.state) op.endpoint before (updated_body body.body op.stamp address seen given) address seen given
+        u = updates (shown_in old.table.state) op.endpoint before body.body body.whole_is op.stamp address seen given stood (subst AttributesRise what rise) (older_than old.clock old.table.state f.fits op f.next before body.body there body.whole_is)
 
-        joined : option_join slot_join (get old.table.state op.endpoint) (Some (slot_of op)) ≡ Some (slot_at before.id (Here (updated_body body.body op.stamp address seen lifetime binding sms objects)))
+        joined : option_join slot_join (get old.table.state op.endpoint) (Some (slot_of op)) ≡ Some (slot_at before.id (Here (updated_body body.body op.stamp address seen given)))
         joined =
             ap (λ o. option_join slot_join o (Some (slot_of op))) there
             ∙ ap (λ (p : Stamp × What). Some (slot_join (slot_at before.id (Here body.body)) (slot_at p.0 (told_of op.stamp p.1)))) (λ i. (own i, what i))
-            ∙ ap (λ x. Some x) (slot_same before.id (Here body.body) (told_of op.stamp (Update address seen lifetime binding sms objects)))
+            ∙ ap (λ x. Some x) (slot_same before.id (Here body.body) (told_of op.stamp (Update address seen given)))
 
         found : view_at (ms_of seen) new.table.state op.endpoint ≡ Some u.registration
         found =

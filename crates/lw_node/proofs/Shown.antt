@@ -1,14 +1,17 @@
 -- The marks that slots show, one after another; and that the slots are the state of them.
-use Rattle.std.proofs.Common.{◌≡◌, ℕ, Bool, true, false, cond, List, [], ◌∷◌, ◌++◌, Option, Some, None, sym, refl, ap, ◌∙◌, subst, inl, inr, ◌⊎◌}
+use Rattle.std.proofs.Common.{◌≡◌, ℕ, Bool, true, false, cond, List, [], ◌∷◌, ◌++◌, Option, Some, None, map, sym, refl, ap, ◌∙◌, subst, inl, inr, ◌⊎◌}
 use Rattle.std.specs.Prelude.{◌↔◌, Contains}
 use Rattle.std.specs.Ordering.{is_eq}
+use Rattle.std.specs.declared.cmp.Ordering.{Ordering}
 use Rattle.std.proofs.lemmas.List.Elements.{Contains-append_left, Contains-append_right, Contains-append_cases}
 use Rattle.lw_stamp.specs.declared.stamp.Stamp.{Stamp}
+use Rattle.lw_stamp.specs.Order.{IsExactOrder}
 use Rattle.lw_stamp.specs.TextOrder.{text_cmp}
 use Rattle.lw_join.specs.Entries.{Rises, get}
-use Rattle.lw_join.specs.EntriesLaws.{same_key}
+use Rattle.lw_join.specs.EntriesLaws.{same_key, same_value}
 use Rattle.lw_join.specs.Maps.{one_key}
 use Rattle.lw_join.specs.Parts.{entries_of}
+use Rattle.lw_join.specs.declared.last.Last.{Last}
 use Rattle.lw_join.specs.declared.once.Once.{Once}
 use Rattle.lw_join.specs.declared.or_gone.OrGone.{OrGone}
 use Rattle.lw_join.specs.declared.or_gone.OrGone.TheVariants.{Here, Gone}
@@ -19,7 +22,7 @@ use Rattle.lw_reg.specs.declared.path.Path.{Path}
 use Rattle.lw_reg.specs.declared.slot.Slot.{Slot}
 use Rattle.lw_reg.specs.Body.{Watching}
 use Rattle.lw_reg.specs.Marks.{Trace, Mark, NamesAll, among, written, marks_about}
-use Rattle.lw_reg.specs.Marks.Trace.{Named, Based, AddressAt, SeenAt, LifetimeAt, BindingAt, SmsAt, ObjectsAt, Removed, Watched, Cancelled}
+use Rattle.lw_reg.specs.Marks.Trace.{Named, Based, AddressAt, SeenAt, LifetimeAt, BindingAt, SmsAt, ObjectsAt, AttributeAt, Removed, Watched, Cancelled}
 use Rattle.lw_reg.specs.OrderLaws.{path_order, text_order}
 use Rattle.lw_reg.specs.Orders.{path_cmp}
 use Rattle.lw_reg.specs.Reading.{BodyShows, Shows, stamp_of, shown_by}
@@ -57,44 +60,50 @@ watch_trace path token (Here accept) = Watched path token accept.value
 abbrev entry_trace : Path × Watching → Trace
 entry_trace x = watch_trace x.0 x.1.stamp x.1.value
 
-abbrev watch_traces : List (Path × Watching) → List Trace
-watch_traces [] = []
-watch_traces (x ∷ xs) = entry_trace x ∷ watch_traces xs
+abbrev write_trace : List ℕ × Last (List ℕ) → Trace
+write_trace x = AttributeAt x.0 x.1.write.0 x.1.write.1
 
-on_watches : (xs : List (Path × Watching)) (x : Path × Watching) → Contains xs x → Contains (watch_traces xs) (entry_trace x)
-on_watches [] x h = none_there x h
-on_watches (y ∷ ys) x h = go (there_or_first y ys x h) (λ there. on_watches ys x there)
-  where
-    go : (x ≡ y) ⊎ Contains ys x → (Contains ys x → Contains (watch_traces ys) (entry_trace x)) → Contains (watch_traces (y ∷ ys)) (entry_trace x)
-    go (inl e) rest = first_there (entry_trace y) (watch_traces ys) (entry_trace x) (ap entry_trace e)
-    go (inr there) rest = more_there (entry_trace y) (watch_traces ys) (entry_trace x) (rest there)
+-- the trace of each entry
+module _ {E : Type 0} (f : E → Trace) where
+  on_entries : (xs : List E) (x : E) → Contains xs x → Contains (map f xs) (f x)
+  on_entries [] x h = none_there x h
+  on_entries (y ∷ ys) x h = go (there_or_first y ys x h) (λ there. on_entries ys x there)
+    where
+      go : (x ≡ y) ⊎ Contains ys x → (Contains ys x → Contains (map f ys) (f x)) → Contains (map f (y ∷ ys)) (f x)
+      go (inl e) rest = first_there (f y) (map f ys) (f x) (ap f e)
+      go (inr there) rest = more_there (f y) (map f ys) (f x) (rest there)
 
--- an entry of which the trace is
-abbrev IsOfEntry : List (Path × Watching) → Trace → Type 0
-IsOfEntry xs k = (x : Path × Watching) × Contains xs x × (k ≡ entry_trace x)
+  -- an entry of which the trace is
+  abbrev IsOfEntry : List E → Trace → Type 0
+  IsOfEntry xs k = (x : E) × Contains xs x × (k ≡ f x)
 
-by_watches : (xs : List (Path × Watching)) (k : Trace) → Contains (watch_traces xs) k → IsOfEntry xs k
-by_watches [] k h = none_there k h
-by_watches (y ∷ ys) k h = go (there_or_first (entry_trace y) (watch_traces ys) k h) (λ there. by_watches ys k there)
-  where
-    go : (k ≡ entry_trace y) ⊎ Contains (watch_traces ys) k → (Contains (watch_traces ys) k → IsOfEntry ys k) → IsOfEntry (y ∷ ys) k
-    go (inl e) rest = (y, first_there y ys y refl, e)
-    go (inr there) rest = (let x = rest there in (x.0, more_there y ys x.0 x.1, x.2))
+  by_entries : (xs : List E) (k : Trace) → Contains (map f xs) k → IsOfEntry xs k
+  by_entries [] k h = none_there k h
+  by_entries (y ∷ ys) k h = go (there_or_first (f y) (map f ys) k h) (λ there. by_entries ys k there)
+    where
+      go : (k ≡ f y) ⊎ Contains (map f ys) k → (Contains (map f ys) k → IsOfEntry ys k) → IsOfEntry (y ∷ ys) k
+      go (inl e) rest = (y, first_there y ys y refl, e)
+      go (inr there) rest = (let x = rest there in (x.0, more_there y ys x.0 x.1, x.2))
 
--- what a path has is its entry
-entry_there : (xs : List (Path × Watching)) (p : Path) (w : Watching) → get path_cmp xs p ≡ Some w → Contains xs (p, w)
-entry_there [] p w e = absurd cc
-entry_there (x ∷ xs) p w e = go (is_eq (path_cmp p x.0)) refl e (λ k. entry_there xs p w k)
-  where
-    go : (b : Bool) → is_eq (path_cmp p x.0) ≡ b → cond b (Some x.1) (get path_cmp xs p) ≡ Some w → (get path_cmp xs p ≡ Some w → Contains xs (p, w)) → Contains (x ∷ xs) (p, w)
-    go true same k rest = (let own : x.1 ≡ w = cc in first_there x xs (p, w) (λ i. (same_key path_order p x.0 same i, sym own i)))
-    go false same k rest = more_there x xs (p, w) (rest k)
+module _ {K J : Type 0} {cmp : K → K → Ordering} (order : IsExactOrder cmp) where
+  -- what a key has is its entry
+  entry_there : (xs : List (K × J)) (k : K) (w : J) → get cmp xs k ≡ Some w → Contains xs (k, w)
+  entry_there [] k w e = absurd cc
+  entry_there (x ∷ xs) k w e = go (is_eq (cmp k x.0)) refl e (λ h. entry_there xs k w h)
+    where
+      go : (b : Bool) → is_eq (cmp k x.0) ≡ b → cond b (Some x.1) (get cmp xs k) ≡ Some w → (get cmp xs k ≡ Some w → Contains xs (k, w)) → Contains (x ∷ xs) (k, w)
+      go true same h rest = (let own : x.1 ≡ w = same_value order x.1 w h in first_there x xs (k, w) (λ i. (same_key order k x.0 same i, sym own i)))
+      go false same h rest = more_there x xs (k, w) (rest h)
 
-there_entry : (xs : List (Path × Watching)) (x : Path × Watching) → Rises path_cmp xs → Contains xs x → get path_cmp xs x.0 ≡ Some x.1
-there_entry xs x rises h = subst (λ (y : Path × Watching). get path_cmp xs y.0 ≡ Some y.1) h.2 (get_at path_order xs h.0 x rises h.1)
+  there_entry : (xs : List (K × J)) (x : K × J) → Rises cmp xs → Contains xs x → get cmp xs x.0 ≡ Some x.1
+  there_entry xs x rises h = subst (λ (y : K × J). get cmp xs y.0 ≡ Some y.1) h.2 (get_at order xs h.0 x rises h.1)
+
+-- those of the attributes, and those of the watches
+abbrev from_maps : Body → List Trace
+from_maps b = map write_trace (entries_of b.maps.left) ++ map entry_trace (entries_of b.maps.right)
 
 abbrev from_objects : Body → List Trace
-from_objects b = written (field_trace ObjectsAt) b.objects.write ++ watch_traces (entries_of b.watches)
+from_objects b = written (field_trace ObjectsAt) b.objects.write ++ from_maps b
 
 abbrev from_sms : Body → List Trace
 from_sms b = written (field_trace SmsAt) b.sms.write ++ from_objects b
@@ -137,8 +146,14 @@ module _ (b : Body) where
   to_objects : (k : Trace) → Contains (from_objects b) k → Contains (from_base b) k
   to_objects k h = to_sms k (past_written (field_trace SmsAt) b.sms.write (from_objects b) k h)
 
-  to_watches : (k : Trace) → Contains (watch_traces (entries_of b.watches)) k → Contains (from_base b) k
-  to_watches k h = to_objects k (past_written (field_trace ObjectsAt) b.objects.write (watch_traces (entries_of b.watches)) k h)
+  to_maps : (k : Trace) → Contains (from_maps b) k → Contains (from_base b) k
+  to_maps k h = to_objects k (past_written (field_trace ObjectsAt) b.objects.write (from_maps b) k h)
+
+  to_writes : (k : Trace) → Contains (map write_trace (entries_of b.maps.left)) k → Contains (from_base b) k
+  to_writes k h = to_maps k (Contains-append_left (map write_trace (entries_of b.maps.left)) (map entry_trace (entries_of b.maps.right)) k h)
+
+  to_watches : (k : Trace) → Contains (map entry_trace (entries_of b.maps.right)) k → Contains (from_base b) k
+  to_watches k h = to_maps k (Contains-append_right (map write_trace (entries_of b.maps.left)) (map entry_trace (entries_of b.maps.right)) k h)
 
   body_listed : (k : Trace) → BodyShows b k → Contains (traces_in (Here b)) k
   body_listed Named h = first_there Named (from_base b) Named refl
@@ -148,17 +163,25 @@ module _ (b : Body) where
   body_listed (LifetimeAt s v) h = more_there Named (from_base b) _ (to_lifetime _ (on_written (field_trace LifetimeAt) b.lifetime.write (from_binding b) (s, v) h))
   body_listed (BindingAt s v) h = more_there Named (from_base b) _ (to_binding _ (on_written (field_trace BindingAt) b.binding.write (from_sms b) (s, v) h))
   body_listed (SmsAt s v) h = more_there Named (from_base b) _ (to_sms _ (on_written (field_trace SmsAt) b.sms.write (from_objects b) (s, v) h))
-  body_listed (ObjectsAt s v) h = more_there Named (from_base b) _ (to_objects _ (on_written (field_trace ObjectsAt) b.objects.write (watch_traces (entries_of b.watches)) (s, v) h))
+  body_listed (ObjectsAt s v) h = more_there Named (from_base b) _ (to_objects _ (on_written (field_trace ObjectsAt) b.objects.write (from_maps b) (s, v) h))
+  body_listed (AttributeAt name s v) h =
+      more_there Named (from_base b) _ (to_writes _ (on_entries write_trace (entries_of b.maps.left) (name, record { write = (s, v) }) (entry_there text_order (entries_of b.maps.left) name (record { write = (s, v) }) h)))
   body_listed Removed h = absurd h
-  body_listed (Watched p t a) h = more_there Named (from_base b) _ (to_watches _ (on_watches (entries_of b.watches) (p, observed t a) (entry_there (entries_of b.watches) p (observed t a) h)))
-  body_listed (Cancelled p t) h = more_there Named (from_base b) _ (to_watches _ (on_watches (entries_of b.watches) (p, cancelled t) (entry_there (entries_of b.watches) p (cancelled t) h)))
+  body_listed (Watched p t a) h = more_there Named (from_base b) _ (to_watches _ (on_entries entry_trace (entries_of b.maps.right) (p, observed t a) (entry_there path_order (entries_of b.maps.right) p (observed t a) h)))
+  body_listed (Cancelled p t) h = more_there Named (from_base b) _ (to_watches _ (on_entries entry_trace (entries_of b.maps.right) (p, cancelled t) (entry_there path_order (entries_of b.maps.right) p (cancelled t) h)))
 
-  entry_shown : (x : Path × Watching) → Contains (entries_of b.watches) x → BodyShows b (entry_trace x)
-  entry_shown x h = go x.0 x.1.stamp x.1.value (there_entry (entries_of b.watches) x b.watches.rises h)
+  entry_shown : (x : Path × Watching) → Contains (entries_of b.maps.right) x → BodyShows b (entry_trace x)
+  entry_shown x h = go x.0 x.1.stamp x.1.value (there_entry path_order (entries_of b.maps.right) x b.maps.right.rises h)
     where
-      go : (p : Path) (t : Stamp) (y : OrGone (Once ℕ)) → get path_cmp (entries_of b.watches) p ≡ Some (record { stamp = t; value = y }) → BodyShows b (watch_trace p t y)
+      go : (p : Path) (t : Stamp) (y : OrGone (Once ℕ)) → get path_cmp (entries_of b.maps.right) p ≡ Some (record { stamp = t; value = y }) → BodyShows b (watch_trace p t y)
       go p t Gone e = e
       go p t (Here a) e = e
+
+  maps_shown : (k : Trace) → Contains (from_maps b) k → BodyShows b k
+  maps_shown k h = elim (Contains-append_cases (map write_trace (entries_of b.maps.left)) (map entry_trace (entries_of b.maps.right)) k h) [
+    | inl written ↦ (let x = by_entries write_trace (entries_of b.maps.left) k written in subst (BodyShows b) (sym x.2) (there_entry text_order (entries_of b.maps.left) x.0 b.maps.left.rises x.1))
+    | inr watched ↦ (let x = by_entries entry_trace (entries_of b.maps.right) k watched in subst (BodyShows b) (sym x.2) (entry_shown x.0 x.1))
+  ]
 
   body_shown : (k : Trace) → Contains (from_base b) k → BodyShows b k
   body_shown k =
@@ -168,8 +191,8 @@ module _ (b : Body) where
       (by_written (field_trace LifetimeAt) b.lifetime.write (from_binding b) k (λ w e same. subst (BodyShows b) (sym same) e)
       (by_written (field_trace BindingAt) b.binding.write (from_sms b) k (λ w e same. subst (BodyShows b) (sym same) e)
       (by_written (field_trace SmsAt) b.sms.write (from_objects b) k (λ w e same. subst (BodyShows b) (sym same) e)
-      (by_written (field_trace ObjectsAt) b.objects.write (watch_traces (entries_of b.watches)) k (λ w e same. subst (BodyShows b) (sym same) e)
-      (λ h. let x = by_watches (entries_of b.watches) k h in subst (BodyShows b) (sym x.2) (entry_shown x.0 x.1))))))))
+      (by_written (field_trace ObjectsAt) b.objects.write (from_maps b) k (λ w e same. subst (BodyShows b) (sym same) e)
+      (maps_shown k)))))))
 
 listed : (x : OrGone Body) (k : Trace) → Shows x k → Contains (traces_in x) k
 listed Gone k (inl e) = first_there Named (Removed ∷ []) k e

@@ -1,17 +1,17 @@
 -- No stamp of a slot is above a clock, as the writer of deltas asks it, and as a node keeps it.
-use Rattle.std.proofs.Common.{◌≡◌, ℕ, ◌≤◌, Bool, true, false, cond, List, [], ◌∷◌, Option, Some, None, IfSome, refl, sym, ap, ◌∙◌, subst, inl, inr}
+use Rattle.std.proofs.Common.{◌≡◌, ℕ, ◌≤◌, Bool, true, false, cond, List, [], ◌∷◌, Option, Some, None, IfSome, refl, sym, subst, inl, inr}
 use Rattle.std.specs.FinMap.{empty, get, get-empty}
-use Rattle.std.specs.Ordering.{eq_by_cmp, is_eq}
-use Rattle.std.specs.declared.cmp.Ordering.TheVariants.{Less}
+use Rattle.std.specs.Ordering.{eq_by_cmp}
 use Rattle.lw_stamp.specs.declared.stamp.Stamp.{Stamp}
 use Rattle.lw_stamp.specs.TextOrder.{text_cmp}
-use Rattle.lw_join.specs.Entries.{AllAbove, Rises, get as entry_of}
-use Rattle.lw_join.specs.EntriesLaws.{turned, same_key, get_first}
+use Rattle.lw_join.specs.Entries.{get as entry_of}
 use Rattle.lw_join.specs.Maps.{one_key}
 use Rattle.lw_join.specs.Parts.{entries_of}
+use Rattle.lw_join.specs.declared.last.Last.{Last}
 use Rattle.lw_join.specs.declared.once.Once.{Once}
 use Rattle.lw_join.specs.declared.or_gone.OrGone.{OrGone}
 use Rattle.lw_join.specs.declared.or_gone.OrGone.TheVariants.{Here, Gone}
+use Rattle.lw_join.proofs.Each.{each_get, each_from_get}
 use Rattle.lw_join.proofs.MapLemmas.{get-one_key}
 use Rattle.lw_reg.specs.OrderLaws.{path_order, text_order}
 use Rattle.lw_reg.specs.Orders.{path_cmp}
@@ -20,11 +20,11 @@ use Rattle.lw_reg.specs.declared.path.Path.{Path}
 use Rattle.lw_reg.specs.declared.slot.Slot.{Slot}
 use Rattle.lw_reg.specs.Body.{Watching}
 use Rattle.lw_reg.specs.Marks.{Trace, Mark}
-use Rattle.lw_reg.specs.Marks.Trace.{Named, Based, AddressAt, SeenAt, LifetimeAt, BindingAt, SmsAt, ObjectsAt, Removed, Watched, Cancelled}
+use Rattle.lw_reg.specs.Marks.Trace.{Named, Based, AddressAt, SeenAt, LifetimeAt, BindingAt, SmsAt, ObjectsAt, AttributeAt, Removed, Watched, Cancelled}
 use Rattle.lw_reg.specs.Reading.{BodyShows, Shows, shown_by_option}
 use Rattle.lw_reg.specs.Slot.{slot_at, observed, cancelled}
 use Rattle.lw_reg.specs.State.{State}
-use Rattle.lw_delta.specs.Writable.{TokensWithin, StampsWithin, AllFollow}
+use Rattle.lw_delta.specs.Writable.{StampsWithin, AllFollow}
 use Rattle.lw_node.specs.Exchange.{state_in}
 use Rattle.lw_node.specs.Within.{TraceWithin, MarkWithin, FitsClock}
 use Rattle.lw_node.proofs.Within.{fits_join}
@@ -33,13 +33,12 @@ use Rattle.lw_node.proofs.Within.{fits_join}
 write_within : {V : Type 0} (clock : ℕ) (o : Option (Stamp × V)) (s : Stamp) (v : V) → o ≡ Some (s, v) → IfSome o (λ w. w.0.counter ≤ clock) → s.counter ≤ clock
 write_within clock o s v h within = subst (λ x. IfSome x (λ w. w.0.counter ≤ clock)) h within
 
-token_within : (clock : ℕ) (ws : List (Path × Watching)) (p : Path) (w : Watching) → entry_of path_cmp ws p ≡ Some w → TokensWithin clock ws → w.stamp.counter ≤ clock
-token_within clock [] p w h within = absurd (let bad = h in cc)
-token_within clock (e ∷ es) p w h within = go (is_eq (path_cmp p e.0)) h (λ later. token_within clock es p w later within.1)
-  where
-    go : (b : Bool) → cond b (Some e.1) (entry_of path_cmp es p) ≡ Some w → (entry_of path_cmp es p ≡ Some w → w.stamp.counter ≤ clock) → w.stamp.counter ≤ clock
-    go true is more = let same : e.1 ≡ w = cc in subst (λ (x : Watching). x.stamp.counter ≤ clock) same within.0
-    go false is more = more is
+-- the stamp of a write of an attribute, and the token of a watch, is within the clock
+abbrev WriteWithin : ℕ → List ℕ × Last (List ℕ) → Type 0
+WriteWithin clock w = w.1.write.0.counter ≤ clock
+
+abbrev WatchWithin : ℕ → Path × Watching → Type 0
+WatchWithin clock w = w.1.stamp.counter ≤ clock
 
 body_within : (clock : ℕ) (r : Stamp) (b : Body) → StampsWithin clock (slot_at r (Here b)) → (k : Trace) → BodyShows b k → TraceWithin clock k
 body_within clock r b h Named shows = tt
@@ -50,9 +49,10 @@ body_within clock r b h (LifetimeAt s v) shows = write_within clock b.lifetime.w
 body_within clock r b h (BindingAt s v) shows = write_within clock b.binding.write s v shows h.binding
 body_within clock r b h (SmsAt s v) shows = write_within clock b.sms.write s v shows h.sms
 body_within clock r b h (ObjectsAt s v) shows = write_within clock b.objects.write s v shows h.objects
+body_within clock r b h (AttributeAt name s v) shows = each_get text_order (WriteWithin clock) (entries_of b.maps.left) name (record { write = (s, v) }) h.attributes shows
 body_within clock r b h Removed shows = tt
-body_within clock r b h (Watched p t a) shows = token_within clock (entries_of b.watches) p (observed t a) shows h.watches
-body_within clock r b h (Cancelled p t) shows = token_within clock (entries_of b.watches) p (cancelled t) shows h.watches
+body_within clock r b h (Watched p t a) shows = each_get path_order (WatchWithin clock) (entries_of b.maps.right) p (observed t a) h.watches shows
+body_within clock r b h (Cancelled p t) shows = each_get path_order (WatchWithin clock) (entries_of b.maps.right) p (cancelled t) h.watches shows
 
 told_within : (clock : ℕ) (r : Stamp) (x : OrGone Body) → StampsWithin clock (slot_at r x) → (k : Trace) → Shows x k → TraceWithin clock k
 told_within clock r Gone h k (inl e) = subst (TraceWithin clock) (sym e) tt
@@ -73,18 +73,6 @@ pub slots_fit : (clock : ℕ) (after : Option (List ℕ)) (slots : List (List �
 slots_fit clock after [] h = empty_fits clock
 slots_fit clock after (s ∷ ss) h = fits_join clock (one_key s.0 s.1) (state_in ss) (one_fits clock s.0 s.1 h.0.stamps) (slots_fit clock (Some s.0) ss h.1)
 
--- a key of entries that are above one is above it, and is found behind it
-above_found : (w : Path × Watching) (ws : List (Path × Watching)) (p : Path) (v : Watching) → AllAbove path_cmp w.0 ws → entry_of path_cmp ws p ≡ Some v → path_cmp w.0 p ≡ Less
-above_found w [] p v above h = absurd (let bad = h in cc)
-above_found w (x ∷ xs) p v above h = go (is_eq (path_cmp p x.0)) refl h (above_found w xs p v above.1)
-  where
-    go : (c : Bool) → is_eq (path_cmp p x.0) ≡ c → cond c (Some x.1) (entry_of path_cmp xs p) ≡ Some v → (entry_of path_cmp xs p ≡ Some v → path_cmp w.0 p ≡ Less) → path_cmp w.0 p ≡ Less
-    go true same found more = subst (λ q. path_cmp w.0 q ≡ Less) (sym (same_key path_order p x.0 same)) above.0
-    go false other found more = more found
-
-found_later : (w : Path × Watching) (ws : List (Path × Watching)) (p : Path) (v : Watching) → AllAbove path_cmp w.0 ws → entry_of path_cmp ws p ≡ Some v → entry_of path_cmp (w ∷ ws) p ≡ Some v
-found_later w ws p v above h = ap (λ c. cond (is_eq c) (Some w.1) (entry_of path_cmp ws p)) (turned path_order w.0 p Less (above_found w ws p v above h)) ∙ h
-
 -- ---- to the stamps of a slot
 module _ (clock : ℕ) (state : State) (fits : FitsClock clock state) (e : List ℕ) where
   abbrev mark : Stamp → Trace → Mark
@@ -98,19 +86,12 @@ module _ (clock : ℕ) (state : State) (fits : FitsClock clock state) (e : List 
   each_write r b field is reads None shows = tt
   each_write r b field is reads (Some w) shows = reads w.0 w.1 (shown_within r (Here b) is (field w.0 w.1) (shows w.0 w.1 refl)).1
 
-  token_of : (r : Stamp) (b : Body) → get state e ≡ Some (slot_at r (Here b)) → (p : Path) (t : Stamp) (x : OrGone (Once ℕ)) → entry_of path_cmp (entries_of b.watches) p ≡ Some (record { stamp = t; value = x }) → t.counter ≤ clock
+  token_of : (r : Stamp) (b : Body) → get state e ≡ Some (slot_at r (Here b)) → (p : Path) (t : Stamp) (x : OrGone (Once ℕ)) → entry_of path_cmp (entries_of b.maps.right) p ≡ Some (record { stamp = t; value = x }) → t.counter ≤ clock
   token_of r b is p t Gone there = (shown_within r (Here b) is (Cancelled p t) there).1
   token_of r b is p t (Here a) there = (shown_within r (Here b) is (Watched p t a.value) there).1
 
-  each_token : (r : Stamp) (b : Body) → get state e ≡ Some (slot_at r (Here b)) → (ws : List (Path × Watching)) → Rises path_cmp ws → ((p : Path) (w : Watching) → entry_of path_cmp ws p ≡ Some w → entry_of path_cmp (entries_of b.watches) p ≡ Some w) → TokensWithin clock ws
-  each_token r b is [] rises there = tt
-  each_token r b is (w ∷ ws) rises there = (
-    token_of r b is w.0 w.1.stamp w.1.value (there w.0 w.1 (get_first path_order w ws)),
-    each_token r b is ws rises.1 (λ p v h. there p v (found_later w ws p v rises.0 h)),
-  )
-
   told_stamps : (r : Stamp) (x : OrGone Body) → get state e ≡ Some (slot_at r x) → StampsWithin clock (slot_at r x)
-  told_stamps r Gone is = record { registration = (shown_within r Gone is Named (inl refl)).0; address = tt; seen = tt; lifetime = tt; binding = tt; sms = tt; objects = tt; watches = tt }
+  told_stamps r Gone is = record { registration = (shown_within r Gone is Named (inl refl)).0; address = tt; seen = tt; lifetime = tt; binding = tt; sms = tt; objects = tt; attributes = tt; watches = tt }
   told_stamps r (Here b) is = record {
     registration = (shown_within r (Here b) is Named tt).0;
     address = each_write r b AddressAt is (λ s v h. h) b.address.write (λ s v h. h);
@@ -119,7 +100,8 @@ module _ (clock : ℕ) (state : State) (fits : FitsClock clock state) (e : List 
     binding = each_write r b BindingAt is (λ s v h. h) b.binding.write (λ s v h. h);
     sms = each_write r b SmsAt is (λ s v h. h) b.sms.write (λ s v h. h);
     objects = each_write r b ObjectsAt is (λ s v h. h) b.objects.write (λ s v h. h);
-    watches = each_token r b is (entries_of b.watches) b.watches.rises (λ p w h. h);
+    attributes = each_from_get text_order (WriteWithin clock) (entries_of b.maps.left) b.maps.left.rises (λ name w there. (shown_within r (Here b) is (AttributeAt name w.write.0 w.write.1) there).1);
+    watches = each_from_get path_order (WatchWithin clock) (entries_of b.maps.right) b.maps.right.rises (λ p w there. token_of r b is p w.stamp w.value there);
   }
 
   -- no stamp of a slot is above a clock that fits the state

@@ -6,7 +6,7 @@ use Rattle.std.specs.Ordering.{nat_cmp}
 use Rattle.lw_stamp.specs.declared.stamp.Stamp.{Stamp}
 use Rattle.lw_stamp.specs.Order.{IsGreatest}
 use Rattle.lw_stamp.specs.TextOrder.{text_cmp}
-use Rattle.lw_join.specs.Facets.{OptionTells, Either}
+use Rattle.lw_join.specs.Facets.{OptionTells, LastTells, Either}
 use Rattle.lw_join.specs.Lww.{write_cmp}
 use Rattle.lw_join.specs.declared.or_gone.OrGone.{OrGone}
 use Rattle.lw_join.specs.declared.or_gone.OrGone.TheVariants.{Here, Gone}
@@ -15,8 +15,8 @@ use Rattle.lw_reg.specs.declared.op.Op.{Op}
 use Rattle.lw_reg.specs.declared.op.What.{What}
 use Rattle.lw_reg.specs.declared.op.What.TheVariants.{Register, Update, Remove, Observe, Cancel}
 use Rattle.lw_reg.specs.declared.slot.Slot.{Slot}
-use Rattle.lw_reg.specs.Marks.{Trace, Mark, written, traces_of, marks_about, marks_of}
-use Rattle.lw_reg.specs.Marks.Trace.{Named, Based, AddressAt, SeenAt, LifetimeAt, BindingAt, SmsAt, ObjectsAt, Removed, Watched, Cancelled}
+use Rattle.lw_reg.specs.Marks.{Trace, Mark, written, attribute_traces, traces_of, marks_about, marks_of}
+use Rattle.lw_reg.specs.Marks.Trace.{Named, Based, AddressAt, SeenAt, LifetimeAt, BindingAt, SmsAt, ObjectsAt, AttributeAt, Removed, Watched, Cancelled}
 use Rattle.lw_reg.specs.Orders.{addr_cmp, base_cmp, binding_cmp, moment_cmp, sms_cmp}
 use Rattle.lw_reg.specs.Reading.{BodyShows, Shows, shown_by_option, shown_in}
 use Rattle.lw_reg.specs.Slot.{observed, cancelled}
@@ -35,6 +35,7 @@ body_trace P b g (LifetimeAt s v) h = (subst (OptionTells (IsGreatest (write_cmp
 body_trace P b g (BindingAt s v) h = (subst (OptionTells (IsGreatest (write_cmp binding_cmp)) (λ w. P (BindingAt w.0 w.1))) h g.binding).member
 body_trace P b g (SmsAt s v) h = (subst (OptionTells (IsGreatest (write_cmp sms_cmp)) (λ w. P (SmsAt w.0 w.1))) h g.sms).member
 body_trace P b g (ObjectsAt s v) h = (subst (OptionTells (IsGreatest (write_cmp text_cmp)) (λ w. P (ObjectsAt w.0 w.1))) h g.objects).member
+body_trace P b g (AttributeAt name s v) h = (subst (OptionTells (LastTells text_cmp) (λ w. P (AttributeAt name w.0 w.1))) h (g.attributes name)).member
 body_trace P b g Removed h = absurd h
 body_trace P b g (Watched p t a) h =
     let told : WatchTells (λ x. P (sign_trace p x.0 x.1)) (observed t a) = subst (OptionTells WatchTells (λ x. P (sign_trace p x.0 x.1))) h (g.watches p) in
@@ -77,6 +78,7 @@ trace_more c d le (LifetimeAt s v) h = omega arith
 trace_more c d le (BindingAt s v) h = omega arith
 trace_more c d le (SmsAt s v) h = omega arith
 trace_more c d le (ObjectsAt s v) h = omega arith
+trace_more c d le (AttributeAt name s v) h = omega arith
 trace_more c d le Removed h = tt
 trace_more c d le (Watched p t a) h = omega arith
 trace_more c d le (Cancelled p t) h = omega arith
@@ -135,17 +137,23 @@ written_within : {V : Type 0} (c : ℕ) (field : V → Trace) → ((v : V) → T
 written_within c field each None = tt
 written_within c field each (Some v) = (each v, tt)
 
+attributes_within : (c : ℕ) (s : Stamp) (attributes : List (List ℕ × List ℕ)) → s.counter ≤ c → TracesWithin c (attribute_traces s attributes)
+attributes_within c s [] le = tt
+attributes_within c s (a ∷ attributes) le = (le, attributes_within c s attributes le)
+
 traces_within : (c : ℕ) (s : Stamp) (w : What) → s.counter ≤ c → TokenWithin c w → TracesWithin c (traces_of s w)
-traces_within c s (Register version queue address seen lifetime binding sms objects) le token = (tt, (le, (le, (le, (le, (le, (le, tt)))))))
-traces_within c s (Update address seen lifetime binding sms objects) le token =
-    (le, (le, append_within c _ _ (append_within c _ _ (append_within c _ _ (written_within c (LifetimeAt s) (λ v. le) lifetime) (written_within c (BindingAt s) (λ v. le) binding)) (written_within c (λ text. SmsAt s (Some text)) (λ v. le) sms)) (written_within c (ObjectsAt s) (λ v. le) objects)))
+traces_within c s (Register version queue address seen settings) le token = (tt, (le, (le, (le, (le, (le, (le, attributes_within c s settings.attributes le)))))))
+traces_within c s (Update address seen settings) le token =
+    let fields : TracesWithin c (written (LifetimeAt s) settings.lifetime ++ written (BindingAt s) settings.binding ++ written (λ text. SmsAt s (Some text)) settings.sms ++ written (ObjectsAt s) settings.objects) =
+    append_within c _ _ (append_within c _ _ (append_within c _ _ (written_within c (LifetimeAt s) (λ v. le) settings.lifetime) (written_within c (BindingAt s) (λ v. le) settings.binding)) (written_within c (λ text. SmsAt s (Some text)) (λ v. le) settings.sms)) (written_within c (ObjectsAt s) (λ v. le) settings.objects) in
+    (le, (le, append_within c _ _ fields (attributes_within c s settings.attributes le)))
 traces_within c s Remove le token = (tt, tt)
 traces_within c s (Observe path accept) le token = (le, tt)
 traces_within c s (Cancel path t) le token = (token, tt)
 
 token_more : (c d : ℕ) → c ≤ d → (w : What) → TokenWithin c w → TokenWithin d w
-token_more c d le (Register version queue address seen lifetime binding sms objects) h = tt
-token_more c d le (Update address seen lifetime binding sms objects) h = tt
+token_more c d le (Register version queue address seen settings) h = tt
+token_more c d le (Update address seen settings) h = tt
 token_more c d le Remove h = tt
 token_more c d le (Observe path accept) h = tt
 token_more c d le (Cancel path t) h = omega arith

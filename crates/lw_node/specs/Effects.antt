@@ -15,11 +15,12 @@ use Rattle.lw_coap.specs.Grammar.{IsSpelling}
 use Rattle.lw_coap.specs.Faults.{IsFault}
 use Rattle.lw_coap.specs.Header.{HasHeader}
 use Rattle.lw_reg.specs.declared.addr.Addr.{Addr}
-use Rattle.lw_reg.specs.declared.binding.Binding.{Binding}
 use Rattle.lw_reg.specs.declared.op.Op.{Op}
 use Rattle.lw_reg.specs.declared.op.What.{What}
 use Rattle.lw_reg.specs.declared.op.What.TheVariants as whats
 use Rattle.lw_reg.specs.declared.path.Path.{Path}
+use Rattle.lw_reg.specs.declared.settings.GivenSettings.{GivenSettings}
+use Rattle.lw_reg.specs.declared.settings.Settings.{Settings}
 use Rattle.lw_reg.specs.declared.version.Version.{Version}
 use Rattle.lw_reg.specs.declared.watch.Watch.{Watch}
 use Rattle.lw_reg.specs.Marks.{Marks}
@@ -95,16 +96,16 @@ Issues place request Does reply effect =
 
 -- ---- a Register
 -- it writes what is asked for, the source address and the moment
-abbrev pub WritesAll : ℕ → Addr → Version → Bool → ℕ → Binding → Option (List ℕ) → List ℕ → What → Type 0
-WritesAll now source version queue lifetime binding sms objects (whats.Register v q address seen l b s o) =
-    (v ≡ version) × (q ≡ queue) × (address ≡ source) × (ms_of seen ≡ now) × (l ≡ lifetime) × (b ≡ binding) × (s ≡ sms) × (o ≡ objects)
-WritesAll now source version queue lifetime binding sms objects _ = ⊥
+abbrev pub WritesAll : ℕ → Addr → Version → Bool → Settings → What → Type 0
+WritesAll now source version queue settings (whats.Register v q address seen s) =
+    (v ≡ version) × (q ≡ queue) × (address ≡ source) × (ms_of seen ≡ now) × (s ≡ settings)
+WritesAll now source version queue settings _ = ⊥
 
 -- it is about the registration that it makes
-pub record Registers (now : ℕ) (source : Addr) (endpoint : List ℕ) (version : Version) (queue : Bool) (lifetime : ℕ) (binding : Binding) (sms : Option (List ℕ)) (objects : List ℕ) (op : Op) : Type 0 where
+pub record Registers (now : ℕ) (source : Addr) (endpoint : List ℕ) (version : Version) (queue : Bool) (settings : Settings) (op : Op) : Type 0 where
   pub endpoint_is : op.endpoint ≡ endpoint
   pub registration : op.reg ≡ op.stamp
-  pub writes : WritesAll now source version queue lifetime binding sms objects op.what
+  pub writes : WritesAll now source version queue settings op.what
 
 -- 2.01 Created, with the location
 abbrev pub created : MessageContent → Op → MessageContent
@@ -112,10 +113,10 @@ created request op = answers request 65 (Some op.stamp)
 
 -- ---- an Update, a Deregister
 -- it writes the source address and the moment, and what else is given
-abbrev pub WritesGiven : ℕ → Addr → Option ℕ → Option Binding → Option (List ℕ) → Option (List ℕ) → What → Type 0
-WritesGiven now source lifetime binding sms objects (whats.Update address seen l b s o) =
-    (address ≡ source) × (ms_of seen ≡ now) × (l ≡ lifetime) × (b ≡ binding) × (s ≡ sms) × (o ≡ objects)
-WritesGiven now source lifetime binding sms objects _ = ⊥
+abbrev pub WritesGiven : ℕ → Addr → GivenSettings → What → Type 0
+WritesGiven now source settings (whats.Update address seen s) =
+    (address ≡ source) × (ms_of seen ≡ now) × (s ≡ settings)
+WritesGiven now source settings _ = ⊥
 
 -- it is about the registration
 pub record IsAbout (r : Registration) (op : Op) : Type 0 where
@@ -186,10 +187,10 @@ ReportMeans place M report effect =
 -- ---- a datagram
 -- what the message asks for, done
 abbrev pub Does : Place → Marks → Addr → MessageContent → Asked → Effect → Type 0
-Does place M source m (Register endpoint version queue lifetime binding sms objects) effect =
-    Issues place m (Registers place.now source endpoint version queue lifetime binding sms objects) (created m) effect
-Does place M source m (Update id lifetime binding sms objects) effect =
-    NamedChanges place M m id (WritesGiven place.now source lifetime binding sms objects) 68 effect
+Does place M source m (Register endpoint version queue settings) effect =
+    Issues place m (Registers place.now source endpoint version queue settings) (created m) effect
+Does place M source m (Update id settings) effect =
+    NamedChanges place M m id (WritesGiven place.now source settings) 68 effect
 Does place M source m (Deregister id) effect =
     NamedChanges place M m id (λ what. what ≡ whats.Remove) 66 effect
 Does place M source m (Report report) effect = ReportMeans place M report effect

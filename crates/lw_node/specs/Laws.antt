@@ -5,13 +5,15 @@ use Rattle.std.specs.Prelude.{◌≡◌, ℕ, ◌+◌, List, [], ◌++◌, Optio
 use Rattle.lw_stamp.specs.declared.moment.Moment.{Moment}
 use Rattle.lw_stamp.specs.declared.stamp.Stamp.{Stamp}
 use Rattle.lw_stamp.specs.Moment.{ms_of}
+use Rattle.lw_stamp.specs.TextOrder.{text_cmp}
+use Rattle.lw_join.specs.Entries.{Rises, get}
 use Rattle.lw_reg.specs.declared.addr.Addr.{Addr}
 use Rattle.lw_reg.specs.declared.base.Base.{Base}
-use Rattle.lw_reg.specs.declared.binding.Binding.{Binding}
 use Rattle.lw_reg.specs.declared.op.Op.{Op}
 use Rattle.lw_reg.specs.declared.op.What.{What}
 use Rattle.lw_reg.specs.declared.op.What.TheVariants.{Register, Update}
 use Rattle.lw_reg.specs.declared.path.Path.{Path}
+use Rattle.lw_reg.specs.declared.settings.GivenSettings.{GivenSettings}
 use Rattle.lw_reg.specs.declared.slot.Slot.{Slot}
 use Rattle.lw_reg.specs.Marks.{Mark, Marks, Has, left_by, marks_of, all_marks}
 use Rattle.lw_reg.specs.Marks.Trace.{Watched}
@@ -65,26 +67,33 @@ pub record Follows (old : NodeContent) (op : Op) (new : NodeContent) : Type 0 wh
   pub issued : Issued old op new
 
 -- ---- read back
+-- the attributes that an operation carries rise by their names, as the type of a program's operation keeps it
+abbrev pub AttributesRise : What → Type 0
+AttributesRise (Register version queue address seen settings) = Rises text_cmp settings.attributes
+AttributesRise (Update address seen given) = Rises text_cmp given.attributes
+AttributesRise _ = Unit {0}
+
 -- what is shown of a Register
 abbrev pub registered : List ℕ → Stamp → What → Option Registration
-registered endpoint id (Register version queue address seen lifetime binding sms objects) = Some (record {
+registered endpoint id (Register version queue address seen settings) = Some (record {
   endpoint = endpoint;
   id = id;
   address = address;
   seen = seen;
-  lifetime = lifetime;
+  lifetime = settings.lifetime;
   version = version;
-  binding = binding;
-  queue = queue_of (record { version = version; queue = queue }) binding;
-  sms = sms;
-  objects = objects;
+  binding = settings.binding;
+  queue = queue_of (record { version = version; queue = queue }) settings.binding;
+  sms = settings.sms;
+  objects = settings.objects;
+  attributes = settings.attributes;
 })
 registered endpoint id _ = None
 
 -- a Register is shown at its moment as it was written
 abbrev pub RegistersReadBack : Type 0
 RegistersReadBack =
-    (old new : NodeContent) (op : Op) → Follows old op new → op.reg ≡ op.stamp → (r : Registration) → registered op.endpoint op.stamp op.what ≡ Some r
+    (old new : NodeContent) (op : Op) → Follows old op new → AttributesRise op.what → op.reg ≡ op.stamp → (r : Registration) → registered op.endpoint op.stamp op.what ≡ Some r
     → ShownOf (shown_in new.table.state) (ms_of r.seen) op.endpoint (Some r)
 
 -- the value that is written, or else the one before
@@ -92,36 +101,38 @@ abbrev pub or_before : {V : Type 0} → Option V → V → V
 or_before None before = before
 or_before (Some value) before = value
 
--- a number that is written, or else the one before, if there was one
+-- a text that is written, or else the one before, if there was one
 abbrev pub or_kept : {V : Type 0} → Option V → Option V → Option V
 or_kept None before = before
 or_kept (Some value) before = Some value
 
 -- The registration, with what an Update writes. Its queue mode is that of the base, as it stands in these marks, and of the
 -- binding that it has now.
-pub record IsUpdated (M : Marks) (before : Registration) (address : Addr) (seen : Moment) (lifetime : Option ℕ) (binding : Option Binding) (sms objects : Option (List ℕ)) (r : Registration) : Type 0 where
+pub record IsUpdated (M : Marks) (before : Registration) (address : Addr) (seen : Moment) (given : GivenSettings) (r : Registration) : Type 0 where
   pub endpoint : r.endpoint ≡ before.endpoint
   pub id : r.id ≡ before.id
   pub address_is : r.address ≡ address
   pub seen_is : r.seen ≡ seen
-  pub lifetime_is : r.lifetime ≡ or_before lifetime before.lifetime
+  pub lifetime_is : r.lifetime ≡ or_before given.lifetime before.lifetime
   pub version : r.version ≡ before.version
-  pub binding_is : r.binding ≡ or_before binding before.binding
+  pub binding_is : r.binding ≡ or_before given.binding before.binding
   pub queue : (base : Base) → IsBase M before.endpoint before.id base → r.queue ≡ queue_of base r.binding
-  pub sms_is : r.sms ≡ or_kept sms before.sms
-  pub objects_is : r.objects ≡ or_before objects before.objects
+  pub sms_is : r.sms ≡ or_kept given.sms before.sms
+  pub objects_is : r.objects ≡ or_before given.objects before.objects
+  pub attributes_rise : Rises text_cmp r.attributes
+  pub attributes_are : (name : List ℕ) → get text_cmp r.attributes name ≡ or_kept (get text_cmp given.attributes name) (get text_cmp before.attributes name)
 
 -- an Update of what is shown is shown at its moment as it was written
 abbrev pub UpdatesReadBack : Type 0
 UpdatesReadBack =
-    (old new : NodeContent) (op : Op) → Follows old op new → (now : ℕ) (before : Registration) → IsShown (shown_in old.table.state) now before
+    (old new : NodeContent) (op : Op) → Follows old op new → AttributesRise op.what → (now : ℕ) (before : Registration) → IsShown (shown_in old.table.state) now before
     → op.endpoint ≡ before.endpoint → op.reg ≡ before.id
-    → (address : Addr) (seen : Moment) (lifetime : Option ℕ) (binding : Option Binding) (sms objects : Option (List ℕ)) → op.what ≡ Update address seen lifetime binding sms objects
-    → (r : Registration) × IsUpdated (shown_in old.table.state) before address seen lifetime binding sms objects r × ShownOf (shown_in new.table.state) (ms_of seen) op.endpoint (Some r)
+    → (address : Addr) (seen : Moment) (given : GivenSettings) → op.what ≡ Update address seen given
+    → (r : Registration) × IsUpdated (shown_in old.table.state) before address seen given r × ShownOf (shown_in new.table.state) (ms_of seen) op.endpoint (Some r)
 
 -- ---- a Register ends what was before
 abbrev pub IsRegister : What → Type 0
-IsRegister (Register version queue address seen lifetime binding sms objects) = Unit {0}
+IsRegister (Register version queue address seen settings) = Unit {0}
 IsRegister _ = ⊥
 
 -- no two operations have one stamp, and a Register is about the registration with its own

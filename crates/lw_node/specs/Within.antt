@@ -4,7 +4,7 @@ use Rattle.lw_reg.specs.declared.op.Op.{Op}
 use Rattle.lw_reg.specs.declared.op.What.{What}
 use Rattle.lw_reg.specs.declared.op.What.TheVariants.{Cancel}
 use Rattle.lw_reg.specs.Marks.{Trace, Mark}
-use Rattle.lw_reg.specs.Marks.Trace.{Named, Based, AddressAt, SeenAt, LifetimeAt, BindingAt, SmsAt, ObjectsAt, Removed, Watched, Cancelled}
+use Rattle.lw_reg.specs.Marks.Trace.{Named, Based, AddressAt, SeenAt, LifetimeAt, BindingAt, SmsAt, ObjectsAt, AttributeAt, Removed, Watched, Cancelled}
 use Rattle.lw_reg.specs.Reading.{shown_in}
 use Rattle.lw_reg.specs.State.{State}
 
@@ -18,6 +18,7 @@ TraceWithin clock (LifetimeAt s v) = s.counter ≤ clock
 TraceWithin clock (BindingAt s v) = s.counter ≤ clock
 TraceWithin clock (SmsAt s v) = s.counter ≤ clock
 TraceWithin clock (ObjectsAt s v) = s.counter ≤ clock
+TraceWithin clock (AttributeAt name s v) = s.counter ≤ clock
 TraceWithin clock Removed = Unit {0}
 TraceWithin clock (Watched path token accept) = token.counter ≤ clock
 TraceWithin clock (Cancelled path token) = token.counter ≤ clock

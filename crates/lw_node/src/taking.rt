@@ -3,7 +3,6 @@
 ghost use Rattle.std.specs.Prelude.{◌≡◌, ◌≤◌, ◌<◌, ◌⊎◌, ℕ, IfOk, IfSome, None, Ok, Some, length};
 ghost use Rattle.lw_stamp.specs.Moment.{ms_of};
 ghost use Rattle.lw_reg.specs.Endpoint.{IsEndpoint};
-ghost use Rattle.lw_reg.specs.declared.op.What.{What as Whats};
 ghost use Rattle.lw_node.specs.Calls.{place_at, Decided, Decides, IsReply, IsSilent, silence};
 ghost use Rattle.lw_node.specs.Effects.{DatagramMeans, MessageMeans, Issues, IsAbout, IsNamed, NamedChanges, answers, answered, created};
 ghost use Rattle.lw_node.specs.Node.{Known, IsKnown, marks_in};
@@ -13,8 +12,7 @@ use crate::decision::Decision;
 use crate::node::Node;
 use lw_coap::codes::{CHANGED, CREATED, DELETED, NOT_FOUND, SERVICE_UNAVAILABLE};
 use lw_coap::{Fault, Kind, Message, decode};
-use lw_link::LinkText;
-use lw_reg::{Addr, Binding, Endpoint, Op, SmsNumber, View, What};
+use lw_reg::{Addr, Endpoint, Op, View, What};
 use lw_request::{Asked, understand};
 use lw_stamp::{Moment, NoMemory, Stamp};
 use std::alloc::Global;
@@ -49,31 +47,23 @@ impl Node {
                 endpoint,
                 version,
                 queue,
-                lifetime,
-                binding,
-                sms,
-                objects,
+                settings,
             } => {
                 let what = What::Register {
                     version,
                     queue,
                     address: from,
                     seen: now,
-                    lifetime,
-                    binding,
-                    sms,
-                    objects,
+                    settings,
                 };
                 self.decide_register(message, endpoint, what)
             }
-            Asked::Update {
-                id,
-                lifetime,
-                binding,
-                sms,
-                objects,
-            } => {
-                let what = update_of(from, now, lifetime, binding, sms, objects);
+            Asked::Update { id, settings } => {
+                let what = What::Update {
+                    address: from,
+                    seen: now,
+                    settings,
+                };
                 self.decide_named(now, message, id, what, CHANGED)
             }
             Asked::Deregister { id } => self.decide_named(now, message, id, What::Remove, DELETED),
@@ -160,27 +150,6 @@ impl Node {
         ensures endpoint { IfSome result (λ r. IsEndpoint r.endpoint) }
     {
         self.table.by_id(now, id?)
-    }
-}
-
-/// What an Update that comes from this address at this moment writes.
-fn update_of(
-    from: Addr,
-    now: Moment,
-    lifetime: Option<u32>,
-    binding: Option<Binding>,
-    sms: Option<SmsNumber>,
-    objects: Option<LinkText>,
-) -> What
-    ensures { result ≡ What.Update from now lifetime binding sms objects }
-{
-    What::Update {
-        address: from,
-        seen: now,
-        lifetime,
-        binding,
-        sms,
-        objects,
     }
 }
 

@@ -26,7 +26,7 @@ const CREATED: &str = "604100048272640d0330303030303030303030303130303031";
 
 /// What a first Register of `a` at node 1 shows.
 const SHOWN: &str =
-    r#"{"address":"127.0.0.1:5683","binding":"U","endpoint":"a","id":"0000000000010001","lifetime":86400,"lwm2m":"1.0","objects":"</>","queue":false,"seen":0,"sms":null}"#;
+    r#"{"address":"127.0.0.1:5683","attributes":{},"binding":"U","endpoint":"a","id":"0000000000010001","lifetime":86400,"lwm2m":"1.0","objects":"</>","queue":false,"seen":0,"sms":null}"#;
 
 /// The first identifier of node 1.
 const ID: &str = "0000000000010001";

@@ -5,7 +5,7 @@ use crate::hold::{holds, same};
 use lw_link::LinkText;
 use lw_node::Notice;
 use lw_print::*;
-use lw_reg::{Addr, Binding, Path, Text, Version, View, Watch};
+use lw_reg::{Addr, Attributes, AttributesView, Binding, Path, Text, Version, View, Watch};
 use lw_stamp::{Moment, Stamp};
 use std::alloc::Global;
 use std::test::Fail;
@@ -44,6 +44,7 @@ fn registration<'a>(endpoint: &'a str, objects: &'a LinkText) -> View<'a> {
         queue: false,
         sms: None,
         objects,
+        attributes: AttributesView::of_writes(&[]),
     }
 }
 
@@ -63,7 +64,16 @@ fn other_registration<'a>(endpoint: &'a str, objects: &'a LinkText) -> View<'a> 
 }
 
 const SHOWN: &str =
-    r#"{"address":"127.0.0.1:5683","binding":"U","endpoint":"a","id":"0000000000010001","lifetime":60,"lwm2m":"1.1","objects":"</3/0>","queue":false,"seen":0,"sms":null}"#;
+    r#"{"address":"127.0.0.1:5683","attributes":{},"binding":"U","endpoint":"a","id":"0000000000010001","lifetime":60,"lwm2m":"1.1","objects":"</3/0>","queue":false,"seen":0,"sms":null}"#;
+
+/// Attributes of names and values.
+fn attributes(alloc: Global, texts: &[(&str, &str)]) -> Result<Attributes, Fail> {
+    let mut pairs = Vec::new(alloc);
+    for (name, value) in texts {
+        pairs.push((Text::copy_of(alloc, name)?, Text::copy_of(alloc, value)?))?;
+    }
+    Ok(Attributes::from_pairs(pairs).ok_or("attributes")?)
+}
 
 /// A list of 256 links, of 7,909 bytes.
 fn long_list(alloc: Global) -> Result<LinkText, Fail> {

@@ -1,19 +1,62 @@
 -- The objects of the values are those of what the values tell of.
-use Rattle.std.proofs.Common.{◌≡◌}
-use Rattle.serde_json.specs.Data.{boolean, number, unsigned, string, object, member, no_members}
-use Rattle.std.specs.Prelude.{codes}
+use Rattle.std.proofs.Common.{◌≡◌, ℕ, ◌+◌, List, [], ◌∷◌, ◌||◌, zero, suc, false, Option, Some, None, take, refl, sym, ap, subst, arith}
+use Rattle.std.specs.declared.cmp.Ordering.{Ordering}
+use Rattle.std.specs.declared.cmp.Ordering.TheVariants.{Less}
+use Rattle.std.specs.Ordering.{match_ordering}
+use Rattle.serde_json.specs.Data.{put, boolean, number, unsigned, string, object, member, no_members}
+use Rattle.serde_json.specs.Written.{has_float, members_have_float}
+use Rattle.std.specs.Prelude.{IfSome, codes, slice_get}
+use Rattle.lw_stamp.specs.TextOrder.{text_cmp}
+use Rattle.lw_stamp.proofs.TextLemmas.{text_order}
+use Rattle.lw_join.specs.Entries.{AllAbove, Rises}
+use Rattle.lw_join.specs.EntriesLaws.{turned}
 use Rattle.lw_reg.specs.declared.watch.Watch.{Watch}
 use Rattle.lw_reg.specs.Registration.{Registration}
 use Rattle.lw_call.specs.Contents.{NoticeContent}
 use Rattle.lw_print.specs.declared.notice.NoticeMembers.{NoticeMembers}
 use Rattle.lw_print.specs.declared.registration.Members.{Members}
 use Rattle.lw_print.specs.declared.watch.WatchMembers.{WatchMembers}
-use Rattle.lw_print.specs.Json.{registration_json, watch_json, notice_json}
+use Rattle.lw_print.specs.Json.{attributes_json, text_or_null, registration_json, watch_json, notice_json}
 use Rattle.lw_print.specs.Members.{members_json, TellsOf, watch_members_json, TellsOfWatch, notice_members_json, TellsOfNotice}
 
+-- ---- the attributes
+above_at : (name : List ℕ) (attributes : List (List ℕ × List ℕ)) (i : ℕ) (a : List ℕ × List ℕ) → AllAbove text_cmp name attributes → slice_get attributes i ≡ Some a → text_cmp name a.0 ≡ Less
+above_at name [] i a above is = cc
+above_at name (b ∷ attributes) zero a above is = subst (λ (o : Option (List ℕ × List ℕ)). IfSome o (λ x. text_cmp name x.0 ≡ Less)) is above.0
+above_at name (b ∷ attributes) (suc i) a above is = above_at name attributes i a above.1 is
+
+-- an attribute that is put to those before it stands behind them
+json_put_next : (attributes : List (List ℕ × List ℕ)) (i : ℕ) (a : List ℕ × List ℕ) → Rises text_cmp attributes → slice_get attributes i ≡ Some a → put a.0 (string a.1) (attributes_json (take i attributes)) ≡ attributes_json (take (suc i) attributes)
+json_put_next [] i a rises is = cc
+json_put_next (b ∷ attributes) zero a rises is = subst (λ (o : Option (List ℕ × List ℕ)). IfSome o (λ x. member x.0 (string x.1) no_members ≡ member b.0 (string b.1) no_members)) is refl
+json_put_next (b ∷ attributes) (suc i) a rises is =
+    let behind = json_put_next attributes i a rises.1 is in
+    let later = member b.0 (string b.1) (attributes_json (take i attributes)) in
+    subst (λ (r : Ordering). match_ordering r (member a.0 (string a.1) later) (member b.0 (string a.1) (attributes_json (take i attributes))) (member b.0 (string b.1) (put a.0 (string a.1) (attributes_json (take i attributes)))) ≡ attributes_json (take (suc (suc i)) (b ∷ attributes)))
+    (sym (turned text_order b.0 a.0 Less (above_at b.0 attributes i a rises.0 is))) (ap (member b.0 (string b.1)) behind)
+
+pub json_put : (attributes : List (List ℕ × List ℕ)) (i : ℕ) (a : List ℕ × List ℕ) → Rises text_cmp attributes → slice_get attributes i ≡ Some a → put a.0 (string a.1) (attributes_json (take i attributes)) ≡ attributes_json (take (i + 1) attributes)
+json_put attributes i a rises is =
+    let next : suc i ≡ i + 1 = omega (arith) in
+    subst (λ (n : ℕ). put a.0 (string a.1) (attributes_json (take i attributes)) ≡ attributes_json (take n attributes)) next (json_put_next attributes i a rises is)
+
+-- no attribute is a number
+attributes_plain : (attributes : List (List ℕ × List ℕ)) → members_have_float (attributes_json attributes) ≡ false
+attributes_plain [] = refl
+attributes_plain (a ∷ attributes) = attributes_plain attributes
+
+pub registration_plain : (r : Registration) → has_float (registration_json r) ≡ false
+registration_plain r = rw (attributes_plain r.attributes) (sms_plain r.sms)
+  where
+    sms_plain : (sms : Option (List ℕ)) → (has_float (text_or_null sms) || false) ≡ false
+    sms_plain None = refl
+    sms_plain (Some text) = refl
+
+-- ---- the objects
 pub json_of_members : (m : Members) (r : Registration) → TellsOf m r → members_json m ≡ registration_json r
 json_of_members m r t = λ i. object
     (member (codes "address") (string (t.address i))
+    (member (codes "attributes") (t.attributes i)
     (member (codes "binding") (string (t.binding i))
     (member (codes "endpoint") (string (t.endpoint i))
     (member (codes "id") (string (t.id i))
@@ -23,7 +66,7 @@ json_of_members m r t = λ i. object
     (member (codes "queue") (boolean (t.queue i))
     (member (codes "seen") (number (unsigned (t.seen i)))
     (member (codes "sms") (t.sms i)
-    no_members))))))))))
+    no_members)))))))))))
 
 pub json_of_watch : (m : WatchMembers) (r : Registration) (w : Watch) → TellsOfWatch m r w → watch_members_json m ≡ watch_json r w
 json_of_watch m r w t = λ i. object

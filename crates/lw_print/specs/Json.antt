@@ -1,8 +1,8 @@
 -- What is shown of a registration (LwM2M 1.1 Core, section 6.2), of an observation (RFC 7641) and of what a device tells
 -- of one, as JSON objects (RFC 8259, section 4). Their keys stand in order.
-use Rattle.std.specs.Prelude.{ℕ, List, Option, Some, None, codes}
+use Rattle.std.specs.Prelude.{ℕ, List, [], ◌∷◌, Option, Some, None, codes}
 use Rattle.hex.specs.Hex.{encode_lower}
-use Rattle.serde_json.specs.Data.{Data, null, boolean, number, unsigned, string, object, member, no_members}
+use Rattle.serde_json.specs.Data.{Data, Members, null, boolean, number, unsigned, string, object, member, no_members}
 use Rattle.lw_stamp.specs.declared.stamp.Stamp.{Stamp}
 use Rattle.lw_stamp.specs.Moment.{ms_of}
 use Rattle.lw_stamp.specs.Stamp.{id_of}
@@ -24,9 +24,15 @@ abbrev pub number_or_null : Option ℕ → Data
 number_or_null None = null
 number_or_null (Some n) = number (unsigned n)
 
+-- a member for each attribute, names rising
+abbrev pub attributes_json : List (List ℕ × List ℕ) → Members
+attributes_json [] = no_members
+attributes_json (a ∷ attributes) = member a.0 (string a.1) (attributes_json attributes)
+
 abbrev pub registration_json : Registration → Data
 registration_json r = object
     (member (codes "address") (string (addr_text r.address))
+    (member (codes "attributes") (object (attributes_json r.attributes))
     (member (codes "binding") (string (binding_text r.binding))
     (member (codes "endpoint") (string r.endpoint)
     (member (codes "id") (string (id_of r.id))
@@ -36,7 +42,7 @@ registration_json r = object
     (member (codes "queue") (boolean r.queue)
     (member (codes "seen") (number (unsigned (ms_of r.seen)))
     (member (codes "sms") (text_or_null r.sms)
-    no_members))))))))))
+    no_members)))))))))))
 
 -- a watch, and its registration
 abbrev pub watch_json : Registration → Watch → Data

@@ -14,13 +14,14 @@ use Rattle.lw_call.specs.Contents.{NoticeContent}
 use Rattle.lw_print.specs.declared.notice.NoticeMembers.{NoticeMembers}
 use Rattle.lw_print.specs.declared.registration.Members.{Members}
 use Rattle.lw_print.specs.declared.watch.WatchMembers.{WatchMembers}
-use Rattle.lw_print.specs.Json.{text_or_null, number_or_null}
+use Rattle.lw_print.specs.Json.{attributes_json, text_or_null, number_or_null}
 use Rattle.lw_print.specs.PathText.{path_text}
 
 -- ---- a registration
 -- the values are those of the registration
 pub record TellsOf (members : Members) (r : Registration) : Type 0 where
   pub address : string_bytes members.address ≡ addr_text r.address
+  pub attributes : view members.attributes ≡ object (attributes_json r.attributes)
   pub binding : (members.binding).now ≡ binding_text r.binding
   pub endpoint : (members.endpoint).now ≡ r.endpoint
   pub id : string_bytes members.id ≡ id_of r.id
@@ -35,6 +36,7 @@ pub record TellsOf (members : Members) (r : Registration) : Type 0 where
 abbrev pub members_json : Members → Data
 members_json m = object
     (member (codes "address") (string (string_bytes m.address))
+    (member (codes "attributes") (view m.attributes)
     (member (codes "binding") (string ((m.binding).now))
     (member (codes "endpoint") (string ((m.endpoint).now))
     (member (codes "id") (string (string_bytes m.id))
@@ -44,7 +46,7 @@ members_json m = object
     (member (codes "queue") (boolean m.queue)
     (member (codes "seen") (number (unsigned m.seen))
     (member (codes "sms") (view m.sms)
-    no_members))))))))))
+    no_members)))))))))))
 
 -- ---- a watch
 -- the values are those of the watch and its registration

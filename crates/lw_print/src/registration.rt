@@ -2,11 +2,11 @@ ghost use Rattle.std.specs.Prelude.{◌≡◌, [], IfOk, OnOk, string_bytes};
 ghost use Rattle.serde_json.specs.Data.{object as json_object};
 ghost use Rattle.serde_json.specs.View.{view, members_view};
 ghost use Rattle.serde_json.specs.Written.{compact_text};
-ghost use Rattle.lw_print.specs.Json.{registration_json};
+ghost use Rattle.lw_print.specs.Json.{attributes_json, registration_json};
 ghost use Rattle.lw_print.specs.Members.{members_json, TellsOf};
 
 use crate::value::{id_text, put_text, text_value, value_text};
-use lw_reg::View;
+use lw_reg::{AttributesView, View};
 use lw_stamp::NoMemory;
 use serde_json::{Map, Value, put};
 use std::alloc::Global;
@@ -15,6 +15,7 @@ use std::alloc::Global;
 #[derive(Drop)]
 struct Members<'a> {
     address: String,
+    attributes: Value,
     binding: &'a str,
     endpoint: &'a str,
     id: String,
@@ -27,6 +28,7 @@ struct Members<'a> {
 }
 
 /// The JSON object of a registration, with no space between its members.
+#[tactic(auto, using(crate::proofs::MemberLemmas::registration_plain))]
 pub fn registration_text(alloc: Global, shown: &View<'_>) -> Result<String, NoMemory>
     ensures { IfOk result (λ text. string_bytes text ≡ compact_text (registration_json shown.now)) }
 {
@@ -42,11 +44,25 @@ fn registration_value(alloc: Global, shown: &View<'_>) -> Result<Value, NoMemory
     object(alloc, members)
 }
 
+/// The JSON object of the attributes.
+fn attributes_value(alloc: Global, attributes: &AttributesView<'_>) -> Result<Value, NoMemory>
+    ensures { IfOk result (λ value. view value ≡ json_object (attributes_json attributes.now)) }
+{
+    let mut map = Map::new(alloc);
+    for place in 0..attributes.len() {
+        if let Some((name, value)) = attributes.get(place) {
+            put_text(&mut map, alloc, name, value)?;
+        }
+    }
+    Ok(Value::Object(map))
+}
+
 fn members_of<'a>(alloc: Global, shown: &'a View<'_>) -> Result<Members<'a>, NoMemory>
     ensures { IfOk result (λ members. TellsOf members shown.now) }
 {
     Ok(Members {
         address: shown.address.print(alloc)?,
+        attributes: attributes_value(alloc, &shown.attributes)?,
         binding: shown.binding.as_str(),
         endpoint: shown.endpoint,
         id: id_text(alloc, shown.id)?,
@@ -76,6 +92,7 @@ fn put_members(
     ensures { OnOk result (json_object (members_view map.new.entries) ≡ members_json members.entry) }
 {
     put(map, alloc, "address", Value::from(members.address))?;
+    put(map, alloc, "attributes", members.attributes)?;
     put_text(map, alloc, "binding", members.binding)?;
     put_text(map, alloc, "endpoint", members.endpoint)?;
     put(map, alloc, "id", Value::from(members.id))?;

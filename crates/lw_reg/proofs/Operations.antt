@@ -19,10 +19,10 @@ use Rattle.lw_join.specs.Least.{joined_all}
 use Rattle.lw_join.specs.Lww.{write_cmp}
 use Rattle.lw_join.specs.Maps.{one_key}
 use Rattle.lw_join.specs.OptionLaws.{option_laws}
-use Rattle.lw_join.specs.Options.{option_below, option_join}
+use Rattle.lw_join.specs.Options.{option_join}
 use Rattle.lw_join.specs.OrGone.{gone_join}
 use Rattle.lw_join.specs.Parts.{parts_below, parts_join}
-use Rattle.lw_join.specs.PartsLaws.{parts_laws, entries_made}
+use Rattle.lw_join.specs.PartsLaws.{parts_laws}
 use Rattle.lw_join.specs.OrGoneLaws.{gone_laws}
 use Rattle.lw_join.specs.declared.or_gone.OrGone.{OrGone}
 use Rattle.lw_join.specs.declared.or_gone.OrGone.TheVariants.{Here}

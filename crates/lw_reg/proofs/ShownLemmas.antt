@@ -24,7 +24,7 @@ use Rattle.lw_reg.specs.Marks.Trace.{Named, Watched, Cancelled}
 use Rattle.lw_reg.specs.Orders.{path_cmp, format_cmp}
 use Rattle.lw_reg.specs.Reading.{registration_of, registered_in, in_time, timely, view_in, is_late, watches_of, first_watch, if_shown, live_watch}
 use Rattle.lw_reg.specs.Registration.{Registration}
-use Rattle.lw_reg.specs.Showing.{IsCurrent, IsToken, IsInTime, IsShown, IsAnswer, ShownOf, LivesOf, HasExpired, IsFirstOfWatches}
+use Rattle.lw_reg.specs.Showing.{IsCurrent, IsToken, IsInTime, IsShown, ShownOf, LivesOf, HasExpired, IsFirstOfWatches}
 use Rattle.lw_reg.specs.Slot.{slot_at}
 use Rattle.lw_reg.proofs.FirstWatch.{HasWatch, FirstOf, first_is}
 use Rattle.lw_reg.proofs.Readings.{shown_from, shown_to, one_current, IsWatch, watch_from, watch_to}

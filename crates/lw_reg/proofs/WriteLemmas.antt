@@ -1,13 +1,12 @@
 -- Attributes are their entries: of none, of one, and those that an operation writes.
-use Rattle.std.proofs.Common.{◌≡◌, ℕ, Bool, true, false, cond, List, [], ◌∷◌, Option, Some, None, ◌∙◌, refl, sym, ap, subst}
+use Rattle.std.proofs.Common.{◌≡◌, ℕ, Bool, true, false, cond, List, [], ◌∷◌, Some, None, ◌∙◌, refl, sym, ap, subst}
 use Rattle.std.specs.Prelude.{map}
 use Rattle.std.specs.List.{AllByRecursion}
 use Rattle.std.specs.Ordering.{is_eq}
-use Rattle.std.specs.declared.cmp.Ordering.TheVariants.{Less}
 use Rattle.lw_stamp.specs.TextOrder.{text_cmp}
 use Rattle.lw_stamp.specs.declared.stamp.Stamp.{Stamp}
 use Rattle.lw_join.specs.Entries.{AllAbove, Rises, get}
-use Rattle.lw_join.specs.EntriesLaws.{get_below, join_none, same_key}
+use Rattle.lw_join.specs.EntriesLaws.{get_below, same_key}
 use Rattle.lw_join.specs.Join.{IsJoin}
 use Rattle.lw_join.specs.Last.{last_below, last_join}
 use Rattle.lw_join.specs.LastLaws.{last_laws}
@@ -58,7 +57,7 @@ pub stamped_rise : (s : Stamp) (attributes : List (List ℕ × List ℕ)) → Ri
 stamped_rise s [] rises = tt
 stamped_rise s (a ∷ attributes) rises = (above_stamped s a.0 attributes rises.0, stamped_rise s attributes rises.1)
 
-pub stamped_are : (s : Stamp) (attributes : List (List ℕ × List ℕ)) → AllByRecursion (λ (a : List ℕ × List ℕ). IsAttribute a.0 a.1) attributes → AllByRecursion (λ (w : List ℕ × Last (List ℕ)). IsAttribute w.0 w.1.write.1) (stamped_pairs s attributes)
+stamped_are : (s : Stamp) (attributes : List (List ℕ × List ℕ)) → AllByRecursion (λ (a : List ℕ × List ℕ). IsAttribute a.0 a.1) attributes → AllByRecursion (λ (w : List ℕ × Last (List ℕ)). IsAttribute w.0 w.1.write.1) (stamped_pairs s attributes)
 stamped_are s [] each = tt
 stamped_are s (a ∷ attributes) each = (each.0, stamped_are s attributes each.1)
 
@@ -94,3 +93,6 @@ writes_made s (a ∷ attributes) rises =
 -- a map of these entries is what the operation writes
 pub writes_are : (s : Stamp) (attributes : List (List ℕ × List ℕ)) (writes : AttributeMap) → Rises text_cmp attributes → entries_of writes ≡ stamped_pairs s attributes → writes ≡ writes_of s attributes
 writes_are s attributes writes rises same = attributes_are writes (stamped_pairs s attributes) (stamped_rise s attributes rises) same ∙ sym (writes_made s attributes rises)
+
+pub writes_keep : (s : Stamp) (attributes : List (List ℕ × List ℕ)) (writes : AttributeMap) → AllByRecursion (λ (a : List ℕ × List ℕ). IsAttribute a.0 a.1) attributes → entries_of writes ≡ stamped_pairs s attributes → AreWrites writes
+writes_keep s attributes writes each same = subst (AllByRecursion (λ (w : List ℕ × Last (List ℕ)). IsAttribute w.0 w.1.write.1)) (sym same) (stamped_are s attributes each)

@@ -1,9 +1,10 @@
 -- The slot that is put together from its fields.
-use Rattle.std.specs.Prelude.{Option, Some, None}
+use Rattle.std.specs.Prelude.{ℕ, List, Option, Some, None}
 use Rattle.lw_stamp.specs.declared.stamp.Stamp.{Stamp}
 use Rattle.lw_join.specs.declared.or_gone.OrGone.{OrGone}
 use Rattle.lw_join.specs.declared.or_gone.OrGone.TheVariants.{Here, Gone}
 use Rattle.lw_reg.specs.declared.body.Body.{Body}
+use Rattle.lw_reg.specs.declared.fields.FieldWrites.{FieldWrites}
 use Rattle.lw_reg.specs.declared.fields.Fields.{Fields}
 use Rattle.lw_reg.specs.declared.slot.Slot.{Slot}
 use Rattle.lw_reg.specs.declared.path.Path.{Path}
@@ -12,13 +13,13 @@ use Rattle.lw_reg.specs.Slot.{slot_at}
 
 abbrev pub fields_body : Fields → Body
 fields_body f = record {
-  base = record { value = f.base };
-  address = record { write = f.address };
-  seen = record { write = f.seen };
-  lifetime = record { write = f.lifetime };
-  binding = record { write = f.binding };
-  sms = record { write = f.sms };
-  objects = record { write = f.objects };
+  base = record { value = f.writes.base };
+  address = record { write = f.writes.address };
+  seen = record { write = f.writes.seen };
+  lifetime = record { write = f.writes.lifetime };
+  binding = record { write = f.writes.binding };
+  sms = record { write = f.writes.sms };
+  objects = record { write = f.writes.objects };
   maps = maps_of f.attributes f.watches;
 }
 
@@ -30,16 +31,14 @@ told_fields (Some f) = Here (fields_body f)
 abbrev pub slot_of_fields : Stamp → Option Fields → Slot
 slot_of_fields stamp fields = slot_at stamp (told_fields fields)
 
+-- no field is written
+abbrev pub no_writes : FieldWrites (List ℕ) (List ℕ)
+no_writes = record { base = None; address = None; seen = None; lifetime = None; binding = None; sms = None; objects = None }
+
 -- the watch of a path alone
 abbrev pub watched_fields : Path → Watching → Fields
 watched_fields path watching = record {
-  base = None;
-  address = None;
-  seen = None;
-  lifetime = None;
-  binding = None;
-  sms = None;
-  objects = None;
+  writes = no_writes;
   attributes = no_attributes;
   watches = one_watch path watching;
 }

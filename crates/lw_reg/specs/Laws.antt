@@ -67,13 +67,15 @@ JoinsShowBoth = (s t : State) → ShowTheSame (Both (shown_in s) (shown_in t)) (
 abbrev pub fields_in : Option Body → Option Fields
 fields_in None = None
 fields_in (Some b) = Some (record {
-  base = b.base.value;
-  address = b.address.write;
-  seen = b.seen.write;
-  lifetime = b.lifetime.write;
-  binding = b.binding.write;
-  sms = b.sms.write;
-  objects = b.objects.write;
+  writes = record {
+    base = b.base.value;
+    address = b.address.write;
+    seen = b.seen.write;
+    lifetime = b.lifetime.write;
+    binding = b.binding.write;
+    sms = b.sms.write;
+    objects = b.objects.write;
+  };
   attributes = b.maps.left;
   watches = b.maps.right;
 })

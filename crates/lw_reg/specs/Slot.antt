@@ -16,7 +16,6 @@ use Rattle.lw_reg.specs.declared.body.Body.{Body}
 use Rattle.lw_reg.specs.declared.op.Op.{Op}
 use Rattle.lw_reg.specs.declared.op.What.{What}
 use Rattle.lw_reg.specs.declared.op.What.TheVariants.{Register, Update, Remove, Observe, Cancel}
-use Rattle.lw_reg.specs.declared.path.Path.{Path}
 use Rattle.lw_reg.specs.declared.slot.Slot.{Slot}
 use Rattle.lw_reg.specs.Body.{Watching, Watches, AttributeMap, no_watches, one_watch, no_attributes, one_attribute, maps_of, maps_alone, BodyBelow, body_join, body_in_place}
 use Rattle.lw_reg.specs.Marks.{Trace}

@@ -10,7 +10,7 @@ ghost use Rattle.lw_reg.specs.Slot.{slot_of, told_of, write_of, writes_of, obser
 ghost use Rattle.lw_reg.specs.Fields.{told_fields, watched_fields};
 ghost use Rattle.lw_reg.specs.Told.{KeepsAttributes};
 
-use crate::{Attributes, Base, Endpoint, Fields, Op, Path, Slot, Watching, What};
+use crate::{Attributes, Base, Endpoint, FieldWrites, Fields, Op, Path, Slot, Watching, What};
 use lw_join::{Last, Lex, Once, OrGone, Parts};
 use lw_stamp::{NoMemory, Stamp, Text};
 use std::alloc::Global;
@@ -57,29 +57,33 @@ fn told(alloc: Global, stamp: Stamp, what: What) -> Result<Option<Fields>, NoMem
             seen,
             settings,
         } => Fields {
-            base: Some(Base { version, queue }),
-            address: Some((stamp, address)),
-            seen: Some((stamp, seen)),
-            lifetime: Some((stamp, settings.lifetime)),
-            binding: Some((stamp, settings.binding)),
-            sms: Some((stamp, settings.sms)),
-            objects: Some((stamp, settings.objects)),
+            writes: FieldWrites {
+                base: Some(Base { version, queue }),
+                address: Some((stamp, address)),
+                seen: Some((stamp, seen)),
+                lifetime: Some((stamp, settings.lifetime)),
+                binding: Some((stamp, settings.binding)),
+                sms: Some((stamp, settings.sms)),
+                objects: Some((stamp, settings.objects)),
+            },
             attributes: written(alloc, stamp, settings.attributes)?,
             watches: unwatched(alloc),
         },
         What::Update {
             address,
             seen,
-            settings,
+            settings: given,
         } => Fields {
-            base: None,
-            address: Some((stamp, address)),
-            seen: Some((stamp, seen)),
-            lifetime: stamped(stamp, settings.lifetime),
-            binding: stamped(stamp, settings.binding),
-            sms: stamped(stamp, settings.sms.map(Some)),
-            objects: stamped(stamp, settings.objects),
-            attributes: written(alloc, stamp, settings.attributes)?,
+            writes: FieldWrites {
+                base: None,
+                address: Some((stamp, address)),
+                seen: Some((stamp, seen)),
+                lifetime: stamped(stamp, given.lifetime),
+                binding: stamped(stamp, given.binding),
+                sms: stamped(stamp, given.sms.map(Some)),
+                objects: stamped(stamp, given.objects),
+            },
+            attributes: written(alloc, stamp, given.attributes)?,
             watches: unwatched(alloc),
         },
         What::Remove => return Ok(None),
@@ -154,7 +158,7 @@ fn cancelled(alloc: Global, path: Path, stamp: Stamp) -> Result<Fields, NoMemory
 fn watched(alloc: Global, path: Path, watching: Watching) -> Result<Fields, NoMemory>
     ensures { IfOk result (λ fields. fields ≡ watched_fields path watching) }
 {
-    Ok(Fields {
+    let writes = FieldWrites {
         base: None,
         address: None,
         seen: None,
@@ -162,6 +166,9 @@ fn watched(alloc: Global, path: Path, watching: Watching) -> Result<Fields, NoMe
         binding: None,
         sms: None,
         objects: None,
+    };
+    Ok(Fields {
+        writes,
         attributes: unwritten(alloc),
         watches: Parts::one(alloc, path, watching)?,
     })

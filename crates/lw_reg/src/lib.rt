@@ -36,7 +36,7 @@ pub use base::Base;
 pub use binding::Binding;
 pub use body::Watching;
 pub use endpoint::Endpoint;
-pub use fields::Fields;
+pub use fields::{FieldWrites, Fields};
 pub use lw_stamp::Text;
 pub use op::{Op, What};
 pub use path::Path;

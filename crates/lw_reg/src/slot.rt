@@ -14,7 +14,7 @@ ghost use Rattle.lw_reg.specs.Reading.{known_of, stamp_of, IsRemoved, base_of, a
 use crate::body::Body;
 use crate::object_list::ObjectList;
 use crate::told::Told;
-use crate::{Addr, Base, Binding, Fields, Path, SmsNumber, Watching};
+use crate::{Addr, Base, Binding, FieldWrites, Fields, Path, SmsNumber, Watching};
 use lw_join::{Both, Join, Last, Lex, Lww, Once};
 use lw_link::LinkText;
 use lw_stamp::{Moment, NoMemory, Stamp, Text};
@@ -148,6 +148,11 @@ fn body_of_fields(fields: Fields) -> Body
     ensures { result ≡ fields_body fields }
 {
     let Fields {
+        writes,
+        attributes,
+        watches,
+    } = fields;
+    let FieldWrites {
         base,
         address,
         seen,
@@ -155,9 +160,7 @@ fn body_of_fields(fields: Fields) -> Body
         binding,
         sms,
         objects,
-        attributes,
-        watches,
-    } = fields;
+    } = writes;
     Body {
         base: Once { value: base },
         address: Lww { write: address },

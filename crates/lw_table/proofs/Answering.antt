@@ -31,7 +31,7 @@ module _ (state : State) (now : ℕ) where
   pub marks_by_endpoint : (e : List ℕ) (o : Option Registration) → o ≡ view_at now state e → (ms : List Mark) → NamesAll (among ms) → IsStateOf ms state → ShownOf (among ms) now e o
   marks_by_endpoint e o h ms p s = answers.by_endpoint (among ms) p state (answers.marks_tell ms p state s) now e o h
 
-module _ (names : List (List ℕ)) (keys : List (Key × List (List ℕ))) (numbers : List (ℕ × List (List ℕ))) (t : TableContent) (table : IsTable names keys numbers t) (now : ℕ) where
+module _ (names : List (List ℕ)) (keys : List (Key × List (List ℕ))) (numbers : List (ℕ × List ℕ)) (t : TableContent) (table : IsTable names keys numbers t) (now : ℕ) where
   -- a set that the state tells of has the answer
   module _ (after : Option (List ℕ)) (rise : IsStrictlySortedBy text_cmp names) where
     pub read_first_after : (o : Option Registration) → o ≡ first_of (if_after after (view_at now t.state)) names → FirstAfter (shown_in t.state) now after o

@@ -1,17 +1,14 @@
 -- What adding keys of an endpoint one by one, and dropping them, does to an index.
-use Rattle.std.proofs.Common.{◌≡◌, ◌≢◌, ◌↔◌, ◌⊎◌, inl, inr, ℕ, ◌+◌, ◌<◌, ◌≤◌, length, get_or, drop, List, ◌∷◌, Option, Result, Ok, Err, refl, sym, ap, ◌∙◌, subst}
+use Rattle.std.proofs.Common.{◌≡◌, ◌≢◌, ◌↔◌, ◌⊎◌, inl, inr, ℕ, ◌+◌, ◌<◌, ◌≤◌, length, get_or, drop, List, ◌∷◌, Option, Some, Result, Ok, Err, refl, sym, ap, ◌∙◌, subst}
 use Rattle.std.specs.Prelude.{Contains, OnOk, OnErr}
 use Rattle.std.specs.declared.cmp.Ordering.{Ordering}
 use Rattle.std.specs.declared.cmp.Ordering.TheVariants.{Equal}
-use Rattle.std.specs.Cmp.{tied_itself}
 use Rattle.std.proofs.lemmas.List.{at_drop_more, at_drop_all}
 use Rattle.lw_stamp.specs.Order.{IsExact}
 use Rattle.lw_index.specs.Index.{Has, IsPair}
 use Rattle.lw_reg.specs.declared.slot.Slot.{Slot}
 use Rattle.lw_reg.proofs.Members.{none_there, there_or_first}
-use Rattle.std.specs.Ordering.{nat_cmp}
-use Rattle.lw_reg.specs.OrderLaws.{number_order}
-use Rattle.lw_table.specs.Filed.{OtherKeys, OtherNames, OthersSame}
+use Rattle.lw_table.specs.Filed.{OtherKeys, OtherNames, OtherNumbers, OthersSame}
 use Rattle.lw_table.specs.declared.filed.Filed.{Filed}
 use Rattle.lw_table.specs.Keys.{key_cmp, OptionHasKey}
 use Rattle.lw_table.specs.declared.key.Key.{Key}
@@ -151,17 +148,21 @@ pub either : {T E : Type 0} (P Q G : Type 0) (r : Result T E) → OnOk r P → O
 either P Q G (Ok x) h k f g = f h
 either P Q G (Err e) h k f g = g k
 
-pub number_exact : (a b : ℕ) → nat_cmp a b ≡ Equal → a ≡ b
-number_exact = number_order.exact
+pub same_numbers : (endpoint : List ℕ) (now : List (ℕ × List ℕ)) → OtherNumbers endpoint now now
+same_numbers endpoint now = record { same = λ n e other. (λ h. h, λ h. h) }
 
-pub number_itself : (a : ℕ) → nat_cmp a a ≡ Equal
-number_itself = tied_itself number_order.total
+pub one_number : (a b : ℕ) → ◌≡◌ {A = Option ℕ} (Some a) (Some b) → a ≡ b
+one_number a b h = cc
+
+-- other endpoints see nothing of a number
+pub numbered : (old : Filed) (e : List ℕ) (numbers : List (ℕ × List ℕ)) → OtherNumbers e old.numbers numbers → OthersSame old (record { names = old.names; keys = old.keys; numbers = numbers }) e
+numbered old e numbers h = record { same = λ o other. record { name = (λ w. w, λ w. w); keys = λ k. (λ w. w, λ w. w); numbers = λ n. h.same n o other } }
 
 pub on_ok : {T E : Type 0} (P Q : Type 0) (r : Result T E) → (P → Q) → OnOk r P → OnOk r Q
 on_ok P Q (Ok x) f h = f h
 on_ok P Q (Err e) f h = h
 
-pub enter_others : (old new : Filed) (e : List ℕ) → OtherNames e old.names new.names → OtherKeys key_cmp e old.keys new.keys → OtherKeys nat_cmp e old.numbers new.numbers → OthersSame old new e
+pub enter_others : (old new : Filed) (e : List ℕ) → OtherNames e old.names new.names → OtherKeys key_cmp e old.keys new.keys → OtherNumbers e old.numbers new.numbers → OthersSame old new e
 enter_others old new e names keys numbers = record { same = λ o other. record { name = names.same o other; keys = λ k. keys.same k o other; numbers = λ n. numbers.same n o other } }
 
 pub on_err : {T E : Type 0} (P Q : Type 0) (r : Result T E) → (P → Q) → OnErr r P → OnErr r Q

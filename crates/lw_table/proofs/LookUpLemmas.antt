@@ -16,6 +16,7 @@ use Rattle.lw_join.specs.Facets.{OptionTells}
 use Rattle.lw_join.specs.GreaterLaws.{at_most_antisymm}
 use Rattle.lw_join.specs.Lww.{write_cmp}
 use Rattle.lw_join.specs.LwwLaws.{write_order}
+use Rattle.lw_join.specs.Parts.{entries_of}
 use Rattle.lw_join.specs.declared.once.Once.{Once}
 use Rattle.lw_join.specs.declared.or_gone.OrGone.{OrGone}
 use Rattle.lw_join.specs.declared.or_gone.OrGone.TheVariants.{Here, Gone}
@@ -33,6 +34,7 @@ use Rattle.lw_reg.specs.Marks.{Trace, Mark, Marks, Has as HasMark, NamesAll, amo
 use Rattle.lw_reg.specs.Marks.Trace.{Named, AddressAt}
 use Rattle.lw_reg.specs.OrderLaws.{text_order, addr_order}
 use Rattle.lw_reg.specs.Orders.{addr_cmp, path_cmp}
+use Rattle.lw_reg.specs.Attribute.{values_of}
 use Rattle.lw_reg.specs.Reading.{registration_of, registered_in, in_time, timely, view_in, is_late, stamp_of, address_of, IsRemoved, watch_of, token_then, tokens_in, watches_of, has_token, is_above, live_watch, shown_in}
 use Rattle.lw_reg.specs.Registration.{Registration}
 use Rattle.lw_reg.specs.Showing.{IsWrite, IsShown, IsExpired, IsLive, ShownOf, LivesOf, IsAbove, WatchWith, WatchAfter, IsFirstWatch}
@@ -65,12 +67,12 @@ both_some (Some a) None x h = absurd cc
 both_some (Some a) (Some b) x h = let same = some_is (a, b) x h in (ap (λ w. Some w.0) same, ap (λ w. Some w.1) same)
 
 -- ---- what is shown of a slot is what it keeps
-parts_kept : (e : List ℕ) (r : Stamp) (ob : Option Base) (oa : Option (Stamp × Addr)) (os : Option (Stamp × Moment)) (ol : Option (Stamp × ℕ)) (oi : Option (Stamp × Binding)) (om : Option (Stamp × Option (List ℕ))) (oo : Option (Stamp × List ℕ)) (v : Registration)
-    → registration_of e r ob oa os ol oi om oo ≡ Some v → (r ≡ v.id) × ((at : Stamp) × (oa ≡ Some (at, v.address)))
-parts_kept e r (Some b) (Some a) (Some s) (Some l) (Some i) (Some m) (Some o) v h =
+parts_kept : (e : List ℕ) (r : Stamp) (ob : Option Base) (oa : Option (Stamp × Addr)) (os : Option (Stamp × Moment)) (ol : Option (Stamp × ℕ)) (oi : Option (Stamp × Binding)) (om : Option (Stamp × Option (List ℕ))) (oo : Option (Stamp × List ℕ)) (oc : List (List ℕ × List ℕ)) (v : Registration)
+    → registration_of e r ob oa os ol oi om oo oc ≡ Some v → (r ≡ v.id) × ((at : Stamp) × (oa ≡ Some (at, v.address)))
+parts_kept e r (Some b) (Some a) (Some s) (Some l) (Some i) (Some m) (Some o) oc v h =
     let same = some_is _ v h in
     (ap (λ (w : Registration). w.id) same, (a.0, ap (λ (w : Registration). Some (a.0, w.address)) same))
-parts_kept e r _ _ _ _ _ _ _ v h = absurd cc
+parts_kept e r _ _ _ _ _ _ _ _ v h = absurd cc
 
 timely_is : (now : ℕ) (o : Option Registration) (v : Registration) → timely now o ≡ Some v → o ≡ Some v
 timely_is now None v h = absurd cc
@@ -92,7 +94,7 @@ registered_keeps e slot v = go slot.registration.stamp slot.registration.value
     go : (r : Stamp) (x : OrGone Body) → registered_in e (slot_at r x) ≡ Some v → IsKeptAs (slot_at r x) v
     go r Gone h = absurd cc
     go r (Here b) h =
-        let p = parts_kept e r b.base.value b.address.write b.seen.write b.lifetime.write b.binding.write b.sms.write b.objects.write v h in
+        let p = parts_kept e r b.base.value b.address.write b.seen.write b.lifetime.write b.binding.write b.sms.write b.objects.write (values_of (entries_of b.maps.left)) v h in
         record { id = p.0; kept = λ gone. cc; at = p.1.0; address = p.1.1 }
 
 pub view_keeps : (now : ℕ) (e : List ℕ) (slot : Slot) (v : Registration) → view_in now e slot ≡ Some v → IsKeptAs slot v

@@ -1,12 +1,12 @@
 -- What an endpoint is filed under while its row comes or moves.
-use Rattle.std.proofs.Common.{◌≡◌, ◌↔◌, ◌⊎◌, inl, inr, ℕ, Bool, true, false, not, List, Option, Some, None, Result, Ok, Err, refl, sym, ap, subst}
+use Rattle.std.proofs.Common.{◌≡◌, ◌↔◌, ◌⊎◌, inl, inr, ℕ, Bool, true, false, not, List, Option, Some, None, Result, Ok, Err, refl, sym, subst}
 use Rattle.std.specs.Prelude.{OnOk, OnErr, IsErr, IsTrue, Contains}
-use Rattle.std.specs.Ordering.{nat_cmp, match_ordering}
+use Rattle.std.specs.Ordering.{match_ordering}
 use Rattle.std.specs.declared.cmp.Ordering.{Ordering}
 use Rattle.std.specs.declared.cmp.Ordering.TheVariants.{Less, Equal, Greater}
 use Rattle.lw_stamp.specs.declared.stamp.Stamp.{Stamp}
 use Rattle.lw_stamp.specs.StampOrder.{stamp_cmp}
-use Rattle.lw_index.specs.Index.{Has}
+use Rattle.lw_recent.specs.Recent.{IsUnder}
 use Rattle.lw_join.specs.Lex.{lex_of}
 use Rattle.lw_join.specs.OrGone.{gone_join}
 use Rattle.lw_join.specs.declared.or_gone.OrGone.{OrGone}
@@ -16,7 +16,7 @@ use Rattle.lw_reg.specs.declared.slot.Slot.{Slot}
 use Rattle.lw_reg.specs.Body.{body_join}
 use Rattle.lw_reg.specs.Reading.{IsRemoved}
 use Rattle.lw_reg.specs.Slot.{slot_at, slot_join}
-use Rattle.lw_table.specs.Filed.{IsFiled, IsOver, OthersSame, IsBetween, HasAll}
+use Rattle.lw_table.specs.Filed.{IsFiled, IsOver, OthersSame, IsBetween, HasAll, number_of}
 use Rattle.lw_table.specs.Moves.{moved_row}
 use Rattle.lw_table.specs.Turning.{IsTurning}
 use Rattle.lw_table.specs.declared.filed.Filed.{Filed}
@@ -63,21 +63,20 @@ kept_from x y kept =
       ]
     ]
 
-same_number : (a b : ℕ) → ◌≡◌ {A = Option ℕ} (Some a) (Some b) → a ≡ b
-same_number a b h = cc
-
-module _ (old new : Filed) (e : List ℕ) (kept : Bool) (keys : List Key) (number : ℕ) (between : IsBetween old new e kept keys number) where
+module _ (old new : Filed) (e : List ℕ) (kept : Bool) (keys : List Key) (between : IsBetween old new e kept keys) where
   -- with the row as it was
-  pub over_old : (row : Option Row) → IsFiled old e row → IsOver new e row keys number
+  pub over_old : (row : Option Row) → IsFiled old e row → IsOver new e row keys
   over_old row filed = record {
     name = λ h. between.name_stays (filed.name.1 h);
     keys_has = λ k h. between.keys_stay k ((filed.keys k).1 h);
     keys_from = λ k h. elim (between.keys_from k h) [ inl was ↦ inl ((filed.keys k).0 was) | inr listed ↦ inr listed ];
-    numbers_has = λ n h. between.numbers_stay n ((filed.numbers n).1 h);
-    numbers_from = λ n h. elim (between.numbers_from n h) [ inl was ↦ inl ((filed.numbers n).0 was) | inr same ↦ inr same ];
+    numbers = λ n. subst (λ l. IsUnder l n e ↔ (number_of row ≡ Some n)) (sym between.numbers) (filed.numbers n);
   }
 
-  module _ (all : HasAll new e kept keys number) (slot : Slot) where
+  module _ (all : HasAll new e kept keys) (slot : Slot) (number : ℕ) (numbers : List (ℕ × List ℕ)) (numbers_are : (n : ℕ) → IsUnder numbers n e ↔ (Some number ≡ Some n)) where
+    abbrev after : Filed
+    after = record { names = new.names; keys = new.keys; numbers = numbers }
+
     moved_name : (row : Row) → IsFiled old e (Some row) → (IsRemoved row.slot → (IsRemoved slot → ⊥) → kept ≡ true) → (IsRemoved (slot_join row.slot slot) → ⊥) → Contains new.names e
     moved_name row filed revived h = elim (kept_from row.slot slot h) [
       | inl was ↦ between.name_stays (filed.name.1 was)
@@ -88,27 +87,23 @@ module _ (old new : Filed) (e : List ℕ) (kept : Bool) (keys : List Key) (numbe
     ]
 
     -- with the row that moved
-    pub over_moved : (row : Row) → IsFiled old e (Some row) → (IsRemoved row.slot → (IsRemoved slot → ⊥) → kept ≡ true) → IsTurning (Some row.slot) slot keys → IsOver new e (Some (moved_row row slot number)) keys row.number
+    pub over_moved : (row : Row) → IsFiled old e (Some row) → (IsRemoved row.slot → (IsRemoved slot → ⊥) → kept ≡ true) → IsTurning (Some row.slot) slot keys → IsOver after e (Some (moved_row row slot number)) keys
     over_moved row filed revived turning = record {
       name = moved_name row filed revived;
       keys_has = λ k h. elim (turning.gained k h) [ inl was ↦ between.keys_stay k ((filed.keys k).1 was) | inr listed ↦ all.has_keys k listed ];
       keys_from = λ k h. elim (between.keys_from k h) [ inl was ↦ turning.lost k ((filed.keys k).0 was) | inr listed ↦ inr listed ];
-      numbers_has = λ n h. subst (λ m. Has nat_cmp new.numbers m e) (same_number number n h) all.has_number;
-      numbers_from = λ n h. elim (between.numbers_from n h) [ inl was ↦ inr (sym (same_number row.number n ((filed.numbers n).0 was))) | inr same ↦ inl (ap Some (sym same)) ];
+      numbers = numbers_are;
     }
 
     -- with the first row
-    pub filed_first : ((kept ≡ true) ↔ (IsRemoved slot → ⊥)) → IsFiled old e None → IsTurning None slot keys → IsFiled new e (Some (record { slot = slot; number = number }))
+    pub filed_first : ((kept ≡ true) ↔ (IsRemoved slot → ⊥)) → IsFiled old e None → IsTurning None slot keys → IsFiled after e (Some (record { slot = slot; number = number }))
     filed_first is_kept filed turning = record {
       name = (λ h. elim (between.name_from h) [ inl was ↦ absurd (filed.name.0 was) | inr is ↦ is_kept.0 is ], λ h. all.has_name (is_kept.1 h));
       keys = λ k. (
         λ h. elim (between.keys_from k h) [ inl was ↦ absurd ((filed.keys k).0 was) | inr listed ↦ turning.first refl k listed ],
         λ h. elim (turning.gained k h) [ inl was ↦ absurd was | inr listed ↦ all.has_keys k listed ],
       );
-      numbers = λ n. (
-        λ h. elim (between.numbers_from n h) [ inl was ↦ absurd (let bad = (filed.numbers n).0 was in cc) | inr same ↦ ap Some (sym same) ],
-        λ h. subst (λ m. Has nat_cmp new.numbers m e) (same_number number n h) all.has_number,
-      );
+      numbers = numbers_are;
     }
 
 pub others_then : (e : List ℕ) (a b c : Filed) → OthersSame a b e → OthersSame b c e → OthersSame a c e

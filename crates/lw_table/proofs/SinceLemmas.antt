@@ -1,22 +1,18 @@
 -- What is gathered of numbers and of endpoints.
-use Rattle.std.proofs.Common.{◌≡◌, ◌⊎◌, inl, inr, ℕ, ◌<◌, Bool, true, false, cond, List, [], ◌∷◌, Option, Some, None, refl, sym, ap, subst, ◌∙◌}
-use Rattle.std.specs.Prelude.{◌↔◌, Contains, IsSome, filter, unwrap_or, Result, Ok, Err, IfOk}
-use Rattle.std.proofs.Common.{arith}
-use Rattle.std.proofs.lemmas.Bool.Decides.{nat_tests}
+use Rattle.std.proofs.Common.{◌≡◌, ◌⊎◌, inl, inr, ℕ, true, false, List, [], ◌∷◌, Option, Some, None, refl, sym, ap, subst, ◌∙◌}
+use Rattle.std.specs.Prelude.{◌↔◌, Contains, IsSome, filter, Result, Ok, Err, IfOk}
 use Rattle.std.specs.FinMap.{get}
 use Rattle.std.specs.List.{AllByRecursion}
 use Rattle.std.specs.List.Sorted.{IsStrictlySortedBy}
-use Rattle.std.specs.Map.{keys_of, lookup}
-use Rattle.std.specs.Ordering.{nat_cmp, is_eq, is_lt}
 use Rattle.std.specs.declared.cmp.Ordering.{Ordering}
 use Rattle.std.specs.declared.cmp.Ordering.TheVariants.{Less}
 use Rattle.lw_stamp.specs.TextOrder.{text_cmp}
-use Rattle.lw_index.specs.Index.{Has, IsIndex, entries_above}
+use Rattle.lw_recent.specs.Recent.{IsUnder, AreSince}
 use Rattle.lw_reg.specs.declared.slot.Slot.{Slot}
 use Rattle.lw_reg.specs.State.{State}
 use Rattle.lw_reg.proofs.Members.{none_there, first_there, more_there, there_or_first}
 use Rattle.lw_table.specs.Names.{is_after}
-use Rattle.lw_table.specs.Since.{AnyHas, slot_or, slots_at}
+use Rattle.lw_table.specs.Since.{slot_or, slots_at}
 use Rattle.lw_table.specs.Changes.{Count, LAST, IsSince, IsSinceIn}
 use Rattle.lw_table.specs.Table.{TableContent, IsTable}
 use Rattle.lw_table.specs.declared.filed.Filed.{Filed}
@@ -27,17 +23,6 @@ abbrev pub Gathers : {A B : Type 0} → (A → List ℕ → Type 0) → List (Li
 Gathers Left names left All all = (e : List ℕ) → (Contains names e ⊎ Left left e) ↔ All all e
 
 module _ {B : Type 0} (All : B → List ℕ → Type 0) (all : B) where
-  pub entry_gathered : (names more : List (List ℕ)) (x : ℕ × List (List ℕ)) (rest : List (ℕ × List (List ℕ))) → ((e : List ℕ) → Contains more e ↔ (Contains names e ⊎ Contains x.1 e))
-      → Gathers AnyHas names (x ∷ rest) All all → Gathers AnyHas more rest All all
-  entry_gathered names more x rest added h e = (there, back)
-    where
-      there : Contains more e ⊎ AnyHas rest e → All all e
-      there (inl m) = (h e).0 (elim ((added e).0 m) [ inl old ↦ inl old | inr c ↦ inr (inl c) ])
-      there (inr r) = (h e).0 (inr (inr r))
-
-      back : All all e → Contains more e ⊎ AnyHas rest e
-      back a = elim ((h e).1 a) [ inl old ↦ inl ((added e).1 (inl old)) | inr c ↦ elim c [ inl d ↦ inl ((added e).1 (inr d)) | inr r ↦ inr r ] ]
-
   pub endpoint_gathered : (names more : List (List ℕ)) (x : List ℕ) (rest : List (List ℕ)) → ((e : List ℕ) → Contains more e ↔ (Contains names e ⊎ (e ≡ x)))
       → Gathers Contains names (x ∷ rest) All all → Gathers Contains more rest All all
   endpoint_gathered names more x rest added h e = (there, back)
@@ -127,82 +112,6 @@ module _ (state : State) where
       go None rest = rest
       go (Some s) rest = (slots_above e s es h.0, rest)
 
--- ---- the entries above a number
-less_than : (a b : ℕ) → is_lt (nat_cmp a b) ≡ true → a < b
-less_than a b h = grind (arith, nat_tests)
-
-than_less : (a b : ℕ) → a < b → is_lt (nat_cmp a b) ≡ true
-than_less a b h = grind (arith, nat_tests)
-
-not_tied : (a b : ℕ) → a < b → is_eq (nat_cmp b a) ≡ false
-not_tied a b h = grind (arith, nat_tests)
-
-tied : (a b : ℕ) → is_eq (nat_cmp a b) ≡ true → a ≡ b
-tied a b h = grind (arith, nat_tests)
-
-abbrev FiledAbove : ℕ → List (ℕ × List (List ℕ)) → List ℕ → Type 0
-FiledAbove since numbers e = (n : ℕ) × (since < n) × Has nat_cmp numbers n e
-
-module _ (since : ℕ) where
-  abbrev Kept : List (ℕ × List (List ℕ)) → List (ℕ × List (List ℕ))
-  Kept entries = filter (λ entry. is_lt (nat_cmp since entry.0)) entries
-
-  to_above : (entries : List (ℕ × List (List ℕ))) (n : ℕ) (e : List ℕ) → since < n → Has nat_cmp entries n e → AnyHas (Kept entries) e
-  to_above [] n e above c = none_there e c
-  to_above (x ∷ xs) n e above c = go (is_eq (nat_cmp n x.0)) refl c (to_above xs n e above)
-    where
-      kept : AnyHas (Kept xs) e → (b : Bool) → AnyHas (cond b (x ∷ Kept xs) (Kept xs)) e
-      kept h true = inr h
-      kept h false = h
-
-      go : (b : Bool) → is_eq (nat_cmp n x.0) ≡ b → Contains (unwrap_or (cond b (Some x.1) (lookup (λ k. is_eq (nat_cmp n k)) xs)) []) e → (Has nat_cmp xs n e → AnyHas (Kept xs) e) → AnyHas (Kept (x ∷ xs)) e
-      go true is c more =
-          let lower : is_lt (nat_cmp since x.0) ≡ true = than_less since x.0 (subst (λ k. since < k) (tied n x.0 is) above) in
-          subst (λ b. AnyHas (cond b (x ∷ Kept xs) (Kept xs)) e) (sym lower) (inl c)
-      go false is c more = kept (more c) (is_lt (nat_cmp since x.0))
-
-  -- a key of the rest is above the first
-  passed : (x : ℕ × List (List ℕ)) (xs : List (ℕ × List (List ℕ))) (e : List ℕ) → ((n : ℕ) × (since < n) × (x.0 < n) × Has nat_cmp xs n e) → FiledAbove since (x ∷ xs) e
-  passed x xs e h = (h.0, h.1, subst (λ b. Contains (unwrap_or (cond b (Some x.1) (lookup (λ k. is_eq (nat_cmp h.0 k)) xs)) []) e) (sym (not_tied x.0 h.0 h.2)) h.3)
-
-  from_above : (low : ℕ) (entries : List (ℕ × List (List ℕ))) → AllByRecursion (λ k. nat_cmp low k ≡ Less) (keys_of entries) → IsStrictlySortedBy nat_cmp (keys_of entries) → (e : List ℕ) → AnyHas (Kept entries) e
-      → (n : ℕ) × (since < n) × (low < n) × Has nat_cmp entries n e
-  unfolding IsStrictlySortedBy passed
-  from_above low [] below sorted e c = absurd c
-  from_above low (x ∷ xs) below sorted e c = go (is_lt (nat_cmp since x.0)) refl c (from_above x.0 xs sorted.0 sorted.1 e)
-    where
-      higher : low < x.0
-      higher = less_than low x.0 (ap is_lt below.0)
-
-      later : ((n : ℕ) × (since < n) × (x.0 < n) × Has nat_cmp xs n e) → (n : ℕ) × (since < n) × (low < n) × Has nat_cmp (x ∷ xs) n e
-      later h = (h.0, h.1, (let a = higher in let b = h.2 in omega (arith, a, b)), (passed x xs e h).2)
-
-      here : is_lt (nat_cmp since x.0) ≡ true → Contains x.1 e → (n : ℕ) × (since < n) × (low < n) × Has nat_cmp (x ∷ xs) n e
-      here above d = (x.0, less_than since x.0 above, higher, subst (λ b. Contains (unwrap_or (cond b (Some x.1) (lookup (λ k. is_eq (nat_cmp x.0 k)) xs)) []) e) (sym (itself x.0)) d)
-        where
-          itself : (n : ℕ) → is_eq (nat_cmp n n) ≡ true
-          itself n = grind (arith, nat_tests)
-
-      go : (b : Bool) → is_lt (nat_cmp since x.0) ≡ b → AnyHas (cond b (x ∷ Kept xs) (Kept xs)) e → (AnyHas (Kept xs) e → (n : ℕ) × (since < n) × (x.0 < n) × Has nat_cmp xs n e)
-          → (n : ℕ) × (since < n) × (low < n) × Has nat_cmp (x ∷ xs) n e
-      go true above c more = elim c [ inl d ↦ here above d | inr r ↦ later (more r) ]
-      go false above c more = later (more c)
-
-  pub above_reads : (entries : List (ℕ × List (List ℕ))) → IsIndex nat_cmp entries → (e : List ℕ) → AnyHas (Kept entries) e ↔ FiledAbove since entries e
-  unfolding IsStrictlySortedBy
-  above_reads [] index e = (λ c. absurd c, λ h. none_there e h.2)
-  above_reads (x ∷ xs) index e = (go (is_lt (nat_cmp since x.0)) refl, λ h. to_above (x ∷ xs) h.0 e h.1 h.2)
-    where
-      itself : (n : ℕ) → is_eq (nat_cmp n n) ≡ true
-      itself n = grind (arith, nat_tests)
-
-      later : AnyHas (Kept xs) e → FiledAbove since (x ∷ xs) e
-      later c = passed x xs e (from_above x.0 xs (index.keys_rise).0 (index.keys_rise).1 e c)
-
-      go : (b : Bool) → is_lt (nat_cmp since x.0) ≡ b → AnyHas (cond b (x ∷ Kept xs) (Kept xs)) e → FiledAbove since (x ∷ xs) e
-      go true above c = elim c [ inl d ↦ (x.0, less_than since x.0 above, subst (λ b. Contains (unwrap_or (cond b (Some x.1) (lookup (λ k. is_eq (nat_cmp x.0 k)) xs)) []) e) (sym (itself x.0)) d) | inr r ↦ later r ]
-      go false above c = later c
-
 -- ---- what has moved since a number
 module _ (state : State) (count : Count) (since : ℕ) (names : List (List ℕ)) (rise : IsStrictlySortedBy text_cmp names) where
   -- the names are those that moved since
@@ -215,40 +124,31 @@ module _ (state : State) (count : Count) (since : ℕ) (names : List (List ℕ))
     );
   }
 
-any_has : (entries : List (ℕ × List (List ℕ))) (n : ℕ) (e : List ℕ) → Has nat_cmp entries n e → AnyHas entries e
-any_has [] n e c = none_there e c
-any_has (x ∷ xs) n e c = go (is_eq (nat_cmp n x.0)) c (any_has xs n e)
-  where
-    go : (b : Bool) → Contains (unwrap_or (cond b (Some x.1) (lookup (λ k. is_eq (nat_cmp n k)) xs)) []) e → (Has nat_cmp xs n e → AnyHas xs e) → AnyHas (x ∷ xs) e
-    go true c more = inl c
-    go false c more = inr (more c)
-
 some_there : (o : Option ℕ) → IsSome o → (n : ℕ) × (o ≡ Some n)
 some_there None h = absurd (let bad : false ≡ true = h in cc)
 some_there (Some n) h = (n, refl)
 
 -- all have moved, at the last number
 pub all_since : (filed : Filed) (table : TableContent) (since : ℕ) (names : List (List ℕ)) → IsTable filed.names filed.keys filed.numbers table → table.count.change ≡ LAST
-    → ((e : List ℕ) → Contains names e ↔ AnyHas filed.numbers e) → (e : List ℕ) (slot : Slot) → get table.state e ≡ Some slot → Contains names e ↔ IsSince table.count since e
+    → AreSince None filed.numbers names → (e : List ℕ) (slot : Slot) → get table.state e ≡ Some slot → Contains names e ↔ IsSince table.count since e
 all_since filed table since names is last are e slot h = (
   λ c. inl last,
   λ s.
       let number = some_there (get table.count.numbers e) ((is.numbered e).0 (subst IsSome (sym h) refl)) in
-      (are e).1 (any_has filed.numbers number.0 e ((is.numbers_are number.0 e).1 number.1)),
+      (are e).1 (number.0, (is.numbers_are number.0 e).1 number.1, tt),
 )
 
 -- those that are filed above the number
-pub some_since : (numbers : List (ℕ × List (List ℕ))) (count : Count) (since : ℕ) (names : List (List ℕ)) → IsIndex nat_cmp numbers → (count.change ≡ LAST → ⊥)
-    → ((n : ℕ) (e : List ℕ) → Has nat_cmp numbers n e ↔ (get count.numbers e ≡ Some n)) → ((e : List ℕ) → Contains names e ↔ AnyHas (entries_above nat_cmp (Some since) numbers) e)
-    → (e : List ℕ) → Contains names e ↔ IsSince count since e
-some_since numbers count since names index not_last filed are e = (there, back)
+pub some_since : (numbers : List (ℕ × List ℕ)) (count : Count) (since : ℕ) (names : List (List ℕ)) → (count.change ≡ LAST → ⊥)
+    → ((n : ℕ) (e : List ℕ) → IsUnder numbers n e ↔ (get count.numbers e ≡ Some n)) → AreSince (Some since) numbers names → (e : List ℕ) → Contains names e ↔ IsSince count since e
+some_since numbers count since names not_last filed are e = (there, back)
   where
     there : Contains names e → IsSince count since e
-    there c = let f = (above_reads since numbers index e).0 ((are e).0 c) in inr (f.0, (filed f.0 e).0 f.2, f.1)
+    there c = let f = (are e).0 c in inr (f.0, (filed f.0 e).0 f.1, f.2)
 
     back : IsSince count since e → Contains names e
     back (inl last) = absurd (not_last last)
-    back (inr f) = (are e).1 ((above_reads since numbers index e).1 (f.0, f.2, (filed f.0 e).1 f.1))
+    back (inr f) = (are e).1 (f.0, (filed f.0 e).1 f.1, f.2)
 
 -- a result that is another list's is what that is
 pub if_slots : {T E : Type 0} (P Q : T → Type 0) → ((t : T) → P t → Q t) → (r : Result T E) → IfOk r P → IfOk r Q

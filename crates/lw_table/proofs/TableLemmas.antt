@@ -3,7 +3,7 @@ use Rattle.std.proofs.Common.{◌≡◌, ◌≢◌, ◌↔◌, ℕ, ◌≤◌, B
 use Rattle.std.specs.Prelude.{Contains, bytes_eq, IsSome}
 use Rattle.std.specs.Option.{option_map}
 use Rattle.std.specs.FinMap.{get, get-empty}
-use Rattle.std.specs.Ordering.{nat_cmp, eq_by_cmp}
+use Rattle.std.specs.Ordering.{eq_by_cmp}
 use Rattle.std.proofs.lemmas.Cmp.{eq_by_cmp_equiv}
 use Rattle.std.proofs.lemmas.Map.Views.{tells_apart}
 use Rattle.lw_stamp.specs.TextOrder.{text_cmp}
@@ -19,6 +19,7 @@ use Rattle.lw_table.specs.Changes.{LAST}
 use Rattle.lw_table.specs.Filed.{IsFiled, OthersSame, slot_of, number_of}
 use Rattle.std.specs.declared.cmp.Ordering.{Ordering}
 use Rattle.lw_index.specs.Index.{Has}
+use Rattle.lw_recent.specs.Recent.{IsUnder}
 use Rattle.lw_reg.proofs.Members.{none_there}
 use Rattle.lw_table.specs.declared.key.Key.{Key}
 use Rattle.lw_table.specs.Keys.{key_cmp, OptionHasKey}
@@ -55,7 +56,7 @@ pub filed_at : (filed : Filed) (m : Rows) → IsRows m → (change : ℕ) → Is
 filed_at filed m rows_m change is e = record {
   name = subst (λ o. Contains filed.names e ↔ IsKept o) (get-state m rows_m e) (is.names_are e);
   keys = λ k. subst (λ o. Has key_cmp filed.keys k e ↔ OptionHasKey o k) (get-state m rows_m e) (is.keys_are k e);
-  numbers = λ n. subst (λ o. Has nat_cmp filed.numbers n e ↔ (o ≡ Some n)) (get-number m rows_m e) (is.numbers_are n e);
+  numbers = λ n. subst (λ o. IsUnder filed.numbers n e ↔ (o ≡ Some n)) (get-number m rows_m e) (is.numbers_are n e);
 }
 
 -- rows of endpoints, under numbers that were given
@@ -75,7 +76,7 @@ pub table_of : (filed : Filed) (m : Rows) → IsRows m → (change : ℕ) → ((
 table_of filed m rows_m change each rows = record {
   names_are = λ e. subst (λ o. Contains filed.names e ↔ IsKept o) (sym (get-state m rows_m e)) (each e).name;
   keys_are = λ k e. subst (λ o. Has key_cmp filed.keys k e ↔ OptionHasKey o k) (sym (get-state m rows_m e)) ((each e).keys k);
-  numbers_are = λ n e. subst (λ o. Has nat_cmp filed.numbers n e ↔ (o ≡ Some n)) (sym (get-number m rows_m e)) ((each e).numbers n);
+  numbers_are = λ n e. subst (λ o. IsUnder filed.numbers n e ↔ (o ≡ Some n)) (sym (get-number m rows_m e)) ((each e).numbers n);
   numbered = λ e. (
     λ h. subst IsSome (sym (get-number m rows_m e)) ((slot_some (row_at m e)).0 (subst IsSome (get-state m rows_m e) h)),
     λ h. subst IsSome (sym (get-state m rows_m e)) ((slot_some (row_at m e)).1 (subst IsSome (get-number m rows_m e) h)),
@@ -195,14 +196,14 @@ joined_state m n rows_m rows_n e0 slot number at = maps_alike text_order _ _ (λ
 no_pair : {K G : Type 0} (cmp : K → K → Ordering) (k : K) (e : List ℕ) → Has cmp [] k e → G
 no_pair cmp k e h = none_there e h
 
-pub nothing_filed : (names : List (List ℕ)) (keys : List (Key × List (List ℕ))) (numbers : List (ℕ × List (List ℕ))) (m : Rows) → IsRows m
+pub nothing_filed : (names : List (List ℕ)) (keys : List (Key × List (List ℕ))) (numbers : List (ℕ × List ℕ)) (m : Rows) → IsRows m
     → names ≡ [] → keys ≡ [] → numbers ≡ [] → ((e : List ℕ) → row_at m e ≡ None) → IsTable names keys numbers (table_in m 0)
 nothing_filed names keys numbers m rows_m no_names no_keys no_numbers none =
     table_of (record { names = names; keys = keys; numbers = numbers }) m rows_m 0
     (λ e. subst (IsFiled (record { names = names; keys = keys; numbers = numbers }) e) (sym (none e)) (record {
       name = (λ h. none_there e (subst (λ l. Contains l e) no_names h), λ h. absurd h);
       keys = λ k. (λ h. no_pair key_cmp k e (subst (λ l. Has key_cmp l k e) no_keys h), λ h. absurd h);
-      numbers = λ n. (λ h. no_pair nat_cmp n e (subst (λ l. Has nat_cmp l n e) no_numbers h), λ h. absurd cc);
+      numbers = λ n. (λ h. none_there (n, e) (subst (λ l. IsUnder l n e) no_numbers h), λ h. absurd cc);
     }))
     (record {
       within = λ e n h. absurd (let bad : None ≡ Some n = ap number_of (sym (none e)) ∙ h in cc);

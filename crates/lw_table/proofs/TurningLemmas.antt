@@ -116,11 +116,11 @@ key_of_write o at a h = subst (λ x. Contains (address_key x) (Address a)) (sym 
 pub keys_has : (s : Stamp) (v : OrGone Body) (k : Key) → HasKey (slot_at s v) k → Contains (keys_in (slot_at s v)) k
 keys_has s Gone k h = none_gone s k h
 keys_has s (Here b) (Id i) h =
-    Contains-append_left (Id s ∷ address_key b.address.write) (token_keys (entries_of b.watches)) (Id i) (Contains-append_left (Id s ∷ []) (address_key b.address.write) (Id i) (first_there (Id s) [] (Id i) (ap Id (sym h.1))))
+    Contains-append_left (Id s ∷ address_key b.address.write) (token_keys (entries_of b.maps.right)) (Id i) (Contains-append_left (Id s ∷ []) (address_key b.address.write) (Id i) (first_there (Id s) [] (Id i) (ap Id (sym h.1))))
 keys_has s (Here b) (Address a) h =
-    Contains-append_left (Id s ∷ address_key b.address.write) (token_keys (entries_of b.watches)) (Address a) (Contains-append_right (Id s ∷ []) (address_key b.address.write) (Address a) (key_of_write b.address.write h.0 a h.1))
+    Contains-append_left (Id s ∷ address_key b.address.write) (token_keys (entries_of b.maps.right)) (Address a) (Contains-append_right (Id s ∷ []) (address_key b.address.write) (Address a) (key_of_write b.address.write h.0 a h.1))
 keys_has s (Here b) (Token t) h =
-    Contains-append_right (Id s ∷ address_key b.address.write) (token_keys (entries_of b.watches)) (Token t) (key_of_token t (tokens_in (entries_of b.watches)) h)
+    Contains-append_right (Id s ∷ address_key b.address.write) (token_keys (entries_of b.maps.right)) (Token t) (key_of_token t (tokens_in (entries_of b.maps.right)) h)
 
 from_write : (s : Stamp) (b : Body) (o : Option (Stamp × Addr)) → b.address.write ≡ o → (k : Key) → Contains (address_key o) k → HasKey (slot_at s (Here b)) k
 from_write s b None h k there = none_there k there
@@ -129,12 +129,12 @@ from_write s b (Some w) h k there = elim (there_or_first (Address w.1) [] k ther
 pub has_keys : (s : Stamp) (v : OrGone Body) (k : Key) → Contains (keys_in (slot_at s v)) k → HasKey (slot_at s v) k
 has_keys s Gone k h = none_there k h
 has_keys s (Here b) k h =
-    elim (Contains-append_cases (Id s ∷ address_key b.address.write) (token_keys (entries_of b.watches)) k h) [
+    elim (Contains-append_cases (Id s ∷ address_key b.address.write) (token_keys (entries_of b.maps.right)) k h) [
       | inl front ↦ elim (there_or_first (Id s) (address_key b.address.write) k front) [
         | inl same ↦ subst (HasKey (slot_at s (Here b))) (sym same) (not_gone b, refl)
         | inr address ↦ from_write s b b.address.write refl k address
       ]
-      | inr token ↦ (let w = token_of_key k (tokens_in (entries_of b.watches)) token in subst (HasKey (slot_at s (Here b))) (sym w.2) w.1)
+      | inr token ↦ (let w = token_of_key k (tokens_in (entries_of b.maps.right)) token in subst (HasKey (slot_at s (Here b))) (sym w.2) w.1)
     ]
 
 -- ---- the join of two bodies
@@ -146,12 +146,12 @@ module _ (s : Stamp) (x y : Body) where
   body_from (Id i) h = inl (not_gone x, h.1)
   body_from (Address a) h = elim (join_write x.address.write y.address.write) [ inl same ↦ inl (h.0, sym same ∙ h.1) | inr same ↦ inr (h.0, sym same ∙ h.1) ]
   body_from (Token t) h =
-      let found = token_found (entries_of (body_join x y).watches) (body_join x y).watches.rises t h in
-      let at = value_at-join path_order watching_join x.watches y.watches found.0 in
-      let is : token_was (option_join watching_join (entry_of path_cmp (entries_of x.watches) found.0) (entry_of path_cmp (entries_of y.watches) found.0)) ≡ Some t = ap token_was (sym at) ∙ found.1 in
-      elim (join_token (entry_of path_cmp (entries_of x.watches) found.0) (entry_of path_cmp (entries_of y.watches) found.0)) [
-        | inl same ↦ inl (token_there (entries_of x.watches) found.0 t (sym same ∙ is))
-        | inr same ↦ inr (token_there (entries_of y.watches) found.0 t (sym same ∙ is))
+      let found = token_found (entries_of (body_join x y).maps.right) (body_join x y).maps.right.rises t h in
+      let at = value_at-join path_order watching_join x.maps.right y.maps.right found.0 in
+      let is : token_was (option_join watching_join (entry_of path_cmp (entries_of x.maps.right) found.0) (entry_of path_cmp (entries_of y.maps.right) found.0)) ≡ Some t = ap token_was (sym at) ∙ found.1 in
+      elim (join_token (entry_of path_cmp (entries_of x.maps.right) found.0) (entry_of path_cmp (entries_of y.maps.right) found.0)) [
+        | inl same ↦ inl (token_there (entries_of x.maps.right) found.0 t (sym same ∙ is))
+        | inr same ↦ inr (token_there (entries_of y.maps.right) found.0 t (sym same ∙ is))
       ]
 
 -- ---- what is listed where both are there
@@ -225,20 +225,20 @@ token_lost old (e ∷ es) p t h = go (token_lost old es p t h) (is_eq (path_cmp 
 
 module _ (s : Stamp) (x y : Body) where
   abbrev listed : List Key
-  listed = differing_addresses x.address.write y.address.write ++ turned_tokens (entries_of x.watches) (entries_of y.watches)
+  listed = differing_addresses x.address.write y.address.write ++ turned_tokens (entries_of x.maps.right) (entries_of y.maps.right)
 
   address_in : (a : Addr) → Contains (differing_addresses x.address.write y.address.write) (Address a) → Contains listed (Address a)
-  address_in a h = Contains-append_left (differing_addresses x.address.write y.address.write) (turned_tokens (entries_of x.watches) (entries_of y.watches)) (Address a) h
+  address_in a h = Contains-append_left (differing_addresses x.address.write y.address.write) (turned_tokens (entries_of x.maps.right) (entries_of y.maps.right)) (Address a) h
 
-  token_in_list : (t : Stamp) → Contains (turned_tokens (entries_of x.watches) (entries_of y.watches)) (Token t) → Contains listed (Token t)
-  token_in_list t h = Contains-append_right (differing_addresses x.address.write y.address.write) (turned_tokens (entries_of x.watches) (entries_of y.watches)) (Token t) h
+  token_in_list : (t : Stamp) → Contains (turned_tokens (entries_of x.maps.right) (entries_of y.maps.right)) (Token t) → Contains listed (Token t)
+  token_in_list t h = Contains-append_right (differing_addresses x.address.write y.address.write) (turned_tokens (entries_of x.maps.right) (entries_of y.maps.right)) (Token t) h
 
   second_listed : (k : Key) → HasKey (slot_at s (Here y)) k → HasKey (slot_at s (Here x)) k ⊎ Contains listed k
   second_listed (Id i) h = inl (not_gone x, h.1)
   second_listed (Address a) h = elim (address_gained x.address.write y.address.write h.0 a h.1) [ inl was ↦ inl was | inr new ↦ inr (address_in a new) ]
   second_listed (Token t) h =
-      let found = token_found (entries_of y.watches) y.watches.rises t h in
-      elim (token_gained (entries_of x.watches) (entries_of y.watches) found.0 t found.1) [ inl was ↦ inl (token_there (entries_of x.watches) found.0 t was) | inr new ↦ inr (token_in_list t new) ]
+      let found = token_found (entries_of y.maps.right) y.maps.right.rises t h in
+      elim (token_gained (entries_of x.maps.right) (entries_of y.maps.right) found.0 t found.1) [ inl was ↦ inl (token_there (entries_of x.maps.right) found.0 t was) | inr new ↦ inr (token_in_list t new) ]
 
   body_gained : (k : Key) → HasKey (joined s x y) k → HasKey (slot_at s (Here x)) k ⊎ Contains listed k
   body_gained k h = elim (body_from s x y k h) [ inl was ↦ inl was | inr is ↦ second_listed k is ]
@@ -247,15 +247,15 @@ module _ (s : Stamp) (x y : Body) where
   body_lost (Id i) h = inl (not_gone (body_join x y), h.1)
   body_lost (Address a) h = elim (address_lost x.address.write y.address.write h.0 a h.1) [ inl is ↦ inl is | inr lost ↦ inr (address_in a lost) ]
   body_lost (Token t) h =
-      let found = token_found (entries_of x.watches) x.watches.rises t h in
+      let found = token_found (entries_of x.maps.right) x.maps.right.rises t h in
       let p = found.0 in
-      let at = value_at-join path_order watching_join x.watches y.watches p in
-      let kept : token_was (option_join watching_join (entry_of path_cmp (entries_of x.watches) p) (entry_of path_cmp (entries_of y.watches) p)) ≡ Some t → HasKey (joined s x y) (Token t) =
-      λ is. token_there (entries_of (body_join x y).watches) p t (ap token_was at ∙ is) in
-      elim (token_lost (entries_of x.watches) (entries_of y.watches) p t found.1) [
-        | inl none ↦ inl (kept (ap (λ o. token_was (option_join watching_join (entry_of path_cmp (entries_of x.watches) p) o)) none ∙ alone (entry_of path_cmp (entries_of x.watches) p) ∙ found.1))
+      let at = value_at-join path_order watching_join x.maps.right y.maps.right p in
+      let kept : token_was (option_join watching_join (entry_of path_cmp (entries_of x.maps.right) p) (entry_of path_cmp (entries_of y.maps.right) p)) ≡ Some t → HasKey (joined s x y) (Token t) =
+      λ is. token_there (entries_of (body_join x y).maps.right) p t (ap token_was at ∙ is) in
+      elim (token_lost (entries_of x.maps.right) (entries_of y.maps.right) p t found.1) [
+        | inl none ↦ inl (kept (ap (λ o. token_was (option_join watching_join (entry_of path_cmp (entries_of x.maps.right) p) o)) none ∙ alone (entry_of path_cmp (entries_of x.maps.right) p) ∙ found.1))
         | inr some ↦ elim some [
-          | inl is ↦ inl (kept (elim (join_token (entry_of path_cmp (entries_of x.watches) p) (entry_of path_cmp (entries_of y.watches) p)) [ inl same ↦ same ∙ found.1 | inr same ↦ same ∙ is ]))
+          | inl is ↦ inl (kept (elim (join_token (entry_of path_cmp (entries_of x.maps.right) p) (entry_of path_cmp (entries_of y.maps.right) p)) [ inl same ↦ same ∙ found.1 | inr same ↦ same ∙ is ]))
           | inr lost ↦ inr (token_in_list t lost)
         ]
       ]

@@ -1,8 +1,8 @@
 -- What is filed of one endpoint, beside its row.
 use Rattle.std.specs.Prelude.{◌≡◌, ◌≢◌, ◌↔◌, ◌⊎◌, ℕ, Bool, true, List, Contains, Option, Some, None}
 use Rattle.std.specs.declared.cmp.Ordering.{Ordering}
-use Rattle.std.specs.Ordering.{nat_cmp}
 use Rattle.lw_index.specs.Index.{Has}
+use Rattle.lw_recent.specs.Recent.{IsUnder}
 use Rattle.lw_reg.specs.declared.slot.Slot.{Slot}
 use Rattle.lw_table.specs.Keys.{key_cmp, OptionHasKey}
 use Rattle.lw_table.specs.Table.{IsKept}
@@ -22,21 +22,20 @@ number_of (Some row) = Some row.number
 pub record IsFiled (filed : Filed) (e : List ℕ) (row : Option Row) : Type 0 where
   pub name : Contains filed.names e ↔ IsKept (slot_of row)
   pub keys : (k : Key) → Has key_cmp filed.keys k e ↔ OptionHasKey (slot_of row) k
-  pub numbers : (n : ℕ) → Has nat_cmp filed.numbers n e ↔ (number_of row ≡ Some n)
+  pub numbers : (n : ℕ) → IsUnder filed.numbers n e ↔ (number_of row ≡ Some n)
 
--- the endpoint is filed under what its row has, and maybe under more of the keys and the number
-pub record IsOver (filed : Filed) (e : List ℕ) (row : Option Row) (keys : List Key) (number : ℕ) : Type 0 where
+-- the endpoint is filed under what its row has, and maybe under more of the keys
+pub record IsOver (filed : Filed) (e : List ℕ) (row : Option Row) (keys : List Key) : Type 0 where
   pub name : IsKept (slot_of row) → Contains filed.names e
   pub keys_has : (k : Key) → OptionHasKey (slot_of row) k → Has key_cmp filed.keys k e
   pub keys_from : (k : Key) → Has key_cmp filed.keys k e → OptionHasKey (slot_of row) k ⊎ Contains keys k
-  pub numbers_has : (n : ℕ) → number_of row ≡ Some n → Has nat_cmp filed.numbers n e
-  pub numbers_from : (n : ℕ) → Has nat_cmp filed.numbers n e → (number_of row ≡ Some n) ⊎ (n ≡ number)
+  pub numbers : (n : ℕ) → IsUnder filed.numbers n e ↔ (number_of row ≡ Some n)
 
 -- what is filed of the endpoint is the same
 pub record IsSame (old new : Filed) (e : List ℕ) : Type 0 where
   pub name : Contains new.names e ↔ Contains old.names e
   pub keys : (k : Key) → Has key_cmp new.keys k e ↔ Has key_cmp old.keys k e
-  pub numbers : (n : ℕ) → Has nat_cmp new.numbers n e ↔ Has nat_cmp old.numbers n e
+  pub numbers : (n : ℕ) → IsUnder new.numbers n e ↔ IsUnder old.numbers n e
 
 -- of all other endpoints it is
 pub record OthersSame (old new : Filed) (endpoint : List ℕ) : Type 0 where
@@ -46,21 +45,23 @@ pub record OthersSame (old new : Filed) (endpoint : List ℕ) : Type 0 where
 pub record OtherKeys {K : Type 0} (cmp : K → K → Ordering) (endpoint : List ℕ) (old new : List (K × List (List ℕ))) : Type 0 where
   pub same : (k : K) (e : List ℕ) → e ≢ endpoint → Has cmp new k e ↔ Has cmp old k e
 
+-- of each endpoint but one the number is the same
+pub record OtherNumbers (endpoint : List ℕ) (old new : List (ℕ × List ℕ)) : Type 0 where
+  pub same : (n : ℕ) (e : List ℕ) → e ≢ endpoint → IsUnder new n e ↔ IsUnder old n e
+
 -- of each name but one it is the same whether it is there
 pub record OtherNames (endpoint : List ℕ) (old new : List (List ℕ)) : Type 0 where
   pub same : (e : List ℕ) → e ≢ endpoint → Contains new e ↔ Contains old e
 
--- the endpoint keeps what it was filed under, and has come to no more than the keys, the number and maybe its name
-pub record IsBetween (old new : Filed) (e : List ℕ) (kept : Bool) (keys : List Key) (number : ℕ) : Type 0 where
+-- the endpoint keeps what it was filed under, and has come to no more than the keys and maybe its name
+pub record IsBetween (old new : Filed) (e : List ℕ) (kept : Bool) (keys : List Key) : Type 0 where
   pub name_stays : Contains old.names e → Contains new.names e
   pub name_from : Contains new.names e → Contains old.names e ⊎ (kept ≡ true)
   pub keys_stay : (k : Key) → Has key_cmp old.keys k e → Has key_cmp new.keys k e
   pub keys_from : (k : Key) → Has key_cmp new.keys k e → Has key_cmp old.keys k e ⊎ Contains keys k
-  pub numbers_stay : (n : ℕ) → Has nat_cmp old.numbers n e → Has nat_cmp new.numbers n e
-  pub numbers_from : (n : ℕ) → Has nat_cmp new.numbers n e → Has nat_cmp old.numbers n e ⊎ (n ≡ number)
+  pub numbers : new.numbers ≡ old.numbers
 
 -- the endpoint is filed under all of these
-pub record HasAll (filed : Filed) (e : List ℕ) (kept : Bool) (keys : List Key) (number : ℕ) : Type 0 where
+pub record HasAll (filed : Filed) (e : List ℕ) (kept : Bool) (keys : List Key) : Type 0 where
   pub has_name : kept ≡ true → Contains filed.names e
   pub has_keys : (k : Key) → Contains keys k → Has key_cmp filed.keys k e
-  pub has_number : Has nat_cmp filed.numbers number e

@@ -1,13 +1,8 @@
--- What is gathered of the endpoints that are filed under some numbers, and their slots.
-use Rattle.std.specs.Prelude.{ℕ, ◌⊎◌, List, [], ◌∷◌, Contains, Option, Some, None}
+-- The slots of endpoints.
+use Rattle.std.specs.Prelude.{ℕ, List, [], ◌∷◌, Option, Some, None}
 use Rattle.std.specs.FinMap.{get}
 use Rattle.lw_reg.specs.declared.slot.Slot.{Slot}
 use Rattle.lw_reg.specs.State.{State}
-
--- the endpoint is among those of one of the entries
-abbrev pub AnyHas : List (ℕ × List (List ℕ)) → List ℕ → Type 0
-AnyHas [] e = ⊥
-AnyHas (entry ∷ entries) e = Contains entry.1 e ⊎ AnyHas entries e
 
 abbrev pub slot_or : List ℕ → Option Slot → List (List ℕ × Slot) → List (List ℕ × Slot)
 slot_or e None rest = rest

@@ -2,8 +2,8 @@
 use Rattle.std.specs.Prelude.{◌≡◌, ◌≤◌, ◌↔◌, ℕ, List, Contains, Option, Some, None, IsSome, refl}
 use Rattle.std.specs.Coded.{Coded, coded×, coded_ℕ, coded_list, code_by}
 use Rattle.std.specs.FinMap.{empty, get, code}
-use Rattle.std.specs.Ordering.{nat_cmp}
 use Rattle.lw_index.specs.Index.{Has}
+use Rattle.lw_recent.specs.Recent.{IsUnder}
 use Rattle.lw_reg.specs.Endpoint.{IsEndpoint}
 use Rattle.lw_reg.specs.Reading.{IsRemoved}
 use Rattle.lw_reg.specs.declared.slot.Slot.{Slot}
@@ -46,10 +46,10 @@ IsKept (Some slot) = ¬ IsRemoved slot
 -- What is filed beside the slots. The names are the endpoints whose registration was not removed, rising; the
 -- keys are the inverse of their slots; each endpoint is filed under its change number, and has one where it has
 -- a slot.
-pub record IsTable (names : List (List ℕ)) (keys : List (Key × List (List ℕ))) (numbers : List (ℕ × List (List ℕ))) (t : TableContent) : Type 0 where
+pub record IsTable (names : List (List ℕ)) (keys : List (Key × List (List ℕ))) (numbers : List (ℕ × List ℕ)) (t : TableContent) : Type 0 where
   pub names_are : (e : List ℕ) → Contains names e ↔ IsKept (get t.state e)
   pub keys_are : (k : Key) (e : List ℕ) → Has key_cmp keys k e ↔ OptionHasKey (get t.state e) k
-  pub numbers_are : (n : ℕ) (e : List ℕ) → Has nat_cmp numbers n e ↔ (get t.count.numbers e ≡ Some n)
+  pub numbers_are : (n : ℕ) (e : List ℕ) → IsUnder numbers n e ↔ (get t.count.numbers e ≡ Some n)
   pub numbered : (e : List ℕ) → IsSome (get t.state e) ↔ IsSome (get t.count.numbers e)
   pub within : (n : ℕ) (e : List ℕ) → get t.count.numbers e ≡ Some n → n ≤ t.count.change
   pub last : t.count.change ≤ LAST

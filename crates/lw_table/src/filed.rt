@@ -1,11 +1,11 @@
 //! What is filed beside the rows: the name, the keys and the change number of each endpoint.
 
-ghost use Rattle.std.specs.Prelude.{◌≡◌, ◌↔◌, ◌⊎◌, ℕ, true, List, [], Some, Contains, OnOk, IsTrue};
+ghost use Rattle.std.specs.Prelude.{◌≡◌, ◌↔◌, ◌⊎◌, ℕ, true, List, [], Some, Contains, OnOk, OnErr, IsTrue};
 ghost use Rattle.std.specs.Option.{option_copied};
-ghost use Rattle.std.specs.Ordering.{nat_cmp};
 ghost use Rattle.lw_index.specs.Index.{Has};
+ghost use Rattle.lw_recent.specs.Recent.{IsUnder};
 ghost use Rattle.lw_table.specs.declared.key.Key.{Key as Keys};
-ghost use Rattle.lw_table.specs.Filed.{IsFiled, IsOver, OthersSame, OtherKeys, OtherNames, IsBetween, HasAll, slot_of, number_of};
+ghost use Rattle.lw_table.specs.Filed.{IsFiled, IsOver, OthersSame, OtherKeys, OtherNames, OtherNumbers, IsBetween, HasAll, slot_of};
 ghost use Rattle.lw_table.specs.Keys.{key_cmp, HasKey, OptionHasKey};
 ghost use Rattle.lw_table.specs.Table.{IsKept};
 
@@ -13,6 +13,7 @@ use crate::key::{Key, has};
 use crate::names::Names;
 use crate::row::Row;
 use lw_index::Index;
+use lw_recent::Recent;
 use lw_stamp::NoMemory;
 use std::alloc::Global;
 
@@ -24,7 +25,7 @@ pub(crate) struct Filed {
     /// Their keys.
     pub(crate) keys: Index<Key>,
     /// The change number of each endpoint.
-    pub(crate) numbers: Index<u64>,
+    pub(crate) numbers: Recent,
 }
 
 impl Filed {
@@ -36,38 +37,34 @@ impl Filed {
         Filed {
             names: Names::new(alloc),
             keys: Index::new(alloc),
-            numbers: Index::new(alloc),
+            numbers: Recent::new(alloc),
         }
     }
 
-    /// Files the endpoint under the keys and the number, and its name if it is kept. What was filed before a
-    /// refusal stays.
+    /// Files the endpoint under the keys, and its name if it is kept. What was filed before a refusal stays.
     pub(crate) fn enter(
         &mut self,
         alloc: Global,
         endpoint: &str,
         kept: bool,
         keys: &[Key],
-        number: u64,
     ) -> Result<(), NoMemory>
         ensures others { OthersSame self.old self.new endpoint.now }
-        ensures between { IsBetween self.old self.new endpoint.now kept keys.now number }
-        ensures all { OnOk result (HasAll self.new endpoint.now kept keys.now number) }
+        ensures between { IsBetween self.old self.new endpoint.now kept keys.now }
+        ensures all { OnOk result (HasAll self.new endpoint.now kept keys.now) }
     {
         file_name(&mut self.names, alloc, endpoint, kept)?;
-        add_all(&mut self.keys, endpoint, keys)?;
-        file_number(&mut self.numbers, endpoint, number)
+        add_all(&mut self.keys, endpoint, keys)
     }
 
-    /// Files the endpoint under no more than what its row has, where the keys and the number may be more.
-    pub(crate) fn settle(&mut self, endpoint: &str, row: Option<&Row>, keys: &[Key], number: u64)
-        requires { IsOver self.old endpoint.now (option_copied row) keys.now number }
+    /// Files the endpoint under no more than what its row has, where the keys may be more.
+    pub(crate) fn settle(&mut self, endpoint: &str, row: Option<&Row>, keys: &[Key])
+        requires { IsOver self.old endpoint.now (option_copied row) keys.now }
         ensures others { OthersSame self.old self.new endpoint.now }
         ensures settled { IsFiled self.new endpoint.now (option_copied row.entry) }
     {
         settle_name(&mut self.names, endpoint, row);
         drop_lacking(&mut self.keys, endpoint, row, keys);
-        settle_number(&mut self.numbers, endpoint, row, number);
     }
 }
 
@@ -86,15 +83,6 @@ fn has_key(row: Option<&Row>, key: &Key) -> bool
     match row {
         None => false,
         Some(row) => has(&row.slot, key),
-    }
-}
-
-fn has_number(row: Option<&Row>, number: u64) -> bool
-    ensures { IsTrue result ↔ (number_of (option_copied row.entry) ≡ Some number) }
-{
-    match row {
-        None => false,
-        Some(row) => row.number == number,
     }
 }
 
@@ -147,24 +135,30 @@ fn settle_name(names: &mut Names, endpoint: &str, row: Option<&Row>)
     names.remove(endpoint);
 }
 
-fn file_number(numbers: &mut Index<u64>, endpoint: &str, number: u64) -> Result<(), NoMemory>
-    ensures others { OtherKeys nat_cmp endpoint.now numbers.old numbers.new }
-    ensures stay { (n : ℕ) → Has nat_cmp numbers.old n endpoint.now → Has nat_cmp numbers.new n endpoint.now }
-    ensures from { (n : ℕ) → Has nat_cmp numbers.new n endpoint.now → Has nat_cmp numbers.old n endpoint.now ⊎ (n ≡ number) }
-    ensures all { OnOk result (Has nat_cmp numbers.new number endpoint.now) }
+/// Files the endpoint, which has no number, under its first.
+pub(crate) fn add_number(numbers: &mut Recent, endpoint: &str, number: u64) -> Result<(), NoMemory>
+    requires { (n : ℕ) → IsUnder numbers.old n endpoint.now → ⊥ }
+    ensures others { OtherNumbers endpoint.now numbers.old numbers.new }
+    ensures number { OnOk result ((n : ℕ) → IsUnder numbers.new n endpoint.now ↔ (Some number ≡ Some n)) }
+    ensures unchanged { OnErr result (numbers.new ≡ numbers.old) }
 {
     numbers.add(number, endpoint)
 }
 
-// Drops the number, unless the row has it.
-fn settle_number(numbers: &mut Index<u64>, endpoint: &str, row: Option<&Row>, number: u64)
-    requires has { (n : ℕ) → number_of (option_copied row) ≡ Some n → Has nat_cmp numbers.old n endpoint.now }
-    requires from { (n : ℕ) → Has nat_cmp numbers.old n endpoint.now → (number_of (option_copied row) ≡ Some n) ⊎ (n ≡ number) }
-    ensures others { OtherKeys nat_cmp endpoint.now numbers.old numbers.new }
-    ensures numbers { (n : ℕ) → Has nat_cmp numbers.new n endpoint.now ↔ (number_of (option_copied row.entry) ≡ Some n) }
+/// Files the endpoint under another number than its last. It takes no memory.
+pub(crate) fn move_number(numbers: &mut Recent, endpoint: &str, last: u64, number: u64)
+    requires { (n : ℕ) → IsUnder numbers.old n endpoint.now ↔ (Some last ≡ Some n) }
+    ensures others { OtherNumbers endpoint.now numbers.old numbers.new }
+    ensures number { (n : ℕ) → IsUnder numbers.new n endpoint.now ↔ (Some number ≡ Some n) }
 {
-    if has_number(row, number) {
-        return;
-    }
-    numbers.drop_one(&number, endpoint);
+    numbers.move_to(last, number, endpoint);
+}
+
+/// Takes its number from the endpoint.
+pub(crate) fn drop_number(numbers: &mut Recent, endpoint: &str, number: u64)
+    requires { (n : ℕ) → IsUnder numbers.old n endpoint.now ↔ (Some number ≡ Some n) }
+    ensures others { OtherNumbers endpoint.now numbers.old numbers.new }
+    ensures none { (n : ℕ) → IsUnder numbers.new n endpoint.now → ⊥ }
+{
+    numbers.drop_one(number, endpoint);
 }

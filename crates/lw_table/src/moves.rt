@@ -7,7 +7,7 @@ ghost use Rattle.lw_table.specs.Moves.{moved_row, next_row, IsTaken, PutsRow, Sa
 ghost use Rattle.lw_table.specs.Rows.{IsRows, row_at};
 ghost use Rattle.lw_table.specs.Turning.{IsTurning};
 
-use crate::filed::Filed;
+use crate::filed::{Filed, add_number, drop_number, move_number};
 use crate::key::Key;
 use crate::row::Row;
 use crate::rows::{Rows, end_of};
@@ -82,20 +82,12 @@ fn move_row(
     ensures unchanged { OnErr result (row.new ≡ row.old) }
 {
     let keys = turning(alloc, Some(&row.slot), &slot)?;
-    let last = row.number;
-    match try_move(alloc, filed, row, endpoint, slot, number, &keys) {
-        Ok(()) => {
-            filed.settle(endpoint, Some(row), &keys, last);
-            Ok(())
-        }
-        Err(refused) => {
-            filed.settle(endpoint, Some(row), &keys, number);
-            Err(refused)
-        }
-    }
+    let moved = try_move(alloc, filed, row, endpoint, slot, number, &keys);
+    filed.settle(endpoint, Some(row), &keys);
+    moved
 }
 
-// The endpoint may be left filed under more than its row has.
+// The endpoint may be left filed under more keys than its row has.
 fn try_move(
     alloc: Global,
     filed: &mut Filed,
@@ -108,11 +100,12 @@ fn try_move(
     requires filed { IsFiled filed.old endpoint.now (Some row.old) }
     requires keys { IsTurning (Some row.old.slot) slot keys.now }
     ensures others { OthersSame filed.old filed.new endpoint.now }
-    ensures moved { OnOk result ((row.new ≡ moved_row row.old slot number) × IsOver filed.new endpoint.now (Some row.new) keys.now row.old.number) }
-    ensures unchanged { OnErr result ((row.new ≡ row.old) × IsOver filed.new endpoint.now (Some row.new) keys.now number) }
+    ensures moved { OnOk result ((row.new ≡ moved_row row.old slot number) × IsOver filed.new endpoint.now (Some row.new) keys.now) }
+    ensures unchanged { OnErr result ((row.new ≡ row.old) × IsOver filed.new endpoint.now (Some row.new) keys.now) }
 {
-    filed.enter(alloc, endpoint, may_revive(row, &slot), keys, number)?;
+    filed.enter(alloc, endpoint, may_revive(row, &slot), keys)?;
     row.slot.join_with(slot)?;
+    move_number(&mut filed.numbers, endpoint, row.number, number);
     row.number = number;
     Ok(())
 }
@@ -139,12 +132,11 @@ fn add_row(
     ensures added { OnOk result (PutsRow endpoint.now row rows.old rows.new × IsFiled filed.new endpoint.now (Some row)) }
     ensures unchanged { OnErr result (SameRows rows.old rows.new × IsFiled filed.new endpoint.now None) }
 {
-    let number = row.number;
     let keys = turning(alloc, None, &row.slot)?;
     match try_add(alloc, filed, rows, endpoint, row, &keys) {
         Ok(()) => Ok(()),
         Err(refused) => {
-            filed.settle(endpoint, None, &keys, number);
+            filed.settle(endpoint, None, &keys);
             Err(refused)
         }
     }
@@ -164,8 +156,16 @@ fn try_add(
     requires absent { row_at rows.old endpoint.now ≡ None }
     ensures others { OthersSame filed.old filed.new endpoint.now }
     ensures added { OnOk result (PutsRow endpoint.now row rows.old rows.new × IsFiled filed.new endpoint.now (Some row)) }
-    ensures unchanged { OnErr result (SameRows rows.old rows.new × IsOver filed.new endpoint.now None keys.now row.number) }
+    ensures unchanged { OnErr result (SameRows rows.old rows.new × IsOver filed.new endpoint.now None keys.now) }
 {
-    filed.enter(alloc, endpoint, !row.slot.is_removed(), keys, row.number)?;
-    rows.insert(alloc, endpoint, row)
+    filed.enter(alloc, endpoint, !row.slot.is_removed(), keys)?;
+    let number = row.number;
+    add_number(&mut filed.numbers, endpoint, number)?;
+    match rows.insert(alloc, endpoint, row) {
+        Ok(()) => Ok(()),
+        Err(refused) => {
+            drop_number(&mut filed.numbers, endpoint, number);
+            Err(refused)
+        }
+    }
 }

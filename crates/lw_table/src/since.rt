@@ -1,16 +1,15 @@
 //! Which slots have moved since a change number.
 
-ghost use Rattle.std.specs.Prelude.{◌≡◌, ◌↔◌, ◌⊎◌, ℕ, List, Contains, IfOk, OnOk, map};
-ghost use Rattle.std.specs.Ordering.{nat_cmp};
+ghost use Rattle.std.specs.Prelude.{◌≡◌, IfOk, map};
 ghost use Rattle.std.specs.List.Sorted.{IsStrictlySortedBy};
-ghost use Rattle.lw_index.specs.Index.{entries_above, IsIndex};
+ghost use Rattle.lw_recent.specs.Recent.{AreSince};
 ghost use Rattle.lw_stamp.specs.TextOrder.{text_cmp};
 ghost use Rattle.lw_table.specs.Changes.{IsSinceIn};
-ghost use Rattle.lw_table.specs.Since.{AnyHas, slots_at};
+ghost use Rattle.lw_table.specs.Since.{slots_at};
 
 use crate::names::Names;
 use crate::table::Table;
-use lw_index::{Endpoints, Index};
+use lw_recent::Recent;
 use lw_reg::Slot;
 use lw_stamp::NoMemory;
 use std::alloc::Global;
@@ -44,23 +43,12 @@ impl Table {
 }
 
 /// The endpoints that are filed under a number above this one, or under any.
-fn names_above(alloc: Global, numbers: &Index<u64>, since: Option<u64>) -> Result<Names, NoMemory>
-    ensures names { IfOk result (λ names. (e : List ℕ) → Contains names e ↔ AnyHas (entries_above nat_cmp since numbers.now) e) }
-    ensures is_index { IsIndex nat_cmp numbers.now }
+fn names_above(alloc: Global, numbers: &Recent, since: Option<u64>) -> Result<Names, NoMemory>
+    ensures { IfOk result (AreSince since numbers.now) }
 {
     let mut names = Names::new(alloc);
-    for (_, endpoints) in numbers.above(since.as_ref()) {
-        add_all(alloc, &mut names, endpoints)?;
-    }
-    Ok(names)
-}
-
-/// Adds the endpoints of one number, of which there is one but at the last.
-fn add_all(alloc: Global, names: &mut Names, endpoints: Endpoints<'_>) -> Result<(), NoMemory>
-    ensures { OnOk result ((e : List ℕ) → Contains names.new e ↔ (Contains names.old e ⊎ Contains endpoints.entry e)) }
-{
-    for endpoint in endpoints {
+    for endpoint in numbers.since(since) {
         names.add(alloc, endpoint)?;
     }
-    Ok(())
+    Ok(names)
 }

@@ -4,11 +4,11 @@ use Rattle.std.specs.Prelude.{Contains, IfSome, Result}
 use Rattle.lw_stamp.specs.declared.stamp.Stamp.{Stamp}
 use Rattle.lw_coap.specs.Message.{MessageContent}
 use Rattle.lw_reg.specs.declared.addr.Addr.{Addr}
-use Rattle.lw_reg.specs.declared.binding.Binding.{Binding}
 use Rattle.lw_reg.specs.declared.op.Op.{Op}
 use Rattle.lw_reg.specs.declared.op.What.{What}
 use Rattle.lw_reg.specs.declared.op.What.TheVariants as whats
 use Rattle.lw_reg.specs.declared.path.Path.{Path}
+use Rattle.lw_reg.specs.declared.settings.GivenSettings.{GivenSettings}
 use Rattle.lw_reg.specs.declared.watch.Watch.{Watch}
 use Rattle.lw_reg.specs.Marks.{Marks, all_marks, marks_of, left_by}
 use Rattle.lw_reg.specs.Reading.{shown_in}
@@ -82,8 +82,8 @@ module _ (M N : Marks) (place : Place) (a : Agree M N place.now) where
   report_along report effect (inr (x, watched, h)) = inr (x, watched_along M N place a report.token x watched, h)
 
   does_along : (source : Addr) (m : MessageContent) (asked : Asked) (effect : Effect) → Does place M source m asked effect → Does place N source m asked effect
-  does_along source m (Register endpoint version queue lifetime binding sms objects) effect h = h
-  does_along source m (Update id lifetime binding sms objects) effect h = changes_along M N place a m id _ 68 effect h
+  does_along source m (Register endpoint version queue settings) effect h = h
+  does_along source m (Update id settings) effect h = changes_along M N place a m id _ 68 effect h
   does_along source m (Deregister id) effect h = changes_along M N place a m id _ 66 effect h
   does_along source m (Report report) effect h = report_along report effect h
   does_along source m Ping effect h = h
@@ -103,9 +103,9 @@ record IsOwn (place : Place) (op : Op) : Type 0 where
 abbrev OwnIn : Place → Effect → Type 0
 OwnIn place effect = IfSome effect.operation (IsOwn place)
 
-given_other : (now : ℕ) (source : Addr) (lifetime : Option ℕ) (binding : Option Binding) (sms objects : Option (List ℕ)) (what : What) → WritesGiven now source lifetime binding sms objects what → IsRegister what → ⊥
-given_other now source lifetime binding sms objects (whats.Register v q address seen l b s o) h register = h
-given_other now source lifetime binding sms objects _ h register = register
+given_other : (now : ℕ) (source : Addr) (given : GivenSettings) (what : What) → WritesGiven now source given what → IsRegister what → ⊥
+given_other now source given (whats.Register version queue address seen settings) h register = h
+given_other now source given _ h register = register
 
 issued_by : (a b : Request) (o p : Op) → ◌≡◌ {A = Result (Request × Op) Refused} (Ok (a, o)) (Ok (b, p)) → p ≡ o
 issued_by a b o p e = ap of (sym e)
@@ -136,8 +136,8 @@ module _ (place : Place) where
   report_own M report effect (inr (x, watched, inr h)) = ends_own report x effect h.1
 
   does_own : (M : Marks) (source : Addr) (m : MessageContent) (asked : Asked) (effect : Effect) → Does place M source m asked effect → OwnIn place effect
-  does_own M source m (Register endpoint version queue lifetime binding sms objects) effect h = issues_own m _ _ effect (λ op registers register. registers.registration) h
-  does_own M source m (Update id lifetime binding sms objects) effect h = changes_own M m _ 68 id effect (λ what writes. given_other place.now source lifetime binding sms objects what writes) h
+  does_own M source m (Register endpoint version queue settings) effect h = issues_own m _ _ effect (λ op registers register. registers.registration) h
+  does_own M source m (Update id settings) effect h = changes_own M m _ 68 id effect (λ what writes. given_other place.now source settings what writes) h
   does_own M source m (Deregister id) effect h = changes_own M m _ 66 id effect (λ what removes register. subst IsRegister removes register) h
   does_own M source m (Report report) effect h = report_own M report effect h
   does_own M source m Ping effect h = subst (OwnIn place) (sym h) tt

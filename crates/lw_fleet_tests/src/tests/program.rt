@@ -82,7 +82,7 @@ pub(super) fn run_with<R: Threads + Wait + Sync>(
 
 /// The answer of node 65535 to the Register, at moment 60.
 const OTHER_ANSWER: &str = "64410001010203048272640d0330303030303030303030303166666666
-{\"address\":\"127.0.0.1:5684\",\"binding\":\"U\",\"endpoint\":\"a\",\"id\":\"000000000001ffff\",\"lifetime\":60,\"lwm2m\":\"1.1\",\"objects\":\"</3/0>\",\"queue\":false,\"seen\":60,\"sms\":null}
+{\"address\":\"127.0.0.1:5684\",\"attributes\":{},\"binding\":\"U\",\"endpoint\":\"a\",\"id\":\"000000000001ffff\",\"lifetime\":60,\"lwm2m\":\"1.1\",\"objects\":\"</3/0>\",\"queue\":false,\"seen\":60,\"sms\":null}
 ";
 
 const UNKNOWN_COMMAND: &str = "error: unrecognized subcommand 'two'

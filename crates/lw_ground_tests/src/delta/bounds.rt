@@ -32,8 +32,8 @@ fn full(alloc: Global, clock: &[u8; 6], host: &[u8]) -> Result<Vec<u8>, Fail> {
     let [a, b, c, d, e, f] = *clock;
     let stamp: &[u8] = &[a, b, c, d, e, f, 0, 1];
     let mut bytes = Vec::new(alloc);
-    let parts: [&[u8]; 22] = [
-        b"LWD1",
+    let parts: [&[u8]; 23] = [
+        b"LWD2",
         clock,
         &[1, 252],
         &[b'e'; 252],
@@ -55,6 +55,7 @@ fn full(alloc: Global, clock: &[u8; 6], host: &[u8]) -> Result<Vec<u8>, Fail> {
         &[0x20, 0, b'<'],
         &[b'o'; 8190],
         b">",
+        &[0],
     ];
     for part in parts {
         bytes.extend_from_slice(part)?;
@@ -128,12 +129,12 @@ Some((Stamp { counter: 281474976710655, node: 1 }, Binding { letters: [65, 66, 6
 #[test]
 fn the_longest_fields_are_read_and_written_again(rt: HostRuntime) -> Result<(), Fail> {
     let rows = [
-        ([0, 0, 0, 0, 0, 1], V4.as_slice(), 1, 10_897, V4_READ),
+        ([0, 0, 0, 0, 0, 1], V4.as_slice(), 1, 10_898, V4_READ),
         (
             [255; 6],
             V6.as_slice(),
             281_474_976_710_655,
-            10_909,
+            10_910,
             V6_READ,
         ),
     ];
@@ -149,14 +150,18 @@ fn the_longest_fields_are_read_and_written_again(rt: HostRuntime) -> Result<(), 
 /// A delta of 300 removed registrations, of the endpoints 000 to 299.
 fn many(alloc: Global) -> Result<Vec<u8>, Fail> {
     let mut bytes = Vec::new(alloc);
-    bytes.extend_from_slice(b"LWD1\x00\x00\x00\x00\x00\x01")?;
+    bytes.extend_from_slice(b"LWD2\x00\x00\x00\x00\x00\x01")?;
     for n in 0..300u16 {
         let name = [
             b'0' + (n / 100) as u8,
             b'0' + (n / 10 % 10) as u8,
             b'0' + (n % 10) as u8,
         ];
-        for part in [&[1, 3], name.as_slice(), &[0, 0, 0, 0, 0, 1, 0, 1, 0x80, 0]] {
+        for part in [
+            &[1, 3],
+            name.as_slice(),
+            &[0, 0, 0, 0, 0, 1, 0, 1, 0x80, 0, 0],
+        ] {
             bytes.extend_from_slice(part)?;
         }
     }
@@ -176,8 +181,75 @@ fn reads_many(alloc: Global, bytes: &[u8]) -> Result<bool, DeltaFault> {
 #[test]
 fn three_hundred_slots_are_read_and_written_again(rt: HostRuntime) -> Result<(), Fail> {
     let bytes = many(rt.alloc())?;
-    let is_held = holds(rt.alloc(), &bytes, 1, 4511)?;
+    let is_held = holds(rt.alloc(), &bytes, 1, 4811)?;
     let is_read = reads_many(rt.alloc(), &bytes)?;
     assert!(rt; is_held && is_read);
+    Ok(())
+}
+
+/// A delta of one slot with an attribute alone: so long a name, and so long a value.
+fn attributed(alloc: Global, name: u8, value: u8) -> Result<Vec<u8>, Fail> {
+    let names = "n".repeat(alloc, usize::from(name))?;
+    let values = "v".repeat(alloc, usize::from(value))?;
+    let parts: [&[u8]; 7] = [
+        b"LWD2\x00\x00\x00\x00\x00\x01\x01\x01a\x00\x00\x00\x00\x00\x01\x00\x01\x00",
+        &[1, name],
+        names.as_bytes(),
+        &[0, 0, 0, 0, 0, 1, 0, 1],
+        &[value],
+        values.as_bytes(),
+        &[0, 0, 0],
+    ];
+    let mut bytes = Vec::new(alloc);
+    for part in parts {
+        bytes.extend_from_slice(part)?;
+    }
+    Ok(bytes)
+}
+
+/// Whether the attribute that is read has these lengths.
+fn has_attribute(slot: &Slot, name: u8, value: u8) -> bool {
+    match slot.attributes() {
+        [(text, last)] => {
+            text.as_str().len() == usize::from(name)
+                && last.write.1.as_str().len() == usize::from(value)
+        }
+        _ => false,
+    }
+}
+
+fn reads_attribute(alloc: Global, bytes: &[u8], name: u8, value: u8) -> Result<bool, Fail> {
+    let delta = read(alloc, bytes)?;
+    match delta.slots.as_slice() {
+        [(_, slot)] => Ok(has_attribute(slot, name, value)),
+        _ => Ok(false),
+    }
+}
+
+#[test]
+fn the_longest_attributes_are_read_and_written_again(rt: HostRuntime) -> Result<(), Fail> {
+    for (name, value) in [(1, 0), (1, 253), (127, 127), (253, 1), (254, 0), (255, 0)] {
+        let bytes = attributed(rt.alloc(), name, value)?;
+        let is_held = holds(
+            rt.alloc(),
+            &bytes,
+            1,
+            36 + usize::from(name) + usize::from(value),
+        )?;
+        let is_read = reads_attribute(rt.alloc(), &bytes, name, value)?;
+        assert!(rt; is_held && is_read, "a name of {name}, a value of {value}");
+    }
+    Ok(())
+}
+
+#[test]
+fn a_name_and_its_value_have_room_in_a_query(rt: HostRuntime) -> Result<(), Fail> {
+    for (name, value) in [(1, 254), (127, 128), (253, 2), (254, 1), (255, 1)] {
+        let bytes = attributed(rt.alloc(), name, value)?;
+        assert!(rt;
+            check(&bytes) == Err(DeltaFault::Range),
+            "a name of {name}, a value of {value}"
+        );
+    }
     Ok(())
 }

@@ -289,8 +289,8 @@ fn two_maps_join(
     let other = both(alloc, left.1, right.1)?;
     let is_below = maps.le(&other) == (left.2 && right.2);
     maps.join_with(other)?;
-    let are_joined =
-        are_entries(maps.left.entries(), left.3) && are_entries(maps.right.entries(), right.3);
+    let are_joined = are_entries(maps.left.entries(), left.3)
+        && are_entries(maps.right.entries(), right.3);
     let is_empty = left.3.is_empty() && right.3.is_empty();
     Ok(is_below && are_joined && maps.is_empty() == is_empty)
 }

@@ -59,11 +59,7 @@ fn a_refused_join_leaves_a_map_as_it_was(rt: HostRuntime) -> Result<(), Fail> {
     Ok(())
 }
 
-fn both(
-    alloc: Global,
-    left: Entries,
-    right: Entries,
-) -> Result<Both<u16, Flag, u16, Flag>, Fail> {
+fn both(alloc: Global, left: Entries, right: Entries) -> Result<Both<u16, Flag, u16, Flag>, Fail> {
     Ok(Both {
         left: map(alloc, left)?,
         right: map(alloc, right)?,

@@ -1,5 +1,9 @@
 //! Slots with all that a registration can have, at its longest.
 
+ghost use Rattle.std.specs.Prelude.{Some, IfOk};
+ghost use Rattle.lw_reg.specs.Fields.{told_fields};
+ghost use Rattle.lw_reg.specs.Told.{KeepsAttributes};
+
 use crate::hold::{holds, holds_for};
 use lw_join::{Join, Lex, Once, OrGone, Parts};
 use lw_link::LinkText;
@@ -16,6 +20,11 @@ const FIRST: Stamp = Stamp {
 const LAST: Stamp = Stamp {
     counter: 281_474_976_710_655,
     node: 65_535,
+};
+
+const FIRST_HOST: Addr = Addr::V4 {
+    address: [255; 4],
+    port: 65_535,
 };
 
 const LAST_HOST: Addr = Addr::V6 {
@@ -85,44 +94,89 @@ fn watches(alloc: Global, odd: bool) -> Result<Parts<Path, Watching>, Fail> {
     Ok(Parts::from_entries(entries).ok_or("paths rise")?)
 }
 
-fn first_fields(alloc: Global) -> Result<Fields, Fail> {
+/// The name of an attribute.
+fn name(alloc: Global, number: u16) -> Result<Text, AllocError> {
+    Ok(Text::from(format!(in alloc; "n{number:03}")?))
+}
+
+/// A hundred attributes, of the even numbers below 200 or of the odd ones.
+fn attributes(alloc: Global, odd: bool) -> Result<Attributes, Fail> {
+    let mut pairs = Vec::new(alloc);
+    for place in 0..100 {
+        let number = 2 * place + u16::from(odd);
+        let value = Text::from(format!(in alloc; "{number}")?);
+        pairs.push((name(alloc, number)?, value))?;
+    }
+    Ok(Attributes::from_pairs(pairs).ok_or("attributes")?)
+}
+
+/// An Update that writes the attributes at the stamp of the other fields.
+fn update(alloc: Global, last: bool) -> Result<Op, Fail> {
+    let (stamp, address) = if last {
+        (LAST, LAST_HOST)
+    } else {
+        (FIRST, FIRST_HOST)
+    };
+    Ok(Op {
+        stamp,
+        endpoint: Endpoint::new(letters(alloc, "e", 252)?).ok_or("an endpoint")?,
+        reg: FIRST,
+        what: What::Update {
+            address,
+            seen: Moment::START,
+            settings: GivenSettings {
+                lifetime: None,
+                binding: None,
+                sms: None,
+                objects: None,
+                attributes: attributes(alloc, last)?,
+            },
+        },
+    })
+}
+
+fn first_fields(alloc: Global) -> Result<Fields, Fail>
+    ensures { IfOk result (λ fields. KeepsAttributes (told_fields (Some fields))) }
+{
     let objects = link(alloc, "f")?;
     Ok(Fields {
-        base: Some(Base {
-            version: Version::V10,
-            queue: false,
-        }),
-        address: Some((
-            FIRST,
-            Addr::V4 {
-                address: [255; 4],
-                port: 65_535,
-            },
-        )),
-        seen: Some((FIRST, Moment::START)),
-        lifetime: Some((FIRST, 1)),
-        binding: Some((FIRST, Binding::U)),
-        sms: Some((FIRST, None)),
-        objects: Some((FIRST, objects)),
+        writes: FieldWrites {
+            base: Some(Base {
+                version: Version::V10,
+                queue: false,
+            }),
+            address: Some((FIRST, FIRST_HOST)),
+            seen: Some((FIRST, Moment::START)),
+            lifetime: Some((FIRST, 1)),
+            binding: Some((FIRST, Binding::U)),
+            sms: Some((FIRST, None)),
+            objects: Some((FIRST, objects)),
+        },
+        attributes: Parts::new(alloc),
         watches: watches(alloc, false)?,
     })
 }
 
-fn last_fields(alloc: Global) -> Result<Fields, Fail> {
+fn last_fields(alloc: Global) -> Result<Fields, Fail>
+    ensures { IfOk result (λ fields. KeepsAttributes (told_fields (Some fields))) }
+{
     let binding = Binding::read("ABCDEFGH").ok_or("a binding")?;
     let sms = SmsNumber::new(letters(alloc, "1", 251)?);
     let objects = link(alloc, "l")?;
     Ok(Fields {
-        base: Some(Base {
-            version: Version::V11,
-            queue: true,
-        }),
-        address: Some((LAST, LAST_HOST)),
-        seen: Some((LAST, Moment::START)),
-        lifetime: Some((LAST, 4_294_967_295)),
-        binding: Some((LAST, binding)),
-        sms: Some((LAST, sms)),
-        objects: Some((LAST, objects)),
+        writes: FieldWrites {
+            base: Some(Base {
+                version: Version::V11,
+                queue: true,
+            }),
+            address: Some((LAST, LAST_HOST)),
+            seen: Some((LAST, Moment::START)),
+            lifetime: Some((LAST, 4_294_967_295)),
+            binding: Some((LAST, binding)),
+            sms: Some((LAST, sms)),
+            objects: Some((LAST, objects)),
+        },
+        attributes: Parts::new(alloc),
         watches: watches(alloc, true)?,
     })
 }
@@ -133,7 +187,9 @@ fn part(alloc: Global, last: bool) -> Result<Slot, Fail> {
     } else {
         first_fields(alloc)?
     };
-    Ok(Slot::from_parts(alloc, FIRST, Some(fields))?)
+    let mut slot = Slot::from_parts(alloc, FIRST, Some(fields))?;
+    slot.join_with(atom(alloc, update(alloc, last)?)?)?;
+    Ok(slot)
 }
 
 fn whole(alloc: Global, last_first: bool) -> Result<Slot, Fail> {
@@ -189,13 +245,28 @@ fn has_watch(slot: &Slot, number: u16) -> bool {
         && slot.token_at(usize::from(number)) == Some(token(number))
 }
 
+/// Whether the attribute at the place has its number as its value, and the stamp that wrote it.
+fn has_attribute(slot: &Slot, number: u16) -> bool {
+    let Some((name, last)) = slot.attributes().get(usize::from(number)) else {
+        return false;
+    };
+    let stamp = if number % 2 == 0 { FIRST } else { LAST };
+    let number_of = |text: &str| text.parse::<u16>().ok();
+    last.write.0 == stamp
+        && number_of(last.write.1.as_str()) == Some(number)
+        && name.as_str().strip_prefix("n").and_then(number_of) == Some(number)
+}
+
 fn is_whole(slot: &Slot) -> bool {
     for number in 0..200u16 {
-        if !has_watch(slot, number) {
+        if !has_watch(slot, number) || !has_attribute(slot, number) {
             return false;
         }
     }
-    slot.watches().len() == 200 && has_the_last_fields(slot) && has_the_last_texts(slot)
+    slot.watches().len() == 200
+        && slot.attributes().len() == 200
+        && has_the_last_fields(slot)
+        && has_the_last_texts(slot)
 }
 
 #[test]
@@ -222,6 +293,7 @@ fn shows_the_last(seen: &Seen) -> bool {
         && seen.lifetime == 4_294_967_295
         && seen.binding.as_str() == "ABCDEFGH"
         && seen.queue
+        && seen.attributes.as_slice().len() == 200
 }
 
 fn seen(alloc: Global, slot: &Slot) -> Result<Seen, Fail> {
@@ -238,15 +310,20 @@ fn a_whole_slot_is_shown_and_copied(rt: HostRuntime) -> Result<(), Fail> {
     holds("the last", is_last)
 }
 
-fn no_fields(alloc: Global) -> Fields {
+fn no_fields(alloc: Global) -> Fields
+    ensures { KeepsAttributes (told_fields (Some result)) }
+{
     Fields {
-        base: None,
-        address: None,
-        seen: None,
-        lifetime: None,
-        binding: None,
-        sms: None,
-        objects: None,
+        writes: FieldWrites {
+            base: None,
+            address: None,
+            seen: None,
+            lifetime: None,
+            binding: None,
+            sms: None,
+            objects: None,
+        },
+        attributes: Parts::new(alloc),
         watches: Parts::new(alloc),
     }
 }

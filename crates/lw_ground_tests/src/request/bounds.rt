@@ -118,9 +118,10 @@ fn registers_and_updates_at_their_bounds(rt: HostRuntime) -> Result<(), Fail> {
 }
 
 /// A query, another, and what they mean.
-static BEHIND: [(&str, &str, &str); 6] = [
+static BEHIND: [(&str, &str, &str); 7] = [
     ("&", "lt=5", "register a 1.0 false 5 U - </>"),
-    ("x=1&", "Q", "register a 1.0 true 86400 U - </>"),
+    ("x=1&", "Q", "register a 1.0 true 86400 U - </> x=1"),
+    ("y&x=2&", "x=1", "register a 1.0 false 86400 U - </> x=1 y="),
     ("lt=x&", "lt=5", "register a 1.0 false 5 U - </>"),
     ("sms=1&", "sms=2", "register a 1.0 false 86400 U 2 </>"),
     ("ep&", "ep=b", "register b 1.0 false 86400 U - </>"),

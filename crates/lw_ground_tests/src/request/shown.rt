@@ -1,10 +1,11 @@
 //! Meanings in words.
 
 use lw_link::LinkText;
-use lw_reg::{Binding, SmsNumber};
+use lw_reg::{Attributes, Binding, GivenSettings, Settings, SmsNumber};
 use lw_request::{Asked, Report};
 use lw_stamp::Stamp;
 use std::alloc::{AllocError, Global};
+use std::fmt::Write;
 
 /// A number, or a dash where there is none.
 fn number(alloc: Global, number: Option<u32>) -> Result<String, AllocError> {
@@ -59,42 +60,57 @@ fn objects_of(objects: &Option<LinkText>) -> &str {
     }
 }
 
+/// A space and the attribute, for each of them.
+fn attributes_of(alloc: Global, attributes: &Attributes) -> Result<String, AllocError> {
+    let mut text = String::new(alloc);
+    for attribute in attributes.as_slice() {
+        let (name, value) = (attribute.0.as_str(), attribute.1.as_str());
+        write!(text, " {name}={value}")?;
+    }
+    Ok(text)
+}
+
+fn all(alloc: Global, settings: &Settings) -> Result<String, AllocError> {
+    let lifetime = settings.lifetime;
+    let binding = settings.binding.as_str();
+    let sms = sms_of(&settings.sms);
+    let objects = settings.objects.as_str();
+    let attributes = attributes_of(alloc, &settings.attributes)?;
+    format!(in alloc; "{lifetime} {binding} {sms} {objects}{attributes}")
+}
+
+fn given(alloc: Global, settings: &GivenSettings) -> Result<String, AllocError> {
+    let lifetime = number(alloc, settings.lifetime)?;
+    let binding = binding_of(&settings.binding);
+    let sms = sms_of(&settings.sms);
+    let objects = objects_of(&settings.objects);
+    let attributes = attributes_of(alloc, &settings.attributes)?;
+    format!(in alloc; "{lifetime} {binding} {sms} {objects}{attributes}")
+}
+
 fn registered(alloc: Global, asked: &Asked) -> Result<String, AllocError> {
     let Asked::Register {
         endpoint,
         version,
         queue,
-        lifetime,
-        binding,
-        sms,
-        objects,
+        settings,
     } = asked
     else {
         return Ok(String::new(alloc));
     };
     let endpoint = endpoint.as_str();
     let version = version.as_str();
-    let binding = binding.as_str();
-    let sms = sms_of(sms);
-    let objects = objects.as_str();
-    format!(in alloc; "register {endpoint} {version} {queue} {lifetime} {binding} {sms} {objects}")
+    let settings = all(alloc, settings)?;
+    format!(in alloc; "register {endpoint} {version} {queue} {settings}")
 }
 
 fn updated(alloc: Global, asked: &Asked) -> Result<String, AllocError> {
-    let Asked::Update {
-        id: of,
-        lifetime,
-        binding,
-        sms,
-        objects,
-    } = asked
-    else {
+    let Asked::Update { id: of, settings } = asked else {
         return Ok(String::new(alloc));
     };
-    let (binding, sms, objects) = (binding_of(binding), sms_of(sms), objects_of(objects));
     let of = id(alloc, *of)?;
-    let lifetime = number(alloc, *lifetime)?;
-    format!(in alloc; "update {of} {lifetime} {binding} {sms} {objects}")
+    let settings = given(alloc, settings)?;
+    format!(in alloc; "update {of} {settings}")
 }
 
 /// A meaning in words: its name and its fields. A refusal has but its name.

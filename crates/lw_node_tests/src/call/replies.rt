@@ -3,7 +3,7 @@
 use super::*;
 use lw_delta::DeltaFault;
 use lw_link::LinkText;
-use lw_reg::{Binding, Seen, Version, Watch};
+use lw_reg::{Attributes, Binding, Seen, Version, Watch};
 
 fn notice(alloc: Global, ended: bool) -> Result<Notice, Fail> {
     let path = path(&[3, 0])?;
@@ -58,7 +58,17 @@ fn seen(alloc: Global, lifetime: u32) -> Result<Seen, Fail> {
         queue: false,
         sms: None,
         objects: LinkText::read(alloc, b"</3/0>")?,
+        attributes: Attributes::new(alloc),
     })
+}
+
+/// A registration with an attribute of this value.
+fn attributed(alloc: Global, value: &str) -> Result<Answer, Fail> {
+    let mut pairs = Vec::new(alloc);
+    pairs.push((text(alloc, "x")?, text(alloc, value)?))?;
+    let mut seen = seen(alloc, 60)?;
+    seen.attributes = Attributes::from_pairs(pairs).ok_or("attributes")?;
+    Ok(Answer::Registration(Some(seen)))
 }
 
 fn watched(alloc: Global, accept: Option<u16>) -> Result<Answer, Fail> {
@@ -107,6 +117,8 @@ fn answer_at(alloc: Global, place: usize) -> Result<Answer, Fail> {
         10 => Ok(Answer::Changed(1)),
         11 => Ok(Answer::Registration(Some(queued(alloc)?))),
         12 => watched_in_queue_mode(alloc),
+        13 => attributed(alloc, ""),
+        14 => attributed(alloc, "1"),
         _ => Ok(Answer::Expired(Some((text(alloc, "device-17")?, FIRST)))),
     }
 }
@@ -129,7 +141,7 @@ fn given_at(alloc: Global, place: usize) -> Result<Reply, Fail> {
     }
 }
 
-const GIVEN: usize = 8 + 14;
+const GIVEN: usize = 8 + 16;
 
 /// Refusals, and what a merge gives.
 fn plain_at(place: usize) -> Reply {

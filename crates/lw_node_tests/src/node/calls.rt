@@ -74,7 +74,7 @@ fn command_at(alloc: Global, place: usize) -> Result<Call, Fail> {
         9 => cancel(1, "0000000000050001"),
         10 => Ok(Call::Send { since: 0 }),
         11 => Ok(Call::Send { since: 1 }),
-        12 => merge(alloc, "4c57443100000000000000"),
+        12 => merge(alloc, "4c57443200000000000000"),
         13 => merge(alloc, ""),
         14 => take_from(alloc, FAR, REGISTER_BB),
         15 => observe("0000000000080001", &[3, 0], None, 7),
@@ -171,7 +171,7 @@ fn are_the_same(reply: &Reply, replies: &(Reply, Reply)) -> bool {
 const AFTER_CALLS: [Row<'static>; 6] = [
     (
         ByEndpoint(0, "a"),
-        r#"{"address":"127.0.0.1:5684","binding":"U","endpoint":"a","id":"0000000000020001","lifetime":86400,"lwm2m":"1.0","objects":"</>","queue":false,"seen":0,"sms":null}"#,
+        r#"{"address":"127.0.0.1:5684","attributes":{},"binding":"U","endpoint":"a","id":"0000000000020001","lifetime":86400,"lwm2m":"1.0","objects":"</>","queue":false,"seen":0,"sms":null}"#,
     ),
     (
         WatchAfter("0000000000020001", false),
@@ -179,7 +179,7 @@ const AFTER_CALLS: [Row<'static>; 6] = [
     ),
     (
         ByEndpoint(0, "bb"),
-        r#"{"address":"[fe80:0000:0000:0000:0000:0000:0000:0001]:5683","binding":"U","endpoint":"bb","id":"0000000000080001","lifetime":30,"lwm2m":"1.0","objects":"</>","queue":true,"seen":0,"sms":null}"#,
+        r#"{"address":"[fe80:0000:0000:0000:0000:0000:0000:0001]:5683","attributes":{},"binding":"U","endpoint":"bb","id":"0000000000080001","lifetime":30,"lwm2m":"1.0","objects":"</>","queue":true,"seen":0,"sms":null}"#,
     ),
     (
         ByToken("0000000000090001"),

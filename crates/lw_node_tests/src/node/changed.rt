@@ -6,7 +6,7 @@ use lw_delta::check;
 use lw_stamp::NoMemory;
 
 /// What a new node sends that knows nothing.
-const NOTHING: &[u8] = b"LWD1\0\0\0\0\0\0\0";
+const NOTHING: &[u8] = b"LWD2\0\0\0\0\0\0\0";
 
 /// Where the delta of one slot, under an endpoint of one byte, has the flags of the slot.
 const FLAGS: usize = 21;
@@ -61,7 +61,7 @@ fn are_merged(
 }
 
 fn all_are_merged(alloc: Global, bytes: &mut [u8], removal: &[u8]) -> Result<(), Fail> {
-    for place in 0..98usize {
+    for place in 0..99usize {
         if !are_merged(alloc, bytes, place, removal)? {
             return Err(Fail::new(format_args!("a changed byte at {place}")));
         }

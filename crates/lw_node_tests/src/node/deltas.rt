@@ -2,14 +2,14 @@
 
 use super::*;
 
-/// The delta of a node that has taken a Register of `a`: 98 bytes.
+/// The delta of a node that has taken a Register of `a`: 99 bytes.
 pub(super) const DELTA: &str =
-    "4c57443100000000000101016100000000000100017f000000000000010001047f0000011633000000000001000100000000000000000000000100010001518000000000000100010155000000000001000100000000000001000100033c2f3e0000";
+    "4c57443200000000000101016100000000000100017f000000000000010001047f0000011633000000000001000100000000000000000000000100010001518000000000000100010155000000000001000100000000000001000100033c2f3e000000";
 
 /// Deltas that a node sends and merges.
 const SENT_AND_MERGED: [Row<'static>; 18] = [
-    (DeltaSince(0), "4c57443100000000000000"),
-    (Merges("4c57443100000000000000"), "Ok(0)"),
+    (DeltaSince(0), "4c57443200000000000000"),
+    (Merges("4c57443200000000000000"), "Ok(0)"),
     (Numbers, "0 0"),
     (Merges(DELTA), "Ok(1)"),
     (ByEndpoint(0, "a"), SHOWN),
@@ -25,18 +25,18 @@ const SENT_AND_MERGED: [Row<'static>; 18] = [
     ),
     (
         DeltaSince(1),
-        "4c57443100000000000201016200000000000200017f000000000000020001047f0000011633000000000002000100000000000000000000000200010001518000000000000200010155000000000002000100000000000002000100033c2f3e0000",
+        "4c57443200000000000201016200000000000200017f000000000000020001047f0000011633000000000002000100000000000000000000000200010001518000000000000200010155000000000002000100000000000002000100033c2f3e000000",
     ),
-    (DeltaSince(2), "4c57443100000000000200"),
-    (DeltaSince(18446744073709551615), "4c57443100000000000200"),
+    (DeltaSince(2), "4c57443200000000000200"),
+    (DeltaSince(18446744073709551615), "4c57443200000000000200"),
     // bytes that are no delta
     (Merges("4c5744"), "Err(Malformed(Truncated))"),
-    (Merges("4c57443200000000000000"), "Err(Malformed(Magic))"),
+    (Merges("4c57443000000000000000"), "Err(Malformed(Magic))"),
     (
-        Merges("4c5744310000000000000000"),
+        Merges("4c5744320000000000000000"),
         "Err(Malformed(Trailing))",
     ),
-    (Merges("4c57443100000000000002"), "Err(Malformed(Range))"),
+    (Merges("4c57443200000000000002"), "Err(Malformed(Range))"),
     (Numbers, "2 2"),
 ];
 
@@ -45,14 +45,80 @@ fn a_delta_is_sent_and_merged(rt: HostRuntime) -> Result<(), Fail> {
     play_new(rt.alloc(), &SENT_AND_MERGED)
 }
 
+/// The same in format 1, and in format 2 with the attribute `x`.
+const IN_FORMAT_1: &str =
+    "4c57443100000000000101016100000000000100017f000000000000010001047f0000011633000000000001000100000000000000000000000100010001518000000000000100010155000000000001000100000000000001000100033c2f3e0000";
+
+const WITH_AN_ATTRIBUTE: &str =
+    "4c57443200000000000101016100000000000100017f000000000000010001047f0000011633000000000001000100000000000000000000000100010001518000000000000100010155000000000001000100000000000001000100033c2f3e01017800000000000100010131000000";
+
+/// What is merged in format 1 is sent in format 2.
+const FORMATS: [Row<'static>; 9] = [
+    (Merges(IN_FORMAT_1), "Ok(1)"),
+    (ByEndpoint(0, "a"), SHOWN),
+    (DeltaSince(0), DELTA),
+    (Numbers, "1 1"),
+    (Merges(DELTA), "Ok(1)"),
+    (Numbers, "1 1"),
+    (Merges(WITH_AN_ATTRIBUTE), "Ok(1)"),
+    (DeltaSince(1), WITH_AN_ATTRIBUTE),
+    (Numbers, "1 2"),
+];
+
+#[test]
+fn a_delta_of_format_1_comes_back_in_format_2(rt: HostRuntime) -> Result<(), Fail> {
+    play_new(rt.alloc(), &FORMATS)
+}
+
+/// A Register with the attribute `x`, an Update of it by `x` and `y`, and one without attributes.
+const ATTRIBUTES: [Row<'static>; 10] = [
+    (Takes("40020004b272644465703d6103783d31ff3c2f3e"), CREATED),
+    (DeltaSince(0), WITH_AN_ATTRIBUTE),
+    (
+        ByEndpoint(0, "a"),
+        r#"{"address":"127.0.0.1:5683","attributes":{"x":"1"},"binding":"U","endpoint":"a","id":"0000000000010001","lifetime":86400,"lwm2m":"1.0","objects":"</>","queue":false,"seen":0,"sms":null}"#,
+    ),
+    (
+        Takes("40020023b272640d0330303030303030303030303130303031417903783d33"),
+        "60440023",
+    ),
+    (
+        Takes("40020024b272640d0330303030303030303030303130303031"),
+        "60440024",
+    ),
+    (
+        ByEndpoint(0, "a"),
+        r#"{"address":"127.0.0.1:5683","attributes":{"x":"3","y":""},"binding":"U","endpoint":"a","id":"0000000000010001","lifetime":86400,"lwm2m":"1.0","objects":"</>","queue":false,"seen":0,"sms":null}"#,
+    ),
+    // older writes are not shown
+    (Merges(WITH_AN_ATTRIBUTE), "Ok(1)"),
+    (
+        FirstAfter(None),
+        r#"{"address":"127.0.0.1:5683","attributes":{"x":"3","y":""},"binding":"U","endpoint":"a","id":"0000000000010001","lifetime":86400,"lwm2m":"1.0","objects":"</>","queue":false,"seen":0,"sms":null}"#,
+    ),
+    (
+        Takes(REGISTER),
+        "604100048272640d0330303030303030303030303430303031",
+    ),
+    (
+        ByEndpoint(0, "a"),
+        r#"{"address":"127.0.0.1:5683","attributes":{},"binding":"U","endpoint":"a","id":"0000000000040001","lifetime":86400,"lwm2m":"1.0","objects":"</>","queue":false,"seen":0,"sms":null}"#,
+    ),
+];
+
+#[test]
+fn attributes_are_taken_sent_and_shown(rt: HostRuntime) -> Result<(), Fail> {
+    play_new(rt.alloc(), &ATTRIBUTES)
+}
+
 /// The delta of a node that knows only that this registration was removed.
-pub(super) const REMOVED: &str = "4c5744310000000000010101610000000000010001800000";
+pub(super) const REMOVED: &str = "4c574432000000000001010161000000000001000180000000";
 
 /// A fuller spelling of a removal, and writes to what was removed.
 const FULLER: [Row<'static>; 5] = [
     (
         Merges(
-            "4c5744310000000000010101610000000000010001ff000000000000010001047f0000011633000000000001000100000000000000000000000100010001518000000000000100010155000000000001000100000000000001000100033c2f3e0000",
+            "4c5744320000000000010101610000000000010001ff000000000000010001047f0000011633000000000001000100000000000000000000000100010001518000000000000100010155000000000001000100000000000001000100033c2f3e000000",
         ),
         "Ok(1)",
     ),
@@ -69,21 +135,21 @@ fn a_fuller_spelling_of_a_removal_comes_back_short(rt: HostRuntime) -> Result<()
 
 /// A clock one before its end.
 const AT_THE_END: [Row<'static>; 8] = [
-    (Merges("4c574431fffffffffffe00"), "Ok(0)"),
+    (Merges("4c574432fffffffffffe00"), "Ok(0)"),
     (
         Takes(REGISTER),
         "604100048272640d0366666666666666666666666630303031",
     ),
     (
         ByEndpoint(0, "a"),
-        r#"{"address":"127.0.0.1:5683","binding":"U","endpoint":"a","id":"ffffffffffff0001","lifetime":86400,"lwm2m":"1.0","objects":"</>","queue":false,"seen":0,"sms":null}"#,
+        r#"{"address":"127.0.0.1:5683","attributes":{},"binding":"U","endpoint":"a","id":"ffffffffffff0001","lifetime":86400,"lwm2m":"1.0","objects":"</>","queue":false,"seen":0,"sms":null}"#,
     ),
     (Takes(REGISTER_B), "60a30005"),
     (Takes("50020005b272644465703d62ff3c2f3e"), "50a30005"),
     (Observes("ffffffffffff0001"), "ClockEnd"),
     (
         ByEndpoint(0, "a"),
-        r#"{"address":"127.0.0.1:5683","binding":"U","endpoint":"a","id":"ffffffffffff0001","lifetime":86400,"lwm2m":"1.0","objects":"</>","queue":false,"seen":0,"sms":null}"#,
+        r#"{"address":"127.0.0.1:5683","attributes":{},"binding":"U","endpoint":"a","id":"ffffffffffff0001","lifetime":86400,"lwm2m":"1.0","objects":"</>","queue":false,"seen":0,"sms":null}"#,
     ),
     (Numbers, "281474976710655 1"),
 ];
@@ -95,7 +161,7 @@ fn the_clock_has_an_end(rt: HostRuntime) -> Result<(), Fail> {
 
 /// A clock two before its end: a Register, an observation, and the end of both is not to be had.
 const REPORT_AT_THE_END: [Row<'static>; 7] = [
-    (Merges("4c574431fffffffffffd00"), "Ok(0)"),
+    (Merges("4c574432fffffffffffd00"), "Ok(0)"),
     (
         Takes(REGISTER),
         "604100048272640d0366666666666666666666666530303031",
@@ -124,18 +190,18 @@ fn a_report_at_the_end_of_the_clock_is_reset(rt: HostRuntime) -> Result<(), Fail
 
 /// Two registrations, each with two observations, of which one is cancelled.
 pub(super) const TWO: &str =
-    "4c57443100000000000601016100000000000100017f000000000000010001047f000001163300000000000100010000\
+    "4c57443200000000000601016100000000000100017f000000000000010001047f000001163300000000000100010000\
 0000000000000000000100010001518000000000000100010155000000000001000100000000000001000100033c2f3e\
-0102000300000000000000030001010001020003000100000000000400010101006e0001016200000000000200017f00\
-0000000000020001047f0000011634000000000002000100000000000000000000000200010001518000000000000200\
-010155000000000002000100000000000002000100033c2f3e0102000300000000000000050001020102000400000000\
-0000000600010101003c0000";
+000102000300000000000000030001010001020003000100000000000400010101006e0001016200000000000200017f\
+000000000000020001047f00000116340000000000020001000000000000000000000002000100015180000000000002\
+00010155000000000002000100000000000002000100033c2f3e00010200030000000000000005000102010200040000\
+00000000000600010101003c0000";
 
 /// The second of them alone.
 pub(super) const SECOND: &str =
-    "4c57443100000000000601016200000000000200017f000000000000020001047f000001163400000000000200010000\
+    "4c57443200000000000601016200000000000200017f000000000000020001047f000001163400000000000200010000\
 0000000000000000000200010001518000000000000200010155000000000002000100000000000002000100033c2f3e\
-01020003000000000000000500010201020004000000000000000600010101003c0000";
+0001020003000000000000000500010201020004000000000000000600010101003c0000";
 
 const MERGED: [Row<'static>; 13] = [
     (Merges(TWO), "Ok(2)"),
@@ -143,7 +209,7 @@ const MERGED: [Row<'static>; 13] = [
     (ByEndpoint(0, "a"), SHOWN),
     (
         ByEndpoint(0, "b"),
-        r#"{"address":"127.0.0.1:5684","binding":"U","endpoint":"b","id":"0000000000020001","lifetime":86400,"lwm2m":"1.0","objects":"</>","queue":false,"seen":0,"sms":null}"#,
+        r#"{"address":"127.0.0.1:5684","attributes":{},"binding":"U","endpoint":"b","id":"0000000000020001","lifetime":86400,"lwm2m":"1.0","objects":"</>","queue":false,"seen":0,"sms":null}"#,
     ),
     (
         ByToken("0000000000030001"),
@@ -163,7 +229,7 @@ const MERGED: [Row<'static>; 13] = [
     (Numbers, "6 2"),
     (DeltaSince(0), TWO),
     (DeltaSince(1), SECOND),
-    (DeltaSince(2), "4c57443100000000000600"),
+    (DeltaSince(2), "4c57443200000000000600"),
 ];
 
 #[test]
@@ -173,20 +239,20 @@ fn slots_with_observations_are_merged_and_sent(rt: HostRuntime) -> Result<(), Fa
 
 /// A registration whose endpoint has 252 bytes.
 const LONGEST_NAME: &str =
-    "4c57443100000000000101fc6e6e6e6e6e6e6e6e6e6e6e6e6e6e6e6e6e6e6e6e6e6e6e6e6e6e6e6e6e6e6e6e6e6e6e6e\
+    "4c57443200000000000101fc6e6e6e6e6e6e6e6e6e6e6e6e6e6e6e6e6e6e6e6e6e6e6e6e6e6e6e6e6e6e6e6e6e6e6e6e\
 6e6e6e6e6e6e6e6e6e6e6e6e6e6e6e6e6e6e6e6e6e6e6e6e6e6e6e6e6e6e6e6e6e6e6e6e6e6e6e6e6e6e6e6e6e6e6e6e\
 6e6e6e6e6e6e6e6e6e6e6e6e6e6e6e6e6e6e6e6e6e6e6e6e6e6e6e6e6e6e6e6e6e6e6e6e6e6e6e6e6e6e6e6e6e6e6e6e\
 6e6e6e6e6e6e6e6e6e6e6e6e6e6e6e6e6e6e6e6e6e6e6e6e6e6e6e6e6e6e6e6e6e6e6e6e6e6e6e6e6e6e6e6e6e6e6e6e\
 6e6e6e6e6e6e6e6e6e6e6e6e6e6e6e6e6e6e6e6e6e6e6e6e6e6e6e6e6e6e6e6e6e6e6e6e6e6e6e6e6e6e6e6e6e6e6e6e\
 6e6e6e6e6e6e6e6e6e6e6e6e6e6e6e6e6e6e6e6e6e6e6e6e00000000000100017f000000000000010001047f00000116\
 330000000000010001000000000000000000000001000100015180000000000001000101550000000000010001000000\
-00000001000100033c2f3e0000";
+00000001000100033c2f3e000000";
 
 const LONGEST: [Row<'static>; 4] = [
     (Merges(LONGEST_NAME), "Ok(1)"),
     (Numbers, "1 1"),
     (DeltaSince(0), LONGEST_NAME),
-    (DeltaSince(1), "4c57443100000000000100"),
+    (DeltaSince(1), "4c57443200000000000100"),
 ];
 
 #[test]

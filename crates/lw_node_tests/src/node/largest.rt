@@ -37,7 +37,7 @@ fn register(alloc: Global, values: &Values) -> Result<String, Fail> {
 fn delta_of(alloc: Global, values: &Values) -> Result<String, Fail> {
     let Values { name, sms, objects } = values;
     Ok(format!(in alloc;
-        "4c574431000000000001\
+        "4c574432000000000001\
 01fc{name}00000000000100017f03\
 0000000000010001047f0000011633\
 0000000000010001000000000000\
@@ -45,7 +45,7 @@ fn delta_of(alloc: Global, values: &Values) -> Result<String, Fail> {
 0000000000010001084142434445464748\
 000000000001000101fb{sms}\
 00000000000100011dce{objects}\
-0000"
+000000"
     )?)
 }
 
@@ -54,7 +54,7 @@ fn shown(alloc: Global, name: &str) -> Result<String, Fail> {
     let sms = "1".repeat(alloc, 251)?;
     let target = "o".repeat(alloc, 7627)?;
     Ok(format!(in alloc;
-        r#"{{"address":"127.0.0.1:5683","binding":"ABCDEFGH","endpoint":"{name}","id":"0000000000010001","lifetime":4294967295,"lwm2m":"1.1","objects":"</{target}>","queue":true,"seen":0,"sms":"{sms}"}}"#
+        r#"{{"address":"127.0.0.1:5683","attributes":{{}},"binding":"ABCDEFGH","endpoint":"{name}","id":"0000000000010001","lifetime":4294967295,"lwm2m":"1.1","objects":"</{target}>","queue":true,"seen":0,"sms":"{sms}"}}"#
     )?)
 }
 
@@ -101,14 +101,14 @@ fn the_largest_register_is_taken_sent_and_merged(rt: HostRuntime) -> Result<(), 
 fn watched_delta(alloc: Global) -> Result<String, Fail> {
     let mut text = String::from_str(
         alloc,
-        "4c574431000000000065010161\
+        "4c574432000000000065010161\
 00000000000100017f00\
 0000000000010001047f0000011633\
 0000000000010001000000000000\
 000000000001000100015180\
 00000000000100010155\
 000000000001000100\
-000000000001000100033c2f3e",
+000000000001000100033c2f3e00",
     )?;
     for number in 0..100_u16 {
         let token = number + 2;

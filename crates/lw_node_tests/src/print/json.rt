@@ -14,12 +14,48 @@ fn a_registration(rt: HostRuntime) -> Result<(), Fail> {
 }
 
 const OTHER: &str =
-    r#"{"address":"[2001:0db8:0000:0000:0000:0000:0000:0001]:65535","binding":"U","endpoint":"a\"b\n","id":"0000000000010001","lifetime":4294967295,"lwm2m":"1.0","objects":"</3/0>;ct=\"1\\\"\"","queue":true,"seen":281474976710655,"sms":"+49"}"#;
+    r#"{"address":"[2001:0db8:0000:0000:0000:0000:0000:0001]:65535","attributes":{},"binding":"U","endpoint":"a\"b\n","id":"0000000000010001","lifetime":4294967295,"lwm2m":"1.0","objects":"</3/0>;ct=\"1\\\"\"","queue":true,"seen":281474976710655,"sms":"+49"}"#;
 
 #[test]
 fn another_registration(rt: HostRuntime) -> Result<(), Fail> {
     let objects = LinkText::read(rt.alloc(), b"</3/0>;ct=\"1\\\"\"")?;
     is_shown(rt.alloc(), &other_registration("a\"b\n", &objects), OTHER)
+}
+
+/// Names and values of attributes, and how they stand in JSON.
+static ATTRIBUTES: [(&[(&str, &str)], &str); 4] = [
+    (&[("x", "3"), ("y", "")], r#""x":"3","y":"""#),
+    // names rise by their bytes
+    (
+        &[("B", "b"), ("a", "A"), ("aa", "="), ("é", "é"), ("門", "门")],
+        r#""B":"b","a":"A","aa":"=","é":"é","門":"门""#,
+    ),
+    // escaped
+    (&[("\n", "\n"), ("\"", "\\")], r#""\n":"\n","\"":"\\""#),
+    // named as members are
+    (
+        &[("address", "1"), ("objects", "2")],
+        r#""address":"1","objects":"2""#,
+    ),
+];
+
+/// The JSON of a registration with attributes.
+fn is_shown_with(alloc: Global, texts: &[(&str, &str)], members: &str) -> Result<(), Fail> {
+    let objects = LinkText::read(alloc, b"</3/0>")?;
+    let attributes = attributes(alloc, texts)?;
+    let mut view = registration("a", &objects);
+    view.attributes = attributes.as_view();
+    let (before, behind) = SHOWN.split_once("{}").ok_or("attributes")?;
+    let want = format!(in alloc; "{before}{{{members}}}{behind}")?;
+    is_shown(alloc, &view, &want)
+}
+
+#[test]
+fn registrations_with_attributes(rt: HostRuntime) -> Result<(), Fail> {
+    for (texts, members) in &ATTRIBUTES {
+        is_shown_with(rt.alloc(), texts, members)?;
+    }
+    Ok(())
 }
 
 /// How long the JSON is of a registration with these texts.
@@ -40,7 +76,7 @@ fn the_longest_registration(rt: HostRuntime) -> Result<(), Fail> {
     let (endpoint, sms) = ("e".repeat(rt.alloc(), 252)?, "1".repeat(rt.alloc(), 251)?);
     let length = length_of(rt.alloc(), endpoint.as_str(), sms.as_str(), &objects)?;
     // a link but the first has 31 bytes, of which four quotes and two backslashes are escaped
-    holds("the length", length == 207 + 252 + 251 + 4 + 255 * (31 + 6))
+    holds("the length", length == 223 + 252 + 251 + 4 + 255 * (31 + 6))
 }
 
 /// The JSON of the watch of the registration.

@@ -1,16 +1,11 @@
-use Rattle.std.proofs.Common.{refl}
-use Rattle.std.proofs.lemmas.Result.{IfOk-weaker, IfErr-weaker}
-use Rattle.lw_delta.proofs.Parts.{both, first_fails, later_fails, held, broken, held_fails, refuted, raised}
+use Rattle.lw_delta.proofs.Parts.{both, first_fails, later_fails, given, raised}
 use Rattle.lw_delta.proofs.checking.header.Goals as goal
 
-pub returns-in_err-magic-clause-fault : goal.returns-in_err-magic-clause-fault
-returns-in_err-magic-clause-fault c = raised _ c.from_residual.result c.from_residual.ensures.1 (first_fails _ c.in_err-magic.ensures.fault)
+pub returns-in_err-form-clause-fault : goal.returns-in_err-form-clause-fault
+returns-in_err-form-clause-fault c = raised _ c.from_residual.result c.from_residual.ensures.1 (first_fails _ c.in_err-form.ensures.fault)
 
-pub returns-then-not-is_magic-clause-fault : goal.returns-then-not-is_magic-clause-fault
-returns-then-not-is_magic-clause-fault c = later_fails _ c.in_ok-magic.ensures.found (broken _ (refuted c.if-not-is_magic.ensures))
+pub returns-in_err-clock-clause-fault : goal.returns-in_err-clock-clause-fault
+returns-in_err-clock-clause-fault c = raised _ c.from_residual-in_err-clock.result c.from_residual-in_err-clock.ensures.1 (later_fails _ c.in_ok-form.ensures.found (first_fails _ c.in_err-clock.ensures.fault))
 
 pub returns-clause-found : goal.returns-clause-found
-returns-clause-found c = IfOk-weaker c.number48.result _ _ (λ x f. both _ c.in_ok-magic.ensures.found (held _ (c.if-not-is_magic.ensures.0 refl) f)) c.number48.ensures.found
-
-pub returns-clause-fault : goal.returns-clause-fault
-returns-clause-fault c = IfErr-weaker c.number48.result _ _ (λ x f. later_fails _ c.in_ok-magic.ensures.found (held_fails _ (c.if-not-is_magic.ensures.0 refl) f)) c.number48.ensures.fault
+returns-clause-found c = both _ c.in_ok-form.ensures.found (both _ c.in_ok-clock.ensures.found given)

@@ -14,7 +14,7 @@ returns-in_err-slot-clause-fault c = raised _ c.from_residual-in_err-slot.result
 pub returns-clause-found : goal.returns-clause-found
 returns-clause-found c =
     let s = c.in_ok-slot.ensures.found in
-    record { ws = s.ws; holds = s.holds; found = optional_some c.if-not-present.false c.in_ok-present.ensures.found s.found }
+    record { more = s.more; holds = s.holds; found = optional_some c.if-not-present.false c.in_ok-present.ensures.found s.found }
 
 pub slot-requires : goal.slot-requires
 slot-requires c = λ again. set_found c.if-not-present.false (behind_tag _ c.in_ok-present.ensures.found (c.requires again))

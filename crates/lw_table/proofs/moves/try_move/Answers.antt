@@ -1,16 +1,18 @@
-use Rattle.std.proofs.Common.{◌≡◌, Some, refl, sym, ap, subst}
+use Rattle.std.proofs.Common.{◌≡◌, ◌↔◌, Some, refl, sym, ap, subst}
+use Rattle.lw_recent.specs.Recent.{IsUnder}
 use Rattle.lw_table.specs.Filed.{IsOver}
 use Rattle.lw_table.specs.Moves.{moved_row}
 use Rattle.lw_table.specs.declared.row.Row.{Row}
 use Rattle.lw_reg.specs.declared.slot.Slot.{Slot}
-use Rattle.lw_table.proofs.MoveLemmas.{err_not, err_then, over_old, over_moved}
+use Rattle.lw_table.proofs.FiledLemmas.{numbered}
+use Rattle.lw_table.proofs.MoveLemmas.{err_not, err_then, over_old, over_moved, others_then}
 use Rattle.lw_table.proofs.moves.try_move.Goals as goal
 
 pub returns-in_err-enter : goal.returns-in_err-enter
 returns-in_err-enter c = record {
   others = c.enter.ensures.others;
   moved = err_not _ c.from_residual.result c.from_residual.ensures.0;
-  unchanged = err_then _ c.from_residual.result (refl, over_old c.args.filed.now c.enter.new.self c.args.endpoint.now c.may_revive.result c.args.keys.now c.args.number c.enter.ensures.between (Some c.args.row.now) c.requires.filed);
+  unchanged = err_then _ c.from_residual.result (refl, over_old c.args.filed.now c.enter.new.self c.args.endpoint.now c.may_revive.result c.args.keys.now c.enter.ensures.between (Some c.args.row.now) c.requires.filed);
 }
 
 pub returns-in_err-join_with : goal.returns-in_err-join_with
@@ -23,22 +25,28 @@ returns-in_err-join_with c =
       moved = err_not _ c.from_residual-in_err-join_with.result c.from_residual-in_err-join_with.ensures.0;
       unchanged = err_then _ c.from_residual-in_err-join_with.result (
         same,
-        subst (λ r. IsOver c.enter.new.self c.args.endpoint.now (Some r) c.args.keys.now c.args.number) (sym same)
-            (over_old c.args.filed.now c.enter.new.self c.args.endpoint.now c.may_revive.result c.args.keys.now c.args.number c.enter.ensures.between (Some row) c.requires.filed),
+        subst (λ r. IsOver c.enter.new.self c.args.endpoint.now (Some r) c.args.keys.now) (sym same)
+            (over_old c.args.filed.now c.enter.new.self c.args.endpoint.now c.may_revive.result c.args.keys.now c.enter.ensures.between (Some row) c.requires.filed),
       );
     }
+
+pub move_number-requires : goal.move_number-requires
+move_number-requires c = λ n. subst (λ l. IsUnder l n c.args.endpoint.now ↔ (Some c.args.row.now.number ≡ Some n)) (sym c.enter.ensures.between.numbers) (c.requires.filed.numbers n)
 
 pub returns : goal.returns
 returns c =
     let row = c.args.row.now in
+    let e = c.args.endpoint.now in
     let with_slot : Slot → Row = λ s. record { slot = s; number = c.args.number } in
     let moved : with_slot c.join_with.new.self ≡ moved_row row c.args.slot c.args.number = ap with_slot c.in_ok-join_with.ensures.ok in
+    let entered = c.enter.new.self in
+    let numbers = c.move_number.new.numbers in
     record {
-      others = c.enter.ensures.others;
+      others = others_then e c.args.filed.now entered (record { names = entered.names; keys = entered.keys; numbers = numbers }) c.enter.ensures.others (numbered entered e numbers c.move_number.ensures.others);
       moved = (
         moved,
-        subst (λ r. IsOver c.enter.new.self c.args.endpoint.now (Some r) c.args.keys.now row.number) (sym moved)
-            (over_moved c.args.filed.now c.enter.new.self c.args.endpoint.now c.may_revive.result c.args.keys.now c.args.number c.enter.ensures.between c.in_ok-enter.ensures.all c.args.slot
+        subst (λ r. IsOver (record { names = entered.names; keys = entered.keys; numbers = numbers }) e (Some r) c.args.keys.now) (sym moved)
+            (over_moved c.args.filed.now entered e c.may_revive.result c.args.keys.now c.enter.ensures.between c.in_ok-enter.ensures.all c.args.slot c.args.number numbers c.move_number.ensures.number
             row c.requires.filed (λ gone here. c.may_revive.ensures.1 (gone, here)) c.requires.keys),
       );
       unchanged = tt;

@@ -1,18 +1,32 @@
-use Rattle.std.proofs.Common.{rules, subst}
-use Rattle.std.specs.Ordering.{nat_cmp}
-use Rattle.lw_index.specs.Index.{entries_above}
-use Rattle.lw_table.specs.Since.{AnyHas}
-use Rattle.lw_table.proofs.SinceLemmas.{Gathers, entry_gathered}
+use Rattle.std.proofs.Common.{inl, inr, List, ℕ, sym, subst}
+use Rattle.std.specs.Prelude.{Contains}
+use Rattle.lw_recent.specs.Recent.{IsUnder, IsAbove}
+use Rattle.lw_reg.proofs.Members.{none_there}
+use Rattle.lw_table.proofs.SinceLemmas.{Gathers, all_gathered, endpoint_gathered}
 use Rattle.lw_table.proofs.since.names_above.Goals as goal
 
-pub loop-endpoints-init : goal.loop-endpoints-init
-loop-endpoints-init c = search rules
-
-pub loop-endpoints-preserved : goal.loop-endpoints-preserved
-loop-endpoints-preserved c =
-    let all = entries_above nat_cmp c.args.since c.args.numbers.now in (
+pub loop-endpoint-init : goal.loop-endpoint-init
+loop-endpoint-init c =
+    let gives = c.into_iter-endpoint-iterator.ensures.into_iter_gives in
+    let all = c.since-endpoint-items.ensures in (
       tt,
       tt,
-      entry_gathered AnyHas all c.loop-endpoints.names c.add_all.new.names (c.in-Some.field-0-0.now, c.in-Some.endpoints) c.next.new.self c.in_ok-add_all.ensures
-          (subst (λ left. Gathers AnyHas c.loop-endpoints.names left AnyHas all) c.in-Some.ensures.steps c.loop-endpoints.invariant.2),
+      λ e. (
+        λ h. elim h [ inl none ↦ none_there e (subst (λ l. Contains l e) c.new-names.ensures none) | inr left ↦ (all e).0 (subst (λ l. Contains l e) gives left) ],
+        λ h. inr (subst (λ l. Contains l e) (sym gives) ((all e).1 h)),
+      ),
     )
+
+pub loop-endpoint-preserved : goal.loop-endpoint-preserved
+loop-endpoint-preserved c =
+    let All : List (ℕ × List ℕ) → List ℕ → Type 0 = λ all e. (n : ℕ) × IsUnder all n e × IsAbove c.args.since n in (
+      tt,
+      tt,
+      endpoint_gathered All c.args.numbers.now c.loop-endpoint.names c.add.new.self c.in-Some.endpoint.now c.next.new.self c.in_ok-add.ensures.added
+          (subst (λ left. Gathers Contains c.loop-endpoint.names left All c.args.numbers.now) c.in-Some.ensures.steps c.loop-endpoint.invariant.2),
+    )
+
+pub returns : goal.returns
+returns c =
+    let All : List (ℕ × List ℕ) → List ℕ → Type 0 = λ all e. (n : ℕ) × IsUnder all n e × IsAbove c.args.since n in
+    all_gathered All c.args.numbers.now c.loop-endpoint.names c.loop-endpoint.endpoint-iterator c.in-None.ensures.steps.0 c.loop-endpoint.invariant.2

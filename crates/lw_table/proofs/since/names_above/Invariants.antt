@@ -1,11 +1,11 @@
-use Rattle.std.specs.Ordering.{nat_cmp}
-use Rattle.lw_index.specs.Index.{entries_above}
-use Rattle.lw_table.specs.Since.{AnyHas}
+use Rattle.std.proofs.Common.{List, ℕ}
+use Rattle.lw_recent.specs.Recent.{IsUnder, IsAbove}
 use Rattle.lw_table.proofs.SinceLemmas.{Gathers}
+use Rattle.std.specs.Prelude.{Contains}
 use Rattle.lw_table.proofs.since.names_above.Given as goal
 
--- the names, and those of the entries that are left, are all
-abbrev pub invariant-loop-endpoints : goal.invariant-loop-endpoints
-invariant-loop-endpoints l =
-    (goal.iterator-loop-endpoints).can_next l.endpoints-iterator × (goal.iterator-loop-endpoints).is_finite l.endpoints-iterator
-    × Gathers AnyHas l.names l.endpoints-iterator AnyHas (entries_above nat_cmp l.fn.since l.numbers)
+-- the names, and the endpoints that are left, are all
+abbrev pub invariant-loop-endpoint : goal.invariant-loop-endpoint
+invariant-loop-endpoint l =
+    (goal.iterator-loop-endpoint).can_next l.endpoint-iterator × (goal.iterator-loop-endpoint).is_finite l.endpoint-iterator
+    × Gathers Contains l.names l.endpoint-iterator (λ (all : List (ℕ × List ℕ)) e. (n : ℕ) × IsUnder all n e × IsAbove l.fn.since n) l.numbers

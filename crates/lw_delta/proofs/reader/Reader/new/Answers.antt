@@ -30,7 +30,7 @@ returns-clause-only c = λ d s.
     let same = one_delta c.args.bytes.now (record { clock = walked.clock; slots = w.ss }) d (walked_spelled c.args.bytes.now walked w) s in
     subst (λ (u : Unread). (u.clock ≡ d.clock) × IsLeft u d.slots) (sym c.of.ensures) (
       ap (λ (x : DeltaContent). x.clock) same,
-      subst (λ (ss : List (List ℕ × Slot)). Found (slots walked.clock) walked.slots.now ss []) (ap (λ (x : DeltaContent). x.slots) same) w.found,
+      subst (λ (ss : List (List ℕ × Slot)). Found (slots walked.form walked.clock) walked.slots.now ss []) (ap (λ (x : DeltaContent). x.slots) same) w.found,
     )
 
 pub returns-clause-faults : goal.returns-clause-faults

@@ -1,8 +1,7 @@
-use Rattle.std.proofs.Common.{◌≡◌, refl, subst}
+use Rattle.std.proofs.Common.{refl}
 use Rattle.lw_stamp.specs.Moment.{ms_of}
-use Rattle.lw_reg.specs.declared.op.What.{What}
-use Rattle.lw_node.specs.Calls.{place_at, Decided, Decides}
-use Rattle.lw_node.specs.Effects.{NamedChanges, MessageMeans}
+use Rattle.lw_node.specs.Calls.{place_at, Decided}
+use Rattle.lw_node.specs.Effects.{MessageMeans}
 use Rattle.lw_node.specs.Node.{marks_in}
 use Rattle.lw_node.proofs.Deciding.{if_ok}
 use Rattle.lw_node.proofs.Messages.{decides_register, decides_update, decides_ping, decides_refusal, decides_reject}
@@ -15,7 +14,7 @@ returns-in-Register c =
     let m = c.args.message.now in
     let a = c.in-Register in
     if_ok _ (Decided state (λ M. MessageMeans place M c.args.from m)) c.decide_register.result
-    (λ d h known is. decides_register place (marks_in state known) c.args.from m c.in_ok-endpoint.field-0 c.in_ok-endpoint.ensures.meaning d a.endpoint a.version a.queue c.args.now a.lifetime a.binding a.sms a.objects a.is refl h)
+    (λ d h known is. decides_register place (marks_in state known) c.args.from m c.in_ok-endpoint.field-0 c.in_ok-endpoint.ensures.meaning d a.endpoint a.version a.queue c.args.now a.settings a.is refl h)
     (c.decide_register.ensures (ms_of c.args.now))
 
 pub returns-in-Update : goal.returns-in-Update
@@ -25,8 +24,7 @@ returns-in-Update c =
     let m = c.args.message.now in
     let a = c.in-Update in
     if_ok _ (Decided state (λ M. MessageMeans place M c.args.from m)) c.decide_named.result
-    (λ d h known is. decides_update place (marks_in state known) c.args.from m c.in_ok-endpoint.field-0 c.in_ok-endpoint.ensures.meaning d a.id c.args.now a.lifetime a.binding a.sms a.objects a.is refl
-    (subst (λ (what : What). Decides (NamedChanges place (marks_in state known) m a.id (λ w. w ≡ what) 68) d) c.update_of-what.ensures (h known is)))
+    (λ d h known is. decides_update place (marks_in state known) c.args.from m c.in_ok-endpoint.field-0 c.in_ok-endpoint.ensures.meaning d a.id c.args.now a.settings a.is refl (h known is))
     c.decide_named.ensures
 
 pub returns-in_ok-reset_to-in-Ping : goal.returns-in_ok-reset_to-in-Ping

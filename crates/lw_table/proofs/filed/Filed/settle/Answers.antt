@@ -6,8 +6,8 @@ returns c = record {
     same = λ e other. record {
       name = c.settle_name.ensures.others.same e other;
       keys = λ k. c.drop_lacking.ensures.others.same k e other;
-      numbers = λ n. c.settle_number.ensures.others.same n e other;
+      numbers = λ n. (λ h. h, λ h. h);
     };
   };
-  settled = record { name = c.settle_name.ensures.name; keys = c.drop_lacking.ensures.keys; numbers = c.settle_number.ensures.numbers };
+  settled = record { name = c.settle_name.ensures.name; keys = c.drop_lacking.ensures.keys; numbers = c.requires.numbers };
 }

@@ -1,0 +1,10 @@
+use Rattle.std.proofs.Common.{◌≢◌, ℕ, Some, ◌<◌, ◌≤◌, length, get_or}
+use Rattle.lw_recent.specs.declared.entry.Entry.{Entry}
+use Rattle.lw_recent.specs.Entries.{number_of, shown_at}
+use Rattle.lw_recent.proofs.entry.find.Given as goal
+
+abbrev pub invariant-loop-place : goal.invariant-loop-place
+invariant-loop-place l = record {
+  before : (k : ℕ) → k < l.place → shown_at l.entries k ≢ Some (l.number, l.endpoint);
+  rest : (k : ℕ) (d : Entry) → l.place ≤ k → k < length l.entries → l.number ≤ number_of (get_or l.entries k d);
+}

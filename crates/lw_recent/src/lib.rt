@@ -1,0 +1,11 @@
+//! Endpoints, each under the number that it took when it moved last.
+//!
+//! An endpoint takes another number without memory.
+#![tactic(auto)]
+
+mod entry;
+mod recent;
+mod since;
+
+pub use recent::Recent;
+pub use since::Since;
