@@ -107,7 +107,7 @@ or_kept None before = before
 or_kept (Some value) before = Some value
 
 -- The registration, with what an Update writes. Its queue mode is that of the base, as it stands in these marks, and of the
--- binding that it has now.
+-- binding that it has now. An attribute that the Update gives has its value, and any other keeps its own.
 pub record IsUpdated (M : Marks) (before : Registration) (address : Addr) (seen : Moment) (given : GivenSettings) (r : Registration) : Type 0 where
   pub endpoint : r.endpoint ≡ before.endpoint
   pub id : r.id ≡ before.id

@@ -75,7 +75,9 @@ fn put_query(
     if !is_attribute_name(name) {
         return Ok(());
     }
-    gathered.insert(Text::copy_of(alloc, name)?, Text::copy_of(alloc, value)?)?;
+    let key = Text::copy_of(alloc, name)?;
+    let value = Text::copy_of(alloc, value)?;
+    gathered.insert(key, value)?;
     Ok(())
 }
 
