@@ -1,5 +1,5 @@
 -- Sets of marks that one state tells of have the same answers, and so have nodes that the same operations reached.
-use Rattle.std.proofs.Common.{◌≡◌, ℕ, List, [], ◌∷◌, Option, Some, None, refl, sym, ◌∙◌, subst, inl, inr, ◌⊎◌}
+use Rattle.std.proofs.Common.{◌≡◌, ℕ, List, [], ◌∷◌, Option, Some, None, refl, sym, ap, ◌∙◌, subst, inl, inr, ◌⊎◌}
 use Rattle.std.specs.Prelude.{◌↔◌, ◌≢◌, Contains}
 use Rattle.std.specs.FinMap.{get}
 use Rattle.std.proofs.lemmas.List.Elements.{Contains-append_left, Contains-append_right, Contains-append_cases}
@@ -21,9 +21,9 @@ use Rattle.lw_reg.specs.Marks.{Trace, Mark, Marks, Has, NamesAll, among, marks_o
 use Rattle.lw_reg.specs.Marks.Trace.{Named, AddressAt}
 use Rattle.lw_reg.specs.OrderLaws.{addr_order}
 use Rattle.lw_reg.specs.Orders.{addr_cmp}
-use Rattle.lw_reg.specs.Reading.{registered_in, stamp_of}
+use Rattle.lw_reg.specs.Reading.{registered_in, view_in, address_of, stamp_of}
 use Rattle.lw_reg.specs.Registration.{Registration}
-use Rattle.lw_reg.specs.Showing.{IsWrite, IsRegistered, IsShown, IsExpired, IsLive, IsAnswer, LivesOf, ShownOf, IsFirstOfWatches}
+use Rattle.lw_reg.specs.Showing.{IsWrite, IsRegistered, IsShown, IsExpired, IsLive, IsAnswer, LivesOf, ShownOf, IsFirstOfWatches, IsAbove}
 use Rattle.lw_reg.specs.State.{State, IsStateOf}
 use Rattle.lw_reg.specs.Told.{known_in}
 use Rattle.lw_reg.proofs.Members.{none_there, first_there, more_there, there_or_first}
@@ -32,8 +32,8 @@ use Rattle.lw_reg.proofs.Readings.{shown_from, shown_to}
 use Rattle.lw_reg.proofs.Same.{told_same, members_decide}
 use Rattle.lw_reg.proofs.States.{state_least, state_same}
 use Rattle.lw_reg.proofs.Tells.{SlotTells, Tells, ToldTells, Holds}
-use Rattle.lw_table.specs.Answers.{IsFirstAnswer, FirstAfter}
-use Rattle.lw_table.specs.LookUps.{ById, IsHolder, ByAddress, HasToken, ByToken, WatchOfIdAfter, ExpiredAfter}
+use Rattle.lw_table.specs.Answers.{IsAfter, IsFirstAnswer, FirstAfter}
+use Rattle.lw_table.specs.LookUps.{ById, IsHolder, ByAddress, HasToken, ByToken, WatchOfIdAfter, IsExpiredAfter, ExpiredAfter}
 use Rattle.lw_table.proofs.LookUpLemmas.{IsKeptAs, registered_keeps, view_reads, marks_tell}
 use Rattle.lw_call.specs.declared.answer.Answer.{Answer}
 use Rattle.lw_call.specs.declared.answer.Answer.TheVariants as answers
@@ -42,8 +42,8 @@ use Rattle.lw_call.specs.declared.question.Question.TheVariants as questions
 use Rattle.lw_node.specs.Node.{NodeContent}
 use Rattle.lw_node.specs.Steps.{Answers}
 use Rattle.lw_node.proofs.OneAnswer.{answer_one}
-use Rattle.lw_world.specs.Known.{known_state, node_of}
-use Rattle.lw_world.specs.Laws.{KnownStatesAreLeast, StatesDecideAnswers, SameSetsAnswerAlike}
+use Rattle.lw_world.specs.Known.{Knowledge, known_state, node_of}
+use Rattle.lw_world.specs.Laws.{KnownStatesAreLeast, StatesDecideAnswers, KnowTheSame, AreAlike, SameSetsAnswerAlike}
 
 -- ---- sets that one state tells of
 -- the write of the address that counts

@@ -1,5 +1,5 @@
 -- What a node issues has its number and the next stamp of its clock, and speaks of nothing that comes later.
-use Rattle.std.proofs.Common.{◌≡◌, ℕ, ◌+◌, ◌<◌, ◌≤◌, List, [], ◌∷◌, Option, Some, None, Ok, Err, refl, sym, ap, subst, inl, inr, arith}
+use Rattle.std.proofs.Common.{◌≡◌, ℕ, ◌+◌, ◌<◌, ◌≤◌, List, [], ◌∷◌, Option, Some, None, Ok, Err, refl, sym, ap, ◌∙◌, subst, inl, inr, arith}
 use Rattle.std.specs.Prelude.{Contains, IfSome, Result}
 use Rattle.lw_stamp.specs.declared.stamp.Stamp.{Stamp}
 use Rattle.lw_coap.specs.Message.{MessageContent}
@@ -14,14 +14,14 @@ use Rattle.lw_reg.specs.Marks.{Marks, all_marks, marks_of, left_by}
 use Rattle.lw_reg.specs.Reading.{shown_in}
 use Rattle.lw_reg.specs.Registration.{Registration}
 use Rattle.lw_reg.specs.State.{state_of}
-use Rattle.lw_reg.proofs.Members.{first_there, more_there}
+use Rattle.lw_reg.proofs.Members.{none_there, first_there, more_there}
 use Rattle.lw_reg.proofs.Operations.{all_names}
 use Rattle.lw_reg.proofs.States.{state_least}
 use Rattle.lw_request.specs.declared.asked.Asked.{Asked}
 use Rattle.lw_request.specs.declared.asked.Asked.TheVariants.{Register, Update, Deregister, Report, Ping, Refuse, Reject, Ignore}
 use Rattle.lw_request.specs.Report.{ReportContent}
 use Rattle.lw_table.proofs.LookUpLemmas.{read_tells, read_names, marks_tell}
-use Rattle.lw_call.specs.Contents.{TakenContent}
+use Rattle.lw_call.specs.Contents.{TakenContent, OutgoingContent}
 use Rattle.lw_node.specs.Effects.{Place, Effect, Request, Refused, IsNext, Issues, WritesGiven, IsNamed, Changes, NamedChanges, IsWatched, EndsWatch, ReportMeans, Does, MalformedMeans, DatagramMeans, CommandMeans, ObserveMeans, CancelMeans, observes, ends}
 use Rattle.lw_node.specs.Laws.{IsRegister}
 use Rattle.lw_node.specs.Within.{TokenWithin, FitsClock, IsNextOf}

@@ -1,6 +1,6 @@
 -- The clocks of a run lead, and its stamps differ.
-use Rattle.std.proofs.Common.{◌≡◌, ℕ, zero, suc, ◌+◌, ◌<◌, ◌≤◌, List, [], ◌∷◌, Option, Some, None, Result, Ok, Err, refl, sym, ap, ◌∙◌, subst, inl, inr, ◌⊎◌, arith}
-use Rattle.std.specs.Prelude.{◌≢◌, Contains, AllPairs, IfSome, set, slice_get}
+use Rattle.std.proofs.Common.{◌≡◌, ℕ, zero, suc, ◌+◌, ◌<◌, ◌≤◌, List, [], ◌∷◌, ◌++◌, length, Option, Some, None, Result, Ok, Err, refl, sym, ap, ◌∙◌, subst, inl, inr, ◌⊎◌, arith}
+use Rattle.std.specs.Prelude.{◌≢◌, Contains, AllPairs, IfSome, set, slice_get, filter, max}
 use Rattle.std.proofs.lemmas.Bool.{cases_eq}
 use Rattle.std.proofs.lemmas.List.Elements.{All-weaker, All-contains, All-contains_itself, All-filter, Contains-append_cases, Contains-push_cases}
 use Rattle.std.proofs.lemmas.List.Kept.{AllPairs-cons}
@@ -15,15 +15,15 @@ use Rattle.lw_call.specs.declared.observe_fault.ObserveFault.{ObserveFault}
 use Rattle.lw_call.specs.declared.observe_fault.ObserveFault.TheVariants as faults
 use Rattle.lw_call.specs.Contents.{OutgoingContent}
 use Rattle.lw_node.specs.Effects.{Request, Refused, ObserveMeans, CancelMeans}
-use Rattle.lw_node.specs.Laws.{IsRegister}
+use Rattle.lw_node.specs.Laws.{IsRegister, WellStamped}
 use Rattle.lw_world.specs.declared.event.Action.{Action}
 use Rattle.lw_world.specs.declared.event.Action.TheVariants as actions
 use Rattle.lw_world.specs.declared.event.Event.{Event}
 use Rattle.lw_world.specs.declared.outcome.Outcome.{Outcome}
 use Rattle.lw_world.specs.declared.outcome.Outcome.TheVariants as outcomes
 use Rattle.lw_world.specs.declared.outcome.Sending.{Sending}
-use Rattle.lw_world.specs.Known.{Knowledge, Message, knows_nothing, place_of, IssuesOr, about, names_of}
-use Rattle.lw_world.specs.Laws.{IsReached, ClocksLead, StampsDiffer, KnownWasIssued}
+use Rattle.lw_world.specs.Known.{Knowledge, Message, knows_nothing, place_of, Issues, IssuesOr, about, names_of}
+use Rattle.lw_world.specs.Laws.{IsReached, ClocksLead, StampsDiffer, IsIssued, KnownWasIssued}
 use Rattle.lw_world.specs.Run.{History, numbered_from, begun, noted, Left, idle, Commanded, Sends, Delivers, Delivered, Acts, at_number, after, Happens, Steps, Runs}
 use Rattle.lw_world.proofs.Freshness.{WasNext, was_before, was_within, IsFresh, taken_fresh, observe_fresh, cancel_fresh}
 
