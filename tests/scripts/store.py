@@ -142,7 +142,7 @@ class Slot:
     def bytes(self, endpoint):
         head = b"\x01" + sized(endpoint) + stamp_bytes(self.stamp)
         if self.is_removed:
-            return head + b"\x80\0\0"
+            return head + b"\x80\0\0\0"
         sms = self.value("sms")
         values = {
             "address": address_bytes(self.value("address")),
@@ -159,7 +159,7 @@ class Slot:
         )
         watches = b"".join(self.watches[path].bytes(path) for path in sorted(self.watches))
         base = bytes([self.base[0] | self.base[1] << 1])
-        return head + b"\x7f" + base + fields + attributes + b"\0" + watches + b"\0"
+        return head + b"\x7f" + base + fields + attributes + b"\0\0" + watches + b"\0"
 
 
 class Node:
@@ -230,7 +230,7 @@ def watch_view(found):
 
 
 def delta(clock, slots):
-    return b"LWD2" + clock.to_bytes(6, "big") + b"".join(slot.bytes(name) for name, slot in slots) + b"\0"
+    return b"LWD3" + clock.to_bytes(6, "big") + b"".join(slot.bytes(name) for name, slot in slots) + b"\0"
 
 
 @dataclass(frozen=True)

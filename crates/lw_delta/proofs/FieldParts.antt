@@ -4,11 +4,11 @@ use Rattle.lw_stamp.specs.declared.stamp.Stamp.{Stamp}
 use Rattle.lw_join.specs.declared.last.Last.{Last}
 use Rattle.lw_reg.specs.declared.slot.Slot.{Slot}
 use Rattle.lw_delta.specs.declared.form.Form.{Form}
-use Rattle.lw_delta.specs.Form.{has_attributes}
+use Rattle.lw_delta.specs.Form.{has_attributes, has_end}
 use Rattle.lw_delta.specs.Part.{Found, byte, means, followed, when, optional}
-use Rattle.lw_delta.specs.Format.{number32, stamp, written, base as base_part, address as address_part, moment, binding as binding_part, sms_number, objects as objects_part, attributes as attributes_part, watches as watches_part, behind, endpoint, fields, slot}
-use Rattle.lw_delta.specs.Values.{is_set, FieldContent, Behind, slot_from, list_or_none}
-use Rattle.lw_delta.proofs.Kept.{Each, when_each}
+use Rattle.lw_delta.specs.Format.{number32, stamp, written, base as base_part, address as address_part, moment, binding as binding_part, sms_number, objects as objects_part, attributes as attributes_part, ended as ended_part, watches as watches_part, behind, endpoint, fields, slot}
+use Rattle.lw_delta.specs.Values.{is_set, FieldContent, Behind, slot_from, list_or_none, end_from}
+use Rattle.lw_delta.proofs.Kept.{Each, when_each, optional_each}
 
 -- each field where its flag is set, one behind the other
 pub record FieldsAt (clock flags : ℕ) (bytes : List ℕ) (k : FieldContent) (rest : List ℕ) : Type 0 where
@@ -57,20 +57,29 @@ pub record BehindAt (form : Form) (clock : ℕ) (bytes : List ℕ) (more : Behin
   pub there : Option (List (List ℕ × Last (List ℕ)))
   pub behind_attributes : List ℕ
   pub attributes : Found (when (has_attributes form) (attributes_part clock)) bytes there behind_attributes
-  pub watches : Found (watches_part clock) behind_attributes more.watches rest
+  pub said : Option (Option Stamp)
+  pub behind_end : List ℕ
+  pub ended : Found (when (has_end form) (ended_part clock)) behind_attributes said behind_end
+  pub watches : Found (watches_part clock) behind_end more.watches rest
   pub same : more.attributes ≡ list_or_none there
+  pub same_end : more.ended ≡ end_from said
 
 pub behind_at : (form : Form) (clock : ℕ) (bytes : List ℕ) (more : Behind) (rest : List ℕ) → Found (behind form clock) bytes more rest → BehindAt form clock bytes more rest
 unfolding followed means
 behind_at form clock bytes more rest f =
-    let ws = f.is.3.is in
+    let o = f.is.3.is in
+    let ws = o.3.is in
     let last = ws.3.is in
     subst (λ x. BehindAt form clock bytes x rest) (sym last.1) (record {
       there = f.is.0;
       behind_attributes = f.is.1;
       attributes = f.is.2;
-      watches = subst (λ (x : List ℕ). Found (watches_part clock) f.is.1 ws.0 x) last.0 ws.2;
+      said = o.0;
+      behind_end = o.1;
+      ended = o.2;
+      watches = subst (λ (x : List ℕ). Found (watches_part clock) o.1 ws.0 x) last.0 ws.2;
       same = refl;
+      same_end = refl;
     })
 
 none_or_each : {A : Type 0} (P : List A → Type 0) → P [] → (o : Option (List A)) → IfSome o P → P (list_or_none o)
@@ -82,6 +91,17 @@ pub attributes_each : (form : Form) (clock : ℕ) (P : List (List ℕ × Last (L
 attributes_each form clock P none each bytes more rest f =
     let parts = behind_at form clock bytes more rest f in
     subst P (sym parts.same) (none_or_each P none parts.there (when_each (attributes_part clock) P each (has_attributes form) bytes parts.there parts.behind_attributes parts.attributes))
+
+said_each : (P : Stamp → Type 0) (o : Option (Option Stamp)) → IfSome o (λ said. IfSome said P) → IfSome (end_from o) P
+said_each P None h = tt
+said_each P (Some said) h = h
+
+-- what holds of stamps holds of the one up to which it is over
+pub ended_each : (form : Form) (clock : ℕ) (P : Stamp → Type 0) → Each (stamp clock) P → Each (behind form clock) (λ more. IfSome more.ended P)
+ended_each form clock P each bytes more rest f =
+    let parts = behind_at form clock bytes more rest f in
+    subst (λ o. IfSome o P) (sym parts.same_end)
+    (said_each P parts.said (when_each (ended_part clock) (λ o. IfSome o P) (optional_each (stamp clock) P each) (has_end form) parts.behind_attributes parts.said parts.behind_end parts.ended))
 
 -- the endpoint, the stamp of the registration, the flags, the fields and what stands behind them
 pub record SlotAt (form : Form) (clock : ℕ) (after : Option (List ℕ)) (bytes : List ℕ) (s : List ℕ × Slot) (rest : List ℕ) : Type 0 where

@@ -15,7 +15,7 @@ use Rattle.lw_delta.specs.Format.{number48, stamp, written, attribute, watch, be
 use Rattle.lw_delta.specs.Values.{FieldContent, Behind, behind_of, slot_from, watching_from}
 use Rattle.lw_delta.specs.Delta.{DeltaContent, IsSpelling}
 use Rattle.lw_delta.specs.Writable.{AttributesWithin, TokensWithin, StampsWithin, Follows, AllFollow}
-use Rattle.lw_delta.proofs.FieldParts.{fields_at, behind_at, attributes_each, slot_at}
+use Rattle.lw_delta.proofs.FieldParts.{fields_at, behind_at, attributes_each, ended_each, slot_at}
 use Rattle.lw_delta.proofs.Kept.{Each, when_each, some_each, repeated_each}
 use Rattle.lw_delta.proofs.Owning.{behind_again}
 
@@ -89,6 +89,7 @@ attribute_within clock after bytes a rest f =
 
 record BehindWithin (clock : ℕ) (more : Behind) : Type 0 where
   pub attributes : AttributesWithin clock more.attributes
+  pub ended : IfSome more.ended (λ s. s.counter ≤ clock)
   pub watches : TokensWithin clock more.watches
 
 behind_within : (form : Form) (clock : ℕ) → Each (behind form clock) (BehindWithin clock)
@@ -96,12 +97,13 @@ behind_within form clock bytes more rest f =
     let parts = behind_at form clock bytes more rest f in
     record {
       attributes = attributes_each form clock (AttributesWithin clock) tt (repeated_each (attribute clock) (λ a. a.0) (λ a. a.1.write.0.counter ≤ clock) (attribute_within clock)) bytes more rest f;
+      ended = ended_each form clock (λ s. s.counter ≤ clock) (stamp_within clock) bytes more rest f;
       watches = repeated_each (watch clock) (λ w. w.0) (λ w. w.1.stamp.counter ≤ clock) (watch_within clock) _ _ _ parts.watches;
     }
 
 kept_within : (clock : ℕ) (r : Stamp) (removed : Bool) (k : FieldContent) (more : Behind) → r.counter ≤ clock → FieldStamps clock k → BehindWithin clock (behind_of (slot_from r false k more)) → StampsWithin clock (slot_from r removed k more)
-kept_within clock r true k more h f b = record { registration = h; address = tt; seen = tt; lifetime = tt; binding = tt; sms = tt; objects = tt; attributes = tt; watches = tt }
-kept_within clock r false k more h f b = record { registration = h; address = f.address; seen = f.seen; lifetime = f.lifetime; binding = f.binding; sms = f.sms; objects = f.objects; attributes = b.attributes; watches = b.watches }
+kept_within clock r true k more h f b = record { registration = h; address = tt; seen = tt; lifetime = tt; binding = tt; sms = tt; objects = tt; attributes = tt; ended = tt; watches = tt }
+kept_within clock r false k more h f b = record { registration = h; address = f.address; seen = f.seen; lifetime = f.lifetime; binding = f.binding; sms = f.sms; objects = f.objects; attributes = b.attributes; ended = b.ended; watches = b.watches }
 
 record IsEndpoint (after : Option (List ℕ)) (e : List ℕ) : Type 0 where
   pub some : 1 ≤ length e

@@ -10,11 +10,11 @@ use Rattle.lw_reg.specs.declared.path.Path.{Path}
 use Rattle.lw_reg.specs.BindingLaws.{same_binding}
 use Rattle.lw_reg.specs.OrderLaws.{same_path}
 use Rattle.lw_delta.specs.declared.form.Form.{Form}
-use Rattle.lw_delta.specs.declared.form.Form.TheVariants.{First, Second}
+use Rattle.lw_delta.specs.declared.form.Form.TheVariants.{First, Second, Third}
 use Rattle.lw_delta.specs.declared.fault.DeltaFault.TheVariants.{Magic, Order, Range, Text, ClockBelow, NoMemory}
 use Rattle.lw_delta.specs.Form.{magic_of}
 use Rattle.lw_delta.specs.Part.{Part}
-use Rattle.lw_delta.specs.Format.{number16, number32, number48, stamp, written, base, host, address, moment, binding, text, sms_number, objects, numbers, attribute_name, attribute_value, attribute, attributes, path, watch, watches, behind, endpoint, fields, slot, slots, magic, header, delta}
+use Rattle.lw_delta.specs.Format.{number16, number32, number48, stamp, written, base, host, address, moment, binding, text, sms_number, objects, numbers, attribute_name, attribute_value, attribute, attributes, ended, path, watch, watches, behind, endpoint, fields, slot, slots, magic, header, delta}
 use Rattle.lw_delta.proofs.Decided.{Decided, byte_decided, bytes_decided, means_decided, gives_decided, must_decided, followed_decided, when_decided, optional_decided, repeated_decided}
 
 no_magic : NoMemory ≡ Magic → ⊥
@@ -112,8 +112,11 @@ attribute_decided clock after = followed_decided (attribute_name_decided after) 
 pub attributes_decided : (clock : ℕ) → Decided (attributes clock)
 attributes_decided clock = repeated_decided _ _ (attribute_decided clock) None
 
+pub ended_decided : (clock : ℕ) → Decided (ended clock)
+ended_decided clock = optional_decided (stamp_decided clock)
+
 pub behind_decided : (form : Form) (clock : ℕ) → Decided (behind form clock)
-behind_decided form clock = followed_decided (when_decided _ (attributes_decided clock)) (λ es. followed_decided (watches_decided clock) (λ ws. gives_decided _))
+behind_decided form clock = followed_decided (when_decided _ (attributes_decided clock)) (λ es. followed_decided (when_decided _ (ended_decided clock)) (λ said. followed_decided (watches_decided clock) (λ ws. gives_decided _)))
 
 pub slot_decided : (form : Form) (clock : ℕ) (after : Option (List ℕ)) → Decided (slot form clock after)
 slot_decided form clock after = followed_decided (endpoint_decided after) (λ e. followed_decided (stamp_decided clock) (λ r. followed_decided byte_decided (λ flags.
@@ -122,15 +125,26 @@ slot_decided form clock after = followed_decided (endpoint_decided after) (λ e.
 pub slots_decided : (form : Form) (clock : ℕ) → Decided (slots form clock)
 slots_decided form clock = repeated_decided _ _ (slot_decided form clock) None
 
-fronts_apart : (x y : List ℕ) → codes "LWD1" ++ x ≡ codes "LWD2" ++ y → ⊥
-fronts_apart x y e = omega (arith, ap (λ (z : List ℕ). slice_index z 3) e)
+first_second_apart : (x y : List ℕ) → codes "LWD1" ++ x ≡ codes "LWD2" ++ y → ⊥
+first_second_apart x y e = omega (arith, ap (λ (z : List ℕ). slice_index z 3) e)
+
+first_third_apart : (x y : List ℕ) → codes "LWD1" ++ x ≡ codes "LWD3" ++ y → ⊥
+first_third_apart x y e = omega (arith, ap (λ (z : List ℕ). slice_index z 3) e)
+
+second_third_apart : (x y : List ℕ) → codes "LWD2" ++ x ≡ codes "LWD3" ++ y → ⊥
+second_third_apart x y e = omega (arith, ap (λ (z : List ℕ). slice_index z 3) e)
 
 -- bytes begin as one format does
 pub one_front : (a b : Form) (x y : List ℕ) → magic_of a ++ x ≡ magic_of b ++ y → a ≡ b
 one_front First First x y e = refl
-one_front First Second x y e = absurd (fronts_apart x y e)
-one_front Second First x y e = absurd (fronts_apart y x (sym e))
+one_front First Second x y e = absurd (first_second_apart x y e)
+one_front First Third x y e = absurd (first_third_apart x y e)
+one_front Second First x y e = absurd (first_second_apart y x (sym e))
 one_front Second Second x y e = refl
+one_front Second Third x y e = absurd (second_third_apart x y e)
+one_front Third First x y e = absurd (first_third_apart y x (sym e))
+one_front Third Second x y e = absurd (second_third_apart y x (sym e))
+one_front Third Third x y e = refl
 
 one_magic : (a b : Form) (bytes : List ℕ) → magic_of a ≡ bytes → magic_of b ≡ bytes → a ≡ b
 one_magic a b bytes h k = one_front a b [] [] (ap (λ (x : List ℕ). x ++ []) (h ∙ sym k))

@@ -88,7 +88,7 @@ behind_again form clock bytes more rest f r k =
     let parts = behind_at form clock bytes more rest f in
     let es = entries_made _ _ _ more.attributes (attributes_each form clock (λ es. Rises text_cmp es) tt (attributes_rise clock) bytes more rest f) in
     let ws = entries_made _ _ _ more.watches (watches_rise clock _ _ _ parts.watches) in
-    λ i. record { attributes = es i; watches = ws i }
+    λ i. record { attributes = es i; ended = more.ended; watches = ws i }
 
 pub parts_are : (clock : ℕ) (bytes : List ℕ) (parts : Watches) (es ws : List (Path × Watching)) (r s : List ℕ) → Found (watches clock) bytes es r → Found (watches clock) bytes ws s → entries_of parts ≡ es → parts ≡ made ws
 parts_are clock bytes parts es ws r s f g e =
@@ -109,19 +109,19 @@ unfolding means
 none_found {A} part bytes o rest e f = (subst (λ (b : Bool). Found (when b part) bytes o rest) e f).is
 
 pub no_attributes_are : (clock : ℕ) (present : Bool) (bytes : List ℕ) (parts : AttributeMap) (o : Option (List (List ℕ × Last (List ℕ)))) (rest : List ℕ) → present ≡ false → Found (when present (attributes clock)) bytes o rest → entries_of parts ≡ []
-    → (parts ≡ made (list_or_none o)) × (bytes ≡ rest)
+    → parts ≡ made (list_or_none o)
 no_attributes_are clock present bytes parts o rest e f none =
     let g = none_found (attributes clock) bytes o rest e f in
     let empty : parts ≡ made [] = same_parts parts (made []) (none ∙ sym (entries_made _ _ _ [] tt)) in
-    (empty ∙ ap (λ (x : Option (List (List ℕ × Last (List ℕ)))). let m : AttributeMap = made (list_or_none x) in m) (sym g.1), g.0)
+    empty ∙ ap (λ (x : Option (List (List ℕ × Last (List ℕ)))). let m : AttributeMap = made (list_or_none x) in m) (sym g.1)
 
 pub attributes_are : (clock : ℕ) (present : Bool) (bytes : List ℕ) (parts : AttributeMap) (es : List (List ℕ × Last (List ℕ))) (o : Option (List (List ℕ × Last (List ℕ)))) (r s : List ℕ) → present ≡ true
-    → Found (attributes clock) bytes es r → Found (when present (attributes clock)) bytes o s → entries_of parts ≡ es → (parts ≡ made (list_or_none o)) × (r ≡ s)
+    → Found (attributes clock) bytes es r → Found (when present (attributes clock)) bytes o s → entries_of parts ≡ es → parts ≡ made (list_or_none o)
 attributes_are clock present bytes parts es o r s e f g same =
     let there = there_found bytes o s e g in
     let one = (attributes_decided clock).one bytes es there.0 r s f there.1 in
     let all : parts ≡ made there.0 = same_parts parts (made there.0) (same ∙ one.0 ∙ sym (entries_made _ _ _ there.0 (attributes_rise clock bytes there.0 s there.1))) in
-    (all ∙ ap (λ (x : Option (List (List ℕ × Last (List ℕ)))). let m : AttributeMap = made (list_or_none x) in m) (sym there.2), one.1)
+    all ∙ ap (λ (x : Option (List (List ℕ × Last (List ℕ)))). let m : AttributeMap = made (list_or_none x) in m) (sym there.2)
 
 -- of bytes that a part was found in, want of memory is the one fault
 pub only_want : {A : Type 0} {part : Part A} (d : Decided part) (bytes : List ℕ) (a : A) (rest : List ℕ) (f : DeltaFault) → Found part bytes a rest → (f ≡ NoMemory) ⊎ Fails part bytes f → f ≡ NoMemory

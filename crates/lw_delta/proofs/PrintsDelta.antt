@@ -15,7 +15,7 @@ use Rattle.lw_reg.specs.Body.{Watches, AttributeMap}
 use Rattle.lw_reg.specs.Reading.{stamp_of, base_of, address_of, seen_of, lifetime_of, binding_of, sms_of, objects_of}
 use Rattle.lw_reg.specs.Slot.{slot_at}
 use Rattle.lw_delta.specs.declared.form.Form.{Form}
-use Rattle.lw_delta.specs.declared.form.Form.TheVariants.{First, Second}
+use Rattle.lw_delta.specs.declared.form.Form.TheVariants.{First, Second, Third}
 use Rattle.lw_delta.specs.Form.{magic_of, latest}
 use Rattle.lw_delta.specs.Order.{IsAbove}
 use Rattle.lw_delta.specs.Part.{Part, Found, when, optional, Walks, repeated}
@@ -103,7 +103,7 @@ here_again r body removed e =
 prints_told : (clock : ℕ) (after : Option (List ℕ)) (e : List ℕ) (r : Stamp) (value : OrGone Body) → Follows clock after (e, slot_at r value) → IsTyped (slot_at r value) → IsOwnText e
     → Prints (slot latest clock after) (slot_bytes latest (e, slot_at r value)) (e, slot_at r value)
 prints_told clock after e r Gone f typed own =
-    prints_body clock after e (slot_at r Gone) 128 (omega arith) f typed own (record { base = refl; address = refl; seen = refl; lifetime = refl; binding = refl; sms = refl; objects = refl }) refl (record { names_rise = tt; within = f.stamps.attributes; watches_rise = tt; tokens = f.stamps.watches; typed = typed.behind })
+    prints_body clock after e (slot_at r Gone) 128 (omega arith) f typed own (record { base = refl; address = refl; seen = refl; lifetime = refl; binding = refl; sms = refl; objects = refl }) refl (record { names_rise = tt; within = f.stamps.attributes; ended = f.stamps.ended; watches_rise = tt; tokens = f.stamps.watches; typed = typed.behind })
 prints_told clock after e r (Here body) f typed own =
     let s = slot_at r (Here body) in
     let a = is_some (base_of s) in
@@ -116,7 +116,7 @@ prints_told clock after e r (Here body) f typed own =
     let t = bits_tell a b c d g h k in
     prints_body clock after e s (field_flags s) (flags_small a b c d g h k) f typed own
     (record { base = sym t.0; address = sym t.1.0; seen = sym t.1.1.0; lifetime = sym t.1.1.1.0; binding = sym t.1.1.1.1.0; sms = sym t.1.1.1.1.1.0; objects = sym t.1.1.1.1.1.1.0 })
-    (here_again r body (is_set (field_flags s) 128) t.1.1.1.1.1.1.1.0) (record { names_rise = body.maps.left.rises; within = f.stamps.attributes; watches_rise = body.maps.right.rises; tokens = f.stamps.watches; typed = typed.behind })
+    (here_again r body (is_set (field_flags s) 128) t.1.1.1.1.1.1.1.0) (record { names_rise = body.maps.left.rises; within = f.stamps.attributes; ended = f.stamps.ended; watches_rise = body.maps.right.rises; tokens = f.stamps.watches; typed = typed.behind })
 
 pub prints_slot : (clock : ℕ) (after : Option (List ℕ)) (s : List ℕ × Slot) → Follows clock after s → IsTyped s.1 → IsOwnText s.0 → Prints (slot latest clock after) (slot_bytes latest s) s
 prints_slot clock after s f typed own = prints_told clock after s.0 s.1.registration.stamp s.1.registration.value f typed own
@@ -149,10 +149,16 @@ magic_fits Second (suc zero) = omega arith
 magic_fits Second (suc (suc zero)) = omega arith
 magic_fits Second (suc (suc (suc zero))) = omega arith
 magic_fits Second (suc (suc (suc (suc i)))) = omega arith
+magic_fits Third zero = omega arith
+magic_fits Third (suc zero) = omega arith
+magic_fits Third (suc (suc zero)) = omega arith
+magic_fits Third (suc (suc (suc zero))) = omega arith
+magic_fits Third (suc (suc (suc (suc i)))) = omega arith
 
 magic_long : (form : Form) → length (magic_of form) ≡ 4
 magic_long First = refl
 magic_long Second = refl
+magic_long Third = refl
 
 prints_magic : (form : Form) → Prints magic (magic_of form) form
 prints_magic form = prints_then _ _ (magic_of form) (magic_of form) form (prints_bytes (magic_of form) 4 (magic_long form) (magic_fits form)) (prints_held _ _ _ [] form (form, refl) (prints_meant _ form refl))

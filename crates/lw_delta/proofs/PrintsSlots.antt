@@ -17,7 +17,7 @@ use Rattle.lw_reg.specs.Body.{Watching}
 use Rattle.lw_reg.specs.Orders.{path_cmp}
 use Rattle.lw_delta.specs.Order.{IsAbove}
 use Rattle.lw_delta.specs.Part.{Part, Found, optional, Walks, repeated}
-use Rattle.lw_delta.specs.Format.{number16, written, attribute_name, attribute_value, attribute, attributes, watch, watches, behind}
+use Rattle.lw_delta.specs.Format.{number16, stamp, written, attribute_name, attribute_value, attribute, attributes, ended, watch, watches, behind}
 use Rattle.lw_delta.specs.Form.{latest}
 use Rattle.lw_delta.specs.Values.{Behind}
 use Rattle.lw_delta.specs.Writable.{AttributesWithin, TokensWithin, IsOwnText, AttributeTyped, AttributesTyped, AcceptTyped, AcceptsTyped, BehindTyped}
@@ -116,10 +116,16 @@ watches_print clock after (w ∷ ws) above rises tokens typed =
 prints_watches : (clock : ℕ) (ws : List (Path × Watching)) → Rises path_cmp ws → TokensWithin clock ws → AcceptsTyped ws → Prints (watches clock) (watches_bytes ws) ws
 prints_watches clock ws rises tokens typed = prints_repeated (watch clock) watch_bytes ws (watches_print clock None ws (none_before path_cmp ws) rises tokens typed)
 
+-- ---- ends
+prints_ended : (clock : ℕ) (o : Option Stamp) → IfSome o (λ s. s.counter ≤ clock) → Prints (ended clock) (optional_bytes stamp_bytes o) o
+prints_ended clock None h = prints_optional (stamp clock) stamp_bytes None tt
+prints_ended clock (Some s) h = prints_optional (stamp clock) stamp_bytes (Some s) (prints_stamp clock s h)
+
 -- ---- what stands behind the fields of a slot that may be written
 pub record BehindFits (clock : ℕ) (more : Behind) : Type 0 where
   pub names_rise : Rises text_cmp more.attributes
   pub within : AttributesWithin clock more.attributes
+  pub ended : IfSome more.ended (λ s. s.counter ≤ clock)
   pub watches_rise : Rises path_cmp more.watches
   pub tokens : TokensWithin clock more.watches
   pub typed : BehindTyped more
@@ -128,6 +134,9 @@ pub prints_behind : (clock : ℕ) (more : Behind) → BehindFits clock more → 
 prints_behind clock more h =
     let es = more.attributes in
     let front = repeated_bytes attribute_bytes es in
-    prints_both _ _ front (watches_bytes more.watches) (Some es) more
+    let o = more.ended in
+    let end = optional_bytes stamp_bytes o in
+    prints_both _ _ front (end ++ watches_bytes more.watches) (Some es) more
     (prints_then _ _ front es (Some es) (prints_attributes clock es h.names_rise h.within h.typed.attributes) (prints_meant _ (Some es) refl))
-    (prints_then _ _ (watches_bytes more.watches) more.watches more (prints_watches clock more.watches h.watches_rise h.tokens h.typed.accepts) (prints_meant _ more refl))
+    (prints_both _ _ end (watches_bytes more.watches) (Some o) more (prints_then _ _ end o (Some o) (prints_ended clock o h.ended) (prints_meant _ (Some o) refl))
+    (prints_then _ _ (watches_bytes more.watches) more.watches more (prints_watches clock more.watches h.watches_rise h.tokens h.typed.accepts) (prints_meant _ more refl)))

@@ -11,13 +11,13 @@ use Rattle.lw_reg.specs.declared.path.Path.{Path}
 use Rattle.lw_reg.specs.declared.slot.Slot.{Slot}
 use Rattle.lw_reg.specs.Body.{Watching}
 use Rattle.lw_delta.specs.declared.form.Form.{Form}
-use Rattle.lw_delta.specs.Form.{magic_of, has_attributes}
+use Rattle.lw_delta.specs.Form.{magic_of, has_attributes, has_end}
 use Rattle.lw_delta.specs.Part.{Found, byte, bytes_of, means, must, followed, when, optional, Walks, repeated}
 use Rattle.lw_delta.specs.Format.{number16, base, watch, watches, behind, fields, slot, magic, header}
 use Rattle.lw_delta.specs.Values.{is_set, FieldContent, Behind, behind_of, slot_from, watching_from}
 use Rattle.lw_delta.specs.Delta.{DeltaContent, IsSpelling, IsSpellingIn}
 use Rattle.lw_delta.specs.Removals.{HasCancelled, HasRemoval, HaveRemoval}
-use Rattle.lw_delta.specs.Writing.{Begins, number16_bytes, number32_bytes, number48_bytes, optional_bytes, written_bytes, base_bytes, addr_bytes, moment_bytes, text_bytes, binding_bytes, sms_bytes, objects_bytes, path_bytes, accept_bytes, watch_bytes, repeated_bytes, attribute_bytes, attributes_bytes, watches_bytes, behind_bytes, flag_if, flags_byte, fields_bytes, slot_bytes, slots_bytes, begun_bytes_in, delta_bytes_in}
+use Rattle.lw_delta.specs.Writing.{Begins, number16_bytes, number32_bytes, number48_bytes, optional_bytes, written_bytes, base_bytes, addr_bytes, moment_bytes, text_bytes, binding_bytes, sms_bytes, objects_bytes, path_bytes, accept_bytes, watch_bytes, repeated_bytes, attribute_bytes, attributes_bytes, ended_bytes, watches_bytes, behind_bytes, flag_if, flags_byte, fields_bytes, slot_bytes, slots_bytes, begun_bytes_in, delta_bytes_in}
 use Rattle.lw_delta.proofs.Decided.{optional_takes}
 use Rattle.lw_delta.proofs.FieldParts.{fields_at, behind_at, slot_at}
 use Rattle.lw_delta.proofs.FlagBits.{sum7}
@@ -25,7 +25,7 @@ use Rattle.lw_delta.proofs.FlagSums.{sum_again}
 use Rattle.lw_delta.proofs.Fitting.{token_is}
 use Rattle.lw_delta.proofs.Grammar.{number16_decided, one_front}
 use Rattle.lw_delta.proofs.Owning.{behind_again}
-use Rattle.lw_delta.proofs.Spellings.{Spells, chain, ending, some_spelled, none_spelled, spells_when, spells_when_written, spells_optional, spells_number16, spells_number32, spells_number48, spells_stamp, spells_base, spells_address, spells_moment, spells_binding, spells_sms, spells_objects, spells_path, spells_attributes, spells_endpoint}
+use Rattle.lw_delta.proofs.Spellings.{Spells, chain, ending, some_spelled, none_spelled, spells_when, spells_when_written, spells_optional, spells_number16, spells_number32, spells_number48, spells_stamp, spells_base, spells_address, spells_moment, spells_binding, spells_sms, spells_objects, spells_path, spells_attributes, spells_ended, spells_endpoint}
 
 -- these bytes and the rest, or more where something is gone
 abbrev Spelled : Type 0 → List ℕ → List ℕ → List ℕ → Type 0
@@ -100,7 +100,11 @@ spelled_behind form clock bytes more rest f =
     let flag = has_attributes form in
     let attributes : bytes ≡ attributes_bytes flag more.attributes ++ parts.behind_attributes =
     spells_attributes clock flag bytes parts.there parts.behind_attributes parts.attributes ∙ ap (λ (es : List (List ℕ × Last (List ℕ))). attributes_bytes flag es ++ parts.behind_attributes) (sym parts.same) in
-    behind_front bytes parts.behind_attributes rest (attributes_bytes flag more.attributes) (watches_bytes more.watches) attributes (spelled_watches clock parts.behind_attributes more.watches rest parts.watches)
+    let told = has_end form in
+    let ended : parts.behind_attributes ≡ ended_bytes told more.ended ++ parts.behind_end =
+    spells_ended clock told parts.behind_attributes parts.said parts.behind_end parts.ended ∙ ap (λ (o : Option Stamp). ended_bytes told o ++ parts.behind_end) (sym parts.same_end) in
+    behind_front bytes parts.behind_attributes rest (attributes_bytes flag more.attributes) (ended_bytes told more.ended ++ watches_bytes more.watches) attributes
+    (behind_front parts.behind_attributes parts.behind_end rest (ended_bytes told more.ended) (watches_bytes more.watches) ended (spelled_watches clock parts.behind_end more.watches rest parts.watches))
 
 -- these bytes, or more
 abbrev Least : List ℕ → List ℕ → Type 0
@@ -125,14 +129,21 @@ attributes_least : (flag : Bool) (es : List (List ℕ × Last (List ℕ))) → L
 attributes_least true es = repeated_least attribute_bytes es
 attributes_least false es = inl refl
 
+ended_least : (flag : Bool) (o : Option Stamp) → Least (ended_bytes flag None) (ended_bytes flag o)
+ended_least true None = inl refl
+ended_least true (Some s) = inr (omega arith)
+ended_least false o = inl refl
+
 -- as of a removed registration
 abbrev nothing : Behind
-nothing = record { attributes = []; watches = [] }
+nothing = record { attributes = []; ended = None; watches = [] }
 
 behind_least : (form : Form) (more : Behind) → Least (behind_bytes form nothing) (behind_bytes form more)
 behind_least form more =
     let flag = has_attributes form in
-    least_both (attributes_bytes flag []) (watches_bytes []) (attributes_bytes flag more.attributes) (watches_bytes more.watches) (attributes_least flag more.attributes) (repeated_least watch_bytes more.watches)
+    let told = has_end form in
+    least_both (attributes_bytes flag []) (ended_bytes told None ++ watches_bytes []) (attributes_bytes flag more.attributes) (ended_bytes told more.ended ++ watches_bytes more.watches) (attributes_least flag more.attributes)
+    (least_both (ended_bytes told None) (watches_bytes []) (ended_bytes told more.ended) (watches_bytes more.watches) (ended_least told more.ended) (repeated_least watch_bytes more.watches))
 
 nothing_or_longer : {gone : Type 0} (bytes rest least all : List ℕ) → Spelled gone all bytes rest → Least least all → (bytes ≡ least ++ rest) ⊎ (length (least ++ rest) < length bytes)
 nothing_or_longer bytes rest least all (inl e) (inl same) = inl (e ∙ ap (λ (x : List ℕ). x ++ rest) same)

@@ -13,9 +13,9 @@ use Rattle.lw_reg.specs.declared.path.Path.{Path}
 use Rattle.lw_reg.specs.Binding.{binding_text}
 use Rattle.lw_reg.specs.Path.{path_numbers}
 use Rattle.lw_delta.specs.Part.{Part, Found, byte, bytes_of, means, must, followed, when, tag, optional, Walks, repeated}
-use Rattle.lw_delta.specs.Format.{number16, number32, number48, stamp, written, base, v4, v6, host, address, moment, binding, text, sms_number, objects, path_number, numbers, path, attribute_name, attribute_value, attribute, attributes, endpoint}
-use Rattle.lw_delta.specs.Values.{base_in, list_or_none}
-use Rattle.lw_delta.specs.Writing.{number16_bytes, number32_bytes, number48_bytes, optional_bytes, written_bytes, base_byte, addr_bytes, moment_bytes, text_bytes, binding_bytes, objects_bytes, numbers_bytes, path_bytes, repeated_bytes, attribute_bytes, attributes_bytes}
+use Rattle.lw_delta.specs.Format.{number16, number32, number48, stamp, written, base, v4, v6, host, address, moment, binding, text, sms_number, objects, path_number, numbers, path, attribute_name, attribute_value, attribute, attributes, ended, endpoint}
+use Rattle.lw_delta.specs.Values.{base_in, list_or_none, end_from}
+use Rattle.lw_delta.specs.Writing.{number16_bytes, number32_bytes, number48_bytes, optional_bytes, written_bytes, base_byte, addr_bytes, moment_bytes, text_bytes, binding_bytes, objects_bytes, numbers_bytes, path_bytes, repeated_bytes, attribute_bytes, attributes_bytes, ended_bytes}
 use Rattle.lw_delta.proofs.Paths.{numbers_are}
 
 abbrev pub Spells : {A : Type 0} → Part A → (A → List ℕ) → Type 0
@@ -280,6 +280,16 @@ spells_attributes clock true bytes o rest f =
     let all = spells_repeated (attribute clock) (λ a. a.0) attribute_bytes (spells_attribute clock) bytes f.is.0 f.is.1 f.is.2 in
     subst (λ x. bytes ≡ attributes_bytes true (list_or_none x) ++ rest) (sym last.1) (ending (repeated_bytes attribute_bytes f.is.0) all last.0)
 spells_attributes clock false bytes o rest f = f.is.0
+
+-- ---- ends
+-- the end, where the format has one
+pub spells_ended : (clock : ℕ) (flag : Bool) (bytes : List ℕ) (o : Option (Option Stamp)) (rest : List ℕ) → Found (when flag (ended clock)) bytes o rest → bytes ≡ ended_bytes flag (end_from o) ++ rest
+unfolding followed means
+spells_ended clock true bytes o rest f =
+    let last = f.is.3.is in
+    let said = spells_optional (stamp clock) stamp_bytes (spells_stamp clock) bytes f.is.0 f.is.1 f.is.2 in
+    subst (λ x. bytes ≡ ended_bytes true (end_from x) ++ rest) (sym last.1) (ending (optional_bytes stamp_bytes f.is.0) said last.0)
+spells_ended clock false bytes o rest f = f.is.0
 
 -- ---- paths
 numbers_push : (ns : List ℕ) (n : ℕ) → numbers_bytes ns ++ number16_bytes n ≡ numbers_bytes (ns ++ n ∷ [])

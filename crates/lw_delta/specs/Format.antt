@@ -23,10 +23,10 @@ use Rattle.lw_reg.specs.Orders.{path_cmp}
 use Rattle.lw_reg.specs.Path.{path_numbers}
 use Rattle.lw_delta.specs.declared.form.Form.{Form}
 use Rattle.lw_delta.specs.declared.fault.DeltaFault.TheVariants.{Magic, Order, Range, Text, ClockBelow}
-use Rattle.lw_delta.specs.Form.{magic_of, has_attributes}
+use Rattle.lw_delta.specs.Form.{magic_of, has_attributes, has_end}
 use Rattle.lw_delta.specs.Order.{IsAbove}
 use Rattle.lw_delta.specs.Part.{Part, byte, bytes_of, means, gives, must, followed, when, optional, repeated}
-use Rattle.lw_delta.specs.Values.{is_set, base_in, FieldContent, Behind, slot_from, list_or_none, watching_from}
+use Rattle.lw_delta.specs.Values.{is_set, base_in, FieldContent, Behind, slot_from, list_or_none, end_from, watching_from}
 
 -- ---- numbers
 abbrev pub number16 : Part ℕ
@@ -105,6 +105,11 @@ attribute clock after = followed (attribute_name after) (λ name. followed (writ
 abbrev pub attributes : ℕ → Part (List (List ℕ × Last (List ℕ)))
 attributes clock = repeated (attribute clock) (λ a. a.0) None
 
+-- ---- ends
+-- the stamp up to which what was seen of the registration is over, where it is
+abbrev pub ended : ℕ → Part (Option Stamp)
+ended clock = optional (stamp clock)
+
 -- ---- watches
 abbrev pub path_number : Part ℕ
 path_number = followed number16 (λ number. must (number ≤ 65534) Range (gives number))
@@ -130,8 +135,8 @@ watches clock = repeated (watch clock) (λ w. w.0) None
 
 -- what stands behind the fields of a slot, by the format
 abbrev pub behind : Form → ℕ → Part Behind
-behind form clock = followed (when (has_attributes form) (attributes clock)) (λ es. followed (watches clock) (λ ws.
-    gives (record { attributes = list_or_none es; watches = ws })))
+behind form clock = followed (when (has_attributes form) (attributes clock)) (λ es. followed (when (has_end form) (ended clock)) (λ said.
+    followed (watches clock) (λ ws. gives (record { attributes = list_or_none es; ended = end_from said; watches = ws }))))
 
 -- ---- slots
 -- 1 to 252 bytes of UTF-8, above the endpoint before

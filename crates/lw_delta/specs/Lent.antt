@@ -7,7 +7,7 @@ use Rattle.lw_delta.specs.declared.checking.Walked.{Walked}
 use Rattle.lw_delta.specs.declared.form.Form.{Form}
 use Rattle.lw_delta.specs.declared.slots.LentSlot.{LentSlot}
 use Rattle.lw_delta.specs.Part.{Found, optional}
-use Rattle.lw_delta.specs.Format.{header, behind, slot, slots}
+use Rattle.lw_delta.specs.Format.{header, watches, behind, slot, slots}
 use Rattle.lw_delta.specs.Values.{Behind, slot_from}
 
 -- the slot and its endpoint, with this behind its fields
@@ -19,11 +19,15 @@ pub record BehindAt (form : Form) (clock : ℕ) (bytes : List ℕ) (lent : LentB
   pub more : Behind
   pub found : Found (behind form clock) bytes more rest
   pub here : lent.bytes.now ≡ bytes
+  pub ended : lent.ended ≡ more.ended
+  pub watches : Found (watches clock) lent.watches.now more.watches rest
 
 -- this stands where it is told
 pub record Told (form : Form) (clock : ℕ) (lent : LentBehind) (more : Behind) : Type 0 where
   pub rest : List ℕ
   pub found : Found (behind form clock) lent.bytes.now more rest
+  pub ended : lent.ended ≡ more.ended
+  pub watches : Found (watches clock) lent.watches.now more.watches rest
 
 -- the endpoint is one, and this stands behind the fields of the slot
 pub record Holds (form : Form) (clock : ℕ) (lent : LentSlot) (more : Behind) : Type 0 where

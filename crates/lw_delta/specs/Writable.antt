@@ -12,7 +12,7 @@ use Rattle.lw_reg.specs.Addr.{IsAddr}
 use Rattle.lw_reg.specs.declared.path.Path.{Path}
 use Rattle.lw_reg.specs.declared.slot.Slot.{Slot}
 use Rattle.lw_reg.specs.Body.{Watching}
-use Rattle.lw_reg.specs.Reading.{stamp_of, address_of, seen_of, lifetime_of, binding_of, sms_of, objects_of, attributes_of, watches_of}
+use Rattle.lw_reg.specs.Reading.{stamp_of, address_of, seen_of, lifetime_of, binding_of, sms_of, objects_of, attributes_of, ended_of, watches_of}
 use Rattle.lw_delta.specs.Order.{IsAbove}
 use Rattle.lw_delta.specs.Part.{last_key}
 use Rattle.lw_delta.specs.Values.{Behind, behind_of}
@@ -34,6 +34,7 @@ pub record StampsWithin (clock : ℕ) (slot : Slot) : Type 0 where
   pub sms : IfSome (sms_of slot) (λ w. w.0.counter ≤ clock)
   pub objects : IfSome (objects_of slot) (λ w. w.0.counter ≤ clock)
   pub attributes : AttributesWithin clock (attributes_of slot)
+  pub ended : IfSome (ended_of slot) (λ s. s.counter ≤ clock)
   pub watches : TokensWithin clock (watches_of slot)
 
 -- a slot that may stand behind an endpoint: its own has 1 to 252 bytes and is above

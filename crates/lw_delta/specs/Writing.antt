@@ -23,7 +23,7 @@ use Rattle.lw_reg.specs.Body.{Watching}
 use Rattle.lw_reg.specs.Path.{path_numbers}
 use Rattle.lw_reg.specs.Reading.{stamp_of, base_of, address_of, seen_of, lifetime_of, binding_of, sms_of, objects_of}
 use Rattle.lw_delta.specs.declared.form.Form.{Form}
-use Rattle.lw_delta.specs.Form.{magic_of, has_attributes, latest}
+use Rattle.lw_delta.specs.Form.{magic_of, has_attributes, has_end, latest}
 use Rattle.lw_delta.specs.Values.{Behind, behind_of}
 
 -- the bytes begin with these
@@ -114,9 +114,14 @@ abbrev pub attributes_bytes : Bool → List (List ℕ × Last (List ℕ)) → Li
 attributes_bytes true attributes = repeated_bytes attribute_bytes attributes
 attributes_bytes false attributes = []
 
+-- nothing, where the format has no end
+abbrev pub ended_bytes : Bool → Option Stamp → List ℕ
+ended_bytes true ended = optional_bytes stamp_bytes ended
+ended_bytes false ended = []
+
 -- what stands behind the fields of a slot
 abbrev pub behind_bytes : Form → Behind → List ℕ
-behind_bytes form more = attributes_bytes (has_attributes form) more.attributes ++ watches_bytes more.watches
+behind_bytes form more = attributes_bytes (has_attributes form) more.attributes ++ (ended_bytes (has_end form) more.ended ++ watches_bytes more.watches)
 
 abbrev pub flag_if : ℕ → Bool → ℕ
 flag_if flag set = if set then flag else 0

@@ -8,8 +8,8 @@ use thiserror::Error;
 /// Why bytes were not read as a delta.
 #[derive(Clone, Copy, Debug, PartialEq, Eq, Error)]
 pub enum DeltaFault {
-    /// The first four bytes are neither `LWD1` nor `LWD2`.
-    #[error("the delta begins with neither LWD1 nor LWD2")]
+    /// The first four bytes are none of `LWD1`, `LWD2` and `LWD3`.
+    #[error("the delta begins with none of LWD1, LWD2 and LWD3")]
     Magic,
     /// The bytes end before a part does.
     #[error("the delta ends before one of its parts does")]

@@ -2,20 +2,21 @@
 
 ghost use Rattle.std.specs.Prelude.{◌≡◌, Option, IfSome, Some};
 ghost use Rattle.lw_delta.specs.declared.form.Form.{Form as Forms};
-ghost use Rattle.lw_delta.specs.Form.{magic_of, has_attributes, latest};
+ghost use Rattle.lw_delta.specs.Form.{magic_of, has_attributes, has_end, latest};
 
 /// A format of a delta, by its first four bytes.
 #[derive(Clone, Copy)]
 pub(crate) enum Form {
     First,
     Second,
+    Third,
 }
 
 /// The format that is written.
 pub(crate) fn latest() -> Form
     ensures { result ≡ latest }
 {
-    Form::Second
+    Form::Third
 }
 
 /// The four bytes that a format begins with.
@@ -25,6 +26,7 @@ pub(crate) fn magic(form: Form) -> [u8; 4]
     match form {
         Form::First => *b"LWD1",
         Form::Second => *b"LWD2",
+        Form::Third => *b"LWD3",
     }
 }
 
@@ -36,6 +38,7 @@ pub(crate) fn form_of(magic: &[u8]) -> Option<Form>
     match magic {
         b"LWD1" => Some(Form::First),
         b"LWD2" => Some(Form::Second),
+        b"LWD3" => Some(Form::Third),
         _ => None,
     }
 }
@@ -46,6 +49,16 @@ pub(crate) fn has_attributes(form: Form) -> bool
 {
     match form {
         Form::First => false,
-        Form::Second => true,
+        Form::Second | Form::Third => true,
+    }
+}
+
+/// Whether a slot of that format tells up to which stamp what was seen of it is over.
+pub(crate) fn has_end(form: Form) -> bool
+    ensures { result ≡ has_end form }
+{
+    match form {
+        Form::First | Form::Second => false,
+        Form::Third => true,
     }
 }

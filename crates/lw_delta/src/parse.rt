@@ -2,7 +2,7 @@
 
 ghost use Rattle.std.specs.Prelude.{ℕ, IsTrue, IfOk, IfErr};
 ghost use Rattle.lw_delta.specs.Part.{Part, Found, Fails, IsFound, when, optional};
-ghost use Rattle.lw_delta.specs.Format.{written};
+ghost use Rattle.lw_delta.specs.Format.{stamp as stamp_part, written};
 
 use crate::DeltaFault;
 use crate::numbers::{stamp, tag};
@@ -49,6 +49,14 @@ impl<'a, T: Parse<'a>> Parse<'a> for Option<T> {
     ) -> Result<(Option<T>, &'a [u8]), DeltaFault> {
         let (present, rest) = tag(bytes)?;
         parse_if(present, clock, again, rest)
+    }
+}
+
+impl<'a> Parse<'a> for Stamp {
+    ghost part = { stamp_part };
+
+    fn parse(clock: u64, _again: bool, bytes: &'a [u8]) -> Result<(Stamp, &'a [u8]), DeltaFault> {
+        stamp(clock, bytes)
     }
 }
 

@@ -77,14 +77,14 @@ fn attribute(alloc: Global, lent: LentAttribute) -> Result<(Text, Last<Text>), N
     Ok((name, last))
 }
 
-/// So many attributes, which were walked before. What stands behind them is left.
+/// So many attributes, which were walked before.
 fn attribute_entries(
     alloc: Global,
     clock: u64,
     count: usize,
     bytes: &[u8],
-) -> Result<(Vec<(Text, Last<Text>)>, &[u8]), DeltaFault>
-    ensures found { IfOk result (λ x. Found (attributes_part clock) bytes.now x.0.items x.1.now) }
+) -> Result<Vec<(Text, Last<Text>)>, DeltaFault>
+    ensures found { IfOk result (λ es. (rest : List ℕ) × Found (attributes_part clock) bytes.now es.items rest) }
     ensures fault { IfErr result (λ fault. (fault ≡ DeltaFault.NoMemory) ⊎ Fails (attributes_part clock) bytes.now fault) }
 {
     let mut entries = Vec::with_capacity(alloc, count)?;
@@ -94,7 +94,7 @@ fn attribute_entries(
         let (next, behind) = next_attribute(clock, after, rest)?;
         rest = behind;
         let Some(lent) = next else {
-            return Ok((entries, rest));
+            return Ok(entries);
         };
         after = Some(lent.name());
         let entry = attribute(alloc, lent)?;
@@ -109,19 +109,19 @@ fn attributes(
     clock: u64,
     count: usize,
     bytes: &[u8],
-) -> Result<(Parts<Text, Last<Text>>, &[u8]), DeltaFault>
+) -> Result<Parts<Text, Last<Text>>, DeltaFault>
     requires { (es : Option (List (List ℕ × Lasts (List ℕ)))) × (rest : List ℕ) × Found (when present (attributes_part clock)) bytes.now es rest }
-    ensures value { (es : Option (List (List ℕ × Lasts (List ℕ)))) (rest : List ℕ) → Found (when present (attributes_part clock)) bytes.now es rest → IfOk result (λ x. (x.0 ≡ made (list_or_none es)) × (x.1.now ≡ rest)) }
+    ensures value { (es : Option (List (List ℕ × Lasts (List ℕ)))) (rest : List ℕ) → Found (when present (attributes_part clock)) bytes.now es rest → IfOk result (λ parts. parts ≡ made (list_or_none es)) }
     ensures fault { IfErr result (λ fault. fault ≡ DeltaFault.NoMemory) }
 {
     if !present {
-        return Ok((Parts::new(alloc), bytes));
+        return Ok(Parts::new(alloc));
     }
-    let (entries, rest) = attribute_entries(alloc, clock, count, bytes)?;
+    let entries = attribute_entries(alloc, clock, count, bytes)?;
     let Some(parts) = Parts::from_entries(entries) else {
         unreachable!()
     };
-    Ok((parts, rest))
+    Ok(parts)
 }
 
 /// So many watches, which were walked before.
@@ -166,8 +166,8 @@ fn parts(
     Ok(parts)
 }
 
-/// What stands behind the fields, which was walked before.
-fn behind(
+/// The attributes and watches that stand behind the fields, which were walked before.
+fn maps(
     alloc: Global,
     form: Form,
     clock: u64,
@@ -178,8 +178,8 @@ fn behind(
     ensures fault { IfErr result (λ fault. fault ≡ DeltaFault.NoMemory) }
 {
     let present = has_attributes(form);
-    let (attributes, rest) = attributes(alloc, present, clock, lent.attribute_count, lent.bytes)?;
-    let watches = parts(alloc, clock, lent.watch_count, rest)?;
+    let attributes = attributes(alloc, present, clock, lent.attribute_count, lent.bytes)?;
+    let watches = parts(alloc, clock, lent.watch_count, lent.watches)?;
     Ok(Both {
         left: attributes,
         right: watches,
@@ -189,9 +189,10 @@ fn behind(
 fn fields(
     alloc: Global,
     lent: LentFields,
+    ended: Option<Stamp>,
     maps: Both<Text, Last<Text>, Path, Watching>,
 ) -> Result<Fields, NoMemory>
-    ensures { (more : Behinds) → maps ≡ maps_of (made more.attributes) (made more.watches) → IfOk result (λ fields. fields ≡ all_fields lent.entry more) }
+    ensures { (more : Behinds) → ended ≡ more.ended → maps ≡ maps_of (made more.attributes) (made more.watches) → IfOk result (λ fields. fields ≡ all_fields lent.entry more) }
 {
     let writes = FieldWrites {
         base: lent.base,
@@ -205,6 +206,7 @@ fn fields(
     Ok(Fields {
         writes,
         attributes: maps.left,
+        ended,
         watches: maps.right,
     })
 }
@@ -223,8 +225,9 @@ fn kept_fields(
     if lent.removed {
         return Ok(None);
     }
-    let maps = behind(alloc, form, clock, lent.behind)?;
-    let fields = fields(alloc, lent.fields, maps)?;
+    let ended = lent.behind.ended;
+    let maps = maps(alloc, form, clock, lent.behind)?;
+    let fields = fields(alloc, lent.fields, ended, maps)?;
     Ok(Some(fields))
 }
 

@@ -278,6 +278,7 @@ fn put_behind(out: &mut Vec<u8>, slot: &Slot) -> Result<(), NoMemory>
     ensures kept { Begins out.old.items out.new.items }
 {
     put_all(out, slot.attributes())?;
+    slot.ended().put(out)?;
     put_all(out, slot.watches())
 }
 

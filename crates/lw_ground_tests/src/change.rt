@@ -62,6 +62,8 @@ pub(crate) enum Act<'a> {
     Observe(&'a [u16], Option<u16>),
     /// A path, and the token.
     Cancel(&'a [u16], Mark),
+    /// Up to which stamp what was seen is over.
+    Expire(Mark),
 }
 
 /// The stamp of an operation, that of its registration, and what it does.
@@ -139,6 +141,7 @@ fn what(alloc: Global, act: Act<'_>) -> Result<What, Fail> {
             path: path(numbers)?,
             token: token.stamp(),
         }),
+        Act::Expire(upto) => Ok(What::Expire { upto: upto.stamp() }),
     }
 }
 

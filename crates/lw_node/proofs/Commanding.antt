@@ -54,6 +54,9 @@ module _ (now : ℕ) (id : Stamp) (path : Path) (accept : Option ℕ) (mid : ℕ
   pub observe_none : (node : NodeContent) → FoundById None node → Observed node (Err faults.NotFound)
   observe_none node found known is = (None, found known is, refl)
 
+  pub observe_end : (node : NodeContent) (r : Registration) → FoundById (Some r) node → node.clock ≡ 2 ^ 48 - 1 → Observed node (Err faults.ClockEnd)
+  observe_end node r found end known is = (Some r, found known is, inl (end, refl))
+
   pub observe_some : (node : NodeContent) (r : Registration) → FoundById (Some r) node → (stamp : Stamp) → stamp.counter ≡ node.clock + 1 → stamp.node ≡ node.number → (c : CommandContent) → c.operation ≡ op_on stamp r (Observe path accept) → IsSent c.outgoing (observes mid path accept r c.operation) → Observed node (Ok c)
   observe_some node r found stamp counter number c e sent known is = record {
     request = observes mid path accept r c.operation;

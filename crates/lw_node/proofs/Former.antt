@@ -15,7 +15,7 @@ use Rattle.lw_join.specs.JoinLaws.{semilattice}
 use Rattle.lw_reg.specs.declared.base.Base.{Base}
 use Rattle.lw_reg.specs.declared.op.Op.{Op}
 use Rattle.lw_reg.specs.declared.op.What.{What}
-use Rattle.lw_reg.specs.declared.op.What.TheVariants.{Register, Update, Remove, Observe, Cancel}
+use Rattle.lw_reg.specs.declared.op.What.TheVariants.{Register, Update, Remove, Observe, Cancel, Expire}
 use Rattle.lw_reg.specs.declared.path.Path.{Path}
 use Rattle.lw_reg.specs.declared.settings.GivenSettings.{GivenSettings}
 use Rattle.lw_reg.specs.declared.slot.Slot.{Slot}
@@ -97,6 +97,7 @@ based_by s (Update address seen settings) base h =
 based_by s Remove base h = absurd (let bad = any_there is_base (Named ∷ traces_of s Remove) (Based base) h refl in cc)
 based_by s (Observe path accept) base h = absurd (let bad = any_there is_base (Named ∷ traces_of s (Observe path accept)) (Based base) h refl in cc)
 based_by s (Cancel path token) base h = absurd (let bad = any_there is_base (Named ∷ traces_of s (Cancel path token)) (Based base) h refl in cc)
+based_by s (Expire upto) base h = absurd (let bad = any_there is_base (Named ∷ traces_of s (Expire upto)) (Based base) h refl in cc)
 
 abbrev token_of : Stamp → Trace → Stamp
 token_of s (Watched path token accept) = token
@@ -118,6 +119,7 @@ watched_by s (Update address seen settings) path token accept h =
     let bad : true ≡ false = sym yes ∙ no in cc)
 watched_by s Remove path token accept h = absurd (let bad = any_there is_watch (Named ∷ traces_of s Remove) (Watched path token accept) h refl in cc)
 watched_by s (Cancel p t) path token accept h = absurd (let bad = any_there is_watch (Named ∷ traces_of s (Cancel p t)) (Watched path token accept) h refl in cc)
+watched_by s (Expire upto) path token accept h = absurd (let bad = any_there is_watch (Named ∷ traces_of s (Expire upto)) (Watched path token accept) h refl in cc)
 watched_by s (Observe p a) path token accept h = go (there_or_first Named (Watched p s a ∷ []) (Watched path token accept) h)
   where
     go : (Watched path token accept ≡ Named) ⊎ Contains (Watched p s a ∷ []) (Watched path token accept) → IsWatching s (Observe p a) token

@@ -34,6 +34,7 @@ all_token clock now source version queue settings (whats.Update address seen s) 
 all_token clock now source version queue settings whats.Remove h = tt
 all_token clock now source version queue settings (whats.Observe path accept) h = tt
 all_token clock now source version queue settings (whats.Cancel path token) h = absurd h
+all_token clock now source version queue settings (whats.Expire upto) h = absurd h
 
 given_token : (clock now : ℕ) (source : Addr) (settings : GivenSettings) (what : What) → WritesGiven now source settings what → TokenWithin clock what
 given_token clock now source settings (whats.Register v q address seen s) h = tt
@@ -41,6 +42,7 @@ given_token clock now source settings (whats.Update address seen s) h = tt
 given_token clock now source settings whats.Remove h = tt
 given_token clock now source settings (whats.Observe path accept) h = tt
 given_token clock now source settings (whats.Cancel path token) h = absurd h
+given_token clock now source settings (whats.Expire upto) h = absurd h
 
 same_operation : (a b : Request) (o p : Op) → ◌≡◌ {A = Result (Request × Op) Refused} (Ok (a, o)) (Ok (b, p)) → p ≡ o
 same_operation a b o p e = ap of (sym e)

@@ -3,9 +3,9 @@ use Rattle.std.proofs.Common.{◌≡◌, inl, ℕ, zero, suc, ◌+◌, ◌*◌, 
 use Rattle.std.proofs.lemmas.Bool.Decides.{nat_tests}
 use Rattle.std.specs.Cmp.{nat_cmp_is, tied_itself}
 use Rattle.std.specs.FinMap.{get}
-use Rattle.std.specs.Ordering.{nat_cmp, ordering_then, match_ordering}
+use Rattle.std.specs.Ordering.{nat_cmp, ordering_then, match_ordering, is_gt}
 use Rattle.std.specs.declared.cmp.Ordering.{Ordering}
-use Rattle.std.specs.declared.cmp.Ordering.TheVariants.{Less}
+use Rattle.std.specs.declared.cmp.Ordering.TheVariants.{Less, Greater}
 use Rattle.lw_stamp.specs.declared.moment.Moment.{Moment}
 use Rattle.lw_stamp.specs.declared.stamp.Stamp.{Stamp}
 use Rattle.lw_stamp.specs.Moment.{ms_of}
@@ -14,6 +14,7 @@ use Rattle.lw_stamp.specs.TextOrder.{text_cmp}
 use Rattle.lw_stamp.proofs.StampLemmas.{stamp_order}
 use Rattle.lw_join.specs.Greater.{greater}
 use Rattle.lw_join.specs.Entries.{Rises, get as entry_of}
+use Rattle.lw_join.specs.EntriesLaws.{join_none}
 use Rattle.lw_join.specs.Lww.{write_cmp}
 use Rattle.lw_join.specs.Maps.{one_key}
 use Rattle.lw_join.specs.Options.{option_join}
@@ -29,15 +30,15 @@ use Rattle.lw_reg.specs.declared.body.Body.{Body}
 use Rattle.lw_reg.specs.declared.op.Op.{Op}
 use Rattle.lw_reg.specs.declared.op.What.{What}
 use Rattle.lw_reg.specs.declared.settings.GivenSettings.{GivenSettings}
-use Rattle.lw_reg.specs.declared.op.What.TheVariants.{Register, Update, Remove, Observe, Cancel}
+use Rattle.lw_reg.specs.declared.op.What.TheVariants.{Register, Update, Remove, Observe, Cancel, Expire}
 use Rattle.lw_reg.specs.declared.slot.Slot.{Slot}
 use Rattle.lw_reg.specs.Attribute.{values_of}
 use Rattle.lw_reg.specs.Body.{body_join, no_watches, maps_of}
 use Rattle.lw_reg.specs.Marks.{Trace, Marks, Has, marks_of}
-use Rattle.lw_reg.specs.Marks.Trace.{Named, Based, AddressAt, SeenAt, LifetimeAt, BindingAt, SmsAt, ObjectsAt, AttributeAt}
+use Rattle.lw_reg.specs.Marks.Trace.{Named, Based, AddressAt, SeenAt, LifetimeAt, BindingAt, SmsAt, ObjectsAt, AttributeAt, EndedAt}
 use Rattle.lw_reg.specs.OrderLaws.{text_order}
 use Rattle.lw_reg.specs.Orders.{addr_cmp, base_cmp, binding_cmp, moment_cmp, sms_cmp}
-use Rattle.lw_reg.specs.Reading.{Shows, shown_in, shown_by_option, stamp_of, registration_of, registered_in, in_time, timely}
+use Rattle.lw_reg.specs.Reading.{Shows, shown_in, shown_by_option, stamp_of, registration_of, registered_in, lasting, in_time, timely}
 use Rattle.lw_reg.specs.Registration.{Registration}
 use Rattle.lw_reg.specs.Showing.{IsBase, ShownOf, queue_of}
 use Rattle.lw_reg.specs.Slot.{slot_join, slot_at, slot_of, told_of, write_of, writes_of, some_text}
@@ -57,6 +58,24 @@ some_is v w e = cc
 -- ---- what is newer
 counter_less : (a b : Stamp) → a.counter < b.counter → stamp_cmp a b ≡ Less
 counter_less a b h = ap (λ o. ordering_then o (nat_cmp a.node b.node)) (sym (nat_cmp_is a.counter b.counter Less h))
+
+counter_more : (a b : Stamp) → b.counter < a.counter → stamp_cmp a b ≡ Greater
+counter_more a b h = ap (λ o. ordering_then o (nat_cmp a.node b.node)) (sym (nat_cmp_is a.counter b.counter Greater h))
+
+-- what lasts was seen
+lasting_seen : (o : Option Stamp) (s : Option (Stamp × Moment)) (w : Stamp × Moment) → lasting o s ≡ Some w → s ≡ Some w
+lasting_seen None s w h = h
+lasting_seen (Some upto) None w h = absurd cc
+lasting_seen (Some upto) (Some v) w h = go (is_gt (stamp_cmp v.0 upto)) h
+  where
+    go : (b : Bool) → cond b (Some v) None ≡ Some w → Some v ≡ Some w
+    go true k = k
+    go false k = absurd cc
+
+-- what is seen later than it was over lasts
+later_lasts : (o : Option Stamp) (w : Stamp × Moment) → ((upto : Stamp) → o ≡ Some upto → stamp_cmp w.0 upto ≡ Greater) → lasting o (Some w) ≡ Some w
+later_lasts None w later = refl
+later_lasts (Some upto) w later = ap (λ r. cond (is_gt r) (Some w) None) (later upto refl)
 
 -- the slot of a later registration wins whole
 slot_later : (slot : Slot) (r : Stamp) (x : OrGone Body) → stamp_cmp (stamp_of slot) r ≡ Less → slot_join slot (slot_at r x) ≡ slot_at r x
@@ -113,6 +132,7 @@ registers e id s (Update address seen settings) r rise h = absurd cc
 registers e id s Remove r rise h = absurd cc
 registers e id s (Observe path accept) r rise h = absurd cc
 registers e id s (Cancel path token) r rise h = absurd cc
+registers e id s (Expire upto) r rise h = absurd cc
 
 pub registers_read_back : RegistersReadBack
 registers_read_back old new op f rise own r h =
@@ -147,7 +167,7 @@ pub record IsWhole (e : List ℕ) (r : Stamp) (b : Body) (v : Registration) : Ty
   pub shown : registration_of e r (Some base) (Some address) (Some seen) (Some lifetime) (Some binding) (Some sms) (Some objects) (values_of (entries_of b.maps.left)) ≡ Some v
 
 whole : (e : List ℕ) (r : Stamp) (b : Body) (v : Registration) (ob : Option Base) (oa : Option (Stamp × Addr)) (os : Option (Stamp × Moment)) (ol : Option (Stamp × ℕ)) (oi : Option (Stamp × Binding)) (om : Option (Stamp × Option (List ℕ))) (oo : Option (Stamp × List ℕ))
-    → b.base.value ≡ ob → b.address.write ≡ oa → b.seen.write ≡ os → b.lifetime.write ≡ ol → b.binding.write ≡ oi → b.sms.write ≡ om → b.objects.write ≡ oo
+    → b.base.value ≡ ob → b.address.write ≡ oa → lasting b.ended.value b.seen.write ≡ os → b.lifetime.write ≡ ol → b.binding.write ≡ oi → b.sms.write ≡ om → b.objects.write ≡ oo
     → registration_of e r ob oa os ol oi om oo (values_of (entries_of b.maps.left)) ≡ Some v → IsWhole e r b v
 whole e r b v (Some base) (Some address) (Some seen) (Some lifetime) (Some binding) (Some sms) (Some objects) hb ha hs hl hi hm ho h = record {
   base = base;
@@ -159,7 +179,7 @@ whole e r b v (Some base) (Some address) (Some seen) (Some lifetime) (Some bindi
   objects = objects;
   base_is = hb;
   address_is = ha;
-  seen_is = hs;
+  seen_is = lasting_seen b.ended.value b.seen.write seen hs;
   lifetime_is = hl;
   binding_is = hi;
   sms_is = hm;
@@ -191,7 +211,7 @@ has_body e slot v = go slot.registration.stamp slot.registration.value
     go : (r : Stamp) (x : OrGone Body) → registered_in e (slot_at r x) ≡ Some v → HasBody e (slot_at r x) v
     go r Gone h = absurd cc
     go r (Here b) h =
-        let w = whole e r b v b.base.value b.address.write b.seen.write b.lifetime.write b.binding.write b.sms.write b.objects.write refl refl refl refl refl refl refl h in
+        let w = whole e r b v b.base.value b.address.write (lasting b.ended.value b.seen.write) b.lifetime.write b.binding.write b.sms.write b.objects.write refl refl refl refl refl refl refl h in
         let same = id_is r b w in
         record { body = b; is = ap (λ t. slot_at t (Here b)) same; whole_is = subst (λ t. IsWhole e t b v) same w }
 
@@ -219,10 +239,11 @@ updated_body b t address seen given = body_join b (record {
   binding = record { write = write_of t given.binding };
   sms = record { write = write_of t (some_text given.sms) };
   objects = record { write = write_of t given.objects };
+  ended = record { value = None };
   maps = maps_of (writes_of t given.attributes) no_watches;
 })
 
--- each field of the body was written before
+-- each field of the body was written before, and it was over before
 record IsBefore (t : Stamp) {e : List ℕ} {r : Stamp} {b : Body} {v : Registration} (w : IsWhole e r b v) : Type 0 where
   address : stamp_cmp w.address.0 t ≡ Less
   seen : stamp_cmp w.seen.0 t ≡ Less
@@ -230,6 +251,7 @@ record IsBefore (t : Stamp) {e : List ℕ} {r : Stamp} {b : Body} {v : Registrat
   binding : stamp_cmp w.binding.0 t ≡ Less
   sms : stamp_cmp w.sms.0 t ≡ Less
   objects : stamp_cmp w.objects.0 t ≡ Less
+  ended : (upto : Stamp) → b.ended.value ≡ Some upto → stamp_cmp t upto ≡ Greater
   attributes : AreOlder b.maps.left t
 
 record Updated (M : Marks) (e : List ℕ) (before : Registration) (c : Body) (address : Addr) (seen : Moment) (given : GivenSettings) : Type 0 where
@@ -242,7 +264,8 @@ updates : (M : Marks) (e : List ℕ) (before : Registration) (b : Body) (w : IsW
 updates M e before b w t address seen given stood rise older =
     let hb = ap (λ o. option_join (greater base_cmp) o None) w.base_is in
     let ha = field_after addr_cmp b.address.write w.address t (Some address) w.address_is older.address in
-    let hs = field_after moment_cmp b.seen.write w.seen t (Some seen) w.seen_is older.seen in
+    let over : Option Stamp = option_join (greater stamp_cmp) b.ended.value None in
+    let hs = ap (lasting over) (field_after moment_cmp b.seen.write w.seen t (Some seen) w.seen_is older.seen) ∙ later_lasts over (t, seen) (λ upto is. older.ended upto (sym (join_none (greater stamp_cmp) b.ended.value) ∙ is)) in
     let hl = field_after nat_cmp b.lifetime.write w.lifetime t given.lifetime w.lifetime_is older.lifetime in
     let hi = field_after binding_cmp b.binding.write w.binding t given.binding w.binding_is older.binding in
     let hm = field_after sms_cmp b.sms.write w.sms t (some_text given.sms) w.sms_is older.sms in
@@ -306,14 +329,18 @@ older_than clock s fits op next before b h w = record {
   binding = less (BindingAt w.binding.0 w.binding.1) w.binding.0 w.binding_is (λ m. m.1);
   sms = less (SmsAt w.sms.0 w.sms.1) w.sms.0 w.sms_is (λ m. m.1);
   objects = less (ObjectsAt w.objects.0 w.objects.1) w.objects.0 w.objects_is (λ m. m.1);
+  ended = λ upto there. counter_more op.stamp upto (below (EndedAt upto) upto there (λ m. m.1));
   attributes = λ name last there. less (AttributeAt name last.write.0 last.write.1) last.write.0 there (λ m. m.1);
 }
   where
-    less : (k : Trace) (t : Stamp) → Shows (Here b) k → (MarkWithin clock (record { endpoint = op.endpoint; registration = before.id; trace = k }) → t.counter ≤ clock) → stamp_cmp t op.stamp ≡ Less
-    less k t shows within =
+    below : (k : Trace) (t : Stamp) → Shows (Here b) k → (MarkWithin clock (record { endpoint = op.endpoint; registration = before.id; trace = k }) → t.counter ≤ clock) → t.counter < op.stamp.counter
+    below k t shows within =
         let most : t.counter ≤ clock = within (slot_within clock s fits op.endpoint (slot_at before.id (Here b)) h k shows) in
         let after : op.stamp.counter ≡ clock + 1 = next in
-        counter_less t op.stamp (omega arith)
+        omega arith
+
+    less : (k : Trace) (t : Stamp) → Shows (Here b) k → (MarkWithin clock (record { endpoint = op.endpoint; registration = before.id; trace = k }) → t.counter ≤ clock) → stamp_cmp t op.stamp ≡ Less
+    less k t shows within = counter_less t op.stamp (below k t shows within)
 
 pub updates_read_back : UpdatesReadBack
 updates_read_back old new op f rise now before s here own address seen given what =

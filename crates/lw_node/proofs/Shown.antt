@@ -22,7 +22,7 @@ use Rattle.lw_reg.specs.declared.path.Path.{Path}
 use Rattle.lw_reg.specs.declared.slot.Slot.{Slot}
 use Rattle.lw_reg.specs.Body.{Watching}
 use Rattle.lw_reg.specs.Marks.{Trace, Mark, NamesAll, among, written, marks_about}
-use Rattle.lw_reg.specs.Marks.Trace.{Named, Based, AddressAt, SeenAt, LifetimeAt, BindingAt, SmsAt, ObjectsAt, AttributeAt, Removed, Watched, Cancelled}
+use Rattle.lw_reg.specs.Marks.Trace.{Named, Based, AddressAt, SeenAt, LifetimeAt, BindingAt, SmsAt, ObjectsAt, AttributeAt, EndedAt, Removed, Watched, Cancelled}
 use Rattle.lw_reg.specs.OrderLaws.{path_order, text_order}
 use Rattle.lw_reg.specs.Orders.{path_cmp}
 use Rattle.lw_reg.specs.Reading.{BodyShows, Shows, stamp_of, shown_by}
@@ -102,8 +102,11 @@ module _ {K J : Type 0} {cmp : K → K → Ordering} (order : IsExactOrder cmp) 
 abbrev from_maps : Body → List Trace
 from_maps b = map write_trace (entries_of b.maps.left) ++ map entry_trace (entries_of b.maps.right)
 
+abbrev from_ended : Body → List Trace
+from_ended b = written EndedAt b.ended.value ++ from_maps b
+
 abbrev from_objects : Body → List Trace
-from_objects b = written (field_trace ObjectsAt) b.objects.write ++ from_maps b
+from_objects b = written (field_trace ObjectsAt) b.objects.write ++ from_ended b
 
 abbrev from_sms : Body → List Trace
 from_sms b = written (field_trace SmsAt) b.sms.write ++ from_objects b
@@ -146,8 +149,11 @@ module _ (b : Body) where
   to_objects : (k : Trace) → Contains (from_objects b) k → Contains (from_base b) k
   to_objects k h = to_sms k (past_written (field_trace SmsAt) b.sms.write (from_objects b) k h)
 
+  to_ended : (k : Trace) → Contains (from_ended b) k → Contains (from_base b) k
+  to_ended k h = to_objects k (past_written (field_trace ObjectsAt) b.objects.write (from_ended b) k h)
+
   to_maps : (k : Trace) → Contains (from_maps b) k → Contains (from_base b) k
-  to_maps k h = to_objects k (past_written (field_trace ObjectsAt) b.objects.write (from_maps b) k h)
+  to_maps k h = to_ended k (past_written EndedAt b.ended.value (from_maps b) k h)
 
   to_writes : (k : Trace) → Contains (map write_trace (entries_of b.maps.left)) k → Contains (from_base b) k
   to_writes k h = to_maps k (Contains-append_left (map write_trace (entries_of b.maps.left)) (map entry_trace (entries_of b.maps.right)) k h)
@@ -163,9 +169,10 @@ module _ (b : Body) where
   body_listed (LifetimeAt s v) h = more_there Named (from_base b) _ (to_lifetime _ (on_written (field_trace LifetimeAt) b.lifetime.write (from_binding b) (s, v) h))
   body_listed (BindingAt s v) h = more_there Named (from_base b) _ (to_binding _ (on_written (field_trace BindingAt) b.binding.write (from_sms b) (s, v) h))
   body_listed (SmsAt s v) h = more_there Named (from_base b) _ (to_sms _ (on_written (field_trace SmsAt) b.sms.write (from_objects b) (s, v) h))
-  body_listed (ObjectsAt s v) h = more_there Named (from_base b) _ (to_objects _ (on_written (field_trace ObjectsAt) b.objects.write (from_maps b) (s, v) h))
+  body_listed (ObjectsAt s v) h = more_there Named (from_base b) _ (to_objects _ (on_written (field_trace ObjectsAt) b.objects.write (from_ended b) (s, v) h))
   body_listed (AttributeAt name s v) h =
       more_there Named (from_base b) _ (to_writes _ (on_entries write_trace (entries_of b.maps.left) (name, record { write = (s, v) }) (entry_there text_order (entries_of b.maps.left) name (record { write = (s, v) }) h)))
+  body_listed (EndedAt s) h = more_there Named (from_base b) _ (to_ended _ (on_written EndedAt b.ended.value (from_maps b) s h))
   body_listed Removed h = absurd h
   body_listed (Watched p t a) h = more_there Named (from_base b) _ (to_watches _ (on_entries entry_trace (entries_of b.maps.right) (p, observed t a) (entry_there path_order (entries_of b.maps.right) p (observed t a) h)))
   body_listed (Cancelled p t) h = more_there Named (from_base b) _ (to_watches _ (on_entries entry_trace (entries_of b.maps.right) (p, cancelled t) (entry_there path_order (entries_of b.maps.right) p (cancelled t) h)))
@@ -191,8 +198,9 @@ module _ (b : Body) where
       (by_written (field_trace LifetimeAt) b.lifetime.write (from_binding b) k (λ w e same. subst (BodyShows b) (sym same) e)
       (by_written (field_trace BindingAt) b.binding.write (from_sms b) k (λ w e same. subst (BodyShows b) (sym same) e)
       (by_written (field_trace SmsAt) b.sms.write (from_objects b) k (λ w e same. subst (BodyShows b) (sym same) e)
-      (by_written (field_trace ObjectsAt) b.objects.write (from_maps b) k (λ w e same. subst (BodyShows b) (sym same) e)
-      (maps_shown k)))))))
+      (by_written (field_trace ObjectsAt) b.objects.write (from_ended b) k (λ w e same. subst (BodyShows b) (sym same) e)
+      (by_written EndedAt b.ended.value (from_maps b) k (λ t e same. subst (BodyShows b) (sym same) e)
+      (maps_shown k))))))))
 
 listed : (x : OrGone Body) (k : Trace) → Shows x k → Contains (traces_in x) k
 listed Gone k (inl e) = first_there Named (Removed ∷ []) k e

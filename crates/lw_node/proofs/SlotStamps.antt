@@ -20,7 +20,7 @@ use Rattle.lw_reg.specs.declared.path.Path.{Path}
 use Rattle.lw_reg.specs.declared.slot.Slot.{Slot}
 use Rattle.lw_reg.specs.Body.{Watching}
 use Rattle.lw_reg.specs.Marks.{Trace, Mark}
-use Rattle.lw_reg.specs.Marks.Trace.{Named, Based, AddressAt, SeenAt, LifetimeAt, BindingAt, SmsAt, ObjectsAt, AttributeAt, Removed, Watched, Cancelled}
+use Rattle.lw_reg.specs.Marks.Trace.{Named, Based, AddressAt, SeenAt, LifetimeAt, BindingAt, SmsAt, ObjectsAt, AttributeAt, EndedAt, Removed, Watched, Cancelled}
 use Rattle.lw_reg.specs.Reading.{BodyShows, Shows, shown_by_option}
 use Rattle.lw_reg.specs.Slot.{slot_at, observed, cancelled}
 use Rattle.lw_reg.specs.State.{State}
@@ -50,6 +50,7 @@ body_within clock r b h (BindingAt s v) shows = write_within clock b.binding.wri
 body_within clock r b h (SmsAt s v) shows = write_within clock b.sms.write s v shows h.sms
 body_within clock r b h (ObjectsAt s v) shows = write_within clock b.objects.write s v shows h.objects
 body_within clock r b h (AttributeAt name s v) shows = each_get text_order (WriteWithin clock) (entries_of b.maps.left) name (record { write = (s, v) }) h.attributes shows
+body_within clock r b h (EndedAt s) shows = subst (λ (o : Option Stamp). IfSome o (λ t. t.counter ≤ clock)) shows h.ended
 body_within clock r b h Removed shows = tt
 body_within clock r b h (Watched p t a) shows = each_get path_order (WatchWithin clock) (entries_of b.maps.right) p (observed t a) h.watches shows
 body_within clock r b h (Cancelled p t) shows = each_get path_order (WatchWithin clock) (entries_of b.maps.right) p (cancelled t) h.watches shows
@@ -86,12 +87,16 @@ module _ (clock : ℕ) (state : State) (fits : FitsClock clock state) (e : List 
   each_write r b field is reads None shows = tt
   each_write r b field is reads (Some w) shows = reads w.0 w.1 (shown_within r (Here b) is (field w.0 w.1) (shows w.0 w.1 refl)).1
 
+  ended_stamp : (r : Stamp) (b : Body) → get state e ≡ Some (slot_at r (Here b)) → (o : Option Stamp) → ((s : Stamp) → o ≡ Some s → BodyShows b (EndedAt s)) → IfSome o (λ s. s.counter ≤ clock)
+  ended_stamp r b is None shows = tt
+  ended_stamp r b is (Some s) shows = (shown_within r (Here b) is (EndedAt s) (shows s refl)).1
+
   token_of : (r : Stamp) (b : Body) → get state e ≡ Some (slot_at r (Here b)) → (p : Path) (t : Stamp) (x : OrGone (Once ℕ)) → entry_of path_cmp (entries_of b.maps.right) p ≡ Some (record { stamp = t; value = x }) → t.counter ≤ clock
   token_of r b is p t Gone there = (shown_within r (Here b) is (Cancelled p t) there).1
   token_of r b is p t (Here a) there = (shown_within r (Here b) is (Watched p t a.value) there).1
 
   told_stamps : (r : Stamp) (x : OrGone Body) → get state e ≡ Some (slot_at r x) → StampsWithin clock (slot_at r x)
-  told_stamps r Gone is = record { registration = (shown_within r Gone is Named (inl refl)).0; address = tt; seen = tt; lifetime = tt; binding = tt; sms = tt; objects = tt; attributes = tt; watches = tt }
+  told_stamps r Gone is = record { registration = (shown_within r Gone is Named (inl refl)).0; address = tt; seen = tt; lifetime = tt; binding = tt; sms = tt; objects = tt; attributes = tt; ended = tt; watches = tt }
   told_stamps r (Here b) is = record {
     registration = (shown_within r (Here b) is Named tt).0;
     address = each_write r b AddressAt is (λ s v h. h) b.address.write (λ s v h. h);
@@ -101,6 +106,7 @@ module _ (clock : ℕ) (state : State) (fits : FitsClock clock state) (e : List 
     sms = each_write r b SmsAt is (λ s v h. h) b.sms.write (λ s v h. h);
     objects = each_write r b ObjectsAt is (λ s v h. h) b.objects.write (λ s v h. h);
     attributes = each_from_get text_order (WriteWithin clock) (entries_of b.maps.left) b.maps.left.rises (λ name w there. (shown_within r (Here b) is (AttributeAt name w.write.0 w.write.1) there).1);
+    ended = ended_stamp r b is b.ended.value (λ s h. h);
     watches = each_from_get path_order (WatchWithin clock) (entries_of b.maps.right) b.maps.right.rises (λ p w there. token_of r b is p w.stamp w.value there);
   }
 

@@ -5,6 +5,7 @@ use Rattle.std.specs.FinMap.{get}
 use Rattle.std.specs.Ordering.{nat_cmp}
 use Rattle.lw_stamp.specs.declared.stamp.Stamp.{Stamp}
 use Rattle.lw_stamp.specs.Order.{IsGreatest}
+use Rattle.lw_stamp.specs.StampOrder.{stamp_cmp}
 use Rattle.lw_stamp.specs.TextOrder.{text_cmp}
 use Rattle.lw_join.specs.Facets.{OptionTells, LastTells, Either}
 use Rattle.lw_join.specs.Lww.{write_cmp}
@@ -13,10 +14,10 @@ use Rattle.lw_join.specs.declared.or_gone.OrGone.TheVariants.{Here, Gone}
 use Rattle.lw_reg.specs.declared.body.Body.{Body}
 use Rattle.lw_reg.specs.declared.op.Op.{Op}
 use Rattle.lw_reg.specs.declared.op.What.{What}
-use Rattle.lw_reg.specs.declared.op.What.TheVariants.{Register, Update, Remove, Observe, Cancel}
+use Rattle.lw_reg.specs.declared.op.What.TheVariants.{Register, Update, Remove, Observe, Cancel, Expire}
 use Rattle.lw_reg.specs.declared.slot.Slot.{Slot}
 use Rattle.lw_reg.specs.Marks.{Trace, Mark, written, attribute_traces, traces_of, marks_about, marks_of}
-use Rattle.lw_reg.specs.Marks.Trace.{Named, Based, AddressAt, SeenAt, LifetimeAt, BindingAt, SmsAt, ObjectsAt, AttributeAt, Removed, Watched, Cancelled}
+use Rattle.lw_reg.specs.Marks.Trace.{Named, Based, AddressAt, SeenAt, LifetimeAt, BindingAt, SmsAt, ObjectsAt, AttributeAt, EndedAt, Removed, Watched, Cancelled}
 use Rattle.lw_reg.specs.Orders.{addr_cmp, base_cmp, binding_cmp, moment_cmp, sms_cmp}
 use Rattle.lw_reg.specs.Reading.{BodyShows, Shows, shown_by_option, shown_in}
 use Rattle.lw_reg.specs.Slot.{observed, cancelled}
@@ -36,6 +37,7 @@ body_trace P b g (BindingAt s v) h = (subst (OptionTells (IsGreatest (write_cmp 
 body_trace P b g (SmsAt s v) h = (subst (OptionTells (IsGreatest (write_cmp sms_cmp)) (λ w. P (SmsAt w.0 w.1))) h g.sms).member
 body_trace P b g (ObjectsAt s v) h = (subst (OptionTells (IsGreatest (write_cmp text_cmp)) (λ w. P (ObjectsAt w.0 w.1))) h g.objects).member
 body_trace P b g (AttributeAt name s v) h = (subst (OptionTells (LastTells text_cmp) (λ w. P (AttributeAt name w.0 w.1))) h (g.attributes name)).member
+body_trace P b g (EndedAt s) h = (subst (OptionTells (IsGreatest stamp_cmp) (λ t. P (EndedAt t))) h g.ended).member
 body_trace P b g Removed h = absurd h
 body_trace P b g (Watched p t a) h =
     let told : WatchTells (λ x. P (sign_trace p x.0 x.1)) (observed t a) = subst (OptionTells WatchTells (λ x. P (sign_trace p x.0 x.1))) h (g.watches p) in
@@ -79,6 +81,7 @@ trace_more c d le (BindingAt s v) h = omega arith
 trace_more c d le (SmsAt s v) h = omega arith
 trace_more c d le (ObjectsAt s v) h = omega arith
 trace_more c d le (AttributeAt name s v) h = omega arith
+trace_more c d le (EndedAt s) h = omega arith
 trace_more c d le Removed h = tt
 trace_more c d le (Watched p t a) h = omega arith
 trace_more c d le (Cancelled p t) h = omega arith
@@ -150,6 +153,7 @@ traces_within c s (Update address seen settings) le token =
 traces_within c s Remove le token = (tt, tt)
 traces_within c s (Observe path accept) le token = (le, tt)
 traces_within c s (Cancel path t) le token = (token, tt)
+traces_within c s (Expire upto) le token = (token, tt)
 
 token_more : (c d : ℕ) → c ≤ d → (w : What) → TokenWithin c w → TokenWithin d w
 token_more c d le (Register version queue address seen settings) h = tt
@@ -157,6 +161,7 @@ token_more c d le (Update address seen settings) h = tt
 token_more c d le Remove h = tt
 token_more c d le (Observe path accept) h = tt
 token_more c d le (Cancel path t) h = omega arith
+token_more c d le (Expire upto) h = omega arith
 
 -- the next clock fits the state of the next operation's marks
 pub fits_op : (clock : ℕ) (op : Op) → IsNextOf clock op → FitsClock (clock + 1) (state_of (marks_of op))

@@ -2,6 +2,7 @@ mod calls;
 mod changed;
 mod counters;
 mod deltas;
+mod ended;
 mod largest;
 mod once;
 mod refused;

@@ -5,6 +5,7 @@ pub mod WriteLemmas
 pub mod AboveLemmas
 pub mod AttributeLemmas
 pub mod NothingLemmas
+pub mod EndLemmas
 pub mod Members
 pub mod Tells
 pub mod Readings

@@ -17,7 +17,7 @@ use Rattle.lw_reg.proofs.WriteLemmas.{no_attributes_are, no_attributes_below}
 use Rattle.lw_reg.proofs.WatchLemmas.{no_watches_are, no_watches_below}
 
 nothing_below : (b : Body) → BodyBelow nothing b
-nothing_below b = record { base = tt; address = tt; seen = tt; lifetime = tt; binding = tt; sms = tt; objects = tt; maps = (no_attributes_below b.maps.left, no_watches_below b.maps.right) }
+nothing_below b = record { base = tt; address = tt; seen = tt; lifetime = tt; binding = tt; sms = tt; objects = tt; ended = tt; maps = (no_attributes_below b.maps.left, no_watches_below b.maps.right) }
 
 below_told : (x : OrGone Body) → gone_below BodyBelow (Here nothing) x
 below_told Gone = tt
@@ -34,7 +34,7 @@ told_below_nothing x y b r ex ey h =
     subst (λ z. IsTrue r ↔ gone_below BodyBelow x z) (sym ey)
     (subst (λ z. IsTrue r ↔ gone_below BodyBelow z (Here nothing)) (sym ex) (λ t. (below_nothing b).1 (h.0 t), λ t. h.1 ((below_nothing b).0 t)))
 
-nothing_right : (b : Body) → body_join b nothing ≡ b
+pub nothing_right : (b : Body) → body_join b nothing ≡ b
 nothing_right b = absorbed body_laws b nothing (nothing_below b)
 
 -- joined to nothing
@@ -61,13 +61,15 @@ is_nothing_known b h empty =
     let e = and_parts _ _ d.0 in
     let f = and_parts _ _ e.0 in
     let g = and_parts _ _ f.0 in
-    let base = none_is b.base.value g.0 in
-    let address = none_is b.address.write g.1 in
-    let seen = none_is b.seen.write f.1 in
-    let lifetime = none_is b.lifetime.write e.1 in
-    let binding = none_is b.binding.write d.1 in
-    let sms = none_is b.sms.write c.1 in
-    let objects = none_is b.objects.write a.1 in
+    let j = and_parts _ _ g.0 in
+    let base = none_is b.base.value j.0 in
+    let address = none_is b.address.write j.1 in
+    let seen = none_is b.seen.write g.1 in
+    let lifetime = none_is b.lifetime.write f.1 in
+    let binding = none_is b.binding.write e.1 in
+    let sms = none_is b.sms.write d.1 in
+    let objects = none_is b.objects.write c.1 in
+    let ended = none_is b.ended.value a.1 in
     let attributes = no_attributes_are b.maps.left empty.0 in
     let watches = no_watches_are b.maps.right empty.1 in
     λ i. record {
@@ -78,6 +80,7 @@ is_nothing_known b h empty =
       binding = record { write = binding i };
       sms = record { write = sms i };
       objects = record { write = objects i };
+      ended = record { value = ended i };
       maps = maps_of (attributes i) (watches i);
     }
 

@@ -1,14 +1,13 @@
 -- The slot of an operation is the state of its marks, and joined slots are the state of all of them.
 use Rattle.std.proofs.Common.{◌≡◌, ℕ, List, [], ◌∷◌, ◌++◌, Option, Some, None, sym, refl, ap, ◌∙◌, subst, inl, inr, ◌⊎◌}
 use Rattle.std.specs.Prelude.{map}
-use Rattle.std.specs.Cmp.{tied_itself}
 use Rattle.std.specs.FinMap.{empty, get, get-empty}
-use Rattle.std.specs.Ordering.{match_ordering, nat_cmp}
+use Rattle.std.specs.Ordering.{nat_cmp}
 use Rattle.std.proofs.lemmas.List.Elements.{Contains-append_left, Contains-append_right, Contains-append_cases}
 use Rattle.lw_stamp.specs.declared.moment.Moment.{Moment}
 use Rattle.lw_stamp.specs.declared.stamp.Stamp.{Stamp}
+use Rattle.lw_stamp.specs.StampOrder.{stamp_cmp}
 use Rattle.lw_stamp.specs.TextOrder.{text_cmp}
-use Rattle.lw_stamp.proofs.StampLemmas.{stamp_order}
 use Rattle.lw_join.specs.Both.{both_join}
 use Rattle.lw_join.specs.EntriesLaws.{join_none}
 use Rattle.lw_join.specs.Greater.{greater}
@@ -33,7 +32,7 @@ use Rattle.lw_reg.specs.declared.binding.Binding.{Binding}
 use Rattle.lw_reg.specs.declared.body.Body.{Body}
 use Rattle.lw_reg.specs.declared.op.Op.{Op}
 use Rattle.lw_reg.specs.declared.op.What.{What}
-use Rattle.lw_reg.specs.declared.op.What.TheVariants.{Register, Update, Remove, Observe, Cancel}
+use Rattle.lw_reg.specs.declared.op.What.TheVariants.{Register, Update, Remove, Observe, Cancel, Expire}
 use Rattle.lw_reg.specs.declared.path.Path.{Path}
 use Rattle.lw_reg.specs.declared.slot.Slot.{Slot}
 use Rattle.lw_reg.specs.Body.{Watches, Maps, watching_below, watching_join, body_join, no_watches, maps_of, no_maps, maps_alone}
@@ -46,6 +45,7 @@ use Rattle.lw_reg.specs.Reading.{IsSlotOf}
 use Rattle.lw_reg.specs.Slot.{slot_join, slot_at, told_by, told_of, slot_of, write_of, writes_of, some_text}
 use Rattle.lw_reg.specs.SlotLaws.{slot_laws}
 use Rattle.lw_reg.specs.State.{State, state_join, IsStateOf, state_of}
+use Rattle.lw_reg.proofs.EndLemmas.{join_at}
 use Rattle.lw_reg.proofs.Members.{none_there, first_there, more_there, there_or_first}
 use Rattle.lw_reg.proofs.WriteLemmas.{no_attribute_first}
 use Rattle.lw_reg.proofs.NothingLemmas.{joined_nothing}
@@ -81,10 +81,6 @@ all_names (o ∷ os) = append_names (marks_of o) (all_marks os) (operation_names
 tell_all : Trace → List Trace → OrGone Body
 tell_all k [] = told_by k
 tell_all k (j ∷ ks) = gone_join body_join (told_by k) (tell_all j ks)
-
--- the join of slots of one registration
-join_at : (r : Stamp) (x y : OrGone Body) → slot_join (slot_at r x) (slot_at r y) ≡ slot_at r (gone_join body_join x y)
-join_at r x y = ap (λ (p : Stamp × OrGone Body). slot_at p.0 p.1) (ap (λ o. match_ordering {X = Stamp × OrGone Body} o (r, y) (r, gone_join body_join x y) (r, x)) (tied_itself stamp_order.total r))
 
 nothing_right : (s : State) → state_join s empty ≡ s
 nothing_right s = absorbed state_laws s empty (empty_below text_order slot_laws s)
@@ -129,7 +125,7 @@ told_with s attributes k (j ∷ ks) =
     ∙ sym ((semilattice (gone_laws body_laws)).associative (told_by k) (tell_all j ks) (attributes_alone s attributes))
 
 abbrev with_maps : Body → Maps → Body
-with_maps b m = record { base = b.base; address = b.address; seen = b.seen; lifetime = b.lifetime; binding = b.binding; sms = b.sms; objects = b.objects; maps = m }
+with_maps b m = record { base = b.base; address = b.address; seen = b.seen; lifetime = b.lifetime; binding = b.binding; sms = b.sms; objects = b.objects; ended = b.ended; maps = m }
 
 maps_joined : (b : Body) (m : Maps) → b.maps ≡ no_maps → body_join b (maps_alone m) ≡ with_maps b m
 maps_joined b m none =
@@ -142,6 +138,7 @@ maps_joined b m none =
       binding = record { write = join_none (greater (write_cmp binding_cmp)) b.binding.write i };
       sms = record { write = join_none (greater (write_cmp sms_cmp)) b.sms.write i };
       objects = record { write = join_none (greater (write_cmp text_cmp)) b.objects.write i };
+      ended = record { value = join_none (greater stamp_cmp) b.ended.value i };
       maps = maps i;
     }
 
@@ -165,6 +162,7 @@ set_body s base address seen l b m o = record {
   binding = record { write = Some (s, b) };
   sms = record { write = Some (s, m) };
   objects = record { write = Some (s, o) };
+  ended = record { value = None };
   maps = no_maps;
 }
 
@@ -184,6 +182,7 @@ given_body s address seen l b m o = record {
   binding = record { write = write_of s b };
   sms = record { write = write_of s (some_text m) };
   objects = record { write = write_of s o };
+  ended = record { value = None };
   maps = no_maps;
 }
 
@@ -218,6 +217,10 @@ told_cancelled : (s : Stamp) (path : Path) (token : Stamp) → tell_all Named (t
 unfolding tell_all
 told_cancelled s path token = simp (none_first, no_attribute_first)
 
+told_expired : (s upto : Stamp) → tell_all Named (traces_of s (Expire upto)) ≡ told_of s (Expire upto)
+unfolding tell_all
+told_expired s upto = simp (none_first, no_attribute_first)
+
 told_all : (s : Stamp) (w : What) → tell_all Named (traces_of s w) ≡ told_of s w
 told_all s (Register version queue address seen settings) =
     let base : Base = record { version = version; queue = queue } in
@@ -229,6 +232,7 @@ told_all s (Update address seen settings) =
 told_all s Remove = told_removed s
 told_all s (Observe path accept) = told_watched s path accept
 told_all s (Cancel path token) = told_cancelled s path token
+told_all s (Expire upto) = told_expired s upto
 
 state_of_marks : (o : Op) → state_of (marks_of o) ≡ one_key o.endpoint (slot_of o)
 state_of_marks o = state_of-marks_about o.endpoint o.reg Named (traces_of o.stamp o.what) ∙ ap (λ x. one_key o.endpoint (slot_at o.reg x)) (told_all o.stamp o.what)

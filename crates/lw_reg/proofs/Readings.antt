@@ -1,12 +1,12 @@
 -- What a slot shows is what the relations say of the set that it tells of.
-use Rattle.std.proofs.Common.{◌≡◌, ℕ, List, Option, Some, None, refl, sym, ap, ◌∙◌, subst, inl, inr}
+use Rattle.std.proofs.Common.{◌≡◌, ℕ, Bool, true, false, cond, List, Option, Some, None, refl, sym, ap, ◌∙◌, subst, inl, inr}
 use Rattle.std.specs.Prelude.{◌↔◌}
 use Rattle.std.specs.declared.cmp.Ordering.{Ordering}
 use Rattle.std.specs.Option.{option_map}
-use Rattle.std.specs.Ordering.{nat_cmp}
+use Rattle.std.specs.Ordering.{nat_cmp, is_gt}
 use Rattle.lw_stamp.specs.declared.moment.Moment.{Moment}
 use Rattle.lw_stamp.specs.declared.stamp.Stamp.{Stamp}
-use Rattle.lw_stamp.specs.Order.{IsExactOrder, IsGreatest}
+use Rattle.lw_stamp.specs.Order.{AtMost, IsExactOrder, IsGreatest}
 use Rattle.lw_stamp.specs.StampOrder.{stamp_cmp}
 use Rattle.lw_stamp.specs.TextOrder.{text_cmp}
 use Rattle.lw_stamp.proofs.StampLemmas.{stamp_order}
@@ -14,6 +14,7 @@ use Rattle.lw_join.specs.Facets.{OptionTells, KeyedTells, LastTells}
 use Rattle.lw_join.specs.Lww.{write_cmp}
 use Rattle.lw_join.specs.Entries.{get}
 use Rattle.lw_join.specs.EntriesLaws.{same_entries}
+use Rattle.lw_join.specs.GreaterLaws.{at_most_trans}
 use Rattle.lw_join.specs.LwwLaws.{write_order}
 use Rattle.lw_join.specs.Parts.{entries_of, value_at}
 use Rattle.lw_join.specs.declared.last.Last.{Last}
@@ -32,13 +33,14 @@ use Rattle.lw_reg.specs.BindingLaws.{binding_order}
 use Rattle.lw_reg.specs.Attribute.{values_of}
 use Rattle.lw_reg.specs.Body.{Watching, AttributeMap}
 use Rattle.lw_reg.specs.Marks.{Trace, Marks, Has}
-use Rattle.lw_reg.specs.Marks.Trace.{Named, Based, AddressAt, SeenAt, LifetimeAt, BindingAt, SmsAt, ObjectsAt, AttributeAt, Watched, Cancelled}
+use Rattle.lw_reg.specs.Marks.Trace.{Named, Based, AddressAt, SeenAt, LifetimeAt, BindingAt, SmsAt, ObjectsAt, AttributeAt, EndedAt, Watched, Cancelled}
 use Rattle.lw_reg.specs.OrderLaws.{addr_order, moment_order, number_order, sms_order, text_order, format_order}
 use Rattle.lw_reg.specs.Orders.{addr_cmp, base_cmp, binding_cmp, moment_cmp, path_cmp, sms_cmp, format_cmp}
-use Rattle.lw_reg.specs.Reading.{registration_of, registered_in, watches_of}
+use Rattle.lw_reg.specs.Reading.{registration_of, registered_in, lasting, watches_of}
 use Rattle.lw_reg.specs.Registration.{Registration}
 use Rattle.lw_reg.specs.Showing.{IsCurrent, IsRegistered, IsToken, IsNamedValue, HasAttributes, queue_of}
 use Rattle.lw_reg.specs.Slot.{slot_at, observed}
+use Rattle.lw_reg.proofs.EndLemmas.{lasting_some}
 use Rattle.lw_reg.proofs.Tells.{Sign, sign_trace, FieldTells, AttributesTell, WatchTells, ToldTells, base_facet, field_facet}
 use Rattle.lw_reg.proofs.Tells.Sign.{Asked, Ended}
 
@@ -113,6 +115,25 @@ shown_of_parts e r ob oa os ol oi om oo pairs v p =
       attributes = v.attributes;
     }))
 
+-- ---- ends
+module _ (P : Stamp → Type 0) where
+  -- of what is above the greatest stamp of an end, none is over
+  above_ends : (o : Option Stamp) → OptionTells (IsGreatest stamp_cmp) P o → (at upto : Stamp) → P upto → AtMost stamp_cmp at upto → ¬ ((t : Stamp) → o ≡ Some t → is_gt (stamp_cmp at t) ≡ true)
+  above_ends None told at upto over reached above = told upto over
+  above_ends (Some t) told at upto over reached above =
+      let no : is_gt (stamp_cmp at t) ≡ false = at_most_trans stamp_order at upto t reached (told.above upto over) in
+      let yes = above t refl in
+      cc
+
+  -- what is not over lasts
+  lasts_still : (o : Option Stamp) → OptionTells (IsGreatest stamp_cmp) P o → (s : Option (Stamp × Moment)) (w : Stamp × Moment) → s ≡ Some w → ((upto : Stamp) → P upto → ¬ AtMost stamp_cmp w.0 upto) → lasting o s ≡ Some w
+  lasts_still None told s w e lasts = e
+  lasts_still (Some t) told s w e lasts = ap (lasting (Some t)) e ∙ go (is_gt (stamp_cmp w.0 t)) refl
+    where
+      go : (b : Bool) → is_gt (stamp_cmp w.0 t) ≡ b → cond b (Some w) None ≡ Some w
+      go true same = refl
+      go false same = absurd (lasts t told.member same)
+
 -- ---- attributes
 module _ (M : Marks) (e : List ℕ) (r : Stamp) where
   named_from : (name : List ℕ) (o : Option (Last (List ℕ))) → OptionTells (LastTells text_cmp) (λ (w : Stamp × List ℕ). Has M e r (AttributeAt name w.0 w.1)) o → IsNamedValue M e r name (option_map value_in o)
@@ -153,9 +174,11 @@ module _ (M : Marks) (e : List ℕ) (names : (r : Stamp) (k : Trace) → Has M e
   pub shown_from : (r : Stamp) (x : OrGone Body) (v : Registration) → Told (r, x) → registered_in e (slot_at r x) ≡ Some v → (v.endpoint ≡ e) × IsRegistered M v
   shown_from r Gone v g h = absurd cc
   shown_from r (Here b) v g h =
-      let p = parts_shown e r b.base.value b.address.write b.seen.write b.lifetime.write b.binding.write b.sms.write b.objects.write (values_of (entries_of b.maps.left)) v h in
+      let p = parts_shown e r b.base.value b.address.write (lasting b.ended.value b.seen.write) b.lifetime.write b.binding.write b.sms.write b.objects.write (values_of (entries_of b.maps.left)) v h in
       let place = place_of r v p.endpoint p.id in
-      let told : ToldTells (λ k. Has M v.endpoint v.id k) (Here b) = subst (λ (x : List ℕ × Stamp). ToldTells (λ k. Has M x.0 x.1 k) (Here b)) place g.told in (
+      let told : ToldTells (λ k. Has M v.endpoint v.id k) (Here b) = subst (λ (x : List ℕ × Stamp). ToldTells (λ k. Has M x.0 x.1 k) (Here b)) place g.told in
+      let last = lasting_some b.ended.value b.seen.write (p.seen_at, v.seen) p.seen_is in
+      let seen : IsGreatest (write_cmp moment_cmp) (λ w. Has M v.endpoint v.id (SeenAt w.0 w.1)) (p.seen_at, v.seen) = subst (OptionTells (IsGreatest (write_cmp moment_cmp)) (λ w. Has M v.endpoint v.id (SeenAt w.0 w.1))) last.0 told.1.seen in (
         sym p.endpoint,
         record {
           complete = record {
@@ -165,7 +188,7 @@ module _ (M : Marks) (e : List ℕ) (names : (r : Stamp) (k : Trace) → Has M e
             version = sym p.version;
             queue = sym p.queue;
             address = (p.address_at, subst (OptionTells (IsGreatest (write_cmp addr_cmp)) (λ w. Has M v.endpoint v.id (AddressAt w.0 w.1))) p.address_is told.1.address);
-            seen = (p.seen_at, subst (OptionTells (IsGreatest (write_cmp moment_cmp)) (λ w. Has M v.endpoint v.id (SeenAt w.0 w.1))) p.seen_is told.1.seen);
+            seen = (p.seen_at, seen);
             lifetime = (p.lifetime_at, subst (OptionTells (IsGreatest (write_cmp nat_cmp)) (λ w. Has M v.endpoint v.id (LifetimeAt w.0 w.1))) p.lifetime_is told.1.lifetime);
             binding = (p.binding_at, subst (OptionTells (IsGreatest (write_cmp binding_cmp)) (λ w. Has M v.endpoint v.id (BindingAt w.0 w.1))) p.binding_is told.1.binding);
             sms = (p.sms_at, subst (OptionTells (IsGreatest (write_cmp sms_cmp)) (λ w. Has M v.endpoint v.id (SmsAt w.0 w.1))) p.sms_is told.1.sms);
@@ -173,6 +196,9 @@ module _ (M : Marks) (e : List ℕ) (names : (r : Stamp) (k : Trace) → Has M e
             attributes = subst (HasAttributes M v.endpoint v.id) p.attributes_are (attributes_from M v.endpoint v.id b.maps.left told.1.attributes);
           };
           kept = told.0;
+          lasts = λ h. above_ends (λ t. Has M v.endpoint v.id (EndedAt t)) b.ended.value told.1.ended p.seen_at h.upto h.over
+              (subst (λ (s : Stamp). AtMost stamp_cmp s h.upto) (ap (λ (w : Stamp × Moment). w.0) (greatest_one (write_order moment_order) (λ w. Has M v.endpoint v.id (SeenAt w.0 w.1)) h.seen (p.seen_at, v.seen) h.is_seen seen)) h.reached)
+              last.1;
         },
       )
 
@@ -198,7 +224,7 @@ module _ (M : Marks) (e : List ℕ) (names : (r : Stamp) (k : Trace) → Has M e
           let told = told_at (Here b) g in
           let P : Trace → Type 0 = λ k. Has M v.endpoint v.id k in
           let c = h.complete in
-          shown_of_parts e r b.base.value b.address.write b.seen.write b.lifetime.write b.binding.write b.sms.write b.objects.write (values_of (entries_of b.maps.left)) v (record {
+          shown_of_parts e r b.base.value b.address.write (lasting b.ended.value b.seen.write) b.lifetime.write b.binding.write b.sms.write b.objects.write (values_of (entries_of b.maps.left)) v (record {
             endpoint = sym same;
             id = id_is (Here b) g;
             base_value = c.base;
@@ -208,7 +234,8 @@ module _ (M : Marks) (e : List ℕ) (names : (r : Stamp) (k : Trace) → Has M e
             address_at = c.address.0;
             address_is = write_is addr_order AddressAt P b.address c.address.0 v.address told.1.address c.address.1;
             seen_at = c.seen.0;
-            seen_is = write_is moment_order SeenAt P b.seen c.seen.0 v.seen told.1.seen c.seen.1;
+            seen_is = lasts_still (λ t. P (EndedAt t)) b.ended.value told.1.ended b.seen.write (c.seen.0, v.seen) (write_is moment_order SeenAt P b.seen c.seen.0 v.seen told.1.seen c.seen.1)
+                (λ upto over reached. h.lasts (record { upto = upto; over = over; seen = (c.seen.0, v.seen); is_seen = c.seen.1; reached = reached }));
             lifetime_at = c.lifetime.0;
             lifetime_is = write_is number_order LifetimeAt P b.lifetime c.lifetime.0 v.lifetime told.1.lifetime c.lifetime.1;
             binding_at = c.binding.0;

@@ -22,7 +22,7 @@ use Rattle.lw_reg.specs.Attribute.{values_of}
 use Rattle.lw_reg.specs.Marks.{Trace, Marks, Has}
 use Rattle.lw_reg.specs.Marks.Trace.{Named, Watched, Cancelled}
 use Rattle.lw_reg.specs.Orders.{path_cmp, format_cmp}
-use Rattle.lw_reg.specs.Reading.{registration_of, registered_in, in_time, timely, view_in, is_late, watches_of, first_watch, if_shown, live_watch}
+use Rattle.lw_reg.specs.Reading.{registration_of, registered_in, lasting, in_time, timely, view_in, is_late, watches_of, first_watch, if_shown, live_watch}
 use Rattle.lw_reg.specs.Registration.{Registration}
 use Rattle.lw_reg.specs.Showing.{IsCurrent, IsToken, IsInTime, IsShown, ShownOf, LivesOf, HasExpired, IsFirstOfWatches}
 use Rattle.lw_reg.specs.Slot.{slot_at}
@@ -79,7 +79,7 @@ renamed_parts e f r _ _ _ _ _ _ _ pairs = refl
 
 renamed : (e f : List ℕ) (r : Stamp) (x : OrGone Body) → registered_in f (slot_at r x) ≡ option_map (named_for f) (registered_in e (slot_at r x))
 renamed e f r Gone = refl
-renamed e f r (Here b) = renamed_parts e f r b.base.value b.address.write b.seen.write b.lifetime.write b.binding.write b.sms.write b.objects.write (values_of (entries_of b.maps.left))
+renamed e f r (Here b) = renamed_parts e f r b.base.value b.address.write (lasting b.ended.value b.seen.write) b.lifetime.write b.binding.write b.sms.write b.objects.write (values_of (entries_of b.maps.left))
 
 late_named : (now : ℕ) (f : List ℕ) (o : Option Registration) → is_late now (option_map (named_for f) o) ≡ is_late now o
 late_named now f None = refl

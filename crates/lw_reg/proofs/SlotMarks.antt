@@ -83,6 +83,7 @@ body_self b = record {
   binding = field_self binding_order b.binding.write;
   sms = field_self sms_order b.sms.write;
   objects = field_self text_order b.objects.write;
+  ended = option_self stamp_order b.ended.value;
   attributes = attributes_self b;
   watches = watches_self b;
 }

@@ -6,6 +6,7 @@ use Rattle.std.specs.declared.cmp.Ordering.TheVariants.{Less, Equal, Greater}
 use Rattle.std.specs.Ordering.{nat_cmp, max_by_ordering}
 use Rattle.lw_stamp.specs.declared.stamp.Stamp.{Stamp}
 use Rattle.lw_stamp.specs.Order.{IsExactOrder, IsGreatest}
+use Rattle.lw_stamp.specs.StampOrder.{stamp_cmp}
 use Rattle.lw_stamp.specs.TextOrder.{text_cmp}
 use Rattle.lw_stamp.proofs.StampLemmas.{stamp_order}
 use Rattle.lw_join.specs.Facets.{IsFacet, Through, OnceTells, LwwTells, LastTells, LexTells, GoneTells, PartsTells, MapTells}
@@ -32,10 +33,10 @@ use Rattle.lw_reg.specs.declared.slot.Slot.{Slot}
 use Rattle.lw_reg.specs.BindingLaws.{binding_order}
 use Rattle.lw_reg.specs.Body.{Watching, Watches, AttributeMap, watching_join, body_join, no_watches, one_watch, no_attributes, one_attribute, maps_of}
 use Rattle.lw_reg.specs.Marks.{Trace, Mark, Marks, among, NamesAll}
-use Rattle.lw_reg.specs.Marks.Trace.{Named, Based, AddressAt, SeenAt, LifetimeAt, BindingAt, SmsAt, ObjectsAt, AttributeAt, Removed, Watched, Cancelled}
+use Rattle.lw_reg.specs.Marks.Trace.{Named, Based, AddressAt, SeenAt, LifetimeAt, BindingAt, SmsAt, ObjectsAt, AttributeAt, EndedAt, Removed, Watched, Cancelled}
 use Rattle.lw_reg.specs.OrderLaws.{addr_order, base_order, moment_order, number_order, path_order, sms_order, text_order, format_order}
 use Rattle.lw_reg.specs.Orders.{addr_cmp, base_cmp, binding_cmp, format_cmp, moment_cmp, sms_cmp}
-use Rattle.lw_reg.specs.Slot.{slot_join, slot_at, base_in, address_in, seen_in, lifetime_in, binding_in, sms_in, objects_in, attributes_in, watches_in, body_in, told_by}
+use Rattle.lw_reg.specs.Slot.{slot_join, slot_at, base_in, address_in, seen_in, lifetime_in, binding_in, sms_in, objects_in, ended_in, attributes_in, watches_in, body_in, told_by}
 use Rattle.lw_reg.specs.State.{State, state_join, atom_of, state_of}
 use Rattle.lw_reg.proofs.Members.{none_there, first_there, more_there, there_or_first}
 
@@ -64,6 +65,10 @@ FieldTells cmp field = Through (field_trace field) (LwwTells cmp)
 abbrev pub BaseTells : (Trace → Type 0) → Once Base → Type 0
 BaseTells = Through Based (OnceTells base_cmp)
 
+-- up to which stamp what was seen is over
+abbrev pub LastsTells : (Trace → Type 0) → Once Stamp → Type 0
+LastsTells = Through EndedAt (OnceTells stamp_cmp)
+
 abbrev pub AcceptTells : (Option ℕ → Type 0) → Once ℕ → Type 0
 AcceptTells P accept = IsGreatest format_cmp P accept.value
 
@@ -88,6 +93,7 @@ pub record BodyTells (P : Trace → Type 0) (b : Body) : Type 0 where
   pub binding : FieldTells binding_cmp BindingAt P b.binding
   pub sms : FieldTells sms_cmp SmsAt P b.sms
   pub objects : FieldTells text_cmp ObjectsAt P b.objects
+  pub ended : LastsTells P b.ended
   pub attributes : AttributesTell P b.maps.left
   pub watches : WatchesTell P b.maps.right
 
@@ -103,6 +109,9 @@ Tells = MapTells SlotTells
 -- ---- they are facets
 pub base_facet : IsFacet (once_join base_cmp) BaseTells
 base_facet = through_facet Based (once_facet base_order)
+
+pub lasts_facet : IsFacet (once_join stamp_cmp) LastsTells
+lasts_facet = through_facet EndedAt (once_facet stamp_order)
 
 pub field_facet : {V : Type 0} {cmp : V → V → Ordering} → IsExactOrder cmp → (field : Stamp → V → Trace) → IsFacet (lww_join cmp) (FieldTells cmp field)
 field_facet order field = through_facet (field_trace field) (lww_facet order)
@@ -148,6 +157,7 @@ body_facet =
         binding = binding.union P Q a.binding b.binding g.binding h.binding;
         sms = sms.union P Q a.sms b.sms g.sms h.sms;
         objects = objects.union P Q a.objects b.objects g.objects h.objects;
+        ended = lasts_facet.union P Q a.ended b.ended g.ended h.ended;
         attributes = attributes_facet.union P Q a.maps.left b.maps.left g.attributes h.attributes;
         watches = watches_facet.union P Q a.maps.right b.maps.right g.watches h.watches;
       };
@@ -160,6 +170,7 @@ body_facet =
         binding = binding.same P Q a.binding h g.binding;
         sms = sms.same P Q a.sms h g.sms;
         objects = objects.same P Q a.objects h g.objects;
+        ended = lasts_facet.same P Q a.ended h g.ended;
         attributes = attributes_facet.same P Q a.maps.left h g.attributes;
         watches = watches_facet.same P Q a.maps.right h g.watches;
       };
@@ -171,6 +182,7 @@ body_facet =
         binding = binding.one P a.binding b.binding g.binding h.binding i;
         sms = sms.one P a.sms b.sms g.sms h.sms i;
         objects = objects.one P a.objects b.objects g.objects h.objects i;
+        ended = lasts_facet.one P a.ended b.ended g.ended h.ended i;
         maps = maps_of (attributes_facet.one P a.maps.left b.maps.left g.attributes h.attributes i) (watches_facet.one P a.maps.right b.maps.right g.watches h.watches i);
       };
     }
@@ -191,6 +203,10 @@ With k x = (x ≡ k) ⊎ (x ≡ Named)
 base_told : (k : Trace) → BaseTells (With k) (record { value = base_in k })
 base_told (Based b) = greatest_single base_order _ b (inl refl) (λ y. elim [ inl p ↦ cc | inr p ↦ absurd cc ])
 base_told _ = λ x. elim [ inl p ↦ cc | inr p ↦ cc ]
+
+lasts_told : (k : Trace) → LastsTells (With k) (record { value = ended_in k })
+lasts_told (EndedAt s) = greatest_single stamp_order _ s (inl refl) (λ y. elim [ inl p ↦ cc | inr p ↦ absurd cc ])
+lasts_told _ = λ x. elim [ inl p ↦ cc | inr p ↦ cc ]
 
 -- what is read of a trace that writes a field is that write, and of any other nothing
 module _ {V : Type 0} {cmp : V → V → Ordering} (order : IsExactOrder cmp) (field : Stamp → V → Trace) (read : Trace → Option (Stamp × V)) (written : (w : Stamp × V) → read (field_trace field w) ≡ Some w) (unnamed : read Named ≡ None) where
@@ -280,6 +296,7 @@ watches_told (BindingAt s v) = no_watch (BindingAt s v) (λ p t. elim [ Asked a 
 watches_told (SmsAt s v) = no_watch (SmsAt s v) (λ p t. elim [ Asked a ↦ λ e. cc | Ended ↦ λ e. cc ])
 watches_told (AttributeAt n s v) = no_watch (AttributeAt n s v) (λ p t. elim [ Asked a ↦ λ e. cc | Ended ↦ λ e. cc ])
 watches_told (ObjectsAt s v) = no_watch (ObjectsAt s v) (λ p t. elim [ Asked a ↦ λ e. cc | Ended ↦ λ e. cc ])
+watches_told (EndedAt s) = no_watch (EndedAt s) (λ p t. elim [ Asked a ↦ λ e. cc | Ended ↦ λ e. cc ])
 watches_told Removed = no_watch Removed (λ p t. elim [ Asked a ↦ λ e. cc | Ended ↦ λ e. cc ])
 
 body_told : (k : Trace) → BodyTells (With k) (body_in k)
@@ -292,6 +309,7 @@ body_told k = record {
   binding = field_told binding_order BindingAt binding_in (λ w. refl) refl (elim [ BindingAt s v ↦ inr ((s, v), refl) | _ ↦ inl refl ]) k;
   sms = field_told sms_order SmsAt sms_in (λ w. refl) refl (elim [ SmsAt s v ↦ inr ((s, v), refl) | _ ↦ inl refl ]) k;
   objects = field_told text_order ObjectsAt objects_in (λ w. refl) refl (elim [ ObjectsAt s v ↦ inr ((s, v), refl) | _ ↦ inl refl ]) k;
+  ended = lasts_told k;
   attributes = attributes_told k;
   watches = watches_told k;
 }
@@ -311,6 +329,7 @@ trace_told (BindingAt s v) = (not_removed (BindingAt s v) (λ e. cc), body_told 
 trace_told (SmsAt s v) = (not_removed (SmsAt s v) (λ e. cc), body_told (SmsAt s v))
 trace_told (ObjectsAt s v) = (not_removed (ObjectsAt s v) (λ e. cc), body_told (ObjectsAt s v))
 trace_told (AttributeAt n s v) = (not_removed (AttributeAt n s v) (λ e. cc), body_told (AttributeAt n s v))
+trace_told (EndedAt s) = (not_removed (EndedAt s) (λ e. cc), body_told (EndedAt s))
 trace_told (Watched p t a) = (not_removed (Watched p t a) (λ e. cc), body_told (Watched p t a))
 trace_told (Cancelled p t) = (not_removed (Cancelled p t) (λ e. cc), body_told (Cancelled p t))
 

@@ -1,6 +1,7 @@
 -- What is known of a registration, its order and its join, part by part.
-use Rattle.std.specs.Prelude.{ℕ, List, [], ◌∷◌, None}
+use Rattle.std.specs.Prelude.{ℕ, List, [], ◌∷◌, Some, None}
 use Rattle.std.specs.Ordering.{nat_cmp}
+use Rattle.lw_stamp.specs.StampOrder.{stamp_cmp}
 use Rattle.lw_stamp.specs.TextOrder.{text_cmp}
 use Rattle.lw_stamp.specs.contracts.text.TextOrd.TheImpl as text_ord
 use Rattle.lw_stamp.specs.contracts.text.TextPartialEq.TheImpl as text_eq
@@ -75,6 +76,7 @@ pub record BodyBelow (x y : Body) : Type 0 where
   pub binding : lww_below binding_cmp x.binding y.binding
   pub sms : lww_below sms_cmp x.sms y.sms
   pub objects : lww_below text_cmp x.objects y.objects
+  pub ended : once_below stamp_cmp x.ended y.ended
   pub maps : both_below (last_below text_cmp) watching_below x.maps y.maps
 
 abbrev pub body_join : Body → Body → Body
@@ -86,6 +88,7 @@ body_join x y = record {
   binding = lww_join binding_cmp x.binding y.binding;
   sms = lww_join sms_cmp x.sms y.sms;
   objects = lww_join text_cmp x.objects y.objects;
+  ended = once_join stamp_cmp x.ended y.ended;
   maps = both_join (last_join text_cmp) watching_join x.maps y.maps;
 }
 
@@ -103,9 +106,24 @@ maps_alone maps = record {
   binding = record { write = None };
   sms = record { write = None };
   objects = record { write = None };
+  ended = record { value = None };
   maps = maps;
 }
 
 -- nothing is known
 abbrev pub nothing : Body
 nothing = maps_alone no_maps
+
+-- nothing is known but that what was seen up to the stamp is over
+abbrev pub ended_alone : Stamp → Body
+ended_alone upto = record {
+  base = record { value = None };
+  address = record { write = None };
+  seen = record { write = None };
+  lifetime = record { write = None };
+  binding = record { write = None };
+  sms = record { write = None };
+  objects = record { write = None };
+  ended = record { value = Some upto };
+  maps = no_maps;
+}

@@ -1,5 +1,6 @@
 -- The laws of what is known of a registration.
 use Rattle.std.proofs.Common.{refl}
+use Rattle.lw_stamp.proofs.StampLemmas.{stamp_order}
 use Rattle.lw_join.specs.BothLaws.{both_laws}
 use Rattle.lw_join.specs.Join.{IsJoin}
 use Rattle.lw_join.specs.JoinLaws.{laws_along}
@@ -32,11 +33,11 @@ reordered {join = join} forth back laws = record {
 pub body_laws : IsJoin BodyBelow body_join
 body_laws =
     reordered
-    (λ x y h. record { base = h.0; address = h.1.0; seen = h.1.1.0; lifetime = h.1.1.1.0; binding = h.1.1.1.1.0; sms = h.1.1.1.1.1.0; objects = h.1.1.1.1.1.1.0; maps = h.1.1.1.1.1.1.1 })
-    (λ x y h. (h.base, (h.address, (h.seen, (h.lifetime, (h.binding, (h.sms, (h.objects, h.maps))))))))
+    (λ x y h. record { base = h.0; address = h.1.0; seen = h.1.1.0; lifetime = h.1.1.1.0; binding = h.1.1.1.1.0; sms = h.1.1.1.1.1.0; objects = h.1.1.1.1.1.1.0; ended = h.1.1.1.1.1.1.1.0; maps = h.1.1.1.1.1.1.1.1 })
+    (λ x y h. (h.base, (h.address, (h.seen, (h.lifetime, (h.binding, (h.sms, (h.objects, (h.ended, h.maps)))))))))
     (laws_along
-    (λ (b : Body). (b.base, (b.address, (b.seen, (b.lifetime, (b.binding, (b.sms, (b.objects, b.maps))))))))
-    (λ p. record { base = p.0; address = p.1.0; seen = p.1.1.0; lifetime = p.1.1.1.0; binding = p.1.1.1.1.0; sms = p.1.1.1.1.1.0; objects = p.1.1.1.1.1.1.0; maps = p.1.1.1.1.1.1.1 })
+    (λ (b : Body). (b.base, (b.address, (b.seen, (b.lifetime, (b.binding, (b.sms, (b.objects, (b.ended, b.maps)))))))))
+    (λ p. record { base = p.0; address = p.1.0; seen = p.1.1.0; lifetime = p.1.1.1.0; binding = p.1.1.1.1.0; sms = p.1.1.1.1.1.0; objects = p.1.1.1.1.1.1.0; ended = p.1.1.1.1.1.1.1.0; maps = p.1.1.1.1.1.1.1.1 })
     (λ s. refl)
     (λ t. refl)
-    (pair_laws (once_laws base_order) (pair_laws (lww_laws addr_order) (pair_laws (lww_laws moment_order) (pair_laws (lww_laws number_order) (pair_laws (lww_laws binding_order) (pair_laws (lww_laws sms_order) (pair_laws (lww_laws text_order) (both_laws text_order path_order (last_laws text_order) watching_laws)))))))))
+    (pair_laws (once_laws base_order) (pair_laws (lww_laws addr_order) (pair_laws (lww_laws moment_order) (pair_laws (lww_laws number_order) (pair_laws (lww_laws binding_order) (pair_laws (lww_laws sms_order) (pair_laws (lww_laws text_order) (pair_laws (once_laws stamp_order) (both_laws text_order path_order (last_laws text_order) watching_laws))))))))))

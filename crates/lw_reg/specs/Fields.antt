@@ -8,7 +8,7 @@ use Rattle.lw_reg.specs.declared.fields.FieldWrites.{FieldWrites}
 use Rattle.lw_reg.specs.declared.fields.Fields.{Fields}
 use Rattle.lw_reg.specs.declared.slot.Slot.{Slot}
 use Rattle.lw_reg.specs.declared.path.Path.{Path}
-use Rattle.lw_reg.specs.Body.{Watching, one_watch, no_attributes, maps_of}
+use Rattle.lw_reg.specs.Body.{Watching, no_watches, one_watch, no_attributes, maps_of}
 use Rattle.lw_reg.specs.Slot.{slot_at}
 
 abbrev pub fields_body : Fields → Body
@@ -20,6 +20,7 @@ fields_body f = record {
   binding = record { write = f.writes.binding };
   sms = record { write = f.writes.sms };
   objects = record { write = f.writes.objects };
+  ended = record { value = f.ended };
   maps = maps_of f.attributes f.watches;
 }
 
@@ -40,5 +41,15 @@ abbrev pub watched_fields : Path → Watching → Fields
 watched_fields path watching = record {
   writes = no_writes;
   attributes = no_attributes;
+  ended = None;
   watches = one_watch path watching;
+}
+
+-- the end alone
+abbrev pub ended_fields : Stamp → Fields
+ended_fields upto = record {
+  writes = no_writes;
+  attributes = no_attributes;
+  ended = Some upto;
+  watches = no_watches;
 }

@@ -77,6 +77,7 @@ fields_in (Some b) = Some (record {
     objects = b.objects.write;
   };
   attributes = b.maps.left;
+  ended = b.ended.value;
   watches = b.maps.right;
 })
 

@@ -8,11 +8,11 @@ use Rattle.lw_reg.specs.declared.binding.Binding.{Binding}
 use Rattle.lw_reg.specs.declared.path.Path.{Path}
 use Rattle.lw_reg.specs.declared.op.Op.{Op}
 use Rattle.lw_reg.specs.declared.op.What.{What}
-use Rattle.lw_reg.specs.declared.op.What.TheVariants.{Register, Update, Remove, Observe, Cancel}
+use Rattle.lw_reg.specs.declared.op.What.TheVariants.{Register, Update, Remove, Observe, Cancel, Expire}
 
 -- What a mark tells of a registration: that it is named; its base; a write of a field, or of the attribute of a
--- name, by the operation with that stamp; that it was removed; that a path was watched with a token, or the watch
--- with a token cancelled.
+-- name, by the operation with that stamp; that what was seen of it up to a stamp is over; that it was removed; that
+-- a path was watched with a token, or the watch with a token cancelled.
 pub data Trace : Type 0 where
   Named : Trace
   Based : Base → Trace
@@ -23,6 +23,7 @@ pub data Trace : Type 0 where
   SmsAt : Stamp → Option (List ℕ) → Trace
   ObjectsAt : Stamp → List ℕ → Trace
   AttributeAt : List ℕ → Stamp → List ℕ → Trace
+  EndedAt : Stamp → Trace
   Removed : Trace
   Watched : Path → Stamp → Option ℕ → Trace
   Cancelled : Path → Stamp → Trace
@@ -54,6 +55,7 @@ traces_of s (Update address seen settings) =
 traces_of s Remove = Removed ∷ []
 traces_of s (Observe path accept) = Watched path s accept ∷ []
 traces_of s (Cancel path token) = Cancelled path token ∷ []
+traces_of s (Expire upto) = EndedAt upto ∷ []
 
 abbrev pub marks_about : List ℕ → Stamp → List Trace → List Mark
 marks_about e r [] = []

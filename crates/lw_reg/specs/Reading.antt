@@ -1,11 +1,12 @@
 -- What can be read from a slot, as functions of its parts; and the marks that it shows.
 use Rattle.std.specs.Prelude.{◌≡◌, ℕ, ◌+◌, ◌*◌, ◌==◌, ◌⊎◌, ◌||◌, nat_lt, Bool, true, false, not, if◌then◌else◌, List, [], ◌∷◌, Option, Some, None}
-use Rattle.std.specs.Ordering.{is_lt}
+use Rattle.std.specs.Ordering.{is_lt, is_gt}
 use Rattle.std.specs.FinMap.{get}
 use Rattle.lw_stamp.specs.contracts.stamp.StampPartialEq.TheImpl as stamps
 use Rattle.lw_stamp.specs.declared.stamp.Stamp.{Stamp}
 use Rattle.lw_stamp.specs.declared.moment.Moment.{Moment}
 use Rattle.lw_stamp.specs.Moment.{ms_of}
+use Rattle.lw_stamp.specs.StampOrder.{stamp_cmp}
 use Rattle.lw_join.specs.Entries.{get as entry_of}
 use Rattle.lw_join.specs.Parts.{entries_of, value_at}
 use Rattle.lw_join.specs.declared.last.Last.{Last}
@@ -28,7 +29,7 @@ use Rattle.lw_reg.specs.Registration.{Registration}
 use Rattle.lw_reg.specs.Orders.{path_cmp}
 use Rattle.lw_reg.specs.Showing.{queue_of}
 use Rattle.lw_reg.specs.Marks.{Trace, Mark, Marks, among, NamesAll}
-use Rattle.lw_reg.specs.Marks.Trace.{Named, Based, AddressAt, SeenAt, LifetimeAt, BindingAt, SmsAt, ObjectsAt, AttributeAt, Removed, Watched, Cancelled}
+use Rattle.lw_reg.specs.Marks.Trace.{Named, Based, AddressAt, SeenAt, LifetimeAt, BindingAt, SmsAt, ObjectsAt, AttributeAt, EndedAt, Removed, Watched, Cancelled}
 
 -- ---- the parts of a slot; of a removed registration there are none
 abbrev pub here : OrGone Body → Option Body
@@ -78,6 +79,9 @@ told_attributes (Here body) = entries_of body.maps.left
 abbrev pub attributes_of : Slot → List (List ℕ × Last (List ℕ))
 attributes_of slot = told_attributes slot.registration.value
 
+abbrev pub ended_of : Slot → Option Stamp
+ended_of slot = (known_of slot).ended.value
+
 abbrev pub told_watches : OrGone Body → List (Path × Watching)
 told_watches Gone = []
 told_watches (Here body) = entries_of body.maps.right
@@ -91,6 +95,12 @@ abbrev pub watching_of : Slot → Path → Option Watching
 watching_of slot path = entry_of path_cmp (watches_of slot) path
 
 -- ---- what is shown
+-- what was seen last, unless it was over by then
+abbrev pub lasting : Option Stamp → Option (Stamp × Moment) → Option (Stamp × Moment)
+lasting None seen = seen
+lasting (Some upto) None = None
+lasting (Some upto) (Some seen) = if is_gt (stamp_cmp seen.0 upto) then Some seen else None
+
 -- the registration of these parts, where all are there
 abbrev pub registration_of : List ℕ → Stamp → Option Base → Option (Stamp × Addr) → Option (Stamp × Moment) → Option (Stamp × ℕ) → Option (Stamp × Binding) → Option (Stamp × Option (List ℕ)) → Option (Stamp × List ℕ) → List (List ℕ × List ℕ) → Option Registration
 registration_of e r (Some base) (Some address) (Some seen) (Some lifetime) (Some binding) (Some sms) (Some objects) attributes = Some (record {
@@ -109,7 +119,7 @@ registration_of e r (Some base) (Some address) (Some seen) (Some lifetime) (Some
 registration_of e r _ _ _ _ _ _ _ _ = None
 
 abbrev pub registered_in : List ℕ → Slot → Option Registration
-registered_in e slot = registration_of e (stamp_of slot) (base_of slot) (address_of slot) (seen_of slot) (lifetime_of slot) (binding_of slot) (sms_of slot) (objects_of slot) (values_of (attributes_of slot))
+registered_in e slot = registration_of e (stamp_of slot) (base_of slot) (address_of slot) (lasting (ended_of slot) (seen_of slot)) (lifetime_of slot) (binding_of slot) (sms_of slot) (objects_of slot) (values_of (attributes_of slot))
 
 abbrev pub in_time : ℕ → Registration → Bool
 in_time now r = (r.lifetime == 0) || nat_lt now (ms_of r.seen + 1000 * r.lifetime)
@@ -178,6 +188,7 @@ BodyShows b (BindingAt s v) = b.binding.write ≡ Some (s, v)
 BodyShows b (SmsAt s v) = b.sms.write ≡ Some (s, v)
 BodyShows b (ObjectsAt s v) = b.objects.write ≡ Some (s, v)
 BodyShows b (AttributeAt name s v) = value_at b.maps.left name ≡ Some (record { write = (s, v) })
+BodyShows b (EndedAt s) = b.ended.value ≡ Some s
 BodyShows b Removed = ⊥
 BodyShows b (Watched path t accept) = value_at b.maps.right path ≡ Some (observed t accept)
 BodyShows b (Cancelled path t) = value_at b.maps.right path ≡ Some (cancelled t)

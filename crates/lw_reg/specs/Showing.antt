@@ -1,11 +1,12 @@
 -- What a set of marks says of an endpoint: its current registration, the values of its fields, whether it was
--- removed, what is shown of it at a moment, and which watches live (LwM2M 1.1 Core, section 6.2; RFC 7641,
--- section 3).
+-- removed or has ended, what is shown of it at a moment, and which watches live (LwM2M 1.1 Core, section 6.2;
+-- RFC 7641, section 3).
 use Rattle.std.specs.Prelude.{◌≡◌, ℕ, ◌+◌, ◌*◌, ◌<◌, ◌⊎◌, ◌||◌, ◌==◌, Bool, List, Option, Some, None}
 use Rattle.std.specs.List.{list_any}
 use Rattle.std.specs.declared.cmp.Ordering.{Ordering}
 use Rattle.std.specs.declared.cmp.Ordering.TheVariants.{Less}
 use Rattle.std.specs.Ordering.{nat_cmp}
+use Rattle.lw_stamp.specs.declared.moment.Moment.{Moment}
 use Rattle.lw_stamp.specs.declared.stamp.Stamp.{Stamp}
 use Rattle.lw_stamp.specs.Moment.{ms_of}
 use Rattle.lw_stamp.specs.Order.{AtMost, IsGreatest}
@@ -21,7 +22,7 @@ use Rattle.lw_reg.specs.Binding.{binding_text}
 use Rattle.lw_reg.specs.Orders.{addr_cmp, binding_cmp, base_cmp, moment_cmp, sms_cmp, format_cmp, path_cmp}
 use Rattle.lw_reg.specs.Registration.{Registration}
 use Rattle.lw_reg.specs.Marks.{Trace, Marks, Has}
-use Rattle.lw_reg.specs.Marks.Trace.{Named, Based, AddressAt, SeenAt, LifetimeAt, BindingAt, SmsAt, ObjectsAt, AttributeAt, Removed, Watched, Cancelled}
+use Rattle.lw_reg.specs.Marks.Trace.{Named, Based, AddressAt, SeenAt, LifetimeAt, BindingAt, SmsAt, ObjectsAt, AttributeAt, EndedAt, Removed, Watched, Cancelled}
 
 -- the current registration of an endpoint: the greatest that is named
 abbrev pub IsCurrent : Marks → List ℕ → Stamp → Type 0
@@ -68,10 +69,20 @@ pub record IsComplete (M : Marks) (r : Registration) : Type 0 where
   pub objects : IsValue text_cmp ObjectsAt M r.endpoint r.id r.objects
   pub attributes : HasAttributes M r.endpoint r.id r.attributes
 
--- it is complete, and was not removed
+-- The registration has ended: the write of its moment that counts is not above a stamp up to which what was seen of
+-- it is over.
+pub record HasEnded (M : Marks) (e : List ℕ) (r : Stamp) : Type 0 where
+  pub upto : Stamp
+  pub over : Has M e r (EndedAt upto)
+  pub seen : Stamp × Moment
+  pub is_seen : IsWrite moment_cmp SeenAt M e r seen
+  pub reached : AtMost stamp_cmp seen.0 upto
+
+-- it is complete, was not removed, and has not ended
 pub record IsRegistered (M : Marks) (r : Registration) : Type 0 where
   pub complete : IsComplete M r
   pub kept : ¬ Has M r.endpoint r.id Removed
+  pub lasts : ¬ HasEnded M r.endpoint r.id
 
 -- it never expires, or its lifetime, in seconds, is not over at this moment, in milliseconds
 abbrev pub IsInTime : ℕ → Registration → Type 0
@@ -82,7 +93,7 @@ pub record IsShown (M : Marks) (now : ℕ) (r : Registration) : Type 0 where
   pub registered : IsRegistered M r
   pub in_time : IsInTime now r
 
--- it has expired: it is not removed, and not shown any more
+-- it has expired: it is not removed, has not ended, and is not shown any more
 pub record IsExpired (M : Marks) (now : ℕ) (r : Registration) : Type 0 where
   pub registered : IsRegistered M r
   pub late : ¬ IsInTime now r

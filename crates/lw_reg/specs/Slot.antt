@@ -15,11 +15,11 @@ use Rattle.lw_reg.specs.declared.binding.Binding.{Binding}
 use Rattle.lw_reg.specs.declared.body.Body.{Body}
 use Rattle.lw_reg.specs.declared.op.Op.{Op}
 use Rattle.lw_reg.specs.declared.op.What.{What}
-use Rattle.lw_reg.specs.declared.op.What.TheVariants.{Register, Update, Remove, Observe, Cancel}
+use Rattle.lw_reg.specs.declared.op.What.TheVariants.{Register, Update, Remove, Observe, Cancel, Expire}
 use Rattle.lw_reg.specs.declared.slot.Slot.{Slot}
-use Rattle.lw_reg.specs.Body.{Watching, Watches, AttributeMap, no_watches, one_watch, no_attributes, one_attribute, maps_of, maps_alone, BodyBelow, body_join, body_in_place}
+use Rattle.lw_reg.specs.Body.{Watching, Watches, AttributeMap, no_watches, one_watch, no_attributes, one_attribute, maps_of, maps_alone, ended_alone, BodyBelow, body_join, body_in_place}
 use Rattle.lw_reg.specs.Marks.{Trace}
-use Rattle.lw_reg.specs.Marks.Trace.{Based, AddressAt, SeenAt, LifetimeAt, BindingAt, SmsAt, ObjectsAt, AttributeAt, Removed, Watched, Cancelled}
+use Rattle.lw_reg.specs.Marks.Trace.{Based, AddressAt, SeenAt, LifetimeAt, BindingAt, SmsAt, ObjectsAt, AttributeAt, EndedAt, Removed, Watched, Cancelled}
 
 abbrev pub slot_below : Slot → Slot → Type 0
 slot_below x y = lex_below (gone_below BodyBelow) x.registration y.registration
@@ -64,6 +64,10 @@ abbrev pub objects_in : Trace → Option (Stamp × List ℕ)
 objects_in (ObjectsAt s v) = Some (s, v)
 objects_in _ = None
 
+abbrev pub ended_in : Trace → Option Stamp
+ended_in (EndedAt s) = Some s
+ended_in _ = None
+
 abbrev pub attributes_in : Trace → AttributeMap
 attributes_in (AttributeAt name s v) = one_attribute name (s, v)
 attributes_in _ = no_attributes
@@ -89,6 +93,7 @@ body_in k = record {
   binding = record { write = binding_in k };
   sms = record { write = sms_in k };
   objects = record { write = objects_in k };
+  ended = record { value = ended_in k };
   maps = maps_of (attributes_in k) (watches_in k);
 }
 
@@ -119,6 +124,7 @@ told_of s (Register version queue address seen settings) = Here (record {
   binding = record { write = Some (s, settings.binding) };
   sms = record { write = Some (s, settings.sms) };
   objects = record { write = Some (s, settings.objects) };
+  ended = record { value = None };
   maps = maps_of (writes_of s settings.attributes) no_watches;
 })
 told_of s (Update address seen settings) = Here (record {
@@ -129,11 +135,17 @@ told_of s (Update address seen settings) = Here (record {
   binding = record { write = write_of s settings.binding };
   sms = record { write = write_of s (some_text settings.sms) };
   objects = record { write = write_of s settings.objects };
+  ended = record { value = None };
   maps = maps_of (writes_of s settings.attributes) no_watches;
 })
 told_of s Remove = Gone
 told_of s (Observe path accept) = Here (maps_alone (maps_of no_attributes (one_watch path (observed s accept))))
 told_of s (Cancel path token) = Here (maps_alone (maps_of no_attributes (one_watch path (cancelled token))))
+told_of s (Expire upto) = Here (ended_alone upto)
 
 abbrev pub slot_of : Op → Slot
 slot_of o = slot_at o.reg (told_of o.stamp o.what)
+
+-- the slot of an Expire: what was seen of the registration up to the stamp is over
+abbrev pub ending : Stamp → Stamp → Slot
+ending r upto = slot_at r (Here (ended_alone upto))

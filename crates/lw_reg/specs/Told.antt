@@ -20,7 +20,7 @@ body_or_nothing (Some body) = body
 
 -- no field is known
 abbrev pub has_no_fields : Body → Bool
-has_no_fields b = is_none b.base.value && is_none b.address.write && is_none b.seen.write && is_none b.lifetime.write && is_none b.binding.write && is_none b.sms.write && is_none b.objects.write
+has_no_fields b = is_none b.base.value && is_none b.address.write && is_none b.seen.write && is_none b.lifetime.write && is_none b.binding.write && is_none b.sms.write && is_none b.objects.write && is_none b.ended.value
 
 -- what is kept under a name is an attribute
 abbrev pub KeepsAttributes : OrGone Body → Type 0

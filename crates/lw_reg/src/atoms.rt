@@ -7,11 +7,14 @@ ghost use Rattle.lw_reg.specs.Attribute.{IsAttribute};
 ghost use Rattle.lw_reg.specs.Body.{no_watches, no_attributes};
 ghost use Rattle.lw_reg.specs.Endpoint.{IsEndpoint};
 ghost use Rattle.lw_reg.specs.Slot.{slot_of, told_of, write_of, writes_of, observed, cancelled};
-ghost use Rattle.lw_reg.specs.Fields.{told_fields, watched_fields};
+ghost use Rattle.lw_reg.specs.Fields.{no_writes, told_fields, watched_fields, ended_fields};
 ghost use Rattle.lw_reg.specs.Told.{KeepsAttributes};
 
-use crate::{Attributes, Base, Endpoint, FieldWrites, Fields, Op, Path, Slot, Watching, What};
+use crate::{
+    Attributes, Base, Endpoint, FieldWrites, Fields, Op, Path, Slot, SmsNumber, Watching, What,
+};
 use lw_join::{Last, Lex, Once, OrGone, Parts};
+use lw_link::LinkText;
 use lw_stamp::{NoMemory, Stamp, Text};
 use std::alloc::Global;
 
@@ -67,6 +70,7 @@ fn told(alloc: Global, stamp: Stamp, what: What) -> Result<Option<Fields>, NoMem
                 objects: Some((stamp, settings.objects)),
             },
             attributes: written(alloc, stamp, settings.attributes)?,
+            ended: None,
             watches: unwatched(alloc),
         },
         What::Update {
@@ -84,11 +88,13 @@ fn told(alloc: Global, stamp: Stamp, what: What) -> Result<Option<Fields>, NoMem
                 objects: stamped(stamp, given.objects),
             },
             attributes: written(alloc, stamp, given.attributes)?,
+            ended: None,
             watches: unwatched(alloc),
         },
         What::Remove => return Ok(None),
         What::Observe { path, accept } => observed(alloc, path, stamp, accept)?,
         What::Cancel { path, token } => cancelled(alloc, path, token)?,
+        What::Expire { upto } => ended(alloc, upto),
     };
     Ok(Some(fields))
 }
@@ -120,6 +126,21 @@ fn written(
     match Parts::from_entries(writes) {
         Some(writes) => Ok(writes),
         None => unreachable!(),
+    }
+}
+
+/// No field is written.
+fn no_writes() -> FieldWrites<SmsNumber, LinkText>
+    ensures { result ≡ no_writes }
+{
+    FieldWrites {
+        base: None,
+        address: None,
+        seen: None,
+        lifetime: None,
+        binding: None,
+        sms: None,
+        objects: None,
     }
 }
 
@@ -158,18 +179,22 @@ fn cancelled(alloc: Global, path: Path, stamp: Stamp) -> Result<Fields, NoMemory
 fn watched(alloc: Global, path: Path, watching: Watching) -> Result<Fields, NoMemory>
     ensures { IfOk result (λ fields. fields ≡ watched_fields path watching) }
 {
-    let writes = FieldWrites {
-        base: None,
-        address: None,
-        seen: None,
-        lifetime: None,
-        binding: None,
-        sms: None,
-        objects: None,
-    };
     Ok(Fields {
-        writes,
+        writes: no_writes(),
         attributes: unwritten(alloc),
+        ended: None,
         watches: Parts::one(alloc, path, watching)?,
     })
+}
+
+/// The end alone.
+fn ended(alloc: Global, upto: Stamp) -> Fields
+    ensures { result ≡ ended_fields upto }
+{
+    Fields {
+        writes: no_writes(),
+        attributes: unwritten(alloc),
+        ended: Some(upto),
+        watches: unwatched(alloc),
+    }
 }

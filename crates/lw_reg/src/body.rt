@@ -1,7 +1,7 @@
 use crate::object_list::ObjectList;
 use crate::{Addr, Base, Binding, Path, SmsNumber};
 use lw_join::{Both, Calm, Join, Last, Lex, Lww, Once, OrGone};
-use lw_stamp::{Moment, NoMemory, Text};
+use lw_stamp::{Moment, NoMemory, Stamp, Text};
 
 /// The last watch of a path: its token, and the Content-Format that it accepts, if it names one, or gone once
 /// it was cancelled.
@@ -17,13 +17,17 @@ pub(crate) struct Body {
     pub(crate) binding: Lww<Binding>,
     pub(crate) sms: Lww<Option<SmsNumber>>,
     pub(crate) objects: Lww<ObjectList>,
+    /// What was seen of it up to this stamp is over.
+    pub(crate) ended: Once<Stamp>,
     /// The last write of each attribute, and the last watch of each path.
     pub(crate) maps: Both<Text, Last<Text>, Path, Watching>,
 }
 
 impl Body {
-    ghost use Rattle.std.specs.Prelude.{◌≡◌, ◌↔◌, IsTrue};
-    ghost use Rattle.lw_reg.specs.Body.{nothing};
+    ghost use Rattle.std.specs.Prelude.{◌≡◌, ◌↔◌, IsTrue, Some, None};
+    ghost use Rattle.lw_stamp.specs.declared.moment.Moment.{Moment as Moments};
+    ghost use Rattle.lw_stamp.specs.declared.stamp.Stamp.{Stamp as Stamps};
+    ghost use Rattle.lw_reg.specs.Body.{nothing, ended_alone, body_join};
     ghost use Rattle.lw_reg.specs.Told.{has_no_fields};
 
     /// Whether nothing is known.
@@ -43,6 +47,18 @@ impl Body {
             && self.binding.write.is_none()
             && self.sms.write.is_none()
             && self.objects.write.is_none()
+            && self.ended.value.is_none()
+    }
+
+    /// Tells that what was seen of it is over. Where nothing was seen, nothing is told.
+    pub(crate) fn lift(&mut self)
+        ensures lifted { (at : Stamps) (v : Moments) → self.old.seen.write ≡ Some (at, v) → self.new ≡ body_join self.old (ended_alone at) }
+        ensures unseen { self.old.seen.write ≡ None → self.new ≡ self.old }
+        ensures maps { self.new.maps ≡ self.old.maps }
+    {
+        if let Some((upto, _)) = self.seen.write {
+            self.ended.join_calm(Once { value: Some(upto) });
+        }
     }
 }
 
@@ -66,6 +82,7 @@ impl Join for Body {
             && self.binding.le(&other.binding)
             && self.sms.le(&other.sms)
             && self.objects.le(&other.objects)
+            && self.ended.le(&other.ended)
             && self.maps.le(&other.maps)
     }
 
@@ -79,6 +96,7 @@ impl Join for Body {
         self.binding.join_calm(other.binding);
         self.sms.join_calm(other.sms);
         self.objects.join_calm(other.objects);
+        self.ended.join_calm(other.ended);
         Ok(())
     }
 }

@@ -16,11 +16,12 @@ pub struct FieldWrites<Number, Objects> {
     pub objects: Option<(Stamp, Objects)>,
 }
 
-/// What a slot keeps of a registration that was not removed: its fields, the last write of each attribute, and the last
-/// watch of each path.
+/// What a slot keeps of a registration that was not removed: its fields, the last write of each attribute, up to which
+/// stamp what was seen of it is over, and the last watch of each path.
 #[derive(Drop)]
 pub struct Fields {
     pub writes: FieldWrites<SmsNumber, LinkText>,
     pub attributes: Parts<Text, Last<Text>>,
+    pub ended: Option<Stamp>,
     pub watches: Parts<Path, Watching>,
 }

@@ -39,4 +39,8 @@ pub enum What {
         path: Path,
         token: Stamp,
     },
+    /// What was seen of it up to this stamp is over.
+    Expire {
+        upto: Stamp,
+    },
 }

@@ -5,15 +5,15 @@ ghost use Rattle.std.specs.List.{list_any};
 ghost use Rattle.lw_stamp.specs.Moment.{ms_of};
 ghost use Rattle.lw_reg.specs.Binding.{binding_text};
 ghost use Rattle.lw_reg.specs.Marks.{Mark, among};
-ghost use Rattle.lw_reg.specs.Reading.{registered_in, view_in, in_time, is_late, shown_by, IsSlotOf};
+ghost use Rattle.lw_reg.specs.Reading.{registered_in, view_in, in_time, is_late, lasting, ended_of, seen_of, shown_by, IsSlotOf};
 ghost use Rattle.lw_reg.specs.Showing.{ShownOf, HasExpired};
 
 use crate::{AttributesView, Binding, Slot, View};
-use lw_stamp::Moment;
+use lw_stamp::{Moment, Stamp};
 
 impl Slot {
-    /// What is shown of the endpoint whose slot this is: there is none where its registration was removed,
-    /// where a field is not known yet, or once its lifetime is over.
+    /// What is shown of the endpoint whose slot this is: there is none where its registration was removed or has
+    /// ended, where a field is not known yet, or once its lifetime is over.
     pub fn view<'a>(&'a self, endpoint: &'a str, now: Moment) -> Option<View<'a>>
         ensures value { result ≡ view_in (ms_of now) endpoint.now self.now }
         // It is what the marks say that can be read from the slot,
@@ -24,7 +24,7 @@ impl Slot {
         self.shown(endpoint, now)
     }
 
-    /// Whether the registration is complete and was not removed, and its lifetime is over.
+    /// Whether the registration is complete, was not removed and has not ended, and its lifetime is over.
     pub fn expired(&self, now: Moment) -> bool
         ensures value { result ≡ is_late (ms_of now) (registered_in [] self.now) }
         ensures read { (e : List ℕ) → IsTrue result ↔ HasExpired (shown_by e self.now) (ms_of now) e }
@@ -58,7 +58,7 @@ impl Slot {
     {
         let base = self.base()?;
         let (_, address) = self.address()?;
-        let (_, seen) = self.seen()?;
+        let (_, seen) = self.lasting()?;
         let (_, lifetime) = self.lifetime()?;
         let (_, binding) = self.binding()?;
         let (_, sms) = self.sms()?;
@@ -76,6 +76,17 @@ impl Slot {
             objects,
             attributes: AttributesView::of_writes(self.attributes()),
         })
+    }
+
+    /// What was seen last, unless it was over by then.
+    fn lasting(&self) -> Option<(Stamp, Moment)>
+        ensures { result ≡ lasting (ended_of self.now) (seen_of self.now) }
+    {
+        let seen = self.seen()?;
+        let Some(upto) = self.ended() else {
+            return Some(seen);
+        };
+        if seen.0 > upto { Some(seen) } else { None }
     }
 }
 

@@ -9,7 +9,7 @@ ghost use Rattle.lw_reg.specs.Body.{nothing};
 ghost use Rattle.lw_reg.specs.Fields.{fields_body, told_fields, slot_of_fields};
 ghost use Rattle.lw_reg.specs.Orders.{path_cmp};
 ghost use Rattle.lw_reg.specs.Told.{body_or_nothing, KeepsAttributes};
-ghost use Rattle.lw_reg.specs.Reading.{known_of, stamp_of, IsRemoved, base_of, address_of, seen_of, lifetime_of, binding_of, sms_of, objects_of, attributes_of, watches_of};
+ghost use Rattle.lw_reg.specs.Reading.{known_of, stamp_of, IsRemoved, base_of, address_of, seen_of, lifetime_of, binding_of, sms_of, objects_of, attributes_of, ended_of, watches_of};
 
 use crate::body::Body;
 use crate::object_list::ObjectList;
@@ -132,6 +132,13 @@ impl Slot {
         }
     }
 
+    /// The stamp up to which what was seen of the registration is over.
+    pub fn ended(&self) -> Option<Stamp>
+        ensures { result ≡ ended_of self.now }
+    {
+        self.body()?.ended.value
+    }
+
     /// The last watch of each path, paths rising.
     pub fn watches(&self) -> &[(Path, Watching)]
         ensures watches { result.now ≡ watches_of self.now }
@@ -150,6 +157,7 @@ fn body_of_fields(fields: Fields) -> Body
     let Fields {
         writes,
         attributes,
+        ended,
         watches,
     } = fields;
     let FieldWrites {
@@ -171,10 +179,27 @@ fn body_of_fields(fields: Fields) -> Body
         objects: Lww {
             write: objects.map(|(stamp, text)| (stamp, ObjectList { text })),
         },
+        ended: Once { value: ended },
         maps: Both {
             left: attributes,
             right: watches,
         },
+    }
+}
+
+impl Slot {
+    ghost use Rattle.std.specs.Prelude.{Some};
+    ghost use Rattle.lw_stamp.specs.declared.moment.Moment.{Moment as Moments};
+    ghost use Rattle.lw_stamp.specs.declared.stamp.Stamp.{Stamp as Stamps};
+    ghost use Rattle.lw_reg.specs.Slot.{slot_join, ending};
+
+    /// Tells that the registration is over, as it was last seen: the join with the slot of an Expire up to the stamp
+    /// of that, in place. Where nothing was seen, nothing is told.
+    pub fn lift(&mut self)
+        ensures lifted { (at : Stamps) (v : Moments) → seen_of self.old ≡ Some (at, v) → self.new ≡ slot_join self.old (ending (stamp_of self.old) at) }
+        ensures unseen { seen_of self.old ≡ None → self.new ≡ self.old }
+    {
+        self.registration.value.lift();
     }
 }
 

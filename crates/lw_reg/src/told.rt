@@ -1,6 +1,6 @@
 //! What is known of a registration, with memory only where something is known.
 
-ghost use Rattle.std.specs.Prelude.{◌≡◌, ◌↔◌, IsTrue, IsOk, IfOk, IfSome};
+ghost use Rattle.std.specs.Prelude.{◌≡◌, ◌↔◌, IsTrue, IsOk, IfOk, IfSome, Some, None};
 ghost use Rattle.std.specs.Option.{option_copied};
 ghost use Rattle.lw_join.specs.declared.or_gone.OrGone.TheVariants.{Here, Gone};
 ghost use Rattle.lw_reg.specs.Body.{nothing};
@@ -123,8 +123,10 @@ impl Join for Told {
 }
 
 impl Told {
+    ghost use Rattle.lw_stamp.specs.declared.moment.Moment.{Moment as Moments};
+    ghost use Rattle.lw_stamp.specs.declared.stamp.Stamp.{Stamp as Stamps};
     ghost use Rattle.lw_join.specs.OrGone.{gone_join, gone_in_place};
-    ghost use Rattle.lw_reg.specs.Body.{body_join, body_in_place};
+    ghost use Rattle.lw_reg.specs.Body.{body_join, body_in_place, ended_alone};
     ghost use Rattle.std.specs.Prelude.{OnOk, OnErr};
 
     /// A box is moved in where nothing was known.
@@ -141,6 +143,17 @@ impl Told {
                 Ok(())
             }
             Kept::Known(body) => body.join_with(Box::into_inner(other)),
+        }
+    }
+
+    /// Tells that what was seen of the registration is over. Where nothing was seen, nothing is told.
+    pub(crate) fn lift(&mut self)
+        ensures lifted { (at : Stamps) (v : Moments) → (known_in self.old).seen.write ≡ Some (at, v) → self.new ≡ gone_join body_join self.old (Here (ended_alone at)) }
+        ensures unseen { (known_in self.old).seen.write ≡ None → self.new ≡ self.old }
+    {
+        match &mut self.kept {
+            Kept::Known(body) => body.lift(),
+            Kept::Nothing | Kept::Removed => {}
         }
     }
 }

@@ -35,7 +35,7 @@ use Rattle.lw_reg.specs.Marks.Trace.{Named, AddressAt}
 use Rattle.lw_reg.specs.OrderLaws.{text_order, addr_order}
 use Rattle.lw_reg.specs.Orders.{addr_cmp, path_cmp}
 use Rattle.lw_reg.specs.Attribute.{values_of}
-use Rattle.lw_reg.specs.Reading.{registration_of, registered_in, in_time, timely, view_in, is_late, stamp_of, address_of, IsRemoved, watch_of, token_then, tokens_in, watches_of, has_token, is_above, live_watch, shown_in}
+use Rattle.lw_reg.specs.Reading.{registration_of, registered_in, lasting, in_time, timely, view_in, is_late, stamp_of, address_of, IsRemoved, watch_of, token_then, tokens_in, watches_of, has_token, is_above, live_watch, shown_in}
 use Rattle.lw_reg.specs.Registration.{Registration}
 use Rattle.lw_reg.specs.Showing.{IsWrite, IsShown, IsExpired, IsLive, ShownOf, LivesOf, IsAbove, WatchWith, WatchAfter, IsFirstWatch}
 use Rattle.lw_reg.specs.Slot.{slot_at, observed}
@@ -94,7 +94,7 @@ registered_keeps e slot v = go slot.registration.stamp slot.registration.value
     go : (r : Stamp) (x : OrGone Body) → registered_in e (slot_at r x) ≡ Some v → IsKeptAs (slot_at r x) v
     go r Gone h = absurd cc
     go r (Here b) h =
-        let p = parts_kept e r b.base.value b.address.write b.seen.write b.lifetime.write b.binding.write b.sms.write b.objects.write (values_of (entries_of b.maps.left)) v h in
+        let p = parts_kept e r b.base.value b.address.write (lasting b.ended.value b.seen.write) b.lifetime.write b.binding.write b.sms.write b.objects.write (values_of (entries_of b.maps.left)) v h in
         record { id = p.0; kept = λ gone. cc; at = p.1.0; address = p.1.1 }
 
 pub view_keeps : (now : ℕ) (e : List ℕ) (slot : Slot) (v : Registration) → view_in now e slot ≡ Some v → IsKeptAs slot v

@@ -46,6 +46,7 @@ was_before c d le o h = record { before = h.before; below = (let lt = h.below in
 
 token_more : (c d : ℕ) → c ≤ d → (what : What) → TokenWithin c what → TokenWithin d what
 token_more c d le (whats.Cancel path token) h = omega (arith, le, h)
+token_more c d le (whats.Expire upto) h = omega (arith, le, h)
 token_more c d le _ h = tt
 
 pub was_within : (clock : ℕ) (o : Op) → WasNext clock o → IsWithin clock o

@@ -27,13 +27,13 @@ fn put_watches(bytes: &mut Vec<u8>, stamp: &[u8]) -> Result<(), Fail> {
     Ok(())
 }
 
-/// A delta of one slot with every field, the longest of each text, and 100 watches.
+/// A delta of one slot with every field, the longest of each text, an end, and 100 watches.
 fn full(alloc: Global, clock: &[u8; 6], host: &[u8]) -> Result<Vec<u8>, Fail> {
     let [a, b, c, d, e, f] = *clock;
     let stamp: &[u8] = &[a, b, c, d, e, f, 0, 1];
     let mut bytes = Vec::new(alloc);
-    let parts: [&[u8]; 23] = [
-        b"LWD2",
+    let parts: [&[u8]; 24] = [
+        b"LWD3",
         clock,
         &[1, 252],
         &[b'e'; 252],
@@ -55,7 +55,8 @@ fn full(alloc: Global, clock: &[u8; 6], host: &[u8]) -> Result<Vec<u8>, Fail> {
         &[0x20, 0, b'<'],
         &[b'o'; 8190],
         b">",
-        &[0],
+        &[0, 1],
+        stamp,
     ];
     for part in parts {
         bytes.extend_from_slice(part)?;
@@ -68,12 +69,13 @@ fn full(alloc: Global, clock: &[u8; 6], host: &[u8]) -> Result<Vec<u8>, Fail> {
 /// What the readers of a slot give of the fields without texts.
 fn values(alloc: Global, slot: &Slot) -> Result<String, AllocError> {
     format!(in alloc;
-        "{:?} {:?} {:?} {:?} {:?}",
+        "{:?} {:?} {:?} {:?} {:?} {:?}",
         slot.base(),
         slot.address(),
         slot.seen(),
         slot.lifetime(),
-        slot.binding()
+        slot.binding(),
+        slot.ended()
     )
 }
 
@@ -117,24 +119,26 @@ const V4_READ: &str = "Some(Base { version: V11, queue: true }) \
 Some((Stamp { counter: 1, node: 1 }, V4 { address: [127, 0, 0, 1], port: 5683 })) \
 Some((Stamp { counter: 1, node: 1 }, Moment { ms: 281474976710655 })) \
 Some((Stamp { counter: 1, node: 1 }, 4294967295)) \
-Some((Stamp { counter: 1, node: 1 }, Binding { letters: [65, 66, 67, 68, 69, 70, 71, 72] }))";
+Some((Stamp { counter: 1, node: 1 }, Binding { letters: [65, 66, 67, 68, 69, 70, 71, 72] })) \
+Some(Stamp { counter: 1, node: 1 })";
 
 /// The same with the other address, at the last stamp of the node.
 const V6_READ: &str = "Some(Base { version: V11, queue: true }) \
 Some((Stamp { counter: 281474976710655, node: 1 }, V6 { address: [32, 1, 13, 184, 0, 0, 0, 0, 0, 0, 0, 0, 0, 0, 0, 255], port: 65535 })) \
 Some((Stamp { counter: 281474976710655, node: 1 }, Moment { ms: 281474976710655 })) \
 Some((Stamp { counter: 281474976710655, node: 1 }, 4294967295)) \
-Some((Stamp { counter: 281474976710655, node: 1 }, Binding { letters: [65, 66, 67, 68, 69, 70, 71, 72] }))";
+Some((Stamp { counter: 281474976710655, node: 1 }, Binding { letters: [65, 66, 67, 68, 69, 70, 71, 72] })) \
+Some(Stamp { counter: 281474976710655, node: 1 })";
 
 #[test]
 fn the_longest_fields_are_read_and_written_again(rt: HostRuntime) -> Result<(), Fail> {
     let rows = [
-        ([0, 0, 0, 0, 0, 1], V4.as_slice(), 1, 10_898, V4_READ),
+        ([0, 0, 0, 0, 0, 1], V4.as_slice(), 1, 10_907, V4_READ),
         (
             [255; 6],
             V6.as_slice(),
             281_474_976_710_655,
-            10_910,
+            10_919,
             V6_READ,
         ),
     ];
@@ -150,7 +154,7 @@ fn the_longest_fields_are_read_and_written_again(rt: HostRuntime) -> Result<(), 
 /// A delta of 300 removed registrations, of the endpoints 000 to 299.
 fn many(alloc: Global) -> Result<Vec<u8>, Fail> {
     let mut bytes = Vec::new(alloc);
-    bytes.extend_from_slice(b"LWD2\x00\x00\x00\x00\x00\x01")?;
+    bytes.extend_from_slice(b"LWD3\x00\x00\x00\x00\x00\x01")?;
     for n in 0..300u16 {
         let name = [
             b'0' + (n / 100) as u8,
@@ -160,7 +164,7 @@ fn many(alloc: Global) -> Result<Vec<u8>, Fail> {
         for part in [
             &[1, 3],
             name.as_slice(),
-            &[0, 0, 0, 0, 0, 1, 0, 1, 0x80, 0, 0],
+            &[0, 0, 0, 0, 0, 1, 0, 1, 0x80, 0, 0, 0],
         ] {
             bytes.extend_from_slice(part)?;
         }
@@ -181,7 +185,7 @@ fn reads_many(alloc: Global, bytes: &[u8]) -> Result<bool, DeltaFault> {
 #[test]
 fn three_hundred_slots_are_read_and_written_again(rt: HostRuntime) -> Result<(), Fail> {
     let bytes = many(rt.alloc())?;
-    let is_held = holds(rt.alloc(), &bytes, 1, 4811)?;
+    let is_held = holds(rt.alloc(), &bytes, 1, 5111)?;
     let is_read = reads_many(rt.alloc(), &bytes)?;
     assert!(rt; is_held && is_read);
     Ok(())
@@ -192,13 +196,13 @@ fn attributed(alloc: Global, name: u8, value: u8) -> Result<Vec<u8>, Fail> {
     let names = "n".repeat(alloc, usize::from(name))?;
     let values = "v".repeat(alloc, usize::from(value))?;
     let parts: [&[u8]; 7] = [
-        b"LWD2\x00\x00\x00\x00\x00\x01\x01\x01a\x00\x00\x00\x00\x00\x01\x00\x01\x00",
+        b"LWD3\x00\x00\x00\x00\x00\x01\x01\x01a\x00\x00\x00\x00\x00\x01\x00\x01\x00",
         &[1, name],
         names.as_bytes(),
         &[0, 0, 0, 0, 0, 1, 0, 1],
         &[value],
         values.as_bytes(),
-        &[0, 0, 0],
+        &[0, 0, 0, 0],
     ];
     let mut bytes = Vec::new(alloc);
     for part in parts {
@@ -234,7 +238,7 @@ fn the_longest_attributes_are_read_and_written_again(rt: HostRuntime) -> Result<
             rt.alloc(),
             &bytes,
             1,
-            36 + usize::from(name) + usize::from(value),
+            37 + usize::from(name) + usize::from(value),
         )?;
         let is_read = reads_attribute(rt.alloc(), &bytes, name, value)?;
         assert!(rt; is_held && is_read, "a name of {name}, a value of {value}");

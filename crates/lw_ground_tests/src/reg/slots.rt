@@ -200,6 +200,187 @@ fn a_watch_is_cancelled_or_ends(rt: HostRuntime) -> Result<(), Fail> {
     loses_its_watches(rt.alloc(), &mut slot)
 }
 
+/// What is told of a slot: its end, whether it is shown and whether it has expired at the moments 0 and 60,000, and how
+/// many watches it has.
+type Told = (Option<Mark>, bool, bool, usize);
+
+fn tells(slot: &Slot, (end, shown, expired, watches): Told) -> bool {
+    slot.ended() == end.map(Mark::stamp)
+        && slot.view("a", at(0)).is_some() == shown
+        && slot.watch_after(at(0), None).is_some() == (shown && watches != 0)
+        && slot.expired(at(60_000)) == expired
+        && slot.watches().len() == watches
+        && !slot.expired(at(0))
+}
+
+/// Operations behind a Register with a watch, and what is told at the end.
+static ENDS: [(&[Change<'static>], Told); 11] = [
+    (&[], (None, true, true, 1)),
+    (
+        &[(Third, First, Expire(First))],
+        (Some(First), false, false, 1),
+    ),
+    // an Update above it
+    (
+        &[
+            (Fifth, First, Expire(First)),
+            (Third, First, Update(HOST_A, 0, None, None)),
+        ],
+        (Some(First), true, true, 1),
+    ),
+    // one at it, and one below
+    (
+        &[
+            (Fifth, First, Expire(Third)),
+            (Third, First, Update(HOST_A, 0, None, None)),
+        ],
+        (Some(Third), false, false, 1),
+    ),
+    (
+        &[
+            (Fifth, First, Expire(Fourth)),
+            (Third, First, Update(HOST_A, 0, None, None)),
+        ],
+        (Some(Fourth), false, false, 1),
+    ),
+    // of the same counter at another node
+    (
+        &[
+            (Fifth, First, Expire(Second)),
+            (Elsewhere, First, Update(HOST_A, 0, None, None)),
+        ],
+        (Some(Second), true, true, 1),
+    ),
+    (
+        &[
+            (Fifth, First, Expire(Elsewhere)),
+            (Second, First, Update(HOST_A, 0, None, None)),
+        ],
+        (Some(Elsewhere), false, false, 1),
+    ),
+    // the later of two
+    (
+        &[
+            (Third, First, Expire(First)),
+            (Fifth, First, Expire(Second)),
+        ],
+        (Some(Second), false, false, 1),
+    ),
+    // a removal wins
+    (
+        &[(Third, First, Expire(First)), (Fourth, First, Remove)],
+        (None, false, false, 0),
+    ),
+    // a later Register, which is seen at its own stamp
+    (
+        &[
+            (Fifth, First, Expire(Fifth)),
+            (Fourth, Fourth, Register(HOST_A, 0, 60)),
+        ],
+        (None, true, true, 0),
+    ),
+    // the end of an earlier one
+    (
+        &[
+            (Fourth, Fourth, Register(HOST_A, 0, 60)),
+            (Fifth, First, Expire(Fifth)),
+        ],
+        (None, true, true, 0),
+    ),
+];
+
+const WATCH: Change<'static> = (Second, First, Observe(&[3, 0], None));
+
+/// The operations in this order and in the other.
+fn ends(alloc: Global, changes: &[Change<'_>], told: Told) -> Result<(), Fail> {
+    let mut slot = joined(alloc, REGISTERED, &[WATCH])?;
+    join_all(alloc, &mut slot, changes)?;
+    holds_for(&changes.len(), tells(&slot, told))?;
+    let mut slot = joined(alloc, REGISTERED, &[])?;
+    for change in changes.iter().rev() {
+        slot.join_with(slot_of(alloc, *change)?)?;
+    }
+    slot.join_with(slot_of(alloc, WATCH)?)?;
+    holds_for(&changes.len(), tells(&slot, told))
+}
+
+#[test]
+fn what_was_seen_is_over(rt: HostRuntime) -> Result<(), Fail> {
+    for (changes, told) in &ENDS {
+        ends(rt.alloc(), changes, *told)?;
+    }
+    Ok(())
+}
+
+/// An end before all that it is about.
+#[test]
+fn an_end_comes_before_its_registration(rt: HostRuntime) -> Result<(), Fail> {
+    let mut slot = slot_of(rt.alloc(), (Fifth, First, Expire(First)))?;
+    holds("alone", tells(&slot, (Some(First), false, false, 0)))?;
+    slot.join_with(slot_of(rt.alloc(), REGISTERED)?)?;
+    holds("over", tells(&slot, (Some(First), false, false, 0)))
+}
+
+/// Operations behind a Register with a watch, and the stamp of what was seen last.
+static LIFTED: [(&[Change<'static>], Mark); 4] = [
+    (&[], First),
+    (&[(Third, First, Update(HOST_B, 0, Some(60), None))], Third),
+    // what is shown once more is over once more
+    (
+        &[
+            (Fifth, First, Expire(First)),
+            (Third, First, Update(HOST_B, 0, Some(60), None)),
+        ],
+        Third,
+    ),
+    // and what is over is so already
+    (&[(Fifth, First, Expire(Second))], First),
+];
+
+/// Whether both are below the other, so that they are one.
+fn are_one(one: &Slot, other: &Slot) -> bool {
+    one.le(other) && other.le(one)
+}
+
+/// Lifts the slot, and joins another of the same operations with that of an Expire up to the stamp.
+fn lifts(alloc: Global, changes: &[Change<'_>], upto: Mark) -> Result<(), Fail> {
+    let mut lifted = joined(alloc, REGISTERED, &[WATCH])?;
+    join_all(alloc, &mut lifted, changes)?;
+    let mut other = joined(alloc, REGISTERED, &[WATCH])?;
+    join_all(alloc, &mut other, changes)?;
+    let end = slot_of(alloc, (Fifth, First, Expire(upto)))?;
+    other.join_with(end)?;
+    lifted.lift();
+    let is_over = lifted.view("a", at(0)).is_none() && !lifted.expired(at(60_000));
+    let is_kept = lifted.address() == other.address() && lifted.watches().len() == 1;
+    holds_for(
+        &upto.stamp(),
+        is_over && is_kept && are_one(&lifted, &other),
+    )
+}
+
+#[test]
+fn a_slot_is_lifted(rt: HostRuntime) -> Result<(), Fail> {
+    for (changes, upto) in &LIFTED {
+        lifts(rt.alloc(), changes, *upto)?;
+    }
+    Ok(())
+}
+
+/// Nothing was seen of the one, and the other was removed.
+#[test]
+fn nothing_is_lifted_that_was_not_seen(rt: HostRuntime) -> Result<(), Fail> {
+    let mut watched = slot_of(rt.alloc(), WATCH)?;
+    watched.lift();
+    let is_kept = watched.ended().is_none() && watched.watches().len() == 1;
+    let mut removed = joined(rt.alloc(), REGISTERED, REMOVED)?;
+    removed.lift();
+    holds(
+        "no end",
+        is_kept && is_gone(&removed) && removed.ended().is_none(),
+    )
+}
+
 static PATHS: [&[u16]; 3] = [&[65_534], &[65_534; 4], &[3, 0, 9, 1]];
 
 static NO_PATHS: [&[u16]; 5] = [

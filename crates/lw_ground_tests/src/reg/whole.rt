@@ -22,6 +22,12 @@ const LAST: Stamp = Stamp {
     node: 65_535,
 };
 
+/// The end of a registration that is seen at the last stamp.
+const BEFORE_LAST: Stamp = Stamp {
+    counter: 281_474_976_710_655,
+    node: 65_534,
+};
+
 const FIRST_HOST: Addr = Addr::V4 {
     address: [255; 4],
     port: 65_535,
@@ -153,6 +159,7 @@ fn first_fields(alloc: Global) -> Result<Fields, Fail>
             objects: Some((FIRST, objects)),
         },
         attributes: Parts::new(alloc),
+        ended: Some(FIRST),
         watches: watches(alloc, false)?,
     })
 }
@@ -177,6 +184,7 @@ fn last_fields(alloc: Global) -> Result<Fields, Fail>
             objects: Some((LAST, objects)),
         },
         attributes: Parts::new(alloc),
+        ended: Some(BEFORE_LAST),
         watches: watches(alloc, true)?,
     })
 }
@@ -210,6 +218,7 @@ fn has_the_last_fields(slot: &Slot) -> bool {
         && slot.base() == Some(base)
         && slot.address() == Some((LAST, LAST_HOST))
         && slot.seen() == Some((LAST, Moment::START))
+        && slot.ended() == Some(BEFORE_LAST)
         && slot.lifetime() == Some((LAST, 4_294_967_295))
         && binding.as_str() == "ABCDEFGH"
 }
@@ -324,6 +333,7 @@ fn no_fields(alloc: Global) -> Fields
             objects: None,
         },
         attributes: Parts::new(alloc),
+        ended: None,
         watches: Parts::new(alloc),
     }
 }

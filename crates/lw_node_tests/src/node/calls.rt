@@ -74,7 +74,7 @@ fn command_at(alloc: Global, place: usize) -> Result<Call, Fail> {
         9 => cancel(1, "0000000000050001"),
         10 => Ok(Call::Send { since: 0 }),
         11 => Ok(Call::Send { since: 1 }),
-        12 => merge(alloc, "4c57443200000000000000"),
+        12 => merge(alloc, "4c57443300000000000000"),
         13 => merge(alloc, ""),
         14 => take_from(alloc, FAR, REGISTER_BB),
         15 => observe("0000000000080001", &[3, 0], None, 7),

@@ -1,12 +1,13 @@
 //! A delta with one byte changed, at a new node.
 
 use super::deltas::{DELTA, REMOVED};
+use super::ended::ENDED;
 use super::*;
 use lw_delta::check;
 use lw_stamp::NoMemory;
 
 /// What a new node sends that knows nothing.
-const NOTHING: &[u8] = b"LWD2\0\0\0\0\0\0\0";
+const NOTHING: &[u8] = b"LWD3\0\0\0\0\0\0\0";
 
 /// Where the delta of one slot, under an endpoint of one byte, has the flags of the slot.
 const FLAGS: usize = 21;
@@ -61,7 +62,7 @@ fn are_merged(
 }
 
 fn all_are_merged(alloc: Global, bytes: &mut [u8], removal: &[u8]) -> Result<(), Fail> {
-    for place in 0..99usize {
+    for place in 0..bytes.len() {
         if !are_merged(alloc, bytes, place, removal)? {
             return Err(Fail::new(format_args!("a changed byte at {place}")));
         }
@@ -72,6 +73,9 @@ fn all_are_merged(alloc: Global, bytes: &mut [u8], removal: &[u8]) -> Result<(),
 #[test]
 fn each_byte_of_a_delta_is_changed(rt: HostRuntime) -> Result<(), Fail> {
     let removal = hex::decode(rt.alloc(), REMOVED)?;
-    let mut bytes = hex::decode(rt.alloc(), DELTA)?;
-    all_are_merged(rt.alloc(), &mut bytes, &removal)
+    for delta in [DELTA, ENDED] {
+        let mut bytes = hex::decode(rt.alloc(), delta)?;
+        all_are_merged(rt.alloc(), &mut bytes, &removal)?;
+    }
+    Ok(())
 }

@@ -4,7 +4,7 @@ use super::*;
 
 /// A clock of 999,999, and operations with the counters from 1,000,000 on.
 const A_MILLION: [Row<'static>; 9] = [
-    (Merges("4c5744320000000f423f00"), "Ok(0)"),
+    (Merges("4c5744330000000f423f00"), "Ok(0)"),
     (
         Takes(REGISTER),
         "604100048272640d0330303030303030663432343030303031",
@@ -23,14 +23,14 @@ const A_MILLION: [Row<'static>; 9] = [
     ),
     (
         DeltaSince(0),
-        "4c5744320000000f4242010161\
+        "4c5744330000000f4242010161\
 0000000f424000017f00\
 0000000f42420001047f0000011633\
 0000000f42420001000000000000\
 0000000f4242000100000078\
 0000000f424000010155\
 0000000f4240000100\
-0000000f4240000100033c2f3e00\
+0000000f4240000100033c2f3e0000\
 0102000300000000000f42410001010000\
 00",
     ),
@@ -65,7 +65,7 @@ const CLOCKS: [u64; 8] = [
 /// A node whose clock a delta has raised goes on behind it.
 fn goes_on(alloc: Global, clock: u64) -> Result<(), Fail> {
     let (next, last) = (clock.saturating_add(1), clock.saturating_add(2));
-    let delta = format!(in alloc; "4c574432{clock:012x}00")?;
+    let delta = format!(in alloc; "4c574433{clock:012x}00")?;
     let id = format!(in alloc; "{next:012x}0001")?;
     let id_in_hex = hex::encode(alloc, id.as_bytes())?;
     let created = format!(in alloc; "604100048272640d03{id_in_hex}")?;

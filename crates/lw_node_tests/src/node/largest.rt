@@ -37,7 +37,7 @@ fn register(alloc: Global, values: &Values) -> Result<String, Fail> {
 fn delta_of(alloc: Global, values: &Values) -> Result<String, Fail> {
     let Values { name, sms, objects } = values;
     Ok(format!(in alloc;
-        "4c574432000000000001\
+        "4c574433000000000001\
 01fc{name}00000000000100017f03\
 0000000000010001047f0000011633\
 0000000000010001000000000000\
@@ -45,7 +45,7 @@ fn delta_of(alloc: Global, values: &Values) -> Result<String, Fail> {
 0000000000010001084142434445464748\
 000000000001000101fb{sms}\
 00000000000100011dce{objects}\
-000000"
+00000000"
     )?)
 }
 
@@ -101,14 +101,14 @@ fn the_largest_register_is_taken_sent_and_merged(rt: HostRuntime) -> Result<(), 
 fn watched_delta(alloc: Global) -> Result<String, Fail> {
     let mut text = String::from_str(
         alloc,
-        "4c574432000000000065010161\
+        "4c574433000000000065010161\
 00000000000100017f00\
 0000000000010001047f0000011633\
 0000000000010001000000000000\
 000000000001000100015180\
 00000000000100010155\
 000000000001000100\
-000000000001000100033c2f3e00",
+000000000001000100033c2f3e0000",
     )?;
     for number in 0..100_u16 {
         let token = number + 2;

@@ -16,7 +16,7 @@ returns-in_err-next-clause-fault c = raised _ c.from_residual-in_err-next.result
 
 pub returns-in_default-clause-found : goal.returns-in_default-clause-found
 returns-in_default-clause-found c =
-    walked_end c.loop-entries.invariant (subst (λ o. Found (optional (attribute c.args.clock (option_copied c.loop-entries.after))) c.loop-entries.rest.now o c.in_ok-next.behind.now) c.in_default.is c.in_ok-next.ensures.found)
+    (c.in_ok-next.behind.now, walked_end c.loop-entries.invariant (subst (λ o. Found (optional (attribute c.args.clock (option_copied c.loop-entries.after))) c.loop-entries.rest.now o c.in_ok-next.behind.now) c.in_default.is c.in_ok-next.ensures.found))
 
 pub loop-entries-smaller : goal.loop-entries-smaller
 loop-entries-smaller c = optional_takes (attribute_decided c.args.clock (option_copied c.loop-entries.after)) c.loop-entries.rest.now c.in_ok-next.next c.in_ok-next.behind.now c.in_ok-next.ensures.found

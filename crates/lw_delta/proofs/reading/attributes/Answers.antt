@@ -12,8 +12,11 @@ returns-in_err-entries-clause-fault c =
     raised _ c.from_residual.result c.from_residual.ensures.1 (only_want (attributes_decided c.args.clock) c.args.bytes.now there.0 c.requires.1 c.in_err-entries.field-0.0 there.1 c.in_err-entries.ensures.fault)
 
 pub unreachable-requires : goal.unreachable-requires
-unreachable-requires c = refuted c.in_default.ensures.rise (attributes_rise c.args.clock c.args.bytes.now c.in_ok-entries.entries.items c.in_ok-entries.rest.now c.in_ok-entries.ensures.found)
+unreachable-requires c =
+    let f = c.in_ok-entries.ensures.found in
+    refuted c.in_default.ensures.rise (attributes_rise c.args.clock c.args.bytes.now c.in_ok-entries.entries.items f.0 f.1)
 
 pub returns-clause-value : goal.returns-clause-value
 returns-clause-value c = λ o rest f.
-    attributes_are c.args.clock c.args.present c.args.bytes.now c.in-Some.parts c.in_ok-entries.entries.items o c.in_ok-entries.rest.now rest c.if-not-present.false c.in_ok-entries.ensures.found f c.in-Some.ensures.same
+    let g = c.in_ok-entries.ensures.found in
+    attributes_are c.args.clock c.args.present c.args.bytes.now c.in-Some.parts c.in_ok-entries.entries.items o g.0 rest c.if-not-present.false g.1 f c.in-Some.ensures.same

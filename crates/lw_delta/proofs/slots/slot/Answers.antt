@@ -34,7 +34,12 @@ returns-clause-found c =
       more = b.more;
       holds = record {
         named = endpoint_named _ _ _ _ c.in_ok-endpoint.ensures.found;
-        told = record { rest = rest; found = subst (λ (x : List ℕ). Found (behind_part c.args.form c.args.clock) x b.more rest) (sym b.here) b.found };
+        told = record {
+          rest = rest;
+          found = subst (λ (x : List ℕ). Found (behind_part c.args.form c.args.clock) x b.more rest) (sym b.here) b.found;
+          ended = b.ended;
+          watches = b.watches;
+        };
       };
       found = both _ c.in_ok-endpoint.ensures.found (both _ c.in_ok-registration.ensures.found (both _ c.in_ok-flags.ensures.found (both _ c.in_ok-fields.ensures.found (both _ b.found (meant _ (ap slot_of c.is_set.ensures))))));
     }

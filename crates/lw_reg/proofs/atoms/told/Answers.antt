@@ -1,7 +1,7 @@
 use Rattle.std.proofs.Common.{◌∙◌, sym, subst, rules}
 use Rattle.lw_reg.specs.declared.fields.Fields.{Fields}
 use Rattle.lw_reg.proofs.WriteLemmas.{AreWrites, no_writes_are}
-use Rattle.lw_reg.proofs.atoms.told.Goals.{in-Register+in_ok-written-in-Register, in-Update+in_ok-written-in-Update, in-Observe+in_ok-fields-in-Observe, in-Cancel+in_ok-fields-in-Cancel}
+use Rattle.lw_reg.proofs.atoms.told.Goals.{in-Register+in_ok-written-in-Register, in-Update+in_ok-written-in-Update, in-Observe+in_ok-fields-in-Observe, in-Cancel+in_ok-fields-in-Cancel, in-Expire}
 use Rattle.lw_reg.proofs.atoms.told.Goals as goal
 
 pub returns-in-Remove-clause-removed : goal.returns-in-Remove-clause-removed
@@ -19,4 +19,5 @@ returns-clause-keeps c = elim c.match-what.branch [
   | in-Update+in_ok-written-in-Update w ↦ subst AreFields (sym w.fields-is) w.in_ok-written-in-Update.ensures.keeps
   | in-Observe+in_ok-fields-in-Observe w ↦ subst AreFields (sym (w.fields-is ∙ w.in_ok-fields-in-Observe.ensures)) no_writes_are
   | in-Cancel+in_ok-fields-in-Cancel w ↦ subst AreFields (sym (w.fields-is ∙ w.in_ok-fields-in-Cancel.ensures)) no_writes_are
+  | in-Expire w ↦ subst AreFields (sym (w.fields-is ∙ w.ended-fields.ensures)) no_writes_are
 ]

@@ -9,5 +9,6 @@ returns-clause-ok c = simp (
   c.join_calm-5.ensures,
   c.join_calm-6.ensures,
   c.join_calm-7.ensures,
+  c.join_calm-8.ensures,
   c.in_ok-join_with.ensures.ok,
 )
