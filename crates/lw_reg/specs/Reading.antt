@@ -136,6 +136,18 @@ abbrev pub is_late : ℕ → Option Registration → Bool
 is_late now None = false
 is_late now (Some r) = not (in_time now r)
 
+-- the moment from which on a registration has expired, in milliseconds; one that never expires has none
+abbrev pub end_of : Registration → Option ℕ
+end_of r = if r.lifetime == 0 then None else Some (ms_of r.seen + 1000 * r.lifetime)
+
+abbrev pub deadline_of : Option Registration → Option ℕ
+deadline_of None = None
+deadline_of (Some r) = end_of r
+
+-- from which moment on the registration of the slot has expired
+abbrev pub deadline_in : Slot → Option ℕ
+deadline_in slot = deadline_of (registered_in [] slot)
+
 -- ---- the watches
 abbrev pub watch_of : Path × Watching → Option Watch
 watch_of entry = watch_by entry.0 entry.1.stamp entry.1.value

@@ -1,11 +1,11 @@
 //! What a slot shows at a moment.
 
-ghost use Rattle.std.specs.Prelude.{◌≡◌, ◌↔◌, ◌==◌, ℕ, List, [], IsTrue};
+ghost use Rattle.std.specs.Prelude.{◌≡◌, ◌↔◌, ◌==◌, ◌≤◌, ℕ, List, [], IsTrue, IsSomeAnd};
 ghost use Rattle.std.specs.List.{list_any};
 ghost use Rattle.lw_stamp.specs.Moment.{ms_of};
 ghost use Rattle.lw_reg.specs.Binding.{binding_text};
 ghost use Rattle.lw_reg.specs.Marks.{Mark, among};
-ghost use Rattle.lw_reg.specs.Reading.{registered_in, view_in, in_time, is_late, lasting, ended_of, seen_of, shown_by, IsSlotOf};
+ghost use Rattle.lw_reg.specs.Reading.{registered_in, view_in, in_time, end_of, is_late, lasting, ended_of, seen_of, deadline_in, shown_by, IsSlotOf};
 ghost use Rattle.lw_reg.specs.Showing.{ShownOf, HasExpired};
 
 use crate::{AttributesView, Binding, Slot, View};
@@ -31,6 +31,16 @@ impl Slot {
         ensures marks { (ms : List Mark) (e : List ℕ) → IsSlotOf ms e self.now → (IsTrue result ↔ HasExpired (among ms) (ms_of now) e) }
     {
         self.is_late(now)
+    }
+
+    /// From which moment on the registration has expired, in milliseconds. There is none where it was removed or has
+    /// ended, where a field is not known yet, or where it never expires.
+    pub fn deadline(&self) -> Option<u64>
+        ensures value { result ≡ deadline_in self.now }
+        ensures expires { (now : ℕ) → IsSomeAnd result (λ d. d ≤ now) ↔ IsTrue (is_late now (registered_in [] self.now)) }
+    {
+        let view = self.registered("")?;
+        end_of(&view)
     }
 
     fn shown<'a>(&'a self, endpoint: &'a str, now: Moment) -> Option<View<'a>>
@@ -104,5 +114,18 @@ fn asks_for_queue(binding: &Binding) -> bool
 fn is_in_time(view: &View<'_>, now: Moment) -> bool
     ensures { result ≡ in_time (ms_of now) view.now }
 {
-    view.lifetime == 0 || now.ms() < view.seen.ms() + 1000 * u64::from(view.lifetime)
+    match end_of(view) {
+        Some(end) => now.ms() < end,
+        None => true,
+    }
+}
+
+fn end_of(view: &View<'_>) -> Option<u64>
+    ensures { result ≡ end_of view.now }
+{
+    if view.lifetime == 0 {
+        None
+    } else {
+        Some(view.seen.ms() + 1000 * u64::from(view.lifetime))
+    }
 }
