@@ -22,3 +22,4 @@ OwnsTextOrBytes (calls.Cancel now token mid) = ⊥
 OwnsTextOrBytes (calls.Send since) = ⊥
 OwnsTextOrBytes (calls.Merge bytes) = ⊤
 OwnsTextOrBytes (calls.Ask now question) = OwnsText question
+OwnsTextOrBytes (calls.Sweep now) = ⊥

@@ -38,4 +38,8 @@ pub enum Call {
         now: Moment,
         question: Question,
     },
+    /// The first registration that has expired at a moment is to end.
+    Sweep {
+        now: Moment,
+    },
 }

@@ -4,6 +4,7 @@ ghost use Rattle.std.specs.Prelude.{◌≡◌, ◌↔◌, IsTrue, option_map};
 
 use crate::answer::Answer;
 use crate::call::Call;
+use crate::clock_end::ClockEnd;
 use crate::merge_fault::MergeFault;
 use crate::notice::Notice;
 use crate::observe_fault::ObserveFault;
@@ -35,6 +36,7 @@ impl Call {
             Call::Send { since } => other.is_send(*since),
             Call::Merge { bytes } => other.is_merge(bytes.as_slice()),
             Call::Ask { now, question } => other.is_ask(now, question),
+            Call::Sweep { now } => other.is_sweep(now),
         }
     }
 
@@ -125,6 +127,15 @@ impl Call {
             _ => false,
         }
     }
+
+    fn is_sweep(&self, now: &Moment) -> bool
+        ensures { IsTrue result ↔ (Call.Sweep now.now ≡ self.now) }
+    {
+        match self {
+            Call::Sweep { now: own } => same_moment(now, own),
+            _ => false,
+        }
+    }
 }
 
 impl Question {
@@ -172,6 +183,7 @@ impl Reply {
             (Reply::Send(outcome), Reply::Send(other)) => same_send(outcome, other),
             (Reply::Merge(outcome), Reply::Merge(other)) => same_merge(outcome, other),
             (Reply::Ask(outcome), Reply::Ask(other)) => same_ask(outcome, other),
+            (Reply::Sweep(outcome), Reply::Sweep(other)) => same_sweep(outcome, other),
             _ => false,
         }
     }
@@ -223,6 +235,19 @@ fn same_ask(a: &Result<Answer, NoMemory>, b: &Result<Answer, NoMemory>) -> bool
     match (a, b) {
         (Ok(a), Ok(b)) => same_answer(a, b),
         (Err(NoMemory), Err(NoMemory)) => true,
+        _ => false,
+    }
+}
+
+fn same_sweep(
+    a: &Result<Option<Stamp>, ClockEnd>,
+    b: &Result<Option<Stamp>, ClockEnd>,
+) -> bool
+    ensures { IsTrue result ↔ (a.now ≡ b.now) }
+{
+    match (a, b) {
+        (Ok(a), Ok(b)) => same_optional_stamp(a, b),
+        (Err(ClockEnd), Err(ClockEnd)) => true,
         _ => false,
     }
 }
@@ -369,6 +394,16 @@ fn same_stamp(a: &Stamp, b: &Stamp) -> bool
     ensures { IsTrue result ↔ (a.now ≡ b.now) }
 {
     a == b
+}
+
+fn same_optional_stamp(a: &Option<Stamp>, b: &Option<Stamp>) -> bool
+    ensures { IsTrue result ↔ (a.now ≡ b.now) }
+{
+    match (a, b) {
+        (Some(a), Some(b)) => same_stamp(a, b),
+        (None, None) => true,
+        _ => false,
+    }
 }
 
 #[tactic(auto, using(crate::proofs::Equality::same_moments))]

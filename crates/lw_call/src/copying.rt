@@ -54,6 +54,7 @@ impl Call {
                 now: *now,
                 question: question.copy(alloc)?,
             }),
+            Call::Sweep { now } => Ok(Call::Sweep { now: *now }),
         }
     }
 }

@@ -5,6 +5,7 @@
 
 mod answer;
 mod call;
+mod clock_end;
 mod comparing;
 mod copying;
 mod merge_fault;
@@ -18,6 +19,7 @@ mod taken;
 
 pub use answer::Answer;
 pub use call::Call;
+pub use clock_end::ClockEnd;
 pub use merge_fault::MergeFault;
 pub use notice::Notice;
 pub use observe_fault::ObserveFault;

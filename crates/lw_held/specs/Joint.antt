@@ -60,6 +60,7 @@ abbrev pub IsToldAs : List (List ℕ) → Call → Reply → Action → Outcome 
 IsToldAs deltas (calls.Take now source bytes) (replies.Take outcome) action told = (action ≡ actions.Take now source bytes) × (told ≡ results.Taken outcome)
 IsToldAs deltas (calls.Observe now id path accept mid) (replies.Observe outcome) action told = (action ≡ actions.Observe now id path accept mid) × (told ≡ results.Observed outcome)
 IsToldAs deltas (calls.Cancel now token mid) (replies.Cancel outcome) action told = (action ≡ actions.Cancel now token mid) × (told ≡ results.Cancelled outcome)
+IsToldAs deltas (calls.Sweep now) (replies.Sweep outcome) action told = (action ≡ actions.Sweep now) × (told ≡ results.Swept outcome)
 IsToldAs deltas (calls.Ask now question) (replies.Ask outcome) action told = (action ≡ actions.Ask now question) × (told ≡ results.Answered outcome)
 IsToldAs deltas (calls.Send since) (replies.Send (Ok sent)) action told = (action ≡ actions.Send since) × (told ≡ results.Sent (Ok (record { message = length deltas; change = sent.change })))
 IsToldAs deltas (calls.Send since) (replies.Send (Err refused)) action told = (action ≡ actions.Send since) × (told ≡ results.Sent (Err refused))

@@ -10,10 +10,11 @@ use Rattle.lw_reg.specs.declared.op.Op.{Op}
 use Rattle.lw_reg.specs.declared.path.Path.{Path}
 use Rattle.lw_reg.specs.Marks.{Marks}
 use Rattle.lw_reg.specs.State.{State}
+use Rattle.lw_call.specs.declared.clock_end.ClockEnd.{ClockEnd as NoStamp}
 use Rattle.lw_call.specs.declared.observe_fault.ObserveFault.{ObserveFault}
 use Rattle.lw_call.specs.declared.observe_fault.ObserveFault.TheVariants as faults
 use Rattle.lw_call.specs.Contents.{NoticeContent, TakenContent, OutgoingContent}
-use Rattle.lw_node.specs.Effects.{Place, Effect, Request, Refused, HasNoConfirmable, MalformedMeans, DatagramMeans, ObserveMeans, CancelMeans}
+use Rattle.lw_node.specs.Effects.{Place, Effect, Request, Refused, HasNoConfirmable, MalformedMeans, DatagramMeans, ObserveMeans, CancelMeans, SweepMeans}
 use Rattle.lw_node.specs.Effects.Refused.{NotFound, ClockEnd}
 use Rattle.lw_node.specs.Node.{NodeContent, Known, IsKnown, marks_in, IsAfter}
 
@@ -49,17 +50,17 @@ pub record Decides (Meant : Effect → Type 0) (d : DecisionContent) : Type 0 wh
 abbrev pub Decided : State → (Marks → Effect → Type 0) → DecisionContent → Type 0
 Decided state Meant d = (known : Known) → IsKnown state known → Decides (Meant (marks_in state known)) d
 
--- What is given, and the node afterwards, are those of an effect that is meant.
-pub record TakesSo (Meant : Effect → Type 0) (old : NodeContent) (taken : TakenContent) (new : NodeContent) : Type 0 where
+-- What is given, and what is left after the operation, or after none, are those of an effect that is meant.
+pub record TakesSo (Meant : Effect → Type 0) (After : Option Op → Type 0) (taken : TakenContent) : Type 0 where
   pub reply : Option MessageContent
   pub operation : Option Op
   pub meant : Meant (record { reply = reply; notice = taken.notice; operation = operation })
   pub replied : IsReply taken.reply reply
-  pub left : IsAfter old operation new
+  pub left : After operation
 
 -- the node, of which these marks tell, takes a datagram
 abbrev pub Takes : NodeContent → Marks → ℕ → Addr → List ℕ → TakenContent → NodeContent → Type 0
-Takes old M now source bytes taken new = TakesSo (DatagramMeans (place_at old now) M source bytes) old taken new
+Takes old M now source bytes taken new = TakesSo (DatagramMeans (place_at old now) M source bytes) (λ operation. IsAfter old operation new) taken
 
 -- the bytes spell no message, and no reply is owed
 abbrev pub IsSilent : List ℕ → Type 0
@@ -97,24 +98,37 @@ CommandsOr Meant (Err faults.NoMemory) = (request : Request) × (operation : Op)
 abbrev pub Commanded : State → (Marks → Result (Request × Op) Refused → Type 0) → Result CommandContent ObserveFault → Type 0
 Commanded state Meant r = (known : Known) → IsKnown state known → CommandsOr (Meant (marks_in state known)) r
 
--- What is sent, and the node afterwards, are those of an outcome that is meant. A refusal and want of memory,
--- which comes only in place of what is sent, leave the node as it was.
-pub record Sends (Meant : Result (Request × Op) Refused → Type 0) (old : NodeContent) (outgoing : OutgoingContent) (new : NodeContent) : Type 0 where
+-- What is sent, and what is left after the operation, are those of an outcome that is meant.
+pub record Sends (Meant : Result (Request × Op) Refused → Type 0) (After : Option Op → Type 0) (outgoing : OutgoingContent) : Type 0 where
   pub request : Request
   pub operation : Op
   pub meant : Meant (Ok (request, operation))
   pub sent : IsSent outgoing request
-  pub left : IsAfter old (Some operation) new
+  pub left : After (Some operation)
 
-abbrev pub Sent : (Result (Request × Op) Refused → Type 0) → NodeContent → Result OutgoingContent ObserveFault → NodeContent → Type 0
-Sent Meant old (Ok outgoing) new = Sends Meant old outgoing new
-Sent Meant old (Err faults.NotFound) new = Meant (Err NotFound) × (new ≡ old)
-Sent Meant old (Err faults.ClockEnd) new = Meant (Err ClockEnd) × (new ≡ old)
-Sent Meant old (Err faults.NoMemory) new = ((request : Request) × (operation : Op) × Meant (Ok (request, operation))) × (new ≡ old)
+-- A refusal and want of memory, which comes only in place of what is sent, issue no operation.
+abbrev pub Sent : (Result (Request × Op) Refused → Type 0) → (Option Op → Type 0) → Result OutgoingContent ObserveFault → Type 0
+Sent Meant After (Ok outgoing) = Sends Meant After outgoing
+Sent Meant After (Err faults.NotFound) = Meant (Err NotFound) × After None
+Sent Meant After (Err faults.ClockEnd) = Meant (Err ClockEnd) × After None
+Sent Meant After (Err faults.NoMemory) = ((request : Request) × (operation : Op) × Meant (Ok (request, operation))) × After None
 
 -- a node, of which these marks tell, observes a path, or ends an observation
 abbrev pub Observes : NodeContent → Marks → ℕ → Stamp → Path → Option ℕ → ℕ → Result OutgoingContent ObserveFault → NodeContent → Type 0
-Observes old M now id path accept mid result new = Sent (ObserveMeans (place_at old now) M id path accept mid) old result new
+Observes old M now id path accept mid result new =
+    Sent (ObserveMeans (place_at old now) M id path accept mid) (λ operation. IsAfter old operation new) result
 
 abbrev pub Cancels : NodeContent → Marks → ℕ → Stamp → ℕ → Result OutgoingContent ObserveFault → NodeContent → Type 0
-Cancels old M now token mid result new = Sent (CancelMeans (place_at old now) M token mid) old result new
+Cancels old M now token mid result new = Sent (CancelMeans (place_at old now) M token mid) (λ operation. IsAfter old operation new) result
+
+-- ---- a sweep
+-- The identifier of the registration that has ended, and what is left after its operation; or there is none, or no
+-- stamp for it.
+abbrev pub Swept : (Result (Option Op) Refused → Type 0) → (Option Op → Type 0) → Result (Option Stamp) NoStamp → Type 0
+Swept Meant After (Ok (Some id)) = (operation : Op) × Meant (Ok (Some operation)) × (id ≡ operation.reg) × After (Some operation)
+Swept Meant After (Ok None) = Meant (Ok None) × After None
+Swept Meant After (Err ended) = Meant (Err ClockEnd) × After None
+
+-- a node, of which these marks tell, ends the first registration that has expired
+abbrev pub Sweeps : NodeContent → Marks → ℕ → Result (Option Stamp) NoStamp → NodeContent → Type 0
+Sweeps old M now result new = Swept (SweepMeans (place_at old now) M) (λ operation. IsAfter old operation new) result

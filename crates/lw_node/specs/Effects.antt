@@ -1,4 +1,4 @@
--- What a datagram, an observation and its end mean to a node that knows a set of marks (LwM2M 1.1 Core, section
+-- What a datagram, an observation, its end and a sweep mean to a node that knows a set of marks (LwM2M 1.1 Core, section
 -- 6.2; RFC 7252, sections 4.2, 4.3 and 5.2; RFC 7641, section 3): a reply or none, a notice or none, and at most
 -- one operation.
 use Rattle.std.specs.Prelude.{◌≡◌, ℕ, ◌+◌, ◌-◌, ◌^◌, ◌/◌, ◌⊎◌, List, [], ◌∷◌, ◌++◌, map, IsSome, Option, Some, None, Result, Ok, Err, false, true, Bool}
@@ -24,14 +24,18 @@ use Rattle.lw_reg.specs.declared.settings.Settings.{Settings}
 use Rattle.lw_reg.specs.declared.version.Version.{Version}
 use Rattle.lw_reg.specs.declared.watch.Watch.{Watch}
 use Rattle.lw_reg.specs.Marks.{Marks}
+use Rattle.lw_reg.specs.Marks.Trace.{SeenAt}
+use Rattle.lw_reg.specs.Orders.{moment_cmp}
 use Rattle.lw_reg.specs.Path.{path_numbers}
 use Rattle.lw_reg.specs.Registration.{Registration}
+use Rattle.lw_reg.specs.Showing.{IsWrite}
 use Rattle.lw_request.specs.declared.asked.Asked.{Asked}
 use Rattle.lw_request.specs.declared.asked.Asked.TheVariants.{Register, Update, Deregister, Report, Ping, Refuse, Reject, Ignore}
 use Rattle.lw_request.specs.Meaning.{Means}
 use Rattle.lw_request.specs.Report.{ReportContent}
 use Rattle.lw_request.specs.Reply.{answer_of, reset_of, ack_of, code_of}
-use Rattle.lw_table.specs.LookUps.{ById, ByToken}
+use Rattle.lw_table.specs.Answers.{IsFirstAnswer}
+use Rattle.lw_table.specs.LookUps.{ById, ByToken, IsExpiredAfter}
 use Rattle.lw_call.specs.Contents.{NoticeContent}
 
 -- where and when a call comes: the node's number and clock, and the moment
@@ -282,3 +286,23 @@ abbrev pub CancelMeans : Place → Marks → Stamp → ℕ → Result (Request �
 CancelMeans place M token mid outcome =
     (found : Option (Registration × Watch)) × ByToken M place.now token found
     × CommandMeans place found (λ x. x.0) (λ x op. op.what ≡ whats.Cancel x.1.path x.1.token) (ends mid) outcome
+
+-- ---- a sweep
+-- the operation tells that the registration is over, as it was last seen
+pub record Expires (M : Marks) (r : Registration) (op : Op) : Type 0 where
+  pub about : IsAbout r op
+  pub upto : Stamp
+  pub seen : IsWrite moment_cmp SeenAt M r.endpoint r.id (upto, r.seen)
+  pub what : op.what ≡ whats.Expire upto
+
+-- Where nothing has expired there is no operation; next comes the end of the clock; another ends the registration.
+abbrev pub SweepsFirst : Place → Marks → Option Registration → Result (Option Op) Refused → Type 0
+SweepsFirst place M None outcome = outcome ≡ Ok None
+SweepsFirst place M (Some r) outcome =
+    (IsAtEnd place × (outcome ≡ Err ClockEnd))
+    ⊎ ((op : Op) × IsNext place op.stamp × Expires M r op × (outcome ≡ Ok (Some op)))
+
+-- the registration of the least endpoint that has expired ends
+abbrev pub SweepMeans : Place → Marks → Result (Option Op) Refused → Type 0
+SweepMeans place M outcome =
+    (found : Option Registration) × IsFirstAnswer (IsExpiredAfter M place.now None) found × SweepsFirst place M found outcome

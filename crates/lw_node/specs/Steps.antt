@@ -1,7 +1,9 @@
--- The steps of a node: a call, its reply, and the node before and after. Every way to call a node is one of them.
-use Rattle.std.specs.Prelude.{◌≡◌, ℕ, IfOk, Result, Ok, Err}
+-- The steps of a node: a call, its reply, and what is known before and after. Every way to call a node is one of them.
+-- What they say is the same whether it is the node that is known, the operations that reached it, or its marks.
+use Rattle.std.specs.Prelude.{◌≡◌, ℕ, List, IfOk, Option, None, Result, Ok, Err}
 use Rattle.lw_stamp.specs.declared.no_memory.NoMemory.{NoMemory}
 use Rattle.lw_stamp.specs.Moment.{ms_of}
+use Rattle.lw_reg.specs.declared.op.Op.{Op}
 use Rattle.lw_reg.specs.Marks.{Marks}
 use Rattle.lw_reg.specs.Showing.{ShownOf}
 use Rattle.lw_table.specs.Answers.{FirstAfter}
@@ -10,14 +12,16 @@ use Rattle.lw_call.specs.declared.answer.Answer.{Answer}
 use Rattle.lw_call.specs.declared.answer.Answer.TheVariants as answers
 use Rattle.lw_call.specs.declared.call.Call.{Call}
 use Rattle.lw_call.specs.declared.call.Call.TheVariants as calls
+use Rattle.lw_call.specs.declared.merge_fault.MergeFault.{MergeFault}
 use Rattle.lw_call.specs.declared.question.Question.{Question}
 use Rattle.lw_call.specs.declared.question.Question.TheVariants.{ById, ByEndpoint, ByAddress, ByToken, WatchAfter, FirstAfter as First, ExpiredAfter, Change}
 use Rattle.lw_call.specs.declared.reply.Reply.{Reply}
 use Rattle.lw_call.specs.declared.reply.Reply.TheVariants as replies
 use Rattle.lw_call.specs.Found.{IsFound}
-use Rattle.lw_node.specs.Calls.{Takes, IsSilent, Observes, Cancels}
+use Rattle.lw_node.specs.Calls.{TakesSo, IsSilent, Sent, Swept, place_at}
+use Rattle.lw_node.specs.Effects.{Place, DatagramMeans, ObserveMeans, CancelMeans, SweepMeans}
 use Rattle.lw_node.specs.Exchange.{IsDeltaSince, Merges}
-use Rattle.lw_node.specs.Node.{NodeContent}
+use Rattle.lw_node.specs.Node.{NodeContent, IsAfter}
 
 -- the answer of a node, of which these marks tell
 abbrev pub Answers : NodeContent → Marks → ℕ → Question → Answer → Type 0
@@ -36,14 +40,38 @@ abbrev pub Asks : NodeContent → Marks → ℕ → Question → Result Answer N
 Asks node M now question (Ok answer) = Answers node M now question answer
 Asks node M now question (Err refused) = (answer : Answer) × IsFound answer × Answers node M now question answer
 
--- A call of a node, of which these marks tell. Want of memory changes nothing, save that a merge may have joined
--- the first slots.
+-- What is known where a call is made: the node, the marks that tell of it, what is left after an operation, or after
+-- none, and what is left after a delta was merged.
+pub record Context : Type 1 where
+  pub node : NodeContent
+  pub marks : Marks
+  pub After : Option Op → Type 0
+  pub AfterMerge : List ℕ → Result ℕ MergeFault → Type 0
+
+abbrev pub place_in : Context → ℕ → Place
+place_in known now = place_at known.node now
+
+-- A call and its reply. Want of memory changes nothing, save that a merge may have joined the first slots.
+abbrev pub StepsIn : Context → Call → Reply → Type 0
+StepsIn known (calls.Take now source bytes) (replies.Take (Ok taken)) = TakesSo (DatagramMeans (place_in known (ms_of now)) known.marks source bytes) known.After taken
+StepsIn known (calls.Take now source bytes) (replies.Take (Err refused)) = (¬ IsSilent bytes) × known.After None
+StepsIn known (calls.Observe now id path accept mid) (replies.Observe outcome) = Sent (ObserveMeans (place_in known (ms_of now)) known.marks id path accept mid) known.After outcome
+StepsIn known (calls.Cancel now token mid) (replies.Cancel outcome) = Sent (CancelMeans (place_in known (ms_of now)) known.marks token mid) known.After outcome
+StepsIn known (calls.Sweep now) (replies.Sweep outcome) = Swept (SweepMeans (place_in known (ms_of now)) known.marks) known.After outcome
+StepsIn known (calls.Send since) (replies.Send outcome) = IfOk outcome (λ sent. IsDeltaSince known.node since sent.delta × (sent.change ≡ known.node.table.count.change)) × known.After None
+StepsIn known (calls.Merge bytes) (replies.Merge outcome) = known.AfterMerge bytes outcome
+StepsIn known (calls.Ask now question) (replies.Ask outcome) = Asks known.node known.marks (ms_of now) question outcome × known.After None
+StepsIn known _ _ = ⊥
+
+-- of a node, of which these marks tell, before and after
+abbrev pub at_node : NodeContent → Marks → NodeContent → Context
+at_node old M new = record {
+  node = old;
+  marks = M;
+  After = λ operation. IsAfter old operation new;
+  AfterMerge = λ bytes outcome. Merges old bytes outcome new;
+}
+
+-- a call of a node, its reply, and the node before and after
 abbrev pub Steps : NodeContent → Marks → Call → Reply → NodeContent → Type 0
-Steps old M (calls.Take now source bytes) (replies.Take (Ok taken)) new = Takes old M (ms_of now) source bytes taken new
-Steps old M (calls.Take now source bytes) (replies.Take (Err refused)) new = (¬ IsSilent bytes) × (new ≡ old)
-Steps old M (calls.Observe now id path accept mid) (replies.Observe outcome) new = Observes old M (ms_of now) id path accept mid outcome new
-Steps old M (calls.Cancel now token mid) (replies.Cancel outcome) new = Cancels old M (ms_of now) token mid outcome new
-Steps old M (calls.Send since) (replies.Send outcome) new = IfOk outcome (λ sent. IsDeltaSince old since sent.delta × (sent.change ≡ old.table.count.change)) × (new ≡ old)
-Steps old M (calls.Merge bytes) (replies.Merge outcome) new = Merges old bytes outcome new
-Steps old M (calls.Ask now question) (replies.Ask outcome) new = Asks old M (ms_of now) question outcome × (new ≡ old)
-Steps old M _ _ new = ⊥
+Steps old M call reply new = StepsIn (at_node old M new) call reply

@@ -32,11 +32,13 @@ impl Node {
             Call::Send { since } => Reply::Send(self.send(*since)),
             Call::Merge { bytes } => Reply::Merge(self.merge(bytes.as_slice())),
             Call::Ask { now, question } => Reply::Ask(self.ask(*now, question)),
+            Call::Sweep { now } => Reply::Sweep(self.sweep(*now)),
         }
     }
 
     /// Makes the call, and gives what it gives twice. Both are made before anything changes: where there is no memory
-    /// for the second, the call is refused for want of memory. What a merge gives is plain data.
+    /// for the second, the call is refused for want of memory. What a merge or a sweep gives is plain
+    /// data.
     pub fn act_twice(&mut self, call: &Call) -> (Reply, Reply)
         ensures same { result.0 ≡ result.1 }
         ensures step { (known : Known) → IsKnown self.old.table.state known → Steps self.old (marks_in self.old.table.state known) call.now result.0 self.new }
@@ -71,6 +73,10 @@ impl Node {
             Call::Ask { now, question } => {
                 let (first, second) = both(self.ask_twice(*now, question));
                 (Reply::Ask(first), Reply::Ask(second))
+            }
+            Call::Sweep { now } => {
+                let outcome = self.sweep(*now);
+                (Reply::Sweep(outcome), Reply::Sweep(outcome))
             }
         }
     }

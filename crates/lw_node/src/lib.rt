@@ -23,7 +23,8 @@ mod twice;
 
 pub use bytes::Bytes;
 pub use lw_call::{
-    Answer, Call, MergeFault, Notice, ObserveFault, Outgoing, Question, Reply, Sent, Taken,
+    Answer, Call, ClockEnd, MergeFault, Notice, ObserveFault, Outgoing, Question, Reply, Sent,
+    Taken,
 };
 pub use lw_delta::DeltaFault;
 pub use lw_link::LinkText;

@@ -1,18 +1,20 @@
-ghost use Rattle.std.specs.Prelude.{◌≡◌, ◌↔◌, ◌+◌, ◌-◌, ◌^◌, List, IsNone, IfSome, IsOk, IfOk, OnOk, OnErr, None, Err, Some};
+ghost use Rattle.std.specs.Prelude.{◌≡◌, ◌↔◌, ◌+◌, ◌-◌, ◌^◌, ℕ, List, IsNone, IfSome, IsOk, IfOk, OnOk, OnErr, None, Err, Some};
 ghost use Rattle.lw_stamp.specs.Moment.{ms_of};
 ghost use Rattle.lw_reg.specs.Marks.{Mark, among};
 ghost use Rattle.lw_reg.specs.Reading.{shown_in};
 ghost use Rattle.lw_reg.specs.Registration.{Registration};
+ghost use Rattle.lw_stamp.specs.declared.stamp.Stamp.{Stamp as Stamps};
+ghost use Rattle.lw_call.specs.declared.clock_end.ClockEnd.{ClockEnd as NoStamp};
 ghost use Rattle.lw_reg.specs.declared.watch.Watch.{Watch as Watches};
-ghost use Rattle.lw_table.specs.LookUps.{ById, ByToken};
-ghost use Rattle.lw_node.specs.Calls.{Takes, IsSilent, Observes, Cancels};
+ghost use Rattle.lw_table.specs.LookUps.{ById, ByToken, ExpiredAfter};
+ghost use Rattle.lw_node.specs.Calls.{Takes, IsSilent, Observes, Cancels, Sweeps};
 ghost use Rattle.lw_node.specs.Done.{IsDone};
 ghost use Rattle.lw_node.specs.Node.{fresh, Knows, Issued, IsAfter};
 ghost use Rattle.lw_node.specs.Within.{FitsClock, IsNextOf};
 
 use crate::command::Command;
 use crate::decision::Decision;
-use lw_call::{ObserveFault, Outgoing, Taken};
+use lw_call::{ClockEnd, ObserveFault, Outgoing, Taken};
 use lw_reg::{Addr, Op, Path, atom_with_endpoint};
 use lw_stamp::{Clock, Moment, NoMemory, Stamp};
 use lw_table::Table;
@@ -110,6 +112,28 @@ impl Node {
         let _clock = self.clock();
         let command = self.decide_cancel(now, token, mid);
         self.carry_out(command)
+    }
+
+    /// Ends the registration of the least endpoint that has expired, as it was last seen: its identifier. An Update that
+    /// another server took later revives it with its watches. It takes no memory.
+    pub fn sweep(&mut self, now: Moment) -> Result<Option<Stamp>, ClockEnd>
+        ensures read { Sweeps self.old (shown_in self.old.table.state) (ms_of now) result self.new }
+        ensures marks { (ms : List Mark) → Knows self.old ms → Sweeps self.old (among ms) (ms_of now) result self.new }
+        ensures none { (result ≡ Ok None) ↔ ExpiredAfter (shown_in self.old.table.state) (ms_of now) None None }
+        ensures clock_end { (result ≡ Err ClockEnd) ↔ ((self.old.clock ≡ 2 ^ 48 - 1) × ((x : List ℕ × Stamps) × ExpiredAfter (shown_in self.old.table.state) (ms_of now) None (Some x))) }
+        ensures unchanged { OnErr result (self.new ≡ self.old) }
+    {
+        let Some(stamp) = self.next_stamp() else {
+            return match self.table.expired_after(now, None) {
+                Some(_) => Err(ClockEnd),
+                None => Ok(None),
+            };
+        };
+        let Some(id) = self.table.lift_first(now) else {
+            return Ok(None);
+        };
+        self.clock.raise(stamp.counter);
+        Ok(Some(id))
     }
 
     /// The greatest counter that the node has issued, or that a delta brought. No stamp that can be read from the node

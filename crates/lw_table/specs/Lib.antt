@@ -10,3 +10,4 @@ pub mod Rows
 pub mod Filed
 pub mod Turning
 pub mod Moves
+pub mod Lifts

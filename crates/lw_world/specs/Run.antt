@@ -1,29 +1,22 @@
 -- Which outcomes the events of a run may have, and what its nodes then know.
 use Rattle.std.specs.Prelude.{◌≡◌, ℕ, zero, suc, ◌+◌, ◌<◌, List, [], ◌∷◌, ◌++◌, length, take, set, slice_get, Option, Some, None, Result, Ok, Err}
-use Rattle.lw_stamp.specs.Moment.{ms_of}
-use Rattle.lw_coap.specs.Message.{MessageContent}
-use Rattle.lw_reg.specs.declared.addr.Addr.{Addr}
 use Rattle.lw_reg.specs.declared.op.Op.{Op}
 use Rattle.lw_reg.specs.Marks.{left_by}
 use Rattle.lw_table.specs.Changes.{IsSinceIn}
 use Rattle.lw_delta.specs.Delta.{DeltaContent, IsSpelling}
 use Rattle.lw_delta.specs.Writing.{delta_bytes}
+use Rattle.lw_call.specs.declared.call.Call.TheVariants as calls
 use Rattle.lw_call.specs.declared.merge_fault.MergeFault.{MergeFault}
 use Rattle.lw_call.specs.declared.merge_fault.MergeFault.TheVariants.{Malformed, NoMemory}
-use Rattle.lw_call.specs.declared.observe_fault.ObserveFault.{ObserveFault}
-use Rattle.lw_call.specs.declared.observe_fault.ObserveFault.TheVariants as faults
-use Rattle.lw_call.specs.Contents.{TakenContent, OutgoingContent}
-use Rattle.lw_node.specs.Calls.{IsReply, IsSilent, IsSent}
-use Rattle.lw_node.specs.Effects.{Request, Refused, DatagramMeans, ObserveMeans, CancelMeans}
-use Rattle.lw_node.specs.Effects.Refused.{NotFound, ClockEnd}
-use Rattle.lw_node.specs.Steps.{Asks}
+use Rattle.lw_call.specs.declared.reply.Reply.TheVariants as replies
+use Rattle.lw_node.specs.Steps.{Context, StepsIn}
 use Rattle.lw_world.specs.declared.event.Action.{Action}
 use Rattle.lw_world.specs.declared.event.Action.TheVariants as actions
 use Rattle.lw_world.specs.declared.event.Event.{Event}
 use Rattle.lw_world.specs.declared.outcome.Outcome.{Outcome}
 use Rattle.lw_world.specs.declared.outcome.Outcome.TheVariants as outcomes
 use Rattle.lw_world.specs.declared.outcome.Sending.{Sending}
-use Rattle.lw_world.specs.Known.{Knowledge, Message, knows_nothing, known_state, place_of, node_of, IssuesOr, Gains, about, names_of}
+use Rattle.lw_world.specs.Known.{Knowledge, Message, knows_nothing, known_state, node_of, IssuesOr, Gains, about, names_of}
 
 -- The nodes of a run, the first of number 1; its messages, the first of number 0; and each operation that was issued,
 -- the last first.
@@ -46,23 +39,6 @@ abbrev pub noted : Option Op → List Op → List Op
 noted None issued = issued
 noted (Some operation) issued = operation ∷ issued
 
--- The datagram has one meaning over what the node knows; what it gives is that reply and that notice, and the
--- operation, if there is one, joins what is known.
-pub record Takes (k : Knowledge) (now : ℕ) (source : Addr) (bytes : List ℕ) (taken : TakenContent) (operation : Option Op) (new : Knowledge) : Type 0 where
-  pub reply : Option MessageContent
-  pub meant : DatagramMeans (place_of k now) (left_by k.operations) source bytes (record { reply = reply; notice = taken.notice; operation = operation })
-  pub replied : IsReply taken.reply reply
-  pub known : IssuesOr k operation new
-
--- the command means a request and an operation, which joins what is known
-pub record Commands (Meant : Result (Request × Op) Refused → Type 0) (k : Knowledge) (outgoing : OutgoingContent) (operation : Option Op) (new : Knowledge) : Type 0 where
-  pub request : Request
-  pub issued : Op
-  pub meant : Meant (Ok (request, issued))
-  pub sent : IsSent outgoing request
-  pub operation_is : operation ≡ Some issued
-  pub known : IssuesOr k operation new
-
 -- what is left after a node has done something: the operation that it issued, if it did, what it knows, and the messages
 pub record Left : Type 0 where
   pub operation : Option Op
@@ -73,12 +49,11 @@ pub record Left : Type 0 where
 abbrev pub idle : List Message → Knowledge → Left
 idle messages k = record { operation = None; knows = k; messages = messages }
 
--- A command is refused as it means, or its request sent. Want of memory comes only in place of what is sent.
-abbrev pub Commanded : (Result (Request × Op) Refused → Type 0) → List Message → Knowledge → Result OutgoingContent ObserveFault → Left → Type 0
-Commanded Meant messages k (Ok outgoing) left = Commands Meant k outgoing left.operation left.knows × (left.messages ≡ messages)
-Commanded Meant messages k (Err faults.NotFound) left = Meant (Err NotFound) × (left ≡ idle messages k)
-Commanded Meant messages k (Err faults.ClockEnd) left = Meant (Err ClockEnd) × (left ≡ idle messages k)
-Commanded Meant messages k (Err faults.NoMemory) left = ((request : Request) × (operation : Op) × Meant (Ok (request, operation))) × (left ≡ idle messages k)
+-- the operation is issued, or none is, and it joins what is known
+pub record Issuing (messages : List Message) (k : Knowledge) (operation : Option Op) (left : Left) : Type 0 where
+  pub issued : left.operation ≡ operation
+  pub known : IssuesOr k operation left.knows
+  pub messages_are : left.messages ≡ messages
 
 -- The next message is a delta: it has the sender's clock, exactly the slots that moved after the change number, and
 -- brings the operations about their endpoints.
@@ -105,17 +80,23 @@ Delivered messages k m (Err (NoMemory joined)) left =
     (joined < length m.delta.slots) × Delivers messages k m.delta.clock (about (names_of (take joined m.delta.slots)) m.operations) left
 Delivered messages k m (Err (Malformed fault)) left = ⊥
 
+-- where a call is made of a node that knows this, with these messages; no delta comes by a call
+abbrev pub at_knowledge : List Message → Knowledge → Left → Context
+at_knowledge messages k left = record {
+  node = node_of k;
+  marks = left_by k.operations;
+  After = λ operation. Issuing messages k operation left;
+  AfterMerge = λ bytes outcome. ⊥;
+}
+
 -- What a node does that knows this, with these messages; and what is left. Want of memory changes nothing, save that a
 -- message may have reached the node in part.
 abbrev pub Acts : List Message → Knowledge → Action → Outcome → Left → Type 0
-Acts messages k (actions.Take now source bytes) (outcomes.Taken (Ok taken)) left = Takes k (ms_of now) source bytes taken left.operation left.knows × (left.messages ≡ messages)
-Acts messages k (actions.Take now source bytes) (outcomes.Taken (Err refused)) left = (¬ IsSilent bytes) × (left ≡ idle messages k)
-Acts messages k (actions.Observe now id path accept mid) (outcomes.Observed outcome) left =
-    Commanded (ObserveMeans (place_of k (ms_of now)) (left_by k.operations) id path accept mid) messages k outcome left
-Acts messages k (actions.Cancel now token mid) (outcomes.Cancelled outcome) left =
-    Commanded (CancelMeans (place_of k (ms_of now)) (left_by k.operations) token mid) messages k outcome left
-Acts messages k (actions.Ask now question) (outcomes.Answered outcome) left =
-    Asks (node_of k) (left_by k.operations) (ms_of now) question outcome × (left ≡ idle messages k)
+Acts messages k (actions.Take now source bytes) (outcomes.Taken outcome) left = StepsIn (at_knowledge messages k left) (calls.Take now source bytes) (replies.Take outcome)
+Acts messages k (actions.Observe now id path accept mid) (outcomes.Observed outcome) left = StepsIn (at_knowledge messages k left) (calls.Observe now id path accept mid) (replies.Observe outcome)
+Acts messages k (actions.Cancel now token mid) (outcomes.Cancelled outcome) left = StepsIn (at_knowledge messages k left) (calls.Cancel now token mid) (replies.Cancel outcome)
+Acts messages k (actions.Sweep now) (outcomes.Swept outcome) left = StepsIn (at_knowledge messages k left) (calls.Sweep now) (replies.Sweep outcome)
+Acts messages k (actions.Ask now question) (outcomes.Answered outcome) left = StepsIn (at_knowledge messages k left) (calls.Ask now question) (replies.Ask outcome)
 Acts messages k (actions.Send since) (outcomes.Sent (Ok sending)) left = Sends messages k since sending left
 Acts messages k (actions.Send since) (outcomes.Sent (Err refused)) left = left ≡ idle messages k
 Acts messages k (actions.Deliver number) (outcomes.Delivered outcome) left = (m : Message) × (slice_get messages number ≡ Some m) × Delivered messages k m outcome left

@@ -32,6 +32,10 @@ pub enum Action {
         token: Stamp,
         mid: u16,
     },
+    /// It ends the first registration that has expired at a moment.
+    Sweep {
+        now: Moment,
+    },
     /// It answers a question.
     Ask {
         now: Moment,

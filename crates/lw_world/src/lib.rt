@@ -13,8 +13,8 @@ mod world;
 
 pub use event::{Action, Event};
 pub use lw_node::{
-    Addr, Answer, Bytes, DeltaFault, MergeFault, Node, Notice, ObserveFault, Outgoing, Path,
-    Question, Seen, Taken, Text, Watch,
+    Addr, Answer, Bytes, ClockEnd, DeltaFault, MergeFault, Node, Notice, ObserveFault, Outgoing,
+    Path, Question, Seen, Taken, Text, Watch,
 };
 pub use outcome::{Outcome, Sending};
 pub use running::run;

@@ -1,5 +1,5 @@
-use lw_node::{Answer, MergeFault, ObserveFault, Outgoing, Taken};
-use lw_stamp::NoMemory;
+use lw_node::{Answer, ClockEnd, MergeFault, ObserveFault, Outgoing, Taken};
+use lw_stamp::{NoMemory, Stamp};
 
 /// What comes of an event.
 #[derive(Drop)]
@@ -7,6 +7,8 @@ pub enum Outcome {
     Taken(Result<Taken, NoMemory>),
     Observed(Result<Outgoing, ObserveFault>),
     Cancelled(Result<Outgoing, ObserveFault>),
+    /// The identifier of the registration that has ended, if one has.
+    Swept(Result<Option<Stamp>, ClockEnd>),
     Answered(Result<Answer, NoMemory>),
     Sent(Result<Sending, NoMemory>),
     /// How many slots the message has, which all are joined; or the fault. No message of a run is malformed.

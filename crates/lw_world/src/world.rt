@@ -99,6 +99,7 @@ impl World {
             Action::Cancel { now, token, mid } => {
                 Ok(Outcome::Cancelled(self.nodes[place].cancel(*now, *token, *mid)))
             }
+            Action::Sweep { now } => Ok(Outcome::Swept(self.nodes[place].sweep(*now))),
             Action::Ask { now, question } => {
                 Ok(Outcome::Answered(self.nodes[place].ask(*now, question)))
             }
