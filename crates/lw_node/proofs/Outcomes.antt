@@ -51,13 +51,13 @@ module _ {X : Type 0} (place : Place) (Found : Option X → Type 0) (apart : Fou
       go (Some x) by (inr means) = ((x, by), λ end. (let next = means.1.counter in let range = means.0.stamp.in_range in omega (arith, next, range, end)))
 
   module _ (old new : NodeContent) where
-    pub sent_none : (r : Outcome) → Sent Meant old r new → (r ≡ Err faults.NotFound) ↔ Found None
+    pub sent_none : (r : Outcome) → Sent Meant (λ operation. IsAfter old operation new) r → (r ≡ Err faults.NotFound) ↔ Found None
     sent_none (Ok o) h = (λ e. absurd cc, λ none. (let x = (going_on (h.request, h.operation) h.meant).0 in absurd (apart none x.0 x.1)))
     sent_none (Err faults.NotFound) h = (λ e. none_found h.0, λ none. refl)
     sent_none (Err faults.ClockEnd) h = (λ e. absurd cc, λ none. (let x = (at_end h.0).1 in absurd (apart none x.0 x.1)))
     sent_none (Err faults.NoMemory) h = (λ e. absurd cc, λ none. (let x = (going_on (h.0.0, h.0.1) h.0.2).0 in absurd (apart none x.0 x.1)))
 
-    pub sent_end : (r : Outcome) → Sent Meant old r new → (r ≡ Err faults.ClockEnd) ↔ (IsAtEnd place × ((x : X) × Found (Some x)))
+    pub sent_end : (r : Outcome) → Sent Meant (λ operation. IsAfter old operation new) r → (r ≡ Err faults.ClockEnd) ↔ (IsAtEnd place × ((x : X) × Found (Some x)))
     sent_end (Ok o) h = (λ e. absurd cc, λ p. absurd ((going_on (h.request, h.operation) h.meant).1 p.0))
     sent_end (Err faults.NotFound) h = (λ e. absurd cc, λ p. absurd (apart (none_found h.0) p.1.0 p.1.1))
     sent_end (Err faults.ClockEnd) h = (λ e. at_end h.0, λ p. refl)
@@ -86,5 +86,5 @@ module _ (old new : NodeContent) (now : ℕ) (token : Stamp) (mid : ℕ) (r : Ou
   cancel_at_end = sent_end (place_at old now) (ByToken (shown_in old.table.state) now token) (token_apart (shown_in old.table.state) now token) (λ x. x.0) (λ x op. op.what ≡ whats.Cancel x.1.path x.1.token) (ends mid) old new r sent
 
 -- what is given for a datagram, and what it leaves, is what was decided
-pub taken_so : (Meant : Effect → Type 0) (old new : NodeContent) (d : DecisionContent) → Decides Meant d → IsAfter old d.operation new → TakesSo Meant old (record { reply = d.reply; notice = d.notice }) new
+pub taken_so : (Meant : Effect → Type 0) (old new : NodeContent) (d : DecisionContent) → Decides Meant d → IsAfter old d.operation new → TakesSo Meant (λ operation. IsAfter old operation new) (record { reply = d.reply; notice = d.notice })
 taken_so Meant old new d h left = record { reply = h.reply; operation = d.operation; meant = h.meant; replied = h.replied; left = left }

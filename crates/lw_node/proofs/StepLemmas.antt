@@ -46,7 +46,7 @@ decided_next node now source bytes d e same fits decided =
     subst (λ (d : DecisionContent). IfSome d.operation (IsNextOf node.clock)) (sym same)
     (datagram_next (place_at node now) node.table.state fits source bytes (record { reply = x.reply; notice = e.notice; operation = e.operation }) x.meant)
 
-pub taken_so : (Meant : Effect → Type 0) (d e : DecisionContent) → d ≡ e → Decides Meant e → (old new : NodeContent) → IsAfter old d.operation new → TakesSo Meant old (record { reply = d.reply; notice = d.notice }) new
+pub taken_so : (Meant : Effect → Type 0) (d e : DecisionContent) → d ≡ e → Decides Meant e → (old new : NodeContent) → IsAfter old d.operation new → TakesSo Meant (λ operation. IsAfter old operation new) (record { reply = d.reply; notice = d.notice })
 taken_so Meant d e same decides old new left =
     let x = subst (Decides Meant) (sym same) decides in
     record { reply = x.reply; operation = d.operation; meant = x.meant; replied = x.replied; left = left }
@@ -79,12 +79,12 @@ cancelled_next node now token mid (Ok c) clock is fits h =
 cancelled_next node now token mid (Err fault) clock is fits h = tt
 
 module _ (Meant : Result (Request × Op) Refused → Type 0) (old new : NodeContent) where
-  refused_sent : (fault : ObserveFault) → CommandsOr Meant (Err fault) → new ≡ old → Sent Meant old (Err fault) new
+  refused_sent : (fault : ObserveFault) → CommandsOr Meant (Err fault) → new ≡ old → Sent Meant (λ operation. IsAfter old operation new) (Err fault)
   refused_sent faults.NotFound h e = (h, e)
   refused_sent faults.ClockEnd h e = (h, e)
   refused_sent faults.NoMemory h e = (h, e)
 
-  pub done_sent : (r : Result CommandContent ObserveFault) (o : Result OutgoingContent ObserveFault) → CommandsOr Meant r → IsDone old r o new → Sent Meant old o new
+  pub done_sent : (r : Result CommandContent ObserveFault) (o : Result OutgoingContent ObserveFault) → CommandsOr Meant r → IsDone old r o new → Sent Meant (λ operation. IsAfter old operation new) o
   done_sent (Ok c) (Ok o) h done = record {
     request = h.request;
     operation = c.operation;
@@ -92,9 +92,9 @@ module _ (Meant : Result (Request × Op) Refused → Type 0) (old new : NodeCont
     sent = subst (λ (x : OutgoingContent). IsSent x h.request) (sym done.0) h.sent;
     left = done.1;
   }
-  done_sent (Ok c) (Err fault) h done = subst (λ (f : ObserveFault). Sent Meant old (Err f) new) (sym done.0) ((h.request, c.operation, h.meant), done.1)
+  done_sent (Ok c) (Err fault) h done = subst (λ (f : ObserveFault). Sent Meant (λ operation. IsAfter old operation new) (Err f)) (sym done.0) ((h.request, c.operation, h.meant), done.1)
   done_sent (Err fault) (Ok o) h done = absurd done
-  done_sent (Err fault) (Err given) h done = subst (λ (f : ObserveFault). Sent Meant old (Err f) new) (sym done.0) (refused_sent fault h done.1)
+  done_sent (Err fault) (Err given) h done = subst (λ (f : ObserveFault). Sent Meant (λ operation. IsAfter old operation new) (Err f)) (sym done.0) (refused_sent fault h done.1)
 
 -- ---- questions
 pub asks_so : (node : NodeContent) (M : Marks) (now : ℕ) (question : Question) (answer : Answer) (r : Result Answer NoMemory) → IfOk r (λ a. a ≡ answer) → OnErr r (IsFound answer) → Answers node M now question answer → Asks node M now question r

@@ -3,7 +3,7 @@ use Rattle.std.specs.Prelude.{List, ℕ, IfOk}
 use Rattle.lw_stamp.specs.Moment.{ms_of}
 use Rattle.lw_call.specs.declared.call.Call.TheVariants as calls
 use Rattle.lw_call.specs.declared.reply.Reply.TheVariants as replies
-use Rattle.lw_node.specs.Calls.{Takes, Observes, Cancels}
+use Rattle.lw_node.specs.Calls.{Takes, Observes, Cancels, Sweeps}
 use Rattle.lw_node.specs.Exchange.{Merges}
 use Rattle.lw_node.specs.Node.{marks_in}
 use Rattle.lw_node.proofs.StepLemmas.{by_known, take_steps, steps_as}
@@ -38,3 +38,9 @@ returns-in-Merge c = λ known is.
 pub returns-in-Ask : goal.returns-in-Ask
 returns-in-Ask c = λ known is.
     steps_as c.args.self.now c.args.self.now (marks_in c.args.self.now.table.state known) (calls.Ask c.in-Ask.now c.in-Ask.question) c.args.call.now (replies.Ask c.ask.result) c.in-Ask.is (c.ask.ensures known is, refl)
+
+pub returns-in-Sweep : goal.returns-in-Sweep
+returns-in-Sweep c = λ known is.
+    let a = c.in-Sweep in
+    let swept = by_known (λ M. Sweeps c.args.self.now M (ms_of a.now) c.sweep.result c.sweep.new.self) c.args.self.now c.sweep.ensures.read c.sweep.ensures.marks known is in
+    steps_as c.args.self.now c.sweep.new.self (marks_in c.args.self.now.table.state known) (calls.Sweep a.now) c.args.call.now (replies.Sweep c.sweep.result) a.is swept
