@@ -1,10 +1,9 @@
-ghost use Rattle.std.specs.Prelude.{◌≡◌, ◌↔◌, ◌+◌, ◌-◌, ◌^◌, ℕ, List, IsNone, IfSome, IsOk, IfOk, OnOk, OnErr, None, Err, Some};
+ghost use Rattle.std.specs.Prelude.{◌≡◌, ◌↔◌, ◌+◌, ◌-◌, ◌^◌, ℕ, List, IsNone, IfSome, IsOk, IsErr, IfOk, OnOk, OnErr, None, Ok, Err, Some};
 ghost use Rattle.lw_stamp.specs.Moment.{ms_of};
 ghost use Rattle.lw_reg.specs.Marks.{Mark, among};
 ghost use Rattle.lw_reg.specs.Reading.{shown_in};
 ghost use Rattle.lw_reg.specs.Registration.{Registration};
 ghost use Rattle.lw_stamp.specs.declared.stamp.Stamp.{Stamp as Stamps};
-ghost use Rattle.lw_call.specs.declared.clock_end.ClockEnd.{ClockEnd as NoStamp};
 ghost use Rattle.lw_reg.specs.declared.watch.Watch.{Watch as Watches};
 ghost use Rattle.lw_table.specs.LookUps.{ById, ByToken, ExpiredAfter};
 ghost use Rattle.lw_node.specs.Calls.{Takes, IsSilent, Observes, Cancels, Sweeps};
@@ -120,7 +119,7 @@ impl Node {
         ensures read { Sweeps self.old (shown_in self.old.table.state) (ms_of now) result self.new }
         ensures marks { (ms : List Mark) → Knows self.old ms → Sweeps self.old (among ms) (ms_of now) result self.new }
         ensures none { (result ≡ Ok None) ↔ ExpiredAfter (shown_in self.old.table.state) (ms_of now) None None }
-        ensures clock_end { (result ≡ Err ClockEnd) ↔ ((self.old.clock ≡ 2 ^ 48 - 1) × ((x : List ℕ × Stamps) × ExpiredAfter (shown_in self.old.table.state) (ms_of now) None (Some x))) }
+        ensures clock_end { IsErr result ↔ ((self.old.clock ≡ 2 ^ 48 - 1) × ((x : List ℕ × Stamps) × ExpiredAfter (shown_in self.old.table.state) (ms_of now) None (Some x))) }
         ensures unchanged { OnErr result (self.new ≡ self.old) }
     {
         let Some(stamp) = self.next_stamp() else {
