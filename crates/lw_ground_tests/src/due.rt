@@ -26,10 +26,15 @@ static FIRST: [(u64, Option<&str>); 6] = [
     (u64::MAX, Some("a")),
 ];
 
+fn is_first(moments: &DueMoments, now: u64, wanted: Option<&str>) -> bool {
+    moments.first(now) == wanted
+}
+
+/// Puts the endpoints in, and looks at the first that is due at each moment.
 fn has_first(moments: &mut DueMoments) -> Result<(), Fail> {
     give_all(moments)?;
     for row in &FIRST {
-        holds_for(row, moments.first(row.0) == row.1)?;
+        holds_for(row, is_first(moments, row.0, row.1))?;
     }
     Ok(())
 }
