@@ -8,6 +8,8 @@ mod coap;
 #[cfg(test)]
 mod delta;
 #[cfg(test)]
+mod due;
+#[cfg(test)]
 mod hold;
 #[cfg(test)]
 mod index;
