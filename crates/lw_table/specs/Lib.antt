@@ -5,8 +5,10 @@ pub mod Names
 pub mod Found
 pub mod Since
 pub mod Keys
+pub mod Due
 pub mod Table
 pub mod Rows
 pub mod Filed
 pub mod Turning
 pub mod Moves
+pub mod Lifts
