@@ -113,9 +113,10 @@ fn lift_row(numbers: &mut Recent, row: &mut Row, endpoint: &str, number: u64) ->
     ensures number { (n : ℕ) → IsUnder numbers.new n endpoint.now ↔ (Some number ≡ Some n) }
     ensures lifted { LiftsRow number result row.old row.new }
 {
+    let id = row.slot.stamp();
     let last = row.number;
     row.slot.lift();
-    row.number = number;
     move_number(numbers, endpoint, last, number);
-    row.slot.stamp()
+    row.number = number;
+    id
 }
