@@ -5,6 +5,7 @@ use Rattle.std.specs.FinMap.{get}
 use Rattle.std.specs.List.Sorted.{IsStrictlySortedBy}
 use Rattle.lw_stamp.specs.declared.stamp.Stamp.{Stamp}
 use Rattle.lw_stamp.specs.TextOrder.{text_cmp}
+use Rattle.lw_due.specs.Due.{Entry}
 use Rattle.lw_index.specs.Index.{endpoints_of}
 use Rattle.lw_reg.specs.declared.addr.Addr.{Addr}
 use Rattle.lw_reg.specs.declared.path.Path.{Path}
@@ -31,7 +32,7 @@ module _ (state : State) (now : ℕ) where
   pub marks_by_endpoint : (e : List ℕ) (o : Option Registration) → o ≡ view_at now state e → (ms : List Mark) → NamesAll (among ms) → IsStateOf ms state → ShownOf (among ms) now e o
   marks_by_endpoint e o h ms p s = answers.by_endpoint (among ms) p state (answers.marks_tell ms p state s) now e o h
 
-module _ (names : List (List ℕ)) (keys : List (Key × List (List ℕ))) (numbers : List (ℕ × List ℕ)) (t : TableContent) (table : IsTable names keys numbers t) (now : ℕ) where
+module _ (names : List (List ℕ)) (keys : List (Key × List (List ℕ))) (numbers : List (ℕ × List ℕ)) (due : List Entry) (t : TableContent) (table : IsTable names keys numbers due t) (now : ℕ) where
   -- a set that the state tells of has the answer
   module _ (after : Option (List ℕ)) (rise : IsStrictlySortedBy text_cmp names) where
     pub read_first_after : (o : Option Registration) → o ≡ first_of (if_after after (view_at now t.state)) names → FirstAfter (shown_in t.state) now after o

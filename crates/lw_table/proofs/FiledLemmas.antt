@@ -5,9 +5,11 @@ use Rattle.std.specs.declared.cmp.Ordering.{Ordering}
 use Rattle.std.specs.declared.cmp.Ordering.TheVariants.{Equal}
 use Rattle.std.proofs.lemmas.List.{at_drop_more, at_drop_all}
 use Rattle.lw_stamp.specs.Order.{IsExact}
+use Rattle.lw_due.specs.Due.{Entry, due_of}
 use Rattle.lw_index.specs.Index.{Has, IsPair}
 use Rattle.lw_reg.specs.declared.slot.Slot.{Slot}
 use Rattle.lw_reg.proofs.Members.{none_there, there_or_first}
+use Rattle.lw_table.specs.Due.{OtherDue}
 use Rattle.lw_table.specs.Filed.{OtherKeys, OtherNames, OtherNumbers, OthersSame}
 use Rattle.lw_table.specs.declared.filed.Filed.{Filed}
 use Rattle.lw_table.specs.Keys.{key_cmp, OptionHasKey}
@@ -155,15 +157,25 @@ pub one_number : (a b : ℕ) → ◌≡◌ {A = Option ℕ} (Some a) (Some b) �
 one_number a b h = cc
 
 -- other endpoints see nothing of a number
-pub numbered : (old : Filed) (e : List ℕ) (numbers : List (ℕ × List ℕ)) → OtherNumbers e old.numbers numbers → OthersSame old (record { names = old.names; keys = old.keys; numbers = numbers }) e
-numbered old e numbers h = record { same = λ o other. record { name = (λ w. w, λ w. w); keys = λ k. (λ w. w, λ w. w); numbers = λ n. h.same n o other } }
+pub numbered : (old : Filed) (e : List ℕ) (numbers : List (ℕ × List ℕ)) → OtherNumbers e old.numbers numbers → OthersSame old (record { names = old.names; keys = old.keys; numbers = numbers; due = old.due }) e
+numbered old e numbers h = record { same = λ o other. record { name = (λ w. w, λ w. w); keys = λ k. (λ w. w, λ w. w); numbers = λ n. h.same n o other; due = refl } }
+
+-- or of a due moment
+pub put_due : (old : Filed) (e : List ℕ) (due : List Entry) → OtherDue e old.due due → OthersSame old (record { names = old.names; keys = old.keys; numbers = old.numbers; due = due }) e
+put_due old e due h = record { same = λ o other. record { name = (λ w. w, λ w. w); keys = λ k. (λ w. w, λ w. w); numbers = λ n. (λ w. w, λ w. w); due = h.same o other } }
+
+pub same_due : (endpoint : List ℕ) (now : List Entry) → OtherDue endpoint now now
+same_due endpoint now = record { same = λ e other. refl }
+
+pub due_then : (endpoint : List ℕ) (a b c : List Entry) → OtherDue endpoint a b → OtherDue endpoint b c → OtherDue endpoint a c
+due_then endpoint a b c h g = record { same = λ e other. g.same e other ∙ h.same e other }
 
 pub on_ok : {T E : Type 0} (P Q : Type 0) (r : Result T E) → (P → Q) → OnOk r P → OnOk r Q
 on_ok P Q (Ok x) f h = f h
 on_ok P Q (Err e) f h = h
 
-pub enter_others : (old new : Filed) (e : List ℕ) → OtherNames e old.names new.names → OtherKeys key_cmp e old.keys new.keys → OtherNumbers e old.numbers new.numbers → OthersSame old new e
-enter_others old new e names keys numbers = record { same = λ o other. record { name = names.same o other; keys = λ k. keys.same k o other; numbers = λ n. numbers.same n o other } }
+pub enter_others : (old new : Filed) (e : List ℕ) → OtherNames e old.names new.names → OtherKeys key_cmp e old.keys new.keys → OtherNumbers e old.numbers new.numbers → OtherDue e old.due new.due → OthersSame old new e
+enter_others old new e names keys numbers due = record { same = λ o other. record { name = names.same o other; keys = λ k. keys.same k o other; numbers = λ n. numbers.same n o other; due = due.same o other } }
 
 pub on_err : {T E : Type 0} (P Q : Type 0) (r : Result T E) → (P → Q) → OnErr r P → OnErr r Q
 on_err P Q (Ok x) f h = h

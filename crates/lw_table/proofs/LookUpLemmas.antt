@@ -3,7 +3,7 @@ use Rattle.std.proofs.Common.{◌≡◌, ℕ, Bool, true, false, cond, List, [],
 use Rattle.std.specs.Prelude.{◌↔◌, Contains}
 use Rattle.std.specs.FinMap.{get}
 use Rattle.std.specs.List.Sorted.{IsStrictlySortedBy}
-use Rattle.std.specs.Ordering.{is_eq, is_lt}
+use Rattle.std.specs.Ordering.{is_eq, is_gt, is_lt, ordering_reverse}
 use Rattle.std.specs.declared.cmp.Ordering.{Ordering}
 use Rattle.std.specs.declared.cmp.Ordering.TheVariants.{Less, Equal, Greater}
 use Rattle.lw_stamp.specs.declared.stamp.Stamp.{Stamp}
@@ -184,6 +184,56 @@ module _ (M : Marks) (names : NamesAll M) (state : State) (tells : Tells (Holds 
   abbrev At : Registration → List ℕ
   At r = r.endpoint
 
+  -- ---- what has expired
+  expired_reads_at : (e : List ℕ) (x : List ℕ × Stamp) → expired_at now state e ≡ Some x → (x.0 ≡ e) × ((r : Registration) × IsExpired M now r × (x ≡ named_by r))
+  expired_reads_at e x = go (get state e) refl
+    where
+      late : (slot : Slot) → get state e ≡ Some slot → (b : Bool) → is_late now (registered_in [] slot) ≡ b → named e (cond b (Some (stamp_of slot)) None) ≡ Some x → (x.0 ≡ e) × ((r : Registration) × IsExpired M now r × (x ≡ named_by r))
+      late slot h false is found = absurd cc
+      late slot h true is found =
+          let same : (e, stamp_of slot) ≡ x = some_is (e, stamp_of slot) x found in
+          let told = slot_told e slot h in
+          let expired = (expired_reads M e (names e) slot told now).0 is in
+          let id : stamp_of slot ≡ expired.0.id = one_current M e (names e) (slot.registration.stamp, slot.registration.value) expired.0.id told (subst (λ k. IsGreatest stamp_cmp (λ s. HasMark M k s Named) expired.0.id) expired.1 expired.2.registered.complete.current) in
+          (sym (ap (λ w. w.0) same), (expired.0, expired.2, sym same ∙ (λ i. (sym expired.1 i, id i))))
+
+      go : (o : Option Slot) → get state e ≡ o → named e (expired_with now o) ≡ Some x → (x.0 ≡ e) × ((r : Registration) × IsExpired M now r × (x ≡ named_by r))
+      go None h found = absurd cc
+      go (Some slot) h found = late slot h (is_late now (registered_in [] slot)) refl found
+
+  expired_found : (r : Registration) → IsExpired M now r → IsKept (get state r.endpoint) × ((x : List ℕ × Stamp) × (expired_at now state r.endpoint ≡ Some x))
+  expired_found r expired = go (get state r.endpoint) refl
+    where
+      go : (o : Option Slot) → get state r.endpoint ≡ o → IsKept o × ((x : List ℕ × Stamp) × (named r.endpoint (expired_with now o) ≡ Some x))
+      go None h = absurd (unnamed r.endpoint h r.id expired.registered.complete.current.member)
+      go (Some slot) h =
+          let late = (expired_reads M r.endpoint (names r.endpoint) slot (slot_told r.endpoint slot h) now).1 (r, refl, expired) in
+          (not_removed (registered_in [] slot) refl late, ((r.endpoint, stamp_of slot), ap (λ b. named r.endpoint (cond b (Some (stamp_of slot)) None)) late))
+        where
+          not_removed : (v : Option Registration) → registered_in [] slot ≡ v → is_late now v ≡ true → ¬ IsRemoved slot
+          not_removed None is late = absurd cc
+          not_removed (Some v) is late = (registered_keeps [] slot v is).kept
+
+  pub expired_none : ((e : List ℕ) → expired_at now state e ≡ None) → ExpiredAfter M now None None
+  expired_none none = λ r fits. (let found = expired_found r fits.1 in let bad : None ≡ Some found.1.0 = sym (none r.endpoint) ∙ found.1.1 in cc)
+
+  -- the least where one is found
+  pub expired_first : (e : List ℕ) (id : Stamp) → expired_at now state e ≡ Some (e, id) → ((n : List ℕ) → text_cmp n e ≡ Less → expired_at now state n ≡ None) → ExpiredAfter M now None (Some (e, id))
+  expired_first e id found less =
+      let s = expired_reads_at e (e, id) found in
+      (s.1.0, record { fits = (tt, s.1.1); first = λ other fits. subst (λ k. AtMost text_cmp k other.endpoint) (ap (λ w. w.0) s.1.2) (least other fits.1) }, s.1.2)
+    where
+      least : (other : Registration) → IsExpired M now other → AtMost text_cmp e other.endpoint
+      least other expired = go (text_cmp e other.endpoint) refl
+        where
+          go : (o : Ordering) → text_cmp e other.endpoint ≡ o → is_gt o ≡ false
+          go Less h = refl
+          go Equal h = refl
+          go Greater h =
+              let none = less other.endpoint (text_order.total.antisymm other.endpoint e ∙ ap ordering_reverse h) in
+              let there = expired_found other expired in
+              absurd (let bad : None ≡ Some there.1.0 = sym none ∙ there.1.1 in cc)
+
   -- ---- the first above
   module _ (kept : List (List ℕ)) (rise : IsStrictlySortedBy text_cmp kept) (kept_are : (e : List ℕ) → Contains kept e ↔ IsKept (get state e)) (after : Option (List ℕ)) where
     pub first_after : (o : Option Registration) → o ≡ first_of (if_after after (view_at now state)) kept → FirstAfter M now after o
@@ -206,36 +256,6 @@ module _ (M : Marks) (names : NamesAll M) (state : State) (tells : Tells (Holds 
         go : (o : Option Registration) → IsFirstFit At Fits Fits o → IsFirstAnswer Fits o
         go None h = h
         go (Some r) h = record { fits = h.0; first = h.1 }
-
-    -- ---- what has expired
-    expired_reads_at : (e : List ℕ) (x : List ℕ × Stamp) → expired_at now state e ≡ Some x → (x.0 ≡ e) × ((r : Registration) × IsExpired M now r × (x ≡ named_by r))
-    expired_reads_at e x = go (get state e) refl
-      where
-        late : (slot : Slot) → get state e ≡ Some slot → (b : Bool) → is_late now (registered_in [] slot) ≡ b → named e (cond b (Some (stamp_of slot)) None) ≡ Some x → (x.0 ≡ e) × ((r : Registration) × IsExpired M now r × (x ≡ named_by r))
-        late slot h false is found = absurd cc
-        late slot h true is found =
-            let same : (e, stamp_of slot) ≡ x = some_is (e, stamp_of slot) x found in
-            let told = slot_told e slot h in
-            let expired = (expired_reads M e (names e) slot told now).0 is in
-            let id : stamp_of slot ≡ expired.0.id = one_current M e (names e) (slot.registration.stamp, slot.registration.value) expired.0.id told (subst (λ k. IsGreatest stamp_cmp (λ s. HasMark M k s Named) expired.0.id) expired.1 expired.2.registered.complete.current) in
-            (sym (ap (λ w. w.0) same), (expired.0, expired.2, sym same ∙ (λ i. (sym expired.1 i, id i))))
-
-        go : (o : Option Slot) → get state e ≡ o → named e (expired_with now o) ≡ Some x → (x.0 ≡ e) × ((r : Registration) × IsExpired M now r × (x ≡ named_by r))
-        go None h found = absurd cc
-        go (Some slot) h found = late slot h (is_late now (registered_in [] slot)) refl found
-
-    expired_found : (r : Registration) → IsExpired M now r → IsKept (get state r.endpoint) × ((x : List ℕ × Stamp) × (expired_at now state r.endpoint ≡ Some x))
-    expired_found r expired = go (get state r.endpoint) refl
-      where
-        go : (o : Option Slot) → get state r.endpoint ≡ o → IsKept o × ((x : List ℕ × Stamp) × (named r.endpoint (expired_with now o) ≡ Some x))
-        go None h = absurd (unnamed r.endpoint h r.id expired.registered.complete.current.member)
-        go (Some slot) h =
-            let late = (expired_reads M r.endpoint (names r.endpoint) slot (slot_told r.endpoint slot h) now).1 (r, refl, expired) in
-            (not_removed (registered_in [] slot) refl late, ((r.endpoint, stamp_of slot), ap (λ b. named r.endpoint (cond b (Some (stamp_of slot)) None)) late))
-          where
-            not_removed : (v : Option Registration) → registered_in [] slot ≡ v → is_late now v ≡ true → ¬ IsRemoved slot
-            not_removed None is late = absurd cc
-            not_removed (Some v) is late = (registered_keeps [] slot v is).kept
 
     pub expired_after : (o : Option (List ℕ × Stamp)) → o ≡ first_of (if_after after (expired_at now state)) kept → ExpiredAfter M now after o
     expired_after o is = go o (first_fits (λ x. x.0) Fits Fits (if_after after (expired_at now state)) kept rise sound whole o is)

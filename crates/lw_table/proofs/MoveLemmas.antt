@@ -1,11 +1,12 @@
 -- What an endpoint is filed under while its row comes or moves.
-use Rattle.std.proofs.Common.{◌≡◌, ◌↔◌, ◌⊎◌, inl, inr, ℕ, Bool, true, false, not, List, Option, Some, None, Result, Ok, Err, refl, sym, subst}
+use Rattle.std.proofs.Common.{◌≡◌, ◌↔◌, ◌⊎◌, ◌∙◌, inl, inr, ℕ, Bool, true, false, not, List, Option, Some, None, Result, Ok, Err, refl, sym, subst}
 use Rattle.std.specs.Prelude.{OnOk, OnErr, IsErr, IsTrue, Contains}
 use Rattle.std.specs.Ordering.{match_ordering}
 use Rattle.std.specs.declared.cmp.Ordering.{Ordering}
 use Rattle.std.specs.declared.cmp.Ordering.TheVariants.{Less, Equal, Greater}
 use Rattle.lw_stamp.specs.declared.stamp.Stamp.{Stamp}
 use Rattle.lw_stamp.specs.StampOrder.{stamp_cmp}
+use Rattle.lw_due.specs.Due.{Entry}
 use Rattle.lw_recent.specs.Recent.{IsUnder}
 use Rattle.lw_join.specs.Lex.{lex_of}
 use Rattle.lw_join.specs.OrGone.{gone_join}
@@ -16,7 +17,8 @@ use Rattle.lw_reg.specs.declared.slot.Slot.{Slot}
 use Rattle.lw_reg.specs.Body.{body_join}
 use Rattle.lw_reg.specs.Reading.{IsRemoved}
 use Rattle.lw_reg.specs.Slot.{slot_at, slot_join}
-use Rattle.lw_table.specs.Filed.{IsFiled, IsOver, OthersSame, IsBetween, HasAll, number_of}
+use Rattle.lw_table.specs.Due.{HasDue, OptionHasDue}
+use Rattle.lw_table.specs.Filed.{IsFiled, IsOver, OthersSame, IsBetween, HasAll, number_of, slot_of}
 use Rattle.lw_table.specs.Moves.{moved_row}
 use Rattle.lw_table.specs.Turning.{IsTurning}
 use Rattle.lw_table.specs.declared.filed.Filed.{Filed}
@@ -71,11 +73,12 @@ module _ (old new : Filed) (e : List ℕ) (kept : Bool) (keys : List Key) (betwe
     keys_has = λ k h. between.keys_stay k ((filed.keys k).1 h);
     keys_from = λ k h. elim (between.keys_from k h) [ inl was ↦ inl ((filed.keys k).0 was) | inr listed ↦ inr listed ];
     numbers = λ n. subst (λ l. IsUnder l n e ↔ (number_of row ≡ Some n)) (sym between.numbers) (filed.numbers n);
+    due = subst (λ l. OptionHasDue l e (slot_of row)) (sym between.due) filed.due;
   }
 
-  module _ (all : HasAll new e kept keys) (slot : Slot) (number : ℕ) (numbers : List (ℕ × List ℕ)) (numbers_are : (n : ℕ) → IsUnder numbers n e ↔ (Some number ≡ Some n)) where
+  module _ (all : HasAll new e kept keys) (slot : Slot) (number : ℕ) (numbers : List (ℕ × List ℕ)) (numbers_are : (n : ℕ) → IsUnder numbers n e ↔ (Some number ≡ Some n)) (due : List Entry) where
     abbrev after : Filed
-    after = record { names = new.names; keys = new.keys; numbers = numbers }
+    after = record { names = new.names; keys = new.keys; numbers = numbers; due = due }
 
     moved_name : (row : Row) → IsFiled old e (Some row) → (IsRemoved row.slot → (IsRemoved slot → ⊥) → kept ≡ true) → (IsRemoved (slot_join row.slot slot) → ⊥) → Contains new.names e
     moved_name row filed revived h = elim (kept_from row.slot slot h) [
@@ -87,24 +90,37 @@ module _ (old new : Filed) (e : List ℕ) (kept : Bool) (keys : List Key) (betwe
     ]
 
     -- with the row that moved
-    pub over_moved : (row : Row) → IsFiled old e (Some row) → (IsRemoved row.slot → (IsRemoved slot → ⊥) → kept ≡ true) → IsTurning (Some row.slot) slot keys → IsOver after e (Some (moved_row row slot number)) keys
-    over_moved row filed revived turning = record {
+    pub over_moved : (row : Row) → IsFiled old e (Some row) → (IsRemoved row.slot → (IsRemoved slot → ⊥) → kept ≡ true) → IsTurning (Some row.slot) slot keys → HasDue due e (slot_join row.slot slot) → IsOver after e (Some (moved_row row slot number)) keys
+    over_moved row filed revived turning is_due = record {
       name = moved_name row filed revived;
       keys_has = λ k h. elim (turning.gained k h) [ inl was ↦ between.keys_stay k ((filed.keys k).1 was) | inr listed ↦ all.has_keys k listed ];
       keys_from = λ k h. elim (between.keys_from k h) [ inl was ↦ turning.lost k ((filed.keys k).0 was) | inr listed ↦ inr listed ];
       numbers = numbers_are;
+      due = is_due;
     }
 
     -- with the first row
-    pub filed_first : ((kept ≡ true) ↔ (IsRemoved slot → ⊥)) → IsFiled old e None → IsTurning None slot keys → IsFiled after e (Some (record { slot = slot; number = number }))
-    filed_first is_kept filed turning = record {
+    pub filed_first : ((kept ≡ true) ↔ (IsRemoved slot → ⊥)) → IsFiled old e None → IsTurning None slot keys → HasDue due e slot → IsFiled after e (Some (record { slot = slot; number = number }))
+    filed_first is_kept filed turning is_due = record {
       name = (λ h. elim (between.name_from h) [ inl was ↦ absurd (filed.name.0 was) | inr is ↦ is_kept.0 is ], λ h. all.has_name (is_kept.1 h));
       keys = λ k. (
         λ h. elim (between.keys_from k h) [ inl was ↦ absurd ((filed.keys k).0 was) | inr listed ↦ turning.first refl k listed ],
         λ h. elim (turning.gained k h) [ inl was ↦ absurd was | inr listed ↦ all.has_keys k listed ],
       );
       numbers = numbers_are;
+      due = is_due;
     }
+
+-- where there is no row a due moment does not matter
+pub over_numbered : (filed : Filed) (e : List ℕ) (keys : List Key) → IsOver filed e None keys → (numbers : List (ℕ × List ℕ)) → numbers ≡ filed.numbers → (due : List Entry)
+    → IsOver (record { names = filed.names; keys = filed.keys; numbers = numbers; due = due }) e None keys
+over_numbered filed e keys over numbers same due = record {
+  name = over.name;
+  keys_has = over.keys_has;
+  keys_from = over.keys_from;
+  numbers = λ n. subst (λ l. IsUnder l n e ↔ (number_of None ≡ Some n)) (sym same) (over.numbers n);
+  due = tt;
+}
 
 pub others_then : (e : List ℕ) (a b c : Filed) → OthersSame a b e → OthersSame b c e → OthersSame a c e
 others_then e a b c h g = record {
@@ -115,8 +131,9 @@ others_then e a b c h g = record {
         name = (λ w. x.name.0 (y.name.0 w), λ w. y.name.1 (x.name.1 w));
         keys = λ k. (λ w. (x.keys k).0 ((y.keys k).0 w), λ w. (y.keys k).1 ((x.keys k).1 w));
         numbers = λ n. (λ w. (x.numbers n).0 ((y.numbers n).0 w), λ w. (y.numbers n).1 ((x.numbers n).1 w));
+        due = y.due ∙ x.due;
       };
 }
 
 pub others_itself : (e : List ℕ) (a : Filed) → OthersSame a a e
-others_itself e a = record { same = λ o other. record { name = (λ w. w, λ w. w); keys = λ k. (λ w. w, λ w. w); numbers = λ n. (λ w. w, λ w. w) } }
+others_itself e a = record { same = λ o other. record { name = (λ w. w, λ w. w); keys = λ k. (λ w. w, λ w. w); numbers = λ n. (λ w. w, λ w. w); due = refl } }

@@ -1,9 +1,11 @@
 -- What is filed of one endpoint, beside its row.
 use Rattle.std.specs.Prelude.{◌≡◌, ◌≢◌, ◌↔◌, ◌⊎◌, ℕ, Bool, true, List, Contains, Option, Some, None}
 use Rattle.std.specs.declared.cmp.Ordering.{Ordering}
+use Rattle.lw_due.specs.Due.{due_of}
 use Rattle.lw_index.specs.Index.{Has}
 use Rattle.lw_recent.specs.Recent.{IsUnder}
 use Rattle.lw_reg.specs.declared.slot.Slot.{Slot}
+use Rattle.lw_table.specs.Due.{OptionHasDue}
 use Rattle.lw_table.specs.Keys.{key_cmp, OptionHasKey}
 use Rattle.lw_table.specs.Table.{IsKept}
 use Rattle.lw_table.specs.declared.filed.Filed.{Filed}
@@ -18,11 +20,12 @@ abbrev pub number_of : Option Row → Option ℕ
 number_of None = None
 number_of (Some row) = Some row.number
 
--- the endpoint is filed under what its row has, and nothing else
+-- the endpoint is filed under what its row has, and nothing else, and is due by its deadline
 pub record IsFiled (filed : Filed) (e : List ℕ) (row : Option Row) : Type 0 where
   pub name : Contains filed.names e ↔ IsKept (slot_of row)
   pub keys : (k : Key) → Has key_cmp filed.keys k e ↔ OptionHasKey (slot_of row) k
   pub numbers : (n : ℕ) → IsUnder filed.numbers n e ↔ (number_of row ≡ Some n)
+  pub due : OptionHasDue filed.due e (slot_of row)
 
 -- the endpoint is filed under what its row has, and maybe under more of the keys
 pub record IsOver (filed : Filed) (e : List ℕ) (row : Option Row) (keys : List Key) : Type 0 where
@@ -30,12 +33,14 @@ pub record IsOver (filed : Filed) (e : List ℕ) (row : Option Row) (keys : List
   pub keys_has : (k : Key) → OptionHasKey (slot_of row) k → Has key_cmp filed.keys k e
   pub keys_from : (k : Key) → Has key_cmp filed.keys k e → OptionHasKey (slot_of row) k ⊎ Contains keys k
   pub numbers : (n : ℕ) → IsUnder filed.numbers n e ↔ (number_of row ≡ Some n)
+  pub due : OptionHasDue filed.due e (slot_of row)
 
 -- what is filed of the endpoint is the same
 pub record IsSame (old new : Filed) (e : List ℕ) : Type 0 where
   pub name : Contains new.names e ↔ Contains old.names e
   pub keys : (k : Key) → Has key_cmp new.keys k e ↔ Has key_cmp old.keys k e
   pub numbers : (n : ℕ) → IsUnder new.numbers n e ↔ IsUnder old.numbers n e
+  pub due : due_of e new.due ≡ due_of e old.due
 
 -- of all other endpoints it is
 pub record OthersSame (old new : Filed) (endpoint : List ℕ) : Type 0 where
@@ -60,6 +65,7 @@ pub record IsBetween (old new : Filed) (e : List ℕ) (kept : Bool) (keys : List
   pub keys_stay : (k : Key) → Has key_cmp old.keys k e → Has key_cmp new.keys k e
   pub keys_from : (k : Key) → Has key_cmp new.keys k e → Has key_cmp old.keys k e ⊎ Contains keys k
   pub numbers : new.numbers ≡ old.numbers
+  pub due : new.due ≡ old.due
 
 -- the endpoint is filed under all of these
 pub record HasAll (filed : Filed) (e : List ℕ) (kept : Bool) (keys : List Key) : Type 0 where

@@ -5,6 +5,7 @@ pub mod Names
 pub mod Found
 pub mod Since
 pub mod Keys
+pub mod Due
 pub mod Table
 pub mod Rows
 pub mod Filed

@@ -1,10 +1,13 @@
 -- Rows that are put into a table.
-use Rattle.std.specs.Prelude.{◌≡◌, ℕ, false, List, Option, Some, string_bytes, bytes_eq, cond}
+use Rattle.std.specs.Prelude.{◌≡◌, ℕ, false, List, Option, Some, string_bytes, bytes_eq, cond, IsSome}
 use Rattle.std.specs.Option.{IsSomeAnd}
 use Rattle.std.specs.BTreeMap.{get}
 use Rattle.std.specs.Ordering.{nat_cmp}
+use Rattle.lw_stamp.specs.declared.moment.Moment.{Moment}
+use Rattle.lw_stamp.specs.declared.stamp.Stamp.{Stamp}
 use Rattle.lw_reg.specs.declared.slot.Slot.{Slot}
-use Rattle.lw_reg.specs.Slot.{slot_join}
+use Rattle.lw_reg.specs.Reading.{seen_of, stamp_of}
+use Rattle.lw_reg.specs.Slot.{slot_join, ending}
 use Rattle.lw_table.specs.Filed.{slot_of}
 use Rattle.lw_table.specs.Rows.{IsRows, end_of, row_at}
 use Rattle.lw_table.specs.Turning.{joined_with}
@@ -31,3 +34,22 @@ pub record SameRows (old new : Rows) : Type 0 where
 -- the first row with the end of the endpoint is that of another
 abbrev pub IsTaken : Rows → List ℕ → Type 0
 IsTaken rows endpoint = IsSomeAnd (get nat_cmp rows.firsts (end_of endpoint)) (λ first. bytes_eq (string_bytes first.endpoint) endpoint ≡ false)
+
+-- the row as its registration ends, as it was last seen
+pub record LiftsRow (number : ℕ) (id : Stamp) (old new : Row) : Type 0 where
+  pub id_is : stamp_of old.slot ≡ id
+  pub seen : Stamp × Moment
+  pub seen_is : seen_of old.slot ≡ Some seen
+  pub moved : new ≡ moved_row old (ending id seen.0) number
+
+-- that of the endpoint does, and nothing else changes
+pub record LiftsRowAt (endpoint : List ℕ) (number : ℕ) (id : Stamp) (old new : Rows) : Type 0 where
+  pub was : Row
+  pub is : row_at old endpoint ≡ Some was
+  pub row : Row
+  pub lifted : LiftsRow number id was row
+  pub put : PutsRow endpoint row old new
+
+-- there is a row, and its registration was seen
+abbrev pub WasSeen : Option Row → Type 0
+WasSeen row = IsSomeAnd row (λ x. IsSome (seen_of x.slot))

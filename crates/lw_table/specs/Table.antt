@@ -2,6 +2,7 @@
 use Rattle.std.specs.Prelude.{◌≡◌, ◌≤◌, ◌↔◌, ℕ, List, Contains, Option, Some, None, IsSome, refl}
 use Rattle.std.specs.Coded.{Coded, coded×, coded_ℕ, coded_list, code_by}
 use Rattle.std.specs.FinMap.{empty, get, code}
+use Rattle.lw_due.specs.Due.{Entry}
 use Rattle.lw_index.specs.Index.{Has}
 use Rattle.lw_recent.specs.Recent.{IsUnder}
 use Rattle.lw_reg.specs.Endpoint.{IsEndpoint}
@@ -10,6 +11,7 @@ use Rattle.lw_reg.specs.declared.slot.Slot.{Slot}
 use Rattle.lw_reg.specs.contracts.slot.Slot as slots
 use Rattle.lw_reg.specs.State.{State}
 use Rattle.lw_table.specs.Changes.{Count, Numbers, LAST}
+use Rattle.lw_table.specs.Due.{OptionHasDue}
 use Rattle.lw_table.specs.Keys.{key_cmp, OptionHasKey}
 use Rattle.lw_table.specs.declared.key.Key.{Key}
 
@@ -45,11 +47,12 @@ IsKept (Some slot) = ¬ IsRemoved slot
 
 -- What is filed beside the slots. The names are the endpoints whose registration was not removed, rising; the
 -- keys are the inverse of their slots; each endpoint is filed under its change number, and has one where it has
--- a slot.
-pub record IsTable (names : List (List ℕ)) (keys : List (Key × List (List ℕ))) (numbers : List (ℕ × List ℕ)) (t : TableContent) : Type 0 where
+-- a slot, and a due moment that is not after the deadline of that.
+pub record IsTable (names : List (List ℕ)) (keys : List (Key × List (List ℕ))) (numbers : List (ℕ × List ℕ)) (due : List Entry) (t : TableContent) : Type 0 where
   pub names_are : (e : List ℕ) → Contains names e ↔ IsKept (get t.state e)
   pub keys_are : (k : Key) (e : List ℕ) → Has key_cmp keys k e ↔ OptionHasKey (get t.state e) k
   pub numbers_are : (n : ℕ) (e : List ℕ) → IsUnder numbers n e ↔ (get t.count.numbers e ≡ Some n)
+  pub due_below : (e : List ℕ) → OptionHasDue due e (get t.state e)
   pub numbered : (e : List ℕ) → IsSome (get t.state e) ↔ IsSome (get t.count.numbers e)
   pub within : (n : ℕ) (e : List ℕ) → get t.count.numbers e ≡ Some n → n ≤ t.count.change
   pub last : t.count.change ≤ LAST

@@ -1,10 +1,12 @@
-//! What is filed beside the rows: the name, the keys and the change number of each endpoint.
+//! What is filed beside the rows: the name, the keys, the change number and the due moment of each endpoint.
 
-ghost use Rattle.std.specs.Prelude.{◌≡◌, ◌↔◌, ◌⊎◌, ℕ, true, List, [], Some, Contains, OnOk, OnErr, IsTrue};
+ghost use Rattle.std.specs.Prelude.{◌≡◌, ◌↔◌, ◌⊎◌, ℕ, true, List, [], Some, Contains, OnOk, OnErr, IsSome, IsTrue};
 ghost use Rattle.std.specs.Option.{option_copied};
+ghost use Rattle.lw_due.specs.Due.{due_of};
 ghost use Rattle.lw_index.specs.Index.{Has};
 ghost use Rattle.lw_recent.specs.Recent.{IsUnder};
 ghost use Rattle.lw_table.specs.declared.key.Key.{Key as Keys};
+ghost use Rattle.lw_table.specs.Due.{HasDue, OtherDue};
 ghost use Rattle.lw_table.specs.Filed.{IsFiled, IsOver, OthersSame, OtherKeys, OtherNames, OtherNumbers, IsBetween, HasAll, slot_of};
 ghost use Rattle.lw_table.specs.Keys.{key_cmp, HasKey, OptionHasKey};
 ghost use Rattle.lw_table.specs.Table.{IsKept};
@@ -12,8 +14,10 @@ ghost use Rattle.lw_table.specs.Table.{IsKept};
 use crate::key::{Key, has};
 use crate::names::Names;
 use crate::row::Row;
+use lw_due::DueMoments;
 use lw_index::Index;
 use lw_recent::Recent;
+use lw_reg::Slot;
 use lw_stamp::NoMemory;
 use std::alloc::Global;
 
@@ -26,6 +30,8 @@ pub(crate) struct Filed {
     pub(crate) keys: Index<Key>,
     /// The change number of each endpoint.
     pub(crate) numbers: Recent,
+    /// A moment of each endpoint before which it has not expired: it is at most the deadline of the slot.
+    pub(crate) due: DueMoments,
 }
 
 impl Filed {
@@ -33,11 +39,13 @@ impl Filed {
         ensures names { result.names ≡ [] }
         ensures keys { result.keys ≡ [] }
         ensures numbers { result.numbers ≡ [] }
+        ensures due { result.due ≡ [] }
     {
         Filed {
             names: Names::new(alloc),
             keys: Index::new(alloc),
             numbers: Recent::new(alloc),
+            due: DueMoments::new(alloc),
         }
     }
 
@@ -161,4 +169,25 @@ pub(crate) fn drop_number(numbers: &mut Recent, endpoint: &str, number: u64)
     ensures none { (n : ℕ) → IsUnder numbers.new n endpoint.now → ⊥ }
 {
     numbers.drop_one(number, endpoint);
+}
+
+/// Gives the endpoint a due moment for the slot. One that it has may only be lowered.
+pub(crate) fn add_due(due: &mut DueMoments, endpoint: &str, slot: &Slot) -> Result<(), NoMemory>
+    ensures others { OtherDue endpoint.now due.old due.new }
+    ensures due { OnOk result (HasDue due.new endpoint.now slot.now) }
+{
+    due.add(endpoint)?;
+    lower_due(due, endpoint, slot);
+    Ok(())
+}
+
+/// Lowers the due moment of the endpoint to the deadline of the slot. It takes no memory.
+pub(crate) fn lower_due(due: &mut DueMoments, endpoint: &str, slot: &Slot)
+    requires { IsSome (due_of endpoint.now due.old) }
+    ensures others { OtherDue endpoint.now due.old due.new }
+    ensures due { HasDue due.new endpoint.now slot.now }
+{
+    if let Some(deadline) = slot.deadline() {
+        due.lower(endpoint, deadline);
+    }
 }

@@ -4,6 +4,7 @@
 
 mod filed;
 mod key;
+mod lifts;
 mod look_ups;
 mod moves;
 mod names;

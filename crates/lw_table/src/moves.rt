@@ -7,7 +7,7 @@ ghost use Rattle.lw_table.specs.Moves.{moved_row, next_row, IsTaken, PutsRow, Sa
 ghost use Rattle.lw_table.specs.Rows.{IsRows, row_at};
 ghost use Rattle.lw_table.specs.Turning.{IsTurning};
 
-use crate::filed::{Filed, add_number, drop_number, move_number};
+use crate::filed::{Filed, add_due, add_number, drop_number, lower_due, move_number};
 use crate::key::Key;
 use crate::row::Row;
 use crate::rows::{Rows, end_of};
@@ -107,6 +107,7 @@ fn try_move(
     row.slot.join_with(slot)?;
     move_number(&mut filed.numbers, endpoint, row.number, number);
     row.number = number;
+    lower_due(&mut filed.due, endpoint, &row.slot);
     Ok(())
 }
 
@@ -159,6 +160,7 @@ fn try_add(
     ensures unchanged { OnErr result (SameRows rows.old rows.new × IsOver filed.new endpoint.now None keys.now) }
 {
     filed.enter(alloc, endpoint, !row.slot.is_removed(), keys)?;
+    add_due(&mut filed.due, endpoint, &row.slot)?;
     let number = row.number;
     add_number(&mut filed.numbers, endpoint, number)?;
     match rows.insert(alloc, endpoint, row) {

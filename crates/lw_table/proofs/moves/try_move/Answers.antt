@@ -1,10 +1,14 @@
 use Rattle.std.proofs.Common.{◌≡◌, ◌↔◌, Some, refl, sym, ap, subst}
+use Rattle.std.specs.Option.{IsSome}
+use Rattle.lw_due.specs.Due.{due_of}
 use Rattle.lw_recent.specs.Recent.{IsUnder}
+use Rattle.lw_table.specs.Due.{HasDue}
 use Rattle.lw_table.specs.Filed.{IsOver}
 use Rattle.lw_table.specs.Moves.{moved_row}
+use Rattle.lw_table.specs.declared.filed.Filed.{Filed}
 use Rattle.lw_table.specs.declared.row.Row.{Row}
 use Rattle.lw_reg.specs.declared.slot.Slot.{Slot}
-use Rattle.lw_table.proofs.FiledLemmas.{numbered}
+use Rattle.lw_table.proofs.FiledLemmas.{numbered, put_due}
 use Rattle.lw_table.proofs.MoveLemmas.{err_not, err_then, over_old, over_moved, others_then}
 use Rattle.lw_table.proofs.moves.try_move.Goals as goal
 
@@ -33,6 +37,9 @@ returns-in_err-join_with c =
 pub move_number-requires : goal.move_number-requires
 move_number-requires c = λ n. subst (λ l. IsUnder l n c.args.endpoint.now ↔ (Some c.args.row.now.number ≡ Some n)) (sym c.enter.ensures.between.numbers) (c.requires.filed.numbers n)
 
+pub lower_due-requires : goal.lower_due-requires
+lower_due-requires c = subst (λ l. IsSome (due_of c.args.endpoint.now l)) (sym c.enter.ensures.between.due) (subst IsSome (sym c.requires.filed.due.is) refl)
+
 pub returns : goal.returns
 returns c =
     let row = c.args.row.now in
@@ -41,13 +48,16 @@ returns c =
     let moved : with_slot c.join_with.new.self ≡ moved_row row c.args.slot c.args.number = ap with_slot c.in_ok-join_with.ensures.ok in
     let entered = c.enter.new.self in
     let numbers = c.move_number.new.numbers in
+    let due = c.lower_due.new.due in
+    let numbered_so : Filed = record { names = entered.names; keys = entered.keys; numbers = numbers; due = entered.due } in
+    let after : Filed = record { names = entered.names; keys = entered.keys; numbers = numbers; due = due } in
     record {
-      others = others_then e c.args.filed.now entered (record { names = entered.names; keys = entered.keys; numbers = numbers }) c.enter.ensures.others (numbered entered e numbers c.move_number.ensures.others);
+      others = others_then e c.args.filed.now entered after c.enter.ensures.others (others_then e entered numbered_so after (numbered entered e numbers c.move_number.ensures.others) (put_due numbered_so e due c.lower_due.ensures.others));
       moved = (
         moved,
-        subst (λ r. IsOver (record { names = entered.names; keys = entered.keys; numbers = numbers }) e (Some r) c.args.keys.now) (sym moved)
-            (over_moved c.args.filed.now entered e c.may_revive.result c.args.keys.now c.enter.ensures.between c.in_ok-enter.ensures.all c.args.slot c.args.number numbers c.move_number.ensures.number
-            row c.requires.filed (λ gone here. c.may_revive.ensures.1 (gone, here)) c.requires.keys),
+        subst (λ r. IsOver after e (Some r) c.args.keys.now) (sym moved)
+            (over_moved c.args.filed.now entered e c.may_revive.result c.args.keys.now c.enter.ensures.between c.in_ok-enter.ensures.all c.args.slot c.args.number numbers c.move_number.ensures.number due
+            row c.requires.filed (λ gone here. c.may_revive.ensures.1 (gone, here)) c.requires.keys (subst (HasDue due e) c.in_ok-join_with.ensures.ok c.lower_due.ensures.due)),
       );
       unchanged = tt;
     }

@@ -1,0 +1,140 @@
+-- The due moments of endpoints after each change, and what they tell of what has expired.
+use Rattle.std.proofs.Common.{◌≡◌, ◌≢◌, ◌↔◌, ◌⊎◌, inl, inr, ℕ, ◌+◌, ◌-◌, ◌^◌, ◌*◌, ◌<◌, ◌≤◌, Bool, true, false, cond, not, min, List, [], ◌∷◌, Option, Some, None, refl, sym, ap, ◌∙◌, subst, arith}
+use Rattle.std.specs.Prelude.{◌||◌, ◌==◌, nat_lt, bytes_eq, IsSomeAnd}
+use Rattle.std.specs.Option.{IsSome, IfSome, option_map, unwrap_or}
+use Rattle.std.specs.declared.cmp.Ordering.TheVariants.{Equal}
+use Rattle.std.proofs.lemmas.Bool.{le-leb, lt-leb, cases_lt}
+use Rattle.lw_stamp.specs.Moment.{ms_of}
+use Rattle.lw_stamp.specs.TextOrder.{text_cmp}
+use Rattle.lw_due.specs.Due.{Entry, IsRising, due_of, with_entry, lowered, is_due, first_due, raised}
+use Rattle.lw_due.proofs.DueOfLemmas.{due_of-with_entry, due_of-with_entry_other, due_of-lowered, due_of-lowered_other, due_of-raised, due_of-raised_other}
+use Rattle.lw_reg.specs.OrderLaws.{text_order}
+use Rattle.lw_reg.specs.Reading.{deadline_in, deadline_of, end_of, in_time, is_late, registered_in, stamp_of}
+use Rattle.lw_reg.specs.Registration.{Registration}
+use Rattle.lw_reg.specs.declared.slot.Slot.{Slot}
+use Rattle.lw_table.specs.Due.{HasDue, OptionHasDue, OtherDue, deadline_at}
+use Rattle.lw_table.specs.Found.{expired_with}
+use Rattle.lw_table.proofs.RowLemmas.{same_or_not}
+
+-- ---- what a change leaves
+apart : (n e : List ℕ) → n ≢ e → text_cmp n e ≢ Equal
+apart n e other tie = other (text_order.exact n e tie)
+
+pub others_added : (e : List ℕ) (due : ℕ) (xs : List Entry) → OtherDue e xs (with_entry e due xs)
+others_added e due xs = record { same = λ n other. due_of-with_entry_other n e due xs (apart n e other) }
+
+pub others_lowered : (e : List ℕ) (due : ℕ) (xs : List Entry) → OtherDue e xs (lowered e due xs)
+others_lowered e due xs = record { same = λ n other. due_of-lowered_other n e due xs (apart n e other) }
+
+pub others_raised : (e : List ℕ) (now due : ℕ) (xs : List Entry) → first_due now xs ≡ Some e → OtherDue e xs (raised now due xs)
+others_raised e now due xs first = record { same = λ n other. due_of-raised_other n e now due xs first (apart n e other) }
+
+pub added_there : (e : List ℕ) (due : ℕ) (xs : List Entry) → IsSome (due_of e (with_entry e due xs))
+added_there e due xs = subst IsSome (sym (due_of-with_entry e due xs)) refl
+
+-- ---- what an endpoint has
+one_moment : (a b : ℕ) → ◌≡◌ {A = Option ℕ} (Some a) (Some b) → a ≡ b
+one_moment a b h = cc
+
+-- a due moment that stayed
+pub still_due : (old new : List Entry) (e : List ℕ) (slot : Option Slot) → due_of e new ≡ due_of e old → OptionHasDue old e slot → OptionHasDue new e slot
+still_due old new e None same h = h
+still_due old new e (Some slot) same h = record { at = h.at; is = same ∙ h.is; by = h.by }
+
+by_lesser : (k d x : ℕ) → d ≡ x → min k d ≤ x
+by_lesser k d x same = omega arith
+
+lowered_has : (o : Option ℕ) (e : List ℕ) (d : ℕ) (xs : List Entry) (slot : Slot) → due_of e xs ≡ o → IsSome o → deadline_in slot ≡ Some d → HasDue (lowered e d xs) e slot
+lowered_has None e d xs slot is there deadline = absurd cc
+lowered_has (Some k) e d xs slot is there deadline = record {
+  at = min k d;
+  is = due_of-lowered e d xs ∙ ap (option_map (λ n. min n d)) is;
+  by = λ x h. by_lesser k d x (one_moment d x (sym deadline ∙ h));
+}
+
+pub has_lowered : (e : List ℕ) (d : ℕ) (xs : List Entry) (slot : Slot) → IsSome (due_of e xs) → deadline_in slot ≡ Some d → HasDue (lowered e d xs) e slot
+has_lowered e d xs slot there deadline = lowered_has (due_of e xs) e d xs slot refl there deadline
+
+at_deadline : (o : Option ℕ) (d : ℕ) → o ≡ Some d → unwrap_or o (2 ^ 64 - 1) ≤ d
+at_deadline None d h = absurd cc
+at_deadline (Some x) d h = let same : x ≡ d = one_moment x d h in omega arith
+
+-- the first that is due, raised to the deadline of its slot
+has_raised : (e : List ℕ) (now : ℕ) (xs : List Entry) (slot : Option Slot) → IsRising xs → first_due now xs ≡ Some e → OptionHasDue (raised now (deadline_at slot) xs) e slot
+has_raised e now xs None rising first = tt
+has_raised e now xs (Some slot) rising first = record {
+  at = deadline_at (Some slot);
+  is = due_of-raised e now (deadline_at (Some slot)) xs rising first;
+  by = at_deadline (deadline_in slot);
+}
+
+pub raised_below : (slots : List ℕ → Option Slot) (first : List ℕ) (now : ℕ) (xs : List Entry) → IsRising xs → first_due now xs ≡ Some first
+    → (e : List ℕ) → OptionHasDue xs e (slots e) → OptionHasDue (raised now (deadline_at (slots first)) xs) e (slots e)
+raised_below slots first now xs rising is e h = same_or_not first e
+    (λ t same. subst (λ k. OptionHasDue (raised now (deadline_at (slots first)) xs) k (slots k)) same (has_raised first now xs (slots first) rising is))
+    (λ f other. still_due xs (raised now (deadline_at (slots first)) xs) e (slots e) ((others_raised first now (deadline_at (slots first)) xs is).same e (λ alike. other (sym alike))) h)
+
+-- ---- how many are due
+abbrev pub due_count : ℕ → List Entry → ℕ
+due_count now [] = 0
+due_count now (x ∷ xs) = cond (is_due now x) 1 0 + due_count now xs
+
+pub fewer_due : (now due : ℕ) (e : List ℕ) (xs : List Entry) → now < due → first_due now xs ≡ Some e → due_count now (raised now due xs) < due_count now xs
+fewer_due now due e [] later first = absurd cc
+fewer_due now due e (x ∷ xs) later first =
+    elim (cases_lt now x.1) [
+      | inl after ↦
+          let rest = fewer_due now due e xs later (rw (lt-leb x.1 now after) at first) in
+          rw (lt-leb x.1 now after) (rw (lt-leb x.1 now after) (none_more (due_count now (raised now due xs)) (due_count now xs) rest))
+      | inr come ↦ rw (le-leb x.1 now come) (rw (lt-leb due now later) (lt-suc_count (due_count now xs)))
+    ]
+  where
+    none_more : (a b : ℕ) → a < b → 0 + a < 0 + b
+    none_more a b h = omega arith
+
+    lt-suc_count : (n : ℕ) → 0 + n < 1 + n
+    lt-suc_count n = omega arith
+
+-- ---- deadlines
+late_at : (now end : ℕ) → (end ≤ now) ↔ (not (nat_lt now end) ≡ true)
+late_at now end = grind arith
+
+-- a registration has expired from its deadline on
+pub late_by : (now : ℕ) (o : Option Registration) → IsSomeAnd (deadline_of o) (λ d. d ≤ now) ↔ (is_late now o ≡ true)
+late_by now None = (λ h. absurd h, λ h. absurd cc)
+late_by now (Some r) = go (r.lifetime == 0) (ms_of r.seen + 1000 * r.lifetime)
+  where
+    go : (b : Bool) (end : ℕ) → IsSomeAnd (cond b None (Some end)) (λ d. d ≤ now) ↔ (not (b || nat_lt now end) ≡ true)
+    go true end = (λ h. absurd h, λ h. absurd cc)
+    go false end = late_at now end
+
+-- one that is due later has not expired
+pub not_expired : (now : ℕ) (due : List Entry) (e : List ℕ) (slot : Option Slot) → ((k : ℕ) → due_of e due ≡ Some k → now < k) → OptionHasDue due e slot → expired_with now slot ≡ None
+not_expired now due e None later h = refl
+not_expired now due e (Some slot) later h = go (is_late now (registered_in [] slot)) refl
+  where
+    past : (o : Option ℕ) → deadline_in slot ≡ o → IsSomeAnd o (λ d. d ≤ now) → ⊥
+    past None is p = p
+    past (Some d) is p =
+        let after : now < h.at = later h.at h.is in
+        let before : h.at ≤ d = h.by d is in
+        let come : d ≤ now = p in
+        omega arith
+
+    go : (b : Bool) → is_late now (registered_in [] slot) ≡ b → cond b (Some (stamp_of slot)) None ≡ None
+    go true is = absurd (past (deadline_in slot) refl ((late_by now (registered_in [] slot)).1 is))
+    go false is = refl
+
+-- a slot whose deadline has come, before the last moment, has expired
+come_is : (now : ℕ) (o : Option ℕ) → now < 2 ^ 64 - 1 → unwrap_or o (2 ^ 64 - 1) ≤ now → IsSomeAnd o (λ d. d ≤ now)
+come_is now None last come = absurd (omega arith)
+come_is now (Some d) last come = come
+
+pub record HasPassed (now : ℕ) (o : Option Slot) : Type 0 where
+  pub slot : Slot
+  pub is : o ≡ Some slot
+  pub late : is_late now (registered_in [] slot) ≡ true
+
+pub has_passed : (now : ℕ) (o : Option Slot) → now < 2 ^ 64 - 1 → deadline_at o ≤ now → HasPassed now o
+has_passed now None last come = absurd (omega arith)
+has_passed now (Some slot) last come = record { slot = slot; is = refl; late = (late_by now (registered_in [] slot)).0 (come_is now (deadline_in slot) last come) }

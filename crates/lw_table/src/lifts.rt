@@ -1,0 +1,122 @@
+//! A registration that ends where it has expired.
+
+ghost use Rattle.std.specs.Prelude.{◌≡◌, ◌↔◌, ◌≤◌, ℕ, List, Some, None, IfSome, IsNone, IsSome};
+ghost use Rattle.lw_due.specs.Due.{first_due};
+ghost use Rattle.lw_recent.specs.Recent.{IsUnder};
+ghost use Rattle.lw_reg.specs.Marks.{Mark, NamesAll, among};
+ghost use Rattle.lw_reg.specs.Reading.{seen_of, shown_in};
+ghost use Rattle.lw_reg.specs.State.{IsStateOf};
+ghost use Rattle.lw_stamp.specs.Moment.{ms_of};
+ghost use Rattle.lw_table.specs.Due.{OptionHasDue, deadline_at};
+ghost use Rattle.lw_table.specs.Filed.{OtherNumbers, slot_of, number_of};
+ghost use Rattle.lw_table.specs.Lifts.{LiftsFirst};
+ghost use Rattle.lw_table.specs.LookUps.{ExpiredAfter};
+ghost use Rattle.lw_table.specs.Moves.{LiftsRow, LiftsRowAt, WasSeen, IsTaken};
+ghost use Rattle.lw_table.specs.Rows.{IsRows, row_at};
+
+use crate::filed::move_number;
+use crate::row::Row;
+use crate::rows::{Rows, end_of};
+use crate::table::Table;
+use lw_due::DueMoments;
+use lw_recent::Recent;
+use lw_stamp::{Moment, Stamp};
+
+impl Table {
+    /// Ends the registration of the least endpoint that has expired, as it was last seen: its identifier. Where none has,
+    /// nothing is changed. It takes no memory. It costs a few descents, and as many again for each endpoint whose due
+    /// moment has come before its deadline; that is in no contract.
+    pub fn lift_first(&mut self, now: Moment) -> Option<Stamp>
+        ensures read { LiftsFirst (shown_in self.old.state) (ms_of now) self.old result self.new }
+        ensures marks { (ms : List Mark) → NamesAll (among ms) → IsStateOf ms self.old.state → LiftsFirst (among ms) (ms_of now) self.old result self.new }
+        ensures none { IsNone result ↔ ExpiredAfter (shown_in self.old.state) (ms_of now) None None }
+    {
+        raise_due(&mut self.filed.due, &self.rows, now.ms());
+        let endpoint = self.filed.due.first(now.ms())?;
+        let number = self.change.saturating_add(1);
+        let id = lift(&mut self.filed.numbers, &mut self.rows, endpoint, number);
+        self.filed.due.raise_first(now.ms(), u64::MAX);
+        self.change = number;
+        Some(id)
+    }
+}
+
+/// Raises due moments that have come to the deadlines of their slots, until the first that has come is past its
+/// deadline, or none has come.
+fn raise_due(due: &mut DueMoments, rows: &Rows, now: u64)
+    requires { IsRows rows.now }
+    ensures below { (e : List ℕ) → OptionHasDue due.old e (slot_of (row_at rows.now e)) → OptionHasDue due.new e (slot_of (row_at rows.now e)) }
+    ensures first { IfSome (first_due now due.new) (λ e. deadline_at (slot_of (row_at rows.now e)) ≤ now) }
+{
+    while let Some(endpoint) = due.first(now) {
+        let deadline = deadline_at(rows, endpoint);
+        if deadline <= now {
+            return;
+        }
+        due.raise_first(now, deadline);
+    }
+}
+
+/// The deadline of the endpoint's slot, or the last moment of all.
+fn deadline_at(rows: &Rows, endpoint: &str) -> u64
+    requires { IsRows rows.now }
+    ensures { result ≡ deadline_at (slot_of (row_at rows.now endpoint.now)) }
+{
+    match rows.get(endpoint) {
+        None => u64::MAX,
+        Some((_, row)) => row.slot.deadline().unwrap_or(u64::MAX),
+    }
+}
+
+/// Ends the registration of the endpoint as it was last seen, and gives its row the number: its identifier.
+fn lift(numbers: &mut Recent, rows: &mut Rows, endpoint: &str, number: u64) -> Stamp
+    requires numbers { (n : ℕ) → IsUnder numbers.old n endpoint.now ↔ (number_of (row_at rows.old endpoint.now) ≡ Some n) }
+    requires rows { IsRows rows.old }
+    requires seen { WasSeen (row_at rows.old endpoint.now) }
+    ensures others { OtherNumbers endpoint.now numbers.old numbers.new }
+    ensures number { (n : ℕ) → IsUnder numbers.new n endpoint.now ↔ (Some number ≡ Some n) }
+    ensures lifted { LiftsRowAt endpoint.now number result rows.old rows.new }
+{
+    match rows.firsts.get_mut(&end_of(endpoint)) {
+        None => unreachable!(),
+        Some(first) => {
+            if first.endpoint.as_str() == endpoint {
+                lift_row(numbers, &mut first.row, endpoint, number)
+            } else {
+                lift_other(numbers, rows, endpoint, number)
+            }
+        }
+    }
+}
+
+// The same for an endpoint that ends as that of an earlier row.
+fn lift_other(numbers: &mut Recent, rows: &mut Rows, endpoint: &str, number: u64) -> Stamp
+    requires numbers { (n : ℕ) → IsUnder numbers.old n endpoint.now ↔ (number_of (row_at rows.old endpoint.now) ≡ Some n) }
+    requires rows { IsRows rows.old }
+    requires seen { WasSeen (row_at rows.old endpoint.now) }
+    requires taken { IsTaken rows.old endpoint.now }
+    ensures others { OtherNumbers endpoint.now numbers.old numbers.new }
+    ensures number { (n : ℕ) → IsUnder numbers.new n endpoint.now ↔ (Some number ≡ Some n) }
+    ensures lifted { LiftsRowAt endpoint.now number result rows.old rows.new }
+{
+    match rows.others.get_mut(endpoint) {
+        None => unreachable!(),
+        Some(row) => lift_row(numbers, row, endpoint, number),
+    }
+}
+
+// Ends the registration of the row.
+fn lift_row(numbers: &mut Recent, row: &mut Row, endpoint: &str, number: u64) -> Stamp
+    requires numbers { (n : ℕ) → IsUnder numbers.old n endpoint.now ↔ (Some row.old.number ≡ Some n) }
+    requires seen { IsSome (seen_of row.old.slot) }
+    ensures others { OtherNumbers endpoint.now numbers.old numbers.new }
+    ensures number { (n : ℕ) → IsUnder numbers.new n endpoint.now ↔ (Some number ≡ Some n) }
+    ensures lifted { LiftsRow number result row.old row.new }
+{
+    let id = row.slot.stamp();
+    let last = row.number;
+    row.slot.lift();
+    move_number(numbers, endpoint, last, number);
+    row.number = number;
+    id
+}
