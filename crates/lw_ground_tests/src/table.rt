@@ -10,6 +10,7 @@ use std::test::Fail;
 
 mod alike;
 mod joins;
+mod lifts;
 mod look_ups;
 mod refused;
 mod since;

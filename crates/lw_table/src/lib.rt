@@ -1,5 +1,5 @@
-//! What a node knows of its endpoints: their slots, found by endpoint, identifier, address and token, and which
-//! of them have moved since a change number.
+//! What a node knows of its endpoints: their slots, found by endpoint, identifier, address and token, which of them
+//! have moved since a change number, and which has expired.
 #![tactic(auto)]
 
 mod filed;

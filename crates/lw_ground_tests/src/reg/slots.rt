@@ -381,6 +381,35 @@ fn nothing_is_lifted_that_was_not_seen(rt: HostRuntime) -> Result<(), Fail> {
     )
 }
 
+/// A Register, what follows it, and the moment from which on the registration has expired.
+static DEADLINES: [(Change<'static>, &[Change<'static>], Option<u64>); 7] = [
+    ((First, First, Register(HOST_A, 7, 60)), &[], Some(60_007)),
+    ((First, First, Register(HOST_A, 7, 0)), &[], None),
+    (
+        REGISTERED,
+        &[(Second, First, Update(HOST_A, 50_000, None, None))],
+        Some(110_000),
+    ),
+    (
+        REGISTERED,
+        &[(Second, First, Update(HOST_A, 8, Some(1), None))],
+        Some(1_008),
+    ),
+    (REGISTERED, REMOVED, None),
+    (REGISTERED, &[(Second, First, Expire(First))], None),
+    // too little is known
+    ((First, First, Update(HOST_A, 7, Some(60), None)), &[], None),
+];
+
+#[test]
+fn a_slot_has_a_deadline(rt: HostRuntime) -> Result<(), Fail> {
+    for (first, others, wanted) in &DEADLINES {
+        let slot = joined(rt.alloc(), *first, others)?;
+        holds_for(wanted, slot.deadline() == *wanted)?;
+    }
+    Ok(())
+}
+
 static PATHS: [&[u16]; 3] = [&[65_534], &[65_534; 4], &[3, 0, 9, 1]];
 
 static NO_PATHS: [&[u16]; 5] = [
