@@ -1,4 +1,4 @@
--- What a sweep means, and that its operation is the next.
+-- What a sweep means, over each set that a state tells of.
 use Rattle.std.proofs.Common.{◌≡◌, ◌∙◌, ℕ, ◌+◌, ◌≤◌, List, Option, Some, None, Ok, Err, inl, inr, refl, sym, ap, subst, arith}
 use Rattle.std.specs.Prelude.{Result, IfSome}
 use Rattle.std.specs.FinMap.{get}
@@ -80,15 +80,3 @@ module _ (place : Place) (M : Marks) where
     -- the first that has expired ends
     pub ending_means : ExpiredAfter M place.now None (Some (e, id)) → SweepMeans place M (Ok (Some (ending_op stamp e id lifts.seen.0)))
     ending_means some = (Some some.0, some.1, inr (ending_op stamp e id lifts.seen.0, next, expires some.0 some.2 some.1.fits, refl))
-
--- ---- its operation is the next
-module _ (clock : ℕ) (old new : TableContent) (fits : FitsClock clock old.state) (stamp : Stamp) (next : stamp.counter ≡ clock + 1) (e : List ℕ) (id : Stamp) (lifts : Lifts old e id new) where
-  pub ending_next : IsNextOf clock (ending_op stamp e id lifts.seen.0)
-  ending_next =
-      let within = stamps_within clock old.state fits e lifts.slot lifts.is in
-      let named : id.counter ≤ clock = subst (λ (r : Stamp). r.counter ≤ clock) lifts.id_is within.registration in
-      record {
-        next = next;
-        registration = omega (arith, named);
-        token = subst (λ (o : Option (Stamp × Moment)). IfSome o (λ w. w.0.counter ≤ clock)) lifts.seen_is within.seen;
-      }
