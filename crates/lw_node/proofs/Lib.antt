@@ -17,5 +17,6 @@ pub mod RestLemmas
 pub mod NextOperation
 pub mod Outcomes
 pub mod StepLemmas
+pub mod Sweeping
 pub mod Shown
 pub mod Knowing

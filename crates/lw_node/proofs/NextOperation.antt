@@ -1,4 +1,4 @@
--- What a datagram or a command means over what a node shows is an operation with the next number of its clock, which
+-- What a datagram, a command or a sweep means over what a node shows is an operation with the next number of its clock, which
 -- speaks of nothing that comes later.
 use Rattle.std.proofs.Common.{◌≡◌, ◌∙◌, ℕ, ◌+◌, ◌≤◌, List, Bool, Option, Some, None, Ok, Err, inl, inr, refl, sym, ap, subst, arith}
 use Rattle.std.specs.Prelude.{Result, IfSome}
@@ -20,8 +20,9 @@ use Rattle.lw_reg.specs.State.{State}
 use Rattle.lw_request.specs.declared.asked.Asked.{Asked}
 use Rattle.lw_request.specs.declared.asked.Asked.TheVariants.{Register, Update, Deregister, Report, Ping, Refuse, Reject, Ignore}
 use Rattle.lw_request.specs.Report.{ReportContent}
-use Rattle.lw_table.specs.LookUps.{ById, ByToken}
-use Rattle.lw_node.specs.Effects.{Place, Effect, Request, Refused, IsNext, Issues, WritesAll, WritesGiven, IsAbout, IsNamed, Changes, NamedChanges, EndsWatch, ReportMeans, Does, MalformedMeans, DatagramMeans, CommandMeans, ObserveMeans, CancelMeans, observes, ends}
+use Rattle.lw_table.specs.Answers.{IsFirstAnswer}
+use Rattle.lw_table.specs.LookUps.{ById, ByToken, IsExpiredAfter}
+use Rattle.lw_node.specs.Effects.{Place, Effect, Request, Refused, IsNext, Issues, WritesAll, WritesGiven, IsAbout, IsNamed, Changes, NamedChanges, EndsWatch, ReportMeans, Does, MalformedMeans, DatagramMeans, CommandMeans, ObserveMeans, CancelMeans, Expires, SweepsFirst, SweepMeans, observes, ends}
 use Rattle.lw_node.specs.Within.{FitsClock, TokenWithin, IsNextOf}
 
 -- the operation of the effect, if it has one, is the next
@@ -139,3 +140,19 @@ module _ (place : Place) where
       where
         lives : (found : Option (Registration × Watch)) (x : Registration × Watch) → found ≡ Some x → ByToken (shown_in state) place.now token found → IsLive (shown_in state) place.now x.0 x.1
         lives found x is by = (subst (ByToken (shown_in state) place.now token) is by).fits.lives
+
+    -- ---- a sweep
+    expires_next : (r : Registration) (op : Op) → IsNext place op.stamp → IsExpiredAfter (shown_in state) place.now None r → Expires (shown_in state) r op → IsNextOf place.clock op
+    expires_next r op next expired expires =
+        let id : op.reg ≡ r.id = expires.about.registration in
+        let named : r.id.counter ≤ place.clock = (fits _ expired.1.registered.complete.current.member).0 in
+        let le : op.reg.counter ≤ place.clock = subst (λ (s : Stamp). s.counter ≤ place.clock) (sym id) named in
+        next_of op next (omega (arith, le)) (subst (TokenWithin place.clock) (sym expires.what) (fits _ expires.seen.member).1)
+
+    pub sweep_next : (operation : Op) → SweepMeans place (shown_in state) (Ok (Some operation)) → IsNextOf place.clock operation
+    sweep_next operation h = go h.0 h.1 h.2
+      where
+        go : (found : Option Registration) → IsFirstAnswer (IsExpiredAfter (shown_in state) place.now None) found → SweepsFirst place (shown_in state) found (Ok (Some operation)) → IsNextOf place.clock operation
+        go None first h = absurd cc
+        go (Some r) first (inl h) = absurd (let e = h.1 in cc)
+        go (Some r) first (inr h) = subst (IsNextOf place.clock) (let e = h.3 in cc) (expires_next r h.0 h.1 first.fits h.2)

@@ -1,6 +1,6 @@
--- What a command gives, and what it leaves, of what it was to do.
+-- What a command or a sweep gives, and what it leaves, of what it was to do.
 use Rattle.std.proofs.Common.{◌≡◌, ℕ, ◌↔◌, Option, Some, None, Ok, Err, inl, inr, refl, arith}
-use Rattle.std.specs.Prelude.{Result}
+use Rattle.std.specs.Prelude.{List, Result, IsErr}
 use Rattle.lw_stamp.specs.declared.stamp.Stamp.{Stamp}
 use Rattle.lw_reg.specs.declared.op.Op.{Op}
 use Rattle.lw_reg.specs.declared.op.What.TheVariants as whats
@@ -9,12 +9,14 @@ use Rattle.lw_reg.specs.declared.watch.Watch.{Watch}
 use Rattle.lw_reg.specs.Marks.{Marks}
 use Rattle.lw_reg.specs.Reading.{shown_in}
 use Rattle.lw_reg.specs.Registration.{Registration}
-use Rattle.lw_table.specs.LookUps.{ById, ByToken}
+use Rattle.lw_table.specs.Answers.{IsFirstAnswer}
+use Rattle.lw_table.specs.LookUps.{ById, ByToken, ExpiredAfter, IsExpiredAfter, named_by}
+use Rattle.lw_call.specs.declared.clock_end.ClockEnd.{ClockEnd as NoStamp}
 use Rattle.lw_call.specs.declared.observe_fault.ObserveFault.{ObserveFault}
 use Rattle.lw_call.specs.declared.observe_fault.ObserveFault.TheVariants as faults
 use Rattle.lw_call.specs.Contents.{OutgoingContent}
-use Rattle.lw_node.specs.Calls.{DecisionContent, Decides, Sent, TakesSo, Observes, Cancels, place_at}
-use Rattle.lw_node.specs.Effects.{Place, Effect, Request, Refused, IsAtEnd, CommandMeans, observes, ends}
+use Rattle.lw_node.specs.Calls.{DecisionContent, Decides, Sent, Swept, TakesSo, Observes, Cancels, place_at}
+use Rattle.lw_node.specs.Effects.{Place, Effect, Request, Refused, IsAtEnd, CommandMeans, SweepMeans, SweepsFirst, observes, ends}
 use Rattle.lw_node.specs.Effects.Refused.{NotFound, ClockEnd}
 use Rattle.lw_node.specs.Node.{NodeContent, IsAfter}
 
@@ -84,6 +86,51 @@ module _ (old new : NodeContent) (now : ℕ) (token : Stamp) (mid : ℕ) (r : Ou
 
   pub cancel_at_end : (r ≡ Err faults.ClockEnd) ↔ (IsAtEnd (place_at old now) × ((x : Registration × Watch) × ByToken (shown_in old.table.state) now token (Some x)))
   cancel_at_end = sent_end (place_at old now) (ByToken (shown_in old.table.state) now token) (token_apart (shown_in old.table.state) now token) (λ x. x.0) (λ x op. op.what ≡ whats.Cancel x.1.path x.1.token) (ends mid) old new r sent
+
+-- ---- of a sweep
+module _ (place : Place) (M : Marks) (After : Option Op → Type 0) where
+  abbrev Found : Option Registration → Type 0
+  Found = IsFirstAnswer (IsExpiredAfter M place.now None)
+
+  abbrev SomeExpired : Type 0
+  SomeExpired = (x : List ℕ × Stamp) × ExpiredAfter M place.now None (Some x)
+
+  none_expired : SweepMeans place M (Ok None) → ExpiredAfter M place.now None None
+  none_expired h = go h.0 h.1 h.2
+    where
+      go : (found : Option Registration) → Found found → SweepsFirst place M found (Ok None) → ExpiredAfter M place.now None None
+      go None by means = by
+      go (Some r) by (inl means) = absurd (let e = means.1 in cc)
+      go (Some r) by (inr means) = absurd (let e = means.3 in cc)
+
+  expired_at_end : SweepMeans place M (Err ClockEnd) → IsAtEnd place × SomeExpired
+  expired_at_end h = go h.0 h.1 h.2
+    where
+      go : (found : Option Registration) → Found found → SweepsFirst place M found (Err ClockEnd) → IsAtEnd place × SomeExpired
+      go None by means = absurd cc
+      go (Some r) by (inl means) = (means.0, (named_by r, (r, by, refl)))
+      go (Some r) by (inr means) = absurd (let e = means.3 in cc)
+
+  expired_before : (op : Op) → SweepMeans place M (Ok (Some op)) → SomeExpired × ¬ IsAtEnd place
+  expired_before op h = go h.0 h.1 h.2
+    where
+      go : (found : Option Registration) → Found found → SweepsFirst place M found (Ok (Some op)) → SomeExpired × ¬ IsAtEnd place
+      go None by means = absurd cc
+      go (Some r) by (inl means) = absurd (let e = means.1 in cc)
+      go (Some r) by (inr means) = ((named_by r, (r, by, refl)), λ end. (let next = means.1.counter in let range = means.0.stamp.in_range in omega (arith, next, range, end)))
+
+  not_both : ExpiredAfter M place.now None None → SomeExpired → ⊥
+  not_both none some = none some.1.0 some.1.1.fits
+
+  pub swept_none : (r : Result (Option Stamp) NoStamp) → Swept (SweepMeans place M) After r → (r ≡ Ok None) ↔ ExpiredAfter M place.now None None
+  swept_none (Ok None) h = (λ e. none_expired h.0, λ none. refl)
+  swept_none (Ok (Some id)) h = (λ e. absurd cc, λ none. absurd (not_both none (expired_before h.0 h.1).0))
+  swept_none (Err ended) h = (λ e. absurd cc, λ none. absurd (not_both none (expired_at_end h.0).1))
+
+  pub swept_end : (r : Result (Option Stamp) NoStamp) → Swept (SweepMeans place M) After r → IsErr r ↔ (IsAtEnd place × ((x : List ℕ × Stamp) × ExpiredAfter M place.now None (Some x)))
+  swept_end (Ok None) h = (λ e. absurd cc, λ p. absurd (not_both (none_expired h.0) p.1))
+  swept_end (Ok (Some id)) h = (λ e. absurd cc, λ p. absurd ((expired_before h.0 h.1).1 p.0))
+  swept_end (Err ended) h = (λ e. expired_at_end h.0, λ p. refl)
 
 -- what is given for a datagram, and what it leaves, is what was decided
 pub taken_so : (Meant : Effect → Type 0) (old new : NodeContent) (d : DecisionContent) → Decides Meant d → IsAfter old d.operation new → TakesSo Meant (λ operation. IsAfter old operation new) (record { reply = d.reply; notice = d.notice })

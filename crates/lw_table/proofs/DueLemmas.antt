@@ -1,7 +1,7 @@
 -- The due moments of endpoints after each change, and what they tell of what has expired.
-use Rattle.std.proofs.Common.{◌≡◌, ◌≢◌, ◌↔◌, ◌⊎◌, inl, inr, ℕ, ◌+◌, ◌-◌, ◌^◌, ◌*◌, ◌<◌, ◌≤◌, Bool, true, false, cond, not, min, List, [], ◌∷◌, Option, Some, None, refl, sym, ap, ◌∙◌, subst, arith}
-use Rattle.std.specs.Prelude.{◌||◌, ◌==◌, nat_lt, bytes_eq, IsSomeAnd}
-use Rattle.std.specs.Option.{IsSome, IfSome, option_map, unwrap_or}
+use Rattle.std.proofs.Common.{◌≡◌, ◌≢◌, ◌↔◌, inl, inr, ℕ, ◌+◌, ◌-◌, ◌^◌, ◌*◌, ◌<◌, ◌≤◌, Bool, true, false, cond, not, min, List, [], ◌∷◌, Option, Some, None, refl, sym, ap, ◌∙◌, subst, arith}
+use Rattle.std.specs.Prelude.{◌||◌, ◌==◌, nat_lt, IsSomeAnd}
+use Rattle.std.specs.Option.{IsSome, option_map, unwrap_or}
 use Rattle.std.specs.declared.cmp.Ordering.TheVariants.{Equal}
 use Rattle.std.proofs.lemmas.Bool.{le-leb, lt-leb, cases_lt}
 use Rattle.lw_stamp.specs.Moment.{ms_of}
@@ -9,7 +9,7 @@ use Rattle.lw_stamp.specs.TextOrder.{text_cmp}
 use Rattle.lw_due.specs.Due.{Entry, IsRising, due_of, with_entry, lowered, is_due, first_due, raised}
 use Rattle.lw_due.proofs.DueOfLemmas.{due_of-with_entry, due_of-with_entry_other, due_of-lowered, due_of-lowered_other, due_of-raised, due_of-raised_other}
 use Rattle.lw_reg.specs.OrderLaws.{text_order}
-use Rattle.lw_reg.specs.Reading.{deadline_in, deadline_of, end_of, in_time, is_late, registered_in, stamp_of}
+use Rattle.lw_reg.specs.Reading.{deadline_in, deadline_of, is_late, registered_in, stamp_of}
 use Rattle.lw_reg.specs.Registration.{Registration}
 use Rattle.lw_reg.specs.declared.slot.Slot.{Slot}
 use Rattle.lw_table.specs.Due.{HasDue, OptionHasDue, OtherDue, deadline_at}

@@ -5,7 +5,7 @@ use Rattle.std.specs.declared.cmp.Ordering.{Ordering}
 use Rattle.std.specs.declared.cmp.Ordering.TheVariants.{Equal}
 use Rattle.std.proofs.lemmas.List.{at_drop_more, at_drop_all}
 use Rattle.lw_stamp.specs.Order.{IsExact}
-use Rattle.lw_due.specs.Due.{Entry, due_of}
+use Rattle.lw_due.specs.Due.{Entry}
 use Rattle.lw_index.specs.Index.{Has, IsPair}
 use Rattle.lw_reg.specs.declared.slot.Slot.{Slot}
 use Rattle.lw_reg.proofs.Members.{none_there, there_or_first}

@@ -1,15 +1,13 @@
 -- A registration that has expired, and what its slot and its table are once it has ended.
-use Rattle.std.proofs.Common.{◌≡◌, ◌↔◌, ℕ, ◌<◌, ◌≤◌, ◌-◌, ◌^◌, Bool, true, false, cond, List, [], Option, Some, None, refl, sym, ap, ◌∙◌, subst, arith}
+use Rattle.std.proofs.Common.{◌≡◌, ◌↔◌, ℕ, true, false, cond, List, [], Option, Some, None, refl, sym, ap, ◌∙◌, subst}
 use Rattle.std.specs.Cmp.{tied_itself}
 use Rattle.std.specs.FinMap.{get}
 use Rattle.std.specs.Ordering.{is_gt, max_by_ordering, ordering_reverse}
-use Rattle.std.specs.Prelude.{IsSomeAnd}
 use Rattle.std.specs.Option.{IsSome, IsNone}
 use Rattle.std.specs.declared.cmp.Ordering.{Ordering}
 use Rattle.std.specs.declared.cmp.Ordering.TheVariants.{Less, Equal, Greater}
 use Rattle.lw_stamp.specs.declared.moment.Moment.{Moment}
 use Rattle.lw_stamp.specs.declared.stamp.Stamp.{Stamp}
-use Rattle.lw_stamp.specs.Order.{AtMost}
 use Rattle.lw_stamp.specs.StampOrder.{stamp_cmp}
 use Rattle.lw_stamp.specs.TextOrder.{text_cmp}
 use Rattle.lw_stamp.proofs.StampLemmas.{stamp_order}
@@ -25,20 +23,16 @@ use Rattle.lw_reg.specs.declared.body.Body.{Body}
 use Rattle.lw_reg.specs.declared.slot.Slot.{Slot}
 use Rattle.lw_reg.specs.Attribute.{values_of}
 use Rattle.lw_reg.specs.Marks.{Mark, Marks, NamesAll, among}
-use Rattle.lw_reg.specs.OrderLaws.{text_order}
 use Rattle.lw_reg.specs.Reading.{IsRemoved, deadline_in, deadline_of, ended_of, is_late, lasting, registered_in, registration_of, seen_of, shown_in, stamp_of}
-use Rattle.lw_reg.specs.Registration.{Registration}
-use Rattle.lw_reg.specs.Showing.{IsExpired}
 use Rattle.lw_reg.specs.Slot.{slot_at, slot_join, ending}
 use Rattle.lw_reg.specs.State.{State, IsStateOf}
 use Rattle.lw_reg.proofs.EndLemmas.{ended_with, ending_joined, lasting_some, with_end}
 use Rattle.lw_reg.proofs.Tells.{Holds, Tells}
-use Rattle.lw_table.specs.Due.{OptionHasDue}
 use Rattle.lw_table.specs.Found.{expired_at, expired_with, named}
 use Rattle.lw_table.specs.Keys.{HasKey}
 use Rattle.lw_table.specs.Lifts.{Lifts, LiftsFirst}
-use Rattle.lw_table.specs.LookUps.{ExpiredAfter, named_by}
-use Rattle.lw_table.specs.Moves.{LiftsRow, moved_row}
+use Rattle.lw_table.specs.LookUps.{ExpiredAfter}
+use Rattle.lw_table.specs.Moves.{LiftsRow}
 use Rattle.lw_table.specs.Table.{TableContent}
 use Rattle.lw_table.specs.declared.key.Key.{Key}
 use Rattle.lw_table.specs.declared.key.Key.TheVariants.{Id, Address, Token}

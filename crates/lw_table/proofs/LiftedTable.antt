@@ -1,18 +1,16 @@
 -- A table in which the registration of the first that is due ends.
-use Rattle.std.proofs.Common.{◌≡◌, ◌↔◌, ℕ, ◌<◌, ◌≤◌, ◌-◌, ◌^◌, true, cond, List, [], Option, Some, None, refl, sym, ap, ◌∙◌, subst, arith}
+use Rattle.std.proofs.Common.{◌≡◌, ◌↔◌, ℕ, ◌-◌, ◌^◌, true, cond, List, [], Option, Some, None, refl, sym, ap, ◌∙◌, subst}
 use Rattle.std.specs.Prelude.{bytes_eq, IsSomeAnd}
 use Rattle.std.specs.FinMap.{get}
 use Rattle.std.specs.Option.{IsSome}
-use Rattle.std.specs.declared.cmp.Ordering.TheVariants.{Less}
 use Rattle.lw_stamp.specs.declared.moment.Moment.{Moment}
 use Rattle.lw_stamp.specs.declared.stamp.Stamp.{Stamp}
-use Rattle.lw_stamp.specs.TextOrder.{text_cmp}
 use Rattle.lw_due.specs.Due.{Entry, IsRising, first_due, raised}
 use Rattle.lw_due.proofs.DueOfLemmas.{due_of-before_first, due_of-none_due, due_of-raised}
 use Rattle.lw_recent.specs.Recent.{IsUnder}
 use Rattle.lw_reg.specs.declared.slot.Slot.{Slot}
 use Rattle.lw_reg.specs.Endpoint.{IsEndpoint}
-use Rattle.lw_reg.specs.Reading.{is_late, registered_in, seen_of, stamp_of}
+use Rattle.lw_reg.specs.Reading.{is_late, registered_in, seen_of}
 use Rattle.lw_reg.specs.Slot.{slot_below, slot_join, ending}
 use Rattle.lw_reg.proofs.EndLemmas.{ending_moves}
 use Rattle.lw_table.specs.declared.filed.Filed.{Filed}
@@ -21,7 +19,7 @@ use Rattle.lw_table.specs.declared.row.Row.{Row}
 use Rattle.lw_table.specs.declared.rows.Rows.{Rows}
 use Rattle.lw_table.specs.Changes.{counted}
 use Rattle.lw_table.specs.Due.{OptionHasDue}
-use Rattle.lw_table.specs.Filed.{IsFiled, OthersSame, OtherNumbers, slot_of, number_of}
+use Rattle.lw_table.specs.Filed.{IsFiled, OthersSame, OtherNumbers, slot_of}
 use Rattle.lw_table.specs.Found.{expired_at}
 use Rattle.lw_table.specs.Lifts.{Lifts}
 use Rattle.lw_table.specs.Moves.{LiftsRowAt, WasSeen, moved_row, next_row}

@@ -16,6 +16,10 @@ abbrev pub OptionHasDue : List Entry → List ℕ → Option Slot → Type 0
 OptionHasDue due e None = Unit {0}
 OptionHasDue due e (Some slot) = HasDue due e slot
 
+-- an endpoint that has a due moment for its slot has one still
+abbrev pub KeepsDue : (List ℕ → Option Slot) → List Entry → List Entry → Type 0
+KeepsDue slots old new = (e : List ℕ) → OptionHasDue old e (slots e) → OptionHasDue new e (slots e)
+
 -- of each endpoint but one the due moment is the same
 pub record OtherDue (endpoint : List ℕ) (old new : List Entry) : Type 0 where
   pub same : (e : List ℕ) → e ≢ endpoint → due_of e new ≡ due_of e old

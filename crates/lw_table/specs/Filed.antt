@@ -20,6 +20,10 @@ abbrev pub number_of : Option Row → Option ℕ
 number_of None = None
 number_of (Some row) = Some row.number
 
+-- the endpoint is filed under this number alone, or under none
+abbrev pub HasNumber : List (ℕ × List ℕ) → List ℕ → Option ℕ → Type 0
+HasNumber numbers e number = (n : ℕ) → IsUnder numbers n e ↔ (number ≡ Some n)
+
 -- the endpoint is filed under what its row has, and nothing else, and is due by its deadline
 pub record IsFiled (filed : Filed) (e : List ℕ) (row : Option Row) : Type 0 where
   pub name : Contains filed.names e ↔ IsKept (slot_of row)

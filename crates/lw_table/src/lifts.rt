@@ -2,13 +2,12 @@
 
 ghost use Rattle.std.specs.Prelude.{◌≡◌, ◌↔◌, ◌≤◌, ℕ, List, Some, None, IfSome, IsNone, IsSome};
 ghost use Rattle.lw_due.specs.Due.{first_due};
-ghost use Rattle.lw_recent.specs.Recent.{IsUnder};
 ghost use Rattle.lw_reg.specs.Marks.{Mark, NamesAll, among};
 ghost use Rattle.lw_reg.specs.Reading.{seen_of, shown_in};
 ghost use Rattle.lw_reg.specs.State.{IsStateOf};
 ghost use Rattle.lw_stamp.specs.Moment.{ms_of};
-ghost use Rattle.lw_table.specs.Due.{OptionHasDue, deadline_at};
-ghost use Rattle.lw_table.specs.Filed.{OtherNumbers, slot_of, number_of};
+ghost use Rattle.lw_table.specs.Due.{KeepsDue, deadline_at};
+ghost use Rattle.lw_table.specs.Filed.{HasNumber, OtherNumbers, slot_of, number_of};
 ghost use Rattle.lw_table.specs.Lifts.{LiftsFirst};
 ghost use Rattle.lw_table.specs.LookUps.{ExpiredAfter};
 ghost use Rattle.lw_table.specs.Moves.{LiftsRow, LiftsRowAt, WasSeen, IsTaken};
@@ -23,12 +22,13 @@ use lw_recent::Recent;
 use lw_stamp::{Moment, Stamp};
 
 impl Table {
-    /// Ends the registration of the least endpoint that has expired, as it was last seen: its identifier. Where none has,
-    /// nothing is changed. It takes no memory. It costs a few descents, and as many again for each endpoint whose due
-    /// moment has come before its deadline; that is in no contract.
+    /// Ends the registration of the least endpoint that has expired, as it was last seen: its identifier. Where none
+    /// has, nothing is changed. It takes no memory. It costs a few descents, and as many again for each endpoint whose
+    /// due moment has come before its deadline; that is in no contract.
     pub fn lift_first(&mut self, now: Moment) -> Option<Stamp>
         ensures read { LiftsFirst (shown_in self.old.state) (ms_of now) self.old result self.new }
-        ensures marks { (ms : List Mark) → NamesAll (among ms) → IsStateOf ms self.old.state → LiftsFirst (among ms) (ms_of now) self.old result self.new }
+        ensures marks { (ms : List Mark) → NamesAll (among ms) → IsStateOf ms self.old.state
+            → LiftsFirst (among ms) (ms_of now) self.old result self.new }
         ensures none { IsNone result ↔ ExpiredAfter (shown_in self.old.state) (ms_of now) None None }
     {
         raise_due(&mut self.filed.due, &self.rows, now.ms());
@@ -45,7 +45,7 @@ impl Table {
 /// deadline, or none has come.
 fn raise_due(due: &mut DueMoments, rows: &Rows, now: u64)
     requires { IsRows rows.now }
-    ensures below { (e : List ℕ) → OptionHasDue due.old e (slot_of (row_at rows.now e)) → OptionHasDue due.new e (slot_of (row_at rows.now e)) }
+    ensures below { KeepsDue (λ e. slot_of (row_at rows.now e)) due.old due.new }
     ensures first { IfSome (first_due now due.new) (λ e. deadline_at (slot_of (row_at rows.now e)) ≤ now) }
 {
     while let Some(endpoint) = due.first(now) {
@@ -70,11 +70,11 @@ fn deadline_at(rows: &Rows, endpoint: &str) -> u64
 
 /// Ends the registration of the endpoint as it was last seen, and gives its row the number: its identifier.
 fn lift(numbers: &mut Recent, rows: &mut Rows, endpoint: &str, number: u64) -> Stamp
-    requires numbers { (n : ℕ) → IsUnder numbers.old n endpoint.now ↔ (number_of (row_at rows.old endpoint.now) ≡ Some n) }
+    requires numbers { HasNumber numbers.old endpoint.now (number_of (row_at rows.old endpoint.now)) }
     requires rows { IsRows rows.old }
     requires seen { WasSeen (row_at rows.old endpoint.now) }
     ensures others { OtherNumbers endpoint.now numbers.old numbers.new }
-    ensures number { (n : ℕ) → IsUnder numbers.new n endpoint.now ↔ (Some number ≡ Some n) }
+    ensures number { HasNumber numbers.new endpoint.now (Some number) }
     ensures lifted { LiftsRowAt endpoint.now number result rows.old rows.new }
 {
     match rows.firsts.get_mut(&end_of(endpoint)) {
@@ -91,12 +91,12 @@ fn lift(numbers: &mut Recent, rows: &mut Rows, endpoint: &str, number: u64) -> S
 
 // The same for an endpoint that ends as that of an earlier row.
 fn lift_other(numbers: &mut Recent, rows: &mut Rows, endpoint: &str, number: u64) -> Stamp
-    requires numbers { (n : ℕ) → IsUnder numbers.old n endpoint.now ↔ (number_of (row_at rows.old endpoint.now) ≡ Some n) }
+    requires numbers { HasNumber numbers.old endpoint.now (number_of (row_at rows.old endpoint.now)) }
     requires rows { IsRows rows.old }
     requires seen { WasSeen (row_at rows.old endpoint.now) }
     requires taken { IsTaken rows.old endpoint.now }
     ensures others { OtherNumbers endpoint.now numbers.old numbers.new }
-    ensures number { (n : ℕ) → IsUnder numbers.new n endpoint.now ↔ (Some number ≡ Some n) }
+    ensures number { HasNumber numbers.new endpoint.now (Some number) }
     ensures lifted { LiftsRowAt endpoint.now number result rows.old rows.new }
 {
     match rows.others.get_mut(endpoint) {
@@ -107,10 +107,10 @@ fn lift_other(numbers: &mut Recent, rows: &mut Rows, endpoint: &str, number: u64
 
 // Ends the registration of the row.
 fn lift_row(numbers: &mut Recent, row: &mut Row, endpoint: &str, number: u64) -> Stamp
-    requires numbers { (n : ℕ) → IsUnder numbers.old n endpoint.now ↔ (Some row.old.number ≡ Some n) }
+    requires numbers { HasNumber numbers.old endpoint.now (Some row.old.number) }
     requires seen { IsSome (seen_of row.old.slot) }
     ensures others { OtherNumbers endpoint.now numbers.old numbers.new }
-    ensures number { (n : ℕ) → IsUnder numbers.new n endpoint.now ↔ (Some number ≡ Some n) }
+    ensures number { HasNumber numbers.new endpoint.now (Some number) }
     ensures lifted { LiftsRow number result row.old row.new }
 {
     let id = row.slot.stamp();

@@ -1,6 +1,5 @@
-use Rattle.std.proofs.Common.{List, ℕ, None, refl, sym, subst}
+use Rattle.std.proofs.Common.{None, refl, subst}
 use Rattle.lw_recent.specs.Recent.{IsUnder}
-use Rattle.lw_table.specs.Filed.{IsOver}
 use Rattle.lw_table.specs.declared.filed.Filed.{Filed}
 use Rattle.lw_table.proofs.FiledLemmas.{numbered, put_due}
 use Rattle.lw_table.proofs.MoveLemmas.{err_not, err_then, kept_is, over_old, over_numbered, filed_first, others_then}

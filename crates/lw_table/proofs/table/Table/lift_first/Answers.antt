@@ -33,7 +33,7 @@ returns-in_err-endpoint c =
     let due = c.raise_due.new.due in
     let new = table_in c.self.inside.rows c.self.inside.change in
     let table = subst (IsTable filed.names filed.keys filed.numbers due) c.self.view_is
-        (raised_table filed c.self.inside.rows c.self.invariant.0 c.self.inside.change due c.self.invariant.1 c.raise_due.ensures.below) in
+    (raised_table filed c.self.inside.rows c.self.invariant.0 c.self.inside.change due c.self.invariant.1 c.raise_due.ensures.below) in
     let none = subst (λ k. first_due k due ≡ None) c.ms-2.ensures.value (sym c.in_err-endpoint.ensures.first) in
     let nothing : LiftsFound now t None new = (none_found filed.names filed.keys filed.numbers due t table now none, c.self.view_is) in
     let is = sym c.from_residual.ensures in
@@ -103,7 +103,7 @@ returns c =
     let was = raised_table filed m c.self.invariant.0 change due c.self.invariant.1 c.raise_due.ensures.below in
     let new = table_in n number in
     let least : LiftsFound now t (Some id) new = subst (λ (x : TableContent). LiftsFound now x (Some id) new) c.self.view_is
-        (found old m n c.self.invariant.0 change was e number id c.lift-id.ensures.lifted now passed.0 passed.1 (saturated change number c.saturating_add-number.ensures was.last)) in
+    (found old m n c.self.invariant.0 change was e number id c.lift-id.ensures.lifted now passed.0 passed.1 (saturated change number c.saturating_add-number.ensures was.last)) in
     let read = read_lifts now t (Some id) new least in
     record {
       read = read;

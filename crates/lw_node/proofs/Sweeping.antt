@@ -1,0 +1,82 @@
+-- What a sweep means, over each set that a state tells of.
+use Rattle.std.proofs.Common.{◌≡◌, ◌∙◌, ℕ, ◌+◌, ◌≤◌, List, Option, Some, None, Ok, Err, inl, inr, refl, sym, ap, subst, arith}
+use Rattle.std.specs.Prelude.{Result, IfSome}
+use Rattle.std.specs.FinMap.{get}
+use Rattle.lw_stamp.specs.declared.moment.Moment.{Moment}
+use Rattle.lw_stamp.specs.declared.stamp.Stamp.{Stamp}
+use Rattle.lw_stamp.specs.Order.{IsGreatest}
+use Rattle.lw_join.specs.Facets.{OptionTells}
+use Rattle.lw_join.specs.Lww.{write_cmp}
+use Rattle.lw_join.specs.LwwLaws.{write_order}
+use Rattle.lw_join.specs.Maps.{one_key}
+use Rattle.lw_join.specs.declared.or_gone.OrGone.{OrGone}
+use Rattle.lw_join.specs.declared.or_gone.OrGone.TheVariants.{Here, Gone}
+use Rattle.lw_join.proofs.FacetLemmas.{greatest_one}
+use Rattle.lw_reg.specs.declared.body.Body.{Body}
+use Rattle.lw_reg.specs.declared.op.Op.{Op}
+use Rattle.lw_reg.specs.declared.op.What.{What}
+use Rattle.lw_reg.specs.declared.op.What.TheVariants.{Expire}
+use Rattle.lw_reg.specs.declared.slot.Slot.{Slot}
+use Rattle.lw_reg.specs.Marks.{Trace, Mark, Marks, Has, NamesAll, among}
+use Rattle.lw_reg.specs.Marks.Trace.{SeenAt}
+use Rattle.lw_reg.specs.OrderLaws.{moment_order}
+use Rattle.lw_reg.specs.Orders.{moment_cmp}
+use Rattle.lw_reg.specs.Reading.{seen_of, shown_in, stamp_of}
+use Rattle.lw_reg.specs.Registration.{Registration}
+use Rattle.lw_reg.specs.Showing.{IsWrite}
+use Rattle.lw_reg.specs.Slot.{slot_at, slot_of}
+use Rattle.lw_reg.specs.State.{State, IsStateOf, state_join}
+use Rattle.lw_reg.proofs.Tells.{SlotTells, Tells, Holds, ToldTells}
+use Rattle.lw_table.specs.Answers.{IsFirstAnswer}
+use Rattle.lw_table.specs.Lifts.{Lifts, LiftsFirst}
+use Rattle.lw_table.specs.LookUps.{ExpiredAfter, IsExpiredAfter, named_by}
+use Rattle.lw_table.specs.Table.{TableContent}
+use Rattle.lw_table.proofs.LookUpLemmas.{marks_tell, read_names, read_tells}
+use Rattle.lw_node.specs.Effects.{Place, IsAtEnd, IsNext, Expires, SweepMeans}
+use Rattle.lw_node.specs.Effects.Refused.{ClockEnd}
+use Rattle.lw_node.specs.Within.{FitsClock, IsNextOf}
+use Rattle.lw_node.proofs.SlotStamps.{stamps_within}
+
+-- the moment of a slot is the write that counts
+seen_told : (P : Stamp × Trace → Type 0) (slot : Slot) → SlotTells P slot → (w : Stamp × Moment) → seen_of slot ≡ Some w → IsGreatest (write_cmp moment_cmp) (λ v. P (stamp_of slot, SeenAt v.0 v.1)) w
+seen_told P slot told w = go slot.registration.value told.told
+  where
+    go : (x : OrGone Body) → ToldTells (λ k. P (slot.registration.stamp, k)) x → seen_of (slot_at slot.registration.stamp x) ≡ Some w → IsGreatest (write_cmp moment_cmp) (λ v. P (slot.registration.stamp, SeenAt v.0 v.1)) w
+    go Gone g h = absurd cc
+    go (Here b) g h = subst (OptionTells (IsGreatest (write_cmp moment_cmp)) (λ v. P (slot.registration.stamp, SeenAt v.0 v.1))) h g.1.seen
+
+-- the operation of the registration of the endpoint that ends
+abbrev pub ending_op : Stamp → List ℕ → Stamp → Stamp → Op
+ending_op stamp e id upto = record { stamp = stamp; endpoint = e; reg = id; what = Expire upto }
+
+-- ---- what is meant over a set that a state tells of
+module _ (place : Place) (M : Marks) where
+  -- nothing has expired
+  pub nothing_means : ExpiredAfter M place.now None None → SweepMeans place M (Ok None)
+  nothing_means none = (None, none, refl)
+
+  -- at the end of the clock
+  pub end_means : (x : List ℕ × Stamp) → ExpiredAfter M place.now None (Some x) → IsAtEnd place → SweepMeans place M (Err ClockEnd)
+  end_means x some end = (Some some.0, some.1, inl (end, refl))
+
+  module _ (old new : TableContent) (names : NamesAll M) (tells : Tells (Holds M) old.state) (stamp : Stamp) (next : IsNext place stamp) (e : List ℕ) (id : Stamp) (lifts : Lifts old e id new) where
+    -- the moment at which it was seen last
+    seen_at : IsWrite moment_cmp SeenAt M e id lifts.seen
+    seen_at = subst (λ (r : Stamp). IsWrite moment_cmp SeenAt M e r lifts.seen) lifts.id_is
+        (seen_told (λ y. Has M e y.0 y.1) lifts.slot (subst (OptionTells SlotTells (λ y. Has M e y.0 y.1)) lifts.is (tells e)) lifts.seen lifts.seen_is)
+
+    expires : (r : Registration) → (e, id) ≡ named_by r → IsExpiredAfter M place.now None r → Expires M r (ending_op stamp e id lifts.seen.0)
+    expires r is fits =
+        let complete = fits.1.registered.complete in
+        let at : IsWrite moment_cmp SeenAt M r.endpoint r.id lifts.seen = subst (λ (x : List ℕ × Stamp). IsWrite moment_cmp SeenAt M x.0 x.1 lifts.seen) is seen_at in
+        let same : lifts.seen ≡ (complete.seen.0, r.seen) = greatest_one (write_order moment_order) (λ w. Has M r.endpoint r.id (SeenAt w.0 w.1)) lifts.seen (complete.seen.0, r.seen) at complete.seen.1 in
+        record {
+          about = record { endpoint = ap (λ x. x.0) is; registration = ap (λ x. x.1) is };
+          upto = lifts.seen.0;
+          seen = subst (λ (w : Moment). IsWrite moment_cmp SeenAt M r.endpoint r.id (lifts.seen.0, w)) (ap (λ w. w.1) same) at;
+          what = refl;
+        }
+
+    -- the first that has expired ends
+    pub ending_means : ExpiredAfter M place.now None (Some (e, id)) → SweepMeans place M (Ok (Some (ending_op stamp e id lifts.seen.0)))
+    ending_means some = (Some some.0, some.1, inr (ending_op stamp e id lifts.seen.0, next, expires some.0 some.2 some.1.fits, refl))
