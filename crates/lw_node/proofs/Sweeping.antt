@@ -1,6 +1,7 @@
 -- What a sweep means, over each set that a state tells of.
 use Rattle.std.proofs.Common.{◌≡◌, ◌∙◌, ℕ, ◌+◌, ◌≤◌, List, Option, Some, None, Ok, Err, inl, inr, refl, sym, ap, subst, arith}
-use Rattle.std.specs.Prelude.{Result, IfSome}
+use Rattle.std.specs.Prelude.{Result, max}
+use Rattle.std.specs.Option.{option_map}
 use Rattle.std.specs.FinMap.{get}
 use Rattle.lw_stamp.specs.declared.moment.Moment.{Moment}
 use Rattle.lw_stamp.specs.declared.stamp.Stamp.{Stamp}
@@ -32,10 +33,13 @@ use Rattle.lw_table.specs.Lifts.{Lifts, LiftsFirst}
 use Rattle.lw_table.specs.LookUps.{ExpiredAfter, IsExpiredAfter, named_by}
 use Rattle.lw_table.specs.Table.{TableContent}
 use Rattle.lw_table.proofs.LookUpLemmas.{marks_tell, read_names, read_tells}
+use Rattle.lw_node.specs.Calls.{Sweeps, place_at}
 use Rattle.lw_node.specs.Effects.{Place, IsAtEnd, IsNext, Expires, SweepMeans}
 use Rattle.lw_node.specs.Effects.Refused.{ClockEnd}
-use Rattle.lw_node.specs.Within.{FitsClock, IsNextOf}
-use Rattle.lw_node.proofs.SlotStamps.{stamps_within}
+use Rattle.lw_node.specs.Node.{NodeContent, HasEndpoints}
+use Rattle.lw_node.specs.Within.{FitsClock}
+use Rattle.lw_node.proofs.Issuing.{joined_marks, still_node}
+use Rattle.lw_node.proofs.NextOperation.{sweep_next}
 
 -- the moment of a slot is the write that counts
 seen_told : (P : Stamp × Trace → Type 0) (slot : Slot) → SlotTells P slot → (w : Stamp × Moment) → seen_of slot ≡ Some w → IsGreatest (write_cmp moment_cmp) (λ v. P (stamp_of slot, SeenAt v.0 v.1)) w
@@ -51,13 +55,15 @@ ending_op stamp e id upto = record { stamp = stamp; endpoint = e; reg = id; what
 
 -- ---- what is meant over a set that a state tells of
 module _ (place : Place) (M : Marks) where
-  -- nothing has expired
-  pub nothing_means : ExpiredAfter M place.now None None → SweepMeans place M (Ok None)
-  nothing_means none = (None, none, refl)
+  -- what has expired, by a look-up: nothing
+  pub nothing_means : {A : Type 0} (of : A → List ℕ × Stamp) (o : Option A) → ExpiredAfter M place.now None (option_map of o) → o ≡ None → SweepMeans place M (Ok None)
+  nothing_means of o found is = (None, subst (λ x. ExpiredAfter M place.now None (option_map of x)) is found, refl)
 
-  -- at the end of the clock
-  pub end_means : (x : List ℕ × Stamp) → ExpiredAfter M place.now None (Some x) → IsAtEnd place → SweepMeans place M (Err ClockEnd)
-  end_means x some end = (Some some.0, some.1, inl (end, refl))
+  -- something, at the end of the clock
+  pub end_means : {A : Type 0} (of : A → List ℕ × Stamp) (o : Option A) → ExpiredAfter M place.now None (option_map of o) → (a : A) → o ≡ Some a → IsAtEnd place → SweepMeans place M (Err ClockEnd)
+  end_means of o found a is end =
+      let some = subst (λ x. ExpiredAfter M place.now None (option_map of x)) is found in
+      (Some some.0, some.1, inl (end, refl))
 
   module _ (old new : TableContent) (names : NamesAll M) (tells : Tells (Holds M) old.state) (stamp : Stamp) (next : IsNext place stamp) (e : List ℕ) (id : Stamp) (lifts : Lifts old e id new) where
     -- the moment at which it was seen last
@@ -78,5 +84,29 @@ module _ (place : Place) (M : Marks) where
         }
 
     -- the first that has expired ends
-    pub ending_means : ExpiredAfter M place.now None (Some (e, id)) → SweepMeans place M (Ok (Some (ending_op stamp e id lifts.seen.0)))
+    ending_means : ExpiredAfter M place.now None (Some (e, id)) → SweepMeans place M (Ok (Some (ending_op stamp e id lifts.seen.0)))
     ending_means some = (Some some.0, some.1, inr (ending_op stamp e id lifts.seen.0, next, expires some.0 some.2 some.1.fits, refl))
+
+-- ---- what a node is then
+module _ (old new : NodeContent) (now : ℕ) (M : Marks) (stamp : Stamp) (id : Stamp) (lifted : LiftsFirst M now old.table (Some id) new.table) where
+  abbrev pub lifted_op : Op
+  lifted_op = ending_op stamp lifted.0 id lifted.2.seen.0
+
+  pub lift_means : NamesAll M → Tells (Holds M) old.table.state → IsNext (place_at old now) stamp → SweepMeans (place_at old now) M (Ok (Some lifted_op))
+  lift_means names tells next = ending_means (place_at old now) M old.table new.table names tells stamp next lifted.0 id lifted.2 lifted.1
+
+  pub lift_swept : NamesAll M → Tells (Holds M) old.table.state → IsNext (place_at old now) stamp → new.number ≡ old.number → new.clock ≡ old.clock + 1 → Sweeps old M now (Ok (Some id)) new
+  lift_swept names tells next number clock = (
+    lifted_op,
+    lift_means names tells next,
+    refl,
+    record { number = number; clock = clock; state = lifted.2.state ∙ joined_marks old.table.state lifted_op; count = lifted.2.count },
+  )
+
+-- the invariant holds
+pub lift_fits : (old new : NodeContent) (now : ℕ) (stamp id : Stamp) → LiftsFirst (shown_in old.table.state) now old.table (Some id) new.table → IsNext (place_at old now) stamp → HasEndpoints old.table.state × FitsClock old.clock old.table.state → new.clock ≡ max old.clock stamp.counter
+    → HasEndpoints new.table.state × FitsClock new.clock new.table.state
+lift_fits old new now stamp id lifted next holds raised =
+    let op = lifted_op old new now (shown_in old.table.state) stamp id lifted in
+    let means = lift_means old new now (shown_in old.table.state) stamp id lifted (read_names old.table.state) (read_tells old.table.state) next in
+    still_node old.clock new.clock old.table.state new.table.state op stamp.counter (sweep_next (place_at old now) old.table.state holds.1 op means) lifted.2.named holds.0 holds.1 lifted.2.state raised refl
