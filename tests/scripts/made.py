@@ -174,6 +174,9 @@ class Chance:
         code = self.one_of(0x45, 0x45, 0x44, 0x84, 0xA0)
         self.run.report(sender, self.token(sender.node), code, number, format, self.one_of(b"", b"1", b"\xff" * 300))
 
+    def sweep(self):
+        self.run.sweep(self.node(), self.now)
+
     def send(self):
         node = self.node()
         since = self.one_of(self.last[node], self.run.nodes[node].change - 1, 0, 18446744073709551615)
@@ -202,8 +205,8 @@ class Chance:
     def event(self):
         self.now += self.random.randrange(400)
         kinds = {
-            self.register: 12, self.update: 16, self.deregister: 2, self.observe: 12, self.cancel: 4, self.report: 12,
-            self.send: 10, self.deliver: 14, self.ask: 18
+            self.register: 12, self.update: 16, self.deregister: 2, self.observe: 12, self.cancel: 4, self.sweep: 4,
+            self.report: 12, self.send: 10, self.deliver: 14, self.ask: 18
         }
         self.random.choices(list(kinds), list(kinds.values()))[0]()
 

@@ -99,6 +99,8 @@ class Slot:
     attributes: dict = field(default_factory=dict)
     watches: dict = field(default_factory=dict)
     is_removed: bool = False
+    # up to which stamp it is over, if it is
+    ended: tuple = None
 
     def value(self, name):
         return self.fields[name][1]
@@ -107,15 +109,19 @@ class Slot:
         """When the registration expires, or None for never."""
         return self.value("seen") + 1000 * self.value("lifetime") if self.value("lifetime") else None
 
+    def lasts(self):
+        return not self.is_removed and (self.ended is None or self.fields["seen"][0] > self.ended)
+
     def is_shown(self, now):
-        return not self.is_removed and (self.deadline() is None or now < self.deadline())
+        return self.lasts() and (self.deadline() is None or now < self.deadline())
 
     def is_expired(self, now):
-        return not self.is_removed and not self.is_shown(now)
+        return self.lasts() and not self.is_shown(now)
 
     def live(self):
         """The paths of the watches that are not cancelled, rising."""
         return sorted(path for path, watch in self.watches.items() if not watch.is_cancelled)
+
     def written(self, stamp, values, queries):
         """With the values that are written, and the attributes of the queries."""
         new = {name: (stamp, value) for name, value in values.items() if value is not KEPT}
@@ -137,7 +143,8 @@ class Slot:
         watches = dict(self.watches)
         for path, watch in other.watches.items():
             watches[path] = max(watches.get(path, watch), watch, key=lambda it: (it.token, it.is_cancelled))
-        return replace(self, fields=fields, attributes=attributes, watches=watches)
+        ended = max(self.ended, other.ended, key=lambda it: it or (0, 0))
+        return replace(self, fields=fields, attributes=attributes, watches=watches, ended=ended)
 
     def bytes(self, endpoint):
         head = b"\x01" + sized(endpoint) + stamp_bytes(self.stamp)
@@ -157,9 +164,10 @@ class Slot:
             b"\x01" + sized(name) + stamp_bytes(stamp) + sized(value)
             for name, (stamp, value) in sorted(self.attributes.items())
         )
+        ended = b"\0" if self.ended is None else b"\x01" + stamp_bytes(self.ended)
         watches = b"".join(self.watches[path].bytes(path) for path in sorted(self.watches))
         base = bytes([self.base[0] | self.base[1] << 1])
-        return head + b"\x7f" + base + fields + attributes + b"\0\0" + watches + b"\0"
+        return head + b"\x7f" + base + fields + attributes + b"\0" + ended + watches + b"\0"
 
 
 class Node:
@@ -184,6 +192,9 @@ class Node:
 
     def shown(self, now):
         return [(endpoint, slot) for endpoint, slot in sorted(self.slots.items()) if slot.is_shown(now)]
+
+    def expired(self, now):
+        return [(endpoint, slot) for endpoint, slot in sorted(self.slots.items()) if slot.is_expired(now)]
 
     def by_id(self, now, stamp):
         return next((it for it in self.shown(now) if it[1].stamp == stamp), None)
@@ -356,6 +367,15 @@ class Run:
             prints = self.ask_to_observe(slot, path, 1, mid)
         self.add(f"cancel {number} {now} {id_text(token)} {mid}", prints)
 
+    def sweep(self, number, now):
+        node = self.nodes[number]
+        prints = "none"
+        for endpoint, slot in node.expired(now)[:1]:
+            node.stamp()
+            node.put(endpoint, replace(slot, ended=slot.fields["seen"][0]))
+            prints = f"swept {id_text(slot.stamp)}"
+        self.add(f"sweep {number} {now}", prints)
+
     def send(self, number, since=0):
         node = self.nodes[number]
         slots = node.since(since)
@@ -398,8 +418,7 @@ class Run:
         self.add(" ".join(filter(None, [f"next {number} {now}", above])), json_text(view(found)))
 
     def ask_expired(self, number, now, above=""):
-        slots = sorted(self.nodes[number].slots.items())
-        found = next((it for it in slots if it[0] > above and it[1].is_expired(now)), None)
+        found = next((it for it in self.nodes[number].expired(now) if it[0] > above), None)
         prints = json_text({"endpoint": found[0], "id": id_text(found[1].stamp)} if found else None)
         self.add(" ".join(filter(None, [f"expired {number} {now}", above])), prints)
 

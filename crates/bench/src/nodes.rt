@@ -33,6 +33,10 @@ pub(crate) enum NodeCall {
     /// At a node that observes a path of each.
     ByToken,
     FirstAfter,
+    /// Of a sweep when the endpoints register, so that none is ended.
+    SweepNone,
+    /// Of a sweep at the last moment, so that one is ended.
+    SweepDue,
 }
 
 impl NodeCalls {
@@ -154,6 +158,8 @@ impl NodeCall {
                 take(node, datagram, place)
             }
             NodeCall::Observe => observe(node, stamp_at(0, place)?),
+            NodeCall::SweepNone => Ok(node.sweep(Moment::START) == Ok(None)),
+            NodeCall::SweepDue => sweep_last(node),
             look_up => look_up.finds(node, name, place),
         }
     }
@@ -170,7 +176,7 @@ impl NodeCall {
                 Ok(node.by_token(now, token).is_some())
             }
             NodeCall::FirstAfter => Ok(node.first_after(now, Some(name)).is_some()),
-            NodeCall::Take | NodeCall::Update | NodeCall::Observe => Err(BenchFault::Unexpected),
+            _ => Err(BenchFault::Unexpected),
         }
     }
 }
@@ -185,4 +191,10 @@ fn take(node: &mut Node, datagram: &[u8], place: u32) -> Result<bool, BenchFault
 fn observe(node: &mut Node, id: Stamp) -> Result<bool, BenchFault> {
     let path = Path::new(&[3, 0]).ok_or(BenchFault::Unexpected)?;
     Ok(node.observe(Moment::START, id, path, None, 1).is_ok())
+}
+
+/// Sweeps at the last moment. Whether a registration was ended.
+fn sweep_last(node: &mut Node) -> Result<bool, BenchFault> {
+    let last = Moment::new(Moment::LAST_MS).ok_or(BenchFault::Unexpected)?;
+    Ok(matches!(node.sweep(last), Ok(Some(_))))
 }

@@ -28,7 +28,7 @@ pub(crate) enum Operation {
 const LONG_CALLS: u32 = 1000;
 
 /// What is measured and its name, in the order of the table.
-pub(crate) static ROWS: [(&str, Operation); 28] = [
+pub(crate) static ROWS: [(&str, Operation); 30] = [
     (
         "take of a new Register, names rising",
         Operation::Node(NodeCalls {
@@ -115,6 +115,22 @@ pub(crate) static ROWS: [(&str, Operation); 28] = [
             known: Some(Order::Rising),
             names: Order::Rising,
             call: NodeCall::FirstAfter,
+        }),
+    ),
+    (
+        "sweep, none due",
+        Operation::Node(NodeCalls {
+            known: Some(Order::Scattered),
+            names: Order::Scattered,
+            call: NodeCall::SweepNone,
+        }),
+    ),
+    (
+        "sweep, each of N due",
+        Operation::Node(NodeCalls {
+            known: Some(Order::Scattered),
+            names: Order::Scattered,
+            call: NodeCall::SweepDue,
         }),
     ),
     (

@@ -7,6 +7,7 @@ mod largest;
 mod once;
 mod refused;
 mod steps;
+mod swept;
 
 use crate::hold::holds;
 use lw_node::*;

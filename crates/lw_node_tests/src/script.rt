@@ -6,7 +6,7 @@ use std::alloc::Global;
 use std::test::Fail;
 
 /// Lines of each kind, and bounds of each field just inside.
-static LINES: [&str; 36] = [
+static LINES: [&str; 39] = [
     "take 1 0 127.0.0.1:5683 40020004b272644465703d61ff3c2f3e",
     "take 1 0 127.0.0.1:5683 ",
     "take 1 0 127.0.0.1:5683 Ff",
@@ -17,6 +17,9 @@ static LINES: [&str; 36] = [
     "observe 1 0 0000000000010001 /3/0/1/65534 65535 65535",
     "cancel 1 0 0000000000020001 0",
     "cancel 1 0 ffffffffffffffff 65535",
+    "sweep 1 0",
+    "sweep 0 281474976710655",
+    "sweep 65535 60000",
     "send 1 0",
     "send 1 18446744073709551615",
     "deliver 2 0",
@@ -46,7 +49,7 @@ static LINES: [&str; 36] = [
 ];
 
 /// Bounds just outside, and other texts that are no lines.
-static REFUSED: [&str; 56] = [
+static REFUSED: [&str; 63] = [
     "",
     " ",
     "nodes 2",
@@ -81,6 +84,13 @@ static REFUSED: [&str; 56] = [
     "observe 1 0 000000000001000A /3 - 0",
     "cancel 1 0 0000000000020001",
     "cancel 1 0 0000000000020001 65536",
+    "sweep",
+    "sweep 1",
+    "sweep 1 ",
+    "sweep 1 0 ",
+    "sweep 1 0 a",
+    "sweep 1 281474976710656",
+    "swept 1 0",
     "send 1",
     "send 1 18446744073709551616",
     "send 1 ",

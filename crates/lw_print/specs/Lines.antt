@@ -4,12 +4,14 @@ use Rattle.std.specs.Fmt.{decimal}
 use Rattle.std.specs.List.{join_with_byte}
 use Rattle.hex.specs.Hex.{encode_lower}
 use Rattle.serde_json.specs.Written.{compact_text}
+use Rattle.lw_stamp.specs.declared.stamp.Stamp.{Stamp}
 use Rattle.lw_stamp.specs.Stamp.{id_of}
 use Rattle.lw_reg.specs.Addr.{addr_text}
 use Rattle.lw_delta.specs.declared.fault.DeltaFault.{DeltaFault}
 use Rattle.lw_delta.specs.declared.fault.DeltaFault.TheVariants as delta_faults
 use Rattle.lw_call.specs.declared.answer.Answer.{Answer}
 use Rattle.lw_call.specs.declared.answer.Answer.TheVariants as answers
+use Rattle.lw_call.specs.declared.clock_end.ClockEnd.{ClockEnd}
 use Rattle.lw_call.specs.declared.merge_fault.MergeFault.{MergeFault}
 use Rattle.lw_call.specs.declared.merge_fault.MergeFault.TheVariants as merge_faults
 use Rattle.lw_call.specs.declared.observe_fault.ObserveFault.{ObserveFault}
@@ -46,6 +48,12 @@ command_words (Err observe_faults.NotFound) = codes "refused" ∷ codes "1" ∷ 
 command_words (Err observe_faults.ClockEnd) = codes "refused" ∷ codes "2" ∷ []
 command_words (Err observe_faults.NoMemory) = no_memory
 
+-- the registration that has ended, or none, or why none ends
+abbrev pub swept_words : Result (Option Stamp) ClockEnd → List (List ℕ)
+swept_words (Ok (Some id)) = codes "swept" ∷ id_of id ∷ []
+swept_words (Ok None) = only (codes "none")
+swept_words (Err ended) = codes "refused" ∷ codes "1" ∷ []
+
 abbrev pub found_text : Answer → List ℕ
 found_text (answers.Registration None) = codes "none"
 found_text (answers.Registration (Some shown)) = compact_text (registration_json shown)
@@ -78,6 +86,7 @@ outcome_words (outcomes.Taken (Ok taken)) bytes = taken_words taken
 outcome_words (outcomes.Taken (Err refused)) bytes = no_memory
 outcome_words (outcomes.Observed outcome) bytes = command_words outcome
 outcome_words (outcomes.Cancelled outcome) bytes = command_words outcome
+outcome_words (outcomes.Swept outcome) bytes = swept_words outcome
 outcome_words (outcomes.Answered (Ok answer)) bytes = only (found_text answer)
 outcome_words (outcomes.Answered (Err refused)) bytes = no_memory
 outcome_words (outcomes.Sent (Ok sending)) bytes = codes "message" ∷ decimal sending.message ∷ decimal sending.change ∷ encode_lower bytes ∷ []

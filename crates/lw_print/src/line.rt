@@ -3,15 +3,15 @@
 ghost use Rattle.std.specs.Prelude.{◌≡◌, IfOk, [], option_map, string_bytes};
 ghost use Rattle.std.specs.Option.{unwrap_or};
 ghost use Rattle.std.specs.List.{join_with_byte};
-ghost use Rattle.lw_print.specs.Lines.{outcome_text, outcome_words, taken_words, command_words, sent_words, found_text, fault_number, delivery_words, notice_text};
+ghost use Rattle.lw_print.specs.Lines.{outcome_text, outcome_words, taken_words, command_words, sent_words, swept_words, found_text, fault_number, delivery_words, notice_text};
 
 use crate::notice::notice_text;
 use crate::one::{line_of, reply_text};
 use crate::registration::registration_text;
 use crate::value::id_text;
 use crate::watch::{stale_text, watch_text};
-use lw_stamp::NoMemory;
-use lw_world::{Answer, DeltaFault, MergeFault, Notice, ObserveFault, Outcome, Outgoing, Taken};
+use lw_stamp::{NoMemory, Stamp};
+use lw_world::{Answer, ClockEnd, DeltaFault, MergeFault, Notice, ObserveFault, Outcome, Outgoing, Taken};
 use std::alloc::Global;
 
 /// The line of what comes of an event, with its line feed. The bytes are those of the message, where the outcome is
@@ -32,6 +32,7 @@ fn outcome_words(alloc: Global, outcome: &Outcome, message: &[u8]) -> Result<Str
     match outcome {
         Outcome::Taken(Ok(taken)) => taken_words(alloc, taken),
         Outcome::Observed(outcome) | Outcome::Cancelled(outcome) => command_words(alloc, outcome),
+        Outcome::Swept(outcome) => swept_words(alloc, outcome),
         Outcome::Answered(Ok(answer)) => found_text(alloc, answer),
         Outcome::Sent(Ok(sending)) => {
             let (number, change) = (sending.message, sending.change);
@@ -85,6 +86,23 @@ fn sent_words(alloc: Global, outgoing: &Outgoing) -> Result<String, NoMemory>
     let address = outgoing.to.print(alloc)?;
     let bytes = hex::encode(alloc, outgoing.bytes.as_slice())?;
     Ok(format!(in alloc; "sent {token} {address} {bytes}")?)
+}
+
+/// The registration that has ended, or none, or why none ends.
+fn swept_words(
+    alloc: Global,
+    outcome: &Result<Option<Stamp>, ClockEnd>,
+) -> Result<String, NoMemory>
+    ensures { IfOk result (λ text. string_bytes text ≡ join_with_byte 32 (swept_words outcome.now)) }
+{
+    match outcome {
+        Ok(Some(id)) => {
+            let id = id_text(alloc, *id)?;
+            Ok(format!(in alloc; "swept {id}")?)
+        }
+        Ok(None) => Ok(String::from_str(alloc, "none")?),
+        Err(ClockEnd) => Ok(String::from_str(alloc, "refused 1")?),
+    }
 }
 
 /// What is found, or `none`.

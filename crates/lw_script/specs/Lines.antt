@@ -10,7 +10,7 @@ use Rattle.lw_world.specs.declared.event.Event.{Event}
 use Rattle.lw_script.specs.declared.fault.LineFault.{LineFault}
 use Rattle.lw_script.specs.declared.fault.LineFault.TheVariants.{Refused, NoMemory}
 use Rattle.lw_script.specs.declared.word.Word.{Word}
-use Rattle.lw_script.specs.declared.word.Word.TheVariants.{Take, Observe, Cancel, Send, Deliver, Id, Endpoint, Address, Token, Watch, Next, Expired, Change}
+use Rattle.lw_script.specs.declared.word.Word.TheVariants.{Take, Observe, Cancel, Sweep, Send, Deliver, Id, Endpoint, Address, Token, Watch, Next, Expired, Change}
 use Rattle.lw_script.specs.Fields.{◌␣◌, IsShort, IsNumber, IsMoment, IsAddress, IsId, IsPath, IsAccept, IsHex, IsName, HasSpace, is_space}
 use Rattle.lw_script.specs.Words.{word_text}
 
@@ -37,6 +37,7 @@ IsFields Observe = Spells (IsShort ␣ IsMoment ␣ IsId ␣ IsPath ␣ IsAccept
     (λ (node, (now, (id, (path, (accept, mid))))). record { node = node; action = action.Observe now id path accept mid })
 IsFields Cancel = Spells (IsShort ␣ IsMoment ␣ IsId ␣ IsShort)
     (λ (node, (now, (token, mid))). record { node = node; action = action.Cancel now token mid })
+IsFields Sweep = Spells (IsShort ␣ IsMoment) (λ (node, now). record { node = node; action = action.Sweep now })
 IsFields Send = Spells (IsShort ␣ IsNumber (2 ^ 64)) (λ (node, since). record { node = node; action = action.Send since })
 IsFields Deliver = Spells (IsShort ␣ IsNumber (2 ^ 32)) (λ (node, message). record { node = node; action = action.Deliver message })
 IsFields Id = Spells (IsShort ␣ IsMoment ␣ IsId) (λ (node, (now, id)). asked node now (question.ById id))

@@ -54,6 +54,18 @@ pub(crate) fn cancel(fields: &str) -> Option<Event>
     })
 }
 
+/// The fields of `sweep`.
+pub(crate) fn sweep(fields: &str) -> Option<Event>
+    ensures found { IfSome result (λ event. IsFields Words.Sweep event fields.now) }
+    ensures none { IfNone result ((event : Events) → ¬ IsFields Words.Sweep event fields.now) }
+{
+    let (node, now) = <(u16, Moment) as Field>::read(fields)?;
+    Some(Event {
+        node,
+        action: Action::Sweep { now },
+    })
+}
+
 /// The fields of `send`.
 pub(crate) fn send(fields: &str) -> Option<Event>
     ensures found { IfSome result (λ event. IsFields Words.Send event fields.now) }

@@ -40,6 +40,7 @@ fn event(alloc: Global, word: Word, fields: &str) -> Result<Event, LineFault>
         Word::Expired => kinds::expired(alloc, fields),
         Word::Observe => kinds::observe(fields).ok_or(LineFault::Refused),
         Word::Cancel => kinds::cancel(fields).ok_or(LineFault::Refused),
+        Word::Sweep => kinds::sweep(fields).ok_or(LineFault::Refused),
         Word::Send => kinds::send(fields).ok_or(LineFault::Refused),
         Word::Deliver => kinds::deliver(fields).ok_or(LineFault::Refused),
         Word::Id => kinds::id(fields).ok_or(LineFault::Refused),

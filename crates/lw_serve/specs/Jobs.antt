@@ -3,7 +3,7 @@ use Rattle.std.specs.Prelude.{ℕ, ◌+◌, ◌%◌, ◌==◌, if◌then◌else�
 use Rattle.lw_stamp.specs.declared.moment.Moment.{Moment}
 use Rattle.lw_reg.specs.declared.addr.Addr.{Addr}
 use Rattle.lw_reg.specs.declared.addr.Addr.TheVariants.{V4, V6}
-use Rattle.lw_call.specs.declared.call.Call.TheVariants.{Take, Send, Merge}
+use Rattle.lw_call.specs.declared.call.Call.TheVariants.{Take, Send, Merge, Sweep}
 use Rattle.lw_crew.specs.declared.job.Job.{Job}
 use Rattle.lw_serve.specs.declared.receiving.Datagram.{Datagram}
 
@@ -20,9 +20,18 @@ node_of_source nodes source = 1 + port_of source % nodes
 abbrev pub take_of : ℕ → Moment → Datagram → Job
 take_of nodes now datagram = record { node = node_of_source nodes datagram.from; call = Take now datagram.from datagram.bytes }
 
--- the jobs that were kept, and behind them a Take for each datagram in order
+-- a Sweep at the node, at a moment
+abbrev pub sweep_of : Moment → ℕ → Job
+sweep_of now node = record { node = node; call = Sweep now }
+
+-- a Sweep at each of the first so many nodes, nodes rising
+abbrev pub sweeps_of : Moment → ℕ → List Job
+sweeps_of now zero = []
+sweeps_of now (suc n) = sweeps_of now n ++ sweep_of now (suc n) ∷ []
+
+-- the jobs that were kept, behind them a Take for each datagram in order, and last a Sweep of each node
 abbrev pub jobs_of_round : List Job → ℕ → Moment → List Datagram → List Job
-jobs_of_round kept nodes now batch = kept ++ map (take_of nodes now) batch
+jobs_of_round kept nodes now batch = kept ++ (map (take_of nodes now) batch ++ sweeps_of now nodes)
 
 -- a Send for each node from this number on, each since a change number of its own
 abbrev pub sends_from : ℕ → List ℕ → List Job

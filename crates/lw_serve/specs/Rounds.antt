@@ -20,7 +20,7 @@ pub record Serves (shelves : List Shelf) (before after : List Transcript) (jobs 
   pub passes : AllContinue before after
   pub done : AreDone shelves (lengths before) after jobs dones
 
--- One round: first the kept merges and the Takes of the batch, then a Send of each node. What is kept for the next round
+-- One round: first the kept merges, the Takes of the batch and a Sweep of each node, then a Send of each node. What is kept for the next round
 -- are the merges that found no memory, and behind them those of the new deltas.
 pub record IsRound (shelves : List Shelf) (now : Moment) (batch : List Datagram) (old new : List Transcript) (kept keeps : List Job) (since sinces : List ℕ) : Type 0 where
   pub mid : List Transcript

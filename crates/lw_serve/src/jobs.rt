@@ -2,7 +2,7 @@
 
 ghost use Rattle.std.specs.Prelude.{◌≡◌, ◌≤◌, ◌++◌, length, vec_len, IfOk, OnOk};
 ghost use Rattle.lw_serve.specs.Plan.{AreNodes};
-ghost use Rattle.lw_serve.specs.Jobs.{jobs_of_round, merges_of, node_of_source, port_of as port_in, sends_from, take_of as take_job};
+ghost use Rattle.lw_serve.specs.Jobs.{jobs_of_round, merges_of, node_of_source, port_of as port_in, sends_from, sweeps_of, take_of as take_job};
 
 use crate::receiving::Datagram;
 use bytes::Bytes;
@@ -12,7 +12,8 @@ use lw_reg::Addr;
 use lw_stamp::{Moment, NoMemory};
 use std::alloc::Global;
 
-/// The jobs that were kept, and behind them a Take for each datagram, at the node of its source.
+/// The jobs that were kept, behind them a Take for each datagram, at the node of its source, and last a Sweep of each
+/// node.
 pub(crate) fn round_jobs(
     mut kept: Vec<Job>,
     nodes: u16,
@@ -27,6 +28,7 @@ pub(crate) fn round_jobs(
         .map(|datagram| take_of(nodes, now, datagram))
         .collect(*kept.allocator())?;
     kept.append(&mut takes)?;
+    put_sweeps(&mut kept, nodes, now)?;
     Ok(kept)
 }
 
@@ -56,6 +58,21 @@ fn port_of(address: &Addr) -> u16
         Addr::V4 { port, .. } => port,
         Addr::V6 { port, .. } => port,
     }
+}
+
+#[tactic(auto, using(crate::proofs::JobLemmas::sweeps_more))]
+/// Puts a Sweep of each node behind the jobs.
+fn put_sweeps(jobs: &mut Vec<Job>, nodes: u16, now: Moment) -> Result<(), NoMemory>
+    requires { AreNodes nodes }
+    ensures { OnOk result (jobs.new.items ≡ jobs.old.items ++ sweeps_of now nodes) }
+{
+    for swept in 0..nodes {
+        jobs.push(Job {
+            node: swept + 1,
+            call: Call::Sweep { now },
+        })?;
+    }
+    Ok(())
 }
 
 /// A Send of each node since the change number that stands for it.

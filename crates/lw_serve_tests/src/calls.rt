@@ -1,7 +1,7 @@
 //! Datagrams, the calls that take and ask for them, and what is given as a text.
 
 use lw_node::{Addr, Answer, Bytes, Call, Question, Reply, Seen, Sent, Text};
-use lw_stamp::Moment;
+use lw_stamp::{Moment, Stamp};
 use std::alloc::{AllocError, Global};
 use std::test::Fail;
 
@@ -28,6 +28,14 @@ pub(super) fn take(alloc: Global, datagram: &str) -> Result<Call, Fail> {
     })
 }
 
+/// Sweeps at a moment in milliseconds.
+pub(super) fn sweep(ms: u64) -> Result<Call, Fail> {
+    match Moment::new(ms) {
+        Some(now) => Ok(Call::Sweep { now }),
+        None => Err("a moment".into()),
+    }
+}
+
 /// Asks for an endpoint at moment 0.
 pub(super) fn ask(alloc: Global, endpoint: &str) -> Result<Call, Fail> {
     Ok(Call::Ask {
@@ -49,6 +57,8 @@ pub(super) fn reply_text(alloc: Global, reply: &Reply) -> Result<String, AllocEr
         Reply::Merge(Ok(count)) => format!(in alloc; "joined {count}"),
         Reply::Ask(Ok(Answer::Registration(Some(seen)))) => seen_text(alloc, seen),
         Reply::Ask(Ok(_)) => String::from_str(alloc, "-"),
+        Reply::Sweep(Ok(Some(id))) => swept_text(alloc, *id),
+        Reply::Sweep(Ok(None)) => String::from_str(alloc, "-"),
         Reply::Cancel(Err(fault)) => format!(in alloc; "Cancel(Err({fault:?}))"),
         Reply::Merge(Err(fault)) => format!(in alloc; "Merge(Err({fault:?}))"),
         _ => String::from_str(alloc, "refused"),
@@ -59,6 +69,11 @@ fn sent_text(alloc: Global, sent: &Sent) -> Result<String, AllocError> {
     let delta = hex::encode(alloc, &sent.delta)?;
     let change = sent.change;
     format!(in alloc; "{delta} {change}")
+}
+
+fn swept_text(alloc: Global, id: Stamp) -> Result<String, AllocError> {
+    let id = u64::from_be_bytes(id.to_bytes());
+    format!(in alloc; "swept {id:016x}")
 }
 
 /// What is shown, its endpoint first and its objects last.

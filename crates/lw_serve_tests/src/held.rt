@@ -5,7 +5,7 @@ mod refused;
 mod settling;
 pub(crate) mod steps;
 
-use crate::calls::{REGISTER, ask, bytes, reply_text, take};
+use crate::calls::{REGISTER, ask, bytes, reply_text, sweep, take};
 use crate::hold::{holds, is_text};
 use lw_held::{Entry, Held, NoGate, Part, Pass, Settled, Shelf, Unsettled, set_up, settle};
 use lw_node::{Call, Path};

@@ -1,5 +1,6 @@
 mod moments;
 mod rounds;
+mod sweeping;
 mod udp;
 mod wire;
 

@@ -78,6 +78,62 @@ fn attributes_of_two_nodes(rt: HostRuntime) -> Result<(), Fail> {
     same(lines.as_str(), ATTRIBUTES_LINES)
 }
 
+/// What has expired at one node is swept, and an Update at the other, which came before that, brings it back until it
+/// expires again.
+const SWEPT: &str = "nodes 2
+take 1 0 127.0.0.1:5683 40020004b272644465703d61056c743d3630ff3c2f3e
+send 1 0
+deliver 2 0
+sweep 1 59999
+change 1
+sweep 1 60000
+change 1
+endpoint 1 0 a
+expired 1 60000
+sweep 1 60000
+take 2 50000 127.0.0.1:5683 40020011b272640d0330303030303030303030303130303031
+send 1 1
+send 2 1
+deliver 2 1
+deliver 1 2
+endpoint 1 109999 a
+endpoint 2 109999 a
+endpoint 1 110000 a
+endpoint 2 110000 a
+sweep 2 110000
+sweep 3 0
+";
+
+/// What is printed for it.
+const SWEPT_LINES: &str = r#"taken 604100048272640d0330303030303030303030303130303031 -
+message 0 1 4c57443300000000000101016100000000000100017f000000000000010001047f0000011633000000000001000100000000000000000000000100010000003c00000000000100010155000000000001000100000000000001000100033c2f3e00000000
+joined 1
+none
+1
+swept 0000000000010001
+2
+none
+none
+none
+taken 60440011 -
+message 1 2 4c57443300000000000201016100000000000100017f000000000000010001047f0000011633000000000001000100000000000000000000000100010000003c00000000000100010155000000000001000100000000000001000100033c2f3e000100000000000100010000
+message 2 2 4c57443300000000000201016100000000000100017f000000000000020002047f0000011633000000000002000200000000c35000000000000100010000003c00000000000100010155000000000001000100000000000001000100033c2f3e00000000
+joined 1
+joined 1
+{"address":"127.0.0.1:5683","attributes":{},"binding":"U","endpoint":"a","id":"0000000000010001","lifetime":60,"lwm2m":"1.0","objects":"</>","queue":false,"seen":50000,"sms":null}
+{"address":"127.0.0.1:5683","attributes":{},"binding":"U","endpoint":"a","id":"0000000000010001","lifetime":60,"lwm2m":"1.0","objects":"</>","queue":false,"seen":50000,"sms":null}
+none
+none
+swept 0000000000010001
+no node
+"#;
+
+#[test]
+fn what_is_swept_at_one_node_is_updated_at_another(rt: HostRuntime) -> Result<(), Fail> {
+    let lines = replayed(rt.alloc(), SWEPT.as_bytes())?;
+    same(lines.as_str(), SWEPT_LINES)
+}
+
 /// What comes of a script, and how many bytes are printed.
 fn outcome(alloc: Global, mut script: FewBytes<'_>) -> (Result<(), Fault>, usize) {
     let mut writer = Vec::new(alloc);

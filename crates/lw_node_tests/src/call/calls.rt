@@ -44,6 +44,10 @@ fn cancel(now: u64, token: Stamp, mid: u16) -> Result<Call, Fail> {
     })
 }
 
+fn sweep(now: u64) -> Result<Call, Fail> {
+    Ok(Call::Sweep { now: at(now)? })
+}
+
 /// Calls that carry bytes or a number.
 fn message_at(alloc: Global, place: usize) -> Result<Call, Fail> {
     match place {
@@ -64,7 +68,7 @@ fn message_at(alloc: Global, place: usize) -> Result<Call, Fail> {
 
 const MESSAGES: usize = 12;
 
-/// Calls about an observation.
+/// Calls about an observation, and sweeps.
 fn command_at(place: usize) -> Result<Call, Fail> {
     match place {
         0 => observe(0, SECOND, &[3, 0], None, 7),
@@ -76,11 +80,13 @@ fn command_at(place: usize) -> Result<Call, Fail> {
         6 => cancel(0, SECOND, 7),
         7 => cancel(1, SECOND, 7),
         8 => cancel(0, FIRST, 7),
-        _ => cancel(0, SECOND, 8),
+        9 => cancel(0, SECOND, 8),
+        10 => sweep(0),
+        _ => sweep(1),
     }
 }
 
-const COMMANDS: usize = 10;
+const COMMANDS: usize = 12;
 
 fn question_at(alloc: Global, place: usize) -> Result<Question, Fail> {
     match place {

@@ -143,7 +143,7 @@ fn given_at(alloc: Global, place: usize) -> Result<Reply, Fail> {
 
 const GIVEN: usize = 8 + 16;
 
-/// Refusals, and what a merge gives.
+/// Refusals, and what a merge and a sweep give.
 fn plain_at(place: usize) -> Reply {
     match place {
         0 => Reply::Take(Err(NoMemory)),
@@ -157,11 +157,15 @@ fn plain_at(place: usize) -> Reply {
         8 => Reply::Merge(Err(MergeFault::Malformed(DeltaFault::Order))),
         9 => Reply::Merge(Err(MergeFault::NoMemory { joined: 0 })),
         10 => Reply::Merge(Err(MergeFault::NoMemory { joined: 1 })),
-        _ => Reply::Ask(Err(NoMemory)),
+        11 => Reply::Ask(Err(NoMemory)),
+        12 => Reply::Sweep(Ok(Some(FIRST))),
+        13 => Reply::Sweep(Ok(Some(SECOND))),
+        14 => Reply::Sweep(Ok(None)),
+        _ => Reply::Sweep(Err(ClockEnd)),
     }
 }
 
-const REPLIES: usize = GIVEN + 12;
+const REPLIES: usize = GIVEN + 16;
 
 /// Replies of each kind, no two of equal content.
 fn reply_at(alloc: Global, place: usize) -> Result<Reply, Fail> {

@@ -192,6 +192,14 @@ const AFTER_CALLS: [Row<'static>; 6] = [
     (Numbers, "10 10"),
 ];
 
+/// After sweeps before and at the end of the registration of `bb`.
+const AFTER_SWEEPS: [Row<'static>; 4] = [
+    (ByEndpoint(0, "bb"), "-"),
+    (ByToken("0000000000090001"), "-"),
+    (ExpiredAfter(30_000, None), "-"),
+    (Numbers, "11 11"),
+];
+
 /// The call at the place gives at one node twice what it gives at the other.
 fn call_acts_alike(
     alloc: Global,
@@ -211,9 +219,19 @@ fn calls_act_alike(alloc: Global, once: &mut Node, twice: &mut Node) -> Result<(
     play(alloc, twice, &AFTER_CALLS)
 }
 
+fn sweeps_act_alike(alloc: Global, once: &mut Node, twice: &mut Node) -> Result<(), Fail> {
+    for ms in [29_999, 30_000, 30_000] {
+        let call = Call::Sweep { now: at(ms)? };
+        holds("a sweep", acts_alike(once, twice, &call))?;
+    }
+    play(alloc, once, &AFTER_SWEEPS)?;
+    play(alloc, twice, &AFTER_SWEEPS)
+}
+
 #[test]
 fn a_call_made_twice_gives_what_it_gives_once(rt: HostRuntime) -> Result<(), Fail> {
     let mut once = Node::new(rt.alloc(), 1);
     let mut twice = Node::new(rt.alloc(), 1);
-    calls_act_alike(rt.alloc(), &mut once, &mut twice)
+    calls_act_alike(rt.alloc(), &mut once, &mut twice)?;
+    sweeps_act_alike(rt.alloc(), &mut once, &mut twice)
 }

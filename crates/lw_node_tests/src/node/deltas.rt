@@ -143,7 +143,7 @@ fn a_fuller_spelling_of_a_removal_comes_back_short(rt: HostRuntime) -> Result<()
 }
 
 /// A clock one before its end.
-const AT_THE_END: [Row<'static>; 8] = [
+const AT_THE_END: [Row<'static>; 10] = [
     (Merges("4c574433fffffffffffe00"), "Ok(0)"),
     (
         Takes(REGISTER),
@@ -156,6 +156,8 @@ const AT_THE_END: [Row<'static>; 8] = [
     (Takes(REGISTER_B), "60a30005"),
     (Takes("50020005b272644465703d62ff3c2f3e"), "50a30005"),
     (Observes("ffffffffffff0001"), "ClockEnd"),
+    (Sweeps(86_399_999), "-"),
+    (Sweeps(86_400_000), "ClockEnd"),
     (
         ByEndpoint(0, "a"),
         r#"{"address":"127.0.0.1:5683","attributes":{},"binding":"U","endpoint":"a","id":"ffffffffffff0001","lifetime":86400,"lwm2m":"1.0","objects":"</>","queue":false,"seen":0,"sms":null}"#,

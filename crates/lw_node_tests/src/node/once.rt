@@ -9,7 +9,7 @@ const WATCH: &str =
 const NOTICE: &str =
     r#"{"code":69,"content_format":null,"ended":false,"endpoint":"a","id":"0000000000010001","observe":1,"path":"/3/0","payload":"31","token":"0000000000020001"}"#;
 
-const CALLS: [Row<'static>; 20] = [
+const CALLS: [Row<'static>; 23] = [
     (Numbers, "0 0"),
     (FirstAfter(None), "-"),
     (Takes(REGISTER), CREATED),
@@ -36,6 +36,9 @@ const CALLS: [Row<'static>; 20] = [
     ),
     (ExpiredAfter(86_400_000, Some("a")), "-"),
     (Numbers, "3 3"),
+    (Sweeps(86_399_999), "-"),
+    (Sweeps(86_400_000), ID),
+    (Numbers, "4 4"),
 ];
 
 #[test]

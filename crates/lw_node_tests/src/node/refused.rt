@@ -1,6 +1,7 @@
-//! What a node knows and sends where a merge or a delta is refused memory.
+//! What a node knows and sends where a merge or a delta is refused memory, and that a sweep takes none.
 
 use super::deltas::{SECOND, TWO};
+use super::swept::REGISTER_FOR_A_MINUTE;
 use super::*;
 use lw_stamp::NoMemory;
 
@@ -61,4 +62,19 @@ fn a_refused_merge_leaves_the_first_slots(rt: HostRuntime) -> Result<(), Fail> {
     };
     let mut node = Node::new(alloc, 2);
     merges_in_two_tries(&mut node, &deltas)
+}
+
+/// Whether a sweep ends this registration, and another then nothing.
+fn is_swept_once(node: &mut Node, id: Stamp, now: Moment) -> bool {
+    node.sweep(now) == Ok(Some(id)) && node.sweep(now) == Ok(None)
+}
+
+#[test]
+fn a_refused_growth_is_none_of_a_sweep(rt: HostRuntime) -> Result<(), Fail> {
+    let alloc = rt.alloc();
+    let register = hex::decode(alloc, REGISTER_FOR_A_MINUTE)?;
+    let mut node = Node::new(alloc, 1);
+    let taken = node.take(Moment::START, steps::host(5683), &register)?;
+    holds("a reply", taken.reply.is_some())?;
+    holds("a sweep", is_swept_once(&mut node, id(ID)?, at(60_000)?))
 }

@@ -12,6 +12,8 @@ pub(super) enum Step<'a> {
     Observes(&'a str),
     /// An observation is ended.
     Cancels(&'a str),
+    /// The first registration that has expired at the moment is ended.
+    Sweeps(u64),
     ByEndpoint(u64, &'a str),
     ById(&'a str),
     ByAddress(u16),
@@ -50,6 +52,7 @@ impl Step<'_> {
                 node.observe(now, id(text)?, path(&[3, 0])?, None, 32),
             ),
             Step::Cancels(token) => sent(alloc, node.cancel(now, id(token)?, 32)),
+            Step::Sweeps(now) => swept(alloc, node.sweep(at(now)?)),
             Step::ByEndpoint(now, endpoint) => told(alloc, node.by_endpoint(at(now)?, endpoint)),
             Step::ById(text) => told(alloc, node.by_id(now, id(text)?)),
             Step::ByAddress(port) => told(alloc, node.by_address(now, host(port))),
@@ -110,6 +113,15 @@ fn sent(alloc: Global, outgoing: Result<Outgoing, ObserveFault>) -> Result<Strin
     match outgoing {
         Ok(outgoing) => Ok(hex::encode(alloc, &outgoing.bytes)?),
         Err(fault) => Ok(format!(in alloc; "{fault:?}")?),
+    }
+}
+
+/// The identifier of what has ended, `-` where nothing has, or the fault.
+fn swept(alloc: Global, ended: Result<Option<Stamp>, ClockEnd>) -> Result<String, Fail> {
+    match ended {
+        Ok(Some(id)) => Ok(hex::encode(alloc, id.to_bytes())?),
+        Ok(None) => nothing(alloc),
+        Err(ClockEnd) => Ok(String::from_str(alloc, "ClockEnd")?),
     }
 }
 

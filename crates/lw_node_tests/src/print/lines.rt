@@ -3,11 +3,11 @@
 
 use super::*;
 use lw_stamp::NoMemory;
-use lw_world::{Answer, DeltaFault, MergeFault, ObserveFault, Outcome, Sending};
+use lw_world::{Answer, ClockEnd, DeltaFault, MergeFault, ObserveFault, Outcome, Sending};
 use std::str;
 
 /// Outcomes that hold no text, and their lines.
-const PLAIN: [(Outcome, &str); 14] = [
+const PLAIN: [(Outcome, &str); 17] = [
     (Outcome::NoSuchNode, "no node\n"),
     (Outcome::NoSuchMessage, "no message\n"),
     (Outcome::Taken(Err(NoMemory)), "no memory\n"),
@@ -35,6 +35,12 @@ const PLAIN: [(Outcome, &str); 14] = [
         Outcome::Cancelled(Err(ObserveFault::NoMemory)),
         "no memory\n",
     ),
+    (
+        Outcome::Swept(Ok(Some(LAST))),
+        "swept ffffffffffffffff\n",
+    ),
+    (Outcome::Swept(Ok(None)), "none\n"),
+    (Outcome::Swept(Err(ClockEnd)), "refused 1\n"),
     (Outcome::Answered(Err(NoMemory)), "no memory\n"),
     (Outcome::Sent(Err(NoMemory)), "no memory\n"),
     (

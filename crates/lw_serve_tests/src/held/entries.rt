@@ -99,6 +99,30 @@ fn entries_with_other_replies_differ(rt: HostRuntime) -> Result<(), Fail> {
     holds("another entry", !are_same?)
 }
 
+/// Sweeps of a node that knows of nothing.
+#[test]
+fn entries_of_sweeps_are_the_same_at_one_moment(rt: HostRuntime) -> Result<(), Fail> {
+    let mut held = Held::new(rt.alloc(), 1);
+    let same = are_the_same(&mut held, &sweep(0)?, 1, 2, &sweep(0)?);
+    let other = are_the_same(&mut held, &sweep(0)?, 1, 2, &sweep(1)?);
+    drop(held);
+    holds("the same moment", same?)?;
+    holds("another moment", !other?)
+}
+
+/// The second of two sweeps has nothing to end.
+#[test]
+fn entries_of_sweeps_differ_by_what_ended(rt: HostRuntime) -> Result<(), Fail> {
+    let mut held = Held::new(rt.alloc(), 1);
+    let register = take(rt.alloc(), REGISTER)?;
+    let registered = held.step(1, 1, &register);
+    let are_same = are_the_same(&mut held, &sweep(86_400_000)?, 1, 2, &sweep(86_400_000)?);
+    drop(held);
+    drop(registered);
+    drop(register);
+    holds("what ended", !are_same?)
+}
+
 /// Whether the entry of a call, as number 2 of pass 1, is that of the other call behind it.
 fn are_the_same(
     held: &mut Held,

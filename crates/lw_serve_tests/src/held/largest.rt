@@ -67,7 +67,8 @@ fn texts(alloc: Global) -> Result<Vec<String>, Fail> {
     Ok(texts)
 }
 
-/// Node 1 takes the Register with the last of 64 passes, shows it and sends it; node 2 merges it with the first.
+/// Node 1 takes the Register with the last of 64 passes, shows it and sends it; node 2 merges it with the first. Both
+/// sweep it.
 fn is_merged<R: Wait>(rt: &R, alloc: Global, texts: &[String]) -> Result<(), Fail> {
     let [register, name, shown, delta, sent] = texts else {
         return Err("five texts".into());
@@ -82,6 +83,8 @@ fn is_merged<R: Wait>(rt: &R, alloc: Global, texts: &[String]) -> Result<(), Fai
         (0, 63, ByEndpoint(name), shown.as_str()),
         (0, 63, Sends(0), sent.as_str()),
         (1, 0, Merges(delta), "2 0 joined 1"),
+        (0, 63, Sweeps(86_400_000), "1 3 swept 0000000000010001"),
+        (1, 0, Sweeps(86_400_000), "2 1 swept 0000000000010001"),
     ];
     take_turns(rt, alloc, 2, 64, &[(&rows, &[(0, 64, Ok(Settled))])])
 }

@@ -68,6 +68,14 @@ static OBSERVED: [Row<'static>; 4] = [
     (1, 1, Merges("4c"), "2 3 Merge(Err(Malformed(Truncated)))"),
 ];
 
+/// Sweeps of both, at the end of the registration that each then shows.
+static SWEPT: [Row<'static>; 4] = [
+    (0, 0, Sweeps(86_399_999), "1 6 -"),
+    (0, 1, Sweeps(86_400_000), "1 7 swept 0000000000010001"),
+    (1, 0, Sweeps(86_400_000), "2 4 swept 0000000000010002"),
+    (1, 1, Sweeps(86_400_000), "2 5 -"),
+];
+
 /// Makes the row's call, which is to leave the part.
 fn made<R: Wait>(
     rt: &R,
@@ -169,7 +177,11 @@ fn take_each<R: Wait>(
 
 #[test]
 fn two_nodes_take_calls_and_settle(rt: HostRuntime) -> Result<(), Fail> {
-    let turns: [Turn<'_>; 2] = [(&TAKEN, &BY_SOME[..1]), (&OBSERVED, &BY_SOME)];
+    let turns: [Turn<'_>; 3] = [
+        (&TAKEN, &BY_SOME[..1]),
+        (&OBSERVED, &BY_SOME),
+        (&SWEPT, &BY_SOME),
+    ];
     take_turns(&rt, rt.alloc(), 2, 2, &turns)
 }
 

@@ -6,12 +6,14 @@ ghost use Rattle.lw_held.specs.Shelves.{AreInOrder};
 
 use super::*;
 
-/// What is asked of a node. Datagrams and deltas are in hex, moments are 0 and addresses 127.0.0.1:5683.
+/// What is asked of a node. Datagrams and deltas are in hex, addresses are 127.0.0.1:5683, and moments are 0 but for those
+/// of sweeps, in milliseconds.
 #[derive(Clone, Copy)]
 pub(crate) enum What<'a> {
     Takes(&'a str),
     Observes(&'a str, &'a [u16], u16),
     Cancels(&'a str, u16),
+    Sweeps(u64),
     Sends(u64),
     Merges(&'a str),
     ByEndpoint(&'a str),
@@ -38,6 +40,7 @@ impl What<'_> {
                 Some(token) => Ok(Call::Cancel { now, token, mid }),
                 None => Err("an identifier".into()),
             },
+            What::Sweeps(ms) => sweep(ms),
             What::Sends(since) => Ok(Call::Send { since }),
             What::Merges(delta) => Ok(Call::Merge {
                 bytes: bytes(alloc, delta)?,

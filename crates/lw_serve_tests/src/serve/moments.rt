@@ -8,10 +8,10 @@ use std::thread::Threads;
 use std::time::{Clock, Duration};
 
 /// A Register of `a` with the object list `</>` for 60 seconds, message ID 4.
-const REGISTER_FOR_A_MINUTE: &str = "40020004b272644465703d61056c743d3630ff3c2f3e";
+pub(super) const REGISTER_FOR_A_MINUTE: &str = "40020004b272644465703d61056c743d3630ff3c2f3e";
 
 /// Two Updates of it that change no more than when it was seen, message IDs 16 and 17.
-const UPDATES: [&str; 2] = [
+pub(super) const UPDATES: [&str; 2] = [
     "40020010b272640d0330303030303030303030303130303031",
     "40020011b272640d0330303030303030303030303130303031",
 ];
@@ -39,7 +39,8 @@ fn are_replied<R: Threads + Wait + Sync>(
     let want = format!(in alloc;
         "Ok(()) 3 0 0 0\nsettled\n5683 {CREATED}\n5683 {first}\n5683 {second}\n"
     )?;
-    is_served_at(rt, &mut MemoryWire::new(alloc, &arrivals), &moments, &want)
+    let mut wire = MemoryWire::new(alloc, &arrivals);
+    is_served_at(rt, &mut wire, 1, &moments, &want)
 }
 
 #[test]

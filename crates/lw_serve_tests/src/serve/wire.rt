@@ -232,14 +232,15 @@ pub(super) fn is_served<R: Threads + Wait + Sync>(
     is_sent(wire, &mut text, want)
 }
 
-/// Serves over the wire by one worker at one node, a round at each of the moments.
+/// Serves over the wire by one worker at so many nodes, a round at each of the moments.
 pub(super) fn is_served_at<R: Threads + Wait + Sync>(
     rt: &R,
     wire: &mut MemoryWire<'_>,
+    nodes: u16,
     moments: &[Option<Moment>],
     want: &str,
 ) -> Result<(), Fail> {
-    let Some(plan) = Plan::new(u32::try_from(moments.len())?, 1, 1) else {
+    let Some(plan) = Plan::new(u32::try_from(moments.len())?, nodes, 1) else {
         return Err("a plan".into());
     };
     let mut text = run_at(rt, wire, moments, &plan)?;

@@ -16,6 +16,10 @@ pub returns-in-Cancel : goal.returns-in-Cancel
 returns-in-Cancel c =
     rw c.in-Cancel.is (option_reads _ _ _ c.cancel.ensures.found c.cancel.ensures.none (search rules))
 
+pub returns-in-Sweep : goal.returns-in-Sweep
+returns-in-Sweep c =
+    rw c.in-Sweep.is (option_reads _ _ _ c.sweep.ensures.found c.sweep.ensures.none (search rules))
+
 pub returns-in-Send : goal.returns-in-Send
 returns-in-Send c =
     rw c.in-Send.is (option_reads _ _ _ c.send.ensures.found c.send.ensures.none (search rules))
