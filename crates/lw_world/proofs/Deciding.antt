@@ -1,8 +1,10 @@
 -- Sets of marks that one state tells of have the same answers, and so have nodes that the same operations reached.
-use Rattle.std.proofs.Common.{◌≡◌, ℕ, List, [], ◌∷◌, Option, Some, None, refl, sym, ap, ◌∙◌, subst, inl, inr, ◌⊎◌}
+use Rattle.std.proofs.Common.{◌≡◌, ℕ, List, [], ◌∷◌, Option, Some, None, refl, sym, ◌∙◌, subst, inl, inr, ◌⊎◌}
 use Rattle.std.specs.Prelude.{◌↔◌, ◌≢◌, Contains}
 use Rattle.std.specs.FinMap.{get}
 use Rattle.std.proofs.lemmas.List.Elements.{Contains-append_left, Contains-append_right, Contains-append_cases}
+use Rattle.std.specs.declared.cmp.Ordering.{Ordering}
+use Rattle.lw_stamp.specs.declared.moment.Moment.{Moment}
 use Rattle.lw_stamp.specs.declared.stamp.Stamp.{Stamp}
 use Rattle.lw_join.specs.Facets.{OptionTells}
 use Rattle.lw_join.specs.Lww.{write_cmp}
@@ -10,7 +12,7 @@ use Rattle.lw_join.specs.LwwLaws.{write_order}
 use Rattle.lw_join.specs.declared.or_gone.OrGone.{OrGone}
 use Rattle.lw_join.specs.declared.or_gone.OrGone.TheVariants.{Here, Gone}
 use Rattle.lw_join.proofs.FacetLemmas.{greatest_one}
-use Rattle.lw_stamp.specs.Order.{IsGreatest}
+use Rattle.lw_stamp.specs.Order.{IsExactOrder, IsGreatest}
 use Rattle.lw_reg.specs.declared.addr.Addr.{Addr}
 use Rattle.lw_reg.specs.declared.body.Body.{Body}
 use Rattle.lw_reg.specs.declared.op.Op.{Op}
@@ -18,23 +20,22 @@ use Rattle.lw_reg.specs.declared.path.Path.{Path}
 use Rattle.lw_reg.specs.declared.slot.Slot.{Slot}
 use Rattle.lw_reg.specs.declared.watch.Watch.{Watch}
 use Rattle.lw_reg.specs.Marks.{Trace, Mark, Marks, Has, NamesAll, among, marks_of, all_marks, left_by}
-use Rattle.lw_reg.specs.Marks.Trace.{Named, AddressAt}
-use Rattle.lw_reg.specs.OrderLaws.{addr_order}
-use Rattle.lw_reg.specs.Orders.{addr_cmp}
-use Rattle.lw_reg.specs.Reading.{registered_in, view_in, address_of, stamp_of}
+use Rattle.lw_reg.specs.Marks.Trace.{Named, AddressAt, SeenAt, Removed}
+use Rattle.lw_reg.specs.OrderLaws.{addr_order, moment_order}
+use Rattle.lw_reg.specs.Orders.{addr_cmp, moment_cmp}
+use Rattle.lw_reg.specs.Reading.{registered_in, stamp_of}
 use Rattle.lw_reg.specs.Registration.{Registration}
-use Rattle.lw_reg.specs.Showing.{IsWrite, IsRegistered, IsShown, IsExpired, IsLive, IsAnswer, LivesOf, ShownOf, IsFirstOfWatches, IsAbove}
+use Rattle.lw_reg.specs.Showing.{IsWrite, IsRegistered, IsShown, IsExpired, IsLive, IsAnswer, LivesOf, ShownOf, IsFirstOfWatches}
 use Rattle.lw_reg.specs.State.{State, IsStateOf}
-use Rattle.lw_reg.specs.Told.{known_in}
 use Rattle.lw_reg.proofs.Members.{none_there, first_there, more_there, there_or_first}
 use Rattle.lw_reg.proofs.Operations.{all_names}
 use Rattle.lw_reg.proofs.Readings.{shown_from, shown_to}
 use Rattle.lw_reg.proofs.Same.{told_same, members_decide}
 use Rattle.lw_reg.proofs.States.{state_least, state_same}
 use Rattle.lw_reg.proofs.Tells.{SlotTells, Tells, ToldTells, Holds}
-use Rattle.lw_table.specs.Answers.{IsAfter, IsFirstAnswer, FirstAfter}
+use Rattle.lw_table.specs.Answers.{IsFirstAnswer, FirstAfter}
 use Rattle.lw_table.specs.LookUps.{ById, IsHolder, ByAddress, HasToken, ByToken, WatchOfIdAfter, IsExpiredAfter, ExpiredAfter}
-use Rattle.lw_table.proofs.LookUpLemmas.{IsKeptAs, registered_keeps, view_reads, marks_tell}
+use Rattle.lw_table.proofs.LookUpLemmas.{registered_keeps, view_reads, marks_tell}
 use Rattle.lw_call.specs.declared.answer.Answer.{Answer}
 use Rattle.lw_call.specs.declared.answer.Answer.TheVariants as answers
 use Rattle.lw_call.specs.declared.question.Question.{Question}
@@ -42,38 +43,54 @@ use Rattle.lw_call.specs.declared.question.Question.TheVariants as questions
 use Rattle.lw_node.specs.Node.{NodeContent}
 use Rattle.lw_node.specs.Steps.{Answers}
 use Rattle.lw_node.proofs.OneAnswer.{answer_one}
-use Rattle.lw_world.specs.Known.{Knowledge, known_state, node_of}
-use Rattle.lw_world.specs.Laws.{KnownStatesAreLeast, StatesDecideAnswers, KnowTheSame, AreAlike, SameSetsAnswerAlike}
+use Rattle.lw_world.specs.Known.{known_state, node_of}
+use Rattle.lw_world.specs.Laws.{KnownStatesAreLeast, StatesDecideAnswers, SameSetsAnswerAlike}
 
 -- ---- sets that one state tells of
--- the write of the address that counts
-write_told : (P : Trace → Type 0) (x : OrGone Body) → ToldTells P x → (w : Stamp × Addr) → (known_in x).address.write ≡ Some w → IsGreatest (write_cmp addr_cmp) (λ v. P (AddressAt v.0 v.1)) w
-write_told P Gone told w h = absurd cc
-write_told P (Here b) told w h = subst (OptionTells (IsGreatest (write_cmp addr_cmp)) (λ v. P (AddressAt v.0 v.1))) h told.1.address
+-- the write of a field that counts in one counts in the other
+write_along : {V : Type 0} {cmp : V → V → Ordering} → IsExactOrder cmp → (P Q : Stamp × V → Type 0) (o : Option (Stamp × V)) → OptionTells (IsGreatest (write_cmp cmp)) P o → OptionTells (IsGreatest (write_cmp cmp)) Q o
+    → (w : Stamp × V) → IsGreatest (write_cmp cmp) P w → IsGreatest (write_cmp cmp) Q w
+write_along order P Q None gives has w is = absurd (gives w is.member)
+write_along {cmp = cmp} order P Q (Some v) gives has w is = subst (IsGreatest (write_cmp cmp) Q) (greatest_one (write_order order) P v w gives is) has
+
+-- the writes of address and moment that count are the same
+record SameWrites (P Q : Trace → Type 0) : Type 0 where
+  address : (w : Stamp × Addr) → IsGreatest (write_cmp addr_cmp) (λ v. P (AddressAt v.0 v.1)) w → IsGreatest (write_cmp addr_cmp) (λ v. Q (AddressAt v.0 v.1)) w
+  seen : (w : Stamp × Moment) → IsGreatest (write_cmp moment_cmp) (λ v. P (SeenAt v.0 v.1)) w → IsGreatest (write_cmp moment_cmp) (λ v. Q (SeenAt v.0 v.1)) w
+
+same_writes : (P Q : Trace → Type 0) (x : OrGone Body) → ¬ P Removed → ToldTells P x → ToldTells Q x → SameWrites P Q
+same_writes P Q Gone kept gives has = absurd (kept gives)
+same_writes P Q (Here b) kept gives has = record {
+  address = write_along addr_order (λ v. P (AddressAt v.0 v.1)) (λ v. Q (AddressAt v.0 v.1)) b.address.write gives.1.address has.1.address;
+  seen = write_along moment_order (λ v. P (SeenAt v.0 v.1)) (λ v. Q (SeenAt v.0 v.1)) b.seen.write gives.1.seen has.1.seen;
+}
 
 module _ (M N : Marks) (p : NamesAll M) (q : NamesAll N) (s : State) (g : Tells (Holds M) s) (h : Tells (Holds N) s) where
   abbrev At : Marks → List ℕ → Option Slot → Type 0
   At K e = OptionTells SlotTells (λ y. Has K e y.0 y.1)
 
-  -- what a slot says of a registration that one set has: the other has it too, and the same write of its address
+  -- what a slot says of a registration that one set has: the other has it too, and the same writes of its address and
+  -- of when it was seen
   pub record Along (r : Registration) : Type 0 where
     pub registered : IsRegistered N r
     pub written : (at : Stamp) → IsWrite addr_cmp AddressAt M r.endpoint r.id (at, r.address) → IsWrite addr_cmp AddressAt N r.endpoint r.id (at, r.address)
+    pub seen_written : (at : Stamp) → IsWrite moment_cmp SeenAt M r.endpoint r.id (at, r.seen) → IsWrite moment_cmp SeenAt N r.endpoint r.id (at, r.seen)
 
   by_slot : (r : Registration) (slot : Slot) → SlotTells (λ y. Has M r.endpoint y.0 y.1) slot → SlotTells (λ y. Has N r.endpoint y.0 y.1) slot → IsRegistered M r → Along r
   by_slot r slot gives has registered = record {
     registered = (shown_from N r.endpoint (q r.endpoint) (stamp_of slot) slot.registration.value r has found).1;
-    written = λ at w. subst (λ x. IsWrite addr_cmp AddressAt N r.endpoint r.id x) (greatest_one (write_order addr_order) (λ w. Has M r.endpoint r.id (AddressAt w.0 w.1)) (keeps.at, r.address) (at, r.address) (write_in M gives) w) (write_in N has);
+    written = λ at. writes.address (at, r.address);
+    seen_written = λ at. writes.seen (at, r.seen);
   }
     where
       found : registered_in r.endpoint slot ≡ Some r
       found = shown_to M r.endpoint (p r.endpoint) (stamp_of slot) slot.registration.value r gives refl registered
 
-      keeps : IsKeptAs slot r
-      keeps = registered_keeps r.endpoint slot r found
+      told : (K : Marks) → SlotTells (λ y. Has K r.endpoint y.0 y.1) slot → ToldTells (Has K r.endpoint r.id) slot.registration.value
+      told K tells = subst (λ id. ToldTells (Has K r.endpoint id) slot.registration.value) (registered_keeps r.endpoint slot r found).id tells.told
 
-      write_in : (K : Marks) → SlotTells (λ y. Has K r.endpoint y.0 y.1) slot → IsWrite addr_cmp AddressAt K r.endpoint r.id (keeps.at, r.address)
-      write_in K told = subst (λ id. IsWrite addr_cmp AddressAt K r.endpoint id (keeps.at, r.address)) keeps.id (write_told (λ k. Has K r.endpoint (stamp_of slot) k) slot.registration.value told.told (keeps.at, r.address) keeps.address)
+      writes : SameWrites (Has M r.endpoint r.id) (Has N r.endpoint r.id)
+      writes = same_writes (Has M r.endpoint r.id) (Has N r.endpoint r.id) slot.registration.value registered.kept (told M gives) (told N has)
 
   along : (r : Registration) → IsRegistered M r → Along r
   along r registered = go (get s r.endpoint) (g r.endpoint) (h r.endpoint)
@@ -88,6 +105,9 @@ module _ (M N : Marks) (p : NamesAll M) (q : NamesAll N) (s : State) (g : Tells 
 
     expired_along : (r : Registration) → IsExpired M now r → IsExpired N now r
     expired_along r expired = record { registered = (along r expired.registered).registered; late = expired.late }
+
+    sees_along : (at : Stamp) (r : Registration) → IsExpired M now r × IsWrite moment_cmp SeenAt M r.endpoint r.id (at, r.seen) → IsExpired N now r × IsWrite moment_cmp SeenAt N r.endpoint r.id (at, r.seen)
+    sees_along at r x = (expired_along r x.0, (along r x.0.registered).seen_written at x.1)
 
     -- one registration of an endpoint is shown
     one_shown : (r other : Registration) → IsShown N now r → IsShown N now other → other.endpoint ≡ r.endpoint → other ≡ r
@@ -108,10 +128,11 @@ module _ (M N : Marks) (p : NamesAll M) (q : NamesAll N) (s : State) (g : Tells 
           ((along r holds.shown.registered).written at (subst (λ a. IsWrite addr_cmp AddressAt M r.endpoint r.id (at, a)) (sym holds.held) holds.written));
     }
 
--- the sets show the same, and the same has expired, lives, and holds an address
+-- the sets show the same, and the same has expired, with the same write of when it was seen, lives, and holds an address
 pub record Agree (M N : Marks) (now : ℕ) : Type 0 where
   pub shown : (r : Registration) → IsShown M now r ↔ IsShown N now r
   pub expired : (r : Registration) → IsExpired M now r ↔ IsExpired N now r
+  pub sees : (at : Stamp) (r : Registration) → (IsExpired M now r × IsWrite moment_cmp SeenAt M r.endpoint r.id (at, r.seen)) ↔ (IsExpired N now r × IsWrite moment_cmp SeenAt N r.endpoint r.id (at, r.seen))
   pub lives : (r : Registration) (w : Watch) → IsLive M now r w ↔ IsLive N now r w
   pub holds : (address : Addr) (at : Stamp) (r : Registration) → IsHolder M now address at r ↔ IsHolder N now address at r
 
@@ -119,6 +140,7 @@ pub told_agree : (M N : Marks) → NamesAll M → NamesAll N → (s : State) →
 told_agree M N p q s g h now = record {
   shown = λ r. (shown_along M N p q s g h now r, shown_along N M q p s h g now r);
   expired = λ r. (expired_along M N p q s g h now r, expired_along N M q p s h g now r);
+  sees = λ at r. (sees_along M N p q s g h now at r, sees_along N M q p s h g now at r);
   lives = λ r w. (lives_along M N p q s g h now r w, lives_along N M q p s h g now r w);
   holds = λ address at r. (holds_along M N p q s g h now address at r, holds_along N M q p s h g now address at r);
 }
@@ -130,6 +152,7 @@ pub other_way : (M N : Marks) (now : ℕ) → Agree M N now → Agree N M now
 other_way M N now a = record {
   shown = λ r. back (a.shown r);
   expired = λ r. back (a.expired r);
+  sees = λ at r. back (a.sees at r);
   lives = λ r w. back (a.lives r w);
   holds = λ address at r. back (a.holds address at r);
 }
@@ -188,9 +211,12 @@ module _ (M N : Marks) (now : ℕ) (a : Agree M N now) where
   after_along : (after : Option (List ℕ)) (o : Option Registration) → FirstAfter M now after o → FirstAfter N now after o
   after_along after o = first_along _ _ (λ r. (λ x. (x.0, (a.shown r).0 x.1), λ x. (x.0, (a.shown r).1 x.1))) o
 
+  pub first_late_along : (after : Option (List ℕ)) (o : Option Registration) → IsFirstAnswer (IsExpiredAfter M now after) o → IsFirstAnswer (IsExpiredAfter N now after) o
+  first_late_along after = first_along _ _ (λ r. (λ y. (y.0, (a.expired r).0 y.1), λ y. (y.0, (a.expired r).1 y.1)))
+
   late_along : (after : Option (List ℕ)) (o : Option (List ℕ × Stamp)) → ExpiredAfter M now after o → ExpiredAfter N now after o
   late_along after None h = λ r y. h r (y.0, (a.expired r).1 y.1)
-  late_along after (Some x) h = (h.0, first_along _ _ (λ r. (λ y. (y.0, (a.expired r).0 y.1), λ y. (y.0, (a.expired r).1 y.1))) (Some h.0) h.1, h.2)
+  late_along after (Some x) h = (h.0, first_late_along after (Some h.0) h.1, h.2)
 
   -- an answer of one node, of which one set tells, is one of the other
   pub answers_along : (node other : NodeContent) (question : Question) (answer : Answer) → (question ≡ questions.Change → node.table.count.change ≡ other.table.count.change)

@@ -1,5 +1,5 @@
 -- What a node issues has its number and the next stamp of its clock, and speaks of nothing that comes later.
-use Rattle.std.proofs.Common.{◌≡◌, ℕ, ◌+◌, ◌<◌, ◌≤◌, List, [], ◌∷◌, Option, Some, None, Ok, Err, refl, sym, ap, ◌∙◌, subst, inl, inr, arith}
+use Rattle.std.proofs.Common.{◌≡◌, ℕ, ◌+◌, ◌<◌, ◌≤◌, List, [], ◌∷◌, Option, Some, None, Ok, Err, refl, sym, ap, subst, inl, inr, arith}
 use Rattle.std.specs.Prelude.{Contains, IfSome, Result}
 use Rattle.lw_stamp.specs.declared.stamp.Stamp.{Stamp}
 use Rattle.lw_coap.specs.Message.{MessageContent}
@@ -13,25 +13,26 @@ use Rattle.lw_reg.specs.declared.watch.Watch.{Watch}
 use Rattle.lw_reg.specs.Marks.{Marks, all_marks, marks_of, left_by}
 use Rattle.lw_reg.specs.Reading.{shown_in}
 use Rattle.lw_reg.specs.Registration.{Registration}
-use Rattle.lw_reg.specs.State.{state_of}
-use Rattle.lw_reg.proofs.Members.{none_there, first_there, more_there}
+use Rattle.lw_reg.specs.Showing.{IsExpired}
+use Rattle.lw_reg.specs.State.{State, state_of}
+use Rattle.lw_reg.proofs.Members.{first_there, more_there}
 use Rattle.lw_reg.proofs.Operations.{all_names}
 use Rattle.lw_reg.proofs.States.{state_least}
 use Rattle.lw_request.specs.declared.asked.Asked.{Asked}
 use Rattle.lw_request.specs.declared.asked.Asked.TheVariants.{Register, Update, Deregister, Report, Ping, Refuse, Reject, Ignore}
 use Rattle.lw_request.specs.Report.{ReportContent}
+use Rattle.lw_table.specs.Answers.{IsFirstAnswer}
+use Rattle.lw_table.specs.LookUps.{IsExpiredAfter}
 use Rattle.lw_table.proofs.LookUpLemmas.{read_tells, read_names, marks_tell}
-use Rattle.lw_call.specs.Contents.{TakenContent, OutgoingContent}
-use Rattle.lw_node.specs.Effects.{Place, Effect, Request, Refused, IsNext, Issues, WritesGiven, IsNamed, Changes, NamedChanges, IsWatched, EndsWatch, ReportMeans, Does, MalformedMeans, DatagramMeans, CommandMeans, ObserveMeans, CancelMeans, observes, ends}
+use Rattle.lw_node.specs.Effects.{Place, Effect, Request, Refused, IsNext, Issues, WritesGiven, IsNamed, Changes, NamedChanges, IsWatched, EndsWatch, ReportMeans, Does, MalformedMeans, DatagramMeans, CommandMeans, ObserveMeans, CancelMeans, Expires, SweepsFirst, SweepMeans, observes, ends}
 use Rattle.lw_node.specs.Laws.{IsRegister}
 use Rattle.lw_node.specs.Within.{TokenWithin, FitsClock, IsNextOf}
-use Rattle.lw_node.proofs.NextOperation.{datagram_next, observe_next, cancel_next}
+use Rattle.lw_node.proofs.NextOperation.{datagram_next, observe_next, cancel_next, sweep_next}
 use Rattle.lw_node.proofs.SlotStamps.{empty_fits}
 use Rattle.lw_node.proofs.Within.{fits_more, fits_join, fits_op}
 use Rattle.lw_world.specs.Known.{Knowledge, known_state, place_of}
 use Rattle.lw_world.specs.Laws.{IsWithin}
-use Rattle.lw_world.specs.Run.{Takes}
-use Rattle.lw_world.proofs.Deciding.{Agree, told_agree, other_way, id_along, token_along}
+use Rattle.lw_world.proofs.Deciding.{Agree, told_agree, other_way, id_along, token_along, first_late_along}
 use Rattle.lw_world.proofs.KnownStates.{known_more}
 
 -- ---- operations below a clock
@@ -95,6 +96,22 @@ module _ (M N : Marks) (place : Place) (a : Agree M N place.now) where
   pub datagram_along : (source : Addr) (bytes : List ℕ) (effect : Effect) → DatagramMeans place M source bytes effect → DatagramMeans place N source bytes effect
   datagram_along source bytes effect (inl (m, spelled, (asked, means, does))) = inl (m, spelled, (asked, means, does_along source m asked effect does))
   datagram_along source bytes effect (inr h) = inr h
+
+-- ---- a sweep
+-- the operation tells of what has expired at that moment the same over both
+expires_along : (M N : Marks) (now : ℕ) → Agree M N now → (r : Registration) → IsExpired M now r → (op : Op) → Expires M r op → Expires N r op
+expires_along M N now a r expired op e = record { about = e.about; upto = e.upto; seen = ((a.sees e.upto r).0 (expired, e.seen)).1; what = e.what }
+
+pub sweep_along : (M N : Marks) (place : Place) → Agree M N place.now → (outcome : Result (Option Op) Refused) → SweepMeans place M outcome → SweepMeans place N outcome
+sweep_along M N place a outcome h = (h.0, first_late_along M N place.now a None h.0 h.1, go h.0 h.1 h.2)
+  where
+    go : (found : Option Registration) → IsFirstAnswer (IsExpiredAfter M place.now None) found → SweepsFirst place M found outcome → SweepsFirst place N found outcome
+    go None first same = same
+    go (Some r) first (inl ended) = inl ended
+    go (Some r) first (inr (op, next, expires, is)) = inr (op, next, expires_along M N place.now a r first.fits.1 op expires, is)
+
+swept_one : (o p : Op) → ◌≡◌ {A = Result (Option Op) Refused} (Ok (Some o)) (Ok (Some p)) → p ≡ o
+swept_one o p e = let same = e in cc
 
 -- ---- the stamp is the node's own, and a Register is about the registration with it
 record IsOwn (place : Place) (op : Op) : Type 0 where
@@ -160,6 +177,15 @@ module _ (place : Place) where
   command_own (Some x) of_found Do sends request operation other (inr h) =
       subst (IsOwn place) (issued_by request (sends x h.0) operation h.0 h.4) (record { next = h.1; own = λ register. absurd (other x h.0 h.3 register) })
 
+  sweep_own : (M : Marks) (operation : Op) → SweepMeans place M (Ok (Some operation)) → IsOwn place operation
+  sweep_own M operation h = go h.0 h.2
+    where
+      go : (found : Option Registration) → SweepsFirst place M found (Ok (Some operation)) → IsOwn place operation
+      go None same = absurd (let bad = same in cc)
+      go (Some r) (inl ended) = absurd (let bad = ended.1 in cc)
+      go (Some r) (inr (op, next, expires, is)) =
+          subst (IsOwn place) (swept_one operation op is) (record { next = next; own = λ register. absurd (subst IsRegister expires.what register) })
+
 -- ---- what a node issues
 -- the next of its clock, with its number
 pub record IsFresh (k : Knowledge) (o : Op) : Type 0 where
@@ -180,11 +206,11 @@ module _ (k : Knowledge) (now : ℕ) (each : (o : Op) → Contains k.operations 
   fresh_of : (o : Op) → IsNextOf k.clock o → IsOwn (place_of k now) o → IsFresh k o
   fresh_of o next own = record { next = next; node = own.next.node; own = own.own }
 
-  pub taken_fresh : (source : Addr) (bytes : List ℕ) (taken : TakenContent) (operation : Option Op) (new : Knowledge) → Takes k now source bytes taken operation new → IfSome operation (IsFresh k)
-  taken_fresh source bytes taken operation new takes =
-      go operation
-      (datagram_next (place_of k now) (known_state k.operations) fits source bytes _ (datagram_along (left_by k.operations) (shown_in (known_state k.operations)) (place_of k now) agree source bytes _ takes.meant))
-      (datagram_own (place_of k now) (left_by k.operations) source bytes _ takes.meant)
+  pub taken_fresh : (source : Addr) (bytes : List ℕ) (effect : Effect) → DatagramMeans (place_of k now) (left_by k.operations) source bytes effect → IfSome effect.operation (IsFresh k)
+  taken_fresh source bytes effect means =
+      go effect.operation
+      (datagram_next (place_of k now) (known_state k.operations) fits source bytes effect (datagram_along (left_by k.operations) (shown_in (known_state k.operations)) (place_of k now) agree source bytes effect means))
+      (datagram_own (place_of k now) (left_by k.operations) source bytes effect means)
     where
       go : (o : Option Op) → IfSome o (IsNextOf k.clock) → IfSome o (IsOwn (place_of k now)) → IfSome o (IsFresh k)
       go None next own = tt
@@ -201,3 +227,9 @@ module _ (k : Knowledge) (now : ℕ) (each : (o : Op) → Contains k.operations 
       fresh_of operation
       (cancel_next (place_of k now) (known_state k.operations) fits token mid request operation (h.0, token_along (left_by k.operations) (shown_in (known_state k.operations)) now agree token h.0 h.1, h.2))
       (command_own (place_of k now) h.0 _ _ (ends mid) request operation (λ x op what register. subst IsRegister what register) h.2)
+
+  pub sweep_fresh : (operation : Op) → SweepMeans (place_of k now) (left_by k.operations) (Ok (Some operation)) → IsFresh k operation
+  sweep_fresh operation h =
+      fresh_of operation
+      (sweep_next (place_of k now) (known_state k.operations) fits operation (sweep_along (left_by k.operations) (shown_in (known_state k.operations)) (place_of k now) agree (Ok (Some operation)) h))
+      (sweep_own (place_of k now) (left_by k.operations) operation h)

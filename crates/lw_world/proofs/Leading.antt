@@ -1,6 +1,6 @@
 -- The clocks of a run lead, and its stamps differ.
-use Rattle.std.proofs.Common.{◌≡◌, ℕ, zero, suc, ◌+◌, ◌<◌, ◌≤◌, List, [], ◌∷◌, ◌++◌, length, Option, Some, None, Result, Ok, Err, refl, sym, ap, ◌∙◌, subst, inl, inr, ◌⊎◌, arith}
-use Rattle.std.specs.Prelude.{◌≢◌, Contains, AllPairs, IfSome, set, slice_get, filter, max}
+use Rattle.std.proofs.Common.{◌≡◌, ℕ, zero, suc, ◌+◌, ◌<◌, ◌≤◌, List, [], ◌∷◌, Option, Some, None, Result, Ok, Err, refl, sym, ap, ◌∙◌, subst, inl, inr, ◌⊎◌, arith}
+use Rattle.std.specs.Prelude.{◌≢◌, Contains, AllPairs, IfSome, set, slice_get}
 use Rattle.std.proofs.lemmas.Bool.{cases_eq}
 use Rattle.std.proofs.lemmas.List.Elements.{All-weaker, All-contains, All-contains_itself, All-filter, Contains-append_cases, Contains-push_cases}
 use Rattle.std.proofs.lemmas.List.Kept.{AllPairs-cons}
@@ -9,23 +9,25 @@ use Rattle.lw_stamp.specs.Moment.{ms_of}
 use Rattle.lw_reg.specs.declared.op.Op.{Op}
 use Rattle.lw_reg.specs.Marks.{left_by}
 use Rattle.lw_reg.proofs.Members.{none_there, first_there, more_there, there_or_first}
+use Rattle.lw_call.specs.declared.clock_end.ClockEnd.{ClockEnd as NoStamp}
 use Rattle.lw_call.specs.declared.merge_fault.MergeFault.{MergeFault}
 use Rattle.lw_call.specs.declared.merge_fault.MergeFault.TheVariants.{Malformed, NoMemory}
 use Rattle.lw_call.specs.declared.observe_fault.ObserveFault.{ObserveFault}
 use Rattle.lw_call.specs.declared.observe_fault.ObserveFault.TheVariants as faults
 use Rattle.lw_call.specs.Contents.{OutgoingContent}
-use Rattle.lw_node.specs.Effects.{Request, Refused, ObserveMeans, CancelMeans}
-use Rattle.lw_node.specs.Laws.{IsRegister, WellStamped}
+use Rattle.lw_node.specs.Calls.{Sent, Swept}
+use Rattle.lw_node.specs.Effects.{Request, Refused, ObserveMeans, CancelMeans, SweepMeans}
+use Rattle.lw_node.specs.Laws.{IsRegister}
 use Rattle.lw_world.specs.declared.event.Action.{Action}
 use Rattle.lw_world.specs.declared.event.Action.TheVariants as actions
 use Rattle.lw_world.specs.declared.event.Event.{Event}
 use Rattle.lw_world.specs.declared.outcome.Outcome.{Outcome}
 use Rattle.lw_world.specs.declared.outcome.Outcome.TheVariants as outcomes
 use Rattle.lw_world.specs.declared.outcome.Sending.{Sending}
-use Rattle.lw_world.specs.Known.{Knowledge, Message, knows_nothing, place_of, Issues, IssuesOr, about, names_of}
-use Rattle.lw_world.specs.Laws.{IsReached, ClocksLead, StampsDiffer, IsIssued, KnownWasIssued}
-use Rattle.lw_world.specs.Run.{History, numbered_from, begun, noted, Left, idle, Commanded, Sends, Delivers, Delivered, Acts, at_number, after, Happens, Steps, Runs}
-use Rattle.lw_world.proofs.Freshness.{WasNext, was_before, was_within, IsFresh, taken_fresh, observe_fresh, cancel_fresh}
+use Rattle.lw_world.specs.Known.{Knowledge, Message, knows_nothing, place_of, IssuesOr, about, names_of}
+use Rattle.lw_world.specs.Laws.{IsReached, ClocksLead, StampsDiffer, KnownWasIssued}
+use Rattle.lw_world.specs.Run.{History, numbered_from, begun, noted, Left, idle, Issuing, Sends, Delivers, Delivered, Acts, at_number, after, Happens, Steps, Runs}
+use Rattle.lw_world.proofs.Freshness.{WasNext, was_before, was_within, IsFresh, taken_fresh, observe_fresh, cancel_fresh, sweep_fresh}
 
 -- ---- places of a list
 module _ {A : Type 0} where
@@ -128,6 +130,11 @@ module _ (h : History) (holds : Invariant h) (place : ℕ) (k : Knowledge) (at :
           let x = known p there in
           (was_before k.clock knows.clock (let e = issues.clock in omega (arith, e)) p x.0, more_there o h.issued p x.1)
 
+  moves_issuing : (operation : Option Op) (left : Left) → IfSome operation (IsFresh k) → Issuing h.messages k operation left → Moves h k left
+  moves_issuing operation left fresh i =
+      subst (Moves h k) {x = record { operation = operation; knows = left.knows; messages = left.messages }} (λ j. record { operation = sym i.issued j; knows = left.knows; messages = left.messages })
+      (moves_issued operation left.knows left.messages fresh i.known i.messages_are)
+
   moves_sent : (since : ℕ) (sending : Sending) (left : Left) → Sends h.messages k since sending left → Moves h k left
   moves_sent since sending left s = subst (Moves h k) (sym s.left_is) (record { number = refl; clock = omega arith; knows = known; messages = λ m there. sent m (Contains-push_cases h.messages new m there); fresh = tt })
     where
@@ -161,25 +168,32 @@ module _ (h : History) (holds : Invariant h) (place : ℕ) (k : Knowledge) (at :
   moves_brought m there (Err (Malformed fault)) left d = absurd d
 
   moves_commanded : (Meant : Result (Request × Op) Refused → Type 0) → ((request : Request) (o : Op) → Meant (Ok (request, o)) → IsFresh k o)
-      → (outcome : Result OutgoingContent ObserveFault) (left : Left) → Commanded Meant h.messages k outcome left → Moves h k left
-  moves_commanded Meant fresh (Ok outgoing) left c =
-      moves_issued left.operation left.knows left.messages (subst (λ o. IfSome o (IsFresh k)) (sym c.0.operation_is) (fresh c.0.request c.0.issued c.0.meant)) c.0.known c.1
-  moves_commanded Meant fresh (Err faults.NotFound) left c = moves_idle left c.1
-  moves_commanded Meant fresh (Err faults.ClockEnd) left c = moves_idle left c.1
-  moves_commanded Meant fresh (Err faults.NoMemory) left c = moves_idle left c.1
+      → (outcome : Result OutgoingContent ObserveFault) (left : Left) → Sent Meant (λ operation. Issuing h.messages k operation left) outcome → Moves h k left
+  moves_commanded Meant fresh (Ok outgoing) left s = moves_issuing (Some s.operation) left (fresh s.request s.operation s.meant) s.left
+  moves_commanded Meant fresh (Err faults.NotFound) left s = moves_issuing None left tt s.1
+  moves_commanded Meant fresh (Err faults.ClockEnd) left s = moves_issuing None left tt s.1
+  moves_commanded Meant fresh (Err faults.NoMemory) left s = moves_issuing None left tt s.1
+
+  moves_swept : (Meant : Result (Option Op) Refused → Type 0) → ((o : Op) → Meant (Ok (Some o)) → IsFresh k o)
+      → (outcome : Result (Option Stamp) NoStamp) (left : Left) → Swept Meant (λ operation. Issuing h.messages k operation left) outcome → Moves h k left
+  moves_swept Meant fresh (Ok (Some id)) left s = moves_issuing (Some s.0) left (fresh s.0 s.1) s.3
+  moves_swept Meant fresh (Ok None) left s = moves_issuing None left tt s.1
+  moves_swept Meant fresh (Err ended) left s = moves_issuing None left tt s.1
 
   each : (o : Op) → Contains k.operations o → WasNext k.clock o
   each o there = (known o there).0
 
   moves : (action : Action) (outcome : Outcome) (left : Left) → Acts h.messages k action outcome left → Moves h k left
   moves (actions.Take now source bytes) (outcomes.Taken (Ok taken)) left acts =
-      moves_issued left.operation left.knows left.messages (taken_fresh k (ms_of now) each source bytes taken left.operation left.knows acts.0) acts.0.known acts.1
-  moves (actions.Take now source bytes) (outcomes.Taken (Err refused)) left acts = moves_idle left acts.1
+      moves_issuing acts.operation left (taken_fresh k (ms_of now) each source bytes _ acts.meant) acts.left
+  moves (actions.Take now source bytes) (outcomes.Taken (Err refused)) left acts = moves_issuing None left tt acts.1
   moves (actions.Observe now id path accept mid) (outcomes.Observed outcome) left acts =
       moves_commanded (ObserveMeans (place_of k (ms_of now)) (left_by k.operations) id path accept mid) (observe_fresh k (ms_of now) each id path accept mid) outcome left acts
   moves (actions.Cancel now token mid) (outcomes.Cancelled outcome) left acts =
       moves_commanded (CancelMeans (place_of k (ms_of now)) (left_by k.operations) token mid) (cancel_fresh k (ms_of now) each token mid) outcome left acts
-  moves (actions.Ask now question) (outcomes.Answered outcome) left acts = moves_idle left acts.1
+  moves (actions.Sweep now) (outcomes.Swept outcome) left acts =
+      moves_swept (SweepMeans (place_of k (ms_of now)) (left_by k.operations)) (sweep_fresh k (ms_of now) each) outcome left acts
+  moves (actions.Ask now question) (outcomes.Answered outcome) left acts = moves_issuing None left tt acts.1
   moves (actions.Send since) (outcomes.Sent (Ok sending)) left acts = moves_sent since sending left acts
   moves (actions.Send since) (outcomes.Sent (Err refused)) left acts = moves_idle left acts
   moves (actions.Deliver number) (outcomes.Delivered outcome) left acts = moves_brought acts.0 (there_at h.messages number acts.0 acts.1) outcome left acts.2
@@ -277,6 +291,7 @@ stepped old event outcomes.NoSuchNode new step holds = subst Invariant (sym step
 stepped old event (outcomes.Taken r) new step holds = happened old event _ new step holds
 stepped old event (outcomes.Observed r) new step holds = happened old event _ new step holds
 stepped old event (outcomes.Cancelled r) new step holds = happened old event _ new step holds
+stepped old event (outcomes.Swept r) new step holds = happened old event _ new step holds
 stepped old event (outcomes.Answered r) new step holds = happened old event _ new step holds
 stepped old event (outcomes.Sent r) new step holds = happened old event _ new step holds
 stepped old event (outcomes.Delivered r) new step holds = happened old event _ new step holds

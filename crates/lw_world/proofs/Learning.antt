@@ -4,6 +4,7 @@ use Rattle.std.specs.Prelude.{Contains, cond, max}
 use Rattle.std.specs.FinMap.{get}
 use Rattle.std.proofs.lemmas.Map.Views.{list_any-from_Contains}
 use Rattle.std.proofs.lemmas.Cmp.{eq_by_cmp_equiv}
+use Rattle.lw_stamp.specs.declared.stamp.Stamp.{Stamp}
 use Rattle.lw_reg.specs.declared.addr.Addr.{Addr}
 use Rattle.lw_reg.specs.declared.op.Op.{Op}
 use Rattle.lw_reg.specs.declared.slot.Slot.{Slot}
@@ -15,18 +16,18 @@ use Rattle.lw_reg.proofs.States.{state_laws}
 use Rattle.lw_table.specs.Changes.{Recounts}
 use Rattle.lw_delta.specs.Delta.{DeltaContent}
 use Rattle.lw_delta.proofs.Answering.{one_delta, apart}
+use Rattle.lw_call.specs.declared.clock_end.ClockEnd.{ClockEnd as NoStamp}
 use Rattle.lw_call.specs.declared.merge_fault.MergeFault.{MergeFault}
 use Rattle.lw_call.specs.declared.merge_fault.MergeFault.TheVariants.{Malformed, NoMemory}
 use Rattle.lw_call.specs.declared.observe_fault.ObserveFault.{ObserveFault}
 use Rattle.lw_call.specs.declared.observe_fault.ObserveFault.TheVariants as faults
 use Rattle.lw_call.specs.Contents.{TakenContent, OutgoingContent}
-use Rattle.lw_node.specs.Calls.{Sent}
-use Rattle.lw_node.specs.Calls.{Takes as NodeTakes}
-use Rattle.lw_node.specs.Effects.{Request, Refused}
+use Rattle.lw_node.specs.Calls.{TakesSo, Takes, Sent, Swept}
+use Rattle.lw_node.specs.Effects.{Request, Refused, DatagramMeans}
 use Rattle.lw_node.specs.Exchange.{state_in, Merged, Merges}
 use Rattle.lw_node.specs.Node.{NodeContent, Issued, IsAfter}
-use Rattle.lw_world.specs.Known.{Knowledge, Message, known_state, node_of, IssuesOr, Gains, is_among, about, names_of}
-use Rattle.lw_world.specs.Run.{Left, idle, Takes, Commanded, Delivered}
+use Rattle.lw_world.specs.Known.{Knowledge, Message, known_state, place_of, node_of, IssuesOr, Gains, is_among, about, names_of}
+use Rattle.lw_world.specs.Run.{Left, idle, Issuing, Delivered}
 use Rattle.lw_world.specs.Sound.{IsSound}
 use Rattle.lw_world.specs.World.{bytes_of}
 use Rattle.lw_world.proofs.KnownStates.{known_more, known_append, known_about, slots_tell}
@@ -63,32 +64,57 @@ pub learn_or : (k : Knowledge) (operation : Option Op) (node : NodeContent) → 
 learn_or k None node h = record { knows = k; issues = refl; node_is = h }
 learn_or k (Some operation) node h = learn k operation node h
 
--- ---- a datagram, and a command
+-- ---- a call
 -- what is left of the knowledge and of the messages, and the node that is so
 pub record LeftSo (messages : List Message) (node : NodeContent) (left : Left) : Type 0 where
   pub node_is : node ≡ node_of left.knows
   pub messages_are : left.messages ≡ messages
 
-pub taken_so : (messages : List Message) (k : Knowledge) (now : ℕ) (source : Addr) (bytes : List ℕ) (taken : TakenContent) (node : NodeContent) → NodeTakes (node_of k) (left_by k.operations) now source bytes taken node
-    → (left : Left) × Takes k now source bytes taken left.operation left.knows × LeftSo messages node left
-taken_so messages k now source bytes taken node t =
-    let after : Learnt k t.operation node = learn_or k t.operation node t.left in (
-      record { operation = t.operation; knows = after.knows; messages = messages },
-      record { reply = t.reply; meant = t.meant; replied = t.replied; known = after.issues },
-      record { node_is = after.node_is; messages_are = refl },
-    )
+-- no operation leaves what there was
+pub issues_none : (messages : List Message) (k : Knowledge) → Issuing messages k None (idle messages k)
+issues_none messages k = record { issued = refl; known = refl; messages_are = refl }
 
-pub commanded_so : (Meant : Result (Request × Op) Refused → Type 0) (messages : List Message) (k : Knowledge) (outcome : Result OutgoingContent ObserveFault) (node : NodeContent) → Sent Meant (node_of k) outcome node
-    → (left : Left) × Commanded Meant messages k outcome left × LeftSo messages node left
+-- what an operation leaves, or none
+record Leaving (messages : List Message) (k : Knowledge) (operation : Option Op) (node : NodeContent) : Type 0 where
+  left : Left
+  issuing : Issuing messages k operation left
+  so : LeftSo messages node left
+
+leaving : (messages : List Message) (k : Knowledge) (operation : Option Op) (node : NodeContent) → IsAfter (node_of k) operation node → Leaving messages k operation node
+leaving messages k operation node h =
+    let after : Learnt k operation node = learn_or k operation node h in record {
+      left = record { operation = operation; knows = after.knows; messages = messages };
+      issuing = record { issued = refl; known = after.issues; messages_are = refl };
+      so = record { node_is = after.node_is; messages_are = refl };
+    }
+
+pub taken_so : (messages : List Message) (k : Knowledge) (now : ℕ) (source : Addr) (bytes : List ℕ) (taken : TakenContent) (node : NodeContent) → Takes (node_of k) (left_by k.operations) now source bytes taken node
+    → (left : Left) × TakesSo (DatagramMeans (place_of k now) (left_by k.operations) source bytes) (λ operation. Issuing messages k operation left) taken × LeftSo messages node left
+taken_so messages k now source bytes taken node t =
+    let l = leaving messages k t.operation node t.left in
+    (l.left, record { reply = t.reply; operation = t.operation; meant = t.meant; replied = t.replied; left = l.issuing }, l.so)
+
+module _ (messages : List Message) (k : Knowledge) (node : NodeContent) where
+  -- nothing is changed, and this holds
+  pub idle_so : {A : Type 0} → A → node ≡ node_of k → (left : Left) × (A × Issuing messages k None left) × LeftSo messages node left
+  idle_so a same = (idle messages k, (a, issues_none messages k), record { node_is = same; messages_are = refl })
+
+pub commanded_so : (Meant : Result (Request × Op) Refused → Type 0) (messages : List Message) (k : Knowledge) (outcome : Result OutgoingContent ObserveFault) (node : NodeContent) → Sent Meant (λ operation. IsAfter (node_of k) operation node) outcome
+    → (left : Left) × Sent Meant (λ operation. Issuing messages k operation left) outcome × LeftSo messages node left
 commanded_so Meant messages k (Ok outgoing) node t =
-    let after : Learnt k (Some t.operation) node = learn k t.operation node t.left in (
-      record { operation = Some t.operation; knows = after.knows; messages = messages },
-      (record { request = t.request; issued = t.operation; meant = t.meant; sent = t.sent; operation_is = refl; known = after.issues }, refl),
-      record { node_is = after.node_is; messages_are = refl },
-    )
-commanded_so Meant messages k (Err faults.NotFound) node t = (idle messages k, (t.0, refl), record { node_is = t.1; messages_are = refl })
-commanded_so Meant messages k (Err faults.ClockEnd) node t = (idle messages k, (t.0, refl), record { node_is = t.1; messages_are = refl })
-commanded_so Meant messages k (Err faults.NoMemory) node t = (idle messages k, (t.0, refl), record { node_is = t.1; messages_are = refl })
+    let l = leaving messages k (Some t.operation) node t.left in
+    (l.left, record { request = t.request; operation = t.operation; meant = t.meant; sent = t.sent; left = l.issuing }, l.so)
+commanded_so Meant messages k (Err faults.NotFound) node t = idle_so messages k node t.0 t.1
+commanded_so Meant messages k (Err faults.ClockEnd) node t = idle_so messages k node t.0 t.1
+commanded_so Meant messages k (Err faults.NoMemory) node t = idle_so messages k node t.0 t.1
+
+pub swept_so : (Meant : Result (Option Op) Refused → Type 0) (messages : List Message) (k : Knowledge) (outcome : Result (Option Stamp) NoStamp) (node : NodeContent) → Swept Meant (λ operation. IsAfter (node_of k) operation node) outcome
+    → (left : Left) × Swept Meant (λ operation. Issuing messages k operation left) outcome × LeftSo messages node left
+swept_so Meant messages k (Ok (Some id)) node t =
+    let l = leaving messages k (Some t.0) node t.3 in
+    (l.left, (t.0, t.1, t.2, l.issuing), l.so)
+swept_so Meant messages k (Ok None) node t = idle_so messages k node t.0 t.1
+swept_so Meant messages k (Err ended) node t = idle_so messages k node t.0 t.1
 
 -- ---- a message
 gain : (k : Knowledge) (clock : ℕ) (slots : List (List ℕ × Slot)) (operations : List Op) (node : NodeContent) → state_in slots ≡ known_state operations → Merged (node_of k) clock slots node

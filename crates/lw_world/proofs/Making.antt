@@ -16,13 +16,13 @@ use Rattle.lw_reg.proofs.States.{state_least}
 use Rattle.lw_reg.proofs.Members.{none_there, there_or_first}
 use Rattle.lw_delta.specs.Delta.{IsSpelling}
 use Rattle.lw_call.specs.declared.answer.Answer.{Answer}
+use Rattle.lw_call.specs.declared.clock_end.ClockEnd.{ClockEnd as NoStamp}
 use Rattle.lw_call.specs.declared.merge_fault.MergeFault.{MergeFault}
 use Rattle.lw_call.specs.declared.observe_fault.ObserveFault.{ObserveFault}
 use Rattle.lw_call.specs.declared.question.Question.{Question}
 use Rattle.lw_call.specs.Contents.{TakenContent, OutgoingContent}
-use Rattle.lw_node.specs.Calls.{IsSilent, Observes, Cancels}
-use Rattle.lw_node.specs.Calls.{Takes as NodeTakes}
-use Rattle.lw_node.specs.Effects.{ObserveMeans, CancelMeans}
+use Rattle.lw_node.specs.Calls.{Takes, IsSilent, Observes, Cancels, Sweeps}
+use Rattle.lw_node.specs.Effects.{ObserveMeans, CancelMeans, SweepMeans}
 use Rattle.lw_node.specs.Exchange.{IsDeltaSince, Merges}
 use Rattle.lw_node.specs.Node.{NodeContent, fresh, Known, Knows, IsKnown, marks_in}
 use Rattle.lw_node.specs.Node.Known.{Told}
@@ -37,7 +37,7 @@ use Rattle.lw_world.specs.Known.{Knowledge, Message, place_of, node_of, about, n
 use Rattle.lw_world.specs.Run.{History, Left, idle, Acts, Happens, Steps, Runs, at_number, after, begun, numbered_from}
 use Rattle.lw_world.specs.Sound.{IsSound, AreSound, Keeps, Makes}
 use Rattle.lw_world.specs.World.{WorldContent, world_of, bytes_of}
-use Rattle.lw_world.proofs.Learning.{LeftSo, taken_so, commanded_so, delivered_so}
+use Rattle.lw_world.proofs.Learning.{LeftSo, issues_none, taken_so, idle_so, commanded_so, swept_so, delivered_so}
 
 -- ---- the node at a place
 length_past : {A : Type 0} (xs : List A) (place : ℕ) → slice_get xs place ≡ None → length xs ≤ place
@@ -197,18 +197,18 @@ known_marks k = (all_names k.operations, state_least (all_marks k.operations))
 
 pub takes_act : (messages : List Message) (k : Knowledge) (now : Moment) (source : Addr) (slice bytes : List ℕ) (action : Action) → slice ≡ bytes → action ≡ actions.Take now source bytes
     → (r : Result TakenContent NoMemory) (old new : NodeContent) → old ≡ node_of k
-    → ((ms : List Mark) → Knows old ms → IfOk r (λ t. NodeTakes old (among ms) (ms_of now) source slice t new)) → OnErr r (new ≡ old) → (IsSilent slice → IsOk r)
+    → ((ms : List Mark) → Knows old ms → IfOk r (λ t. Takes old (among ms) (ms_of now) source slice t new)) → OnErr r (new ≡ old) → (IsSilent slice → IsOk r)
     → ActsSo messages k action (outcomes.Taken r) new
 takes_act messages k now source slice bytes action same is r old new from takes unchanged silent =
     subst (λ (a : Action). ActsSo messages k a (outcomes.Taken r) new) (sym is)
     (subst (λ bs. ActsSo messages k (actions.Take now source bs) (outcomes.Taken r) new) same
     (go r (takes (all_marks k.operations) (subst (λ (n : NodeContent). Knows n (all_marks k.operations)) (sym from) (known_marks k))) unchanged silent))
   where
-    go : (r : Result TakenContent NoMemory) → IfOk r (λ t. NodeTakes old (left_by k.operations) (ms_of now) source slice t new) → OnErr r (new ≡ old) → (IsSilent slice → IsOk r) → ActsSo messages k (actions.Take now source slice) (outcomes.Taken r) new
+    go : (r : Result TakenContent NoMemory) → IfOk r (λ t. Takes old (left_by k.operations) (ms_of now) source slice t new) → OnErr r (new ≡ old) → (IsSilent slice → IsOk r) → ActsSo messages k (actions.Take now source slice) (outcomes.Taken r) new
     go (Ok t) takes unchanged silent =
-        let so = taken_so messages k (ms_of now) source slice t new (subst (λ (n : NodeContent). NodeTakes n (left_by k.operations) (ms_of now) source slice t new) from takes) in
-        (so.0, (so.1, so.2.messages_are), so.2)
-    go (Err refused) takes unchanged silent = (idle messages k, ((λ s. absurd (let f = silent s in cc)), refl), record { node_is = unchanged ∙ from; messages_are = refl })
+        let so = taken_so messages k (ms_of now) source slice t new (subst (λ (n : NodeContent). Takes n (left_by k.operations) (ms_of now) source slice t new) from takes) in
+        (so.0, so.1, so.2)
+    go (Err refused) takes unchanged silent = idle_so messages k new {A = ¬ IsSilent slice} (λ s. absurd (let f = silent s in cc)) (unchanged ∙ from)
 
 pub observes_act : (messages : List Message) (k : Knowledge) (now : Moment) (id : Stamp) (path : Path) (accept : Option ℕ) (mid : ℕ) (action : Action) → action ≡ actions.Observe now id path accept mid
     → (r : Result OutgoingContent ObserveFault) (old new : NodeContent) → old ≡ node_of k
@@ -228,6 +228,15 @@ cancels_act messages k now token mid action is r old new from cancels =
     let so = commanded_so (CancelMeans (place_of k (ms_of now)) (left_by k.operations) token mid) messages k r new (subst (λ (n : NodeContent). Cancels n (left_by k.operations) (ms_of now) token mid r new) from known) in
     subst (λ (a : Action). ActsSo messages k a (outcomes.Cancelled r) new) (sym is) so
 
+pub sweeps_act : (messages : List Message) (k : Knowledge) (now : Moment) (action : Action) → action ≡ actions.Sweep now
+    → (r : Result (Option Stamp) NoStamp) (old new : NodeContent) → old ≡ node_of k
+    → ((ms : List Mark) → Knows old ms → Sweeps old (among ms) (ms_of now) r new)
+    → ActsSo messages k action (outcomes.Swept r) new
+sweeps_act messages k now action is r old new from sweeps =
+    let known = sweeps (all_marks k.operations) (subst (λ (n : NodeContent). Knows n (all_marks k.operations)) (sym from) (known_marks k)) in
+    let so = swept_so (SweepMeans (place_of k (ms_of now)) (left_by k.operations)) messages k r new (subst (λ (n : NodeContent). Sweeps n (left_by k.operations) (ms_of now) r new) from known) in
+    subst (λ (a : Action). ActsSo messages k a (outcomes.Swept r) new) (sym is) so
+
 pub asks_act : (messages : List Message) (k : Knowledge) (now : Moment) (question : Question) (action : Action) → action ≡ actions.Ask now question
     → (r : Result Answer NoMemory) (node : NodeContent) → node ≡ node_of k
     → ((known : Known) → IsKnown node.table.state known → Asks node (marks_in node.table.state known) (ms_of now) question r)
@@ -236,7 +245,7 @@ asks_act messages k now question action is r node from answers =
     subst (λ (a : Action). Acts messages k a (outcomes.Answered r) (idle messages k)) (sym is) (
       subst (λ (n : NodeContent). Asks n (left_by k.operations) (ms_of now) question r) from
           (answers (Told (all_marks k.operations)) (subst (λ (n : NodeContent). Knows n (all_marks k.operations)) (sym from) (known_marks k))),
-      refl,
+      issues_none messages k,
     )
 
 -- ---- what lies at a place of a list
@@ -267,6 +276,7 @@ pub happens_steps : (h : History) (event : Event) (outcome : Outcome) (next : Hi
 happens_steps h event (outcomes.Taken r) next happens = happens
 happens_steps h event (outcomes.Observed r) next happens = happens
 happens_steps h event (outcomes.Cancelled r) next happens = happens
+happens_steps h event (outcomes.Swept r) next happens = happens
 happens_steps h event (outcomes.Answered r) next happens = happens
 happens_steps h event (outcomes.Sent r) next happens = happens
 happens_steps h event (outcomes.Delivered r) next happens = happens
@@ -277,6 +287,7 @@ happens_steps h event outcomes.NoSuchNode next happens = absurd (never event.act
     never (actions.Take now source bytes) acts = acts
     never (actions.Observe now id path accept mid) acts = acts
     never (actions.Cancel now token mid) acts = acts
+    never (actions.Sweep now) acts = acts
     never (actions.Ask now question) acts = acts
     never (actions.Send since) acts = acts
     never (actions.Deliver number) acts = acts

@@ -1,22 +1,27 @@
 -- The moments of a run: what lasts from one to each later one, and what holds of each.
 use Rattle.std.proofs.Common.{◌≡◌, ℕ, zero, suc, ◌+◌, ◌≤◌, List, [], ◌∷◌, ◌++◌, length, take, drop, set, Option, Some, None, Result, Ok, Err, sym, refl, ap, ◌∙◌, subst, arith, inl, inr, ◌⊎◌}
 use Rattle.std.specs.Prelude.{slice_get}
+use Rattle.lw_stamp.specs.declared.stamp.Stamp.{Stamp}
+use Rattle.lw_stamp.specs.Moment.{ms_of}
 use Rattle.lw_reg.specs.declared.op.Op.{Op}
+use Rattle.lw_reg.specs.Marks.{left_by}
 use Rattle.lw_reg.proofs.Members.{none_there}
+use Rattle.lw_call.specs.declared.clock_end.ClockEnd.{ClockEnd as NoStamp}
 use Rattle.lw_call.specs.declared.merge_fault.MergeFault.{MergeFault}
 use Rattle.lw_call.specs.declared.merge_fault.MergeFault.TheVariants.{Malformed, NoMemory}
 use Rattle.lw_call.specs.declared.observe_fault.ObserveFault.{ObserveFault}
 use Rattle.lw_call.specs.declared.observe_fault.ObserveFault.TheVariants as faults
 use Rattle.lw_call.specs.Contents.{OutgoingContent}
-use Rattle.lw_node.specs.Effects.{Request, Refused}
+use Rattle.lw_node.specs.Calls.{Sent, Swept}
+use Rattle.lw_node.specs.Effects.{Request, Refused, SweepMeans}
 use Rattle.lw_world.specs.declared.event.Action.{Action}
 use Rattle.lw_world.specs.declared.event.Action.TheVariants as actions
 use Rattle.lw_world.specs.declared.event.Event.{Event}
 use Rattle.lw_world.specs.declared.outcome.Outcome.{Outcome}
 use Rattle.lw_world.specs.declared.outcome.Outcome.TheVariants as outcomes
 use Rattle.lw_world.specs.declared.outcome.Sending.{Sending}
-use Rattle.lw_world.specs.Known.{Knowledge, Message, knows_nothing, IssuesOr, about, names_of}
-use Rattle.lw_world.specs.Run.{History, Left, idle, Commanded, Delivers, Delivered, Sends, Acts, Happens, Steps, Runs, at_number, with_node, after, begun, numbered_from}
+use Rattle.lw_world.specs.Known.{Knowledge, Message, knows_nothing, place_of, IssuesOr, about, names_of}
+use Rattle.lw_world.specs.Run.{History, Left, idle, Issuing, Delivers, Delivered, Sends, Acts, Happens, Steps, Runs, at_number, with_node, after, begun, numbered_from}
 use Rattle.lw_world.specs.Sound.{IsSound, AreSound}
 use Rattle.lw_world.proofs.Lasting.{IsCounted, Learns, Lasts, lasts_itself, lasts_then, learns_lasts, learns_counted, nothing_counted}
 use Rattle.lw_world.proofs.Making.{all_sound}
@@ -41,11 +46,19 @@ issued_follows : (k new : Knowledge) (operation : Option Op) → IssuesOr k oper
 issued_follows k new None same = inl same
 issued_follows k new (Some o) issues = inr (record { more = o ∷ []; operations = issues.operations; clock = let next = issues.clock in omega (arith, next); count = issues.count })
 
-commanded_leaves : (Meant : Result (Request × Op) Refused → Type 0) (messages : List Message) (k : Knowledge) (outcome : Result OutgoingContent ObserveFault) (left : Left) → Commanded Meant messages k outcome left → Leaves messages k left
-commanded_leaves Meant messages k (Ok outgoing) left h = record { knows = issued_follows k left.knows left.operation h.0.known; messages_are = inl h.1 }
-commanded_leaves Meant messages k (Err faults.NotFound) left h = idle_leaves messages k left h.1
-commanded_leaves Meant messages k (Err faults.ClockEnd) left h = idle_leaves messages k left h.1
-commanded_leaves Meant messages k (Err faults.NoMemory) left h = idle_leaves messages k left h.1
+issuing_leaves : (messages : List Message) (k : Knowledge) (operation : Option Op) (left : Left) → Issuing messages k operation left → Leaves messages k left
+issuing_leaves messages k operation left h = record { knows = issued_follows k left.knows operation h.known; messages_are = inl h.messages_are }
+
+sent_leaves : (Meant : Result (Request × Op) Refused → Type 0) (messages : List Message) (k : Knowledge) (outcome : Result OutgoingContent ObserveFault) (left : Left) → Sent Meant (λ operation. Issuing messages k operation left) outcome → Leaves messages k left
+sent_leaves Meant messages k (Ok outgoing) left h = issuing_leaves messages k (Some h.operation) left h.left
+sent_leaves Meant messages k (Err faults.NotFound) left h = issuing_leaves messages k None left h.1
+sent_leaves Meant messages k (Err faults.ClockEnd) left h = issuing_leaves messages k None left h.1
+sent_leaves Meant messages k (Err faults.NoMemory) left h = issuing_leaves messages k None left h.1
+
+swept_leaves : (Meant : Result (Option Op) Refused → Type 0) (messages : List Message) (k : Knowledge) (outcome : Result (Option Stamp) NoStamp) (left : Left) → Swept Meant (λ operation. Issuing messages k operation left) outcome → Leaves messages k left
+swept_leaves Meant messages k (Ok (Some id)) left h = issuing_leaves messages k (Some h.0) left h.3
+swept_leaves Meant messages k (Ok None) left h = issuing_leaves messages k None left h.1
+swept_leaves Meant messages k (Err ended) left h = issuing_leaves messages k None left h.1
 
 delivers_leaves : (messages : List Message) (k : Knowledge) (clock : ℕ) (operations : List Op) (left : Left) → Delivers messages k clock operations left → Leaves messages k left
 delivers_leaves messages k clock operations left h =
@@ -68,11 +81,12 @@ sent_sound messages k since sending left s =
     record { known = k.operations; operations_are = refl; slots = λ e slot there. ((s.slots.members e slot).0 there).0; spelled = s.spelled }
 
 acts_leaves : (messages : List Message) (k : Knowledge) (action : Action) (outcome : Outcome) (left : Left) → Acts messages k action outcome left → Leaves messages k left
-acts_leaves messages k (actions.Take now source bytes) (outcomes.Taken (Ok taken)) left h = record { knows = issued_follows k left.knows left.operation h.0.known; messages_are = inl h.1 }
-acts_leaves messages k (actions.Take now source bytes) (outcomes.Taken (Err refused)) left h = idle_leaves messages k left h.1
-acts_leaves messages k (actions.Observe now id path accept mid) (outcomes.Observed outcome) left h = commanded_leaves _ messages k outcome left h
-acts_leaves messages k (actions.Cancel now token mid) (outcomes.Cancelled outcome) left h = commanded_leaves _ messages k outcome left h
-acts_leaves messages k (actions.Ask now question) (outcomes.Answered outcome) left h = idle_leaves messages k left h.1
+acts_leaves messages k (actions.Take now source bytes) (outcomes.Taken (Ok taken)) left h = issuing_leaves messages k h.operation left h.left
+acts_leaves messages k (actions.Take now source bytes) (outcomes.Taken (Err refused)) left h = issuing_leaves messages k None left h.1
+acts_leaves messages k (actions.Observe now id path accept mid) (outcomes.Observed outcome) left h = sent_leaves _ messages k outcome left h
+acts_leaves messages k (actions.Cancel now token mid) (outcomes.Cancelled outcome) left h = sent_leaves _ messages k outcome left h
+acts_leaves messages k (actions.Sweep now) (outcomes.Swept outcome) left h = swept_leaves (SweepMeans (place_of k (ms_of now)) (left_by k.operations)) messages k outcome left h
+acts_leaves messages k (actions.Ask now question) (outcomes.Answered outcome) left h = issuing_leaves messages k None left h.1
 acts_leaves messages k (actions.Send since) (outcomes.Sent (Ok sending)) left h = record {
   knows = inl (ap (λ (l : Left). l.knows) h.left_is);
   messages_are = inr (message_of h, sent_sound messages k since sending left h, ap (λ (l : Left). l.messages) h.left_is);

@@ -1,4 +1,4 @@
-use Rattle.lw_world.proofs.Making.{makes, makes_nothing, takes_act, observes_act, cancels_act, asks_act}
+use Rattle.lw_world.proofs.Making.{makes, makes_nothing, takes_act, observes_act, cancels_act, sweeps_act, asks_act}
 use Rattle.lw_world.proofs.world.World.act.Goals as goal
 
 pub returns-in-Take : goal.returns-in-Take
@@ -15,6 +15,11 @@ pub returns-in-Cancel : goal.returns-in-Cancel
 returns-in-Cancel c =
     makes c.args.self.now _ c.self-in-Cancel.view_is c.args.place c.index_mut-in-Cancel.result.now c.cancel.new.self c.args.action.now _ c.requires c.index_mut-in-Cancel.ensures.value
     (λ messages k from sound are. cancels_act messages k c.in-Cancel.now c.in-Cancel.token c.in-Cancel.mid c.args.action.now c.in-Cancel.is c.cancel.result _ c.cancel.new.self from c.cancel.ensures.marks)
+
+pub returns-in-Sweep : goal.returns-in-Sweep
+returns-in-Sweep c =
+    makes c.args.self.now _ c.self-in-Sweep.view_is c.args.place c.index_mut-in-Sweep.result.now c.sweep.new.self c.args.action.now _ c.requires c.index_mut-in-Sweep.ensures.value
+    (λ messages k from sound are. sweeps_act messages k c.in-Sweep.now c.args.action.now c.in-Sweep.is c.sweep.result _ c.sweep.new.self from c.sweep.ensures.marks)
 
 pub returns-in-Ask : goal.returns-in-Ask
 returns-in-Ask c =
