@@ -2,55 +2,37 @@
 use Rattle.std.proofs.Common.{◌≡◌, ℕ, List, [], ◌∷◌, ◌++◌, Option, Some, None, Result, Ok, Err, refl, sym, ap, ◌∙◌, subst}
 use Rattle.lw_reg.specs.declared.op.Op.{Op}
 use Rattle.lw_call.specs.declared.call.Call.{Call}
-use Rattle.lw_call.specs.declared.call.Call.TheVariants as calls
 use Rattle.lw_call.specs.declared.merge_fault.MergeFault.{MergeFault}
 use Rattle.lw_call.specs.declared.merge_fault.MergeFault.TheVariants as merge_faults
-use Rattle.lw_call.specs.declared.observe_fault.ObserveFault.{ObserveFault}
-use Rattle.lw_call.specs.declared.observe_fault.ObserveFault.TheVariants as faults
 use Rattle.lw_call.specs.declared.reply.Reply.{Reply}
-use Rattle.lw_call.specs.declared.reply.Reply.TheVariants as replies
-use Rattle.lw_call.specs.Contents.{OutgoingContent}
-use Rattle.lw_node.specs.Calls.{Sent}
-use Rattle.lw_node.specs.Effects.{Request, Refused}
 use Rattle.lw_node.specs.Exchange.{Merges}
 use Rattle.lw_node.specs.Node.{NodeContent, fresh, marks_in, IsAfter}
 use Rattle.lw_node.specs.Node.Known.{Shown}
-use Rattle.lw_node.specs.Steps.{Steps}
+use Rattle.lw_node.specs.Steps.{at_node, Steps}
 use Rattle.lw_reg.specs.Marks.{Marks}
 use Rattle.lw_held.specs.declared.entry.Entry.{Entry}
 use Rattle.lw_held.specs.History.{IsStep, Leads, IsLegal}
+use Rattle.lw_held.proofs.Carrying.{carried}
 
 -- ---- a step keeps the number
-same_number : (old new : NodeContent) → new ≡ old → new.number ≡ old.number
-same_number old new same = ap (λ (n : NodeContent). n.number) same
+module _ (old new : NodeContent) where
+  number_after : (operation : Option Op) → IsAfter old operation new → new.number ≡ old.number
+  number_after None left = ap (λ (n : NodeContent). n.number) left
+  number_after (Some operation) left = left.number
 
-number_after : (old : NodeContent) (operation : Option Op) (new : NodeContent) → IsAfter old operation new → new.number ≡ old.number
-number_after old None new left = same_number old new left
-number_after old (Some operation) new left = left.number
+  number_merged : (bytes : List ℕ) (outcome : Result ℕ MergeFault) → Merges old bytes outcome new → new.number ≡ old.number
+  number_merged bytes (Ok count) merges = merges.merged.number
+  number_merged bytes (Err (merge_faults.Malformed fault)) merges = number_after None merges.1
+  number_merged bytes (Err (merge_faults.NoMemory joined)) merges = merges.merged.number
 
-number_sent : (Meant : Result (Request × Op) Refused → Type 0) (old : NodeContent) (outcome : Result OutgoingContent ObserveFault) (new : NodeContent) → Sent Meant old outcome new → new.number ≡ old.number
-number_sent Meant old (Ok outgoing) new sent = number_after old (Some sent.operation) new sent.left
-number_sent Meant old (Err faults.NotFound) new sent = same_number old new sent.1
-number_sent Meant old (Err faults.ClockEnd) new sent = same_number old new sent.1
-number_sent Meant old (Err faults.NoMemory) new sent = same_number old new sent.1
-
-number_merged : (old : NodeContent) (bytes : List ℕ) (outcome : Result ℕ MergeFault) (new : NodeContent) → Merges old bytes outcome new → new.number ≡ old.number
-number_merged old bytes (Ok count) new merges = merges.merged.number
-number_merged old bytes (Err (merge_faults.Malformed fault)) new merges = same_number old new merges.1
-number_merged old bytes (Err (merge_faults.NoMemory joined)) new merges = merges.merged.number
-
-number_steps : (old : NodeContent) (M : Marks) (call : Call) (reply : Reply) (new : NodeContent) → Steps old M call reply new → new.number ≡ old.number
-number_steps old M (calls.Take now source bytes) (replies.Take (Ok taken)) new steps = number_after old steps.operation new steps.left
-number_steps old M (calls.Take now source bytes) (replies.Take (Err refused)) new steps = same_number old new steps.1
-number_steps old M (calls.Observe now id path accept mid) (replies.Observe outcome) new steps = number_sent _ old outcome new steps
-number_steps old M (calls.Cancel now token mid) (replies.Cancel outcome) new steps = number_sent _ old outcome new steps
-number_steps old M (calls.Send since) (replies.Send outcome) new steps = same_number old new steps.1
-number_steps old M (calls.Merge bytes) (replies.Merge outcome) new steps = number_merged old bytes outcome new steps
-number_steps old M (calls.Ask now question) (replies.Ask outcome) new steps = same_number old new steps.1
-number_steps old M _ _ new steps = absurd steps
+  number_steps : (M : Marks) (call : Call) (reply : Reply) → Steps old M call reply new → new.number ≡ old.number
+  number_steps M call reply steps =
+      (carried (at_node old M new) (λ same operation. Unit {0}) (λ same bytes outcome. Unit {0})
+      (λ operation left. (number_after operation left, tt))
+      (λ bytes outcome merges. (number_merged bytes outcome merges, tt)) call reply steps).0
 
 pub step_number : (old : NodeContent) (call : Call) (reply : Reply) (new : NodeContent) → IsStep old call reply new → new.number ≡ old.number
-step_number old call reply new step = number_steps old (marks_in old.table.state Shown) call reply new (step Shown tt)
+step_number old call reply new step = number_steps old new (marks_in old.table.state Shown) call reply (step Shown tt)
 
 -- ---- one entry more
 pub leads_push : (old : NodeContent) (entries : List Entry) (mid : NodeContent) (entry : Entry) (new : NodeContent) → Leads old entries mid → IsStep mid entry.call entry.reply new → Leads old (entries ++ entry ∷ []) new

@@ -3,7 +3,7 @@ use Rattle.std.proofs.Common.{◌≡◌, ◌==◌, ℕ, zero, suc, ◌+◌, ◌<
 use Rattle.std.specs.Prelude.{map, filter, set, slice_get}
 use Rattle.std.proofs.lemmas.Bool.{eqb-true}
 use Rattle.std.proofs.lemmas.List.{length-map}
-use Rattle.lw_stamp.specs.Moment.{ms_of}
+use Rattle.lw_reg.specs.declared.op.Op.{Op}
 use Rattle.lw_reg.specs.Marks.{left_by, all_marks}
 use Rattle.lw_reg.proofs.Operations.{all_names}
 use Rattle.lw_reg.proofs.Members.{none_there}
@@ -14,24 +14,24 @@ use Rattle.lw_call.specs.declared.call.Call.TheVariants as calls
 use Rattle.lw_call.specs.declared.reply.Reply.{Reply}
 use Rattle.lw_call.specs.declared.reply.Reply.TheVariants as replies
 use Rattle.lw_call.specs.Contents.{SentContent}
-use Rattle.lw_node.specs.Effects.{ObserveMeans, CancelMeans}
 use Rattle.lw_node.specs.Exchange.{IsDeltaSince}
-use Rattle.lw_node.specs.Node.{NodeContent, Knows, fresh}
+use Rattle.lw_node.specs.Node.{NodeContent, Knows, IsAfter, fresh}
 use Rattle.lw_node.specs.Node.Known.{Told}
-use Rattle.lw_node.specs.Steps.{Steps}
+use Rattle.lw_node.specs.Steps.{Context, StepsIn, Steps}
 use Rattle.lw_world.specs.declared.event.Action.{Action}
 use Rattle.lw_world.specs.declared.event.Action.TheVariants as actions
 use Rattle.lw_world.specs.declared.event.Event.{Event}
 use Rattle.lw_world.specs.declared.outcome.Outcome.{Outcome}
 use Rattle.lw_world.specs.declared.outcome.Outcome.TheVariants as results
-use Rattle.lw_world.specs.Known.{Knowledge, Message, place_of, node_of, about, names_of, knows_nothing}
-use Rattle.lw_world.specs.Run.{History, Left, idle, Acts, Happens, Runs, at_number, with_node, after, begun, numbered_from}
+use Rattle.lw_world.specs.Known.{Knowledge, Message, node_of, about, names_of, knows_nothing}
+use Rattle.lw_world.specs.Run.{History, Left, idle, Issuing, at_knowledge, Acts, Happens, Runs, at_number, with_node, after, begun, numbered_from}
 use Rattle.lw_world.specs.Sound.{AreSound}
 use Rattle.lw_world.specs.World.{bytes_of}
-use Rattle.lw_world.proofs.Learning.{taken_so, commanded_so}
+use Rattle.lw_world.proofs.Learning.{LeftSo, learn_or}
 use Rattle.lw_world.proofs.Making.{all_sound, delivers, happens_steps}
 use Rattle.lw_held.specs.declared.entry.Entry.{Entry}
 use Rattle.lw_held.specs.History.{Leads}
+use Rattle.lw_held.proofs.Carrying.{carried}
 use Rattle.lw_held.proofs.Marking.{histories_are_of_marks}
 use Rattle.lw_held.specs.Joint.{Turn, entries_of, AreOfRun, with_delta, IsPassedOn, ArePassedOn, IsToldAs, AreToldAs, JointHistoriesRun}
 
@@ -91,53 +91,47 @@ module _ (messages : List Message) (k : Knowledge) (deltas : List (List ℕ)) (n
       }
   merges bytes _ number at steps = absurd steps
 
-  acted : (call : Call) (reply : Reply) → IsPassedOn deltas call → Steps (node_of k) (left_by k.operations) call reply node → Acted messages k deltas call reply node
-  acted (calls.Take now source bytes) (replies.Take (Ok taken)) passed steps =
-      let so = taken_so messages k (ms_of now) source bytes taken node steps in
-      record {
-        action = actions.Take now source bytes;
-        outcome = results.Taken (Ok taken);
-        told = (refl, refl);
-        left = so.0;
-        acts = (so.1, so.2.messages_are);
-        node_is = so.2.node_is;
-        deltas_are = are ∙ ap (map bytes_of) (sym so.2.messages_are);
-        sound = subst AreSound (sym so.2.messages_are) sound;
-      }
-  acted (calls.Take now source bytes) (replies.Take (Err refused)) passed steps = record {
-    action = actions.Take now source bytes;
-    outcome = results.Taken (Err refused);
-    told = (refl, refl);
-    left = idle messages k;
-    acts = (steps.0, refl);
-    node_is = steps.1;
-    deltas_are = are;
-    sound = sound;
+  -- ---- a call that is no merge
+  -- the node before and after; no delta comes by such a call
+  abbrev Apart : Context
+  Apart = record {
+    node = node_of k;
+    marks = left_by k.operations;
+    After = λ operation. IsAfter (node_of k) operation node;
+    AfterMerge = λ bytes outcome. ⊥;
   }
-  acted (calls.Observe now id path accept mid) (replies.Observe r) passed steps =
-      let so = commanded_so (ObserveMeans (place_of k (ms_of now)) (left_by k.operations) id path accept mid) messages k r node steps in
+
+  issuing : (operation : Option Op) → IsAfter (node_of k) operation node → (so : (left : Left) × LeftSo messages node left) × Issuing messages k operation so.0
+  issuing operation h =
+      let learnt = learn_or k operation node h in (
+        (record { operation = operation; knows = learnt.knows; messages = messages }, record { node_is = learnt.node_is; messages_are = refl }),
+        record { issued = refl; known = learnt.issues; messages_are = refl },
+      )
+
+  -- the action is the call, and the reply brings no delta
+  made : (call : Call) (reply : Reply) (action : Action) (outcome : Outcome) → IsToldAs deltas call reply action outcome → with_delta deltas reply ≡ deltas
+      → ((left : Left) → StepsIn (at_knowledge messages k left) call reply → Acts messages k action outcome left) → StepsIn Apart call reply → Acted messages k deltas call reply node
+  made call reply action outcome told none acts steps =
+      let so = carried Apart (λ so operation. Issuing messages k operation so.0) (λ so bytes joined. ⊥) issuing (λ bytes joined never. absurd never) call reply steps in
       record {
-        action = actions.Observe now id path accept mid;
-        outcome = results.Observed r;
-        told = (refl, refl);
-        left = so.0;
-        acts = so.1;
-        node_is = so.2.node_is;
-        deltas_are = are ∙ ap (map bytes_of) (sym so.2.messages_are);
-        sound = subst AreSound (sym so.2.messages_are) sound;
+        action = action;
+        outcome = outcome;
+        told = told;
+        left = so.0.0;
+        acts = acts so.0.0 so.1;
+        node_is = so.0.1.node_is;
+        deltas_are = none ∙ are ∙ ap (map bytes_of) (sym so.0.1.messages_are);
+        sound = subst AreSound (sym so.0.1.messages_are) sound;
       }
-  acted (calls.Cancel now token mid) (replies.Cancel r) passed steps =
-      let so = commanded_so (CancelMeans (place_of k (ms_of now)) (left_by k.operations) token mid) messages k r node steps in
-      record {
-        action = actions.Cancel now token mid;
-        outcome = results.Cancelled r;
-        told = (refl, refl);
-        left = so.0;
-        acts = so.1;
-        node_is = so.2.node_is;
-        deltas_are = are ∙ ap (map bytes_of) (sym so.2.messages_are);
-        sound = subst AreSound (sym so.2.messages_are) sound;
-      }
+
+  -- ---- any call
+  acted : (call : Call) (reply : Reply) → IsPassedOn deltas call → Steps (node_of k) (left_by k.operations) call reply node → Acted messages k deltas call reply node
+  acted (calls.Take now source bytes) (replies.Take (Ok taken)) passed steps = made (calls.Take now source bytes) (replies.Take (Ok taken)) (actions.Take now source bytes) (results.Taken (Ok taken)) (refl, refl) refl (λ left s. s) steps
+  acted (calls.Take now source bytes) (replies.Take (Err refused)) passed steps = made (calls.Take now source bytes) (replies.Take (Err refused)) (actions.Take now source bytes) (results.Taken (Err refused)) (refl, refl) refl (λ left s. s) steps
+  acted (calls.Observe now id path accept mid) (replies.Observe r) passed steps = made (calls.Observe now id path accept mid) (replies.Observe r) (actions.Observe now id path accept mid) (results.Observed r) (refl, refl) refl (λ left s. s) steps
+  acted (calls.Cancel now token mid) (replies.Cancel r) passed steps = made (calls.Cancel now token mid) (replies.Cancel r) (actions.Cancel now token mid) (results.Cancelled r) (refl, refl) refl (λ left s. s) steps
+  acted (calls.Sweep now) (replies.Sweep r) passed steps = made (calls.Sweep now) (replies.Sweep r) (actions.Sweep now) (results.Swept r) (refl, refl) refl (λ left s. s) steps
+  acted (calls.Ask now question) (replies.Ask r) passed steps = made (calls.Ask now question) (replies.Ask r) (actions.Ask now question) (results.Answered r) (refl, refl) refl (λ left s. s) steps
   acted (calls.Send since) (replies.Send (Ok sent)) passed steps = sends since sent steps.0.0 steps.0.1 steps.1
   acted (calls.Send since) (replies.Send (Err refused)) passed steps = record {
     action = actions.Send since;
@@ -150,16 +144,6 @@ module _ (messages : List Message) (k : Knowledge) (deltas : List (List ℕ)) (n
     sound = sound;
   }
   acted (calls.Merge bytes) reply passed steps = merges bytes reply passed.0 passed.1 steps
-  acted (calls.Ask now question) (replies.Ask r) passed steps = record {
-    action = actions.Ask now question;
-    outcome = results.Answered r;
-    told = (refl, refl);
-    left = idle messages k;
-    acts = (steps.0, refl);
-    node_is = steps.1;
-    deltas_are = are;
-    sound = sound;
-  }
   acted _ _ passed steps = absurd steps
 
 known_marks : (k : Knowledge) → Knows (node_of k) (all_marks k.operations)

@@ -1,3 +1,4 @@
+pub mod Carrying
 pub mod Histories
 pub mod Agreement
 pub mod Lawful

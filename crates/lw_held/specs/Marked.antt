@@ -1,7 +1,7 @@
 -- Legal histories over clock and marks alone: before the first entry the clock is 0 and no mark is known, and each reply is
 -- that of the clock and the marks which the entries before it left (Shapiro et al., Conflict-free Replicated Data Types,
 -- 2011).
-use Rattle.std.specs.Prelude.{◌≡◌, ◌↔◌, ℕ, ◌+◌, ◌<◌, max, List, [], ◌∷◌, ◌++◌, length, take, Option, Some, None, Result, Ok, Err, IfOk}
+use Rattle.std.specs.Prelude.{◌≡◌, ◌↔◌, ℕ, ◌+◌, ◌<◌, max, List, [], ◌∷◌, ◌++◌, length, take, Option, Some, None, Result, Ok, Err}
 use Rattle.lw_reg.specs.declared.op.Op.{Op}
 use Rattle.lw_reg.specs.declared.slot.Slot.{Slot}
 use Rattle.lw_reg.specs.Marks.{Mark, among, marks_of}
@@ -29,9 +29,6 @@ pub record Marked : Type 0 where
 -- before the first entry
 abbrev pub unmarked : ℕ → Marked
 unmarked number = record { number = number; clock = 0; marks = []; count = none_counted }
-
-abbrev pub place_of : Marked → ℕ → Place
-place_of known now = record { number = known.number; clock = known.clock; now = now }
 
 -- the node that knows just this
 abbrev pub node_of : Marked → NodeContent

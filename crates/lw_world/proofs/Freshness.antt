@@ -14,7 +14,7 @@ use Rattle.lw_reg.specs.Marks.{Marks, all_marks, marks_of, left_by}
 use Rattle.lw_reg.specs.Reading.{shown_in}
 use Rattle.lw_reg.specs.Registration.{Registration}
 use Rattle.lw_reg.specs.Showing.{IsExpired}
-use Rattle.lw_reg.specs.State.{State, state_of}
+use Rattle.lw_reg.specs.State.{state_of}
 use Rattle.lw_reg.proofs.Members.{first_there, more_there}
 use Rattle.lw_reg.proofs.Operations.{all_names}
 use Rattle.lw_reg.proofs.States.{state_least}
@@ -110,9 +110,6 @@ sweep_along M N place a outcome h = (h.0, first_late_along M N place.now a None 
     go (Some r) first (inl ended) = inl ended
     go (Some r) first (inr (op, next, expires, is)) = inr (op, next, expires_along M N place.now a r first.fits.1 op expires, is)
 
-swept_one : (o p : Op) → ◌≡◌ {A = Result (Option Op) Refused} (Ok (Some o)) (Ok (Some p)) → p ≡ o
-swept_one o p e = let same = e in cc
-
 -- ---- the stamp is the node's own, and a Register is about the registration with it
 record IsOwn (place : Place) (op : Op) : Type 0 where
   next : IsNext place op.stamp
@@ -184,7 +181,7 @@ module _ (place : Place) where
       go None same = absurd (let bad = same in cc)
       go (Some r) (inl ended) = absurd (let bad = ended.1 in cc)
       go (Some r) (inr (op, next, expires, is)) =
-          subst (IsOwn place) (swept_one operation op is) (record { next = next; own = λ register. absurd (subst IsRegister expires.what register) })
+          subst (IsOwn place) {x = op} (let e = is in cc) (record { next = next; own = λ register. absurd (subst IsRegister expires.what register) })
 
 -- ---- what a node issues
 -- the next of its clock, with its number
