@@ -11,7 +11,9 @@ use crate::registration::registration_text;
 use crate::value::id_text;
 use crate::watch::{stale_text, watch_text};
 use lw_stamp::{NoMemory, Stamp};
-use lw_world::{Answer, ClockEnd, DeltaFault, MergeFault, Notice, ObserveFault, Outcome, Outgoing, Taken};
+use lw_world::{
+    Answer, ClockEnd, DeltaFault, MergeFault, Notice, ObserveFault, Outcome, Outgoing, Taken,
+};
 use std::alloc::Global;
 
 /// The line of what comes of an event, with its line feed. The bytes are those of the message, where the outcome is
@@ -89,10 +91,7 @@ fn sent_words(alloc: Global, outgoing: &Outgoing) -> Result<String, NoMemory>
 }
 
 /// The registration that has ended, or none, or why none ends.
-fn swept_words(
-    alloc: Global,
-    outcome: &Result<Option<Stamp>, ClockEnd>,
-) -> Result<String, NoMemory>
+fn swept_words(alloc: Global, outcome: &Result<Option<Stamp>, ClockEnd>) -> Result<String, NoMemory>
     ensures { IfOk result (λ text. string_bytes text ≡ join_with_byte 32 (swept_words outcome.now)) }
 {
     match outcome {

@@ -50,8 +50,8 @@ impl Server {
         })
     }
 
-    /// Takes a batch of datagrams and sends the replies; then each node sends what it has learnt since its last Send,
-    /// which the others merge in the next round.
+    /// Takes a batch of datagrams, sweeps each node and sends the replies; then each node sends what it has learnt since
+    /// its last Send, which the others merge in the next round.
     pub(crate) fn round<R: Threads + Wait + Sync, W: Wire, L: Log>(
         self,
         rt: &R,

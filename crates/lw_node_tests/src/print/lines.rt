@@ -35,10 +35,7 @@ const PLAIN: [(Outcome, &str); 17] = [
         Outcome::Cancelled(Err(ObserveFault::NoMemory)),
         "no memory\n",
     ),
-    (
-        Outcome::Swept(Ok(Some(LAST))),
-        "swept ffffffffffffffff\n",
-    ),
+    (Outcome::Swept(Ok(Some(LAST))), "swept ffffffffffffffff\n"),
     (Outcome::Swept(Ok(None)), "none\n"),
     (Outcome::Swept(Err(ClockEnd)), "refused 1\n"),
     (Outcome::Answered(Err(NoMemory)), "no memory\n"),
