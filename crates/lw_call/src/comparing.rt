@@ -239,10 +239,7 @@ fn same_ask(a: &Result<Answer, NoMemory>, b: &Result<Answer, NoMemory>) -> bool
     }
 }
 
-fn same_sweep(
-    a: &Result<Option<Stamp>, ClockEnd>,
-    b: &Result<Option<Stamp>, ClockEnd>,
-) -> bool
+fn same_sweep(a: &Result<Option<Stamp>, ClockEnd>, b: &Result<Option<Stamp>, ClockEnd>) -> bool
     ensures { IsTrue result ↔ (a.now ≡ b.now) }
 {
     match (a, b) {
