@@ -37,8 +37,7 @@ impl Node {
     }
 
     /// Makes the call, and gives what it gives twice. Both are made before anything changes: where there is no memory
-    /// for the second, the call is refused for want of memory. What a merge or a sweep gives is plain
-    /// data.
+    /// for the second, the call is refused for want of memory. What a merge or a sweep gives is plain data.
     pub fn act_twice(&mut self, call: &Call) -> (Reply, Reply)
         ensures same { result.0 ≡ result.1 }
         ensures step { (known : Known) → IsKnown self.old.table.state known → Steps self.old (marks_in self.old.table.state known) call.now result.0 self.new }
