@@ -1,38 +1,33 @@
 -- What a sweep means, over each set that a state tells of.
-use Rattle.std.proofs.Common.{◌≡◌, ◌∙◌, ℕ, ◌+◌, ◌≤◌, List, Option, Some, None, Ok, Err, inl, inr, refl, sym, ap, subst, arith}
-use Rattle.std.specs.Prelude.{Result, max}
+use Rattle.std.proofs.Common.{◌≡◌, ◌∙◌, ℕ, ◌+◌, List, Option, Some, None, Ok, Err, inl, inr, refl, ap, subst}
+use Rattle.std.specs.Prelude.{max}
 use Rattle.std.specs.Option.{option_map}
-use Rattle.std.specs.FinMap.{get}
 use Rattle.lw_stamp.specs.declared.moment.Moment.{Moment}
 use Rattle.lw_stamp.specs.declared.stamp.Stamp.{Stamp}
 use Rattle.lw_stamp.specs.Order.{IsGreatest}
 use Rattle.lw_join.specs.Facets.{OptionTells}
 use Rattle.lw_join.specs.Lww.{write_cmp}
 use Rattle.lw_join.specs.LwwLaws.{write_order}
-use Rattle.lw_join.specs.Maps.{one_key}
 use Rattle.lw_join.specs.declared.or_gone.OrGone.{OrGone}
 use Rattle.lw_join.specs.declared.or_gone.OrGone.TheVariants.{Here, Gone}
 use Rattle.lw_join.proofs.FacetLemmas.{greatest_one}
 use Rattle.lw_reg.specs.declared.body.Body.{Body}
 use Rattle.lw_reg.specs.declared.op.Op.{Op}
-use Rattle.lw_reg.specs.declared.op.What.{What}
 use Rattle.lw_reg.specs.declared.op.What.TheVariants.{Expire}
 use Rattle.lw_reg.specs.declared.slot.Slot.{Slot}
-use Rattle.lw_reg.specs.Marks.{Trace, Mark, Marks, Has, NamesAll, among}
+use Rattle.lw_reg.specs.Marks.{Trace, Marks, Has, NamesAll}
 use Rattle.lw_reg.specs.Marks.Trace.{SeenAt}
 use Rattle.lw_reg.specs.OrderLaws.{moment_order}
 use Rattle.lw_reg.specs.Orders.{moment_cmp}
 use Rattle.lw_reg.specs.Reading.{seen_of, shown_in, stamp_of}
 use Rattle.lw_reg.specs.Registration.{Registration}
 use Rattle.lw_reg.specs.Showing.{IsWrite}
-use Rattle.lw_reg.specs.Slot.{slot_at, slot_of}
-use Rattle.lw_reg.specs.State.{State, IsStateOf, state_join}
+use Rattle.lw_reg.specs.Slot.{slot_at}
 use Rattle.lw_reg.proofs.Tells.{SlotTells, Tells, Holds, ToldTells}
-use Rattle.lw_table.specs.Answers.{IsFirstAnswer}
 use Rattle.lw_table.specs.Lifts.{Lifts, LiftsFirst}
 use Rattle.lw_table.specs.LookUps.{ExpiredAfter, IsExpiredAfter, named_by}
 use Rattle.lw_table.specs.Table.{TableContent}
-use Rattle.lw_table.proofs.LookUpLemmas.{marks_tell, read_names, read_tells}
+use Rattle.lw_table.proofs.LookUpLemmas.{read_names, read_tells}
 use Rattle.lw_node.specs.Calls.{Sweeps, place_at}
 use Rattle.lw_node.specs.Effects.{Place, IsAtEnd, IsNext, Expires, SweepMeans}
 use Rattle.lw_node.specs.Effects.Refused.{ClockEnd}
