@@ -94,10 +94,9 @@ taken_so messages k now source bytes taken node t =
     let l = leaving messages k t.operation node t.left in
     (l.left, record { reply = t.reply; operation = t.operation; meant = t.meant; replied = t.replied; left = l.issuing }, l.so)
 
-module _ (messages : List Message) (k : Knowledge) (node : NodeContent) where
-  -- nothing is changed, and this holds
-  pub idle_so : {A : Type 0} → A → node ≡ node_of k → (left : Left) × (A × Issuing messages k None left) × LeftSo messages node left
-  idle_so a same = (idle messages k, (a, issues_none messages k), record { node_is = same; messages_are = refl })
+-- nothing is changed, and this holds
+pub idle_so : {A : Type 0} (messages : List Message) (k : Knowledge) (node : NodeContent) → A → node ≡ node_of k → (left : Left) × (A × Issuing messages k None left) × LeftSo messages node left
+idle_so messages k node a same = (idle messages k, (a, issues_none messages k), record { node_is = same; messages_are = refl })
 
 pub commanded_so : (Meant : Result (Request × Op) Refused → Type 0) (messages : List Message) (k : Knowledge) (outcome : Result OutgoingContent ObserveFault) (node : NodeContent) → Sent Meant (λ operation. IsAfter (node_of k) operation node) outcome
     → (left : Left) × Sent Meant (λ operation. Issuing messages k operation left) outcome × LeftSo messages node left

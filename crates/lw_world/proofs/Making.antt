@@ -208,7 +208,7 @@ takes_act messages k now source slice bytes action same is r old new from takes 
     go (Ok t) takes unchanged silent =
         let so = taken_so messages k (ms_of now) source slice t new (subst (λ (n : NodeContent). Takes n (left_by k.operations) (ms_of now) source slice t new) from takes) in
         (so.0, so.1, so.2)
-    go (Err refused) takes unchanged silent = idle_so messages k new {A = ¬ IsSilent slice} (λ s. absurd (let f = silent s in cc)) (unchanged ∙ from)
+    go (Err refused) takes unchanged silent = idle_so {A = ¬ IsSilent slice} messages k new (λ s. absurd (let f = silent s in cc)) (unchanged ∙ from)
 
 pub observes_act : (messages : List Message) (k : Knowledge) (now : Moment) (id : Stamp) (path : Path) (accept : Option ℕ) (mid : ℕ) (action : Action) → action ≡ actions.Observe now id path accept mid
     → (r : Result OutgoingContent ObserveFault) (old new : NodeContent) → old ≡ node_of k
