@@ -3,3 +3,4 @@ pub mod Continue
 pub mod Back
 pub mod Claiming
 pub mod Refusing
+mod Crossing
