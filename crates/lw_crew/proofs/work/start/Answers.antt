@@ -23,11 +23,11 @@ spawn_with-requires-send-F g c κs within =
     let board : IsSend (shr_ref_field (record { mir = named 10; lft = κs.1.1.1.1.1.1.1.1.1.1.0 }) Board.the_row tt).row = search (board_whole, sendable) depth 20 in
     let worker : IsSend (u32-field).row = search sendable depth 20 in
     let captured = type_at (name-25 g.row.E g.row.R g.row.G g.E.laws g.R.laws g.G.laws g.R.Threads-dict g.R.Wait-dict g.G.Gate-dict) (of-24 g.row.E g.row.R g.row.G g.E.laws g.R.laws g.G.laws g.R.Threads-dict g.R.Wait-dict g.G.Gate-dict
-        (record { mir = named 6; lft = κs.1.1.1.1.1.1.0 })
-        (record { mir = named 7; lft = κs.1.1.1.1.1.1.1.0 })
-        (record { mir = named 8; lft = κs.1.1.1.1.1.1.1.1.0 })
-        (record { mir = named 9; lft = κs.1.1.1.1.1.1.1.1.1.0 })
-        (record { mir = named 10; lft = κs.1.1.1.1.1.1.1.1.1.1.0 })) in
+    (record { mir = named 6; lft = κs.1.1.1.1.1.1.0 })
+    (record { mir = named 7; lft = κs.1.1.1.1.1.1.1.0 })
+    (record { mir = named 8; lft = κs.1.1.1.1.1.1.1.1.0 })
+    (record { mir = named 9; lft = κs.1.1.1.1.1.1.1.1.1.0 })
+    (record { mir = named 10; lft = κs.1.1.1.1.1.1.1.1.1.1.0 })) in
     let all : AllSend (fields captured) = (rt, (gate, (shelves, (jobs, (board, (worker, (pass_whole, tt))))))) in
     let s : IsSend (row captured) = recorded_send (Struct (shape captured)) captured.D captured.to captured.to_one (struct_send (shape captured) all) in
     param_send 2 (arg-1-2 g.row.E g.row.R g.row.G g.E.laws g.R.laws g.G.laws g.R.Threads-dict g.R.Wait-dict g.G.Gate-dict κs) (arg_send _ no (row captured) s)
