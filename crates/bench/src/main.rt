@@ -5,6 +5,7 @@
 //! answered.
 #![tactic(auto)]
 
+mod copies;
 mod cost;
 mod deltas;
 mod events;

@@ -1,3 +1,4 @@
+use crate::copies::CopyCall;
 use crate::cost::{Cost, Costs};
 use crate::deltas::DeltaCall;
 use crate::exchange::ExchangeCall;
@@ -16,6 +17,7 @@ use std::time::CpuClock;
 #[derive(Clone, Copy)]
 pub(crate) enum Operation {
     Node(NodeCalls),
+    Copy(CopyCall),
     Exchange(ExchangeCall),
     Slot(SlotCall),
     Delta(DeltaCall),
@@ -28,7 +30,7 @@ pub(crate) enum Operation {
 const LONG_CALLS: u32 = 1000;
 
 /// What is measured and its name, in the order of the table.
-pub(crate) static ROWS: [(&str, Operation); 30] = [
+pub(crate) static ROWS: [(&str, Operation); 32] = [
     (
         "take of a new Register, names rising",
         Operation::Node(NodeCalls {
@@ -134,6 +136,14 @@ pub(crate) static ROWS: [(&str, Operation); 30] = [
         }),
     ),
     (
+        "Node::copy, each endpoint",
+        Operation::Copy(CopyCall::Copy),
+    ),
+    (
+        "Node::same, each endpoint",
+        Operation::Copy(CopyCall::Same),
+    ),
+    (
         "delta_since, each of 32 slots that changed",
         Operation::Exchange(ExchangeCall::DeltaSince),
     ),
@@ -201,6 +211,7 @@ impl Operation {
     ) -> Result<Cost, BenchFault> {
         match self {
             Operation::Node(call) => call.round(clock, alloc, count),
+            Operation::Copy(call) => call.round(clock, alloc, count),
             Operation::Exchange(call) => call.round(clock, alloc, count),
             Operation::Slot(call) => call.round(clock, alloc, count),
             Operation::Delta(call) => call.round(clock, alloc, count),

@@ -1,5 +1,5 @@
 -- The command line of the program, in the words of `clap`: the command `one` with its three options, `replay`, and
--- `serve` with its four.
+-- `serve` with its five.
 use Rattle.std.specs.Prelude.{◌≡◌, ◌⊎◌, ◌<◌, ◌^◌, ℕ, List, [], ◌∷◌, Option, Some, None, option_map, codes, unwrap_or, true}
 use Rattle.std.specs.Str.Parse.{IsNumeral, digits_value}
 use Rattle.clap.specs.Kinds.{IsAmong, Kinds, or_else}
@@ -33,13 +33,15 @@ with_version app = record app { top = record app.top { has_version = true } }
 unfoldable pub replay_app : App
 replay_app = new_app (codes "replay")
 
--- `serve` with the options `--count`, `--port`, `--nodes` and `--workers`
+-- `serve` with the options `--count`, `--port`, `--nodes`, `--workers` and `--cut`
 unfoldable pub serve_app : App
 serve_app = with_rule
     (with_rule
+    (with_rule
     (with_rule (with_rule (new_app (codes "serve")) (needed_option (codes "count"))) (long_option (codes "port")))
     (long_option (codes "nodes")))
-    (long_option (codes "workers"))
+    (long_option (codes "workers")))
+    (long_option (codes "cut"))
 
 unfoldable pub fleet_app : App
 fleet_app = with_subcommand
@@ -66,14 +68,21 @@ pub record IsGiven (rows : List Row) (options : OneOptions) : Type 0 where
   pub now : Writes (given (codes "now") (codes "0") rows) (ms_of options.now)
   pub from : options.from.now ≡ given (codes "from") (codes "127.0.0.1:5683") rows
 
--- The options are those that were given: the port 5683, two nodes and two workers where they were not. A plan is within
--- its ranges.
+-- the number is the one that was given, and there is none where none was
+abbrev pub WritesIfGiven : Option Text → Option ℕ → Type 0
+WritesIfGiven None number = number ≡ None
+WritesIfGiven (Some text) None = ⊥
+WritesIfGiven (Some text) (Some number) = Writes text number
+
+-- The options are those that were given: the port 5683, two nodes and two workers where they were not, and no journal is
+-- cut. A plan is within its ranges.
 pub record IsGivenToServe (rows : List Row) (options : ServeOptions) : Type 0 where
   pub count : Writes (given (codes "count") [] rows) options.plan.count
   pub port : Writes (given (codes "port") (codes "5683") rows) options.port
   pub port_fits : options.port < 2 ^ 16
   pub nodes : Writes (given (codes "nodes") (codes "2") rows) options.plan.nodes
   pub workers : Writes (given (codes "workers") (codes "2") rows) options.plan.workers
+  pub cut : WritesIfGiven (first_of (codes "cut") rows) options.plan.cut
 
 -- the command has the name
 abbrev pub Names : Text → Option (Text × List Row) → Type 0

@@ -1,10 +1,11 @@
-ghost use Rattle.std.specs.Prelude.{◌≡◌, ◌≢◌, ◌⊎◌, ◌↔◌, ◌<◌, ◌≤◌, ◌^◌, [], Some, IfOk, OnOk, IfErr, OnErr, IfSome, IfNone, map, IsTrue, true, false};
-ghost use Rattle.std.specs.Option.{SomeIff};
+ghost use Rattle.std.specs.Prelude.{◌≡◌, ◌≢◌, ◌⊎◌, ◌↔◌, ◌<◌, ◌≤◌, ◌^◌, ℕ, [], Option, Some, codes, IfOk, OnOk, IfErr, OnErr, IfSome, IfNone, map, IsTrue, true, false};
+ghost use Rattle.std.specs.Option.{SomeIff, option_copied};
 ghost use Rattle.std.specs.Str.Parse.{IsNumeral, digits_value};
 ghost use Rattle.clap.specs.declared.builder.texts.Texts.TheVariants.{One};
-ghost use Rattle.clap.specs.Words.{app_of, rule_of, kind_of, fault_of, subcommand_of, subcommand_rows_of, HasKind};
+ghost use Rattle.clap.specs.Words.{app_of, first_of, rule_of, kind_of, fault_of, subcommand_of, subcommand_rows_of, HasKind};
 ghost use Rattle.clap.specs.declared.builder.command.Command.TheViews.{out-Command as fields_of};
-ghost use Rattle.lw_fleet.specs.CommandLine.{fleet_app, one_app, replay_app, serve_app, given, kinds_of_words, long_option, needed_option as needed, option_rows, IsAsked, IsGiven, IsGivenToServe, Names, Writes};
+ghost use Rattle.lw_fleet.specs.CommandLine.{fleet_app, one_app, replay_app, serve_app, given, kinds_of_words, long_option, needed_option as needed, option_rows, IsAsked, IsGiven, IsGivenToServe, Names, Writes, WritesIfGiven};
+ghost use Rattle.lw_serve.specs.Plan.{IsCut};
 ghost use Rattle.lw_stamp.specs.Moment.{ms_of};
 ghost use Rattle.lw_stamp.specs.declared.moment.Moment.{Moment as Moments};
 ghost use Rattle.lw_fleet.specs.declared.command.OneOptions.{OneOptions as Options};
@@ -40,7 +41,7 @@ pub struct OneOptions<'a> {
 /// The options of `fleet serve`.
 #[derive(Clone, Copy, Debug, PartialEq, Eq)]
 pub struct ServeOptions {
-    /// How many datagrams are served, by how many nodes and workers.
+    /// How many datagrams are served, by how many nodes and workers, and after how many rounds journals are cut.
     pub plan: Plan,
     /// The UDP port, of 127.0.0.1.
     pub port: u16,
@@ -58,6 +59,7 @@ enum BadNumber {
     Port,
     Nodes,
     Workers,
+    Cut,
 }
 
 impl BadNumber {
@@ -71,6 +73,7 @@ impl BadNumber {
             BadNumber::Port => "'--port <P>' takes a number from 0 to 65535, in digits alone",
             BadNumber::Nodes => "'--nodes <N>' takes a number from 1 to 16, in digits alone",
             BadNumber::Workers => "'--workers <W>' takes a number from 1 to 8, in digits alone",
+            BadNumber::Cut => "'--cut <C>' takes a number from 1 to 1000000, in digits alone",
         }
     }
 
@@ -184,7 +187,13 @@ fn serve_command<'a>(alloc: Global) -> Result<Command<'a>, AllocError>
             "N",
             "Nodes, which share the clients by their ports, 1 to 16 [default: 2]",
         ))?
-        .arg(option(alloc, "workers", "W", "Worker threads, 1 to 8 [default: 2]"))
+        .arg(option(alloc, "workers", "W", "Worker threads, 1 to 8 [default: 2]"))?
+        .arg(option(
+            alloc,
+            "cut",
+            "C",
+            "Rounds after which the journals are cut, 1 to 1000000 [default: never]",
+        ))
 }
 
 /// An option that has to be given.
@@ -265,19 +274,39 @@ fn serve_options_in(matches: &ArgMatches<'_>) -> Result<ServeOptions, BadNumber>
     let Some(workers) = number_within(text_of(matches, "workers", "2"), 1, 8) else {
         return Err(BadNumber::Workers);
     };
-    match Plan::new(count as u32, nodes as u16, workers as u32) {
+    let cut = cut_in(matches)?;
+    match Plan::new(count as u32, nodes as u16, workers as u32, cut) {
         Some(plan) => Ok(ServeOptions { plan, port }),
         None => Err(BadNumber::Count),
     }
 }
 
+/// After how many rounds the journals are cut, if that is given.
+fn cut_in(matches: &ArgMatches<'_>) -> Result<Option<u32>, BadNumber>
+    ensures given { IfOk result (λ cut. WritesIfGiven (first_of (codes "cut") (option_rows (subcommand_rows_of matches.now))) cut × IsCut cut) }
+    ensures none { OnErr result ((cut : Option ℕ) → IsCut cut → ¬ WritesIfGiven (first_of (codes "cut") (option_rows (subcommand_rows_of matches.now))) cut) }
+{
+    let Some(text) = given_text(matches, "cut") else {
+        return Ok(None);
+    };
+    match number_within(text, 1, 1_000_000) {
+        Some(rounds) => Ok(Some(rounds as u32)),
+        None => Err(BadNumber::Cut),
+    }
+}
+
+/// The text that is given for the option, if one is.
+fn given_text<'a>(matches: &ArgMatches<'a>, option: &str) -> Option<&'a str>
+    ensures { option_copied result ≡ first_of option.now (option_rows (subcommand_rows_of matches.now)) }
+{
+    let (_, options) = matches.subcommand()?;
+    options.get_str(option)
+}
+
 fn text_of<'a>(matches: &ArgMatches<'a>, option: &str, default: &'a str) -> &'a str
     ensures { result.now ≡ given option.now default.entry.now (option_rows (subcommand_rows_of matches.now)) }
 {
-    match matches.subcommand() {
-        Some((_, options)) => options.get_str(option).unwrap_or(default),
-        None => default,
-    }
+    given_text(matches, option).unwrap_or(default)
 }
 
 /// The number that the digits write, if it is one of these.

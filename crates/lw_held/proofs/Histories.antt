@@ -1,4 +1,4 @@
--- A history that is longer by one entry.
+-- Histories that go on.
 use Rattle.std.proofs.Common.{◌≡◌, ℕ, List, [], ◌∷◌, ◌++◌, Option, Some, None, Result, Ok, Err, refl, sym, ap, ◌∙◌, subst}
 use Rattle.lw_reg.specs.declared.op.Op.{Op}
 use Rattle.lw_call.specs.declared.call.Call.{Call}
@@ -6,12 +6,13 @@ use Rattle.lw_call.specs.declared.merge_fault.MergeFault.{MergeFault}
 use Rattle.lw_call.specs.declared.merge_fault.MergeFault.TheVariants as merge_faults
 use Rattle.lw_call.specs.declared.reply.Reply.{Reply}
 use Rattle.lw_node.specs.Exchange.{Merges}
-use Rattle.lw_node.specs.Node.{NodeContent, fresh, marks_in, IsAfter}
+use Rattle.lw_node.specs.Node.{NodeContent, marks_in, IsAfter}
 use Rattle.lw_node.specs.Node.Known.{Shown}
 use Rattle.lw_node.specs.Steps.{at_node, Steps}
 use Rattle.lw_reg.specs.Marks.{Marks}
 use Rattle.lw_held.specs.declared.entry.Entry.{Entry}
-use Rattle.lw_held.specs.History.{IsStep, Leads, IsLegal}
+use Rattle.lw_held.specs.History.{IsStep, Leads}
+use Rattle.lw_held.specs.Laws.{HistoriesFollow}
 use Rattle.lw_held.proofs.Carrying.{carried}
 
 -- ---- a step keeps the number
@@ -34,18 +35,25 @@ module _ (old new : NodeContent) where
 pub step_number : (old : NodeContent) (call : Call) (reply : Reply) (new : NodeContent) → IsStep old call reply new → new.number ≡ old.number
 step_number old call reply new step = number_steps old new (marks_in old.table.state Shown) call reply (step Shown tt)
 
+pub leads_number : (old : NodeContent) (entries : List Entry) (new : NodeContent) → Leads old entries new → new.number ≡ old.number
+leads_number old [] new leads = ap (λ (n : NodeContent). n.number) leads
+leads_number old (entry ∷ entries) new leads = leads_number leads.0 entries new leads.2 ∙ step_number old entry.call entry.reply leads.0 leads.1
+
+-- ---- one after another
+pub follow : HistoriesFollow
+follow first mid last [] later before after = subst (λ (n : NodeContent). Leads n later last) before after
+follow first mid last (entry ∷ earlier) later before after = (before.0, before.1, follow before.0 mid last earlier later before.2 after)
+
 -- ---- one entry more
 pub leads_push : (old : NodeContent) (entries : List Entry) (mid : NodeContent) (entry : Entry) (new : NodeContent) → Leads old entries mid → IsStep mid entry.call entry.reply new → Leads old (entries ++ entry ∷ []) new
 leads_push old [] mid entry new leads step = (new, subst (λ (n : NodeContent). IsStep n entry.call entry.reply new) leads step, refl)
 leads_push old (x ∷ entries) mid entry new leads step = (leads.0, leads.1, leads_push leads.0 entries mid entry new leads.2 step)
 
 -- the journal before, the room for one more, and the journal with the entry of the copied call
-pub legal_longer : (old new : NodeContent) (journal room longer : List Entry) (pass number : ℕ) (call copy : Call) (reply : Reply) → IsLegal (record { node = old; journal = journal }) → IsStep old call reply new → copy ≡ call → room ≡ journal
-    → longer ≡ room ++ record { pass = pass; number = number; call = copy; reply = reply } ∷ [] → IsLegal (record { node = new; journal = longer })
-legal_longer old new journal room longer pass number call copy reply legal step same kept pushed =
+pub legal_longer : (opening old new : NodeContent) (journal room longer : List Entry) (pass number : ℕ) (call copy : Call) (reply : Reply) → Leads opening journal old → IsStep old call reply new → copy ≡ call → room ≡ journal
+    → longer ≡ room ++ record { pass = pass; number = number; call = copy; reply = reply } ∷ [] → Leads opening longer new
+legal_longer opening old new journal room longer pass number call copy reply legal step same kept pushed =
     let entry : Entry = record { pass = pass; number = number; call = copy; reply = reply } in
     let own : IsStep old copy reply new = subst (λ c. IsStep old c reply new) (sym same) step in
-    let long : Leads (fresh old.number) (journal ++ entry ∷ []) new = leads_push (fresh old.number) journal old entry new legal own in
-    let moved : Leads (fresh new.number) (journal ++ entry ∷ []) new = subst (λ n. Leads (fresh n) (journal ++ entry ∷ []) new) (sym (step_number old copy reply new own)) long in
     let is : longer ≡ journal ++ entry ∷ [] = pushed ∙ ap (λ (es : List Entry). es ++ entry ∷ []) kept in
-    subst (λ es. Leads (fresh new.number) es new) (sym is) moved
+    subst (λ es. Leads opening es new) (sym is) (leads_push opening journal old entry new legal own)

@@ -33,6 +33,7 @@ use Rattle.lw_held.specs.declared.entry.Entry.{Entry}
 use Rattle.lw_held.specs.History.{Leads}
 use Rattle.lw_held.proofs.Carrying.{carried}
 use Rattle.lw_held.proofs.Marking.{histories_are_of_marks}
+use Rattle.lw_held.specs.Marked.{unmarked}
 use Rattle.lw_held.specs.Joint.{Turn, entries_of, AreOfRun, with_delta, IsPassedOn, ArePassedOn, IsToldAs, AreToldAs, JointHistoriesRun}
 
 -- ---- one turn
@@ -274,6 +275,6 @@ joint_histories_run count turns last joint =
     let run = goes count last turns (begun count) [] joint.of_run joint.passed_on (record {
       sound = λ m there. none_there m there;
       are = refl;
-      stands = λ number low high. begun_stands count turns last number low high ((histories_are_of_marks number (entries_of number turns) (last number)).1 (joint.legal number low high));
+      stands = λ number low high. begun_stands count turns last number low high ((histories_are_of_marks (unmarked number) (entries_of number turns) (last number) (λ e r k h. none_there (record { endpoint = e; registration = r; trace = k }) h)).1 (joint.legal number low high));
     }) in
     record { events = run.events; outcomes = run.outcomes; told = run.told; history = run.history; runs = run.runs; ends = run.ends }

@@ -1,15 +1,15 @@
 -- Lists that are longer by one, and what is known of a call under a lock.
 use Rattle.std.proofs.Common.{◌≡◌, ℕ, zero, suc, ◌+◌, List, [], ◌∷◌, ◌++◌, length, Option, Some, None, Result, Ok, Err, refl, sym, ap, ◌∙◌, subst, inl, inr, ◌⊎◌}
-use Rattle.std.specs.Prelude.{slice_get, IfErr, IfOk, OnOk}
+use Rattle.std.specs.Prelude.{slice_get, ◌≢◌, IfErr, IfOk, IfSome, IsSomeAnd, OnOk}
 use Rattle.lw_stamp.specs.declared.no_memory.NoMemory.{NoMemory}
 use Rattle.lw_call.specs.declared.call.Call.{Call}
-use Rattle.lw_node.specs.Node.{fresh}
 use Rattle.lw_held.specs.declared.entry.Entry.{Entry}
 use Rattle.lw_held.specs.declared.entry.Part.{Part}
 use Rattle.lw_held.specs.declared.shelf.Shelf.{Shelf}
 use Rattle.lw_held.specs.Agree.{Agrees, Fails, IsSettled}
-use Rattle.lw_held.specs.History.{HeldContent, Leads, IsLegal, Enters}
-use Rattle.lw_held.specs.Shelves.{AreInOrder, AreNew, FailsAt, IsAnswered}
+use Rattle.lw_held.specs.History.{HeldContent, VolumeContent, IsLegal, IsVolume, Enters, Cuts}
+use Rattle.lw_held.proofs.Laying.{one_history}
+use Rattle.lw_held.specs.Shelves.{AreInOrder, AreNew, FailsAt, IsAnswered, IsCutOff}
 use Rattle.lw_held.specs.Transcript.{Transcript, IsNumbered}
 
 -- what lies at a place was there before, or is the new one
@@ -50,12 +50,19 @@ pub answered : (r : Result ℕ NoMemory) (pass number : ℕ) (call : Call) (old 
 answered (Ok place) pass number call old new Q legal entered = (entered.0, (old, new, legal, entered.1), entered.2)
 answered (Err refused) pass number call old new Q legal entered = tt
 
--- a journal that agrees is the history that is settled
-pub settles : {T E : Type 0} (r : Result T E) (node : ℕ) (held : HeldContent) (passes : List Transcript) → IsLegal held → OnOk r (Agrees node held passes) → OnOk r (IsSettled node passes)
-settles (Ok t) node held passes legal agrees = record { journal = held.journal; last = held.node; legal = subst (λ n. Leads (fresh n) held.journal held.node) agrees.0 legal; fine = agrees.1 }
-settles (Err e) node held passes legal agrees = tt
+-- a journal that agrees is, behind its volumes, the history that is settled
+pub settles : {T E : Type 0} (r : Result T E) (node : ℕ) (volumes : List VolumeContent) (held : HeldContent) (passes : List Transcript) → ((i : ℕ) (volume : VolumeContent) → slice_get volumes i ≡ Some volume → IsVolume volume) → IsLegal held
+    → OnOk r (Agrees node volumes held passes) → OnOk r (IsSettled node passes)
+settles (Ok t) node volumes held passes volumes_legal legal agrees = one_history node volumes held passes agrees.1 volumes_legal legal
+settles (Err e) node volumes held passes volumes_legal legal agrees = tt
 
 -- a journal that fails is a legal history that fails
-pub fails_at : {T : Type 0} (r : Result T ℕ) (node : ℕ) (held : HeldContent) (passes : List Transcript) → IsLegal held → IfErr r (λ place. Fails node held passes place) → IfErr r (λ place. FailsAt node passes place)
-fails_at (Ok t) node held passes legal fails = tt
-fails_at (Err place) node held passes legal fails = (held, legal, fails)
+pub fails_at : {T : Type 0} (r : Result T ℕ) (node : ℕ) (volumes : List VolumeContent) (held : HeldContent) (passes : List Transcript) → IsLegal held → IfErr r (λ place. Fails node volumes held passes place) → IfErr r (λ place. FailsAt node volumes passes place)
+fails_at (Ok t) node volumes held passes legal fails = tt
+fails_at (Err place) node volumes held passes legal fails = (held, legal, fails)
+
+-- what was cut off is that of a node with a legal history
+pub cut_off : {E : Type 0} (r : Result (Option VolumeContent) E) (old new : HeldContent) → IsLegal old → (old.journal ≡ [] → r ≡ Ok None) → (old.journal ≢ [] → IfOk r (λ volume. IsSomeAnd volume (λ v. Cuts old v new))) → IfOk r (λ cut. IfSome cut IsCutOff)
+cut_off (Err e) old new legal none cut = tt
+cut_off (Ok None) old new legal none cut = tt
+cut_off (Ok (Some volume)) old new legal none cut = (old, new, legal, cut (λ empty. let bad : ◌≡◌ {A = Result (Option VolumeContent) _} (Ok (Some volume)) (Ok None) = none empty in cc))

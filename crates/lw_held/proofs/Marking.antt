@@ -6,7 +6,7 @@ use Rattle.lw_reg.specs.declared.slot.Slot.{Slot}
 use Rattle.lw_reg.specs.Marks.{Mark, NamesAll, among, marks_of, traces_of}
 use Rattle.lw_reg.specs.Marks.Trace.{Named}
 use Rattle.lw_reg.specs.State.{state_join, state_of, IsStateOf}
-use Rattle.lw_reg.proofs.Members.{none_there, first_there}
+use Rattle.lw_reg.proofs.Members.{first_there}
 use Rattle.lw_reg.proofs.Operations.{append_names}
 use Rattle.lw_reg.proofs.States.{state_least}
 use Rattle.lw_table.specs.Changes.{Recounts}
@@ -16,15 +16,15 @@ use Rattle.lw_call.specs.declared.merge_fault.MergeFault.TheVariants.{Malformed,
 use Rattle.lw_call.specs.declared.reply.Reply.{Reply}
 use Rattle.lw_node.specs.Exchange.{Merged}
 use Rattle.lw_node.specs.Exchange.{Merges as NodeMerges}
-use Rattle.lw_node.specs.Node.{NodeContent, IsAfter, fresh}
+use Rattle.lw_node.specs.Node.{NodeContent, IsAfter}
 use Rattle.lw_node.specs.Node.Known.{Told}
 use Rattle.lw_node.specs.Steps.{at_node}
 use Rattle.lw_node.specs.Steps.{Steps as NodeSteps}
 use Rattle.lw_held.specs.declared.entry.Entry.{Entry}
 use Rattle.lw_held.specs.History.{Leads}
-use Rattle.lw_held.specs.Marked.{Marked, unmarked, node_of, Adds, AddsOr, Brings, Merges, Steps, MarksLead, HistoriesAreOfMarks}
+use Rattle.lw_held.specs.Marked.{Marked, node_of, Adds, AddsOr, Brings, Merges, Steps, MarksLead, HistoriesAreOfMarks}
 use Rattle.lw_held.proofs.Carrying.{carried}
-use Rattle.lw_held.proofs.Stepping.{legal_of_marks}
+use Rattle.lw_held.proofs.Stepping.{marks_lead}
 use Rattle.lw_node.proofs.Shown.{about_names, marks_shown, shown_names, shown_state, state_append, are_shown}
 
 -- what is known after a step, of the node that it left
@@ -90,7 +90,7 @@ lead (entry ∷ entries) old names start node same leads =
     (rest.0, (so.0.known, so.1, rest.1), rest.2)
 
 pub histories_are_of_marks : HistoriesAreOfMarks
-histories_are_of_marks number entries node = (
-  λ leads. lead entries (unmarked number) (λ e r k h. none_there (record { endpoint = e; registration = r; trace = k }) h) _ node refl leads,
-  λ h. subst (Leads (fresh number) entries) (sym h.2) (legal_of_marks number entries h.0 h.1),
+histories_are_of_marks opening entries node names = (
+  λ leads. lead entries opening names _ node refl leads,
+  λ h. subst (Leads (node_of opening) entries) (sym h.2) (marks_lead entries opening names h.0 h.1),
 )

@@ -11,7 +11,7 @@ use Rattle.lw_reg.specs.Marks.{Mark, Marks, NamesAll, among, marks_of, traces_of
 use Rattle.lw_reg.specs.Marks.Trace.{Named}
 use Rattle.lw_reg.specs.Reading.{shown_in}
 use Rattle.lw_reg.specs.State.{state_join, state_of, IsStateOf}
-use Rattle.lw_reg.proofs.Members.{first_there, none_there}
+use Rattle.lw_reg.proofs.Members.{first_there}
 use Rattle.lw_reg.proofs.Operations.{append_names}
 use Rattle.lw_reg.proofs.Same.{members_decide, state_self, state_names}
 use Rattle.lw_reg.proofs.States.{state_least}
@@ -30,14 +30,14 @@ use Rattle.lw_node.specs.Calls.{Sent, Swept, place_at}
 use Rattle.lw_node.specs.Effects.{Place, Request, Refused, ObserveMeans, CancelMeans, SweepMeans}
 use Rattle.lw_node.specs.Exchange.{Merged, AreShown, state_in}
 use Rattle.lw_node.specs.Exchange.{Merges as NodeMerges}
-use Rattle.lw_node.specs.Node.{NodeContent, IsAfter, fresh}
+use Rattle.lw_node.specs.Node.{NodeContent, IsAfter}
 use Rattle.lw_node.specs.Node.Known.{Shown, Told}
 use Rattle.lw_node.specs.Steps.{Steps as NodeSteps}
 use Rattle.lw_world.proofs.Deciding.{Agree, told_agree, id_along, token_along, answers_along}
 use Rattle.lw_world.proofs.Freshness.{datagram_along, sweep_along}
 use Rattle.lw_held.specs.declared.entry.Entry.{Entry}
 use Rattle.lw_held.specs.History.{IsStep, Leads}
-use Rattle.lw_held.specs.Marked.{Marked, unmarked, node_of, Adds, AddsOr, Brings, Merges, at_marked, Steps, MarksLead}
+use Rattle.lw_held.specs.Marked.{Marked, node_of, Adds, AddsOr, Brings, Merges, at_marked, Steps, MarksLead}
 use Rattle.lw_held.proofs.Carrying.{carried}
 use Rattle.lw_node.proofs.Shown.{about_names, marks_shown, shown_names, shown_state, state_append, are_shown}
 
@@ -135,12 +135,9 @@ module _ (old : Marked) (names : NamesAll (among old.marks)) (new : Marked) wher
   stepped = carried (at_marked old new) (λ named operation. IsAfter (node_of old) operation (node_of new)) (λ named bytes outcome. NodeMerges (node_of old) bytes outcome (node_of new)) after merges
 
 -- ---- a history
-marks_lead : (entries : List Entry) (old : Marked) → NamesAll (among old.marks) → (new : Marked) → MarksLead old entries new → Leads (node_of old) entries (node_of new)
+pub marks_lead : (entries : List Entry) (old : Marked) → NamesAll (among old.marks) → (new : Marked) → MarksLead old entries new → Leads (node_of old) entries (node_of new)
 marks_lead [] old names new leads = ap node_of leads
 marks_lead (entry ∷ entries) old names new leads =
     let mid = leads.0 in
     let s = stepped old names mid entry.call entry.reply leads.1 in
     (node_of mid, every_step old.marks names (node_of old) (state_least old.marks) entry.call entry.reply (node_of mid) s.1, marks_lead entries mid s.0 new leads.2)
-
-pub legal_of_marks : (number : ℕ) (entries : List Entry) (known : Marked) → MarksLead (unmarked number) entries known → Leads (fresh number) entries (node_of known)
-legal_of_marks number entries known = marks_lead entries (unmarked number) (λ e r k h. none_there (record { endpoint = e; registration = r; trace = k }) h) known

@@ -3,20 +3,21 @@ use Rattle.std.specs.Prelude.{◌≡◌, ◌⊎◌, ℕ, ◌<◌, ◌≤◌, Lis
 use Rattle.lw_held.specs.declared.entry.Entry.{Entry}
 use Rattle.lw_held.specs.declared.entry.Part.{Part}
 use Rattle.lw_held.specs.declared.agreeing.Look.{Look}
-use Rattle.lw_held.specs.Agree.{IsOf, IsInOrder, IsFirstBreak}
+use Rattle.lw_held.specs.Agree.{IsOf, IsInOrder, IsFirstBreak, IsEntryAt, IsPiece, IsVolumeOf, Covers, IsLaid, end_of}
+use Rattle.lw_held.specs.History.{HeldContent, VolumeContent}
 use Rattle.lw_held.specs.Transcript.{Transcript}
 
--- the journal's entry at the part's place is that of the part
-abbrev pub IsThere : List Entry → Part → Type 0
-IsThere journal part = slice_get journal part.place ≡ Some part.entry
+-- a piece of the node's entries has that of the part at its place
+abbrev pub IsThere : ℕ → List VolumeContent → HeldContent → Part → Type 0
+IsThere node volumes held part = (w : Option ℕ) × (piece : VolumeContent) × IsPiece node volumes held w piece × IsEntryAt piece.first piece.entries part.place part.entry
 
--- part k is in the journal, and behind the parts before it
-abbrev pub Fits : ℕ → List Entry → List Part → ℕ → Part → Type 0
-Fits node journal parts k part = IsThere journal part × IsInOrder node parts k part.place
+-- part k is in a piece, and behind the parts before it
+abbrev pub Fits : ℕ → List VolumeContent → HeldContent → List Part → ℕ → Part → Type 0
+Fits node volumes held parts k part = IsThere node volumes held part × IsInOrder node parts k part.place
 
 -- of the first n parts, those for the node and place fit
-abbrev pub FitBelow : ℕ → List Entry → List Part → ℕ → ℕ → Type 0
-FitBelow node journal parts n place = (k : ℕ) (part : Part) → k < n → slice_get parts k ≡ Some part → IsOf node place part → Fits node journal parts k part
+abbrev pub FitBelow : ℕ → List VolumeContent → HeldContent → List Part → ℕ → ℕ → Type 0
+FitBelow node volumes held parts n place = (k : ℕ) (part : Part) → k < n → slice_get parts k ≡ Some part → IsOf node place part → Fits node volumes held parts k part
 
 -- the place is above the greatest one so far
 abbrev pub IsAfter : Option ℕ → ℕ → Type 0
@@ -42,17 +43,17 @@ greater_of None place = Some place
 greater_of (Some before) place = Some (max before place)
 
 -- the least place at which one of the first n parts does not fit, and the greatest place of them
-pub record Knows (node : ℕ) (journal : List Entry) (parts : List Part) (n : ℕ) (look : Look) : Type 0 where
-  pub least : IsFirstBreak (FitBelow node journal parts n) look.least
+pub record Knows (node : ℕ) (volumes : List VolumeContent) (held : HeldContent) (parts : List Part) (n : ℕ) (look : Look) : Type 0 where
+  pub least : IsFirstBreak (FitBelow node volumes held parts n) look.least
   pub last : IsLast node parts n look.last
 
 -- what one more part adds: nothing where it is for another node; else its place, also as one that fails where it does
 -- not fit
-abbrev pub Looks : ℕ → List Entry → Part → Look → Look → Type 0
-Looks node journal part old new =
+abbrev pub Looks : ℕ → List VolumeContent → HeldContent → Part → Look → Look → Type 0
+Looks node volumes held part old new =
     ((¬ (part.node ≡ node)) × (new ≡ old))
-    ⊎ (((part.node ≡ node) × IsThere journal part × IsAfter old.last part.place × (new ≡ record { least = old.least; last = greater_of old.last part.place }))
-    ⊎ ((part.node ≡ node) × (¬ (IsThere journal part × IsAfter old.last part.place)) × (new ≡ record { least = lesser_of old.least (Some part.place); last = greater_of old.last part.place })))
+    ⊎ (((part.node ≡ node) × IsThere node volumes held part × IsAfter old.last part.place × (new ≡ record { least = old.least; last = greater_of old.last part.place }))
+    ⊎ ((part.node ≡ node) × (¬ (IsThere node volumes held part × IsAfter old.last part.place)) × (new ≡ record { least = lesser_of old.least (Some part.place); last = greater_of old.last part.place })))
 
 -- the entry is of the pass, and the part of its number is for that node and place
 abbrev pub Has : ℕ → ℕ → Entry → Transcript → Type 0
@@ -62,10 +63,42 @@ Has node place entry pass = (pass.number ≡ entry.pass) × (part : Part) × (sl
 abbrev pub HasBelow : ℕ → ℕ → Entry → List Transcript → ℕ → Type 0
 HasBelow node place entry passes n = (i : ℕ) × (pass : Transcript) × (i < n) × (slice_get passes i ≡ Some pass) × Has node place entry pass
 
--- the pass of the journal's entry at the place has a part for it
-abbrev pub IsTold : ℕ → List Entry → List Transcript → ℕ → Type 0
-IsTold node journal passes place = (entry : Entry) → slice_get journal place ≡ Some entry → HasBelow node place entry passes (length passes)
+-- the pass of the entry for the place has a part for it
+abbrev pub IsTold : ℕ → ℕ → List Entry → List Transcript → ℕ → Type 0
+IsTold node first entries passes place = (entry : Entry) → IsEntryAt first entries place entry → HasBelow node place entry passes (length passes)
+
+-- the journal, or one of the first n volumes, if it is of the node
+abbrev pub IsPieceBelow : ℕ → List VolumeContent → HeldContent → ℕ → Option ℕ → VolumeContent → Type 0
+IsPieceBelow node volumes held n None piece = IsPiece node volumes held None piece
+IsPieceBelow node volumes held n (Some i) piece = (i < n) × IsVolumeOf node volumes i piece
+
+-- so it is in each of these pieces
+abbrev pub AllToldBelow : ℕ → List VolumeContent → HeldContent → List Transcript → ℕ → ℕ → Type 0
+AllToldBelow node volumes held passes n place = (w : Option ℕ) (piece : VolumeContent) → IsPieceBelow node volumes held n w piece → IsTold node piece.first piece.entries passes place
 
 -- the parts of the first n passes for the node and place fit
-abbrev pub AllFitBelow : ℕ → List Entry → List Transcript → ℕ → ℕ → Type 0
-AllFitBelow node journal passes n place = (i : ℕ) (pass : Transcript) → i < n → slice_get passes i ≡ Some pass → FitBelow node journal pass.parts (length pass.parts) place
+abbrev pub AllFitBelow : ℕ → List VolumeContent → HeldContent → List Transcript → ℕ → ℕ → Type 0
+AllFitBelow node volumes held passes n place = (i : ℕ) (pass : Transcript) → i < n → slice_get passes i ≡ Some pass → FitBelow node volumes held pass.parts (length pass.parts) place
+
+-- ---- how the pieces are laid
+-- the first volume of the node that has the place, of those from this one on; where none is found, none has
+abbrev pub IsFirstFrom : ℕ → List VolumeContent → ℕ → ℕ → Option ℕ → Type 0
+IsFirstFrom node volumes place start None = (j : ℕ) (volume : VolumeContent) → start ≤ j → IsVolumeOf node volumes j volume → Covers volume place → ⊥
+IsFirstFrom node volumes place start (Some i) =
+    (start ≤ i) × ((volume : VolumeContent) × IsVolumeOf node volumes i volume × Covers volume place)
+    × ((j : ℕ) (volume : VolumeContent) → start ≤ j → j < i → IsVolumeOf node volumes j volume → Covers volume place → ⊥)
+
+-- the volume is of the node, and begins or ends there
+abbrev pub IsEndOf : ℕ → VolumeContent → ℕ → Type 0
+IsEndOf node volume place = (volume.opening.number ≡ node) × ((place ≡ volume.first) ⊎ (place ≡ end_of volume))
+
+-- At such places the least that is not laid is found: at 0, at the journal's first, and where one of the first n volumes
+-- of the node begins or ends.
+abbrev pub IsTurn : ℕ → List VolumeContent → HeldContent → ℕ → ℕ → Type 0
+IsTurn node volumes held n place =
+    (place ≡ 0) ⊎ ((place ≡ held.first)
+    ⊎ ((i : ℕ) × (volume : VolumeContent) × (i < n) × (slice_get volumes i ≡ Some volume) × IsEndOf node volume place))
+
+-- it is laid, if it is such a place
+abbrev pub TurnIsLaid : ℕ → List VolumeContent → HeldContent → ℕ → ℕ → Type 0
+TurnIsLaid node volumes held n place = IsTurn node volumes held n place → IsLaid node volumes held place

@@ -1,10 +1,9 @@
--- Legal histories over clock and marks alone: before the first entry the clock is 0 and no mark is known, and each reply is
--- that of the clock and the marks which the entries before it left (Shapiro et al., Conflict-free Replicated Data Types,
--- 2011).
+-- Legal histories over clock and marks alone: each reply is that of the clock and the marks which the entries before it
+-- left, and what the first entry is made over is the opening's (Shapiro et al., Conflict-free Replicated Data Types, 2011).
 use Rattle.std.specs.Prelude.{◌≡◌, ◌↔◌, ℕ, ◌+◌, ◌<◌, max, List, [], ◌∷◌, ◌++◌, length, take, Option, Some, None, Result, Ok, Err}
 use Rattle.lw_reg.specs.declared.op.Op.{Op}
 use Rattle.lw_reg.specs.declared.slot.Slot.{Slot}
-use Rattle.lw_reg.specs.Marks.{Mark, among, marks_of}
+use Rattle.lw_reg.specs.Marks.{Mark, NamesAll, among, marks_of}
 use Rattle.lw_reg.specs.State.{state_of}
 use Rattle.lw_table.specs.Changes.{Count, Recounts}
 use Rattle.lw_table.specs.Table.{none_counted}
@@ -14,7 +13,7 @@ use Rattle.lw_call.specs.declared.merge_fault.MergeFault.{MergeFault}
 use Rattle.lw_call.specs.declared.merge_fault.MergeFault.TheVariants.{Malformed, NoMemory}
 use Rattle.lw_call.specs.declared.reply.Reply.{Reply}
 use Rattle.lw_node.specs.Exchange.{AreShown}
-use Rattle.lw_node.specs.Node.{NodeContent, fresh}
+use Rattle.lw_node.specs.Node.{NodeContent}
 use Rattle.lw_node.specs.Steps.{Context, StepsIn}
 use Rattle.lw_held.specs.declared.entry.Entry.{Entry}
 use Rattle.lw_held.specs.History.{Leads}
@@ -26,7 +25,7 @@ pub record Marked : Type 0 where
   pub marks : List Mark
   pub count : Count
 
--- before the first entry
+-- of a new node
 abbrev pub unmarked : ℕ → Marked
 unmarked number = record { number = number; clock = 0; marks = []; count = none_counted }
 
@@ -80,10 +79,17 @@ abbrev pub MarksLead : Marked → List Entry → Marked → Type 0
 MarksLead old [] new = new ≡ old
 MarksLead old (entry ∷ entries) new = (mid : Marked) × Steps old entry.call entry.reply mid × MarksLead mid entries new
 
--- the entries are a history of a new node over clock and marks alone, after which it knows just this
-abbrev pub IsHistory : ℕ → List Entry → NodeContent → Type 0
-IsHistory number entries node = (known : Marked) × MarksLead (unmarked number) entries known × (node ≡ node_of known)
+-- the entries are a history over clock and marks alone from an opening, after which the node knows just this
+abbrev pub IsHistoryFrom : Marked → List Entry → NodeContent → Type 0
+IsHistoryFrom opening entries node = (known : Marked) × MarksLead opening entries known × (node ≡ node_of known)
 
--- the legal histories are those over clock and marks alone
+-- the same of a new node
+abbrev pub IsHistory : ℕ → List Entry → NodeContent → Type 0
+IsHistory number entries node = IsHistoryFrom (unmarked number) entries node
+
+-- From an opening whose marks name each registration that they are about, the legal histories are those over clock and
+-- marks alone. An opening without marks is one.
 abbrev pub HistoriesAreOfMarks : Type 0
-HistoriesAreOfMarks = (number : ℕ) (entries : List Entry) (node : NodeContent) → Leads (fresh number) entries node ↔ IsHistory number entries node
+HistoriesAreOfMarks =
+    (opening : Marked) (entries : List Entry) (node : NodeContent) → NamesAll (among opening.marks)
+    → Leads (node_of opening) entries node ↔ IsHistoryFrom opening entries node

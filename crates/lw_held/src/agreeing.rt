@@ -1,17 +1,22 @@
-//! Whether the transcripts of passes are a journal, without memory.
+//! Whether the transcripts of passes are a journal and the volumes that were cut off it, without memory.
 //!
-//! Two walks find the least place that fails: one over the parts of each pass, which asks whether each is the journal's
-//! entry at its place and behind the parts before it, and one over the journal, which asks whether each entry's pass has
-//! a part for its place. Since a part's number is its place in its transcript, each question looks at one place, and a
-//! part is compared with an entry once.
+//! Three walks find the least place that fails: one over the parts of each pass, which asks whether each is the entry
+//! at its place and behind the parts before it; one over the entries of the journal and of each volume, which asks
+//! whether each entry's pass has a part for its place; and one over the volumes, which asks whether they are laid end
+//! to end. Since a part's number is its place in its transcript, each question of an entry looks at one place.
 
-ghost use Rattle.std.specs.Prelude.{◌≡◌, ◌↔◌, ℕ, length, Some, None, slice_get, IsTrue};
-ghost use Rattle.lw_held.specs.Agree.{IsOf, IsFirstBreak, AreDistinct, IsFine};
-ghost use Rattle.lw_held.specs.Looks.{IsThere, FitBelow, AllFitBelow, IsAfter, Looks, lesser_of, greater_of, HasBelow, IsTold};
+ghost use Rattle.std.specs.Prelude.{◌≡◌, ◌↔◌, ◌<◌, ◌^◌, ℕ, length, Some, None, slice_get, IsTrue};
+ghost use Rattle.lw_node.specs.Node.{fresh};
+ghost use Rattle.lw_held.specs.Agree.{IsEntryAt, IsOf, IsFirstBreak, AreDistinct, IsFineIn};
+ghost use Rattle.lw_held.specs.Looks.{IsThere, FitBelow, AllFitBelow, IsAfter, Looks, lesser_of, greater_of, HasBelow, IsTold, AllToldBelow};
 ghost use Rattle.lw_held.specs.Transcript.{Transcript, IsNumbered};
 
 use crate::entry::{Entry, Part};
+use crate::held::Held;
+use crate::laying::first_unlaid;
 use crate::pass::Pass;
+use crate::volume::Volume;
+use lw_node::Node;
 
 /// What is known after some parts: the least place of one that does not fit, and the greatest place.
 #[derive(Clone, Copy)]
@@ -20,37 +25,55 @@ pub(crate) struct Look {
     last: Option<u64>,
 }
 
-/// The least place that is not fine.
-pub(crate) fn first_failing(node: u16, journal: &[Entry], passes: &[Pass]) -> Option<u64>
-    requires { AreDistinct passes.now }
-    ensures { IsFirstBreak (IsFine node journal.now passes.now) result }
+/// The least place that is not fine. The last is a new node of the number.
+pub(crate) fn first_failing(
+    node: u16,
+    volumes: &[Volume],
+    held: &Held,
+    passes: &[Pass],
+    new: &Node,
+) -> Option<u64>
+    requires distinct { AreDistinct passes.now }
+    requires new { new.now ≡ fresh node }
+    ensures { IsFirstBreak (IsFineIn node volumes.now held.now passes.now) result }
 {
-    lesser(
-        first_stray_of_all(node, journal, passes),
-        first_untold(node, journal, passes),
-    )
+    let parts = lesser(
+        first_stray_of_all(node, volumes, held, passes),
+        first_untold_of_all(node, volumes, held, passes),
+    );
+    lesser(parts, first_unlaid(node, volumes, held, new))
 }
 
 /// The least place for the node at which a part of a pass does not fit.
-fn first_stray_of_all(node: u16, journal: &[Entry], passes: &[Pass]) -> Option<u64>
-    ensures least { IsFirstBreak (AllFitBelow node journal.now passes.now (length passes.now)) result }
+fn first_stray_of_all(
+    node: u16,
+    volumes: &[Volume],
+    held: &Held,
+    passes: &[Pass],
+) -> Option<u64>
+    ensures least { IsFirstBreak (AllFitBelow node volumes.now held.now passes.now (length passes.now)) result }
     ensures numbered { (i : ℕ) (pass : Transcript) → slice_get passes.now i ≡ Some pass → IsNumbered pass }
 {
     let mut least = None;
     for pass in passes {
         pass.lawful();
-        least = lesser(least, pass.first_stray(node, journal));
+        least = lesser(least, pass.first_stray(node, volumes, held));
     }
     least
 }
 
 /// The least place for the node at which a part does not fit.
-pub(crate) fn first_stray(node: u16, journal: &[Entry], parts: &[Part]) -> Option<u64>
-    ensures { IsFirstBreak (FitBelow node journal.now parts.now (length parts.now)) result }
+pub(crate) fn first_stray(
+    node: u16,
+    volumes: &[Volume],
+    held: &Held,
+    parts: &[Part],
+) -> Option<u64>
+    ensures { IsFirstBreak (FitBelow node volumes.now held.now parts.now (length parts.now)) result }
 {
     let mut look = nothing_seen();
     for part in parts {
-        look = looked_at(look, node, journal, part);
+        look = looked_at(look, node, volumes, held, part);
     }
     look.least
 }
@@ -64,14 +87,14 @@ fn nothing_seen() -> Look
     }
 }
 
-fn looked_at(old: Look, node: u16, journal: &[Entry], part: &Part) -> Look
-    ensures { Looks node journal.now part.now old result }
+fn looked_at(old: Look, node: u16, volumes: &[Volume], held: &Held, part: &Part) -> Look
+    ensures { Looks node volumes.now held.now part.now old result }
 {
     if part.node != node {
         return old;
     }
     let last = greater(old.last, part.place);
-    if is_there(journal, part) && is_after(old.last, part.place) {
+    if is_there(node, volumes, held, part) && is_after(old.last, part.place) {
         Look {
             least: old.least,
             last,
@@ -84,11 +107,43 @@ fn looked_at(old: Look, node: u16, journal: &[Entry], part: &Part) -> Look
     }
 }
 
-fn is_there(journal: &[Entry], part: &Part) -> bool
-    ensures { IsTrue result ↔ IsThere journal.now part.now }
+/// Whether the journal, or a volume of the node, has the part's entry at its place.
+fn is_there(node: u16, volumes: &[Volume], held: &Held, part: &Part) -> bool
+    ensures { IsTrue result ↔ IsThere node volumes.now held.now part.now }
 {
-    match journal.get(part.place as usize) {
-        Some(entry) => entry.same(&part.entry),
+    if has_entry(held.first(), held.journal(), part) {
+        return true;
+    }
+    for volume in volumes {
+        if is_in(node, volume, part) {
+            return true;
+        }
+    }
+    false
+}
+
+/// Whether the volume is of the node and has the part's entry at its place.
+fn is_in(node: u16, volume: &Volume, part: &Part) -> bool
+    ensures { IsTrue result ↔ ((volume.now.opening.number ≡ node) × IsEntryAt volume.now.first volume.now.entries part.now.place part.now.entry) }
+{
+    volume.node() == node && has_entry(volume.first(), volume.entries(), part)
+}
+
+/// Whether the part's entry stands at its place, where the first of the entries stands at this one.
+fn has_entry(first: u64, entries: &[Entry], part: &Part) -> bool
+    ensures { IsTrue result ↔ IsEntryAt first entries.now part.now.place part.now.entry }
+{
+    match part.place.checked_sub(first) {
+        None => false,
+        Some(index) => is_entry(entries, index, &part.entry),
+    }
+}
+
+fn is_entry(entries: &[Entry], index: u64, wanted: &Entry) -> bool
+    ensures { IsTrue result ↔ (slice_get entries.now index ≡ Some wanted.now) }
+{
+    match entries.get(index as usize) {
+        Some(entry) => entry.same(wanted),
         None => false,
     }
 }
@@ -111,7 +166,7 @@ fn greater(last: Option<u64>, place: u64) -> Option<u64>
     }
 }
 
-fn lesser(left: Option<u64>, right: Option<u64>) -> Option<u64>
+pub(crate) fn lesser(left: Option<u64>, right: Option<u64>) -> Option<u64>
     ensures { result ≡ lesser_of left right }
 {
     match (left, right) {
@@ -121,13 +176,41 @@ fn lesser(left: Option<u64>, right: Option<u64>) -> Option<u64>
     }
 }
 
-/// The least place of an entry for which its pass has no part.
-fn first_untold(node: u16, journal: &[Entry], passes: &[Pass]) -> Option<u64>
-    ensures { IsFirstBreak (IsTold node journal.now passes.now) result }
+/// The least place of an entry, of the journal or of a volume of the node, for which its pass has no part.
+fn first_untold_of_all(
+    node: u16,
+    volumes: &[Volume],
+    held: &Held,
+    passes: &[Pass],
+) -> Option<u64>
+    ensures { IsFirstBreak (AllToldBelow node volumes.now held.now passes.now (length volumes.now)) result }
 {
-    for place in 0..journal.len() {
-        if !is_told(node, place as u64, &journal[place], passes) {
-            return Some(place as u64);
+    let mut least = first_untold(node, held.first(), held.journal(), passes);
+    for volume in volumes {
+        least = lesser(least, first_untold_in(node, volume, passes));
+    }
+    least
+}
+
+/// The same of a volume, if it is of the node.
+fn first_untold_in(node: u16, volume: &Volume, passes: &[Pass]) -> Option<u64>
+    ensures { IsFirstBreak (λ p. volume.now.opening.number ≡ node → IsTold node volume.now.first volume.now.entries passes.now p) result }
+{
+    if volume.node() != node {
+        return None;
+    }
+    first_untold(node, volume.first(), volume.entries(), passes)
+}
+
+/// The same of entries of which the first stands at this place.
+fn first_untold(node: u16, first: u64, entries: &[Entry], passes: &[Pass]) -> Option<u64>
+    requires { (first < 2 ^ 63) × (length entries.now < 2 ^ 63) }
+    ensures { IsFirstBreak (IsTold node first entries.now passes.now) result }
+{
+    for index in 0..entries.len() {
+        let place = first + index as u64;
+        if !is_told(node, place, &entries[index], passes) {
+            return Some(place);
         }
     }
     None

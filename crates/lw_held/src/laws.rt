@@ -1,13 +1,18 @@
 //! Laws of histories and of settled passes, each the contract of a function that does nothing.
 
 ghost use Rattle.lw_held.specs.Joint.{JointHistoriesRun};
-ghost use Rattle.lw_held.specs.Laws.{OwnOrder};
+ghost use Rattle.lw_held.specs.Laws.{HistoriesFollow, OwnOrder};
 ghost use Rattle.lw_held.specs.Marked.{HistoriesAreOfMarks};
 
-/// The histories of a node are those over its clock and the marks that reached it alone: each reply is that of what the
-/// entries before it left, and an operation, or a delta that is merged, adds its marks.
+/// The histories from an opening are those over its clock and the marks that reached it alone: each reply is that of
+/// what the entries before it left, and an operation, or a delta that is merged, adds its marks.
 pub fn of_marks()
     ensures { HistoriesAreOfMarks }
+{}
+
+/// A history that begins where another ends goes on with it.
+pub fn follow()
+    ensures { HistoriesFollow }
 {}
 
 /// In settled passes, the calls of a pass stand in the history of a node in the pass's own order.

@@ -3,6 +3,7 @@ ghost use Rattle.std.specs.Prelude.{◌≡◌, [], length, slice_get, option_cop
 use crate::agreeing;
 use crate::entry::{Entry, Part};
 use crate::held::Held;
+use crate::volume::Volume;
 use lw_node::Call;
 use lw_stamp::NoMemory;
 use std::alloc::Global;
@@ -98,9 +99,9 @@ impl Pass {
     }
 
     /// The least place for the node at which a part does not fit.
-    pub(crate) fn first_stray(&self, node: u16, journal: &[Entry]) -> Option<u64>
-        ensures { IsFirstBreak (FitBelow node journal.now self.now.parts (length self.now.parts)) result }
+    pub(crate) fn first_stray(&self, node: u16, volumes: &[Volume], held: &Held) -> Option<u64>
+        ensures { IsFirstBreak (FitBelow node volumes.now held.now self.now.parts (length self.now.parts)) result }
     {
-        agreeing::first_stray(node, journal, self.parts.as_slice())
+        agreeing::first_stray(node, volumes, held, self.parts.as_slice())
     }
 }

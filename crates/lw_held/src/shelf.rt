@@ -1,14 +1,16 @@
 //! Nodes behind locks of their own.
 
-ghost use Rattle.std.specs.Prelude.{◌≡◌, ◌≤◌, length, vec_len, IfErr, IfOk, OnOk, OnErr};
+ghost use Rattle.std.specs.Prelude.{◌≡◌, ◌≤◌, ℕ, length, slice_get, vec_len, Some, IfErr, IfOk, IfSome, OnOk, OnErr};
+ghost use Rattle.lw_held.specs.History.{IsVolume, VolumeContent};
 ghost use Rattle.lw_held.specs.Agree.{AreDistinct, IsSettled};
-ghost use Rattle.lw_held.specs.Shelves.{AreInOrder, AreNew, AreSettled, FailsAt, IsAnswered, IsUnsettled};
+ghost use Rattle.lw_held.specs.Shelves.{AreInOrder, AreNew, AreSettled, FailsAt, HaveShelves, IsAnswered, IsCutOff, IsUnsettled};
 ghost use Rattle.lw_held.specs.Transcript.{with_part};
 ghost use Rattle.lw_held.specs.declared.entry.Entry.{Entry};
 
 use crate::gate::Gate;
 use crate::held::Held;
 use crate::pass::Pass;
+use crate::volume::Volume;
 use lw_node::Call;
 use lw_stamp::NoMemory;
 use std::alloc::Global;
@@ -77,24 +79,46 @@ impl Shelf {
         pass.step(self.number, held, call)
     }
 
-    /// Whether the passes' parts for the node are the journal behind the lock.
-    fn agrees<R: Wait>(&self, rt: &R, passes: &[Pass]) -> Result<(), u64>
-        requires { AreDistinct passes.now }
-        ensures settled { OnOk result (IsSettled self.now.number passes.now) }
-        ensures fails { IfErr result (λ place. FailsAt self.now.number passes.now place) }
+    /// Cuts off the journal behind the lock, if it has an entry.
+    pub fn cut<R: Wait>(&self, rt: &R) -> Result<Option<Volume>, NoMemory>
+        // It is that of some node with a legal history. That it is the one behind this lock is what `settle` shows.
+        ensures { IfOk result (λ cut. IfSome cut IsCutOff) }
     {
         let mut held = self.held.lock(rt);
         let held: &mut Held = &mut held;
         held.legal();
-        held.agrees(self.number, passes)
+        held.cut()
+    }
+
+    /// Whether the passes' parts for the node are the node's volumes and the journal behind the lock.
+    fn agrees<R: Wait>(&self, rt: &R, volumes: &[Volume], passes: &[Pass]) -> Result<(), u64>
+        requires { AreDistinct passes.now }
+        ensures settled { OnOk result (IsSettled self.now.number passes.now) }
+        ensures fails { IfErr result (λ place. FailsAt self.now.number volumes.now passes.now place) }
+    {
+        are_legal(volumes);
+        let mut held = self.held.lock(rt);
+        let held: &mut Held = &mut held;
+        held.legal();
+        held.agrees(self.number, volumes, passes)
     }
 }
 
-/// Each journal is what the passes' transcripts say.
+/// Does nothing: its contract says that each volume is a legal history.
+fn are_legal(volumes: &[Volume])
+    ensures { (i : ℕ) (volume : VolumeContent) → slice_get volumes.now i ≡ Some volume → IsVolume volume }
+{
+    for volume in volumes {
+        volume.legal();
+    }
+}
+
+/// Each journal is, with its volumes, what the passes' transcripts say.
 #[derive(Clone, Copy, Debug, PartialEq, Eq)]
 pub struct Settled;
 
-/// The first node whose journal is not what the transcripts say, and the least place that fails there.
+/// The first node whose journal, with its volumes, is not what the transcripts say, and the least place that fails
+/// there.
 #[derive(Clone, Copy, Debug, PartialEq, Eq, Error)]
 #[error("the journal of node {node} is not what the transcripts say, first at place {place}")]
 pub struct Unsettled {
@@ -102,15 +126,22 @@ pub struct Unsettled {
     pub place: u64,
 }
 
-/// Asks under each lock in turn whether the journal is what the passes' transcripts say. It takes no memory.
-pub fn settle<R: Wait>(rt: &R, shelves: &[Shelf], passes: &[Pass]) -> Result<Settled, Unsettled>
+/// Asks under each lock in turn whether the node's volumes and the journal are what the passes' transcripts say. The
+/// volumes may come in any order. It takes no memory.
+pub fn settle<R: Wait>(
+    rt: &R,
+    shelves: &[Shelf],
+    volumes: &[Volume],
+    passes: &[Pass],
+) -> Result<Settled, Unsettled>
     requires shelves { AreInOrder shelves.now }
+    requires volumes { HaveShelves shelves.now volumes.now }
     requires passes { AreDistinct passes.now }
     ensures settled { OnOk result (AreSettled shelves.now passes.now) }
-    ensures unsettled { IfErr result (λ unsettled. IsUnsettled shelves.now passes.now unsettled) }
+    ensures unsettled { IfErr result (λ unsettled. IsUnsettled shelves.now volumes.now passes.now unsettled) }
 {
     for shelf in shelves {
-        if let Err(place) = shelf.agrees(rt, passes) {
+        if let Err(place) = shelf.agrees(rt, volumes, passes) {
             return Err(Unsettled {
                 node: shelf.number,
                 place,

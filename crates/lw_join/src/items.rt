@@ -1,10 +1,12 @@
-ghost use Rattle.std.specs.Prelude.{◌≡◌, List, IsOk, OnOk, OnErr};
+ghost use Rattle.std.specs.Prelude.{◌≡◌, List, IfOk, IsOk, OnOk, OnErr};
 ghost use Rattle.lw_join.specs.Entries.{Rises, entries_join, missing};
 
+use crate::copied::Copied;
 use crate::exact::Exact;
 use crate::join::Calm;
 use crate::merge::{join_in, make_room};
 use lw_stamp::NoMemory;
+use std::alloc::Global;
 use std::marker::Model;
 
 /// A `Vec` that contracts see as the list of its items, without its capacity.
@@ -37,6 +39,26 @@ impl<T> Items<T> {
     {
         self.items
     }
+}
+
+impl<T: Copied> Items<T> {
+    pub(crate) fn copied(&self, alloc: Global) -> Result<Items<T>, NoMemory>
+        ensures { IfOk result (λ items. items ≡ self.now) }
+    {
+        Ok(Items {
+            items: copies_of(alloc, &self.items)?,
+        })
+    }
+}
+
+fn copies_of<T: Copied>(alloc: Global, items: &[T]) -> Result<Vec<T>, NoMemory>
+    ensures { IfOk result (λ copies. copies.items ≡ items.now) }
+{
+    let mut copies = Vec::with_capacity(alloc, items.len())?;
+    for item in items {
+        copies.push(item.copy(alloc)?)?;
+    }
+    Ok(copies)
 }
 
 impl<K: Exact, J: Calm> Items<(K, J)> {

@@ -4,6 +4,7 @@
 #![tactic(auto)]
 
 mod both;
+mod copied;
 mod entries;
 mod exact;
 mod flag;
@@ -21,6 +22,7 @@ mod pair;
 mod parts;
 
 pub use both::Both;
+pub use copied::Copied;
 pub use exact::Exact;
 pub use flag::Flag;
 pub use join::{Calm, Join};

@@ -2,6 +2,7 @@ ghost use Rattle.std.specs.Prelude.{◌≡◌, ◌↔◌, [], ◌∷◌, length,
 ghost use Rattle.lw_join.specs.Entries.{Rises};
 ghost use Rattle.lw_join.specs.EntriesLaws.{Rises-prop};
 
+use crate::copied::Copied;
 use crate::entries::{entries_le, rises, value_of};
 use crate::exact::Exact;
 use crate::items::Items;
@@ -108,6 +109,16 @@ impl<K: Exact, J: Calm> Parts<K, J> {
     {
         self.entries
             .join_both(other.entries, &mut right.entries, other_right.entries)
+    }
+}
+
+impl<K: Exact + Copied, J: Copied> Parts<K, J> {
+    pub(crate) fn copied(&self, alloc: Global) -> Result<Parts<K, J>, NoMemory>
+        ensures { IfOk result (λ parts. parts ≡ self.now) }
+    {
+        Ok(Parts {
+            entries: self.entries.copied(alloc)?,
+        })
     }
 }
 

@@ -9,6 +9,7 @@ mod acting;
 mod answering;
 mod asking;
 mod command;
+mod copying;
 mod decision;
 pub mod laws;
 mod look_ups;

@@ -11,6 +11,7 @@ mod attributes;
 mod base;
 mod binding;
 mod body;
+mod copied;
 mod endpoint;
 mod exact;
 mod fields;

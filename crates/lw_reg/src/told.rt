@@ -7,7 +7,7 @@ ghost use Rattle.lw_reg.specs.Body.{nothing};
 ghost use Rattle.lw_reg.specs.Told.{known_in, body_or_nothing, KeepsAttributes};
 
 use crate::body::Body;
-use lw_join::Join;
+use lw_join::{Copied, Join};
 use lw_stamp::NoMemory;
 use std::alloc::Global;
 use std::marker::Model;
@@ -155,5 +155,16 @@ impl Told {
             Kept::Known(body) => body.lift(),
             Kept::Nothing | Kept::Removed => {}
         }
+    }
+}
+
+impl Copied for Told {
+    fn copy(&self, alloc: Global) -> Result<Told, NoMemory> {
+        let kept = match &self.kept {
+            Kept::Nothing => Kept::Nothing,
+            Kept::Removed => Kept::Removed,
+            Kept::Known(body) => Kept::Known(Box::new(alloc, body.copy(alloc)?)?),
+        };
+        Ok(Told { kept })
     }
 }

@@ -3,6 +3,7 @@ use Rattle.std.specs.Prelude.{◌≡◌, ◌≤◌, ℕ, zero, suc, ◌+◌, Lis
 use Rattle.lw_stamp.specs.declared.moment.Moment.{Moment}
 use Rattle.lw_held.specs.declared.shelf.Shelf.{Shelf}
 use Rattle.lw_held.specs.declared.shelf.Unsettled.{Unsettled}
+use Rattle.lw_held.specs.History.{VolumeContent}
 use Rattle.lw_held.specs.Shelves.{AreInOrder, AreNew, AreSettled, IsUnsettled}
 use Rattle.lw_held.specs.Transcript.{Transcript}
 use Rattle.lw_crew.specs.declared.job.Done.{Done}
@@ -63,12 +64,14 @@ pub record IsFinished (shelves : List Shelf) (passes : List Transcript) (kept : 
   pub served : Serves shelves passes last kept dones
   pub settled : AreSettled shelves last
 
--- The kept merges are done, and the passes are then not settled, first at the node and place that are told.
+-- The kept merges are done, and the passes are then not settled beside some volumes, first at the node and place that are
+-- told.
 pub record IsRefused (shelves : List Shelf) (passes : List Transcript) (kept : List Job) (told : Unsettled) : Type 0 where
   pub last : List Transcript
   pub dones : List Done
   pub served : Serves shelves passes last kept dones
-  pub unsettled : IsUnsettled shelves last told
+  pub volumes : List VolumeContent
+  pub unsettled : IsUnsettled shelves volumes last told
 
 -- The plan was served whole: its rounds are over, and the passes that served them are settled with their nodes.
 pub record IsServed (plan : Plan) : Type 0 where

@@ -2,10 +2,12 @@
 //! what they have learnt.
 //!
 //! A run takes a number of datagrams, a batch in each round, and then compares the transcripts of its workers with the
-//! journals of its nodes. The wire and the clock are traits; `UdpWire` and `SystemClock` are those of the host.
+//! journals of its nodes, and with the volumes that were cut off them after some rounds. The wire and the clock are
+//! traits; `UdpWire` and `SystemClock` are those of the host.
 #![tactic(auto)]
 
 mod clock;
+mod cutting;
 mod ending;
 mod fault;
 mod jobs;

@@ -1,27 +1,33 @@
 ghost use Rattle.std.specs.Prelude.{◌≡◌, length, vec_len, IfErr, IfOk, OnOk};
 ghost use Rattle.lw_held.specs.Agree.{AreDistinct};
-ghost use Rattle.lw_held.specs.Shelves.{AreInOrder, AreNew, AreSettled, IsUnsettled};
+ghost use Rattle.lw_held.specs.Shelves.{AreInOrder, AreNew, AreSettled, HaveShelves, IsUnsettled};
 ghost use Rattle.lw_serve.specs.Plan.{AreNodes, AreWorkers};
 ghost use Rattle.lw_serve.specs.Rounds.{AreNumbered, Serves};
 
 use crate::plan::Plan;
+use crate::cutting::cut_journals;
 use lw_crew::{CrewFault, Done, Job, serve_jobs};
-use lw_held::{NoGate, Pass, Settled, Shelf, Unsettled, set_up, settle};
+use lw_held::{NoGate, Pass, Settled, Shelf, Unsettled, Volume, set_up, settle};
 use lw_stamp::NoMemory;
 use std::alloc::Global;
 use std::sync::Wait;
 use std::thread::Threads;
 
-/// Nodes behind locks, and the passes of the workers that call them.
+/// Nodes behind locks, the passes of the workers that call them, and what was cut off the journals.
 #[derive(Drop)]
 pub(crate) struct Nodes {
     shelves: Vec<Shelf>,
     passes: Vec<Pass>,
+    volumes: Vec<Volume>,
+    /// Of each node whether its journal is still to be cut.
+    due: Vec<bool>,
     ghost nodes_in_range: { AreNodes (vec_len shelves) },
     ghost workers_in_range: { AreWorkers (vec_len passes) },
     ghost in_order: { AreInOrder shelves.items },
     ghost distinct: { AreDistinct passes.items },
     ghost numbered: { AreNumbered passes.items },
+    ghost each_due: { vec_len due ≡ vec_len shelves },
+    ghost have_shelves: { HaveShelves shelves.items volumes.items },
 }
 
 impl Nodes {
@@ -32,7 +38,12 @@ impl Nodes {
         ensures passes { IfOk result (λ nodes. (vec_len nodes.passes ≡ plan.now.workers) × AreNew nodes.passes.items) }
     {
         let (shelves, passes) = set_up(alloc, plan.nodes, plan.workers)?;
-        Ok(Nodes { shelves, passes })
+        Ok(Nodes {
+            shelves,
+            passes,
+            volumes: Vec::new(alloc),
+            due: vec![in alloc; false; plan.nodes as usize]?,
+        })
     }
 
     /// How many nodes there are.
@@ -61,17 +72,49 @@ impl Nodes {
         ensures count { IfOk result (λ r. vec_len r.1 ≡ length jobs.now) }
         ensures served { IfOk result (λ r. Serves self.shelves.items self.passes.items r.0.passes.items jobs.now r.1.items) }
     {
-        let Nodes { shelves, passes } = self;
+        let Nodes {
+            shelves,
+            passes,
+            volumes,
+            due,
+        } = self;
         let (passes, result) = serve_jobs(rt, alloc, &shelves, passes, jobs, &NoGate);
         let dones = result?;
-        Ok((Nodes { shelves, passes }, dones))
+        let nodes = Nodes {
+            shelves,
+            passes,
+            volumes,
+            due,
+        };
+        Ok((nodes, dones))
     }
 
-    /// Compares the transcripts of the passes with the journals of the nodes.
+    /// Cuts all journals, or those that are still to be cut, and keeps the volumes. A cut that is refused is to be
+    /// tried again.
+    pub(crate) fn cut<R: Wait>(self, rt: &R, all: bool) -> Nodes
+        ensures shelves { result.shelves ≡ self.shelves }
+        ensures passes { result.passes ≡ self.passes }
+    {
+        let Nodes {
+            shelves,
+            passes,
+            mut volumes,
+            mut due,
+        } = self;
+        cut_journals(rt, &shelves, all, &mut due, &mut volumes);
+        Nodes {
+            shelves,
+            passes,
+            volumes,
+            due,
+        }
+    }
+
+    /// Compares the transcripts of the passes with the volumes and the journals of the nodes.
     pub(crate) fn settle<R: Wait>(&self, rt: &R) -> Result<Settled, Unsettled>
         ensures settled { OnOk result (AreSettled self.now.shelves.items self.now.passes.items) }
-        ensures unsettled { IfErr result (IsUnsettled self.now.shelves.items self.now.passes.items) }
+        ensures unsettled { IfErr result (IsUnsettled self.now.shelves.items self.now.volumes.items self.now.passes.items) }
     {
-        settle(rt, &self.shelves, &self.passes)
+        settle(rt, &self.shelves, &self.volumes, &self.passes)
     }
 }

@@ -79,7 +79,23 @@ impl Server {
         Ok(Server { nodes, kept, since })
     }
 
-    /// Has the last merges done, and writes `settled` where the journals are then what the transcripts say.
+    /// Cuts all journals, or those whose last cut was refused.
+    pub(crate) fn cut<R: Wait>(self, rt: &R, all: bool) -> Server
+        ensures shelves { result.nodes.shelves ≡ self.nodes.shelves }
+        ensures passes { result.nodes.passes ≡ self.nodes.passes }
+        ensures kept { result.kept ≡ self.kept }
+        ensures since { result.since ≡ self.since }
+    {
+        let Server { nodes, kept, since } = self;
+        Server {
+            nodes: nodes.cut(rt, all),
+            kept,
+            since,
+        }
+    }
+
+    /// Has the last merges done, and writes `settled` where the volumes and the journals are then what the transcripts
+    /// say.
     pub(crate) fn finish<R: Threads + Wait + Sync, O: Write>(
         self,
         rt: &R,

@@ -15,8 +15,9 @@ use std::io::Write;
 use std::sync::Wait;
 use std::thread::Threads;
 
-/// Serves the plan's count of datagrams that come over the wire, in rounds, and then writes `settled` where the journals
-/// are what the transcripts say. Faults of the wire that are passed over are logged.
+/// Serves the plan's count of datagrams that come over the wire, in rounds, and then writes `settled` where the
+/// journals, with the volumes that were cut off them, are what the transcripts say. Faults of the wire that are passed
+/// over are logged.
 pub fn serve_on<R: Threads + Wait + Sync, W: Wire, C: HostClock, L: Log, O: Write>(
     rt: &R,
     alloc: Global,
@@ -50,13 +51,16 @@ fn serve_rounds<R: Threads + Wait + Sync, W: Wire, C: HostClock, L: Log>(
     let mut server = Server::new(alloc, plan)?;
     let mut buffer = vec![in alloc; 0; BUFFER]?;
     let mut left = plan.count;
+    let mut round = 0u32;
     while left > 0 {
         let batch = receive(alloc, wire, log, &mut buffer, left)?;
         left -= batch.len() as u32;
         let Some(now) = clock.now() else {
             return Err(ServeFault::ClockRefused);
         };
-        server = server.round(rt, alloc, wire, log, now, batch)?;
+        let served = server.round(rt, alloc, wire, log, now, batch)?;
+        round = round.saturating_add(1);
+        server = served.cut(rt, plan.cuts_after(round));
     }
     Ok(server)
 }

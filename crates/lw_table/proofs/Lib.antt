@@ -13,3 +13,4 @@ pub mod Answering
 pub mod LiftLemmas
 pub mod LiftedTable
 pub mod SinceLemmas
+pub mod CopyLemmas

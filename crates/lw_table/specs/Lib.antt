@@ -12,3 +12,4 @@ pub mod Filed
 pub mod Turning
 pub mod Moves
 pub mod Lifts
+pub mod Copying

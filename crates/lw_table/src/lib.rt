@@ -2,6 +2,7 @@
 //! have moved since a change number, and which has expired.
 #![tactic(auto)]
 
+mod copying;
 mod filed;
 mod key;
 mod lifts;

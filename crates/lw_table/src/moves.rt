@@ -118,8 +118,8 @@ fn may_revive(row: &Row, slot: &Slot) -> bool
     row.slot.is_removed() && !slot.is_removed()
 }
 
-// Puts the first row of an endpoint.
-fn add_row(
+/// Puts the first row of an endpoint.
+pub(crate) fn add_row(
     alloc: Global,
     filed: &mut Filed,
     rows: &mut Rows,

@@ -1,3 +1,6 @@
+ghost use Rattle.std.specs.Prelude.{◌≡◌, ◌↔◌, IsTrue};
+
+use lw_join::Join;
 use lw_reg::Slot;
 
 /// What is kept of an endpoint: its slot, and the number of the change that moved it last.
@@ -5,4 +8,14 @@ use lw_reg::Slot;
 pub(crate) struct Row {
     pub(crate) slot: Slot,
     pub(crate) number: u64,
+}
+
+impl Row {
+    /// Whether both have the same slot, which moved last with the same number. Two slots are the same where each is
+    /// below the other.
+    pub(crate) fn same(&self, other: &Row) -> bool
+        ensures { IsTrue result ↔ (self.now ≡ other.now) }
+    {
+        self.number == other.number && self.slot.le(&other.slot) && other.slot.le(&self.slot)
+    }
 }

@@ -111,7 +111,7 @@ fn answer<R: Threads + Wait + Clock + Sync>(
     count: u32,
 ) -> Result<(), BenchFault> {
     match peer {
-        Peer::Rounds { nodes, workers } => match Plan::new(count, nodes, workers) {
+        Peer::Rounds { nodes, workers } => match Plan::new(count, nodes, workers, None) {
             Some(plan) => Ok(serve(rt, alloc, socket, &plan)?),
             None => Err(BenchFault::Unexpected),
         },

@@ -7,6 +7,6 @@ use Rattle.lw_held.proofs.agreeing.first_stray_of_all.Given as goal
 
 abbrev pub invariant-loop-pass : goal.invariant-loop-pass
 invariant-loop-pass l = record {
-  least : IsFirstBreak (AllFitBelow l.node l.journal l.passes l.pass-index) l.least;
+  least : IsFirstBreak (AllFitBelow l.node l.volumes l.held l.passes l.pass-index) l.least;
   numbered : (i : ℕ) (x : Transcript) → i < l.pass-index → slice_get l.passes i ≡ Some x → IsNumbered x;
 }

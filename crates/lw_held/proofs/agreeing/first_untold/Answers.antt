@@ -1,22 +1,27 @@
-use Rattle.std.proofs.Common.{◌≡◌, ◌<◌, false, true, length, refl, subst, arith}
+use Rattle.std.proofs.Common.{◌≡◌, ◌<◌, ◌+◌, Some, false, true, length, refl, sym, ap, ◌∙◌, subst, arith}
+use Rattle.std.specs.Prelude.{slice_get}
 use Rattle.std.proofs.lemmas.Option.{slice_get_read, slice_get_within}
 use borrow.Author.Count.{below_more}
 use Rattle.lw_held.specs.Looks.{HasBelow, IsTold}
-use Rattle.lw_held.proofs.Agreement.{same_some}
+use Rattle.lw_held.proofs.Agreement.{same_some, told_at}
 use Rattle.lw_held.proofs.agreeing.first_untold.Goals as goal
 
-pub loop-place-preserved : goal.loop-place-preserved
-loop-place-preserved c =
-    let here = slice_get_read _ _ _ _ refl c.loop-place-test.true c.index-journal-place.is in
-    below_more (λ q. IsTold c.args.node c.args.journal.now c.args.passes.now q) _ c.loop-place.invariant
-    (λ entry at. subst (λ e. HasBelow c.args.node c.loop-place.place e c.args.passes.now (length c.args.passes.now)) (same_some c.index-journal-place.result entry _ here at) (c.if-not-is_told.ensures.0 refl))
+pub loop-index-init : goal.loop-index-init
+loop-index-init c = λ q lt entry at. absurd (let is = at.1 in omega (arith, lt, is))
+
+pub loop-index-preserved : goal.loop-index-preserved
+loop-index-preserved c =
+    let here = slice_get_read _ _ _ _ refl c.loop-index-test.true c.index-entries-index.is in
+    λ q lt. below_more (λ p. IsTold c.args.node c.args.first c.args.entries.now c.args.passes.now p) (c.args.first + c.loop-index.index) c.loop-index.invariant
+    (told_at c.args.node c.args.first c.args.entries.now c.args.passes.now c.loop-index.index c.index-entries-index.result here (c.if-not-is_told.ensures.0 refl)) q (omega (arith, lt))
 
 pub returns-then-not-is_told : goal.returns-then-not-is_told
 returns-then-not-is_told c =
-    let here = slice_get_read _ _ _ _ refl c.loop-place-test.true c.index-journal-place.is in
-    ((λ told. let no : false ≡ true = c.if-not-is_told.ensures.1 (told c.index-journal-place.result here) in cc), c.loop-place.invariant)
+    let here = slice_get_read _ _ _ _ refl c.loop-index-test.true c.index-entries-index.is in
+    ((λ told. let no : false ≡ true = c.if-not-is_told.ensures.1 (told c.index-entries-index.result (c.loop-index.index, refl, here)) in cc), c.loop-index.invariant)
 
 pub returns : goal.returns
 returns c = λ p entry at.
-    let l : p < length c.args.journal.now = slice_get_within c.args.journal.now p entry at in
-    c.loop-place.invariant p (omega arith) entry at
+    let within = slice_get_within c.args.entries.now at.0 entry at.2 in
+    let is = at.1 in
+    c.loop-index.invariant p (omega (arith, within, is)) entry at

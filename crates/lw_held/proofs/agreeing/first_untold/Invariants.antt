@@ -1,6 +1,6 @@
-use Rattle.std.proofs.Common.{ℕ, ◌<◌}
+use Rattle.std.proofs.Common.{ℕ, ◌<◌, ◌+◌}
 use Rattle.lw_held.specs.Looks.{IsTold}
 use Rattle.lw_held.proofs.agreeing.first_untold.Given as goal
 
-abbrev pub invariant-loop-place : goal.invariant-loop-place
-invariant-loop-place l = (q : ℕ) → q < l.place → IsTold l.node l.journal l.passes q
+abbrev pub invariant-loop-index : goal.invariant-loop-index
+invariant-loop-index l = (q : ℕ) → q < l.first + l.index → IsTold l.node l.first l.entries l.passes q

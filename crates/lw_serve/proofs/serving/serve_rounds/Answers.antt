@@ -10,22 +10,24 @@ loop-left-init g c = record { nodes = c.in_ok-server.ensures.shelves; rounds = 0
 pub returns-in_err-batch-clause-fault : goal.returns-in_err-batch-clause-fault
 returns-in_err-batch-clause-fault g c = raised EndsRounds c.from_residual-in_err-batch.result c.from_residual-in_err-batch.ensures.1 (receiving_ends _ c.in_err-batch.ensures.fault)
 
-pub returns-in_err-server-2-clause-fault : goal.returns-in_err-server-2-clause-fault
-returns-in_err-server-2-clause-fault g c = raised EndsRounds c.from_residual-in_err-server-2.result c.from_residual-in_err-server-2.ensures.1 (round_ends _ c.in_err-server-2.ensures.fault)
+pub returns-in_err-served-clause-fault : goal.returns-in_err-served-clause-fault
+returns-in_err-served-clause-fault g c = raised EndsRounds c.from_residual-in_err-served.result c.from_residual-in_err-served.ensures.1 (round_ends _ c.in_err-served.ensures.fault)
 
 pub loop-left-preserved : goal.loop-left-preserved
 loop-left-preserved g c =
     let old = c.loop-left.server in
-    let new = c.in_ok-server-2.server in
+    let served = c.in_ok-served.served in
+    let new = c.cut-server.result in
+    let shelves : new.nodes.shelves.items ≡ old.nodes.shelves.items = rw c.cut-server.ensures.shelves (rw c.in_ok-served.ensures.shelves refl) in
     let size = c.in_ok-batch.ensures.size in
     let counted = c.in_ok-batch.batch.ok.0 in
     record {
-      nodes = rw c.in_ok-server-2.ensures.shelves c.loop-left.invariant.nodes;
+      nodes = rw c.cut-server.ensures.shelves (rw c.in_ok-served.ensures.shelves c.loop-left.invariant.nodes);
       rounds = suc c.loop-left.invariant.rounds;
       reached = one_more c.args.plan.now old.nodes.shelves.items new.nodes.shelves.items c.loop-left.invariant.rounds
           (record { left = c.loop-left.left; passes = old.nodes.passes.items; kept = old.kept.items; since = old.since.items })
           (record { left = c.loop-left.left - c.len.result; passes = new.nodes.passes.items; kept = new.kept.items; since = new.since.items })
-          (rw c.in_ok-server-2.ensures.shelves refl)
+          shelves
           c.loop-left.invariant.reached
           (record {
             now = c.in-Some.now;
@@ -33,7 +35,7 @@ loop-left-preserved g c =
             some = omega (arith, size, counted);
             most = omega (arith, size, counted);
             left = omega (arith, size, counted, c.len.ensures);
-            round = c.in_ok-server-2.ensures.round;
+            round = rw c.cut-server.ensures.passes (rw c.cut-server.ensures.kept (rw c.cut-server.ensures.since c.in_ok-served.ensures.round));
           });
     }
 

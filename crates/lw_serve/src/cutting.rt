@@ -1,0 +1,51 @@
+//! Journals that are cut, and volumes that are kept.
+
+ghost use Rattle.std.specs.Prelude.{◌≡◌, ◌<◌, length};
+ghost use Rattle.lw_held.specs.Shelves.{HaveShelves};
+
+use lw_held::{Shelf, Volume};
+use std::sync::Wait;
+
+/// Cuts all journals, or those that are due. What is refused stays due.
+pub(crate) fn cut_journals<R: Wait>(
+    rt: &R,
+    shelves: &[Shelf],
+    all: bool,
+    due: &mut [bool],
+    volumes: &mut Vec<Volume>,
+)
+    requires each { length due.old ≡ length shelves.now }
+    requires kept { HaveShelves shelves.now volumes.old.items }
+    ensures each { length due.new ≡ length due.old }
+    ensures kept { HaveShelves shelves.now volumes.new.items }
+{
+    for place in 0..shelves.len() {
+        if all || due[place] {
+            due[place] = !is_cut(rt, shelves, place, volumes);
+        }
+    }
+}
+
+/// Cuts the journal at the place, and keeps the volume, if there is one: whether there was memory for both.
+fn is_cut<R: Wait>(rt: &R, shelves: &[Shelf], place: usize, volumes: &mut Vec<Volume>) -> bool
+    requires within { place < length shelves.now }
+    requires kept { HaveShelves shelves.now volumes.old.items }
+    ensures { HaveShelves shelves.now volumes.new.items }
+{
+    // Room comes first, so that no volume is lost.
+    if volumes.reserve(1).is_err() {
+        return false;
+    }
+    let shelf = &shelves[place];
+    match shelf.cut(rt) {
+        Err(_) => false,
+        Ok(None) => true,
+        Ok(Some(volume)) => {
+            // A node of another number cannot settle in any case.
+            if volume.node() == shelf.number() {
+                volumes.push_reserved(volume);
+            }
+            true
+        }
+    }
+}

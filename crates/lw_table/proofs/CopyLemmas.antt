@@ -1,0 +1,150 @@
+-- Tables that are copied and compared, row by row.
+use Rattle.std.proofs.Common.{◌≡◌, ◌≢◌, ◌⊎◌, ◌↔◌, inl, inr, ℕ, true, false, cond, List, [], ◌∷◌, Option, Some, None, refl, sym, ap, ◌∙◌, subst}
+use Rattle.std.specs.Prelude.{Contains, bytes_eq, IsSome}
+use Rattle.std.specs.FinMap.{get}
+use Rattle.lw_recent.specs.Recent.{IsUnder, AreSince}
+use Rattle.lw_reg.proofs.Members.{none_there, there_or_first}
+use Rattle.lw_reg.specs.declared.slot.Slot.{Slot}
+use Rattle.lw_table.specs.Copying.{Copies, MayBeCopied, CopiesRow}
+use Rattle.lw_table.specs.Filed.{HasNumber, IsFiled, OthersSame, slot_of, number_of}
+use Rattle.lw_table.specs.Rows.{IsRows, row_at, table_in}
+use Rattle.lw_table.specs.Table.{TableContent, IsTable}
+use Rattle.lw_table.specs.declared.filed.Filed.{Filed}
+use Rattle.lw_table.specs.declared.row.Row.{Row}
+use Rattle.lw_table.specs.declared.rows.Rows.{Rows}
+use Rattle.lw_table.proofs.RowLemmas.{same_or_not}
+use Rattle.lw_table.proofs.TableLemmas.{AreRows, filed_at, get-state, get-number, nothing_filed, rows_of, same_filed, same_table, table_of}
+
+-- ---- a copy that is made row by row
+-- the row of each endpoint is copied, but for those that are left
+abbrev pub CopiedBut : Rows → Rows → List (List ℕ) → Type 0
+CopiedBut original rows left = (e : List ℕ) → (row_at rows e ≡ row_at original e) ⊎ ((row_at rows e ≡ None) × Contains left e)
+
+-- what is filed of each endpoint is that of its row
+abbrev pub AllFiled : Filed → Rows → Type 0
+AllFiled filed rows = (e : List ℕ) → IsFiled filed e (row_at rows e)
+
+module _ (original : Rows) where
+  -- at first no row is copied, and each endpoint that has one is left
+  pub none_copied : (numbers : List (ℕ × List ℕ)) (rows : Rows) (left : List (List ℕ)) → ((e : List ℕ) → HasNumber numbers e (number_of (row_at original e)))
+      → ((e : List ℕ) → row_at rows e ≡ None) → AreSince None numbers left → CopiedBut original rows left
+  none_copied numbers rows left has none since e = go (row_at original e) refl
+    where
+      go : (o : Option Row) → row_at original e ≡ o → (row_at rows e ≡ row_at original e) ⊎ ((row_at rows e ≡ None) × Contains left e)
+      go None h = inl (none e ∙ sym h)
+      go (Some row) h = inr (none e, (since e).1 (row.number, (has e row.number).1 (ap number_of h), tt))
+
+  module _ (rows more : Rows) (x : List ℕ) (copied : CopiesRow x original rows more) where
+    here : (e : List ℕ) → bytes_eq x e ≡ true → row_at more e ≡ row_at original x
+    here e t = copied.at e ∙ ap (λ b. cond b (row_at original x) (row_at rows e)) t
+
+    apart : (e : List ℕ) → bytes_eq x e ≡ false → row_at more e ≡ row_at rows e
+    apart e f = copied.at e ∙ ap (λ b. cond b (row_at original x) (row_at rows e)) f
+
+    pub row_copied : (rest : List (List ℕ)) → CopiedBut original rows (x ∷ rest) → CopiedBut original more rest
+    row_copied rest but e = same_or_not x e
+        (λ t same. inl (here e t ∙ ap (row_at original) same))
+        (λ f other. elim (but e) [ inl is ↦ inl (apart e f ∙ is) | inr left ↦ inr (apart e f ∙ left.0, elim (there_or_first x rest e left.1) [ inl same ↦ absurd (other (sym same)) | inr there ↦ there ]) ])
+
+    pub copy_filed : (old new : Filed) → OthersSame old new x → IsFiled new x (row_at original x) → AllFiled old rows → AllFiled new more
+    copy_filed old new others filed each e = same_or_not x e
+        (λ t same. subst (IsFiled new e) (sym (here e t)) (subst (λ k. IsFiled new k (row_at original x)) same filed))
+        (λ f other. subst (IsFiled new e) (sym (apart e f)) (same_filed old new x others e (row_at rows e) (λ same. other (sym same)) (each e)))
+
+  -- the first of those that are left
+  pub first_left : (rows : Rows) (x : List ℕ) (rest : List (List ℕ)) → CopiedBut original rows (x ∷ rest) → MayBeCopied x original rows
+  first_left rows x rest but = elim (but x) [ inl is ↦ inl is | inr left ↦ inr left.0 ]
+
+  -- where none is left, each row is copied
+  pub all_copied : (rows : Rows) (left : List (List ℕ)) → left ≡ [] → CopiedBut original rows left → (e : List ℕ) → row_at rows e ≡ row_at original e
+  all_copied rows left none but e = elim (but e) [ inl is ↦ is | inr l ↦ none_there e (subst (λ (es : List (List ℕ)). Contains es e) none l.1) ]
+
+-- the row is there already, or there is none to be copied
+pub copied_before : (original rows : Rows) (x : List ℕ) → IsRows rows → row_at rows x ≡ row_at original x → CopiesRow x original rows rows
+copied_before original rows x are is = record {
+  at = λ e. same_or_not x e
+      (λ t same. sym (ap (λ b. cond b (row_at original x) (row_at rows e)) t ∙ sym is ∙ ap (row_at rows) same))
+      (λ f other. sym (ap (λ b. cond b (row_at original x) (row_at rows e)) f));
+  rows = are;
+}
+
+-- of what may be copied, a row that is there is the original's, and so is one that is absent there
+pub there_is_copied : (original rows : Rows) (x : List ℕ) → MayBeCopied x original rows → IsSome (row_at rows x) → row_at rows x ≡ row_at original x
+there_is_copied original rows x may some = elim may [ inl is ↦ is | inr none ↦ absurd (let bad : false ≡ true = subst IsSome none some in cc) ]
+
+pub absent_is_copied : (original rows : Rows) (x : List ℕ) → MayBeCopied x original rows → row_at original x ≡ None → row_at rows x ≡ row_at original x
+absent_is_copied original rows x may absent = elim may [ inl is ↦ is | inr none ↦ none ∙ sym absent ]
+
+-- rows that are the same are under the same numbers
+pub same_rows : (m n : Rows) (change : ℕ) → ((e : List ℕ) → row_at n e ≡ row_at m e) → AreRows m change → AreRows n change
+same_rows m n change same rows = record {
+  within = λ e k h. rows.within e k (ap number_of (sym (same e)) ∙ h);
+  last = rows.last;
+  endpoints = λ e h. rows.endpoints e (subst (λ o. IsSome (slot_of o)) (same e) h);
+}
+
+-- at first nothing is filed, and there is no row
+pub nothing_copied : (filed : Filed) (rows : Rows) → IsRows rows → filed.names ≡ [] → filed.keys ≡ [] → filed.numbers ≡ [] → ((e : List ℕ) → row_at rows e ≡ None) → AllFiled filed rows
+nothing_copied filed rows are no_names no_keys no_numbers none e =
+    filed_at filed rows are 0 (nothing_filed filed.names filed.keys filed.numbers filed.due rows are no_names no_keys no_numbers none) e
+
+-- the table of a copy
+module _ (original rows : Rows) (filed : Filed) (copies : Copies original filed rows) (was : Filed) (change : ℕ) (are : IsRows original) (is : IsTable was.names was.keys was.numbers was.due (table_in original change)) where
+  pub copied_table : IsTable filed.names filed.keys filed.numbers filed.due (table_in rows change)
+  copied_table = table_of filed rows copies.are_rows change copies.each_filed (same_rows original rows change copies.same (rows_of was original are change is))
+
+  pub copied_content : table_in rows change ≡ table_in original change
+  copied_content = same_table original rows are copies.are_rows change copies.same
+
+-- ---- rows that are compared
+-- a row is its slot and its number
+pub row_is : (o p : Option Row) → slot_of o ≡ slot_of p → number_of o ≡ number_of p → o ≡ p
+row_is None None s n = refl
+row_is None (Some q) s n = absurd cc
+row_is (Some r) None s n = absurd cc
+row_is (Some r) (Some q) s n =
+    let slot : r.slot ≡ q.slot = cc in
+    let number : r.number ≡ q.number = cc in
+    ap (λ (w : Row). Some w) (λ i. record { slot = slot i; number = number i })
+
+-- the rows of tables that are the same
+pub rows_alike : (m n : Rows) → IsRows m → IsRows n → (a b : ℕ) → table_in m a ≡ table_in n b → (e : List ℕ) → row_at m e ≡ row_at n e
+rows_alike m n rows_m rows_n a b same e =
+    row_is (row_at m e) (row_at n e)
+    (sym (get-state m rows_m e) ∙ ap (λ (t : TableContent). get t.state e) same ∙ get-state n rows_n e)
+    (sym (get-number m rows_m e) ∙ ap (λ (t : TableContent). get t.count.numbers e) same ∙ get-number n rows_n e)
+
+-- a row is filed under its number
+pub row_filed : (filed : Filed) (m : Rows) (change : ℕ) → IsRows m → IsTable filed.names filed.keys filed.numbers filed.due (table_in m change)
+    → (e : List ℕ) (row : Row) → row_at m e ≡ Some row → IsUnder filed.numbers row.number e
+row_filed filed m change rows_m is e row h = (is.numbers_are row.number e).1 (get-number m rows_m e ∙ ap number_of h)
+
+-- Where each endpoint that is filed beside either has the same row in both, each endpoint has.
+module _ (f g : Filed) (m n : Rows) (a b : ℕ) (rows_m : IsRows m) (rows_n : IsRows n) where
+  pub both_same : IsTable f.names f.keys f.numbers f.due (table_in m a) → IsTable g.names g.keys g.numbers g.due (table_in n b)
+      → ((k : ℕ) (e : List ℕ) → IsUnder f.numbers k e → row_at m e ≡ row_at n e) → ((k : ℕ) (e : List ℕ) → IsUnder g.numbers k e → row_at m e ≡ row_at n e)
+      → (e : List ℕ) → row_at m e ≡ row_at n e
+  both_same is_m is_n left right e = go (row_at m e) (row_at n e) refl refl
+    where
+      go : (o p : Option Row) → row_at m e ≡ o → row_at n e ≡ p → row_at m e ≡ row_at n e
+      go (Some row) p h k = left row.number e (row_filed f m a rows_m is_m e row h)
+      go None (Some row) h k = right row.number e (row_filed g n b rows_n is_n e row k)
+      go None None h k = h ∙ sym k
+
+-- ---- a walk over the endpoints that are filed
+-- each endpoint that is filed has the same row in both, or is left
+abbrev pub SameBut : Rows → Rows → List (ℕ × List ℕ) → List (List ℕ) → Type 0
+SameBut rows others numbers left = (n : ℕ) (e : List ℕ) → IsUnder numbers n e → (row_at rows e ≡ row_at others e) ⊎ Contains left e
+
+module _ (rows others : Rows) (numbers : List (ℕ × List ℕ)) where
+  pub none_passed : (left : List (List ℕ)) → AreSince None numbers left → SameBut rows others numbers left
+  none_passed left since n e under = inr ((since e).1 (n, under, tt))
+
+  pub one_passed : (x : List ℕ) (rest : List (List ℕ)) → row_at rows x ≡ row_at others x → SameBut rows others numbers (x ∷ rest) → SameBut rows others numbers rest
+  one_passed x rest same but n e under = elim (but n e under) [
+    inl is ↦ inl is |
+    inr left ↦ elim (there_or_first x rest e left) [ inl at ↦ inl (ap (row_at rows) at ∙ same ∙ sym (ap (row_at others) at)) | inr there ↦ inr there ]
+  ]
+
+  pub all_passed : (left : List (List ℕ)) → left ≡ [] → SameBut rows others numbers left → (n : ℕ) (e : List ℕ) → IsUnder numbers n e → row_at rows e ≡ row_at others e
+  all_passed left none but n e under = elim (but n e under) [ inl is ↦ is | inr l ↦ none_there e (subst (λ (es : List (List ℕ)). Contains es e) none l) ]
