@@ -1,6 +1,6 @@
 -- Tables that are copied and compared, row by row.
 use Rattle.std.proofs.Common.{◌≡◌, ◌≢◌, ◌⊎◌, ◌↔◌, inl, inr, ℕ, true, false, cond, List, [], ◌∷◌, Option, Some, None, refl, sym, ap, ◌∙◌, subst}
-use Rattle.std.specs.Prelude.{Contains, bytes_eq, IsSome}
+use Rattle.std.specs.Prelude.{Contains, bytes_eq, IsSome, option_map}
 use Rattle.std.specs.FinMap.{get}
 use Rattle.lw_recent.specs.Recent.{IsUnder, AreSince}
 use Rattle.lw_reg.proofs.Members.{none_there, there_or_first}
@@ -131,7 +131,27 @@ module _ (f g : Filed) (m n : Rows) (a b : ℕ) (rows_m : IsRows m) (rows_n : Is
       go None (Some row) h k = right row.number e (row_filed g n b rows_n is_n e row k)
       go None None h k = h ∙ sym k
 
+-- tables whose rows and changes are the same
+module _ (f g : Filed) (m n : Rows) (a b : ℕ) (rows_m : IsRows m) (rows_n : IsRows n) where
+  pub same_content : IsTable f.names f.keys f.numbers f.due (table_in m a) → IsTable g.names g.keys g.numbers g.due (table_in n b) → a ≡ b
+      → ((k : ℕ) (e : List ℕ) → IsUnder f.numbers k e → row_at m e ≡ row_at n e) → ((k : ℕ) (e : List ℕ) → IsUnder g.numbers k e → row_at m e ≡ row_at n e)
+      → table_in m a ≡ table_in n b
+  same_content is_m is_n same left right =
+      same_table n m rows_n rows_m a (both_same f g m n a b rows_m rows_n is_m is_n left right) ∙ ap (table_in n) same
+
+-- where a list has nothing at the place, its image has nothing there
+pub absent_there : {A B : Type 0} (f : A → B) (o : Option A) (p : Option B) → option_map f o ≡ p → ¬ IsSome o → p ≡ None
+absent_there f None p is none = sym is
+absent_there f (Some a) p is none = absurd (none refl)
+
 -- ---- a walk over the endpoints that are filed
+-- each endpoint that is left is filed under a number
+abbrev pub AllUnder : List (ℕ × List ℕ) → List (List ℕ) → Type 0
+AllUnder numbers left = (e : List ℕ) → Contains left e → (n : ℕ) × IsUnder numbers n e
+
+pub all_under : (numbers : List (ℕ × List ℕ)) (left : List (List ℕ)) → AreSince None numbers left → AllUnder numbers left
+all_under numbers left since e there = let under = (since e).0 there in (under.0, under.1)
+
 -- each endpoint that is filed has the same row in both, or is left
 abbrev pub SameBut : Rows → Rows → List (ℕ × List ℕ) → List (List ℕ) → Type 0
 SameBut rows others numbers left = (n : ℕ) (e : List ℕ) → IsUnder numbers n e → (row_at rows e ≡ row_at others e) ⊎ Contains left e
@@ -142,8 +162,8 @@ module _ (rows others : Rows) (numbers : List (ℕ × List ℕ)) where
 
   pub one_passed : (x : List ℕ) (rest : List (List ℕ)) → row_at rows x ≡ row_at others x → SameBut rows others numbers (x ∷ rest) → SameBut rows others numbers rest
   one_passed x rest same but n e under = elim (but n e under) [
-    inl is ↦ inl is |
-    inr left ↦ elim (there_or_first x rest e left) [ inl at ↦ inl (ap (row_at rows) at ∙ same ∙ sym (ap (row_at others) at)) | inr there ↦ inr there ]
+    | inl is ↦ inl is
+    | inr left ↦ elim (there_or_first x rest e left) [ inl at ↦ inl (ap (row_at rows) at ∙ same ∙ sym (ap (row_at others) at)) | inr there ↦ inr there ]
   ]
 
   pub all_passed : (left : List (List ℕ)) → left ≡ [] → SameBut rows others numbers left → (n : ℕ) (e : List ℕ) → IsUnder numbers n e → row_at rows e ≡ row_at others e

@@ -42,11 +42,7 @@ impl Table {
 }
 
 /// A copy of each row, and what is filed of them. The rows are put in the order of their numbers.
-fn copies(
-    alloc: Global,
-    numbers: &Recent,
-    original: &Rows,
-) -> Result<(Filed, Rows), NoMemory>
+fn copies(alloc: Global, numbers: &Recent, original: &Rows) -> Result<(Filed, Rows), NoMemory>
     requires rows { IsRows original.now }
     requires numbers { (e : List ℕ) → HasNumber numbers.now e (number_of (row_at original.now e)) }
     ensures { IfOk result (λ r. Copies original.now r.0 r.1) }

@@ -11,11 +11,17 @@ pub(crate) struct Row {
 }
 
 impl Row {
-    /// Whether both have the same slot, which moved last with the same number. Two slots are the same where each is
-    /// below the other.
+    /// Whether both have the same slot, which moved last with the same number.
     pub(crate) fn same(&self, other: &Row) -> bool
         ensures { IsTrue result ↔ (self.now ≡ other.now) }
     {
-        self.number == other.number && self.slot.le(&other.slot) && other.slot.le(&self.slot)
+        self.number == other.number && is_same_slot(&self.slot, &other.slot)
     }
+}
+
+/// Two slots are the same where each is below the other.
+fn is_same_slot(slot: &Slot, other: &Slot) -> bool
+    ensures { IsTrue result ↔ (slot.now ≡ other.now) }
+{
+    slot.le(other) && other.le(slot)
 }
