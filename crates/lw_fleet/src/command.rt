@@ -47,7 +47,7 @@ pub struct ServeOptions {
     pub port: u16,
 }
 
-/// What `--version` prints behind the name of the program.
+/// What `--version` prints after the name of the program.
 const VERSION: &str = "0.1.0";
 
 /// An option whose text is no number that it takes.
@@ -86,7 +86,7 @@ impl BadNumber {
     }
 }
 
-/// Reads the words of the command line, the program's name first. No word behind it means `one`.
+/// Reads the words of the command line, the program's name first. No word after it means `one`.
 pub fn read_request<'a, S: AsStr>(alloc: Global, words: &'a [S]) -> Result<Request<'a>, Error>
     ensures asked { IfOk result (IsAsked (subcommand_of fleet_app (map S.text words.entry.now))) }
     ensures accepted { OnOk result (fault_of fleet_app (map S.text words.entry.now) ≡ []) }

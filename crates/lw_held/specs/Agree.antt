@@ -58,7 +58,7 @@ pub record IsSettled (node : ℕ) (passes : List Transcript) : Type 0 where
   pub fine : (place : ℕ) → IsFine node journal passes place
 
 -- ---- a journal and its volumes
--- the place behind the last entry
+-- the place after the last entry
 abbrev pub end_of : VolumeContent → ℕ
 end_of piece = piece.first + length piece.entries
 
@@ -83,7 +83,7 @@ abbrev pub IsPiece : ℕ → List VolumeContent → HeldContent → Option ℕ �
 IsPiece node volumes held None piece = piece ≡ journal_of held
 IsPiece node volumes held (Some i) piece = IsVolumeOf node volumes i piece
 
--- what begins at the place 0 has a new node as its opening, and what begins behind a volume has the closing of that
+-- what begins at the place 0 has a new node as its opening, and what begins where a volume ends has the closing of that
 pub record IsLinked (node : ℕ) (volumes : List VolumeContent) (first : ℕ) (opening : NodeContent) : Type 0 where
   pub begins : first ≡ 0 → opening ≡ fresh node
   pub goes_on : (i : ℕ) (before : VolumeContent) → IsVolumeOf node volumes i before → end_of before ≡ first → opening ≡ before.closing

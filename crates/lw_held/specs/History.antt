@@ -27,7 +27,7 @@ pub record HeldContent : Type 0 where
 abbrev pub IsLegal : HeldContent → Type 0
 IsLegal held = Leads held.opening held.journal held.node
 
--- entries that were cut off: the place of the first, the node before it, and the node behind the last
+-- entries that were cut off: the place of the first, the node before it, and the node after the last
 pub record VolumeContent : Type 0 where
   pub first : ℕ
   pub opening : NodeContent

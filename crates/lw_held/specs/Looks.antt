@@ -11,7 +11,7 @@ use Rattle.lw_held.specs.Transcript.{Transcript}
 abbrev pub IsThere : ℕ → List VolumeContent → HeldContent → Part → Type 0
 IsThere node volumes held part = (w : Option ℕ) × (piece : VolumeContent) × IsPiece node volumes held w piece × IsEntryAt piece.first piece.entries part.place part.entry
 
--- part k is in a piece, and behind the parts before it
+-- part k is in a piece, and after the parts before it
 abbrev pub Fits : ℕ → List VolumeContent → HeldContent → List Part → ℕ → Part → Type 0
 Fits node volumes held parts k part = IsThere node volumes held part × IsInOrder node parts k part.place
 
@@ -81,7 +81,7 @@ abbrev pub AllFitBelow : ℕ → List VolumeContent → HeldContent → List Tra
 AllFitBelow node volumes held passes n place = (i : ℕ) (pass : Transcript) → i < n → slice_get passes i ≡ Some pass → FitBelow node volumes held pass.parts (length pass.parts) place
 
 -- ---- how the pieces are laid
--- the first volume of the node that has the place, of those from this one on; where none is found, none has
+-- the first volume of the node that has the place, of those from number `start` on; where none is found, none has it
 abbrev pub IsFirstFrom : ℕ → List VolumeContent → ℕ → ℕ → Option ℕ → Type 0
 IsFirstFrom node volumes place start None = (j : ℕ) (volume : VolumeContent) → start ≤ j → IsVolumeOf node volumes j volume → Covers volume place → ⊥
 IsFirstFrom node volumes place start (Some i) =
@@ -92,8 +92,8 @@ IsFirstFrom node volumes place start (Some i) =
 abbrev pub IsEndOf : ℕ → VolumeContent → ℕ → Type 0
 IsEndOf node volume place = (volume.opening.number ≡ node) × ((place ≡ volume.first) ⊎ (place ≡ end_of volume))
 
--- At such places the least that is not laid is found: at 0, at the journal's first, and where one of the first n volumes
--- of the node begins or ends.
+-- Of the places that are not laid the least is one of these: 0, the journal's first, and where one of the first n
+-- volumes of the node begins or ends.
 abbrev pub IsTurn : ℕ → List VolumeContent → HeldContent → ℕ → ℕ → Type 0
 IsTurn node volumes held n place =
     (place ≡ 0) ⊎ ((place ≡ held.first)

@@ -1,9 +1,10 @@
 //! Whether the transcripts of passes are a journal and the volumes that were cut off it, without memory.
 //!
 //! Three walks find the least place that fails: one over the parts of each pass, which asks whether each is the entry
-//! at its place and behind the parts before it; one over the entries of the journal and of each volume, which asks
+//! at its place, and after the parts before it; one over the entries of the journal and of each volume, which asks
 //! whether each entry's pass has a part for its place; and one over the volumes, which asks whether they are laid end
-//! to end. Since a part's number is its place in its transcript, each question of an entry looks at one place.
+//! to end. Since a part's number is its place in its transcript, each question of an entry looks at one place. Each of
+//! a part looks at one place in the journal and in each volume.
 
 ghost use Rattle.std.specs.Prelude.{◌≡◌, ◌↔◌, ◌<◌, ◌^◌, ℕ, length, Some, None, slice_get, IsTrue};
 ghost use Rattle.lw_node.specs.Node.{fresh};
@@ -25,7 +26,7 @@ pub(crate) struct Look {
     last: Option<u64>,
 }
 
-/// The least place that is not fine. The last is a new node of the number.
+/// The least place that is not fine. The last argument is a new node of the number.
 pub(crate) fn first_failing(
     node: u16,
     volumes: &[Volume],
@@ -192,7 +193,7 @@ fn first_untold_of_all(
     least
 }
 
-/// The same of a volume, if it is of the node.
+/// The least place of an entry of the volume for which its pass has no part, if the volume is of the node.
 fn first_untold_in(node: u16, volume: &Volume, passes: &[Pass]) -> Option<u64>
     ensures { IsFirstBreak (λ p. volume.now.opening.number ≡ node → IsTold node volume.now.first volume.now.entries passes.now p) result }
 {
@@ -202,7 +203,7 @@ fn first_untold_in(node: u16, volume: &Volume, passes: &[Pass]) -> Option<u64>
     first_untold(node, volume.first(), volume.entries(), passes)
 }
 
-/// The same of entries of which the first stands at this place.
+/// The least place of an entry for which its pass has no part, where the first of the entries stands at this place.
 fn first_untold(node: u16, first: u64, entries: &[Entry], passes: &[Pass]) -> Option<u64>
     requires { (first < 2 ^ 63) × (length entries.now < 2 ^ 63) }
     ensures { IsFirstBreak (IsTold node first entries.now passes.now) result }

@@ -123,7 +123,7 @@ impl Held {
         Ok(Volume::new(self.number, first, before, entries, closing))
     }
 
-    /// The place behind the last entry. There is no memory for so many entries that it would not be below 2^63.
+    /// The place after the last entry. Where it is not below 2^63 there is no memory: so many calls are never made.
     fn next_first(&self) -> Result<u64, NoMemory>
         ensures { IfOk result (λ place. (place ≡ self.now.first + length self.now.journal) × (place < 2 ^ 63)) }
     {

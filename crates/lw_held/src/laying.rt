@@ -1,9 +1,9 @@
 //! Whether the volumes of a node and its journal are laid end to end, without memory.
 //!
-//! Below the journal's first place each place is in one volume of the node, and from there on none is; and where a
-//! piece begins, it goes on from the node that the piece before it left. The least place where this does not hold is 0,
-//! the journal's first, or one where a volume begins or ends, so these are looked at. Each look passes over all
-//! volumes.
+//! Below the journal's first place each place is in one volume of the node, and from there on in none. What begins
+//! where a volume ends has that volume's closing as its opening, and what begins at place 0 has a new node. The least
+//! place where this does not hold is 0, the journal's first, or one where a volume begins or ends, so these are looked
+//! at. Each look goes over all volumes.
 
 ghost use Rattle.std.specs.Prelude.{◌≡◌, ◌↔◌, ◌<◌, ℕ, length, Some, IsTrue};
 ghost use Rattle.lw_node.specs.Node.{fresh};
@@ -15,7 +15,7 @@ use crate::held::Held;
 use crate::volume::Volume;
 use lw_node::Node;
 
-/// The least place that is not laid. The last is a new node of the number.
+/// The least place that is not laid. The last argument is a new node of the number.
 pub(crate) fn first_unlaid(
     node: u16,
     volumes: &[Volume],
@@ -71,7 +71,8 @@ fn is_laid(node: u16, volumes: &[Volume], held: &Held, new: &Node, place: u64) -
         && are_linked(node, volumes, held, new, place)
 }
 
-/// Whether one volume of the node has the place where it is below this one, and else none.
+/// Whether one volume of the node alone has the place, where that is below the journal's first, and else whether none
+/// has it.
 fn is_covered_once(node: u16, volumes: &[Volume], first: u64, place: u64) -> bool
     ensures { IsTrue result ↔ IsCoveredOnce node volumes.now first place }
 {
@@ -81,7 +82,7 @@ fn is_covered_once(node: u16, volumes: &[Volume], first: u64, place: u64) -> boo
     }
 }
 
-/// The first volume of the node that has the place, of those from this one on.
+/// The first volume of the node that has the place, of those from the number on.
 fn covering(node: u16, volumes: &[Volume], place: u64, start: usize) -> Option<usize>
     ensures first { IsFirstFrom node volumes.now place start result }
     ensures within { (i : ℕ) → result ≡ Some i → i < length volumes.now }
@@ -133,7 +134,8 @@ fn is_volume_linked(
         || is_linked(node, volumes, new, volume.first(), volume.opening())
 }
 
-/// Whether the opening is a new node at the place 0, and else the closing of what ends at the place.
+/// Whether what begins at the place with this opening is linked: at place 0 the opening is a new node, and it is the
+/// closing of each volume that ends there.
 fn is_linked(node: u16, volumes: &[Volume], new: &Node, first: u64, opening: &Node) -> bool
     requires { new.now ≡ fresh node }
     ensures { IsTrue result ↔ IsLinked node volumes.now first opening.now }

@@ -79,7 +79,7 @@ impl Shelf {
         pass.step(self.number, held, call)
     }
 
-    /// Cuts off the journal behind the lock, if it has an entry.
+    /// Cuts off the journal behind the lock, if it has an entry. The node is copied twice under the lock.
     pub fn cut<R: Wait>(&self, rt: &R) -> Result<Option<Volume>, NoMemory>
         // It is that of some node with a legal history. That it is the one behind this lock is what `settle` shows.
         ensures { IfOk result (λ cut. IfSome cut IsCutOff) }

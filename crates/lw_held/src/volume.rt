@@ -4,8 +4,8 @@ use crate::entry::Entry;
 use lw_node::Node;
 use std::marker::Model;
 
-/// Entries that were cut off a journal, with the node as it stood before the first of them and behind the last: they
-/// are a legal history from the one to the other. It cannot be copied.
+/// Entries that were cut off a journal, with the node as it stood before the first of them and after the last: they are
+/// a legal history from the one to the other. It cannot be copied.
 #[derive(Drop)]
 pub struct Volume {
     number: u16,
@@ -82,7 +82,7 @@ impl Volume {
         self.first
     }
 
-    /// The place behind the last entry.
+    /// The place after the last entry.
     pub(crate) fn end(&self) -> u64
         ensures { result ≡ end_of self.now }
     {
@@ -90,6 +90,7 @@ impl Volume {
         count + self.first
     }
 
+    /// The calls with their replies, of which there is one at least.
     pub fn entries(&self) -> &[Entry]
         ensures value { result.now ≡ self.now.entries }
         ensures within { length result.now < 2 ^ 63 }
@@ -104,7 +105,7 @@ impl Volume {
         &self.opening
     }
 
-    /// The node as it stood behind the last entry.
+    /// The node as it stood after the last entry.
     pub fn closing(&self) -> &Node
         ensures { result.now ≡ self.now.closing }
     {

@@ -26,7 +26,8 @@ pub(crate) fn cut_journals<R: Wait>(
     }
 }
 
-/// Cuts the journal at the place, and keeps the volume, if there is one: whether there was memory for both.
+/// Cuts the journal of the shelf at the place, and keeps the volume, if there is one. It tells whether there was memory
+/// for the cut and for room in the list.
 fn is_cut<R: Wait>(rt: &R, shelves: &[Shelf], place: usize, volumes: &mut Vec<Volume>) -> bool
     requires within { place < length shelves.now }
     requires kept { HaveShelves shelves.now volumes.old.items }
@@ -41,7 +42,7 @@ fn is_cut<R: Wait>(rt: &R, shelves: &[Shelf], place: usize, volumes: &mut Vec<Vo
         Err(_) => false,
         Ok(None) => true,
         Ok(Some(volume)) => {
-            // A node of another number cannot settle in any case.
+            // A shelf with a node of another number does not settle in any case.
             if volume.node() == shelf.number() {
                 volumes.push_reserved(volume);
             }
