@@ -1,5 +1,6 @@
 -- Lists that are longer by one, and what is known of a call under a lock.
-use Rattle.std.proofs.Common.{◌≡◌, ℕ, zero, suc, ◌+◌, List, [], ◌∷◌, ◌++◌, length, Option, Some, None, Result, Ok, Err, refl, sym, ap, ◌∙◌, subst, inl, inr, ◌⊎◌}
+use Rattle.std.proofs.Common.{◌≡◌, ℕ, zero, suc, ◌+◌, ◌<◌, List, [], ◌∷◌, ◌++◌, length, Option, Some, None, Result, Ok, Err, refl, sym, ap, ◌∙◌, subst, inl, inr, ◌⊎◌}
+use borrow.Author.Count.{below_more}
 use Rattle.std.specs.Prelude.{slice_get, ◌≢◌, IfErr, IfOk, IfSome, IsSomeAnd, OnOk}
 use Rattle.lw_stamp.specs.declared.no_memory.NoMemory.{NoMemory}
 use Rattle.lw_call.specs.declared.call.Call.{Call}
@@ -8,7 +9,8 @@ use Rattle.lw_held.specs.declared.entry.Part.{Part}
 use Rattle.lw_held.specs.declared.shelf.Shelf.{Shelf}
 use Rattle.lw_held.specs.Agree.{Agrees, Fails, IsSettled}
 use Rattle.lw_held.specs.History.{HeldContent, VolumeContent, IsLegal, IsVolume, Enters, Cuts}
-use Rattle.lw_held.proofs.Laying.{one_history}
+use Rattle.lw_held.proofs.Agreement.{same_some}
+use Rattle.lw_held.proofs.Pieces.{one_history}
 use Rattle.lw_held.specs.Shelves.{AreInOrder, AreNew, FailsAt, IsAnswered, IsCutOff}
 use Rattle.lw_held.specs.Transcript.{Transcript, IsNumbered}
 
@@ -43,6 +45,11 @@ new_longer passes longer pass before pushed next k x at =
       | inl earlier ↦ before k x earlier
       | inr last ↦ subst (λ n. x ≡ record { number = n; parts = [] }) (sym last.0) (sym last.1 ∙ next)
     ]
+
+-- what holds of each of the first n holds of one more
+pub each_more : {A : Type 0} (P : A → Type 0) (xs : List A) (n : ℕ) (x : A) → slice_get xs n ≡ Some x → P x → ((i : ℕ) (y : A) → i < n → slice_get xs i ≡ Some y → P y) → (i : ℕ) (y : A) → i < n + 1 → slice_get xs i ≡ Some y → P y
+each_more P xs n x item here before i y lt at =
+    below_more (λ j. (w : A) → slice_get xs j ≡ Some w → P w) n (λ j l w a. before j w l a) (λ w a. subst P (same_some x w _ item a) here) i lt y at
 
 -- what has answered had a legal history
 pub answered : (r : Result ℕ NoMemory) (pass number : ℕ) (call : Call) (old new : HeldContent) (Q : ℕ → Entry → Type 0) → IsLegal old → IfOk r (λ place. (entry : Entry) × Enters old pass number call entry place new × Q place entry)
