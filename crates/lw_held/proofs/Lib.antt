@@ -3,7 +3,7 @@ pub mod Histories
 pub mod Agreement
 pub mod Lawful
 pub mod Joining
-pub mod Laying
+pub mod Pieces
 pub mod Longer
 pub mod Stepping
 pub mod Marking

@@ -8,7 +8,7 @@ use Rattle.lw_held.specs.declared.entry.Part.{Part}
 use Rattle.lw_held.specs.declared.shelf.Shelf.{Shelf}
 use Rattle.lw_held.specs.Agree.{Agrees, Fails, IsSettled}
 use Rattle.lw_held.specs.History.{HeldContent, VolumeContent, IsLegal, IsVolume, Enters, Cuts}
-use Rattle.lw_held.proofs.Laying.{one_history}
+use Rattle.lw_held.proofs.Pieces.{one_history}
 use Rattle.lw_held.specs.Shelves.{AreInOrder, AreNew, FailsAt, IsAnswered, IsCutOff}
 use Rattle.lw_held.specs.Transcript.{Transcript, IsNumbered}
 

@@ -1,4 +1,4 @@
-use Rattle.lw_held.proofs.Laying.{none_covers, one_covers}
+use Rattle.lw_held.proofs.Pieces.{none_covers, one_covers}
 use Rattle.lw_held.proofs.laying.is_covered_once.Goals as goal
 
 -- Open: `first <= place` and `place < first && ..` as the tests that the lemmas speak of.

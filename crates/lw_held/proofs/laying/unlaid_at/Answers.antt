@@ -1,4 +1,4 @@
-use Rattle.lw_held.proofs.Laying.{laid_at, unlaid_at}
+use Rattle.lw_held.proofs.Pieces.{laid_at, unlaid_at}
 use Rattle.std.proofs.Common.{◌≡◌, false, true}
 use Rattle.lw_held.proofs.laying.unlaid_at.Goals as goal
 
