@@ -1,12 +1,12 @@
 -- How volumes and a journal are laid: where the least place is that is not, and that pieces which are laid end to end are
 -- one history.
 use Rattle.std.proofs.Common.{◌≡◌, ◌≢◌, ◌↔◌, ◌⊎◌, inl, inr, ℕ, zero, suc, ◌+◌, ◌<◌, ◌≤◌, List, [], ◌∷◌, ◌++◌, length, Option, None, Some, refl, sym, ap, ◌∙◌, subst, arith, length-append}
-use Rattle.std.specs.Prelude.{slice_get}
+use Rattle.std.specs.Prelude.{Bool, true, false, not, IsTrue, is_some, slice_get}
 use Rattle.std.proofs.lemmas.Option.{slice_get_within}
 use Rattle.std.proofs.lemmas.Bool.{cases_lt}
 use Rattle.lw_node.specs.Node.{NodeContent, fresh}
 use Rattle.lw_held.specs.declared.entry.Entry.{Entry}
-use Rattle.lw_held.specs.Agree.{IsFirstBreak, IsFine, IsSettled, end_of, Covers, IsEntryAt, journal_of, IsVolumeOf, IsPiece, IsCoveredOnce, IsLaid, IsFineIn}
+use Rattle.lw_held.specs.Agree.{IsFirstBreak, IsFine, IsSettled, end_of, Covers, IsEntryAt, journal_of, IsVolumeOf, IsPiece, IsLinked, IsCoveredOnce, AreLinked, IsLaid, IsFineIn}
 use Rattle.lw_held.specs.History.{HeldContent, VolumeContent, IsLegal, IsVolume, Leads}
 use Rattle.lw_held.specs.Looks.{IsEndOf, IsFirstFrom, IsTurn, TurnIsLaid, lesser_of}
 use Rattle.lw_held.specs.Transcript.{Transcript}
@@ -53,6 +53,20 @@ module _ (node : ℕ) (volumes : List VolumeContent) (first place : ℕ) where
           let is : i ≡ j = same j found.1.0 found.1.1 found.1.2 in
           let behind = found.0 in
           absurd (omega (arith, is, behind))
+
+-- whether no number was found
+pub is_no_number : (o : Option ℕ) (b : Bool) → is_some o ≡ not b → IsTrue b ↔ (o ≡ None)
+is_no_number None true is = (λ yes. refl, λ none. refl)
+is_no_number None false is = absurd (let no : false ≡ true = is in cc)
+is_no_number (Some i) true is = absurd (let no : true ≡ false = is in cc)
+is_no_number (Some i) false is = (λ yes. absurd (let no : false ≡ true = yes in cc), λ none. absurd (let no : ◌≡◌ {A = Option ℕ} (Some i) None = none in cc))
+
+-- ---- what begins at the place is linked
+module _ (node : ℕ) (volumes : List VolumeContent) (held : HeldContent) (place : ℕ) where
+  -- the journal and each volume
+  pub all_linked : (held.first ≡ place → IsLinked node volumes held.first held.opening) → ((i : ℕ) (volume : VolumeContent) → IsVolumeOf node volumes i volume → volume.first ≡ place → IsLinked node volumes volume.first volume.opening) → AreLinked node volumes held place
+  all_linked journal each None piece is at = subst (λ (v : VolumeContent). IsLinked node volumes v.first v.opening) (sym is) (journal (ap (λ (v : VolumeContent). v.first) (sym is) ∙ at))
+  all_linked journal each (Some i) piece is at = each i piece is at
 
 -- ---- the least place that is not laid
 module _ (node : ℕ) (volumes : List VolumeContent) (held : HeldContent) where
@@ -166,7 +180,7 @@ turns_all node volumes held n o a b h = let e : n ≡ length volumes = omega ari
 there_or_behind : (xs ys : List Entry) (q : ℕ) (e : Entry) → slice_get (xs ++ ys) q ≡ Some e → (slice_get xs q ≡ Some e) ⊎ ((k : ℕ) × (q ≡ length xs + k) × (slice_get ys k ≡ Some e))
 there_or_behind [] ys q e at = inr (q, (let is : q ≡ 0 + q = omega arith in is), at)
 there_or_behind (x ∷ xs) ys zero e at = inl at
-there_or_behind (x ∷ xs) ys (suc q) e at = elim (there_or_behind xs ys q e at) [ inl first ↦ inl first | inr behind ↦ inr (behind.0, ap suc behind.1, behind.2) ]
+there_or_behind (x ∷ xs) ys (suc q) e at = elim (there_or_behind xs ys q e at) [ inl first ↦ inl first | inr behind ↦ let is = behind.1 in inr (behind.0, (let so : suc q ≡ suc (length xs) + behind.0 = omega (arith, is) in so), behind.2) ]
 
 some_length : (entries : List Entry) → entries ≢ [] → 1 ≤ length entries
 some_length [] some = absurd (some refl)
