@@ -45,7 +45,7 @@ impl Model for Held {
 }
 
 impl Held {
-    ghost use Rattle.lw_held.specs.Agree.{AreDistinct, Agrees, Fails};
+    ghost use Rattle.lw_held.specs.Agree.{AreDistinct, Agrees, Fails, IsFineIn, IsFirstBreak};
     ghost use Rattle.lw_held.specs.History.{Cuts, IsLegal, Enters};
 
     /// A new node with an empty journal.
@@ -169,11 +169,19 @@ impl Held {
         if self.number != node {
             return Err(0);
         }
-        let new = Node::new(self.alloc, node);
-        match agreeing::first_failing(node, volumes, self, passes, &new) {
+        match self.first_failing(node, volumes, passes) {
             None => Ok(()),
             Some(place) => Err(place),
         }
+    }
+
+    /// The least place that is not fine.
+    fn first_failing(&self, node: u16, volumes: &[Volume], passes: &[Pass]) -> Option<u64>
+        requires { AreDistinct passes.now }
+        ensures { IsFirstBreak (IsFineIn node volumes.now self.now passes.now) result }
+    {
+        let new = Node::new(self.alloc, node);
+        agreeing::first_failing(node, volumes, self, passes, &new)
     }
 }
 

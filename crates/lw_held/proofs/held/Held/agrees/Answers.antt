@@ -1,8 +1,10 @@
-use Rattle.std.proofs.Common.{rules}
+use Rattle.std.proofs.Common.{rules, ◌∙◌, ap, sym}
+use Rattle.lw_held.specs.History.{HeldContent}
 use Rattle.lw_held.proofs.held.Held.agrees.Goals as goal
 
 pub returns-in-None-clause-ok : goal.returns-in-None-clause-ok
-returns-in-None-clause-ok c = search rules
+returns-in-None-clause-ok c =
+    (sym (ap (λ (h : HeldContent). h.node.number) c.self.view_is) ∙ sym c.self.invariant.0 ∙ c.if-self-node.false, c.in-None.ensures)
 
 pub returns-in-None-clause-err : goal.returns-in-None-clause-err
 returns-in-None-clause-err c = search rules
