@@ -6,7 +6,7 @@ use Rattle.std.proofs.lemmas.Option.{slice_get_within}
 use Rattle.std.proofs.lemmas.Bool.{cases_lt}
 use Rattle.lw_node.specs.Node.{NodeContent, fresh}
 use Rattle.lw_held.specs.declared.entry.Entry.{Entry}
-use Rattle.lw_held.specs.Agree.{IsFirstBreak, IsFine, IsSettled, end_of, Covers, IsEntryAt, journal_of, IsVolumeOf, IsPiece, IsLinked, IsCoveredOnce, AreLinked, IsLaid, IsFineIn}
+use Rattle.lw_held.specs.Agree.{IsFirstBreak, IsSettled, end_of, Covers, IsEntryAt, journal_of, IsVolumeOf, IsPiece, IsLinked, IsCoveredOnce, AreLinked, IsLaid, IsFineIn}
 use Rattle.lw_held.specs.History.{HeldContent, VolumeContent, IsLegal, IsVolume, Leads}
 use Rattle.lw_held.specs.Looks.{IsEndOf, IsFirstFrom, IsTurn, TurnIsLaid, lesser_of}
 use Rattle.lw_held.specs.Transcript.{Transcript}

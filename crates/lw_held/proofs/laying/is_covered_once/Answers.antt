@@ -1,4 +1,4 @@
-use Rattle.std.proofs.Common.{◌≡◌, ◌<◌, arith}
+use Rattle.std.proofs.Common.{arith}
 use Rattle.std.proofs.lemmas.Bool.{le-leb, leb-true, lt-ltb, ltb-true}
 use Rattle.lw_held.proofs.Pieces.{none_found, none_covers, one_covers}
 use Rattle.lw_held.proofs.laying.is_covered_once.Goals as goal
