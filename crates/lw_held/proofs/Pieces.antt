@@ -6,7 +6,7 @@ use Rattle.std.proofs.lemmas.Option.{slice_get_within}
 use Rattle.std.proofs.lemmas.Bool.{cases_lt}
 use Rattle.lw_node.specs.Node.{NodeContent, fresh}
 use Rattle.lw_held.specs.declared.entry.Entry.{Entry}
-use Rattle.lw_held.specs.Agree.{IsFirstBreak, IsFine, IsSettled, end_of, Covers, IsEntryAt, journal_of, IsVolumeOf, IsPiece, IsLinked, IsCoveredOnce, AreLinked, IsLaid, IsFineIn}
+use Rattle.lw_held.specs.Agree.{IsFirstBreak, IsSettled, end_of, Covers, IsEntryAt, journal_of, IsVolumeOf, IsPiece, IsLinked, IsCoveredOnce, AreLinked, IsLaid, IsFineIn}
 use Rattle.lw_held.specs.History.{HeldContent, VolumeContent, IsLegal, IsVolume, Leads}
 use Rattle.lw_held.specs.Looks.{IsEndOf, IsFirstFrom, IsTurn, TurnIsLaid, lesser_of}
 use Rattle.lw_held.specs.Transcript.{Transcript}
@@ -31,19 +31,19 @@ module _ (node : ℕ) (volumes : List VolumeContent) (first place : ℕ) where
   pub one_covers : (i : ℕ) (next : Option ℕ) → IsFirstFrom node volumes place 0 (Some i) → IsFirstFrom node volumes place (i + 1) next → ((place < first) × (next ≡ None)) ↔ IsCoveredOnce node volumes first place
   one_covers i next one more = (
     λ h. let none : IsFirstFrom node volumes place (i + 1) None = subst (IsFirstFrom node volumes place (i + 1)) h.1 more in
-    let at : (j : ℕ) (volume : VolumeContent) → IsVolumeOf node volumes j volume → Covers volume place → j ≡ i =
-    λ j volume a c. elim (cases_lt j i) [
-      | inl before ↦ absurd (one.2 j volume (omega arith) before a c)
-      | inr from ↦ elim (cases_lt i j) [
-        | inl behind ↦ absurd (none j volume (omega (arith, behind)) a c)
-        | inr upto ↦ omega (arith, from, upto)
-      ]
-    ] in
-    record {
-      single = λ j k left right a b c d. at j left a c ∙ sym (at k right b d);
-      behind = λ j volume a c. h.0;
-      whole = λ low. (i, one.1.0, one.1.1, one.1.2);
-    },
+        let at : (j : ℕ) (volume : VolumeContent) → IsVolumeOf node volumes j volume → Covers volume place → j ≡ i =
+        λ j volume a c. elim (cases_lt j i) [
+          | inl before ↦ absurd (one.2 j volume (omega arith) before a c)
+          | inr from ↦ elim (cases_lt i j) [
+            | inl after ↦ absurd (none j volume (omega (arith, after)) a c)
+            | inr upto ↦ omega (arith, from, upto)
+          ]
+        ] in
+        record {
+          single = λ j k left right a b c d. at j left a c ∙ sym (at k right b d);
+          behind = λ j volume a c. h.0;
+          whole = λ low. (i, one.1.0, one.1.1, one.1.2);
+        },
     λ once. (once.behind i one.1.0 one.1.1 one.1.2, alone next more (λ j volume a c. once.single i j one.1.0 volume one.1.1 a one.1.2 c)),
   )
     where
@@ -51,15 +51,15 @@ module _ (node : ℕ) (volumes : List VolumeContent) (first place : ℕ) where
       alone None found same = refl
       alone (Some j) found same =
           let is : i ≡ j = same j found.1.0 found.1.1 found.1.2 in
-          let behind = found.0 in
-          absurd (omega (arith, is, behind))
+          let above = found.0 in
+          absurd (omega (arith, is, above))
 
--- whether no number was found
-pub is_no_number : (o : Option ℕ) (b : Bool) → is_some o ≡ not b → IsTrue b ↔ (o ≡ None)
-is_no_number None true is = (λ yes. refl, λ none. refl)
-is_no_number None false is = absurd (let no : false ≡ true = is in cc)
-is_no_number (Some i) true is = absurd (let no : true ≡ false = is in cc)
-is_no_number (Some i) false is = (λ yes. absurd (let no : false ≡ true = yes in cc), λ none. absurd (let no : ◌≡◌ {A = Option ℕ} (Some i) None = none in cc))
+-- whether none was found
+pub none_found : (o : Option ℕ) (b : Bool) → is_some o ≡ not b → IsTrue b ↔ (o ≡ None)
+none_found None true is = (λ yes. refl, λ none. refl)
+none_found None false is = absurd (let no : false ≡ true = is in cc)
+none_found (Some i) true is = absurd (let no : true ≡ false = is in cc)
+none_found (Some i) false is = (λ yes. absurd (let no : false ≡ true = yes in cc), λ none. absurd (let no : ◌≡◌ {A = Option ℕ} (Some i) None = none in cc))
 
 -- ---- what begins at the place is linked
 module _ (node : ℕ) (volumes : List VolumeContent) (held : HeldContent) (place : ℕ) where
@@ -85,8 +85,8 @@ module _ (node : ℕ) (volumes : List VolumeContent) (held : HeldContent) where
           | inr more ↦ (begin i one a (omega (arith, lt, low))).0.single i j one other a b (omega arith, omega (arith, low, high)) (omega (arith, more), omega (arith, low, upto))
         ]
 
-    behind_below : (p : ℕ) → p < bound → (i : ℕ) (volume : VolumeContent) → IsVolumeOf node volumes i volume → Covers volume p → p < held.first
-    behind_below p lt i volume is c =
+    below_first : (p : ℕ) → p < bound → (i : ℕ) (volume : VolumeContent) → IsVolumeOf node volumes i volume → Covers volume p → p < held.first
+    below_first p lt i volume is c =
         let low = c.0 in
         let high = c.1 in
         elim (cases_lt p held.first) [
@@ -115,7 +115,7 @@ module _ (node : ℕ) (volumes : List VolumeContent) (held : HeldContent) where
     linked_below p lt (Some i) piece is at = turns p lt (inr (inr (i, piece, slice_get_within volumes i piece is.0, is.0, (is.1, inl (sym at)))))
 
     pub laid_below : (p : ℕ) → p < bound → IsLaid node volumes held p
-    laid_below p lt = (record { single = single_below p lt; behind = behind_below p lt; whole = whole_below p lt }, λ w piece is at. (linked_below p lt w piece is at).1 w piece is at)
+    laid_below p lt = (record { single = single_below p lt; behind = below_first p lt; whole = whole_below p lt }, λ w piece is at. (linked_below p lt w piece is at).1 w piece is at)
 
   pub turns_break : (o : Option ℕ) → IsFirstBreak (TurnIsLaid node volumes held (length volumes)) o → IsFirstBreak (IsLaid node volumes held) o
   turns_break None h = λ p. laid_below (p + 1) (λ q lt turn. h q turn) p (omega arith)
@@ -176,11 +176,11 @@ pub turns_all : (node : ℕ) (volumes : List VolumeContent) (held : HeldContent)
 turns_all node volumes held n o a b h = let e : n ≡ length volumes = omega arith in turns_break node volumes held o (subst (λ m. IsFirstBreak (TurnIsLaid node volumes held m) o) e h)
 
 -- ---- one history
--- what stands at a place of two lists stands in the first, or behind it in the second
-there_or_behind : (xs ys : List Entry) (q : ℕ) (e : Entry) → slice_get (xs ++ ys) q ≡ Some e → (slice_get xs q ≡ Some e) ⊎ ((k : ℕ) × (q ≡ length xs + k) × (slice_get ys k ≡ Some e))
-there_or_behind [] ys q e at = inr (q, (let is : q ≡ 0 + q = omega arith in is), at)
-there_or_behind (x ∷ xs) ys zero e at = inl at
-there_or_behind (x ∷ xs) ys (suc q) e at = elim (there_or_behind xs ys q e at) [ inl first ↦ inl first | inr behind ↦ let is = behind.1 in inr (behind.0, (let so : suc q ≡ suc (length xs) + behind.0 = omega (arith, is) in so), behind.2) ]
+-- what stands at a place of two lists stands in the first, or after it in the second
+there_or_after : (xs ys : List Entry) (q : ℕ) (e : Entry) → slice_get (xs ++ ys) q ≡ Some e → (slice_get xs q ≡ Some e) ⊎ ((k : ℕ) × (q ≡ length xs + k) × (slice_get ys k ≡ Some e))
+there_or_after [] ys q e at = inr (q, (let is : q ≡ 0 + q = omega arith in is), at)
+there_or_after (x ∷ xs) ys zero e at = inl at
+there_or_after (x ∷ xs) ys (suc q) e at = elim (there_or_after xs ys q e at) [ inl first ↦ inl first | inr after ↦ let is = after.1 in inr (after.0, (let so : suc q ≡ suc (length xs) + after.0 = omega (arith, is) in so), after.2) ]
 
 some_length : (entries : List Entry) → entries ≢ [] → 1 ≤ length entries
 some_length [] some = absurd (some refl)
@@ -241,9 +241,9 @@ module _ (node : ℕ) (volumes : List VolumeContent) (held : HeldContent) (passe
         last = volume.closing;
         many = omega (arith, long, many, at);
         leads = follow (fresh node) upto.last volume.closing upto.entries volume.entries upto.leads (subst (λ (n : NodeContent). Leads n volume.entries volume.closing) opening (legal i volume is.0).1);
-        are = λ q e there. elim (there_or_behind upto.entries volume.entries q e there) [
+        are = λ q e there. elim (there_or_after upto.entries volume.entries q e there) [
           | inl first ↦ upto.are q e first
-          | inr behind ↦ let k = behind.1 in (i, volume, is, (behind.0, (let so : q ≡ volume.first + behind.0 = omega (arith, k, many, at) in so), behind.2))
+          | inr after ↦ let k = after.1 in (i, volume, is, (after.0, (let so : q ≡ volume.first + after.0 = omega (arith, k, many, at) in so), after.2))
         ];
         ends = inr (i, volume, is, refl, refl);
       }
@@ -286,9 +286,9 @@ module _ (node : ℕ) (volumes : List VolumeContent) (held : HeldContent) (passe
         last = held.node;
         legal = follow (fresh node) upto.last held.node upto.entries held.journal upto.leads (subst (λ (n : NodeContent). Leads n held.journal held.node) opening own);
         fine = λ p. record {
-          held = λ e there. elim (there_or_behind upto.entries held.journal p e there) [
+          held = λ e there. elim (there_or_after upto.entries held.journal p e there) [
             | inl first ↦ let f = upto.are p e first in (fine p).told (Some f.0) f.1 e f.2 f.3
-            | inr behind ↦ let k = behind.1 in (fine p).told None (journal_of held) e refl (behind.0, (let so : p ≡ held.first + behind.0 = omega (arith, k, many) in so), behind.2)
+            | inr after ↦ let k = after.1 in (fine p).told None (journal_of held) e refl (after.0, (let so : p ≡ held.first + after.0 = omega (arith, k, many) in so), after.2)
           ];
           alone = (fine p).alone;
           within = λ i k pass part is of. let w = (fine p).within i k pass part is of in inside p w.0 w.1 w.2 w.3 (length (upto.entries ++ held.journal)) (omega (arith, long, many));

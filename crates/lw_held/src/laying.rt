@@ -16,12 +16,7 @@ use crate::volume::Volume;
 use lw_node::Node;
 
 /// The least place that is not laid. The last argument is a new node of the number.
-pub(crate) fn first_unlaid(
-    node: u16,
-    volumes: &[Volume],
-    held: &Held,
-    new: &Node,
-) -> Option<u64>
+pub(crate) fn first_unlaid(node: u16, volumes: &[Volume], held: &Held, new: &Node) -> Option<u64>
     requires { new.now ≡ fresh node }
     ensures { IsFirstBreak (IsLaid node volumes.now held.now) result }
 {
@@ -119,13 +114,7 @@ fn are_linked(node: u16, volumes: &[Volume], held: &Held, new: &Node, place: u64
 }
 
 /// Whether the volume is linked, if it is of the node and begins at the place.
-fn is_volume_linked(
-    node: u16,
-    volumes: &[Volume],
-    new: &Node,
-    place: u64,
-    volume: &Volume,
-) -> bool
+fn is_volume_linked(node: u16, volumes: &[Volume], new: &Node, place: u64, volume: &Volume) -> bool
     requires { new.now ≡ fresh node }
     ensures { IsTrue result ↔ (volume.now.opening.number ≡ node → volume.now.first ≡ place → IsLinked node volumes.now volume.now.first volume.now.opening) }
 {

@@ -1,4 +1,4 @@
-use Rattle.std.proofs.Common.{◌≡◌, ◌∙◌, sym, subst}
+use Rattle.std.proofs.Common.{◌∙◌, sym, subst}
 use Rattle.lw_held.specs.Agree.{IsFirstBreak, IsLaid}
 use Rattle.lw_held.specs.Looks.{IsEndOf}
 use Rattle.lw_held.proofs.Pieces.{LaidAt, both_ends}
