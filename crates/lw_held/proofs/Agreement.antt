@@ -30,6 +30,11 @@ module _ {P Q S : ℕ → Type 0} (to : (p : ℕ) → P p → Q p → S p) (from
       ] in
       (least, λ r lt. to r (h.1 r (omega arith)) (k.1 r (omega arith)))
 
+module _ {P S : ℕ → Type 0} (to : (p : ℕ) → P p → S p) (from : (p : ℕ) → S p → P p) where
+  pub breaks_alike : (a : Option ℕ) → IsFirstBreak P a → IsFirstBreak S a
+  breaks_alike None h = λ p. to p (h p)
+  breaks_alike (Some p) h = (λ s. h.0 (from p s), λ r lt. to r (h.1 r lt))
+
 max_cases : (p q : ℕ) → (max p q ≡ p) ⊎ (max p q ≡ q)
 max_cases p q = elim (cases_lt p q) [ inl l ↦ inr (omega arith) | inr l ↦ inl (omega arith) ]
 
@@ -120,6 +125,11 @@ entry_of piece place covers = elim (slice_get_cases piece.entries (place - piece
   | inl w ↦ (w.0, (place - piece.first, (let low = covers.0 in omega (arith, low)), w.2))
   | inr w ↦ absurd (let past = w.0 in let low = covers.0 in let high = covers.1 in omega (arith, past, low, high))
 ]
+
+-- an entry for the place is one too where the same entries have the same first place
+pub same_entry : (first start : ℕ) (entries others : List Entry) (place : ℕ) (e : Entry) → first ≡ start → entries ≡ others → IsEntryAt first entries place e → IsEntryAt start others place e
+same_entry first start entries others place e first_is entries_are at =
+    subst (λ es. IsEntryAt start es place e) entries_are (subst (λ q. IsEntryAt q entries place e) first_is at)
 
 -- there is one entry for the place
 pub one_entry : (first : ℕ) (entries : List Entry) (place : ℕ) (e f : Entry) → IsEntryAt first entries place e → IsEntryAt first entries place f → e ≡ f
@@ -274,13 +284,20 @@ module _ (node : ℕ) (volumes : List VolumeContent) (held : HeldContent) (xs : 
       (λ p s. (λ w piece is. s w piece (fewer_pieces w piece is), λ own. s (Some n) x (omega arith, (item, own))))
 
 -- at first there is the journal alone
-pub told_first : (node : ℕ) (volumes : List VolumeContent) (held : HeldContent) (xs : List Transcript) (a : Option ℕ) → IsFirstBreak (IsTold node held.first held.journal xs) a → IsFirstBreak (AllToldBelow node volumes held xs 0) a
-told_first node volumes held xs a h = subst (λ o. IsFirstBreak (AllToldBelow node volumes held xs 0) o) (lesser_none a)
-    (breaks_both {P = IsTold node held.first held.journal xs} {Q = λ p. Unit {0}} to (λ p s. (s None (journal_of held) refl, tt)) a None h (λ p. tt))
+pub told_first : (node : ℕ) (volumes : List VolumeContent) (held : HeldContent) (xs : List Transcript) (first : ℕ) (entries : List Entry) → first ≡ held.first → entries ≡ held.journal → (a : Option ℕ) → IsFirstBreak (IsTold node first entries xs) a → IsFirstBreak (AllToldBelow node volumes held xs 0) a
+told_first node volumes held xs first entries first_is entries_are =
+    breaks_alike {P = IsTold node first entries xs} {S = AllToldBelow node volumes held xs 0} to (λ p s. λ e at. s None (journal_of held) refl e (same_entry first held.first entries held.journal p e first_is entries_are at))
   where
-    to : (p : ℕ) → IsTold node held.first held.journal xs p → Unit {0} → AllToldBelow node volumes held xs 0 p
-    to p told unit None piece is = subst (λ (v : VolumeContent). IsTold node v.first v.entries xs p) (sym is) told
-    to p told unit (Some i) piece is = absurd (let within = is.0 in omega (arith, within))
+    to : (p : ℕ) → IsTold node first entries xs p → AllToldBelow node volumes held xs 0 p
+    to p told None piece is = λ e at. told e (same_entry piece.first first piece.entries entries p e (ap (λ (v : VolumeContent). v.first) is ∙ sym first_is) (ap (λ (v : VolumeContent). v.entries) is ∙ sym entries_are) at)
+    to p told (Some i) piece is = absurd (let within = is.0 in omega (arith, within))
+
+-- what is asked of a volume that is of the node
+pub told_own : (node : ℕ) (xs : List Transcript) (x : VolumeContent) (first : ℕ) (entries : List Entry) → x.opening.number ≡ node → first ≡ x.first → entries ≡ x.entries → (a : Option ℕ) → IsFirstBreak (IsTold node first entries xs) a → IsFirstBreak (λ p. x.opening.number ≡ node → IsTold node x.first x.entries xs p) a
+told_own node xs x first entries own first_is entries_are =
+    breaks_alike {P = IsTold node first entries xs} {S = λ p. x.opening.number ≡ node → IsTold node x.first x.entries xs p}
+    (λ p told is. λ e at. told e (same_entry x.first first x.entries entries p e (sym first_is) (sym entries_are) at))
+    (λ p s. λ e at. s own e (same_entry first x.first entries x.entries p e first_is entries_are at))
 
 -- of all volumes
 pub told_all : (node : ℕ) (volumes : List VolumeContent) (held : HeldContent) (xs : List Transcript) (n : ℕ) (o : Option ℕ) → length volumes ≤ n → n ≤ length volumes → IsFirstBreak (AllToldBelow node volumes held xs n) o → IsFirstBreak (AllToldBelow node volumes held xs (length volumes)) o

@@ -46,12 +46,7 @@ pub(crate) fn first_failing(
 }
 
 /// The least place for the node at which a part of a pass does not fit.
-fn first_stray_of_all(
-    node: u16,
-    volumes: &[Volume],
-    held: &Held,
-    passes: &[Pass],
-) -> Option<u64>
+fn first_stray_of_all(node: u16, volumes: &[Volume], held: &Held, passes: &[Pass]) -> Option<u64>
     ensures least { IsFirstBreak (AllFitBelow node volumes.now held.now passes.now (length passes.now)) result }
     ensures numbered { (i : ℕ) (pass : Transcript) → slice_get passes.now i ≡ Some pass → IsNumbered pass }
 {
@@ -64,12 +59,7 @@ fn first_stray_of_all(
 }
 
 /// The least place for the node at which a part does not fit.
-pub(crate) fn first_stray(
-    node: u16,
-    volumes: &[Volume],
-    held: &Held,
-    parts: &[Part],
-) -> Option<u64>
+pub(crate) fn first_stray(node: u16, volumes: &[Volume], held: &Held, parts: &[Part]) -> Option<u64>
     ensures { IsFirstBreak (FitBelow node volumes.now held.now parts.now (length parts.now)) result }
 {
     let mut look = nothing_seen();
@@ -178,12 +168,7 @@ pub(crate) fn lesser(left: Option<u64>, right: Option<u64>) -> Option<u64>
 }
 
 /// The least place of an entry, of the journal or of a volume of the node, for which its pass has no part.
-fn first_untold_of_all(
-    node: u16,
-    volumes: &[Volume],
-    held: &Held,
-    passes: &[Pass],
-) -> Option<u64>
+fn first_untold_of_all(node: u16, volumes: &[Volume], held: &Held, passes: &[Pass]) -> Option<u64>
     ensures { IsFirstBreak (AllToldBelow node volumes.now held.now passes.now (length volumes.now)) result }
 {
     let mut least = first_untold(node, held.first(), held.journal(), passes);

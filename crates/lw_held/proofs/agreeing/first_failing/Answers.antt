@@ -11,6 +11,6 @@ returns c =
     let passes = c.args.passes.now in
     let numbered = c.first_stray_of_all.ensures.numbered in
     let parts = subst (IsFirstBreak (Meet node volumes held passes c.requires.distinct numbered)) (sym c.lesser-parts.ensures)
-        (meet_breaks node volumes held passes c.requires.distinct numbered _ _ c.first_stray_of_all.ensures.least c.first_untold_of_all.ensures) in
+    (meet_breaks node volumes held passes c.requires.distinct numbered _ _ c.first_stray_of_all.ensures.least c.first_untold_of_all.ensures) in
     subst (λ o. IsFirstBreak (IsFineIn node volumes held passes) o) (sym c.lesser.ensures)
     (fine_breaks node volumes held passes c.requires.distinct numbered _ _ parts c.first_unlaid.ensures)

@@ -6,7 +6,7 @@ use Rattle.lw_held.proofs.Agreement.{told_all, told_first, told_more}
 use Rattle.lw_held.proofs.agreeing.first_untold_of_all.Goals as goal
 
 pub loop-volume-init : goal.loop-volume-init
-loop-volume-init c = told_first _ _ c.args.held.now _ _ c.first_untold-least.ensures
+loop-volume-init c = told_first _ _ c.args.held.now _ _ _ c.first.ensures.value c.journal.ensures.value _ c.first_untold-least.ensures
 
 pub loop-volume-preserved : goal.loop-volume-preserved
 loop-volume-preserved c =

@@ -1,14 +1,13 @@
-use Rattle.std.proofs.Common.{◌≡◌, ◌<◌, None, Some, false, refl, sym, subst, arith}
-use Rattle.std.specs.Prelude.{slice_get}
+use Rattle.std.proofs.Common.{◌≡◌, None, Some, false, true, refl, sym, subst, arith}
 use Rattle.std.proofs.lemmas.Option.{slice_get_read, slice_get_within}
 use borrow.Author.Count.{below_more}
 use Rattle.lw_held.specs.Agree.{IsEntryAt, IsVolumeOf, journal_of}
 use Rattle.lw_held.specs.History.{VolumeContent}
-use Rattle.lw_held.proofs.Agreement.{same_some, not_there}
+use Rattle.lw_held.proofs.Agreement.{same_some, same_entry, not_there}
 use Rattle.lw_held.proofs.agreeing.is_there.Goals as goal
 
 pub returns-then-has_entry : goal.returns-then-has_entry
-returns-then-has_entry c = ((λ yes. (None, journal_of c.args.held.now, refl, c.if-has_entry.ensures.0 refl)), (λ w. refl))
+returns-then-has_entry c = ((λ yes. (None, journal_of c.args.held.now, refl, same_entry _ _ _ _ _ _ c.first.ensures.value c.journal.ensures.value (c.if-has_entry.ensures.0 refl))), (λ w. refl))
 
 pub loop-volume-init : goal.loop-volume-init
 loop-volume-init c = λ i volume lt. absurd (omega (arith, lt))
@@ -33,5 +32,5 @@ returns-then-is_in c =
 pub returns : goal.returns
 returns c =
     not_there c.args.node c.args.volumes.now c.args.held.now c.args.part.now
-    (λ at. let no : false ≡ true = c.if-has_entry.ensures.1 at in cc)
+    (λ at. let no : false ≡ true = c.if-has_entry.ensures.1 (same_entry _ _ _ _ _ _ (sym c.first.ensures.value) (sym c.journal.ensures.value) at) in cc)
     (λ i volume is at. c.loop-volume.invariant i volume (let within = slice_get_within c.args.volumes.now i volume is.0 in omega (arith, within)) is at)
