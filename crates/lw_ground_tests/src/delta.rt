@@ -114,6 +114,9 @@ const TWO_REMOVED: &str =
 /// No slots, and the least clock.
 const FRESH: &str = "4c57443300000000000000";
 
+/// The same in format 2.
+const FRESH_AT_SECOND: &str = "4c57443200000000000000";
+
 /// No slots, and the greatest clock.
 const LAST: &str = "4c574433ffffffffffff00";
 
@@ -146,7 +149,7 @@ fn rewritten(alloc: Global, bytes: &[u8]) -> Result<Option<Vec<u8>>, NoMemory> {
 }
 
 /// Each fault, where it is the first: a later one may stand behind it.
-static REFUSED: [(&str, DeltaFault); 68] = [
+static REFUSED: [(&str, DeltaFault); 69] = [
     (TWICE, DeltaFault::Order),
     // nothing later
     ("4c5744", DeltaFault::Truncated),
@@ -253,6 +256,10 @@ static REFUSED: [(&str, DeltaFault); 68] = [
     ),
     (
         "4c57443100000000000001016100000000000100017f000000000000010001047f0000011633000000000001000100000000000000000000000100010001518000000000000100010155000000000001000100000000000001000100033c2f3e0000",
+        DeltaFault::ClockBelow,
+    ),
+    (
+        "4c57443300000000000001016100000000000100017f000000000000010001047f0000011633000000000001000100000000000000000000000100010001518000000000000100010155000000000001000100000000000001000100033c2f3e00000000",
         DeltaFault::ClockBelow,
     ),
     // clock before base range
@@ -460,7 +467,7 @@ static REFUSED: [(&str, DeltaFault); 68] = [
 ];
 
 /// Deltas, their clocks, how many slots they have, and how they are written.
-static ACCEPTED: [(&str, u64, usize, &str); 22] = [
+static ACCEPTED: [(&str, u64, usize, &str); 23] = [
     (REGISTERED, 1, 1, REGISTERED),
     (REGISTERED_AT_FIRST, 1, 1, REGISTERED),
     (REGISTERED_AT_SECOND, 1, 1, REGISTERED),
@@ -468,6 +475,7 @@ static ACCEPTED: [(&str, u64, usize, &str); 22] = [
     (ATTRIBUTED_AT_SECOND, 1, 1, ATTRIBUTED),
     (ENDED, 1, 1, ENDED),
     (FRESH, 0, 0, FRESH),
+    (FRESH_AT_SECOND, 0, 0, FRESH),
     (LAST, 281_474_976_710_655, 0, LAST),
     (REMOVED, 1, 1, REMOVED),
     (REMOVED_AT_SECOND, 1, 1, REMOVED),
@@ -535,8 +543,9 @@ fn deltas_are_read_and_written(rt: HostRuntime) -> Result<(), Fail> {
 
 /// Deltas, their clocks, and of each slot the endpoint, whether it was removed or is over up to stamp 1 of node 1, and
 /// the counter of the registration.
-static SLOTS: [(&str, u64, &str); 12] = [
+static SLOTS: [(&str, u64, &str); 13] = [
     (FRESH, 0, ""),
+    (FRESH_AT_SECOND, 0, ""),
     (LAST, 281_474_976_710_655, ""),
     (REGISTERED, 1, "a+1 "),
     (REGISTERED_AT_FIRST, 1, "a+1 "),
@@ -578,7 +587,7 @@ fn told(alloc: Global, reader: &mut Reader<'_>) -> Result<String, Fail> {
     Ok(text)
 }
 
-/// Whether it is read so, and nothing is left behind the end.
+/// Whether it is read so, and nothing is left after the end.
 fn reads(alloc: Global, bytes: &[u8], clock: u64, slots: &str) -> Result<bool, Fail> {
     let mut reader = Reader::new(alloc, bytes)?;
     let text = told(alloc, &mut reader)?;

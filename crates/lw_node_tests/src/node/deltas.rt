@@ -144,7 +144,7 @@ fn a_fuller_spelling_of_a_removal_comes_back_short(rt: HostRuntime) -> Result<()
 
 /// A clock one before its end.
 const AT_THE_END: [Row<'static>; 10] = [
-    (Merges("4c574433fffffffffffe00"), "Ok(0)"),
+    (Merges("4c574431fffffffffffe00"), "Ok(0)"),
     (
         Takes(REGISTER),
         "604100048272640d0366666666666666666666666630303031",
@@ -172,7 +172,7 @@ fn the_clock_has_an_end(rt: HostRuntime) -> Result<(), Fail> {
 
 /// A clock two before its end: a Register, an observation, and the end of both is not to be had.
 const REPORT_AT_THE_END: [Row<'static>; 7] = [
-    (Merges("4c574433fffffffffffd00"), "Ok(0)"),
+    (Merges("4c574431fffffffffffd00"), "Ok(0)"),
     (
         Takes(REGISTER),
         "604100048272640d0366666666666666666666666530303031",
