@@ -21,6 +21,8 @@ use std::{fs, io};
 pub(crate) struct Sizes {
     /// In a node, with all indexes.
     pub registration: u64,
+    /// In the copy of a node.
+    pub copied: u64,
     /// In a map as a node's.
     pub removed: u64,
     /// With one endpoint.
@@ -58,6 +60,8 @@ fn fill_all<R: Files + Wait>(
     let empty = resident(rt, alloc);
     make_all(alloc, node, NodeCall::Take, names)?;
     let with_node = resident(rt, alloc);
+    let _copy = node.copy()?;
+    let with_copy = resident(rt, alloc);
     put_removals(alloc, slots, names)?;
     let with_slots = resident(rt, alloc);
     add_all(index, names)?;
@@ -65,7 +69,8 @@ fn fill_all<R: Files + Wait>(
     let with_journal = resident_with_journal(rt, alloc, count)?;
     Ok(Sizes {
         registration: growth_each(empty, with_node, count),
-        removed: growth_each(with_node, with_slots, count),
+        copied: growth_each(with_node, with_copy, count),
+        removed: growth_each(with_copy, with_slots, count),
         index_key: growth_each(with_slots, with_index, count),
         update: growth_each(with_index, with_journal, count),
     })

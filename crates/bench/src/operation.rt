@@ -135,14 +135,8 @@ pub(crate) static ROWS: [(&str, Operation); 32] = [
             call: NodeCall::SweepDue,
         }),
     ),
-    (
-        "Node::copy, each endpoint",
-        Operation::Copy(CopyCall::Copy),
-    ),
-    (
-        "Node::same, each endpoint",
-        Operation::Copy(CopyCall::Same),
-    ),
+    ("Node::copy, each endpoint", Operation::Copy(CopyCall::Copy)),
+    ("Node::same, each endpoint", Operation::Copy(CopyCall::Same)),
     (
         "delta_since, each of 32 slots that changed",
         Operation::Exchange(ExchangeCall::DeltaSince),

@@ -67,8 +67,8 @@ fn head<R: AllocGlobal + Files + Wait>(
 
 fn sizes_text(alloc: Global, sizes: Sizes) -> Result<String, AllocError> {
     format!(in alloc;
-        "bytes of a registration: {}\nbytes of a removed one: {}\nbytes of an index key: {}\nbytes of an Update in journal and transcript: {}\n\n{HEADING}",
-        sizes.registration, sizes.removed, sizes.index_key, sizes.update
+        "bytes of a registration: {}\nbytes of one in a copy of a node: {}\nbytes of a removed one: {}\nbytes of an index key: {}\nbytes of an Update in journal and transcript: {}\n\n{HEADING}",
+        sizes.registration, sizes.copied, sizes.removed, sizes.index_key, sizes.update
     )
 }
 
