@@ -1,9 +1,8 @@
-use Rattle.std.proofs.Common.{◌≡◌, ◌<◌, ◌+◌, Some, false, true, length, refl, sym, ap, ◌∙◌, subst, arith}
-use Rattle.std.specs.Prelude.{slice_get}
+use Rattle.std.proofs.Common.{◌≡◌, ◌+◌, false, true, refl, arith}
 use Rattle.std.proofs.lemmas.Option.{slice_get_read, slice_get_within}
 use borrow.Author.Count.{below_more}
-use Rattle.lw_held.specs.Looks.{HasBelow, IsTold}
-use Rattle.lw_held.proofs.Agreement.{same_some, told_at}
+use Rattle.lw_held.specs.Looks.{IsTold}
+use Rattle.lw_held.proofs.Agreement.{told_at}
 use Rattle.lw_held.proofs.agreeing.first_untold.Goals as goal
 
 pub loop-index-init : goal.loop-index-init
