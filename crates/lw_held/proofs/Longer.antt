@@ -48,7 +48,7 @@ new_longer passes longer pass before pushed next k x at =
 
 -- what holds of each of the first n holds of one more
 pub each_more : {A : Type 0} (P : A → Type 0) (xs : List A) (n : ℕ) (x : A) → slice_get xs n ≡ Some x → P x → ((i : ℕ) (y : A) → i < n → slice_get xs i ≡ Some y → P y) → (i : ℕ) (y : A) → i < n + 1 → slice_get xs i ≡ Some y → P y
-each_more P xs n x item here before i y lt at =
+each_more {A = A} P xs n x item here before i y lt at =
     below_more (λ j. (w : A) → slice_get xs j ≡ Some w → P w) n (λ j l w a. before j w l a) (λ w a. subst P (same_some x w _ item a) here) i lt y at
 
 -- what has answered had a legal history
