@@ -4,8 +4,8 @@ ghost use Rattle.lw_held.specs.Shelves.{AreInOrder, AreNew, AreSettled, HaveShel
 ghost use Rattle.lw_serve.specs.Plan.{AreNodes, AreWorkers};
 ghost use Rattle.lw_serve.specs.Rounds.{AreNumbered, Serves};
 
-use crate::plan::Plan;
 use crate::cutting::cut_journals;
+use crate::plan::Plan;
 use lw_crew::{CrewFault, Done, Job, serve_jobs};
 use lw_held::{NoGate, Pass, Settled, Shelf, Unsettled, Volume, set_up, settle};
 use lw_stamp::NoMemory;
