@@ -65,7 +65,7 @@ fn run_by<R: Threads + Wait + Sync>(
     let mut wire = MemoryWire::new(alloc, &arrivals);
     let moments = [now];
     let mut clock = Ticks::new(&moments);
-    match Plan::new(1, 1, 1) {
+    match Plan::new(1, 1, 1, None) {
         Some(plan) => serve_on(rt, alloc, &mut wire, &mut clock, &Discard, &plan, writer),
         None => Err(ServeFault::NoMemory),
     }

@@ -164,7 +164,7 @@ pub(super) fn run<R: Threads + Wait + Sync>(
     nodes: u16,
     workers: u32,
 ) -> Result<String, Fail> {
-    match Plan::new(count, nodes, workers) {
+    match Plan::new(count, nodes, workers, None) {
         Some(plan) => run_at(rt, wire, &[Some(Moment::START)], &plan),
         None => Err("a plan".into()),
     }
@@ -240,7 +240,7 @@ pub(super) fn is_served_at<R: Threads + Wait + Sync>(
     moments: &[Option<Moment>],
     want: &str,
 ) -> Result<(), Fail> {
-    let Some(plan) = Plan::new(u32::try_from(moments.len())?, nodes, 1) else {
+    let Some(plan) = Plan::new(u32::try_from(moments.len())?, nodes, 1, None) else {
         return Err("a plan".into());
     };
     let mut text = run_at(rt, wire, moments, &plan)?;
