@@ -1,9 +1,11 @@
 mod agreeing;
+mod cutting;
 mod entries;
 mod largest;
 mod refused;
 mod settling;
 pub(crate) mod steps;
+mod volumes;
 
 use crate::calls::{REGISTER, ask, bytes, reply_text, sweep, take};
 use crate::hold::{holds, is_text};
