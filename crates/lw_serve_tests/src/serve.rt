@@ -13,8 +13,8 @@ use lw_stamp::Moment;
 use std::alloc::Global;
 use std::test::Fail;
 use wire::{
-    Arrival, Coming, FewWrites, MemoryWire, Ticks, bytes, is_served, is_served_at, is_served_cut, run,
-    run_cut,
+    Arrival, Coming, FewWrites, MemoryWire, Ticks, bytes, is_served, is_served_at, is_served_cut,
+    run, run_cut,
 };
 
 /// An empty message, message ID 7.

@@ -225,17 +225,16 @@ const BESIDE_MANY: [Row<'static>; 7] = [
     (Its, Calls(0, Takes(REGISTER))),
 ];
 
+static BESIDE: [Case; 4] = [
+    (2, &BESIDE_ANOTHER, Ok(())),
+    (1, &BESIDE_ANOTHER, Err(0)),
+    (2, &BESIDE_MANY, Ok(())),
+    (1, &BESIDE_MANY, Err(1)),
+];
+
 #[test]
 fn volumes_of_another_node_are_passed_over(rt: HostRuntime) -> Result<(), Fail> {
-    are_said(
-        rt.alloc(),
-        &[
-            (2, &BESIDE_ANOTHER, Ok(())),
-            (1, &BESIDE_ANOTHER, Err(0)),
-            (2, &BESIDE_MANY, Ok(())),
-            (1, &BESIDE_MANY, Err(1)),
-        ],
-    )
+    are_said(rt.alloc(), &BESIDE)
 }
 
 /// Both nodes have the same two entries, and the other's are cut off one by one.
@@ -268,16 +267,15 @@ const SECOND_TWICE: [Row<'static>; 7] = [
     (Anothers, Keeps),
 ];
 
+static OVERLAPS: [Case; 3] = [
+    (1, &IN_HALVES, Ok(())),
+    (1, &FIRST_TWICE, Err(0)),
+    (1, &SECOND_TWICE, Err(1)),
+];
+
 #[test]
 fn an_overlap_is_told_at_its_first_place(rt: HostRuntime) -> Result<(), Fail> {
-    are_said(
-        rt.alloc(),
-        &[
-            (1, &IN_HALVES, Ok(())),
-            (1, &FIRST_TWICE, Err(0)),
-            (1, &SECOND_TWICE, Err(1)),
-        ],
-    )
+    are_said(rt.alloc(), &OVERLAPS)
 }
 
 /// What comes after the other's volume begins with a node that has taken no Register: a volume, or the journal.
@@ -327,18 +325,17 @@ const SAME_NODE: [Row<'static>; 5] = [
     (Its, Calls(1, ByEndpoint("a"))),
 ];
 
+static LINKS: [Case; 5] = [
+    (1, &OTHER_VOLUME, Err(1)),
+    (1, &OTHER_JOURNAL, Err(1)),
+    (1, &EMPTY_JOURNAL, Err(2)),
+    (1, &OTHER_CLOCK, Err(1)),
+    (1, &SAME_NODE, Ok(())),
+];
+
 #[test]
 fn a_broken_link_is_told_where_it_begins(rt: HostRuntime) -> Result<(), Fail> {
-    are_said(
-        rt.alloc(),
-        &[
-            (1, &OTHER_VOLUME, Err(1)),
-            (1, &OTHER_JOURNAL, Err(1)),
-            (1, &EMPTY_JOURNAL, Err(2)),
-            (1, &OTHER_CLOCK, Err(1)),
-            (1, &SAME_NODE, Ok(())),
-        ],
-    )
+    are_said(rt.alloc(), &LINKS)
 }
 
 /// A volume between two others is lost, of one place or of two, whose calls no pass has kept.
@@ -387,19 +384,18 @@ const NONE_LOST: [Row<'static>; 6] = [
     (Its, Keeps),
 ];
 
+static GAPS: [Case; 6] = [
+    (1, &NONE_LOST, Ok(())),
+    (1, &ONE_LOST, Err(1)),
+    (1, &TWO_LOST, Err(1)),
+    (1, &LAST_LOST, Err(1)),
+    (1, &FIRST_LOST, Err(0)),
+    (1, &ALL_LOST, Err(0)),
+];
+
 #[test]
 fn a_gap_is_told_at_its_first_place(rt: HostRuntime) -> Result<(), Fail> {
-    are_said(
-        rt.alloc(),
-        &[
-            (1, &NONE_LOST, Ok(())),
-            (1, &ONE_LOST, Err(1)),
-            (1, &TWO_LOST, Err(1)),
-            (1, &LAST_LOST, Err(1)),
-            (1, &FIRST_LOST, Err(0)),
-            (1, &ALL_LOST, Err(0)),
-        ],
-    )
+    are_said(rt.alloc(), &GAPS)
 }
 
 /// The node's journal begins at 0, and the other's volume at 1.
@@ -431,16 +427,15 @@ const OVER_THE_FIRST: [Row<'static>; 6] = [
     (Anothers, Keeps),
 ];
 
+static AFTER: [Case; 3] = [
+    (1, &AFTER_THE_LAST, Err(1)),
+    (1, &AT_THE_FIRST, Err(1)),
+    (1, &OVER_THE_FIRST, Err(1)),
+];
+
 #[test]
 fn a_volume_after_the_beginning_of_the_journal_is_told(rt: HostRuntime) -> Result<(), Fail> {
-    are_said(
-        rt.alloc(),
-        &[
-            (1, &AFTER_THE_LAST, Err(1)),
-            (1, &AT_THE_FIRST, Err(1)),
-            (1, &OVER_THE_FIRST, Err(1)),
-        ],
-    )
+    are_said(rt.alloc(), &AFTER)
 }
 
 /// Whether the volume's node is that of a shelf.
@@ -505,8 +500,9 @@ fn keeps_such(
     wanted: Wanted<'_>,
 ) -> Result<(), Fail> {
     let is_so = is_volume(alloc, &volume, wanted);
-    volumes.push(volume)?;
-    is_so
+    let kept = volumes.push(volume);
+    is_so?;
+    Ok(kept?)
 }
 
 /// The shelf's journal is empty.
@@ -530,11 +526,22 @@ fn call_and_cut<R: Wait>(
 {
     let first = call(rt, alloc, shelf, passes, 0, CALLS[0])?;
     holds("the first place", first == 0)?;
-    cut_of(rt, alloc, shelf, volumes, (0, &[], &CALLS[..1], &REPLIES[..1]))?;
+    cut_of(
+        rt,
+        alloc,
+        shelf,
+        volumes,
+        (0, &[], &CALLS[..1], &REPLIES[..1]),
+    )?;
     cut_of_nothing(rt, shelf)?;
     let second = call(rt, alloc, shelf, passes, 1, CALLS[1])?;
     holds("the second place", second == 1)?;
-    part_is(alloc, passes, 1, "1 1 a 0000000000010001 127.0.0.1:5683 0 86400 U false </>")?;
+    part_is(
+        alloc,
+        passes,
+        1,
+        "1 1 a 0000000000010001 127.0.0.1:5683 0 86400 U false </>",
+    )?;
     let wanted = (1, &CALLS[..1], &CALLS[..2], &REPLIES[1..2]);
     cut_of(rt, alloc, shelf, volumes, wanted)
 }
@@ -626,7 +633,13 @@ fn is_told_of<R: Wait>(
     kept?;
     let told = settle_with(rt, &shelves, volumes, &passes);
     let place = 0;
-    holds("the node", told == Err(Unsettled { node: number, place }))
+    holds(
+        "the node",
+        told == Err(Unsettled {
+            node: number,
+            place,
+        }),
+    )
 }
 
 fn takes_and_keeps(alloc: Global, held: &mut Held, volumes: &mut Vec<Volume>) -> Result<(), Fail> {
