@@ -10,7 +10,7 @@ const EUI: &str = "urn:dev:eui:0123456789ab";
 
 /// Four whose last eight bytes are the same, and one of seven bytes beside one with a zero before them. One is removed, one
 /// registers again, and one moves.
-pub(super) static ALIKE: [Of<'static>; 9] = [
+pub(super) const ALIKE: [Of<'static>; 9] = [
     (MAC, (First, First, Register(HOST_A, 0, 60))),
     ("456789ab", (Second, Second, Register(HOST_A, 0, 60))),
     (EUI, (Third, Third, Register(HOST_A, 0, 60))),

@@ -37,7 +37,7 @@ pub(super) fn tells(alloc: Global, table: &Table, rows: &[(u64, &str)]) -> Resul
 
 /// `a` at host A for a minute, `b` there for ever, `c` at host B for two minutes, `d` removed, and of `e` only an
 /// Update.
-pub(super) static FIVE: [Of<'static>; 6] = [
+pub(super) const FIVE: [Of<'static>; 6] = [
     ("a", (First, First, Register(HOST_A, 0, 60))),
     ("b", (Second, Second, Register(HOST_A, 0, 0))),
     ("c", (Third, Third, Register(HOST_B, 0, 120))),
@@ -46,7 +46,7 @@ pub(super) static FIVE: [Of<'static>; 6] = [
     ("e", (Fifth, Fifth, Update(HOST_B, 0, None, None))),
 ];
 
-pub(super) static OF_FIVE: [(u64, &str); 8] = [
+pub(super) const OF_FIVE: [(u64, &str); 8] = [
     (0, "a+1 b+2 c+3 d-4 e+5 "),
     (1, "b+2 c+3 d-4 e+5 "),
     (3, "d-4 e+5 "),
@@ -58,14 +58,14 @@ pub(super) static OF_FIVE: [(u64, &str); 8] = [
 ];
 
 /// One that moves again takes a later number, and one that does not keeps its own.
-pub(super) static AGAIN: [Of<'static>; 4] = [
+pub(super) const AGAIN: [Of<'static>; 4] = [
     ("c", (Third, Third, Register(HOST_A, 0, 60))),
     ("b", (Second, Second, Register(HOST_A, 0, 60))),
     ("c", (Fourth, Third, Observe(&[3], None))),
     ("b", (First, First, Register(HOST_A, 0, 60))),
 ];
 
-pub(super) static OF_AGAIN: [(u64, &str); 4] = [
+pub(super) const OF_AGAIN: [(u64, &str); 4] = [
     (0, "b+2 c+3 "),
     (1, "b+2 c+3 "),
     (2, "c+3 "),
