@@ -79,8 +79,3 @@ distinct_two one other apart (suc zero) (suc (suc j)) a b is_a is_b equal = absu
 -- ---- volumes, and the shelves of their nodes
 pub no_volumes : (shelves : List Shelf) → HaveShelves shelves []
 no_volumes shelves i volume at = absurd (let bad : ◌≡◌ {A = Option VolumeContent} None (Some volume) = at in cc)
-
--- some volumes in a row have shelves as all do
-pub shelves_within : (shelves : List Shelf) (volumes : List VolumeContent) (first end : ℕ) → HaveShelves shelves volumes → HaveShelves shelves (slice_range volumes first end)
-shelves_within shelves volumes first end have i volume at =
-    have (first + i) volume (sym (get_drop first volumes i) ∙ get_take (end - first) (drop first volumes) i volume at)

@@ -1,6 +1,6 @@
 //! Journals that are cut, and whether transcripts are what was cut off and what is left.
 
-ghost use Rattle.std.specs.Prelude.{◌≡◌, ℕ, Some, slice_get, IsTrue};
+ghost use Rattle.std.specs.Prelude.{◌≡◌, ◌↔◌, ℕ, Some, slice_get, IsTrue};
 ghost use Rattle.lw_held.specs.Agree.{AreDistinct};
 ghost use Rattle.lw_held.specs.Shelves.{AreInOrder, HaveShelves};
 ghost use Rattle.lw_held.specs.declared.shelf.Shelf.{Shelf as Shelves};
@@ -442,15 +442,22 @@ fn a_volume_after_the_beginning_of_the_journal_is_told(rt: HostRuntime) -> Resul
 fn has_shelf(shelves: &[Shelf], volume: &Volume) -> bool
     ensures { IsTrue result → (k : ℕ) × (shelf : Shelves) × (slice_get shelves.now k ≡ Some shelf) × (shelf.number ≡ volume.now.opening.number) }
 {
-    let number = volume.node();
     for shelf in shelves {
-        if shelf.number() == number {
+        if is_of(shelf, volume) {
             return true;
         }
     }
     false
 }
 
+/// Whether the volume is of the shelf's node.
+fn is_of(shelf: &Shelf, volume: &Volume) -> bool
+    ensures { IsTrue result ↔ (shelf.now.number ≡ volume.now.opening.number) }
+{
+    shelf.number() == volume.node()
+}
+
+/// Whether each volume's node is that of a shelf.
 fn have_shelves(shelves: &[Shelf], volumes: &[Volume]) -> bool
     ensures { IsTrue result → HaveShelves shelves.now volumes.now }
 {

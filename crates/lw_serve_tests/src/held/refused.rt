@@ -2,9 +2,8 @@
 
 use super::volumes::{Wanted, cut, cuts_nothing, enters, is_volume};
 use super::*;
-use crate::calls::CREATED;
+use crate::calls::{CREATED, wants_memory};
 use lw_held::Volume;
-use lw_node::{MergeFault, ObserveFault, Reply};
 use steps::What;
 
 /// A Register of `b` with the object list `</>`, message ID 5, and the reply to the first at node 1.
@@ -62,23 +61,11 @@ static ROWS: [Row; 6] = [
 /// An entry with its place, or none.
 type Made = Result<(Entry, u64), NoMemory>;
 
-fn is_want_of_memory(reply: &Reply) -> bool {
-    matches!(
-        reply,
-        Reply::Take(Err(NoMemory))
-            | Reply::Observe(Err(ObserveFault::NoMemory))
-            | Reply::Cancel(Err(ObserveFault::NoMemory))
-            | Reply::Send(Err(NoMemory))
-            | Reply::Merge(Err(MergeFault::NoMemory { joined: 0 }))
-            | Reply::Ask(Err(NoMemory))
-    )
-}
-
 /// Whether a call is refused, and how many entries there are of it then.
 fn entries_of_a_refusal(made: &Made) -> Option<u64> {
     match made {
         Err(NoMemory) => Some(0),
-        Ok((entry, _)) if is_want_of_memory(&entry.reply) => Some(1),
+        Ok((entry, _)) if wants_memory(&entry.reply) => Some(1),
         Ok(_) => None,
     }
 }

@@ -2,6 +2,7 @@
 
 use super::steps::What;
 use super::*;
+use crate::calls::wants_memory;
 use lw_held::Volume;
 use lw_node::Node;
 
@@ -38,10 +39,11 @@ pub(super) fn alone(
     Ok(place?)
 }
 
+/// The place of the entry. Want of memory is none, though it is kept as one.
 fn place_of(made: &Result<(Entry, u64), NoMemory>) -> Result<u64, NoMemory> {
     match made {
-        Ok((_, place)) => Ok(*place),
-        Err(NoMemory) => Err(NoMemory),
+        Ok((entry, place)) if !wants_memory(&entry.reply) => Ok(*place),
+        _ => Err(NoMemory),
     }
 }
 
@@ -70,8 +72,12 @@ fn acts(alloc: Global, node: &mut Node, calls: &[What<'_>]) -> Result<(), Fail> 
     for what in calls {
         let call = what.made(alloc)?;
         let reply = node.act(&call);
+        let is_refused = wants_memory(&reply);
         drop(reply);
         drop(call);
+        if is_refused {
+            return Err(NoMemory.into());
+        }
     }
     Ok(())
 }
