@@ -214,7 +214,7 @@ const BESIDE_ANOTHER: [Row<'static>; 5] = [
     (Its, Calls(1, ByEndpoint("a"))),
 ];
 
-/// The other's volumes begin after the node's journal, and have a gap.
+/// The other's volumes begin after the node's journal does, and the first of them is lost.
 const BESIDE_MANY: [Row<'static>; 7] = [
     (Anothers, Alone(0, 0, Sends(0))),
     (Anothers, Loses),
