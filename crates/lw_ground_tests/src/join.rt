@@ -1,3 +1,4 @@
+mod copied;
 mod kinds;
 mod many;
 mod refused;

@@ -5,7 +5,7 @@ use std::test::Fail;
 
 mod attributes;
 mod slots;
-mod whole;
+pub(crate) mod whole;
 
 fn is_printed(alloc: Global, address: Addr, text: &str) -> Result<bool, Fail> {
     Ok(Addr::read(text) == Some(address) && address.print(alloc)?.as_str() == text)

@@ -9,6 +9,7 @@ use std::alloc::Global;
 use std::test::Fail;
 
 mod alike;
+mod copied;
 mod joins;
 mod lifts;
 mod look_ups;

@@ -1,5 +1,6 @@
 mod calls;
 mod changed;
+mod copied;
 mod counters;
 mod deltas;
 mod ended;

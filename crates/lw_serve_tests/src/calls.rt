@@ -1,7 +1,9 @@
 //! Datagrams, the calls that take and ask for them, and what is given as a text.
 
-use lw_node::{Addr, Answer, Bytes, Call, Question, Reply, Seen, Sent, Text};
-use lw_stamp::{Moment, Stamp};
+use lw_node::{
+    Addr, Answer, Bytes, Call, MergeFault, ObserveFault, Question, Reply, Seen, Sent, Text,
+};
+use lw_stamp::{Moment, NoMemory, Stamp};
 use std::alloc::{AllocError, Global};
 use std::test::Fail;
 
@@ -42,6 +44,19 @@ pub(super) fn ask(alloc: Global, endpoint: &str) -> Result<Call, Fail> {
         now: Moment::START,
         question: Question::ByEndpoint(Text::copy_of(alloc, endpoint)?),
     })
+}
+
+/// Whether it is the reply to a call that was refused memory before it changed anything.
+pub(super) fn wants_memory(reply: &Reply) -> bool {
+    matches!(
+        reply,
+        Reply::Take(Err(NoMemory))
+            | Reply::Observe(Err(ObserveFault::NoMemory))
+            | Reply::Cancel(Err(ObserveFault::NoMemory))
+            | Reply::Send(Err(NoMemory))
+            | Reply::Merge(Err(MergeFault::NoMemory { joined: 0 }))
+            | Reply::Ask(Err(NoMemory))
+    )
 }
 
 pub(super) fn reply_text(alloc: Global, reply: &Reply) -> Result<String, AllocError> {

@@ -6,9 +6,10 @@ mod stopping;
 ghost use Rattle.std.specs.Prelude.{◌≤◌};
 
 use crate::calls::{REGISTER, reply_text, take};
+use crate::held::steps::settle_alone;
 use crate::hold::{holds, is_text, same};
 use lw_crew::{CrewFault, Done, Gate, Job, NoGate, Outcome, Pass, Shelf, gather, serve_jobs};
-use lw_held::{Part, Settled, Unsettled, set_up, settle};
+use lw_held::{Part, Settled, Unsettled, set_up};
 use std::alloc::{AllocError, Global};
 use std::sync::Wait;
 use std::test::Fail;
@@ -57,7 +58,7 @@ fn done_by<R: Threads + Wait + Sync, G: Gate>(
 {
     let (shelves, passes) = set_up(alloc, nodes, workers)?;
     let (passes, result) = serve_jobs(rt, alloc, &shelves, passes, jobs, gate);
-    let settled = settle(rt, &shelves, &passes);
+    let settled = settle_alone(rt, &shelves, &passes);
     told(alloc, &passes, &result, settled)
 }
 

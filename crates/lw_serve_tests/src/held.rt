@@ -1,9 +1,11 @@
 mod agreeing;
+mod cutting;
 mod entries;
 mod largest;
 mod refused;
 mod settling;
 pub(crate) mod steps;
+mod volumes;
 
 use crate::calls::{REGISTER, ask, bytes, reply_text, sweep, take};
 use crate::hold::{holds, is_text};
@@ -14,7 +16,7 @@ use std::alloc::{AllocError, Global};
 use std::sync::Wait;
 use std::test::Fail;
 use steps::What::*;
-use steps::{agrees_some, call, part_is, played, settle_some};
+use steps::{agrees_some, call, part_is, played, settle_alone, settle_some};
 
 /// The delta of a node that has taken the Register first: 98 bytes.
 const DELTA: &str =

@@ -1,3 +1,4 @@
+mod cutting;
 mod moments;
 mod rounds;
 mod sweeping;
@@ -11,7 +12,10 @@ use lw_serve::{HostClock, Plan, ServeFault, SystemClock, UdpWire, Wire, WireFaul
 use lw_stamp::Moment;
 use std::alloc::Global;
 use std::test::Fail;
-use wire::{Arrival, Coming, FewWrites, MemoryWire, Ticks, bytes, is_served, is_served_at, run};
+use wire::{
+    Arrival, Coming, FewWrites, MemoryWire, Ticks, bytes, is_served, is_served_at, is_served_cut,
+    run, run_cut,
+};
 
 /// An empty message, message ID 7.
 const PING: &[u8] = &[0x40, 0, 0, 7];

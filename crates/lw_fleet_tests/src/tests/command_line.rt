@@ -153,24 +153,32 @@ Options:
       --port <P>     UDP port, 0 to 65535 [default: 5683]
       --nodes <N>    Nodes, which share the clients by their ports, 1 to 16 [default: 2]
       --workers <W>  Worker threads, 1 to 8 [default: 2]
+      --cut <C>      Rounds after which the journals are cut, 1 to 1000000 [default: never]
   -h, --help         Print help
 |",
     )
 }
 
-/// The count, the port, the nodes and the workers that the words give to `serve`.
-fn given_to_serve(alloc: Global, words: &[&str]) -> Result<(u32, u16, u16, u32), Fail> {
+/// The count, the port, the nodes, the workers and the rounds before a cut.
+type Given = (u32, u16, u16, u32, Option<u32>);
+
+/// What the words give to `serve`.
+fn given_to_serve(alloc: Global, words: &[&str]) -> Result<Given, Fail> {
     match asked(alloc, words)? {
         Request::Serve(ServeOptions { plan, port }) => {
-            Ok((plan.count, port, plan.nodes, plan.workers))
+            Ok((plan.count, port, plan.nodes, plan.workers, plan.cut))
         }
         _ => Err(Fail::from("it is another command")),
     }
 }
 
 /// Words, and what they give to `serve`.
-const GIVEN_TO_SERVE: [(&[&str], (u32, u16, u16, u32)); 3] = [
-    (&["fleet", "serve", "--count", "1"], (1, 5683, 2, 2)),
+const GIVEN_TO_SERVE: [(&[&str], Given); 4] = [
+    (&["fleet", "serve", "--count", "1"], (1, 5683, 2, 2, None)),
+    (
+        &["fleet", "serve", "--count", "1", "--cut", "1"],
+        (1, 5683, 2, 2, Some(1)),
+    ),
     (
         &[
             "fleet",
@@ -179,8 +187,9 @@ const GIVEN_TO_SERVE: [(&[&str], (u32, u16, u16, u32)); 3] = [
             "--nodes=16",
             "--workers=8",
             "--count=1000000",
+            "--cut=1000000",
         ],
-        (1_000_000, 0, 16, 8),
+        (1_000_000, 0, 16, 8, Some(1_000_000)),
     ),
     (
         &[
@@ -190,8 +199,9 @@ const GIVEN_TO_SERVE: [(&[&str], (u32, u16, u16, u32)); 3] = [
             "--nodes=1",
             "--workers=1",
             "--count=007",
+            "--cut=002",
         ],
-        (7, 65535, 1, 1),
+        (7, 65535, 1, 1, Some(2)),
     ),
 ];
 
@@ -214,8 +224,10 @@ const BAD_NODES: &str = "'--nodes <N>' takes a number from 1 to 16, in digits al
 
 const BAD_WORKERS: &str = "'--workers <W>' takes a number from 1 to 8, in digits alone";
 
+const BAD_CUT: &str = "'--cut <C>' takes a number from 1 to 1000000, in digits alone";
+
 /// A count and another option, and the line that refuses one of them.
-const REFUSED_BY_SERVE: [(&str, &str, &str, &str); 8] = [
+const REFUSED_BY_SERVE: [(&str, &str, &str, &str); 14] = [
     ("0", "--port", "1", BAD_COUNT),
     ("1000001", "--port", "1", BAD_COUNT),
     ("1", "--port", "65536", BAD_PORT),
@@ -224,6 +236,12 @@ const REFUSED_BY_SERVE: [(&str, &str, &str, &str); 8] = [
     ("1", "--nodes", "17", BAD_NODES),
     ("1", "--workers", "0", BAD_WORKERS),
     ("1", "--workers", "9", BAD_WORKERS),
+    ("1", "--cut", "0", BAD_CUT),
+    ("1", "--cut", "1000001", BAD_CUT),
+    ("1", "--cut", "4294967296", BAD_CUT),
+    ("1", "--cut", "4294967297", BAD_CUT),
+    ("1", "--cut", "one", BAD_CUT),
+    ("1", "--cut", "", BAD_CUT),
 ];
 
 #[test]
@@ -280,7 +298,7 @@ const REPLAY: &str = "Usage: fleet replay\n\n";
 const SERVE: &str = "Usage: fleet serve [OPTIONS] --count <K>\n\n";
 
 /// Words that are refused, with the lines.
-const REFUSED_WORDS: [(&[&str], &str, &str); 12] = [
+const REFUSED_WORDS: [(&[&str], &str, &str); 14] = [
     (
         &["fleet", "replay", "two"],
         "unexpected argument 'two' found",
@@ -326,6 +344,16 @@ const REFUSED_WORDS: [(&[&str], &str, &str); 12] = [
         &["fleet", "one", "--node"],
         "a value is required for '--node <N>' but none was supplied",
         "",
+    ),
+    (
+        &["fleet", "serve", "--count", "1", "--cut"],
+        "a value is required for '--cut <C>' but none was supplied",
+        "",
+    ),
+    (
+        &["fleet", "serve", "--count=1", "--cut=1", "--cut=1"],
+        "the argument '--cut <C>' cannot be used multiple times",
+        SERVE,
     ),
     (
         &["fleet", "one", "--node", "1", "--node", "1"],

@@ -48,13 +48,14 @@ impl Serves for Server {
     }
 }
 
-const WORDS: [&str; 6] = [
+const WORDS: [&str; 7] = [
     "fleet",
     "serve",
     "--count=9",
     "--port=1",
     "--nodes=3",
     "--workers=4",
+    "--cut=5",
 ];
 
 /// Runs `fleet serve` with a server.
@@ -82,7 +83,7 @@ fn a_server_that_settles(rt: HostRuntime) -> Result<(), Fail> {
     let ServeOptions { plan, port } = server.asked.ok_or("it was not asked")?;
     holds(
         "a server that settles",
-        (plan.count, port, plan.nodes, plan.workers) == (9, 1, 3, 4),
+        (plan.count, port, plan.nodes, plan.workers, plan.cut) == (9, 1, 3, 4, Some(5)),
     )
 }
 

@@ -200,7 +200,8 @@ fn part(alloc: Global, last: bool) -> Result<Slot, Fail> {
     Ok(slot)
 }
 
-fn whole(alloc: Global, last_first: bool) -> Result<Slot, Fail> {
+/// All that a registration can have, of two slots that are joined in one order or the other.
+pub(crate) fn whole(alloc: Global, last_first: bool) -> Result<Slot, Fail> {
     let mut slot = part(alloc, last_first)?;
     slot.join_with(part(alloc, !last_first)?)?;
     Ok(slot)
@@ -338,7 +339,8 @@ fn no_fields(alloc: Global) -> Fields
     }
 }
 
-fn without_fields(alloc: Global) -> Result<Slot, Fail> {
+/// A registration of which nothing is known.
+pub(crate) fn without_fields(alloc: Global) -> Result<Slot, Fail> {
     Ok(Slot::from_parts(alloc, FIRST, Some(no_fields(alloc)))?)
 }
 

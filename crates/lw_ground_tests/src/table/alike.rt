@@ -10,7 +10,7 @@ const EUI: &str = "urn:dev:eui:0123456789ab";
 
 /// Four whose last eight bytes are the same, and one of seven bytes beside one with a zero before them. One is removed, one
 /// registers again, and one moves.
-static ALIKE: [Of<'static>; 9] = [
+pub(super) const ALIKE: [Of<'static>; 9] = [
     (MAC, (First, First, Register(HOST_A, 0, 60))),
     ("456789ab", (Second, Second, Register(HOST_A, 0, 60))),
     (EUI, (Third, Third, Register(HOST_A, 0, 60))),
@@ -34,7 +34,7 @@ static SHOWN: [(&str, Option<Mark>); 7] = [
 ];
 
 /// Rising by their bytes, in whatever order they came.
-const ALL: &str =
+pub(super) const ALL: &str =
     "\056789ab+11 456789ab+13 56789ab+5 9456789ab+4 urn:dev:eui:0123456789ab+3 urn:dev:mac:0123456789ab-1 ";
 
 fn are_shown(table: &Table) -> bool {

@@ -37,7 +37,7 @@ pub(super) fn tells(alloc: Global, table: &Table, rows: &[(u64, &str)]) -> Resul
 
 /// `a` at host A for a minute, `b` there for ever, `c` at host B for two minutes, `d` removed, and of `e` only an
 /// Update.
-static FIVE: [Of<'static>; 6] = [
+pub(super) const FIVE: [Of<'static>; 6] = [
     ("a", (First, First, Register(HOST_A, 0, 60))),
     ("b", (Second, Second, Register(HOST_A, 0, 0))),
     ("c", (Third, Third, Register(HOST_B, 0, 120))),
@@ -46,7 +46,7 @@ static FIVE: [Of<'static>; 6] = [
     ("e", (Fifth, Fifth, Update(HOST_B, 0, None, None))),
 ];
 
-static OF_FIVE: [(u64, &str); 8] = [
+pub(super) const OF_FIVE: [(u64, &str); 8] = [
     (0, "a+1 b+2 c+3 d-4 e+5 "),
     (1, "b+2 c+3 d-4 e+5 "),
     (3, "d-4 e+5 "),
@@ -58,14 +58,19 @@ static OF_FIVE: [(u64, &str); 8] = [
 ];
 
 /// One that moves again takes a later number, and one that does not keeps its own.
-static AGAIN: [Of<'static>; 4] = [
+pub(super) const AGAIN: [Of<'static>; 4] = [
     ("c", (Third, Third, Register(HOST_A, 0, 60))),
     ("b", (Second, Second, Register(HOST_A, 0, 60))),
     ("c", (Fourth, Third, Observe(&[3], None))),
     ("b", (First, First, Register(HOST_A, 0, 60))),
 ];
 
-static OF_AGAIN: [(u64, &str); 4] = [(0, "b+2 c+3 "), (1, "b+2 c+3 "), (2, "c+3 "), (3, "")];
+pub(super) const OF_AGAIN: [(u64, &str); 4] = [
+    (0, "b+2 c+3 "),
+    (1, "b+2 c+3 "),
+    (2, "c+3 "),
+    (3, ""),
+];
 
 fn moves(alloc: Global, changes: &[Of<'_>], number: u64, rows: &[(u64, &str)]) -> Result<(), Fail> {
     let table = table_of(alloc, changes)?;
@@ -101,7 +106,7 @@ fn count(table: &Table, since: u64) -> Result<usize, NoMemory> {
 }
 
 /// Whether the endpoints at host A are the numbers from 900 to 999.
-fn has_hundred(alloc: Global, table: &Table) -> Result<bool, Fail> {
+pub(super) fn has_hundred(alloc: Global, table: &Table) -> Result<bool, Fail> {
     let mut endpoints = table.keys().of(&Key::Address(HOST_A));
     for number in 900..1000u32 {
         let wanted = format!(in alloc; "{number}")?;
@@ -113,7 +118,7 @@ fn has_hundred(alloc: Global, table: &Table) -> Result<bool, Fail> {
 }
 
 /// Joins a hundred endpoints, `999` to `900`, at one address.
-fn join_hundred(alloc: Global, table: &mut Table) -> Result<(), Fail> {
+pub(super) fn join_hundred(alloc: Global, table: &mut Table) -> Result<(), Fail> {
     for number in 0..100u16 {
         join_numbered(alloc, table, number)?;
     }

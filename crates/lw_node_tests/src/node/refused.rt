@@ -1,17 +1,13 @@
-//! What a node knows and sends where a merge or a delta is refused memory, and that a sweep takes none.
+//! What a node knows and sends where a merge, a delta or a copy is refused memory, and that a sweep takes none.
 
-use super::deltas::{SECOND, TWO};
+use super::copied::are_same;
+use super::deltas::{FIRST, SECOND, TWO};
 use super::swept::REGISTER_FOR_A_MINUTE;
 use super::*;
 use lw_stamp::NoMemory;
 
-/// The delta of two slots without a slot, and with the first alone.
+/// The delta of two slots without a slot.
 const NONE: &str = "4c57443300000000000600";
-
-const FIRST: &str =
-    "4c57443300000000000601016100000000000100017f000000000000010001047f000001163300000000000100010000\
-0000000000000000000100010001518000000000000100010155000000000001000100000000000001000100033c2f3e\
-00000102000300000000000000030001010001020003000100000000000400010101006e0000";
 
 /// The front of a delta with no slot, and with its first, and all of it with both and with the second alone.
 #[derive(Drop)]
@@ -62,6 +58,38 @@ fn a_refused_merge_leaves_the_first_slots(rt: HostRuntime) -> Result<(), Fail> {
     };
     let mut node = Node::new(alloc, 2);
     merges_in_two_tries(&mut node, &deltas)
+}
+
+/// Merges the delta, or else gives up.
+fn merges(node: &mut Node, delta: &[u8]) -> Result<(), NoMemory> {
+    match node.merge(delta) {
+        Ok(_) => Ok(()),
+        Err(_) => Err(NoMemory),
+    }
+}
+
+/// A copy of the node. Where that is refused, it is made again.
+fn copy_in_two_tries(node: &Node) -> Result<Node, NoMemory> {
+    match node.copy() {
+        Err(NoMemory) => node.copy(),
+        copied => copied,
+    }
+}
+
+/// The copy is the same, and both send the bytes.
+fn is_copy(node: &Node, copy: &Node, both: &[u8]) -> Result<(), Fail> {
+    holds("the same", are_same(node, copy))?;
+    holds("what the node sends", sends(node, 0, both)?)?;
+    holds("what the copy sends", sends(copy, 0, both)?)
+}
+
+#[test]
+fn a_refused_copy_is_made_again(rt: HostRuntime) -> Result<(), Fail> {
+    let both = hex::decode(rt.alloc(), TWO)?;
+    let mut node = Node::new(rt.alloc(), 2);
+    merges(&mut node, &both)?;
+    let copy = copy_in_two_tries(&node)?;
+    is_copy(&node, &copy, &both)
 }
 
 /// Whether a sweep ends this registration, and another then nothing.

@@ -116,7 +116,7 @@ fn are_registered<R: Wait>(
     requires shelves { AreInOrder shelves.now }
     requires passes { AreDistinct passes.old }
 {
-    let settled = settle(rt, shelves, passes);
+    let settled = settle_alone(rt, shelves, passes);
     is_told(alloc, passes, done, settled, REGISTERED)?;
     match first_pass(done) {
         Some(first) => read_back(rt, alloc, shelves, passes, first),

@@ -133,7 +133,7 @@ fn agrees_two(held: &Held, one: Pass, other: Pass) -> Result<(), u64> {
     let are_apart = one.number() != other.number();
     let both = [one, other];
     let said = if are_apart {
-        held.agrees(1, &both)
+        held.agrees(1, &[], &both)
     } else {
         Err(u64::MAX)
     };

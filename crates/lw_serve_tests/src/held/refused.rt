@@ -1,7 +1,9 @@
-//! What a node knows after a call that is refused memory, and what the same call then gives.
+//! What a node knows after a call that is refused memory, and what the same call then gives. The same of a cut.
 
+use super::volumes::{Wanted, cut, cuts_nothing, enters, is_volume};
 use super::*;
-use lw_node::{MergeFault, ObserveFault, Reply};
+use crate::calls::{CREATED, wants_memory};
+use lw_held::Volume;
 use steps::What;
 
 /// A Register of `b` with the object list `</>`, message ID 5, and the reply to the first at node 1.
@@ -59,23 +61,11 @@ static ROWS: [Row; 6] = [
 /// An entry with its place, or none.
 type Made = Result<(Entry, u64), NoMemory>;
 
-fn is_want_of_memory(reply: &Reply) -> bool {
-    matches!(
-        reply,
-        Reply::Take(Err(NoMemory))
-            | Reply::Observe(Err(ObserveFault::NoMemory))
-            | Reply::Cancel(Err(ObserveFault::NoMemory))
-            | Reply::Send(Err(NoMemory))
-            | Reply::Merge(Err(MergeFault::NoMemory { joined: 0 }))
-            | Reply::Ask(Err(NoMemory))
-    )
-}
-
 /// Whether a call is refused, and how many entries there are of it then.
 fn entries_of_a_refusal(made: &Made) -> Option<u64> {
     match made {
         Err(NoMemory) => Some(0),
-        Ok((entry, _)) if is_want_of_memory(&entry.reply) => Some(1),
+        Ok((entry, _)) if wants_memory(&entry.reply) => Some(1),
         Ok(_) => None,
     }
 }
@@ -150,4 +140,56 @@ fn a_refused_step_leaves_what_the_node_knows(rt: HostRuntime) -> Result<(), Fail
         given?;
     }
     Ok(())
+}
+
+/// What is cut off. Where the cut is refused, it is made again.
+fn cut_in_two_tries(held: &mut Held) -> Result<Volume, Fail> {
+    match held.cut() {
+        Ok(Some(volume)) => Ok(volume),
+        Ok(None) => Err("a volume".into()),
+        Err(NoMemory) => cut(held),
+    }
+}
+
+/// What is cut off in one try or two is such a volume.
+fn cuts(alloc: Global, held: &mut Held, wanted: Wanted<'_>) -> Result<(), Fail> {
+    let volume = cut_in_two_tries(held)?;
+    let is_so = is_volume(alloc, &volume, wanted);
+    drop(volume);
+    is_so
+}
+
+/// Two Registers and an observation, which are cut off; and a sweep and an end.
+const TO_BE_CUT: [What<'static>; 5] = [
+    Takes(REGISTER),
+    Takes(REGISTER_B),
+    Observes(ID, &[3, 0], 32),
+    Sweeps(86_400_000),
+    Cancels("0000000000030001", 34),
+];
+
+const THEIR_REPLIES: [&str; 5] = [
+    CREATED,
+    "604100058272640d0330303030303030303030303230303031",
+    "4801002000000000000300016051330130",
+    "swept 0000000000010001",
+    "Cancel(Err(NotFound))",
+];
+
+/// A refused cut leaves the journal, its first place and the opening: the next one gives them.
+fn cuts_in_two_tries(alloc: Global, held: &mut Held) -> Result<(), Fail> {
+    let (calls, replies) = (&TO_BE_CUT, &THEIR_REPLIES);
+    enters(alloc, held, 0, &calls[..3])?;
+    cuts(alloc, held, (0, &[], &calls[..3], &replies[..3]))?;
+    enters(alloc, held, 3, &calls[3..])?;
+    cuts(alloc, held, (3, &calls[..3], calls, &replies[3..]))?;
+    cuts_nothing(held)
+}
+
+#[test]
+fn a_refused_growth_of_a_cut_leaves_the_journal(rt: HostRuntime) -> Result<(), Fail> {
+    let mut held = Held::new(rt.alloc(), 1);
+    let cut = cuts_in_two_tries(rt.alloc(), &mut held);
+    drop(held);
+    cut
 }

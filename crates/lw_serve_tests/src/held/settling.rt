@@ -214,7 +214,7 @@ fn settle_two<R: Wait>(
     let are_apart = one.number() != other.number();
     let both = [one, other];
     let settled = if are_apart {
-        settle(rt, shelves, &both)
+        settle_alone(rt, shelves, &both)
     } else {
         Err(Unsettled { node: 0, place: 0 })
     };

@@ -182,7 +182,20 @@ pub(crate) fn settle_some<R: Wait>(
     if first > end || end > passes.len() {
         return Err(Unsettled { node: 0, place: 0 });
     }
-    settle(rt, shelves, &passes[first..end])
+    settle_alone(rt, shelves, &passes[first..end])
+}
+
+/// Whether the transcripts of the passes are the journals, of which none was cut.
+#[tactic(auto, using(crate::proofs::Keeping::no_volumes))]
+pub(crate) fn settle_alone<R: Wait>(
+    rt: &R,
+    shelves: &[Shelf],
+    passes: &[Pass],
+) -> Result<Settled, Unsettled>
+    requires shelves { AreInOrder shelves.now }
+    requires passes { AreDistinct passes.now }
+{
+    settle(rt, shelves, &[], passes)
 }
 
 /// Whether the transcripts of some passes in a row are the journal.
@@ -199,7 +212,7 @@ pub(super) fn agrees_some(
     if first > end || end > passes.len() {
         return Err(u64::MAX);
     }
-    held.agrees(node, &passes[first..end])
+    held.agrees(node, &[], &passes[first..end])
 }
 
 /// The last part that was made with the pass at the place has the node, the place and the reply.

@@ -65,7 +65,7 @@ fn run_by<R: Threads + Wait + Sync>(
     let mut wire = MemoryWire::new(alloc, &arrivals);
     let moments = [now];
     let mut clock = Ticks::new(&moments);
-    match Plan::new(1, 1, 1) {
+    match Plan::new(1, 1, 1, None) {
         Some(plan) => serve_on(rt, alloc, &mut wire, &mut clock, &Discard, &plan, writer),
         None => Err(ServeFault::NoMemory),
     }
@@ -148,6 +148,18 @@ fn run_two<R: Threads + Wait + Sync>(
     coming: Coming,
     want: &str,
 ) -> Result<(), Fail> {
+    run_two_cut(rt, alloc, datagrams, coming, None, want)
+}
+
+/// The same, with the journals cut after so many rounds again and again, or never.
+pub(super) fn run_two_cut<R: Threads + Wait + Sync>(
+    rt: &R,
+    alloc: Global,
+    datagrams: &[Vec<u8>; 2],
+    coming: Coming,
+    cut: Option<u32>,
+    want: &str,
+) -> Result<(), Fail> {
     let [first, second] = datagrams;
     let arrivals = [
         Arrival {
@@ -161,7 +173,7 @@ fn run_two<R: Threads + Wait + Sync>(
             coming,
         },
     ];
-    is_served(rt, &mut MemoryWire::new(alloc, &arrivals), 2, 2, want)
+    is_served_cut(rt, &mut MemoryWire::new(alloc, &arrivals), 2, 2, cut, want)
 }
 
 #[test]
@@ -179,24 +191,24 @@ fn nodes_tell_each_other_between_rounds(rt: HostRuntime) -> Result<(), Fail> {
 }
 
 /// What comes of two rounds: the second node knows of one operation when it has the second Register.
-const TOLD: &str = "Ok(()) 2 0 0 0
+pub(super) const TOLD: &str = "Ok(()) 2 0 0 0
 settled
 56832 604100048272640d0330303030303030303030303130303031
 56833 604100058272640d0330303030303030303030303230303032
 ";
 
 /// What comes of one round, in which the second node knows of none.
-const UNTOLD: &str = "Ok(()) 1 0 0 0
+pub(super) const UNTOLD: &str = "Ok(()) 1 0 0 0
 settled
 56832 604100048272640d0330303030303030303030303130303031
 56833 604100058272640d0330303030303030303030303130303032
 ";
 
 /// An Update of lifetime 120 of what node 1 registers first, message ID 16.
-const UPDATE: &str = "40020010b272640d0330303030303030303030303130303031466c743d313230";
+pub(super) const UPDATE: &str = "40020010b272640d0330303030303030303030303130303031466c743d313230";
 
 /// What comes of two rounds: the second node updates what the first has registered.
-const UPDATED: &str = "Ok(()) 2 0 0 0
+pub(super) const UPDATED: &str = "Ok(()) 2 0 0 0
 settled
 56832 604100048272640d0330303030303030303030303130303031
 56833 60440010
@@ -262,7 +274,7 @@ fn register(alloc: Global, number: u16) -> Result<Vec<u8>, Fail> {
     Ok(datagram)
 }
 
-fn registers(alloc: Global) -> Result<Vec<Vec<u8>>, Fail> {
+pub(super) fn registers(alloc: Global) -> Result<Vec<Vec<u8>>, Fail> {
     let mut datagrams = Vec::new(alloc);
     for number in 0..400 {
         datagrams.push(register(alloc, number)?)?;
@@ -308,16 +320,17 @@ fn replies(sent: &[(u16, Vec<u8>)]) -> u16 {
     number
 }
 
-/// Serves 400 Registers at four nodes by four workers: what came of the run, how many datagrams were sent, and how many
-/// of them from the first on are the replies in order.
-fn run_all<R: Threads + Wait + Sync>(
+/// Serves 400 Registers at four nodes by four workers, with the journals cut after so many rounds or never: what came of
+/// the run, how many datagrams were sent, and how many of them from the first on are the replies in order.
+pub(super) fn run_all<R: Threads + Wait + Sync>(
     rt: &R,
     alloc: Global,
     datagrams: &[Vec<u8>],
+    cut: Option<u32>,
 ) -> Result<String, Fail> {
     let arrivals = arrivals_of(alloc, datagrams)?;
     let mut wire = MemoryWire::new(alloc, &arrivals);
-    let ran = run(rt, &mut wire, 400, 4, 4)?;
+    let ran = run_cut(rt, &mut wire, 400, 4, 4, cut)?;
     let (sent, replies) = (wire.sent.len(), replies(&wire.sent));
     Ok(format!(in alloc; "{sent} {replies} {ran}")?)
 }
@@ -325,7 +338,7 @@ fn run_all<R: Threads + Wait + Sync>(
 #[test]
 fn every_request_has_its_reply(rt: HostRuntime) -> Result<(), Fail> {
     let datagrams = registers(rt.alloc())?;
-    let text = run_all(&rt, rt.alloc(), &datagrams)?;
+    let text = run_all(&rt, rt.alloc(), &datagrams, None)?;
     let are_sent = text.starts_with("400 400 Ok(()) ") && text.ends_with("\nsettled\n");
     holds(text.as_str(), are_sent)
 }

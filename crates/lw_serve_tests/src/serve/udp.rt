@@ -64,7 +64,7 @@ fn serve_over<R: Clock + Threads + Wait + Sync>(
 
 #[test]
 fn two_clients_at_two_nodes(rt: HostRuntime) -> Result<(), Fail> {
-    let Some(plan) = Plan::new(2, 2, 1) else {
+    let Some(plan) = Plan::new(2, 2, 1, None) else {
         return Err("a plan".into());
     };
     let socket = UdpSocket::bind(&rt, "127.0.0.1:56831")?;

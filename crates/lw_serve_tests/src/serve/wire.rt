@@ -164,7 +164,19 @@ pub(super) fn run<R: Threads + Wait + Sync>(
     nodes: u16,
     workers: u32,
 ) -> Result<String, Fail> {
-    match Plan::new(count, nodes, workers) {
+    run_cut(rt, wire, count, nodes, workers, None)
+}
+
+/// The same, with the journals cut after so many rounds again and again, or never.
+pub(super) fn run_cut<R: Threads + Wait + Sync>(
+    rt: &R,
+    wire: &mut MemoryWire<'_>,
+    count: u32,
+    nodes: u16,
+    workers: u32,
+    cut: Option<u32>,
+) -> Result<String, Fail> {
+    match Plan::new(count, nodes, workers, cut) {
         Some(plan) => run_at(rt, wire, &[Some(Moment::START)], &plan),
         None => Err("a plan".into()),
     }
@@ -228,7 +240,19 @@ pub(super) fn is_served<R: Threads + Wait + Sync>(
     nodes: u16,
     want: &str,
 ) -> Result<(), Fail> {
-    let mut text = run(rt, wire, count, nodes, 1)?;
+    is_served_cut(rt, wire, count, nodes, None, want)
+}
+
+/// The same, with the journals cut after so many rounds again and again, or never.
+pub(super) fn is_served_cut<R: Threads + Wait + Sync>(
+    rt: &R,
+    wire: &mut MemoryWire<'_>,
+    count: u32,
+    nodes: u16,
+    cut: Option<u32>,
+    want: &str,
+) -> Result<(), Fail> {
+    let mut text = run_cut(rt, wire, count, nodes, 1, cut)?;
     is_sent(wire, &mut text, want)
 }
 
@@ -240,7 +264,7 @@ pub(super) fn is_served_at<R: Threads + Wait + Sync>(
     moments: &[Option<Moment>],
     want: &str,
 ) -> Result<(), Fail> {
-    let Some(plan) = Plan::new(u32::try_from(moments.len())?, nodes, 1) else {
+    let Some(plan) = Plan::new(u32::try_from(moments.len())?, nodes, 1, None) else {
         return Err("a plan".into());
     };
     let mut text = run_at(rt, wire, moments, &plan)?;
