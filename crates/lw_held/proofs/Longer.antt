@@ -15,7 +15,7 @@ use Rattle.lw_held.specs.Shelves.{AreInOrder, AreNew, FailsAt, IsAnswered, IsCut
 use Rattle.lw_held.specs.Transcript.{Transcript, IsNumbered}
 
 -- what lies at a place was there before, or is the new one
-there_or_last : {A : Type 0} (xs : List A) (y : A) (k : ℕ) (x : A) → slice_get (xs ++ y ∷ []) k ≡ Some x → (slice_get xs k ≡ Some x) ⊎ ((k ≡ length xs) × (y ≡ x))
+pub there_or_last : {A : Type 0} (xs : List A) (y : A) (k : ℕ) (x : A) → slice_get (xs ++ y ∷ []) k ≡ Some x → (slice_get xs k ≡ Some x) ⊎ ((k ≡ length xs) × (y ≡ x))
 there_or_last [] y zero x at = inr (refl, let e : Some y ≡ Some x = at in cc)
 there_or_last {A = A} [] y (suc k) x at = absurd (let bad : ◌≡◌ {A = Option A} None (Some x) = at in cc)
 there_or_last (z ∷ xs) y zero x at = inl at

@@ -2,3 +2,4 @@ mod Causes
 mod JobLemmas
 mod Numbering
 mod Reaching
+mod Keeping

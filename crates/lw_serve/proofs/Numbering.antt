@@ -7,7 +7,7 @@ use Rattle.lw_held.specs.Transcript.{Transcript}
 use Rattle.lw_crew.specs.Continues.{AllContinue}
 use Rattle.lw_serve.specs.Rounds.{AreNumbered}
 
-there : {A : Type 0} (xs : List A) (i : ℕ) → i < length xs → (x : A) × (slice_get xs i ≡ Some x)
+pub there : {A : Type 0} (xs : List A) (i : ℕ) → i < length xs → (x : A) × (slice_get xs i ≡ Some x)
 there xs i l = elim (slice_get_cases xs i).1 [ inl w ↦ (w.0, w.2) | inr w ↦ absurd (omega (arith, w.0)) ]
 
 pub numbered_after : (old new : List Transcript) → AllContinue old new → AreNumbered old → AreNumbered new

@@ -5,3 +5,4 @@ pub mod Rounds
 pub mod Runs
 pub mod Ending
 pub mod Udp
+pub mod Volumes

@@ -1,5 +1,5 @@
 -- The sizes of a run.
-use Rattle.std.specs.Prelude.{ℕ, ◌≤◌, Option, IfSome}
+use Rattle.std.specs.Prelude.{◌≡◌, ℕ, ◌≤◌, Option, Some}
 
 -- 1 to 1,000,000 datagrams
 abbrev pub IsCount : ℕ → Type 0
@@ -15,7 +15,7 @@ AreWorkers workers = (1 ≤ workers) × (workers ≤ 8)
 
 -- the journals are cut after 1 to 1,000,000 rounds, or never
 abbrev pub IsCut : Option ℕ → Type 0
-IsCut cut = IfSome cut (λ rounds. (1 ≤ rounds) × (rounds ≤ 1000000))
+IsCut cut = (rounds : ℕ) → cut ≡ Some rounds → (1 ≤ rounds) × (rounds ≤ 1000000)
 
 -- how many datagrams are taken in one round at most
 abbrev pub most_at_once : ℕ

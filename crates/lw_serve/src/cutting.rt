@@ -1,7 +1,8 @@
 //! Journals that are cut, and volumes that are kept.
 
 ghost use Rattle.std.specs.Prelude.{◌≡◌, ◌<◌, length};
-ghost use Rattle.lw_held.specs.Shelves.{HaveShelves};
+ghost use Rattle.lw_held.specs.Shelves.{AreInOrder};
+ghost use Rattle.lw_serve.specs.Volumes.{AreOfNodes};
 
 use lw_held::{Shelf, Volume};
 use std::sync::Wait;
@@ -14,10 +15,11 @@ pub(crate) fn cut_journals<R: Wait>(
     due: &mut [bool],
     volumes: &mut Vec<Volume>,
 )
+    requires in_order { AreInOrder shelves.now }
     requires each { length due.old ≡ length shelves.now }
-    requires kept { HaveShelves shelves.now volumes.old.items }
+    requires kept { AreOfNodes (length shelves.now) volumes.old.items }
     ensures each { length due.new ≡ length due.old }
-    ensures kept { HaveShelves shelves.now volumes.new.items }
+    ensures kept { AreOfNodes (length shelves.now) volumes.new.items }
 {
     for place in 0..shelves.len() {
         if all || due[place] {
@@ -30,8 +32,9 @@ pub(crate) fn cut_journals<R: Wait>(
 /// for the cut and for room in the list.
 fn is_cut<R: Wait>(rt: &R, shelves: &[Shelf], place: usize, volumes: &mut Vec<Volume>) -> bool
     requires within { place < length shelves.now }
-    requires kept { HaveShelves shelves.now volumes.old.items }
-    ensures { HaveShelves shelves.now volumes.new.items }
+    requires in_order { AreInOrder shelves.now }
+    requires kept { AreOfNodes (length shelves.now) volumes.old.items }
+    ensures { AreOfNodes (length shelves.now) volumes.new.items }
 {
     // Room comes first, so that no volume is lost.
     if volumes.reserve(1).is_err() {

@@ -60,8 +60,8 @@ fn port_of(address: &Addr) -> u16
     }
 }
 
-#[tactic(auto, using(crate::proofs::JobLemmas::sweeps_more))]
 /// Puts a Sweep of each node behind the jobs.
+#[tactic(auto, using(crate::proofs::JobLemmas::sweeps_more))]
 fn put_sweeps(jobs: &mut Vec<Job>, nodes: u16, now: Moment) -> Result<(), NoMemory>
     requires { AreNodes nodes }
     ensures { OnOk result (jobs.new.items ≡ jobs.old.items ++ sweeps_of now nodes) }
@@ -93,8 +93,8 @@ pub(crate) fn send_jobs(alloc: Global, since: &[u64]) -> Result<Vec<Job>, NoMemo
     Ok(jobs)
 }
 
-#[tactic(auto, using(crate::proofs::JobLemmas::merges_more))]
 /// Puts a Merge of a delta at each node but its sender behind the jobs. All share the delta's bytes.
+#[tactic(auto, using(crate::proofs::JobLemmas::merges_more))]
 pub(crate) fn put_merges(
     jobs: &mut Vec<Job>,
     nodes: u16,

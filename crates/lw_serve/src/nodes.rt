@@ -1,8 +1,9 @@
 ghost use Rattle.std.specs.Prelude.{◌≡◌, length, vec_len, IfErr, IfOk, OnOk};
 ghost use Rattle.lw_held.specs.Agree.{AreDistinct};
-ghost use Rattle.lw_held.specs.Shelves.{AreInOrder, AreNew, AreSettled, HaveShelves, IsUnsettled};
+ghost use Rattle.lw_held.specs.Shelves.{AreInOrder, AreNew, AreSettled, IsUnsettled};
 ghost use Rattle.lw_serve.specs.Plan.{AreNodes, AreWorkers};
 ghost use Rattle.lw_serve.specs.Rounds.{AreNumbered, Serves};
+ghost use Rattle.lw_serve.specs.Volumes.{AreOfNodes};
 
 use crate::cutting::cut_journals;
 use crate::plan::Plan;
@@ -27,12 +28,12 @@ pub(crate) struct Nodes {
     ghost distinct: { AreDistinct passes.items },
     ghost numbered: { AreNumbered passes.items },
     ghost each_due: { vec_len due ≡ vec_len shelves },
-    ghost have_shelves: { HaveShelves shelves.items volumes.items },
+    ghost of_nodes: { AreOfNodes (length shelves.items) volumes.items },
 }
 
 impl Nodes {
-    #[tactic(auto, using(crate::proofs::Numbering::numbered_new))]
     /// Nodes and passes that no call was made with.
+    #[tactic(auto, using(crate::proofs::Numbering::numbered_new, crate::proofs::Keeping::none_kept))]
     pub(crate) fn new(alloc: Global, plan: &Plan) -> Result<Nodes, NoMemory>
         ensures shelves { IfOk result (λ nodes. vec_len nodes.shelves ≡ plan.now.nodes) }
         ensures passes { IfOk result (λ nodes. (vec_len nodes.passes ≡ plan.now.workers) × AreNew nodes.passes.items) }
@@ -60,8 +61,8 @@ impl Nodes {
         self.passes.as_slice()
     }
 
-    #[tactic(auto, using(crate::proofs::Numbering::numbered_after))]
     /// Has the workers do the jobs.
+    #[tactic(auto, using(crate::proofs::Numbering::numbered_after))]
     pub(crate) fn serve<R: Threads + Wait + Sync>(
         self,
         rt: &R,
@@ -111,6 +112,7 @@ impl Nodes {
     }
 
     /// Compares the transcripts of the passes with the volumes and the journals of the nodes.
+    #[tactic(auto, using(crate::proofs::Keeping::have_shelves))]
     pub(crate) fn settle<R: Wait>(&self, rt: &R) -> Result<Settled, Unsettled>
         ensures settled { OnOk result (AreSettled self.now.shelves.items self.now.passes.items) }
         ensures unsettled { IfErr result (IsUnsettled self.now.shelves.items self.now.volumes.items self.now.passes.items) }
