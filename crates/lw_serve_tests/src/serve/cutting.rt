@@ -17,24 +17,26 @@ fn are_served<R: Threads + Wait + Sync>(rt: &R, alloc: Global, cut: u32) -> Resu
     run_two_cut(rt, alloc, &datagrams, Coming::Alone, cut, UPDATED)
 }
 
-/// 400 Registers in some sixty rounds, by four workers.
-fn all_are_served<R: Threads + Wait + Sync>(
+/// A hundred Registers in 18 rounds, by four workers.
+fn hundred_are_served<R: Threads + Wait + Sync>(
     rt: &R,
     alloc: Global,
     datagrams: &[Vec<u8>],
     cut: u32,
 ) -> Result<(), Fail> {
     let text = run_all(rt, alloc, datagrams, Some(cut))?;
-    let are_sent = text.starts_with("400 400 Ok(()) ") && text.ends_with("\nsettled\n");
+    let are_sent = text.starts_with("100 100 Ok(()) ") && text.ends_with("\nsettled\n");
     holds(text.as_str(), are_sent)
 }
 
 #[test]
 fn a_run_that_is_cut_after_each_round_settles(rt: HostRuntime) -> Result<(), Fail> {
-    let datagrams = registers(rt.alloc())?;
-    for cut in [1, 2, 7, 1_000_000] {
+    for cut in [1, 2, 1_000_000] {
         are_served(&rt, rt.alloc(), cut)?;
-        all_are_served(&rt, rt.alloc(), &datagrams, cut)?;
+    }
+    let datagrams = registers(rt.alloc(), 100)?;
+    for cut in [1, 7] {
+        hundred_are_served(&rt, rt.alloc(), &datagrams, cut)?;
     }
     Ok(())
 }

@@ -274,9 +274,10 @@ fn register(alloc: Global, number: u16) -> Result<Vec<u8>, Fail> {
     Ok(datagram)
 }
 
-pub(super) fn registers(alloc: Global) -> Result<Vec<Vec<u8>>, Fail> {
+/// Registers of so many endpoints.
+pub(super) fn registers(alloc: Global, count: u16) -> Result<Vec<Vec<u8>>, Fail> {
     let mut datagrams = Vec::new(alloc);
-    for number in 0..400 {
+    for number in 0..count {
         datagrams.push(register(alloc, number)?)?;
     }
     Ok(datagrams)
@@ -320,7 +321,7 @@ fn replies(sent: &[(u16, Vec<u8>)]) -> u16 {
     number
 }
 
-/// Serves 400 Registers at four nodes by four workers, with the journals cut after so many rounds or never: what came of
+/// Serves the Registers at four nodes by four workers, with the journals cut after so many rounds or never: what came of
 /// the run, how many datagrams were sent, and how many of them from the first on are the replies in order.
 pub(super) fn run_all<R: Threads + Wait + Sync>(
     rt: &R,
@@ -330,14 +331,15 @@ pub(super) fn run_all<R: Threads + Wait + Sync>(
 ) -> Result<String, Fail> {
     let arrivals = arrivals_of(alloc, datagrams)?;
     let mut wire = MemoryWire::new(alloc, &arrivals);
-    let ran = run_cut(rt, &mut wire, 400, 4, 4, cut)?;
+    let count = u32::try_from(datagrams.len())?;
+    let ran = run_cut(rt, &mut wire, count, 4, 4, cut)?;
     let (sent, replies) = (wire.sent.len(), replies(&wire.sent));
     Ok(format!(in alloc; "{sent} {replies} {ran}")?)
 }
 
 #[test]
 fn every_request_has_its_reply(rt: HostRuntime) -> Result<(), Fail> {
-    let datagrams = registers(rt.alloc())?;
+    let datagrams = registers(rt.alloc(), 400)?;
     let text = run_all(&rt, rt.alloc(), &datagrams, None)?;
     let are_sent = text.starts_with("400 400 Ok(()) ") && text.ends_with("\nsettled\n");
     holds(text.as_str(), are_sent)
