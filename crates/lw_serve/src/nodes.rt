@@ -112,7 +112,6 @@ impl Nodes {
     }
 
     /// Compares the transcripts of the passes with the volumes and the journals of the nodes.
-    #[tactic(auto, using(crate::proofs::Keeping::have_shelves))]
     pub(crate) fn settle<R: Wait>(&self, rt: &R) -> Result<Settled, Unsettled>
         ensures settled { OnOk result (AreSettled self.now.shelves.items self.now.passes.items) }
         ensures unsettled { IfErr result (IsUnsettled self.now.shelves.items self.now.volumes.items self.now.passes.items) }

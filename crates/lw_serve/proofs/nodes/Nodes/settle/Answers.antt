@@ -1,0 +1,11 @@
+use Rattle.std.proofs.Common.{sym, subst}
+use Rattle.lw_held.specs.Shelves.{HaveShelves}
+use Rattle.lw_serve.proofs.Keeping.{have_shelves}
+use Rattle.lw_serve.proofs.nodes.Nodes.settle.Goals as goal
+
+pub settle-requires-clause-volumes : goal.settle-requires-clause-volumes
+settle-requires-clause-volumes g c =
+    let nodes = c.args.self.now in
+    subst (HaveShelves c.deref.result.now) (sym c.deref-2.ensures.value)
+    (subst (λ shelves. HaveShelves shelves nodes.volumes.items) (sym c.deref.ensures.value)
+    (have_shelves nodes.shelves.items nodes.volumes.items nodes.in_order nodes.of_nodes))
