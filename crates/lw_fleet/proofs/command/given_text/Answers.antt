@@ -10,5 +10,5 @@ option_rows_are (Some command) rows e = cc
 
 pub returns : goal.returns
 returns c =
-    let rows = option_rows_are _ _ (c.in_some-options.ensures.rows) in
-    c.get_str.ensures ∙ first_value-rows (found_of c.in_some-options.options.now) c.args.option.now ∙ ap (first_of c.args.option.now) rows
+    let rows = option_rows_are _ _ (c.in_ok-options.ensures.rows) in
+    c.get_str.ensures ∙ first_value-rows (found_of c.in_ok-options.options.now) c.args.option.now ∙ ap (first_of c.args.option.now) rows
