@@ -1,4 +1,5 @@
 pub mod Addresses
+pub mod AddrNumbers
 pub mod BindingLemmas
 pub mod WatchLemmas
 pub mod WriteLemmas

@@ -1,4 +1,5 @@
 pub mod Addr
+pub mod AddrOrder
 pub mod Orders
 pub mod BindingText
 pub mod Binding

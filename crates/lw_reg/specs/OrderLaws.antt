@@ -22,7 +22,8 @@ use Rattle.lw_reg.specs.declared.version.Version.TheVariants.{V10, V11}
 use Rattle.lw_reg.specs.ByNumbers.{TellApart, by_numbers_order}
 use Rattle.lw_reg.specs.Path.{path_numbers}
 use Rattle.lw_reg.specs.PathNumbers.{IsKept}
-use Rattle.lw_reg.specs.Orders.{family, bytes_of, port_of, minor, addr_cmp, addr_by_parts, sms_cmp, version_cmp, version_by_number, base_cmp, base_by_parts, moment_cmp, format_cmp, path_cmp}
+use Rattle.lw_reg.specs.AddrOrder.{addr_by_parts, addr_total}
+use Rattle.lw_reg.specs.Orders.{minor, addr_cmp, sms_cmp, version_cmp, version_by_number, base_cmp, base_by_parts, moment_cmp, format_cmp, path_cmp}
 
 -- an order that is another has what that has
 order_along : {V : Type 0} {P Q : V → V → Ordering} → ((a b : V) → P a b ≡ Q a b) → IsExactOrder Q → IsExactOrder P
@@ -36,16 +37,10 @@ exact_addr (V6 a p) (V4 b q) h = absurd (true≢false (sym (ap is_eq h)))
 exact_addr (V6 a p) (V6 b q) h = ap (λ (x : List ℕ × ℕ). V6 x.0 x.1) (exact_pairs (slice_cmp nat_cmp) nat_cmp exact_bytes exact_unsigned (a, p) (b, q) h)
 
 pub addr_parts : (a b : Addr) → addr_cmp a b ≡ addr_by_parts a b
-addr_parts (V4 a p) (V4 b q) = refl
-addr_parts (V4 a p) (V6 b q) = refl
-addr_parts (V6 a p) (V4 b q) = refl
-addr_parts (V6 a p) (V6 b q) = refl
+addr_parts a b = refl
 
 pub addr_order : IsExactOrder addr_cmp
-addr_order = order_along addr_parts (record {
-  total = then_total (on_total family nat_cmp_total) (then_total (on_total bytes_of nat_list_cmp_total) (on_total port_of nat_cmp_total));
-  exact = exact_addr;
-})
+addr_order = record { total = addr_total; exact = exact_addr }
 
 -- ---- versions and bases
 exact_version : IsExact version_by_number

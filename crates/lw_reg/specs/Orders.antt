@@ -7,7 +7,6 @@ use Rattle.lw_stamp.specs.declared.moment.Moment.{Moment}
 use Rattle.lw_stamp.specs.Moment.{ms_of}
 use Rattle.lw_stamp.specs.TextOrder.{text_cmp}
 use Rattle.lw_reg.specs.declared.addr.Addr.{Addr}
-use Rattle.lw_reg.specs.declared.addr.Addr.TheVariants.{V4, V6}
 use Rattle.lw_reg.specs.declared.base.Base.{Base}
 use Rattle.lw_reg.specs.declared.binding.Binding.{Binding}
 use Rattle.lw_reg.specs.declared.path.Path.{Path}
@@ -23,23 +22,6 @@ use Rattle.lw_reg.specs.contracts.endpoint.EndpointOrd.TheImpl as endpoints
 use Rattle.lw_reg.specs.contracts.path.PathOrd.TheImpl as paths
 use Rattle.lw_reg.specs.contracts.sms_number.SmsNumberOrd.TheImpl as sms_numbers
 use Rattle.lw_reg.specs.contracts.version.VersionOrd.TheImpl as versions
-
--- 4 or 6
-abbrev pub family : Addr → ℕ
-family (V4 address port) = 4
-family (V6 address port) = 6
-
-abbrev pub bytes_of : Addr → List ℕ
-bytes_of (V4 address port) = address
-bytes_of (V6 address port) = address
-
-abbrev pub port_of : Addr → ℕ
-port_of (V4 address port) = port
-port_of (V6 address port) = port
-
--- addresses: by family, then bytes, then port
-abbrev pub addr_by_parts : Addr → Addr → Ordering
-addr_by_parts a b = ordering_then (nat_cmp (family a) (family b)) (ordering_then (text_cmp (bytes_of a) (bytes_of b)) (nat_cmp (port_of a) (port_of b)))
 
 -- bindings: by their texts
 abbrev pub binding_by_text : Binding → Binding → Ordering

@@ -10,7 +10,8 @@ ghost use Rattle.lw_reg.specs.declared.path.Path.{Path};
 ghost use Rattle.lw_reg.specs.declared.version.Version.{Version};
 ghost use Rattle.lw_reg.specs.Binding.{binding_text};
 ghost use Rattle.lw_reg.specs.Path.{path_numbers};
-ghost use Rattle.lw_reg.specs.Orders.{addr_cmp, addr_by_parts, base_cmp, base_by_parts, binding_cmp, binding_by_text, endpoint_cmp, path_cmp, path_given_cmp, sms_number_cmp, version_cmp, version_by_number};
+ghost use Rattle.lw_reg.specs.AddrOrder.{addr_by_parts};
+ghost use Rattle.lw_reg.specs.Orders.{addr_cmp, base_cmp, base_by_parts, binding_cmp, binding_by_text, endpoint_cmp, path_cmp, path_given_cmp, sms_number_cmp, version_cmp, version_by_number};
 
 /// IPv4 is below IPv6; then come the bytes, then the port.
 pub fn addresses_are_ordered()
