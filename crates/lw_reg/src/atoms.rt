@@ -1,6 +1,6 @@
 //! The slot that one operation makes.
 
-ghost use Rattle.std.specs.Prelude.{◌≡◌, IfOk, IsOk, Ok, None};
+ghost use Rattle.std.specs.Prelude.{◌≡◌, IfOk, IsOk, Ok, Some, None};
 ghost use Rattle.std.specs.List.{AllByRecursion};
 ghost use Rattle.lw_join.specs.Parts.{entries_of};
 ghost use Rattle.lw_reg.specs.Attribute.{IsAttribute};
@@ -11,11 +11,12 @@ ghost use Rattle.lw_reg.specs.Fields.{no_writes, told_fields, watched_fields, en
 ghost use Rattle.lw_reg.specs.Told.{KeepsAttributes};
 
 use crate::{
-    Attributes, Base, Endpoint, FieldWrites, Fields, Op, Path, Slot, SmsNumber, Watching, What,
+    Addr, Attributes, Base, Endpoint, FieldWrites, Fields, Op, Path, Settings, Slot, SmsNumber,
+    Watching, What,
 };
 use lw_join::{Last, Lex, Once, OrGone, Parts};
 use lw_link::LinkText;
-use lw_stamp::{NoMemory, Stamp, Text};
+use lw_stamp::{Moment, NoMemory, Stamp, Text};
 use std::alloc::Global;
 
 /// The slot that the one operation makes. A removal takes no memory.
@@ -59,20 +60,14 @@ fn told(alloc: Global, stamp: Stamp, what: What) -> Result<Option<Fields>, NoMem
             address,
             seen,
             settings,
-        } => Fields {
-            writes: FieldWrites {
-                base: Some(Base { version, queue }),
-                address: Some((stamp, address)),
-                seen: Some((stamp, seen)),
-                lifetime: Some((stamp, settings.lifetime)),
-                binding: Some((stamp, settings.binding)),
-                sms: Some((stamp, settings.sms)),
-                objects: Some((stamp, settings.objects)),
-            },
-            attributes: written(alloc, stamp, settings.attributes)?,
-            ended: None,
-            watches: unwatched(alloc),
-        },
+        } => registered(
+            alloc,
+            stamp,
+            Base { version, queue },
+            address,
+            seen,
+            settings,
+        )?,
         What::Update {
             address,
             seen,
@@ -97,6 +92,34 @@ fn told(alloc: Global, stamp: Stamp, what: What) -> Result<Option<Fields>, NoMem
         What::Expire { upto } => ended(alloc, upto),
     };
     Ok(Some(fields))
+}
+
+/// What a Register tells.
+fn registered(
+    alloc: Global,
+    stamp: Stamp,
+    base: Base,
+    address: Addr,
+    seen: Moment,
+    settings: Settings,
+) -> Result<Fields, NoMemory>
+    ensures told { IfOk result (λ fields. told_fields (Some fields) ≡ told_of stamp (What.Register base.version base.queue address seen settings)) }
+    ensures keeps { IfOk result (λ fields. KeepsAttributes (told_fields (Some fields))) }
+{
+    Ok(Fields {
+        writes: FieldWrites {
+            base: Some(base),
+            address: Some((stamp, address)),
+            seen: Some((stamp, seen)),
+            lifetime: Some((stamp, settings.lifetime)),
+            binding: Some((stamp, settings.binding)),
+            sms: Some((stamp, settings.sms)),
+            objects: Some((stamp, settings.objects)),
+        },
+        attributes: written(alloc, stamp, settings.attributes)?,
+        ended: None,
+        watches: unwatched(alloc),
+    })
 }
 
 fn stamped<V>(stamp: Stamp, value: Option<V>) -> Option<(Stamp, V)>
