@@ -11,8 +11,8 @@ ghost use Rattle.lw_reg.specs.Fields.{no_writes, told_fields, watched_fields, en
 ghost use Rattle.lw_reg.specs.Told.{KeepsAttributes};
 
 use crate::{
-    Addr, Attributes, Base, Endpoint, FieldWrites, Fields, Op, Path, Settings, Slot, SmsNumber,
-    Watching, What,
+    Addr, Attributes, Base, Endpoint, FieldWrites, Fields, GivenSettings, Op, Path, Settings, Slot,
+    SmsNumber, Watching, What,
 };
 use lw_join::{Last, Lex, Once, OrGone, Parts};
 use lw_link::LinkText;
@@ -71,21 +71,8 @@ fn told(alloc: Global, stamp: Stamp, what: What) -> Result<Option<Fields>, NoMem
         What::Update {
             address,
             seen,
-            settings: given,
-        } => Fields {
-            writes: FieldWrites {
-                base: None,
-                address: Some((stamp, address)),
-                seen: Some((stamp, seen)),
-                lifetime: stamped(stamp, given.lifetime),
-                binding: stamped(stamp, given.binding),
-                sms: stamped(stamp, given.sms.map(Some)),
-                objects: stamped(stamp, given.objects),
-            },
-            attributes: written(alloc, stamp, given.attributes)?,
-            ended: None,
-            watches: unwatched(alloc),
-        },
+            settings,
+        } => updated(alloc, stamp, address, seen, settings)?,
         What::Remove => return Ok(None),
         What::Observe { path, accept } => observed(alloc, path, stamp, accept)?,
         What::Cancel { path, token } => cancelled(alloc, path, token)?,
@@ -117,6 +104,33 @@ fn registered(
             objects: Some((stamp, settings.objects)),
         },
         attributes: written(alloc, stamp, settings.attributes)?,
+        ended: None,
+        watches: unwatched(alloc),
+    })
+}
+
+/// What an Update tells.
+fn updated(
+    alloc: Global,
+    stamp: Stamp,
+    address: Addr,
+    seen: Moment,
+    given: GivenSettings,
+) -> Result<Fields, NoMemory>
+    ensures told { IfOk result (λ fields. told_fields (Some fields) ≡ told_of stamp (What.Update address seen given)) }
+    ensures keeps { IfOk result (λ fields. KeepsAttributes (told_fields (Some fields))) }
+{
+    Ok(Fields {
+        writes: FieldWrites {
+            base: None,
+            address: Some((stamp, address)),
+            seen: Some((stamp, seen)),
+            lifetime: stamped(stamp, given.lifetime),
+            binding: stamped(stamp, given.binding),
+            sms: stamped(stamp, given.sms.map(Some)),
+            objects: stamped(stamp, given.objects),
+        },
+        attributes: written(alloc, stamp, given.attributes)?,
         ended: None,
         watches: unwatched(alloc),
     })
