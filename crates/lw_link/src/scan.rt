@@ -33,6 +33,7 @@ fn scan(text: &str, style: Style) -> Result<usize, usize>
         }
         place += c.len_utf8();
         state = next;
+        place += scanner.pass(state);
     }
     if state.is_end() {
         Ok(links)
