@@ -1,8 +1,8 @@
 -- Passing characters of one byte that leave a state as it is.
-use Rattle.std.proofs.Common.{◌≡◌, ◌≢◌, ℕ, zero, suc, ◌+◌, ◌<◌, ◌≤◌, Bool, true, false, not, ◌&&◌, ◌==◌, cond, nat_le, List, [], ◌∷◌, ◌++◌, length, take, drop, refl, ap, subst, sym, ◌∙◌, arith, chars, IsUtf8, slice_index}
+use Rattle.std.proofs.Common.{◌≡◌, ◌≢◌, ℕ, zero, suc, ◌+◌, ◌<◌, ◌≤◌, Bool, true, nat_le, List, [], ◌∷◌, ◌++◌, length, take, drop, refl, ap, subst, sym, ◌∙◌, arith, chars, IsUtf8, slice_index}
 use Rattle.std.specs.Char.{len_utf8}
 use Rattle.std.specs.Str.{IsAscii, IsCharBoundary}
-use Rattle.std.proofs.lemmas.Bool.{and_parts, leb-true, false≢true}
+use Rattle.std.proofs.lemmas.Bool.{and_parts, false≢true}
 use Rattle.std.proofs.lemmas.List.{take_more, take-append-drop, length-take-le}
 use Rattle.std.proofs.lemmas.Str.{len_utf8_ascii, chars-append, chars-IsAscii, IsUtf8-from_ascii, IsCharBoundary-from_take}
 use Rattle.lw_link.specs.declared.style.Style.{Style}
