@@ -1,5 +1,5 @@
 -- Characters of one byte that leave a state as it is.
-use Rattle.std.specs.Prelude.{◌≡◌, ℕ, Bool, false, ◌&&◌, nat_le, List, ◌++◌, length}
+use Rattle.std.specs.Prelude.{◌≡◌, ℕ, Bool, false, ◌&&◌, nat_le, List, ◌∷◌, ◌++◌, ◌+◌, length}
 use Rattle.lw_link.specs.declared.state.State.{State}
 use Rattle.lw_link.specs.declared.state.State.TheVariants.{Start, Target, Closed, Comma, Semicolon, Name, Equals, Word, Quotation, Backslash, Stop}
 use Rattle.lw_link.specs.Characters.{is_target_char, is_name_char, is_plain_char, is_quoted_char, Each}
@@ -24,3 +24,19 @@ pub record Passes (state : State) (old new : List ℕ) (count : ℕ) : Type 0 wh
   pub old_is : old ≡ run ++ new
   pub count_is : count ≡ length run
   pub kept : Each (keeps state) run
+
+-- `,` and a link without attributes stand at the front, with so many characters
+pub record HasLink (chars : List ℕ) (count : ℕ) : Type 0 where
+  pub target : List ℕ
+  pub rest : List ℕ
+  pub chars_are : chars ≡ 44 ∷ 60 ∷ (target ++ 62 ∷ rest)
+  pub count_is : count ≡ length target + 3
+  pub kept : Each (keeps Target) target
+
+-- they are passed, behind the end of a link
+pub record PassesLink (state : State) (old new : List ℕ) (count : ℕ) : Type 0 where
+  pub state_is : state ≡ Closed
+  pub target : List ℕ
+  pub old_is : old ≡ 44 ∷ 60 ∷ (target ++ 62 ∷ new)
+  pub count_is : count ≡ length target + 3
+  pub kept : Each (keeps Target) target

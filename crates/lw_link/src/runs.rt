@@ -1,8 +1,8 @@
 //! Characters that leave a state as it is, passed at once.
 
-ghost use Rattle.std.specs.Prelude.{◌≡◌, ◌≤◌, length, take};
+ghost use Rattle.std.specs.Prelude.{◌≡◌, ◌≤◌, IfSome, length, take};
 ghost use Rattle.lw_link.specs.Characters.{Each};
-ghost use Rattle.lw_link.specs.Runs.{keeps};
+ghost use Rattle.lw_link.specs.Runs.{keeps, HasLink};
 
 use crate::characters::{is_name_char, is_plain_char, is_quoted_char, is_target_char};
 use crate::state::State;
@@ -31,4 +31,20 @@ pub(crate) fn run_in(state: State, bytes: &[u8]) -> usize
         count += 1;
     }
     count
+}
+
+/// How many bytes `,` and a link without attributes take at the front.
+pub(crate) fn link_in(bytes: &[u8]) -> Option<usize>
+    ensures { IfSome result (HasLink bytes.now) }
+{
+    if bytes.len() < 3 || bytes[0] != b',' || bytes[1] != b'<' {
+        return None;
+    }
+    let rest = &bytes[2..];
+    let count = run_in(State::Target, rest);
+    if count < rest.len() && rest[count] == b'>' {
+        Some(count + 3)
+    } else {
+        None
+    }
 }

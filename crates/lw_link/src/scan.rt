@@ -34,6 +34,10 @@ fn scan(text: &str, style: Style) -> Result<usize, usize>
         place += c.len_utf8();
         state = next;
         place += scanner.pass(state);
+        while let Some(count) = scanner.pass_link(state) {
+            links += 1;
+            place += count;
+        }
     }
     if state.is_end() {
         Ok(links)

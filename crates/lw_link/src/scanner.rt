@@ -1,7 +1,7 @@
 ghost use Rattle.std.specs.Prelude.{◌≡◌, ℕ, List, [], ◌∷◌, MatchOption, MatchBool, chars};
-ghost use Rattle.lw_link.specs.Runs.{Passes};
+ghost use Rattle.lw_link.specs.Runs.{Passes, PassesLink};
 
-use crate::runs::run_in;
+use crate::runs::{link_in, run_in};
 use crate::state::State;
 use std::marker::Model;
 use std::str::Chars;
@@ -45,6 +45,21 @@ impl<'a> Scanner<'a> {
         let count = run_in(state, text.as_bytes());
         self.left = text[count..].chars();
         count
+    }
+
+    /// Passes `,` and a link without attributes behind the end of one, and tells how many characters of one byte.
+    pub(crate) fn pass_link(&mut self, state: State) -> Option<usize>
+        ensures { MatchOption result (self.new ≡ self.old) (PassesLink state self.old self.new) }
+    {
+        let State::Closed = state else {
+            return None;
+        };
+        let text = self.left.as_str();
+        let Some(count) = link_in(text.as_bytes()) else {
+            return None;
+        };
+        self.left = text[count..].chars();
+        Some(count)
     }
 
     /// The next character, which is left where it is.
