@@ -31,9 +31,9 @@ fn scan(text: &str, style: Style) -> Result<usize, usize>
         if state.opens_link(c) {
             links += 1;
         }
-        place += c.len_utf8();
+        let behind = place + c.len_utf8();
         state = next;
-        place += scanner.pass(state);
+        place = behind + scanner.pass(state);
         while let Some(count) = scanner.pass_link(state) {
             links += 1;
             place += count;

@@ -8,12 +8,12 @@ use Rattle.lw_link.proofs.scan.scan.Goals.{then-opens_link, else-opens_link}
 pub loop-c-init : goal.loop-c-init
 loop-c-init c = subst (λ (x : List ℕ). IsScanned c.args.style c.args.text.now Start 0 0 x) (sym c.new-scanner.ensures) (scanned_start c.args.style c.args.text.now c.utf8.text)
 
-pub overflow_add-place-in-Some : goal.overflow_add-place-in-Some
-overflow_add-place-in-Some c =
+pub overflow_add-place : goal.overflow_add-place
+overflow_add-place c =
     let l = c.loop-c in
-    let within : l.place + c.len_utf8-place.result + c.pass-place.result ≤ length c.args.text.now =
-    turn_fits c.args.style c.args.text.now l.state c.next-next.result l.links l.place c.len_utf8-place.result c.pass-place.result l.scanner c.take.new.self c.pass-place.new.self c.in-Some.c c.in-Some.ensures
-    c.next-next.ensures c.in_default-next.not-Stop c.len_utf8-place.ensures.value c.pass-place.ensures l.invariant in
+    let within : l.place + c.len_utf8.result + c.pass.result ≤ length c.args.text.now =
+    turn_fits c.args.style c.args.text.now l.state c.next-next.result l.links l.place c.len_utf8.result c.pass.result l.scanner c.take.new.self c.pass.new.self c.in-Some.c c.in-Some.ensures
+    c.next-next.ensures c.in_default-next.not-Stop c.len_utf8.ensures.value c.pass.ensures l.invariant in
     let fits : length c.args.text.now < 2 ^ 64 = search rules in
     omega (arith, within, fits)
 
@@ -33,8 +33,8 @@ loop-count-init c =
       | then-opens_link w ↦ opened_true l.state x c.opens_link.result c.if-opens_link.links l.links c.opens_link.ensures w.if-opens_link.true w.links-is
       | else-opens_link w ↦ opened_false l.state x c.opens_link.result c.if-opens_link.links l.links c.opens_link.ensures w.if-opens_link.false w.links-is
     ] in (
-      scanned_turn c.args.style c.args.text.now l.state c.next-next.result l.links c.if-opens_link.links l.place c.len_utf8-place.result c.pass-place.result l.scanner c.take.new.self c.pass-place.new.self x c.in-Some.ensures
-          c.next-next.ensures c.in_default-next.not-Stop links c.len_utf8-place.ensures.value c.pass-place.ensures l.invariant,
+      scanned_turn c.args.style c.args.text.now l.state c.next-next.result l.links c.if-opens_link.links l.place c.len_utf8.result c.pass.result l.scanner c.take.new.self c.pass.new.self x c.in-Some.ensures
+          c.next-next.ensures c.in_default-next.not-Stop links c.len_utf8.ensures.value c.pass.ensures l.invariant,
       omega arith,
     )
 
