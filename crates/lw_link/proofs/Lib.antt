@@ -12,3 +12,4 @@ pub mod Shortest
 pub mod Spelled
 pub mod Printings
 pub mod Decided
+pub mod Passed

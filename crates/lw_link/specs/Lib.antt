@@ -7,3 +7,4 @@ pub mod Printing
 pub mod WellFormed
 pub mod Machine
 pub mod Taking
+pub mod Runs

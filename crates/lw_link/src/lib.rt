@@ -14,6 +14,7 @@ mod link;
 mod link_text;
 mod printing;
 mod reading;
+mod runs;
 mod scan;
 mod scanner;
 mod state;

@@ -31,8 +31,13 @@ fn scan(text: &str, style: Style) -> Result<usize, usize>
         if state.opens_link(c) {
             links += 1;
         }
-        place += c.len_utf8();
+        let behind = place + c.len_utf8();
         state = next;
+        place = behind + scanner.pass(state);
+        while let Some(count) = scanner.pass_link(state) {
+            links += 1;
+            place += count;
+        }
     }
     if state.is_end() {
         Ok(links)

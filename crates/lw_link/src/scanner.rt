@@ -1,5 +1,8 @@
 ghost use Rattle.std.specs.Prelude.{◌≡◌, ℕ, List, [], ◌∷◌, MatchOption, MatchBool, chars};
+ghost use Rattle.lw_link.specs.Runs.{Passes, PassesLink};
 
+use crate::runs::{link_in, run_in};
+use crate::state::State;
 use std::marker::Model;
 use std::str::Chars;
 
@@ -32,6 +35,31 @@ impl<'a> Scanner<'a> {
         ensures { MatchOption result ((self.old ≡ []) × (self.new ≡ [])) (λ c. self.old ≡ c ∷ self.new) }
     {
         self.left.next()
+    }
+
+    /// Passes characters of one byte that leave the state as it is, and tells how many.
+    pub(crate) fn pass(&mut self, state: State) -> usize
+        ensures { Passes state self.old self.new result }
+    {
+        let text = self.left.as_str();
+        let count = run_in(state, text.as_bytes());
+        self.left = text[count..].chars();
+        count
+    }
+
+    /// Passes `,` and a link without attributes behind the end of one, and tells how many characters of one byte.
+    pub(crate) fn pass_link(&mut self, state: State) -> Option<usize>
+        ensures { MatchOption result (self.new ≡ self.old) (PassesLink state self.old self.new) }
+    {
+        let State::Closed = state else {
+            return None;
+        };
+        let text = self.left.as_str();
+        let Some(count) = link_in(text.as_bytes()) else {
+            return None;
+        };
+        self.left = text[count..].chars();
+        Some(count)
     }
 
     /// The next character, which is left where it is.
