@@ -1,6 +1,6 @@
 pub mod KeyLemmas
 pub mod NameLemmas
-mod OrderLemmas
+pub mod OrderLemmas
 pub mod FiledLemmas
 pub mod TurningLemmas
 pub mod MoveLemmas

@@ -1,5 +1,5 @@
 -- Texts that are gathered, and then put in order: each once, and rising.
-use Rattle.std.proofs.Common.{◌≡◌, ◌⊎◌, inl, inr, ℕ, List, [], ◌∷◌, ◌++◌, true, map, refl, sym, ap, subst, ◌∙◌}
+use Rattle.std.proofs.Common.{◌≡◌, ◌⊎◌, inl, inr, ℕ, List, [], ◌∷◌, ◌++◌, map, refl, sym, ap, subst, ◌∙◌}
 use Rattle.std.specs.Prelude.{◌↔◌, Contains, nat_eq}
 use Rattle.std.specs.List.{AllByRecursion, dedup}
 use Rattle.std.specs.Cmp.Lexicographic.{pointwise, on_texts_equal}
