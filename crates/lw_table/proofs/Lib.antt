@@ -1,5 +1,6 @@
 pub mod KeyLemmas
 pub mod NameLemmas
+pub mod OrderLemmas
 pub mod FiledLemmas
 pub mod TurningLemmas
 pub mod MoveLemmas

@@ -1,6 +1,6 @@
 -- What is gathered of numbers and of endpoints.
 use Rattle.std.proofs.Common.{◌≡◌, ◌⊎◌, inl, inr, ℕ, true, false, List, [], ◌∷◌, Option, Some, None, refl, sym, ap, subst, ◌∙◌}
-use Rattle.std.specs.Prelude.{◌↔◌, Contains, IsSome, filter, Result, Ok, Err, IfOk}
+use Rattle.std.specs.Prelude.{◌↔◌, Contains, IsSome, Result, Ok, Err, IfOk}
 use Rattle.std.specs.FinMap.{get}
 use Rattle.std.specs.List.{AllByRecursion}
 use Rattle.std.specs.List.Sorted.{IsStrictlySortedBy}
@@ -11,7 +11,6 @@ use Rattle.lw_recent.specs.Recent.{IsUnder, AreSince}
 use Rattle.lw_reg.specs.declared.slot.Slot.{Slot}
 use Rattle.lw_reg.specs.State.{State}
 use Rattle.lw_reg.proofs.Members.{none_there, first_there, more_there, there_or_first}
-use Rattle.lw_table.specs.Names.{is_after}
 use Rattle.lw_table.specs.Since.{slot_or, slots_at}
 use Rattle.lw_table.specs.Changes.{Count, LAST, IsSince, IsSinceIn}
 use Rattle.lw_table.specs.Table.{TableContent, IsTable}
@@ -53,10 +52,6 @@ module _ {B : Type 0} (All : B → List ℕ → Type 0) (all : B) where
       back a = elim ((h e).1 a) [ inl c ↦ c | inr c ↦ none_there e (subst (λ (l : List (List ℕ)). Contains l e) none c) ]
 
 -- ---- the slots of endpoints
-pub unfiltered : (es : List (List ℕ)) → filter (is_after None) es ≡ es
-unfiltered [] = refl
-unfiltered (e ∷ es) = ap (λ rest. e ∷ rest) (unfiltered es)
-
 module _ (state : State) where
   slots_member : (es : List (List ℕ)) (e : List ℕ) (slot : Slot) → Contains (slots_at state es) (e, slot) → Contains es e × (get state e ≡ Some slot)
   slots_member [] e slot c = none_there (e, slot) c

@@ -1,13 +1,12 @@
 //! Which slots have moved since a change number.
 
-ghost use Rattle.std.specs.Prelude.{◌≡◌, IfOk, map};
+ghost use Rattle.std.specs.Prelude.{◌≡◌, ◌↔◌, ℕ, List, Contains, IfOk, map};
 ghost use Rattle.std.specs.List.Sorted.{IsStrictlySortedBy};
 ghost use Rattle.lw_recent.specs.Recent.{AreSince};
 ghost use Rattle.lw_stamp.specs.TextOrder.{text_cmp};
 ghost use Rattle.lw_table.specs.Changes.{IsSinceIn};
 ghost use Rattle.lw_table.specs.Since.{slots_at};
 
-use crate::names::Names;
 use crate::table::Table;
 use lw_recent::Recent;
 use lw_reg::Slot;
@@ -20,21 +19,19 @@ impl Table {
     pub fn changed_since(&self, since: u64) -> Result<Vec<(&str, &Slot)>, NoMemory>
         ensures { IfOk result (λ slots. IsSinceIn self.now.state self.now.count since (map (λ x. (x.0.now, x.1.now)) slots.items)) }
     {
-        if self.change == u64::MAX {
-            self.slots(&names_above(self.alloc, &self.filed.numbers, None)?)
-        } else {
-            self.slots(&names_above(self.alloc, &self.filed.numbers, Some(since))?)
-        }
+        let all = self.change == u64::MAX;
+        let since = if all { None } else { Some(since) };
+        let endpoints = endpoints_above(self.alloc, &self.filed.numbers, since)?;
+        self.slots(in_order(endpoints))
     }
 
     /// The slots of these endpoints.
-    fn slots(&self, names: &Names) -> Result<Vec<(&str, &Slot)>, NoMemory>
-        ensures slots { IfOk result (λ slots. map (λ x. (x.0.now, x.1.now)) slots.items ≡ slots_at self.now.state names.now) }
-        ensures rise { IsStrictlySortedBy text_cmp names.now }
+    fn slots(&self, endpoints: Vec<&str>) -> Result<Vec<(&str, &Slot)>, NoMemory>
+        ensures { IfOk result (λ slots. map (λ x. (x.0.now, x.1.now)) slots.items ≡ slots_at self.now.state (map (λ e. e.now) endpoints.entry.items)) }
     {
-        let mut slots = Vec::new(self.alloc);
-        for endpoint in names.from(None) {
-            if let Some(slot) = self.slot(endpoint.as_str()) {
+        let mut slots = Vec::with_capacity(self.alloc, endpoints.len())?;
+        for endpoint in endpoints {
+            if let Some(slot) = self.slot(endpoint) {
                 slots.push(slot)?;
             }
         }
@@ -42,13 +39,27 @@ impl Table {
     }
 }
 
-/// The endpoints that are filed under a number above this one, or under any.
-fn names_above(alloc: Global, numbers: &Recent, since: Option<u64>) -> Result<Names, NoMemory>
-    ensures { IfOk result (AreSince since numbers.now) }
+/// The endpoints that are filed under a number above this one, or under any, as they come.
+fn endpoints_above(
+    alloc: Global,
+    numbers: &Recent,
+    since: Option<u64>,
+) -> Result<Vec<&str>, NoMemory>
+    ensures { IfOk result (λ endpoints. AreSince since numbers.now (map (λ e. e.now) endpoints.items)) }
 {
-    let mut names = Names::new(alloc);
+    let mut endpoints = Vec::new(alloc);
     for endpoint in numbers.since(since) {
-        names.add(alloc, endpoint)?;
+        endpoints.push(endpoint)?;
     }
-    Ok(names)
+    Ok(endpoints)
+}
+
+/// These endpoints, each once, and rising.
+fn in_order(mut endpoints: Vec<&str>) -> Vec<&str>
+    ensures members { (e : List ℕ) → Contains (map (λ e. e.now) result.items) e ↔ Contains (map (λ e. e.now) endpoints.entry.items) e }
+    ensures rise { IsStrictlySortedBy text_cmp (map (λ e. e.now) result.items) }
+{
+    endpoints.sort_unstable();
+    endpoints.dedup();
+    endpoints
 }
