@@ -4,7 +4,7 @@ ghost use Rattle.std.specs.Prelude.{◌≡◌, ◌≢◌, ◌↔◌, ℕ, List, 
 ghost use Rattle.lw_reg.specs.Reading.{IsRemoved};
 ghost use Rattle.lw_table.specs.Filed.{IsFiled, IsOver, OthersSame};
 ghost use Rattle.lw_table.specs.Moves.{moved_row, next_row, IsTaken, PutsRow, SameRows};
-ghost use Rattle.lw_table.specs.Rows.{IsRows, row_at};
+ghost use Rattle.lw_table.specs.Rows.{IsRows, has_end, row_at};
 ghost use Rattle.lw_table.specs.Turning.{IsTurning};
 
 use crate::filed::{Filed, add_due, add_number, drop_number, lower_due, move_number};
@@ -33,7 +33,7 @@ pub(crate) fn put(
     ensures unchanged { OnErr result (SameRows rows.old rows.new × IsFiled filed.new endpoint.now (row_at rows.old endpoint.now)) }
 {
     match rows.firsts.get_mut(&end_of(endpoint)) {
-        None => add_row(alloc, filed, rows, endpoint, Row { slot, number }),
+        None => add_row(alloc, filed, rows, endpoint, Row { slot, number }, false),
         Some(first) => {
             if first.endpoint.as_str() == endpoint {
                 move_row(alloc, filed, &mut first.row, endpoint, slot, number)
@@ -62,7 +62,7 @@ fn put_other(
 {
     match rows.others.get_mut(endpoint) {
         Some(row) => move_row(alloc, filed, row, endpoint, slot, number),
-        None => add_row(alloc, filed, rows, endpoint, Row { slot, number }),
+        None => add_row(alloc, filed, rows, endpoint, Row { slot, number }, true),
     }
 }
 
@@ -118,23 +118,25 @@ fn may_revive(row: &Row, slot: &Slot) -> bool
     row.slot.is_removed() && !slot.is_removed()
 }
 
-/// Puts the first row of an endpoint.
+/// Puts the first row of an endpoint, whose end is taken where another row has it.
 pub(crate) fn add_row(
     alloc: Global,
     filed: &mut Filed,
     rows: &mut Rows,
     endpoint: &str,
     row: Row,
+    taken: bool,
 ) -> Result<(), NoMemory>
     requires filed { IsFiled filed.old endpoint.now None }
     requires rows { IsRows rows.old }
     requires absent { row_at rows.old endpoint.now ≡ None }
+    requires taken { taken ≡ has_end rows.old endpoint.now }
     ensures others { OthersSame filed.old filed.new endpoint.now }
     ensures added { OnOk result (PutsRow endpoint.now row rows.old rows.new × IsFiled filed.new endpoint.now (Some row)) }
     ensures unchanged { OnErr result (SameRows rows.old rows.new × IsFiled filed.new endpoint.now None) }
 {
     let keys = turning(alloc, None, &row.slot)?;
-    match try_add(alloc, filed, rows, endpoint, row, &keys) {
+    match try_add(alloc, filed, rows, endpoint, row, taken, &keys) {
         Ok(()) => Ok(()),
         Err(refused) => {
             filed.settle(endpoint, None, &keys);
@@ -149,12 +151,14 @@ fn try_add(
     rows: &mut Rows,
     endpoint: &str,
     row: Row,
+    taken: bool,
     keys: &[Key],
 ) -> Result<(), NoMemory>
     requires filed { IsFiled filed.old endpoint.now None }
     requires keys { IsTurning None row.slot keys.now }
     requires rows { IsRows rows.old }
     requires absent { row_at rows.old endpoint.now ≡ None }
+    requires taken { taken ≡ has_end rows.old endpoint.now }
     ensures others { OthersSame filed.old filed.new endpoint.now }
     ensures added { OnOk result (PutsRow endpoint.now row rows.old rows.new × IsFiled filed.new endpoint.now (Some row)) }
     ensures unchanged { OnErr result (SameRows rows.old rows.new × IsOver filed.new endpoint.now None keys.now) }
@@ -163,7 +167,7 @@ fn try_add(
     add_due(&mut filed.due, endpoint, &row.slot)?;
     let number = row.number;
     add_number(&mut filed.numbers, endpoint, number)?;
-    match rows.insert(alloc, endpoint, row) {
+    match rows.insert(alloc, endpoint, row, taken) {
         Ok(()) => Ok(()),
         Err(refused) => {
             drop_number(&mut filed.numbers, endpoint, number);

@@ -1,12 +1,12 @@
-use Rattle.std.proofs.Common.{◌≡◌, false, cond, Some, None, refl, sym, ap, ◌∙◌, subst, rules}
-use Rattle.std.specs.Prelude.{bytes_eq, string_bytes}
+use Rattle.std.proofs.Common.{◌≡◌, false, cond, Option, Some, None, refl, sym, ap, ◌∙◌, subst, rules}
+use Rattle.std.specs.Prelude.{bytes_eq, is_some, string_bytes}
 use Rattle.std.specs.BTreeMap.{is_at}
 use Rattle.std.specs.BTreeMap as tree
 use Rattle.std.specs.Option.{IfSome}
 use Rattle.std.specs.Ordering.{nat_cmp}
 use Rattle.lw_table.specs.Filed.{IsFiled}
 use Rattle.lw_table.specs.Moves.{next_row, PutsRow, SameRows}
-use Rattle.lw_table.specs.Rows.{IsRows, end_of, row_at}
+use Rattle.lw_table.specs.Rows.{IsRows, end_of, has_end, row_at}
 use Rattle.lw_table.specs.declared.row.Row.{Row}
 use Rattle.lw_table.specs.declared.rows.First.{First}
 use Rattle.lw_table.specs.declared.rows.Rows.{Rows}
@@ -25,6 +25,7 @@ add_row-requires c =
       filed = subst (IsFiled c.args.filed.now e) none c.requires.filed;
       rows = subst IsRows (sym same) c.requires.rows;
       absent = ap (λ (x : Rows). row_at x e) same ∙ none;
+      taken = ap (λ (o : Option First). is_some o) (c.in-None.ensures.value ∙ ap (tree.get nat_cmp m.firsts) c.end_of.ensures) ∙ ap (λ (x : Rows). has_end x e) (sym same);
     }
 
 pub returns-in-None : goal.returns-in-None

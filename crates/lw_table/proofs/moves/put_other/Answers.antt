@@ -2,11 +2,11 @@ use Rattle.std.proofs.Common.{◌≡◌, Some, None, refl, sym, ap, ◌∙◌, s
 use Rattle.std.proofs.lemmas.Map.Text.{btree_map_updates_text}
 use Rattle.lw_table.specs.Filed.{IsFiled}
 use Rattle.lw_table.specs.Moves.{next_row, PutsRow, SameRows}
-use Rattle.lw_table.specs.Rows.{IsRows, row_at}
+use Rattle.lw_table.specs.Rows.{IsRows, has_end, row_at}
 use Rattle.lw_table.specs.declared.row.Row.{Row}
 use Rattle.lw_table.specs.declared.rows.Rows.{Rows}
 use Rattle.lw_table.proofs.FiledLemmas.{on_ok, on_err}
-use Rattle.lw_table.proofs.RowLemmas.{other_put, put_again, taken_others}
+use Rattle.lw_table.proofs.RowLemmas.{other_put, put_again, taken_has, taken_others}
 use Rattle.lw_table.proofs.moves.put_other.Goals as goal
 
 pub move_row-requires : goal.move_row-requires
@@ -50,6 +50,7 @@ add_row-requires c =
       filed = subst (IsFiled c.args.filed.now e) (sym none) c.requires.filed;
       rows = subst IsRows (sym same) c.requires.rows;
       absent = ap (λ (x : Rows). row_at x e) same ∙ sym none;
+      taken = taken_has m e c.requires.taken ∙ ap (λ (x : Rows). has_end x e) (sym same);
     }
 
 pub returns-in-None : goal.returns-in-None
