@@ -83,7 +83,13 @@ impl Rows {
     }
 
     /// Puts the first row of an endpoint, whose end is taken where another row has it.
-    pub(crate) fn insert(&mut self, alloc: Global, endpoint: &str, row: Row, taken: bool) -> Result<(), NoMemory>
+    pub(crate) fn insert(
+        &mut self,
+        alloc: Global,
+        endpoint: &str,
+        row: Row,
+        taken: bool,
+    ) -> Result<(), NoMemory>
         requires rows { IsRows self.old }
         requires absent { row_at self.old endpoint.now ≡ None }
         requires taken { taken ≡ has_end self.old endpoint.now }
