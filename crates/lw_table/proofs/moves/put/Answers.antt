@@ -16,49 +16,10 @@ use Rattle.lw_table.proofs.RowLemmas.{no_first, own_first, first_put, put_again,
 use Rattle.lw_table.proofs.moves.put.Goals as goal
 
 -- ---- no row has its end
-pub add_row-requires : goal.add_row-requires
-add_row-requires c =
+pub add_row-requires-clause-filed : goal.add_row-requires-clause-filed
+add_row-requires-clause-filed c =
     let m = c.args.rows.now in
-    let e = c.args.endpoint.now in
-    let same : record m { firsts = c.get_mut.follows.lender-at-none } ≡ m = λ i. record m { firsts = c.get_mut.follows.holds-at-none i } in
-    let none = no_first m c.requires.rows e (c.in-None.ensures.value ∙ ap (tree.get nat_cmp m.firsts) c.end_of.ensures) in
-    record {
-      filed = subst (IsFiled c.args.filed.now e) none c.requires.filed;
-      rows = subst IsRows (sym same) c.requires.rows;
-      absent = ap (λ (x : Rows). row_at x e) same ∙ none;
-      taken = ap (λ (o : Option First). is_some o) (c.in-None.ensures.value ∙ ap (tree.get nat_cmp m.firsts) c.end_of.ensures) ∙ ap (λ (x : Rows). has_end x e) (sym same);
-    }
-
-pub returns-in_err-add_row-in-None : goal.returns-in_err-add_row-in-None
-returns-in_err-add_row-in-None c =
-    let m = c.args.rows.now in
-    let e = c.args.endpoint.now in
-    let none = no_first m c.requires.rows e (c.in-None.ensures.value ∙ ap (tree.get nat_cmp m.firsts) c.end_of.ensures) in
-    let held : record m { firsts = c.get_mut.follows.lender-at-none } ≡ m = λ i. record m { firsts = c.get_mut.follows.holds-at-none i } in
-    let same = c.in_err-add_row-in-None.ensures.unchanged in
-    record {
-      others = c.add_row.ensures.others;
-      joined = if_not _ c.from_residual.result c.from_residual.ensures.0;
-      known = λ known. absurd (subst (λ o. IsKnown o c.args.slot) none known);
-      unchanged = err_then _ c.from_residual.result (subst (λ (x : Rows). SameRows x c.add_row.new.rows) held same.0, subst (IsFiled c.add_row.new.filed e) (sym none) same.1);
-    }
-
-pub returns-in_ok-add_row-in-None : goal.returns-in_ok-add_row-in-None
-returns-in_ok-add_row-in-None c =
-    let m = c.args.rows.now in
-    let e = c.args.endpoint.now in
-    let n = c.add_row.new.rows in
-    let slot = c.args.slot in
-    let number = c.args.number in
-    let none = no_first m c.requires.rows e (c.in-None.ensures.value ∙ ap (tree.get nat_cmp m.firsts) c.end_of.ensures) in
-    let held : record m { firsts = c.get_mut.follows.lender-at-none } ≡ m = λ i. record m { firsts = c.get_mut.follows.holds-at-none i } in
-    let added = c.in_ok-add_row-in-None.ensures.added in
-    record {
-      others = c.add_row.ensures.others;
-      joined = added_at e slot number c.add_row.new.filed m n none (subst (λ (x : Rows). PutsRow e (next_row None slot number) x n) held added.0) added.1;
-      known = λ known. refl;
-      unchanged = tt;
-    }
+    subst (IsFiled c.args.filed.now c.args.endpoint.now) (no_first m c.requires.rows c.args.endpoint.now (c.in-None.ensures.value ∙ ap (tree.get nat_cmp m.firsts) c.end_of.ensures)) c.requires.filed
 
 -- ---- the first with its end is its own
 pub join_row-requires : goal.join_row-requires
