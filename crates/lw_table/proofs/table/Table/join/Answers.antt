@@ -16,7 +16,7 @@ put-requires c = record {
 -- ---- refused
 pub returns-in_err-moved-clause-known : goal.returns-in_err-moved-clause-known
 returns-in_err-moved-clause-known c = λ below.
-    absurd (let ok = c.put.ensures.known ((known_row c.self.inside.rows c.self.invariant.0 c.self.inside.change c.args.self.now c.self.view_is _ c.args.endpoint.now c.as_str.ensures.value c.args.slot).0 below) in cc)
+    absurd (let ok : false ≡ true = c.in_err-moved.ensures.known ((known_row c.self.inside.rows c.self.invariant.0 c.self.inside.change c.args.self.now c.self.view_is c.as_str.result.now c.args.endpoint.now c.as_str.ensures.value c.args.slot).0 below) in cc)
 
 pub returns-in_err-moved-clause-unchanged : goal.returns-in_err-moved-clause-unchanged
 returns-in_err-moved-clause-unchanged c =
@@ -27,7 +27,7 @@ pub invariant_of-self : goal.invariant_of-self
 invariant_of-self c =
     let kept = c.in_err-moved.ensures.unchanged in (
       kept.0.rows,
-      kept_table c.self.inside.filed c.put.new.filed c.self.inside.rows c.put.new.rows c.self.invariant.0 kept.0.rows c.self.inside.change _ c.put.ensures.others c.self.invariant.1 kept.0.same kept.1,
+      kept_table c.self.inside.filed c.put.new.filed c.self.inside.rows c.put.new.rows c.self.invariant.0 kept.0.rows c.self.inside.change c.as_str.result.now c.put.ensures.others c.self.invariant.1 kept.0.same kept.1,
     )
 
 -- ---- moved
@@ -37,14 +37,14 @@ returns-then-moved c =
     let n = c.put.new.rows in
     let change = c.self.inside.change in
     let number = c.saturating_add-change.result in
-    let joins = subst (λ (b : Bool). JoinsRowAt b _ c.args.slot number m n c.put.new.filed) c.if-moved.true c.in_ok-moved.ensures.joined in
+    let joins = subst (λ (b : Bool). JoinsRowAt b c.as_str.result.now c.args.slot number m n c.put.new.filed) c.if-moved.true c.in_ok-moved.ensures.joined in
     let rows_n = joins.1.rows in
     let rows = rows_of c.self.inside.filed m c.self.invariant.0 change c.self.invariant.1 in
     record {
-      state = joins_state m n c.self.invariant.0 rows_n change c.args.self.now c.self.view_is _ c.args.endpoint.now c.as_str.ensures.value c.args.slot number c.put.new.filed joins;
-      count = joins_count m n c.self.invariant.0 rows_n change c.args.self.now c.self.view_is _ c.args.endpoint.now c.as_str.ensures.value c.args.slot number c.put.new.filed joins
+      state = joins_state m n c.self.invariant.0 rows_n change c.args.self.now c.self.view_is c.as_str.result.now c.args.endpoint.now c.as_str.ensures.value c.args.slot number c.put.new.filed joins;
+      count = joins_count m n c.self.invariant.0 rows_n change c.args.self.now c.self.view_is c.as_str.result.now c.args.endpoint.now c.as_str.ensures.value c.args.slot number c.put.new.filed joins
           (saturated change number c.saturating_add-change.ensures rows.last);
-      known = λ below. absurd (joins.0 ((known_row m c.self.invariant.0 change c.args.self.now c.self.view_is _ c.args.endpoint.now c.as_str.ensures.value c.args.slot).0 below));
+      known = λ below. absurd (joins.0 ((known_row m c.self.invariant.0 change c.args.self.now c.self.view_is c.as_str.result.now c.args.endpoint.now c.as_str.ensures.value c.args.slot).0 below));
       unchanged = tt;
     }
 
@@ -54,11 +54,11 @@ invariant_of-self-then-moved c =
     let n = c.put.new.rows in
     let change = c.self.inside.change in
     let number = c.saturating_add-change.result in
-    let joins = subst (λ (b : Bool). JoinsRowAt b _ c.args.slot number m n c.put.new.filed) c.if-moved.true c.in_ok-moved.ensures.joined in
+    let joins = subst (λ (b : Bool). JoinsRowAt b c.as_str.result.now c.args.slot number m n c.put.new.filed) c.if-moved.true c.in_ok-moved.ensures.joined in
     let rows = rows_of c.self.inside.filed m c.self.invariant.0 change c.self.invariant.1 in
     let next = next_after change number (saturated change number c.saturating_add-change.ensures rows.last) rows.last in (
       joins.1.rows,
-      put_table c.self.inside.filed c.put.new.filed m n c.self.invariant.0 joins.1.rows change _ c.put.ensures.others c.self.invariant.1 _ number joins.1.at joins.2 next.0 next.1 next.2 c.as_str.ensures.within,
+      put_table c.self.inside.filed c.put.new.filed m n c.self.invariant.0 joins.1.rows change c.as_str.result.now c.put.ensures.others c.self.invariant.1 _ number joins.1.at joins.2 next.0 next.1 next.2 c.as_str.ensures.within,
     )
 
 -- ---- known
@@ -68,12 +68,12 @@ returns-else-moved c =
     let n = c.put.new.rows in
     let change = c.self.inside.change in
     let number = c.saturating_add-change.result in
-    let joins = subst (λ (b : Bool). JoinsRowAt b _ c.args.slot number m n c.put.new.filed) c.if-moved.false c.in_ok-moved.ensures.joined in
+    let joins = subst (λ (b : Bool). JoinsRowAt b c.as_str.result.now c.args.slot number m n c.put.new.filed) c.if-moved.false c.in_ok-moved.ensures.joined in
     let rows_n = joins.1.rows in
     record {
-      state = stays_state m n c.self.invariant.0 rows_n change c.args.self.now c.self.view_is _ c.args.endpoint.now c.as_str.ensures.value c.args.slot number c.put.new.filed joins;
-      count = stays_count m n c.self.invariant.0 rows_n change c.args.self.now c.self.view_is _ c.args.endpoint.now c.as_str.ensures.value c.args.slot number c.put.new.filed joins;
-      known = λ below. (refl, stays_table m n c.self.invariant.0 rows_n change c.args.self.now c.self.view_is _ c.args.endpoint.now c.as_str.ensures.value c.args.slot number c.put.new.filed joins);
+      state = stays_state m n c.self.invariant.0 rows_n change c.args.self.now c.self.view_is c.as_str.result.now c.args.endpoint.now c.as_str.ensures.value c.args.slot number c.put.new.filed joins;
+      count = stays_count m n c.self.invariant.0 rows_n change c.args.self.now c.self.view_is c.as_str.result.now c.args.endpoint.now c.as_str.ensures.value c.args.slot number c.put.new.filed joins;
+      known = λ below. (refl, stays_table m n c.self.invariant.0 rows_n change c.args.self.now c.self.view_is c.as_str.result.now c.args.endpoint.now c.as_str.ensures.value c.args.slot number c.put.new.filed joins);
       unchanged = tt;
     }
 
@@ -81,7 +81,7 @@ pub invariant_of-self-else-moved : goal.invariant_of-self-else-moved
 invariant_of-self-else-moved c =
     let m = c.self.inside.rows in
     let n = c.put.new.rows in
-    let joins = subst (λ (b : Bool). JoinsRowAt b _ c.args.slot c.saturating_add-change.result m n c.put.new.filed) c.if-moved.false c.in_ok-moved.ensures.joined in (
+    let joins = subst (λ (b : Bool). JoinsRowAt b c.as_str.result.now c.args.slot c.saturating_add-change.result m n c.put.new.filed) c.if-moved.false c.in_ok-moved.ensures.joined in (
       joins.1.rows,
-      kept_table c.self.inside.filed c.put.new.filed m n c.self.invariant.0 joins.1.rows c.self.inside.change _ c.put.ensures.others c.self.invariant.1 joins.1.same joins.2,
+      kept_table c.self.inside.filed c.put.new.filed m n c.self.invariant.0 joins.1.rows c.self.inside.change c.as_str.result.now c.put.ensures.others c.self.invariant.1 joins.1.same joins.2,
     )
