@@ -5,6 +5,7 @@ pub mod FiledLemmas
 pub mod TurningLemmas
 pub mod MoveLemmas
 pub mod RowLemmas
+pub mod JoinLemmas
 pub mod DueLemmas
 pub mod CountLemmas
 pub mod TableLemmas

@@ -20,7 +20,7 @@ use Rattle.std.proofs.lemmas.Map.Views.{tells_apart}
 use Rattle.lw_stamp.specs.TextOrder.{text_cmp}
 use Rattle.lw_reg.specs.OrderLaws.{text_order}
 use Rattle.lw_table.specs.Moves.{PutsRow, SameRows, IsTaken}
-use Rattle.lw_table.specs.Rows.{IsRows, each_in, firsts_in, others_in, end_of, first_or, row_at}
+use Rattle.lw_table.specs.Rows.{IsRows, each_in, firsts_in, others_in, end_of, first_or, has_end, row_at}
 use Rattle.lw_table.specs.declared.row.Row.{Row}
 use Rattle.lw_table.specs.declared.rows.First.{First}
 use Rattle.lw_table.specs.declared.rows.Rows.{Rows}
@@ -170,6 +170,14 @@ taken_of m e there absent = go (tree.get nat_cmp m.firsts (end_of e)) there abse
     go : (o : Option First) → is_some o ≡ true → first_or e o (get_by_text m.others e) ≡ None → IsSomeAnd o (λ first. bytes_eq (name_of first) e ≡ false)
     go None h none = absurd (let bad : false ≡ true = h in cc)
     go (Some first) h none = another first (bytes_eq (name_of first) e) refl none
+
+-- one that is taken has a row with its end
+pub taken_has : (m : Rows) (e : List ℕ) → IsTaken m e → true ≡ has_end m e
+taken_has m e taken = go (tree.get nat_cmp m.firsts (end_of e)) taken
+  where
+    go : (o : Option First) → IsSomeAnd o (λ first. bytes_eq (name_of first) e ≡ false) → true ≡ is_some o
+    go None h = absurd h
+    go (Some first) h = refl
 
 pub taken_others : (m : Rows) (e : List ℕ) → IsTaken m e → get_by_text m.others e ≡ row_at m e
 taken_others m e taken = go (tree.get nat_cmp m.firsts (end_of e)) taken

@@ -1,5 +1,5 @@
 -- Rows that are put into a table.
-use Rattle.std.specs.Prelude.{◌≡◌, ℕ, false, List, Option, Some, string_bytes, bytes_eq, cond, IsSome}
+use Rattle.std.specs.Prelude.{◌≡◌, ℕ, Bool, true, false, List, Option, Some, string_bytes, bytes_eq, cond, IsSome}
 use Rattle.std.specs.Option.{IsSomeAnd}
 use Rattle.std.specs.BTreeMap.{get}
 use Rattle.std.specs.Ordering.{nat_cmp}
@@ -7,10 +7,11 @@ use Rattle.lw_stamp.specs.declared.moment.Moment.{Moment}
 use Rattle.lw_stamp.specs.declared.stamp.Stamp.{Stamp}
 use Rattle.lw_reg.specs.declared.slot.Slot.{Slot}
 use Rattle.lw_reg.specs.Reading.{seen_of, stamp_of}
-use Rattle.lw_reg.specs.Slot.{slot_join, ending}
-use Rattle.lw_table.specs.Filed.{slot_of}
+use Rattle.lw_reg.specs.Slot.{slot_below, slot_join, ending}
+use Rattle.lw_table.specs.Filed.{IsFiled, slot_of}
 use Rattle.lw_table.specs.Rows.{IsRows, end_of, row_at}
 use Rattle.lw_table.specs.Turning.{joined_with}
+use Rattle.lw_table.specs.declared.filed.Filed.{Filed}
 use Rattle.lw_table.specs.declared.row.Row.{Row}
 use Rattle.lw_table.specs.declared.rows.Rows.{Rows}
 
@@ -30,6 +31,20 @@ pub record PutsRow (endpoint : List ℕ) (row : Row) (old new : Rows) : Type 0 w
 pub record SameRows (old new : Rows) : Type 0 where
   pub same : (e : List ℕ) → row_at new e ≡ row_at old e
   pub rows : IsRows new
+
+-- the slot tells nothing new beside the row
+abbrev pub IsKnown : Option Row → Slot → Type 0
+IsKnown row slot = IsSomeAnd (slot_of row) (slot_below slot)
+
+-- the slot moves the row; or it tells nothing new, and the row stays
+abbrev pub JoinsRow : Bool → Slot → ℕ → Row → Row → Type 0
+JoinsRow true slot number old new = (¬ slot_below slot old.slot) × (new ≡ moved_row old slot number)
+JoinsRow false slot number old new = slot_below slot old.slot × (new ≡ old)
+
+-- the slot moves the endpoint's row, or makes its first; or it tells nothing new, and each row stays
+abbrev pub JoinsRowAt : Bool → List ℕ → Slot → ℕ → Rows → Rows → Filed → Type 0
+JoinsRowAt true e slot number old new filed = (¬ IsKnown (row_at old e) slot) × PutsRow e (next_row (row_at old e) slot number) old new × IsFiled filed e (Some (next_row (row_at old e) slot number))
+JoinsRowAt false e slot number old new filed = IsKnown (row_at old e) slot × SameRows old new × IsFiled filed e (row_at old e)
 
 -- the first row with the end of the endpoint is that of another
 abbrev pub IsTaken : Rows → List ℕ → Type 0

@@ -1,5 +1,5 @@
 -- Rows by their endpoints, and what they hold as functions of them.
-use Rattle.std.specs.Prelude.{◌≡◌, ℕ, ◌*◌, ◌-◌, ◌%◌, ◌^◌, cond, List, [], ◌∷◌, ◌++◌, length, drop, map, Option, None, Some, String, string_bytes, bytes_eq, bit_or}
+use Rattle.std.specs.Prelude.{◌≡◌, ℕ, ◌*◌, ◌-◌, ◌%◌, ◌^◌, cond, List, [], ◌∷◌, ◌++◌, length, drop, map, Option, None, Some, String, string_bytes, bytes_eq, bit_or, Bool, is_some}
 use Rattle.std.specs.BTreeMap.{IsOrdered, get, get_by_text}
 use Rattle.std.specs.FinMap.{FinMap, from_entries}
 use Rattle.std.specs.Ordering.{nat_cmp}
@@ -30,6 +30,10 @@ first_or e (Some first) other = cond (bytes_eq (string_bytes first.endpoint) e) 
 -- the row of the endpoint
 abbrev pub row_at : Rows → List ℕ → Option Row
 row_at rows e = first_or e (get nat_cmp rows.firsts (end_of e)) (get_by_text rows.others e)
+
+-- whether a row has its end
+abbrev pub has_end : Rows → List ℕ → Bool
+has_end rows e = is_some (get nat_cmp rows.firsts (end_of e))
 
 -- Each first is kept under the end of its endpoint, and came before any other row with that end.
 pub record IsRows (rows : Rows) : Type 0 where

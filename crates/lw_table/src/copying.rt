@@ -78,7 +78,8 @@ fn copy_row(
         Some((_, row)) => {
             let slot = row.slot.copy(alloc)?;
             let number = row.number;
-            add_row(alloc, filed, rows, endpoint, Row { slot, number })
+            let taken = rows.has_end(endpoint);
+            add_row(alloc, filed, rows, endpoint, Row { slot, number }, taken)
         }
     }
 }

@@ -1,10 +1,11 @@
 //! A row that comes or moves, and what is filed of its endpoint.
 
-ghost use Rattle.std.specs.Prelude.{◌≡◌, ◌≢◌, ◌↔◌, ℕ, List, Some, None, OnOk, OnErr, IsTrue};
+ghost use Rattle.std.specs.Prelude.{◌≡◌, ◌≢◌, ◌↔◌, ℕ, List, Some, None, IfOk, OnOk, OnErr, IsOk, IsTrue};
 ghost use Rattle.lw_reg.specs.Reading.{IsRemoved};
+ghost use Rattle.lw_reg.specs.Slot.{slot_below};
 ghost use Rattle.lw_table.specs.Filed.{IsFiled, IsOver, OthersSame};
-ghost use Rattle.lw_table.specs.Moves.{moved_row, next_row, IsTaken, PutsRow, SameRows};
-ghost use Rattle.lw_table.specs.Rows.{IsRows, row_at};
+ghost use Rattle.lw_table.specs.Moves.{moved_row, IsKnown, IsTaken, JoinsRow, JoinsRowAt, PutsRow, SameRows};
+ghost use Rattle.lw_table.specs.Rows.{IsRows, has_end, row_at};
 ghost use Rattle.lw_table.specs.Turning.{IsTurning};
 
 use crate::filed::{Filed, add_due, add_number, drop_number, lower_due, move_number};
@@ -17,7 +18,8 @@ use lw_reg::Slot;
 use lw_stamp::NoMemory;
 use std::alloc::Global;
 
-/// Joins the slot to that of the endpoint, whose row takes the number.
+/// Joins the slot to that of the endpoint, whose row takes the number. Whether it did: a slot that tells nothing new
+/// changes nothing, and takes no memory.
 pub(crate) fn put(
     alloc: Global,
     filed: &mut Filed,
@@ -25,18 +27,22 @@ pub(crate) fn put(
     endpoint: &str,
     slot: Slot,
     number: u64,
-) -> Result<(), NoMemory>
+) -> Result<bool, NoMemory>
     requires filed { IsFiled filed.old endpoint.now (row_at rows.old endpoint.now) }
     requires rows { IsRows rows.old }
     ensures others { OthersSame filed.old filed.new endpoint.now }
-    ensures put { OnOk result (PutsRow endpoint.now (next_row (row_at rows.old endpoint.now) slot number) rows.old rows.new × IsFiled filed.new endpoint.now (Some (next_row (row_at rows.old endpoint.now) slot number))) }
+    ensures joined { IfOk result (λ moved. JoinsRowAt moved endpoint.now slot number rows.old rows.new filed.new) }
+    ensures known { IsKnown (row_at rows.old endpoint.now) slot → IsOk result }
     ensures unchanged { OnErr result (SameRows rows.old rows.new × IsFiled filed.new endpoint.now (row_at rows.old endpoint.now)) }
 {
     match rows.firsts.get_mut(&end_of(endpoint)) {
-        None => add_row(alloc, filed, rows, endpoint, Row { slot, number }),
+        None => {
+            add_row(alloc, filed, rows, endpoint, Row { slot, number }, false)?;
+            Ok(true)
+        }
         Some(first) => {
             if first.endpoint.as_str() == endpoint {
-                move_row(alloc, filed, &mut first.row, endpoint, slot, number)
+                join_row(alloc, filed, &mut first.row, endpoint, slot, number)
             } else {
                 put_other(alloc, filed, rows, endpoint, slot, number)
             }
@@ -52,21 +58,48 @@ fn put_other(
     endpoint: &str,
     slot: Slot,
     number: u64,
-) -> Result<(), NoMemory>
+) -> Result<bool, NoMemory>
     requires filed { IsFiled filed.old endpoint.now (row_at rows.old endpoint.now) }
     requires rows { IsRows rows.old }
     requires taken { IsTaken rows.old endpoint.now }
     ensures others { OthersSame filed.old filed.new endpoint.now }
-    ensures put { OnOk result (PutsRow endpoint.now (next_row (row_at rows.old endpoint.now) slot number) rows.old rows.new × IsFiled filed.new endpoint.now (Some (next_row (row_at rows.old endpoint.now) slot number))) }
+    ensures joined { IfOk result (λ moved. JoinsRowAt moved endpoint.now slot number rows.old rows.new filed.new) }
+    ensures known { IsKnown (row_at rows.old endpoint.now) slot → IsOk result }
     ensures unchanged { OnErr result (SameRows rows.old rows.new × IsFiled filed.new endpoint.now (row_at rows.old endpoint.now)) }
 {
     match rows.others.get_mut(endpoint) {
-        Some(row) => move_row(alloc, filed, row, endpoint, slot, number),
-        None => add_row(alloc, filed, rows, endpoint, Row { slot, number }),
+        Some(row) => join_row(alloc, filed, row, endpoint, slot, number),
+        None => {
+            add_row(alloc, filed, rows, endpoint, Row { slot, number }, true)?;
+            Ok(true)
+        }
     }
 }
 
-// Joins the slot to that of the row, which takes the number.
+// Joins the slot to that of the row, which takes the number. Whether it did.
+fn join_row(
+    alloc: Global,
+    filed: &mut Filed,
+    row: &mut Row,
+    endpoint: &str,
+    slot: Slot,
+    number: u64,
+) -> Result<bool, NoMemory>
+    requires { IsFiled filed.old endpoint.now (Some row.old) }
+    ensures others { OthersSame filed.old filed.new endpoint.now }
+    ensures filed { IsFiled filed.new endpoint.now (Some row.new) }
+    ensures joined { IfOk result (λ moved. JoinsRow moved slot number row.old row.new) }
+    ensures known { slot_below slot row.old.slot → IsOk result }
+    ensures unchanged { OnErr result (row.new ≡ row.old) }
+{
+    if slot.le(&row.slot) {
+        return Ok(false);
+    }
+    move_row(alloc, filed, row, endpoint, slot, number)?;
+    Ok(true)
+}
+
+// Joins a slot to that of the row, which takes the number.
 fn move_row(
     alloc: Global,
     filed: &mut Filed,
@@ -118,23 +151,25 @@ fn may_revive(row: &Row, slot: &Slot) -> bool
     row.slot.is_removed() && !slot.is_removed()
 }
 
-/// Puts the first row of an endpoint.
+/// Puts the first row of an endpoint, whose end is taken where another row has it.
 pub(crate) fn add_row(
     alloc: Global,
     filed: &mut Filed,
     rows: &mut Rows,
     endpoint: &str,
     row: Row,
+    taken: bool,
 ) -> Result<(), NoMemory>
     requires filed { IsFiled filed.old endpoint.now None }
     requires rows { IsRows rows.old }
     requires absent { row_at rows.old endpoint.now ≡ None }
+    requires taken { taken ≡ has_end rows.old endpoint.now }
     ensures others { OthersSame filed.old filed.new endpoint.now }
     ensures added { OnOk result (PutsRow endpoint.now row rows.old rows.new × IsFiled filed.new endpoint.now (Some row)) }
     ensures unchanged { OnErr result (SameRows rows.old rows.new × IsFiled filed.new endpoint.now None) }
 {
     let keys = turning(alloc, None, &row.slot)?;
-    match try_add(alloc, filed, rows, endpoint, row, &keys) {
+    match try_add(alloc, filed, rows, endpoint, row, taken, &keys) {
         Ok(()) => Ok(()),
         Err(refused) => {
             filed.settle(endpoint, None, &keys);
@@ -149,12 +184,14 @@ fn try_add(
     rows: &mut Rows,
     endpoint: &str,
     row: Row,
+    taken: bool,
     keys: &[Key],
 ) -> Result<(), NoMemory>
     requires filed { IsFiled filed.old endpoint.now None }
     requires keys { IsTurning None row.slot keys.now }
     requires rows { IsRows rows.old }
     requires absent { row_at rows.old endpoint.now ≡ None }
+    requires taken { taken ≡ has_end rows.old endpoint.now }
     ensures others { OthersSame filed.old filed.new endpoint.now }
     ensures added { OnOk result (PutsRow endpoint.now row rows.old rows.new × IsFiled filed.new endpoint.now (Some row)) }
     ensures unchanged { OnErr result (SameRows rows.old rows.new × IsOver filed.new endpoint.now None keys.now) }
@@ -163,7 +200,7 @@ fn try_add(
     add_due(&mut filed.due, endpoint, &row.slot)?;
     let number = row.number;
     add_number(&mut filed.numbers, endpoint, number)?;
-    match rows.insert(alloc, endpoint, row) {
+    match rows.insert(alloc, endpoint, row, taken) {
         Ok(()) => Ok(()),
         Err(refused) => {
             drop_number(&mut filed.numbers, endpoint, number);

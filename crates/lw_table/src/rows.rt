@@ -3,7 +3,7 @@
 ghost use Rattle.std.specs.Prelude.{◌≡◌, ℕ, List, None, IfSome, OnOk, OnErr};
 ghost use Rattle.std.specs.Option.{option_map};
 ghost use Rattle.lw_table.specs.Moves.{PutsRow, SameRows};
-ghost use Rattle.lw_table.specs.Rows.{IsRows, appended, end_of, row_at};
+ghost use Rattle.lw_table.specs.Rows.{IsRows, appended, end_of, has_end, row_at};
 
 use crate::row::Row;
 use lw_stamp::NoMemory;
@@ -75,16 +75,30 @@ impl Rows {
         Some((endpoint.as_str(), row))
     }
 
-    /// Puts the first row of an endpoint.
-    pub(crate) fn insert(&mut self, alloc: Global, endpoint: &str, row: Row) -> Result<(), NoMemory>
+    /// Whether a row has an endpoint that ends as this.
+    pub(crate) fn has_end(&self, endpoint: &str) -> bool
+        ensures { result ≡ has_end self.now endpoint.now }
+    {
+        self.firsts.contains_key(&end_of(endpoint))
+    }
+
+    /// Puts the first row of an endpoint, whose end is taken where another row has it.
+    pub(crate) fn insert(
+        &mut self,
+        alloc: Global,
+        endpoint: &str,
+        row: Row,
+        taken: bool,
+    ) -> Result<(), NoMemory>
         requires rows { IsRows self.old }
         requires absent { row_at self.old endpoint.now ≡ None }
+        requires taken { taken ≡ has_end self.old endpoint.now }
         ensures put { OnOk result (PutsRow endpoint.now row self.old self.new) }
         ensures unchanged { OnErr result (SameRows self.old self.new) }
     {
         let end = end_of(endpoint);
         let endpoint = String::from_str(alloc, endpoint)?;
-        if self.firsts.contains_key(&end) {
+        if taken {
             self.others.insert(endpoint, row)?;
         } else {
             self.firsts.insert(end, First { endpoint, row })?;

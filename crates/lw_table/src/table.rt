@@ -1,8 +1,7 @@
-ghost use Rattle.std.specs.Prelude.{◌≡◌, ◌↔◌, ℕ, List, OnOk, OnErr, IsOk, IsSomeAnd, IsTrue};
+ghost use Rattle.std.specs.Prelude.{◌≡◌, ◌↔◌, ℕ, List, OnOk, OnErr, IsOk, IsSomeAnd};
 ghost use Rattle.std.specs.FinMap.{get};
 ghost use Rattle.lw_index.specs.Index.{Has};
 ghost use Rattle.lw_join.specs.Maps.{one_key};
-ghost use Rattle.lw_reg.specs.Endpoint.{IsEndpoint};
 ghost use Rattle.lw_reg.specs.Slot.{slot_below};
 ghost use Rattle.lw_reg.specs.State.{state_join};
 ghost use Rattle.lw_table.specs.declared.key.Key.{Key as Keys};
@@ -15,7 +14,6 @@ use crate::key::Key;
 use crate::moves::put;
 use crate::rows::Rows;
 use lw_index::Index;
-use lw_join::Join;
 use lw_reg::{Endpoint, Slot};
 use lw_stamp::NoMemory;
 use std::alloc::Global;
@@ -64,41 +62,18 @@ impl Table {
         ensures known { IsSomeAnd (get self.old.state endpoint.now) (slot_below slot) → IsOk result × (self.new ≡ self.old) }
         ensures unchanged { OnErr result (self.new ≡ self.old) }
     {
-        let endpoint = endpoint.as_str();
-        if self.knows(endpoint, &slot) {
-            return Ok(());
-        }
-        self.take(endpoint, slot)
-    }
-
-    // Whether the slot is below that of the endpoint.
-    fn knows(&self, endpoint: &str, slot: &Slot) -> bool
-        ensures { IsTrue result ↔ IsSomeAnd (get self.now.state endpoint.now) (slot_below slot.now) }
-    {
-        match self.rows.get(endpoint) {
-            None => false,
-            Some((_, row)) => slot.le(&row.slot),
-        }
-    }
-
-    // Joins a slot that tells something new.
-    fn take(&mut self, endpoint: &str, slot: Slot) -> Result<(), NoMemory>
-        requires news { IsSomeAnd (get self.old.state endpoint.now) (slot_below slot) → ⊥ }
-        requires within { IsEndpoint endpoint.now }
-        ensures state { OnOk result (self.new.state ≡ state_join self.old.state (one_key endpoint.now slot)) }
-        ensures count { OnOk result (Recounts self.old.state self.new.state self.old.count self.new.count) }
-        ensures unchanged { OnErr result (self.new ≡ self.old) }
-    {
         let change = self.change.saturating_add(1);
-        put(
+        let moved = put(
             self.alloc,
             &mut self.filed,
             &mut self.rows,
-            endpoint,
+            endpoint.as_str(),
             slot,
             change,
         )?;
-        self.change = change;
+        if moved {
+            self.change = change;
+        }
         Ok(())
     }
 

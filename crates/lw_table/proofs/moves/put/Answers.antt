@@ -1,57 +1,29 @@
-use Rattle.std.proofs.Common.{◌≡◌, false, cond, Some, None, refl, sym, ap, ◌∙◌, subst, rules}
-use Rattle.std.specs.Prelude.{bytes_eq, string_bytes}
+use Rattle.std.proofs.Common.{◌≡◌, false, cond, Option, Some, None, refl, sym, ap, ◌∙◌, subst, rules}
+use Rattle.std.specs.Prelude.{bytes_eq, is_some, string_bytes}
 use Rattle.std.specs.BTreeMap.{is_at}
 use Rattle.std.specs.BTreeMap as tree
 use Rattle.std.specs.Option.{IfSome}
 use Rattle.std.specs.Ordering.{nat_cmp}
 use Rattle.lw_table.specs.Filed.{IsFiled}
-use Rattle.lw_table.specs.Moves.{next_row, PutsRow, SameRows}
-use Rattle.lw_table.specs.Rows.{IsRows, end_of, row_at}
-use Rattle.lw_table.specs.declared.row.Row.{Row}
+use Rattle.lw_table.specs.Moves.{next_row, IsKnown, PutsRow, SameRows}
+use Rattle.lw_table.specs.Rows.{IsRows, end_of, has_end, row_at}
 use Rattle.lw_table.specs.declared.rows.First.{First}
 use Rattle.lw_table.specs.declared.rows.Rows.{Rows}
-use Rattle.lw_table.proofs.FiledLemmas.{on_ok, on_err}
-use Rattle.lw_table.proofs.RowLemmas.{no_first, own_first, first_put, put_again, passed_over, same_then_put, same_then_same}
+use Rattle.lw_table.proofs.FiledLemmas.{on_err}
+use Rattle.lw_table.proofs.JoinLemmas.{added_at, if_not, if_ok, joined_at, same_then_joins}
+use Rattle.lw_table.proofs.MoveLemmas.{err_then}
+use Rattle.lw_table.proofs.RowLemmas.{no_first, own_first, first_put, put_again, passed_over, same_then_same}
 use Rattle.lw_table.proofs.moves.put.Goals as goal
 
 -- ---- no row has its end
-pub add_row-requires : goal.add_row-requires
-add_row-requires c =
+pub add_row-requires-clause-filed : goal.add_row-requires-clause-filed
+add_row-requires-clause-filed c =
     let m = c.args.rows.now in
-    let e = c.args.endpoint.now in
-    let same : record m { firsts = c.get_mut.follows.lender-at-none } ≡ m = λ i. record m { firsts = c.get_mut.follows.holds-at-none i } in
-    let none = no_first m c.requires.rows e (c.in-None.ensures.value ∙ ap (tree.get nat_cmp m.firsts) c.end_of.ensures) in
-    record {
-      filed = subst (IsFiled c.args.filed.now e) none c.requires.filed;
-      rows = subst IsRows (sym same) c.requires.rows;
-      absent = ap (λ (x : Rows). row_at x e) same ∙ none;
-    }
-
-pub returns-in-None : goal.returns-in-None
-returns-in-None c =
-    let m = c.args.rows.now in
-    let e = c.args.endpoint.now in
-    let n = c.add_row.new.rows in
-    let slot = c.args.slot in
-    let number = c.args.number in
-    let none = no_first m c.requires.rows e (c.in-None.ensures.value ∙ ap (tree.get nat_cmp m.firsts) c.end_of.ensures) in
-    let held : record m { firsts = c.get_mut.follows.lender-at-none } ≡ m = λ i. record m { firsts = c.get_mut.follows.holds-at-none i } in
-    record {
-      others = c.add_row.ensures.others;
-      put = on_ok _ _ c.add_row.result
-          (λ added. (
-            subst (λ (r : Row). PutsRow e r m n) (ap (λ o. next_row o slot number) (sym none)) (subst (λ (x : Rows). PutsRow e (next_row None slot number) x n) held added.0),
-            subst (λ o. IsFiled c.add_row.new.filed e (Some (next_row o slot number))) (sym none) added.1,
-          ))
-          c.add_row.ensures.added;
-      unchanged = on_err _ _ c.add_row.result
-          (λ same. (subst (λ (x : Rows). SameRows x n) held same.0, subst (IsFiled c.add_row.new.filed e) (sym none) same.1))
-          c.add_row.ensures.unchanged;
-    }
+    subst (IsFiled c.args.filed.now c.args.endpoint.now) (no_first m c.requires.rows c.args.endpoint.now (c.in-None.ensures.value ∙ ap (tree.get nat_cmp m.firsts) c.end_of.ensures)) c.requires.filed
 
 -- ---- the first with its end is its own
-pub move_row-requires : goal.move_row-requires
-move_row-requires c =
+pub join_row-requires : goal.join_row-requires
+join_row-requires c =
     let m = c.args.rows.now in
     let e = c.args.endpoint.now in
     let first = c.in-Some.first.now in
@@ -66,7 +38,7 @@ returns-then-eq c =
     let named : string_bytes first.endpoint ≡ e = search rules in
     let there : Some first ≡ tree.get nat_cmp m.firsts (end_of e) = c.in-Some.ensures.value ∙ ap (tree.get nat_cmp m.firsts) c.end_of.ensures in
     let is = own_first m e first there named in
-    let w : First = record first { row = c.move_row.new.row } in
+    let w : First = record first { row = c.join_row.new.row } in
     let firsts = c.get_mut.follows.lender w in
     let n : Rows = record m { firsts = firsts } in
     let slot = c.args.slot in
@@ -76,19 +48,15 @@ returns-then-eq c =
     (λ k. subst (λ end. tree.get nat_cmp firsts k ≡ cond (is_at (nat_cmp end) k) (Some w) (tree.get nat_cmp m.firsts k)) c.end_of.ensures (written.0 k))
     (subst (λ o. IfSome o (λ (x : First). string_bytes x.endpoint ≡ e)) there named) in
     record {
-      others = c.move_row.ensures.others;
-      put = on_ok _ _ c.move_row.result
-          (λ moved. (
-            subst (λ (r : Row). PutsRow e r m n) (moved ∙ ap (λ o. next_row o slot number) is) put,
-            subst (λ (r : Row). IsFiled c.move_row.new.filed e (Some r)) (moved ∙ ap (λ o. next_row o slot number) is) c.move_row.ensures.filed,
-          ))
-          c.move_row.ensures.moved;
-      unchanged = on_err _ _ c.move_row.result
+      others = c.join_row.ensures.others;
+      joined = if_ok _ _ c.join_row.result (joined_at e slot number c.join_row.new.filed m n first.row w.row is put c.join_row.ensures.filed) c.join_row.ensures.joined;
+      known = λ known. c.join_row.ensures.known (subst (λ o. IsKnown o slot) (sym is) known);
+      unchanged = on_err _ _ c.join_row.result
           (λ same. (
             put_again m n e w.row put (ap Some same ∙ is),
-            subst (IsFiled c.move_row.new.filed e) (ap Some same ∙ is) c.move_row.ensures.filed,
+            subst (IsFiled c.join_row.new.filed e) (ap Some same ∙ is) c.join_row.ensures.filed,
           ))
-          c.move_row.ensures.unchanged;
+          c.join_row.ensures.unchanged;
     }
 
 -- ---- it is another's
@@ -128,12 +96,8 @@ returns-else-eq c =
     (c.get_mut.follows.holds first).4).0 in
     record {
       others = c.put_other.ensures.others;
-      put = on_ok _ _ c.put_other.result
-          (λ put. (
-            subst (λ (r : Row). PutsRow e r m x) (ap (λ o. next_row o slot number) (same.same e)) (same_then_put m n x e _ same put.0),
-            subst (λ o. IsFiled c.put_other.new.filed e (Some (next_row o slot number))) (same.same e) put.1,
-          ))
-          c.put_other.ensures.put;
+      joined = if_ok _ _ c.put_other.result (same_then_joins e slot number c.put_other.new.filed m n x same) c.put_other.ensures.joined;
+      known = λ known. c.put_other.ensures.known (subst (λ o. IsKnown o slot) (sym (same.same e)) known);
       unchanged = on_err _ _ c.put_other.result
           (λ kept. (same_then_same m n x same kept.0, subst (IsFiled c.put_other.new.filed e) (same.same e) kept.1))
           c.put_other.ensures.unchanged;

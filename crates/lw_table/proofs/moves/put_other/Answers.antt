@@ -1,23 +1,24 @@
 use Rattle.std.proofs.Common.{◌≡◌, Some, None, refl, sym, ap, ◌∙◌, subst, rules}
 use Rattle.std.proofs.lemmas.Map.Text.{btree_map_updates_text}
 use Rattle.lw_table.specs.Filed.{IsFiled}
-use Rattle.lw_table.specs.Moves.{next_row, PutsRow, SameRows}
-use Rattle.lw_table.specs.Rows.{IsRows, row_at}
-use Rattle.lw_table.specs.declared.row.Row.{Row}
+use Rattle.lw_table.specs.Moves.{next_row, IsKnown, PutsRow, SameRows}
+use Rattle.lw_table.specs.Rows.{IsRows, has_end, row_at}
 use Rattle.lw_table.specs.declared.rows.Rows.{Rows}
-use Rattle.lw_table.proofs.FiledLemmas.{on_ok, on_err}
-use Rattle.lw_table.proofs.RowLemmas.{other_put, put_again, taken_others}
+use Rattle.lw_table.proofs.FiledLemmas.{on_err}
+use Rattle.lw_table.proofs.JoinLemmas.{added_at, if_not, if_ok, joined_at}
+use Rattle.lw_table.proofs.MoveLemmas.{err_then}
+use Rattle.lw_table.proofs.RowLemmas.{other_put, put_again, taken_has, taken_others}
 use Rattle.lw_table.proofs.moves.put_other.Goals as goal
 
-pub move_row-requires : goal.move_row-requires
-move_row-requires c =
+pub join_row-requires : goal.join_row-requires
+join_row-requires c =
     subst (IsFiled c.args.filed.now c.args.endpoint.now) (sym (c.in-Some.ensures.value ∙ taken_others c.args.rows.now c.args.endpoint.now c.requires.taken)) c.requires.filed
 
 pub returns-in-Some : goal.returns-in-Some
 returns-in-Some c =
     let m = c.args.rows.now in
     let e = c.args.endpoint.now in
-    let w = c.move_row.new.row in
+    let w = c.join_row.new.row in
     let others = c.get_mut.follows.lender w in
     let n : Rows = record m { others = others } in
     let slot = c.args.slot in
@@ -25,19 +26,15 @@ returns-in-Some c =
     let is = c.in-Some.ensures.value ∙ taken_others m e c.requires.taken in
     let put = other_put m n e w c.requires.rows refl (c.get_mut.follows.holds w).4 (btree_map_updates_text e m.others others (Some w) ((c.get_mut.follows.holds w).3 (search rules))) c.requires.taken in
     record {
-      others = c.move_row.ensures.others;
-      put = on_ok _ _ c.move_row.result
-          (λ moved. (
-            subst (λ (r : Row). PutsRow e r m n) (moved ∙ ap (λ o. next_row o slot number) is) put,
-            subst (λ (r : Row). IsFiled c.move_row.new.filed e (Some r)) (moved ∙ ap (λ o. next_row o slot number) is) c.move_row.ensures.filed,
-          ))
-          c.move_row.ensures.moved;
-      unchanged = on_err _ _ c.move_row.result
+      others = c.join_row.ensures.others;
+      joined = if_ok _ _ c.join_row.result (joined_at e slot number c.join_row.new.filed m n c.in-Some.row.now w is put c.join_row.ensures.filed) c.join_row.ensures.joined;
+      known = λ known. c.join_row.ensures.known (subst (λ o. IsKnown o slot) (sym is) known);
+      unchanged = on_err _ _ c.join_row.result
           (λ same. (
             put_again m n e w put (ap Some same ∙ is),
-            subst (IsFiled c.move_row.new.filed e) (ap Some same ∙ is) c.move_row.ensures.filed,
+            subst (IsFiled c.join_row.new.filed e) (ap Some same ∙ is) c.join_row.ensures.filed,
           ))
-          c.move_row.ensures.unchanged;
+          c.join_row.ensures.unchanged;
     }
 
 pub add_row-requires : goal.add_row-requires
@@ -50,10 +47,25 @@ add_row-requires c =
       filed = subst (IsFiled c.args.filed.now e) (sym none) c.requires.filed;
       rows = subst IsRows (sym same) c.requires.rows;
       absent = ap (λ (x : Rows). row_at x e) same ∙ sym none;
+      taken = taken_has m e c.requires.taken ∙ ap (λ (x : Rows). has_end x e) (sym same);
     }
 
-pub returns-in-None : goal.returns-in-None
-returns-in-None c =
+pub returns-in_err-add_row-in-None : goal.returns-in_err-add_row-in-None
+returns-in_err-add_row-in-None c =
+    let m = c.args.rows.now in
+    let e = c.args.endpoint.now in
+    let none = c.in-None.ensures.value ∙ taken_others m e c.requires.taken in
+    let held : record m { others = c.get_mut.follows.lender-at-none } ≡ m = λ i. record m { others = c.get_mut.follows.holds-at-none i } in
+    let same = c.in_err-add_row-in-None.ensures.unchanged in
+    record {
+      others = c.add_row.ensures.others;
+      joined = if_not _ c.from_residual.result c.from_residual.ensures.0;
+      known = λ known. absurd (subst (λ o. IsKnown o c.args.slot) (sym none) known);
+      unchanged = err_then _ c.from_residual.result (subst (λ (x : Rows). SameRows x c.add_row.new.rows) held same.0, subst (IsFiled c.add_row.new.filed e) none same.1);
+    }
+
+pub returns-in_ok-add_row-in-None : goal.returns-in_ok-add_row-in-None
+returns-in_ok-add_row-in-None c =
     let m = c.args.rows.now in
     let e = c.args.endpoint.now in
     let n = c.add_row.new.rows in
@@ -61,15 +73,10 @@ returns-in-None c =
     let number = c.args.number in
     let none = c.in-None.ensures.value ∙ taken_others m e c.requires.taken in
     let held : record m { others = c.get_mut.follows.lender-at-none } ≡ m = λ i. record m { others = c.get_mut.follows.holds-at-none i } in
+    let added = c.in_ok-add_row-in-None.ensures.added in
     record {
       others = c.add_row.ensures.others;
-      put = on_ok _ _ c.add_row.result
-          (λ added. (
-            subst (λ (r : Row). PutsRow e r m n) (ap (λ o. next_row o slot number) none) (subst (λ (x : Rows). PutsRow e (next_row None slot number) x n) held added.0),
-            subst (λ o. IsFiled c.add_row.new.filed e (Some (next_row o slot number))) none added.1,
-          ))
-          c.add_row.ensures.added;
-      unchanged = on_err _ _ c.add_row.result
-          (λ same. (subst (λ (x : Rows). SameRows x n) held same.0, subst (IsFiled c.add_row.new.filed e) none same.1))
-          c.add_row.ensures.unchanged;
+      joined = added_at e slot number c.add_row.new.filed m n (sym none) (subst (λ (x : Rows). PutsRow e (next_row None slot number) x n) held added.0) added.1;
+      known = λ known. refl;
+      unchanged = tt;
     }

@@ -20,18 +20,18 @@ returns-in_ok-insert-clause-put c =
     other_put m n e row c.requires.rows refl c.insert.ensures.ordered
     (λ k. subst (λ (bs : List ℕ). get_by_text others k ≡ cond (bytes_eq bs k) (Some row) (get_by_text m.others k)) c.in_ok-endpoint.ensures.ok
     (btree_map_updates_text (string_bytes c.in_ok-endpoint.endpoint) m.others others (Some row) c.in_ok-insert.ensures.updates k))
-    (taken_of m e (ap (λ end. is_some (tree.get nat_cmp m.firsts end)) (sym c.end_of-end.ensures) ∙ (sym c.contains_key.ensures ∙ c.if-contains_key.true)) c.requires.absent)
+    (taken_of m e (sym c.requires.taken ∙ c.if-taken.true) c.requires.absent)
 
 pub returns-in_ok-insert-2-clause-put : goal.returns-in_ok-insert-2-clause-put
 returns-in_ok-insert-2-clause-put c =
     let m = c.args.self.now in
     let e = c.args.endpoint.now in
     let w : First = record { endpoint = c.in_ok-endpoint.endpoint; row = c.args.row } in
-    let firsts = c.insert-else-contains_key.new.self in
+    let firsts = c.insert-else-taken.new.self in
     let n : Rows = record m { firsts = firsts } in
-    first_put m n e w c.requires.rows c.in_ok-endpoint.ensures.ok refl c.insert-else-contains_key.ensures.ordered
+    first_put m n e w c.requires.rows c.in_ok-endpoint.ensures.ok refl c.insert-else-taken.ensures.ordered
     (λ k. subst (λ end. tree.get nat_cmp firsts k ≡ cond (is_at (nat_cmp end) k) (Some w) (tree.get nat_cmp m.firsts k)) c.end_of-end.ensures (c.in_ok-insert-2.ensures.updates.0 k))
-    (none_there (tree.get nat_cmp m.firsts _) (ap (λ end. is_some (tree.get nat_cmp m.firsts end)) (sym c.end_of-end.ensures) ∙ (sym c.contains_key.ensures ∙ c.if-contains_key.false)))
+    (none_there (tree.get nat_cmp m.firsts _) (sym c.requires.taken ∙ c.if-taken.false))
   where
     none_there : (o : Option First) → is_some o ≡ false → IfSome o (λ (first : First). string_bytes first.endpoint ≡ c.args.endpoint.now)
     none_there None h = tt

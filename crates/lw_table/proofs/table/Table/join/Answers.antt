@@ -1,33 +1,87 @@
-use Rattle.std.proofs.Common.{refl, sym, ap, ◌∙◌, subst}
-use Rattle.std.specs.Option.{IsSomeAnd}
-use Rattle.std.specs.FinMap.{get}
-use Rattle.lw_join.specs.Maps.{one_key}
-use Rattle.lw_reg.specs.Slot.{slot_below}
-use Rattle.lw_reg.specs.State.{state_join}
-use Rattle.lw_table.proofs.CountLemmas.{known_state, recount_none}
-use Rattle.lw_table.proofs.FiledLemmas.{on_ok}
+use Rattle.std.proofs.Common.{◌≡◌, Bool, true, false, refl, sym, ap, ◌∙◌, subst}
+use Rattle.lw_table.specs.Moves.{JoinsRowAt}
+use Rattle.lw_table.specs.Table.{TableContent}
+use Rattle.lw_table.proofs.CountLemmas.{next_after, saturated}
+use Rattle.lw_table.proofs.JoinLemmas.{joins_count, joins_state, known_row, stays_count, stays_state, stays_table}
+use Rattle.lw_table.proofs.MoveLemmas.{err_then}
+use Rattle.lw_table.proofs.TableLemmas.{filed_at, kept_table, put_table, rows_of, same_table}
 use Rattle.lw_table.proofs.table.Table.join.Goals as goal
 
-pub take-requires : goal.take-requires
-take-requires c = record {
-  news = λ below. (let known = c.knows.ensures.1 below in absurd cc);
-  within = c.as_str-endpoint.ensures.within;
+pub put-requires : goal.put-requires
+put-requires c = record {
+  filed = filed_at c.self.inside.filed c.self.inside.rows c.self.invariant.0 c.self.inside.change c.self.invariant.1 _;
+  rows = c.self.invariant.0;
 }
 
-pub returns-then-knows : goal.returns-then-knows
-returns-then-knows c =
-    let state = c.args.self.now.state in
-    let below = subst (λ e. IsSomeAnd (get state e) (slot_below c.args.slot)) c.as_str-endpoint.ensures.value (c.knows.ensures.0 c.if-knows.true) in
+-- ---- refused
+pub returns-in_err-moved-clause-known : goal.returns-in_err-moved-clause-known
+returns-in_err-moved-clause-known c = λ below.
+    absurd (let ok : false ≡ true = c.in_err-moved.ensures.known ((known_row c.self.inside.rows c.self.invariant.0 c.self.inside.change c.args.self.now c.self.view_is c.as_str.result.now c.args.endpoint.now c.as_str.ensures.value c.args.slot).0 below) in cc)
+
+pub returns-in_err-moved-clause-unchanged : goal.returns-in_err-moved-clause-unchanged
+returns-in_err-moved-clause-unchanged c =
+    let kept = c.in_err-moved.ensures.unchanged.0 in
+    err_then _ c.from_residual.result (same_table c.self.inside.rows c.put.new.rows c.self.invariant.0 kept.rows c.self.inside.change kept.same ∙ c.self.view_is)
+
+pub invariant_of-self : goal.invariant_of-self
+invariant_of-self c =
+    let kept = c.in_err-moved.ensures.unchanged in (
+      kept.0.rows,
+      kept_table c.self.inside.filed c.put.new.filed c.self.inside.rows c.put.new.rows c.self.invariant.0 kept.0.rows c.self.inside.change c.as_str.result.now c.put.ensures.others c.self.invariant.1 kept.0.same kept.1,
+    )
+
+-- ---- moved
+pub returns-then-moved : goal.returns-then-moved
+returns-then-moved c =
+    let m = c.self.inside.rows in
+    let n = c.put.new.rows in
+    let change = c.self.inside.change in
+    let number = c.saturating_add-change.result in
+    let joins = subst (λ (b : Bool). JoinsRowAt b c.as_str.result.now c.args.slot number m n c.put.new.filed) c.if-moved.true c.in_ok-moved.ensures.joined in
+    let rows_n = joins.1.rows in
+    let rows = rows_of c.self.inside.filed m c.self.invariant.0 change c.self.invariant.1 in
     record {
-      state = known_state state c.args.endpoint.now c.args.slot below;
-      count = recount_none state c.args.self.now.count;
-      known = λ _. (refl, refl);
+      state = joins_state m n c.self.invariant.0 rows_n change c.args.self.now c.self.view_is c.as_str.result.now c.args.endpoint.now c.as_str.ensures.value c.args.slot number c.put.new.filed joins;
+      count = joins_count m n c.self.invariant.0 rows_n change c.args.self.now c.self.view_is c.as_str.result.now c.args.endpoint.now c.as_str.ensures.value c.args.slot number c.put.new.filed joins
+          (saturated change number c.saturating_add-change.ensures rows.last);
+      known = λ below. absurd (joins.0 ((known_row m c.self.invariant.0 change c.args.self.now c.self.view_is c.as_str.result.now c.args.endpoint.now c.as_str.ensures.value c.args.slot).0 below));
       unchanged = tt;
     }
 
-pub returns-clause-state : goal.returns-clause-state
-returns-clause-state c = on_ok _ _ c.take.result (λ joined. joined ∙ ap (λ e. state_join c.args.self.now.state (one_key e c.args.slot)) c.as_str-endpoint.ensures.value) c.take.ensures.state
+pub invariant_of-self-then-moved : goal.invariant_of-self-then-moved
+invariant_of-self-then-moved c =
+    let m = c.self.inside.rows in
+    let n = c.put.new.rows in
+    let change = c.self.inside.change in
+    let number = c.saturating_add-change.result in
+    let joins = subst (λ (b : Bool). JoinsRowAt b c.as_str.result.now c.args.slot number m n c.put.new.filed) c.if-moved.true c.in_ok-moved.ensures.joined in
+    let rows = rows_of c.self.inside.filed m c.self.invariant.0 change c.self.invariant.1 in
+    let next = next_after change number (saturated change number c.saturating_add-change.ensures rows.last) rows.last in (
+      joins.1.rows,
+      put_table c.self.inside.filed c.put.new.filed m n c.self.invariant.0 joins.1.rows change c.as_str.result.now c.put.ensures.others c.self.invariant.1 _ number joins.1.at joins.2 next.0 next.1 next.2 c.as_str.ensures.within,
+    )
 
-pub returns-clause-known : goal.returns-clause-known
-returns-clause-known c = λ below.
-    absurd (let known = c.knows.ensures.1 (subst (λ e. IsSomeAnd (get c.args.self.now.state e) (slot_below c.args.slot)) (sym c.as_str-endpoint.ensures.value) below) in cc)
+-- ---- known
+pub returns-else-moved : goal.returns-else-moved
+returns-else-moved c =
+    let m = c.self.inside.rows in
+    let n = c.put.new.rows in
+    let change = c.self.inside.change in
+    let number = c.saturating_add-change.result in
+    let joins = subst (λ (b : Bool). JoinsRowAt b c.as_str.result.now c.args.slot number m n c.put.new.filed) c.if-moved.false c.in_ok-moved.ensures.joined in
+    let rows_n = joins.1.rows in
+    record {
+      state = stays_state m n c.self.invariant.0 rows_n change c.args.self.now c.self.view_is c.as_str.result.now c.args.endpoint.now c.as_str.ensures.value c.args.slot number c.put.new.filed joins;
+      count = stays_count m n c.self.invariant.0 rows_n change c.args.self.now c.self.view_is c.as_str.result.now c.args.endpoint.now c.as_str.ensures.value c.args.slot number c.put.new.filed joins;
+      known = λ below. (refl, stays_table m n c.self.invariant.0 rows_n change c.args.self.now c.self.view_is c.as_str.result.now c.args.endpoint.now c.as_str.ensures.value c.args.slot number c.put.new.filed joins);
+      unchanged = tt;
+    }
+
+pub invariant_of-self-else-moved : goal.invariant_of-self-else-moved
+invariant_of-self-else-moved c =
+    let m = c.self.inside.rows in
+    let n = c.put.new.rows in
+    let joins = subst (λ (b : Bool). JoinsRowAt b c.as_str.result.now c.args.slot c.saturating_add-change.result m n c.put.new.filed) c.if-moved.false c.in_ok-moved.ensures.joined in (
+      joins.1.rows,
+      kept_table c.self.inside.filed c.put.new.filed m n c.self.invariant.0 joins.1.rows c.self.inside.change c.as_str.result.now c.put.ensures.others c.self.invariant.1 joins.1.same joins.2,
+    )
