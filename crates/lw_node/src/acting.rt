@@ -7,6 +7,7 @@ ghost use Rattle.lw_node.specs.Steps.{Steps};
 
 use crate::node::Node;
 use crate::twice::both;
+use bytes::Bytes;
 use lw_call::{Call, Reply, Sent};
 use lw_stamp::NoMemory;
 
@@ -85,7 +86,7 @@ impl Node {
         ensures { IfOk result (λ sent. IsDeltaSince self.now since sent.delta × (sent.change ≡ self.now.table.count.change)) }
     {
         Ok(Sent {
-            delta: self.delta_since(since)?,
+            delta: Bytes::from_vec(self.delta_since(since)?)?,
             change: self.change(),
         })
     }
