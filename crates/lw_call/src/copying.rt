@@ -128,12 +128,13 @@ impl Outgoing {
 }
 
 impl Sent {
-    /// A copy of equal content.
-    pub fn copy(&self, alloc: Global) -> Result<Sent, NoMemory>
+    /// A copy of equal content. Its bytes are those of this one, not copied; that is a matter of cost, and in no
+    /// contract.
+    pub fn copy(&self) -> Result<Sent, NoMemory>
         ensures { IfOk result (λ sent. sent ≡ self.now) }
     {
         Ok(Sent {
-            delta: self.delta.as_slice().to_vec(alloc)?,
+            delta: self.delta.clone()?,
             change: self.change,
         })
     }

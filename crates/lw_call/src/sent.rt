@@ -1,10 +1,11 @@
+use bytes::Bytes;
 use std::marker::Model;
 
 /// What a node sends of its state.
 #[derive(Drop)]
 pub struct Sent {
     /// The bytes of the delta.
-    pub delta: Vec<u8>,
+    pub delta: Bytes,
     /// The change number that a later delta is asked for since.
     pub change: u64,
 }
@@ -14,5 +15,5 @@ impl Model for Sent {
 
     ghost Value = { SentContent };
 
-    ghost view = { λ s. record { delta = s.delta.items; change = s.change } };
+    ghost view = { λ s. record { delta = s.delta; change = s.change } };
 }

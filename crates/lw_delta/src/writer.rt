@@ -4,8 +4,9 @@ ghost use Rattle.lw_reg.specs.Endpoint.{IsEndpoint};
 ghost use Rattle.lw_stamp.specs.TextOrder.{text_cmp};
 ghost use Rattle.lw_delta.specs.Order.{IsAbove};
 ghost use Rattle.lw_delta.specs.Delta.{DeltaContent, IsSpelling};
-ghost use Rattle.lw_delta.specs.Writable.{IsBegun, StampsWithin, last_endpoint};
-ghost use Rattle.lw_delta.specs.Writing.{delta_bytes};
+ghost use Rattle.lw_delta.specs.Form.{latest as latest_form};
+ghost use Rattle.lw_delta.specs.Writable.{IsBegun, IsOwnText, IsTyped, StampsWithin, last_endpoint};
+ghost use Rattle.lw_delta.specs.Writing.{Begins, delta_bytes, slot_bytes};
 
 use crate::form::{latest, magic};
 use crate::put::put_bytes;
@@ -17,6 +18,9 @@ use std::marker::Model;
 
 /// The bytes of a delta without slots: the four of its format, the clock and the end.
 const LEAST: usize = 11;
+
+/// Most slots take no more bytes than these: then a slot is written without a second growth.
+const SLOT_ROOM: usize = 200;
 
 /// Puts a delta together: a clock, and slots by endpoints that rise. Contracts see the clock and the bytes so
 /// far.
@@ -37,6 +41,18 @@ impl Model for Writer {
 
     // slots were written, one after another
     ghost invariant = { λ w. (slots : List (List ℕ × Slot)) × IsBegun (record { clock = w.clock; bytes = w.bytes.items }) slots };
+}
+
+/// Makes room for a slot of common length, and writes the slot. Refused, a prefix of it may be there.
+fn put_with_room(out: &mut Vec<u8>, endpoint: &str, slot: &Slot) -> Result<(), NoMemory>
+    requires { IsEndpoint endpoint.now }
+    ensures written { OnOk result (out.new.items ≡ out.old.items ++ 1 ∷ slot_bytes latest_form (endpoint.now, slot.now)) }
+    ensures typed { OnOk result (IsTyped slot.now) }
+    ensures named { OnOk result (IsOwnText endpoint.now) }
+    ensures kept { Begins out.old.items out.new.items }
+{
+    out.reserve(SLOT_ROOM)?;
+    put_slot(out, endpoint, slot)
 }
 
 impl Writer {
@@ -64,7 +80,7 @@ impl Writer {
         ensures refused { OnErr result (self.new ≡ self.old) }
     {
         let begun = self.bytes.len();
-        match put_slot(&mut self.bytes, endpoint, slot) {
+        match put_with_room(&mut self.bytes, endpoint, slot) {
             Ok(()) => Ok(()),
             Err(refused) => {
                 self.bytes.truncate(begun);

@@ -1,6 +1,6 @@
 -- What the looks at the parts add up to.
 use Rattle.std.proofs.Common.{◌≡◌, ℕ, ◌+◌, ◌-◌, ◌<◌, ◌≤◌, List, length, Option, Some, None, Bool, true, false, ◌↔◌, refl, sym, ap, ◌∙◌, subst, ◌⊎◌, inl, inr, arith}
-use Rattle.std.specs.Prelude.{slice_get, min, max, IsTrue}
+use Rattle.std.specs.Prelude.{slice_get, min, max, IfNone, IsTrue}
 use Rattle.std.proofs.lemmas.Option.{slice_get_within, slice_get_cases}
 use Rattle.std.proofs.lemmas.Bool.{cases_lt}
 use borrow.Author.Count.{below_more}
@@ -14,6 +14,11 @@ use Rattle.lw_held.specs.Looks.{IsThere, Fits, FitBelow, IsAfter, IsLast, lesser
 
 pub same_some : {A : Type 0} (x y : A) (o : Option A) → o ≡ Some x → o ≡ Some y → x ≡ y
 same_some x y o p q = let e : Some x ≡ Some y = sym p ∙ q in cc
+
+-- where nothing is found, what follows from that holds too
+pub none_wide : (o : Option ℕ) (P Q : Type 0) → (P → Q) → IfNone o P → IfNone o Q
+none_wide None P Q f p = f p
+none_wide (Some i) P Q f p = p
 
 min_cases : (p q : ℕ) → ((min p q ≡ p) × (p ≤ q)) ⊎ ((min p q ≡ q) × (q ≤ p))
 min_cases p q = elim (cases_lt p q) [ inl l ↦ inl (omega arith, omega arith) | inr l ↦ inr (omega arith, omega arith) ]

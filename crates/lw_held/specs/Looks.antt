@@ -11,6 +11,10 @@ use Rattle.lw_held.specs.Transcript.{Transcript}
 abbrev pub IsThere : ℕ → List VolumeContent → HeldContent → Part → Type 0
 IsThere node volumes held part = (w : Option ℕ) × (piece : VolumeContent) × IsPiece node volumes held w piece × IsEntryAt piece.first piece.entries part.place part.entry
 
+-- volume i is of the node, and has the entry of the part at its place
+abbrev pub HasPart : ℕ → List VolumeContent → Part → ℕ → Type 0
+HasPart node volumes part i = (volume : VolumeContent) × IsVolumeOf node volumes i volume × IsEntryAt volume.first volume.entries part.place part.entry
+
 -- part k is in a piece, and after the parts before it
 abbrev pub Fits : ℕ → List VolumeContent → HeldContent → List Part → ℕ → Part → Type 0
 Fits node volumes held parts k part = IsThere node volumes held part × IsInOrder node parts k part.place

@@ -4,12 +4,12 @@
 //! at its place, and after the parts before it; one over the entries of the journal and of each volume, which asks
 //! whether each entry's pass has a part for its place; and one over the volumes, which asks whether they are laid end
 //! to end. Since a part's number is its place in its transcript, each question of an entry looks at one place. Each of
-//! a part looks at one place in the journal and in each volume.
+//! a part looks at one place in the journal, and in each volume from that of the part before until it is found.
 
-ghost use Rattle.std.specs.Prelude.{◌≡◌, ◌↔◌, ◌<◌, ◌^◌, ℕ, length, Some, None, slice_get, IsTrue};
+ghost use Rattle.std.specs.Prelude.{◌≡◌, ◌↔◌, ◌<◌, ◌≤◌, ◌^◌, ℕ, length, Some, None, slice_get, IfNone, IfSome, IsTrue};
 ghost use Rattle.lw_node.specs.Node.{fresh};
 ghost use Rattle.lw_held.specs.Agree.{IsEntryAt, IsOf, IsFirstBreak, AreDistinct, IsFineIn};
-ghost use Rattle.lw_held.specs.Looks.{IsThere, FitBelow, AllFitBelow, IsAfter, Looks, lesser_of, greater_of, HasBelow, IsTold, AllToldBelow};
+ghost use Rattle.lw_held.specs.Looks.{HasPart, IsThere, FitBelow, AllFitBelow, IsAfter, Looks, lesser_of, greater_of, HasBelow, IsTold, AllToldBelow};
 ghost use Rattle.lw_held.specs.Transcript.{Transcript, IsNumbered};
 
 use crate::entry::{Entry, Part};
@@ -63,8 +63,9 @@ pub(crate) fn first_stray(node: u16, volumes: &[Volume], held: &Held, parts: &[P
     ensures { IsFirstBreak (FitBelow node volumes.now held.now parts.now (length parts.now)) result }
 {
     let mut look = nothing_seen();
+    let mut found = 0;
     for part in parts {
-        look = looked_at(look, node, volumes, held, part);
+        look = looked_at(look, node, volumes, &mut found, held, part);
     }
     look.least
 }
@@ -78,14 +79,22 @@ fn nothing_seen() -> Look
     }
 }
 
-fn looked_at(old: Look, node: u16, volumes: &[Volume], held: &Held, part: &Part) -> Look
+/// What is known after one part more. The number is that of the volume where a part was found last.
+fn looked_at(
+    old: Look,
+    node: u16,
+    volumes: &[Volume],
+    found: &mut usize,
+    held: &Held,
+    part: &Part,
+) -> Look
     ensures { Looks node volumes.now held.now part.now old result }
 {
     if part.node != node {
         return old;
     }
     let last = greater(old.last, part.place);
-    if is_there(node, volumes, held, part) && is_after(old.last, part.place) {
+    if is_there(node, volumes, found, held, part) && is_after(old.last, part.place) {
         Look {
             least: old.least,
             last,
@@ -98,19 +107,54 @@ fn looked_at(old: Look, node: u16, volumes: &[Volume], held: &Held, part: &Part)
     }
 }
 
-/// Whether the journal, or a volume of the node, has the part's entry at its place.
-fn is_there(node: u16, volumes: &[Volume], held: &Held, part: &Part) -> bool
+/// Whether the journal, or a volume of the node, has the part's entry at its place. The volume where a part was found
+/// last is looked at first: so a transcript whose volumes are in the order in which they were cut takes one walk over
+/// them.
+fn is_there(node: u16, volumes: &[Volume], found: &mut usize, held: &Held, part: &Part) -> bool
     ensures { IsTrue result ↔ IsThere node volumes.now held.now part.now }
 {
     if has_entry(held.first(), held.journal(), part) {
         return true;
     }
-    for volume in volumes {
-        if is_in(node, volume, part) {
-            return true;
+    match volume_of(node, volumes, part, (*found).min(volumes.len())) {
+        Some(index) => {
+            *found = index;
+            true
+        }
+        None => false,
+    }
+}
+
+/// A volume of the node that has the part's entry at its place: the first from this number on, or else the first.
+fn volume_of(node: u16, volumes: &[Volume], part: &Part, start: usize) -> Option<usize>
+    requires { start ≤ length volumes.now }
+    ensures found { IfSome result (HasPart node volumes.now part.now) }
+    ensures none { IfNone result ((i : ℕ) → ¬ HasPart node volumes.now part.now i) }
+{
+    match volume_within(node, volumes, part, start, volumes.len()) {
+        Some(index) => Some(index),
+        None => volume_within(node, volumes, part, 0, start),
+    }
+}
+
+/// The first volume of the node, between these numbers, that has the part's entry at its place.
+fn volume_within(
+    node: u16,
+    volumes: &[Volume],
+    part: &Part,
+    start: usize,
+    end: usize,
+) -> Option<usize>
+    requires { end ≤ length volumes.now }
+    ensures found { IfSome result (HasPart node volumes.now part.now) }
+    ensures none { IfNone result ((i : ℕ) → start ≤ i → i < end → ¬ HasPart node volumes.now part.now i) }
+{
+    for index in start..end {
+        if is_in(node, &volumes[index], part) {
+            return Some(index);
         }
     }
-    false
+    None
 }
 
 /// Whether the volume is of the node and has the part's entry at its place.

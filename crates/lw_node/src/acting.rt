@@ -7,6 +7,7 @@ ghost use Rattle.lw_node.specs.Steps.{Steps};
 
 use crate::node::Node;
 use crate::twice::both;
+use bytes::Bytes;
 use lw_call::{Call, Reply, Sent};
 use lw_stamp::NoMemory;
 
@@ -84,8 +85,12 @@ impl Node {
     pub(crate) fn send(&self, since: u64) -> Result<Sent, NoMemory>
         ensures { IfOk result (λ sent. IsDeltaSince self.now since sent.delta × (sent.change ≡ self.now.table.count.change)) }
     {
+        let bytes = self.delta_since(since)?;
+        let Ok(delta) = Bytes::from_vec(bytes) else {
+            return Err(NoMemory);
+        };
         Ok(Sent {
-            delta: self.delta_since(since)?,
+            delta,
             change: self.change(),
         })
     }

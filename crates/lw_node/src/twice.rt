@@ -120,7 +120,7 @@ impl Node {
         ensures sent { IfOk (first_of result) (λ sent. IsDeltaSince self.now since sent.delta × (sent.change ≡ self.now.table.count.change)) }
     {
         let sent = self.send(since)?;
-        let copy = sent.copy(self.alloc)?;
+        let copy = sent.copy()?;
         Ok((sent, copy))
     }
 

@@ -1,7 +1,7 @@
 -- Bindings, their letters and their texts.
-use Rattle.std.proofs.Common.{◌≡◌, ℕ, zero, suc, ◌-◌, ◌≤◌, true, ltb, leb, List, [], ◌∷◌, ◌++◌, length, replicate, take, subst, refl, sym, ap, ◌∙◌, arith}
+use Rattle.std.proofs.Common.{◌≡◌, ◌==◌, ◌||◌, ℕ, Bool, zero, suc, ◌-◌, ◌≤◌, true, ltb, leb, List, [], ◌∷◌, ◌++◌, length, replicate, take, subst, refl, sym, ap, ◌∙◌, arith}
 use Rattle.std.specs.Char.{is_ascii_uppercase}
-use Rattle.std.specs.List.{list_all}
+use Rattle.std.specs.List.{list_all, list_any}
 use Rattle.std.specs.Str.{IsAscii, IsUtf8}
 use Rattle.std.proofs.lemmas.Bool.{and_parts, leb-true, lt-ltb}
 use Rattle.std.proofs.lemmas.List.{take_at}
@@ -25,6 +25,15 @@ padded_is text h =
       text = subst IsBindingText (sym same) h;
       zeros = ap (λ (t : List ℕ). t ++ replicate (8 - length t) 0) (sym same);
     }
+
+-- the padding has no letter Q
+any_padded : (text : List ℕ) (n : ℕ) → list_any (λ c. c == 81) (text ++ replicate n 0) ≡ list_any (λ c. c == 81) text
+any_padded [] zero = refl
+any_padded [] (suc n) = any_padded [] n
+any_padded (c ∷ text) n = ap (λ (b : Bool). (c == 81) || b) (any_padded text n)
+
+pub queue_in_text : (letters : List ℕ) → IsPadded letters → list_any (λ c. c == 81) letters ≡ list_any (λ c. c == 81) (text_in letters)
+queue_in_text letters h = ap (list_any (λ c. c == 81)) h.zeros ∙ any_padded (text_in letters) (8 - length (text_in letters))
 
 -- the letters that `read` makes of a text
 pub letters_of_text : (text bytes letters : List ℕ) → bytes ≡ text → IsBindingText bytes → letters ≡ bytes ++ replicate (8 - length bytes) 0 → IsPadded letters × (text_in letters ≡ text)

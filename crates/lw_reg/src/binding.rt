@@ -1,6 +1,6 @@
-ghost use Rattle.std.specs.Prelude.{◌≡◌, ◌-◌, ◌≤◌, ◌++◌, ◌↔◌, IsTrue, codes, IsSome, IfSome, length, replicate};
+ghost use Rattle.std.specs.Prelude.{◌≡◌, ◌==◌, ◌-◌, ◌≤◌, ◌++◌, ◌↔◌, IsTrue, codes, IsSome, IfSome, length, replicate};
 ghost use Rattle.std.specs.Char.{is_ascii_uppercase};
-ghost use Rattle.std.specs.List.{list_all};
+ghost use Rattle.std.specs.List.{list_all, list_any};
 ghost use Rattle.lw_reg.specs.BindingText.{IsBindingText, IsPadded, text_in};
 
 /// A binding: 1 to 8 letters A to Z, ordered by its text.
@@ -40,6 +40,14 @@ impl Binding {
         let length = text_length(&self.letters);
         std::str::from_utf8(&self.letters[..length]).unwrap()
     }
+
+    /// Whether it holds the letter Q.
+    #[tactic(auto, using(crate::proofs::BindingLemmas::queue_in_text))]
+    pub(crate) fn asks_for_queue(&self) -> bool
+        ensures { result ≡ list_any (λ c. c == 81) (binding_text self.now) }
+    {
+        holds_queue(&self.letters)
+    }
 }
 
 impl Default for Binding {
@@ -71,6 +79,12 @@ fn padded(text: &[u8]) -> [u8; 8]
     let mut letters = [0; 8];
     letters[..text.len()].copy_from_slice(text);
     letters
+}
+
+fn holds_queue(letters: &[u8]) -> bool
+    ensures { result ≡ list_any (λ c. c == 81) letters.now }
+{
+    letters.iter().any(|letter| *letter == b'Q')
 }
 
 fn text_length(letters: &[u8]) -> usize

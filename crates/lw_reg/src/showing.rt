@@ -1,14 +1,12 @@
 //! What a slot shows at a moment.
 
-ghost use Rattle.std.specs.Prelude.{◌≡◌, ◌↔◌, ◌==◌, ◌≤◌, ℕ, List, [], IsTrue, IsSomeAnd};
-ghost use Rattle.std.specs.List.{list_any};
+ghost use Rattle.std.specs.Prelude.{◌≡◌, ◌↔◌, ◌≤◌, ℕ, List, [], IsTrue, IsSomeAnd};
 ghost use Rattle.lw_stamp.specs.Moment.{ms_of};
-ghost use Rattle.lw_reg.specs.Binding.{binding_text};
 ghost use Rattle.lw_reg.specs.Marks.{Mark, among};
 ghost use Rattle.lw_reg.specs.Reading.{registered_in, view_in, in_time, end_of, is_late, lasting, ended_of, seen_of, deadline_in, shown_by, IsSlotOf};
 ghost use Rattle.lw_reg.specs.Showing.{ShownOf, HasExpired};
 
-use crate::{AttributesView, Binding, Slot, View};
+use crate::{AttributesView, Slot, View};
 use lw_stamp::{Moment, Stamp};
 
 impl Slot {
@@ -81,7 +79,7 @@ impl Slot {
             lifetime,
             version: base.version,
             binding,
-            queue: base.queue || asks_for_queue(&binding),
+            queue: base.queue || binding.asks_for_queue(),
             sms: sms.map(|sms| sms.as_str()),
             objects,
             attributes: AttributesView::of_writes(self.attributes()),
@@ -98,17 +96,6 @@ impl Slot {
         };
         if seen.0 > upto { Some(seen) } else { None }
     }
-}
-
-/// Whether the binding holds the letter Q.
-fn asks_for_queue(binding: &Binding) -> bool
-    ensures { result ≡ list_any (λ c. c == 81) (binding_text binding.now) }
-{
-    binding
-        .as_str()
-        .as_bytes()
-        .iter()
-        .any(|letter| *letter == b'Q')
 }
 
 fn is_in_time(view: &View<'_>, now: Moment) -> bool

@@ -81,7 +81,7 @@ pub(super) fn reply_text(alloc: Global, reply: &Reply) -> Result<String, AllocEr
 }
 
 fn sent_text(alloc: Global, sent: &Sent) -> Result<String, AllocError> {
-    let delta = hex::encode(alloc, &sent.delta)?;
+    let delta = hex::encode(alloc, sent.delta.as_slice())?;
     let change = sent.change;
     format!(in alloc; "{delta} {change}")
 }

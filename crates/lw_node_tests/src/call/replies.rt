@@ -41,7 +41,7 @@ fn outgoing(alloc: Global, token: Stamp) -> Result<Outgoing, Fail> {
 
 fn sent(alloc: Global, change: u64) -> Result<Sent, Fail> {
     Ok(Sent {
-        delta: b"1".to_vec(alloc)?,
+        delta: Bytes::copy_from_slice(alloc, b"1")?,
         change,
     })
 }
@@ -208,7 +208,7 @@ fn copy_of(alloc: Global, reply: &Reply) -> Result<Reply, Fail> {
         Reply::Take(Ok(taken)) => Ok(Reply::Take(Ok(taken.copy(alloc)?))),
         Reply::Observe(Ok(outgoing)) => Ok(Reply::Observe(Ok(outgoing.copy(alloc)?))),
         Reply::Cancel(Ok(outgoing)) => Ok(Reply::Cancel(Ok(outgoing.copy(alloc)?))),
-        Reply::Send(Ok(sent)) => Ok(Reply::Send(Ok(sent.copy(alloc)?))),
+        Reply::Send(Ok(sent)) => Ok(Reply::Send(Ok(sent.copy()?))),
         Reply::Ask(Ok(answer)) => Ok(Reply::Ask(Ok(answer.copy(alloc)?))),
         _ => Err("nothing is given".into()),
     }

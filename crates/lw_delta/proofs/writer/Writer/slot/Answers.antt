@@ -11,7 +11,7 @@ returns-in-Ok-clause-begun c =
     let named = c.requires.named in
     let within = subst (λ (w : Begun). StampsWithin w.clock c.args.slot.now) (sym c.self.view_is) c.requires.within in
     let follows : Follows old.clock (last_endpoint slots) (c.args.endpoint.now, c.args.slot.now) = record { some = named.some; most = named.most; above = c.requires.above slots h; stamps = within } in
-    begun_more old slots (c.args.endpoint.now, c.args.slot.now) c.put_slot.new.out.items _
+    begun_more old slots (c.args.endpoint.now, c.args.slot.now) c.put_with_room.new.out.items _
     (subst (λ (w : Begun). IsBegun w slots) (sym c.self.view_is) h) follows c.in-Ok.ensures.typed c.in-Ok.ensures.named c.in-Ok.ensures.written refl
 
 pub invariant_of-self : goal.invariant_of-self
@@ -23,7 +23,7 @@ invariant_of-self c =
     let within = subst (λ (w : Begun). StampsWithin w.clock c.args.slot.now) (sym c.self.view_is) c.requires.within in
     let follows : Follows old.clock (last_endpoint slots) (c.args.endpoint.now, c.args.slot.now) = record { some = named.some; most = named.most; above = c.requires.above slots h; stamps = within } in (
       slots ++ (c.args.endpoint.now, c.args.slot.now) ∷ [],
-      begun_more old slots (c.args.endpoint.now, c.args.slot.now) c.put_slot.new.out.items _
+      begun_more old slots (c.args.endpoint.now, c.args.slot.now) c.put_with_room.new.out.items _
           c.self.invariant.1 follows c.in-Ok.ensures.typed c.in-Ok.ensures.named c.in-Ok.ensures.written refl,
     )
 
@@ -34,10 +34,10 @@ cut_back was more now count kept e f =
 pub returns-in-Err-clause-refused : goal.returns-in-Err-clause-refused
 returns-in-Err-clause-refused c =
     let with_bytes : List ℕ → Begun = λ x. record { clock = c.self.inside.clock; bytes = x } in
-    ap with_bytes (cut_back c.self.inside.bytes.items c.put_slot.new.out.items c.truncate.new.self.items c.len-begun.result c.put_slot.ensures.kept (c.len-begun.ensures ∙ c.self.inside.bytes.ok.0) c.truncate.ensures.items) ∙ c.self.view_is
+    ap with_bytes (cut_back c.self.inside.bytes.items c.put_with_room.new.out.items c.truncate.new.self.items c.len-begun.result c.put_with_room.ensures.kept (c.len-begun.ensures ∙ c.self.inside.bytes.ok.0) c.truncate.ensures.items) ∙ c.self.view_is
 
 pub invariant_of-self-in-Err : goal.invariant_of-self-in-Err
 invariant_of-self-in-Err c =
     let with_bytes : List ℕ → Begun = λ x. record { clock = c.self.inside.clock; bytes = x } in
-    let same : c.truncate.new.self.items ≡ c.self.inside.bytes.items = cut_back c.self.inside.bytes.items c.put_slot.new.out.items c.truncate.new.self.items c.len-begun.result c.put_slot.ensures.kept (c.len-begun.ensures ∙ c.self.inside.bytes.ok.0) c.truncate.ensures.items in
+    let same : c.truncate.new.self.items ≡ c.self.inside.bytes.items = cut_back c.self.inside.bytes.items c.put_with_room.new.out.items c.truncate.new.self.items c.len-begun.result c.put_with_room.ensures.kept (c.len-begun.ensures ∙ c.self.inside.bytes.ok.0) c.truncate.ensures.items in
     (c.self.invariant.0, subst (λ (w : Begun). IsBegun w c.self.invariant.0) (sym (ap with_bytes same)) c.self.invariant.1)
