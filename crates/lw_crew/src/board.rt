@@ -5,55 +5,86 @@ use crossbeam_channel::{Receiver, Sender, bounded};
 use lw_stamp::NoMemory;
 use std::alloc::Global;
 use std::sync::Wait;
-use std::sync::atomic::AtomicU32;
+use std::sync::atomic::{AtomicU32, Ordering};
 
-/// Two channels with all the room that a list of jobs needs, and room for its results: so no worker waits at them, and
-/// no result is lost for want of memory.
+/// A board has room for at least so many jobs, so that few are made for lists of different lengths.
+const LEAST_ROOM: usize = 64;
+
+/// Two channels with all the room that a list of jobs needs: so no worker waits at them, and no result is lost for want
+/// of memory. Both ends of each are here, so that a board can be used again for the next list.
 #[derive(Drop)]
 pub(crate) struct Board {
+    ask: Sender<u64>,
     /// The numbers of the jobs that no worker has taken.
     pub(crate) numbers: Receiver<u64>,
     pub(crate) tell: Sender<Done>,
     told: Receiver<Done>,
-    dones: Vec<Done>,
+    /// How many jobs there is room for.
+    room: usize,
     /// The last worker that could not be started. 0 is none, as the first works on the thread that calls.
     pub(crate) unstarted: AtomicU32,
 }
 
 impl Board {
-    /// A board with the numbers of the jobs on it, in order.
-    pub(crate) fn new<R: Wait>(rt: &R, alloc: Global, jobs: usize) -> Result<Board, NoMemory> {
-        let room = jobs.max(1);
+    /// A board with room for the jobs, and nothing on it.
+    fn new(alloc: Global, jobs: usize) -> Result<Board, NoMemory> {
+        let room = jobs.max(LEAST_ROOM);
         let (ask, numbers) = bounded(alloc, room)?;
         let (tell, told) = bounded(alloc, room)?;
-        let dones = Vec::with_capacity(alloc, room)?;
-        for job in 0..jobs {
-            if ask.send(rt, job as u64).is_err() {
-                return Err(NoMemory);
-            }
-        }
         Ok(Board {
+            ask,
             numbers,
             tell,
             told,
-            dones,
+            room,
             unstarted: AtomicU32::new(0),
         })
     }
 
-    /// What was told, as it came.
-    pub(crate) fn results<R: Wait>(self, rt: &R) -> Result<Vec<Done>, NoMemory> {
-        let Board {
-            numbers: _,
-            tell,
-            told,
-            mut dones,
-            unstarted: _,
-        } = self;
-        drop(tell);
-        for done in told.iter(rt) {
+    /// The board that was kept, if it has room for the jobs, and else a new one. The numbers of the jobs are put on
+    /// it, in order.
+    pub(crate) fn ready<R: Wait>(
+        rt: &R,
+        alloc: Global,
+        kept: &mut Option<Board>,
+        jobs: usize,
+    ) -> Result<Board, NoMemory> {
+        let board = match kept.take() {
+            Some(board) => board.with_room(alloc, jobs)?,
+            None => Board::new(alloc, jobs)?,
+        };
+        board.unstarted.store(0, Ordering::SeqCst);
+        for job in 0..jobs {
+            if board.ask.send(rt, job as u64).is_err() {
+                return Err(NoMemory);
+            }
+        }
+        Ok(board)
+    }
+
+    /// This board, if it has room for the jobs, and else a new one.
+    fn with_room(self, alloc: Global, jobs: usize) -> Result<Board, NoMemory> {
+        if self.room < jobs {
+            return Board::new(alloc, jobs);
+        }
+        Ok(self)
+    }
+
+    /// Adds what was told of the jobs to the list, as it came. The board is kept where nothing is left on it.
+    pub(crate) fn results<R: Wait>(
+        self,
+        rt: &R,
+        kept: &mut Option<Board>,
+        jobs: usize,
+        mut dones: Vec<Done>,
+    ) -> Result<Vec<Done>, NoMemory> {
+        for _job in 0..jobs {
+            let Ok(done) = self.told.try_recv(rt) else {
+                return Ok(dones);
+            };
             dones.push(done)?;
         }
+        *kept = Some(self);
         Ok(dones)
     }
 }

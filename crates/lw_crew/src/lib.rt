@@ -7,6 +7,7 @@
 mod board;
 mod gathering;
 mod job;
+mod need;
 mod serving;
 mod truth;
 mod work;
@@ -14,4 +15,4 @@ mod work;
 pub use gathering::gather;
 pub use job::{CrewFault, Done, Job, Outcome};
 pub use lw_held::{Gate, NoGate, Pass, Shelf};
-pub use serving::serve_jobs;
+pub use serving::{Crew, serve_jobs};

@@ -19,9 +19,52 @@ use std::alloc::Global;
 use std::sync::Wait;
 use std::thread::Threads;
 
-/// Has the jobs done by one worker for each pass, the first on the thread that calls and each other on its own. The jobs
-/// are handed out in order. A worker that the gate stops does not do the job that it holds, and one that cannot be
-/// started does none. The passes come back with each call that was made, whatever the result is.
+/// Workers, who keep the channels between them from one list of jobs to the next.
+#[derive(Drop)]
+pub struct Crew {
+    board: Option<Board>,
+}
+
+impl Crew {
+    /// Workers without channels. These are made for the first list of jobs.
+    pub fn new() -> Crew {
+        Crew { board: None }
+    }
+
+    /// Does what `serve_jobs` does.
+    pub fn serve_jobs<R: Threads + Wait + Sync, G: Gate>(
+        &mut self,
+        rt: &R,
+        alloc: Global,
+        shelves: &[Shelf],
+        passes: Vec<Pass>,
+        jobs: &[Job],
+        gate: &G,
+    ) -> (Vec<Pass>, Result<Vec<Done>, CrewFault>)
+        requires workers { (1 ≤ vec_len passes) × (vec_len passes ≤ 8) }
+        requires shelves { AreInOrder shelves.now }
+        requires distinct { AreDistinct passes.items }
+        ensures passes { AllContinue passes.items result.0.items }
+        ensures distinct { AreDistinct result.0.items }
+        ensures done { IfOk result.1 (λ dones. AreDone shelves.now (lengths passes.items) result.0.items jobs.now dones.items) }
+        ensures refused { IfErr result.1 (λ fault. (told : List Told) × IsRefused shelves.now (lengths passes.items) result.0.items jobs.now told fault) }
+    {
+        let Ok(before) = lengths_of(alloc, &passes) else {
+            return (passes, Err(CrewFault::NoMemory));
+        };
+        let (passes, told) = run(rt, alloc, &mut self.board, shelves, passes, jobs, gate);
+        let result = match told {
+            Ok(dones) => checked(alloc, shelves, before, &passes, jobs, dones),
+            Err(NoMemory) => Err(CrewFault::NoMemory),
+        };
+        (passes, result)
+    }
+}
+
+/// Has the jobs done by one worker for each pass: the first on the thread that calls, and others on threads of their
+/// own where several nodes have jobs that are worth one. The jobs are handed out in order. A worker that the gate stops
+/// does not do the job that it holds, and one that cannot be started does none. The passes come back with each call that
+/// was made, whatever the result is.
 ///
 /// Whatever was told of the jobs, the first result that is not true of the passes is a stranger, and the first that is the
 /// second of its job a double. The one that comes first is the fault, and else the least job without a result.
@@ -42,15 +85,8 @@ pub fn serve_jobs<R: Threads + Wait + Sync, G: Gate>(
     // The list is what the channel brought, of which nothing is known.
     ensures refused { IfErr result.1 (λ fault. (told : List Told) × IsRefused shelves.now (lengths passes.items) result.0.items jobs.now told fault) }
 {
-    let Ok(before) = lengths_of(alloc, &passes) else {
-        return (passes, Err(CrewFault::NoMemory));
-    };
-    let (passes, told) = run(rt, alloc, shelves, passes, jobs, gate);
-    let result = match told {
-        Ok(dones) => checked(alloc, shelves, before, &passes, jobs, dones),
-        Err(NoMemory) => Err(CrewFault::NoMemory),
-    };
-    (passes, result)
+    let mut crew = Crew::new();
+    crew.serve_jobs(rt, alloc, shelves, passes, jobs, gate)
 }
 
 /// Has the workers work, and gives what they tell.
@@ -58,6 +94,7 @@ pub fn serve_jobs<R: Threads + Wait + Sync, G: Gate>(
 fn run<R: Threads + Wait + Sync, G: Gate>(
     rt: &R,
     alloc: Global,
+    kept: &mut Option<Board>,
     shelves: &[Shelf],
     passes: Vec<Pass>,
     jobs: &[Job],
@@ -68,12 +105,15 @@ fn run<R: Threads + Wait + Sync, G: Gate>(
     ensures passes { AllContinue passes.items result.0.items }
     ensures distinct { AreDistinct result.0.items }
 {
-    let board = match Board::new(rt, alloc, jobs.len()) {
+    let Ok(dones) = Vec::with_capacity(alloc, jobs.len()) else {
+        return (passes, Err(NoMemory));
+    };
+    let board = match Board::ready(rt, alloc, kept, jobs.len()) {
         Ok(board) => board,
         Err(refused) => return (passes, Err(refused)),
     };
     let passes = work_all(rt, gate, shelves, jobs, &board, passes);
-    (passes, board.results(rt))
+    (passes, board.results(rt, kept, jobs.len(), dones))
 }
 
 /// The results in the order of the jobs, if each is what became of its job. A result that is not is of a stranger, and

@@ -5,6 +5,7 @@ ghost use Rattle.lw_crew.specs.Continues.{AllContinue, Continues};
 
 use crate::board::Board;
 use crate::job::{Done, Job, Outcome};
+use crate::need::threads_for;
 use crate::truth::shelf_of;
 use lw_held::{Gate, Pass, Shelf};
 use lw_stamp::NoMemory;
@@ -57,7 +58,7 @@ fn do_jobs<R: Wait, G: Gate>(
     ensures { Continues pass.old pass.new }
 {
     for _turn in 0..jobs.len() {
-        let Ok(number) = board.numbers.recv(rt) else {
+        let Ok(number) = board.numbers.try_recv(rt) else {
             return;
         };
         if !gate.start(worker, number) {
@@ -75,6 +76,29 @@ fn do_jobs<R: Wait, G: Gate>(
             return;
         }
     }
+}
+
+/// Has a worker work with each pass, one after another on this thread. The passes come back in order.
+fn work_in_turn<R: Wait, G: Gate>(
+    rt: &R,
+    gate: &G,
+    shelves: &[Shelf],
+    jobs: &[Job],
+    board: &Board,
+    mut passes: Vec<Pass>,
+) -> Vec<Pass>
+    requires { vec_len passes ≤ 8 }
+    ensures all { AllContinue passes.items result.items }
+    ensures room { vec_capacity passes ≤ vec_capacity result }
+{
+    let Some(mut pass) = passes.pop() else {
+        return passes;
+    };
+    let worker = passes.len() as u32;
+    let mut all = work_in_turn(rt, gate, shelves, jobs, board, passes);
+    do_jobs(rt, gate, shelves, jobs, board, worker, &mut pass);
+    all.push_reserved(pass);
+    all
 }
 
 /// What a worker does on a thread of its own; nothing where it is the one that could not be started.
@@ -123,7 +147,13 @@ fn start<'s, E, R: Threads + Wait + Sync, G: Gate>(
     }
 }
 
-/// Has a worker work with each pass, the first on this thread. The passes come back in order.
+/// Whether the worker has a thread of its own, among so many with the one that calls.
+fn has_own_thread(worker: u32, threads: u32) -> bool {
+    worker != 0 && worker < threads
+}
+
+/// Has a worker work with each pass: as many as there are threads at once, the first on this thread and the others each
+/// on its own, and then the rest one after another on this one. The passes come back in order.
 fn work_with<'s, E, R: Threads + Wait + Sync, G: Gate>(
     scope: &Scope<'s, E>,
     rt: &'s R,
@@ -131,6 +161,7 @@ fn work_with<'s, E, R: Threads + Wait + Sync, G: Gate>(
     shelves: &'s [Shelf],
     jobs: &'s [Job],
     board: &'s Board,
+    threads: u32,
     mut passes: Vec<Pass>,
 ) -> Vec<Pass>
     requires { vec_len passes ≤ 8 }
@@ -140,22 +171,15 @@ fn work_with<'s, E, R: Threads + Wait + Sync, G: Gate>(
     let Some(mut pass) = passes.pop() else {
         return passes;
     };
-    if passes.is_empty() {
-        do_jobs(rt, gate, shelves, jobs, board, 0, &mut pass);
-        passes.push_reserved(pass);
-        return passes;
+    let worker = passes.len() as u32;
+    if !has_own_thread(worker, threads) {
+        let mut back = work_with(scope, rt, gate, shelves, jobs, board, threads, passes);
+        do_jobs(rt, gate, shelves, jobs, board, worker, &mut pass);
+        back.push_reserved(pass);
+        return back;
     }
-    let started = start(
-        scope,
-        rt,
-        gate,
-        shelves,
-        jobs,
-        board,
-        passes.len() as u32,
-        pass,
-    );
-    let mut back = work_with(scope, rt, gate, shelves, jobs, board, passes);
+    let started = start(scope, rt, gate, shelves, jobs, board, worker, pass);
+    let mut back = work_with(scope, rt, gate, shelves, jobs, board, threads, passes);
     let last = match started {
         Ok(handle) => handle.join(rt),
         Err(pass) => pass,
@@ -164,8 +188,8 @@ fn work_with<'s, E, R: Threads + Wait + Sync, G: Gate>(
     back
 }
 
-/// Has a worker work with each pass, the first on this thread and each other on its own. A worker that cannot be started
-/// does nothing. The passes come back in order.
+/// Has a worker work with each pass, on as many threads as the jobs need. A worker that cannot be started does nothing.
+/// The passes come back in order.
 pub(crate) fn work_all<R: Threads + Wait + Sync, G: Gate>(
     rt: &R,
     gate: &G,
@@ -177,12 +201,16 @@ pub(crate) fn work_all<R: Threads + Wait + Sync, G: Gate>(
     requires { vec_len passes ≤ 8 }
     ensures { AllContinue passes.items result.items }
 {
+    let threads = threads_for(jobs);
+    if threads == 1 || passes.len() == 1 {
+        return work_in_turn(rt, gate, shelves, jobs, board, passes);
+    }
     thread::scope(
         thread::scope_env(),
         rt,
         |scope| -> Vec<Pass>
             requires { vec_len passes ≤ 8 }
             ensures { AllContinue passes.items result.items }
-        { work_with(scope, rt, gate, shelves, jobs, board, passes) },
+        { work_with(scope, rt, gate, shelves, jobs, board, threads, passes) },
     )
 }

@@ -7,16 +7,17 @@ ghost use Rattle.lw_serve.specs.Volumes.{AreOfNodes};
 
 use crate::cutting::cut_journals;
 use crate::plan::Plan;
-use lw_crew::{CrewFault, Done, Job, serve_jobs};
+use lw_crew::{Crew, CrewFault, Done, Job};
 use lw_held::{NoGate, Pass, Settled, Shelf, Unsettled, Volume, set_up, settle};
 use lw_stamp::NoMemory;
 use std::alloc::Global;
 use std::sync::Wait;
 use std::thread::Threads;
 
-/// Nodes behind locks, the passes of the workers that call them, and what was cut off the journals.
+/// Nodes behind locks, the workers that call them, with their passes, and what was cut off the journals.
 #[derive(Drop)]
 pub(crate) struct Nodes {
+    crew: Crew,
     shelves: Vec<Shelf>,
     passes: Vec<Pass>,
     volumes: Vec<Volume>,
@@ -40,6 +41,7 @@ impl Nodes {
     {
         let (shelves, passes) = set_up(alloc, plan.nodes, plan.workers)?;
         Ok(Nodes {
+            crew: Crew::new(),
             shelves,
             passes,
             volumes: Vec::new(alloc),
@@ -74,14 +76,16 @@ impl Nodes {
         ensures served { IfOk result (λ r. Serves self.shelves.items self.passes.items r.0.passes.items jobs.now r.1.items) }
     {
         let Nodes {
+            mut crew,
             shelves,
             passes,
             volumes,
             due,
         } = self;
-        let (passes, result) = serve_jobs(rt, alloc, &shelves, passes, jobs, &NoGate);
+        let (passes, result) = crew.serve_jobs(rt, alloc, &shelves, passes, jobs, &NoGate);
         let dones = result?;
         let nodes = Nodes {
+            crew,
             shelves,
             passes,
             volumes,
@@ -97,6 +101,7 @@ impl Nodes {
         ensures passes { result.passes ≡ self.passes }
     {
         let Nodes {
+            crew,
             shelves,
             passes,
             mut volumes,
@@ -104,6 +109,7 @@ impl Nodes {
         } = self;
         cut_journals(rt, &shelves, all, &mut due, &mut volumes);
         Nodes {
+            crew,
             shelves,
             passes,
             volumes,

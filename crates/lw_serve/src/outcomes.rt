@@ -6,7 +6,6 @@ ghost use Rattle.lw_serve.specs.Plan.{AreNodes};
 ghost use Rattle.lw_serve.specs.Outcomes.{change_after as next_change, is_merge as is_merge_call, is_out_of_memory as tells_no_memory, merges_after, merges_after_all, part_at, refused_merge as merge_refused, refused_merges as merges_refused, reply_in as reply_told, sent_at, sent_of as sent_in, wants_memory as lacks_memory};
 
 use crate::jobs::put_merges;
-use bytes::Bytes;
 use lw_crew::{Done, Job, Outcome};
 use lw_held::{Part, Pass};
 use lw_node::{Call, MergeFault, Reply, Sent};
@@ -78,7 +77,6 @@ fn change_of(passes: &[Pass], outcome: Outcome) -> Option<u64>
 
 /// Puts the merges of what was sent behind the jobs.
 pub(crate) fn put_all_merges(
-    alloc: Global,
     nodes: u16,
     passes: &[Pass],
     dones: &[Done],
@@ -88,13 +86,12 @@ pub(crate) fn put_all_merges(
     ensures { OnOk result (jobs.new.items ≡ jobs.old.items ++ merges_after_all nodes passes.now dones.now) }
 {
     for done in dones {
-        put_merges_after(alloc, nodes, passes, done, jobs)?;
+        put_merges_after(nodes, passes, done, jobs)?;
     }
     Ok(())
 }
 
 fn put_merges_after(
-    alloc: Global,
     nodes: u16,
     passes: &[Pass],
     done: &Done,
@@ -109,8 +106,7 @@ fn put_merges_after(
     let Some(sent) = sent_of(&part.entry.reply) else {
         return Ok(());
     };
-    let delta = Bytes::copy_from_slice(alloc, &sent.delta)?;
-    put_merges(jobs, nodes, part.node, &delta)
+    put_merges(jobs, nodes, part.node, &sent.delta)
 }
 
 /// The merges among the jobs that found no memory, in job order.

@@ -75,7 +75,7 @@ impl Server {
         let sends = send_jobs(alloc, &since)?;
         let (nodes, sent) = nodes.serve(rt, alloc, &sends)?;
         let since = changes_after(alloc, &since, nodes.passes(), &sent)?;
-        put_all_merges(alloc, count, nodes.passes(), &sent, &mut kept)?;
+        put_all_merges(count, nodes.passes(), &sent, &mut kept)?;
         Ok(Server { nodes, kept, since })
     }
 

@@ -33,10 +33,25 @@ impl UdpWire {
         }
         Ok(())
     }
+
+    /// Sends a datagram, or tells that it would have to wait for that.
+    fn is_sent(&self, to: Addr, bytes: &[u8]) -> Result<bool, WireFault> {
+        match self.socket.send_to(bytes, socket_address_of(&to)) {
+            Ok(count) if count == bytes.len() => Ok(true),
+            Err(error) if error.kind() == ErrorKind::WouldBlock => Ok(false),
+            _ => Err(WireFault),
+        }
+    }
 }
 
 impl Wire for UdpWire {
     fn wait(&mut self, buffer: &mut [u8]) -> Result<(usize, Addr), WireFault> {
+        // Where a run is busy, the next datagram is there already.
+        if !self.waits {
+            if let Some(there) = self.more(buffer)? {
+                return Ok(there);
+            }
+        }
         self.set_waits(true).map_err(|_| WireFault)?;
         match self.socket.recv_from(buffer) {
             Ok((length, from)) => Ok((length, address_of(&from))),
@@ -56,10 +71,15 @@ impl Wire for UdpWire {
     }
 
     fn send(&mut self, to: Addr, bytes: &[u8]) -> Result<(), WireFault> {
+        if self.is_sent(to, bytes)? {
+            return Ok(());
+        }
+        // The system has no room for it now, and the socket may not have waited for that.
         self.set_waits(true).map_err(|_| WireFault)?;
-        match self.socket.send_to(bytes, socket_address_of(&to)) {
-            Ok(count) if count == bytes.len() => Ok(()),
-            _ => Err(WireFault),
+        if self.is_sent(to, bytes)? {
+            Ok(())
+        } else {
+            Err(WireFault)
         }
     }
 }

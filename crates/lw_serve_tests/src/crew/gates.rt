@@ -184,8 +184,8 @@ fn three_workers_do_jobs_at_once_and_in_order(rt: HostRuntime) -> Result<(), Fai
     same(counted?.as_str(), "(0, 9, 9, 9)")
 }
 
-/// Watches two workers that call one node. The first call stays inside for a while when the other worker has its job,
-/// and then, when it was answered, waits until the other is inside.
+/// Watches two workers that call the first node. The first call stays inside for a while when the other worker has its
+/// job, and then, when it was answered, waits until the other is inside.
 #[derive(Drop)]
 struct Turns<'a, C: Clock + Sync> {
     clock: &'a C,
@@ -203,8 +203,8 @@ impl<C: Clock + Sync> Gate for Turns<'_, C> {
         true
     }
 
-    fn inside(&self, _node: u16, _pass: u32) {
-        if self.inside.add_one() > 0 {
+    fn inside(&self, node: u16, _pass: u32) {
+        if node != 1 || self.inside.add_one() > 0 {
             return;
         }
         if !self.started.comes_to(self.clock, 2) {
@@ -216,8 +216,8 @@ impl<C: Clock + Sync> Gate for Turns<'_, C> {
         }
     }
 
-    fn answered(&self, _node: u16, _pass: u32) {
-        if !self.inside.comes_to(self.clock, 2) {
+    fn answered(&self, node: u16, _pass: u32) {
+        if node == 1 && !self.inside.comes_to(self.clock, 2) {
             self.lost.add_one();
         }
     }
@@ -232,7 +232,8 @@ fn a_call_is_alone_inside_and_answered_after_the_lock(rt: HostRuntime) -> Result
         met: Count::new(),
         lost: Count::new(),
     };
-    let played = played(&rt, rt.alloc(), 1, 2, &[1, 1], &gate);
+    // A third job, at another node, is what the second worker has its thread for.
+    let played = played(&rt, rt.alloc(), 2, 2, &[1, 1, 2], &gate);
     let (met, lost) = (gate.met.get(), gate.lost.get());
     drop(gate);
     let lines = played?;
@@ -240,6 +241,45 @@ fn a_call_is_alone_inside_and_answered_after_the_lock(rt: HostRuntime) -> Result
     holds("the lock is let go", lost == 0)?;
     holds(
         "both settle",
-        lines.ends_with("\n2 passes, 2 parts, Ok(Settled)"),
+        lines.ends_with("\n2 passes, 3 parts, Ok(Settled)"),
+    )
+}
+
+/// Stays inside for a while, and counts what other workers than the first start.
+#[derive(Drop)]
+struct Lingers<'a, C: Clock + Sync> {
+    clock: &'a C,
+    others: Count,
+}
+
+impl<C: Clock + Sync> Gate for Lingers<'_, C> {
+    fn start(&self, worker: u32, _job: u64) -> bool {
+        if worker != 0 {
+            self.others.add_one();
+        }
+        true
+    }
+
+    fn inside(&self, _node: u16, _pass: u32) {
+        thread::sleep(self.clock, Duration::from_millis(100));
+    }
+
+    fn answered(&self, _node: u16, _pass: u32) {}
+}
+
+#[test]
+fn jobs_at_one_node_are_done_on_one_thread(rt: HostRuntime) -> Result<(), Fail> {
+    let gate = Lingers {
+        clock: &rt,
+        others: Count::new(),
+    };
+    let played = played(&rt, rt.alloc(), 2, 3, &[2, 2, 2], &gate);
+    let others = gate.others.get();
+    drop(gate);
+    let lines = played?;
+    holds("the first worker alone", others == 0)?;
+    holds(
+        "all settle",
+        lines.ends_with("\n3 passes, 3 parts, Ok(Settled)"),
     )
 }

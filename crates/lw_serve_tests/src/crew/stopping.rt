@@ -29,3 +29,28 @@ fn one_stopped_worker_leaves_what_comes_behind(rt: HostRuntime) -> Result<(), Fa
     let two = "Missing { job: 2 }\n1 passes, 2 parts, Ok(Settled)";
     is_played(&rt, rt.alloc(), 1, 1, &[1, 1, 1], &Refuses(2), two)
 }
+
+/// What a crew does with three jobs when it was stopped at the second of them before.
+fn done_after_a_stop<R: Threads + Wait + Sync>(rt: &R, alloc: Global) -> Result<String, Fail> {
+    let jobs = registers(alloc, &[1, 1, 1])?;
+    let (shelves, passes) = set_up(alloc, 1, 1)?;
+    let mut crew = Crew::new();
+    let (passes, stopped) = crew.serve_jobs(rt, alloc, &shelves, passes, &jobs, &Refuses(1));
+    let (passes, done) = crew.serve_jobs(rt, alloc, &shelves, passes, &jobs, &NoGate);
+    drop(crew);
+    let is_stopped = matches!(&stopped, Err(CrewFault::Missing { job: 1 }));
+    drop(stopped);
+    let settled = settle_alone(rt, &shelves, &passes);
+    let lines = told(alloc, &passes, &done, settled)?;
+    holds("stopped at the second job", is_stopped)?;
+    Ok(lines)
+}
+
+#[test]
+fn a_crew_goes_on_after_a_stopped_worker(rt: HostRuntime) -> Result<(), Fail> {
+    let want = "0: 1 1 604100048272640d0330303030303030303030303230303031\n\
+         1: 1 2 604100048272640d0330303030303030303030303330303031\n\
+         2: 1 3 604100048272640d0330303030303030303030303430303031\n\
+         1 passes, 4 parts, Ok(Settled)";
+    same(done_after_a_stop(&rt, rt.alloc())?.as_str(), want)
+}

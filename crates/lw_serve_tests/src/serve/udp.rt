@@ -146,6 +146,17 @@ fn a_client_at_another_address_is_told(rt: HostRuntime) -> Result<(), Fail> {
     is_there(&rt, &mut wire, at, &client, from)
 }
 
+/// The socket does not wait once it was asked for what is there.
+#[test]
+fn a_wire_that_did_not_wait_waits_and_sends(rt: HostRuntime) -> Result<(), Fail> {
+    let (mut wire, at) = wire_at(&rt, "127.0.0.1:0")?;
+    let (client, from) = client_at(&rt, rt.alloc(), [127, 0, 0, 2])?;
+    let nothing = wire.more(&mut [0; 8]);
+    holds("no datagram yet", nothing == Ok(None))?;
+    arrives(&mut wire, from, &client)?;
+    is_waited_for(&mut wire, at, &client, from)
+}
+
 #[test]
 fn a_reply_arrives_at_another_address(rt: HostRuntime) -> Result<(), Fail> {
     let (mut wire, _at) = wire_at(&rt, "127.0.0.1:0")?;

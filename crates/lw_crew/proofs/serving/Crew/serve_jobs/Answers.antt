@@ -5,8 +5,8 @@ use Rattle.lw_crew.specs.declared.job.Done.{Done}
 use Rattle.lw_crew.specs.Jobs.{lengths}
 use Rattle.lw_crew.specs.Refusals.{IsRefused}
 use Rattle.lw_crew.proofs.Refusing.{in_err}
-use Rattle.lw_crew.proofs.serving.serve_jobs.Goals.{in-Ok-told, in-Err}
-use Rattle.lw_crew.proofs.serving.serve_jobs.Goals as goal
+use Rattle.lw_crew.proofs.serving.Crew.serve_jobs.Goals.{in-Ok-told, in-Err}
+use Rattle.lw_crew.proofs.serving.Crew.serve_jobs.Goals as goal
 
 pub returns-clause-refused : goal.returns-clause-refused
 returns-clause-refused g c = elim c.match-told.branch [
