@@ -1,3 +1,4 @@
 pub mod TextLemmas
 pub mod IndexLemmas
 pub mod IndexCalls
+pub mod EntryLemmas

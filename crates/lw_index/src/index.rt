@@ -53,14 +53,12 @@ impl<K: Ord + Drop> Index<K> {
         ensures present { Has K.cmp self.old key endpoint.now → IsOk result × (self.new ≡ self.old) }
         ensures unchanged { OnErr result (self.new ≡ self.old) }
     {
-        match self.entries.get_mut(&key) {
-            Some(endpoints) => endpoints.add(self.alloc, endpoint),
-            None => {
-                let endpoints = Texts::one(self.alloc, endpoint)?;
-                self.entries.insert(key, endpoints)?;
-                Ok(())
-            }
-        }
+        let alloc = self.alloc;
+        let endpoints = self
+            .entries
+            .entry(key)?
+            .or_try_insert_with(|| Texts::one(alloc, endpoint))?;
+        endpoints.add(alloc, endpoint)
     }
 
     /// Takes the endpoint from the key. A key whose last endpoint goes is gone.
