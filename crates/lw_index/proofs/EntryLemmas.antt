@@ -1,5 +1,5 @@
 -- What becomes of an index where the entry of a key, made with one text if it is new, takes the text.
-use Rattle.std.proofs.Common.{◌≡◌, ◌≢◌, ◌⊎◌, ◌↔◌, ℕ, List, [], ◌∷◌, Option, Some, None, Bool, true, false, cond, ◌||◌, Result, Ok, Err, refl, sym, ap, ◌∙◌}
+use Rattle.std.proofs.Common.{◌≡◌, ◌≢◌, ℕ, List, [], ◌∷◌, Option, Some, None, Bool, true, false, cond, ◌||◌, Result, Ok, Err, refl, sym, ap, ◌∙◌}
 use Rattle.std.specs.Prelude.{OnErr, IsOk, bytes_eq}
 use Rattle.std.specs.Option.{UnwrapsOrElse}
 use Rattle.std.specs.declared.cmp.Ordering.{Ordering}
@@ -39,11 +39,6 @@ insert_same cmp o (p ∷ ps) k v rise found =
 -- the list that an entry starts with: what the key had, or the text alone
 abbrev pub Starts : Option (List (List ℕ)) → List ℕ → List (List ℕ) → Type 0
 Starts was bs v = UnwrapsOrElse was (λ (texts : List (List ℕ)). texts ≡ bs ∷ []) v
-
--- as what made the list of a new key says of it
-pub start_of : (P : List (List ℕ) → Type 0) (was : Option (List (List ℕ))) (bs : List ℕ) (v : List (List ℕ)) → UnwrapsOrElse was P v → (P v → v ≡ bs ∷ []) → Starts was bs v
-start_of P None bs v start made = made start
-start_of P (Some texts) bs v start made = start
 
 pub start_some : {K : Type 0} (test : K → Bool) (es : List (K × List (List ℕ))) (was : Option (List (List ℕ))) (bs : List ℕ) (v : List (List ℕ))
     → lookup test es ≡ was → Starts was bs v → EachHasEndpoints es → v ≢ []
