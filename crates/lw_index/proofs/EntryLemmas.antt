@@ -1,5 +1,5 @@
 -- What becomes of an index where the entry of a key, made with one text if it is new, takes the text.
-use Rattle.std.proofs.Common.{◌≡◌, ◌≢◌, ℕ, List, [], ◌∷◌, Option, Some, None, Bool, true, false, cond, ◌||◌, Result, Ok, Err, refl, sym, ap, ◌∙◌}
+use Rattle.std.proofs.Common.{◌≡◌, ◌≢◌, ℕ, List, [], ◌∷◌, Option, Some, None, Bool, true, false, cond, ◌||◌, Result, Ok, Err, refl, sym, ap, ◌∙◌, subst}
 use Rattle.std.specs.Prelude.{OnErr, IsOk, bytes_eq}
 use Rattle.std.specs.Option.{UnwrapsOrElse}
 use Rattle.std.specs.declared.cmp.Ordering.{Ordering}
@@ -76,3 +76,8 @@ module _ {K : Type 0} (cmp : K → K → Ordering) (o : IsTotalOrder cmp) (es ns
       let kept = present (ap (λ l. has_text l bs) start ∙ has_first bs []) in
       absurd (let ok = kept.0 in cc)
   start_refused (Some texts) (Err e) found start present h = put_same texts found start h
+
+-- entries that equal those of an index are those of an index
+pub put_entries : {K : Type 0} (cmp : K → K → Ordering) (ns es : List (K × List (List ℕ))) → ns ≡ es → IsStrictlySortedBy cmp (keys_of es) → EachHasEndpoints es
+    → IsStrictlySortedBy cmp (keys_of ns) × EachHasEndpoints ns
+put_entries cmp ns es same rise each = (subst (λ l. IsStrictlySortedBy cmp (keys_of l)) (sym same) rise, subst EachHasEndpoints (sym same) each)
