@@ -1,5 +1,5 @@
 -- What becomes of an index where the entry of a key, made with one text if it is new, takes the text.
-use Rattle.std.proofs.Common.{◌≡◌, ◌≢◌, ◌⊎◌, ◌↔◌, ℕ, List, [], ◌∷◌, Option, Some, None, Bool, true, false, cond, ◌||◌, Result, Ok, Err, refl, sym, ap, ◌∙◌}
+use Rattle.std.proofs.Common.{◌≡◌, ◌≢◌, ℕ, List, [], ◌∷◌, Option, Some, None, Bool, true, false, cond, ◌||◌, Result, Ok, Err, refl, sym, ap, ◌∙◌, subst}
 use Rattle.std.specs.Prelude.{OnErr, IsOk, bytes_eq}
 use Rattle.std.specs.Option.{UnwrapsOrElse}
 use Rattle.std.specs.declared.cmp.Ordering.{Ordering}
@@ -40,11 +40,6 @@ insert_same cmp o (p ∷ ps) k v rise found =
 abbrev pub Starts : Option (List (List ℕ)) → List ℕ → List (List ℕ) → Type 0
 Starts was bs v = UnwrapsOrElse was (λ (texts : List (List ℕ)). texts ≡ bs ∷ []) v
 
--- as what made the list of a new key says of it
-pub start_of : (P : List (List ℕ) → Type 0) (was : Option (List (List ℕ))) (bs : List ℕ) (v : List (List ℕ)) → UnwrapsOrElse was P v → (P v → v ≡ bs ∷ []) → Starts was bs v
-start_of P None bs v start made = made start
-start_of P (Some texts) bs v start made = start
-
 pub start_some : {K : Type 0} (test : K → Bool) (es : List (K × List (List ℕ))) (was : Option (List (List ℕ))) (bs : List ℕ) (v : List (List ℕ))
     → lookup test es ≡ was → Starts was bs v → EachHasEndpoints es → v ≢ []
 start_some test es None bs v found start each = λ none. absurd cc
@@ -81,3 +76,8 @@ module _ {K : Type 0} (cmp : K → K → Ordering) (o : IsTotalOrder cmp) (es ns
       let kept = present (ap (λ l. has_text l bs) start ∙ has_first bs []) in
       absurd (let ok = kept.0 in cc)
   start_refused (Some texts) (Err e) found start present h = put_same texts found start h
+
+-- entries that equal those of an index are those of an index
+pub put_entries : {K : Type 0} (cmp : K → K → Ordering) (ns es : List (K × List (List ℕ))) → ns ≡ es → IsStrictlySortedBy cmp (keys_of es) → EachHasEndpoints es
+    → IsStrictlySortedBy cmp (keys_of ns) × EachHasEndpoints ns
+put_entries cmp ns es same rise each = (subst (λ l. IsStrictlySortedBy cmp (keys_of l)) (sym same) rise, subst EachHasEndpoints (sym same) each)

@@ -1,4 +1,4 @@
-ghost use Rattle.std.specs.Prelude.{◌≡◌, ◌⊎◌, ◌↔◌, ℕ, List, [], OnOk, OnErr, IsOk};
+ghost use Rattle.std.specs.Prelude.{◌≡◌, ◌⊎◌, ◌↔◌, ℕ, List, [], ◌∷◌, IfOk, OnOk, OnErr, IsOk};
 ghost use Rattle.std.specs.Option.{option_copied};
 ghost use Rattle.std.specs.Cmp.Lexicographic.{slice_cmp};
 ghost use Rattle.std.specs.Ordering.{nat_cmp};
@@ -17,7 +17,7 @@ use std::ops::Bound;
 /// A map from each key to the endpoints that have it, of which there is at least one.
 ///
 /// Keys that compare equal are one key. A call costs a descent of the tree of the keys, a second one where a
-/// key comes or goes, and where a key has several endpoints a descent of their tree, or two where one is added.
+/// key goes, and where a key has several endpoints a descent of their tree, or two where one is added.
 #[derive(Drop)]
 pub struct Index<K: Ord> {
     alloc: Global,
@@ -54,10 +54,11 @@ impl<K: Ord + Drop> Index<K> {
         ensures unchanged { OnErr result (self.new ≡ self.old) }
     {
         let alloc = self.alloc;
-        let endpoints = self
-            .entries
-            .entry(key)?
-            .or_try_insert_with(|| Texts::one(alloc, endpoint))?;
+        let endpoints = self.entries.entry(key)?.or_try_insert_with(
+            ||
+                ensures { IfOk result (λ texts. texts ≡ endpoint.entry.now ∷ []) }
+            { Texts::one(alloc, endpoint) },
+        )?;
         endpoints.add(alloc, endpoint)
     }
 
