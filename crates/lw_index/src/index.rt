@@ -17,7 +17,8 @@ use std::ops::Bound;
 /// A map from each key to the endpoints that have it, of which there is at least one.
 ///
 /// Keys that compare equal are one key. A call costs a descent of the tree of the keys, a second one where a
-/// key goes, and where a key has several endpoints a descent of their tree, or two where one is added.
+/// key goes, one that compares no keys where `add` finds its key, and where a key has several endpoints a
+/// descent of their tree, or two where one is added.
 #[derive(Drop)]
 pub struct Index<K: Ord> {
     alloc: Global,
