@@ -1,0 +1,4 @@
+mod EventLemmas
+mod FleetLemmas
+mod ObserveLemmas
+mod RunLemmas

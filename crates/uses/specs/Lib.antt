@@ -1,0 +1,6 @@
+pub mod Finding
+pub mod Naming
+pub mod Meeting
+pub mod Following
+pub mod Threads
+pub mod Volumes
