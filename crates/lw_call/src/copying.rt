@@ -182,7 +182,8 @@ fn text(alloc: Global, text: &Option<Text>) -> Result<Option<Text>, NoMemory>
 }
 
 fn reply(alloc: Global, reply: &Option<Vec<u8>>) -> Result<Option<Vec<u8>>, NoMemory>
-    ensures value { IfOk result (λ copy. option_map (λ bytes. bytes.items) copy ≡ option_map (λ bytes. bytes.items) reply.now) }
+    ensures value { IfOk result (λ copy.
+        option_map (λ bytes. bytes.items) copy ≡ option_map (λ bytes. bytes.items) reply.now) }
     ensures calm { reply.now ≡ None → IsOk result }
 {
     match reply {

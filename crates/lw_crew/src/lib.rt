@@ -15,4 +15,4 @@ mod work;
 pub use gathering::gather;
 pub use job::{CrewFault, Done, Job, Outcome};
 pub use lw_held::{Gate, NoGate, Pass, Shelf};
-pub use serving::{Crew, serve_jobs};
+pub use serving::Crew;

@@ -1,6 +1,6 @@
 //! Jobs done by workers.
 
-ghost use Rattle.std.specs.Prelude.{◌≡◌, ◌↔◌, ◌≤◌, List, length, vec_len, IfErr, IfOk, IsTrue};
+ghost use Rattle.std.specs.Prelude.{◌≡◌, ◌↔◌, ◌≤◌, List, length, vec_len, IfErr, IfOk, IsTrue, None};
 ghost use Rattle.lw_held.specs.Agree.{AreDistinct};
 ghost use Rattle.lw_held.specs.Shelves.{AreInOrder};
 ghost use Rattle.lw_crew.specs.Continues.{AllContinue};
@@ -27,11 +27,20 @@ pub struct Crew {
 
 impl Crew {
     /// Workers without channels. These are made for the first list of jobs.
-    pub fn new() -> Crew {
+    pub fn new() -> Crew
+        ensures { result.board ≡ None }
+    {
         Crew { board: None }
     }
 
-    /// Does what `serve_jobs` does.
+    /// Has the jobs done by one worker for each pass: the first on the thread that calls, and others on threads of
+    /// their own where several nodes have jobs that are worth one. The jobs are handed out in order. A worker that the
+    /// gate stops does not do the job that it holds, and one that cannot be started does none. The passes come back
+    /// with each call that was made, whatever the result is.
+    ///
+    /// Whatever was told of the jobs, the first result that is not true of the passes is a stranger, and the first that
+    /// is the second of its job a double. The one that comes first is the fault, and else the least job without a
+    /// result.
     pub fn serve_jobs<R: Threads + Wait + Sync, G: Gate>(
         &mut self,
         rt: &R,
@@ -46,8 +55,11 @@ impl Crew {
         requires distinct { AreDistinct passes.items }
         ensures passes { AllContinue passes.items result.0.items }
         ensures distinct { AreDistinct result.0.items }
-        ensures done { IfOk result.1 (λ dones. AreDone shelves.now (lengths passes.items) result.0.items jobs.now dones.items) }
-        ensures refused { IfErr result.1 (λ fault. (told : List Told) × IsRefused shelves.now (lengths passes.items) result.0.items jobs.now told fault) }
+        ensures done { IfOk result.1 (λ dones.
+            AreDone shelves.now (lengths passes.items) result.0.items jobs.now dones.items) }
+        // The list is what the channel brought, of which nothing is known.
+        ensures refused { IfErr result.1 (λ fault. (told : List Told)
+            × IsRefused shelves.now (lengths passes.items) result.0.items jobs.now told fault) }
     {
         let Ok(before) = lengths_of(alloc, &passes) else {
             return (passes, Err(CrewFault::NoMemory));
@@ -59,34 +71,6 @@ impl Crew {
         };
         (passes, result)
     }
-}
-
-/// Has the jobs done by one worker for each pass: the first on the thread that calls, and others on threads of their
-/// own where several nodes have jobs that are worth one. The jobs are handed out in order. A worker that the gate stops
-/// does not do the job that it holds, and one that cannot be started does none. The passes come back with each call that
-/// was made, whatever the result is.
-///
-/// Whatever was told of the jobs, the first result that is not true of the passes is a stranger, and the first that is the
-/// second of its job a double. The one that comes first is the fault, and else the least job without a result.
-pub fn serve_jobs<R: Threads + Wait + Sync, G: Gate>(
-    rt: &R,
-    alloc: Global,
-    shelves: &[Shelf],
-    passes: Vec<Pass>,
-    jobs: &[Job],
-    gate: &G,
-) -> (Vec<Pass>, Result<Vec<Done>, CrewFault>)
-    requires workers { (1 ≤ vec_len passes) × (vec_len passes ≤ 8) }
-    requires shelves { AreInOrder shelves.now }
-    requires distinct { AreDistinct passes.items }
-    ensures passes { AllContinue passes.items result.0.items }
-    ensures distinct { AreDistinct result.0.items }
-    ensures done { IfOk result.1 (λ dones. AreDone shelves.now (lengths passes.items) result.0.items jobs.now dones.items) }
-    // The list is what the channel brought, of which nothing is known.
-    ensures refused { IfErr result.1 (λ fault. (told : List Told) × IsRefused shelves.now (lengths passes.items) result.0.items jobs.now told fault) }
-{
-    let mut crew = Crew::new();
-    crew.serve_jobs(rt, alloc, shelves, passes, jobs, gate)
 }
 
 /// Has the workers work, and gives what they tell.

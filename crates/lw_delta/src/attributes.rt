@@ -71,7 +71,8 @@ pub(crate) fn next_attribute<'a>(
     after: Option<&str>,
     bytes: &'a [u8],
 ) -> Result<(Option<LentAttribute<'a>>, &'a [u8]), DeltaFault>
-    ensures found { IfOk result (λ x. Found (optional (attribute_part clock (option_copied after.entry))) bytes.now x.0 x.1.now) }
+    ensures found { IfOk result (λ x.
+        Found (optional (attribute_part clock (option_copied after.entry))) bytes.now x.0 x.1.now) }
     ensures fault { IfErr result (Fails (optional (attribute_part clock (option_copied after.entry))) bytes.now) }
 {
     let (present, rest) = tag(bytes)?;
@@ -84,7 +85,8 @@ pub(crate) fn next_attribute<'a>(
 
 /// Walks all attributes, takes no memory, and tells how many they are. What stands behind them is left.
 pub(crate) fn check_attributes(clock: u64, bytes: &[u8]) -> Result<(usize, &[u8]), DeltaFault>
-    ensures found { IfOk result (λ x. (es : List (List ℕ × Lasts (List ℕ))) × Found (attributes_part clock) bytes.now es x.1.now × (x.0 ≡ length es)) }
+    ensures found { IfOk result (λ x. (es : List (List ℕ × Lasts (List ℕ)))
+        × Found (attributes_part clock) bytes.now es x.1.now × (x.0 ≡ length es)) }
     ensures fault { IfErr result (Fails (attributes_part clock) bytes.now) }
 {
     let mut count = 0;

@@ -33,7 +33,8 @@ fn check_attributes_if(
     clock: u64,
     bytes: &[u8],
 ) -> Result<(usize, &[u8]), DeltaFault>
-    ensures found { IfOk result (λ x. (es : Option (List (List ℕ × Lasts (List ℕ)))) × Found (when present (attributes_part clock)) bytes.now es x.1.now) }
+    ensures found { IfOk result (λ x. (es : Option (List (List ℕ × Lasts (List ℕ))))
+        × Found (when present (attributes_part clock)) bytes.now es x.1.now) }
     ensures fault { IfErr result (Fails (when present (attributes_part clock)) bytes.now) }
 {
     if !present {
@@ -44,7 +45,8 @@ fn check_attributes_if(
 
 /// Up to which stamp what was seen is over, and what stands behind it. A format may not tell.
 fn ended_if(present: bool, clock: u64, bytes: &[u8]) -> Result<(Option<Stamp>, &[u8]), DeltaFault>
-    ensures found { IfOk result (λ x. (said : Option (Option Stamps)) × Found (when present (ended_part clock)) bytes.now said x.1.now × (x.0 ≡ end_from said)) }
+    ensures found { IfOk result (λ x. (said : Option (Option Stamps))
+        × Found (when present (ended_part clock)) bytes.now said x.1.now × (x.0 ≡ end_from said)) }
     ensures fault { IfErr result (Fails (when present (ended_part clock)) bytes.now) }
 {
     if !present {

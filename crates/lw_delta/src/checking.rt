@@ -69,7 +69,8 @@ fn walked_clock(bytes: &[u8]) -> Result<u64, DeltaFault>
 /// The sender's clock, where the bytes are a delta. It takes no memory, so `NoMemory` is never answered.
 pub fn check(bytes: &[u8]) -> Result<u64, DeltaFault>
     // What is accepted is a delta with this clock.
-    ensures found { IfOk result (λ clock. (slots : List (List ℕ × Slots)) × IsSpelling bytes.now (record { clock = clock; slots = slots })) }
+    ensures found { IfOk result (λ clock. (slots : List (List ℕ × Slots))
+        × IsSpelling bytes.now (record { clock = clock; slots = slots })) }
     // A delta is accepted.
     ensures only { (d : DeltaContent) → IsSpelling bytes.now d → result ≡ Ok d.clock }
     // Each fault is answered exactly where it is the first, and want of memory is none.

@@ -37,7 +37,8 @@ impl<'a> Model for Reader<'a> {
     ghost view = { λ r. record { form = r.form; clock = r.clock; after = option_copied r.after; bytes = r.rest.now } };
 
     // slots are left, and nothing stands behind them
-    ghost invariant = { λ r. (slots : List (List ℕ × Slot)) × IsLeft (record { form = r.form; clock = r.clock; after = option_copied r.after; bytes = r.rest.now }) slots };
+    ghost invariant = { λ r. (slots : List (List ℕ × Slot))
+        × IsLeft (record { form = r.form; clock = r.clock; after = option_copied r.after; bytes = r.rest.now }) slots };
 }
 
 impl<'a> Reader<'a> {
@@ -45,9 +46,11 @@ impl<'a> Reader<'a> {
     /// left.
     pub fn new(alloc: Global, bytes: &'a [u8]) -> Result<Reader<'a>, DeltaFault>
         // What is accepted is a delta of this clock and these slots.
-        ensures found { IfOk result (λ reader. (slots : List (List ℕ × Slots)) × IsLeft reader slots × IsSpelling bytes.now (record { clock = reader.clock; slots = slots })) }
+        ensures found { IfOk result (λ reader. (slots : List (List ℕ × Slots)) × IsLeft reader slots
+            × IsSpelling bytes.now (record { clock = reader.clock; slots = slots })) }
         // A delta is accepted.
-        ensures only { (d : DeltaContent) → IsSpelling bytes.now d → IsOkAnd result (λ reader. (reader.clock ≡ d.clock) × IsLeft reader d.slots) }
+        ensures only { (d : DeltaContent) → IsSpelling bytes.now d
+            → IsOkAnd result (λ reader. (reader.clock ≡ d.clock) × IsLeft reader d.slots) }
         // Each fault is answered exactly where it is the first.
         ensures faults { (fault : Faults) → (result ≡ Err fault) ↔ IsFault bytes.now fault }
         ensures memory { result ≢ Err Faults.NoMemory }
@@ -60,7 +63,8 @@ impl<'a> Reader<'a> {
 
     /// All slots of a delta that was walked.
     pub(crate) fn of(alloc: Global, walked: Walked<'a>) -> Reader<'a>
-        requires { (slots : List (List ℕ × Slots)) × Found (slots_part walked.form walked.clock) walked.slots.now slots [] }
+        requires { (slots : List (List ℕ × Slots))
+            × Found (slots_part walked.form walked.clock) walked.slots.now slots [] }
         ensures { result ≡ unread_of walked.entry }
     {
         Reader {
@@ -82,7 +86,8 @@ impl<'a> Reader<'a> {
     /// The next slot and its endpoint, or none at the end. Refused, the slot is still left.
     pub fn next(&mut self) -> Result<Option<(Endpoint, Slot)>, NoMemory>
         ensures clock { self.new.clock ≡ self.old.clock }
-        ensures next { (slots : List (List ℕ × Slots)) → IsLeft self.old slots → IfOk result (λ entry. Leaves slots entry self.new) }
+        ensures next { (slots : List (List ℕ × Slots)) → IsLeft self.old slots
+            → IfOk result (λ entry. Leaves slots entry self.new) }
         ensures shorter { IfOk result (λ entry. OnSome entry (length self.new.bytes < length self.old.bytes)) }
         ensures refused { OnErr result (self.new ≡ self.old) }
         // The end takes no memory.

@@ -85,7 +85,8 @@ fn attribute_entries(
     bytes: &[u8],
 ) -> Result<Vec<(Text, Last<Text>)>, DeltaFault>
     ensures found { IfOk result (λ es. (rest : List ℕ) × Found (attributes_part clock) bytes.now es.items rest) }
-    ensures fault { IfErr result (λ fault. (fault ≡ DeltaFault.NoMemory) ⊎ Fails (attributes_part clock) bytes.now fault) }
+    ensures fault { IfErr result (λ fault. (fault ≡ DeltaFault.NoMemory)
+        ⊎ Fails (attributes_part clock) bytes.now fault) }
 {
     let mut entries = Vec::with_capacity(alloc, count)?;
     let mut after = None;
@@ -110,8 +111,11 @@ fn attributes(
     count: usize,
     bytes: &[u8],
 ) -> Result<Parts<Text, Last<Text>>, DeltaFault>
-    requires { (es : Option (List (List ℕ × Lasts (List ℕ)))) × (rest : List ℕ) × Found (when present (attributes_part clock)) bytes.now es rest }
-    ensures value { (es : Option (List (List ℕ × Lasts (List ℕ)))) (rest : List ℕ) → Found (when present (attributes_part clock)) bytes.now es rest → IfOk result (λ parts. parts ≡ made (list_or_none es)) }
+    requires { (es : Option (List (List ℕ × Lasts (List ℕ)))) × (rest : List ℕ)
+        × Found (when present (attributes_part clock)) bytes.now es rest }
+    ensures value { (es : Option (List (List ℕ × Lasts (List ℕ)))) (rest : List ℕ)
+        → Found (when present (attributes_part clock)) bytes.now es rest
+        → IfOk result (λ parts. parts ≡ made (list_or_none es)) }
     ensures fault { IfErr result (λ fault. fault ≡ DeltaFault.NoMemory) }
 {
     if !present {
@@ -156,7 +160,8 @@ fn parts(
     bytes: &[u8],
 ) -> Result<Parts<Path, Watching>, DeltaFault>
     requires { (ws : List (Paths × Watchings)) × (rest : List ℕ) × Found (watches_part clock) bytes.now ws rest }
-    ensures value { (ws : List (Paths × Watchings)) (rest : List ℕ) → Found (watches_part clock) bytes.now ws rest → IfOk result (λ parts. parts ≡ made ws) }
+    ensures value { (ws : List (Paths × Watchings)) (rest : List ℕ) → Found (watches_part clock) bytes.now ws rest
+        → IfOk result (λ parts. parts ≡ made ws) }
     ensures fault { IfErr result (λ fault. fault ≡ DeltaFault.NoMemory) }
 {
     let entries = watches(alloc, clock, count, bytes)?;
@@ -174,7 +179,8 @@ fn maps(
     lent: LentBehind,
 ) -> Result<Both<Text, Last<Text>, Path, Watching>, DeltaFault>
     requires { (more : Behinds) × Told form clock lent more }
-    ensures value { (more : Behinds) → Told form clock lent.entry more → IfOk result (λ maps. maps ≡ maps_of (made more.attributes) (made more.watches)) }
+    ensures value { (more : Behinds) → Told form clock lent.entry more
+        → IfOk result (λ maps. maps ≡ maps_of (made more.attributes) (made more.watches)) }
     ensures fault { IfErr result (λ fault. fault ≡ DeltaFault.NoMemory) }
 {
     let present = has_attributes(form);
@@ -192,7 +198,8 @@ fn fields(
     ended: Option<Stamp>,
     maps: Both<Text, Last<Text>, Path, Watching>,
 ) -> Result<Fields, NoMemory>
-    ensures { (more : Behinds) → ended ≡ more.ended → maps ≡ maps_of (made more.attributes) (made more.watches) → IfOk result (λ fields. fields ≡ all_fields lent.entry more) }
+    ensures { (more : Behinds) → ended ≡ more.ended → maps ≡ maps_of (made more.attributes) (made more.watches)
+        → IfOk result (λ fields. fields ≡ all_fields lent.entry more) }
 {
     let writes = FieldWrites {
         base: lent.base,
@@ -219,7 +226,8 @@ fn kept_fields(
     lent: LentSlot,
 ) -> Result<Option<Fields>, DeltaFault>
     requires { (more : Behinds) × Holds form clock lent more }
-    ensures value { (more : Behinds) → Holds form clock lent.entry more → IfOk result (λ fields. fields ≡ fields_from lent.entry.removed lent.entry.fields more) }
+    ensures value { (more : Behinds) → Holds form clock lent.entry more
+        → IfOk result (λ fields. fields ≡ fields_from lent.entry.removed lent.entry.fields more) }
     ensures fault { IfErr result (λ fault. fault ≡ DeltaFault.NoMemory) }
 {
     if lent.removed {
@@ -239,7 +247,8 @@ pub(crate) fn slot(
     lent: LentSlot,
 ) -> Result<(Endpoint, Slot), DeltaFault>
     requires { (more : Behinds) × Holds form clock lent more }
-    ensures value { (more : Behinds) → Holds form clock lent.entry more → IfOk result (λ x. x ≡ lent_slot lent.entry more) }
+    ensures value { (more : Behinds) → Holds form clock lent.entry more
+        → IfOk result (λ x. x ≡ lent_slot lent.entry more) }
     ensures fault { IfErr result (λ fault. fault ≡ DeltaFault.NoMemory) }
 {
     let endpoint = Endpoint::copy_of(alloc, lent.endpoint)?;

@@ -96,7 +96,8 @@ pub(crate) fn check_slots(
     clock: u64,
     bytes: &[u8],
 ) -> Result<(usize, &[u8]), DeltaFault>
-    ensures found { IfOk result (λ x. (ss : List (List ℕ × Slots)) × Found (slots_part form clock) bytes.now ss x.1.now × (x.0 ≡ length ss)) }
+    ensures found { IfOk result (λ x. (ss : List (List ℕ × Slots))
+        × Found (slots_part form clock) bytes.now ss x.1.now × (x.0 ≡ length ss)) }
     ensures fault { IfErr result (Fails (slots_part form clock) bytes.now) }
 {
     let mut count = 0;

@@ -130,7 +130,8 @@ pub(crate) fn next_watch(
 
 /// Walks all watches, takes no memory, and tells how many they are. What stands behind them is left.
 pub(crate) fn check_watches(clock: u64, bytes: &[u8]) -> Result<(usize, &[u8]), DeltaFault>
-    ensures found { IfOk result (λ x. (ws : List (Paths × Watchings)) × Found (watches_part clock) bytes.now ws x.1.now × (x.0 ≡ length ws)) }
+    ensures found { IfOk result (λ x. (ws : List (Paths × Watchings))
+        × Found (watches_part clock) bytes.now ws x.1.now × (x.0 ≡ length ws)) }
     ensures fault { IfErr result (Fails (watches_part clock) bytes.now) }
 {
     let mut count = 0;

@@ -40,13 +40,15 @@ impl Model for Writer {
     ghost view = { λ w. record { clock = w.clock; bytes = w.bytes.items } };
 
     // slots were written, one after another
-    ghost invariant = { λ w. (slots : List (List ℕ × Slot)) × IsBegun (record { clock = w.clock; bytes = w.bytes.items }) slots };
+    ghost invariant = { λ w. (slots : List (List ℕ × Slot))
+        × IsBegun (record { clock = w.clock; bytes = w.bytes.items }) slots };
 }
 
 /// Makes room for a slot of common length, and writes the slot. Refused, a prefix of it may be there.
 fn put_with_room(out: &mut Vec<u8>, endpoint: &str, slot: &Slot) -> Result<(), NoMemory>
     requires { IsEndpoint endpoint.now }
-    ensures written { OnOk result (out.new.items ≡ out.old.items ++ 1 ∷ slot_bytes latest_form (endpoint.now, slot.now)) }
+    ensures written { OnOk result (out.new.items ≡ out.old.items
+        ++ 1 ∷ slot_bytes latest_form (endpoint.now, slot.now)) }
     ensures typed { OnOk result (IsTyped slot.now) }
     ensures named { OnOk result (IsOwnText endpoint.now) }
     ensures kept { Begins out.old.items out.new.items }
@@ -72,10 +74,12 @@ impl Writer {
     /// stamp of the slot is above the clock.
     pub fn slot(&mut self, endpoint: &str, slot: &Slot) -> Result<(), NoMemory>
         requires named { IsEndpoint endpoint.now }
-        requires above { (slots : List (List ℕ × Slots)) → IsBegun self.old slots → IsAbove text_cmp (last_endpoint slots) endpoint.now }
+        requires above { (slots : List (List ℕ × Slots)) → IsBegun self.old slots
+            → IsAbove text_cmp (last_endpoint slots) endpoint.now }
         requires within { StampsWithin self.old.clock slot.now }
         ensures clock { self.new.clock ≡ self.old.clock }
-        ensures begun { (slots : List (List ℕ × Slots)) → IsBegun self.old slots → OnOk result (IsBegun self.new (slots ++ (endpoint.now, slot.now) ∷ [])) }
+        ensures begun { (slots : List (List ℕ × Slots)) → IsBegun self.old slots
+            → OnOk result (IsBegun self.new (slots ++ (endpoint.now, slot.now) ∷ [])) }
         // Refused, it is unchanged.
         ensures refused { OnErr result (self.new ≡ self.old) }
     {
@@ -91,11 +95,14 @@ impl Writer {
 
     /// The bytes of the delta. Refused, the writer is given up.
     pub fn end(self) -> Result<Vec<u8>, NoMemory>
-        ensures written { (slots : List (List ℕ × Slots)) → IsBegun self slots → IfOk result (λ bytes. bytes.items ≡ delta_bytes self.clock slots) }
+        ensures written { (slots : List (List ℕ × Slots)) → IsBegun self slots
+            → IfOk result (λ bytes. bytes.items ≡ delta_bytes self.clock slots) }
         // They are a delta of the clock and of the slots that were written.
-        ensures spelled { (slots : List (List ℕ × Slots)) → IsBegun self slots → IfOk result (λ bytes. IsSpelling bytes.items (record { clock = self.clock; slots = slots })) }
+        ensures spelled { (slots : List (List ℕ × Slots)) → IsBegun self slots
+            → IfOk result (λ bytes. IsSpelling bytes.items (record { clock = self.clock; slots = slots })) }
         // Whatever was written before, they are a delta of the clock.
-        ensures whole { IfOk result (λ bytes. (slots : List (List ℕ × Slots)) × IsSpelling bytes.items (record { clock = self.clock; slots = slots })) }
+        ensures whole { IfOk result (λ bytes. (slots : List (List ℕ × Slots))
+            × IsSpelling bytes.items (record { clock = self.clock; slots = slots })) }
     {
         let mut bytes = self.bytes;
         bytes.push(0)?;

@@ -162,7 +162,8 @@ impl<'a> Put for &'a LinkText {
 
 fn put_sms(out: &mut Vec<u8>, slot: &Slot) -> Result<(), NoMemory>
     ensures written { OnOk result (out.new.items ≡ out.old.items ++ written_bytes sms_bytes (sms_of slot.now)) }
-    ensures typed { OnOk result (IfSome (sms_of slot.now) (λ w. IfSome w.1 (λ text. IsOwnText text × (length text ≤ 251)))) }
+    ensures typed { OnOk result (IfSome (sms_of slot.now) (λ w. IfSome w.1 (λ text. IsOwnText text
+        × (length text ≤ 251)))) }
     ensures kept { Begins out.old.items out.new.items }
 {
     put_present(out, slot.sms())

@@ -260,7 +260,8 @@ fn options_in<'a>(matches: &ArgMatches<'a>) -> Result<OneOptions<'a>, BadNumber>
 
 fn serve_options_in(matches: &ArgMatches<'_>) -> Result<ServeOptions, BadNumber>
     ensures given { IfOk result (IsGivenToServe (option_rows (subcommand_rows_of matches.now))) }
-    ensures none { OnErr result ((o : ServingOptions) → ¬ IsGivenToServe (option_rows (subcommand_rows_of matches.now)) o) }
+    ensures none { OnErr result ((o : ServingOptions)
+        → ¬ IsGivenToServe (option_rows (subcommand_rows_of matches.now)) o) }
 {
     let Some(count) = number_within(text_of(matches, "count", ""), 1, 1_000_000) else {
         return Err(BadNumber::Count);
@@ -283,8 +284,10 @@ fn serve_options_in(matches: &ArgMatches<'_>) -> Result<ServeOptions, BadNumber>
 
 /// After how many rounds the journals are cut, if that is given.
 fn cut_in(matches: &ArgMatches<'_>) -> Result<Option<u32>, BadNumber>
-    ensures given { IfOk result (λ cut. WritesIfGiven (first_of (codes "cut") (option_rows (subcommand_rows_of matches.now))) cut × IsCut cut) }
-    ensures none { OnErr result ((cut : Option ℕ) → IsCut cut → ¬ WritesIfGiven (first_of (codes "cut") (option_rows (subcommand_rows_of matches.now))) cut) }
+    ensures given { IfOk result (λ cut.
+        WritesIfGiven (first_of (codes "cut") (option_rows (subcommand_rows_of matches.now))) cut × IsCut cut) }
+    ensures none { OnErr result ((cut : Option ℕ) → IsCut cut
+        → ¬ WritesIfGiven (first_of (codes "cut") (option_rows (subcommand_rows_of matches.now))) cut) }
 {
     let Some(text) = given_text(matches, "cut") else {
         return Ok(None);
@@ -311,7 +314,8 @@ fn text_of<'a>(matches: &ArgMatches<'a>, option: &str, default: &'a str) -> &'a 
 
 /// The number that the digits write, if it is one of these.
 fn number_within(text: &str, least: u64, most: u64) -> Option<u64>
-    ensures { SomeIff result (IsNumeral 10 text.now × (least ≤ digits_value 10 text.now) × (digits_value 10 text.now ≤ most)) (digits_value 10 text.now) }
+    ensures { SomeIff result (IsNumeral 10 text.now × (least ≤ digits_value 10 text.now)
+        × (digits_value 10 text.now ≤ most)) (digits_value 10 text.now) }
 {
     let number = number(text)?;
     (least <= number && number <= most).then_some(number)

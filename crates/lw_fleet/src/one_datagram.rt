@@ -25,12 +25,14 @@ pub fn one<R: Read, W: Write>(
     writer: &mut W,
 ) -> Result<(), Fault>
     // What is printed is the answer of a new node to the datagram that the first line spells.
-    ensures printed { OnOk result (Prints options.entry.now (R.remaining reader.old) (W.contents writer.old) (W.contents writer.new)) }
+    ensures printed { OnOk result (Prints options.entry.now (R.remaining reader.old) (W.contents writer.old)
+        (W.contents writer.new)) }
     // A writer that fails may have taken a front of it.
     ensures front { result ≡ Err Fault.WriteFailed
         → PrintsFront options.entry.now (R.remaining reader.old) (W.contents writer.old) (W.contents writer.new) }
     // Any other fault comes before the first byte is written.
-    ensures nothing { IfErr result (λ e. e ≢ Fault.WriteFailed → Keeps (W.contents writer.old) (W.contents writer.new)) }
+    ensures nothing { IfErr result (λ e. e ≢ Fault.WriteFailed
+        → Keeps (W.contents writer.old) (W.contents writer.new)) }
 
     ensures address_refused { (result ≡ Err Fault.AddressRefused) ↔ (¬ IsAddressText options.entry.now.from.now) }
     ensures unread { result ≡ Err Fault.AddressRefused → reader.new ≡ reader.old }

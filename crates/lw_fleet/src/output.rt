@@ -24,8 +24,10 @@ pub(crate) fn write_number<W: Write>(
     number: u64,
     after: &[u8],
 ) -> Result<(), Fault>
-    ensures whole { OnOk result (Appends (W.contents writer.old) (W.contents writer.new) (numbered before.now number after.now)) }
-    ensures front { OnErr result (AppendsFront (W.contents writer.old) (W.contents writer.new) (numbered before.now number after.now)) }
+    ensures whole { OnOk result (Appends (W.contents writer.old) (W.contents writer.new)
+        (numbered before.now number after.now)) }
+    ensures front { OnErr result (AppendsFront (W.contents writer.old) (W.contents writer.new)
+        (numbered before.now number after.now)) }
 {
     let mut digits = Buffer::new();
     write_text(writer, before)?;

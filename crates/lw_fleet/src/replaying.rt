@@ -20,7 +20,8 @@ use std::io::{Read, Write};
 pub fn replay<R: Read, W: Write>(alloc: Global, reader: &mut R, writer: &mut W) -> Result<(), Fault>
     // What is printed are the lines of outcomes that the events of the script may have, and nothing else.
     ensures printed { OnOk result (Replays (R.remaining reader.old) (W.contents writer.old) (W.contents writer.new)) }
-    ensures stopped { IfErr result (IsReplayStopped (R.remaining reader.old) (W.contents writer.old) (W.contents writer.new)) }
+    ensures stopped { IfErr result (IsReplayStopped (R.remaining reader.old) (W.contents writer.old)
+        (W.contents writer.new)) }
 {
     let bytes = read_all(alloc, reader)?;
     let script = script_of(alloc, &bytes)?;
@@ -49,8 +50,10 @@ fn write_lines<W: Write>(
     outcomes: &[Outcome],
     writer: &mut W,
 ) -> Result<(), Fault>
-    ensures whole { OnOk result (Appends (W.contents writer.old) (W.contents writer.new) (lines_text world.now.messages outcomes.now)) }
-    ensures front { OnErr result (AppendsFront (W.contents writer.old) (W.contents writer.new) (lines_text world.now.messages outcomes.now)) }
+    ensures whole { OnOk result (Appends (W.contents writer.old) (W.contents writer.new)
+        (lines_text world.now.messages outcomes.now)) }
+    ensures front { OnErr result (AppendsFront (W.contents writer.old) (W.contents writer.new)
+        (lines_text world.now.messages outcomes.now)) }
     ensures faults { IfErr result (λ e. (e ≡ Fault.WriteFailed) ⊎ (e ≡ Fault.NoMemory)) }
 {
     for outcome in outcomes {
@@ -65,8 +68,10 @@ fn write_line<W: Write>(
     outcome: &Outcome,
     writer: &mut W,
 ) -> Result<(), Fault>
-    ensures whole { OnOk result (Appends (W.contents writer.old) (W.contents writer.new) (line_text world.now.messages outcome.now)) }
-    ensures front { OnErr result (AppendsFront (W.contents writer.old) (W.contents writer.new) (line_text world.now.messages outcome.now)) }
+    ensures whole { OnOk result (Appends (W.contents writer.old) (W.contents writer.new)
+        (line_text world.now.messages outcome.now)) }
+    ensures front { OnErr result (AppendsFront (W.contents writer.old) (W.contents writer.new)
+        (line_text world.now.messages outcome.now)) }
     ensures faults { IfErr result (λ e. (e ≡ Fault.WriteFailed) ⊎ (e ≡ Fault.NoMemory)) }
 {
     let line = outcome_line(alloc, outcome, sent_message(world, outcome))?;

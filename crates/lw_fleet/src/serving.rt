@@ -54,7 +54,8 @@ impl ServingFault {
 
     fn write<E: Write>(self, errors: &mut E) -> Result<(), Fault>
         ensures whole { OnOk result (Appends (E.contents errors.old) (E.contents errors.new) (serving_line self)) }
-        ensures front { OnErr result (AppendsFront (E.contents errors.old) (E.contents errors.new) (serving_line self)) }
+        ensures front { OnErr result (AppendsFront (E.contents errors.old) (E.contents errors.new)
+            (serving_line self)) }
     {
         match self {
             ServingFault::BindFailed => write_text(errors, b"bind failed\n"),
@@ -80,8 +81,10 @@ fn write_fault<E: Write>(errors: &mut E, fault: ServeFault) -> Result<(), Fault>
 }
 
 fn write_unsettled<E: Write>(errors: &mut E, node: u16, place: u64) -> Result<(), Fault>
-    ensures whole { OnOk result (Appends (E.contents errors.old) (E.contents errors.new) (run_line (NotSettled node place))) }
-    ensures front { OnErr result (AppendsFront (E.contents errors.old) (E.contents errors.new) (run_line (NotSettled node place))) }
+    ensures whole { OnOk result (Appends (E.contents errors.old) (E.contents errors.new)
+        (run_line (NotSettled node place))) }
+    ensures front { OnErr result (AppendsFront (E.contents errors.old) (E.contents errors.new)
+        (run_line (NotSettled node place))) }
 {
     write_number(errors, b"unsettled ", node as u64, b" ")?;
     write_number(errors, b"", place, b"\n")

@@ -159,7 +159,8 @@ fn volume_within(
 
 /// Whether the volume is of the node and has the part's entry at its place.
 fn is_in(node: u16, volume: &Volume, part: &Part) -> bool
-    ensures { IsTrue result ↔ ((volume.now.opening.number ≡ node) × IsEntryAt volume.now.first volume.now.entries part.now.place part.now.entry) }
+    ensures { IsTrue result ↔ ((volume.now.opening.number ≡ node)
+        × IsEntryAt volume.now.first volume.now.entries part.now.place part.now.entry) }
 {
     volume.node() == node && has_entry(volume.first(), volume.entries(), part)
 }
@@ -224,7 +225,8 @@ fn first_untold_of_all(node: u16, volumes: &[Volume], held: &Held, passes: &[Pas
 
 /// The least place of an entry of the volume for which its pass has no part, if the volume is of the node.
 fn first_untold_in(node: u16, volume: &Volume, passes: &[Pass]) -> Option<u64>
-    ensures { IsFirstBreak (λ p. volume.now.opening.number ≡ node → IsTold node volume.now.first volume.now.entries passes.now p) result }
+    ensures { IsFirstBreak (λ p. volume.now.opening.number ≡ node
+        → IsTold node volume.now.first volume.now.entries passes.now p) result }
 {
     if volume.node() != node {
         return None;

@@ -116,7 +116,8 @@ fn are_linked(node: u16, volumes: &[Volume], held: &Held, new: &Node, place: u64
 /// Whether the volume is linked, if it is of the node and begins at the place.
 fn is_volume_linked(node: u16, volumes: &[Volume], new: &Node, place: u64, volume: &Volume) -> bool
     requires { new.now ≡ fresh node }
-    ensures { IsTrue result ↔ (volume.now.opening.number ≡ node → volume.now.first ≡ place → IsLinked node volumes.now volume.now.first volume.now.opening) }
+    ensures { IsTrue result ↔ (volume.now.opening.number ≡ node → volume.now.first ≡ place
+        → IsLinked node volumes.now volume.now.first volume.now.opening) }
 {
     volume.node() != node
         || volume.first() != place
@@ -142,7 +143,8 @@ fn is_linked(node: u16, volumes: &[Volume], new: &Node, first: u64, opening: &No
 
 /// Whether the opening is the volume's closing, if the volume is of the node and ends at the place.
 fn goes_on(node: u16, volume: &Volume, place: u64, opening: &Node) -> bool
-    ensures { IsTrue result ↔ (volume.now.opening.number ≡ node → end_of volume.now ≡ place → opening.now ≡ volume.now.closing) }
+    ensures { IsTrue result ↔ (volume.now.opening.number ≡ node → end_of volume.now ≡ place
+        → opening.now ≡ volume.now.closing) }
 {
     volume.node() != node || volume.end() != place || opening.same(volume.closing())
 }

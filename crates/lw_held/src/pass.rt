@@ -76,7 +76,9 @@ impl Pass {
 
     /// Makes the call of the lent node, which is known by the number, and gives its place in the journal there.
     pub fn step(&mut self, node: u16, held: &mut Held, call: &Call) -> Result<u64, NoMemory>
-        ensures entered { IfOk result (λ place. (entry : Entered) × Enters held.old self.old.number (length self.old.parts) call.now entry place held.new × (self.new ≡ with_part self.old node place entry)) }
+        ensures entered { IfOk result (λ place. (entry : Entered)
+            × Enters held.old self.old.number (length self.old.parts) call.now entry place held.new
+            × (self.new ≡ with_part self.old node place entry)) }
         ensures unchanged { OnErr result ((self.new ≡ self.old) × (held.new ≡ held.old)) }
     {
         self.parts.reserve(1)?;

@@ -52,7 +52,9 @@ impl Shelf {
         call: &Call,
     ) -> Result<u64, NoMemory>
         // Some node with a legal history has answered. That it is the one behind this lock is what `settle` shows.
-        ensures answered { IfOk result (λ place. (entry : Entry) × IsAnswered pass.old.number (length pass.old.parts) call.now entry place × (pass.new ≡ with_part pass.old self.now.number place entry)) }
+        ensures answered { IfOk result (λ place. (entry : Entry)
+            × IsAnswered pass.old.number (length pass.old.parts) call.now entry place
+            × (pass.new ≡ with_part pass.old self.now.number place entry)) }
         ensures unchanged { OnErr result (pass.new ≡ pass.old) }
     {
         let answer = self.call_locked(rt, gate, pass, call);
@@ -69,7 +71,9 @@ impl Shelf {
         pass: &mut Pass,
         call: &Call,
     ) -> Result<u64, NoMemory>
-        ensures answered { IfOk result (λ place. (entry : Entry) × IsAnswered pass.old.number (length pass.old.parts) call.now entry place × (pass.new ≡ with_part pass.old self.now.number place entry)) }
+        ensures answered { IfOk result (λ place. (entry : Entry)
+            × IsAnswered pass.old.number (length pass.old.parts) call.now entry place
+            × (pass.new ≡ with_part pass.old self.now.number place entry)) }
         ensures unchanged { OnErr result (pass.new ≡ pass.old) }
     {
         let mut held = self.held.lock(rt);

@@ -27,9 +27,11 @@ impl Model for Volume {
     ghost use Rattle.std.specs.Prelude.{◌≡◌, ◌≢◌, ◌<◌, ◌^◌, []};
     ghost use Rattle.lw_held.specs.History.{Leads};
 
-    ghost view = { λ v. record { first = v.first; opening = v.opening; entries = v.entries.items; closing = v.closing } };
+    ghost view = { λ v.
+        record { first = v.first; opening = v.opening; entries = v.entries.items; closing = v.closing } };
 
-    ghost invariant = { λ v. (v.number ≡ v.opening.number) × (v.entries.items ≢ []) × Leads v.opening v.entries.items v.closing × (v.first < 2 ^ 63) };
+    ghost invariant = { λ v. (v.number ≡ v.opening.number) × (v.entries.items ≢ [])
+        × Leads v.opening v.entries.items v.closing × (v.first < 2 ^ 63) };
 }
 
 impl Volume {

@@ -20,7 +20,8 @@ impl<'a> Model for Endpoints<'a> {
 
     ghost Value = { List (List ℕ) };
 
-    ghost view = { λ e. option_map_or (λ text. text.now ∷ []) e.first [] ++ option_map_or (map string_bytes) e.rest [] };
+    ghost view = { λ e. option_map_or (λ text. text.now ∷ []) e.first []
+        ++ option_map_or (map string_bytes) e.rest [] };
 }
 
 impl<'a> Endpoints<'a> {

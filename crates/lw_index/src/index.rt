@@ -50,7 +50,8 @@ impl<K: Ord + Drop> Index<K> {
 
     /// Files the endpoint under the key. A pair that is there takes no memory.
     pub fn add(&mut self, key: K, endpoint: &str) -> Result<(), NoMemory>
-        ensures added { OnOk result ((k : K) (e : List ℕ) → Has K.cmp self.new k e ↔ (Has K.cmp self.old k e ⊎ IsPair K.cmp key endpoint.now k e)) }
+        ensures added { OnOk result ((k : K) (e : List ℕ) → Has K.cmp self.new k e
+            ↔ (Has K.cmp self.old k e ⊎ IsPair K.cmp key endpoint.now k e)) }
         ensures present { Has K.cmp self.old key endpoint.now → IsOk result × (self.new ≡ self.old) }
         ensures unchanged { OnErr result (self.new ≡ self.old) }
     {
@@ -65,7 +66,8 @@ impl<K: Ord + Drop> Index<K> {
 
     /// Takes the endpoint from the key. A key whose last endpoint goes is gone.
     pub fn drop_one(&mut self, key: &K, endpoint: &str)
-        ensures dropped { (k : K) (e : List ℕ) → Has K.cmp self.new k e ↔ (Has K.cmp self.old k e × ((IsPair K.cmp key.now endpoint.now k e) → ⊥)) }
+        ensures dropped { (k : K) (e : List ℕ) → Has K.cmp self.new k e
+            ↔ (Has K.cmp self.old k e × ((IsPair K.cmp key.now endpoint.now k e) → ⊥)) }
         ensures absent { (Has K.cmp self.old key.now endpoint.now → ⊥) → self.new ≡ self.old }
     {
         let Some(endpoints) = self.entries.get_mut(key) else {

@@ -62,7 +62,8 @@ impl Texts {
     }
 
     pub(crate) fn add(&mut self, alloc: Global, text: &str) -> Result<(), NoMemory>
-        ensures members { OnOk result ((e : List ℕ) → has_text self.new e ≡ (has_text self.old e || bytes_eq text.now e)) }
+        ensures members { OnOk result ((e : List ℕ)
+            → has_text self.new e ≡ (has_text self.old e || bytes_eq text.now e)) }
         ensures some { OnOk result (self.new ≢ []) }
         ensures present { IsTrue (has_text self.old text.now) → IsOk result × (self.new ≡ self.old) }
         ensures unchanged { OnErr result (self.new ≡ self.old) }
@@ -93,9 +94,11 @@ impl Form {
     }
 
     fn add(&mut self, alloc: Global, text: &str) -> Result<(), NoMemory>
-        ensures members { OnOk result ((e : List ℕ) → has_text (texts_in self.new) e ≡ (has_text (texts_in self.old) e || bytes_eq text.now e)) }
+        ensures members { OnOk result ((e : List ℕ)
+            → has_text (texts_in self.new) e ≡ (has_text (texts_in self.old) e || bytes_eq text.now e)) }
         ensures some { OnOk result (texts_in self.new ≢ []) }
-        ensures present { IsTrue (has_text (texts_in self.old) text.now) → IsOk result × (texts_in self.new ≡ texts_in self.old) }
+        ensures present { IsTrue (has_text (texts_in self.old) text.now) → IsOk result
+            × (texts_in self.new ≡ texts_in self.old) }
         ensures unchanged { OnErr result (texts_in self.new ≡ texts_in self.old) }
     {
         match self {
@@ -113,7 +116,8 @@ impl Form {
 
     fn remove(&mut self, text: &str)
         requires { texts_in self.old ≢ text.now ∷ [] }
-        ensures members { (e : List ℕ) → has_text (texts_in self.new) e ≡ (has_text (texts_in self.old) e && not (bytes_eq text.now e)) }
+        ensures members { (e : List ℕ)
+            → has_text (texts_in self.new) e ≡ (has_text (texts_in self.old) e && not (bytes_eq text.now e)) }
         ensures some { texts_in self.old ≢ [] → texts_in self.new ≢ [] }
         ensures absent { has_text (texts_in self.old) text.now ≡ false → texts_in self.new ≡ texts_in self.old }
     {
@@ -140,7 +144,8 @@ fn take_last(set: &mut BTreeSet<String>) -> Option<String>
 
 // Puts a copy of the text into the set.
 fn put(alloc: Global, set: &mut BTreeSet<String>, text: &str) -> Result<(), NoMemory>
-    ensures members { OnOk result ((e : List ℕ) → contains_text set.new e ≡ (contains_text set.old e || bytes_eq text.now e)) }
+    ensures members { OnOk result ((e : List ℕ)
+        → contains_text set.new e ≡ (contains_text set.old e || bytes_eq text.now e)) }
     ensures some { OnOk result (set.new.keys ≢ []) }
     ensures present { IsTrue (contains_text set.old text.now) → IsOk result × (set.new.keys ≡ set.old.keys) }
     ensures unchanged { OnErr result (set.new.keys ≡ set.old.keys) }
@@ -154,7 +159,8 @@ fn put(alloc: Global, set: &mut BTreeSet<String>, text: &str) -> Result<(), NoMe
 
 // The set of copies of two texts.
 fn two(alloc: Global, first: &str, second: &str) -> Result<BTreeSet<String>, NoMemory>
-    ensures members { IfOk result (λ set. (e : List ℕ) → contains_text set e ≡ (bytes_eq first.now e || bytes_eq second.now e)) }
+    ensures members { IfOk result (λ set. (e : List ℕ)
+        → contains_text set e ≡ (bytes_eq first.now e || bytes_eq second.now e)) }
     ensures some { IfOk result (λ set. set.keys ≢ []) }
 {
     let mut set = BTreeSet::new(alloc);

@@ -11,12 +11,15 @@ ghost use Rattle.lw_link.specs.WellFormed.{AreWellFormed, IsPrinting};
 /// A printing spells its links, and what is spelled can be printed.
 pub fn printings_spell_their_links()
     ensures spelled { (links : List LinkContent) → AreWellFormed links → Spells (printing links) links }
-    ensures well_formed { (bytes : List ℕ) (links : List LinkContent) → Spells bytes links → length links ≤ 256 → AreWellFormed links }
+    ensures well_formed { (bytes : List ℕ) (links : List LinkContent) → Spells bytes links → length links ≤ 256
+        → AreWellFormed links }
 {}
 
 /// A printing of at most 256 links reads as itself: it spells its list, and no other.
 pub fn printings_read_as_themselves()
-    ensures { (bytes : List ℕ) → IsPrinting bytes → (links : List LinkContent) × Spells bytes links × (length links ≤ 256) × (printing links ≡ bytes) × ((others : List LinkContent) → Spells bytes others → others ≡ links) }
+    ensures { (bytes : List ℕ) → IsPrinting bytes → (links : List LinkContent) × Spells bytes links
+        × (length links ≤ 256) × (printing links ≡ bytes)
+        × ((others : List LinkContent) → Spells bytes others → others ≡ links) }
 {}
 
 /// Bytes spell a list or have a fault, one and never both: a fault is that they are no text, that they leave
@@ -34,5 +37,6 @@ pub fn bytes_spell_one_list()
 
 /// A printing is never longer than what was read.
 pub fn printings_are_shortest()
-    ensures { (bytes : List ℕ) (links : List LinkContent) → Spells bytes links → length (printing links) ≤ length bytes }
+    ensures { (bytes : List ℕ) (links : List LinkContent) → Spells bytes links
+        → length (printing links) ≤ length bytes }
 {}

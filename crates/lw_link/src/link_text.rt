@@ -63,20 +63,25 @@ impl LinkText {
     pub fn read(alloc: Global, bytes: &[u8]) -> Result<LinkText, LinkFault>
         requires { length bytes.now ≤ 8192 }
         // What is read is the printing of what is spelled.
-        ensures found { IfOk result (λ text. (links : List LinkContent) × Spells bytes.now links × (length links ≤ 256) × (text ≡ printing links)) }
+        ensures found { IfOk result (λ text. (links : List LinkContent) × Spells bytes.now links
+            × (length links ≤ 256) × (text ≡ printing links)) }
         // What is spelled is read, unless a growth is refused.
-        ensures only { (links : List LinkContent) → Spells bytes.now links → length links ≤ 256 → MatchResult result (λ text. text ≡ printing links) (λ fault. fault ≡ LinkFault.NoMemory) }
+        ensures only { (links : List LinkContent) → Spells bytes.now links → length links ≤ 256
+            → MatchResult result (λ text. text ≡ printing links) (λ fault. fault ≡ LinkFault.NoMemory) }
         // Each other fault is answered exactly where it is that of the bytes.
-        ensures faults { (fault : LinkFault) → fault ≢ LinkFault.NoMemory → ((result ≡ Err fault) ↔ IsFault bytes.now fault) }
+        ensures faults { (fault : LinkFault) → fault ≢ LinkFault.NoMemory
+            → ((result ≡ Err fault) ↔ IsFault bytes.now fault) }
         // Want of memory comes only in place of a text.
-        ensures memory { result ≡ Err LinkFault.NoMemory → (links : List LinkContent) × Spells bytes.now links × (length links ≤ 256) }
+        ensures memory { result ≡ Err LinkFault.NoMemory → (links : List LinkContent) × Spells bytes.now links
+            × (length links ≤ 256) }
     {
         LinkText::read_checked(alloc, bytes)
     }
 
     fn read_checked(alloc: Global, bytes: &[u8]) -> Result<LinkText, LinkFault>
         requires { length bytes.now ≤ 8192 }
-        ensures found { IfOk result (λ text. (links : List LinkContent) × Spells bytes.now links × (length links ≤ 256) × (text ≡ printing links)) }
+        ensures found { IfOk result (λ text. (links : List LinkContent) × Spells bytes.now links
+            × (length links ≤ 256) × (text ≡ printing links)) }
         ensures refused { IfErr result (IsRefused bytes.now) }
     {
         if let Some(text) = printed_text(bytes) {

@@ -164,11 +164,14 @@ pub fn read(alloc: Global, bytes: &[u8]) -> Result<Vec<Link>, LinkFault>
     // What is read is spelled so.
     ensures found { IfOk result (λ links. Spells bytes.now links.items × (length links.items ≤ 256)) }
     // What is spelled so is read, unless a growth is refused.
-    ensures only { (links : List LinkContent) → Spells bytes.now links → length links ≤ 256 → MatchResult result (λ read. read.items ≡ links) (λ fault. fault ≡ LinkFault.NoMemory) }
+    ensures only { (links : List LinkContent) → Spells bytes.now links → length links ≤ 256
+        → MatchResult result (λ read. read.items ≡ links) (λ fault. fault ≡ LinkFault.NoMemory) }
     // Each other fault is answered exactly where it is that of the bytes.
-    ensures faults { (fault : LinkFault) → fault ≢ LinkFault.NoMemory → ((result ≡ Err fault) ↔ IsFault bytes.now fault) }
+    ensures faults { (fault : LinkFault) → fault ≢ LinkFault.NoMemory
+        → ((result ≡ Err fault) ↔ IsFault bytes.now fault) }
     // Want of memory comes only in place of links.
-    ensures memory { result ≡ Err LinkFault.NoMemory → (links : List LinkContent) × Spells bytes.now links × (length links ≤ 256) }
+    ensures memory { result ≡ Err LinkFault.NoMemory → (links : List LinkContent) × Spells bytes.now links
+        × (length links ≤ 256) }
 {
     read_checked(alloc, bytes)
 }

@@ -71,7 +71,8 @@ impl<'a> Scanner<'a> {
 
     /// Takes the character if it comes next.
     pub(crate) fn take_if(&mut self, c: char) -> bool
-        ensures { MatchBool result (self.old ≡ c ∷ self.new) ((self.new ≡ self.old) × ((rest : List ℕ) → self.old ≡ c ∷ rest → ⊥)) }
+        ensures { MatchBool result (self.old ≡ c ∷ self.new) ((self.new ≡ self.old)
+            × ((rest : List ℕ) → self.old ≡ c ∷ rest → ⊥)) }
     {
         let Some(next) = self.peek() else {
             return false;

@@ -14,7 +14,8 @@ use lw_stamp::NoMemory;
 impl Node {
     /// Makes the call, and gives what it gives.
     pub fn act(&mut self, call: &Call) -> Reply
-        ensures { (known : Known) → IsKnown self.old.table.state known → Steps self.old (marks_in self.old.table.state known) call.now result self.new }
+        ensures { (known : Known) → IsKnown self.old.table.state known
+            → Steps self.old (marks_in self.old.table.state known) call.now result self.new }
     {
         match call {
             Call::Take { now, from, bytes } => Reply::Take(self.take(
@@ -41,7 +42,8 @@ impl Node {
     /// for the second, the call is refused for want of memory. What a merge or a sweep gives is plain data.
     pub fn act_twice(&mut self, call: &Call) -> (Reply, Reply)
         ensures same { result.0 ≡ result.1 }
-        ensures step { (known : Known) → IsKnown self.old.table.state known → Steps self.old (marks_in self.old.table.state known) call.now result.0 self.new }
+        ensures step { (known : Known) → IsKnown self.old.table.state known
+            → Steps self.old (marks_in self.old.table.state known) call.now result.0 self.new }
     {
         match call {
             Call::Take { now, from, bytes } => {
@@ -83,7 +85,8 @@ impl Node {
 
     // The delta since a change number, and the number at which it is made.
     pub(crate) fn send(&self, since: u64) -> Result<Sent, NoMemory>
-        ensures { IfOk result (λ sent. IsDeltaSince self.now since sent.delta × (sent.change ≡ self.now.table.count.change)) }
+        ensures { IfOk result (λ sent. IsDeltaSince self.now since sent.delta
+            × (sent.change ≡ self.now.table.count.change)) }
     {
         Ok(Sent {
             delta: Bytes::from_vec(self.delta_since(since)?)?,

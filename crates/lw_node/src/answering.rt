@@ -20,7 +20,8 @@ pub(crate) fn answered(
     requires kind { (request.now.kind ≡ Kind.Con) ⊎ (request.now.kind ≡ Kind.Non) }
     requires token { length request.now.token ≤ 8 }
     requires code { 0 < code }
-    ensures { IfOk result (λ r. IsReply (option_map (λ bytes. bytes.items) r) (Some (answers request.now code location))) }
+    ensures { IfOk result (λ r.
+        IsReply (option_map (λ bytes. bytes.items) r) (Some (answers request.now code location))) }
 {
     let bytes = answer(
         alloc,

@@ -15,7 +15,8 @@ impl Node {
     /// The answer to a question at this moment, as a copy. It takes no memory where nothing is found, nor does the
     /// change number.
     pub fn ask(&self, now: Moment, question: &Question) -> Result<Answer, NoMemory>
-        ensures { (known : Known) → IsKnown self.now.table.state known → Asks self.now (marks_in self.now.table.state known) (ms_of now) question.now result }
+        ensures { (known : Known) → IsKnown self.now.table.state known
+            → Asks self.now (marks_in self.now.table.state known) (ms_of now) question.now result }
     {
         let alloc = self.alloc;
         match question {

@@ -16,7 +16,8 @@ impl Model for Decision {
 
     ghost Value = { DecisionContent };
 
-    ghost view = { λ d. record { reply = option_map (λ bytes. bytes.items) d.reply; notice = d.notice; operation = d.operation } };
+    ghost view = { λ d.
+        record { reply = option_map (λ bytes. bytes.items) d.reply; notice = d.notice; operation = d.operation } };
 }
 
 impl Decision {

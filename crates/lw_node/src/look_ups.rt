@@ -55,8 +55,10 @@ impl Node {
         id: Stamp,
         after: Option<&Path>,
     ) -> Option<(View<'_>, Watch)>
-        ensures read { WatchOfIdAfter (shown_in self.now.table.state) (ms_of now) id (option_copied after.entry) result }
-        ensures marks { (ms : List Mark) → Knows self.now ms → WatchOfIdAfter (among ms) (ms_of now) id (option_copied after.entry) result }
+        ensures read { WatchOfIdAfter (shown_in self.now.table.state) (ms_of now) id
+            (option_copied after.entry) result }
+        ensures marks { (ms : List Mark) → Knows self.now ms
+            → WatchOfIdAfter (among ms) (ms_of now) id (option_copied after.entry) result }
     {
         self.table.watch_after(now, id, after)
     }
@@ -64,15 +66,18 @@ impl Node {
     /// What is shown of the least endpoint above the given one by bytes, or of the least of all.
     pub fn first_after(&self, now: Moment, after: Option<&str>) -> Option<View<'_>>
         ensures read { FirstAfter (shown_in self.now.table.state) (ms_of now) (after_text after.entry) result }
-        ensures marks { (ms : List Mark) → Knows self.now ms → FirstAfter (among ms) (ms_of now) (after_text after.entry) result }
+        ensures marks { (ms : List Mark) → Knows self.now ms
+            → FirstAfter (among ms) (ms_of now) (after_text after.entry) result }
     {
         self.table.first_after(now, after)
     }
 
     /// The least endpoint above the given one, or of all, whose registration has expired, and its identifier.
     pub fn expired_after(&self, now: Moment, after: Option<&str>) -> Option<(&str, Stamp)>
-        ensures read { ExpiredAfter (shown_in self.now.table.state) (ms_of now) (after_text after.entry) (option_map (λ x. (x.0.now, x.1)) result) }
-        ensures marks { (ms : List Mark) → Knows self.now ms → ExpiredAfter (among ms) (ms_of now) (after_text after.entry) (option_map (λ x. (x.0.now, x.1)) result) }
+        ensures read { ExpiredAfter (shown_in self.now.table.state) (ms_of now) (after_text after.entry)
+            (option_map (λ x. (x.0.now, x.1)) result) }
+        ensures marks { (ms : List Mark) → Knows self.now ms
+            → ExpiredAfter (among ms) (ms_of now) (after_text after.entry) (option_map (λ x. (x.0.now, x.1)) result) }
     {
         self.table.expired_after(now, after)
     }

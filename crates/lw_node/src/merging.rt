@@ -26,7 +26,8 @@ impl Node {
         ensures merges { Merges self.old bytes.now result self.new }
         ensures malformed { (fault : Faults) → (result ≡ Err (MergeFault.Malformed fault)) ↔ IsFault bytes.now fault }
         // What is known afterwards is the least that is above both.
-        ensures least { (d : DeltaContent) → IsSpelling bytes.now d → IsOk result → IsLeastOfBoth (known_by self.old) (known_from d) (known_by self.new) }
+        ensures least { (d : DeltaContent) → IsSpelling bytes.now d → IsOk result
+            → IsLeastOfBoth (known_by self.old) (known_from d) (known_by self.new) }
         // A delta without slots takes no memory.
         ensures none { (clock : ℕ) → IsSpelling bytes.now (record { clock = clock; slots = [] }) → IsOk result }
     {

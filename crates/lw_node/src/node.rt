@@ -60,8 +60,10 @@ impl Node {
     ///
     /// `NoMemory` may come in place of any answer, save where bytes that are no message get no reply.
     pub fn take(&mut self, now: Moment, from: Addr, bytes: &[u8]) -> Result<Taken, NoMemory>
-        ensures read { IfOk result (λ t. Takes self.old (shown_in self.old.table.state) (ms_of now) from bytes.now t self.new) }
-        ensures marks { (ms : List Mark) → Knows self.old ms → IfOk result (λ t. Takes self.old (among ms) (ms_of now) from bytes.now t self.new) }
+        ensures read { IfOk result (λ t.
+            Takes self.old (shown_in self.old.table.state) (ms_of now) from bytes.now t self.new) }
+        ensures marks { (ms : List Mark) → Knows self.old ms
+            → IfOk result (λ t. Takes self.old (among ms) (ms_of now) from bytes.now t self.new) }
         ensures unchanged { OnErr result (self.new ≡ self.old) }
         ensures silent { IsSilent bytes.now → IsOk result }
     {
@@ -87,10 +89,15 @@ impl Node {
         accept: Option<u16>,
         mid: u16,
     ) -> Result<Outgoing, ObserveFault>
-        ensures read { Observes self.old (shown_in self.old.table.state) (ms_of now) id path accept mid result self.new }
-        ensures marks { (ms : List Mark) → Knows self.old ms → Observes self.old (among ms) (ms_of now) id path accept mid result self.new }
-        ensures not_found { (result ≡ Err ObserveFault.NotFound) ↔ ById (shown_in self.old.table.state) (ms_of now) id None }
-        ensures clock_end { (result ≡ Err ObserveFault.ClockEnd) ↔ ((self.old.clock ≡ 2 ^ 48 - 1) × ((r : Registration) × ById (shown_in self.old.table.state) (ms_of now) id (Some r))) }
+        ensures read { Observes self.old (shown_in self.old.table.state)
+            (ms_of now) id path accept mid result self.new }
+        ensures marks { (ms : List Mark) → Knows self.old ms
+            → Observes self.old (among ms) (ms_of now) id path accept mid result self.new }
+        ensures not_found { (result ≡ Err ObserveFault.NotFound)
+            ↔ ById (shown_in self.old.table.state) (ms_of now) id None }
+        ensures clock_end { (result ≡ Err ObserveFault.ClockEnd)
+            ↔ ((self.old.clock ≡ 2 ^ 48 - 1)
+            × ((r : Registration) × ById (shown_in self.old.table.state) (ms_of now) id (Some r))) }
         ensures unchanged { OnErr result (self.new ≡ self.old) }
     {
         // Nothing that is known of is above the clock.
@@ -102,9 +109,13 @@ impl Node {
     /// Ends the observation with the token. The message ID is that of the datagram, which is to be sent.
     pub fn cancel(&mut self, now: Moment, token: Stamp, mid: u16) -> Result<Outgoing, ObserveFault>
         ensures read { Cancels self.old (shown_in self.old.table.state) (ms_of now) token mid result self.new }
-        ensures marks { (ms : List Mark) → Knows self.old ms → Cancels self.old (among ms) (ms_of now) token mid result self.new }
-        ensures not_found { (result ≡ Err ObserveFault.NotFound) ↔ ByToken (shown_in self.old.table.state) (ms_of now) token None }
-        ensures clock_end { (result ≡ Err ObserveFault.ClockEnd) ↔ ((self.old.clock ≡ 2 ^ 48 - 1) × ((x : Registration × Watches) × ByToken (shown_in self.old.table.state) (ms_of now) token (Some x))) }
+        ensures marks { (ms : List Mark) → Knows self.old ms
+            → Cancels self.old (among ms) (ms_of now) token mid result self.new }
+        ensures not_found { (result ≡ Err ObserveFault.NotFound)
+            ↔ ByToken (shown_in self.old.table.state) (ms_of now) token None }
+        ensures clock_end { (result ≡ Err ObserveFault.ClockEnd)
+            ↔ ((self.old.clock ≡ 2 ^ 48 - 1)
+            × ((x : Registration × Watches) × ByToken (shown_in self.old.table.state) (ms_of now) token (Some x))) }
         ensures unchanged { OnErr result (self.new ≡ self.old) }
     {
         // Nothing that is known of is above the clock.
@@ -119,7 +130,9 @@ impl Node {
         ensures read { Sweeps self.old (shown_in self.old.table.state) (ms_of now) result self.new }
         ensures marks { (ms : List Mark) → Knows self.old ms → Sweeps self.old (among ms) (ms_of now) result self.new }
         ensures none { (result ≡ Ok None) ↔ ExpiredAfter (shown_in self.old.table.state) (ms_of now) None None }
-        ensures clock_end { IsErr result ↔ ((self.old.clock ≡ 2 ^ 48 - 1) × ((x : List ℕ × Stamps) × ExpiredAfter (shown_in self.old.table.state) (ms_of now) None (Some x))) }
+        ensures clock_end { IsErr result
+            ↔ ((self.old.clock ≡ 2 ^ 48 - 1)
+            × ((x : List ℕ × Stamps) × ExpiredAfter (shown_in self.old.table.state) (ms_of now) None (Some x))) }
         ensures unchanged { OnErr result (self.new ≡ self.old) }
     {
         let Some(stamp) = self.next_stamp() else {

@@ -23,7 +23,8 @@ impl Node {
         accept: Option<u16>,
         mid: u16,
     ) -> Result<Command, ObserveFault>
-        ensures { Commanded self.now.table.state (λ M. ObserveMeans (place_at self.now (ms_of now)) M id path accept mid) result }
+        ensures { Commanded self.now.table.state (λ M.
+            ObserveMeans (place_at self.now (ms_of now)) M id path accept mid) result }
     {
         let Some(view) = self.table.by_id(now, id) else {
             return Err(ObserveFault::NotFound);
@@ -62,7 +63,8 @@ fn observation(
     mid: u16,
 ) -> Result<Command, NoMemory>
     requires { IsEndpoint view.now.endpoint }
-    ensures operation { IfOk result (λ c. c.operation ≡ record { stamp = token; endpoint = view.now.endpoint; reg = view.now.id; what = What.Observe path accept }) }
+    ensures operation { IfOk result (λ c. c.operation
+        ≡ record { stamp = token; endpoint = view.now.endpoint; reg = view.now.id; what = What.Observe path accept }) }
     ensures sent { IfOk result (λ c. IsSent c.outgoing (observes mid path accept view.now c.operation)) }
 {
     let bytes = get(alloc, mid, Observe::Register, &token, &path, accept)?;
@@ -91,7 +93,8 @@ fn end(
     mid: u16,
 ) -> Result<Command, NoMemory>
     requires { IsEndpoint view.now.endpoint }
-    ensures operation { IfOk result (λ c. c.operation ≡ record { stamp = stamp; endpoint = view.now.endpoint; reg = view.now.id; what = What.Cancel watch.path watch.token }) }
+    ensures operation { IfOk result (λ c. c.operation
+        ≡ record { stamp = stamp; endpoint = view.now.endpoint; reg = view.now.id; what = What.Cancel watch.path watch.token }) }
     ensures sent { IfOk result (λ c. IsSent c.outgoing (ends mid (view.now, watch) c.operation)) }
 {
     let Watch {

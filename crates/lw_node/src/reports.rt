@@ -73,7 +73,8 @@ fn notice_of(
 
 impl Node {
     pub(crate) fn decide_report(&self, now: Moment, report: Report) -> Result<Decision, NoMemory>
-        ensures { IfOk result (Decided self.now.table.state (λ M. ReportMeans (place_at self.now (ms_of now)) M report)) }
+        ensures { IfOk result (Decided self.now.table.state (λ M.
+            ReportMeans (place_at self.now (ms_of now)) M report)) }
     {
         let Some((view, watch)) = self.watched(now, &report.token) else {
             let reply = unwanted(self.alloc, report.kind, report.mid)?;
@@ -123,8 +124,11 @@ impl Node {
 
     /// The live watch with the token, if it is that of a stamp, and its registration.
     fn watched(&self, now: Moment, token: &[u8]) -> Option<(View<'_>, Watch)>
-        ensures some { IfSome result (λ x. (known : Known) → IsKnown self.now.table.state known → IsWatched (marks_in self.now.table.state known) (ms_of now) token.now x) }
-        ensures none { IfNone result ((known : Known) → IsKnown self.now.table.state known → (x : Registration × Watches) → ¬ IsWatched (marks_in self.now.table.state known) (ms_of now) token.now x) }
+        ensures some { IfSome result (λ x. (known : Known) → IsKnown self.now.table.state known
+            → IsWatched (marks_in self.now.table.state known) (ms_of now) token.now x) }
+        ensures none { IfNone result ((known : Known) → IsKnown self.now.table.state known
+            → (x : Registration × Watches)
+            → ¬ IsWatched (marks_in self.now.table.state known) (ms_of now) token.now x) }
         ensures endpoint { IfSome result (λ x. IsEndpoint x.0.endpoint) }
     {
         self.table.by_token(now, stamp_in(token)?)

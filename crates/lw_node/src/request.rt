@@ -86,7 +86,9 @@ fn options_of(
     path: &Path,
     accept: Option<u16>,
 ) -> Result<Vec<CoapOption>, NoMemory>
-    ensures options { IfOk result (λ options. options.items ≡ number_option 6 (observe_number observe) ∷ (map segment (path_numbers path.now) ++ accepts accept)) }
+    ensures options { IfOk result (λ options.
+        options.items ≡ number_option 6 (observe_number observe) ∷ (map segment (path_numbers path.now)
+        ++ accepts accept)) }
     ensures accept { IfOk result (λ _. IfSome accept (λ format. format < 2 ^ 16)) }
 {
     let mut options = vec![in alloc; number_option(alloc, OBSERVE, observe.number())?]?;
@@ -106,7 +108,8 @@ pub(crate) fn get(
     path: &Path,
     accept: Option<u16>,
 ) -> Result<Vec<u8>, NoMemory>
-    ensures { IfOk result (λ bytes. IsSpelling bytes.items (get_of mid (observe_number observe) token.now path.now accept)) }
+    ensures { IfOk result (λ bytes.
+        IsSpelling bytes.items (get_of mid (observe_number observe) token.now path.now accept)) }
 {
     let message = Message {
         kind: Kind::Con,

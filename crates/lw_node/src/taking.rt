@@ -20,7 +20,8 @@ use std::alloc::Global;
 impl Node {
     /// What a datagram that came at this moment from this address is to do.
     pub(crate) fn decide(&self, now: Moment, from: Addr, bytes: &[u8]) -> Result<Decision, NoMemory>
-        ensures meaning { IfOk result (Decided self.now.table.state (λ M. DatagramMeans (place_at self.now (ms_of now)) M from bytes.now)) }
+        ensures meaning { IfOk result (Decided self.now.table.state (λ M.
+            DatagramMeans (place_at self.now (ms_of now)) M from bytes.now)) }
         ensures silent { IsSilent bytes.now → result ≡ Ok silence }
     {
         match decode(self.alloc, bytes) {
@@ -39,7 +40,8 @@ impl Node {
         message: &Message,
     ) -> Result<Decision, NoMemory>
         requires { length message.now.token ≤ 8 }
-        ensures { IfOk result (Decided self.now.table.state (λ M. MessageMeans (place_at self.now (ms_of now)) M from message.now)) }
+        ensures { IfOk result (Decided self.now.table.state (λ M.
+            MessageMeans (place_at self.now (ms_of now)) M from message.now)) }
     {
         let alloc = self.alloc;
         match understand(alloc, message)? {
@@ -84,7 +86,8 @@ impl Node {
     ) -> Result<Decision, NoMemory>
         requires kind { (request.now.kind ≡ Kind.Con) ⊎ (request.now.kind ≡ Kind.Non) }
         requires token { length request.now.token ≤ 8 }
-        ensures { (now : ℕ) → IfOk result (Decides (Issues (place_at self.now now) request.now (λ op. (op.endpoint ≡ endpoint) × (op.reg ≡ op.stamp) × (op.what ≡ what)) (created request.now))) }
+        ensures { (now : ℕ) → IfOk result (Decides (Issues (place_at self.now now) request.now (λ op.
+            (op.endpoint ≡ endpoint) × (op.reg ≡ op.stamp) × (op.what ≡ what)) (created request.now))) }
     {
         let Some(stamp) = self.next_stamp() else {
             return refused(self.alloc, request, SERVICE_UNAVAILABLE);
@@ -110,7 +113,8 @@ impl Node {
         requires kind { (request.now.kind ≡ Kind.Con) ⊎ (request.now.kind ≡ Kind.Non) }
         requires token { length request.now.token ≤ 8 }
         requires code { 0 < code }
-        ensures { IfOk result (Decided self.now.table.state (λ M. NamedChanges (place_at self.now (ms_of now)) M request.now id (λ w. w ≡ what) code)) }
+        ensures { IfOk result (Decided self.now.table.state (λ M.
+            NamedChanges (place_at self.now (ms_of now)) M request.now id (λ w. w ≡ what) code)) }
     {
         let Some(view) = self.named(now, id) else {
             return refused(self.alloc, request, NOT_FOUND);
@@ -130,7 +134,8 @@ impl Node {
         requires kind { (request.now.kind ≡ Kind.Con) ⊎ (request.now.kind ≡ Kind.Non) }
         requires token { length request.now.token ≤ 8 }
         requires code { 0 < code }
-        ensures { (now : ℕ) → IfOk result (Decides (Issues (place_at self.now now) request.now (λ op. IsAbout view.now op × (op.what ≡ what)) (answered request.now code))) }
+        ensures { (now : ℕ) → IfOk result (Decides (Issues (place_at self.now now) request.now (λ op.
+            IsAbout view.now op × (op.what ≡ what)) (answered request.now code))) }
     {
         let Some(stamp) = self.next_stamp() else {
             return refused(self.alloc, request, SERVICE_UNAVAILABLE);
@@ -146,7 +151,8 @@ impl Node {
 
     /// The shown registration that a request names, if it names one.
     fn named(&self, now: Moment, id: Option<Stamp>) -> Option<View<'_>>
-        ensures found { (known : Known) → IsKnown self.now.table.state known → IsNamed (marks_in self.now.table.state known) (ms_of now) id result }
+        ensures found { (known : Known) → IsKnown self.now.table.state known
+            → IsNamed (marks_in self.now.table.state known) (ms_of now) id result }
         ensures endpoint { IfSome result (λ r. IsEndpoint r.endpoint) }
     {
         self.table.by_id(now, id?)
@@ -158,7 +164,8 @@ fn refused(alloc: Global, request: &Message, code: u8) -> Result<Decision, NoMem
     requires kind { (request.now.kind ≡ Kind.Con) ⊎ (request.now.kind ≡ Kind.Non) }
     requires token { length request.now.token ≤ 8 }
     requires code { 0 < code }
-    ensures { IfOk result (λ d. IsReply d.reply (Some (answers request.now code None)) × (d ≡ record { reply = d.reply; notice = None; operation = None })) }
+    ensures { IfOk result (λ d. IsReply d.reply (Some (answers request.now code None))
+        × (d ≡ record { reply = d.reply; notice = None; operation = None })) }
 {
     Ok(Decision::reply(answered(alloc, request, code, None)?))
 }
@@ -174,7 +181,8 @@ fn operates(
     requires kind { (request.now.kind ≡ Kind.Con) ⊎ (request.now.kind ≡ Kind.Non) }
     requires token { length request.now.token ≤ 8 }
     requires code { 0 < code }
-    ensures { IfOk result (λ d. IsReply d.reply (Some (answers request.now code location)) × (d ≡ record { reply = d.reply; notice = None; operation = Some operation })) }
+    ensures { IfOk result (λ d. IsReply d.reply (Some (answers request.now code location))
+        × (d ≡ record { reply = d.reply; notice = None; operation = Some operation })) }
 {
     let reply = answered(alloc, request, code, location)?;
     Ok(Decision {

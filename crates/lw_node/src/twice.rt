@@ -25,7 +25,8 @@ impl Node {
         bytes: &[u8],
     ) -> Result<(Taken, Taken), NoMemory>
         ensures same { first_of result ≡ second_of result }
-        ensures taken { (known : Known) → IsKnown self.old.table.state known → IfOk (first_of result) (λ t. Takes self.old (marks_in self.old.table.state known) (ms_of now) from bytes.now t self.new) }
+        ensures taken { (known : Known) → IsKnown self.old.table.state known → IfOk (first_of result) (λ t.
+            Takes self.old (marks_in self.old.table.state known) (ms_of now) from bytes.now t self.new) }
         ensures unchanged { OnErr result (self.new ≡ self.old) }
         ensures silent { IsSilent bytes.now → IsOk result }
     {
@@ -53,7 +54,8 @@ impl Node {
         Result<Outgoing, ObserveFault>,
     )
         ensures same { result.0 ≡ result.1 }
-        ensures sent { (known : Known) → IsKnown self.old.table.state known → Observes self.old (marks_in self.old.table.state known) (ms_of now) id path accept mid result.0 self.new }
+        ensures sent { (known : Known) → IsKnown self.old.table.state known
+            → Observes self.old (marks_in self.old.table.state known) (ms_of now) id path accept mid result.0 self.new }
     {
         // Nothing that is known of is above the clock.
         let _clock = self.clock();
@@ -71,7 +73,8 @@ impl Node {
         Result<Outgoing, ObserveFault>,
     )
         ensures same { result.0 ≡ result.1 }
-        ensures sent { (known : Known) → IsKnown self.old.table.state known → Cancels self.old (marks_in self.old.table.state known) (ms_of now) token mid result.0 self.new }
+        ensures sent { (known : Known) → IsKnown self.old.table.state known
+            → Cancels self.old (marks_in self.old.table.state known) (ms_of now) token mid result.0 self.new }
     {
         // Nothing that is known of is above the clock.
         let _clock = self.clock();
@@ -117,7 +120,8 @@ impl Node {
 
     pub(crate) fn send_twice(&self, since: u64) -> Result<(Sent, Sent), NoMemory>
         ensures same { first_of result ≡ second_of result }
-        ensures sent { IfOk (first_of result) (λ sent. IsDeltaSince self.now since sent.delta × (sent.change ≡ self.now.table.count.change)) }
+        ensures sent { IfOk (first_of result) (λ sent. IsDeltaSince self.now since sent.delta
+            × (sent.change ≡ self.now.table.count.change)) }
     {
         let sent = self.send(since)?;
         let copy = sent.copy()?;
@@ -130,7 +134,8 @@ impl Node {
         question: &Question,
     ) -> Result<(Answer, Answer), NoMemory>
         ensures same { first_of result ≡ second_of result }
-        ensures answered { (known : Known) → IsKnown self.now.table.state known → Asks self.now (marks_in self.now.table.state known) (ms_of now) question.now (first_of result) }
+        ensures answered { (known : Known) → IsKnown self.now.table.state known
+            → Asks self.now (marks_in self.now.table.state known) (ms_of now) question.now (first_of result) }
     {
         let answer = self.ask(now, question)?;
         let copy = answer.copy(self.alloc)?;

@@ -23,7 +23,8 @@ pub fn outcome_line(
     outcome: &Outcome,
     message: Option<&[u8]>,
 ) -> Result<Vec<u8>, NoMemory>
-    ensures { IfOk result (λ line. line.items ≡ outcome_text outcome.now (unwrap_or (option_map (λ bytes. bytes.now) message.entry) [])) }
+    ensures { IfOk result (λ line.
+        line.items ≡ outcome_text outcome.now (unwrap_or (option_map (λ bytes. bytes.now) message.entry) [])) }
 {
     line_of(outcome_words(alloc, outcome, message.unwrap_or(&[]))?)
 }

@@ -13,7 +13,8 @@ pub fn answer_text(
     reply: Option<&[u8]>,
     shown: Option<&View<'_>>,
 ) -> Result<Vec<u8>, NoMemory>
-    ensures { IfOk result (λ text. text.items ≡ answer_text (option_map (λ bytes. bytes.now) reply.entry) (option_map (λ s. s.now) shown.entry)) }
+    ensures { IfOk result (λ text.
+        text.items ≡ answer_text (option_map (λ bytes. bytes.now) reply.entry) (option_map (λ s. s.now) shown.entry)) }
 {
     let mut text = line_of(reply_text(alloc, reply)?)?;
     if let Some(shown) = shown {

@@ -33,7 +33,8 @@ pub(crate) fn put_text(
     key: &str,
     text: &str,
 ) -> Result<(), NoMemory>
-    ensures { OnOk result (members_view map.new.entries ≡ with_member key.now (string text.now) (members_view map.old.entries)) }
+    ensures { OnOk result (members_view map.new.entries
+        ≡ with_member key.now (string text.now) (members_view map.old.entries)) }
 {
     let text = Value::try_from_str(alloc, text)?;
     Ok(put(map, alloc, key, text)?)

@@ -90,7 +90,8 @@ fn registered(
     seen: Moment,
     settings: Settings,
 ) -> Result<Fields, NoMemory>
-    ensures told { IfOk result (λ fields. told_fields (Some fields) ≡ told_of stamp (What.Register base.version base.queue address seen settings)) }
+    ensures told { IfOk result (λ fields.
+        told_fields (Some fields) ≡ told_of stamp (What.Register base.version base.queue address seen settings)) }
     ensures keeps { IfOk result (λ fields. KeepsAttributes (told_fields (Some fields))) }
 {
     Ok(Fields {

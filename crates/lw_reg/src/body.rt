@@ -52,7 +52,8 @@ impl Body {
 
     /// Tells that what was seen of it is over. Where nothing was seen, nothing is told.
     pub(crate) fn lift(&mut self)
-        ensures lifted { (at : Stamps) (v : Moments) → self.old.seen.write ≡ Some (at, v) → self.new ≡ body_join self.old (ended_alone at) }
+        ensures lifted { (at : Stamps) (v : Moments) → self.old.seen.write ≡ Some (at, v)
+            → self.new ≡ body_join self.old (ended_alone at) }
         ensures unseen { self.old.seen.write ≡ None → self.new ≡ self.old }
         ensures maps { self.new.maps ≡ self.old.maps }
     {

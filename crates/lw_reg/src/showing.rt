@@ -17,7 +17,8 @@ impl Slot {
         // It is what the marks say that can be read from the slot,
         ensures read { ShownOf (shown_by endpoint.now self.now) (ms_of now) endpoint.now result }
         // and what every set of marks says whose state has this slot for the endpoint.
-        ensures marks { (ms : List Mark) → IsSlotOf ms endpoint.now self.now → ShownOf (among ms) (ms_of now) endpoint.now result }
+        ensures marks { (ms : List Mark) → IsSlotOf ms endpoint.now self.now
+            → ShownOf (among ms) (ms_of now) endpoint.now result }
     {
         self.shown(endpoint, now)
     }
@@ -26,7 +27,8 @@ impl Slot {
     pub fn expired(&self, now: Moment) -> bool
         ensures value { result ≡ is_late (ms_of now) (registered_in [] self.now) }
         ensures read { (e : List ℕ) → IsTrue result ↔ HasExpired (shown_by e self.now) (ms_of now) e }
-        ensures marks { (ms : List Mark) (e : List ℕ) → IsSlotOf ms e self.now → (IsTrue result ↔ HasExpired (among ms) (ms_of now) e) }
+        ensures marks { (ms : List Mark) (e : List ℕ) → IsSlotOf ms e self.now
+            → (IsTrue result ↔ HasExpired (among ms) (ms_of now) e) }
     {
         self.is_late(now)
     }
@@ -35,7 +37,8 @@ impl Slot {
     /// ended, where a field is not known yet, or where it never expires.
     pub fn deadline(&self) -> Option<u64>
         ensures value { result ≡ deadline_in self.now }
-        ensures expires { (now : ℕ) → IsSomeAnd result (λ d. d ≤ now) ↔ IsTrue (is_late now (registered_in [] self.now)) }
+        ensures expires { (now : ℕ) → IsSomeAnd result (λ d. d ≤ now)
+            ↔ IsTrue (is_late now (registered_in [] self.now)) }
     {
         let view = self.registered("")?;
         end_of(&view)

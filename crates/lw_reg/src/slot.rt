@@ -196,7 +196,8 @@ impl Slot {
     /// Tells that the registration is over, as it was last seen: the join with the slot of an Expire up to the stamp
     /// of that, in place. Where nothing was seen, nothing is told.
     pub fn lift(&mut self)
-        ensures lifted { (at : Stamps) (v : Moments) → seen_of self.old ≡ Some (at, v) → self.new ≡ slot_join self.old (ending (stamp_of self.old) at) }
+        ensures lifted { (at : Stamps) (v : Moments) → seen_of self.old ≡ Some (at, v)
+            → self.new ≡ slot_join self.old (ending (stamp_of self.old) at) }
         ensures unseen { seen_of self.old ≡ None → self.new ≡ self.old }
     {
         self.registration.value.lift();

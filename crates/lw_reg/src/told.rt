@@ -148,7 +148,8 @@ impl Told {
 
     /// Tells that what was seen of the registration is over. Where nothing was seen, nothing is told.
     pub(crate) fn lift(&mut self)
-        ensures lifted { (at : Stamps) (v : Moments) → (known_in self.old).seen.write ≡ Some (at, v) → self.new ≡ gone_join body_join self.old (Here (ended_alone at)) }
+        ensures lifted { (at : Stamps) (v : Moments) → (known_in self.old).seen.write ≡ Some (at, v)
+            → self.new ≡ gone_join body_join self.old (Here (ended_alone at)) }
         ensures unseen { (known_in self.old).seen.write ≡ None → self.new ≡ self.old }
     {
         match &mut self.kept {

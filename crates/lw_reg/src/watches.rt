@@ -24,7 +24,8 @@ impl Slot {
         // It is what the marks say that can be read from the slot,
         ensures read { (e : List ℕ) → WatchWith (shown_by e self.now) (ms_of now) e token result }
         // and what every set of marks says whose state has this slot for the endpoint.
-        ensures marks { (ms : List Mark) (e : List ℕ) → IsSlotOf ms e self.now → WatchWith (among ms) (ms_of now) e token result }
+        ensures marks { (ms : List Mark) (e : List ℕ) → IsSlotOf ms e self.now
+            → WatchWith (among ms) (ms_of now) e token result }
     {
         self.live_with(now, token)
     }
@@ -32,8 +33,10 @@ impl Slot {
     /// The live watch on the least path above the given one, or on the least of all.
     pub fn watch_after(&self, now: Moment, after: Option<&Path>) -> Option<Watch>
         ensures value { result ≡ live_watch (is_above (option_copied after.entry)) (ms_of now) self.now }
-        ensures read { (e : List ℕ) → WatchAfter (shown_by e self.now) (ms_of now) e (option_copied after.entry) result }
-        ensures marks { (ms : List Mark) (e : List ℕ) → IsSlotOf ms e self.now → WatchAfter (among ms) (ms_of now) e (option_copied after.entry) result }
+        ensures read { (e : List ℕ)
+            → WatchAfter (shown_by e self.now) (ms_of now) e (option_copied after.entry) result }
+        ensures marks { (ms : List Mark) (e : List ℕ) → IsSlotOf ms e self.now
+            → WatchAfter (among ms) (ms_of now) e (option_copied after.entry) result }
     {
         self.live_after(now, after)
     }

@@ -68,7 +68,8 @@ fn put_query(
 ) -> Result<(), NoMemory>
     requires { Rises text_cmp gathered.old.entries }
     ensures rise { OnOk result (Rises text_cmp gathered.new.entries) }
-    ensures each { OnOk result ((name : List ℕ) → get text_cmp gathered.new.entries name ≡ later_or (attribute_given name (query.now ∷ [])) (get text_cmp gathered.old.entries name)) }
+    ensures each { OnOk result ((name : List ℕ) → get text_cmp gathered.new.entries name
+        ≡ later_or (attribute_given name (query.now ∷ [])) (get text_cmp gathered.old.entries name)) }
     ensures err { OnErr result (GivesAttribute (query.now ∷ [])) }
 {
     let (name, value) = split_query(query);

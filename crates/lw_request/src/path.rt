@@ -22,7 +22,8 @@ pub(crate) fn is_directory(options: &[CoapOption]) -> bool
 
 /// The segment behind `rd`, where there is one and no more.
 pub(crate) fn entry_of(options: &[CoapOption]) -> Option<&[u8]>
-    ensures { (segment : List ℕ) → (option_copied result ≡ Some segment) ↔ (values_of 11 options.now ≡ codes "rd" ∷ segment ∷ []) }
+    ensures { (segment : List ℕ) → (option_copied result ≡ Some segment)
+        ↔ (values_of 11 options.now ≡ codes "rd" ∷ segment ∷ []) }
 {
     let first = value_at(options, URI_PATH, 0)?;
     let segment = value_at(options, URI_PATH, 1)?;

@@ -33,7 +33,8 @@ pub(crate) struct Parameters<'a> {
 /// The parameters of the queries, of which each has to be UTF-8.
 pub(crate) fn parameters_of(options: &[CoapOption]) -> Result<Parameters<'_>, BadQuery>
     ensures texts { OnOk result (AreTexts (values_of 15 options.now)) }
-    ensures given { IfOk result (λ found. (parameter : Parameter) → value_in found parameter ≡ given parameter (values_of 15 options.now)) }
+    ensures given { IfOk result (λ found. (parameter : Parameter)
+        → value_in found parameter ≡ given parameter (values_of 15 options.now)) }
     ensures err { OnErr result (¬ AreTexts (values_of 15 options.now)) }
 {
     let mut parameters = Parameters {
@@ -54,7 +55,8 @@ impl<'a> Parameters<'a> {
     /// The parameters with what a further option gives.
     fn with(self, option: &'a CoapOption) -> Result<Parameters<'a>, BadQuery>
         ensures texts { OnOk result (AreTexts (values_of 15 (option.now ∷ []))) }
-        ensures given { IfOk result (λ found. (parameter : Parameter) → value_in found parameter ≡ later_or (given parameter (values_of 15 (option.now ∷ []))) (value_in self.entry parameter)) }
+        ensures given { IfOk result (λ found. (parameter : Parameter)
+            → value_in found parameter ≡ later_or (given parameter (values_of 15 (option.now ∷ []))) (value_in self.entry parameter)) }
         ensures err { OnErr result (¬ AreTexts (values_of 15 (option.now ∷ []))) }
     {
         if option.number != URI_QUERY {
@@ -67,7 +69,8 @@ impl<'a> Parameters<'a> {
     }
 
     fn with_query(self, query: &'a str) -> Parameters<'a>
-        ensures { (parameter : Parameter) → value_in result parameter ≡ later_or (given parameter (query.now ∷ [])) (value_in self.entry parameter) }
+        ensures { (parameter : Parameter)
+            → value_in result parameter ≡ later_or (given parameter (query.now ∷ [])) (value_in self.entry parameter) }
     {
         let (name, value) = split_query(query);
         let value = Some(value);
@@ -119,7 +122,8 @@ pub(crate) fn settings_of<'a>(parameters: &Parameters<'a>) -> Result<LentSetting
     ensures lifetime { IfOk result (λ s. IsGiven IsLifetime (value_in parameters.now Lt) s.lifetime) }
     ensures binding { IfOk result (λ s. option_map binding_text s.binding ≡ value_in parameters.now B) }
     ensures sms { IfOk result (λ s. option_copied s.sms ≡ value_in parameters.now Sms) }
-    ensures err { OnErr result (IsNotAccepted Lt (value_in parameters.now Lt) ⊎ IsNotAccepted B (value_in parameters.now B)) }
+    ensures err { OnErr result (IsNotAccepted Lt (value_in parameters.now Lt)
+        ⊎ IsNotAccepted B (value_in parameters.now B)) }
 {
     Ok(LentSettings {
         lifetime: lifetime_in(parameters.lifetime)?,

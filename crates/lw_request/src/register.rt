@@ -40,11 +40,14 @@ struct Queries<'a> {
 
 fn queries_of(options: &[CoapOption]) -> Result<Queries<'_>, BadQuery>
     ensures texts { OnOk result (AreTexts (values_of 15 options.now)) }
-    ensures endpoint { IfOk result (λ q. (given Ep (values_of 15 options.now) ≡ Some q.endpoint.now) × (1 ≤ length q.endpoint.now)) }
+    ensures endpoint { IfOk result (λ q. (given Ep (values_of 15 options.now) ≡ Some q.endpoint.now)
+        × (1 ≤ length q.endpoint.now)) }
     ensures version { IfOk result (λ q. option_copied q.version ≡ given Lwm2m (values_of 15 options.now)) }
     ensures queue { IfOk result (λ q. q.queue ≡ is_some (given Q (values_of 15 options.now))) }
-    ensures lifetime { IfOk result (λ q. IsLifetime (unwrap_or (given Lt (values_of 15 options.now)) (codes "86400")) q.lifetime) }
-    ensures binding { IfOk result (λ q. binding_text q.binding ≡ unwrap_or (given B (values_of 15 options.now)) (codes "U")) }
+    ensures lifetime { IfOk result (λ q.
+        IsLifetime (unwrap_or (given Lt (values_of 15 options.now)) (codes "86400")) q.lifetime) }
+    ensures binding { IfOk result (λ q.
+        binding_text q.binding ≡ unwrap_or (given B (values_of 15 options.now)) (codes "U")) }
     ensures sms { IfOk result (λ q. option_copied q.sms ≡ given Sms (values_of 15 options.now)) }
     ensures err { OnErr result (HasBadQuery EachIsLookedAt (values_of 15 options.now)) }
 {
@@ -73,8 +76,10 @@ fn endpoint_in(given: Option<&str>) -> Result<&str, BadQuery>
 
 /// There is none where the client speaks another version.
 fn version_in(given: Option<&str>) -> Option<Version>
-    ensures some { IfSome result (λ version. version_text version ≡ unwrap_or (option_copied given.entry) (codes "1.0")) }
-    ensures none { IfNone result ((text : List ℕ) × (option_copied given.entry ≡ Some text) × ((version : Versions) → text ≢ version_text version)) }
+    ensures some { IfSome result (λ version.
+        version_text version ≡ unwrap_or (option_copied given.entry) (codes "1.0")) }
+    ensures none { IfNone result ((text : List ℕ) × (option_copied given.entry ≡ Some text)
+        × ((version : Versions) → text ≢ version_text version)) }
 {
     match given {
         None => Some(Version::V10),
@@ -115,7 +120,15 @@ fn make(
     requires sms { IsWithin 251 (option_copied queries.now.sms) }
     requires texts { AreTexts (values_of 15 options.now) }
     requires recognised { IsTrue (has_unrecognised options.now) → ⊥ }
-    ensures { IfOk result (λ asked. (attributes : List (List ℕ × List ℕ)) × GiveAttributes (values_of 15 options.now) attributes × (asked ≡ Asked.Register queries.now.endpoint.now version queries.now.queue (record { lifetime = queries.now.lifetime; binding = queries.now.binding; sms = option_copied queries.now.sms; objects = objects; attributes = attributes }))) }
+    ensures { IfOk result (λ asked. (attributes : List (List ℕ × List ℕ))
+        × GiveAttributes (values_of 15 options.now) attributes
+        × (asked ≡ Asked.Register queries.now.endpoint.now version queries.now.queue (record {
+          lifetime = queries.now.lifetime;
+          binding = queries.now.binding;
+          sms = option_copied queries.now.sms;
+          objects = objects;
+          attributes = attributes;
+        }))) }
 {
     Ok(Asked::Register {
         endpoint: Endpoint::copy_of(alloc, queries.endpoint)?,

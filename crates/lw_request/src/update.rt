@@ -67,7 +67,15 @@ fn make(
     requires sms { IsWithin 251 (option_copied settings.now.sms) }
     requires texts { AreTexts (values_of 15 options.now) }
     requires recognised { IsTrue (has_unrecognised options.now) → ⊥ }
-    ensures ok { IfOk result (λ asked. (attributes : List (List ℕ × List ℕ)) × GiveAttributes (values_of 15 options.now) attributes × (asked ≡ Asked.Update id (record { lifetime = settings.now.lifetime; binding = settings.now.binding; sms = option_copied settings.now.sms; objects = objects; attributes = attributes }))) }
+    ensures ok { IfOk result (λ asked. (attributes : List (List ℕ × List ℕ))
+        × GiveAttributes (values_of 15 options.now) attributes
+        × (asked ≡ Asked.Update id (record {
+          lifetime = settings.now.lifetime;
+          binding = settings.now.binding;
+          sms = option_copied settings.now.sms;
+          objects = objects;
+          attributes = attributes;
+        }))) }
     ensures err { OnErr result (IsSome settings.now.sms ⊎ GivesAttribute (values_of 15 options.now)) }
 {
     Ok(Asked::Update {

@@ -16,8 +16,10 @@ use std::alloc::Global;
 
 /// NODE, MS and ADDR, and the text behind them.
 pub(crate) fn sender(text: &str) -> Option<(u16, Moment, Addr, &str)>
-    ensures found { IfSome result (λ x. (IsShort ␣ IsMoment ␣ IsAddress ␣ IsRest) (x.0, (x.1, (x.2, x.3.now))) text.now) }
-    ensures none { IfNone result ((values : ℕ × (Moments × (Addrs × List ℕ))) → ¬ (IsShort ␣ IsMoment ␣ IsAddress ␣ IsRest) values text.now) }
+    ensures found { IfSome result (λ x.
+        (IsShort ␣ IsMoment ␣ IsAddress ␣ IsRest) (x.0, (x.1, (x.2, x.3.now))) text.now) }
+    ensures none { IfNone result ((values : ℕ × (Moments × (Addrs × List ℕ)))
+        → ¬ (IsShort ␣ IsMoment ␣ IsAddress ␣ IsRest) values text.now) }
 {
     let (node, now, rest) = opening(text)?;
     let (from, rest) = first(rest)?;

@@ -22,9 +22,11 @@ pub fn read_line(alloc: Global, line: &str) -> Result<Event, LineFault>
 
 /// The word before the first space, and the fields behind it.
 fn parts(line: &str) -> Option<(Word, &str)>
-    ensures found { IfSome result (λ x. HasSpace line.now × (before_first is_space line.now ≡ word_text x.0) × (x.1.now ≡ after_first is_space line.now)) }
+    ensures found { IfSome result (λ x. HasSpace line.now × (before_first is_space line.now ≡ word_text x.0)
+        × (x.1.now ≡ after_first is_space line.now)) }
     ensures only { IfSome result (λ x. (word : Words) → before_first is_space line.now ≡ word_text word → word ≡ x.0) }
-    ensures none { IfNone result ((word : Words) → HasSpace line.now → before_first is_space line.now ≢ word_text word) }
+    ensures none { IfNone result ((word : Words) → HasSpace line.now
+        → before_first is_space line.now ≢ word_text word) }
 {
     let (word, fields) = line.split_once(' ')?;
     Some((Word::read(word)?, fields))

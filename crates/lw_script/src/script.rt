@@ -96,7 +96,8 @@ fn read_lines(alloc: Global, text: &[u8]) -> Result<Progress, usize>
 impl Progress {
     /// What a further line makes of it, if the line is good.
     fn then(self, alloc: Global, line: &[u8]) -> Option<Progress>
-        ensures read { (lines : List (List ℕ)) → IsRead self lines → IfSome result (λ progress. IsRead progress (lines ++ line.now ∷ [])) }
+        ensures read { (lines : List (List ℕ)) → IsRead self lines
+            → IfSome result (λ progress. IsRead progress (lines ++ line.now ∷ [])) }
         ensures bad { (lines : List (List ℕ)) → IsRead self lines → IfNone result (¬ IsGood (length lines) line.now) }
     {
         match self {

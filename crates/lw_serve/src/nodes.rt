@@ -73,7 +73,8 @@ impl Nodes {
     ) -> Result<(Nodes, Vec<Done>), CrewFault>
         ensures shelves { IfOk result (λ r. r.0.shelves ≡ self.shelves) }
         ensures count { IfOk result (λ r. vec_len r.1 ≡ length jobs.now) }
-        ensures served { IfOk result (λ r. Serves self.shelves.items self.passes.items r.0.passes.items jobs.now r.1.items) }
+        ensures served { IfOk result (λ r.
+            Serves self.shelves.items self.passes.items r.0.passes.items jobs.now r.1.items) }
     {
         let Nodes {
             mut crew,
@@ -120,7 +121,8 @@ impl Nodes {
     /// Compares the transcripts of the passes with the volumes and the journals of the nodes.
     pub(crate) fn settle<R: Wait>(&self, rt: &R) -> Result<Settled, Unsettled>
         ensures settled { OnOk result (AreSettled self.now.shelves.items self.now.passes.items) }
-        ensures unsettled { IfErr result (IsUnsettled self.now.shelves.items self.now.volumes.items self.now.passes.items) }
+        ensures unsettled { IfErr result
+            (IsUnsettled self.now.shelves.items self.now.volumes.items self.now.passes.items) }
     {
         settle(rt, &self.shelves, &self.volumes, &self.passes)
     }

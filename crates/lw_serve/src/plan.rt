@@ -22,7 +22,8 @@ impl Plan {
     /// There is none outside the ranges.
     pub fn new(count: u32, nodes: u16, workers: u32, cut: Option<u32>) -> Option<Plan>
         ensures in_range { IsSome result ↔ (IsCount count × AreNodes nodes × AreWorkers workers × IsCut cut) }
-        ensures value { IfSome result (λ plan. (plan.count ≡ count) × (plan.nodes ≡ nodes) × (plan.workers ≡ workers) × (plan.cut ≡ cut)) }
+        ensures value { IfSome result (λ plan. (plan.count ≡ count) × (plan.nodes ≡ nodes) × (plan.workers ≡ workers)
+            × (plan.cut ≡ cut)) }
     {
         let is_planned = (1..=1_000_000).contains(&count)
             && (1..=16).contains(&nodes)

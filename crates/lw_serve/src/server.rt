@@ -63,7 +63,8 @@ impl Server {
     ) -> Result<Server, ServeFault>
         ensures shelves { IfOk result (λ server. server.nodes.shelves ≡ self.nodes.shelves) }
         ensures round { IfOk result (λ server. IsRound self.nodes.shelves.items now batch.items
-            self.nodes.passes.items server.nodes.passes.items self.kept.items server.kept.items self.since.items server.since.items) }
+            self.nodes.passes.items server.nodes.passes.items self.kept.items
+            server.kept.items self.since.items server.since.items) }
         ensures fault { IfErr result EndsRound }
     {
         let Server { nodes, kept, since } = self;

@@ -45,7 +45,8 @@ fn serve_rounds<R: Threads + Wait + Sync, W: Wire, C: HostClock, L: Log>(
     log: &L,
     plan: &Plan,
 ) -> Result<Server, ServeFault>
-    ensures over { IfOk result (λ server. AreOver plan.now server.nodes.shelves.items server.nodes.passes.items server.kept.items) }
+    ensures over { IfOk result (λ server.
+        AreOver plan.now server.nodes.shelves.items server.nodes.passes.items server.kept.items) }
     ensures fault { IfErr result EndsRounds }
 {
     let mut server = Server::new(alloc, plan)?;

@@ -68,7 +68,8 @@ fn copy_row(
     requires filed { IsFiled filed.old endpoint.now (row_at rows.old endpoint.now) }
     requires begun { MayBeCopied endpoint.now original.now rows.old }
     ensures others { OthersSame filed.old filed.new endpoint.now }
-    ensures copied { OnOk result (CopiesRow endpoint.now original.now rows.old rows.new × IsFiled filed.new endpoint.now (row_at original.now endpoint.now)) }
+    ensures copied { OnOk result (CopiesRow endpoint.now original.now rows.old rows.new
+        × IsFiled filed.new endpoint.now (row_at original.now endpoint.now)) }
 {
     if rows.get(endpoint).is_some() {
         return Ok(());

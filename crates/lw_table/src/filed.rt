@@ -97,7 +97,8 @@ fn has_key(row: Option<&Row>, key: &Key) -> bool
 fn add_all(index: &mut Index<Key>, endpoint: &str, keys: &[Key]) -> Result<(), NoMemory>
     ensures others { OtherKeys key_cmp endpoint.now index.old index.new }
     ensures stay { (k : Keys) → Has key_cmp index.old k endpoint.now → Has key_cmp index.new k endpoint.now }
-    ensures from { (k : Keys) → Has key_cmp index.new k endpoint.now → Has key_cmp index.old k endpoint.now ⊎ Contains keys.now k }
+    ensures from { (k : Keys) → Has key_cmp index.new k endpoint.now → Has key_cmp index.old k endpoint.now
+        ⊎ Contains keys.now k }
     ensures all { OnOk result ((k : Keys) → Contains keys.now k → Has key_cmp index.new k endpoint.now) }
 {
     for key in keys {
@@ -109,9 +110,11 @@ fn add_all(index: &mut Index<Key>, endpoint: &str, keys: &[Key]) -> Result<(), N
 // Drops those of the keys that the row lacks.
 fn drop_lacking(index: &mut Index<Key>, endpoint: &str, row: Option<&Row>, keys: &[Key])
     requires has { (k : Keys) → OptionHasKey (slot_of (option_copied row)) k → Has key_cmp index.old k endpoint.now }
-    requires from { (k : Keys) → Has key_cmp index.old k endpoint.now → OptionHasKey (slot_of (option_copied row)) k ⊎ Contains keys.now k }
+    requires from { (k : Keys) → Has key_cmp index.old k endpoint.now → OptionHasKey (slot_of (option_copied row)) k
+        ⊎ Contains keys.now k }
     ensures others { OtherKeys key_cmp endpoint.now index.old index.new }
-    ensures keys { (k : Keys) → Has key_cmp index.new k endpoint.now ↔ OptionHasKey (slot_of (option_copied row.entry)) k }
+    ensures keys { (k : Keys) → Has key_cmp index.new k endpoint.now
+        ↔ OptionHasKey (slot_of (option_copied row.entry)) k }
 {
     for key in keys {
         if !has_key(row, key) {

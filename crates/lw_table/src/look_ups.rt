@@ -30,7 +30,8 @@ impl Table {
     /// is in no contract.
     pub fn by_endpoint(&self, now: Moment, endpoint: &str) -> Option<View<'_>>
         ensures read { ShownOf (shown_in self.now.state) (ms_of now) endpoint.now result }
-        ensures marks { (ms : List Mark) → NamesAll (among ms) → IsStateOf ms self.now.state → ShownOf (among ms) (ms_of now) endpoint.now result }
+        ensures marks { (ms : List Mark) → NamesAll (among ms) → IsStateOf ms self.now.state
+            → ShownOf (among ms) (ms_of now) endpoint.now result }
     {
         self.view(now, endpoint)
     }
@@ -40,7 +41,8 @@ impl Table {
     /// looked for from the first name on.
     pub fn by_id(&self, now: Moment, id: Stamp) -> Option<View<'_>>
         ensures read { ById (shown_in self.now.state) (ms_of now) id result }
-        ensures marks { (ms : List Mark) → NamesAll (among ms) → IsStateOf ms self.now.state → ById (among ms) (ms_of now) id result }
+        ensures marks { (ms : List Mark) → NamesAll (among ms) → IsStateOf ms self.now.state
+            → ById (among ms) (ms_of now) id result }
     {
         self.first_shown(now, &self.filed.keys, &Key::Id(id))
     }
@@ -48,7 +50,8 @@ impl Table {
     /// Of the shown registrations with the address, the one that wrote it last.
     pub fn by_address(&self, now: Moment, address: Addr) -> Option<View<'_>>
         ensures read { ByAddress (shown_in self.now.state) (ms_of now) address result }
-        ensures marks { (ms : List Mark) → NamesAll (among ms) → IsStateOf ms self.now.state → ByAddress (among ms) (ms_of now) address result }
+        ensures marks { (ms : List Mark) → NamesAll (among ms) → IsStateOf ms self.now.state
+            → ByAddress (among ms) (ms_of now) address result }
     {
         held(self.last_holder(now, &self.filed.keys, &Key::Address(address)))
     }
@@ -56,7 +59,8 @@ impl Table {
     /// The live watch with the token, and its registration.
     pub fn by_token(&self, now: Moment, token: Stamp) -> Option<(View<'_>, Watch)>
         ensures read { ByToken (shown_in self.now.state) (ms_of now) token result }
-        ensures marks { (ms : List Mark) → NamesAll (among ms) → IsStateOf ms self.now.state → ByToken (among ms) (ms_of now) token result }
+        ensures marks { (ms : List Mark) → NamesAll (among ms) → IsStateOf ms self.now.state
+            → ByToken (among ms) (ms_of now) token result }
     {
         self.first_watched(now, token, &self.filed.keys)
     }
@@ -70,7 +74,8 @@ impl Table {
         after: Option<&Path>,
     ) -> Option<(View<'_>, Watch)>
         ensures read { WatchOfIdAfter (shown_in self.now.state) (ms_of now) id (option_copied after.entry) result }
-        ensures marks { (ms : List Mark) → NamesAll (among ms) → IsStateOf ms self.now.state → WatchOfIdAfter (among ms) (ms_of now) id (option_copied after.entry) result }
+        ensures marks { (ms : List Mark) → NamesAll (among ms) → IsStateOf ms self.now.state
+            → WatchOfIdAfter (among ms) (ms_of now) id (option_copied after.entry) result }
     {
         match self.by_id(now, id) {
             None => None,
@@ -81,7 +86,8 @@ impl Table {
     /// What is shown of the least endpoint above the given one by bytes, or of the least of all.
     pub fn first_after(&self, now: Moment, after: Option<&str>) -> Option<View<'_>>
         ensures read { FirstAfter (shown_in self.now.state) (ms_of now) (after_text after.entry) result }
-        ensures marks { (ms : List Mark) → NamesAll (among ms) → IsStateOf ms self.now.state → FirstAfter (among ms) (ms_of now) (after_text after.entry) result }
+        ensures marks { (ms : List Mark) → NamesAll (among ms) → IsStateOf ms self.now.state
+            → FirstAfter (among ms) (ms_of now) (after_text after.entry) result }
     {
         self.first_shown_after(now, after, &self.filed.names)
     }
@@ -89,8 +95,10 @@ impl Table {
     /// The least endpoint above the given one, or of all, whose registration has expired, and its identifier.
     /// It passes over those that are shown.
     pub fn expired_after(&self, now: Moment, after: Option<&str>) -> Option<(&str, Stamp)>
-        ensures read { ExpiredAfter (shown_in self.now.state) (ms_of now) (after_text after.entry) (option_map (λ x. (x.0.now, x.1)) result) }
-        ensures marks { (ms : List Mark) → NamesAll (among ms) → IsStateOf ms self.now.state → ExpiredAfter (among ms) (ms_of now) (after_text after.entry) (option_map (λ x. (x.0.now, x.1)) result) }
+        ensures read { ExpiredAfter (shown_in self.now.state) (ms_of now) (after_text after.entry)
+            (option_map (λ x. (x.0.now, x.1)) result) }
+        ensures marks { (ms : List Mark) → NamesAll (among ms) → IsStateOf ms self.now.state
+            → ExpiredAfter (among ms) (ms_of now) (after_text after.entry) (option_map (λ x. (x.0.now, x.1)) result) }
     {
         self.first_expired(now, after, &self.filed.names)
     }
@@ -144,7 +152,8 @@ impl Table {
         view: View<'a>,
         after: Option<&Path>,
     ) -> Option<(View<'a>, Watch)>
-        ensures { (slot : Slots) → get self.now.state view.entry.endpoint ≡ Some slot → result ≡ with_watch view.entry (live_watch (is_above (option_copied after.entry)) (ms_of now) slot) }
+        ensures { (slot : Slots) → get self.now.state view.entry.endpoint ≡ Some slot
+            → result ≡ with_watch view.entry (live_watch (is_above (option_copied after.entry)) (ms_of now) slot) }
     {
         let (_, slot) = self.slot(view.endpoint)?;
         let watch = slot.watch_after(now, after)?;
@@ -169,7 +178,8 @@ impl Table {
         token: Stamp,
         keys: &Index<Key>,
     ) -> Option<(View<'_>, Watch)>
-        ensures found { result ≡ first_of (watch_at (has_token token) (ms_of now) self.now.state) (endpoints_of key_cmp keys.now (Key.Token token)) }
+        ensures found { result ≡ first_of (watch_at (has_token token) (ms_of now) self.now.state)
+            (endpoints_of key_cmp keys.now (Key.Token token)) }
         ensures rise { IsStrictlySortedBy text_cmp (endpoints_of key_cmp keys.now (Key.Token token)) }
     {
         for endpoint in keys.of(&Key::Token(token)) {
@@ -181,7 +191,8 @@ impl Table {
     }
 
     fn last_holder(&self, now: Moment, keys: &Index<Key>, key: &Key) -> Option<(Stamp, View<'_>)>
-        ensures found { result ≡ last_of (holder_at (ms_of now) self.now.state) None (endpoints_of key_cmp keys.now key.now) }
+        ensures found { result
+            ≡ last_of (holder_at (ms_of now) self.now.state) None (endpoints_of key_cmp keys.now key.now) }
         ensures rise { IsStrictlySortedBy text_cmp (endpoints_of key_cmp keys.now key.now) }
     {
         let mut last = None;
@@ -192,7 +203,8 @@ impl Table {
     }
 
     fn first_shown_after(&self, now: Moment, after: Option<&str>, names: &Names) -> Option<View<'_>>
-        ensures found { result ≡ first_of (if_after (after_text after.entry) (view_at (ms_of now) self.now.state)) names.now }
+        ensures found { result
+            ≡ first_of (if_after (after_text after.entry) (view_at (ms_of now) self.now.state)) names.now }
         ensures rise { IsStrictlySortedBy text_cmp names.now }
     {
         for endpoint in names.from(after) {
@@ -211,7 +223,8 @@ impl Table {
         after: Option<&str>,
         names: &'a Names,
     ) -> Option<(&'a str, Stamp)>
-        ensures found { option_map (λ x. (x.0.now, x.1)) result ≡ first_of (if_after (after_text after.entry) (expired_at (ms_of now) self.now.state)) names.now }
+        ensures found { option_map (λ x. (x.0.now, x.1)) result
+            ≡ first_of (if_after (after_text after.entry) (expired_at (ms_of now) self.now.state)) names.now }
         ensures rise { IsStrictlySortedBy text_cmp names.now }
     {
         for endpoint in names.from(after) {

@@ -33,7 +33,8 @@ pub(crate) fn put(
     ensures others { OthersSame filed.old filed.new endpoint.now }
     ensures joined { IfOk result (λ moved. JoinsRowAt moved endpoint.now slot number rows.old rows.new filed.new) }
     ensures known { IsKnown (row_at rows.old endpoint.now) slot → IsOk result }
-    ensures unchanged { OnErr result (SameRows rows.old rows.new × IsFiled filed.new endpoint.now (row_at rows.old endpoint.now)) }
+    ensures unchanged { OnErr result (SameRows rows.old rows.new
+        × IsFiled filed.new endpoint.now (row_at rows.old endpoint.now)) }
 {
     match rows.firsts.get_mut(&end_of(endpoint)) {
         None => {
@@ -65,7 +66,8 @@ fn put_other(
     ensures others { OthersSame filed.old filed.new endpoint.now }
     ensures joined { IfOk result (λ moved. JoinsRowAt moved endpoint.now slot number rows.old rows.new filed.new) }
     ensures known { IsKnown (row_at rows.old endpoint.now) slot → IsOk result }
-    ensures unchanged { OnErr result (SameRows rows.old rows.new × IsFiled filed.new endpoint.now (row_at rows.old endpoint.now)) }
+    ensures unchanged { OnErr result (SameRows rows.old rows.new
+        × IsFiled filed.new endpoint.now (row_at rows.old endpoint.now)) }
 {
     match rows.others.get_mut(endpoint) {
         Some(row) => join_row(alloc, filed, row, endpoint, slot, number),
@@ -133,7 +135,8 @@ fn try_move(
     requires filed { IsFiled filed.old endpoint.now (Some row.old) }
     requires keys { IsTurning (Some row.old.slot) slot keys.now }
     ensures others { OthersSame filed.old filed.new endpoint.now }
-    ensures moved { OnOk result ((row.new ≡ moved_row row.old slot number) × IsOver filed.new endpoint.now (Some row.new) keys.now) }
+    ensures moved { OnOk result ((row.new ≡ moved_row row.old slot number)
+        × IsOver filed.new endpoint.now (Some row.new) keys.now) }
     ensures unchanged { OnErr result ((row.new ≡ row.old) × IsOver filed.new endpoint.now (Some row.new) keys.now) }
 {
     filed.enter(alloc, endpoint, may_revive(row, &slot), keys)?;
@@ -165,7 +168,8 @@ pub(crate) fn add_row(
     requires absent { row_at rows.old endpoint.now ≡ None }
     requires taken { taken ≡ has_end rows.old endpoint.now }
     ensures others { OthersSame filed.old filed.new endpoint.now }
-    ensures added { OnOk result (PutsRow endpoint.now row rows.old rows.new × IsFiled filed.new endpoint.now (Some row)) }
+    ensures added { OnOk result (PutsRow endpoint.now row rows.old rows.new
+        × IsFiled filed.new endpoint.now (Some row)) }
     ensures unchanged { OnErr result (SameRows rows.old rows.new × IsFiled filed.new endpoint.now None) }
 {
     let keys = turning(alloc, None, &row.slot)?;
@@ -193,7 +197,8 @@ fn try_add(
     requires absent { row_at rows.old endpoint.now ≡ None }
     requires taken { taken ≡ has_end rows.old endpoint.now }
     ensures others { OthersSame filed.old filed.new endpoint.now }
-    ensures added { OnOk result (PutsRow endpoint.now row rows.old rows.new × IsFiled filed.new endpoint.now (Some row)) }
+    ensures added { OnOk result (PutsRow endpoint.now row rows.old rows.new
+        × IsFiled filed.new endpoint.now (Some row)) }
     ensures unchanged { OnErr result (SameRows rows.old rows.new × IsOver filed.new endpoint.now None keys.now) }
 {
     filed.enter(alloc, endpoint, !row.slot.is_removed(), keys)?;

@@ -60,7 +60,8 @@ impl Names {
 
     /// The names from the given one on, or all: none that is above it is left out.
     pub(crate) fn from(&self, after: Option<&str>) -> btree_set::Range<'_, String>
-        ensures above { filter (is_after (after_text after.entry)) (map string_bytes result) ≡ filter (is_after (after_text after.entry)) self.now }
+        ensures above { filter (is_after (after_text after.entry)) (map string_bytes result)
+            ≡ filter (is_after (after_text after.entry)) self.now }
         ensures rise { IsStrictlySortedBy text_cmp self.now }
     {
         let Some(after) = after else {

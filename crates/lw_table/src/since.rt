@@ -17,7 +17,8 @@ impl Table {
     /// The slots that moved after this change number, endpoints rising; all of them once numbers have come to
     /// their end. It costs what it gives, which is in no contract.
     pub fn changed_since(&self, since: u64) -> Result<Vec<(&str, &Slot)>, NoMemory>
-        ensures { IfOk result (λ slots. IsSinceIn self.now.state self.now.count since (map (λ x. (x.0.now, x.1.now)) slots.items)) }
+        ensures { IfOk result (λ slots.
+            IsSinceIn self.now.state self.now.count since (map (λ x. (x.0.now, x.1.now)) slots.items)) }
     {
         let all = self.change == u64::MAX;
         let since = if all { None } else { Some(since) };
@@ -27,7 +28,8 @@ impl Table {
 
     /// The slots of these endpoints.
     fn slots(&self, endpoints: Vec<&str>) -> Result<Vec<(&str, &Slot)>, NoMemory>
-        ensures { IfOk result (λ slots. map (λ x. (x.0.now, x.1.now)) slots.items ≡ slots_at self.now.state (map (λ e. e.now) endpoints.entry.items)) }
+        ensures { IfOk result (λ slots. map (λ x. (x.0.now, x.1.now)) slots.items
+            ≡ slots_at self.now.state (map (λ e. e.now) endpoints.entry.items)) }
     {
         let mut slots = Vec::with_capacity(self.alloc, endpoints.len())?;
         for endpoint in endpoints {
@@ -56,7 +58,8 @@ fn endpoints_above(
 
 /// These endpoints, each once, and rising.
 fn in_order(mut endpoints: Vec<&str>) -> Vec<&str>
-    ensures members { (e : List ℕ) → Contains (map (λ e. e.now) result.items) e ↔ Contains (map (λ e. e.now) endpoints.entry.items) e }
+    ensures members { (e : List ℕ) → Contains (map (λ e. e.now) result.items) e
+        ↔ Contains (map (λ e. e.now) endpoints.entry.items) e }
     ensures rise { IsStrictlySortedBy text_cmp (map (λ e. e.now) result.items) }
 {
     endpoints.sort_unstable();

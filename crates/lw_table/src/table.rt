@@ -38,7 +38,8 @@ impl Model for Table {
 
     ghost view = { λ t. table_in t.rows t.change };
 
-    ghost invariant = { λ t. IsRows t.rows × IsTable t.filed.names t.filed.keys t.filed.numbers t.filed.due (table_in t.rows t.change) };
+    ghost invariant = { λ t. IsRows t.rows
+        × IsTable t.filed.names t.filed.keys t.filed.numbers t.filed.due (table_in t.rows t.change) };
 }
 
 impl Table {
@@ -59,7 +60,8 @@ impl Table {
     pub fn join(&mut self, endpoint: &Endpoint, slot: Slot) -> Result<(), NoMemory>
         ensures state { OnOk result (self.new.state ≡ state_join self.old.state (one_key endpoint.now slot)) }
         ensures count { OnOk result (Recounts self.old.state self.new.state self.old.count self.new.count) }
-        ensures known { IsSomeAnd (get self.old.state endpoint.now) (slot_below slot) → IsOk result × (self.new ≡ self.old) }
+        ensures known { IsSomeAnd (get self.old.state endpoint.now) (slot_below slot) → IsOk result
+            × (self.new ≡ self.old) }
         ensures unchanged { OnErr result (self.new ≡ self.old) }
     {
         let change = self.change.saturating_add(1);

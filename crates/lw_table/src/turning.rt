@@ -95,7 +95,8 @@ fn push_token(keys: &mut Vec<Key>, token: Option<Stamp>) -> Result<(), NoMemory>
 
 // The addresses that count, where the second has another.
 fn push_addresses(keys: &mut Vec<Key>, old: &Slot, other: &Slot) -> Result<(), NoMemory>
-    ensures { OnOk result (keys.new.items ≡ keys.old.items ++ differing_addresses (address_of old.now) (address_of other.now)) }
+    ensures { OnOk result (keys.new.items ≡ keys.old.items
+        ++ differing_addresses (address_of old.now) (address_of other.now)) }
 {
     let Some((_, address)) = other.address() else {
         return Ok(());
@@ -129,7 +130,8 @@ fn push_differing(
     old: Option<&Watching>,
     other: &Watching,
 ) -> Result<(), NoMemory>
-    ensures { OnOk result (keys.new.items ≡ keys.old.items ++ differing_tokens (token_was (option_copied old.entry)) (token_in other.now)) }
+    ensures { OnOk result (keys.new.items ≡ keys.old.items
+        ++ differing_tokens (token_was (option_copied old.entry)) (token_in other.now)) }
 {
     let was = token_was(old);
     let is = token_of(other);

@@ -60,7 +60,8 @@ impl World {
 
     /// Does what the event says. The world is given up where there is no memory for it.
     pub(crate) fn step(&mut self, event: &Event) -> Result<Outcome, NoMemory>
-        ensures { IfOk result (λ outcome. (h : History) → Keeps h self.old → (next : History) × Steps h event.now outcome next × Keeps next self.new) }
+        ensures { IfOk result (λ outcome. (h : History) → Keeps h self.old → (next : History)
+            × Steps h event.now outcome next × Keeps next self.new) }
     {
         match self.place(event.node) {
             Some(place) => self.act(place, &event.action),

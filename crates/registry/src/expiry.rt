@@ -30,7 +30,9 @@ pub fn expire(alloc: Global, node: &mut Node, now: Moment) -> Result<String, Lin
 
 /// The line of the registration that a sweep ends.
 fn next_to_expire(alloc: Global, node: &Node, now: Moment) -> Result<String, NoMemory>
-    ensures { IfOk result (λ text. (found : Option (List ℕ × Stamps)) × ExpiredAfter (shown_in node.now.table.state) (ms_of now) None found × (string_bytes text ≡ expired_line found)) }
+    ensures { IfOk result (λ text. (found : Option (List ℕ × Stamps))
+        × ExpiredAfter (shown_in node.now.table.state) (ms_of now) None found
+        × (string_bytes text ≡ expired_line found)) }
 {
     match node.expired_after(now, None) {
         Some((endpoint, id)) => event_line(alloc, "expired", &stale_text(alloc, endpoint, id)?),

@@ -52,7 +52,9 @@ impl Registry {
     /// First a registration that has expired ends, if there is one. Then the datagram is taken, a device that has
     /// registered is observed, and what has changed is passed on.
     fn receive(&mut self, alloc: Global, received: &Received) -> Result<String, LineFault>
-        ensures { IfOk result (λ text. Receives self.old received.now.moment received.now.from received.now.datagram.items (string_bytes text) self.new) }
+        ensures { IfOk result (λ text.
+            Receives self.old received.now.moment received.now.from received.now.datagram.items
+            (string_bytes text) self.new) }
     {
         let expired = expire(alloc, &mut self.node, received.moment)?;
         let (taken, event) = take(alloc, &mut self.node, received)?;

@@ -39,7 +39,8 @@ fn take_lines<W: Write>(
     input: &[u8],
     writer: &mut W,
 ) -> Result<(), Fault>
-    ensures { OnOk result (TellsAll registry.old (lines_of input.now) registry.new (W.contents writer.old) (W.contents writer.new)) }
+    ensures { OnOk result (TellsAll registry.old (lines_of input.now) registry.new (W.contents writer.old)
+        (W.contents writer.new)) }
 {
     for (place, line) in input.split(|byte| *byte == b'\n').enumerate() {
         take_line(alloc, registry, place + 1, line, writer)?;
@@ -55,7 +56,8 @@ fn take_line<W: Write>(
     line: &[u8],
     writer: &mut W,
 ) -> Result<(), Fault>
-    ensures { OnOk result (TellsLine registry.old line.now registry.new (W.contents writer.old) (W.contents writer.new)) }
+    ensures { OnOk result (TellsLine registry.old line.now registry.new (W.contents writer.old)
+        (W.contents writer.new)) }
 {
     match registry.take_line(alloc, line) {
         Ok(text) => write(writer, text.as_bytes()),

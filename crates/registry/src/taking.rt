@@ -15,7 +15,8 @@ use std::alloc::Global;
 
 /// Takes the datagram: what the node gives for it, and what it has changed.
 pub fn take(alloc: Global, node: &mut Node, received: &Received) -> Result<(Taken, Event), NoMemory>
-    ensures { IfOk result (λ x. IsTaken node.old (ms_of received.now.moment) received.now.from received.now.datagram.items x.0 x.1 node.new) }
+    ensures { IfOk result (λ x.
+        IsTaken node.old (ms_of received.now.moment) received.now.from received.now.datagram.items x.0 x.1 node.new) }
 {
     let before = node.change();
     let taken = node.take(received.moment, received.from, received.datagram.as_slice())?;

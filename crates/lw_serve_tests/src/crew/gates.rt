@@ -169,7 +169,8 @@ fn counted<R: Threads + Wait + Sync, C: Clock + Sync>(
 ) -> Result<String, Fail> {
     let jobs = registers(alloc, &[1, 2, 3, 1, 2, 3, 1, 2, 3])?;
     let (shelves, passes) = set_up(alloc, 3, 3)?;
-    let (_passes, result) = serve_jobs(rt, alloc, &shelves, passes, &jobs, gate);
+    let mut crew = Crew::new();
+    let (_passes, result) = crew.serve_jobs(rt, alloc, &shelves, passes, &jobs, gate);
     match result {
         Ok(dones) => Ok(format!(in alloc; "{:?}", gate.counts(&dones))?),
         Err(_) => Err("results".into()),

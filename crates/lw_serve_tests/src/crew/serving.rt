@@ -102,7 +102,8 @@ fn do_at_once<R: Threads + Wait + Sync, G: Gate>(
     gate: &G,
 ) -> Result<(), Fail> {
     let (shelves, passes) = set_up(alloc, 2, 2)?;
-    let (mut passes, result) = serve_jobs(rt, alloc, &shelves, passes, jobs, gate);
+    let mut crew = Crew::new();
+    let (mut passes, result) = crew.serve_jobs(rt, alloc, &shelves, passes, jobs, gate);
     are_registered(rt, alloc, &shelves, &mut passes, &result)
 }
 
