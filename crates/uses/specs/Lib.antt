@@ -1,3 +1,4 @@
+pub mod Embedded
 pub mod Finding
 pub mod Naming
 pub mod Meeting

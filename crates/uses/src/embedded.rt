@@ -1,5 +1,9 @@
 //! A server of one's own, in a few lines.
 
+ghost use Rattle.std.specs.Prelude.{IfOk};
+ghost use Rattle.lw_stamp.specs.Moment.{ms_of};
+ghost use Rattle.uses.specs.Embedded.{AreTenLines};
+
 use lw_call::{ClockEnd, MergeFault, Notice, ObserveFault};
 use lw_node::Node;
 use lw_reg::{Addr, Path, View};
@@ -50,7 +54,11 @@ pub fn ten_lines<S: Server>(
     peer: &mut Node,
     kept: u64,
     wish: &Wish<'_>,
-) -> Result<u64, Fault> {
+) -> Result<u64, Fault>
+    ensures { IfOk result (λ next.
+        AreTenLines (ms_of wish.now.now) wish.now.from wish.now.datagram.now wish.now.id wish.now.path wish.now.mid
+        kept peer.old next peer.new) }
+{
     let Wish {
         now,
         from,
