@@ -56,7 +56,8 @@ pub fn ten_lines<S: Server>(
     wish: &Wish<'_>,
 ) -> Result<u64, Fault>
     ensures { IfOk result (λ next.
-        AreTenLines (ms_of wish.now.now) wish.now.from wish.now.datagram.now wish.now.id wish.now.path wish.now.mid
+        AreTenLines (ms_of wish.entry.now.now) wish.entry.now.from wish.entry.now.datagram.now wish.entry.now.id
+        wish.entry.now.path wish.entry.now.mid
         kept peer.old next peer.new) }
 {
     let Wish {
