@@ -2,3 +2,4 @@ mod EventLemmas
 mod FleetLemmas
 mod ObserveLemmas
 mod RunLemmas
+mod StepLemmas

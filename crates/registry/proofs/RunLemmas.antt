@@ -1,15 +1,13 @@
 -- Lines that are taken in turn, and what is printed of them.
-use Rattle.std.proofs.Common.{◌≡◌, ◌∙◌, ◌++◌, ◌+◌, ◌<◌, ℕ, List, [], ◌∷◌, length, take, get_or, Option, Some, None, Result, Ok, Err, refl, sym, ap, subst, arith, append_assoc, append-nil}
+use Rattle.std.proofs.Common.{Bor, ◌≤◌, map, ◌≡◌, ◌∙◌, ◌++◌, ◌+◌, ◌<◌, ℕ, List, [], ◌∷◌, length, take, get_or, Option, Some, None, Result, Ok, Err, refl, sym, ap, subst, arith, append_assoc, append-nil}
 use Rattle.std.specs.Prelude.{IfOk, IfSome, OnOk}
-use Rattle.std.specs.List.{enumerate_from}
 use Rattle.std.specs.Io.KnownBytes.{Appends}
 use Rattle.std.proofs.KnownBytes.{Appends-trans}
 use Rattle.std.specs.Iterator.{Yields}
 use Rattle.std.proofs.Math.Seq.{take-length}
 use Rattle.std.proofs.lemmas.Iterator.{YieldsList}
 use Rattle.std.proofs.lemmas.Iterator.Consumers.{YieldsList-turn, YieldsList-end}
-use Rattle.std.proofs.lemmas.List.{take_more}
-use Rattle.std.proofs.lemmas.List.FromFn.{length-enumerate_from, get_or-enumerate_from}
+use Rattle.std.proofs.lemmas.List.{take_more, take_all, get_or-map, length-map, map-append}
 use Rattle.registry.specs.declared.registry.Registry.{Registry}
 use Rattle.registry.specs.Fleet.{AreFleets}
 use Rattle.registry.specs.Run.{lines_of, Tells, TellsLine, TellsAll, Prints}
@@ -32,11 +30,36 @@ told_more lines n m line old mid new before between after one at told more =
     let same : take m lines ≡ take n lines ++ line ∷ [] = ap (λ k. take k lines) one ∙ take_more lines n line at.0 ∙ ap (λ x. take n lines ++ x ∷ []) (sym at.1) in
     (told.0 ++ more.0, subst (λ (ls : List (List ℕ)). Tells old ls (told.0 ++ more.0) new) (sym same) (tells_push old mid new (take n lines) line told.0 more.0 told.1 more.1), Appends-trans before between after told.0 more.0 told.2 more.2)
 
+-- so of lines that are lent
+pub told_next : (lent : List (Bor (List ℕ))) (n : ℕ) (d : Bor (List ℕ)) (old mid new : Registry) (before between after : Option (List ℕ)) → n < length lent → TellsAll old (take n (map (λ l. l.now) lent)) mid before between → TellsLine mid (get_or lent n d).now new between after → TellsAll old (take (n + 1) (map (λ l. l.now) lent)) new before after
+told_next lent n d old mid new before between after less told more =
+    let lines : List (List ℕ) = map (λ l. l.now) lent in
+    let line : List ℕ = (get_or lent n d).now in
+    let below : n < length lines = omega (arith, length-map lent (λ (l : Bor (List ℕ)). l.now), less) in
+    let here : line ≡ get_or lines n line = sym (get_or-map (λ (l : Bor (List ℕ)). l.now) lent n d line less) in
+    told_more lines n (n + 1) line old mid new before between after refl (below, here) told more
+
 -- all lines are taken
-pub told_all : (lines : List (List ℕ)) (n : ℕ) (old new : Registry) (before after : Option (List ℕ)) → n ≡ length (enumerate_from 0 lines) → TellsAll old (take n lines) new before after → TellsAll old lines new before after
-told_all lines n old new before after all told =
-    let whole : n ≡ length lines = all ∙ length-enumerate_from 0 lines in
-    subst (λ (ls : List (List ℕ)). TellsAll old ls new before after) (ap (λ k. take k lines) whole ∙ take-length lines) told
+pub told_all : (lent : List (Bor (List ℕ))) (n : ℕ) (old new : Registry) (before after : Option (List ℕ)) → length lent ≤ n → TellsAll old (take n (map (λ l. l.now) lent)) new before after → TellsAll old (map (λ l. l.now) lent) new before after
+told_all lent n old new before after all told =
+    let lines : List (List ℕ) = map (λ l. l.now) lent in
+    let whole : length lines ≤ n = omega (arith, length-map lent (λ (l : Bor (List ℕ)). l.now), all) in
+    subst (λ (ls : List (List ℕ)). TellsAll old ls new before after) (take_all n lines whole) told
+
+-- the lines that are kept, when one more is
+pub kept_more : (lines : List (List ℕ)) (kept more : List (Bor (List ℕ))) (n m : ℕ) (line : Bor (List ℕ)) → m ≡ n + 1 → (n < length lines) × (line.now ≡ get_or lines n line.now) → map (λ l. l.now) kept ≡ take n lines → more ≡ kept ++ line ∷ [] → map (λ l. l.now) more ≡ take m lines
+kept_more lines kept more n m line one at was is =
+    let same : take m lines ≡ take n lines ++ line.now ∷ [] = ap (λ k. take k lines) one ∙ take_more lines n line.now at.0 ∙ ap (λ x. take n lines ++ x ∷ []) (sym at.1) in
+    ap (map (λ (l : Bor (List ℕ)). l.now)) is ∙ map-append (λ (l : Bor (List ℕ)). l.now) kept (line ∷ []) ∙ ap (λ ls. ls ++ line.now ∷ []) was ∙ sym same
+
+-- all are kept
+pub kept_all : (lines kept : List (List ℕ)) (n : ℕ) → n ≡ length lines → kept ≡ take n lines → kept ≡ lines
+kept_all lines kept n all is = is ∙ ap (λ k. take k lines) all ∙ take-length lines
+
+-- the lines are those of the input
+pub told_lines : (lent items : List (Bor (List ℕ))) (lines : List (List ℕ)) (old new : Registry) (before after : Option (List ℕ)) → lent ≡ items → map (λ l. l.now) items ≡ lines → TellsAll old (map (λ l. l.now) lent) new before after → TellsAll old lines new before after
+told_lines lent items lines old new before after same are told =
+    subst (λ (ls : List (List ℕ)). TellsAll old ls new before after) (ap (map (λ (l : Bor (List ℕ)). l.now)) same ∙ are) told
 
 -- the whole input
 pub prints : (known before between after : Option (List ℕ)) (bytes slice fleets written : List ℕ) (first last : Registry) → IfSome known (λ all. bytes ≡ all) → slice ≡ bytes → IsNew first → TellsAll first (lines_of slice) last before between → AreFleets last fleets → written ≡ fleets → Appends between after written → Prints known before after
@@ -66,12 +89,6 @@ on_ok (Ok x) P Q h f = f h
 on_ok (Err e) P Q h f = tt
 
 -- ---- the lines that an iterator gives
-pub numbered : (lines : List (List ℕ)) (n place : ℕ) (line : List ℕ) → (n < length (enumerate_from 0 lines)) × ((place, line) ≡ get_or (enumerate_from 0 lines) n (place, line)) → (n < length lines) × (line ≡ get_or lines n line)
-numbered lines n place line turn =
-    let less : n < length lines = omega (arith, length-enumerate_from 0 lines, turn.0) in
-    let at = turn.1 ∙ get_or-enumerate_from 0 lines n (place, line) less in
-    (less, ap (λ p. p.1) at)
-
 pub turn_by : {S A B : Type 0} {steps : S → Option A → S → Type 0} {v : A → B} {s : S} {all : List B} (xs : List A) (t : S) (y : Yields steps s xs t) (r : Option A) (u : S) (x : A) → r ≡ Some x → steps t r u → YieldsList steps v s all → (length xs < length all) × (v x ≡ get_or all (length xs) (v x))
 turn_by xs t y r u x is step road = YieldsList-turn road xs t y r u x is step
 

@@ -6,7 +6,6 @@ use Rattle.lw_stamp.specs.declared.stamp.Stamp.{Stamp}
 use Rattle.lw_coap.specs.Code.{code_of}
 use Rattle.lw_reg.specs.declared.slot.Slot.{Slot}
 use Rattle.lw_reg.specs.Reading.{shown_in, stamp_of}
-use Rattle.lw_reg.specs.Registration.{Registration}
 use Rattle.lw_reg.specs.Showing.{ShownOf}
 use Rattle.lw_table.specs.Changes.{IsSinceIn}
 use Rattle.lw_node.specs.Node.{NodeContent}

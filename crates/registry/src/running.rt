@@ -1,12 +1,13 @@
 //! The program over any reader and writer.
 
-ghost use Rattle.std.specs.Prelude.{◌≡◌, IfOk, IfSome, OnOk};
+ghost use Rattle.std.specs.Prelude.{◌≡◌, map, IfOk, IfSome, OnOk};
 ghost use Rattle.std.specs.Io.KnownBytes.{Appends};
 ghost use Rattle.registry.specs.Run.{lines_of, TellsLine, TellsAll, Prints};
 
 use crate::fault::Fault;
 use crate::fleet::fleets_text;
 use crate::registry::Registry;
+use lw_stamp::NoMemory;
 use std::alloc::Global;
 use std::io::{Read, Write};
 
@@ -16,8 +17,9 @@ pub fn run<R: Read, W: Write>(alloc: Global, reader: &mut R, writer: &mut W) -> 
     ensures { OnOk result (Prints (R.remaining reader.old) (W.contents writer.old) (W.contents writer.new)) }
 {
     let input = read_all(alloc, reader)?;
+    let all = lines(alloc, &input)?;
     let mut registry = Registry::new(alloc);
-    take_lines(alloc, &mut registry, &input, writer)?;
+    take_lines(alloc, &mut registry, &all, writer)?;
     let fleets = fleets_text(alloc, &registry)?;
     write(writer, fleets.as_bytes())
 }
@@ -32,18 +34,29 @@ fn read_all<R: Read>(alloc: Global, reader: &mut R) -> Result<Vec<u8>, Fault>
     }
 }
 
+/// The lines between line feeds.
+fn lines(alloc: Global, input: &[u8]) -> Result<Vec<&[u8]>, NoMemory>
+    ensures { IfOk result (λ lines. map (λ line. line.now) lines.items ≡ lines_of input.now) }
+{
+    let mut lines = Vec::new(alloc);
+    for line in input.split(|byte| *byte == b'\n') {
+        lines.push(line)?;
+    }
+    Ok(lines)
+}
+
 /// Takes the lines in turn.
 fn take_lines<W: Write>(
     alloc: Global,
     registry: &mut Registry,
-    input: &[u8],
+    lines: &[&[u8]],
     writer: &mut W,
 ) -> Result<(), Fault>
-    ensures { OnOk result (TellsAll registry.old (lines_of input.now) registry.new (W.contents writer.old)
-        (W.contents writer.new)) }
+    ensures { OnOk result (TellsAll registry.old (map (λ line. line.now) lines.now) registry.new
+        (W.contents writer.old) (W.contents writer.new)) }
 {
-    for (place, line) in input.split(|byte| *byte == b'\n').enumerate() {
-        take_line(alloc, registry, place + 1, line, writer)?;
+    for place in 0..lines.len() {
+        take_line(alloc, registry, place + 1, lines[place], writer)?;
     }
     Ok(())
 }
