@@ -44,6 +44,6 @@ taken_text taken event = reply_line taken.reply ++ (notice_line taken.notice ++ 
 abbrev pub send_line : OutgoingContent → List ℕ
 send_line request = codes "send " ++ (addr_text request.to ++ (codes " " ++ (encode_lower request.bytes ++ codes "\n")))
 
--- the list of objects has the link of the device object
+-- the link of the device object stands in the text of the list of objects, also where that is inside an attribute
 abbrev pub HasDevice : List ℕ → Type 0
 HasDevice objects = HasSubslice objects (codes "</3/0>")
