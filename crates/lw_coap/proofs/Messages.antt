@@ -7,7 +7,7 @@ use Rattle.lw_coap.specs.declared.message.Kind.TheVariants.{Con, Non, Ack, Rst}
 use Rattle.lw_coap.specs.Message.{OptionContent, MessageContent}
 use Rattle.lw_coap.specs.Grammar.{IsHeader, number_after, IsPayload, IsSpelling, kind_number}
 use Rattle.lw_coap.specs.Faults.{IsOptionsFault, HasHead, IsBodyFault, IsFault}
-use Rattle.lw_coap.specs.Body.{IsBody, IsFrame, Reads}
+use Rattle.lw_coap.specs.inner.Body.{IsBody, IsFrame, Reads}
 use Rattle.lw_coap.proofs.Once.{cons_one, front_one, options_one, payload_one}
 use Rattle.lw_coap.proofs.PartOnce.{First, first_one, payload_no_option, options_fault_one, options_no_fault}
 

@@ -4,7 +4,7 @@ use Rattle.std.proofs.lemmas.List.{take-append-drop, length-take-le}
 use Rattle.std.proofs.lemmas.Bool.{cases_lt}
 use Rattle.lw_coap.specs.Grammar.{IsExtended, IsOption}
 use Rattle.lw_coap.specs.Faults.{HasExtension, HasReserved, IsCutHead, BeginsOption}
-use Rattle.lw_coap.specs.Body.{IsBodyEnd}
+use Rattle.lw_coap.specs.inner.Body.{IsBodyEnd}
 use Rattle.lw_coap.proofs.Bytes.{extension_counts}
 
 -- what does not end a body has a first byte, which is no marker

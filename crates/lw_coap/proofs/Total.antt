@@ -9,7 +9,7 @@ use Rattle.lw_coap.specs.declared.message.Kind.TheVariants.{Con, Non, Ack, Rst}
 use Rattle.lw_coap.specs.Message.{OptionContent, MessageContent}
 use Rattle.lw_coap.specs.Grammar.{IsExtended, IsOption, IsPayload, IsHeader, IsSpelling, kind_number}
 use Rattle.lw_coap.specs.Faults.{HasExtension, BeginsOption, IsPartFault, IsOptionsFault, HasHead, IsFault}
-use Rattle.lw_coap.specs.Body.{IsBody, IsFrame}
+use Rattle.lw_coap.specs.inner.Body.{IsBody, IsFrame}
 use Rattle.lw_coap.proofs.Bytes.{IsBytes, head_at}
 use Rattle.lw_coap.proofs.OptionAt.{reserved, cut_delta, cut_length, begins, found}
 use Rattle.lw_coap.proofs.Walk.{IsWalked, none_walked, walked_more, walked_fault, walked_all, option_takes}

@@ -5,7 +5,7 @@ use Rattle.lw_coap.specs.declared.fault.Fault.{Fault}
 use Rattle.lw_coap.specs.Message.{OptionContent}
 use Rattle.lw_coap.specs.Grammar.{IsOption, AreOptions, number_after, IsPayload}
 use Rattle.lw_coap.specs.Faults.{IsPartFault, IsOptionsFault}
-use Rattle.lw_coap.specs.Body.{IsBody}
+use Rattle.lw_coap.specs.inner.Body.{IsBody}
 
 -- the body is these options, of which the last has this number, and then the rest
 pub record IsWalked (body : List ℕ) (options : List OptionContent) (number : ℕ) (rest : List ℕ) : Type 0 where

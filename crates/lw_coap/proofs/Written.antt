@@ -6,7 +6,7 @@ use Rattle.lw_coap.specs.declared.message.Kind.TheVariants.{Con, Non, Ack, Rst}
 use Rattle.lw_coap.specs.Message.{OptionContent, MessageContent}
 use Rattle.lw_coap.specs.Grammar.{IsExtended, IsOption, AreOptions, IsPayload, IsSpelling, kind_number}
 use Rattle.lw_coap.specs.Fits.{extension_length, option_length, options_length, payload_length, printed_length, AreRising, Fits}
-use Rattle.lw_coap.specs.Writing.{nibble_of, extension_of, option_bytes, options_bytes, payload_bytes, header_bytes, message_bytes}
+use Rattle.lw_coap.specs.inner.Writing.{nibble_of, extension_of, option_bytes, options_bytes, payload_bytes, header_bytes, message_bytes}
 
 -- ---- extended numbers
 

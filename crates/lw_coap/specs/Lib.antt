@@ -5,5 +5,4 @@ pub mod Fits
 pub mod Number
 pub mod Code
 pub mod Header
-pub mod Body
-pub mod Writing
+pub mod inner

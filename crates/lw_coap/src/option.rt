@@ -1,7 +1,7 @@
 ghost use Rattle.std.specs.Prelude.{◌≡◌, ℕ, ◌<◌, List, ◌++◌, length, IfSome, IfNone, IfOk, IfErr};
 ghost use Rattle.lw_coap.specs.Grammar.{IsExtended, IsOption};
 ghost use Rattle.lw_coap.specs.Faults.{HasExtension, IsPartFault};
-ghost use Rattle.lw_coap.specs.Body.{IsBodyEnd};
+ghost use Rattle.lw_coap.specs.inner.Body.{IsBodyEnd};
 
 use crate::fault::Fault;
 

@@ -3,7 +3,7 @@ ghost use Rattle.lw_coap.specs.declared.fault.Fault.{Fault};
 ghost use Rattle.lw_coap.specs.Message.{MessageContent, OptionContent};
 ghost use Rattle.lw_coap.specs.Grammar.{IsSpelling, IsPayload};
 ghost use Rattle.lw_coap.specs.Faults.{IsFault, IsOptionsFault, IsPartFault};
-ghost use Rattle.lw_coap.specs.Body.{IsBodyEnd, IsBody, IsFrame, Reads};
+ghost use Rattle.lw_coap.specs.inner.Body.{IsBodyEnd, IsBody, IsFrame, Reads};
 
 use crate::fault::Fault;
 use crate::header::read_header;

@@ -1,7 +1,7 @@
 ghost use Rattle.std.specs.Prelude.{◌≡◌, ◌≤◌, ◌<◌, ◌++◌, length, OnOk, IfOk};
 ghost use Rattle.lw_coap.specs.Grammar.{IsSpelling};
 ghost use Rattle.lw_coap.specs.Fits.{AreRising, options_length, Fits};
-ghost use Rattle.lw_coap.specs.Writing.{nibble_of, extension_of, option_bytes, options_bytes, payload_bytes, header_bytes, message_bytes};
+ghost use Rattle.lw_coap.specs.inner.Writing.{nibble_of, extension_of, option_bytes, options_bytes, payload_bytes, header_bytes, message_bytes};
 
 use crate::limits::PAYLOAD_MARKER;
 use crate::message::{CoapOption, Kind, Message};

@@ -11,16 +11,17 @@ use Rattle.lw_held.specs.Agree.{AreDistinct}
 use Rattle.lw_held.specs.Transcript.{Transcript}
 use Rattle.lw_crew.specs.declared.job.Job.{Job}
 use Rattle.lw_crew.specs.declared.job.Done.{Done}
-use Rattle.lw_crew.specs.declared.job.Outcome.{Outcome}
-use Rattle.lw_crew.specs.declared.job.Outcome.TheVariants.{At, NoMemory, NoSuchNode}
-use Rattle.lw_crew.specs.Claims.{AreTrueBelow, Claims, Holds, IsAt, IsTold, MayBeTold, MayClaim, MayHold}
+use Rattle.lw_crew.specs.declared.job.JobOutcome.{JobOutcome}
+use Rattle.lw_crew.specs.declared.job.JobOutcome.TheVariants.{At, NoMemory, NoSuchNode}
+use Rattle.lw_crew.specs.inner.Claims.{AreTrueBelow, Claims, Holds, IsAt, IsTold, MayBeTold, MayClaim, MayHold}
 use Rattle.lw_crew.specs.Jobs.{AreTrue, HasMade, IsGained, IsOutcome, IsPartOf}
-use Rattle.lw_crew.specs.Refusals.{AreTrueTo, IsTrueAt}
+use Rattle.lw_crew.specs.Refusals.{IsTrueAt}
+use Rattle.lw_crew.specs.inner.Refusals.{AreTrueTo}
 use Rattle.lw_crew.proofs.Slots.{equal_or_not, same_some}
 
 -- ---- one result more
 -- the least numbers that may come next only rise
-pub record Rises (old new : List ℕ) (after : List Transcript) (outcome : Outcome) : Type 0 where
+pub record Rises (old new : List ℕ) (after : List Transcript) (outcome : JobOutcome) : Type 0 where
   pub len : length new ≡ length old
   pub up : (i : ℕ) → slice_index old i ≤ slice_index new i
   pub free : (pass number place : ℕ) → IsPartOf outcome pass number → IsAt after pass place → slice_index old place ≤ number
@@ -70,7 +71,7 @@ claims_rise old new after job pass number len distinct claim = record {
       | inr n ↦ inl (get_or-set_other old claim.place place (number + 1) 0 n)
     ]
 
-stays : (old new : List ℕ) (after : List Transcript) (outcome : Outcome) → ((pass number : ℕ) → ¬ IsPartOf outcome pass number) → new ≡ old → Rises old new after outcome
+stays : (old new : List ℕ) (after : List Transcript) (outcome : JobOutcome) → ((pass number : ℕ) → ¬ IsPartOf outcome pass number) → new ≡ old → Rises old new after outcome
 stays old new after outcome none same = record {
   len = ap length same;
   up = λ i. let e : slice_index new i ≡ slice_index old i = ap (λ ns. slice_index ns i) same in omega (arith, e);
@@ -79,12 +80,12 @@ stays old new after outcome none same = record {
   last = λ place. inl (ap (λ ns. slice_index ns place) same);
 }
 
-rises : (shelves : List Shelf) (old new : List ℕ) (after : List Transcript) (job : Job) (outcome : Outcome) → length old ≡ length after → AreDistinct after → Holds shelves old new after job outcome → Rises old new after outcome
+rises : (shelves : List Shelf) (old new : List ℕ) (after : List Transcript) (job : Job) (outcome : JobOutcome) → length old ≡ length after → AreDistinct after → Holds shelves old new after job outcome → Rises old new after outcome
 rises shelves old new after job (At pass number) len distinct holds = claims_rise old new after job pass number len distinct holds.1
 rises shelves old new after job NoMemory len distinct holds = stays old new after NoMemory (λ pass number is. is) holds.1
 rises shelves old new after job NoSuchNode len distinct holds = stays old new after NoSuchNode (λ pass number is. is) holds.1
 
-outcome_of : (shelves : List Shelf) (before old new : List ℕ) (after : List Transcript) (job : Job) (outcome : Outcome) → ((i : ℕ) → slice_index before i ≤ slice_index old i) → Holds shelves old new after job outcome → IsOutcome shelves before after job outcome
+outcome_of : (shelves : List Shelf) (before old new : List ℕ) (after : List Transcript) (job : Job) (outcome : JobOutcome) → ((i : ℕ) → slice_index before i ≤ slice_index old i) → Holds shelves old new after job outcome → IsOutcome shelves before after job outcome
 outcome_of shelves before old new after job (At pass number) above holds =
     let claim = holds.1 in (
       holds.0,
@@ -111,7 +112,7 @@ none_yet shelves before after jobs dones = record {
 }
 
 -- the pass of a part that a result tells of is there
-pub found : (shelves : List Shelf) (old new : List ℕ) (after : List Transcript) (job : Job) (outcome : Outcome) (pass number : ℕ) → Holds shelves old new after job outcome → IsPartOf outcome pass number → (place : ℕ) × IsAt after pass place
+pub found : (shelves : List Shelf) (old new : List ℕ) (after : List Transcript) (job : Job) (outcome : JobOutcome) (pass number : ℕ) → Holds shelves old new after job outcome → IsPartOf outcome pass number → (place : ℕ) × IsAt after pass place
 found shelves old new after job (At of at) pass number holds is = (holds.1.place, subst (λ p. IsAt after p holds.1.place) is.0 holds.1.at)
 found shelves old new after job NoMemory pass number holds is = absurd is
 found shelves old new after job NoSuchNode pass number holds is = absurd is
@@ -178,7 +179,7 @@ each_true shelves before next after jobs dones n m low known = λ i done l at.
     }
 
 -- ---- what is true is told
-may_hold : (shelves : List Shelf) (before next : List ℕ) (after : List Transcript) (jobs : List Job) (dones : List Done) (n : ℕ) (job : Job) (outcome : Outcome) → AreTrueBelow shelves before next after jobs dones n
+may_hold : (shelves : List Shelf) (before next : List ℕ) (after : List Transcript) (jobs : List Job) (dones : List Done) (n : ℕ) (job : Job) (outcome : JobOutcome) → AreTrueBelow shelves before next after jobs dones n
     → IsOutcome shelves before after job outcome
     → ((k pass earlier number : ℕ) (other : Done) → k < n → slice_get dones k ≡ Some other → IsPartOf other.result pass earlier → IsPartOf outcome pass number → earlier < number)
     → MayHold shelves next after job outcome

@@ -10,7 +10,8 @@ use Rattle.lw_crew.specs.declared.job.Done.{Done}
 use Rattle.lw_crew.specs.declared.job.CrewFault.{CrewFault}
 use Rattle.lw_crew.specs.declared.job.CrewFault.TheVariants.{Missing, Double, Stranger, NoMemory}
 use Rattle.lw_crew.specs.Gather.{AreClean, HasJob, IsFault}
-use Rattle.lw_crew.specs.Refusals.{AreGood, AreTrueTo, IsFirstUntrue, IsMissing, IsRefused}
+use Rattle.lw_crew.specs.Refusals.{AreGood, IsRefused}
+use Rattle.lw_crew.specs.inner.Refusals.{AreTrueTo, IsFirstUntrue, IsMissing}
 
 -- ---- a list cut off
 get_take : {A : Type 0} (xs : List A) (n i : ℕ) (x : A) → i < n → slice_get xs i ≡ Some x → slice_get (take n xs) i ≡ Some x

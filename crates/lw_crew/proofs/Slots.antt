@@ -7,7 +7,7 @@ use Rattle.std.proofs.lemmas.Bool.{cases_lt}
 use borrow.Author.Count.{below_more}
 use Rattle.lw_crew.specs.declared.job.Done.{Done}
 use Rattle.lw_crew.specs.Gather.{HasJob, IsGathered}
-use Rattle.lw_crew.specs.Filling.{AreFilled, AreTaken}
+use Rattle.lw_crew.specs.inner.Filling.{AreFilled, AreTaken}
 
 pub same_some : {A : Type 0} (x y : A) (o : Option A) → o ≡ Some x → o ≡ Some y → x ≡ y
 same_some x y o p q = let e : Some x ≡ Some y = sym p ∙ q in cc

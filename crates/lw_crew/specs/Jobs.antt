@@ -5,8 +5,8 @@ use Rattle.lw_held.specs.declared.shelf.Shelf.{Shelf}
 use Rattle.lw_held.specs.Transcript.{Transcript}
 use Rattle.lw_crew.specs.declared.job.Job.{Job}
 use Rattle.lw_crew.specs.declared.job.Done.{Done}
-use Rattle.lw_crew.specs.declared.job.Outcome.{Outcome}
-use Rattle.lw_crew.specs.declared.job.Outcome.TheVariants.{At, NoMemory, NoSuchNode}
+use Rattle.lw_crew.specs.declared.job.JobOutcome.{JobOutcome}
+use Rattle.lw_crew.specs.declared.job.JobOutcome.TheVariants.{At, NoMemory, NoSuchNode}
 
 -- a shelf has the node
 pub record HasShelf (shelves : List Shelf) (node : ℕ) : Type 0 where
@@ -36,13 +36,13 @@ pub record IsGained (before : List ℕ) (after : List Transcript) (job : Job) (p
   pub made : HasMade gainer number job
 
 -- What became of a job: no such node where no shelf has it, else a part that a pass gained, or want of memory.
-abbrev pub IsOutcome : List Shelf → List ℕ → List Transcript → Job → Outcome → Type 0
+abbrev pub IsOutcome : List Shelf → List ℕ → List Transcript → Job → JobOutcome → Type 0
 IsOutcome shelves before after job (At pass number) = HasShelf shelves job.node × IsGained before after job pass number
 IsOutcome shelves before after job NoMemory = HasShelf shelves job.node
 IsOutcome shelves before after job NoSuchNode = ¬ HasShelf shelves job.node
 
 -- the outcome is this part of this pass
-abbrev pub IsPartOf : Outcome → ℕ → ℕ → Type 0
+abbrev pub IsPartOf : JobOutcome → ℕ → ℕ → Type 0
 IsPartOf (At pass number) of at = (pass ≡ of) × (number ≡ at)
 IsPartOf _ _ _ = ⊥
 

@@ -17,22 +17,9 @@ pub record IsTrueAt (shelves : List Shelf) (before : List ℕ) (after : List Tra
   pub outcome : IsOutcome shelves before after job done.result
   pub later : (k pass earlier number : ℕ) (other : Done) → k < i → slice_get dones k ≡ Some other → IsPartOf other.result pass earlier → IsPartOf done.result pass number → earlier < number
 
--- each of the first n results is true
-abbrev pub AreTrueTo : List Shelf → List ℕ → List Transcript → List Job → List Done → ℕ → Type 0
-AreTrueTo shelves before after jobs dones n = (i : ℕ) (done : Done) → i < n → slice_get dones i ≡ Some done → IsTrueAt shelves before after jobs dones i done
-
--- result i is the first that is not true
-abbrev pub IsFirstUntrue : List Shelf → List ℕ → List Transcript → List Job → List Done → ℕ → Type 0
-IsFirstUntrue shelves before after jobs dones i = (done : Done) × (slice_get dones i ≡ Some done) × AreTrueTo shelves before after jobs dones i × (¬ IsTrueAt shelves before after jobs dones i done)
-
 -- each of the first n results is true, and no two are of one job
 abbrev pub AreGood : List Shelf → List ℕ → List Transcript → List Job → List Done → ℕ → Type 0
 AreGood shelves before after jobs dones n = (i : ℕ) (done : Done) → i < n → slice_get dones i ≡ Some done → IsTrueAt shelves before after jobs dones i done × (¬ HasJob dones i done.job)
-
--- the fault is that a job has no result
-abbrev pub IsMissing : CrewFault → Type 0
-IsMissing (Missing job) = Unit {0}
-IsMissing _ = ⊥
 
 -- The first result that is not true is told as a stranger, and the first that is the second of its job as a double,
 -- whichever comes first; where there is neither, the least job that has no result. Want of memory may come in place of

@@ -1,7 +1,7 @@
 //! Results in the order of their jobs.
 
 ghost use Rattle.std.specs.Prelude.{length, IfOk, IfErr};
-ghost use Rattle.lw_crew.specs.Filling.{AreFilled};
+ghost use Rattle.lw_crew.specs.inner.Filling.{AreFilled};
 ghost use Rattle.lw_crew.specs.Gather.{IsFault, IsGathered};
 
 use crate::job::{CrewFault, Done};

@@ -15,7 +15,7 @@ pub struct Job {
 
 /// What became of a job.
 #[derive(Clone, Copy, Debug, PartialEq, Eq)]
-pub enum Outcome {
+pub enum JobOutcome {
     /// The call was made, and is this part of the pass with this number.
     At { pass: u32, number: u64 },
     /// There was no memory to make the call.
@@ -28,7 +28,7 @@ pub enum Outcome {
 #[derive(Clone, Copy, Debug, PartialEq, Eq)]
 pub struct Done {
     pub job: u64,
-    pub result: Outcome,
+    pub result: JobOutcome,
 }
 
 /// Why there is no list with one `Done` for each job.

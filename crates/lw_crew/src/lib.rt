@@ -9,10 +9,10 @@ mod gathering;
 mod job;
 mod need;
 mod serving;
-mod truth;
+mod checking;
 mod work;
 
 pub use gathering::gather;
-pub use job::{CrewFault, Done, Job, Outcome};
+pub use job::{CrewFault, Done, Job, JobOutcome};
 pub use lw_held::{Gate, NoGate, Pass, Shelf};
 pub use serving::Crew;

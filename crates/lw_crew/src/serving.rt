@@ -5,13 +5,14 @@ ghost use Rattle.lw_held.specs.Agree.{AreDistinct};
 ghost use Rattle.lw_held.specs.Shelves.{AreInOrder};
 ghost use Rattle.lw_crew.specs.Continues.{AllContinue};
 ghost use Rattle.lw_crew.specs.Jobs.{AreDone, lengths};
-ghost use Rattle.lw_crew.specs.Refusals.{IsMissing, IsRefused};
+ghost use Rattle.lw_crew.specs.Refusals.{IsRefused};
+ghost use Rattle.lw_crew.specs.inner.Refusals.{IsMissing};
 ghost use Rattle.lw_crew.specs.declared.job.Done.{Done as Told};
 
 use crate::board::Board;
 use crate::gathering::gather;
 use crate::job::{CrewFault, Done, Job};
-use crate::truth::{first_untrue, lengths_of};
+use crate::checking::{first_untrue, lengths_of};
 use crate::work::work_all;
 use lw_held::{Gate, Pass, Shelf};
 use lw_stamp::NoMemory;

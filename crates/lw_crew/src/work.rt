@@ -4,9 +4,9 @@ ghost use Rattle.std.specs.Prelude.{◌≡◌, ◌≤◌, vec_capacity, vec_len,
 ghost use Rattle.lw_crew.specs.Continues.{AllContinue, Continues};
 
 use crate::board::Board;
-use crate::job::{Done, Job, Outcome};
+use crate::job::{Done, Job, JobOutcome};
 use crate::need::threads_for;
-use crate::truth::shelf_of;
+use crate::checking::shelf_of;
 use lw_held::{Gate, Pass, Shelf};
 use lw_stamp::NoMemory;
 use std::snapshot::Snapshot;
@@ -29,19 +29,19 @@ fn do_job<R: Wait, G: Gate>(
     shelves: &[Shelf],
     job: &Job,
     pass: &mut Pass,
-) -> Outcome
+) -> JobOutcome
     ensures { Continues pass.old pass.new }
 {
     let Some(shelf) = shelf_of(shelves, job.node) else {
-        return Outcome::NoSuchNode;
+        return JobOutcome::NoSuchNode;
     };
     let number = pass.len();
     match shelf.call(rt, gate, pass, &job.call) {
-        Ok(_place) => Outcome::At {
+        Ok(_place) => JobOutcome::At {
             pass: pass.number(),
             number,
         },
-        Err(NoMemory) => Outcome::NoMemory,
+        Err(NoMemory) => JobOutcome::NoMemory,
     }
 }
 

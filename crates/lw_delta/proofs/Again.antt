@@ -1,7 +1,8 @@
 -- What bytes begin with, behind a part that was found in them.
 use Rattle.std.proofs.Common.{◌≡◌, ℕ, Bool, true, List, [], ◌∷◌, Option, Some, None, sym, subst}
 use Rattle.lw_delta.specs.declared.fault.DeltaFault.{DeltaFault}
-use Rattle.lw_delta.specs.Part.{Part, Found, IsFound, must, followed, when, tag, optional, last_key, Walks, repeated}
+use Rattle.lw_delta.specs.Part.{Part, Found, must, followed, when, tag, optional, last_key, Walks, repeated}
+use Rattle.lw_delta.specs.inner.Part.{IsFound}
 use Rattle.lw_delta.proofs.Decided.{Decided, tag_decided}
 
 pub behind : {A B : Type 0} {part : Part A} (next : A → Part B) → Decided part → {bytes : List ℕ} {first : A} {rest : List ℕ}

@@ -6,10 +6,11 @@ use Rattle.lw_reg.specs.declared.slot.Slot.{Slot}
 use Rattle.lw_delta.specs.declared.fault.DeltaFault.{DeltaFault}
 use Rattle.lw_delta.specs.declared.fault.DeltaFault.TheVariants.{Trailing, NoMemory}
 use Rattle.lw_delta.specs.declared.checking.Walked.{Walked}
-use Rattle.lw_delta.specs.Lent.{WalkedAs}
+use Rattle.lw_delta.specs.inner.Lent.{WalkedAs}
 use Rattle.lw_delta.specs.Part.{Found}
 use Rattle.lw_delta.specs.Format.{slots, delta}
-use Rattle.lw_delta.specs.Delta.{DeltaContent, IsSpelling, HasTrailing, IsFault, Checks, Reads}
+use Rattle.lw_delta.specs.Delta.{DeltaContent, IsSpelling, HasTrailing, IsFault}
+use Rattle.lw_delta.specs.inner.Delta.{Checks, Reads}
 use Rattle.lw_delta.proofs.Grammar.{slots_decided, delta_decided}
 use Rattle.lw_delta.proofs.Parts.{both, given}
 

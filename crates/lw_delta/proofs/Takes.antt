@@ -2,7 +2,7 @@
 use Rattle.std.proofs.Common.{ℕ, ◌<◌, List, length, Option, Some, None}
 use Rattle.lw_delta.specs.declared.form.Form.{Form}
 use Rattle.lw_delta.specs.declared.slots.LentSlot.{LentSlot}
-use Rattle.lw_delta.specs.Lent.{NextAt, lent_slot}
+use Rattle.lw_delta.specs.inner.Lent.{NextAt, lent_slot}
 use Rattle.lw_delta.proofs.Decided.{optional_takes}
 use Rattle.lw_delta.proofs.Grammar.{slot_decided}
 

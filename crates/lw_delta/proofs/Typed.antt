@@ -10,9 +10,9 @@ use Rattle.std.specs.List.{AllByRecursion}
 use Rattle.lw_reg.specs.Attribute.{is_attribute_name, IsAttribute}
 use Rattle.lw_reg.specs.Addr.{IsAddr}
 use Rattle.lw_reg.specs.Fields.{told_fields}
-use Rattle.lw_reg.specs.Told.{KeepsAttributes}
+use Rattle.lw_reg.specs.BodyOrGone.{KeepsAttributes}
 use Rattle.lw_delta.specs.declared.slots.LentSlot.{LentSlot}
-use Rattle.lw_delta.specs.Lent.{Holds}
+use Rattle.lw_delta.specs.inner.Lent.{Holds}
 use Rattle.lw_reg.specs.Body.{Watching}
 use Rattle.lw_delta.specs.declared.form.Form.{Form}
 use Rattle.lw_delta.specs.Part.{byte, bytes_of, means, must, followed, optional, Walks, repeated}

@@ -1,8 +1,8 @@
 -- Which bytes are a delta, and what is first wrong in those that are none.
-use Rattle.std.specs.Prelude.{◌≡◌, ℕ, ◌⊎◌, List, [], ◌∷◌, Result, Ok, Err}
+use Rattle.std.specs.Prelude.{◌≡◌, ℕ, ◌⊎◌, List, [], ◌∷◌}
 use Rattle.lw_reg.specs.declared.slot.Slot.{Slot}
 use Rattle.lw_delta.specs.declared.fault.DeltaFault.{DeltaFault}
-use Rattle.lw_delta.specs.declared.fault.DeltaFault.TheVariants.{Trailing, NoMemory}
+use Rattle.lw_delta.specs.declared.fault.DeltaFault.TheVariants.{Trailing}
 use Rattle.lw_delta.specs.declared.form.Form.{Form}
 use Rattle.lw_delta.specs.Form.{magic_of}
 use Rattle.lw_delta.specs.Part.{Found, Fails}
@@ -29,13 +29,3 @@ HasTrailing bytes = (d : ℕ × List (List ℕ × Slot)) × (b : ℕ) × (rest :
 -- the first fault of bytes that are no delta; want of memory is none
 abbrev pub IsFault : List ℕ → DeltaFault → Type 0
 IsFault bytes fault = Fails delta bytes fault ⊎ ((fault ≡ Trailing) × HasTrailing bytes)
-
--- what is known of an answer: the clock of a delta, or the fault
-abbrev pub Checks : List ℕ → Result ℕ DeltaFault → Type 0
-Checks bytes (Ok clock) = (slots : List (List ℕ × Slot)) × IsSpelling bytes (record { clock = clock; slots = slots })
-Checks bytes (Err fault) = IsFault bytes fault
-
--- a delta, or want of memory in its place, or the fault
-abbrev pub Reads : List ℕ → Result DeltaContent DeltaFault → Type 0
-Reads bytes (Ok d) = IsSpelling bytes d
-Reads bytes (Err fault) = ((fault ≡ NoMemory) × (d : DeltaContent) × IsSpelling bytes d) ⊎ IsFault bytes fault

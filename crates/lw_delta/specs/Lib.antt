@@ -4,8 +4,8 @@ pub mod Order
 pub mod Values
 pub mod Format
 pub mod Delta
-pub mod Lent
 pub mod Unread
 pub mod Writing
 pub mod Removals
 pub mod Writable
+pub mod inner

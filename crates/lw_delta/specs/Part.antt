@@ -15,12 +15,6 @@ pub record Found {A : Type 0} (part : Part A) (bytes : List ℕ) (value : A) (re
 pub record Fails {A : Type 0} (part : Part A) (bytes : List ℕ) (fault : DeltaFault) : Type 0 where
   pub is : part.wrong bytes fault
 
--- the bytes begin with the part
-pub record IsFound {A : Type 0} (part : Part A) (bytes : List ℕ) : Type 0 where
-  pub value : A
-  pub rest : List ℕ
-  pub found : Found part bytes value rest
-
 -- one byte
 unfoldable pub byte : Part ℕ
 byte = record {

@@ -1,7 +1,6 @@
 -- What is left of a delta that is read slot by slot.
 use Rattle.std.specs.Prelude.{◌≡◌, ℕ, List, [], ◌∷◌, Option, None, Some}
 use Rattle.lw_reg.specs.declared.slot.Slot.{Slot}
-use Rattle.lw_delta.specs.declared.checking.Walked.{Walked}
 use Rattle.lw_delta.specs.declared.form.Form.{Form}
 use Rattle.lw_delta.specs.Part.{Found, repeated}
 use Rattle.lw_delta.specs.Format.{slot}
@@ -12,10 +11,6 @@ pub record Unread : Type 0 where
   pub clock : ℕ
   pub after : Option (List ℕ)
   pub bytes : List ℕ
-
--- of a delta that was walked, all its slots
-abbrev pub unread_of : Walked → Unread
-unread_of walked = record { form = walked.form; clock = walked.clock; after = None; bytes = walked.slots.now }
 
 -- the bytes are these slots, and nothing stands behind them
 abbrev pub IsLeft : Unread → List (List ℕ × Slot) → Type 0

@@ -144,10 +144,6 @@ fields_bytes slot =
     base_bytes (base_of slot) ++ (written_bytes addr_bytes (address_of slot) ++ (written_bytes moment_bytes (seen_of slot) ++ (written_bytes number32_bytes (lifetime_of slot)
     ++ (written_bytes binding_bytes (binding_of slot) ++ (written_bytes sms_bytes (sms_of slot) ++ written_bytes objects_bytes (objects_of slot))))))
 
--- what stands before the fields of a slot: 01, its endpoint, the stamp of its registration and its flags
-abbrev pub slot_head_bytes : List ℕ × Slot → List ℕ
-slot_head_bytes s = 1 ∷ (text_bytes s.0 ++ (stamp_bytes (stamp_of s.1) ++ flags_byte s.1 ∷ []))
-
 -- a slot behind its 01
 abbrev pub slot_bytes : Form → List ℕ × Slot → List ℕ
 slot_bytes form s = text_bytes s.0 ++ (stamp_bytes (stamp_of s.1) ++ (flags_byte s.1 ∷ (fields_bytes s.1 ++ behind_bytes form (behind_of s.1))))

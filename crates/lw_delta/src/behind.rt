@@ -6,7 +6,7 @@ ghost use Rattle.lw_join.specs.declared.last.Last.{Last as Lasts};
 ghost use Rattle.lw_delta.specs.Part.{Found, Fails, when};
 ghost use Rattle.lw_delta.specs.Format.{attributes as attributes_part, ended as ended_part, behind as behind_part};
 ghost use Rattle.lw_delta.specs.Values.{end_from};
-ghost use Rattle.lw_delta.specs.Lent.{BehindAt};
+ghost use Rattle.lw_delta.specs.inner.Lent.{BehindAt};
 
 use crate::DeltaFault;
 use crate::attributes::check_attributes;

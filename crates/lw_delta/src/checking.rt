@@ -3,8 +3,9 @@ ghost use Rattle.lw_reg.specs.declared.slot.Slot.{Slot as Slots};
 ghost use Rattle.lw_delta.specs.declared.fault.DeltaFault.{DeltaFault as Faults};
 ghost use Rattle.lw_delta.specs.Part.{Found, Fails};
 ghost use Rattle.lw_delta.specs.Format.{magic as magic_part, header as header_part};
-ghost use Rattle.lw_delta.specs.Delta.{DeltaContent, IsSpelling, IsFault, Checks};
-ghost use Rattle.lw_delta.specs.Lent.{WalkedAs};
+ghost use Rattle.lw_delta.specs.Delta.{DeltaContent, IsSpelling, IsFault};
+ghost use Rattle.lw_delta.specs.inner.Delta.{Checks};
+ghost use Rattle.lw_delta.specs.inner.Lent.{WalkedAs};
 
 use crate::DeltaFault;
 use crate::form::{Form, form_of};

@@ -1,7 +1,8 @@
 //! The fields of a slot, each where its flag is set.
 
 ghost use Rattle.std.specs.Prelude.{IsTrue, IfOk, IfErr};
-ghost use Rattle.lw_delta.specs.Part.{Found, Fails, IsFound};
+ghost use Rattle.lw_delta.specs.Part.{Found, Fails};
+ghost use Rattle.lw_delta.specs.inner.Part.{IsFound};
 ghost use Rattle.lw_delta.specs.Format.{fields as fields_part};
 
 use crate::DeltaFault;

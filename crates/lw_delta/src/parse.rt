@@ -1,7 +1,8 @@
 //! What a part of a delta is read as, and the shapes that parts share.
 
 ghost use Rattle.std.specs.Prelude.{ℕ, IsTrue, IfOk, IfErr};
-ghost use Rattle.lw_delta.specs.Part.{Part, Found, Fails, IsFound, when, optional};
+ghost use Rattle.lw_delta.specs.Part.{Part, Found, Fails, when, optional};
+ghost use Rattle.lw_delta.specs.inner.Part.{IsFound};
 ghost use Rattle.lw_delta.specs.Format.{stamp as stamp_part, written};
 
 use crate::DeltaFault;

@@ -4,7 +4,8 @@ ghost use Rattle.lw_delta.specs.declared.fault.DeltaFault.{DeltaFault as Faults}
 ghost use Rattle.lw_delta.specs.Delta.{DeltaContent, IsSpelling, IsFault};
 ghost use Rattle.lw_delta.specs.Part.{Found};
 ghost use Rattle.lw_delta.specs.Format.{slots as slots_part};
-ghost use Rattle.lw_delta.specs.Unread.{IsLeft, Leaves, unread_of};
+ghost use Rattle.lw_delta.specs.Unread.{IsLeft, Leaves};
+ghost use Rattle.lw_delta.specs.inner.Unread.{unread_of};
 
 use crate::DeltaFault;
 use crate::checking::{Walked, walk};

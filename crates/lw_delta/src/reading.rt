@@ -9,8 +9,9 @@ ghost use Rattle.lw_delta.specs.declared.fault.DeltaFault.{DeltaFault as Faults}
 ghost use Rattle.lw_delta.specs.Part.{Found, Fails, when};
 ghost use Rattle.lw_delta.specs.Format.{attributes as attributes_part, watches as watches_part};
 ghost use Rattle.lw_delta.specs.Values.{Behind as Behinds, list_or_none, all_fields, fields_from};
-ghost use Rattle.lw_delta.specs.Delta.{DeltaContent, IsSpelling, IsFault, Reads};
-ghost use Rattle.lw_delta.specs.Lent.{Told, Holds, lent_slot};
+ghost use Rattle.lw_delta.specs.Delta.{DeltaContent, IsSpelling, IsFault};
+ghost use Rattle.lw_delta.specs.inner.Delta.{Reads};
+ghost use Rattle.lw_delta.specs.inner.Lent.{Told, Holds, lent_slot};
 ghost use Rattle.lw_delta.specs.Unread.{IsLeft};
 
 use crate::attributes::next_attribute;

@@ -3,9 +3,10 @@
 ghost use Rattle.std.specs.Prelude.{◌≡◌, ℕ, List, length, IsTrue, IfOk, IfErr};
 ghost use Rattle.std.specs.Option.{option_copied};
 ghost use Rattle.lw_reg.specs.declared.slot.Slot.{Slot as Slots};
-ghost use Rattle.lw_delta.specs.Part.{Found, Fails, IsFound, optional};
+ghost use Rattle.lw_delta.specs.Part.{Found, Fails, optional};
+ghost use Rattle.lw_delta.specs.inner.Part.{IsFound};
 ghost use Rattle.lw_delta.specs.Format.{endpoint as endpoint_part, slot as slot_part, slots as slots_part};
-ghost use Rattle.lw_delta.specs.Lent.{LentAt, NextAt};
+ghost use Rattle.lw_delta.specs.inner.Lent.{LentAt, NextAt};
 
 use crate::DeltaFault;
 use crate::behind::{LentBehind, check_behind};

@@ -8,7 +8,8 @@ ghost use Rattle.lw_reg.specs.Endpoint.{IsEndpoint};
 ghost use Rattle.lw_delta.specs.Writable.{IsOwnText, IsOwnObjects, FieldsTyped, AttributeTyped, AcceptTyped, BehindTyped, IsTyped};
 ghost use Rattle.lw_delta.specs.Form.{latest};
 ghost use Rattle.lw_delta.specs.Values.{behind_of};
-ghost use Rattle.lw_delta.specs.Writing.{Begins, number48_bytes, number16_bytes, number32_bytes, base_byte, addr_bytes, moment_bytes, text_bytes, binding_bytes, sms_bytes, objects_bytes, written_bytes, numbers_bytes, path_bytes, attribute_bytes, accept_bytes, watch_bytes, behind_bytes, flag_if, field_flags, flags_byte, fields_bytes, slot_head_bytes, slot_bytes};
+ghost use Rattle.lw_delta.specs.Writing.{Begins, number48_bytes, number16_bytes, number32_bytes, base_byte, addr_bytes, moment_bytes, text_bytes, binding_bytes, sms_bytes, objects_bytes, written_bytes, numbers_bytes, path_bytes, attribute_bytes, accept_bytes, watch_bytes, behind_bytes, flag_if, field_flags, flags_byte, fields_bytes, slot_bytes};
+ghost use Rattle.lw_delta.specs.inner.Writing.{slot_head_bytes};
 
 use crate::fields::{ADDRESS, BASE, BINDING, LIFETIME, OBJECTS, SEEN, SMS};
 use crate::put::{Put, PutEntry, put_all, put_byte, put_bytes, put_present};

@@ -9,12 +9,12 @@ use Rattle.lw_reg.specs.Marks.{all_marks, marks_of}
 use Rattle.lw_reg.specs.State.{IsStateOf, state_of}
 use Rattle.lw_reg.proofs.Operations.{all_names}
 use Rattle.lw_reg.proofs.States.{state_laws, state_least, state_union}
-use Rattle.lw_node.specs.Node.{NodeContent, fresh, Knows, IsAfter}
+use Rattle.lw_node.specs.Node.{NodeContent, fresh, Knows, Leaves}
 
 pub knows_none : (number : ℕ) → Knows (fresh number) (all_marks [])
 knows_none number = (all_names [], state_least [])
 
-pub knows_after : (number : ℕ) (o : Option Op) (node : NodeContent) → IsAfter (fresh number) o node → Knows node (all_marks (option_to_list o))
+pub knows_after : (number : ℕ) (o : Option Op) (node : NodeContent) → Leaves (fresh number) o node → Knows node (all_marks (option_to_list o))
 knows_after number None node h = subst (λ (n : NodeContent). Knows n (all_marks [])) (sym h) (knows_none number)
 knows_after number (Some op) node h = (
   all_names (op ∷ []),

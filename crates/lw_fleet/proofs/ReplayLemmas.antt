@@ -10,7 +10,7 @@ use Rattle.lw_world.specs.World.{WorldContent, world_of}
 use Rattle.lw_script.specs.Script.{lines_of, AreLines, IsFirstBad, IsScript, ScriptContent}
 use Rattle.lw_fleet.specs.declared.fault.Fault.{Fault}
 use Rattle.lw_fleet.specs.declared.fault.Fault.TheVariants.{ReadFailed, TooLong, LineRefused, WriteFailed, NoMemory}
-use Rattle.lw_fleet.specs.Output.{AppendsFront}
+use Rattle.lw_serve.specs.Ending.{AppendsFront}
 use Rattle.lw_fleet.specs.Replay.{line_text, lines_text, longest_script, IsReplayed, IsReplayStopped, Replays, ReplaysFront}
 use Rattle.lw_fleet.proofs.OneLemmas.{if_some}
 

@@ -3,7 +3,8 @@ use Rattle.std.specs.Prelude.{ℕ, List, codes, Bool, true, false, Option}
 use Rattle.std.specs.Io.KnownBytes.{Appends}
 use Rattle.lw_fleet.specs.declared.fault.Fault.{Fault}
 use Rattle.lw_fleet.specs.declared.fault.Fault.TheVariants.{AddressRefused, ReadFailed, TooLong, HexRefused, LineRefused, WriteFailed, NoMemory}
-use Rattle.lw_fleet.specs.Output.{numbered, AppendsFront}
+use Rattle.lw_serve.specs.Ending.{AppendsFront}
+use Rattle.lw_fleet.specs.Output.{numbered}
 
 -- the line of a fault, with its line feed
 abbrev pub fault_line : Fault → List ℕ

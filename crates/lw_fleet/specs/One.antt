@@ -15,7 +15,7 @@ use Rattle.lw_node.specs.Node.{NodeContent, fresh}
 use Rattle.lw_print.specs.Answer.{answer_text}
 use Rattle.lw_fleet.specs.declared.command.OneOptions.{OneOptions}
 use Rattle.lw_fleet.specs.Line.{line_of, longest_line}
-use Rattle.lw_fleet.specs.Output.{AppendsFront}
+use Rattle.lw_serve.specs.Ending.{AppendsFront}
 
 -- the text of an address
 abbrev pub IsAddressText : List ℕ → Type 0

@@ -11,7 +11,7 @@ use Rattle.lw_print.specs.Lines.{outcome_text}
 use Rattle.lw_script.specs.Script.{lines_of, IsFirstBad, IsScript}
 use Rattle.lw_fleet.specs.declared.fault.Fault.{Fault}
 use Rattle.lw_fleet.specs.declared.fault.Fault.TheVariants.{AddressRefused, TooLong, HexRefused, LineRefused, WriteFailed, NoMemory}
-use Rattle.lw_fleet.specs.Output.{AppendsFront}
+use Rattle.lw_serve.specs.Ending.{AppendsFront}
 
 -- how many bytes a script may have, its line feeds counted
 abbrev pub longest_script : ℕ

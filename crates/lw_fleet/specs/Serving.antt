@@ -7,7 +7,8 @@ use Rattle.lw_serve.specs.declared.fault.ServeFault.{ServeFault}
 use Rattle.lw_serve.specs.declared.fault.ServeFault.TheVariants.{ReceiveFailed, ClockRefused, Crew, Unsettled, WriteFailed, NoMemory}
 use Rattle.lw_fleet.specs.declared.serving.ServingFault.{ServingFault}
 use Rattle.lw_fleet.specs.declared.serving.ServingFault.TheVariants.{BindFailed, Run}
-use Rattle.lw_fleet.specs.Output.{numbered, AppendsFront}
+use Rattle.lw_serve.specs.Ending.{AppendsFront}
+use Rattle.lw_fleet.specs.Output.{numbered}
 
 -- the line of a fault of a run, with its line feed
 abbrev pub run_line : ServeFault → List ℕ

@@ -1,7 +1,7 @@
 ghost use Rattle.std.specs.Prelude.{◌≡◌, OnOk, OnErr};
 ghost use Rattle.std.specs.Io.KnownBytes.{Appends};
 ghost use Rattle.lw_fleet.specs.Fault.{fault_line, IsTold};
-ghost use Rattle.lw_fleet.specs.Output.{AppendsFront};
+ghost use Rattle.lw_serve.specs.Ending.{AppendsFront};
 ghost use Rattle.lw_fleet.specs.declared.fault.Fault.TheVariants.{NoMemory as OutOfMemory};
 
 use crate::output::{write_number, write_text};

@@ -1,6 +1,7 @@
 ghost use Rattle.std.specs.Prelude.{◌≤◌, length, take, IfOk, OnOk, OnErr, IsOkUnless};
 ghost use Rattle.std.specs.Io.KnownBytes.{Appends, Keeps};
-ghost use Rattle.lw_fleet.specs.Output.{numbered, AppendsFront};
+ghost use Rattle.lw_serve.specs.Ending.{AppendsFront};
+ghost use Rattle.lw_fleet.specs.Output.{numbered};
 
 use crate::fault::Fault;
 use itoa::Buffer;

@@ -3,7 +3,7 @@ ghost use Rattle.std.specs.Io.KnownBytes.{Appends};
 ghost use Rattle.lw_world.specs.Run.{History, Runs, begun};
 ghost use Rattle.lw_world.specs.World.{world_of};
 ghost use Rattle.lw_script.specs.Script.{lines_of, IsFirstBad, IsScript};
-ghost use Rattle.lw_fleet.specs.Output.{AppendsFront};
+ghost use Rattle.lw_serve.specs.Ending.{AppendsFront};
 ghost use Rattle.lw_fleet.specs.Replay.{line_text, lines_text, message_of, IsReplayStopped, Replays};
 
 use crate::fault::Fault;

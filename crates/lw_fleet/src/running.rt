@@ -73,16 +73,17 @@ pub fn program<T: Threads + Wait + Sync, S: AsStr, R: Read, W: Write, E: Write, 
     ensures unread_words { IfErr words.now (λ error. reader.new ≡ reader.old) }
 {
     match words {
-        Ok(words) => run(rt, alloc, words, reader, writer, errors, server),
+        Ok(words) => run_words(rt, alloc, words, reader, writer, errors, server),
         Err(error) if error.kind() == io::ErrorKind::InvalidData => match not_utf8(alloc) {
-            Ok(error) => refuse(alloc, &error, errors),
+            Ok(error) => refuse_words(alloc, &error, errors),
             Err(_) => fail(errors, Fault::NoMemory),
         },
         Err(_) => fail(errors, Fault::NoMemory),
     }
 }
 
-fn run<T: Threads + Wait + Sync, S: AsStr, R: Read, W: Write, E: Write, V: Serves>(
+/// Runs the program on its words, which are texts.
+fn run_words<T: Threads + Wait + Sync, S: AsStr, R: Read, W: Write, E: Write, V: Serves>(
     rt: &T,
     alloc: Global,
     words: &[S],
@@ -97,13 +98,13 @@ fn run<T: Threads + Wait + Sync, S: AsStr, R: Read, W: Write, E: Write, V: Serve
     ensures unread { ¬ Reads (map S.text words.now) → reader.new ≡ reader.old }
 {
     match read_request(alloc, words) {
-        Ok(request) => answer(rt, alloc, &request, reader, writer, errors, server),
-        Err(error) => explain(alloc, &error, writer, errors),
+        Ok(request) => run_request(rt, alloc, &request, reader, writer, errors, server),
+        Err(error) => show_or_refuse(alloc, &error, writer, errors),
     }
 }
 
 /// Does what the words ask for.
-fn answer<T: Threads + Wait + Sync, R: Read, W: Write, E: Write, V: Serves>(
+fn run_request<T: Threads + Wait + Sync, R: Read, W: Write, E: Write, V: Serves>(
     rt: &T,
     alloc: Global,
     request: &Request<'_>,
@@ -187,7 +188,7 @@ fn fail<E: Write>(errors: &mut E, fault: Fault) -> Ending
 
 #[tactic(auto, using(crate::proofs::EndingLemmas::refused_early))]
 /// Ends the run where the words ask for nothing: help and the version are printed.
-fn explain<W: Write, E: Write>(
+fn show_or_refuse<W: Write, E: Write>(
     alloc: Global,
     error: &Error,
     writer: &mut W,
@@ -205,7 +206,7 @@ fn explain<W: Write, E: Write>(
     match error.kind() {
         ErrorKind::OutOfMemory => fail(errors, Fault::NoMemory),
         ErrorKind::DisplayHelp | ErrorKind::DisplayVersion => show(alloc, error, writer, errors),
-        _ => refuse(alloc, error, errors),
+        _ => refuse_words(alloc, error, errors),
     }
 }
 
@@ -222,7 +223,7 @@ fn show<W: Write, E: Write>(alloc: Global, error: &Error, writer: &mut W, errors
     }
 }
 
-fn refuse<E: Write>(alloc: Global, error: &Error, errors: &mut E) -> Ending
+fn refuse_words<E: Write>(alloc: Global, error: &Error, errors: &mut E) -> Ending
     ensures ending { IsRefusal result }
     ensures told { Tells result (E.contents errors.old) (E.contents errors.new) }
 {

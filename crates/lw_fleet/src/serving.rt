@@ -3,7 +3,7 @@
 ghost use Rattle.std.specs.Prelude.{◌≡◌, ◌++◌, [], codes, decimal, OnOk, OnErr, IfErr};
 ghost use Rattle.std.specs.Io.KnownBytes.{Appends};
 ghost use Rattle.std.specs.Thread.{IsSync};
-ghost use Rattle.lw_fleet.specs.Output.{AppendsFront};
+ghost use Rattle.lw_serve.specs.Ending.{AppendsFront};
 ghost use Rattle.lw_fleet.specs.Serving.{run_line, serving_line, IsServed, IsServingTold, IsUnserved};
 ghost use Rattle.lw_fleet.specs.declared.serving.ServingFault.TheVariants.{Run as OfRun};
 ghost use Rattle.lw_serve.specs.declared.fault.ServeFault.TheVariants.{Unsettled as NotSettled};

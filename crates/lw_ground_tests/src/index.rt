@@ -86,55 +86,6 @@ fn a_hundred_endpoints_of_a_key(rt: HostRuntime) -> Result<(), Fail> {
     holds("a hundred", has_a_hundred(rt.alloc(), &index)?)
 }
 
-/// Adds a thousand keys, each the double of a number and with one endpoint.
-fn add_a_thousand(index: &mut Index<u32>) -> Result<(), NoMemory> {
-    for place in 0..1000u32 {
-        index.add(2 * ((place * 7) % 1000), "a")?;
-    }
-    Ok(())
-}
-
-/// Whether these are the keys of such an index from a number on.
-fn is_from(mut above: Above<'_, u32>, first: u32) -> bool {
-    for number in first..1000u32 {
-        let Some((key, mut endpoints)) = above.next() else {
-            return false;
-        };
-        if u64::from(*key) != 2 * u64::from(number) || endpoints.next() != Some("a") {
-            return false;
-        }
-    }
-    above.next().is_none()
-}
-
-/// A key or none, and the number whose double is the next key.
-static ABOVE: [(Option<u32>, u32); 8] = [
-    (None, 0),
-    (Some(0), 1),
-    (Some(1), 1),
-    (Some(998), 500),
-    (Some(999), 500),
-    (Some(1997), 999),
-    (Some(1998), 1000),
-    (Some(4000), 1000),
-];
-
-/// Adds the keys to none, and looks at those above each.
-fn have_keys_above(index: &mut Index<u32>) -> Result<(), Fail> {
-    holds("no key", is_from(index.above(None), 1000))?;
-    add_a_thousand(index)?;
-    for row in &ABOVE {
-        holds_for(row, is_from(index.above(row.0.as_ref()), row.1))?;
-    }
-    Ok(())
-}
-
-#[test]
-fn the_keys_above_a_key(rt: HostRuntime) -> Result<(), Fail> {
-    let mut index = Index::new(rt.alloc());
-    have_keys_above(&mut index)
-}
-
 /// A node of a tree holds 15 entries: one more divides it.
 static ENDPOINTS: [&str; 17] = [
     "a", "b", "c", "d", "e", "f", "g", "h", "i", "j", "k", "l", "m", "n", "o", "p", "q",

@@ -10,7 +10,7 @@ use Rattle.lw_held.specs.declared.agreeing.Look.{Look}
 use Rattle.lw_held.specs.Transcript.{Transcript, IsNumbered}
 use Rattle.lw_held.specs.History.{HeldContent, VolumeContent}
 use Rattle.lw_held.specs.Agree.{AreDistinct, IsPart, IsOf, IsInOrder, IsFineIn, IsFirstBreak, IsEntryAt, IsPiece, IsVolumeOf, IsLaid, Covers, journal_of}
-use Rattle.lw_held.specs.Looks.{IsThere, Fits, FitBelow, IsAfter, IsLast, lesser_of, greater_of, Knows, Looks, Has, HasBelow, IsTold, AllFitBelow, AllToldBelow, IsPieceBelow}
+use Rattle.lw_held.specs.inner.Looks.{IsThere, Fits, FitBelow, IsAfter, IsLast, lesser_of, greater_of, Knows, Looks, Has, HasBelow, IsTold, AllFitBelow, AllToldBelow, IsPieceBelow}
 
 pub same_some : {A : Type 0} (x y : A) (o : Option A) → o ≡ Some x → o ≡ Some y → x ≡ y
 same_some x y o p q = let e : Some x ≡ Some y = sym p ∙ q in cc

@@ -15,7 +15,7 @@ use Rattle.lw_call.specs.declared.reply.Reply.TheVariants as replies
 use Rattle.lw_call.specs.Contents.{TakenContent, OutgoingContent}
 use Rattle.lw_node.specs.Calls.{TakesSo, Sent, Swept}
 use Rattle.lw_node.specs.Effects.{Effect, Request, Refused, ObserveMeans, CancelMeans, SweepMeans}
-use Rattle.lw_node.specs.Steps.{Context, StepsIn, place_in}
+use Rattle.lw_node.specs.Steps.{Context, StepsIn, issuer_in}
 
 -- What is left in the first words gives some K, and what is left in the other words, which speak of it.
 module _ {K : Type 0} (known : Context) (After : K → Option Op → Type 0) (AfterMerge : K → List ℕ → Result ℕ MergeFault → Type 0)
@@ -53,9 +53,9 @@ module _ {K : Type 0} (known : Context) (After : K → Option Op → Type 0) (Af
   pub carried : (call : Call) (reply : Reply) → StepsIn known call reply → (k : K) × StepsIn (Other k) call reply
   carried (calls.Take now source bytes) (replies.Take (Ok taken)) h = takes _ taken h
   carried (calls.Take now source bytes) (replies.Take (Err refused)) h = none _ h
-  carried (calls.Observe now id path accept mid) (replies.Observe outcome) h = sent (ObserveMeans (place_in known (ms_of now)) known.marks id path accept mid) outcome h
-  carried (calls.Cancel now token mid) (replies.Cancel outcome) h = sent (CancelMeans (place_in known (ms_of now)) known.marks token mid) outcome h
-  carried (calls.Sweep now) (replies.Sweep outcome) h = swept (SweepMeans (place_in known (ms_of now)) known.marks) outcome h
+  carried (calls.Observe now id path accept mid) (replies.Observe outcome) h = sent (ObserveMeans (issuer_in known (ms_of now)) known.marks id path accept mid) outcome h
+  carried (calls.Cancel now token mid) (replies.Cancel outcome) h = sent (CancelMeans (issuer_in known (ms_of now)) known.marks token mid) outcome h
+  carried (calls.Sweep now) (replies.Sweep outcome) h = swept (SweepMeans (issuer_in known (ms_of now)) known.marks) outcome h
   carried (calls.Send since) (replies.Send outcome) h = none _ h
   carried (calls.Merge bytes) (replies.Merge outcome) h = merged bytes outcome h
   carried (calls.Ask now question) (replies.Ask outcome) h = none _ h

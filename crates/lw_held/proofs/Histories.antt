@@ -6,7 +6,7 @@ use Rattle.lw_call.specs.declared.merge_fault.MergeFault.{MergeFault}
 use Rattle.lw_call.specs.declared.merge_fault.MergeFault.TheVariants as merge_faults
 use Rattle.lw_call.specs.declared.reply.Reply.{Reply}
 use Rattle.lw_node.specs.Exchange.{Merges}
-use Rattle.lw_node.specs.Node.{NodeContent, marks_in, IsAfter}
+use Rattle.lw_node.specs.Node.{NodeContent, marks_in, Leaves}
 use Rattle.lw_node.specs.Node.Known.{Shown}
 use Rattle.lw_node.specs.Steps.{at_node, Steps}
 use Rattle.lw_reg.specs.Marks.{Marks}
@@ -17,7 +17,7 @@ use Rattle.lw_held.proofs.Carrying.{carried}
 
 -- ---- a step keeps the number
 module _ (old new : NodeContent) where
-  number_after : (operation : Option Op) → IsAfter old operation new → new.number ≡ old.number
+  number_after : (operation : Option Op) → Leaves old operation new → new.number ≡ old.number
   number_after None left = ap (λ (n : NodeContent). n.number) left
   number_after (Some operation) left = left.number
 

@@ -15,7 +15,7 @@ use Rattle.lw_call.specs.declared.reply.Reply.{Reply}
 use Rattle.lw_call.specs.declared.reply.Reply.TheVariants as replies
 use Rattle.lw_call.specs.Contents.{SentContent}
 use Rattle.lw_node.specs.Exchange.{IsDeltaSince}
-use Rattle.lw_node.specs.Node.{NodeContent, Knows, IsAfter, fresh}
+use Rattle.lw_node.specs.Node.{NodeContent, Knows, Leaves, fresh}
 use Rattle.lw_node.specs.Node.Known.{Told}
 use Rattle.lw_node.specs.Steps.{Context, StepsIn, Steps}
 use Rattle.lw_world.specs.declared.event.Action.{Action}
@@ -25,7 +25,7 @@ use Rattle.lw_world.specs.declared.outcome.Outcome.{Outcome}
 use Rattle.lw_world.specs.declared.outcome.Outcome.TheVariants as results
 use Rattle.lw_world.specs.Known.{Knowledge, Message, node_of, about, names_of, knows_nothing}
 use Rattle.lw_world.specs.Run.{History, Left, idle, Issuing, at_knowledge, Acts, Happens, Runs, at_number, with_node, after, begun, numbered_from}
-use Rattle.lw_world.specs.Sound.{AreSound}
+use Rattle.lw_world.specs.inner.Sound.{AreSound}
 use Rattle.lw_world.specs.World.{bytes_of}
 use Rattle.lw_world.proofs.Learning.{LeftSo, learn_or}
 use Rattle.lw_world.proofs.Making.{all_sound, delivers, happens_steps}
@@ -98,11 +98,11 @@ module _ (messages : List Message) (k : Knowledge) (deltas : List (List ℕ)) (n
   Apart = record {
     node = node_of k;
     marks = left_by k.operations;
-    After = λ operation. IsAfter (node_of k) operation node;
+    After = λ operation. Leaves (node_of k) operation node;
     AfterMerge = λ bytes outcome. ⊥;
   }
 
-  issuing : (operation : Option Op) → IsAfter (node_of k) operation node → (so : (left : Left) × LeftSo messages node left) × Issuing messages k operation so.0
+  issuing : (operation : Option Op) → Leaves (node_of k) operation node → (so : (left : Left) × LeftSo messages node left) × Issuing messages k operation so.0
   issuing operation h =
       let learnt = learn_or k operation node h in (
         (record { operation = operation; knows = learnt.knows; messages = messages }, record { node_is = learnt.node_is; messages_are = refl }),

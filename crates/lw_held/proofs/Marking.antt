@@ -16,7 +16,7 @@ use Rattle.lw_call.specs.declared.merge_fault.MergeFault.TheVariants.{Malformed,
 use Rattle.lw_call.specs.declared.reply.Reply.{Reply}
 use Rattle.lw_node.specs.Exchange.{Merged}
 use Rattle.lw_node.specs.Exchange.{Merges as NodeMerges}
-use Rattle.lw_node.specs.Node.{NodeContent, IsAfter}
+use Rattle.lw_node.specs.Node.{NodeContent, Leaves}
 use Rattle.lw_node.specs.Node.Known.{Told}
 use Rattle.lw_node.specs.Steps.{at_node}
 use Rattle.lw_node.specs.Steps.{Steps as NodeSteps}
@@ -55,7 +55,7 @@ module _ (old : Marked) (names : NamesAll (among old.marks)) (node : NodeContent
       )
 
   -- ---- operations
-  after : (operation : Option Op) → IsAfter (node_of old) operation node → (left : Left node) × AddsOr old operation left.known
+  after : (operation : Option Op) → Leaves (node_of old) operation node → (left : Left node) × AddsOr old operation left.known
   after None h = unchanged h
   after (Some operation) h = added (old.clock + 1) (marks_of operation) (about_names operation.endpoint operation.reg (Named ∷ traces_of operation.stamp operation.what) (first_there Named (traces_of operation.stamp operation.what) Named refl)) h.number h.clock h.state h.count
 

@@ -8,7 +8,7 @@ use Rattle.lw_node.specs.Node.{NodeContent, fresh}
 use Rattle.lw_held.specs.declared.entry.Entry.{Entry}
 use Rattle.lw_held.specs.Agree.{IsFirstBreak, IsSettled, end_of, Covers, IsEntryAt, journal_of, IsVolumeOf, IsPiece, IsLinked, IsCoveredOnce, AreLinked, IsLaid, IsFineIn}
 use Rattle.lw_held.specs.History.{HeldContent, VolumeContent, IsLegal, IsVolume, Leads}
-use Rattle.lw_held.specs.Looks.{IsEndOf, IsFirstFrom, IsTurn, TurnIsLaid, lesser_of}
+use Rattle.lw_held.specs.inner.Looks.{IsEndOf, IsFirstFrom, IsTurn, TurnIsLaid, lesser_of}
 use Rattle.lw_held.specs.Transcript.{Transcript}
 use Rattle.lw_held.proofs.Agreement.{breaks_both, same_some}
 use Rattle.lw_held.proofs.Histories.{follow}

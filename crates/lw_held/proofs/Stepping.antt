@@ -26,11 +26,11 @@ use Rattle.lw_call.specs.declared.observe_fault.ObserveFault.TheVariants as faul
 use Rattle.lw_call.specs.declared.reply.Reply.{Reply}
 use Rattle.lw_call.specs.declared.reply.Reply.TheVariants as replies
 use Rattle.lw_call.specs.Contents.{OutgoingContent}
-use Rattle.lw_node.specs.Calls.{Sent, Swept, place_at}
-use Rattle.lw_node.specs.Effects.{Place, Request, Refused, ObserveMeans, CancelMeans, SweepMeans}
+use Rattle.lw_node.specs.Calls.{Sent, Swept, issuer_at}
+use Rattle.lw_node.specs.Effects.{Issuer, Request, Refused, ObserveMeans, CancelMeans, SweepMeans}
 use Rattle.lw_node.specs.Exchange.{Merged, AreShown, state_in}
 use Rattle.lw_node.specs.Exchange.{Merges as NodeMerges}
-use Rattle.lw_node.specs.Node.{NodeContent, IsAfter}
+use Rattle.lw_node.specs.Node.{NodeContent, Leaves}
 use Rattle.lw_node.specs.Node.Known.{Shown, Told}
 use Rattle.lw_node.specs.Steps.{Steps as NodeSteps}
 use Rattle.lw_world.proofs.Deciding.{Agree, told_agree, id_along, token_along, answers_along}
@@ -43,10 +43,10 @@ use Rattle.lw_node.proofs.Shown.{about_names, marks_shown, shown_names, shown_st
 
 -- ---- what the same state decides
 module _ (M N : Marks) (agree : (now : ℕ) → Agree M N now) where
-  observe_along : (place : Place) (id : Stamp) (path : Path) (accept : Option ℕ) (mid : ℕ) (outcome : Result (Request × Op) Refused) → ObserveMeans place M id path accept mid outcome → ObserveMeans place N id path accept mid outcome
+  observe_along : (place : Issuer) (id : Stamp) (path : Path) (accept : Option ℕ) (mid : ℕ) (outcome : Result (Request × Op) Refused) → ObserveMeans place M id path accept mid outcome → ObserveMeans place N id path accept mid outcome
   observe_along place id path accept mid outcome h = (h.0, id_along M N place.now (agree place.now) id h.0 h.1, h.2)
 
-  cancel_along : (place : Place) (token : Stamp) (mid : ℕ) (outcome : Result (Request × Op) Refused) → CancelMeans place M token mid outcome → CancelMeans place N token mid outcome
+  cancel_along : (place : Issuer) (token : Stamp) (mid : ℕ) (outcome : Result (Request × Op) Refused) → CancelMeans place M token mid outcome → CancelMeans place N token mid outcome
   cancel_along place token mid outcome h = (h.0, token_along M N place.now (agree place.now) token h.0 h.1, h.2)
 
   sent_along : (Meant Also : Result (Request × Op) Refused → Type 0) → ((o : Result (Request × Op) Refused) → Meant o → Also o) → (After : Option Op → Type 0) (outcome : Result OutgoingContent ObserveFault) → Sent Meant After outcome → Sent Also After outcome
@@ -62,12 +62,12 @@ module _ (M N : Marks) (agree : (now : ℕ) → Agree M N now) where
 
   steps_along : (call : Call) (reply : Reply) (old new : NodeContent) → NodeSteps old M call reply new → NodeSteps old N call reply new
   steps_along (calls.Take now source bytes) (replies.Take (Ok taken)) old new s =
-      record { reply = s.reply; operation = s.operation; meant = datagram_along M N (place_at old (ms_of now)) (agree (ms_of now)) source bytes _ s.meant; replied = s.replied; left = s.left }
+      record { reply = s.reply; operation = s.operation; meant = datagram_along M N (issuer_at old (ms_of now)) (agree (ms_of now)) source bytes _ s.meant; replied = s.replied; left = s.left }
   steps_along (calls.Take now source bytes) (replies.Take (Err refused)) old new s = s
-  steps_along (calls.Observe now id path accept mid) (replies.Observe outcome) old new s = sent_along _ _ (observe_along (place_at old (ms_of now)) id path accept mid) (λ operation. IsAfter old operation new) outcome s
-  steps_along (calls.Cancel now token mid) (replies.Cancel outcome) old new s = sent_along _ _ (cancel_along (place_at old (ms_of now)) token mid) (λ operation. IsAfter old operation new) outcome s
+  steps_along (calls.Observe now id path accept mid) (replies.Observe outcome) old new s = sent_along _ _ (observe_along (issuer_at old (ms_of now)) id path accept mid) (λ operation. Leaves old operation new) outcome s
+  steps_along (calls.Cancel now token mid) (replies.Cancel outcome) old new s = sent_along _ _ (cancel_along (issuer_at old (ms_of now)) token mid) (λ operation. Leaves old operation new) outcome s
   steps_along (calls.Sweep now) (replies.Sweep outcome) old new s =
-      swept_along (SweepMeans (place_at old (ms_of now)) M) (SweepMeans (place_at old (ms_of now)) N) (sweep_along M N (place_at old (ms_of now)) (agree (ms_of now))) (λ operation. IsAfter old operation new) outcome s
+      swept_along (SweepMeans (issuer_at old (ms_of now)) M) (SweepMeans (issuer_at old (ms_of now)) N) (sweep_along M N (issuer_at old (ms_of now)) (agree (ms_of now))) (λ operation. Leaves old operation new) outcome s
   steps_along (calls.Send since) (replies.Send outcome) old new s = s
   steps_along (calls.Merge bytes) (replies.Merge outcome) old new s = s
   steps_along (calls.Ask now question) (replies.Ask (Ok answer)) old new s = (answers_along M N (ms_of now) (agree (ms_of now)) old old question answer (λ is. refl) s.0, s.1)
@@ -103,7 +103,7 @@ module _ (old : Marked) (names : NamesAll (among old.marks)) (new : Marked) wher
   all_named : (clock : ℕ) (marks : List Mark) → Adds old clock marks new → NamesAll (among marks) → NamesAll (among new.marks)
   all_named clock marks h own = subst (λ (ms : List Mark). NamesAll (among ms)) (sym h.marks_are) (append_names old.marks marks names own)
 
-  after : (operation : Option Op) → AddsOr old operation new → NamesAll (among new.marks) × IsAfter (node_of old) operation (node_of new)
+  after : (operation : Option Op) → AddsOr old operation new → NamesAll (among new.marks) × Leaves (node_of old) operation (node_of new)
   after None h = unchanged h
   after (Some operation) h = (
     all_named _ (marks_of operation) h (about_names operation.endpoint operation.reg (Named ∷ traces_of operation.stamp operation.what) (first_there Named (traces_of operation.stamp operation.what) Named refl)),
@@ -132,7 +132,7 @@ module _ (old : Marked) (names : NamesAll (among old.marks)) (new : Marked) wher
 
   -- the node after a step, and that all is named then
   stepped : (call : Call) (reply : Reply) → Steps old call reply new → NamesAll (among new.marks) × NodeSteps (node_of old) (among old.marks) call reply (node_of new)
-  stepped = carried (at_marked old new) (λ named operation. IsAfter (node_of old) operation (node_of new)) (λ named bytes outcome. NodeMerges (node_of old) bytes outcome (node_of new)) after merges
+  stepped = carried (at_marked old new) (λ named operation. Leaves (node_of old) operation (node_of new)) (λ named bytes outcome. NodeMerges (node_of old) bytes outcome (node_of new)) after merges
 
 -- ---- a history
 pub marks_lead : (entries : List Entry) (old : Marked) → NamesAll (among old.marks) → (new : Marked) → MarksLead old entries new → Leads (node_of old) entries (node_of new)

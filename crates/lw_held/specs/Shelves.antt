@@ -1,12 +1,12 @@
 -- Lists of shelves and of passes, and what is known of a call behind a lock.
-use Rattle.std.specs.Prelude.{◌≡◌, ℕ, ◌+◌, ◌<◌, List, [], Some, slice_get}
+use Rattle.std.specs.Prelude.{◌≡◌, ℕ, ◌+◌, ◌<◌, List, [], length, Some, slice_get}
 use Rattle.lw_call.specs.declared.call.Call.{Call}
 use Rattle.lw_held.specs.declared.entry.Entry.{Entry}
 use Rattle.lw_held.specs.declared.shelf.Shelf.{Shelf}
 use Rattle.lw_held.specs.declared.shelf.Unsettled.{Unsettled}
 use Rattle.lw_held.specs.Agree.{Fails, IsSettled}
 use Rattle.lw_held.specs.History.{HeldContent, VolumeContent, IsLegal, Enters, Cuts}
-use Rattle.lw_held.specs.Transcript.{Transcript}
+use Rattle.lw_held.specs.Transcript.{Transcript, with_part}
 
 -- the shelves are numbered from 1, in order
 abbrev pub AreInOrder : List Shelf → Type 0
@@ -19,6 +19,11 @@ AreNew passes = (i : ℕ) (pass : Transcript) → slice_get passes i ≡ Some pa
 -- the call is made of some node with a legal history, which may have any number
 abbrev pub IsAnswered : ℕ → ℕ → Call → Entry → ℕ → Type 0
 IsAnswered pass number call entry place = (old : HeldContent) × (new : HeldContent) × IsLegal old × Enters old pass number call entry place new
+
+-- the pass has one part more: the answer at the place that is given, of the node of the number
+abbrev pub GivesPart : Transcript → Transcript → ℕ → Call → ℕ → Type 0
+GivesPart old new node call place =
+    (entry : Entry) × IsAnswered old.number (length old.parts) call entry place × (new ≡ with_part old node place entry)
 
 -- the volume is what was cut off the journal of some node with a legal history, which may have any number
 abbrev pub IsCutOff : VolumeContent → Type 0

@@ -9,7 +9,7 @@
 ghost use Rattle.std.specs.Prelude.{◌≡◌, ◌↔◌, ◌<◌, ◌≤◌, ◌^◌, ℕ, length, Some, None, slice_get, IfNone, IfSome, IsTrue};
 ghost use Rattle.lw_node.specs.Node.{fresh};
 ghost use Rattle.lw_held.specs.Agree.{IsEntryAt, IsOf, IsFirstBreak, AreDistinct, IsFineIn};
-ghost use Rattle.lw_held.specs.Looks.{HasPart, IsThere, FitBelow, AllFitBelow, IsAfter, Looks, lesser_of, greater_of, HasBelow, IsTold, AllToldBelow};
+ghost use Rattle.lw_held.specs.inner.Looks.{HasPart, IsThere, FitBelow, AllFitBelow, IsAfter, Looks, lesser_of, greater_of, HasBelow, IsTold, AllToldBelow};
 ghost use Rattle.lw_held.specs.Transcript.{Transcript, IsNumbered};
 
 use crate::entry::{Entry, Part};

@@ -8,7 +8,7 @@
 ghost use Rattle.std.specs.Prelude.{◌≡◌, ◌↔◌, ◌<◌, ℕ, length, Some, IsTrue};
 ghost use Rattle.lw_node.specs.Node.{fresh};
 ghost use Rattle.lw_held.specs.Agree.{AreLinked, Covers, IsCoveredOnce, IsFirstBreak, IsLaid, IsLinked, end_of};
-ghost use Rattle.lw_held.specs.Looks.{IsEndOf, IsFirstFrom};
+ghost use Rattle.lw_held.specs.inner.Looks.{IsEndOf, IsFirstFrom};
 
 use crate::agreeing::lesser;
 use crate::held::Held;

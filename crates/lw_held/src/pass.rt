@@ -33,7 +33,7 @@ impl Pass {
     ghost use Rattle.lw_held.specs.declared.entry.Entry.{Entry as Entered};
     ghost use Rattle.lw_held.specs.Agree.{IsFirstBreak};
     ghost use Rattle.lw_held.specs.History.{Enters};
-    ghost use Rattle.lw_held.specs.Looks.{Has, FitBelow};
+    ghost use Rattle.lw_held.specs.inner.Looks.{Has, FitBelow};
     ghost use Rattle.lw_held.specs.Transcript.{IsNumbered, with_part};
 
     /// A pass that no call was made with.

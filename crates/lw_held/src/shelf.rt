@@ -1,11 +1,9 @@
 //! Nodes behind locks of their own.
 
-ghost use Rattle.std.specs.Prelude.{◌≡◌, ◌≤◌, ℕ, length, slice_get, vec_len, Some, IfErr, IfOk, IfSome, OnOk, OnErr};
+ghost use Rattle.std.specs.Prelude.{◌≡◌, ◌≤◌, ℕ, slice_get, vec_len, Some, IfErr, IfOk, IfSome, OnOk, OnErr};
 ghost use Rattle.lw_held.specs.History.{IsVolume, VolumeContent};
 ghost use Rattle.lw_held.specs.Agree.{AreDistinct, IsSettled};
-ghost use Rattle.lw_held.specs.Shelves.{AreInOrder, AreNew, AreSettled, FailsAt, HaveShelves, IsAnswered, IsCutOff, IsUnsettled};
-ghost use Rattle.lw_held.specs.Transcript.{with_part};
-ghost use Rattle.lw_held.specs.declared.entry.Entry.{Entry};
+ghost use Rattle.lw_held.specs.Shelves.{AreInOrder, AreNew, AreSettled, FailsAt, GivesPart, HaveShelves, IsCutOff, IsUnsettled};
 
 use crate::gate::Gate;
 use crate::held::Held;
@@ -52,9 +50,7 @@ impl Shelf {
         call: &Call,
     ) -> Result<u64, NoMemory>
         // Some node with a legal history has answered. That it is the one behind this lock is what `settle` shows.
-        ensures answered { IfOk result (λ place. (entry : Entry)
-            × IsAnswered pass.old.number (length pass.old.parts) call.now entry place
-            × (pass.new ≡ with_part pass.old self.now.number place entry)) }
+        ensures answered { IfOk result (GivesPart pass.old pass.new self.now.number call.now) }
         ensures unchanged { OnErr result (pass.new ≡ pass.old) }
     {
         let answer = self.call_locked(rt, gate, pass, call);
@@ -71,9 +67,7 @@ impl Shelf {
         pass: &mut Pass,
         call: &Call,
     ) -> Result<u64, NoMemory>
-        ensures answered { IfOk result (λ place. (entry : Entry)
-            × IsAnswered pass.old.number (length pass.old.parts) call.now entry place
-            × (pass.new ≡ with_part pass.old self.now.number place entry)) }
+        ensures answered { IfOk result (GivesPart pass.old pass.new self.now.number call.now) }
         ensures unchanged { OnErr result (pass.new ≡ pass.old) }
     {
         let mut held = self.held.lock(rt);

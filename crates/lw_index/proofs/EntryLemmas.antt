@@ -13,7 +13,7 @@ use Rattle.std.proofs.lemmas.Map.{lookup-none}
 use Rattle.std.proofs.lemmas.Map.Entries.{none_below_head}
 use Rattle.std.proofs.lemmas.Map.Keys.{sorted_tail}
 use Rattle.lw_index.specs.Index.{EachHasEndpoints}
-use Rattle.lw_index.specs.Texts.{has_text}
+use Rattle.lw_index.specs.inner.Texts.{has_text}
 use Rattle.lw_index.proofs.TextLemmas.{has_first, one_has}
 use Rattle.lw_index.proofs.IndexLemmas.{held, each_found}
 

@@ -1,15 +1,13 @@
 -- From what a call says of the list of a key to what it says of the index.
 use Rattle.std.proofs.Common.{◌≡◌, ◌⊎◌, ◌↔◌, ℕ, List, [], ◌∷◌, Option, Some, None, Bool, true, false, cond, ◌&&◌, ◌||◌, not, Result, Ok, Err, refl, sym, ap, ◌∙◌, subst}
-use Rattle.std.specs.Prelude.{OnOk, OnErr, bytes_eq, filter}
+use Rattle.std.specs.Prelude.{OnOk, OnErr, bytes_eq}
 use Rattle.std.specs.declared.cmp.Ordering.{Ordering}
-use Rattle.std.specs.Ordering.{is_eq, is_lt}
+use Rattle.std.specs.Ordering.{is_eq}
 use Rattle.std.specs.Cmp.{IsTotalOrder}
 use Rattle.std.specs.Map.{lookup, set_value}
-use Rattle.std.specs.declared.ops.Bound.TheVariants.{Excluded, Unbounded}
-use Rattle.std.specs.BTreeMap.Range.{entries_between}
 use Rattle.std.proofs.lemmas.Map.Steps.{set_value_same}
 use Rattle.lw_index.specs.Index.{Has, IsPair}
-use Rattle.lw_index.specs.Texts.{has_text}
+use Rattle.lw_index.specs.inner.Texts.{has_text}
 use Rattle.lw_index.proofs.IndexLemmas.{held, has_held, held_has, at_same, added, dropped}
 use Rattle.lw_index.proofs.TextLemmas.{has_first, one_has, true_or_not}
 
@@ -74,17 +72,3 @@ none_of_one texts text is e = sym (ap (λ b. b && not (bytes_eq text e)) (ap (λ
 
 pub has_one : (texts : List (List ℕ)) (text : List ℕ) → texts ≡ text ∷ [] → has_text texts text ≡ true
 has_one texts text is = ap (λ l. has_text l text) is ∙ has_first text []
-
--- ---- ranges
-module _ {K : Type 0} (cmp : K → K → Ordering) where
-  kept : (b : Bool) (p : K × List (List ℕ)) (xs ys : List (K × List (List ℕ))) → xs ≡ ys → cond (b && true) (p ∷ xs) xs ≡ cond b (p ∷ ys) ys
-  kept true p xs ys same = ap (λ l. p ∷ l) same
-  kept false p xs ys same = same
-
-  pub range_above : (key : K) (es : List (K × List (List ℕ))) → entries_between cmp (Excluded key) Unbounded es ≡ filter (λ (e : K × List (List ℕ)). is_lt (cmp key e.0)) es
-  range_above key [] = refl
-  range_above key (p ∷ ps) = kept (is_lt (cmp key p.0)) p _ _ (range_above key ps)
-
-  pub range_all : (es : List (K × List (List ℕ))) → entries_between cmp Unbounded Unbounded es ≡ es
-  range_all [] = refl
-  range_all (p ∷ ps) = ap (λ l. p ∷ l) (range_all ps)

@@ -13,7 +13,7 @@ use Rattle.std.proofs.lemmas.Map.Lookups.{exact_bytes}
 use Rattle.std.proofs.lemmas.Map.Views.{Contains-from_any, list_any-from_Contains, tells_apart}
 use Rattle.std.proofs.lemmas.Slice.Eq.{bytes_eq-Decides}
 use Rattle.lw_index.specs.Index.{EachHasEndpoints, Has, IsPair}
-use Rattle.lw_index.specs.Texts.{has_text}
+use Rattle.lw_index.specs.inner.Texts.{has_text}
 use Rattle.lw_index.proofs.TextLemmas.{true_or_not}
 
 -- the text is in the list, if there is one

@@ -14,7 +14,7 @@ use Rattle.std.proofs.lemmas.Cmp.{eq_by_cmp_equiv}
 use Rattle.std.proofs.lemmas.Map.Lookups.{exact_bytes}
 use Rattle.std.proofs.lemmas.Map.Views.{tells_apart}
 use Rattle.std.proofs.lemmas.Slice.Eq.{bytes_eq-Decides}
-use Rattle.lw_index.specs.Texts.{has_text}
+use Rattle.lw_index.specs.inner.Texts.{has_text}
 
 pub true_or_not : {A : Type 0} (b : Bool) → (b ≡ true → A) → (b ≡ false → A) → A
 true_or_not true f g = f refl

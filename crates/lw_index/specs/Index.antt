@@ -1,9 +1,9 @@
 -- An index is a finite map from keys to sets of texts: the endpoints (LwM2M 1.1 Core, section 6.2.1) that have the key.
 -- It is seen as the list of its keys, each with its endpoints.
-use Rattle.std.specs.Prelude.{◌≡◌, ◌≢◌, ℕ, List, [], ◌∷◌, Contains, Option, Some, None, filter, unwrap_or}
+use Rattle.std.specs.Prelude.{◌≡◌, ◌≢◌, ℕ, List, [], ◌∷◌, Contains, unwrap_or}
 use Rattle.std.specs.declared.cmp.Ordering.{Ordering}
 use Rattle.std.specs.declared.cmp.Ordering.TheVariants.{Equal}
-use Rattle.std.specs.Ordering.{is_eq, is_lt}
+use Rattle.std.specs.Ordering.{is_eq}
 use Rattle.std.specs.List.Sorted.{IsStrictlySortedBy}
 use Rattle.std.specs.Map.{keys_of, lookup}
 
@@ -28,8 +28,3 @@ EachHasEndpoints (entry ∷ entries) = (entry.1 ≢ []) × EachHasEndpoints entr
 pub record IsIndex {K : Type 0} (cmp : K → K → Ordering) (index : List (K × List (List ℕ))) : Type 0 where
   pub keys_rise : IsStrictlySortedBy cmp (keys_of index)
   pub each_has : EachHasEndpoints index
-
--- the entries whose keys are above the given one, or all
-abbrev pub entries_above : {K : Type 0} → (K → K → Ordering) → Option K → List (K × List (List ℕ)) → List (K × List (List ℕ))
-entries_above cmp None index = index
-entries_above cmp (Some key) index = filter (λ entry. is_lt (cmp key entry.0)) index

@@ -1,3 +1,2 @@
 pub mod Index
-pub mod Shown
-pub mod Texts
+pub mod inner

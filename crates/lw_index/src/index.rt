@@ -1,18 +1,15 @@
 ghost use Rattle.std.specs.Prelude.{◌≡◌, ◌⊎◌, ◌↔◌, ℕ, List, [], ◌∷◌, IfOk, OnOk, OnErr, IsOk};
-ghost use Rattle.std.specs.Option.{option_copied};
 ghost use Rattle.std.specs.Cmp.Lexicographic.{slice_cmp};
 ghost use Rattle.std.specs.Ordering.{nat_cmp};
 ghost use Rattle.std.specs.List.Sorted.{IsStrictlySortedBy};
-ghost use Rattle.lw_index.specs.Index.{endpoints_of, entries_above, Has, IsIndex, IsPair};
+ghost use Rattle.lw_index.specs.Index.{endpoints_of, Has, IsIndex, IsPair};
 
-use crate::above::Above;
 use crate::endpoints::Endpoints;
 use crate::texts::Texts;
 use lw_stamp::NoMemory;
 use std::alloc::Global;
 use std::collections::BTreeMap;
 use std::marker::Model;
-use std::ops::Bound;
 
 /// A map from each key to the endpoints that have it, of which there is at least one.
 ///
@@ -89,22 +86,6 @@ impl<K: Ord + Drop> Index<K> {
         match self.entries.get(key) {
             Some(endpoints) => endpoints.iter(),
             None => Endpoints::none(),
-        }
-    }
-
-    /// The keys above the given one, or all, rising, each with its endpoints. It costs a descent, and what it
-    /// gives.
-    pub fn above(&self, after: Option<&K>) -> Above<'_, K>
-        ensures entries { result ≡ entries_above K.cmp (option_copied after.entry) self.now }
-        ensures is_index { IsIndex K.cmp self.now }
-    {
-        let Some(key) = after else {
-            return Above {
-                entries: self.entries.range(..),
-            };
-        };
-        Above {
-            entries: self.entries.range((Bound::Excluded(key), Bound::Unbounded)),
         }
     }
 }

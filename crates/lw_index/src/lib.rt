@@ -3,11 +3,9 @@
 //! Many endpoints may have one key, as an address. Keys are ordered by their `Ord`, endpoints by their bytes.
 #![tactic(auto)]
 
-mod above;
 mod endpoints;
 mod index;
 mod texts;
 
-pub use above::Above;
 pub use endpoints::Endpoints;
 pub use index::Index;

@@ -3,8 +3,8 @@ ghost use Rattle.std.specs.Cmp.Lexicographic.{slice_cmp};
 ghost use Rattle.std.specs.Ordering.{nat_cmp};
 ghost use Rattle.std.specs.List.Sorted.{IsStrictlySortedBy};
 ghost use Rattle.std.specs.BTreeSet.{contains_text};
-ghost use Rattle.lw_index.specs.Shown.{texts_in};
-ghost use Rattle.lw_index.specs.Texts.{has_text};
+ghost use Rattle.lw_index.specs.inner.Shown.{texts_in};
+ghost use Rattle.lw_index.specs.inner.Texts.{has_text};
 
 use crate::endpoints::Endpoints;
 use lw_stamp::NoMemory;
@@ -28,7 +28,7 @@ pub(crate) struct Texts {
 
 impl Model for Texts {
     ghost use Rattle.std.specs.Prelude.{ℕ, List};
-    ghost use Rattle.lw_index.specs.Shown.{texts_in};
+    ghost use Rattle.lw_index.specs.inner.Shown.{texts_in};
 
     ghost Value = { List (List ℕ) };
 

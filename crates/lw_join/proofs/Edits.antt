@@ -12,7 +12,7 @@ use Rattle.lw_stamp.specs.Order.{IsExactOrder}
 use Rattle.lw_join.specs.Options.{option_join}
 use Rattle.lw_join.specs.Entries.{Rises, get, missing, put, entries_join}
 use Rattle.lw_join.specs.EntriesLaws.{turned, above_from, get_below, get_first, get-put, get-join, Rises-join, join_none}
-use Rattle.lw_join.specs.Place.{IsAt, IsGap}
+use Rattle.lw_join.specs.inner.Place.{IsAt, IsGap}
 use Rattle.lw_join.proofs.Search.{above_at}
 use Rattle.lw_join.proofs.Lookups.{get_absent, get_there}
 

@@ -30,7 +30,7 @@ use Rattle.lw_join.specs.declared.lww.Lww.{Lww}
 use Rattle.lw_join.specs.declared.or_gone.OrGone.{OrGone}
 use Rattle.lw_join.specs.declared.or_gone.OrGone.TheVariants.{Here, Gone}
 use Rattle.lw_join.specs.declared.parts.Parts.{Parts}
-use Rattle.lw_join.specs.Facets.{Either, IsFacet, TellsSome, Through, OptionTells, KeyedTells, OnceTells, LwwTells, LastTells, LexTells, GoneTells, PartsTells}
+use Rattle.lw_join.specs.inner.Facets.{Either, IsFacet, TellsSome, Through, OptionTells, KeyedTells, OnceTells, LwwTells, LastTells, LexTells, GoneTells, PartsTells}
 
 -- nothing in the left, nothing in the right
 left_empty : {T : Type 0} (P Q : T → Type 0) → ((t : T) → ¬ P t) → (t : T) → Q t ↔ Either P Q t

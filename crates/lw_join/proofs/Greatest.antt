@@ -10,7 +10,7 @@ use Rattle.std.specs.Cmp.{tied_back}
 use Rattle.lw_stamp.specs.Order.{IsExactOrder}
 use Rattle.lw_join.specs.Entries.{AllAbove, Rises, put, entries_join}
 use Rattle.lw_join.specs.EntriesLaws.{turned}
-use Rattle.lw_join.specs.Ends.{ends_cmp}
+use Rattle.lw_join.specs.inner.Ends.{ends_cmp}
 
 last_from : {X : Type 0} → X → List X → X
 last_from x [] = x

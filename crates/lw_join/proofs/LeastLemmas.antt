@@ -3,7 +3,7 @@ use Rattle.std.proofs.Common.{◌≡◌, ◌↔◌, ℕ, zero, suc, ◌<◌, Lis
 use Rattle.std.specs.List.{Contains}
 use Rattle.lw_join.specs.Join.{IsJoin}
 use Rattle.lw_join.specs.Least.{IsLeastAbove, joined_all}
-use Rattle.lw_join.specs.Facets.{IsFacet, Either}
+use Rattle.lw_join.specs.inner.Facets.{IsFacet, Either}
 
 module _ {S : Type 0} {below : S → S → Type 0} {join : S → S → S} (laws : IsJoin below join) where
   pub least_one : (P : S → Type 0) (a b : S) → IsLeastAbove below P a → IsLeastAbove below P b → a ≡ b

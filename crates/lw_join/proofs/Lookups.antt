@@ -7,7 +7,7 @@ use Rattle.lw_stamp.specs.Order.{IsExactOrder}
 use Rattle.lw_join.specs.Options.{option_below}
 use Rattle.lw_join.specs.Entries.{AllAbove, Rises, get, entries_below}
 use Rattle.lw_join.specs.EntriesLaws.{turned, same_key, get_first}
-use Rattle.lw_join.specs.Place.{IsAt, IsGap}
+use Rattle.lw_join.specs.inner.Place.{IsAt, IsGap}
 use Rattle.lw_join.proofs.Search.{above_at}
 
 module _ {K J : Type 0} {cmp : K → K → Ordering} (order : IsExactOrder cmp) where

@@ -7,7 +7,7 @@ use Rattle.std.specs.FinMap.{FinMap, empty, get, keys, get-empty, get-insert, co
 use Rattle.std.proofs.lemmas.Cmp.{eq_by_cmp_equiv}
 use Rattle.std.proofs.lemmas.Map.Views.{tells_apart}
 use Rattle.lw_stamp.specs.Order.{IsExactOrder}
-use Rattle.lw_join.specs.Facets.{Either, IsFacet, TellsSome, OptionTells, MapTells}
+use Rattle.lw_join.specs.inner.Facets.{Either, IsFacet, TellsSome, OptionTells, MapTells}
 use Rattle.lw_join.specs.Join.{IsJoin}
 use Rattle.lw_join.specs.Maps.{map_below, with_option, from_keys, map_join, one_key}
 use Rattle.lw_join.specs.OptionLaws.{option_laws}

@@ -11,7 +11,7 @@ use Rattle.std.specs.Cmp.{alike_right}
 use Rattle.std.proofs.lemmas.Bool.{cases_lt}
 use Rattle.lw_stamp.specs.Order.{IsExactOrder}
 use Rattle.lw_join.specs.Entries.{AllAbove, Rises}
-use Rattle.lw_join.specs.Place.{IsAt, IsGap}
+use Rattle.lw_join.specs.inner.Place.{IsAt, IsGap}
 
 index_le : (r : Ordering) → ordering_index r ≤ 2
 index_le Less = omega arith

@@ -23,13 +23,10 @@ pub mod Pair
 pub mod PairLaws
 pub mod Entries
 pub mod EntriesLaws
-pub mod Ends
-pub mod Place
-pub mod Room
 pub mod Parts
 pub mod PartsLaws
 pub mod Both
 pub mod BothLaws
-pub mod Facets
 pub mod Least
 pub mod Maps
+pub mod inner

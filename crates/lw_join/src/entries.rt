@@ -3,7 +3,7 @@ ghost use Rattle.std.specs.Prelude.{◌≡◌, ◌↔◌, Some, IsTrue, IfOk, If
 ghost use Rattle.std.specs.Option.{option_copied};
 ghost use Rattle.lw_join.specs.Options.{option_below};
 ghost use Rattle.lw_join.specs.Entries.{Rises, get, entries_below, missing};
-ghost use Rattle.lw_join.specs.Place.{IsAt, IsGap};
+ghost use Rattle.lw_join.specs.inner.Place.{IsAt, IsGap};
 
 use crate::exact::Exact;
 use crate::join::Join;

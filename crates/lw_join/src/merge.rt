@@ -2,8 +2,8 @@
 //! greatest key down, in time linear in their entries, behind one search for each entry that comes.
 ghost use Rattle.std.specs.Prelude.{◌≡◌, ◌+◌, ◌<◌, ◌≤◌, [], ◌∷◌, ◌++◌, length, vec_len, vec_capacity, IsOk, OnSome, IfOk, IfSome, IfNone, reverse};
 ghost use Rattle.lw_join.specs.Entries.{Rises, entries_join, missing};
-ghost use Rattle.lw_join.specs.Ends.{ends_cmp};
-ghost use Rattle.lw_join.specs.Room.{HasRoom};
+ghost use Rattle.lw_join.specs.inner.Ends.{ends_cmp};
+ghost use Rattle.lw_join.specs.inner.Room.{HasRoom};
 
 use crate::entries::count_missing;
 use crate::exact::Exact;

@@ -12,8 +12,8 @@ use Rattle.lw_link.specs.declared.link.AttrValue.TheVariants.{Absent, Plain, Quo
 use Rattle.lw_link.specs.Link.{LinkContent}
 use Rattle.lw_link.specs.Characters.{Each, is_target_char, is_name_char, is_plain_char, is_space}
 use Rattle.lw_link.specs.Grammar.{IsItem, AreItems, IsValue, IsAttr, AreAttrs, IsLink, AreMore, IsList}
-use Rattle.lw_link.specs.Machine.{Rest, read_on, is_end, separated, fresh, more_text}
-use Rattle.lw_link.specs.Taking.{with_text}
+use Rattle.lw_link.specs.inner.Machine.{Rest, read_on, is_end, separated, fresh, more_text}
+use Rattle.lw_link.specs.inner.Taking.{with_text}
 
 -- these attributes and links, and nothing begun
 abbrev pub holding : List Attr → List LinkContent → Rest

@@ -12,7 +12,7 @@ use Rattle.lw_link.specs.declared.state.State.{State}
 use Rattle.lw_link.specs.declared.state.State.TheVariants.{Start, Target, Closed, Comma, Semicolon, Name, Equals, Word, Quotation, Backslash, Stop}
 use Rattle.lw_link.specs.Spelling.{Spells}
 use Rattle.lw_link.specs.Faults.{IsFault, IsRead}
-use Rattle.lw_link.specs.Machine.{read_on, next_state, is_end, Leaves}
+use Rattle.lw_link.specs.inner.Machine.{read_on, next_state, is_end, Leaves}
 use Rattle.lw_link.proofs.Sound.{whole_are}
 use Rattle.lw_link.proofs.Places.{not_spelled, place_is}
 use Rattle.lw_link.proofs.Scanned.{IsScanned, opened, scanned_start, scanned_more, scanned_stop, scanned_open, scanned_whole}

@@ -6,9 +6,10 @@ use Rattle.lw_link.specs.declared.fault.LinkFault.TheVariants.{NotText, Grammar,
 use Rattle.lw_link.specs.declared.style.Style.TheVariants.{Any}
 use Rattle.lw_link.specs.Link.{LinkContent}
 use Rattle.lw_link.specs.Spelling.{Spells}
-use Rattle.lw_link.specs.Faults.{IsPlace, IsFault, IsRead, IsRefused}
+use Rattle.lw_link.specs.Faults.{IsPlace, IsFault, IsRead}
+use Rattle.lw_link.specs.inner.Faults.{IsRefused}
 use Rattle.lw_link.specs.declared.state.State.TheVariants.{Start}
-use Rattle.lw_link.specs.Machine.{read_on}
+use Rattle.lw_link.specs.inner.Machine.{read_on}
 use Rattle.lw_link.proofs.Complete.{one_list}
 use Rattle.lw_link.proofs.Sound.{whole_are}
 

@@ -10,8 +10,8 @@ use Rattle.lw_link.specs.declared.link.AttrValue.{AttrValue}
 use Rattle.lw_link.specs.declared.link.AttrValue.TheVariants.{Absent, Plain}
 use Rattle.lw_link.specs.Link.{LinkContent}
 use Rattle.lw_link.specs.Characters.{is_target_char, is_name_char, is_plain_char}
-use Rattle.lw_link.specs.Machine.{Rest, read_on, next_state, with_link, with_value}
-use Rattle.lw_link.specs.Taking.{IsLeft, IsPastAttrs, IsPastSpaces, with_text, ended_text, with_whole_attr, TakesText, TakesValue, TakesAttr, TakesAttrs, TakesLink}
+use Rattle.lw_link.specs.inner.Machine.{Rest, read_on, next_state, with_link, with_value}
+use Rattle.lw_link.specs.inner.Taking.{IsLeft, IsPastAttrs, IsPastSpaces, with_text, ended_text, with_whole_attr, TakesText, TakesValue, TakesAttr, TakesAttrs, TakesLink}
 use Rattle.lw_link.proofs.Sound.{Are, whole_are}
 use Rattle.lw_link.proofs.Walk.{goes_on}
 

@@ -10,8 +10,8 @@ use Rattle.lw_link.specs.declared.style.Style.{Style}
 use Rattle.lw_link.specs.declared.state.State.{State}
 use Rattle.lw_link.specs.declared.state.State.TheVariants.{Start, Target, Closed, Comma, Semicolon, Name, Equals, Word, Quotation, Backslash, Stop}
 use Rattle.lw_link.specs.Characters.{Each, is_visible, is_target_char, is_name_char, is_plain_char, is_quoted_char}
-use Rattle.lw_link.specs.Machine.{next_state}
-use Rattle.lw_link.specs.Runs.{keeps, Passes, HasLink, PassesLink}
+use Rattle.lw_link.specs.inner.Machine.{next_state}
+use Rattle.lw_link.specs.inner.Runs.{keeps, Passes, HasLink, PassesLink}
 use Rattle.lw_link.proofs.Scanned.{IsScanned, opened, scanned_next}
 
 -- ---- one character

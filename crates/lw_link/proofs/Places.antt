@@ -11,7 +11,7 @@ use Rattle.lw_link.specs.declared.state.State.{State}
 use Rattle.lw_link.specs.declared.state.State.TheVariants.{Start, Target, Closed, Comma, Semicolon, Name, Equals, Word, Quotation, Backslash, Stop}
 use Rattle.lw_link.specs.Link.{LinkContent}
 use Rattle.lw_link.specs.Grammar.{IsList}
-use Rattle.lw_link.specs.Machine.{Rest, read_on, next_state, is_end, run, Leaves}
+use Rattle.lw_link.specs.inner.Machine.{Rest, read_on, next_state, is_end, run, Leaves}
 use Rattle.lw_link.specs.Spelling.{Spells}
 use Rattle.lw_link.specs.Faults.{Begins, IsPlace}
 use Rattle.lw_link.proofs.Complete.{list_held}

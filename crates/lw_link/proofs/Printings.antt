@@ -6,7 +6,7 @@ use Rattle.lw_link.specs.declared.style.Style.TheVariants.{Printed}
 use Rattle.lw_link.specs.declared.state.State.TheVariants.{Start}
 use Rattle.lw_link.specs.Link.{LinkContent}
 use Rattle.lw_link.specs.Grammar.{IsList}
-use Rattle.lw_link.specs.Machine.{Rest, read_on, Leaves}
+use Rattle.lw_link.specs.inner.Machine.{Rest, read_on, Leaves}
 use Rattle.lw_link.specs.Spelling.{Spells}
 use Rattle.lw_link.specs.Printing.{printing}
 use Rattle.lw_link.specs.WellFormed.{AreWellFormed, IsPrinting}

@@ -8,7 +8,7 @@ use Rattle.lw_link.specs.declared.state.State.{State}
 use Rattle.lw_link.specs.declared.state.State.TheVariants.{Start, Target, Closed, Comma, Semicolon, Name, Equals, Word, Quotation, Backslash, Stop}
 use Rattle.lw_link.specs.declared.link.AttrValue.TheVariants.{Plain, Quoted}
 use Rattle.lw_link.specs.Characters.{is_target_char, is_name_char, is_plain_char, is_quoted_char}
-use Rattle.lw_link.specs.Machine.{Rest, read_on, next_state, before, opens_link, is_end, run, fresh, more_text, with_link, with_attr, with_value, Leaves}
+use Rattle.lw_link.specs.inner.Machine.{Rest, read_on, next_state, before, opens_link, is_end, run, fresh, more_text, with_link, with_attr, with_value, Leaves}
 use Rattle.lw_link.proofs.Sound.{same_end}
 
 pub run-append : (k : Style) (s : State) (xs ys : List ℕ) → run k s (xs ++ ys) ≡ run k (run k s xs) ys

@@ -9,7 +9,7 @@ use Rattle.lw_link.specs.declared.link.AttrValue.TheVariants.{Plain, Quoted}
 use Rattle.lw_link.specs.Link.{LinkContent}
 use Rattle.lw_link.specs.Characters.{Each, is_target_char, is_name_char, is_plain_char, is_quoted_char, is_escaped_char, is_space}
 use Rattle.lw_link.specs.Grammar.{AreItems, IsValue, IsAttr, AreAttrs, IsLink, AreMore, IsList}
-use Rattle.lw_link.specs.Machine.{Rest, read_on, next_state, separated, before, is_end, fresh, nothing, more_text, with_link, with_attr, with_value}
+use Rattle.lw_link.specs.inner.Machine.{Rest, read_on, next_state, separated, before, is_end, fresh, nothing, more_text, with_link, with_attr, with_value}
 
 -- the characters end a list behind a target or an attribute
 abbrev After : Style → List ℕ → List Attr → List LinkContent → Type 0

@@ -5,8 +5,8 @@ use Rattle.lw_link.specs.declared.style.Style.TheVariants.{Any}
 use Rattle.lw_link.specs.declared.state.State.{State}
 use Rattle.lw_link.specs.declared.state.State.TheVariants.{Start, Target, Closed, Comma, Semicolon, Name, Equals, Word, Quotation, Backslash, Stop}
 use Rattle.lw_link.specs.Characters.{is_target_char, is_name_char, is_plain_char, is_quoted_char, is_escaped_char}
-use Rattle.lw_link.specs.Machine.{Rest, read_on, next_state, separated, fresh, more_text}
-use Rattle.lw_link.specs.Taking.{HoldsText, with_text}
+use Rattle.lw_link.specs.inner.Machine.{Rest, read_on, next_state, separated, fresh, more_text}
+use Rattle.lw_link.specs.inner.Taking.{HoldsText, with_text}
 use Rattle.lw_link.proofs.Sound.{same_end}
 
 -- nothing holds a list behind a stop

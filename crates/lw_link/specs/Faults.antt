@@ -1,5 +1,5 @@
 -- Why bytes spell no list of at most 256 links.
-use Rattle.std.specs.Prelude.{◌≡◌, ℕ, ◌<◌, ◌≤◌, ◌⊎◌, List, ◌++◌, length, take, IsUtf8}
+use Rattle.std.specs.Prelude.{ℕ, ◌<◌, ◌≤◌, List, ◌++◌, length, take, IsUtf8}
 use Rattle.lw_link.specs.declared.fault.LinkFault.{LinkFault}
 use Rattle.lw_link.specs.declared.fault.LinkFault.TheVariants.{NotText, Grammar, TooMany, NoMemory}
 use Rattle.lw_link.specs.Link.{LinkContent}
@@ -26,7 +26,3 @@ IsFault bytes NoMemory = ⊥
 -- the bytes spell 1 to 256 links
 abbrev pub IsRead : List ℕ → Type 0
 IsRead bytes = (links : List LinkContent) × Spells bytes links × (length links ≤ 256)
-
--- a fault of the bytes, or want of memory in place of their links
-abbrev pub IsRefused : List ℕ → LinkFault → Type 0
-IsRefused bytes fault = ((fault ≡ NoMemory) × IsRead bytes) ⊎ IsFault bytes fault

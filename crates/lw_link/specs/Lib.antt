@@ -5,6 +5,4 @@ pub mod Spelling
 pub mod Faults
 pub mod Printing
 pub mod WellFormed
-pub mod Machine
-pub mod Taking
-pub mod Runs
+pub mod inner

@@ -32,7 +32,8 @@ impl LinkText {
     ghost use Rattle.lw_link.specs.declared.fault.LinkFault.{LinkFault};
     ghost use Rattle.lw_link.specs.Link.{LinkContent};
     ghost use Rattle.lw_link.specs.Spelling.{Spells};
-    ghost use Rattle.lw_link.specs.Faults.{IsFault, IsRefused};
+    ghost use Rattle.lw_link.specs.Faults.{IsFault};
+    ghost use Rattle.lw_link.specs.inner.Faults.{IsRefused};
     ghost use Rattle.lw_link.specs.Printing.{printing};
     ghost use Rattle.lw_link.specs.WellFormed.{IsPrinting};
 

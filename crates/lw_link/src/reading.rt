@@ -5,10 +5,11 @@ ghost use Rattle.lw_link.specs.declared.fault.LinkFault.{LinkFault};
 ghost use Rattle.lw_link.specs.declared.style.Style.TheVariants.{Any};
 ghost use Rattle.lw_link.specs.declared.state.State.TheVariants.{Start, Closed, Comma, Semicolon, Name, Quotation};
 ghost use Rattle.lw_link.specs.Link.{LinkContent};
-ghost use Rattle.lw_link.specs.Machine.{read_on, more_text};
-ghost use Rattle.lw_link.specs.Taking.{HoldsText, IsLeft, IsPastSpaces, TakesText, TakesQuoted, TakesValue, TakesAttr, TakesAttrs, TakesLink};
+ghost use Rattle.lw_link.specs.inner.Machine.{read_on, more_text};
+ghost use Rattle.lw_link.specs.inner.Taking.{HoldsText, IsLeft, IsPastSpaces, TakesText, TakesQuoted, TakesValue, TakesAttr, TakesAttrs, TakesLink};
 ghost use Rattle.lw_link.specs.Spelling.{Spells};
-ghost use Rattle.lw_link.specs.Faults.{IsFault, IsRefused};
+ghost use Rattle.lw_link.specs.Faults.{IsFault};
+ghost use Rattle.lw_link.specs.inner.Faults.{IsRefused};
 
 use crate::fault::LinkFault;
 use crate::link::{Attr, AttrValue, Link};

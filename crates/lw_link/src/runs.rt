@@ -2,7 +2,7 @@
 
 ghost use Rattle.std.specs.Prelude.{◌≡◌, ◌≤◌, IfSome, length, take};
 ghost use Rattle.lw_link.specs.Characters.{Each};
-ghost use Rattle.lw_link.specs.Runs.{keeps, HasLink};
+ghost use Rattle.lw_link.specs.inner.Runs.{keeps, HasLink};
 
 use crate::characters::{is_name_char, is_plain_char, is_quoted_char, is_target_char};
 use crate::state::State;

@@ -3,7 +3,7 @@
 ghost use Rattle.std.specs.Prelude.{◌≡◌, ◌≤◌, ◌↔◌, true, length, IfOk, IfErr, IfSome, IfNone, IsTrue, IsUtf8, chars};
 ghost use Rattle.lw_link.specs.declared.style.Style.TheVariants.{Any};
 ghost use Rattle.lw_link.specs.declared.state.State.TheVariants.{Start};
-ghost use Rattle.lw_link.specs.Machine.{read_on, Leaves};
+ghost use Rattle.lw_link.specs.inner.Machine.{read_on, Leaves};
 ghost use Rattle.lw_link.specs.Faults.{IsFault};
 ghost use Rattle.lw_link.specs.WellFormed.{IsPrinting};
 

@@ -1,5 +1,5 @@
 ghost use Rattle.std.specs.Prelude.{◌≡◌, ℕ, List, [], ◌∷◌, MatchOption, MatchBool, chars};
-ghost use Rattle.lw_link.specs.Runs.{Passes, PassesLink};
+ghost use Rattle.lw_link.specs.inner.Runs.{Passes, PassesLink};
 
 use crate::runs::{link_in, run_in};
 use crate::state::State;

@@ -1,5 +1,5 @@
 ghost use Rattle.std.specs.Prelude.{◌≡◌};
-ghost use Rattle.lw_link.specs.Machine as machine;
+ghost use Rattle.lw_link.specs.inner.Machine as machine;
 
 use crate::characters::{
     is_escaped_char, is_name_char, is_plain_char, is_quoted_char, is_space, is_target_char,

@@ -15,7 +15,8 @@ use Rattle.lw_reg.specs.State.{State, IsStateOf}
 use Rattle.lw_table.specs.LookUps.{ById, ByToken}
 use Rattle.lw_call.specs.declared.observe_fault.ObserveFault.{ObserveFault}
 use Rattle.lw_call.specs.declared.observe_fault.ObserveFault.TheVariants as faults
-use Rattle.lw_node.specs.Calls.{CommandContent, IsSent, Commanded, place_at}
+use Rattle.lw_node.specs.Calls.{IsSent, issuer_at}
+use Rattle.lw_node.specs.inner.Calls.{CommandContent, Commanded}
 use Rattle.lw_node.specs.Effects.{IsNext, IsAbout, observes, ends, ObserveMeans, CancelMeans}
 use Rattle.lw_node.specs.Node.{NodeContent, Known, IsKnown, marks_in}
 use Rattle.lw_node.specs.Node.Known.{Shown, Told}
@@ -40,7 +41,7 @@ op_on stamp r what = record { stamp = stamp; endpoint = r.endpoint; reg = r.id; 
 is_about : (stamp : Stamp) (r : Registration) (what : What) (op : Op) → op ≡ op_on stamp r what → IsAbout r op
 is_about stamp r what op e = record { endpoint = ap (λ (o : Op). o.endpoint) e; registration = ap (λ (o : Op). o.reg) e }
 
-is_next : (node : NodeContent) (now : ℕ) (stamp : Stamp) (r : Registration) (what : What) (op : Op) → op ≡ op_on stamp r what → stamp.counter ≡ node.clock + 1 → stamp.node ≡ node.number → IsNext (place_at node now) op.stamp
+is_next : (node : NodeContent) (now : ℕ) (stamp : Stamp) (r : Registration) (what : What) (op : Op) → op ≡ op_on stamp r what → stamp.counter ≡ node.clock + 1 → stamp.node ≡ node.number → IsNext (issuer_at node now) op.stamp
 is_next node now stamp r what op e counter number = record { counter = ap (λ (o : Op). o.stamp.counter) e ∙ counter; node = ap (λ (o : Op). o.stamp.node) e ∙ number }
 
 -- ---- to observe a path
@@ -49,7 +50,7 @@ module _ (now : ℕ) (id : Stamp) (path : Path) (accept : Option ℕ) (mid : ℕ
   FoundById found node = (known : Known) → IsKnown node.table.state known → ById (marks_in node.table.state known) now id found
 
   abbrev pub Observed : NodeContent → Result CommandContent ObserveFault → Type 0
-  Observed node result = Commanded node.table.state (λ M. ObserveMeans (place_at node now) M id path accept mid) result
+  Observed node result = Commanded node.table.state (λ M. ObserveMeans (issuer_at node now) M id path accept mid) result
 
   pub observe_none : (node : NodeContent) → FoundById None node → Observed node (Err faults.NotFound)
   observe_none node found known is = (None, found known is, refl)
@@ -78,7 +79,7 @@ module _ (now : ℕ) (token : Stamp) (mid : ℕ) where
   FoundByToken found node = (known : Known) → IsKnown node.table.state known → ByToken (marks_in node.table.state known) now token found
 
   abbrev pub Cancelled : NodeContent → Result CommandContent ObserveFault → Type 0
-  Cancelled node result = Commanded node.table.state (λ M. CancelMeans (place_at node now) M token mid) result
+  Cancelled node result = Commanded node.table.state (λ M. CancelMeans (issuer_at node now) M token mid) result
 
   pub cancel_none : (node : NodeContent) → FoundByToken None node → Cancelled node (Err faults.NotFound)
   cancel_none node found known is = (None, found known is, refl)

@@ -15,8 +15,9 @@ use Rattle.lw_reg.specs.State.{State, IsStateOf}
 use Rattle.lw_request.specs.Report.{ReportContent}
 use Rattle.lw_table.specs.LookUps.{ByToken}
 use Rattle.lw_call.specs.Contents.{NoticeContent}
-use Rattle.lw_node.specs.Calls.{DecisionContent, IsReply, Decides}
-use Rattle.lw_node.specs.Effects.{Place, Effect, answers, rejected, acknowledged, unwanted, IsAtEnd, IsNext, Issues, IsNamed, NamedChanges, IsAbout, answered, IsWatched, notice_of, GoesOn, Cancels, EndsWatch, ReportMeans}
+use Rattle.lw_node.specs.Calls.{IsReply}
+use Rattle.lw_node.specs.inner.Calls.{DecisionContent, Decides}
+use Rattle.lw_node.specs.Effects.{Issuer, Effect, answers, rejected, acknowledged, unwanted, IsAtEnd, IsNext, Issues, IsNamed, NamedChanges, IsAbout, answered, IsWatched, notice_of, GoesOn, Cancels, EndsWatch, ReportMeans}
 use Rattle.lw_node.specs.Node.{Known, IsKnown, marks_in}
 use Rattle.lw_node.specs.Node.Known.{Shown, Told}
 
@@ -38,7 +39,7 @@ decides_reply P d bytes reply meant replied same =
     subst (Decides P) (sym same) (record { reply = reply; meant = meant; replied = replied })
 
 -- ---- requests
-module _ (place : Place) (request : MessageContent) (Does : Op → Type 0) (reply : Op → MessageContent) where
+module _ (place : Issuer) (request : MessageContent) (Does : Op → Type 0) (reply : Op → MessageContent) where
   pub decides_at_end : (d : DecisionContent) (bytes : Option (List ℕ)) → IsAtEnd place → IsReply bytes (Some (answers request 163 None)) → d ≡ replying bytes
       → Decides (Issues place request Does reply) d
   decides_at_end d bytes end replied same =
@@ -52,7 +53,7 @@ module _ (place : Place) (request : MessageContent) (Does : Op → Type 0) (repl
       → d ≡ record { reply = d.reply; notice = None; operation = Some op } → Decides (Issues place request Does reply) d
   decides_operation d op next does replied same = subst (Decides (Issues place request Does reply)) (sym same) (decides_issue d.reply op next does replied)
 
-module _ (place : Place) (M : Marks) (request : MessageContent) (id : Option Stamp) (Does : What → Type 0) (code : ℕ) where
+module _ (place : Issuer) (M : Marks) (request : MessageContent) (id : Option Stamp) (Does : What → Type 0) (code : ℕ) where
   pub decides_unnamed : (d : DecisionContent) (bytes : Option (List ℕ)) → IsNamed M place.now id None → IsReply bytes (Some (answers request 132 None)) → d ≡ replying bytes
       → Decides (NamedChanges place M request id Does code) d
   decides_unnamed d bytes named replied same =
@@ -91,7 +92,7 @@ watched_none state now token stamp None same by = λ known h x w.
     by known h x (subst (λ (s : Stamp). ByToken (marks_in state known) now s (Some x)) (one_of_bytes w.0 stamp (sym w.1 ∙ same)) w.2).fits
 
 -- ---- reports
-module _ (place : Place) (report : ReportContent) (x : Registration × Watch) where
+module _ (place : Issuer) (report : ReportContent) (x : Registration × Watch) where
   pub decides_end_refused : (own : ReportContent) (d : DecisionContent) (bytes : Option (List ℕ)) → own ≡ report → IsAtEnd place
       → IsReply bytes (rejected own.kind own.mid) → d ≡ replying bytes → Decides (EndsWatch place report x) d
   decides_end_refused own d bytes is end replied same =
@@ -107,7 +108,7 @@ module _ (place : Place) (report : ReportContent) (x : Registration × Watch) wh
     replied = subst (λ (r : ReportContent). IsReply bytes (acknowledged r.kind r.mid)) is replied;
   }
 
-module _ (place : Place) (M : Marks) (report own : ReportContent) (is : own ≡ report) where
+module _ (place : Issuer) (M : Marks) (report own : ReportContent) (is : own ≡ report) where
   pub decides_unwatched : (d : DecisionContent) (bytes : Option (List ℕ)) (token : List ℕ) → token ≡ own.token
       → ((x : Registration × Watch) → ¬ IsWatched M place.now token x) → IsReply bytes (unwanted own.kind own.mid) → d ≡ replying bytes
       → Decides (ReportMeans place M report) d

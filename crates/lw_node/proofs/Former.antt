@@ -10,7 +10,7 @@ use Rattle.std.proofs.lemmas.List.Elements.{Contains-append_cases, Contains-appe
 use Rattle.lw_stamp.specs.declared.stamp.Stamp.{Stamp}
 use Rattle.lw_stamp.specs.Order.{AtMost}
 use Rattle.lw_stamp.specs.StampOrder.{stamp_cmp}
-use Rattle.lw_join.specs.Facets.{OptionTells}
+use Rattle.lw_join.specs.inner.Facets.{OptionTells}
 use Rattle.lw_join.specs.JoinLaws.{semilattice}
 use Rattle.lw_reg.specs.declared.base.Base.{Base}
 use Rattle.lw_reg.specs.declared.op.Op.{Op}

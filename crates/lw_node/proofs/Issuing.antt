@@ -20,7 +20,8 @@ use Rattle.lw_reg.specs.State.{State, state_join, state_of}
 use Rattle.lw_reg.proofs.Operations.{marks_state}
 use Rattle.lw_reg.proofs.States.{state_is}
 use Rattle.lw_node.specs.Node.{HasEndpoints}
-use Rattle.lw_node.specs.Within.{FitsClock, IsNextOf}
+use Rattle.lw_node.specs.Within.{FitsClock}
+use Rattle.lw_node.specs.inner.Within.{IsNextOf}
 use Rattle.lw_node.proofs.Within.{fits_more, fits_join, fits_op}
 
 -- an endpoint's slot, joined to a state whose endpoints are names of clients

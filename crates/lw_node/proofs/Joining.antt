@@ -31,7 +31,8 @@ use Rattle.lw_table.specs.Changes.{Count, Recounts, Moves, counted}
 use Rattle.lw_table.specs.Table.{TableContent}
 use Rattle.lw_table.proofs.CountLemmas.{recount_none}
 use Rattle.lw_table.proofs.RowLemmas.{same_or_not}
-use Rattle.lw_node.specs.Exchange.{state_in, JoinedTo}
+use Rattle.lw_node.specs.Exchange.{state_in}
+use Rattle.lw_node.specs.inner.Exchange.{JoinedTo}
 
 laws : IsSemilattice state_join
 laws = semilattice state_laws

@@ -28,7 +28,8 @@ use Rattle.lw_delta.proofs.Fitting.{spelled_fits}
 use Rattle.lw_delta.proofs.Left.{one_left}
 use Rattle.lw_call.specs.declared.merge_fault.MergeFault.{MergeFault}
 use Rattle.lw_call.specs.declared.merge_fault.MergeFault.TheVariants.{Malformed, NoMemory}
-use Rattle.lw_node.specs.Exchange.{state_in, JoinedTo, JoinsSlots, Merged, Merges, IsLeastOfBoth}
+use Rattle.lw_node.specs.Exchange.{state_in, Merged, Merges, IsLeastOfBoth}
+use Rattle.lw_node.specs.inner.Exchange.{JoinedTo, JoinsSlots}
 use Rattle.lw_node.specs.Node.{NodeContent, HasEndpoints}
 use Rattle.lw_node.specs.Within.{FitsClock}
 use Rattle.lw_node.proofs.Joining.{entry_cmp, get-joined}

@@ -20,21 +20,22 @@ use Rattle.lw_request.specs.declared.asked.Asked.TheVariants.{Register, Update, 
 use Rattle.lw_request.specs.declared.refusal.Refusal.{Refusal}
 use Rattle.lw_request.specs.Meaning.{Means}
 use Rattle.lw_request.specs.Reply.{reset_of, code_of}
-use Rattle.lw_node.specs.Calls.{DecisionContent, IsReply, Decides, RepliesMalformed}
-use Rattle.lw_node.specs.Effects.{Place, Effect, answers, rejected, created, answered, Issues, Registers, WritesAll, WritesGiven, Changes, NamedChanges, IsAbout, Does, MessageMeans, DatagramMeans}
+use Rattle.lw_node.specs.Calls.{IsReply}
+use Rattle.lw_node.specs.inner.Calls.{DecisionContent, Decides, RepliesMalformed}
+use Rattle.lw_node.specs.Effects.{Issuer, Effect, answers, rejected, created, answered, Issues, Registers, WritesAll, WritesGiven, Changes, NamedChanges, IsAbout, Does, MessageMeans, DatagramMeans}
 use Rattle.lw_node.proofs.Deciding.{decides_as, decides_reply, replying}
 
-issues_as : (place : Place) (m : MessageContent) (reply : Op → MessageContent) (P Q : Op → Type 0) (e : Effect) → ((op : Op) → P op → Q op)
+issues_as : (place : Issuer) (m : MessageContent) (reply : Op → MessageContent) (P Q : Op → Type 0) (e : Effect) → ((op : Op) → P op → Q op)
     → Issues place m P reply e → Issues place m Q reply e
 issues_as place m reply P Q e f h = elim h [ inl end ↦ inl end | inr x ↦ inr (x.0, x.1, f x.0 x.2, x.3) ]
 
-changes_as : (place : Place) (m : MessageContent) (P Q : What → Type 0) (code : ℕ) (found : Option Registration) (e : Effect) → ((w : What) → P w → Q w)
+changes_as : (place : Issuer) (m : MessageContent) (P Q : What → Type 0) (code : ℕ) (found : Option Registration) (e : Effect) → ((w : What) → P w → Q w)
     → Changes place m P code found e → Changes place m Q code found e
 changes_as place m P Q code None e f h = h
 changes_as place m P Q code (Some r) e f h =
     issues_as place m (answered m code) (λ op. IsAbout r op × P op.what) (λ op. IsAbout r op × Q op.what) e (λ op x. (x.0, f op.what x.1)) h
 
-module _ (place : Place) (M : Marks) (source : Addr) (m : MessageContent) (asked : Asked) (means : Means m asked) (d : DecisionContent) where
+module _ (place : Issuer) (M : Marks) (source : Addr) (m : MessageContent) (asked : Asked) (means : Means m asked) (d : DecisionContent) where
   -- what a message asks for is decided
   decides_asked : (wanted : Asked) → asked ≡ wanted → Decides (Does place M source m wanted) d → Decides (MessageMeans place M source m) d
   decides_asked wanted is h =
@@ -84,7 +85,7 @@ module _ (place : Place) (M : Marks) (source : Addr) (m : MessageContent) (asked
         (subst (λ (m : MessageContent). IsReply bytes (rejected m.kind m.mid)) own_is replied) same)
 
 -- ---- bytes that spell no message
-pub decides_malformed : (place : Place) (M : Marks) (source : Addr) (bytes : List ℕ) (fault : Fault) (reply : Option (List ℕ)) (d : DecisionContent)
+pub decides_malformed : (place : Issuer) (M : Marks) (source : Addr) (bytes : List ℕ) (fault : Fault) (reply : Option (List ℕ)) (d : DecisionContent)
     → IsFault bytes fault → RepliesMalformed bytes reply → d ≡ replying reply → Decides (DatagramMeans place M source bytes) d
 decides_malformed place M source bytes fault reply d is h same =
     decides_reply (DatagramMeans place M source bytes) d reply h.message (inr (fault, is, h.meant)) h.replied same

@@ -22,8 +22,9 @@ use Rattle.lw_request.specs.declared.asked.Asked.TheVariants.{Register, Update, 
 use Rattle.lw_request.specs.Report.{ReportContent}
 use Rattle.lw_table.specs.Answers.{IsFirstAnswer}
 use Rattle.lw_table.specs.LookUps.{ById, ByToken, IsExpiredAfter}
-use Rattle.lw_node.specs.Effects.{Place, Effect, Request, Refused, IsNext, Issues, WritesAll, WritesGiven, IsAbout, IsNamed, Changes, NamedChanges, EndsWatch, ReportMeans, Does, MalformedMeans, DatagramMeans, CommandMeans, ObserveMeans, CancelMeans, Expires, SweepsFirst, SweepMeans, observes, ends}
-use Rattle.lw_node.specs.Within.{FitsClock, TokenWithin, IsNextOf}
+use Rattle.lw_node.specs.Effects.{Issuer, Effect, Request, Refused, IsNext, Issues, WritesAll, WritesGiven, IsAbout, IsNamed, Changes, NamedChanges, EndsWatch, ReportMeans, Does, MalformedMeans, DatagramMeans, CommandMeans, ObserveMeans, CancelMeans, Expires, SweepsFirst, SweepMeans, observes, ends}
+use Rattle.lw_node.specs.Within.{FitsClock, TokenWithin}
+use Rattle.lw_node.specs.inner.Within.{IsNextOf}
 
 -- the operation of the effect, if it has one, is the next
 abbrev pub NextIn : ℕ → Effect → Type 0
@@ -52,7 +53,7 @@ same_operation a b o p e = ap of (sym e)
     of (Ok x) = x.1
     of (Err refused) = o
 
-module _ (place : Place) where
+module _ (place : Issuer) where
   next_of : (op : Op) → IsNext place op.stamp → op.reg.counter ≤ place.clock + 1 → TokenWithin place.clock op.what → IsNextOf place.clock op
   next_of op next reg token = record { next = next.counter; registration = reg; token = token }
 

@@ -15,16 +15,17 @@ use Rattle.lw_call.specs.declared.clock_end.ClockEnd.{ClockEnd as NoStamp}
 use Rattle.lw_call.specs.declared.observe_fault.ObserveFault.{ObserveFault}
 use Rattle.lw_call.specs.declared.observe_fault.ObserveFault.TheVariants as faults
 use Rattle.lw_call.specs.Contents.{OutgoingContent}
-use Rattle.lw_node.specs.Calls.{DecisionContent, Decides, Sent, Swept, TakesSo, Observes, Cancels, place_at}
-use Rattle.lw_node.specs.Effects.{Place, Effect, Request, Refused, IsAtEnd, CommandMeans, SweepMeans, SweepsFirst, observes, ends}
+use Rattle.lw_node.specs.Calls.{Sent, Swept, TakesSo, Observes, Cancels, issuer_at}
+use Rattle.lw_node.specs.inner.Calls.{DecisionContent, Decides}
+use Rattle.lw_node.specs.Effects.{Issuer, Effect, Request, Refused, IsAtEnd, CommandMeans, SweepMeans, SweepsFirst, observes, ends}
 use Rattle.lw_node.specs.Effects.Refused.{NotFound, ClockEnd}
-use Rattle.lw_node.specs.Node.{NodeContent, IsAfter}
+use Rattle.lw_node.specs.Node.{NodeContent, Leaves}
 
 abbrev pub Outcome : Type 0
 Outcome = Result OutgoingContent ObserveFault
 
 -- ---- which refusal it is
-module _ {X : Type 0} (place : Place) (Found : Option X → Type 0) (apart : Found None → (x : X) → ¬ Found (Some x)) (of_found : X → Registration) (Do : X → Op → Type 0) (sends : X → Op → Request) where
+module _ {X : Type 0} (place : Issuer) (Found : Option X → Type 0) (apart : Found None → (x : X) → ¬ Found (Some x)) (of_found : X → Registration) (Do : X → Op → Type 0) (sends : X → Op → Request) where
   abbrev Meant : Result (Request × Op) Refused → Type 0
   Meant outcome = (found : Option X) × Found found × CommandMeans place found of_found Do sends outcome
 
@@ -53,13 +54,13 @@ module _ {X : Type 0} (place : Place) (Found : Option X → Type 0) (apart : Fou
       go (Some x) by (inr means) = ((x, by), λ end. (let next = means.1.counter in let range = means.0.stamp.in_range in omega (arith, next, range, end)))
 
   module _ (old new : NodeContent) where
-    pub sent_none : (r : Outcome) → Sent Meant (λ operation. IsAfter old operation new) r → (r ≡ Err faults.NotFound) ↔ Found None
+    pub sent_none : (r : Outcome) → Sent Meant (λ operation. Leaves old operation new) r → (r ≡ Err faults.NotFound) ↔ Found None
     sent_none (Ok o) h = (λ e. absurd cc, λ none. (let x = (going_on (h.request, h.operation) h.meant).0 in absurd (apart none x.0 x.1)))
     sent_none (Err faults.NotFound) h = (λ e. none_found h.0, λ none. refl)
     sent_none (Err faults.ClockEnd) h = (λ e. absurd cc, λ none. (let x = (at_end h.0).1 in absurd (apart none x.0 x.1)))
     sent_none (Err faults.NoMemory) h = (λ e. absurd cc, λ none. (let x = (going_on (h.0.0, h.0.1) h.0.2).0 in absurd (apart none x.0 x.1)))
 
-    pub sent_end : (r : Outcome) → Sent Meant (λ operation. IsAfter old operation new) r → (r ≡ Err faults.ClockEnd) ↔ (IsAtEnd place × ((x : X) × Found (Some x)))
+    pub sent_end : (r : Outcome) → Sent Meant (λ operation. Leaves old operation new) r → (r ≡ Err faults.ClockEnd) ↔ (IsAtEnd place × ((x : X) × Found (Some x)))
     sent_end (Ok o) h = (λ e. absurd cc, λ p. absurd ((going_on (h.request, h.operation) h.meant).1 p.0))
     sent_end (Err faults.NotFound) h = (λ e. absurd cc, λ p. absurd (apart (none_found h.0) p.1.0 p.1.1))
     sent_end (Err faults.ClockEnd) h = (λ e. at_end h.0, λ p. refl)
@@ -74,21 +75,21 @@ token_apart M now token none x some = none x some.fits
 -- ---- of an observation
 module _ (old new : NodeContent) (now : ℕ) (id : Stamp) (path : Path) (accept : Option ℕ) (mid : ℕ) (r : Outcome) (sent : Observes old (shown_in old.table.state) now id path accept mid r new) where
   pub observe_not_found : (r ≡ Err faults.NotFound) ↔ ById (shown_in old.table.state) now id None
-  observe_not_found = sent_none (place_at old now) (ById (shown_in old.table.state) now id) (id_apart (shown_in old.table.state) now id) (λ r. r) (λ r op. op.what ≡ whats.Observe path accept) (observes mid path accept) old new r sent
+  observe_not_found = sent_none (issuer_at old now) (ById (shown_in old.table.state) now id) (id_apart (shown_in old.table.state) now id) (λ r. r) (λ r op. op.what ≡ whats.Observe path accept) (observes mid path accept) old new r sent
 
-  pub observe_at_end : (r ≡ Err faults.ClockEnd) ↔ (IsAtEnd (place_at old now) × ((r : Registration) × ById (shown_in old.table.state) now id (Some r)))
-  observe_at_end = sent_end (place_at old now) (ById (shown_in old.table.state) now id) (id_apart (shown_in old.table.state) now id) (λ r. r) (λ r op. op.what ≡ whats.Observe path accept) (observes mid path accept) old new r sent
+  pub observe_at_end : (r ≡ Err faults.ClockEnd) ↔ (IsAtEnd (issuer_at old now) × ((r : Registration) × ById (shown_in old.table.state) now id (Some r)))
+  observe_at_end = sent_end (issuer_at old now) (ById (shown_in old.table.state) now id) (id_apart (shown_in old.table.state) now id) (λ r. r) (λ r op. op.what ≡ whats.Observe path accept) (observes mid path accept) old new r sent
 
 -- ---- of its end
 module _ (old new : NodeContent) (now : ℕ) (token : Stamp) (mid : ℕ) (r : Outcome) (sent : Cancels old (shown_in old.table.state) now token mid r new) where
   pub cancel_not_found : (r ≡ Err faults.NotFound) ↔ ByToken (shown_in old.table.state) now token None
-  cancel_not_found = sent_none (place_at old now) (ByToken (shown_in old.table.state) now token) (token_apart (shown_in old.table.state) now token) (λ x. x.0) (λ x op. op.what ≡ whats.Cancel x.1.path x.1.token) (ends mid) old new r sent
+  cancel_not_found = sent_none (issuer_at old now) (ByToken (shown_in old.table.state) now token) (token_apart (shown_in old.table.state) now token) (λ x. x.0) (λ x op. op.what ≡ whats.Cancel x.1.path x.1.token) (ends mid) old new r sent
 
-  pub cancel_at_end : (r ≡ Err faults.ClockEnd) ↔ (IsAtEnd (place_at old now) × ((x : Registration × Watch) × ByToken (shown_in old.table.state) now token (Some x)))
-  cancel_at_end = sent_end (place_at old now) (ByToken (shown_in old.table.state) now token) (token_apart (shown_in old.table.state) now token) (λ x. x.0) (λ x op. op.what ≡ whats.Cancel x.1.path x.1.token) (ends mid) old new r sent
+  pub cancel_at_end : (r ≡ Err faults.ClockEnd) ↔ (IsAtEnd (issuer_at old now) × ((x : Registration × Watch) × ByToken (shown_in old.table.state) now token (Some x)))
+  cancel_at_end = sent_end (issuer_at old now) (ByToken (shown_in old.table.state) now token) (token_apart (shown_in old.table.state) now token) (λ x. x.0) (λ x op. op.what ≡ whats.Cancel x.1.path x.1.token) (ends mid) old new r sent
 
 -- ---- of a sweep
-module _ (place : Place) (M : Marks) (After : Option Op → Type 0) where
+module _ (place : Issuer) (M : Marks) (After : Option Op → Type 0) where
   abbrev Found : Option Registration → Type 0
   Found = IsFirstAnswer (IsExpiredAfter M place.now None)
 
@@ -133,5 +134,5 @@ module _ (place : Place) (M : Marks) (After : Option Op → Type 0) where
   swept_end (Err ended) h = (λ e. expired_at_end h.0, λ p. refl)
 
 -- what is given for a datagram, and what it leaves, is what was decided
-pub taken_so : (Meant : Effect → Type 0) (old new : NodeContent) (d : DecisionContent) → Decides Meant d → IsAfter old d.operation new → TakesSo Meant (λ operation. IsAfter old operation new) (record { reply = d.reply; notice = d.notice })
+pub taken_so : (Meant : Effect → Type 0) (old new : NodeContent) (d : DecisionContent) → Decides Meant d → Leaves old d.operation new → TakesSo Meant (λ operation. Leaves old operation new) (record { reply = d.reply; notice = d.notice })
 taken_so Meant old new d h left = record { reply = h.reply; operation = d.operation; meant = h.meant; replied = h.replied; left = left }

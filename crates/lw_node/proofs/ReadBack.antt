@@ -45,7 +45,7 @@ use Rattle.lw_reg.specs.Slot.{slot_join, slot_at, slot_of, told_of, write_of, wr
 use Rattle.lw_reg.specs.State.{State, state_join, state_of}
 use Rattle.lw_reg.proofs.Operations.{marks_state}
 use Rattle.lw_reg.proofs.States.{state_is}
-use Rattle.lw_table.specs.Found.{view_with, view_at}
+use Rattle.lw_table.specs.inner.Found.{view_with, view_at}
 use Rattle.lw_table.proofs.Answering.{read_by_endpoint}
 use Rattle.lw_table.proofs.LookUpLemmas.{view_reads, read_tells, read_names}
 use Rattle.lw_node.specs.Laws.{registered, AttributesRise, RegistersReadBack, or_before, or_kept, IsUpdated, UpdatesReadBack}

@@ -16,7 +16,7 @@ use Rattle.lw_reg.specs.Path.{path_numbers}
 use Rattle.lw_reg.specs.PathNumbers.{IsPathNumbers, is_number}
 use Rattle.lw_node.specs.declared.request.Observe.{Observe}
 use Rattle.lw_node.specs.declared.request.Observe.TheVariants.{Register, Deregister}
-use Rattle.lw_node.specs.Observe.{observe_number}
+use Rattle.lw_node.specs.inner.Observe.{observe_number}
 use Rattle.lw_node.specs.Effects.{get_of, number_option, segment, accepts}
 
 -- ---- the bytes of a number

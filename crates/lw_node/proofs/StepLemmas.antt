@@ -20,14 +20,16 @@ use Rattle.lw_call.specs.declared.reply.Reply.{Reply}
 use Rattle.lw_call.specs.declared.reply.Reply.TheVariants as replies
 use Rattle.lw_call.specs.Contents.{TakenContent, OutgoingContent}
 use Rattle.lw_call.specs.Found.{IsFound}
-use Rattle.lw_node.specs.Calls.{DecisionContent, CommandContent, place_at, Decides, Decided, TakesSo, Takes, IsSilent, IsSent, CommandsOr, Commanded, Sent}
-use Rattle.lw_node.specs.Done.{IsDone}
+use Rattle.lw_node.specs.Calls.{issuer_at, TakesSo, Takes, IsSilent, IsSent, Sent}
+use Rattle.lw_node.specs.inner.Calls.{DecisionContent, CommandContent, Decides, Decided, CommandsOr, Commanded}
+use Rattle.lw_node.specs.inner.Done.{IsDone}
 use Rattle.lw_node.specs.Effects.{Effect, Request, Refused, DatagramMeans, ObserveMeans, CancelMeans}
-use Rattle.lw_node.specs.Node.{NodeContent, Known, IsKnown, Knows, marks_in, IsAfter}
+use Rattle.lw_node.specs.Node.{NodeContent, Known, IsKnown, Knows, marks_in, Leaves}
 use Rattle.lw_node.specs.Node.Known.{Shown, Told}
 use Rattle.lw_node.specs.Steps.{Answers, Asks, Steps}
-use Rattle.lw_node.specs.Twice.{first_of}
-use Rattle.lw_node.specs.Within.{FitsClock, IsNextOf}
+use Rattle.lw_node.specs.inner.Twice.{first_of}
+use Rattle.lw_node.specs.Within.{FitsClock}
+use Rattle.lw_node.specs.inner.Within.{IsNextOf}
 use Rattle.lw_node.proofs.NextOperation.{datagram_next, observe_next, cancel_next}
 
 -- what holds of what is shown, and of each set that is known, holds of what the node is known from
@@ -40,13 +42,13 @@ pub steps_as : (old new : NodeContent) (M : Marks) (call given : Call) (reply : 
 steps_as old new M call given reply is = subst (λ (x : Call). Steps old M x reply new) (sym is)
 
 -- ---- datagrams
-pub decided_next : (node : NodeContent) (now : ℕ) (source : Addr) (bytes : List ℕ) (d e : DecisionContent) → d ≡ e → FitsClock node.clock node.table.state → Decided node.table.state (λ M. DatagramMeans (place_at node now) M source bytes) e → IfSome d.operation (IsNextOf node.clock)
+pub decided_next : (node : NodeContent) (now : ℕ) (source : Addr) (bytes : List ℕ) (d e : DecisionContent) → d ≡ e → FitsClock node.clock node.table.state → Decided node.table.state (λ M. DatagramMeans (issuer_at node now) M source bytes) e → IfSome d.operation (IsNextOf node.clock)
 decided_next node now source bytes d e same fits decided =
     let x = decided Shown tt in
     subst (λ (d : DecisionContent). IfSome d.operation (IsNextOf node.clock)) (sym same)
-    (datagram_next (place_at node now) node.table.state fits source bytes (record { reply = x.reply; notice = e.notice; operation = e.operation }) x.meant)
+    (datagram_next (issuer_at node now) node.table.state fits source bytes (record { reply = x.reply; notice = e.notice; operation = e.operation }) x.meant)
 
-pub taken_so : (Meant : Effect → Type 0) (d e : DecisionContent) → d ≡ e → Decides Meant e → (old new : NodeContent) → IsAfter old d.operation new → TakesSo Meant (λ operation. IsAfter old operation new) (record { reply = d.reply; notice = d.notice })
+pub taken_so : (Meant : Effect → Type 0) (d e : DecisionContent) → d ≡ e → Decides Meant e → (old new : NodeContent) → Leaves old d.operation new → TakesSo Meant (λ operation. Leaves old operation new) (record { reply = d.reply; notice = d.notice })
 taken_so Meant d e same decides old new left =
     let x = subst (Decides Meant) (sym same) decides in
     record { reply = x.reply; operation = d.operation; meant = x.meant; replied = x.replied; left = left }
@@ -66,25 +68,25 @@ module _ (old new : NodeContent) (M : Marks) (now : Moment) (source : Addr) (sli
   take_twice_steps (Err e) r first taken unchanged silent = subst (λ (r : Result TakenContent NoMemory). Steps old M call (replies.Take r) new) (sym first) (take_steps old new M now source slice bytes same call is (Err e) taken unchanged silent)
 
 -- ---- commands
-pub observed_next : (node : NodeContent) (now : ℕ) (id : Stamp) (path : Path) (accept : Option ℕ) (mid : ℕ) (r : Result CommandContent ObserveFault) (clock : ℕ) → clock ≡ node.clock → FitsClock clock node.table.state → Commanded node.table.state (λ M. ObserveMeans (place_at node now) M id path accept mid) r → IfOk r (λ c. IsNextOf node.clock c.operation)
+pub observed_next : (node : NodeContent) (now : ℕ) (id : Stamp) (path : Path) (accept : Option ℕ) (mid : ℕ) (r : Result CommandContent ObserveFault) (clock : ℕ) → clock ≡ node.clock → FitsClock clock node.table.state → Commanded node.table.state (λ M. ObserveMeans (issuer_at node now) M id path accept mid) r → IfOk r (λ c. IsNextOf node.clock c.operation)
 observed_next node now id path accept mid (Ok c) clock is fits h =
     let x = h Shown tt in
-    observe_next (place_at node now) node.table.state (subst (λ n. FitsClock n node.table.state) is fits) id path accept mid x.request c.operation x.meant
+    observe_next (issuer_at node now) node.table.state (subst (λ n. FitsClock n node.table.state) is fits) id path accept mid x.request c.operation x.meant
 observed_next node now id path accept mid (Err fault) clock is fits h = tt
 
-pub cancelled_next : (node : NodeContent) (now : ℕ) (token : Stamp) (mid : ℕ) (r : Result CommandContent ObserveFault) (clock : ℕ) → clock ≡ node.clock → FitsClock clock node.table.state → Commanded node.table.state (λ M. CancelMeans (place_at node now) M token mid) r → IfOk r (λ c. IsNextOf node.clock c.operation)
+pub cancelled_next : (node : NodeContent) (now : ℕ) (token : Stamp) (mid : ℕ) (r : Result CommandContent ObserveFault) (clock : ℕ) → clock ≡ node.clock → FitsClock clock node.table.state → Commanded node.table.state (λ M. CancelMeans (issuer_at node now) M token mid) r → IfOk r (λ c. IsNextOf node.clock c.operation)
 cancelled_next node now token mid (Ok c) clock is fits h =
     let x = h Shown tt in
-    cancel_next (place_at node now) node.table.state (subst (λ n. FitsClock n node.table.state) is fits) token mid x.request c.operation x.meant
+    cancel_next (issuer_at node now) node.table.state (subst (λ n. FitsClock n node.table.state) is fits) token mid x.request c.operation x.meant
 cancelled_next node now token mid (Err fault) clock is fits h = tt
 
 module _ (Meant : Result (Request × Op) Refused → Type 0) (old new : NodeContent) where
-  refused_sent : (fault : ObserveFault) → CommandsOr Meant (Err fault) → new ≡ old → Sent Meant (λ operation. IsAfter old operation new) (Err fault)
+  refused_sent : (fault : ObserveFault) → CommandsOr Meant (Err fault) → new ≡ old → Sent Meant (λ operation. Leaves old operation new) (Err fault)
   refused_sent faults.NotFound h e = (h, e)
   refused_sent faults.ClockEnd h e = (h, e)
   refused_sent faults.NoMemory h e = (h, e)
 
-  pub done_sent : (r : Result CommandContent ObserveFault) (o : Result OutgoingContent ObserveFault) → CommandsOr Meant r → IsDone old r o new → Sent Meant (λ operation. IsAfter old operation new) o
+  pub done_sent : (r : Result CommandContent ObserveFault) (o : Result OutgoingContent ObserveFault) → CommandsOr Meant r → IsDone old r o new → Sent Meant (λ operation. Leaves old operation new) o
   done_sent (Ok c) (Ok o) h done = record {
     request = h.request;
     operation = c.operation;
@@ -92,9 +94,9 @@ module _ (Meant : Result (Request × Op) Refused → Type 0) (old new : NodeCont
     sent = subst (λ (x : OutgoingContent). IsSent x h.request) (sym done.0) h.sent;
     left = done.1;
   }
-  done_sent (Ok c) (Err fault) h done = subst (λ (f : ObserveFault). Sent Meant (λ operation. IsAfter old operation new) (Err f)) (sym done.0) ((h.request, c.operation, h.meant), done.1)
+  done_sent (Ok c) (Err fault) h done = subst (λ (f : ObserveFault). Sent Meant (λ operation. Leaves old operation new) (Err f)) (sym done.0) ((h.request, c.operation, h.meant), done.1)
   done_sent (Err fault) (Ok o) h done = absurd done
-  done_sent (Err fault) (Err given) h done = subst (λ (f : ObserveFault). Sent Meant (λ operation. IsAfter old operation new) (Err f)) (sym done.0) (refused_sent fault h done.1)
+  done_sent (Err fault) (Err given) h done = subst (λ (f : ObserveFault). Sent Meant (λ operation. Leaves old operation new) (Err f)) (sym done.0) (refused_sent fault h done.1)
 
 -- ---- questions
 pub asks_so : (node : NodeContent) (M : Marks) (now : ℕ) (question : Question) (answer : Answer) (r : Result Answer NoMemory) → IfOk r (λ a. a ≡ answer) → OnErr r (IsFound answer) → Answers node M now question answer → Asks node M now question r

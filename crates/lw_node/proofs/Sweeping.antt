@@ -5,7 +5,7 @@ use Rattle.std.specs.Option.{option_map}
 use Rattle.lw_stamp.specs.declared.moment.Moment.{Moment}
 use Rattle.lw_stamp.specs.declared.stamp.Stamp.{Stamp}
 use Rattle.lw_stamp.specs.Order.{IsGreatest}
-use Rattle.lw_join.specs.Facets.{OptionTells}
+use Rattle.lw_join.specs.inner.Facets.{OptionTells}
 use Rattle.lw_join.specs.Lww.{write_cmp}
 use Rattle.lw_join.specs.LwwLaws.{write_order}
 use Rattle.lw_join.specs.declared.or_gone.OrGone.{OrGone}
@@ -28,8 +28,8 @@ use Rattle.lw_table.specs.Lifts.{Lifts, LiftsFirst}
 use Rattle.lw_table.specs.LookUps.{ExpiredAfter, IsExpiredAfter, named_by}
 use Rattle.lw_table.specs.Table.{TableContent}
 use Rattle.lw_table.proofs.LookUpLemmas.{read_names, read_tells}
-use Rattle.lw_node.specs.Calls.{Sweeps, place_at}
-use Rattle.lw_node.specs.Effects.{Place, IsAtEnd, IsNext, Expires, SweepMeans}
+use Rattle.lw_node.specs.Calls.{Sweeps, issuer_at}
+use Rattle.lw_node.specs.Effects.{Issuer, IsAtEnd, IsNext, Expires, SweepMeans}
 use Rattle.lw_node.specs.Effects.Refused.{ClockEnd}
 use Rattle.lw_node.specs.Node.{NodeContent, HasEndpoints}
 use Rattle.lw_node.specs.Within.{FitsClock}
@@ -49,7 +49,7 @@ abbrev pub ending_op : Stamp → List ℕ → Stamp → Stamp → Op
 ending_op stamp e id upto = record { stamp = stamp; endpoint = e; reg = id; what = Expire upto }
 
 -- ---- what is meant over a set that a state tells of
-module _ (place : Place) (M : Marks) where
+module _ (place : Issuer) (M : Marks) where
   -- what has expired, by a look-up: nothing
   pub nothing_means : {A : Type 0} (of : A → List ℕ × Stamp) (o : Option A) → ExpiredAfter M place.now None (option_map of o) → o ≡ None → SweepMeans place M (Ok None)
   nothing_means of o found is = (None, subst (λ x. ExpiredAfter M place.now None (option_map of x)) is found, refl)
@@ -87,10 +87,10 @@ module _ (old new : NodeContent) (now : ℕ) (M : Marks) (stamp : Stamp) (id : S
   abbrev pub lifted_op : Op
   lifted_op = ending_op stamp lifted.0 id lifted.2.seen.0
 
-  pub lift_means : NamesAll M → Tells (Holds M) old.table.state → IsNext (place_at old now) stamp → SweepMeans (place_at old now) M (Ok (Some lifted_op))
-  lift_means names tells next = ending_means (place_at old now) M old.table new.table names tells stamp next lifted.0 id lifted.2 lifted.1
+  pub lift_means : NamesAll M → Tells (Holds M) old.table.state → IsNext (issuer_at old now) stamp → SweepMeans (issuer_at old now) M (Ok (Some lifted_op))
+  lift_means names tells next = ending_means (issuer_at old now) M old.table new.table names tells stamp next lifted.0 id lifted.2 lifted.1
 
-  pub lift_swept : NamesAll M → Tells (Holds M) old.table.state → IsNext (place_at old now) stamp → new.number ≡ old.number → new.clock ≡ old.clock + 1 → Sweeps old M now (Ok (Some id)) new
+  pub lift_swept : NamesAll M → Tells (Holds M) old.table.state → IsNext (issuer_at old now) stamp → new.number ≡ old.number → new.clock ≡ old.clock + 1 → Sweeps old M now (Ok (Some id)) new
   lift_swept names tells next number clock = (
     lifted_op,
     lift_means names tells next,
@@ -99,9 +99,9 @@ module _ (old new : NodeContent) (now : ℕ) (M : Marks) (stamp : Stamp) (id : S
   )
 
 -- the invariant holds
-pub lift_fits : (old new : NodeContent) (now : ℕ) (stamp id : Stamp) → LiftsFirst (shown_in old.table.state) now old.table (Some id) new.table → IsNext (place_at old now) stamp → HasEndpoints old.table.state × FitsClock old.clock old.table.state → new.clock ≡ max old.clock stamp.counter
+pub lift_fits : (old new : NodeContent) (now : ℕ) (stamp id : Stamp) → LiftsFirst (shown_in old.table.state) now old.table (Some id) new.table → IsNext (issuer_at old now) stamp → HasEndpoints old.table.state × FitsClock old.clock old.table.state → new.clock ≡ max old.clock stamp.counter
     → HasEndpoints new.table.state × FitsClock new.clock new.table.state
 lift_fits old new now stamp id lifted next holds raised =
     let op = lifted_op old new now (shown_in old.table.state) stamp id lifted in
     let means = lift_means old new now (shown_in old.table.state) stamp id lifted (read_names old.table.state) (read_tells old.table.state) next in
-    still_node old.clock new.clock old.table.state new.table.state op stamp.counter (sweep_next (place_at old now) old.table.state holds.1 op means) lifted.2.named holds.0 holds.1 lifted.2.state raised refl
+    still_node old.clock new.clock old.table.state new.table.state op stamp.counter (sweep_next (issuer_at old now) old.table.state holds.1 op means) lifted.2.named holds.0 holds.1 lifted.2.state raised refl

@@ -7,7 +7,7 @@ use Rattle.lw_stamp.specs.declared.stamp.Stamp.{Stamp}
 use Rattle.lw_stamp.specs.Order.{IsGreatest}
 use Rattle.lw_stamp.specs.StampOrder.{stamp_cmp}
 use Rattle.lw_stamp.specs.TextOrder.{text_cmp}
-use Rattle.lw_join.specs.Facets.{OptionTells, LastTells, Either}
+use Rattle.lw_join.specs.inner.Facets.{OptionTells, LastTells, Either}
 use Rattle.lw_join.specs.Lww.{write_cmp}
 use Rattle.lw_join.specs.declared.or_gone.OrGone.{OrGone}
 use Rattle.lw_join.specs.declared.or_gone.OrGone.TheVariants.{Here, Gone}
@@ -24,7 +24,8 @@ use Rattle.lw_reg.specs.Slot.{observed, cancelled}
 use Rattle.lw_reg.specs.State.{State, state_join, state_of}
 use Rattle.lw_reg.proofs.Same.{state_self, state_names}
 use Rattle.lw_reg.proofs.Tells.{sign_trace, WatchTells, BodyTells, ToldTells, SlotTells, Tells, Holds, Pair, Closure, naming, mark_at, state_facet, closure_tells}
-use Rattle.lw_node.specs.Within.{TraceWithin, MarkWithin, FitsClock, TokenWithin, IsNextOf}
+use Rattle.lw_node.specs.Within.{TraceWithin, MarkWithin, FitsClock, TokenWithin}
+use Rattle.lw_node.specs.inner.Within.{IsNextOf}
 
 -- ---- what is shown is of the set that is told of
 body_trace : (P : Trace → Type 0) (b : Body) → BodyTells P b → (k : Trace) → BodyShows b k → P k

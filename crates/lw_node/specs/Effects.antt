@@ -39,7 +39,7 @@ use Rattle.lw_table.specs.LookUps.{ById, ByToken, IsExpiredAfter}
 use Rattle.lw_call.specs.Contents.{NoticeContent}
 
 -- where and when a call comes: the node's number and clock, and the moment
-pub record Place : Type 0 where
+pub record Issuer : Type 0 where
   pub number : ℕ
   pub clock : ℕ
   pub now : ℕ
@@ -83,20 +83,20 @@ answers request code location = answer_of request.kind request.mid request.token
 
 -- ---- operations
 -- no stamp is left
-abbrev pub IsAtEnd : Place → Type 0
-IsAtEnd place = place.clock ≡ 2 ^ 48 - 1
+abbrev pub IsAtEnd : Issuer → Type 0
+IsAtEnd issuer = issuer.clock ≡ 2 ^ 48 - 1
 
 -- the stamp is the next of the node's clock
-pub record IsNext (place : Place) (stamp : Stamp) : Type 0 where
-  pub counter : stamp.counter ≡ place.clock + 1
-  pub node : stamp.node ≡ place.number
+pub record IsNext (issuer : Issuer) (stamp : Stamp) : Type 0 where
+  pub counter : stamp.counter ≡ issuer.clock + 1
+  pub node : stamp.node ≡ issuer.number
 
 -- With the clock at its end the request is refused, with 5.03; otherwise an operation is issued that does what is
 -- asked for, and the reply tells so.
-abbrev pub Issues : Place → MessageContent → (Op → Type 0) → (Op → MessageContent) → Effect → Type 0
-Issues place request Does reply effect =
-    (IsAtEnd place × (effect ≡ replies (answers request 163 None)))
-    ⊎ ((op : Op) × IsNext place op.stamp × Does op × (effect ≡ record { reply = Some (reply op); notice = None; operation = Some op }))
+abbrev pub Issues : Issuer → MessageContent → (Op → Type 0) → (Op → MessageContent) → Effect → Type 0
+Issues issuer request Does reply effect =
+    (IsAtEnd issuer × (effect ≡ replies (answers request 163 None)))
+    ⊎ ((op : Op) × IsNext issuer op.stamp × Does op × (effect ≡ record { reply = Some (reply op); notice = None; operation = Some op }))
 
 -- ---- a Register
 -- it writes what is asked for, the source address and the moment
@@ -136,14 +136,14 @@ IsNamed M now None found = found ≡ None
 IsNamed M now (Some id) found = ById M now id found
 
 -- A request for no shown registration is refused, with 4.04; another is an operation on it.
-abbrev pub Changes : Place → MessageContent → (What → Type 0) → ℕ → Option Registration → Effect → Type 0
-Changes place request Does code None effect = effect ≡ replies (answers request 132 None)
-Changes place request Does code (Some r) effect =
-    Issues place request (λ op. IsAbout r op × Does op.what) (answered request code) effect
+abbrev pub Changes : Issuer → MessageContent → (What → Type 0) → ℕ → Option Registration → Effect → Type 0
+Changes issuer request Does code None effect = effect ≡ replies (answers request 132 None)
+Changes issuer request Does code (Some r) effect =
+    Issues issuer request (λ op. IsAbout r op × Does op.what) (answered request code) effect
 
-abbrev pub NamedChanges : Place → Marks → MessageContent → Option Stamp → (What → Type 0) → ℕ → Effect → Type 0
-NamedChanges place M request id Does code effect =
-    (found : Option Registration) × IsNamed M place.now id found × Changes place request Does code found effect
+abbrev pub NamedChanges : Issuer → Marks → MessageContent → Option Stamp → (What → Type 0) → ℕ → Effect → Type 0
+NamedChanges issuer M request id Does code effect =
+    (found : Option Registration) × IsNamed M issuer.now id found × Changes issuer request Does code found effect
 
 -- ---- a report
 -- the token is that of a stamp, and a watch lives with it
@@ -174,38 +174,38 @@ pub record Cancels (x : Registration × Watch) (op : Op) : Type 0 where
   pub what : op.what ≡ whats.Cancel x.1.path x.1.token
 
 -- A report of a watch that ends it is a Cancel; with the clock at its end it is rejected.
-abbrev pub EndsWatch : Place → ReportContent → Registration × Watch → Effect → Type 0
-EndsWatch place report x effect =
-    (IsAtEnd place × (effect ≡ record { reply = rejected report.kind report.mid; notice = None; operation = None }))
-    ⊎ ((op : Op) × IsNext place op.stamp × Cancels x op × (effect ≡ record { reply = acknowledged report.kind report.mid; notice = Some (notice_of report x true); operation = Some op }))
+abbrev pub EndsWatch : Issuer → ReportContent → Registration × Watch → Effect → Type 0
+EndsWatch issuer report x effect =
+    (IsAtEnd issuer × (effect ≡ record { reply = rejected report.kind report.mid; notice = None; operation = None }))
+    ⊎ ((op : Op) × IsNext issuer op.stamp × Cancels x op × (effect ≡ record { reply = acknowledged report.kind report.mid; notice = Some (notice_of report x true); operation = Some op }))
 
 -- A report with a token that no live watch has is unwanted; one of a watch that goes on is told, and one that
 -- ends it as well.
-abbrev pub ReportMeans : Place → Marks → ReportContent → Effect → Type 0
-ReportMeans place M report effect =
-    (((x : Registration × Watch) → ¬ IsWatched M place.now report.token x) × (effect ≡ record { reply = unwanted report.kind report.mid; notice = None; operation = None }))
-    ⊎ ((x : Registration × Watch) × IsWatched M place.now report.token x
+abbrev pub ReportMeans : Issuer → Marks → ReportContent → Effect → Type 0
+ReportMeans issuer M report effect =
+    (((x : Registration × Watch) → ¬ IsWatched M issuer.now report.token x) × (effect ≡ record { reply = unwanted report.kind report.mid; notice = None; operation = None }))
+    ⊎ ((x : Registration × Watch) × IsWatched M issuer.now report.token x
     × ((GoesOn report × (effect ≡ record { reply = acknowledged report.kind report.mid; notice = Some (notice_of report x false); operation = None }))
-    ⊎ ((GoesOn report → ⊥) × EndsWatch place report x effect)))
+    ⊎ ((GoesOn report → ⊥) × EndsWatch issuer report x effect)))
 
 -- ---- a datagram
 -- what the message asks for, done
-abbrev pub Does : Place → Marks → Addr → MessageContent → Asked → Effect → Type 0
-Does place M source m (Register endpoint version queue settings) effect =
-    Issues place m (Registers place.now source endpoint version queue settings) (created m) effect
-Does place M source m (Update id settings) effect =
-    NamedChanges place M m id (WritesGiven place.now source settings) 68 effect
-Does place M source m (Deregister id) effect =
-    NamedChanges place M m id (λ what. what ≡ whats.Remove) 66 effect
-Does place M source m (Report report) effect = ReportMeans place M report effect
-Does place M source m Ping effect = effect ≡ replies (reset_of m.mid)
-Does place M source m (Refuse refusal) effect = effect ≡ replies (answers m (code_of refusal) None)
-Does place M source m Reject effect = effect ≡ record { reply = rejected m.kind m.mid; notice = None; operation = None }
-Does place M source m Ignore effect = effect ≡ nothing
+abbrev pub Does : Issuer → Marks → Addr → MessageContent → Asked → Effect → Type 0
+Does issuer M source m (Register endpoint version queue settings) effect =
+    Issues issuer m (Registers issuer.now source endpoint version queue settings) (created m) effect
+Does issuer M source m (Update id settings) effect =
+    NamedChanges issuer M m id (WritesGiven issuer.now source settings) 68 effect
+Does issuer M source m (Deregister id) effect =
+    NamedChanges issuer M m id (λ what. what ≡ whats.Remove) 66 effect
+Does issuer M source m (Report report) effect = ReportMeans issuer M report effect
+Does issuer M source m Ping effect = effect ≡ replies (reset_of m.mid)
+Does issuer M source m (Refuse refusal) effect = effect ≡ replies (answers m (code_of refusal) None)
+Does issuer M source m Reject effect = effect ≡ record { reply = rejected m.kind m.mid; notice = None; operation = None }
+Does issuer M source m Ignore effect = effect ≡ nothing
 
 -- a message does what it asks for
-abbrev pub MessageMeans : Place → Marks → Addr → MessageContent → Effect → Type 0
-MessageMeans place M source m effect = (asked : Asked) × Means m asked × Does place M source m asked effect
+abbrev pub MessageMeans : Issuer → Marks → Addr → MessageContent → Effect → Type 0
+MessageMeans issuer M source m effect = (asked : Asked) × Means m asked × Does issuer M source m asked effect
 
 -- the bytes have no header of a confirmable message
 abbrev pub HasNoConfirmable : List ℕ → Type 0
@@ -219,9 +219,9 @@ MalformedMeans bytes effect =
     ⊎ (HasNoConfirmable bytes × (effect ≡ nothing))
 
 -- a datagram that spells a message does what that asks for
-abbrev pub DatagramMeans : Place → Marks → Addr → List ℕ → Effect → Type 0
-DatagramMeans place M source bytes effect =
-    ((m : MessageContent) × IsSpelling bytes m × MessageMeans place M source m effect)
+abbrev pub DatagramMeans : Issuer → Marks → Addr → List ℕ → Effect → Type 0
+DatagramMeans issuer M source bytes effect =
+    ((m : MessageContent) × IsSpelling bytes m × MessageMeans issuer M source m effect)
     ⊎ ((fault : Fault) × IsFault bytes fault × MalformedMeans bytes effect)
 
 -- ---- commands
@@ -262,30 +262,30 @@ get_of mid observe token path accept = record {
 
 -- A command about nothing that is shown is refused; next comes the end of the clock; another is an operation on
 -- the registration, and a request to its address.
-abbrev pub CommandMeans : {X : Type 0} → Place → Option X → (X → Registration) → (X → Op → Type 0) → (X → Op → Request) → Result (Request × Op) Refused → Type 0
-CommandMeans place None of_found Does sends outcome = outcome ≡ Err NotFound
-CommandMeans place (Some x) of_found Does sends outcome =
-    (IsAtEnd place × (outcome ≡ Err ClockEnd))
-    ⊎ ((op : Op) × IsNext place op.stamp × IsAbout (of_found x) op × Does x op × (outcome ≡ Ok (sends x op, op)))
+abbrev pub CommandMeans : {X : Type 0} → Issuer → Option X → (X → Registration) → (X → Op → Type 0) → (X → Op → Request) → Result (Request × Op) Refused → Type 0
+CommandMeans issuer None of_found Does sends outcome = outcome ≡ Err NotFound
+CommandMeans issuer (Some x) of_found Does sends outcome =
+    (IsAtEnd issuer × (outcome ≡ Err ClockEnd))
+    ⊎ ((op : Op) × IsNext issuer op.stamp × IsAbout (of_found x) op × Does x op × (outcome ≡ Ok (sends x op, op)))
 
 -- the observation's token is the stamp of its operation
 abbrev pub observes : ℕ → Path → Option ℕ → Registration → Op → Request
 observes mid path accept r op = record { to = r.address; token = op.stamp; message = get_of mid 0 op.stamp path accept }
 
 -- an observation of a path of the registration with the identifier
-abbrev pub ObserveMeans : Place → Marks → Stamp → Path → Option ℕ → ℕ → Result (Request × Op) Refused → Type 0
-ObserveMeans place M id path accept mid outcome =
-    (found : Option Registration) × ById M place.now id found
-    × CommandMeans place found (λ r. r) (λ r op. op.what ≡ whats.Observe path accept) (observes mid path accept) outcome
+abbrev pub ObserveMeans : Issuer → Marks → Stamp → Path → Option ℕ → ℕ → Result (Request × Op) Refused → Type 0
+ObserveMeans issuer M id path accept mid outcome =
+    (found : Option Registration) × ById M issuer.now id found
+    × CommandMeans issuer found (λ r. r) (λ r op. op.what ≡ whats.Observe path accept) (observes mid path accept) outcome
 
 abbrev pub ends : ℕ → Registration × Watch → Op → Request
 ends mid x op = record { to = x.0.address; token = x.1.token; message = get_of mid 1 x.1.token x.1.path x.1.accept }
 
 -- the end of the observation with the token
-abbrev pub CancelMeans : Place → Marks → Stamp → ℕ → Result (Request × Op) Refused → Type 0
-CancelMeans place M token mid outcome =
-    (found : Option (Registration × Watch)) × ByToken M place.now token found
-    × CommandMeans place found (λ x. x.0) (λ x op. op.what ≡ whats.Cancel x.1.path x.1.token) (ends mid) outcome
+abbrev pub CancelMeans : Issuer → Marks → Stamp → ℕ → Result (Request × Op) Refused → Type 0
+CancelMeans issuer M token mid outcome =
+    (found : Option (Registration × Watch)) × ByToken M issuer.now token found
+    × CommandMeans issuer found (λ x. x.0) (λ x op. op.what ≡ whats.Cancel x.1.path x.1.token) (ends mid) outcome
 
 -- ---- a sweep
 -- the operation tells that the registration is over, as it was last seen
@@ -296,13 +296,13 @@ pub record Expires (M : Marks) (r : Registration) (op : Op) : Type 0 where
   pub what : op.what ≡ whats.Expire upto
 
 -- Where nothing has expired there is no operation; next comes the end of the clock; another ends the registration.
-abbrev pub SweepsFirst : Place → Marks → Option Registration → Result (Option Op) Refused → Type 0
-SweepsFirst place M None outcome = outcome ≡ Ok None
-SweepsFirst place M (Some r) outcome =
-    (IsAtEnd place × (outcome ≡ Err ClockEnd))
-    ⊎ ((op : Op) × IsNext place op.stamp × Expires M r op × (outcome ≡ Ok (Some op)))
+abbrev pub SweepsFirst : Issuer → Marks → Option Registration → Result (Option Op) Refused → Type 0
+SweepsFirst issuer M None outcome = outcome ≡ Ok None
+SweepsFirst issuer M (Some r) outcome =
+    (IsAtEnd issuer × (outcome ≡ Err ClockEnd))
+    ⊎ ((op : Op) × IsNext issuer op.stamp × Expires M r op × (outcome ≡ Ok (Some op)))
 
 -- the registration of the least endpoint that has expired ends
-abbrev pub SweepMeans : Place → Marks → Result (Option Op) Refused → Type 0
-SweepMeans place M outcome =
-    (found : Option Registration) × IsFirstAnswer (IsExpiredAfter M place.now None) found × SweepsFirst place M found outcome
+abbrev pub SweepMeans : Issuer → Marks → Result (Option Op) Refused → Type 0
+SweepMeans issuer M outcome =
+    (found : Option Registration) × IsFirstAnswer (IsExpiredAfter M issuer.now None) found × SweepsFirst issuer M found outcome

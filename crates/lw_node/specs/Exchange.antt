@@ -1,5 +1,4 @@
 -- What a node sends of its state, and what it is after a delta was merged (Shapiro et al., Conflict-free
--- Replicated Data Types, 2011).
 use Rattle.std.specs.Prelude.{◌≡◌, ◌↔◌, ℕ, ◌<◌, ◌≤◌, max, List, [], ◌∷◌, length, take, Contains, Result, Ok, Err, Some, IsSomeAnd}
 use Rattle.std.specs.FinMap.{empty, get}
 use Rattle.lw_join.specs.Maps.{one_key}
@@ -9,12 +8,12 @@ use Rattle.lw_reg.specs.Reading.{shown_by}
 use Rattle.lw_reg.specs.Slot.{slot_below}
 use Rattle.lw_reg.specs.State.{State, state_below, state_join}
 use Rattle.lw_table.specs.Changes.{Recounts, IsSince, IsSinceIn}
-use Rattle.lw_table.specs.Table.{TableContent}
 use Rattle.lw_delta.specs.Delta.{DeltaContent, IsSpelling, IsFault}
 use Rattle.lw_delta.specs.Writing.{delta_bytes}
 use Rattle.lw_call.specs.declared.merge_fault.MergeFault.{MergeFault}
 use Rattle.lw_call.specs.declared.merge_fault.MergeFault.TheVariants.{Malformed, NoMemory}
 use Rattle.lw_node.specs.Node.{NodeContent}
+-- Replicated Data Types, 2011).
 
 -- the state of the slots: the least above each, under its endpoint
 abbrev pub state_in : List (List ℕ × Slot) → State
@@ -41,17 +40,6 @@ pub record Merged (old : NodeContent) (clock : ℕ) (slots : List (List ℕ × S
 -- exactly the marks that the slots show
 abbrev pub AreShown : List (List ℕ × Slot) → List Mark → Type 0
 AreShown slots marks = (m : Mark) → Contains marks m ↔ ((e : List ℕ) × (slot : Slot) × Contains slots (e, slot) × shown_by e slot m)
-
--- ---- the slots of a delta, joined to a table
-pub record JoinedTo (old : TableContent) (slots : List (List ℕ × Slot)) (new : TableContent) : Type 0 where
-  pub state : new.state ≡ state_join old.state (state_in slots)
-  pub count : Recounts old.state new.state old.count new.count
-
--- all are joined, or the first, fewer than all
-abbrev pub JoinsSlots : TableContent → List (List ℕ × Slot) → Result ℕ MergeFault → TableContent → Type 0
-JoinsSlots old slots (Ok count) new = (count ≡ length slots) × JoinedTo old slots new
-JoinsSlots old slots (Err (NoMemory joined)) new = (joined < length slots) × JoinedTo old (take joined slots) new
-JoinsSlots old slots (Err (Malformed fault)) new = ⊥
 
 -- the whole delta is merged
 pub record MergesWhole (old : NodeContent) (bytes : List ℕ) (count : ℕ) (new : NodeContent) : Type 0 where

@@ -25,7 +25,7 @@ use Rattle.lw_table.specs.LookUps.{ById, ByToken}
 use Rattle.lw_call.specs.declared.answer.Answer.{Answer}
 use Rattle.lw_call.specs.declared.question.Question.{Question}
 use Rattle.lw_node.specs.Exchange.{Merged, AreShown}
-use Rattle.lw_node.specs.Node.{NodeContent, fresh, Issued, IsAfter, Knows, Known, marks_in}
+use Rattle.lw_node.specs.Node.{NodeContent, fresh, Issued, Leaves, Knows, Known, marks_in}
 use Rattle.lw_node.specs.Steps.{Answers}
 use Rattle.lw_node.specs.Within.{FitsClock}
 
@@ -41,7 +41,7 @@ known_after (Some operation) ms = marks_of operation ++ ms
 
 -- after a call that issues an operation, or none, these are known
 abbrev pub OperationsAreKnown : Type 0
-OperationsAreKnown = (old new : NodeContent) (operation : Option Op) (ms : List Mark) → Knows old ms → IsAfter old operation new → Knows new (known_after operation ms)
+OperationsAreKnown = (old new : NodeContent) (operation : Option Op) (ms : List Mark) → Knows old ms → Leaves old operation new → Knows new (known_after operation ms)
 
 -- after a merge, those that the slots show, and those that were known
 abbrev pub MergesAreKnown : Type 0

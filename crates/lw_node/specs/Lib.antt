@@ -1,10 +1,8 @@
 pub mod Node
 pub mod Effects
 pub mod Calls
-pub mod Observe
 pub mod Within
 pub mod Exchange
 pub mod Steps
-pub mod Twice
-pub mod Done
 pub mod Laws
+pub mod inner

@@ -37,9 +37,9 @@ pub record Issued (old : NodeContent) (operation : Op) (new : NodeContent) : Typ
   pub count : Recounts old.table.state new.table.state old.table.count new.table.count
 
 -- the node after an operation, or after none
-abbrev pub IsAfter : NodeContent → Option Op → NodeContent → Type 0
-IsAfter old None new = new ≡ old
-IsAfter old (Some operation) new = Issued old operation new
+abbrev pub Leaves : NodeContent → Option Op → NodeContent → Type 0
+Leaves old None new = new ≡ old
+Leaves old (Some operation) new = Issued old operation new
 
 -- The node's state is that of these marks, which name each registration that they are about.
 abbrev pub Knows : NodeContent → List Mark → Type 0

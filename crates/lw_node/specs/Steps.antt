@@ -18,10 +18,10 @@ use Rattle.lw_call.specs.declared.question.Question.TheVariants.{ById, ByEndpoin
 use Rattle.lw_call.specs.declared.reply.Reply.{Reply}
 use Rattle.lw_call.specs.declared.reply.Reply.TheVariants as replies
 use Rattle.lw_call.specs.Found.{IsFound}
-use Rattle.lw_node.specs.Calls.{TakesSo, IsSilent, Sent, Swept, place_at}
-use Rattle.lw_node.specs.Effects.{Place, DatagramMeans, ObserveMeans, CancelMeans, SweepMeans}
+use Rattle.lw_node.specs.Calls.{TakesSo, IsSilent, Sent, Swept, issuer_at}
+use Rattle.lw_node.specs.Effects.{Issuer, DatagramMeans, ObserveMeans, CancelMeans, SweepMeans}
 use Rattle.lw_node.specs.Exchange.{IsDeltaSince, Merges}
-use Rattle.lw_node.specs.Node.{NodeContent, IsAfter}
+use Rattle.lw_node.specs.Node.{NodeContent, Leaves}
 
 -- the answer of a node, of which these marks tell
 abbrev pub Answers : NodeContent → Marks → ℕ → Question → Answer → Type 0
@@ -48,16 +48,16 @@ pub record Context : Type 1 where
   pub After : Option Op → Type 0
   pub AfterMerge : List ℕ → Result ℕ MergeFault → Type 0
 
-abbrev pub place_in : Context → ℕ → Place
-place_in known now = place_at known.node now
+abbrev pub issuer_in : Context → ℕ → Issuer
+issuer_in known now = issuer_at known.node now
 
 -- A call and its reply. Want of memory changes nothing, save that a merge may have joined the first slots.
 abbrev pub StepsIn : Context → Call → Reply → Type 0
-StepsIn known (calls.Take now source bytes) (replies.Take (Ok taken)) = TakesSo (DatagramMeans (place_in known (ms_of now)) known.marks source bytes) known.After taken
+StepsIn known (calls.Take now source bytes) (replies.Take (Ok taken)) = TakesSo (DatagramMeans (issuer_in known (ms_of now)) known.marks source bytes) known.After taken
 StepsIn known (calls.Take now source bytes) (replies.Take (Err refused)) = (¬ IsSilent bytes) × known.After None
-StepsIn known (calls.Observe now id path accept mid) (replies.Observe outcome) = Sent (ObserveMeans (place_in known (ms_of now)) known.marks id path accept mid) known.After outcome
-StepsIn known (calls.Cancel now token mid) (replies.Cancel outcome) = Sent (CancelMeans (place_in known (ms_of now)) known.marks token mid) known.After outcome
-StepsIn known (calls.Sweep now) (replies.Sweep outcome) = Swept (SweepMeans (place_in known (ms_of now)) known.marks) known.After outcome
+StepsIn known (calls.Observe now id path accept mid) (replies.Observe outcome) = Sent (ObserveMeans (issuer_in known (ms_of now)) known.marks id path accept mid) known.After outcome
+StepsIn known (calls.Cancel now token mid) (replies.Cancel outcome) = Sent (CancelMeans (issuer_in known (ms_of now)) known.marks token mid) known.After outcome
+StepsIn known (calls.Sweep now) (replies.Sweep outcome) = Swept (SweepMeans (issuer_in known (ms_of now)) known.marks) known.After outcome
 StepsIn known (calls.Send since) (replies.Send outcome) = IfOk outcome (λ sent. IsDeltaSince known.node since sent.delta × (sent.change ≡ known.node.table.count.change)) × known.After None
 StepsIn known (calls.Merge bytes) (replies.Merge outcome) = known.AfterMerge bytes outcome
 StepsIn known (calls.Ask now question) (replies.Ask outcome) = Asks known.node known.marks (ms_of now) question outcome × known.After None
@@ -68,7 +68,7 @@ abbrev pub at_node : NodeContent → Marks → NodeContent → Context
 at_node old M new = record {
   node = old;
   marks = M;
-  After = λ operation. IsAfter old operation new;
+  After = λ operation. Leaves old operation new;
   AfterMerge = λ bytes outcome. Merges old bytes outcome new;
 }
 

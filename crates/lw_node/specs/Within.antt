@@ -1,6 +1,5 @@
 -- A node's clock is at or above each counter that the node can read from what it knows.
-use Rattle.std.specs.Prelude.{◌≡◌, ℕ, ◌+◌, ◌≤◌}
-use Rattle.lw_reg.specs.declared.op.Op.{Op}
+use Rattle.std.specs.Prelude.{ℕ, ◌≤◌}
 use Rattle.lw_reg.specs.declared.op.What.{What}
 use Rattle.lw_reg.specs.declared.op.What.TheVariants.{Cancel, Expire}
 use Rattle.lw_reg.specs.Marks.{Trace, Mark}
@@ -37,9 +36,3 @@ abbrev pub TokenWithin : ℕ → What → Type 0
 TokenWithin clock (Cancel path token) = token.counter ≤ clock
 TokenWithin clock (Expire upto) = upto.counter ≤ clock
 TokenWithin clock _ = Unit {0}
-
--- the operation has the next number of the clock, and speaks of nothing that comes later
-pub record IsNextOf (clock : ℕ) (op : Op) : Type 0 where
-  pub next : op.stamp.counter ≡ clock + 1
-  pub registration : op.reg.counter ≤ clock + 1
-  pub token : TokenWithin clock op.what

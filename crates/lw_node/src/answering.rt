@@ -2,7 +2,8 @@
 
 ghost use Rattle.std.specs.Prelude.{◌≡◌, ◌≤◌, ◌<◌, ◌⊎◌, IfOk, Ok, Some, None, option_map, length};
 ghost use Rattle.lw_request.specs.Reply.{reset_of, ack_of};
-ghost use Rattle.lw_node.specs.Calls.{IsReply, RepliesMalformed};
+ghost use Rattle.lw_node.specs.Calls.{IsReply};
+ghost use Rattle.lw_node.specs.inner.Calls.{RepliesMalformed};
 ghost use Rattle.lw_node.specs.Effects.{answers, rejected, acknowledged, unwanted, HasNoConfirmable};
 
 use lw_coap::{Kind, Message, peek_header};

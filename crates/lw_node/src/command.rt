@@ -10,7 +10,7 @@ pub(crate) struct Command {
 }
 
 impl Model for Command {
-    ghost use Rattle.lw_node.specs.Calls.{CommandContent};
+    ghost use Rattle.lw_node.specs.inner.Calls.{CommandContent};
 
     ghost Value = { CommandContent };
 

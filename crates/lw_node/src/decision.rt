@@ -12,7 +12,7 @@ pub(crate) struct Decision {
 
 impl Model for Decision {
     ghost use Rattle.std.specs.Prelude.{option_map};
-    ghost use Rattle.lw_node.specs.Calls.{DecisionContent};
+    ghost use Rattle.lw_node.specs.inner.Calls.{DecisionContent};
 
     ghost Value = { DecisionContent };
 

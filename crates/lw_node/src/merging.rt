@@ -10,7 +10,8 @@ ghost use Rattle.lw_table.specs.Changes.{Recounts};
 ghost use Rattle.lw_delta.specs.declared.fault.DeltaFault.{DeltaFault as Faults};
 ghost use Rattle.lw_delta.specs.Delta.{DeltaContent, IsSpelling, IsFault};
 ghost use Rattle.lw_delta.specs.Unread.{IsLeft};
-ghost use Rattle.lw_node.specs.Exchange.{Merges, IsLeastOfBoth, known_by, known_from, JoinsSlots};
+ghost use Rattle.lw_node.specs.Exchange.{Merges, IsLeastOfBoth, known_by, known_from};
+ghost use Rattle.lw_node.specs.inner.Exchange.{JoinsSlots};
 
 use crate::node::Node;
 use lw_call::MergeFault;

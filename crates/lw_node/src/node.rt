@@ -7,9 +7,10 @@ ghost use Rattle.lw_stamp.specs.declared.stamp.Stamp.{Stamp as Stamps};
 ghost use Rattle.lw_reg.specs.declared.watch.Watch.{Watch as Watches};
 ghost use Rattle.lw_table.specs.LookUps.{ById, ByToken, ExpiredAfter};
 ghost use Rattle.lw_node.specs.Calls.{Takes, IsSilent, Observes, Cancels, Sweeps};
-ghost use Rattle.lw_node.specs.Done.{IsDone};
-ghost use Rattle.lw_node.specs.Node.{fresh, Knows, Issued, IsAfter};
-ghost use Rattle.lw_node.specs.Within.{FitsClock, IsNextOf};
+ghost use Rattle.lw_node.specs.inner.Done.{IsDone};
+ghost use Rattle.lw_node.specs.Node.{fresh, Knows, Issued, Leaves};
+ghost use Rattle.lw_node.specs.Within.{FitsClock};
+ghost use Rattle.lw_node.specs.inner.Within.{IsNextOf};
 
 use crate::command::Command;
 use crate::decision::Decision;
@@ -183,7 +184,7 @@ impl Node {
     /// Does what was decided. It is not done by halves.
     pub(crate) fn commit(&mut self, operation: Option<Op>) -> Result<(), NoMemory>
         requires { IfSome operation (IsNextOf self.old.clock) }
-        ensures left { OnOk result (IsAfter self.old operation self.new) }
+        ensures left { OnOk result (Leaves self.old operation self.new) }
         ensures unchanged { OnErr result (self.new ≡ self.old) }
         ensures calm { operation ≡ None → IsOk result }
     {

@@ -3,7 +3,8 @@
 ghost use Rattle.std.specs.Prelude.{◌≡◌, IfOk};
 ghost use Rattle.lw_stamp.specs.Moment.{ms_of};
 ghost use Rattle.lw_reg.specs.Endpoint.{IsEndpoint};
-ghost use Rattle.lw_node.specs.Calls.{place_at, Commanded, IsSent};
+ghost use Rattle.lw_node.specs.Calls.{issuer_at, IsSent};
+ghost use Rattle.lw_node.specs.inner.Calls.{Commanded};
 ghost use Rattle.lw_node.specs.Effects.{ObserveMeans, CancelMeans, IsAbout, observes, ends};
 
 use crate::command::Command;
@@ -24,7 +25,7 @@ impl Node {
         mid: u16,
     ) -> Result<Command, ObserveFault>
         ensures { Commanded self.now.table.state (λ M.
-            ObserveMeans (place_at self.now (ms_of now)) M id path accept mid) result }
+            ObserveMeans (issuer_at self.now (ms_of now)) M id path accept mid) result }
     {
         let Some(view) = self.table.by_id(now, id) else {
             return Err(ObserveFault::NotFound);
@@ -41,7 +42,7 @@ impl Node {
         token: Stamp,
         mid: u16,
     ) -> Result<Command, ObserveFault>
-        ensures { Commanded self.now.table.state (λ M. CancelMeans (place_at self.now (ms_of now)) M token mid) result }
+        ensures { Commanded self.now.table.state (λ M. CancelMeans (issuer_at self.now (ms_of now)) M token mid) result }
     {
         let Some((view, watch)) = self.table.by_token(now, token) else {
             return Err(ObserveFault::NotFound);

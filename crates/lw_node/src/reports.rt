@@ -7,7 +7,8 @@ ghost use Rattle.lw_stamp.specs.Moment.{ms_of};
 ghost use Rattle.lw_reg.specs.Endpoint.{IsEndpoint};
 ghost use Rattle.lw_reg.specs.Registration.{Registration};
 ghost use Rattle.lw_reg.specs.declared.watch.Watch.{Watch as Watches};
-ghost use Rattle.lw_node.specs.Calls.{place_at, Decided, Decides};
+ghost use Rattle.lw_node.specs.Calls.{issuer_at};
+ghost use Rattle.lw_node.specs.inner.Calls.{Decided, Decides};
 ghost use Rattle.lw_node.specs.Effects.{ReportMeans, EndsWatch, GoesOn, IsWatched, notice_of};
 ghost use Rattle.lw_node.specs.Node.{Known, IsKnown, marks_in};
 
@@ -74,7 +75,7 @@ fn notice_of(
 impl Node {
     pub(crate) fn decide_report(&self, now: Moment, report: Report) -> Result<Decision, NoMemory>
         ensures { IfOk result (Decided self.now.table.state (λ M.
-            ReportMeans (place_at self.now (ms_of now)) M report)) }
+            ReportMeans (issuer_at self.now (ms_of now)) M report)) }
     {
         let Some((view, watch)) = self.watched(now, &report.token) else {
             let reply = unwanted(self.alloc, report.kind, report.mid)?;
@@ -99,7 +100,7 @@ impl Node {
         watch: Watch,
     ) -> Result<Decision, NoMemory>
         requires { IsEndpoint view.now.endpoint }
-        ensures { (now : ℕ) → IfOk result (Decides (EndsWatch (place_at self.now now) report (view.now, watch))) }
+        ensures { (now : ℕ) → IfOk result (Decides (EndsWatch (issuer_at self.now now) report (view.now, watch))) }
     {
         let Some(stamp) = self.next_stamp() else {
             let reply = rejected(self.alloc, report.kind, report.mid)?;

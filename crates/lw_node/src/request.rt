@@ -6,7 +6,7 @@ ghost use Rattle.std.specs.Int.Digits.{digits_of};
 ghost use Rattle.lw_coap.specs.Grammar.{IsSpelling};
 ghost use Rattle.lw_reg.specs.Path.{path_numbers};
 ghost use Rattle.lw_node.specs.Effects.{get_of, number_option, segment, accepts};
-ghost use Rattle.lw_node.specs.Observe.{observe_number};
+ghost use Rattle.lw_node.specs.inner.Observe.{observe_number};
 
 use lw_coap::codes::GET;
 use lw_coap::option_numbers::{ACCEPT, OBSERVE, URI_PATH};

@@ -3,7 +3,8 @@
 ghost use Rattle.std.specs.Prelude.{◌≡◌, ◌≤◌, ◌<◌, ◌⊎◌, ℕ, IfOk, IfSome, None, Ok, Some, length};
 ghost use Rattle.lw_stamp.specs.Moment.{ms_of};
 ghost use Rattle.lw_reg.specs.Endpoint.{IsEndpoint};
-ghost use Rattle.lw_node.specs.Calls.{place_at, Decided, Decides, IsReply, IsSilent, silence};
+ghost use Rattle.lw_node.specs.Calls.{issuer_at, IsReply, IsSilent};
+ghost use Rattle.lw_node.specs.inner.Calls.{Decided, Decides, silence};
 ghost use Rattle.lw_node.specs.Effects.{DatagramMeans, MessageMeans, Issues, IsAbout, IsNamed, NamedChanges, answers, answered, created};
 ghost use Rattle.lw_node.specs.Node.{Known, IsKnown, marks_in};
 
@@ -21,7 +22,7 @@ impl Node {
     /// What a datagram that came at this moment from this address is to do.
     pub(crate) fn decide(&self, now: Moment, from: Addr, bytes: &[u8]) -> Result<Decision, NoMemory>
         ensures meaning { IfOk result (Decided self.now.table.state (λ M.
-            DatagramMeans (place_at self.now (ms_of now)) M from bytes.now)) }
+            DatagramMeans (issuer_at self.now (ms_of now)) M from bytes.now)) }
         ensures silent { IsSilent bytes.now → result ≡ Ok silence }
     {
         match decode(self.alloc, bytes) {
@@ -41,7 +42,7 @@ impl Node {
     ) -> Result<Decision, NoMemory>
         requires { length message.now.token ≤ 8 }
         ensures { IfOk result (Decided self.now.table.state (λ M.
-            MessageMeans (place_at self.now (ms_of now)) M from message.now)) }
+            MessageMeans (issuer_at self.now (ms_of now)) M from message.now)) }
     {
         let alloc = self.alloc;
         match understand(alloc, message)? {
@@ -86,7 +87,7 @@ impl Node {
     ) -> Result<Decision, NoMemory>
         requires kind { (request.now.kind ≡ Kind.Con) ⊎ (request.now.kind ≡ Kind.Non) }
         requires token { length request.now.token ≤ 8 }
-        ensures { (now : ℕ) → IfOk result (Decides (Issues (place_at self.now now) request.now (λ op.
+        ensures { (now : ℕ) → IfOk result (Decides (Issues (issuer_at self.now now) request.now (λ op.
             (op.endpoint ≡ endpoint) × (op.reg ≡ op.stamp) × (op.what ≡ what)) (created request.now))) }
     {
         let Some(stamp) = self.next_stamp() else {
@@ -114,7 +115,7 @@ impl Node {
         requires token { length request.now.token ≤ 8 }
         requires code { 0 < code }
         ensures { IfOk result (Decided self.now.table.state (λ M.
-            NamedChanges (place_at self.now (ms_of now)) M request.now id (λ w. w ≡ what) code)) }
+            NamedChanges (issuer_at self.now (ms_of now)) M request.now id (λ w. w ≡ what) code)) }
     {
         let Some(view) = self.named(now, id) else {
             return refused(self.alloc, request, NOT_FOUND);
@@ -134,7 +135,7 @@ impl Node {
         requires kind { (request.now.kind ≡ Kind.Con) ⊎ (request.now.kind ≡ Kind.Non) }
         requires token { length request.now.token ≤ 8 }
         requires code { 0 < code }
-        ensures { (now : ℕ) → IfOk result (Decides (Issues (place_at self.now now) request.now (λ op.
+        ensures { (now : ℕ) → IfOk result (Decides (Issues (issuer_at self.now now) request.now (λ op.
             IsAbout view.now op × (op.what ≡ what)) (answered request.now code))) }
     {
         let Some(stamp) = self.next_stamp() else {

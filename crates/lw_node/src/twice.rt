@@ -3,12 +3,12 @@
 ghost use Rattle.std.specs.Prelude.{◌≡◌, IfOk, IsOk, OnOk, OnErr};
 ghost use Rattle.lw_stamp.specs.Moment.{ms_of};
 ghost use Rattle.lw_node.specs.Calls.{Takes, IsSilent, Observes, Cancels};
-ghost use Rattle.lw_node.specs.Done.{IsDone};
+ghost use Rattle.lw_node.specs.inner.Done.{IsDone};
 ghost use Rattle.lw_node.specs.Exchange.{IsDeltaSince};
 ghost use Rattle.lw_node.specs.Node.{Known, IsKnown, marks_in, Issued};
 ghost use Rattle.lw_node.specs.Steps.{Asks};
-ghost use Rattle.lw_node.specs.Twice.{first_of, second_of};
-ghost use Rattle.lw_node.specs.Within.{IsNextOf};
+ghost use Rattle.lw_node.specs.inner.Twice.{first_of, second_of};
+ghost use Rattle.lw_node.specs.inner.Within.{IsNextOf};
 
 use crate::command::Command;
 use crate::decision::Decision;

@@ -17,7 +17,7 @@ use Rattle.lw_print.specs.declared.notice.NoticeMembers.{NoticeMembers}
 use Rattle.lw_print.specs.declared.registration.Members.{Members}
 use Rattle.lw_print.specs.declared.watch.WatchMembers.{WatchMembers}
 use Rattle.lw_print.specs.Json.{attributes_json, text_or_null, registration_json, watch_json, notice_json}
-use Rattle.lw_print.specs.Members.{members_json, TellsOf, watch_members_json, TellsOfWatch, notice_members_json, TellsOfNotice}
+use Rattle.lw_print.specs.inner.Members.{members_json, TellsOf, watch_members_json, TellsOfWatch, notice_members_json, TellsOfNotice}
 
 -- ---- the attributes
 above_at : (name : List ℕ) (attributes : List (List ℕ × List ℕ)) (i : ℕ) (a : List ℕ × List ℕ) → AllAbove text_cmp name attributes → slice_get attributes i ≡ Some a → text_cmp name a.0 ≡ Less

@@ -1,5 +1,5 @@
 pub mod PathText
 pub mod Json
-pub mod Members
 pub mod Answer
 pub mod Lines
+pub mod inner

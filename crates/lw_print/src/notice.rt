@@ -3,7 +3,7 @@ ghost use Rattle.serde_json.specs.Data.{object};
 ghost use Rattle.serde_json.specs.View.{view, members_view};
 ghost use Rattle.serde_json.specs.Written.{compact_text};
 ghost use Rattle.lw_print.specs.Json.{notice_json};
-ghost use Rattle.lw_print.specs.Members.{notice_members_json, TellsOfNotice};
+ghost use Rattle.lw_print.specs.inner.Members.{notice_members_json, TellsOfNotice};
 
 use crate::path::path_text;
 use crate::value::{id_text, number_value, put_text, short_value, value_text};

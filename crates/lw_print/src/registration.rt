@@ -3,7 +3,7 @@ ghost use Rattle.serde_json.specs.Data.{object as json_object};
 ghost use Rattle.serde_json.specs.View.{view, members_view};
 ghost use Rattle.serde_json.specs.Written.{compact_text};
 ghost use Rattle.lw_print.specs.Json.{attributes_json, registration_json};
-ghost use Rattle.lw_print.specs.Members.{members_json, TellsOf};
+ghost use Rattle.lw_print.specs.inner.Members.{members_json, TellsOf};
 
 use crate::value::{id_text, put_text, text_value, value_text};
 use lw_reg::{AttributesView, View};

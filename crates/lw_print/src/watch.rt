@@ -3,7 +3,7 @@ ghost use Rattle.serde_json.specs.Data.{object};
 ghost use Rattle.serde_json.specs.View.{view, members_view};
 ghost use Rattle.serde_json.specs.Written.{compact_text};
 ghost use Rattle.lw_print.specs.Json.{watch_json, stale_json};
-ghost use Rattle.lw_print.specs.Members.{watch_members_json, TellsOfWatch};
+ghost use Rattle.lw_print.specs.inner.Members.{watch_members_json, TellsOfWatch};
 
 use crate::path::path_text;
 use crate::value::{id_text, put_text, short_value, value_text};

@@ -8,7 +8,8 @@ use Rattle.std.proofs.lemmas.List.Elements.{Contains-append_left, Contains-appen
 use Rattle.std.proofs.lemmas.Bool.{cases_lt}
 use Rattle.std.proofs.lemmas.Option.{slice_get_read}
 use Rattle.lw_recent.specs.declared.entry.Entry.{Entry}
-use Rattle.lw_recent.specs.Entries.{number_of, shown, pairs_in, endpoints_in, shown_at, HasHole, with_hole}
+use Rattle.lw_recent.specs.Entries.{number_of, shown, pairs_in, endpoints_in}
+use Rattle.lw_recent.specs.inner.Entries.{shown_at, HasHole, with_hole}
 
 -- ---- one element more at the head
 module _ {X : Type 0} where

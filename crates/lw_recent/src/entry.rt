@@ -2,7 +2,8 @@
 
 ghost use Rattle.std.specs.Prelude.{◌≡◌, ◌≢◌, ◌↔◌, ◌⊎◌, ◌<◌, ℕ, List, Contains, Some, IfSome, IfNone, OnOk, IsTrue, vec_len, vec_capacity, string_bytes, option_map, length, slice_get};
 ghost use Rattle.std.specs.List.Sorted.{IsNonDecreasingBy};
-ghost use Rattle.lw_recent.specs.Entries.{pairs_in, number_of, shown_at, with_hole, endpoints_in, HasHole};
+ghost use Rattle.lw_recent.specs.Entries.{pairs_in, number_of, endpoints_in};
+ghost use Rattle.lw_recent.specs.inner.Entries.{shown_at, with_hole, HasHole};
 ghost use Rattle.lw_recent.specs.Recent.{IsUnder, Adds, Drops, AreSince};
 
 use lw_stamp::NoMemory;

@@ -6,7 +6,7 @@ use Rattle.std.specs.declared.cmp.Ordering.TheVariants.{Less, Equal, Greater}
 use Rattle.lw_stamp.specs.declared.stamp.Stamp.{Stamp}
 use Rattle.lw_join.specs.Entries.{Rises}
 use Rattle.lw_join.specs.EntriesLaws.{turned}
-use Rattle.lw_join.specs.Place.{IsAt, IsGap}
+use Rattle.lw_join.specs.inner.Place.{IsAt, IsGap}
 use Rattle.lw_join.specs.declared.once.Once.{Once}
 use Rattle.lw_join.specs.declared.or_gone.OrGone.{OrGone}
 use Rattle.lw_join.specs.declared.or_gone.OrGone.TheVariants.{Here, Gone}

@@ -12,7 +12,7 @@ use Rattle.std.proofs.lemmas.Slice.Eq.{text_from_reads}
 use Rattle.lw_reg.specs.declared.addr.Addr.{Addr}
 use Rattle.lw_reg.specs.declared.addr.Addr.TheVariants.{V4, V6}
 use Rattle.lw_reg.specs.Addr.{addr_text, IsHost, IsAddr}
-use Rattle.lw_reg.specs.Addr.Reading.{◌>>=◌, strip_at, number_in, octet_then, v4_in, four_then, v6_in, by_bracket, addr_in}
+use Rattle.lw_reg.specs.inner.Addr.Reading.{◌>>=◌, strip_at, number_in, octet_then, v4_in, four_then, v6_in, by_bracket, addr_in}
 use Rattle.lw_reg.proofs.Addresses.Cuts.{bind_some, some_is, strip_at_parts, strip_at-other}
 use Rattle.lw_reg.proofs.Addresses.Numbers.{number_in_text, number_in-decimal, first_of_decimal, octet_then_text, octet_then-decimal}
 use Rattle.lw_reg.proofs.Addresses.HexGroups.{four_text, none_below, more_below, eight_below, four_then_text, four_then-text, colon, bracket}

@@ -12,7 +12,8 @@ use Rattle.lw_reg.specs.declared.body.Body.{Body}
 use Rattle.lw_reg.specs.Body.{BodyBelow, body_join, maps_of, nothing}
 use Rattle.lw_reg.specs.BodyLaws.{body_laws}
 use Rattle.lw_reg.specs.Reading.{told_attributes, told_watches}
-use Rattle.lw_reg.specs.Told.{known_in, has_no_fields}
+use Rattle.lw_reg.specs.BodyOrGone.{known_in}
+use Rattle.lw_reg.specs.inner.BodyOrGone.{has_no_fields}
 use Rattle.lw_reg.proofs.WriteLemmas.{no_attributes_are, no_attributes_below}
 use Rattle.lw_reg.proofs.WatchLemmas.{no_watches_are, no_watches_below}
 

@@ -10,7 +10,7 @@ use Rattle.lw_stamp.specs.Order.{AtMost, IsExactOrder, IsGreatest}
 use Rattle.lw_stamp.specs.StampOrder.{stamp_cmp}
 use Rattle.lw_stamp.specs.TextOrder.{text_cmp}
 use Rattle.lw_stamp.proofs.StampLemmas.{stamp_order}
-use Rattle.lw_join.specs.Facets.{OptionTells, KeyedTells, LastTells}
+use Rattle.lw_join.specs.inner.Facets.{OptionTells, KeyedTells, LastTells}
 use Rattle.lw_join.specs.Lww.{write_cmp}
 use Rattle.lw_join.specs.Entries.{get}
 use Rattle.lw_join.specs.EntriesLaws.{same_entries}

@@ -3,7 +3,7 @@ use Rattle.std.proofs.Common.{◌≡◌, ℕ, List, [], ◌∷◌, ◌++◌, Som
 use Rattle.std.specs.Prelude.{◌↔◌, Contains}
 use Rattle.std.specs.FinMap.{get}
 use Rattle.std.proofs.lemmas.List.Elements.{Contains-append_left, Contains-append_right, Contains-append_cases}
-use Rattle.lw_join.specs.Facets.{Either, OptionTells}
+use Rattle.lw_join.specs.inner.Facets.{Either, OptionTells}
 use Rattle.lw_join.specs.Join.{IsJoin}
 use Rattle.lw_join.proofs.LeastLemmas.{least_one, least_same, least_facet, least_single}
 use Rattle.lw_join.proofs.MapLemmas.{map_laws, empty_below}

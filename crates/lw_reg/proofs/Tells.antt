@@ -9,7 +9,7 @@ use Rattle.lw_stamp.specs.Order.{IsExactOrder, IsGreatest}
 use Rattle.lw_stamp.specs.StampOrder.{stamp_cmp}
 use Rattle.lw_stamp.specs.TextOrder.{text_cmp}
 use Rattle.lw_stamp.proofs.StampLemmas.{stamp_order}
-use Rattle.lw_join.specs.Facets.{IsFacet, Through, OnceTells, LwwTells, LastTells, LexTells, GoneTells, PartsTells, MapTells}
+use Rattle.lw_join.specs.inner.Facets.{IsFacet, Through, OnceTells, LwwTells, LastTells, LexTells, GoneTells, PartsTells, MapTells}
 use Rattle.lw_join.specs.Last.{last_join}
 use Rattle.lw_join.specs.Lww.{lww_join}
 use Rattle.lw_join.specs.LwwLaws.{write_order}

@@ -1,5 +1,4 @@
 -- The one text of an address: its host and port as in the authority of a URI (RFC 3986, section 3.2).
-pub mod Reading
 use Rattle.std.specs.Prelude.{◌≡◌, ℕ, false, ◌/◌, ◌%◌, ◌^◌, ◌<◌, List, [], ◌∷◌, ◌++◌, length, map, slice_index}
 use Rattle.std.specs.Fmt.{decimal, digit_glyph}
 use Rattle.std.specs.List.{join_with_byte}

@@ -1,14 +1,12 @@
 -- The slot that is put together from its fields.
-use Rattle.std.specs.Prelude.{ℕ, List, Option, Some, None}
+use Rattle.std.specs.Prelude.{Option, Some, None}
 use Rattle.lw_stamp.specs.declared.stamp.Stamp.{Stamp}
 use Rattle.lw_join.specs.declared.or_gone.OrGone.{OrGone}
 use Rattle.lw_join.specs.declared.or_gone.OrGone.TheVariants.{Here, Gone}
 use Rattle.lw_reg.specs.declared.body.Body.{Body}
-use Rattle.lw_reg.specs.declared.fields.FieldWrites.{FieldWrites}
 use Rattle.lw_reg.specs.declared.fields.Fields.{Fields}
 use Rattle.lw_reg.specs.declared.slot.Slot.{Slot}
-use Rattle.lw_reg.specs.declared.path.Path.{Path}
-use Rattle.lw_reg.specs.Body.{Watching, no_watches, one_watch, no_attributes, maps_of}
+use Rattle.lw_reg.specs.Body.{maps_of}
 use Rattle.lw_reg.specs.Slot.{slot_at}
 
 abbrev pub fields_body : Fields → Body
@@ -31,25 +29,3 @@ told_fields (Some f) = Here (fields_body f)
 -- of a removed registration there are no fields
 abbrev pub slot_of_fields : Stamp → Option Fields → Slot
 slot_of_fields stamp fields = slot_at stamp (told_fields fields)
-
--- no field is written
-abbrev pub no_writes : FieldWrites (List ℕ) (List ℕ)
-no_writes = record { base = None; address = None; seen = None; lifetime = None; binding = None; sms = None; objects = None }
-
--- the watch of a path alone
-abbrev pub watched_fields : Path → Watching → Fields
-watched_fields path watching = record {
-  writes = no_writes;
-  attributes = no_attributes;
-  ended = None;
-  watches = one_watch path watching;
-}
-
--- the end alone
-abbrev pub ended_fields : Stamp → Fields
-ended_fields upto = record {
-  writes = no_writes;
-  attributes = no_attributes;
-  ended = Some upto;
-  watches = no_watches;
-}

@@ -12,8 +12,7 @@ pub mod Marks
 pub mod Showing
 pub mod BindingLaws
 pub mod Body
-pub mod Told
-pub mod Kept
+pub mod BodyOrGone
 pub mod BodyLaws
 pub mod Slot
 pub mod SlotLaws
@@ -25,3 +24,4 @@ pub mod ByNumbers
 pub mod PathNumbers
 pub mod Path
 pub mod OrderLaws
+pub mod inner

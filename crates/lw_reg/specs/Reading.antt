@@ -22,7 +22,7 @@ use Rattle.lw_reg.specs.declared.slot.Slot.{Slot}
 use Rattle.lw_reg.specs.declared.watch.Watch.{Watch}
 use Rattle.lw_reg.specs.Attribute.{values_of}
 use Rattle.lw_reg.specs.Body.{Watching}
-use Rattle.lw_reg.specs.Told.{known_in}
+use Rattle.lw_reg.specs.BodyOrGone.{known_in}
 use Rattle.lw_reg.specs.Slot.{observed, cancelled}
 use Rattle.lw_reg.specs.State.{State, IsStateOf}
 use Rattle.lw_reg.specs.Registration.{Registration}

@@ -7,8 +7,9 @@ ghost use Rattle.lw_reg.specs.Attribute.{IsAttribute};
 ghost use Rattle.lw_reg.specs.Body.{no_watches, no_attributes};
 ghost use Rattle.lw_reg.specs.Endpoint.{IsEndpoint};
 ghost use Rattle.lw_reg.specs.Slot.{slot_of, told_of, write_of, writes_of, observed, cancelled};
-ghost use Rattle.lw_reg.specs.Fields.{no_writes, told_fields, watched_fields, ended_fields};
-ghost use Rattle.lw_reg.specs.Told.{KeepsAttributes};
+ghost use Rattle.lw_reg.specs.Fields.{told_fields};
+ghost use Rattle.lw_reg.specs.inner.Fields.{no_writes, watched_fields, ended_fields};
+ghost use Rattle.lw_reg.specs.BodyOrGone.{KeepsAttributes};
 
 use crate::{
     Addr, Attributes, Base, Endpoint, FieldWrites, Fields, GivenSettings, Op, Path, Settings, Slot,

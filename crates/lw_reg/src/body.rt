@@ -28,7 +28,7 @@ impl Body {
     ghost use Rattle.lw_stamp.specs.declared.moment.Moment.{Moment as Moments};
     ghost use Rattle.lw_stamp.specs.declared.stamp.Stamp.{Stamp as Stamps};
     ghost use Rattle.lw_reg.specs.Body.{nothing, ended_alone, body_join};
-    ghost use Rattle.lw_reg.specs.Told.{has_no_fields};
+    ghost use Rattle.lw_reg.specs.inner.BodyOrGone.{has_no_fields};
 
     /// Whether nothing is known.
     pub(crate) fn is_nothing(&self) -> bool

@@ -8,7 +8,8 @@ ghost use Rattle.lw_reg.specs.Attribute.{IsAttribute};
 ghost use Rattle.lw_reg.specs.Body.{nothing};
 ghost use Rattle.lw_reg.specs.Fields.{fields_body, told_fields, slot_of_fields};
 ghost use Rattle.lw_reg.specs.Orders.{path_cmp};
-ghost use Rattle.lw_reg.specs.Told.{body_or_nothing, KeepsAttributes};
+ghost use Rattle.lw_reg.specs.BodyOrGone.{KeepsAttributes};
+ghost use Rattle.lw_reg.specs.inner.BodyOrGone.{body_or_nothing};
 ghost use Rattle.lw_reg.specs.Reading.{known_of, stamp_of, IsRemoved, base_of, address_of, seen_of, lifetime_of, binding_of, sms_of, objects_of, attributes_of, ended_of, watches_of};
 
 use crate::body::Body;

@@ -4,7 +4,8 @@ ghost use Rattle.std.specs.Prelude.{◌≡◌, ◌↔◌, IsTrue, IsOk, IfOk, If
 ghost use Rattle.std.specs.Option.{option_copied};
 ghost use Rattle.lw_join.specs.declared.or_gone.OrGone.TheVariants.{Here, Gone};
 ghost use Rattle.lw_reg.specs.Body.{nothing};
-ghost use Rattle.lw_reg.specs.Told.{known_in, body_or_nothing, KeepsAttributes};
+ghost use Rattle.lw_reg.specs.BodyOrGone.{known_in, KeepsAttributes};
+ghost use Rattle.lw_reg.specs.inner.BodyOrGone.{body_or_nothing};
 
 use crate::body::Body;
 use lw_join::{Copied, Join};
@@ -37,11 +38,11 @@ impl Model for Told {
 
     ghost coded = { Prim.hlevel (codes, bodies.the_row.coded) };
 
-    ghost use Rattle.lw_reg.specs.Kept.{told_in};
+    ghost use Rattle.lw_reg.specs.inner.Repr.{told_in};
 
     ghost view = { λ t. told_in t.kept };
 
-    ghost use Rattle.lw_reg.specs.Told.{KeepsAttributes};
+    ghost use Rattle.lw_reg.specs.BodyOrGone.{KeepsAttributes};
 
     ghost invariant = { λ t. KeepsAttributes (told_in t.kept) };
 }

@@ -5,7 +5,7 @@ ghost use Rattle.std.specs.List.{slice_get};
 ghost use Rattle.std.specs.Option.{option_copied};
 ghost use Rattle.lw_stamp.specs.Moment.{ms_of};
 ghost use Rattle.lw_join.specs.Entries.{Rises};
-ghost use Rattle.lw_join.specs.Place.{IsAt, IsGap};
+ghost use Rattle.lw_join.specs.inner.Place.{IsAt, IsGap};
 ghost use Rattle.lw_reg.specs.Orders.{path_cmp};
 ghost use Rattle.lw_reg.specs.Reading.{view_in, watch_of, watching_of, first_watch, has_token, is_above, live_watch, tokens_in, watches_of, shown_by, IsSlotOf};
 ghost use Rattle.lw_reg.specs.Marks.{Mark, among};

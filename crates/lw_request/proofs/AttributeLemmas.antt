@@ -19,7 +19,8 @@ use Rattle.lw_coap.specs.Message.{OptionContent}
 use Rattle.lw_reg.specs.Attribute.{is_attribute_name, IsAttribute, AreAttributes}
 use Rattle.lw_reg.specs.OrderLaws.{text_order}
 use Rattle.lw_request.specs.Options.{values_of}
-use Rattle.lw_request.specs.Queries.{name_of, value_of, later_or, last_value, attribute_given, AreTexts, GiveAttributes, GivesAttribute}
+use Rattle.lw_request.specs.Queries.{name_of, value_of, later_or, last_value, attribute_given, AreTexts, GiveAttributes}
+use Rattle.lw_request.specs.inner.Queries.{GivesAttribute}
 use Rattle.lw_request.proofs.QueryLemmas.{value_short}
 use Rattle.lw_request.proofs.Recognised.{IsShortQuery}
 

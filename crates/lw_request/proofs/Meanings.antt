@@ -18,14 +18,17 @@ use Rattle.lw_request.specs.declared.refusal.Refusal.TheVariants.{BadRequest, Pr
 use Rattle.lw_request.specs.declared.objects.Unread.{Unread}
 use Rattle.lw_request.specs.declared.objects.Unread.TheVariants.{TooLarge, NoLinks as NoList, NoMemory as WantOfMemory}
 use Rattle.lw_request.specs.Options.{values_of, content_format}
-use Rattle.lw_request.specs.Queries.{given, IsLifetime, AreTexts, IsOfUpdate, HasBadQuery, EachIsLookedAt, AreSettings, GiveAttributes, GivesAttribute}
+use Rattle.lw_request.specs.Queries.{given, IsLifetime, AreTexts, IsOfUpdate, HasBadQuery, AreSettings, GiveAttributes}
+use Rattle.lw_request.specs.inner.Queries.{EachIsLookedAt, GivesAttribute}
 use Rattle.lw_request.specs.Queries.Parameter.{Ep, Lt, Lwm2m, B, Q, Sms}
-use Rattle.lw_request.specs.Objects.{IsObjectList, IsTooLarge, SpellsNone, IsUnread}
+use Rattle.lw_request.specs.Objects.{IsObjectList, IsTooLarge, SpellsNone}
+use Rattle.lw_request.specs.inner.Objects.{IsUnread}
 use Rattle.lw_request.specs.Steps.{IsPost, IsRegister, IsUpdate, IsDeregister, IsLookedAt, queries_of, Cause, post_steps, path_steps, steps}
 use Rattle.lw_request.specs.Steps.Step.{WrongFormat, BadQuery, OtherVersion, TooManyLinks, NoLinks}
 use Rattle.lw_request.specs.declared.role.Role.{Role}
 use Rattle.lw_request.specs.declared.role.Role.TheVariants.{Request}
-use Rattle.lw_request.specs.Meaning.{Names, AreObjects, MeansBy, role_of, RoleMeans, Means, Owns, Understands, UnreadAsks}
+use Rattle.lw_request.specs.Meaning.{Names, AreObjects, MeansBy, role_of, RoleMeans, Means, Owns}
+use Rattle.lw_request.specs.inner.Meaning.{Understands, UnreadAsks}
 use Rattle.lw_request.proofs.AttributeLemmas.{attributes_in, attributes_given, gives_some}
 use Rattle.lw_request.proofs.ObjectLemmas.{list_fits, none_fits, nothing_fits, nothing_spelled}
 use Rattle.lw_request.proofs.Paths.{not_both, entry_known, delete_allowed, delete_is_no_post}

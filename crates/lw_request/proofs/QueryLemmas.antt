@@ -13,7 +13,8 @@ use Rattle.lw_reg.specs.Binding.{binding_text}
 use Rattle.lw_reg.specs.BindingText.{IsBindingText}
 use Rattle.lw_coap.specs.Message.{OptionContent}
 use Rattle.lw_request.specs.Options.{values_of, has_unrecognised}
-use Rattle.lw_request.specs.Queries.{name_of, value_of, later_or, Parameter, parameter_name, given, Accepts, IsLifetime, AreTexts, IsOfUpdate, EachIsLookedAt, HasBadQuery, IsGiven, AreSettings, IsWithin, IsNotAccepted}
+use Rattle.lw_request.specs.Queries.{name_of, value_of, later_or, Parameter, parameter_name, given, Accepts, IsLifetime, AreTexts, IsOfUpdate, HasBadQuery, IsGiven, AreSettings}
+use Rattle.lw_request.specs.inner.Queries.{EachIsLookedAt, IsWithin, IsNotAccepted}
 use Rattle.lw_request.specs.Queries.Parameter.{Ep, Lt, Lwm2m, B, Q, Sms}
 use Rattle.lw_request.proofs.Recognised.{IsShortQuery, recognised_short}
 

@@ -12,7 +12,8 @@ use Rattle.hex.specs.Hex.{decode_sized}
 use Rattle.hex.specs.declared.error.FromHexError.{FromHexError}
 use Rattle.lw_stamp.specs.declared.stamp.Stamp.{Stamp}
 use Rattle.lw_stamp.specs.Stamp.{id_of, stamp_bytes}
-use Rattle.lw_stamp.specs.StampBytes.{counter_in, node_in}
+use Rattle.lw_stamp.specs.StampBytes.{counter_in}
+use Rattle.lw_stamp.specs.inner.StampBytes.{node_in}
 use Rattle.lw_stamp.proofs.StampLemmas.{id_decodes, same_stamp, spelled_counter, spelled_node}
 use Rattle.lw_coap.specs.Message.{MessageContent}
 use Rattle.lw_link.specs.declared.fault.LinkFault.{LinkFault}
@@ -33,7 +34,8 @@ use Rattle.lw_request.specs.declared.refusal.Refusal.TheVariants.{BadRequest, No
 use Rattle.lw_request.specs.declared.role.Role.{Role}
 use Rattle.lw_request.specs.declared.role.Role.TheVariants.{Ignored, Ping as Probe, Request, Response, Reserved}
 use Rattle.lw_request.specs.Options.{has_critical, has_proxy, has_unrecognised, content_format}
-use Rattle.lw_request.specs.Queries.{Accepts, given, IsDigit, decimal_value, IsLifetime, AreTexts, IsOfUpdate, HasBadQuery, EachIsLookedAt, IsGiven, AreSettings}
+use Rattle.lw_request.specs.Queries.{Accepts, given, IsDigit, decimal_value, IsLifetime, AreTexts, IsOfUpdate, HasBadQuery, IsGiven, AreSettings}
+use Rattle.lw_request.specs.inner.Queries.{EachIsLookedAt}
 use Rattle.lw_request.specs.Queries.Parameter.{Ep, Lt, Lwm2m, B as Bound, Q as Queue, Sms}
 use Rattle.lw_request.specs.Objects.{IsObjectList, IsTooLarge, SpellsNone}
 use Rattle.lw_request.specs.Report.{report_of}

@@ -1,6 +1,5 @@
 -- What a message means (RFC 7252, sections 4.2, 4.3 and 5.2; RFC 7641, section 3; LwM2M 1.1 Core, section 6.2).
-use Rattle.std.specs.Prelude.{◌≡◌, ℕ, ◌/◌, ◌==◌, nat_lt, Bool, ◌||◌, ◌⊎◌, ◌↔◌, ◌≢◌, if◌then◌else◌, IsTrue, is_some, IsSome, unwrap_or, IsErr, List, [], ◌∷◌, codes, Option, Some, None, Result, Ok, Err}
-use Rattle.lw_stamp.specs.declared.no_memory.NoMemory.{NoMemory}
+use Rattle.std.specs.Prelude.{◌≡◌, ℕ, ◌/◌, ◌==◌, nat_lt, Bool, ◌||◌, ◌⊎◌, ◌↔◌, ◌≢◌, if◌then◌else◌, IsTrue, is_some, IsSome, unwrap_or, List, [], ◌∷◌, codes, Option, Some, None}
 use Rattle.lw_stamp.specs.declared.stamp.Stamp.{Stamp}
 use Rattle.lw_stamp.specs.Stamp.{id_of}
 use Rattle.lw_coap.specs.declared.message.Kind.{Kind}
@@ -13,9 +12,6 @@ use Rattle.lw_reg.specs.Binding.{binding_text}
 use Rattle.lw_reg.specs.Version.{version_text}
 use Rattle.lw_request.specs.declared.asked.Asked.{Asked}
 use Rattle.lw_request.specs.declared.asked.Asked.TheVariants.{Register, Update, Deregister, Report, Ping, Refuse, Reject, Ignore}
-use Rattle.lw_request.specs.declared.objects.Unread.{Unread}
-use Rattle.lw_request.specs.declared.objects.Unread.TheVariants.{TooLarge, NoLinks, NoMemory as WantOfMemory}
-use Rattle.lw_request.specs.declared.refusal.Refusal.TheVariants.{BadRequest, RequestEntityTooLarge}
 use Rattle.lw_request.specs.declared.role.Role.{Role}
 use Rattle.lw_request.specs.declared.role.Role.TheVariants.{Ignored, Ping as Probe, Request, Response, Reserved}
 use Rattle.lw_request.specs.Options.{has_critical}
@@ -122,17 +118,6 @@ Owns Ping = ⊥
 Owns (Refuse refusal) = ⊥
 Owns Reject = ⊥
 Owns Ignore = ⊥
-
--- the answer is what is meant; or want of memory, in place of what owns a text or bytes
-abbrev pub Understands : (Asked → Type 0) → Result Asked NoMemory → Type 0
-Understands Meant (Ok asked) = Meant asked
-Understands Meant (Err _) = (asked : Asked) × Meant asked × Owns asked
-
--- what a POST asks for whose payload was not read: 4.13, 4.00, or want of memory
-abbrev pub UnreadAsks : Unread → Result Asked NoMemory → Type 0
-UnreadAsks TooLarge result = result ≡ Ok (Refuse RequestEntityTooLarge)
-UnreadAsks NoLinks result = result ≡ Ok (Refuse BadRequest)
-UnreadAsks WantOfMemory result = IsErr result
 
 -- the message means something that owns a text or bytes
 abbrev pub MeansOwned : MessageContent → Type 0

@@ -1,11 +1,9 @@
 -- The object list of a Register or an Update: its payload in the link format (LwM2M 1.1 Core, section 6.2.1;
--- RFC 6690, section 2).
 use Rattle.std.specs.Prelude.{◌≡◌, ℕ, ◌<◌, ◌≤◌, ◌⊎◌, List, length}
 use Rattle.lw_link.specs.Link.{LinkContent}
 use Rattle.lw_link.specs.Spelling.{Spells}
 use Rattle.lw_link.specs.Printing.{printing}
-use Rattle.lw_request.specs.declared.objects.Unread.{Unread}
-use Rattle.lw_request.specs.declared.objects.Unread.TheVariants.{TooLarge, NoLinks, NoMemory}
+-- RFC 6690, section 2).
 
 -- the bytes spell 1 to 256 links, and the object list is their printing
 abbrev pub IsObjectList : List ℕ → List ℕ → Type 0
@@ -19,9 +17,3 @@ IsTooLarge bytes = (8192 < length bytes) ⊎ ((links : List LinkContent) × Spel
 -- the bytes spell no links
 abbrev pub SpellsNone : List ℕ → Type 0
 SpellsNone bytes = (links : List LinkContent) → Spells bytes links → ⊥
-
--- why the bytes were not read as an object list; want of memory comes in place of one
-abbrev pub IsUnread : List ℕ → Unread → Type 0
-IsUnread bytes TooLarge = IsTooLarge bytes
-IsUnread bytes NoLinks = (length bytes ≤ 8192) × SpellsNone bytes
-IsUnread bytes NoMemory = (objects : List ℕ) × IsObjectList bytes objects

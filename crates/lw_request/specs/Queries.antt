@@ -1,6 +1,5 @@
 -- The Uri-Queries of a Register and an Update (LwM2M 1.1 Core, section 6.2.1; LwM2M 1.1 Transport, section
--- 6.4.3).
-use Rattle.std.specs.Prelude.{◌≡◌, ℕ, ◌+◌, ◌*◌, ◌-◌, ◌<◌, ◌≤◌, ◌⊎◌, ◌==◌, Bool, true, false, IsTrue, IsUtf8, if◌then◌else◌, List, [], ◌∷◌, length, fold, codes, Option, Some, None, IsSome, bytes_eq}
+use Rattle.std.specs.Prelude.{◌≡◌, ℕ, ◌+◌, ◌*◌, ◌-◌, ◌<◌, ◌≤◌, ◌⊎◌, ◌==◌, Bool, true, false, IsTrue, IsUtf8, if◌then◌else◌, List, [], ◌∷◌, length, fold, codes, Option, Some, None, bytes_eq}
 use Rattle.std.specs.List.{before_first, after_first, AllByRecursion}
 use Rattle.std.specs.Option.{option_map}
 use Rattle.lw_stamp.specs.TextOrder.{text_cmp}
@@ -9,6 +8,7 @@ use Rattle.lw_reg.specs.Attribute.{is_attribute_name}
 use Rattle.lw_reg.specs.declared.binding.Binding.{Binding}
 use Rattle.lw_reg.specs.Binding.{binding_text}
 use Rattle.lw_reg.specs.BindingText.{IsBindingText}
+-- 6.4.3).
 
 -- a query is split at its first `=`; without one its value is empty
 abbrev pub name_of : List ℕ → List ℕ
@@ -35,10 +35,6 @@ attribute_given name queries = if is_attribute_name name then last_value name qu
 pub record GiveAttributes (queries : List (List ℕ)) (attributes : List (List ℕ × List ℕ)) : Type 0 where
   pub rise : Rises text_cmp attributes
   pub each : (name : List ℕ) → get text_cmp attributes name ≡ attribute_given name queries
-
--- the queries give some attribute
-abbrev pub GivesAttribute : List (List ℕ) → Type 0
-GivesAttribute queries = (name : List ℕ) × IsSome (attribute_given name queries)
 
 -- the parameters: endpoint, lifetime, version, binding, queue mode, SMS number
 pub data Parameter : Type 0 where
@@ -83,10 +79,6 @@ Accepts B value = IsBindingText value
 Accepts Q value = Unit {0}
 Accepts Sms value = Unit {0}
 
--- the parameter is given, with a value that it may not have
-abbrev pub IsNotAccepted : Parameter → Option (List ℕ) → Type 0
-IsNotAccepted parameter given = (value : List ℕ) × (given ≡ Some value) × (Accepts parameter value → ⊥)
-
 -- an Update has lifetime, binding and SMS number; what else is named is ignored
 abbrev pub is_in_update : Parameter → Bool
 is_in_update Ep = false
@@ -128,11 +120,3 @@ pub record AreSettings (queries : List (List ℕ)) (lifetime : Option ℕ) (bind
   pub lifetime_is : IsGiven IsLifetime (given Lt queries) lifetime
   pub binding_is : option_map binding_text binding ≡ given B queries
   pub sms_is : sms ≡ given Sms queries
-
--- each parameter, as a Register looks at it
-abbrev pub EachIsLookedAt : Parameter → Type 0
-EachIsLookedAt parameter = Unit {0}
-
--- a value that is given has at most this many bytes
-abbrev pub IsWithin : ℕ → Option (List ℕ) → Type 0
-IsWithin most given = (text : List ℕ) → given ≡ Some text → length text ≤ most

@@ -4,7 +4,8 @@ ghost use Rattle.std.specs.Prelude.{◌≡◌, ◌≢◌, ℕ, List, [], ◌∷�
 ghost use Rattle.lw_stamp.specs.TextOrder.{text_cmp};
 ghost use Rattle.lw_join.specs.Entries.{Rises, get};
 ghost use Rattle.lw_request.specs.Options.{values_of, has_unrecognised};
-ghost use Rattle.lw_request.specs.Queries.{later_or, attribute_given, AreTexts, GiveAttributes, GivesAttribute};
+ghost use Rattle.lw_request.specs.Queries.{later_or, attribute_given, AreTexts, GiveAttributes};
+ghost use Rattle.lw_request.specs.inner.Queries.{GivesAttribute};
 
 use crate::queries::split_query;
 use lw_coap::CoapOption;

@@ -1,7 +1,8 @@
 //! The payload of a Register or an Update.
 
 ghost use Rattle.std.specs.Prelude.{IfOk, IfErr};
-ghost use Rattle.lw_request.specs.Objects.{IsObjectList, IsUnread};
+ghost use Rattle.lw_request.specs.Objects.{IsObjectList};
+ghost use Rattle.lw_request.specs.inner.Objects.{IsUnread};
 
 use crate::{Asked, Refusal};
 use lw_coap::MAX_LENGTH;
@@ -21,7 +22,7 @@ pub(crate) enum Unread {
 }
 
 impl Unread {
-    ghost use Rattle.lw_request.specs.Meaning.{UnreadAsks};
+    ghost use Rattle.lw_request.specs.inner.Meaning.{UnreadAsks};
 
     /// What a POST asks for whose payload was not read.
     pub(crate) fn asked(self) -> Result<Asked, NoMemory>

@@ -4,9 +4,10 @@ ghost use Rattle.std.specs.Prelude.{◌≡◌, ◌≤◌, ◌⊎◌, ℕ, [], �
 ghost use Rattle.std.specs.List.{AllByRecursion};
 ghost use Rattle.lw_reg.specs.Binding.{binding_text};
 ghost use Rattle.lw_request.specs.Options.{values_of};
-ghost use Rattle.lw_request.specs.Queries.{Parameter, IsDigit, IsLifetime, decimal_value, name_of, value_of, later_or, given, AreTexts, IsGiven, IsNotAccepted, IsWithin};
+ghost use Rattle.lw_request.specs.Queries.{Parameter, IsDigit, IsLifetime, decimal_value, name_of, value_of, later_or, given, AreTexts, IsGiven};
+ghost use Rattle.lw_request.specs.inner.Queries.{IsNotAccepted, IsWithin};
 ghost use Rattle.lw_request.specs.Queries.Parameter.{Lt, B, Sms};
-ghost use Rattle.lw_request.specs.Parameters.{value_in};
+ghost use Rattle.lw_request.specs.inner.Parameters.{value_in};
 
 use lw_coap::CoapOption;
 use lw_coap::option_numbers::URI_QUERY;

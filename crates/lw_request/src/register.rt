@@ -6,10 +6,12 @@ ghost use Rattle.lw_reg.specs.Endpoint.{IsEndpoint};
 ghost use Rattle.lw_reg.specs.Version.{version_text};
 ghost use Rattle.lw_reg.specs.declared.version.Version.{Version as Versions};
 ghost use Rattle.lw_request.specs.Options.{values_of, has_unrecognised};
-ghost use Rattle.lw_request.specs.Queries.{given, AreTexts, GiveAttributes, IsLifetime, IsNotAccepted, HasBadQuery, EachIsLookedAt, IsWithin};
+ghost use Rattle.lw_request.specs.Queries.{given, AreTexts, GiveAttributes, IsLifetime, HasBadQuery};
+ghost use Rattle.lw_request.specs.inner.Queries.{IsNotAccepted, EachIsLookedAt, IsWithin};
 ghost use Rattle.lw_request.specs.Queries.Parameter.{Ep, Lt, Lwm2m, B, Q, Sms};
 ghost use Rattle.lw_request.specs.Steps.{IsRegister, post_steps};
-ghost use Rattle.lw_request.specs.Meaning.{MeansBy, Understands};
+ghost use Rattle.lw_request.specs.Meaning.{MeansBy};
+ghost use Rattle.lw_request.specs.inner.Meaning.{Understands};
 
 use crate::attributes::attributes_of;
 use crate::objects::read_objects;

@@ -2,7 +2,8 @@ ghost use Rattle.std.specs.Prelude.{◌≡◌, IsTrue, IfOk, OnErr};
 ghost use Rattle.lw_request.specs.Options.{has_unrecognised};
 ghost use Rattle.lw_request.specs.Steps.{steps, path_steps};
 ghost use Rattle.lw_request.specs.Steps.Step.{UnrecognisedOption};
-ghost use Rattle.lw_request.specs.Meaning.{Means, MeansBy, MeansOwned, ResponseMeans, Understands, refused};
+ghost use Rattle.lw_request.specs.Meaning.{Means, MeansBy, MeansOwned, ResponseMeans, refused};
+ghost use Rattle.lw_request.specs.inner.Meaning.{Understands};
 
 use crate::options::{has_critical, has_proxy, has_unrecognised};
 use crate::path::{entry_of, is_directory};

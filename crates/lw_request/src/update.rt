@@ -2,10 +2,12 @@
 
 ghost use Rattle.std.specs.Prelude.{◌≡◌, ◌≢◌, ◌⊎◌, ℕ, List, [], IsTrue, IsSome, IfOk, OnOk, IfErr, OnErr, option_copied};
 ghost use Rattle.lw_request.specs.Options.{values_of, has_unrecognised};
-ghost use Rattle.lw_request.specs.Queries.{AreTexts, AreSettings, GiveAttributes, GivesAttribute, IsOfUpdate, HasBadQuery, IsWithin};
-ghost use Rattle.lw_request.specs.Objects.{IsUnread};
+ghost use Rattle.lw_request.specs.Queries.{AreTexts, AreSettings, GiveAttributes, IsOfUpdate, HasBadQuery};
+ghost use Rattle.lw_request.specs.inner.Queries.{GivesAttribute, IsWithin};
+ghost use Rattle.lw_request.specs.inner.Objects.{IsUnread};
 ghost use Rattle.lw_request.specs.Steps.{IsUpdate, post_steps};
-ghost use Rattle.lw_request.specs.Meaning.{AreObjects, MeansBy, Understands};
+ghost use Rattle.lw_request.specs.Meaning.{AreObjects, MeansBy};
+ghost use Rattle.lw_request.specs.inner.Meaning.{Understands};
 
 use crate::attributes::attributes_of;
 use crate::objects::{Unread, read_objects};

@@ -12,7 +12,8 @@ use Rattle.lw_call.specs.declared.question.Question.TheVariants as question
 use Rattle.lw_world.specs.declared.event.Event.{Event}
 use Rattle.lw_script.specs.declared.fault.LineFault.{LineFault}
 use Rattle.lw_script.specs.declared.fault.LineFault.TheVariants.{Refused, NoMemory}
-use Rattle.lw_script.specs.Fields.{◌␣◌, IsRest, IsShort, IsMoment, IsAddress, IsHex, IsName, is_space}
+use Rattle.lw_script.specs.Fields.{◌␣◌, IsShort, IsMoment, IsAddress, IsHex, IsName, is_space}
+use Rattle.lw_script.specs.inner.Fields.{IsRest}
 use Rattle.lw_script.specs.Lines.{Spells, IsAtStart, ReadsAs, asked}
 
 -- where no first field is read, no row is

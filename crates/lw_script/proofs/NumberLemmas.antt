@@ -1,7 +1,7 @@
 -- Numbers that are read as they are printed.
 use Rattle.std.proofs.Common.{◌≡◌, ℕ, ◌^◌, ◌<◌, ◌≤◌, List, Option, Some, None, sym, ap, ◌∙◌, arith}
 use Rattle.std.specs.Prelude.{◌↔◌, IsSome, IfSome, IfNone}
-use Rattle.lw_reg.specs.Addr.Reading.{number_in}
+use Rattle.lw_reg.specs.inner.Addr.Reading.{number_in}
 use Rattle.lw_reg.proofs.Addresses.Numbers.{number_in_text, number_in-decimal}
 use Rattle.lw_stamp.specs.declared.moment.Moment.{Moment}
 use Rattle.lw_stamp.specs.Moment.{ms_of}

@@ -29,7 +29,7 @@ use Rattle.lw_script.specs.declared.script.ScriptFault.TheVariants.{Refused, NoM
 use Rattle.lw_script.specs.Fields.{IsShort, is_space}
 use Rattle.lw_script.specs.Lines.{IsLine, ReadsAs}
 use Rattle.lw_script.specs.Script.{ScriptContent, IsEvent, IsNodes, AreLines, IsGood, IsFirstBad, lines_of}
-use Rattle.lw_script.specs.Progress.{IsRead, Continues}
+use Rattle.lw_script.specs.inner.Progress.{IsRead, Continues}
 use Rattle.lw_script.proofs.NumberLemmas.{one_number, wide}
 
 -- ---- a line

@@ -1,5 +1,4 @@
 -- The fields of a line of a script, and what each spells. Numbers are decimal without leading zeros; an address is a
--- host and a port as in the authority of a URI (RFC 3986, section 3.2), bytes are in base 16 (RFC 4648, section 8).
 use Rattle.std.specs.Prelude.{◌≡◌, ◌<◌, ◌≤◌, ◌^◌, ◌==◌, ℕ, Bool, List, [], ◌∷◌, length, Option, Some, None, Ok, codes}
 use Rattle.std.specs.Fmt.{decimal}
 use Rattle.std.specs.List.{position_or_len, before_first, after_first}
@@ -12,6 +11,7 @@ use Rattle.lw_reg.specs.declared.addr.Addr.{Addr}
 use Rattle.lw_reg.specs.declared.path.Path.{Path}
 use Rattle.lw_reg.specs.Addr.{addr_text, IsAddr}
 use Rattle.lw_reg.specs.Path.{path_numbers}
+-- host and a port as in the authority of a URI (RFC 3986, section 3.2), bytes are in base 16 (RFC 4648, section 8).
 
 -- the number is below the limit, and the text is how it is printed
 pub record IsNumber (limit n : ℕ) (text : List ℕ) : Type 0 where
@@ -44,12 +44,6 @@ is_slash byte = byte == 47
 abbrev pub HasSlash : List ℕ → Type 0
 HasSlash text = position_or_len is_slash text < length text
 
--- a number stands before the first slash, and the others behind it
-pub record IsSlashed {A B : Type 0} (P : A → List ℕ → Type 0) (Q : B → List ℕ → Type 0) (first : A) (others : B) (text : List ℕ) : Type 0 where
-  pub parted : HasSlash text
-  pub first_is : P first (before_first is_slash text)
-  pub others_are : Q others (after_first is_slash text)
-
 -- numbers with a slash between each two
 abbrev pub IsSteps : List ℕ → List ℕ → Type 0
 IsSteps [] text = ⊥
@@ -75,10 +69,6 @@ IsHex bytes text = decode_of text ≡ Ok bytes
 pub record IsName (name text : List ℕ) : Type 0 where
   pub same : text ≡ name
   pub some : 1 ≤ length text
-
--- all that is left of a line
-abbrev pub IsRest : List ℕ → List ℕ → Type 0
-IsRest rest text = text ≡ rest
 
 -- ---- fields in a row
 abbrev pub is_space : ℕ → Bool

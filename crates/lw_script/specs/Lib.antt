@@ -2,4 +2,4 @@ pub mod Fields
 pub mod Words
 pub mod Lines
 pub mod Script
-pub mod Progress
+pub mod inner

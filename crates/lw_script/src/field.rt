@@ -2,7 +2,8 @@
 
 ghost use Rattle.std.specs.Prelude.{◌≡◌, ◌^◌, ℕ, List, IfSome, IfNone};
 ghost use Rattle.std.specs.List.{before_first, after_first};
-ghost use Rattle.lw_script.specs.Fields.{◌␣◌, IsShort, IsNumber, IsMoment, IsAddress, IsId, IsAccept, IsRest, HasSpace, is_space};
+ghost use Rattle.lw_script.specs.Fields.{◌␣◌, IsShort, IsNumber, IsMoment, IsAddress, IsId, IsAccept, HasSpace, is_space};
+ghost use Rattle.lw_script.specs.inner.Fields.{IsRest};
 ghost use Rattle.lw_stamp.specs.declared.moment.Moment.{Moment as Moments};
 
 use crate::number::is_plain;

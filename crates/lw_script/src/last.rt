@@ -5,7 +5,8 @@ ghost use Rattle.std.specs.List.{AllPass};
 ghost use Rattle.hex.specs.Hex.{decode_of, is_hex_digit};
 ghost use Rattle.lw_reg.specs.declared.addr.Addr.{Addr as Addrs};
 ghost use Rattle.lw_stamp.specs.declared.moment.Moment.{Moment as Moments};
-ghost use Rattle.lw_script.specs.Fields.{◌␣◌, IsShort, IsMoment, IsAddress, IsRest, IsHex, IsName};
+ghost use Rattle.lw_script.specs.Fields.{◌␣◌, IsShort, IsMoment, IsAddress, IsHex, IsName};
+ghost use Rattle.lw_script.specs.inner.Fields.{IsRest};
 ghost use Rattle.lw_script.specs.Lines.{ReadsAs};
 
 use crate::LineFault;

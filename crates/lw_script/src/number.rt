@@ -1,5 +1,5 @@
 ghost use Rattle.std.specs.Prelude.{◌↔◌, IsTrue};
-ghost use Rattle.lw_reg.specs.Addr.Reading.{IsPlain};
+ghost use Rattle.lw_reg.specs.inner.Addr.Reading.{IsPlain};
 
 /// Whether a number has no sign and no leading zero.
 pub(crate) fn is_plain(text: &str) -> bool

@@ -1,7 +1,8 @@
 ghost use Rattle.std.specs.Prelude.{IfSome, IfNone};
 ghost use Rattle.lw_reg.specs.Path.{path_numbers};
 ghost use Rattle.lw_reg.specs.declared.path.Path.{Path as Paths};
-ghost use Rattle.lw_script.specs.Fields.{IsStep, IsSlashed, IsSteps, IsPath};
+ghost use Rattle.lw_script.specs.Fields.{IsStep, IsSteps, IsPath};
+ghost use Rattle.lw_script.specs.inner.Fields.{IsSlashed};
 
 use crate::field::Field;
 use lw_world::Path;

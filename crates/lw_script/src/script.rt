@@ -7,7 +7,7 @@ ghost use Rattle.lw_world.specs.declared.event.Event.{Event as Events};
 ghost use Rattle.lw_script.specs.declared.script.ScriptFault.TheVariants.{Refused, NoMemory};
 ghost use Rattle.lw_script.specs.Lines.{ReadsAs};
 ghost use Rattle.lw_script.specs.Script.{lines_of, IsNodes, IsEvent, IsScript, IsGood, IsFirstBad};
-ghost use Rattle.lw_script.specs.Progress.{IsRead};
+ghost use Rattle.lw_script.specs.inner.Progress.{IsRead};
 
 use crate::field::Field;
 use crate::{LineFault, read_line};
@@ -113,7 +113,7 @@ impl Progress {
 }
 
 impl Script {
-    ghost use Rattle.lw_script.specs.Progress.{Continues};
+    ghost use Rattle.lw_script.specs.inner.Progress.{Continues};
 
     /// The script with the event of a further line.
     fn then(self, alloc: Global, line: &[u8]) -> Option<Progress>

@@ -4,7 +4,8 @@ use Rattle.lw_held.specs.Transcript.{Transcript}
 use Rattle.lw_crew.specs.declared.job.Job.{Job}
 use Rattle.std.proofs.Common.{◌≡◌, List, Result, Ok, Err, sym, subst}
 use Rattle.std.specs.Prelude.{IfErr, IsErrAnd, IsOkUnless, OnOk}
-use Rattle.lw_serve.specs.Runs.{AreOver, EndsFinish, EndsReceiving, EndsRound, EndsRounds, HasCause, IsFinished, IsServed}
+use Rattle.lw_serve.specs.Runs.{AreOver, HasCause, IsFinished, IsServed}
+use Rattle.lw_serve.specs.inner.Runs.{EndsFinish, EndsReceiving, EndsRound, EndsRounds}
 use Rattle.lw_serve.specs.declared.fault.ServeFault.{ServeFault}
 use Rattle.lw_serve.specs.declared.fault.ServeFault.TheVariants.{ReceiveFailed, ClockRefused, Crew, Unsettled, WriteFailed, NoMemory}
 use Rattle.lw_serve.specs.declared.plan.Plan.{Plan}

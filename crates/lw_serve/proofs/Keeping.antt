@@ -7,7 +7,7 @@ use Rattle.lw_held.specs.History.{VolumeContent}
 use Rattle.lw_held.specs.Shelves.{AreInOrder, HaveShelves}
 use Rattle.lw_held.specs.declared.shelf.Shelf.{Shelf}
 use Rattle.lw_serve.proofs.Numbering.{there}
-use Rattle.lw_serve.specs.Volumes.{AreOfNodes}
+use Rattle.lw_serve.specs.inner.Volumes.{AreOfNodes}
 
 pub none_kept : (count : ℕ) → AreOfNodes count []
 none_kept count i volume at = absurd (let within = slice_get_within [] i volume at in omega (arith, within))

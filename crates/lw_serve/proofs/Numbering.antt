@@ -5,7 +5,7 @@ use Rattle.std.proofs.lemmas.Option.{slice_get_within, slice_get_cases}
 use Rattle.lw_held.specs.Shelves.{AreNew}
 use Rattle.lw_held.specs.Transcript.{Transcript}
 use Rattle.lw_crew.specs.Continues.{AllContinue}
-use Rattle.lw_serve.specs.Rounds.{AreNumbered}
+use Rattle.lw_serve.specs.inner.Rounds.{AreNumbered}
 
 pub there : {A : Type 0} (xs : List A) (i : ℕ) → i < length xs → (x : A) × (slice_get xs i ≡ Some x)
 there xs i l = elim (slice_get_cases xs i).1 [ inl w ↦ (w.0, w.2) | inr w ↦ absurd (omega (arith, w.0)) ]

@@ -2,15 +2,10 @@
 use Rattle.std.specs.Prelude.{ℕ, ◌+◌, ◌%◌, ◌==◌, if◌then◌else◌, List, [], ◌∷◌, ◌++◌, map, zero, suc}
 use Rattle.lw_stamp.specs.declared.moment.Moment.{Moment}
 use Rattle.lw_reg.specs.declared.addr.Addr.{Addr}
-use Rattle.lw_reg.specs.declared.addr.Addr.TheVariants.{V4, V6}
+use Rattle.lw_reg.specs.AddrOrder.{port_of}
 use Rattle.lw_call.specs.declared.call.Call.TheVariants.{Take, Send, Merge, Sweep}
 use Rattle.lw_crew.specs.declared.job.Job.{Job}
 use Rattle.lw_serve.specs.declared.receiving.Datagram.{Datagram}
-
--- the port of an address
-abbrev pub port_of : Addr → ℕ
-port_of (V4 address port) = port
-port_of (V6 address port) = port
 
 -- the number of the node that a datagram from the address goes to, of so many
 abbrev pub node_of_source : ℕ → Addr → ℕ

@@ -4,5 +4,4 @@ pub mod Outcomes
 pub mod Rounds
 pub mod Runs
 pub mod Ending
-pub mod Udp
-pub mod Volumes
+pub mod inner

@@ -1,8 +1,7 @@
 -- What became of the jobs of a round, read from the transcripts of the passes.
-use Rattle.std.specs.Prelude.{ℕ, Bool, true, false, ◌&&◌, if◌then◌else◌, List, [], ◌++◌, Option, Some, None, option_map, slice_get, unwrap_or, Ok, Err}
+use Rattle.std.specs.Prelude.{ℕ, Bool, true, false, ◌&&◌, if◌then◌else◌, List, [], Option, Some, None, slice_get, unwrap_or, Ok, Err}
 use Rattle.std.specs.Option.{option_and_then, option_map_or}
 use Rattle.std.specs.List.{filter_map, flat_map}
-use Rattle.lw_reg.specs.declared.addr.Addr.{Addr}
 use Rattle.lw_call.specs.Contents.{SentContent}
 use Rattle.lw_call.specs.declared.call.Call.{Call}
 use Rattle.lw_call.specs.declared.call.Call.TheVariants as calls
@@ -13,30 +12,22 @@ use Rattle.lw_held.specs.declared.entry.Part.{Part}
 use Rattle.lw_held.specs.Transcript.{Transcript}
 use Rattle.lw_crew.specs.declared.job.Done.{Done}
 use Rattle.lw_crew.specs.declared.job.Job.{Job}
-use Rattle.lw_crew.specs.declared.job.Outcome.{Outcome}
-use Rattle.lw_crew.specs.declared.job.Outcome.TheVariants.{At, NoMemory, NoSuchNode}
+use Rattle.lw_crew.specs.declared.job.JobOutcome.{JobOutcome}
+use Rattle.lw_crew.specs.declared.job.JobOutcome.TheVariants.{At, NoMemory, NoSuchNode}
 use Rattle.lw_serve.specs.Jobs.{merges_of}
 
 -- the part that the job's call made, if one was made; a pass's number is its place
-abbrev pub part_at : List Transcript → Outcome → Option Part
+abbrev pub part_at : List Transcript → JobOutcome → Option Part
 part_at passes (At pass number) = option_and_then (λ transcript. slice_get transcript.parts number) (slice_get passes pass)
 part_at passes NoMemory = None
 part_at passes NoSuchNode = None
-
--- where the reply to a datagram goes, and its bytes
-abbrev pub reply_to : Call → Reply → Option (Addr × List ℕ)
-reply_to (calls.Take now from bytes) (replies.Take (Ok taken)) = option_map (λ reply. (from, reply)) taken.reply
-reply_to call reply = None
-
-abbrev pub reply_in : Part → Option (Addr × List ℕ)
-reply_in part = reply_to part.entry.call part.entry.reply
 
 -- what was sent, if the part is of a Send that found memory
 abbrev pub sent_of : Reply → Option SentContent
 sent_of (replies.Send (Ok sent)) = Some sent
 sent_of reply = None
 
-abbrev pub sent_at : List Transcript → Outcome → Option SentContent
+abbrev pub sent_at : List Transcript → JobOutcome → Option SentContent
 sent_at passes outcome = option_and_then (λ part. sent_of part.entry.reply) (part_at passes outcome)
 
 -- the change number since which a node sends next: that of its last delta, or else the one before
@@ -61,7 +52,7 @@ is_out_of_memory (replies.Merge (Err (merging.NoMemory joined))) = true
 is_out_of_memory reply = false
 
 -- no memory was found for the call, or for a merge within it
-abbrev pub wants_memory : List Transcript → Outcome → Bool
+abbrev pub wants_memory : List Transcript → JobOutcome → Bool
 wants_memory passes NoMemory = true
 wants_memory passes outcome = option_map_or (λ part. is_out_of_memory part.entry.reply) (part_at passes outcome) false
 

@@ -1,5 +1,5 @@
 -- What a round makes of the passes, the kept merges and the change numbers.
-use Rattle.std.specs.Prelude.{◌≡◌, ℕ, List, ◌++◌, length, map, Some, slice_get}
+use Rattle.std.specs.Prelude.{◌≡◌, ℕ, List, ◌++◌, length, map}
 use Rattle.lw_stamp.specs.declared.moment.Moment.{Moment}
 use Rattle.lw_held.specs.declared.shelf.Shelf.{Shelf}
 use Rattle.lw_held.specs.Transcript.{Transcript}
@@ -10,10 +10,6 @@ use Rattle.lw_crew.specs.declared.job.Job.{Job}
 use Rattle.lw_serve.specs.Jobs.{jobs_of_round, sends_from}
 use Rattle.lw_serve.specs.Outcomes.{change_after, merges_after_all, refused_merges}
 use Rattle.lw_serve.specs.declared.receiving.Datagram.{Datagram}
-
--- each pass stands at the place of its number
-abbrev pub AreNumbered : List Transcript → Type 0
-AreNumbered passes = (i : ℕ) (pass : Transcript) → slice_get passes i ≡ Some pass → pass.number ≡ i
 
 -- the workers have done the jobs
 pub record Serves (shelves : List Shelf) (before after : List Transcript) (jobs : List Job) (dones : List Done) : Type 0 where

@@ -89,33 +89,6 @@ pub record IsUnserved (plan : Plan) (told : Unsettled) : Type 0 where
   pub over : AreOver plan shelves passes kept
   pub refused : IsRefused shelves passes kept told
 
--- ---- what ends a run early
--- what may end the receiving of a batch: a wire that fails, or want of memory
-abbrev pub EndsReceiving : ServeFault → Type 0
-EndsReceiving faults.ReceiveFailed = Unit {0}
-EndsReceiving faults.NoMemory = Unit {0}
-EndsReceiving _ = ⊥
-
--- what may end a round: a fault of the crew, or want of memory
-abbrev pub EndsRound : ServeFault → Type 0
-EndsRound (faults.Crew fault) = Unit {0}
-EndsRound faults.NoMemory = Unit {0}
-EndsRound _ = ⊥
-
--- what may end the rounds: also a wire or a clock that fails, but no journal and no writer
-abbrev pub EndsRounds : ServeFault → Type 0
-EndsRounds (faults.Unsettled node place) = ⊥
-EndsRounds faults.WriteFailed = ⊥
-EndsRounds _ = Unit {0}
-
--- what may end a run whose rounds are over: a fault of the crew; passes that are not settled; or a writer that fails,
--- and then they are
-abbrev pub EndsFinish : List Shelf → List Transcript → List Job → ServeFault → Type 0
-EndsFinish shelves passes kept (faults.Crew fault) = Unit {0}
-EndsFinish shelves passes kept (faults.Unsettled node place) = IsRefused shelves passes kept (record { node = node; place = place })
-EndsFinish shelves passes kept faults.WriteFailed = IsFinished shelves passes kept
-EndsFinish shelves passes kept _ = ⊥
-
 -- Why a run of the plan ended at a fault, where its passes tell: `Unsettled` where the passes that served the plan are
 -- not settled, first at that node and place; `WriteFailed` where they are.
 abbrev pub HasCause : Plan → ServeFault → Type 0

@@ -2,7 +2,7 @@
 
 ghost use Rattle.std.specs.Prelude.{◌≡◌, ◌<◌, length};
 ghost use Rattle.lw_held.specs.Shelves.{AreInOrder};
-ghost use Rattle.lw_serve.specs.Volumes.{AreOfNodes};
+ghost use Rattle.lw_serve.specs.inner.Volumes.{AreOfNodes};
 
 use lw_held::{Shelf, Volume};
 use std::sync::Wait;

@@ -9,7 +9,7 @@ use std::io::{ErrorKind, Write};
 pub(crate) fn write_settled<O: Write>(writer: &mut O) -> Result<(), ServeFault>
     ensures fault { IsOkUnless result ServeFault.WriteFailed }
     ensures whole { OnOk result (Appends (O.contents writer.old) (O.contents writer.new) settled_line) }
-    ensures front { OnErr result (AppendsFront (O.contents writer.old) (O.contents writer.new)) }
+    ensures front { OnErr result (AppendsFront (O.contents writer.old) (O.contents writer.new) settled_line) }
 {
     let mut rest: &[u8] = b"settled\n";
     for _ in 0..u64::MAX {

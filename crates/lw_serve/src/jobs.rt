@@ -2,7 +2,8 @@
 
 ghost use Rattle.std.specs.Prelude.{◌≡◌, ◌≤◌, ◌++◌, length, vec_len, IfOk, OnOk};
 ghost use Rattle.lw_serve.specs.Plan.{AreNodes};
-ghost use Rattle.lw_serve.specs.Jobs.{jobs_of_round, merges_of, node_of_source, port_of as port_in, sends_from, sweeps_of, take_of as take_job};
+ghost use Rattle.lw_reg.specs.AddrOrder.{port_of as port_in};
+ghost use Rattle.lw_serve.specs.Jobs.{jobs_of_round, merges_of, node_of_source, sends_from, sweeps_of, take_of as take_job};
 
 use crate::receiving::Datagram;
 use bytes::Bytes;

@@ -2,8 +2,9 @@ ghost use Rattle.std.specs.Prelude.{◌≡◌, length, vec_len, IfErr, IfOk, OnO
 ghost use Rattle.lw_held.specs.Agree.{AreDistinct};
 ghost use Rattle.lw_held.specs.Shelves.{AreInOrder, AreNew, AreSettled, IsUnsettled};
 ghost use Rattle.lw_serve.specs.Plan.{AreNodes, AreWorkers};
-ghost use Rattle.lw_serve.specs.Rounds.{AreNumbered, Serves};
-ghost use Rattle.lw_serve.specs.Volumes.{AreOfNodes};
+ghost use Rattle.lw_serve.specs.Rounds.{Serves};
+ghost use Rattle.lw_serve.specs.inner.Rounds.{AreNumbered};
+ghost use Rattle.lw_serve.specs.inner.Volumes.{AreOfNodes};
 
 use crate::cutting::cut_journals;
 use crate::plan::Plan;

@@ -3,10 +3,11 @@
 ghost use Rattle.std.specs.Prelude.{◌≡◌, ◌++◌, length, vec_len, IfOk, OnOk, option_map, option_copied, map};
 ghost use Rattle.lw_call.specs.declared.reply.Reply.{Reply as Replies};
 ghost use Rattle.lw_serve.specs.Plan.{AreNodes};
-ghost use Rattle.lw_serve.specs.Outcomes.{change_after as next_change, is_merge as is_merge_call, is_out_of_memory as tells_no_memory, merges_after, merges_after_all, part_at, refused_merge as merge_refused, refused_merges as merges_refused, reply_in as reply_told, sent_at, sent_of as sent_in, wants_memory as lacks_memory};
+ghost use Rattle.lw_serve.specs.Outcomes.{change_after as next_change, is_merge as is_merge_call, is_out_of_memory as tells_no_memory, merges_after, merges_after_all, part_at, refused_merge as merge_refused, refused_merges as merges_refused, sent_at, sent_of as sent_in, wants_memory as lacks_memory};
+ghost use Rattle.lw_serve.specs.inner.Outcomes.{reply_in as reply_told};
 
 use crate::jobs::put_merges;
-use lw_crew::{Done, Job, Outcome};
+use lw_crew::{Done, Job, JobOutcome};
 use lw_held::{Part, Pass};
 use lw_node::{Call, MergeFault, Reply, Sent};
 use lw_reg::Addr;
@@ -14,13 +15,13 @@ use lw_stamp::NoMemory;
 use std::alloc::Global;
 
 /// The part of the call that was made, if one was. A pass's number is its place.
-pub(crate) fn part_of(passes: &[Pass], outcome: Outcome) -> Option<&Part>
+pub(crate) fn part_of(passes: &[Pass], outcome: JobOutcome) -> Option<&Part>
     ensures { option_copied result ≡ part_at passes.now outcome }
 {
     match outcome {
-        Outcome::At { pass, number } => passes.get(pass as usize)?.part(number),
-        Outcome::NoMemory => None,
-        Outcome::NoSuchNode => None,
+        JobOutcome::At { pass, number } => passes.get(pass as usize)?.part(number),
+        JobOutcome::NoMemory => None,
+        JobOutcome::NoSuchNode => None,
     }
 }
 
@@ -69,7 +70,7 @@ fn change_after(since: &[u64], passes: &[Pass], done: &Done) -> u64
     }
 }
 
-fn change_of(passes: &[Pass], outcome: Outcome) -> Option<u64>
+fn change_of(passes: &[Pass], outcome: JobOutcome) -> Option<u64>
     ensures { result ≡ option_map (λ sent. sent.change) (sent_at passes.now outcome) }
 {
     Some(sent_of(&part_of(passes, outcome)?.entry.reply)?.change)
@@ -140,11 +141,11 @@ fn is_merge(call: &Call) -> bool
     matches!(call, Call::Merge { .. })
 }
 
-fn wants_memory(passes: &[Pass], outcome: Outcome) -> bool
+fn wants_memory(passes: &[Pass], outcome: JobOutcome) -> bool
     ensures { result ≡ lacks_memory passes.now outcome }
 {
     match outcome {
-        Outcome::NoMemory => true,
+        JobOutcome::NoMemory => true,
         _ => match part_of(passes, outcome) {
             Some(part) => is_out_of_memory(&part.entry.reply),
             None => false,

@@ -2,7 +2,7 @@
 
 ghost use Rattle.std.specs.Prelude.{◌≡◌, ◌≤◌, length, min, vec_len, IfErr, IfOk, IsOkUnless};
 ghost use Rattle.lw_serve.specs.Plan.{most_at_once};
-ghost use Rattle.lw_serve.specs.Runs.{EndsReceiving};
+ghost use Rattle.lw_serve.specs.inner.Runs.{EndsReceiving};
 
 use crate::fault::ServeFault;
 use crate::wire::{Wire, WireFault};

@@ -2,7 +2,8 @@ ghost use Rattle.std.specs.Prelude.{◌≡◌, vec_len, IfErr, IfOk, OnOk};
 ghost use Rattle.std.specs.Io.KnownBytes.{Appends};
 ghost use Rattle.lw_serve.specs.Ending.{settled_line, IsStopped};
 ghost use Rattle.lw_serve.specs.Rounds.{IsRound};
-ghost use Rattle.lw_serve.specs.Runs.{EndsFinish, EndsRound, IsBegun, IsFinished};
+ghost use Rattle.lw_serve.specs.Runs.{IsBegun, IsFinished};
+ghost use Rattle.lw_serve.specs.inner.Runs.{EndsFinish, EndsRound};
 
 use crate::ending::write_settled;
 use crate::fault::ServeFault;

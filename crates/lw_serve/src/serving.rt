@@ -1,7 +1,8 @@
 ghost use Rattle.std.specs.Prelude.{OnOk, IfErr, IfOk};
 ghost use Rattle.std.specs.Io.KnownBytes.{Appends};
 ghost use Rattle.lw_serve.specs.Ending.{settled_line, IsStopped};
-ghost use Rattle.lw_serve.specs.Runs.{AreOver, EndsRounds, HasCause, IsServed};
+ghost use Rattle.lw_serve.specs.Runs.{AreOver, HasCause, IsServed};
+ghost use Rattle.lw_serve.specs.inner.Runs.{EndsRounds};
 
 use crate::clock::HostClock;
 use crate::fault::ServeFault;

@@ -1,5 +1,5 @@
 ghost use Rattle.std.specs.Prelude.{◌≡◌, true};
-ghost use Rattle.lw_serve.specs.Udp.{addr_of, IsAt};
+ghost use Rattle.lw_serve.specs.inner.Udp.{addr_of, IsAt};
 
 use crate::wire::{Wire, WireFault};
 use lw_reg::Addr;

@@ -8,7 +8,7 @@ ghost use Rattle.std.specs.Prelude.{◌≤◌};
 use crate::calls::{REGISTER, reply_text, take};
 use crate::held::steps::settle_alone;
 use crate::hold::{holds, is_text, same};
-use lw_crew::{Crew, CrewFault, Done, Gate, Job, NoGate, Outcome, Pass, Shelf, gather};
+use lw_crew::{Crew, CrewFault, Done, Gate, Job, NoGate, JobOutcome, Pass, Shelf, gather};
 use lw_held::{Part, Settled, Unsettled, set_up};
 use std::alloc::{AllocError, Global};
 use std::sync::Wait;
@@ -111,7 +111,7 @@ fn add_dones(
 /// Adds what became of the job: the node, the place and the reply of its part, or why there is none.
 fn add_done(alloc: Global, text: &mut String, passes: &[Pass], done: &Done) -> Result<(), Fail> {
     let (job, result) = (done.job, done.result);
-    let Outcome::At { pass, number } = result else {
+    let JobOutcome::At { pass, number } = result else {
         return Ok(writeln!(text, "{job}: {result:?}")?);
     };
     match part_of(passes, pass as usize, number) {

@@ -19,7 +19,8 @@ use Rattle.hex.proofs.HexLemmas.{decode_sized-encode_lower}
 use Rattle.lw_stamp.specs.declared.stamp.Stamp.{Stamp}
 use Rattle.lw_stamp.specs.Order.{IsExact, IsExactOrder}
 use Rattle.lw_stamp.specs.Stamp.{stamp_bytes, id_of}
-use Rattle.lw_stamp.specs.StampBytes.{counter_in, node_in}
+use Rattle.lw_stamp.specs.StampBytes.{counter_in}
+use Rattle.lw_stamp.specs.inner.StampBytes.{node_in}
 use Rattle.lw_stamp.specs.StampOrder.{stamp_cmp}
 
 -- a stamp is its counter and its node

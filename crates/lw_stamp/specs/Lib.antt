@@ -5,3 +5,4 @@ pub mod Clock
 pub mod Moment
 pub mod StampOrder
 pub mod TextOrder
+pub mod inner

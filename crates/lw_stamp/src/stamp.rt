@@ -1,6 +1,7 @@
 ghost use Rattle.std.specs.Prelude.{◌≡◌, ◌≤◌, ◌<◌, ◌^◌, ◌↔◌, IsNone, Some, take, drop};
 ghost use Rattle.std.specs.Int.{w16, w64, to_be_bytes};
-ghost use Rattle.lw_stamp.specs.StampBytes.{counter_in, node_in};
+ghost use Rattle.lw_stamp.specs.StampBytes.{counter_in};
+ghost use Rattle.lw_stamp.specs.inner.StampBytes.{node_in};
 
 use hex::FromHex;
 

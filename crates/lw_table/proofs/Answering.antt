@@ -19,7 +19,7 @@ use Rattle.lw_reg.specs.State.{State, IsStateOf}
 use Rattle.lw_table.specs.declared.key.Key.{Key}
 use Rattle.lw_table.specs.declared.key.Key.TheVariants.{Id, Address, Token}
 use Rattle.lw_table.specs.Answers.{FirstAfter}
-use Rattle.lw_table.specs.Found.{view_at, watch_at, holder_at, expired_at, if_after, first_of, last_of, holder_of, with_watch}
+use Rattle.lw_table.specs.inner.Found.{view_at, watch_at, holder_at, expired_at, if_after, first_of, last_of, holder_of, with_watch}
 use Rattle.lw_table.specs.Keys.{key_cmp}
 use Rattle.lw_table.specs.LookUps.{ById, ByAddress, ByToken, WatchOfIdAfter, ExpiredAfter}
 use Rattle.lw_table.specs.Table.{TableContent, IsTable}

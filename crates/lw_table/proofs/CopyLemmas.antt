@@ -5,9 +5,10 @@ use Rattle.std.specs.FinMap.{get}
 use Rattle.lw_recent.specs.Recent.{IsUnder, AreSince}
 use Rattle.lw_reg.proofs.Members.{none_there, there_or_first}
 use Rattle.lw_reg.specs.declared.slot.Slot.{Slot}
-use Rattle.lw_table.specs.Copying.{Copies, MayBeCopied, CopiesRow}
-use Rattle.lw_table.specs.Filed.{HasNumber, IsFiled, OthersSame, slot_of, number_of}
-use Rattle.lw_table.specs.Rows.{IsRows, row_at, table_in}
+use Rattle.lw_table.specs.inner.Copying.{Copies, MayBeCopied, CopiesRow}
+use Rattle.lw_table.specs.inner.Filed.{HasNumber, IsFiled, OthersSame, slot_of, number_of}
+use Rattle.lw_table.specs.Rows.{IsRows, table_in}
+use Rattle.lw_table.specs.inner.Rows.{row_at}
 use Rattle.lw_table.specs.Table.{TableContent, IsTable}
 use Rattle.lw_table.specs.declared.filed.Filed.{Filed}
 use Rattle.lw_table.specs.declared.row.Row.{Row}

@@ -12,8 +12,9 @@ use Rattle.lw_reg.specs.OrderLaws.{text_order}
 use Rattle.lw_reg.specs.Reading.{deadline_in, deadline_of, is_late, registered_in, stamp_of}
 use Rattle.lw_reg.specs.Registration.{Registration}
 use Rattle.lw_reg.specs.declared.slot.Slot.{Slot}
-use Rattle.lw_table.specs.Due.{HasDue, OptionHasDue, OtherDue, deadline_at}
-use Rattle.lw_table.specs.Found.{expired_with}
+use Rattle.lw_table.specs.Due.{HasDue, OptionHasDue}
+use Rattle.lw_table.specs.inner.Due.{OtherDue, deadline_at}
+use Rattle.lw_table.specs.inner.Found.{expired_with}
 use Rattle.lw_table.proofs.RowLemmas.{same_or_not}
 
 -- ---- what a change leaves

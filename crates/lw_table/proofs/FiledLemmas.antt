@@ -9,8 +9,8 @@ use Rattle.lw_due.specs.Due.{Entry}
 use Rattle.lw_index.specs.Index.{Has, IsPair}
 use Rattle.lw_reg.specs.declared.slot.Slot.{Slot}
 use Rattle.lw_reg.proofs.Members.{none_there, there_or_first}
-use Rattle.lw_table.specs.Due.{OtherDue}
-use Rattle.lw_table.specs.Filed.{OtherKeys, OtherNames, OtherNumbers, OthersSame}
+use Rattle.lw_table.specs.inner.Due.{OtherDue}
+use Rattle.lw_table.specs.inner.Filed.{OtherKeys, OtherNames, OtherNumbers, OthersSame}
 use Rattle.lw_table.specs.declared.filed.Filed.{Filed}
 use Rattle.lw_table.specs.Keys.{key_cmp, OptionHasKey}
 use Rattle.lw_table.specs.declared.key.Key.{Key}

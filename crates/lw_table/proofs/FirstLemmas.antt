@@ -15,8 +15,8 @@ use Rattle.lw_join.specs.GreaterLaws.{at_most_refl, at_most_trans}
 use Rattle.lw_reg.specs.OrderLaws.{text_order}
 use Rattle.lw_reg.specs.Registration.{Registration}
 use Rattle.lw_reg.proofs.Members.{none_there, first_there, more_there, there_or_first}
-use Rattle.lw_table.specs.Found.{found_or, first_of, if_after, later_of, last_of}
-use Rattle.lw_table.specs.Names.{is_after}
+use Rattle.lw_table.specs.inner.Found.{found_or, first_of, if_after, later_of, last_of}
+use Rattle.lw_table.specs.inner.Names.{is_after}
 
 -- what is below is at most
 below_at_most : (x y : List ℕ) → text_cmp x y ≡ Less → AtMost text_cmp x y

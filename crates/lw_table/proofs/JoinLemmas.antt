@@ -8,9 +8,10 @@ use Rattle.lw_reg.specs.Slot.{slot_below}
 use Rattle.lw_reg.specs.State.{state_join}
 use Rattle.lw_reg.specs.declared.slot.Slot.{Slot}
 use Rattle.lw_table.specs.Changes.{Recounts, counted}
-use Rattle.lw_table.specs.Filed.{IsFiled, slot_of}
-use Rattle.lw_table.specs.Moves.{next_row, IsKnown, JoinsRow, JoinsRowAt, PutsRow, SameRows}
-use Rattle.lw_table.specs.Rows.{IsRows, numbers_in, row_at, state_in, table_in}
+use Rattle.lw_table.specs.inner.Filed.{IsFiled, slot_of}
+use Rattle.lw_table.specs.inner.Moves.{next_row, IsKnown, JoinsRow, JoinsRowAt, PutsRow, SameRows}
+use Rattle.lw_table.specs.Rows.{IsRows, numbers_in, state_in, table_in}
+use Rattle.lw_table.specs.inner.Rows.{row_at}
 use Rattle.lw_table.specs.Table.{TableContent}
 use Rattle.lw_table.specs.declared.filed.Filed.{Filed}
 use Rattle.lw_table.specs.declared.row.Row.{Row}

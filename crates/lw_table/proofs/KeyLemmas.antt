@@ -21,7 +21,8 @@ use Rattle.lw_reg.proofs.Members.{none_there, first_there, more_there, there_or_
 use Rattle.lw_join.specs.declared.once.Once.{Once}
 use Rattle.lw_join.specs.declared.or_gone.OrGone.{OrGone}
 use Rattle.lw_join.specs.declared.or_gone.OrGone.TheVariants.{Here, Gone}
-use Rattle.lw_table.specs.Keys.{key_cmp, token_in}
+use Rattle.lw_table.specs.Keys.{key_cmp}
+use Rattle.lw_table.specs.inner.Keys.{token_in}
 use Rattle.lw_table.specs.declared.key.Key.{Key}
 use Rattle.lw_table.specs.declared.key.Key.TheVariants.{Id, Address, Token}
 

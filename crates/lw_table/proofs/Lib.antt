@@ -2,7 +2,7 @@ pub mod KeyLemmas
 pub mod NameLemmas
 pub mod OrderLemmas
 pub mod FiledLemmas
-pub mod TurningLemmas
+pub mod KeyChangeLemmas
 pub mod MoveLemmas
 pub mod RowLemmas
 pub mod JoinLemmas

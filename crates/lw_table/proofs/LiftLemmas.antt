@@ -28,11 +28,11 @@ use Rattle.lw_reg.specs.Slot.{slot_at, slot_join, ending}
 use Rattle.lw_reg.specs.State.{State, IsStateOf}
 use Rattle.lw_reg.proofs.EndLemmas.{ended_with, ending_joined, lasting_some, with_end}
 use Rattle.lw_reg.proofs.Tells.{Holds, Tells}
-use Rattle.lw_table.specs.Found.{expired_at, expired_with, named}
+use Rattle.lw_table.specs.inner.Found.{expired_at, expired_with, named}
 use Rattle.lw_table.specs.Keys.{HasKey}
 use Rattle.lw_table.specs.Lifts.{Lifts, LiftsFirst}
 use Rattle.lw_table.specs.LookUps.{ExpiredAfter}
-use Rattle.lw_table.specs.Moves.{LiftsRow}
+use Rattle.lw_table.specs.inner.Moves.{LiftsRow}
 use Rattle.lw_table.specs.Table.{TableContent}
 use Rattle.lw_table.specs.declared.key.Key.{Key}
 use Rattle.lw_table.specs.declared.key.Key.TheVariants.{Id, Address, Token}

@@ -19,11 +19,12 @@ use Rattle.lw_table.specs.declared.row.Row.{Row}
 use Rattle.lw_table.specs.declared.rows.Rows.{Rows}
 use Rattle.lw_table.specs.Changes.{counted}
 use Rattle.lw_table.specs.Due.{OptionHasDue}
-use Rattle.lw_table.specs.Filed.{IsFiled, OthersSame, OtherNumbers, slot_of}
-use Rattle.lw_table.specs.Found.{expired_at}
+use Rattle.lw_table.specs.inner.Filed.{IsFiled, OthersSame, OtherNumbers, slot_of}
+use Rattle.lw_table.specs.inner.Found.{expired_at}
 use Rattle.lw_table.specs.Lifts.{Lifts}
-use Rattle.lw_table.specs.Moves.{LiftsRowAt, WasSeen, moved_row, next_row}
-use Rattle.lw_table.specs.Rows.{IsRows, row_at, state_in, table_in}
+use Rattle.lw_table.specs.inner.Moves.{LiftsRowAt, WasSeen, moved_row, next_row}
+use Rattle.lw_table.specs.Rows.{IsRows, state_in, table_in}
+use Rattle.lw_table.specs.inner.Rows.{row_at}
 use Rattle.lw_table.specs.Table.{IsTable, TableContent}
 use Rattle.lw_table.proofs.CountLemmas.{next_after, recount_one}
 use Rattle.lw_table.proofs.DueLemmas.{HasPassed, not_expired, others_raised}

@@ -12,7 +12,7 @@ use Rattle.lw_stamp.specs.StampOrder.{stamp_cmp}
 use Rattle.lw_stamp.specs.TextOrder.{text_cmp}
 use Rattle.lw_index.specs.Index.{Has, endpoints_of}
 use Rattle.lw_join.specs.Entries.{get as entry_of}
-use Rattle.lw_join.specs.Facets.{OptionTells}
+use Rattle.lw_join.specs.inner.Facets.{OptionTells}
 use Rattle.lw_join.specs.GreaterLaws.{at_most_antisymm}
 use Rattle.lw_join.specs.Lww.{write_cmp}
 use Rattle.lw_join.specs.LwwLaws.{write_order}
@@ -51,10 +51,10 @@ use Rattle.lw_reg.proofs.Tells.{SlotTells, Tells, Holds, ToldTells, state_tells}
 use Rattle.lw_table.specs.declared.key.Key.{Key}
 use Rattle.lw_table.specs.declared.key.Key.TheVariants.{Id, Address, Token}
 use Rattle.lw_table.specs.Answers.{IsAfter, IsFirstAnswer, IsShownAfter, FirstAfter}
-use Rattle.lw_table.specs.Found.{view_with, both_of, stamp_of_write, view_at, watch_at, watch_with, holder_at, holder_with, expired_at, expired_with, named, if_after, first_of, last_of, holder_of, with_watch}
+use Rattle.lw_table.specs.inner.Found.{view_with, both_of, stamp_of_write, view_at, watch_at, watch_with, holder_at, holder_with, expired_at, expired_with, named, if_after, first_of, last_of, holder_of, with_watch}
 use Rattle.lw_table.specs.Keys.{key_cmp, OptionHasKey}
 use Rattle.lw_table.specs.LookUps.{ById, IsHolder, ByAddress, HasToken, ByToken, WatchOfIdAfter, IsExpiredAfter, named_by, ExpiredAfter}
-use Rattle.lw_table.specs.Names.{is_after}
+use Rattle.lw_table.specs.inner.Names.{is_after}
 use Rattle.lw_table.specs.Table.{IsKept}
 use Rattle.lw_table.proofs.FirstLemmas.{IsFirstFit, first_fits, LastFound, last_found}
 

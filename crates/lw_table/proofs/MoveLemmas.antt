@@ -18,9 +18,9 @@ use Rattle.lw_reg.specs.Body.{body_join}
 use Rattle.lw_reg.specs.Reading.{IsRemoved}
 use Rattle.lw_reg.specs.Slot.{slot_at, slot_join}
 use Rattle.lw_table.specs.Due.{HasDue, OptionHasDue}
-use Rattle.lw_table.specs.Filed.{IsFiled, IsOver, OthersSame, IsBetween, HasAll, number_of, slot_of}
-use Rattle.lw_table.specs.Moves.{moved_row}
-use Rattle.lw_table.specs.Turning.{IsTurning}
+use Rattle.lw_table.specs.inner.Filed.{IsFiled, IsOver, OthersSame, IsBetween, HasAll, number_of, slot_of}
+use Rattle.lw_table.specs.inner.Moves.{moved_row}
+use Rattle.lw_table.specs.inner.KeyChanges.{HasKeyChanges}
 use Rattle.lw_table.specs.declared.filed.Filed.{Filed}
 use Rattle.lw_table.specs.declared.key.Key.{Key}
 use Rattle.lw_table.specs.declared.row.Row.{Row}
@@ -90,22 +90,22 @@ module _ (old new : Filed) (e : List ℕ) (kept : Bool) (keys : List Key) (betwe
     ]
 
     -- with the row that moved
-    pub over_moved : (row : Row) → IsFiled old e (Some row) → (IsRemoved row.slot → (IsRemoved slot → ⊥) → kept ≡ true) → IsTurning (Some row.slot) slot keys → HasDue due e (slot_join row.slot slot) → IsOver after e (Some (moved_row row slot number)) keys
-    over_moved row filed revived turning is_due = record {
+    pub over_moved : (row : Row) → IsFiled old e (Some row) → (IsRemoved row.slot → (IsRemoved slot → ⊥) → kept ≡ true) → HasKeyChanges (Some row.slot) slot keys → HasDue due e (slot_join row.slot slot) → IsOver after e (Some (moved_row row slot number)) keys
+    over_moved row filed revived key_changes is_due = record {
       name = moved_name row filed revived;
-      keys_has = λ k h. elim (turning.gained k h) [ inl was ↦ between.keys_stay k ((filed.keys k).1 was) | inr listed ↦ all.has_keys k listed ];
-      keys_from = λ k h. elim (between.keys_from k h) [ inl was ↦ turning.lost k ((filed.keys k).0 was) | inr listed ↦ inr listed ];
+      keys_has = λ k h. elim (key_changes.gained k h) [ inl was ↦ between.keys_stay k ((filed.keys k).1 was) | inr listed ↦ all.has_keys k listed ];
+      keys_from = λ k h. elim (between.keys_from k h) [ inl was ↦ key_changes.lost k ((filed.keys k).0 was) | inr listed ↦ inr listed ];
       numbers = numbers_are;
       due = is_due;
     }
 
     -- with the first row
-    pub filed_first : ((kept ≡ true) ↔ (IsRemoved slot → ⊥)) → IsFiled old e None → IsTurning None slot keys → HasDue due e slot → IsFiled after e (Some (record { slot = slot; number = number }))
-    filed_first is_kept filed turning is_due = record {
+    pub filed_first : ((kept ≡ true) ↔ (IsRemoved slot → ⊥)) → IsFiled old e None → HasKeyChanges None slot keys → HasDue due e slot → IsFiled after e (Some (record { slot = slot; number = number }))
+    filed_first is_kept filed key_changes is_due = record {
       name = (λ h. elim (between.name_from h) [ inl was ↦ absurd (filed.name.0 was) | inr is ↦ is_kept.0 is ], λ h. all.has_name (is_kept.1 h));
       keys = λ k. (
-        λ h. elim (between.keys_from k h) [ inl was ↦ absurd ((filed.keys k).0 was) | inr listed ↦ turning.first refl k listed ],
-        λ h. elim (turning.gained k h) [ inl was ↦ absurd was | inr listed ↦ all.has_keys k listed ],
+        λ h. elim (between.keys_from k h) [ inl was ↦ absurd ((filed.keys k).0 was) | inr listed ↦ key_changes.first refl k listed ],
+        λ h. elim (key_changes.gained k h) [ inl was ↦ absurd was | inr listed ↦ all.has_keys k listed ],
       );
       numbers = numbers_are;
       due = is_due;

@@ -19,8 +19,9 @@ use Rattle.std.proofs.lemmas.Map.Entries.{btree_map_get_place}
 use Rattle.std.proofs.lemmas.Map.Views.{tells_apart}
 use Rattle.lw_stamp.specs.TextOrder.{text_cmp}
 use Rattle.lw_reg.specs.OrderLaws.{text_order}
-use Rattle.lw_table.specs.Moves.{PutsRow, SameRows, IsTaken}
-use Rattle.lw_table.specs.Rows.{IsRows, each_in, firsts_in, others_in, end_of, first_or, has_end, row_at}
+use Rattle.lw_table.specs.inner.Moves.{PutsRow, SameRows, IsTaken}
+use Rattle.lw_table.specs.Rows.{IsRows, each_in, firsts_in, others_in, end_of}
+use Rattle.lw_table.specs.inner.Rows.{first_or, has_end, row_at}
 use Rattle.lw_table.specs.declared.row.Row.{Row}
 use Rattle.lw_table.specs.declared.rows.First.{First}
 use Rattle.lw_table.specs.declared.rows.Rows.{Rows}

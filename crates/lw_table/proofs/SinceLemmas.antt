@@ -11,7 +11,7 @@ use Rattle.lw_recent.specs.Recent.{IsUnder, AreSince}
 use Rattle.lw_reg.specs.declared.slot.Slot.{Slot}
 use Rattle.lw_reg.specs.State.{State}
 use Rattle.lw_reg.proofs.Members.{none_there, first_there, more_there, there_or_first}
-use Rattle.lw_table.specs.Since.{slot_or, slots_at}
+use Rattle.lw_table.specs.inner.Since.{slot_or, slots_at}
 use Rattle.lw_table.specs.Changes.{Count, LAST, IsSince, IsSinceIn}
 use Rattle.lw_table.specs.Table.{TableContent, IsTable}
 use Rattle.lw_table.specs.declared.filed.Filed.{Filed}

@@ -17,7 +17,7 @@ use Rattle.lw_reg.specs.Slot.{slot_join}
 use Rattle.lw_reg.specs.State.{state_join}
 use Rattle.lw_table.specs.Changes.{LAST}
 use Rattle.lw_table.specs.Due.{OptionHasDue}
-use Rattle.lw_table.specs.Filed.{IsFiled, OthersSame, slot_of, number_of}
+use Rattle.lw_table.specs.inner.Filed.{IsFiled, OthersSame, slot_of, number_of}
 use Rattle.std.specs.declared.cmp.Ordering.{Ordering}
 use Rattle.lw_due.specs.Due.{Entry}
 use Rattle.lw_index.specs.Index.{Has}
@@ -25,10 +25,11 @@ use Rattle.lw_recent.specs.Recent.{IsUnder}
 use Rattle.lw_reg.proofs.Members.{none_there}
 use Rattle.lw_table.specs.declared.key.Key.{Key}
 use Rattle.lw_table.specs.Keys.{key_cmp, OptionHasKey}
-use Rattle.lw_table.specs.Moves.{next_row}
-use Rattle.lw_table.specs.Rows.{IsRows, row_at, state_in, numbers_in, table_in}
+use Rattle.lw_table.specs.inner.Moves.{next_row}
+use Rattle.lw_table.specs.Rows.{IsRows, state_in, numbers_in, table_in}
+use Rattle.lw_table.specs.inner.Rows.{row_at}
 use Rattle.lw_table.specs.Table.{IsTable, IsKept, empty_table}
-use Rattle.lw_table.specs.Turning.{joined_with}
+use Rattle.lw_table.specs.inner.KeyChanges.{joined_with}
 use Rattle.lw_table.specs.declared.filed.Filed.{Filed}
 use Rattle.lw_table.specs.declared.row.Row.{Row}
 use Rattle.lw_table.specs.declared.rows.Rows.{Rows}

@@ -1,6 +1,5 @@
 -- The due moments of endpoints, beside the deadlines of their slots.
-use Rattle.std.specs.Prelude.{◌≡◌, ◌≤◌, ◌≢◌, ◌-◌, ◌^◌, ℕ, List, Option, Some, None}
-use Rattle.std.specs.Option.{unwrap_or}
+use Rattle.std.specs.Prelude.{◌≡◌, ◌≤◌, ℕ, List, Option, Some, None}
 use Rattle.lw_due.specs.Due.{Entry, due_of}
 use Rattle.lw_reg.specs.declared.slot.Slot.{Slot}
 use Rattle.lw_reg.specs.Reading.{deadline_in}
@@ -15,16 +14,3 @@ pub record HasDue (due : List Entry) (e : List ℕ) (slot : Slot) : Type 0 where
 abbrev pub OptionHasDue : List Entry → List ℕ → Option Slot → Type 0
 OptionHasDue due e None = Unit {0}
 OptionHasDue due e (Some slot) = HasDue due e slot
-
--- an endpoint that has a due moment for its slot has one still
-abbrev pub KeepsDue : (List ℕ → Option Slot) → List Entry → List Entry → Type 0
-KeepsDue slots old new = (e : List ℕ) → OptionHasDue old e (slots e) → OptionHasDue new e (slots e)
-
--- of each endpoint but one the due moment is the same
-pub record OtherDue (endpoint : List ℕ) (old new : List Entry) : Type 0 where
-  pub same : (e : List ℕ) → e ≢ endpoint → due_of e new ≡ due_of e old
-
--- the deadline of the slot, and the last moment of all where there is none
-abbrev pub deadline_at : Option Slot → ℕ
-deadline_at None = 2 ^ 64 - 1
-deadline_at (Some slot) = unwrap_or (deadline_in slot) (2 ^ 64 - 1)

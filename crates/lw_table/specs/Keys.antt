@@ -1,12 +1,8 @@
 -- By what the registration of a slot is found, beside its endpoint, while it is not removed.
-use Rattle.std.specs.Prelude.{◌≡◌, ℕ, Option, Some, None, Contains}
+use Rattle.std.specs.Prelude.{◌≡◌, Option, Some, None, Contains}
 use Rattle.std.specs.declared.cmp.Ordering.{Ordering}
 use Rattle.lw_stamp.specs.declared.stamp.Stamp.{Stamp}
-use Rattle.lw_join.specs.declared.once.Once.{Once}
-use Rattle.lw_join.specs.declared.or_gone.OrGone.{OrGone}
-use Rattle.lw_join.specs.declared.or_gone.OrGone.TheVariants.{Here, Gone}
 use Rattle.lw_reg.specs.declared.slot.Slot.{Slot}
-use Rattle.lw_reg.specs.Body.{Watching}
 use Rattle.lw_reg.specs.Reading.{stamp_of, address_of, IsRemoved, tokens_in, watches_of}
 use Rattle.lw_table.specs.declared.key.Key.{Key}
 use Rattle.lw_table.specs.declared.key.Key.TheVariants.{Id, Address, Token}
@@ -26,11 +22,3 @@ HasKey slot (Token token) = Contains (tokens_in (watches_of slot)) token
 abbrev pub OptionHasKey : Option Slot → Key → Type 0
 OptionHasKey None key = ⊥
 OptionHasKey (Some slot) key = HasKey slot key
-
--- the token of a watch that was not cancelled
-abbrev pub token_here : Stamp → OrGone (Once ℕ) → Option Stamp
-token_here token Gone = None
-token_here token (Here accept) = Some token
-
-abbrev pub token_in : Watching → Option Stamp
-token_in watching = token_here watching.stamp watching.value

@@ -1,15 +1,9 @@
 pub mod Answers
 pub mod LookUps
 pub mod Changes
-pub mod Names
-pub mod Found
-pub mod Since
 pub mod Keys
 pub mod Due
 pub mod Table
 pub mod Rows
-pub mod Filed
-pub mod Turning
-pub mod Moves
 pub mod Lifts
-pub mod Copying
+pub mod inner

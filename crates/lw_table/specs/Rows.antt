@@ -1,5 +1,5 @@
 -- Rows by their endpoints, and what they hold as functions of them.
-use Rattle.std.specs.Prelude.{◌≡◌, ℕ, ◌*◌, ◌-◌, ◌%◌, ◌^◌, cond, List, [], ◌∷◌, ◌++◌, length, drop, map, Option, None, Some, String, string_bytes, bytes_eq, bit_or, Bool, is_some}
+use Rattle.std.specs.Prelude.{◌≡◌, ℕ, ◌*◌, ◌-◌, ◌%◌, ◌^◌, List, [], ◌∷◌, ◌++◌, length, drop, map, None, Some, String, string_bytes, bit_or}
 use Rattle.std.specs.BTreeMap.{IsOrdered, get, get_by_text}
 use Rattle.std.specs.FinMap.{FinMap, from_entries}
 use Rattle.std.specs.Ordering.{nat_cmp}
@@ -21,19 +21,6 @@ appended end (b ∷ bs) = appended (bit_or (end * 2 ^ 8 % 2 ^ 64) b) bs
 -- the last eight bytes as a number
 abbrev pub end_of : List ℕ → ℕ
 end_of e = appended 0 (drop (length e - 8) e)
-
--- the row of the first where it is the endpoint's, and else the other
-abbrev pub first_or : List ℕ → Option First → Option Row → Option Row
-first_or e None other = other
-first_or e (Some first) other = cond (bytes_eq (string_bytes first.endpoint) e) (Some first.row) other
-
--- the row of the endpoint
-abbrev pub row_at : Rows → List ℕ → Option Row
-row_at rows e = first_or e (get nat_cmp rows.firsts (end_of e)) (get_by_text rows.others e)
-
--- whether a row has its end
-abbrev pub has_end : Rows → List ℕ → Bool
-has_end rows e = is_some (get nat_cmp rows.firsts (end_of e))
 
 -- Each first is kept under the end of its endpoint, and came before any other row with that end.
 pub record IsRows (rows : Rows) : Type 0 where

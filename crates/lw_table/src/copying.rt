@@ -2,9 +2,10 @@
 
 ghost use Rattle.std.specs.Prelude.{◌≡◌, ◌↔◌, ℕ, List, IfOk, OnOk, IsTrue};
 ghost use Rattle.lw_recent.specs.Recent.{IsUnder};
-ghost use Rattle.lw_table.specs.Copying.{Copies, CopiesRow, MayBeCopied};
-ghost use Rattle.lw_table.specs.Filed.{HasNumber, IsFiled, OthersSame, number_of};
-ghost use Rattle.lw_table.specs.Rows.{IsRows, row_at};
+ghost use Rattle.lw_table.specs.inner.Copying.{Copies, CopiesRow, MayBeCopied};
+ghost use Rattle.lw_table.specs.inner.Filed.{HasNumber, IsFiled, OthersSame, number_of};
+ghost use Rattle.lw_table.specs.Rows.{IsRows};
+ghost use Rattle.lw_table.specs.inner.Rows.{row_at};
 
 use crate::filed::Filed;
 use crate::moves::add_row;

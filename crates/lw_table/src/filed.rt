@@ -6,8 +6,9 @@ ghost use Rattle.lw_due.specs.Due.{due_of};
 ghost use Rattle.lw_index.specs.Index.{Has};
 ghost use Rattle.lw_recent.specs.Recent.{IsUnder};
 ghost use Rattle.lw_table.specs.declared.key.Key.{Key as Keys};
-ghost use Rattle.lw_table.specs.Due.{HasDue, OtherDue};
-ghost use Rattle.lw_table.specs.Filed.{IsFiled, IsOver, OthersSame, OtherKeys, OtherNames, OtherNumbers, IsBetween, HasAll, slot_of};
+ghost use Rattle.lw_table.specs.Due.{HasDue};
+ghost use Rattle.lw_table.specs.inner.Due.{OtherDue};
+ghost use Rattle.lw_table.specs.inner.Filed.{IsFiled, IsOver, OthersSame, OtherKeys, OtherNames, OtherNumbers, IsBetween, HasAll, slot_of};
 ghost use Rattle.lw_table.specs.Keys.{key_cmp, HasKey, OptionHasKey};
 ghost use Rattle.lw_table.specs.Table.{IsKept};
 
@@ -50,7 +51,7 @@ impl Filed {
     }
 
     /// Files the endpoint under the keys, and its name if it is kept. What was filed before a refusal stays.
-    pub(crate) fn enter(
+    pub(crate) fn add(
         &mut self,
         alloc: Global,
         endpoint: &str,
@@ -66,13 +67,13 @@ impl Filed {
     }
 
     /// Files the endpoint under no more than what its row has, where the keys may be more.
-    pub(crate) fn settle(&mut self, endpoint: &str, row: Option<&Row>, keys: &[Key])
+    pub(crate) fn remove_stale(&mut self, endpoint: &str, row: Option<&Row>, keys: &[Key])
         requires { IsOver self.old endpoint.now (option_copied row) keys.now }
         ensures others { OthersSame self.old self.new endpoint.now }
         ensures settled { IsFiled self.new endpoint.now (option_copied row.entry) }
     {
-        settle_name(&mut self.names, endpoint, row);
-        drop_lacking(&mut self.keys, endpoint, row, keys);
+        remove_stale_name(&mut self.names, endpoint, row);
+        remove_lacking(&mut self.keys, endpoint, row, keys);
     }
 }
 
@@ -108,7 +109,7 @@ fn add_all(index: &mut Index<Key>, endpoint: &str, keys: &[Key]) -> Result<(), N
 }
 
 // Drops those of the keys that the row lacks.
-fn drop_lacking(index: &mut Index<Key>, endpoint: &str, row: Option<&Row>, keys: &[Key])
+fn remove_lacking(index: &mut Index<Key>, endpoint: &str, row: Option<&Row>, keys: &[Key])
     requires has { (k : Keys) → OptionHasKey (slot_of (option_copied row)) k → Has key_cmp index.old k endpoint.now }
     requires from { (k : Keys) → Has key_cmp index.old k endpoint.now → OptionHasKey (slot_of (option_copied row)) k
         ⊎ Contains keys.now k }
@@ -135,7 +136,7 @@ fn file_name(names: &mut Names, alloc: Global, endpoint: &str, kept: bool) -> Re
     names.add(alloc, endpoint)
 }
 
-fn settle_name(names: &mut Names, endpoint: &str, row: Option<&Row>)
+fn remove_stale_name(names: &mut Names, endpoint: &str, row: Option<&Row>)
     requires { IsKept (slot_of (option_copied row)) → Contains names.old endpoint.now }
     ensures others { OtherNames endpoint.now names.old names.new }
     ensures name { Contains names.new endpoint.now ↔ IsKept (slot_of (option_copied row.entry)) }

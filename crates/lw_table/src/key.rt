@@ -1,6 +1,7 @@
 ghost use Rattle.std.specs.Prelude.{◌≡◌, ◌↔◌, IsTrue, Contains};
 ghost use Rattle.lw_reg.specs.Reading.{tokens_in};
-ghost use Rattle.lw_table.specs.Keys.{HasKey, token_in};
+ghost use Rattle.lw_table.specs.Keys.{HasKey};
+ghost use Rattle.lw_table.specs.inner.Keys.{token_in};
 ghost use Rattle.lw_table.specs.declared.key.Key.TheVariants.{Address as TheAddress};
 
 use lw_join::OrGone;

@@ -13,7 +13,7 @@ mod row;
 mod rows;
 mod since;
 mod table;
-mod turning;
+mod key_changes;
 
 pub use key::Key;
 pub use table::Table;

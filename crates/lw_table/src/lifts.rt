@@ -6,12 +6,13 @@ ghost use Rattle.lw_reg.specs.Marks.{Mark, NamesAll, among};
 ghost use Rattle.lw_reg.specs.Reading.{seen_of, shown_in};
 ghost use Rattle.lw_reg.specs.State.{IsStateOf};
 ghost use Rattle.lw_stamp.specs.Moment.{ms_of};
-ghost use Rattle.lw_table.specs.Due.{KeepsDue, deadline_at};
-ghost use Rattle.lw_table.specs.Filed.{HasNumber, OtherNumbers, slot_of, number_of};
+ghost use Rattle.lw_table.specs.inner.Due.{KeepsDue, deadline_at};
+ghost use Rattle.lw_table.specs.inner.Filed.{HasNumber, OtherNumbers, slot_of, number_of};
 ghost use Rattle.lw_table.specs.Lifts.{LiftsFirst};
 ghost use Rattle.lw_table.specs.LookUps.{ExpiredAfter};
-ghost use Rattle.lw_table.specs.Moves.{LiftsRow, LiftsRowAt, WasSeen, IsTaken};
-ghost use Rattle.lw_table.specs.Rows.{IsRows, row_at};
+ghost use Rattle.lw_table.specs.inner.Moves.{LiftsRow, LiftsRowAt, WasSeen, IsTaken};
+ghost use Rattle.lw_table.specs.Rows.{IsRows};
+ghost use Rattle.lw_table.specs.inner.Rows.{row_at};
 
 use crate::filed::move_number;
 use crate::row::Row;

@@ -12,11 +12,11 @@ ghost use Rattle.lw_reg.specs.Showing.{ShownOf};
 ghost use Rattle.lw_reg.specs.State.{IsStateOf};
 ghost use Rattle.lw_stamp.specs.Moment.{ms_of};
 ghost use Rattle.lw_table.specs.Answers.{FirstAfter, after_text};
-ghost use Rattle.lw_table.specs.Found.{view_at, watch_at, holder_at, expired_at, expired_with, if_after, first_of, last_of, later_of, holder_of, with_watch};
+ghost use Rattle.lw_table.specs.inner.Found.{view_at, watch_at, holder_at, expired_at, expired_with, if_after, first_of, last_of, later_of, holder_of, with_watch};
 ghost use Rattle.lw_index.specs.Index.{endpoints_of};
 ghost use Rattle.lw_table.specs.Keys.{key_cmp};
 ghost use Rattle.lw_table.specs.LookUps.{ById, ByAddress, ByToken, WatchOfIdAfter, ExpiredAfter};
-ghost use Rattle.lw_table.specs.Names.{is_after};
+ghost use Rattle.lw_table.specs.inner.Names.{is_after};
 
 use crate::key::Key;
 use crate::names::Names;

@@ -3,16 +3,17 @@
 ghost use Rattle.std.specs.Prelude.{◌≡◌, ◌≢◌, ◌↔◌, ℕ, List, Some, None, IfOk, OnOk, OnErr, IsOk, IsTrue};
 ghost use Rattle.lw_reg.specs.Reading.{IsRemoved};
 ghost use Rattle.lw_reg.specs.Slot.{slot_below};
-ghost use Rattle.lw_table.specs.Filed.{IsFiled, IsOver, OthersSame};
-ghost use Rattle.lw_table.specs.Moves.{moved_row, IsKnown, IsTaken, JoinsRow, JoinsRowAt, PutsRow, SameRows};
-ghost use Rattle.lw_table.specs.Rows.{IsRows, has_end, row_at};
-ghost use Rattle.lw_table.specs.Turning.{IsTurning};
+ghost use Rattle.lw_table.specs.inner.Filed.{IsFiled, IsOver, OthersSame};
+ghost use Rattle.lw_table.specs.inner.Moves.{moved_row, IsKnown, IsTaken, JoinsRow, JoinsRowAt, PutsRow, SameRows};
+ghost use Rattle.lw_table.specs.Rows.{IsRows};
+ghost use Rattle.lw_table.specs.inner.Rows.{has_end, row_at};
+ghost use Rattle.lw_table.specs.inner.KeyChanges.{HasKeyChanges};
 
 use crate::filed::{Filed, add_due, add_number, drop_number, lower_due, move_number};
 use crate::key::Key;
 use crate::row::Row;
 use crate::rows::{Rows, end_of};
-use crate::turning::turning;
+use crate::key_changes::key_changes;
 use lw_join::Join;
 use lw_reg::Slot;
 use lw_stamp::NoMemory;
@@ -20,7 +21,7 @@ use std::alloc::Global;
 
 /// Joins the slot to that of the endpoint, whose row takes the number. Whether it did: a slot that tells nothing new
 /// changes nothing, and takes no memory.
-pub(crate) fn put(
+pub(crate) fn join_first(
     alloc: Global,
     filed: &mut Filed,
     rows: &mut Rows,
@@ -45,14 +46,14 @@ pub(crate) fn put(
             if first.endpoint.as_str() == endpoint {
                 join_row(alloc, filed, &mut first.row, endpoint, slot, number)
             } else {
-                put_other(alloc, filed, rows, endpoint, slot, number)
+                join_behind(alloc, filed, rows, endpoint, slot, number)
             }
         }
     }
 }
 
 // The same for an endpoint that ends as that of an earlier row.
-fn put_other(
+fn join_behind(
     alloc: Global,
     filed: &mut Filed,
     rows: &mut Rows,
@@ -116,9 +117,9 @@ fn move_row(
     ensures moved { OnOk result (row.new ≡ moved_row row.old slot number) }
     ensures unchanged { OnErr result (row.new ≡ row.old) }
 {
-    let keys = turning(alloc, Some(&row.slot), &slot)?;
+    let keys = key_changes(alloc, Some(&row.slot), &slot)?;
     let moved = try_move(alloc, filed, row, endpoint, slot, number, &keys);
-    filed.settle(endpoint, Some(row), &keys);
+    filed.remove_stale(endpoint, Some(row), &keys);
     moved
 }
 
@@ -133,13 +134,13 @@ fn try_move(
     keys: &[Key],
 ) -> Result<(), NoMemory>
     requires filed { IsFiled filed.old endpoint.now (Some row.old) }
-    requires keys { IsTurning (Some row.old.slot) slot keys.now }
+    requires keys { HasKeyChanges (Some row.old.slot) slot keys.now }
     ensures others { OthersSame filed.old filed.new endpoint.now }
     ensures moved { OnOk result ((row.new ≡ moved_row row.old slot number)
         × IsOver filed.new endpoint.now (Some row.new) keys.now) }
     ensures unchanged { OnErr result ((row.new ≡ row.old) × IsOver filed.new endpoint.now (Some row.new) keys.now) }
 {
-    filed.enter(alloc, endpoint, may_revive(row, &slot), keys)?;
+    filed.add(alloc, endpoint, may_revive(row, &slot), keys)?;
     row.slot.join_with(slot)?;
     move_number(&mut filed.numbers, endpoint, row.number, number);
     row.number = number;
@@ -172,11 +173,11 @@ pub(crate) fn add_row(
         × IsFiled filed.new endpoint.now (Some row)) }
     ensures unchanged { OnErr result (SameRows rows.old rows.new × IsFiled filed.new endpoint.now None) }
 {
-    let keys = turning(alloc, None, &row.slot)?;
+    let keys = key_changes(alloc, None, &row.slot)?;
     match try_add(alloc, filed, rows, endpoint, row, taken, &keys) {
         Ok(()) => Ok(()),
         Err(refused) => {
-            filed.settle(endpoint, None, &keys);
+            filed.remove_stale(endpoint, None, &keys);
             Err(refused)
         }
     }
@@ -192,7 +193,7 @@ fn try_add(
     keys: &[Key],
 ) -> Result<(), NoMemory>
     requires filed { IsFiled filed.old endpoint.now None }
-    requires keys { IsTurning None row.slot keys.now }
+    requires keys { HasKeyChanges None row.slot keys.now }
     requires rows { IsRows rows.old }
     requires absent { row_at rows.old endpoint.now ≡ None }
     requires taken { taken ≡ has_end rows.old endpoint.now }
@@ -201,7 +202,7 @@ fn try_add(
         × IsFiled filed.new endpoint.now (Some row)) }
     ensures unchanged { OnErr result (SameRows rows.old rows.new × IsOver filed.new endpoint.now None keys.now) }
 {
-    filed.enter(alloc, endpoint, !row.slot.is_removed(), keys)?;
+    filed.add(alloc, endpoint, !row.slot.is_removed(), keys)?;
     add_due(&mut filed.due, endpoint, &row.slot)?;
     let number = row.number;
     add_number(&mut filed.numbers, endpoint, number)?;

@@ -2,7 +2,7 @@ ghost use Rattle.std.specs.Prelude.{◌≡◌, ◌≢◌, ◌↔◌, ◌⊎◌, 
 ghost use Rattle.std.specs.List.Sorted.{IsStrictlySortedBy};
 ghost use Rattle.lw_stamp.specs.TextOrder.{text_cmp};
 ghost use Rattle.lw_table.specs.Answers.{after_text};
-ghost use Rattle.lw_table.specs.Names.{is_after};
+ghost use Rattle.lw_table.specs.inner.Names.{is_after};
 
 use lw_reg::Endpoint;
 use lw_stamp::NoMemory;

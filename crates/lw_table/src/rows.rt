@@ -2,8 +2,9 @@
 
 ghost use Rattle.std.specs.Prelude.{◌≡◌, ℕ, List, None, IfSome, OnOk, OnErr};
 ghost use Rattle.std.specs.Option.{option_map};
-ghost use Rattle.lw_table.specs.Moves.{PutsRow, SameRows};
-ghost use Rattle.lw_table.specs.Rows.{IsRows, appended, end_of, has_end, row_at};
+ghost use Rattle.lw_table.specs.inner.Moves.{PutsRow, SameRows};
+ghost use Rattle.lw_table.specs.Rows.{IsRows, appended, end_of};
+ghost use Rattle.lw_table.specs.inner.Rows.{has_end, row_at};
 
 use crate::row::Row;
 use lw_stamp::NoMemory;

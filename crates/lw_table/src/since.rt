@@ -5,7 +5,7 @@ ghost use Rattle.std.specs.List.Sorted.{IsStrictlySortedBy};
 ghost use Rattle.lw_recent.specs.Recent.{AreSince};
 ghost use Rattle.lw_stamp.specs.TextOrder.{text_cmp};
 ghost use Rattle.lw_table.specs.Changes.{IsSinceIn};
-ghost use Rattle.lw_table.specs.Since.{slots_at};
+ghost use Rattle.lw_table.specs.inner.Since.{slots_at};
 
 use crate::table::Table;
 use lw_recent::Recent;

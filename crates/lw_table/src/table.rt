@@ -11,7 +11,7 @@ ghost use Rattle.lw_table.specs.Table.{empty_table};
 
 use crate::filed::Filed;
 use crate::key::Key;
-use crate::moves::put;
+use crate::moves::join_first;
 use crate::rows::Rows;
 use lw_index::Index;
 use lw_reg::{Endpoint, Slot};
@@ -65,7 +65,7 @@ impl Table {
         ensures unchanged { OnErr result (self.new ≡ self.old) }
     {
         let change = self.change.saturating_add(1);
-        let moved = put(
+        let moved = join_first(
             self.alloc,
             &mut self.filed,
             &mut self.rows,

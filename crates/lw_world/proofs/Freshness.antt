@@ -24,13 +24,15 @@ use Rattle.lw_request.specs.Report.{ReportContent}
 use Rattle.lw_table.specs.Answers.{IsFirstAnswer}
 use Rattle.lw_table.specs.LookUps.{IsExpiredAfter}
 use Rattle.lw_table.proofs.LookUpLemmas.{read_tells, read_names, marks_tell}
-use Rattle.lw_node.specs.Effects.{Place, Effect, Request, Refused, IsNext, Issues, WritesGiven, IsNamed, Changes, NamedChanges, IsWatched, EndsWatch, ReportMeans, Does, MalformedMeans, DatagramMeans, CommandMeans, ObserveMeans, CancelMeans, Expires, SweepsFirst, SweepMeans, observes, ends}
+use Rattle.lw_node.specs.Effects.{Issuer, Effect, Request, Refused, IsNext, Issues, WritesGiven, IsNamed, Changes, NamedChanges, IsWatched, EndsWatch, ReportMeans, Does, MalformedMeans, DatagramMeans, CommandMeans, ObserveMeans, CancelMeans, Expires, SweepsFirst, SweepMeans, observes, ends}
 use Rattle.lw_node.specs.Laws.{IsRegister}
-use Rattle.lw_node.specs.Within.{TokenWithin, FitsClock, IsNextOf}
+use Rattle.lw_node.specs.Within.{TokenWithin, FitsClock}
+use Rattle.lw_node.specs.inner.Within.{IsNextOf}
 use Rattle.lw_node.proofs.NextOperation.{datagram_next, observe_next, cancel_next, sweep_next}
 use Rattle.lw_node.proofs.SlotStamps.{empty_fits}
 use Rattle.lw_node.proofs.Within.{fits_more, fits_join, fits_op}
-use Rattle.lw_world.specs.Known.{Knowledge, known_state, place_of}
+use Rattle.lw_world.specs.Known.{Knowledge, known_state}
+use Rattle.lw_world.specs.inner.Known.{issuer_of}
 use Rattle.lw_world.specs.Laws.{IsWithin}
 use Rattle.lw_world.proofs.Deciding.{Agree, told_agree, other_way, id_along, token_along, first_late_along}
 use Rattle.lw_world.proofs.KnownStates.{known_more}
@@ -67,7 +69,7 @@ fits_known clock (o ∷ os) each =
     (fits_join clock (state_of (marks_of o)) (known_state os) (fits_more (was.before + 1) clock (state_of (marks_of o)) le (fits_op was.before o was.next)) (fits_known clock os (λ p there. each p (more_there o os p there))))
 
 -- ---- sets that agree mean the same
-module _ (M N : Marks) (place : Place) (a : Agree M N place.now) where
+module _ (M N : Marks) (place : Issuer) (a : Agree M N place.now) where
   named_along : (id : Option Stamp) (found : Option Registration) → IsNamed M place.now id found → IsNamed N place.now id found
   named_along None found h = h
   named_along (Some id) found h = id_along M N place.now a id found h
@@ -78,7 +80,7 @@ module _ (M N : Marks) (place : Place) (a : Agree M N place.now) where
   watched_along : (token : List ℕ) (x : Registration × Watch) → IsWatched M place.now token x → IsWatched N place.now token x
   watched_along token x h = (h.0, h.1, token_along M N place.now a h.0 (Some x) h.2)
 
-module _ (M N : Marks) (place : Place) (a : Agree M N place.now) where
+module _ (M N : Marks) (place : Issuer) (a : Agree M N place.now) where
   report_along : (report : ReportContent) (effect : Effect) → ReportMeans place M report effect → ReportMeans place N report effect
   report_along report effect (inl h) = inl (λ x watched. h.0 x (watched_along N M place (other_way M N place.now a) report.token x watched), h.1)
   report_along report effect (inr (x, watched, h)) = inr (x, watched_along M N place a report.token x watched, h)
@@ -102,7 +104,7 @@ module _ (M N : Marks) (place : Place) (a : Agree M N place.now) where
 expires_along : (M N : Marks) (now : ℕ) → Agree M N now → (r : Registration) → IsExpired M now r → (op : Op) → Expires M r op → Expires N r op
 expires_along M N now a r expired op e = record { about = e.about; upto = e.upto; seen = ((a.sees e.upto r).0 (expired, e.seen)).1; what = e.what }
 
-pub sweep_along : (M N : Marks) (place : Place) → Agree M N place.now → (outcome : Result (Option Op) Refused) → SweepMeans place M outcome → SweepMeans place N outcome
+pub sweep_along : (M N : Marks) (place : Issuer) → Agree M N place.now → (outcome : Result (Option Op) Refused) → SweepMeans place M outcome → SweepMeans place N outcome
 sweep_along M N place a outcome h = (h.0, first_late_along M N place.now a None h.0 h.1, go h.0 h.1 h.2)
   where
     go : (found : Option Registration) → IsFirstAnswer (IsExpiredAfter M place.now None) found → SweepsFirst place M found outcome → SweepsFirst place N found outcome
@@ -111,11 +113,11 @@ sweep_along M N place a outcome h = (h.0, first_late_along M N place.now a None 
     go (Some r) first (inr (op, next, expires, is)) = inr (op, next, expires_along M N place.now a r first.fits.1 op expires, is)
 
 -- ---- the stamp is the node's own, and a Register is about the registration with it
-record IsOwn (place : Place) (op : Op) : Type 0 where
+record IsOwn (place : Issuer) (op : Op) : Type 0 where
   next : IsNext place op.stamp
   own : IsRegister op.what → op.reg ≡ op.stamp
 
-abbrev OwnIn : Place → Effect → Type 0
+abbrev OwnIn : Issuer → Effect → Type 0
 OwnIn place effect = IfSome effect.operation (IsOwn place)
 
 given_other : (now : ℕ) (source : Addr) (given : GivenSettings) (what : What) → WritesGiven now source given what → IsRegister what → ⊥
@@ -129,7 +131,7 @@ issued_by a b o p e = ap of (sym e)
     of (Ok x) = x.1
     of (Err refused) = o
 
-module _ (place : Place) where
+module _ (place : Issuer) where
   issues_own : (request : MessageContent) (Do : Op → Type 0) (reply : Op → MessageContent) (effect : Effect) → ((op : Op) → Do op → IsRegister op.what → op.reg ≡ op.stamp) → Issues place request Do reply effect → OwnIn place effect
   issues_own request Do reply effect own (inl x) = subst (OwnIn place) (sym x.1) tt
   issues_own request Do reply effect own (inr x) = subst (OwnIn place) (sym x.3) (record { next = x.1; own = own x.0 x.2 })
@@ -200,33 +202,33 @@ module _ (k : Knowledge) (now : ℕ) (each : (o : Op) → Contains k.operations 
       told_agree (left_by k.operations) (shown_in (known_state k.operations)) (all_names k.operations) (read_names (known_state k.operations)) (known_state k.operations)
       (marks_tell (all_marks k.operations) (all_names k.operations) (known_state k.operations) (state_least (all_marks k.operations))) (read_tells (known_state k.operations)) now
 
-  fresh_of : (o : Op) → IsNextOf k.clock o → IsOwn (place_of k now) o → IsFresh k o
+  fresh_of : (o : Op) → IsNextOf k.clock o → IsOwn (issuer_of k now) o → IsFresh k o
   fresh_of o next own = record { next = next; node = own.next.node; own = own.own }
 
-  pub taken_fresh : (source : Addr) (bytes : List ℕ) (effect : Effect) → DatagramMeans (place_of k now) (left_by k.operations) source bytes effect → IfSome effect.operation (IsFresh k)
+  pub taken_fresh : (source : Addr) (bytes : List ℕ) (effect : Effect) → DatagramMeans (issuer_of k now) (left_by k.operations) source bytes effect → IfSome effect.operation (IsFresh k)
   taken_fresh source bytes effect means =
       go effect.operation
-      (datagram_next (place_of k now) (known_state k.operations) fits source bytes effect (datagram_along (left_by k.operations) (shown_in (known_state k.operations)) (place_of k now) agree source bytes effect means))
-      (datagram_own (place_of k now) (left_by k.operations) source bytes effect means)
+      (datagram_next (issuer_of k now) (known_state k.operations) fits source bytes effect (datagram_along (left_by k.operations) (shown_in (known_state k.operations)) (issuer_of k now) agree source bytes effect means))
+      (datagram_own (issuer_of k now) (left_by k.operations) source bytes effect means)
     where
-      go : (o : Option Op) → IfSome o (IsNextOf k.clock) → IfSome o (IsOwn (place_of k now)) → IfSome o (IsFresh k)
+      go : (o : Option Op) → IfSome o (IsNextOf k.clock) → IfSome o (IsOwn (issuer_of k now)) → IfSome o (IsFresh k)
       go None next own = tt
       go (Some o) next own = fresh_of o next own
 
-  pub observe_fresh : (id : Stamp) (path : Path) (accept : Option ℕ) (mid : ℕ) (request : Request) (operation : Op) → ObserveMeans (place_of k now) (left_by k.operations) id path accept mid (Ok (request, operation)) → IsFresh k operation
+  pub observe_fresh : (id : Stamp) (path : Path) (accept : Option ℕ) (mid : ℕ) (request : Request) (operation : Op) → ObserveMeans (issuer_of k now) (left_by k.operations) id path accept mid (Ok (request, operation)) → IsFresh k operation
   observe_fresh id path accept mid request operation h =
       fresh_of operation
-      (observe_next (place_of k now) (known_state k.operations) fits id path accept mid request operation (h.0, id_along (left_by k.operations) (shown_in (known_state k.operations)) now agree id h.0 h.1, h.2))
-      (command_own (place_of k now) h.0 _ _ (observes mid path accept) request operation (λ r op what register. subst IsRegister what register) h.2)
+      (observe_next (issuer_of k now) (known_state k.operations) fits id path accept mid request operation (h.0, id_along (left_by k.operations) (shown_in (known_state k.operations)) now agree id h.0 h.1, h.2))
+      (command_own (issuer_of k now) h.0 _ _ (observes mid path accept) request operation (λ r op what register. subst IsRegister what register) h.2)
 
-  pub cancel_fresh : (token : Stamp) (mid : ℕ) (request : Request) (operation : Op) → CancelMeans (place_of k now) (left_by k.operations) token mid (Ok (request, operation)) → IsFresh k operation
+  pub cancel_fresh : (token : Stamp) (mid : ℕ) (request : Request) (operation : Op) → CancelMeans (issuer_of k now) (left_by k.operations) token mid (Ok (request, operation)) → IsFresh k operation
   cancel_fresh token mid request operation h =
       fresh_of operation
-      (cancel_next (place_of k now) (known_state k.operations) fits token mid request operation (h.0, token_along (left_by k.operations) (shown_in (known_state k.operations)) now agree token h.0 h.1, h.2))
-      (command_own (place_of k now) h.0 _ _ (ends mid) request operation (λ x op what register. subst IsRegister what register) h.2)
+      (cancel_next (issuer_of k now) (known_state k.operations) fits token mid request operation (h.0, token_along (left_by k.operations) (shown_in (known_state k.operations)) now agree token h.0 h.1, h.2))
+      (command_own (issuer_of k now) h.0 _ _ (ends mid) request operation (λ x op what register. subst IsRegister what register) h.2)
 
-  pub sweep_fresh : (operation : Op) → SweepMeans (place_of k now) (left_by k.operations) (Ok (Some operation)) → IsFresh k operation
+  pub sweep_fresh : (operation : Op) → SweepMeans (issuer_of k now) (left_by k.operations) (Ok (Some operation)) → IsFresh k operation
   sweep_fresh operation h =
       fresh_of operation
-      (sweep_next (place_of k now) (known_state k.operations) fits operation (sweep_along (left_by k.operations) (shown_in (known_state k.operations)) (place_of k now) agree (Ok (Some operation)) h))
-      (sweep_own (place_of k now) (left_by k.operations) operation h)
+      (sweep_next (issuer_of k now) (known_state k.operations) fits operation (sweep_along (left_by k.operations) (shown_in (known_state k.operations)) (issuer_of k now) agree (Ok (Some operation)) h))
+      (sweep_own (issuer_of k now) (left_by k.operations) operation h)

@@ -24,7 +24,8 @@ use Rattle.lw_world.specs.declared.event.Event.{Event}
 use Rattle.lw_world.specs.declared.outcome.Outcome.{Outcome}
 use Rattle.lw_world.specs.declared.outcome.Outcome.TheVariants as outcomes
 use Rattle.lw_world.specs.declared.outcome.Sending.{Sending}
-use Rattle.lw_world.specs.Known.{Knowledge, Message, knows_nothing, place_of, IssuesOr, about, names_of}
+use Rattle.lw_world.specs.Known.{Knowledge, Message, knows_nothing, IssuesOr, about, names_of}
+use Rattle.lw_world.specs.inner.Known.{issuer_of}
 use Rattle.lw_world.specs.Laws.{IsReached, ClocksLead, StampsDiffer, KnownWasIssued}
 use Rattle.lw_world.specs.Run.{History, numbered_from, begun, noted, Left, idle, Issuing, Sends, Delivers, Delivered, Acts, at_number, after, Happens, Steps, Runs}
 use Rattle.lw_world.proofs.Freshness.{WasNext, was_before, was_within, IsFresh, taken_fresh, observe_fresh, cancel_fresh, sweep_fresh}
@@ -188,11 +189,11 @@ module _ (h : History) (holds : Invariant h) (place : ℕ) (k : Knowledge) (at :
       moves_issuing acts.operation left (taken_fresh k (ms_of now) each source bytes _ acts.meant) acts.left
   moves (actions.Take now source bytes) (outcomes.Taken (Err refused)) left acts = moves_issuing None left tt acts.1
   moves (actions.Observe now id path accept mid) (outcomes.Observed outcome) left acts =
-      moves_commanded (ObserveMeans (place_of k (ms_of now)) (left_by k.operations) id path accept mid) (observe_fresh k (ms_of now) each id path accept mid) outcome left acts
+      moves_commanded (ObserveMeans (issuer_of k (ms_of now)) (left_by k.operations) id path accept mid) (observe_fresh k (ms_of now) each id path accept mid) outcome left acts
   moves (actions.Cancel now token mid) (outcomes.Cancelled outcome) left acts =
-      moves_commanded (CancelMeans (place_of k (ms_of now)) (left_by k.operations) token mid) (cancel_fresh k (ms_of now) each token mid) outcome left acts
+      moves_commanded (CancelMeans (issuer_of k (ms_of now)) (left_by k.operations) token mid) (cancel_fresh k (ms_of now) each token mid) outcome left acts
   moves (actions.Sweep now) (outcomes.Swept outcome) left acts =
-      moves_swept (SweepMeans (place_of k (ms_of now)) (left_by k.operations)) (sweep_fresh k (ms_of now) each) outcome left acts
+      moves_swept (SweepMeans (issuer_of k (ms_of now)) (left_by k.operations)) (sweep_fresh k (ms_of now) each) outcome left acts
   moves (actions.Ask now question) (outcomes.Answered outcome) left acts = moves_issuing None left tt acts.1
   moves (actions.Send since) (outcomes.Sent (Ok sending)) left acts = moves_sent since sending left acts
   moves (actions.Send since) (outcomes.Sent (Err refused)) left acts = moves_idle left acts

@@ -25,10 +25,11 @@ use Rattle.lw_call.specs.Contents.{TakenContent, OutgoingContent}
 use Rattle.lw_node.specs.Calls.{TakesSo, Takes, Sent, Swept}
 use Rattle.lw_node.specs.Effects.{Request, Refused, DatagramMeans}
 use Rattle.lw_node.specs.Exchange.{state_in, Merged, Merges}
-use Rattle.lw_node.specs.Node.{NodeContent, Issued, IsAfter}
-use Rattle.lw_world.specs.Known.{Knowledge, Message, known_state, place_of, node_of, IssuesOr, Gains, is_among, about, names_of}
+use Rattle.lw_node.specs.Node.{NodeContent, Issued, Leaves}
+use Rattle.lw_world.specs.Known.{Knowledge, Message, known_state, node_of, IssuesOr, Gains, is_among, about, names_of}
+use Rattle.lw_world.specs.inner.Known.{issuer_of}
 use Rattle.lw_world.specs.Run.{Left, idle, Issuing, Delivered}
-use Rattle.lw_world.specs.Sound.{IsSound}
+use Rattle.lw_world.specs.inner.Sound.{IsSound}
 use Rattle.lw_world.specs.World.{bytes_of}
 use Rattle.lw_world.proofs.KnownStates.{known_more, known_append, known_about, slots_tell}
 
@@ -60,7 +61,7 @@ learn k operation node h = record {
     state : node.table.state ≡ known_state (operation ∷ k.operations)
     state = h.state ∙ commutes (known_state k.operations) (state_of (marks_of operation)) ∙ sym (known_more operation k.operations)
 
-pub learn_or : (k : Knowledge) (operation : Option Op) (node : NodeContent) → IsAfter (node_of k) operation node → Learnt k operation node
+pub learn_or : (k : Knowledge) (operation : Option Op) (node : NodeContent) → Leaves (node_of k) operation node → Learnt k operation node
 learn_or k None node h = record { knows = k; issues = refl; node_is = h }
 learn_or k (Some operation) node h = learn k operation node h
 
@@ -80,7 +81,7 @@ record Leaving (messages : List Message) (k : Knowledge) (operation : Option Op)
   issuing : Issuing messages k operation left
   so : LeftSo messages node left
 
-leaving : (messages : List Message) (k : Knowledge) (operation : Option Op) (node : NodeContent) → IsAfter (node_of k) operation node → Leaving messages k operation node
+leaving : (messages : List Message) (k : Knowledge) (operation : Option Op) (node : NodeContent) → Leaves (node_of k) operation node → Leaving messages k operation node
 leaving messages k operation node h =
     let after : Learnt k operation node = learn_or k operation node h in record {
       left = record { operation = operation; knows = after.knows; messages = messages };
@@ -89,7 +90,7 @@ leaving messages k operation node h =
     }
 
 pub taken_so : (messages : List Message) (k : Knowledge) (now : ℕ) (source : Addr) (bytes : List ℕ) (taken : TakenContent) (node : NodeContent) → Takes (node_of k) (left_by k.operations) now source bytes taken node
-    → (left : Left) × TakesSo (DatagramMeans (place_of k now) (left_by k.operations) source bytes) (λ operation. Issuing messages k operation left) taken × LeftSo messages node left
+    → (left : Left) × TakesSo (DatagramMeans (issuer_of k now) (left_by k.operations) source bytes) (λ operation. Issuing messages k operation left) taken × LeftSo messages node left
 taken_so messages k now source bytes taken node t =
     let l = leaving messages k t.operation node t.left in
     (l.left, record { reply = t.reply; operation = t.operation; meant = t.meant; replied = t.replied; left = l.issuing }, l.so)
@@ -98,7 +99,7 @@ taken_so messages k now source bytes taken node t =
 pub idle_so : {A : Type 0} (messages : List Message) (k : Knowledge) (node : NodeContent) → A → node ≡ node_of k → (left : Left) × (A × Issuing messages k None left) × LeftSo messages node left
 idle_so messages k node a same = (idle messages k, (a, issues_none messages k), record { node_is = same; messages_are = refl })
 
-pub commanded_so : (Meant : Result (Request × Op) Refused → Type 0) (messages : List Message) (k : Knowledge) (outcome : Result OutgoingContent ObserveFault) (node : NodeContent) → Sent Meant (λ operation. IsAfter (node_of k) operation node) outcome
+pub commanded_so : (Meant : Result (Request × Op) Refused → Type 0) (messages : List Message) (k : Knowledge) (outcome : Result OutgoingContent ObserveFault) (node : NodeContent) → Sent Meant (λ operation. Leaves (node_of k) operation node) outcome
     → (left : Left) × Sent Meant (λ operation. Issuing messages k operation left) outcome × LeftSo messages node left
 commanded_so Meant messages k (Ok outgoing) node t =
     let l = leaving messages k (Some t.operation) node t.left in
@@ -107,7 +108,7 @@ commanded_so Meant messages k (Err faults.NotFound) node t = idle_so messages k 
 commanded_so Meant messages k (Err faults.ClockEnd) node t = idle_so messages k node t.0 t.1
 commanded_so Meant messages k (Err faults.NoMemory) node t = idle_so messages k node t.0 t.1
 
-pub swept_so : (Meant : Result (Option Op) Refused → Type 0) (messages : List Message) (k : Knowledge) (outcome : Result (Option Stamp) NoStamp) (node : NodeContent) → Swept Meant (λ operation. IsAfter (node_of k) operation node) outcome
+pub swept_so : (Meant : Result (Option Op) Refused → Type 0) (messages : List Message) (k : Knowledge) (outcome : Result (Option Stamp) NoStamp) (node : NodeContent) → Swept Meant (λ operation. Leaves (node_of k) operation node) outcome
     → (left : Left) × Swept Meant (λ operation. Issuing messages k operation left) outcome × LeftSo messages node left
 swept_so Meant messages k (Ok (Some id)) node t =
     let l = leaving messages k (Some t.0) node t.3 in

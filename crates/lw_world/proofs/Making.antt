@@ -33,9 +33,10 @@ use Rattle.lw_world.specs.declared.event.Event.{Event}
 use Rattle.lw_world.specs.declared.outcome.Outcome.{Outcome}
 use Rattle.lw_world.specs.declared.outcome.Outcome.TheVariants as outcomes
 use Rattle.lw_world.specs.declared.outcome.Sending.{Sending}
-use Rattle.lw_world.specs.Known.{Knowledge, Message, place_of, node_of, about, names_of}
+use Rattle.lw_world.specs.Known.{Knowledge, Message, node_of, about, names_of}
+use Rattle.lw_world.specs.inner.Known.{issuer_of}
 use Rattle.lw_world.specs.Run.{History, Left, idle, Acts, Happens, Steps, Runs, at_number, after, begun, numbered_from}
-use Rattle.lw_world.specs.Sound.{IsSound, AreSound, Keeps, Makes}
+use Rattle.lw_world.specs.inner.Sound.{IsSound, AreSound, Keeps, Makes}
 use Rattle.lw_world.specs.World.{WorldContent, world_of, bytes_of}
 use Rattle.lw_world.proofs.Learning.{LeftSo, issues_none, taken_so, idle_so, commanded_so, swept_so, delivered_so}
 
@@ -216,7 +217,7 @@ pub observes_act : (messages : List Message) (k : Knowledge) (now : Moment) (id 
     → ActsSo messages k action (outcomes.Observed r) new
 observes_act messages k now id path accept mid action is r old new from observes =
     let known = observes (all_marks k.operations) (subst (λ (n : NodeContent). Knows n (all_marks k.operations)) (sym from) (known_marks k)) in
-    let so = commanded_so (ObserveMeans (place_of k (ms_of now)) (left_by k.operations) id path accept mid) messages k r new (subst (λ (n : NodeContent). Observes n (left_by k.operations) (ms_of now) id path accept mid r new) from known) in
+    let so = commanded_so (ObserveMeans (issuer_of k (ms_of now)) (left_by k.operations) id path accept mid) messages k r new (subst (λ (n : NodeContent). Observes n (left_by k.operations) (ms_of now) id path accept mid r new) from known) in
     subst (λ (a : Action). ActsSo messages k a (outcomes.Observed r) new) (sym is) so
 
 pub cancels_act : (messages : List Message) (k : Knowledge) (now : Moment) (token : Stamp) (mid : ℕ) (action : Action) → action ≡ actions.Cancel now token mid
@@ -225,7 +226,7 @@ pub cancels_act : (messages : List Message) (k : Knowledge) (now : Moment) (toke
     → ActsSo messages k action (outcomes.Cancelled r) new
 cancels_act messages k now token mid action is r old new from cancels =
     let known = cancels (all_marks k.operations) (subst (λ (n : NodeContent). Knows n (all_marks k.operations)) (sym from) (known_marks k)) in
-    let so = commanded_so (CancelMeans (place_of k (ms_of now)) (left_by k.operations) token mid) messages k r new (subst (λ (n : NodeContent). Cancels n (left_by k.operations) (ms_of now) token mid r new) from known) in
+    let so = commanded_so (CancelMeans (issuer_of k (ms_of now)) (left_by k.operations) token mid) messages k r new (subst (λ (n : NodeContent). Cancels n (left_by k.operations) (ms_of now) token mid r new) from known) in
     subst (λ (a : Action). ActsSo messages k a (outcomes.Cancelled r) new) (sym is) so
 
 pub sweeps_act : (messages : List Message) (k : Knowledge) (now : Moment) (action : Action) → action ≡ actions.Sweep now
@@ -234,7 +235,7 @@ pub sweeps_act : (messages : List Message) (k : Knowledge) (now : Moment) (actio
     → ActsSo messages k action (outcomes.Swept r) new
 sweeps_act messages k now action is r old new from sweeps =
     let known = sweeps (all_marks k.operations) (subst (λ (n : NodeContent). Knows n (all_marks k.operations)) (sym from) (known_marks k)) in
-    let so = swept_so (SweepMeans (place_of k (ms_of now)) (left_by k.operations)) messages k r new (subst (λ (n : NodeContent). Sweeps n (left_by k.operations) (ms_of now) r new) from known) in
+    let so = swept_so (SweepMeans (issuer_of k (ms_of now)) (left_by k.operations)) messages k r new (subst (λ (n : NodeContent). Sweeps n (left_by k.operations) (ms_of now) r new) from known) in
     subst (λ (a : Action). ActsSo messages k a (outcomes.Swept r) new) (sym is) so
 
 pub asks_act : (messages : List Message) (k : Knowledge) (now : Moment) (question : Question) (action : Action) → action ≡ actions.Ask now question

@@ -20,9 +20,10 @@ use Rattle.lw_world.specs.declared.event.Event.{Event}
 use Rattle.lw_world.specs.declared.outcome.Outcome.{Outcome}
 use Rattle.lw_world.specs.declared.outcome.Outcome.TheVariants as outcomes
 use Rattle.lw_world.specs.declared.outcome.Sending.{Sending}
-use Rattle.lw_world.specs.Known.{Knowledge, Message, knows_nothing, place_of, IssuesOr, about, names_of}
+use Rattle.lw_world.specs.Known.{Knowledge, Message, knows_nothing, IssuesOr, about, names_of}
+use Rattle.lw_world.specs.inner.Known.{issuer_of}
 use Rattle.lw_world.specs.Run.{History, Left, idle, Issuing, Delivers, Delivered, Sends, Acts, Happens, Steps, Runs, at_number, with_node, after, begun, numbered_from}
-use Rattle.lw_world.specs.Sound.{IsSound, AreSound}
+use Rattle.lw_world.specs.inner.Sound.{IsSound, AreSound}
 use Rattle.lw_world.proofs.Lasting.{IsCounted, Learns, Lasts, lasts_itself, lasts_then, learns_lasts, learns_counted, nothing_counted}
 use Rattle.lw_world.proofs.Making.{all_sound}
 
@@ -85,7 +86,7 @@ acts_leaves messages k (actions.Take now source bytes) (outcomes.Taken (Ok taken
 acts_leaves messages k (actions.Take now source bytes) (outcomes.Taken (Err refused)) left h = issuing_leaves messages k None left h.1
 acts_leaves messages k (actions.Observe now id path accept mid) (outcomes.Observed outcome) left h = sent_leaves _ messages k outcome left h
 acts_leaves messages k (actions.Cancel now token mid) (outcomes.Cancelled outcome) left h = sent_leaves _ messages k outcome left h
-acts_leaves messages k (actions.Sweep now) (outcomes.Swept outcome) left h = swept_leaves (SweepMeans (place_of k (ms_of now)) (left_by k.operations)) messages k outcome left h
+acts_leaves messages k (actions.Sweep now) (outcomes.Swept outcome) left h = swept_leaves (SweepMeans (issuer_of k (ms_of now)) (left_by k.operations)) messages k outcome left h
 acts_leaves messages k (actions.Ask now question) (outcomes.Answered outcome) left h = issuing_leaves messages k None left h.1
 acts_leaves messages k (actions.Send since) (outcomes.Sent (Ok sending)) left h = record {
   knows = inl (ap (λ (l : Left). l.knows) h.left_is);

@@ -1,5 +1,4 @@
 -- What a node of a run knows: the operations that it issued, and those that deltas brought (Shapiro et al.,
--- Conflict-free Replicated Data Types, 2011). A program keeps none of it.
 use Rattle.std.specs.Prelude.{◌≡◌, ℕ, ◌+◌, List, [], ◌∷◌, ◌++◌, Option, Some, None, Bool, map, filter, max}
 use Rattle.std.specs.List.{list_any}
 use Rattle.std.specs.Ordering.{eq_by_cmp}
@@ -11,8 +10,8 @@ use Rattle.lw_reg.specs.State.{State, state_of}
 use Rattle.lw_table.specs.Changes.{Count, Recounts}
 use Rattle.lw_table.specs.Table.{none_counted}
 use Rattle.lw_delta.specs.Delta.{DeltaContent}
-use Rattle.lw_node.specs.Effects.{Place}
 use Rattle.lw_node.specs.Node.{NodeContent}
+-- Conflict-free Replicated Data Types, 2011). A program keeps none of it.
 
 -- what a node knows: its number, its clock, the operations that reached it, and how it has counted the changes
 pub record Knowledge : Type 0 where
@@ -28,9 +27,6 @@ knows_nothing number = record { number = number; clock = 0; operations = []; cou
 -- the state of the marks that the operations leave: a law of the run says that it is the least above their atoms
 abbrev pub known_state : List Op → State
 known_state os = state_of (all_marks os)
-
-abbrev pub place_of : Knowledge → ℕ → Place
-place_of k now = record { number = k.number; clock = k.clock; now = now }
 
 -- the node that has learnt just this
 abbrev pub node_of : Knowledge → NodeContent

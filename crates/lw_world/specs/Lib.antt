@@ -3,4 +3,4 @@ pub mod Run
 pub mod World
 pub mod Laws
 pub mod Chains
-pub mod Sound
+pub mod inner

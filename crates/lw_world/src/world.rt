@@ -1,7 +1,7 @@
 ghost use Rattle.std.specs.Prelude.{◌≡◌, suc, ◌<◌, length, slice_get, option_map, IfOk, IfSome, IfNone, None};
 ghost use Rattle.lw_world.specs.declared.event.Action.TheVariants.{Send, Deliver};
 ghost use Rattle.lw_world.specs.Run.{History, Steps, begun, at_number};
-ghost use Rattle.lw_world.specs.Sound.{Keeps, Makes};
+ghost use Rattle.lw_world.specs.inner.Sound.{Keeps, Makes};
 ghost use Rattle.lw_world.specs.World.{world_of};
 
 use crate::event::{Action, Event};

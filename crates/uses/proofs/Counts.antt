@@ -25,10 +25,10 @@ use Rattle.lw_call.specs.declared.observe_fault.ObserveFault.TheVariants as faul
 use Rattle.lw_call.specs.declared.reply.Reply.{Reply}
 use Rattle.lw_call.specs.declared.reply.Reply.TheVariants as replies
 use Rattle.lw_call.specs.Contents.{OutgoingContent}
-use Rattle.lw_node.specs.Calls.{Sent, Swept, place_at}
+use Rattle.lw_node.specs.Calls.{Sent, Swept, issuer_at}
 use Rattle.lw_node.specs.Effects.{Request, Refused, SweepMeans}
 use Rattle.lw_node.specs.Exchange.{Merged, Merges}
-use Rattle.lw_node.specs.Node.{NodeContent, IsAfter}
+use Rattle.lw_node.specs.Node.{NodeContent, Leaves}
 use Rattle.lw_node.specs.Node.Known.{Shown}
 use Rattle.lw_node.specs.Steps.{Steps}
 use Rattle.lw_held.specs.declared.entry.Entry.{Entry}
@@ -101,16 +101,16 @@ merge_counts old new bytes (Err (NoMemory joined)) is all = merges_count old new
 
 -- ---- each call of a node
 module _ (old new : NodeContent) where
-  after : (operation : Option Op) → IsAfter old operation new → IsCounted old → IsCounted new
+  after : (operation : Option Op) → Leaves old operation new → IsCounted old → IsCounted new
   after operation is all = operations_count old new operation is all
 
-  sent_counts : (Meant : Result (Request × Op) Refused → Type 0) (outcome : Result OutgoingContent ObserveFault) → Sent Meant (λ operation. IsAfter old operation new) outcome → IsCounted old → IsCounted new
+  sent_counts : (Meant : Result (Request × Op) Refused → Type 0) (outcome : Result OutgoingContent ObserveFault) → Sent Meant (λ operation. Leaves old operation new) outcome → IsCounted old → IsCounted new
   sent_counts Meant (Ok outgoing) s all = after (Some s.operation) s.left all
   sent_counts Meant (Err faults.NotFound) s all = after None s.1 all
   sent_counts Meant (Err faults.ClockEnd) s all = after None s.1 all
   sent_counts Meant (Err faults.NoMemory) s all = after None s.1 all
 
-  swept_counts : (Meant : Result (Option Op) Refused → Type 0) (outcome : Result (Option Stamp) NoStamp) → Swept Meant (λ operation. IsAfter old operation new) outcome → IsCounted old → IsCounted new
+  swept_counts : (Meant : Result (Option Op) Refused → Type 0) (outcome : Result (Option Stamp) NoStamp) → Swept Meant (λ operation. Leaves old operation new) outcome → IsCounted old → IsCounted new
   swept_counts Meant (Ok (Some id)) s all = after (Some s.0) s.3 all
   swept_counts Meant (Ok None) s all = after None s.1 all
   swept_counts Meant (Err ended) s all = after None s.1 all
@@ -120,7 +120,7 @@ module _ (old new : NodeContent) where
   step_counts M (calls.Take now source bytes) (replies.Take (Err refused)) s all = after None s.1 all
   step_counts M (calls.Observe now id path accept mid) (replies.Observe outcome) s all = sent_counts _ outcome s all
   step_counts M (calls.Cancel now token mid) (replies.Cancel outcome) s all = sent_counts _ outcome s all
-  step_counts M (calls.Sweep now) (replies.Sweep outcome) s all = swept_counts (SweepMeans (place_at old (ms_of now)) M) outcome s all
+  step_counts M (calls.Sweep now) (replies.Sweep outcome) s all = swept_counts (SweepMeans (issuer_at old (ms_of now)) M) outcome s all
   step_counts M (calls.Send since) (replies.Send outcome) s all = after None s.1 all
   step_counts M (calls.Merge bytes) (replies.Merge outcome) s all = merge_counts old new bytes outcome s all
   step_counts M (calls.Ask now question) (replies.Ask outcome) s all = after None s.1 all

@@ -33,10 +33,10 @@ use Rattle.lw_call.specs.declared.answer.Answer.{Answer}
 use Rattle.lw_call.specs.declared.answer.Answer.TheVariants as found
 use Rattle.lw_call.specs.declared.question.Question.TheVariants.{ByEndpoint}
 use Rattle.lw_call.specs.Contents.{TakenContent}
-use Rattle.lw_node.specs.Calls.{IsReply, Takes, place_at}
+use Rattle.lw_node.specs.Calls.{IsReply, Takes, issuer_at}
 use Rattle.lw_node.specs.Effects.{Effect, Does, MessageMeans, DatagramMeans, Registers, IsAtEnd, IsNext, WritesAll, answers, created}
 use Rattle.lw_node.specs.Laws.{AttributesRise, Follows, registered}
-use Rattle.lw_node.specs.Node.{NodeContent, IsAfter, Issued}
+use Rattle.lw_node.specs.Node.{NodeContent, Leaves, Issued}
 use Rattle.lw_node.specs.Within.{FitsClock}
 use Rattle.lw_node.proofs.OneAnswer.{answer_one}
 use Rattle.lw_node.proofs.ReadBack.{registers_read_back}
@@ -97,7 +97,7 @@ shown_one node now endpoint a b h g = ap of (answer_one node (shown_in node.tabl
 
 module _ (old new : NodeContent) (r : Register) (now : ℕ) (source : Addr) (bytes endpoint : List ℕ) (is : IsRegister bytes endpoint r) (left : old.clock ≢ 2 ^ 48 - 1) (fits : FitsClock old.clock old.table.state) where
   -- the operation is read back
-  issued : (reply : Option (List ℕ)) (shown : Option Registration) (op : Op) → IsNext (place_at old now) op.stamp → Registers now source endpoint r.version r.queue r.settings op → Issued old op new
+  issued : (reply : Option (List ℕ)) (shown : Option Registration) (op : Op) → IsNext (issuer_at old now) op.stamp → Registers now source endpoint r.version r.queue r.settings op → Issued old op new
       → IsReply reply (Some (created r.message op)) → ShownOf (shown_in new.table.state) now endpoint shown → IsFound r now source endpoint reply shown
   issued reply shown op next registers after replied looked =
       let w = what_is now source r.version r.queue r.settings op.what registers.writes in
@@ -116,32 +116,32 @@ module _ (old new : NodeContent) (r : Register) (now : ℕ) (source : Addr) (byt
 
   -- the effect is that of the operation
   of_effect : (taken : TakenContent) (shown : Option Registration) (reply : Option MessageContent) (operation : Option Op)
-      → (op : Op) → IsNext (place_at old now) op.stamp → Registers now source endpoint r.version r.queue r.settings op
+      → (op : Op) → IsNext (issuer_at old now) op.stamp → Registers now source endpoint r.version r.queue r.settings op
       → ◌≡◌ {A = Effect} (record { reply = reply; notice = taken.notice; operation = operation }) (record { reply = Some (created r.message op); notice = None; operation = Some op })
-      → IsReply taken.reply reply → IsAfter old operation new → ShownOf (shown_in new.table.state) now endpoint shown → IsFound r now source endpoint taken.reply shown
+      → IsReply taken.reply reply → Leaves old operation new → ShownOf (shown_in new.table.state) now endpoint shown → IsFound r now source endpoint taken.reply shown
   of_effect taken shown reply operation op next registers same replied after looked =
       issued taken.reply shown op next registers
-      (subst (λ (o : Option Op). IsAfter old o new) (ap (λ (e : Effect). e.operation) same) after)
+      (subst (λ (o : Option Op). Leaves old o new) (ap (λ (e : Effect). e.operation) same) after)
       (subst (IsReply taken.reply) (ap (λ (e : Effect). e.reply) same) replied)
       looked
 
   of_does : (taken : TakenContent) (shown : Option Registration) (reply : Option MessageContent) (operation : Option Op)
-      → Does (place_at old now) (shown_in old.table.state) source r.message (asks.Register endpoint r.version r.queue r.settings) (record { reply = reply; notice = taken.notice; operation = operation })
-      → IsReply taken.reply reply → IsAfter old operation new → ShownOf (shown_in new.table.state) now endpoint shown → IsFound r now source endpoint taken.reply shown
+      → Does (issuer_at old now) (shown_in old.table.state) source r.message (asks.Register endpoint r.version r.queue r.settings) (record { reply = reply; notice = taken.notice; operation = operation })
+      → IsReply taken.reply reply → Leaves old operation new → ShownOf (shown_in new.table.state) now endpoint shown → IsFound r now source endpoint taken.reply shown
   of_does taken shown reply operation (inl h) replied after looked = absurd (left h.0)
   of_does taken shown reply operation (inr h) replied after looked = of_effect taken shown reply operation h.0 h.1 h.2 h.3 replied after looked
 
   -- the message that the bytes spell is the Register's, and so is what it means
-  of_message : (m : MessageContent) (asked : Asked) (effect : Effect) → IsSpelling bytes m → Means m asked → Does (place_at old now) (shown_in old.table.state) source m asked effect
-      → Does (place_at old now) (shown_in old.table.state) source r.message (asks.Register endpoint r.version r.queue r.settings) effect
+  of_message : (m : MessageContent) (asked : Asked) (effect : Effect) → IsSpelling bytes m → Means m asked → Does (issuer_at old now) (shown_in old.table.state) source m asked effect
+      → Does (issuer_at old now) (shown_in old.table.state) source r.message (asks.Register endpoint r.version r.queue r.settings) effect
   of_message m asked effect spelled means does =
       let same : m ≡ r.message = one_message bytes m r.message spelled is.spelled in
       let meant : asked ≡ asks.Register endpoint r.version r.queue r.settings = one_meaning r.message asked (asks.Register endpoint r.version r.queue r.settings) (subst (λ (x : MessageContent). Means x asked) same means) is.means in
-      subst (λ (a : Asked). Does (place_at old now) (shown_in old.table.state) source r.message a effect) meant
-      (subst (λ (x : MessageContent). Does (place_at old now) (shown_in old.table.state) source x asked effect) same does)
+      subst (λ (a : Asked). Does (issuer_at old now) (shown_in old.table.state) source r.message a effect) meant
+      (subst (λ (x : MessageContent). Does (issuer_at old now) (shown_in old.table.state) source x asked effect) same does)
 
-  of_datagram : (effect : Effect) → DatagramMeans (place_at old now) (shown_in old.table.state) source bytes effect
-      → Does (place_at old now) (shown_in old.table.state) source r.message (asks.Register endpoint r.version r.queue r.settings) effect
+  of_datagram : (effect : Effect) → DatagramMeans (issuer_at old now) (shown_in old.table.state) source bytes effect
+      → Does (issuer_at old now) (shown_in old.table.state) source r.message (asks.Register endpoint r.version r.queue r.settings) effect
   of_datagram effect (inl h) = of_message h.0 h.2.0 effect h.1 h.2.1 h.2.2
   of_datagram effect (inr h) = absurd (never_both bytes r.message h.0 is.spelled h.1)
 

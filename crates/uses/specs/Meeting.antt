@@ -10,7 +10,7 @@ use Rattle.lw_call.specs.declared.answer.Answer.{Answer}
 use Rattle.lw_call.specs.declared.question.Question.{Question}
 use Rattle.lw_call.specs.declared.question.Question.TheVariants.{Change}
 use Rattle.lw_node.specs.Exchange.{Merged}
-use Rattle.lw_node.specs.Node.{NodeContent, fresh, IsAfter}
+use Rattle.lw_node.specs.Node.{NodeContent, fresh, Leaves}
 use Rattle.lw_node.specs.Steps.{Answers}
 use Rattle.lw_held.specs.declared.entry.Entry.{Entry}
 use Rattle.lw_held.specs.History.{Leads}
@@ -25,7 +25,7 @@ NewIsCounted = (number : ℕ) → IsCounted (fresh number)
 
 -- an operation, or none, keeps it
 abbrev pub OperationsCount : Type 0
-OperationsCount = (old new : NodeContent) (operation : Option Op) → IsAfter old operation new → IsCounted old → IsCounted new
+OperationsCount = (old new : NodeContent) (operation : Option Op) → Leaves old operation new → IsCounted old → IsCounted new
 
 -- and so does a merge
 abbrev pub MergesCount : Type 0

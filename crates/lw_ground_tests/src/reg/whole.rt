@@ -2,7 +2,7 @@
 
 ghost use Rattle.std.specs.Prelude.{Some, IfOk};
 ghost use Rattle.lw_reg.specs.Fields.{told_fields};
-ghost use Rattle.lw_reg.specs.Told.{KeepsAttributes};
+ghost use Rattle.lw_reg.specs.BodyOrGone.{KeepsAttributes};
 
 use crate::hold::{holds, holds_for};
 use lw_join::{Join, Lex, Once, OrGone, Parts};

@@ -3,7 +3,7 @@ use Rattle.std.proofs.Common.{◌≡◌, ◌≢◌, ℕ, zero, suc, ◌+◌, ◌
 use Rattle.std.specs.Fmt.{digit_glyph}
 use Rattle.std.proofs.lemmas.Bool.{and_parts, and_right, leb-true, le-leb, lt-leb, lt-ltb, le-ltb, cases_Bool, cases_lt}
 use Rattle.lw_reg.specs.Addr.{hex_text}
-use Rattle.lw_reg.specs.Addr.Reading.{◌>>=◌, cut_at, hex_value, byte_in, group_in, group_then, four_then}
+use Rattle.lw_reg.specs.inner.Addr.Reading.{◌>>=◌, cut_at, hex_value, byte_in, group_in, group_then, four_then}
 use Rattle.lw_reg.proofs.Addresses.Cuts.{Lacks, bind_some, some_is, guard_some, cut_at-first, cut_at_parts}
 
 -- a digit that is read is printed so

@@ -9,7 +9,7 @@ use Rattle.std.proofs.lemmas.Fmt.{digits_decimal, digits_value-decimal, decimal_
 use Rattle.std.proofs.lemmas.List.{get_or_append_left}
 use Rattle.std.proofs.lemmas.Slice.Eq.{bytes_eq-Decides}
 use Rattle.std.proofs.lemmas.Str.Parse.{IsNumeralModel, numerals_by_value, tells_digits, parse_plain, digit_at}
-use Rattle.lw_reg.specs.Addr.Reading.{◌>>=◌, number_in, IsPlain, octet_then, cut_at}
+use Rattle.lw_reg.specs.inner.Addr.Reading.{◌>>=◌, number_in, IsPlain, octet_then, cut_at}
 use Rattle.lw_reg.proofs.Addresses.Cuts.{Lacks, bind_some, some_is, guard_some, cut_at-first, cut_at_parts}
 
 own : IsNumeralModel (AllDigits 10) (digits_value 10)

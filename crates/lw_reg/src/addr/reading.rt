@@ -1,12 +1,12 @@
 //! Reading an address from left to right.
 
 ghost use Rattle.std.specs.Prelude.{◌≡◌, ◌<◌, ◌^◌, ◌++◌, ◌↔◌, IsTrue};
-ghost use Rattle.lw_reg.specs.Addr.Reading.{Gives, strip_at, cut_at, number_in, IsPlain, octet_then, v4_in, hex_value, byte_in, group_in, group_then, four_then, v6_in, addr_in};
+ghost use Rattle.lw_reg.specs.inner.Addr.Reading.{Gives, strip_at, cut_at, number_in, IsPlain, octet_then, v4_in, hex_value, byte_in, group_in, group_then, four_then, v6_in, addr_in};
 
 use crate::Addr;
 
 /// The address that the whole text prints.
-#[tactic(auto, unfolding(crate::specs::Addr::Reading::addr_in))]
+#[tactic(auto, unfolding(crate::specs::inner::Addr::Reading::addr_in))]
 pub(super) fn read(text: &str) -> Option<Addr>
     ensures { result ≡ addr_in text.now }
 {
@@ -16,7 +16,7 @@ pub(super) fn read(text: &str) -> Option<Addr>
     }
 }
 
-#[tactic(auto, unfolding(crate::specs::Addr::Reading::v4_in))]
+#[tactic(auto, unfolding(crate::specs::inner::Addr::Reading::v4_in))]
 fn v4(text: &str) -> Option<Addr>
     ensures { result ≡ v4_in text.now }
 {
@@ -32,7 +32,7 @@ fn v4(text: &str) -> Option<Addr>
 }
 
 /// Reads what follows the opening bracket.
-#[tactic(auto, unfolding(crate::specs::Addr::Reading::v6_in))]
+#[tactic(auto, unfolding(crate::specs::inner::Addr::Reading::v6_in))]
 fn v6(text: &str) -> Option<Addr>
     ensures { result ≡ v6_in text.now }
 {
@@ -93,7 +93,7 @@ fn port(text: &str) -> Option<u16>
     text.parse().ok()
 }
 
-#[tactic(auto, unfolding(crate::specs::Addr::Reading::octet_then))]
+#[tactic(auto, unfolding(crate::specs::inner::Addr::Reading::octet_then))]
 fn octet_before(text: &str, separator: char) -> Option<(u8, &str)>
     requires { separator < 128 }
     ensures { Gives (λ x. (x.0, x.1.now)) result (octet_then separator text.now) }
@@ -112,14 +112,14 @@ fn hex_digit(c: u8) -> Option<u8>
     }
 }
 
-#[tactic(auto, unfolding(crate::specs::Addr::Reading::byte_in))]
+#[tactic(auto, unfolding(crate::specs::inner::Addr::Reading::byte_in))]
 fn hex_byte(high: u8, low: u8) -> Option<u8>
     ensures { result ≡ byte_in high low }
 {
     Some(16 * hex_digit(high)? + hex_digit(low)?)
 }
 
-#[tactic(auto, unfolding(crate::specs::Addr::Reading::group_in))]
+#[tactic(auto, unfolding(crate::specs::inner::Addr::Reading::group_in))]
 fn group(digits: &[u8]) -> Option<(u8, u8)>
     ensures { result ≡ group_in digits.now }
 {
@@ -129,7 +129,7 @@ fn group(digits: &[u8]) -> Option<(u8, u8)>
     }
 }
 
-#[tactic(auto, unfolding(crate::specs::Addr::Reading::group_then))]
+#[tactic(auto, unfolding(crate::specs::inner::Addr::Reading::group_then))]
 fn group_before(text: &str, separator: char) -> Option<((u8, u8), &str)>
     requires { separator < 128 }
     ensures { Gives (λ x. (x.0, x.1.now)) result (group_then separator text.now) }
@@ -138,7 +138,7 @@ fn group_before(text: &str, separator: char) -> Option<((u8, u8), &str)>
     Some((group(digits.as_bytes())?, rest))
 }
 
-#[tactic(auto, unfolding(crate::specs::Addr::Reading::four_then))]
+#[tactic(auto, unfolding(crate::specs::inner::Addr::Reading::four_then))]
 fn four_groups_before(text: &str, separator: char) -> Option<([u8; 8], &str)>
     requires { separator < 128 }
     ensures { Gives (λ x. (x.0, x.1.now)) result (four_then separator text.now) }

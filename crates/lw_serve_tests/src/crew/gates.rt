@@ -67,7 +67,7 @@ impl Notes {
     /// Whether the job was done in its round, and what was told of it is the pass, counted from 1.
     fn is_of(&self, done: &Done) -> bool {
         match (self.0.get(done.job as usize), done.result) {
-            (Some(note), Outcome::At { pass, number }) => {
+            (Some(note), JobOutcome::At { pass, number }) => {
                 number == done.job / 3
                     && note.load(Ordering::SeqCst) == u64::from(pass).wrapping_add(1)
             }

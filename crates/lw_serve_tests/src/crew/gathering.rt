@@ -12,7 +12,7 @@ fn results(alloc: Global, jobs: &[u64]) -> Result<Vec<Done>, Fail> {
 }
 
 fn done(job: u64, number: u64) -> Done {
-    let result = Outcome::At { pass: 0, number };
+    let result = JobOutcome::At { pass: 0, number };
     Done { job, result }
 }
 

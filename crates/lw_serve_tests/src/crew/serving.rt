@@ -143,9 +143,9 @@ fn first_pass(done: &Result<Vec<Done>, CrewFault>) -> Option<usize> {
     }
 }
 
-fn pass_of(outcome: Outcome) -> Option<usize> {
+fn pass_of(outcome: JobOutcome) -> Option<usize> {
     match outcome {
-        Outcome::At { pass, .. } => Some(pass as usize),
+        JobOutcome::At { pass, .. } => Some(pass as usize),
         _ => None,
     }
 }

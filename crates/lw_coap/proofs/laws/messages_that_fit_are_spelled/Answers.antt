@@ -1,4 +1,4 @@
-use Rattle.lw_coap.specs.Writing.{message_bytes}
+use Rattle.lw_coap.specs.inner.Writing.{message_bytes}
 use Rattle.lw_coap.proofs.Written.{written_spells, spelled_fits}
 use Rattle.lw_coap.proofs.laws.messages_that_fit_are_spelled.Goals as goal
 

@@ -1,7 +1,7 @@
 use Rattle.std.proofs.lemmas.Result.{IfOk-weaker}
 use Rattle.std.proofs.Common.{◌≡◌}
 use Rattle.lw_coap.specs.Grammar.{IsSpelling}
-use Rattle.lw_coap.specs.Writing.{message_bytes}
+use Rattle.lw_coap.specs.inner.Writing.{message_bytes}
 use Rattle.lw_coap.proofs.Written.{written_spells}
 use Rattle.lw_coap.proofs.writing.encode.Goals as goal
 

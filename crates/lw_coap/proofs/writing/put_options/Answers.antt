@@ -2,7 +2,7 @@ use Rattle.std.proofs.Common.{◌≡◌, ◌+◌, ◌≤◌, ◌++◌, ◌∙◌
 use Rattle.std.proofs.lemmas.List.{at_drop_more}
 use Rattle.lw_coap.specs.Message.{OptionContent}
 use Rattle.lw_coap.specs.Fits.{AreRising, options_length}
-use Rattle.lw_coap.specs.Writing.{option_bytes, options_bytes}
+use Rattle.lw_coap.specs.inner.Writing.{option_bytes, options_bytes}
 use Rattle.lw_coap.proofs.writing.put_options.Goals as goal
 
 one_more : (before number : ℕ) (option : OptionContent) (rest more : List OptionContent) (out new whole : List ℕ) → rest ≡ option ∷ more → number ≡ option.number

@@ -1,6 +1,6 @@
 use Rattle.std.proofs.Common.{◌≡◌, ◌≤◌, ◌++◌, drop}
 use Rattle.lw_coap.specs.Fits.{AreRising, options_length}
-use Rattle.lw_coap.specs.Writing.{options_bytes}
+use Rattle.lw_coap.specs.inner.Writing.{options_bytes}
 use Rattle.lw_coap.proofs.writing.put_options.Given as goal
 
 abbrev pub invariant-loop-option : goal.invariant-loop-option

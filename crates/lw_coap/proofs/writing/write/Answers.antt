@@ -1,6 +1,6 @@
 use Rattle.std.proofs.Common.{◌≡◌, ℕ, List, [], ◌++◌, ap, ◌∙◌, arith, append_assoc}
 use Rattle.lw_coap.specs.Message.{OptionContent, MessageContent}
-use Rattle.lw_coap.specs.Writing.{options_bytes, payload_bytes, header_bytes, message_bytes}
+use Rattle.lw_coap.specs.inner.Writing.{options_bytes, payload_bytes, header_bytes, message_bytes}
 use Rattle.lw_coap.proofs.writing.write.Goals as goal
 
 pub unreachable-requires : goal.unreachable-requires

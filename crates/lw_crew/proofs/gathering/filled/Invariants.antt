@@ -1,4 +1,4 @@
-use Rattle.lw_crew.specs.Filling.{AreFilled}
+use Rattle.lw_crew.specs.inner.Filling.{AreFilled}
 use Rattle.lw_crew.proofs.gathering.filled.Given as goal
 
 abbrev pub invariant-loop-done : goal.invariant-loop-done

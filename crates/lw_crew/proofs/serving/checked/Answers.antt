@@ -1,7 +1,8 @@
 use Rattle.std.proofs.Common.{◌≡◌, ◌∙◌, length, rules, subst, sym, true, false}
 use Rattle.lw_crew.specs.declared.job.CrewFault.{CrewFault}
 use Rattle.lw_crew.specs.Gather.{IsFault}
-use Rattle.lw_crew.specs.Refusals.{AreTrueTo, IsFirstUntrue, IsRefused}
+use Rattle.lw_crew.specs.Refusals.{IsRefused}
+use Rattle.lw_crew.specs.inner.Refusals.{AreTrueTo, IsFirstUntrue}
 use Rattle.lw_crew.proofs.Refusing.{earlier, in_err, missing, stranger, whole}
 use Rattle.lw_crew.proofs.serving.checked.Goals.{then-is_missing, else-is_missing}
 use Rattle.lw_crew.proofs.serving.checked.Goals as goal

@@ -1,7 +1,7 @@
 use Rattle.std.proofs.Common.{Option, sym, subst}
 use Rattle.lw_reg.specs.declared.fields.Fields.{Fields}
 use Rattle.lw_reg.specs.Fields.{told_fields}
-use Rattle.lw_reg.specs.Told.{KeepsAttributes}
+use Rattle.lw_reg.specs.BodyOrGone.{KeepsAttributes}
 use Rattle.lw_delta.proofs.Typed.{keeps_attributes}
 use Rattle.lw_delta.proofs.reading.slot.Goals as goal
 

@@ -2,7 +2,7 @@ use Rattle.std.proofs.Common.{ℕ, ◌+◌, subst, ◌++◌, ◌∷◌, sym, ap,
 use Rattle.std.proofs.lemmas.List.{length-append}
 use Rattle.std.proofs.Common.{[]}
 use Rattle.std.specs.Option.{option_copied}
-use Rattle.lw_delta.specs.Lent.{NextAt, lent_slot}
+use Rattle.lw_delta.specs.inner.Lent.{NextAt, lent_slot}
 use Rattle.lw_delta.proofs.Takes.{next_takes}
 use Rattle.lw_delta.proofs.Parts.{walked_more, walked_end, walked_fails, raised}
 use Rattle.lw_delta.proofs.slots.check_slots.Goals as goal

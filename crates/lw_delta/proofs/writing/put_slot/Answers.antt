@@ -4,7 +4,8 @@ use Rattle.lw_reg.specs.Reading.{stamp_of}
 use Rattle.lw_stamp.specs.Stamp.{stamp_bytes}
 use Rattle.lw_delta.specs.Form.{latest}
 use Rattle.lw_delta.specs.Values.{behind_of}
-use Rattle.lw_delta.specs.Writing.{text_bytes, flags_byte, fields_bytes, behind_bytes, slot_head_bytes}
+use Rattle.lw_delta.specs.Writing.{text_bytes, flags_byte, fields_bytes, behind_bytes}
+use Rattle.lw_delta.specs.inner.Writing.{slot_head_bytes}
 use Rattle.lw_delta.proofs.Begins.{begins_through, then_put}
 use Rattle.lw_delta.proofs.writing.put_slot.Goals as goal
 

@@ -1,6 +1,6 @@
 use Rattle.std.proofs.Common.{◌++◌, decimal, subst, ◌∙◌}
 use Rattle.std.specs.Io.KnownBytes.{Appends}
-use Rattle.lw_fleet.specs.Output.{AppendsFront}
+use Rattle.lw_serve.specs.Ending.{AppendsFront}
 use Rattle.lw_fleet.proofs.OneLemmas.{err_then, on_err}
 use Rattle.lw_fleet.proofs.ReplayLemmas.{front_after, front_before}
 use Rattle.lw_fleet.proofs.output.write_number.Goals as goal

@@ -1,4 +1,4 @@
-use Rattle.lw_held.specs.Looks.{Knows}
+use Rattle.lw_held.specs.inner.Looks.{Knows}
 use Rattle.lw_held.proofs.agreeing.first_stray.Given as goal
 
 abbrev pub invariant-loop-part : goal.invariant-loop-part

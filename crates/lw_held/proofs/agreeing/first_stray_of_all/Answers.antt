@@ -1,7 +1,7 @@
 use Rattle.std.proofs.Common.{refl, sym, subst, arith, ◌<◌, ◌+◌, length}
 use Rattle.std.proofs.lemmas.Option.{slice_get_read, slice_get_within}
 use Rattle.lw_held.specs.Agree.{IsFirstBreak}
-use Rattle.lw_held.specs.Looks.{AllFitBelow}
+use Rattle.lw_held.specs.inner.Looks.{AllFitBelow}
 use Rattle.lw_held.proofs.Agreement.{all_more, all_of, numbered_more}
 use Rattle.lw_held.proofs.agreeing.first_stray_of_all.Goals as goal
 

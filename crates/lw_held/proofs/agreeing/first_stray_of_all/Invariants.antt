@@ -2,7 +2,7 @@ use Rattle.std.proofs.Common.{◌≡◌, ℕ, ◌<◌}
 use Rattle.std.specs.Prelude.{Some, slice_get}
 use Rattle.lw_held.specs.Agree.{IsFirstBreak}
 use Rattle.lw_held.specs.Transcript.{Transcript, IsNumbered}
-use Rattle.lw_held.specs.Looks.{AllFitBelow}
+use Rattle.lw_held.specs.inner.Looks.{AllFitBelow}
 use Rattle.lw_held.proofs.agreeing.first_stray_of_all.Given as goal
 
 abbrev pub invariant-loop-pass : goal.invariant-loop-pass

@@ -1,7 +1,7 @@
 use Rattle.std.proofs.Common.{◌≡◌, ◌+◌, false, true, refl, arith}
 use Rattle.std.proofs.lemmas.Option.{slice_get_read, slice_get_within}
 use borrow.Author.Count.{below_more}
-use Rattle.lw_held.specs.Looks.{IsTold}
+use Rattle.lw_held.specs.inner.Looks.{IsTold}
 use Rattle.lw_held.proofs.Agreement.{told_at}
 use Rattle.lw_held.proofs.agreeing.first_untold.Goals as goal
 

@@ -1,5 +1,5 @@
 use Rattle.std.proofs.Common.{ℕ, ◌<◌, ◌+◌}
-use Rattle.lw_held.specs.Looks.{IsTold}
+use Rattle.lw_held.specs.inner.Looks.{IsTold}
 use Rattle.lw_held.proofs.agreeing.first_untold.Given as goal
 
 abbrev pub invariant-loop-index : goal.invariant-loop-index

@@ -1,7 +1,7 @@
 use Rattle.std.proofs.Common.{refl, sym, subst, ◌+◌}
 use Rattle.std.proofs.lemmas.Option.{slice_get_read}
 use Rattle.lw_held.specs.Agree.{IsFirstBreak}
-use Rattle.lw_held.specs.Looks.{AllToldBelow}
+use Rattle.lw_held.specs.inner.Looks.{AllToldBelow}
 use Rattle.lw_held.proofs.Agreement.{told_all, told_first, told_more}
 use Rattle.lw_held.proofs.agreeing.first_untold_of_all.Goals as goal
 

@@ -1,5 +1,5 @@
 use Rattle.lw_held.specs.Agree.{IsFirstBreak}
-use Rattle.lw_held.specs.Looks.{AllToldBelow}
+use Rattle.lw_held.specs.inner.Looks.{AllToldBelow}
 use Rattle.lw_held.proofs.agreeing.first_untold_of_all.Given as goal
 
 abbrev pub invariant-loop-volume : goal.invariant-loop-volume

@@ -2,7 +2,7 @@ use Rattle.std.proofs.Common.{◌≡◌, ◌<◌, Some, false, true, refl, sym, 
 use Rattle.std.specs.Prelude.{slice_get}
 use Rattle.std.proofs.lemmas.Option.{slice_get_read}
 use borrow.Author.Count.{below_more}
-use Rattle.lw_held.specs.Looks.{Has}
+use Rattle.lw_held.specs.inner.Looks.{Has}
 use Rattle.lw_held.specs.Transcript.{Transcript}
 use Rattle.lw_held.proofs.Agreement.{same_some}
 use Rattle.lw_held.proofs.agreeing.is_told.Goals as goal

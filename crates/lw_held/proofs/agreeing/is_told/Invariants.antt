@@ -1,4 +1,4 @@
-use Rattle.lw_held.specs.Looks.{HasBelow}
+use Rattle.lw_held.specs.inner.Looks.{HasBelow}
 use Rattle.lw_held.proofs.agreeing.is_told.Given as goal
 
 abbrev pub invariant-loop-pass : goal.invariant-loop-pass

@@ -1,7 +1,7 @@
 use Rattle.std.proofs.Common.{ℕ, inl, inr, arith}
 use Rattle.std.proofs.lemmas.Option.{slice_get_within}
 use Rattle.std.proofs.lemmas.Bool.{cases_lt}
-use Rattle.lw_held.specs.Looks.{HasPart}
+use Rattle.lw_held.specs.inner.Looks.{HasPart}
 use Rattle.lw_held.proofs.Agreement.{none_wide}
 use Rattle.lw_held.proofs.agreeing.volume_of.Goals as goal
 

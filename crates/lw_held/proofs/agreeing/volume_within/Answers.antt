@@ -3,7 +3,7 @@ use Rattle.std.proofs.lemmas.Option.{slice_get_read}
 use borrow.Author.Count.{below_more}
 use Rattle.lw_held.specs.Agree.{IsEntryAt}
 use Rattle.lw_held.specs.History.{VolumeContent}
-use Rattle.lw_held.specs.Looks.{HasPart}
+use Rattle.lw_held.specs.inner.Looks.{HasPart}
 use Rattle.lw_held.proofs.Agreement.{same_some}
 use Rattle.lw_held.proofs.agreeing.volume_within.Goals as goal
 

@@ -1,5 +1,5 @@
 use Rattle.std.proofs.Common.{ℕ, ◌<◌, ◌≤◌}
-use Rattle.lw_held.specs.Looks.{HasPart}
+use Rattle.lw_held.specs.inner.Looks.{HasPart}
 use Rattle.lw_held.proofs.agreeing.volume_within.Given as goal
 
 -- no volume that was passed has the part

@@ -1,7 +1,7 @@
 use Rattle.std.proofs.Common.{◌≡◌, refl, sym, subst, ◌+◌}
 use Rattle.std.proofs.lemmas.Option.{slice_get_read}
 use Rattle.lw_held.specs.Agree.{IsFirstBreak, IsLaid}
-use Rattle.lw_held.specs.Looks.{TurnIsLaid}
+use Rattle.lw_held.specs.inner.Looks.{TurnIsLaid}
 use Rattle.lw_held.proofs.Pieces.{first_turns, turn_more, turns_all}
 use Rattle.lw_held.proofs.laying.first_unlaid.Goals as goal
 

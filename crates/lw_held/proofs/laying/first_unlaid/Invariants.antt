@@ -1,5 +1,5 @@
 use Rattle.lw_held.specs.Agree.{IsFirstBreak}
-use Rattle.lw_held.specs.Looks.{TurnIsLaid}
+use Rattle.lw_held.specs.inner.Looks.{TurnIsLaid}
 use Rattle.lw_held.proofs.laying.first_unlaid.Given as goal
 
 -- the least of the turns so far that is not laid

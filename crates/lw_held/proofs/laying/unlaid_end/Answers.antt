@@ -1,6 +1,6 @@
 use Rattle.std.proofs.Common.{◌∙◌, sym, subst}
 use Rattle.lw_held.specs.Agree.{IsFirstBreak, IsLaid}
-use Rattle.lw_held.specs.Looks.{IsEndOf}
+use Rattle.lw_held.specs.inner.Looks.{IsEndOf}
 use Rattle.lw_held.proofs.Pieces.{LaidAt, both_ends}
 use Rattle.lw_held.proofs.laying.unlaid_end.Goals as goal
 

@@ -1,7 +1,7 @@
 use Rattle.std.proofs.Common.{◌≡◌, length, sym, ◌∙◌, arith}
 use Rattle.std.specs.declared.cmp.Ordering.TheVariants.{Less, Equal, Greater}
 use Rattle.lw_stamp.specs.Order.{IsExactOrder}
-use Rattle.lw_join.specs.Ends.{ends_cmp}
+use Rattle.lw_join.specs.inner.Ends.{ends_cmp}
 use Rattle.lw_join.proofs.Greatest.{taken_both, popped_left, popped_right, left_empty, right_empty, rises_popped, always_none}
 use Rattle.lw_join.proofs.merge.pop_greatest.Goals as goal
 

@@ -1,5 +1,5 @@
 use Rattle.std.proofs.Common.{List, ℕ, subst, sym}
-use Rattle.lw_link.specs.Taking.{TakesAttrs}
+use Rattle.lw_link.specs.inner.Taking.{TakesAttrs}
 use Rattle.lw_link.proofs.Parts.{attrs_end}
 use Rattle.lw_link.proofs.reading.attrs.Goals as goal
 

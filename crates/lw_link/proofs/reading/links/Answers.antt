@@ -1,8 +1,8 @@
 use Rattle.std.proofs.Common.{◌≡◌, List, ℕ, subst, sym, chars, true}
 use Rattle.lw_link.specs.declared.style.Style.TheVariants.{Any}
 use Rattle.lw_link.specs.declared.state.State.TheVariants.{Comma}
-use Rattle.lw_link.specs.Machine.{read_on}
-use Rattle.lw_link.specs.Taking.{TakesLink}
+use Rattle.lw_link.specs.inner.Machine.{read_on}
+use Rattle.lw_link.specs.inner.Taking.{TakesLink}
 use Rattle.lw_link.proofs.Parts.{first_waits, links_start, link_waits, links_more}
 use Rattle.lw_link.proofs.reading.links.Goals as goal
 

@@ -3,7 +3,7 @@ use Rattle.std.proofs.lemmas.Result.{err_from_is_err_and}
 use Rattle.lw_link.specs.declared.style.Style.TheVariants.{Any}
 use Rattle.lw_link.specs.declared.state.State.TheVariants.{Start}
 use Rattle.lw_link.specs.Link.{LinkContent}
-use Rattle.lw_link.specs.Machine.{read_on}
+use Rattle.lw_link.specs.inner.Machine.{read_on}
 use Rattle.lw_link.specs.Spelling.{Spells}
 use Rattle.lw_link.proofs.Outcomes.{read_is}
 use Rattle.lw_link.proofs.reading.read_checked.Goals as goal

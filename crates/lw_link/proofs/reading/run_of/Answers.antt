@@ -1,6 +1,6 @@
 use Rattle.std.proofs.Common.{◌≡◌, ◌∷◌, string_bytes, ap, arith, length, rules}
 use Rattle.lw_link.specs.declared.style.Style.TheVariants.{Any}
-use Rattle.lw_link.specs.Machine.{next_state}
+use Rattle.lw_link.specs.inner.Machine.{next_state}
 use Rattle.lw_link.proofs.Scanning.{take_seen}
 use Rattle.lw_link.proofs.Walk.{text_more}
 use Rattle.lw_link.proofs.reading.run_of.Goals as goal

@@ -1,7 +1,7 @@
 use Rattle.std.proofs.Common.{◌≡◌, ◌≤◌, length, string_bytes}
 use Rattle.lw_link.specs.declared.style.Style.TheVariants.{Any}
-use Rattle.lw_link.specs.Machine.{read_on}
-use Rattle.lw_link.specs.Taking.{with_text}
+use Rattle.lw_link.specs.inner.Machine.{read_on}
+use Rattle.lw_link.specs.inner.Taking.{with_text}
 use Rattle.lw_link.proofs.reading.run_of.Given as goal
 
 abbrev pub invariant-loop-c : goal.invariant-loop-c

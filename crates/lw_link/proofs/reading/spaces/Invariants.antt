@@ -1,7 +1,7 @@
 use Rattle.std.proofs.Common.{◌≡◌, ◌≤◌, length}
 use Rattle.lw_link.specs.declared.style.Style.TheVariants.{Any}
 use Rattle.lw_link.specs.declared.state.State.TheVariants.{Comma, Semicolon}
-use Rattle.lw_link.specs.Machine.{read_on}
+use Rattle.lw_link.specs.inner.Machine.{read_on}
 use Rattle.lw_link.proofs.reading.spaces.Given as goal
 
 abbrev pub invariant-loop-scanner : goal.invariant-loop-scanner

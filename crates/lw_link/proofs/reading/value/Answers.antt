@@ -1,6 +1,6 @@
 use Rattle.std.proofs.Common.{List, ℕ, subst}
 use Rattle.lw_link.specs.declared.state.State.TheVariants.{Word}
-use Rattle.lw_link.specs.Taking.{TakesText}
+use Rattle.lw_link.specs.inner.Taking.{TakesText}
 use Rattle.lw_link.proofs.Parts.{value_plain}
 use Rattle.lw_link.proofs.reading.value.Goals as goal
 

@@ -1,5 +1,5 @@
 use Rattle.std.proofs.Common.{sym, ◌∙◌, arith}
-use Rattle.lw_link.specs.Runs.{keeps}
+use Rattle.lw_link.specs.inner.Runs.{keeps}
 use Rattle.lw_link.proofs.Passed.{each_more}
 use Rattle.lw_link.proofs.runs.run_in.Goals as goal
 

@@ -1,6 +1,6 @@
 use Rattle.std.proofs.Common.{length, ◌-◌, ◌≤◌, take}
 use Rattle.lw_link.specs.Characters.{Each}
-use Rattle.lw_link.specs.Runs.{keeps}
+use Rattle.lw_link.specs.inner.Runs.{keeps}
 use Rattle.lw_link.proofs.runs.run_in.Given as goal
 
 abbrev pub invariant-loop-count : goal.invariant-loop-count

@@ -1,7 +1,7 @@
 use Rattle.std.proofs.Common.{◌≡◌, ◌<◌, List, ℕ, subst, arith, chars, length, true, ap}
 use Rattle.lw_link.specs.declared.style.Style.TheVariants.{Any}
 use Rattle.lw_link.specs.declared.state.State.TheVariants.{Start}
-use Rattle.lw_link.specs.Machine.{read_on, Leaves}
+use Rattle.lw_link.specs.inner.Machine.{read_on, Leaves}
 use Rattle.lw_link.proofs.Sound.{whole_are}
 use Rattle.lw_link.proofs.Places.{place_is, not_spelled}
 use Rattle.lw_link.proofs.scan.check.Goals as goal

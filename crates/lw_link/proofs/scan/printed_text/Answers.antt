@@ -1,7 +1,7 @@
 use Rattle.std.proofs.Common.{◌≡◌, List, ℕ, ap, subst, chars, length, true, ◌∙◌, arith}
 use Rattle.lw_link.specs.declared.style.Style.TheVariants.{Printed}
 use Rattle.lw_link.specs.declared.state.State.TheVariants.{Start}
-use Rattle.lw_link.specs.Machine.{read_on, Leaves}
+use Rattle.lw_link.specs.inner.Machine.{read_on, Leaves}
 use Rattle.lw_link.proofs.Printings.{printing_text, printing_found, printing_few, printing_stays}
 use Rattle.lw_link.proofs.scan.printed_text.Goals as goal
 

@@ -2,7 +2,7 @@ use Rattle.std.proofs.Common.{◌≡◌, ℕ, ◌+◌, ◌≤◌, List, length, 
 use Rattle.std.specs.List.Sorted.{IsStrictlySortedBy}
 use Rattle.lw_reg.specs.declared.slot.Slot.{Slot}
 use Rattle.lw_delta.specs.Unread.{IsLeft}
-use Rattle.lw_node.specs.Exchange.{JoinedTo}
+use Rattle.lw_node.specs.inner.Exchange.{JoinedTo}
 use Rattle.lw_node.proofs.Joining.{entry_cmp}
 use Rattle.lw_node.proofs.merging.join_slots.Given as goal
 

@@ -1,7 +1,7 @@
 use Rattle.std.proofs.Common.{◌∙◌, subst, sym, refl}
 use Rattle.lw_coap.specs.Fits.{Fits}
 use Rattle.lw_coap.specs.declared.message.Kind.TheVariants.{Con}
-use Rattle.lw_node.specs.Observe.{observe_number}
+use Rattle.lw_node.specs.inner.Observe.{observe_number}
 use Rattle.lw_node.proofs.Requests.{get_fits, observe_small}
 use Rattle.lw_node.proofs.request.get.Goals as goal
 

@@ -3,7 +3,8 @@ use Rattle.std.specs.List.Sorted.{IsPartitionPoint}
 use Rattle.std.proofs.lemmas.Bool.{cases_lt}
 use Rattle.std.proofs.lemmas.List.Sorted.{IsPartitionPoint-from_clause, IsPartitionedBy-ltb}
 use Rattle.lw_recent.specs.declared.entry.Entry.{Entry}
-use Rattle.lw_recent.specs.Entries.{number_of, shown_at}
+use Rattle.lw_recent.specs.Entries.{number_of}
+use Rattle.lw_recent.specs.inner.Entries.{shown_at}
 use Rattle.lw_recent.proofs.EntryLemmas.{at_pairs, shown_number, shown_read}
 use Rattle.lw_recent.proofs.entry.find.Goals as goal
 

@@ -1,6 +1,7 @@
 use Rattle.std.proofs.Common.{◌≢◌, ℕ, Some, ◌<◌, ◌≤◌, length, get_or}
 use Rattle.lw_recent.specs.declared.entry.Entry.{Entry}
-use Rattle.lw_recent.specs.Entries.{number_of, shown_at}
+use Rattle.lw_recent.specs.Entries.{number_of}
+use Rattle.lw_recent.specs.inner.Entries.{shown_at}
 use Rattle.lw_recent.proofs.entry.find.Given as goal
 
 abbrev pub invariant-loop-place : goal.invariant-loop-place

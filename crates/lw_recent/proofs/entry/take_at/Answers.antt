@@ -1,6 +1,6 @@
 use Rattle.std.proofs.Common.{◌≡◌, ℕ, zero, suc, List, [], ◌∷◌, set, get_or, ap, refl, ◌∙◌}
 use Rattle.lw_recent.specs.declared.entry.Entry.{Entry}
-use Rattle.lw_recent.specs.Entries.{emptied, with_hole}
+use Rattle.lw_recent.specs.inner.Entries.{emptied, with_hole}
 use Rattle.lw_recent.proofs.entry.take_at.Goals as goal
 
 set_hole : (xs : List Entry) (i : ℕ) (x : Entry) → x ≡ get_or xs i x → set xs i (emptied x) ≡ with_hole xs i

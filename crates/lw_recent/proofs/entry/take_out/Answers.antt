@@ -1,5 +1,6 @@
 use Rattle.std.proofs.Common.{◌≡◌, ◌<◌, inl, inr, Some, option_map, string_bytes, length, ap, sym, subst, ◌∙◌, arith}
-use Rattle.lw_recent.specs.Entries.{pairs_in, shown_at}
+use Rattle.lw_recent.specs.Entries.{pairs_in}
+use Rattle.lw_recent.specs.inner.Entries.{shown_at}
 use Rattle.lw_recent.specs.Recent.{IsUnder}
 use Rattle.lw_recent.proofs.EntryLemmas.{hole_less, hole_rises, hole_old, hole_new, hole_there, pair_of, text_is, none_not, none_then}
 use Rattle.lw_recent.proofs.entry.take_out.Goals as goal

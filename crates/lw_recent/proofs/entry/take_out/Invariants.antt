@@ -1,6 +1,7 @@
 use Rattle.std.proofs.Common.{◌≡◌, ◌⊎◌, ℕ, List, IfSome, IfNone, length, vec_capacity, string_bytes}
 use Rattle.std.specs.List.Sorted.{IsNonDecreasingBy}
-use Rattle.lw_recent.specs.Entries.{pairs_in, number_of, HasHole}
+use Rattle.lw_recent.specs.Entries.{pairs_in, number_of}
+use Rattle.lw_recent.specs.inner.Entries.{HasHole}
 use Rattle.lw_recent.specs.Recent.{IsUnder, IsPair}
 use Rattle.lw_recent.proofs.entry.take_out.Given as goal
 

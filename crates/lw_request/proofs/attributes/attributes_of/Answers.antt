@@ -2,7 +2,7 @@ use Rattle.std.proofs.Common.{sym, subst}
 use Rattle.std.proofs.lemmas.Bool.{false≢true}
 use Rattle.lw_reg.specs.Attribute.{AreAttributes}
 use Rattle.lw_request.specs.Options.{values_of}
-use Rattle.lw_request.specs.Queries.{GivesAttribute}
+use Rattle.lw_request.specs.inner.Queries.{GivesAttribute}
 use Rattle.lw_request.proofs.AttributeLemmas.{some_entry, are_attributes}
 use Rattle.lw_request.proofs.QueryLemmas.{on_err}
 use Rattle.lw_request.proofs.Recognised.{recognised_short}

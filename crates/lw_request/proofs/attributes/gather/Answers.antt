@@ -1,6 +1,6 @@
 use Rattle.std.proofs.Common.{ℕ, List, ◌+◌, ◌++◌, drop, ap, subst, ◌∙◌}
 use Rattle.lw_request.specs.Options.{values_of}
-use Rattle.lw_request.specs.Queries.{GivesAttribute}
+use Rattle.lw_request.specs.inner.Queries.{GivesAttribute}
 use Rattle.lw_request.proofs.AttributeLemmas.{AreGathered, queries_next, gives_all}
 use Rattle.lw_request.proofs.QueryLemmas.{on_err}
 use Rattle.lw_request.proofs.attributes.gather.Goals as goal

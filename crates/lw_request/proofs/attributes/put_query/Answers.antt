@@ -3,7 +3,8 @@ use Rattle.std.specs.BTreeMap.{insert_entry}
 use Rattle.lw_stamp.specs.TextOrder.{text_cmp}
 use Rattle.lw_join.specs.Entries.{Rises, get}
 use Rattle.lw_reg.specs.Attribute.{is_attribute_name}
-use Rattle.lw_request.specs.Queries.{name_of, value_of, GivesAttribute}
+use Rattle.lw_request.specs.Queries.{name_of, value_of}
+use Rattle.lw_request.specs.inner.Queries.{GivesAttribute}
 use Rattle.lw_request.proofs.AttributeLemmas.{gives_own, inserted_rise, inserted_gets}
 use Rattle.lw_request.proofs.QueryLemmas.{on_err}
 use Rattle.lw_request.proofs.attributes.put_query.Goals as goal

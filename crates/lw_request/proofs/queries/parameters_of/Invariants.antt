@@ -1,6 +1,6 @@
 use Rattle.std.proofs.Common.{drop}
 use Rattle.lw_request.specs.Options.{values_of}
-use Rattle.lw_request.specs.Parameters.{value_in}
+use Rattle.lw_request.specs.inner.Parameters.{value_in}
 use Rattle.lw_request.proofs.QueryLemmas.{AreGathered}
 use Rattle.lw_request.proofs.queries.parameters_of.Given as goal
 

@@ -1,6 +1,7 @@
 use Rattle.std.proofs.Common.{ℕ, List, Option, sym, subst, ◌∙◌, rules, option_copied}
 use Rattle.lw_request.specs.Options.{values_of}
-use Rattle.lw_request.specs.Queries.{IsGiven, IsLifetime, HasBadQuery, EachIsLookedAt}
+use Rattle.lw_request.specs.Queries.{IsGiven, IsLifetime, HasBadQuery}
+use Rattle.lw_request.specs.inner.Queries.{EachIsLookedAt}
 use Rattle.lw_request.specs.Queries.Parameter.{Ep, Lt, Lwm2m, B, Q, Sms}
 use Rattle.lw_request.proofs.QueryLemmas.{on_err, bad_endpoint, bad_settings, lifetime_or}
 use Rattle.lw_request.proofs.register.queries_of.Goals as goal

@@ -5,9 +5,11 @@ use Rattle.lw_reg.specs.declared.version.Version.{Version}
 use Rattle.lw_reg.specs.Version.{version_text}
 use Rattle.lw_request.specs.declared.asked.Asked.TheVariants.{Register}
 use Rattle.lw_request.specs.Options.{values_of, has_unrecognised}
-use Rattle.lw_request.specs.Queries.{given as given_to, GiveAttributes, HasBadQuery, EachIsLookedAt, IsWithin}
+use Rattle.lw_request.specs.Queries.{given as given_to, GiveAttributes, HasBadQuery}
+use Rattle.lw_request.specs.inner.Queries.{EachIsLookedAt, IsWithin}
 use Rattle.lw_request.specs.Queries.Parameter.{Ep, Lwm2m, Sms}
-use Rattle.lw_request.specs.Objects.{IsObjectList, IsUnread}
+use Rattle.lw_request.specs.Objects.{IsObjectList}
+use Rattle.lw_request.specs.inner.Objects.{IsUnread}
 use Rattle.lw_request.specs.Steps.{post_steps}
 use Rattle.lw_request.specs.Meaning.{MeansBy}
 use Rattle.lw_request.proofs.QueryLemmas.{endpoint_short, sms_short}

@@ -3,9 +3,10 @@ use Rattle.std.specs.Prelude.{option_copied, IsSome, IsTrue}
 use Rattle.lw_coap.specs.Message.{OptionContent, MessageContent}
 use Rattle.lw_request.specs.declared.asked.Asked.TheVariants.{Update}
 use Rattle.lw_request.specs.Options.{values_of, has_unrecognised}
-use Rattle.lw_request.specs.Queries.{given as given_to, GiveAttributes, GivesAttribute, HasBadQuery, IsOfUpdate, IsWithin}
+use Rattle.lw_request.specs.Queries.{given as given_to, GiveAttributes, HasBadQuery, IsOfUpdate}
+use Rattle.lw_request.specs.inner.Queries.{GivesAttribute, IsWithin}
 use Rattle.lw_request.specs.Queries.Parameter.{Sms}
-use Rattle.lw_request.specs.Objects.{IsUnread}
+use Rattle.lw_request.specs.inner.Objects.{IsUnread}
 use Rattle.lw_request.specs.Steps.{post_steps}
 use Rattle.lw_request.specs.Meaning.{AreObjects, MeansBy}
 use Rattle.lw_request.proofs.QueryLemmas.{sms_short}

@@ -1,4 +1,5 @@
-use Rattle.lw_script.specs.Fields.{◌␣◌, IsShort, IsMoment, IsRest}
+use Rattle.lw_script.specs.Fields.{◌␣◌, IsShort, IsMoment}
+use Rattle.lw_script.specs.inner.Fields.{IsRest}
 use Rattle.lw_script.proofs.LineLemmas.{row_none}
 use Rattle.lw_script.proofs.field.opening.Goals as goal
 

@@ -1,5 +1,6 @@
 use Rattle.std.proofs.Common.{rules}
-use Rattle.lw_script.specs.Fields.{◌␣◌, IsShort, IsMoment, IsName, IsRest}
+use Rattle.lw_script.specs.Fields.{◌␣◌, IsShort, IsMoment, IsName}
+use Rattle.lw_script.specs.inner.Fields.{IsRest}
 use Rattle.lw_script.proofs.LineLemmas.{two_not, two_fault}
 use Rattle.lw_script.proofs.last.named.Goals as goal
 

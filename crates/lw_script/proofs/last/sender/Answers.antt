@@ -1,4 +1,5 @@
-use Rattle.lw_script.specs.Fields.{◌␣◌, IsShort, IsMoment, IsAddress, IsRest}
+use Rattle.lw_script.specs.Fields.{◌␣◌, IsShort, IsMoment, IsAddress}
+use Rattle.lw_script.specs.inner.Fields.{IsRest}
 use Rattle.lw_script.proofs.LineLemmas.{two_none}
 use Rattle.lw_script.proofs.last.sender.Goals as goal
 

@@ -1,6 +1,6 @@
 use Rattle.std.proofs.Common.{◌==◌, length, take}
 use Rattle.std.specs.List.{slice_split}
-use Rattle.lw_script.specs.Progress.{IsRead}
+use Rattle.lw_script.specs.inner.Progress.{IsRead}
 use Rattle.lw_script.proofs.script.read_lines.Given as goal
 
 abbrev pub invariant-loop-place : goal.invariant-loop-place

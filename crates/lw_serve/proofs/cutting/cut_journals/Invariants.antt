@@ -1,5 +1,5 @@
 use Rattle.std.proofs.Common.{◌≡◌, length}
-use Rattle.lw_serve.specs.Volumes.{AreOfNodes}
+use Rattle.lw_serve.specs.inner.Volumes.{AreOfNodes}
 use Rattle.lw_serve.proofs.cutting.cut_journals.Given as goal
 
 -- each shelf has its mark still, and each volume that is kept is of one of the nodes

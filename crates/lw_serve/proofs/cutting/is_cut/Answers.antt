@@ -2,7 +2,7 @@ use Rattle.std.proofs.Common.{◌≡◌, ◌≤◌, ◌∙◌, length, refl, sym
 use Rattle.std.proofs.lemmas.Option.{slice_get_read}
 use Rattle.lw_serve.proofs.Keeping.{one_kept, shelf_number}
 use Rattle.lw_serve.proofs.cutting.is_cut.Goals as goal
-use Rattle.lw_serve.specs.Volumes.{AreOfNodes}
+use Rattle.lw_serve.specs.inner.Volumes.{AreOfNodes}
 
 pub returns-then-node-number : goal.returns-then-node-number
 returns-then-node-number g c =

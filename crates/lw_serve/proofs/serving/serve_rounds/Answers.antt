@@ -1,5 +1,5 @@
 use Rattle.std.proofs.Common.{◌≡◌, ◌∙◌, ◌-◌, suc, refl, sym, arith}
-use Rattle.lw_serve.specs.Runs.{EndsRounds}
+use Rattle.lw_serve.specs.inner.Runs.{EndsRounds}
 use Rattle.lw_serve.proofs.Causes.{raised, receiving_ends, round_ends}
 use Rattle.lw_serve.proofs.Reaching.{one_more, over_at}
 use Rattle.lw_serve.proofs.serving.serve_rounds.Goals as goal

@@ -1,6 +1,6 @@
 use Rattle.std.proofs.Common.{◌≡◌, ◌∙◌, None, false, true, subst}
-use Rattle.lw_table.specs.Filed.{IsFiled}
-use Rattle.lw_table.specs.Rows.{row_at}
+use Rattle.lw_table.specs.inner.Filed.{IsFiled}
+use Rattle.lw_table.specs.inner.Rows.{row_at}
 use Rattle.lw_table.proofs.CopyLemmas.{absent_there}
 use Rattle.lw_table.proofs.copying.copy_row.Goals as goal
 

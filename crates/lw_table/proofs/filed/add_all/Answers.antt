@@ -1,7 +1,7 @@
 use Rattle.std.proofs.Common.{◌⊎◌, inl, inr, List, ℕ, sym, subst}
 use Rattle.std.specs.Prelude.{Contains}
 use Rattle.lw_index.specs.Index.{Has}
-use Rattle.lw_table.specs.Filed.{OtherKeys}
+use Rattle.lw_table.specs.inner.Filed.{OtherKeys}
 use Rattle.lw_table.specs.Keys.{key_cmp}
 use Rattle.lw_table.specs.declared.key.Key.{Key}
 use Rattle.lw_table.proofs.FiledLemmas.{adding_none, adding_step, nothing_left}

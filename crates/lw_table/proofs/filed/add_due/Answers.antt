@@ -1,7 +1,7 @@
 use Rattle.std.proofs.Common.{◌-◌, ◌^◌, sym, subst}
 use Rattle.std.specs.Option.{IsSome}
 use Rattle.lw_due.specs.Due.{due_of}
-use Rattle.lw_table.specs.Due.{OtherDue}
+use Rattle.lw_table.specs.inner.Due.{OtherDue}
 use Rattle.lw_table.proofs.DueLemmas.{added_there, others_added}
 use Rattle.lw_table.proofs.FiledLemmas.{due_then}
 use Rattle.lw_table.proofs.filed.add_due.Goals as goal

@@ -1,5 +1,5 @@
 use Rattle.std.proofs.Common.{inl, inr, ap, Some, refl, sym, subst}
-use Rattle.lw_table.specs.Filed.{OtherNumbers}
+use Rattle.lw_table.specs.inner.Filed.{OtherNumbers}
 use Rattle.lw_table.proofs.FiledLemmas.{either, on_ok, same_numbers, one_number}
 use Rattle.lw_table.proofs.filed.add_number.Goals as goal
 

@@ -1,6 +1,6 @@
 use Rattle.std.proofs.Common.{inr, List, ℕ, sym, subst}
 use Rattle.std.specs.Prelude.{Contains}
-use Rattle.lw_table.specs.Filed.{OtherNames}
+use Rattle.lw_table.specs.inner.Filed.{OtherNames}
 use Rattle.lw_table.proofs.FiledLemmas.{either, on_ok, names_itself, named_others, named_stays, named_has}
 use Rattle.lw_table.proofs.filed.file_name.Goals as goal
 

@@ -1,5 +1,6 @@
 use Rattle.std.proofs.Common.{sym, subst}
-use Rattle.lw_table.specs.Due.{HasDue, OtherDue}
+use Rattle.lw_table.specs.Due.{HasDue}
+use Rattle.lw_table.specs.inner.Due.{OtherDue}
 use Rattle.lw_table.proofs.DueLemmas.{has_lowered, others_lowered}
 use Rattle.lw_table.proofs.filed.lower_due.Goals as goal
 

@@ -5,8 +5,8 @@ use Rattle.std.specs.BTreeMap as tree
 use Rattle.std.specs.Option.{IfSome}
 use Rattle.std.specs.Ordering.{nat_cmp}
 use Rattle.lw_recent.specs.Recent.{IsUnder}
-use Rattle.lw_table.specs.Filed.{number_of}
-use Rattle.lw_table.specs.Moves.{WasSeen}
+use Rattle.lw_table.specs.inner.Filed.{number_of}
+use Rattle.lw_table.specs.inner.Moves.{WasSeen}
 use Rattle.lw_table.specs.Rows.{end_of}
 use Rattle.lw_table.specs.declared.rows.First.{First}
 use Rattle.lw_table.specs.declared.rows.Rows.{Rows}

@@ -1,8 +1,8 @@
 use Rattle.std.proofs.Common.{◌≡◌, ◌↔◌, Some, refl, sym, ◌∙◌, subst, rules}
 use Rattle.std.proofs.lemmas.Map.Text.{btree_map_updates_text}
 use Rattle.lw_recent.specs.Recent.{IsUnder}
-use Rattle.lw_table.specs.Filed.{number_of}
-use Rattle.lw_table.specs.Moves.{WasSeen}
+use Rattle.lw_table.specs.inner.Filed.{number_of}
+use Rattle.lw_table.specs.inner.Moves.{WasSeen}
 use Rattle.lw_table.specs.declared.rows.Rows.{Rows}
 use Rattle.lw_table.proofs.RowLemmas.{other_put, taken_others}
 use Rattle.lw_table.proofs.lifts.lift_other.Goals as goal

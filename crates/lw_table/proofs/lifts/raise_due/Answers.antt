@@ -2,8 +2,8 @@ use Rattle.std.proofs.Common.{◌<◌, List, ℕ, Option, sym, subst, rules}
 use Rattle.lw_due.specs.Due.{raised}
 use Rattle.lw_reg.specs.declared.slot.Slot.{Slot}
 use Rattle.lw_table.specs.Due.{OptionHasDue}
-use Rattle.lw_table.specs.Filed.{slot_of}
-use Rattle.lw_table.specs.Rows.{row_at}
+use Rattle.lw_table.specs.inner.Filed.{slot_of}
+use Rattle.lw_table.specs.inner.Rows.{row_at}
 use Rattle.lw_table.proofs.DueLemmas.{due_count, fewer_due, raised_below}
 use Rattle.lw_table.proofs.lifts.raise_due.Goals as goal
 

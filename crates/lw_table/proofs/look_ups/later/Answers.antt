@@ -3,7 +3,7 @@ use Rattle.std.specs.Ordering.{is_gt}
 use Rattle.lw_stamp.specs.StampOrder.{stamp_cmp}
 use Rattle.lw_stamp.specs.declared.stamp.Stamp.{Stamp}
 use Rattle.lw_reg.specs.Registration.{Registration}
-use Rattle.lw_table.specs.Found.{later_of}
+use Rattle.lw_table.specs.inner.Found.{later_of}
 use Rattle.lw_table.proofs.look_ups.later.Goals as goal
 
 chosen : (a b : Option (Stamp × Registration)) (first second : Stamp × Registration) (later : Bool) → a ≡ Some first → b ≡ Some second → is_gt (stamp_cmp second.0 first.0) ≡ later → (if later then Some second else Some first) ≡ later_of a b

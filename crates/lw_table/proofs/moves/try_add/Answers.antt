@@ -5,82 +5,82 @@ use Rattle.lw_table.proofs.FiledLemmas.{numbered, put_due}
 use Rattle.lw_table.proofs.MoveLemmas.{err_not, err_then, kept_is, over_old, over_numbered, filed_first, others_then}
 use Rattle.lw_table.proofs.moves.try_add.Goals as goal
 
-pub returns-in_err-enter : goal.returns-in_err-enter
-returns-in_err-enter c = record {
-  others = c.enter.ensures.others;
+pub returns-in_err-add : goal.returns-in_err-add
+returns-in_err-add c = record {
+  others = c.add.ensures.others;
   added = err_not _ c.from_residual.result c.from_residual.ensures.0;
   unchanged = err_then _ c.from_residual.result (
     record { same = λ e. refl; rows = c.requires.rows },
-    over_old c.args.filed.now c.enter.new.self c.args.endpoint.now _ c.args.keys.now c.enter.ensures.between None c.requires.filed,
+    over_old c.args.filed.now c.add.new.self c.args.endpoint.now _ c.args.keys.now c.add.ensures.between None c.requires.filed,
   );
 }
 
 pub returns-in_err-add_due : goal.returns-in_err-add_due
 returns-in_err-add_due c =
     let e = c.args.endpoint.now in
-    let entered = c.enter.new.self in
+    let entered = c.add.new.self in
     let due = c.add_due.new.due in
     record {
-      others = others_then e c.args.filed.now entered (record { names = entered.names; keys = entered.keys; numbers = entered.numbers; due = due }) c.enter.ensures.others (put_due entered e due c.add_due.ensures.others);
+      others = others_then e c.args.filed.now entered (record { names = entered.names; keys = entered.keys; numbers = entered.numbers; due = due }) c.add.ensures.others (put_due entered e due c.add_due.ensures.others);
       added = err_not _ c.from_residual-in_err-add_due.result c.from_residual-in_err-add_due.ensures.0;
       unchanged = err_then _ c.from_residual-in_err-add_due.result (
         record { same = λ e. refl; rows = c.requires.rows },
-        over_numbered entered e c.args.keys.now (over_old c.args.filed.now entered e _ c.args.keys.now c.enter.ensures.between None c.requires.filed) entered.numbers refl due,
+        over_numbered entered e c.args.keys.now (over_old c.args.filed.now entered e _ c.args.keys.now c.add.ensures.between None c.requires.filed) entered.numbers refl due,
       );
     }
 
 pub add_number-requires : goal.add_number-requires
-add_number-requires c = λ n h. let under = (c.requires.filed.numbers n).0 (subst (λ l. IsUnder l n c.args.endpoint.now) c.enter.ensures.between.numbers h) in absurd cc
+add_number-requires c = λ n h. let under = (c.requires.filed.numbers n).0 (subst (λ l. IsUnder l n c.args.endpoint.now) c.add.ensures.between.numbers h) in absurd cc
 
 pub returns-in_err-add_number : goal.returns-in_err-add_number
 returns-in_err-add_number c =
     let e = c.args.endpoint.now in
-    let entered = c.enter.new.self in
+    let entered = c.add.new.self in
     let due = c.add_due.new.due in
     let numbers = c.add_number.new.numbers in
     let dued : Filed = record { names = entered.names; keys = entered.keys; numbers = entered.numbers; due = due } in
     record {
       others = others_then e c.args.filed.now dued (record { names = entered.names; keys = entered.keys; numbers = numbers; due = due })
-          (others_then e c.args.filed.now entered dued c.enter.ensures.others (put_due entered e due c.add_due.ensures.others)) (numbered dued e numbers c.add_number.ensures.others);
+          (others_then e c.args.filed.now entered dued c.add.ensures.others (put_due entered e due c.add_due.ensures.others)) (numbered dued e numbers c.add_number.ensures.others);
       added = err_not _ c.from_residual-in_err-add_number.result c.from_residual-in_err-add_number.ensures.0;
       unchanged = err_then _ c.from_residual-in_err-add_number.result (
         record { same = λ e. refl; rows = c.requires.rows },
-        over_numbered entered e c.args.keys.now (over_old c.args.filed.now entered e _ c.args.keys.now c.enter.ensures.between None c.requires.filed) numbers c.in_err-add_number.ensures.unchanged due,
+        over_numbered entered e c.args.keys.now (over_old c.args.filed.now entered e _ c.args.keys.now c.add.ensures.between None c.requires.filed) numbers c.in_err-add_number.ensures.unchanged due,
       );
     }
 
 pub returns-in-Ok-clause-others : goal.returns-in-Ok-clause-others
 returns-in-Ok-clause-others c =
     let e = c.args.endpoint.now in
-    let entered = c.enter.new.self in
+    let entered = c.add.new.self in
     let due = c.add_due.new.due in
     let dued : Filed = record { names = entered.names; keys = entered.keys; numbers = entered.numbers; due = due } in
     others_then e c.args.filed.now dued (record { names = entered.names; keys = entered.keys; numbers = c.add_number.new.numbers; due = due })
-    (others_then e c.args.filed.now entered dued c.enter.ensures.others (put_due entered e due c.add_due.ensures.others))
+    (others_then e c.args.filed.now entered dued c.add.ensures.others (put_due entered e due c.add_due.ensures.others))
     (numbered dued e c.add_number.new.numbers c.add_number.ensures.others)
 
 pub returns-in-Ok-clause-added : goal.returns-in-Ok-clause-added
 returns-in-Ok-clause-added c =
     let row = c.args.row in (
       c.in-Ok.ensures.put,
-      filed_first c.args.filed.now c.enter.new.self c.args.endpoint.now _ c.args.keys.now c.enter.ensures.between c.in_ok-enter.ensures.all row.slot row.number c.add_number.new.numbers c.in_ok-add_number.ensures.number c.add_due.new.due
+      filed_first c.args.filed.now c.add.new.self c.args.endpoint.now _ c.args.keys.now c.add.ensures.between c.in_ok-add.ensures.all row.slot row.number c.add_number.new.numbers c.in_ok-add_number.ensures.number c.add_due.new.due
           (kept_is row.slot c.is_removed.result c.is_removed.ensures) c.requires.filed c.requires.keys c.in_ok-add_due.ensures.due,
     )
 
 pub returns-in-Err-clause-others : goal.returns-in-Err-clause-others
 returns-in-Err-clause-others c =
     let e = c.args.endpoint.now in
-    let entered = c.enter.new.self in
+    let entered = c.add.new.self in
     let due = c.add_due.new.due in
     let dued : Filed = record { names = entered.names; keys = entered.keys; numbers = entered.numbers; due = due } in
     let added : Filed = record { names = entered.names; keys = entered.keys; numbers = c.add_number.new.numbers; due = due } in
     let dropped : Filed = record { names = entered.names; keys = entered.keys; numbers = c.drop_number.new.numbers; due = due } in
-    others_then e c.args.filed.now dued dropped (others_then e c.args.filed.now entered dued c.enter.ensures.others (put_due entered e due c.add_due.ensures.others))
+    others_then e c.args.filed.now dued dropped (others_then e c.args.filed.now entered dued c.add.ensures.others (put_due entered e due c.add_due.ensures.others))
     (others_then e dued added dropped (numbered dued e c.add_number.new.numbers c.add_number.ensures.others) (numbered added e c.drop_number.new.numbers c.drop_number.ensures.others))
 
 pub returns-in-Err-clause-unchanged : goal.returns-in-Err-clause-unchanged
 returns-in-Err-clause-unchanged c =
-    let over = over_old c.args.filed.now c.enter.new.self c.args.endpoint.now _ c.args.keys.now c.enter.ensures.between None c.requires.filed in (
+    let over = over_old c.args.filed.now c.add.new.self c.args.endpoint.now _ c.args.keys.now c.add.ensures.between None c.requires.filed in (
       c.in-Err.ensures.unchanged,
       record { name = over.name; keys_has = over.keys_has; keys_from = over.keys_from; numbers = λ n. (λ h. absurd (c.drop_number.ensures.none n h), λ h. absurd cc); due = tt },
     )

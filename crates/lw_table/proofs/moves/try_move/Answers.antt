@@ -3,8 +3,8 @@ use Rattle.std.specs.Option.{IsSome}
 use Rattle.lw_due.specs.Due.{due_of}
 use Rattle.lw_recent.specs.Recent.{IsUnder}
 use Rattle.lw_table.specs.Due.{HasDue}
-use Rattle.lw_table.specs.Filed.{IsOver}
-use Rattle.lw_table.specs.Moves.{moved_row}
+use Rattle.lw_table.specs.inner.Filed.{IsOver}
+use Rattle.lw_table.specs.inner.Moves.{moved_row}
 use Rattle.lw_table.specs.declared.filed.Filed.{Filed}
 use Rattle.lw_table.specs.declared.row.Row.{Row}
 use Rattle.lw_reg.specs.declared.slot.Slot.{Slot}
@@ -12,11 +12,11 @@ use Rattle.lw_table.proofs.FiledLemmas.{numbered, put_due}
 use Rattle.lw_table.proofs.MoveLemmas.{err_not, err_then, over_old, over_moved, others_then}
 use Rattle.lw_table.proofs.moves.try_move.Goals as goal
 
-pub returns-in_err-enter : goal.returns-in_err-enter
-returns-in_err-enter c = record {
-  others = c.enter.ensures.others;
+pub returns-in_err-add : goal.returns-in_err-add
+returns-in_err-add c = record {
+  others = c.add.ensures.others;
   moved = err_not _ c.from_residual.result c.from_residual.ensures.0;
-  unchanged = err_then _ c.from_residual.result (refl, over_old c.args.filed.now c.enter.new.self c.args.endpoint.now c.may_revive.result c.args.keys.now c.enter.ensures.between (Some c.args.row.now) c.requires.filed);
+  unchanged = err_then _ c.from_residual.result (refl, over_old c.args.filed.now c.add.new.self c.args.endpoint.now c.may_revive.result c.args.keys.now c.add.ensures.between (Some c.args.row.now) c.requires.filed);
 }
 
 pub returns-in_err-join_with : goal.returns-in_err-join_with
@@ -25,20 +25,20 @@ returns-in_err-join_with c =
     let with_slot : Slot → Row = λ s. record { slot = s; number = row.number } in
     let same : with_slot c.join_with.new.self ≡ row = ap with_slot c.in_err-join_with.ensures.err in
     record {
-      others = c.enter.ensures.others;
+      others = c.add.ensures.others;
       moved = err_not _ c.from_residual-in_err-join_with.result c.from_residual-in_err-join_with.ensures.0;
       unchanged = err_then _ c.from_residual-in_err-join_with.result (
         same,
-        subst (λ r. IsOver c.enter.new.self c.args.endpoint.now (Some r) c.args.keys.now) (sym same)
-            (over_old c.args.filed.now c.enter.new.self c.args.endpoint.now c.may_revive.result c.args.keys.now c.enter.ensures.between (Some row) c.requires.filed),
+        subst (λ r. IsOver c.add.new.self c.args.endpoint.now (Some r) c.args.keys.now) (sym same)
+            (over_old c.args.filed.now c.add.new.self c.args.endpoint.now c.may_revive.result c.args.keys.now c.add.ensures.between (Some row) c.requires.filed),
       );
     }
 
 pub move_number-requires : goal.move_number-requires
-move_number-requires c = λ n. subst (λ l. IsUnder l n c.args.endpoint.now ↔ (Some c.args.row.now.number ≡ Some n)) (sym c.enter.ensures.between.numbers) (c.requires.filed.numbers n)
+move_number-requires c = λ n. subst (λ l. IsUnder l n c.args.endpoint.now ↔ (Some c.args.row.now.number ≡ Some n)) (sym c.add.ensures.between.numbers) (c.requires.filed.numbers n)
 
 pub lower_due-requires : goal.lower_due-requires
-lower_due-requires c = subst (λ l. IsSome (due_of c.args.endpoint.now l)) (sym c.enter.ensures.between.due) (subst IsSome (sym c.requires.filed.due.is) refl)
+lower_due-requires c = subst (λ l. IsSome (due_of c.args.endpoint.now l)) (sym c.add.ensures.between.due) (subst IsSome (sym c.requires.filed.due.is) refl)
 
 pub returns : goal.returns
 returns c =
@@ -46,17 +46,17 @@ returns c =
     let e = c.args.endpoint.now in
     let with_slot : Slot → Row = λ s. record { slot = s; number = c.args.number } in
     let moved : with_slot c.join_with.new.self ≡ moved_row row c.args.slot c.args.number = ap with_slot c.in_ok-join_with.ensures.ok in
-    let entered = c.enter.new.self in
+    let entered = c.add.new.self in
     let numbers = c.move_number.new.numbers in
     let due = c.lower_due.new.due in
     let numbered_so : Filed = record { names = entered.names; keys = entered.keys; numbers = numbers; due = entered.due } in
     let after : Filed = record { names = entered.names; keys = entered.keys; numbers = numbers; due = due } in
     record {
-      others = others_then e c.args.filed.now entered after c.enter.ensures.others (others_then e entered numbered_so after (numbered entered e numbers c.move_number.ensures.others) (put_due numbered_so e due c.lower_due.ensures.others));
+      others = others_then e c.args.filed.now entered after c.add.ensures.others (others_then e entered numbered_so after (numbered entered e numbers c.move_number.ensures.others) (put_due numbered_so e due c.lower_due.ensures.others));
       moved = (
         moved,
         subst (λ r. IsOver after e (Some r) c.args.keys.now) (sym moved)
-            (over_moved c.args.filed.now entered e c.may_revive.result c.args.keys.now c.enter.ensures.between c.in_ok-enter.ensures.all c.args.slot c.args.number numbers c.move_number.ensures.number due
+            (over_moved c.args.filed.now entered e c.may_revive.result c.args.keys.now c.add.ensures.between c.in_ok-add.ensures.all c.args.slot c.args.number numbers c.move_number.ensures.number due
             row c.requires.filed (λ gone here. c.may_revive.ensures.1 (gone, here)) c.requires.keys (subst (HasDue due e) c.in_ok-join_with.ensures.ok c.lower_due.ensures.due)),
       );
       unchanged = tt;

@@ -1,6 +1,6 @@
 use Rattle.std.proofs.Common.{take}
 use Rattle.lw_world.specs.Run.{History, Runs, begun}
-use Rattle.lw_world.specs.Sound.{Keeps}
+use Rattle.lw_world.specs.inner.Sound.{Keeps}
 use Rattle.lw_world.proofs.running.run.Given as goal
 
 -- a history of the events so far, of which the world tells

@@ -2,7 +2,7 @@ use Rattle.std.proofs.Common.{◌<◌, List, [], ◌∷◌, ℕ, length, sym, ap
 use Rattle.std.specs.Option.{option_copied}
 use Rattle.lw_reg.specs.declared.slot.Slot.{Slot}
 use Rattle.lw_delta.specs.Format.{slot as slot_part}
-use Rattle.lw_delta.specs.Lent.{NextAt}
+use Rattle.lw_delta.specs.inner.Lent.{NextAt}
 use Rattle.lw_delta.specs.Unread.{Unread, IsLeft}
 use Rattle.lw_delta.proofs.Again.{next_found}
 use Rattle.lw_delta.proofs.Takes.{next_takes}

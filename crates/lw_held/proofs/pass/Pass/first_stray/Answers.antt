@@ -2,7 +2,7 @@ use Rattle.std.proofs.Common.{◌∙◌, ap, subst, length, List}
 use Rattle.lw_held.specs.declared.entry.Part.{Part}
 use Rattle.lw_held.specs.Transcript.{Transcript}
 use Rattle.lw_held.specs.Agree.{IsFirstBreak}
-use Rattle.lw_held.specs.Looks.{FitBelow}
+use Rattle.lw_held.specs.inner.Looks.{FitBelow}
 use Rattle.lw_held.proofs.pass.Pass.first_stray.Goals as goal
 
 pub returns : goal.returns

@@ -1,7 +1,7 @@
 use Rattle.std.proofs.Common.{◌≡◌, ◌||◌, map, true, sym, ap, ◌∙◌, subst}
 use Rattle.std.specs.Prelude.{bytes_eq, string_bytes}
-use Rattle.lw_index.specs.Shown.{texts_in}
-use Rattle.lw_index.specs.Texts.{has_text}
+use Rattle.lw_index.specs.inner.Shown.{texts_in}
+use Rattle.lw_index.specs.inner.Texts.{has_text}
 use Rattle.lw_index.proofs.TextLemmas.{has_contains, on_ok, one_again, one_has, one_is, other_text, same_text, some_texts}
 use Rattle.lw_index.proofs.texts.Form.add.Goals as goal
 

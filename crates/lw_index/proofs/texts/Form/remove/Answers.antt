@@ -2,8 +2,8 @@ use Rattle.std.proofs.Common.{◌≡◌, ◌<◌, ◌&&◌, not, map, length, fa
 use Rattle.std.specs.Prelude.{bytes_eq, string_bytes}
 use Rattle.std.specs.BTreeSet.{contains_text}
 use Rattle.std.proofs.lemmas.Map.Text.{btree_set_updates_text}
-use Rattle.lw_index.specs.Shown.{texts_in}
-use Rattle.lw_index.specs.Texts.{has_text}
+use Rattle.lw_index.specs.inner.Shown.{texts_in}
+use Rattle.lw_index.specs.inner.Texts.{has_text}
 use Rattle.lw_index.proofs.TextLemmas.{has_contains, left_of, length_texts, one_absent, one_less, unchanged_at}
 use Rattle.lw_index.proofs.texts.Form.remove.Goals as goal
 

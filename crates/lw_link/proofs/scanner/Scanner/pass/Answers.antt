@@ -1,6 +1,6 @@
 use Rattle.std.proofs.Common.{◌≡◌, ◌≤◌, ◌∙◌, ℕ, List, length, subst, sym, ap, chars, take, drop}
 use Rattle.lw_link.specs.Characters.{Each}
-use Rattle.lw_link.specs.Runs.{keeps, Passes}
+use Rattle.lw_link.specs.inner.Runs.{keeps, Passes}
 use Rattle.lw_link.proofs.Passed.{cut, passes}
 use Rattle.lw_link.proofs.scanner.Scanner.pass.Goals as goal
 

@@ -1,7 +1,7 @@
 use Rattle.std.proofs.Common.{◌≡◌, ◌∙◌, ℕ, List, subst, sym, ap, chars, drop}
 use Rattle.lw_link.specs.declared.state.State.{State}
 use Rattle.lw_link.specs.declared.state.State.TheVariants.{Closed}
-use Rattle.lw_link.specs.Runs.{HasLink, PassesLink}
+use Rattle.lw_link.specs.inner.Runs.{HasLink, PassesLink}
 use Rattle.lw_link.proofs.Passed.{link_passes}
 use Rattle.lw_link.proofs.scanner.Scanner.pass_link.Goals as goal
 

@@ -5,7 +5,7 @@ use Rattle.lw_reg.specs.Marks.{marks_of}
 use Rattle.lw_reg.specs.State.{state_join, state_of}
 use Rattle.lw_table.specs.Changes.{Recounts}
 use Rattle.lw_node.specs.Node.{NodeContent}
-use Rattle.lw_node.specs.Within.{IsNextOf}
+use Rattle.lw_node.specs.inner.Within.{IsNextOf}
 use Rattle.lw_node.proofs.Issuing.{joined_slot, joined_marks, next_clock, still_node}
 use Rattle.lw_node.proofs.node.Node.issue.Goals as goal
 

@@ -1,6 +1,6 @@
 use Rattle.std.proofs.Common.{rules, subst}
 use Rattle.lw_stamp.specs.Moment.{ms_of}
-use Rattle.lw_node.specs.Calls.{place_at}
+use Rattle.lw_node.specs.Calls.{issuer_at}
 use Rattle.lw_node.specs.Effects.{DatagramMeans}
 use Rattle.lw_node.specs.Node.{NodeContent, marks_in}
 use Rattle.lw_node.specs.Within.{FitsClock}
@@ -14,7 +14,7 @@ commit-requires c =
 
 pub returns-clause-taken : goal.returns-clause-taken
 returns-clause-taken c = λ known is.
-    taken_so (DatagramMeans (place_at c.args.self.now (ms_of c.args.now)) (marks_in c.args.self.now.table.state known) c.args.from c.args.bytes.now) _ _ c.reply.view_is (c.in_ok-reply.ensures.meaning known is) c.args.self.now c.commit.new.self c.in_ok-commit.ensures.left
+    taken_so (DatagramMeans (issuer_at c.args.self.now (ms_of c.args.now)) (marks_in c.args.self.now.table.state known) c.args.from c.args.bytes.now) _ _ c.reply.view_is (c.in_ok-reply.ensures.meaning known is) c.args.self.now c.commit.new.self c.in_ok-commit.ensures.left
 
 pub returns-in_err-copy-clause-unchanged : goal.returns-in_err-copy-clause-unchanged
 returns-in_err-copy-clause-unchanged c = search rules

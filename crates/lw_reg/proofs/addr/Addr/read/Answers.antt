@@ -1,5 +1,5 @@
 use Rattle.std.proofs.Common.{◌∙◌, ap}
-use Rattle.lw_reg.specs.Addr.Reading.{addr_in}
+use Rattle.lw_reg.specs.inner.Addr.Reading.{addr_in}
 use Rattle.lw_reg.proofs.Addresses.{addr_in_text, addr_in_range, addr_in-text}
 use Rattle.lw_reg.proofs.addr.Addr.read.Goals as goal
 

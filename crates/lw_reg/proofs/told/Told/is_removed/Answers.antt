@@ -2,7 +2,7 @@ use Rattle.std.proofs.Common.{◌≡◌, refl, sym, ap, ◌∙◌}
 use Rattle.lw_join.specs.declared.or_gone.OrGone.TheVariants.{Gone}
 use Rattle.lw_reg.specs.declared.told.Kept.{Kept}
 use Rattle.lw_reg.specs.declared.told.Kept.TheVariants.{Nothing, Known, Removed}
-use Rattle.lw_reg.specs.Kept.{told_in}
+use Rattle.lw_reg.specs.inner.Repr.{told_in}
 use Rattle.lw_reg.proofs.told.Told.is_removed.Goals as goal
 
 removed : (kept : Kept) → told_in kept ≡ Gone → kept ≡ Removed

@@ -7,9 +7,9 @@ use Rattle.lw_join.proofs.Each.{each_parts_join, last_keeps}
 use Rattle.lw_reg.specs.declared.body.Body.{Body}
 use Rattle.lw_reg.specs.Attribute.{IsAttribute}
 use Rattle.lw_reg.specs.Body.{body_join}
-use Rattle.lw_reg.specs.Kept.{told_in}
+use Rattle.lw_reg.specs.inner.Repr.{told_in}
 use Rattle.lw_reg.specs.OrderLaws.{text_order}
-use Rattle.lw_reg.specs.Told.{KeepsAttributes}
+use Rattle.lw_reg.specs.BodyOrGone.{KeepsAttributes}
 use Rattle.lw_reg.proofs.NothingLemmas.{joined_to_nothing}
 use Rattle.lw_reg.proofs.told.Told.join_body.Goals as goal
 

@@ -1,5 +1,5 @@
 use Rattle.std.proofs.Common.{◌∙◌, sym, ap}
-use Rattle.lw_reg.specs.Kept.{told_in}
+use Rattle.lw_reg.specs.inner.Repr.{told_in}
 use Rattle.lw_reg.proofs.NothingLemmas.{nothing_joined}
 use Rattle.lw_reg.proofs.told.ToldJoin.join_with.Goals as goal
 

@@ -1,6 +1,6 @@
 use Rattle.std.proofs.Common.{◌∙◌, refl, sym, ap, rules}
 use Rattle.lw_join.specs.declared.or_gone.OrGone.TheVariants.{Here}
-use Rattle.lw_reg.specs.Kept.{told_in}
+use Rattle.lw_reg.specs.inner.Repr.{told_in}
 use Rattle.lw_reg.proofs.NothingLemmas.{nothing_below_told, told_below_nothing}
 use Rattle.lw_reg.proofs.told.ToldJoin.le.Goals as goal
 

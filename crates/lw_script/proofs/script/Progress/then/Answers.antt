@@ -1,5 +1,5 @@
 use Rattle.std.proofs.Common.{subst}
-use Rattle.lw_script.specs.Progress.{IsRead}
+use Rattle.lw_script.specs.inner.Progress.{IsRead}
 use Rattle.lw_script.proofs.ScriptLemmas.{continued, read_bad, full_more}
 use Rattle.lw_script.proofs.script.Progress.then.Goals as goal
 

@@ -4,7 +4,7 @@ use Rattle.std.specs.List.Sorted.{IsStrictlySortedBy}
 use Rattle.lw_stamp.specs.TextOrder.{text_cmp}
 use Rattle.lw_index.proofs.TextLemmas.{texts_rise}
 use Rattle.lw_table.specs.Answers.{after_text}
-use Rattle.lw_table.specs.Names.{is_after}
+use Rattle.lw_table.specs.inner.Names.{is_after}
 use Rattle.lw_table.proofs.NameLemmas.{names_above, names_all}
 use Rattle.lw_table.proofs.names.Names.from.Goals as goal
 

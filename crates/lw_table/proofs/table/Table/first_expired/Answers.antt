@@ -2,8 +2,8 @@ use Rattle.std.proofs.Common.{ap, ◌∙◌}
 use Rattle.std.specs.Prelude.{map, filter, string_bytes}
 use Rattle.lw_stamp.specs.Moment.{ms_of}
 use Rattle.lw_table.specs.Answers.{after_text}
-use Rattle.lw_table.specs.Found.{expired_at}
-use Rattle.lw_table.specs.Names.{is_after}
+use Rattle.lw_table.specs.inner.Found.{expired_at}
+use Rattle.lw_table.specs.inner.Names.{is_after}
 use Rattle.lw_table.proofs.FirstLemmas.{first_above_same}
 use Rattle.lw_table.proofs.table.Table.first_expired.Goals as goal
 

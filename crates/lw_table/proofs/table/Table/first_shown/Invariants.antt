@@ -1,6 +1,6 @@
 use Rattle.std.proofs.Common.{◌≡◌}
 use Rattle.lw_stamp.specs.Moment.{ms_of}
-use Rattle.lw_table.specs.Found.{view_at, first_of}
+use Rattle.lw_table.specs.inner.Found.{view_at, first_of}
 use Rattle.lw_index.specs.Index.{endpoints_of}
 use Rattle.lw_table.specs.Keys.{key_cmp}
 use Rattle.lw_table.proofs.table.Table.first_shown.Given as goal

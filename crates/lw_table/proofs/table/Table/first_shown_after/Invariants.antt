@@ -2,7 +2,7 @@ use Rattle.std.proofs.Common.{◌≡◌}
 use Rattle.std.specs.Prelude.{map, string_bytes}
 use Rattle.lw_stamp.specs.Moment.{ms_of}
 use Rattle.lw_table.specs.Answers.{after_text}
-use Rattle.lw_table.specs.Found.{view_at, if_after, first_of}
+use Rattle.lw_table.specs.inner.Found.{view_at, if_after, first_of}
 use Rattle.lw_table.proofs.table.Table.first_shown_after.Given as goal
 
 -- the first of those that are left is the first of all

@@ -1,7 +1,7 @@
 use Rattle.std.proofs.Common.{◌≡◌}
 use Rattle.lw_stamp.specs.Moment.{ms_of}
 use Rattle.lw_reg.specs.Reading.{has_token}
-use Rattle.lw_table.specs.Found.{watch_at, first_of}
+use Rattle.lw_table.specs.inner.Found.{watch_at, first_of}
 use Rattle.lw_index.specs.Index.{endpoints_of}
 use Rattle.lw_table.specs.Keys.{key_cmp}
 use Rattle.lw_table.specs.declared.key.Key.TheVariants.{Token}

@@ -1,6 +1,6 @@
 use Rattle.std.proofs.Common.{◌≡◌, None}
 use Rattle.lw_stamp.specs.Moment.{ms_of}
-use Rattle.lw_table.specs.Found.{holder_at, last_of}
+use Rattle.lw_table.specs.inner.Found.{holder_at, last_of}
 use Rattle.lw_index.specs.Index.{endpoints_of}
 use Rattle.lw_table.specs.Keys.{key_cmp}
 use Rattle.lw_table.proofs.table.Table.last_holder.Given as goal

@@ -5,10 +5,11 @@ use Rattle.lw_due.specs.Due.{Entry, first_due, raised}
 use Rattle.lw_reg.specs.declared.slot.Slot.{Slot}
 use Rattle.lw_reg.specs.Marks.{among}
 use Rattle.lw_reg.specs.Reading.{shown_in}
-use Rattle.lw_table.specs.Due.{deadline_at}
-use Rattle.lw_table.specs.Filed.{slot_of}
+use Rattle.lw_table.specs.inner.Due.{deadline_at}
+use Rattle.lw_table.specs.inner.Filed.{slot_of}
 use Rattle.lw_table.specs.Lifts.{LiftsFirst}
-use Rattle.lw_table.specs.Rows.{row_at, table_in}
+use Rattle.lw_table.specs.Rows.{table_in}
+use Rattle.lw_table.specs.inner.Rows.{row_at}
 use Rattle.lw_table.specs.Table.{IsTable, TableContent}
 use Rattle.lw_table.specs.declared.filed.Filed.{Filed}
 use Rattle.lw_table.proofs.CountLemmas.{saturated}

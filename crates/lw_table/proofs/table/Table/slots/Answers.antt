@@ -1,6 +1,6 @@
 use Rattle.std.proofs.Common.{ap, ◌∙◌, ◌++◌, map}
 use Rattle.std.specs.Vec.Iter.{into_iter_items}
-use Rattle.lw_table.specs.Since.{slots_at}
+use Rattle.lw_table.specs.inner.Since.{slots_at}
 use Rattle.lw_table.proofs.table.Table.slots.Goals as goal
 
 pub loop-endpoint-init : goal.loop-endpoint-init

@@ -1,7 +1,7 @@
 use Rattle.std.proofs.Common.{◌≡◌, ◌++◌}
 use Rattle.std.specs.Prelude.{map}
 use Rattle.std.specs.Vec.Iter.{into_iter_items}
-use Rattle.lw_table.specs.Since.{slots_at}
+use Rattle.lw_table.specs.inner.Since.{slots_at}
 use Rattle.lw_table.proofs.table.Table.slots.Given as goal
 
 -- the slots, and those of the endpoints that are left, are all

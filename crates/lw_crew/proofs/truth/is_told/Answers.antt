@@ -1,5 +1,0 @@
-use Rattle.std.proofs.Common.{rules}
-use Rattle.lw_crew.proofs.truth.is_told.Goals as goal
-
-pub returns-else-found-clause-told : goal.returns-else-found-clause-told
-returns-else-found-clause-told c = search rules

@@ -1,0 +1,5 @@
+pub mod Delta
+pub mod Lent
+pub mod Part
+pub mod Unread
+pub mod Writing

@@ -1,0 +1,4 @@
+pub mod Ends
+pub mod Facets
+pub mod Place
+pub mod Room

@@ -1,0 +1,4 @@
+pub mod Faults
+pub mod Machine
+pub mod Runs
+pub mod Taking

@@ -1,0 +1,4 @@
+pub mod Addr
+pub mod Fields
+pub mod Repr
+pub mod BodyOrGone

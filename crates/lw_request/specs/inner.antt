@@ -1,0 +1,4 @@
+pub mod Meaning
+pub mod Objects
+pub mod Parameters
+pub mod Queries

@@ -1,0 +1,5 @@
+pub mod Outcomes
+pub mod Rounds
+pub mod Runs
+pub mod Udp
+pub mod Volumes

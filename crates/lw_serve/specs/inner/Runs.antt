@@ -1,0 +1,36 @@
+-- How the parts of a run end.
+use Rattle.std.specs.Prelude.{List}
+use Rattle.lw_held.specs.declared.shelf.Shelf.{Shelf}
+use Rattle.lw_held.specs.declared.shelf.Unsettled.{Unsettled}
+use Rattle.lw_held.specs.Transcript.{Transcript}
+use Rattle.lw_crew.specs.declared.job.Job.{Job}
+use Rattle.lw_serve.specs.declared.fault.ServeFault.{ServeFault}
+use Rattle.lw_serve.specs.declared.fault.ServeFault.TheVariants as faults
+use Rattle.lw_serve.specs.Runs.{IsFinished, IsRefused}
+
+-- ---- what ends a run early
+-- what may end the receiving of a batch: a wire that fails, or want of memory
+abbrev pub EndsReceiving : ServeFault → Type 0
+EndsReceiving faults.ReceiveFailed = Unit {0}
+EndsReceiving faults.NoMemory = Unit {0}
+EndsReceiving _ = ⊥
+
+-- what may end a round: a fault of the crew, or want of memory
+abbrev pub EndsRound : ServeFault → Type 0
+EndsRound (faults.Crew fault) = Unit {0}
+EndsRound faults.NoMemory = Unit {0}
+EndsRound _ = ⊥
+
+-- what may end the rounds: also a wire or a clock that fails, but no journal and no writer
+abbrev pub EndsRounds : ServeFault → Type 0
+EndsRounds (faults.Unsettled node place) = ⊥
+EndsRounds faults.WriteFailed = ⊥
+EndsRounds _ = Unit {0}
+
+-- what may end a run whose rounds are over: a fault of the crew; passes that are not settled; or a writer that fails,
+-- and then they are
+abbrev pub EndsFinish : List Shelf → List Transcript → List Job → ServeFault → Type 0
+EndsFinish shelves passes kept (faults.Crew fault) = Unit {0}
+EndsFinish shelves passes kept (faults.Unsettled node place) = IsRefused shelves passes kept (record { node = node; place = place })
+EndsFinish shelves passes kept faults.WriteFailed = IsFinished shelves passes kept
+EndsFinish shelves passes kept _ = ⊥

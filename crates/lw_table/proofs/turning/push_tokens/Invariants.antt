@@ -1,6 +1,0 @@
-use Rattle.std.proofs.Common.{◌≡◌, ◌++◌, drop}
-use Rattle.lw_table.specs.Turning.{token_keys}
-use Rattle.lw_table.proofs.turning.push_tokens.Given as goal
-
-abbrev pub invariant-loop-watching : goal.invariant-loop-watching
-invariant-loop-watching l = l.keys.items ++ token_keys (drop l.watching-index l.watches) ≡ l.initial.keys.items ++ token_keys l.watches

@@ -1,7 +1,0 @@
-use Rattle.std.proofs.Common.{◌≡◌, ◌++◌, drop}
-use Rattle.lw_reg.specs.Reading.{watches_of}
-use Rattle.lw_table.specs.Turning.{turned_tokens}
-use Rattle.lw_table.proofs.turning.push_turned.Given as goal
-
-abbrev pub invariant-loop-path : goal.invariant-loop-path
-invariant-loop-path l = l.keys.items ++ turned_tokens (watches_of l.old) (drop l.path-index l.watches) ≡ l.initial.keys.items ++ turned_tokens (watches_of l.old) l.watches

@@ -1,0 +1,10 @@
+pub mod Copying
+pub mod Due
+pub mod Filed
+pub mod Found
+pub mod Keys
+pub mod Moves
+pub mod Names
+pub mod Rows
+pub mod Since
+pub mod KeyChanges

@@ -1,0 +1,20 @@
+-- What a step keeps of the due moments, and of those of other endpoints.
+use Rattle.std.specs.Prelude.{◌≡◌, ◌≢◌, ◌-◌, ◌^◌, ℕ, List, Option, Some, None}
+use Rattle.std.specs.Option.{unwrap_or}
+use Rattle.lw_due.specs.Due.{Entry, due_of}
+use Rattle.lw_reg.specs.declared.slot.Slot.{Slot}
+use Rattle.lw_reg.specs.Reading.{deadline_in}
+use Rattle.lw_table.specs.Due.{OptionHasDue}
+
+-- an endpoint that has a due moment for its slot has one still
+abbrev pub KeepsDue : (List ℕ → Option Slot) → List Entry → List Entry → Type 0
+KeepsDue slots old new = (e : List ℕ) → OptionHasDue old e (slots e) → OptionHasDue new e (slots e)
+
+-- of each endpoint but one the due moment is the same
+pub record OtherDue (endpoint : List ℕ) (old new : List Entry) : Type 0 where
+  pub same : (e : List ℕ) → e ≢ endpoint → due_of e new ≡ due_of e old
+
+-- the deadline of the slot, and the last moment of all where there is none
+abbrev pub deadline_at : Option Slot → ℕ
+deadline_at None = 2 ^ 64 - 1
+deadline_at (Some slot) = unwrap_or (deadline_in slot) (2 ^ 64 - 1)

@@ -1,0 +1,71 @@
+-- Rows that are put into a table.
+use Rattle.std.specs.Prelude.{◌≡◌, ℕ, Bool, true, false, List, Option, Some, string_bytes, bytes_eq, cond, IsSome}
+use Rattle.std.specs.Option.{IsSomeAnd}
+use Rattle.std.specs.BTreeMap.{get}
+use Rattle.std.specs.Ordering.{nat_cmp}
+use Rattle.lw_stamp.specs.declared.moment.Moment.{Moment}
+use Rattle.lw_stamp.specs.declared.stamp.Stamp.{Stamp}
+use Rattle.lw_reg.specs.declared.slot.Slot.{Slot}
+use Rattle.lw_reg.specs.Reading.{seen_of, stamp_of}
+use Rattle.lw_reg.specs.Slot.{slot_below, slot_join, ending}
+use Rattle.lw_table.specs.inner.Filed.{IsFiled, slot_of}
+use Rattle.lw_table.specs.Rows.{IsRows, end_of}
+use Rattle.lw_table.specs.inner.Rows.{row_at}
+use Rattle.lw_table.specs.inner.KeyChanges.{joined_with}
+use Rattle.lw_table.specs.declared.filed.Filed.{Filed}
+use Rattle.lw_table.specs.declared.row.Row.{Row}
+use Rattle.lw_table.specs.declared.rows.Rows.{Rows}
+
+abbrev pub moved_row : Row → Slot → ℕ → Row
+moved_row row slot number = record { slot = slot_join row.slot slot; number = number }
+
+-- the first row, or the row that moved
+abbrev pub next_row : Option Row → Slot → ℕ → Row
+next_row row slot number = record { slot = joined_with (slot_of row) slot; number = number }
+
+-- the row is put under the endpoint, and nothing else changes
+pub record PutsRow (endpoint : List ℕ) (row : Row) (old new : Rows) : Type 0 where
+  pub at : (e : List ℕ) → row_at new e ≡ cond (bytes_eq endpoint e) (Some row) (row_at old e)
+  pub rows : IsRows new
+
+-- each endpoint has the row that it had
+pub record SameRows (old new : Rows) : Type 0 where
+  pub same : (e : List ℕ) → row_at new e ≡ row_at old e
+  pub rows : IsRows new
+
+-- the slot tells nothing new beside the row
+abbrev pub IsKnown : Option Row → Slot → Type 0
+IsKnown row slot = IsSomeAnd (slot_of row) (slot_below slot)
+
+-- the slot moves the row; or it tells nothing new, and the row stays
+abbrev pub JoinsRow : Bool → Slot → ℕ → Row → Row → Type 0
+JoinsRow true slot number old new = (¬ slot_below slot old.slot) × (new ≡ moved_row old slot number)
+JoinsRow false slot number old new = slot_below slot old.slot × (new ≡ old)
+
+-- the slot moves the endpoint's row, or makes its first; or it tells nothing new, and each row stays
+abbrev pub JoinsRowAt : Bool → List ℕ → Slot → ℕ → Rows → Rows → Filed → Type 0
+JoinsRowAt true e slot number old new filed = (¬ IsKnown (row_at old e) slot) × PutsRow e (next_row (row_at old e) slot number) old new × IsFiled filed e (Some (next_row (row_at old e) slot number))
+JoinsRowAt false e slot number old new filed = IsKnown (row_at old e) slot × SameRows old new × IsFiled filed e (row_at old e)
+
+-- the first row with the end of the endpoint is that of another
+abbrev pub IsTaken : Rows → List ℕ → Type 0
+IsTaken rows endpoint = IsSomeAnd (get nat_cmp rows.firsts (end_of endpoint)) (λ first. bytes_eq (string_bytes first.endpoint) endpoint ≡ false)
+
+-- the row as its registration ends, as it was last seen
+pub record LiftsRow (number : ℕ) (id : Stamp) (old new : Row) : Type 0 where
+  pub id_is : stamp_of old.slot ≡ id
+  pub seen : Stamp × Moment
+  pub seen_is : seen_of old.slot ≡ Some seen
+  pub moved : new ≡ moved_row old (ending id seen.0) number
+
+-- that of the endpoint does, and nothing else changes
+pub record LiftsRowAt (endpoint : List ℕ) (number : ℕ) (id : Stamp) (old new : Rows) : Type 0 where
+  pub was : Row
+  pub is : row_at old endpoint ≡ Some was
+  pub row : Row
+  pub lifted : LiftsRow number id was row
+  pub put : PutsRow endpoint row old new
+
+-- there is a row, and its registration was seen
+abbrev pub WasSeen : Option Row → Type 0
+WasSeen row = IsSomeAnd row (λ x. IsSome (seen_of x.slot))
