@@ -109,7 +109,9 @@ fn keeps(alloc: Global, given: String, len: usize) -> Result<bool, NoMemory> {
 /// Whether a text that is taken over is the same as its copy.
 fn is_taken(given: String, copy: Text) -> bool {
     let taken = Text::from(given);
-    taken == copy && copy.as_str() == taken.as_str()
+    let is_copy = taken == copy;
+    let copy = copy.into_string();
+    is_copy && copy.as_str() == taken.as_str()
 }
 
 /// A character, how many of it, and how many bytes these are.

@@ -38,6 +38,13 @@ impl Text {
     {
         self.text.as_str()
     }
+
+    pub fn into_string(self) -> String
+        ensures { string_bytes result ≡ self }
+    {
+        let Text { text } = self;
+        text
+    }
 }
 
 /// Takes the string as it is, with no copy.
