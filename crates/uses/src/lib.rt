@@ -19,6 +19,3 @@ pub use meeting::meet;
 pub use naming::names;
 pub use threads::ask_from_threads;
 pub use volumes::{call_and_cut, clocks};
-
-#[cfg(test)]
-mod tests;

@@ -1,0 +1,93 @@
+//! A server around a node.
+
+use crate::given::{FIRST, HOME, REGISTER, bytes, device, holds};
+use lw_call::{Notice, ObserveFault};
+use lw_node::Node;
+use lw_reg::{Addr, View};
+use lw_stamp::{Moment, Stamp};
+use std::alloc::Global;
+use std::test::Fail;
+use uses::{Fault, Server, Wish, names, ten_lines};
+
+/// Counts what it is asked to do, and keeps where the last datagram went.
+#[derive(Drop)]
+struct Counting {
+    sent: usize,
+    told: usize,
+    shown: usize,
+    last: Option<Addr>,
+}
+
+impl Server for Counting {
+    fn send(&mut self, to: Addr, datagram: Option<&[u8]>) {
+        self.sent = self.sent.saturating_add(usize::from(datagram.is_some()));
+        self.last = Some(to);
+    }
+
+    fn tell(&mut self, notice: Option<&Notice>) {
+        self.told = self.told.saturating_add(usize::from(notice.is_some()));
+    }
+
+    fn show(&mut self, shown: Option<&View<'_>>) {
+        self.shown = self.shown.saturating_add(usize::from(shown.is_some()));
+    }
+}
+
+fn counting() -> Counting {
+    Counting {
+        sent: 0,
+        told: 0,
+        shown: 0,
+        last: None,
+    }
+}
+
+/// A Register of `a`, then a wish to observe at this identifier.
+fn in_ten_lines(
+    alloc: Global,
+    server: &mut Counting,
+    peer: &mut Node,
+    id: Stamp,
+) -> Result<Result<u64, Fault>, Fail> {
+    let datagram = bytes(alloc, REGISTER)?;
+    let wish = Wish {
+        now: Moment::START,
+        from: HOME,
+        datagram: &datagram,
+        id,
+        path: device()?,
+        mid: 1,
+    };
+    Ok(ten_lines(alloc, server, peer, 0, &wish))
+}
+
+/// Tries: ten_lines
+#[test]
+fn ten_lines_do_it(rt: HostRuntime) -> Result<(), Fail> {
+    let alloc = rt.alloc();
+    let mut server = counting();
+    let mut peer = Node::new(alloc, 8);
+    let id = Stamp {
+        counter: 1,
+        node: 7,
+    };
+    let next = in_ten_lines(alloc, &mut server, &mut peer, id)?;
+    holds("the next", next == Ok(2))?;
+    holds("a reply and a request", server.sent == 2)?;
+    holds("to the device", server.last == Some(HOME))?;
+    holds("shown once", server.shown == 1 && server.told == 0)?;
+    let shown = names(alloc, &peer, Moment::START)?;
+    holds("at the other", shown.len() == 1)
+}
+
+/// Tries: ten_lines
+#[test]
+fn ten_lines_find_no_stranger(rt: HostRuntime) -> Result<(), Fail> {
+    let alloc = rt.alloc();
+    let mut server = counting();
+    let mut peer = Node::new(alloc, 8);
+    let refused = in_ten_lines(alloc, &mut server, &mut peer, FIRST)?;
+    let stranger = Err(Fault::NotObserved(ObserveFault::NotFound));
+    holds("not found", refused == stranger)?;
+    holds("the reply alone", server.sent == 1)
+}
