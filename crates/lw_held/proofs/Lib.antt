@@ -7,3 +7,4 @@ pub mod Pieces
 pub mod Longer
 pub mod Stepping
 pub mod Marking
+pub mod Crossing

@@ -17,3 +17,4 @@ pub mod Operations
 pub mod SlotMarks
 pub mod Same
 pub mod Contracts
+pub mod SameSlots

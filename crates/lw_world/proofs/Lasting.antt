@@ -1,46 +1,17 @@
 -- What lasts of a node's knowledge along a run: its clock and its slots grow, and an endpoint keeps its slot and its number, or takes
 -- a number above all that there were.
-use Rattle.std.proofs.Common.{◌≡◌, ◌≢◌, ℕ, zero, suc, ◌+◌, ◌<◌, ◌≤◌, List, ◌++◌, length, Option, Some, None, sym, refl, ap, ◌∙◌, subst, arith, inl, inr, ◌⊎◌}
-use Rattle.std.specs.Coded.{Coded, coded_option}
+use Rattle.std.proofs.Common.{◌≡◌, ◌≢◌, ℕ, ◌+◌, ◌<◌, ◌≤◌, List, ◌++◌, length, Option, Some, None, sym, refl, ◌∙◌, subst, arith, inl, inr, ◌⊎◌}
 use Rattle.std.specs.FinMap.{get, get-empty}
 use Rattle.std.proofs.lemmas.Option.{slice_get_read}
-use base.Stored.{Gv, gnil, gnum, gcons}
 use Rattle.lw_stamp.specs.TextOrder.{text_cmp}
 use Rattle.lw_reg.specs.declared.op.Op.{Op}
 use Rattle.lw_reg.specs.declared.slot.Slot.{Slot}
-use Rattle.lw_reg.specs.contracts.slot.Slot as slots
 use Rattle.lw_reg.specs.State.{state_below}
+use Rattle.lw_reg.proofs.SameSlots.{same_slot}
 use Rattle.lw_reg.proofs.States.{state_laws}
 use Rattle.lw_table.specs.Changes.{LAST, Recounts, counted}
 use Rattle.lw_world.specs.Known.{Knowledge, knows_nothing, known_state}
 use Rattle.lw_world.proofs.KnownStates.{known_append}
-
--- ---- whether two are one
-same_number : {G : Type 0} (m n : ℕ) → (m ≡ n → G) → (m ≢ n → G) → G
-same_number zero zero same other = same refl
-same_number zero (suc n) same other = other (λ e. omega (arith, e))
-same_number (suc m) zero same other = other (λ e. omega (arith, e))
-same_number (suc m) (suc n) same other = same_number m n (λ e. same (ap suc e)) (λ no. other (λ e. no (omega (arith, e))))
-
-same_code : {G : Type 0} (a b : Gv) → (a ≡ b → G) → (a ≢ b → G) → G
-same_code gnil gnil same other = same refl
-same_code gnil (gnum n) same other = other (λ e. cc)
-same_code gnil (gcons c d) same other = other (λ e. cc)
-same_code (gnum m) gnil same other = other (λ e. cc)
-same_code (gnum m) (gnum n) same other = same_number m n (λ e. same (ap gnum e)) (λ no. other (λ e. no (let f : m ≡ n = cc in f)))
-same_code (gnum m) (gcons c d) same other = other (λ e. cc)
-same_code (gcons a b) gnil same other = other (λ e. cc)
-same_code (gcons a b) (gnum n) same other = other (λ e. cc)
-same_code (gcons a b) (gcons c d) same other =
-    same_code a c
-    (λ e. same_code b d (λ f. same (λ i. gcons (e i) (f i))) (λ no. other (λ g. no (let f : b ≡ d = cc in f))))
-    (λ no. other (λ g. no (let f : a ≡ c = cc in f)))
-
-maybe_slot : Coded (Option Slot)
-maybe_slot = coded_option (slots.the_row).coded
-
-same_slot : {G : Type 0} (a b : Option Slot) → (a ≡ b → G) → (a ≢ b → G) → G
-same_slot a b same other = same_code (maybe_slot.code a) (maybe_slot.code b) (λ e. same (maybe_slot.inj a b e)) (λ no. other (λ e. no (ap maybe_slot.code e)))
 
 -- ---- the change numbers of a node
 -- each slot has a number, from 1 to the count of all moves

@@ -1,18 +1,16 @@
 -- A node has counted all that it knows: a new one has, and each call keeps it.
-use Rattle.std.proofs.Common.{◌≡◌, ◌≢◌, ℕ, zero, suc, ◌+◌, ◌<◌, List, [], ◌∷◌, length, Option, Some, None, Result, Ok, Err, false, true, sym, refl, ap, ◌∙◌, subst, arith, inl, inr}
-use Rattle.std.specs.Coded.{Coded, coded_option}
+use Rattle.std.proofs.Common.{◌≡◌, ◌≢◌, ℕ, ◌+◌, ◌<◌, List, [], ◌∷◌, length, Option, Some, None, Result, Ok, Err, false, true, sym, refl, ◌∙◌, subst, arith, inl, inr}
 use Rattle.std.specs.FinMap.{get, get-empty}
 use Rattle.std.specs.Prelude.{IsSome}
 use Rattle.std.proofs.lemmas.Option.{slice_get_read}
-use base.Stored.{Gv, gnil, gnum, gcons}
 use Rattle.lw_stamp.specs.declared.stamp.Stamp.{Stamp}
 use Rattle.lw_stamp.specs.Moment.{ms_of}
 use Rattle.lw_stamp.specs.TextOrder.{text_cmp}
 use Rattle.lw_reg.specs.declared.op.Op.{Op}
 use Rattle.lw_reg.specs.declared.slot.Slot.{Slot}
-use Rattle.lw_reg.specs.contracts.slot.Slot as slots
 use Rattle.lw_reg.specs.Marks.{Marks}
 use Rattle.lw_reg.specs.Reading.{shown_in}
+use Rattle.lw_reg.proofs.SameSlots.{same_slot}
 use Rattle.lw_reg.specs.State.{State}
 use Rattle.lw_table.specs.Changes.{Count, LAST, IsSince, Recounts, counted}
 use Rattle.lw_call.specs.declared.call.Call.{Call}
@@ -27,40 +25,11 @@ use Rattle.lw_call.specs.declared.reply.Reply.TheVariants as replies
 use Rattle.lw_call.specs.Contents.{OutgoingContent}
 use Rattle.lw_node.specs.Calls.{Sent, Swept, issuer_at}
 use Rattle.lw_node.specs.Effects.{Request, Refused, SweepMeans}
-use Rattle.lw_node.specs.Exchange.{Merged, Merges}
+use Rattle.lw_node.specs.Exchange.{Merges}
 use Rattle.lw_node.specs.Node.{NodeContent, Leaves}
 use Rattle.lw_node.specs.Node.Known.{Shown}
 use Rattle.lw_node.specs.Steps.{Steps}
-use Rattle.lw_held.specs.declared.entry.Entry.{Entry}
-use Rattle.lw_held.specs.History.{Leads}
 use Rattle.uses.specs.Meeting.{IsCounted, NewIsCounted, OperationsCount, MergesCount, HistoriesCount}
-
--- ---- whether two slots are one
-same_number : {G : Type 0} (m n : ℕ) → (m ≡ n → G) → (m ≢ n → G) → G
-same_number zero zero same other = same refl
-same_number zero (suc n) same other = other (λ e. omega (arith, e))
-same_number (suc m) zero same other = other (λ e. omega (arith, e))
-same_number (suc m) (suc n) same other = same_number m n (λ e. same (ap suc e)) (λ no. other (λ e. no (omega (arith, e))))
-
-same_code : {G : Type 0} (a b : Gv) → (a ≡ b → G) → (a ≢ b → G) → G
-same_code gnil gnil same other = same refl
-same_code gnil (gnum n) same other = other (λ e. cc)
-same_code gnil (gcons c d) same other = other (λ e. cc)
-same_code (gnum m) gnil same other = other (λ e. cc)
-same_code (gnum m) (gnum n) same other = same_number m n (λ e. same (ap gnum e)) (λ no. other (λ e. no (let f : m ≡ n = cc in f)))
-same_code (gnum m) (gcons c d) same other = other (λ e. cc)
-same_code (gcons a b) gnil same other = other (λ e. cc)
-same_code (gcons a b) (gnum n) same other = other (λ e. cc)
-same_code (gcons a b) (gcons c d) same other =
-    same_code a c
-    (λ e. same_code b d (λ f. same (λ i. gcons (e i) (f i))) (λ no. other (λ g. no (let f : b ≡ d = cc in f))))
-    (λ no. other (λ g. no (let f : a ≡ c = cc in f)))
-
-maybe_slot : Coded (Option Slot)
-maybe_slot = coded_option (slots.the_row).coded
-
-same_slot : {G : Type 0} (a b : Option Slot) → (a ≡ b → G) → (a ≢ b → G) → G
-same_slot a b same other = same_code (maybe_slot.code a) (maybe_slot.code b) (λ e. same (maybe_slot.inj a b e)) (λ no. other (λ e. no (ap maybe_slot.code e)))
 
 -- ---- a count that goes on
 above_none : (before i : ℕ) → 0 < counted before (i + 1)

@@ -10,7 +10,8 @@ use mir.Syntax.{named}
 use Rattle.lw_crew.specs.contracts.board.Board as Board
 use Rattle.lw_crew.specs.contracts.job.Job as Job
 use Rattle.lw_held.specs.contracts.shelf.Shelf as Shelf
-use Rattle.lw_crew.proofs.Crossing.{shelf_sync, pass_whole, job_whole, board_whole}
+use Rattle.lw_held.proofs.Crossing.{shelf_sync, pass_whole}
+use Rattle.lw_crew.proofs.Crossing.{job_whole, board_whole}
 use Rattle.lw_crew.proofs.work.start.Lts.{name-25, of-24, arg-1-2}
 use Rattle.lw_crew.proofs.work.start.Goals as goal
 

@@ -13,7 +13,8 @@ use mir.Syntax.{named}
 use Rattle.lw_call.specs.contracts.call.Call as Call
 use Rattle.lw_held.specs.contracts.pass.Pass as Pass
 use Rattle.lw_held.specs.contracts.shelf.Shelf as Shelf
-use Rattle.uses.proofs.Crossing.{shelf_sync, pass_whole, call_whole}
+use Rattle.lw_held.proofs.Crossing.{shelf_sync, pass_whole}
+use Rattle.uses.proofs.Crossing.{call_whole}
 use Rattle.uses.proofs.Standing.{all_stand}
 use Rattle.uses.proofs.threads.ask_from_threads.Lts.{arg-0-1}
 use Rattle.uses.proofs.threads.ask_from_threads.Goals as goal
