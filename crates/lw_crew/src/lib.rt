@@ -5,11 +5,11 @@
 #![tactic(auto)]
 
 mod board;
+mod checking;
 mod gathering;
 mod job;
 mod need;
 mod serving;
-mod checking;
 mod work;
 
 pub use gathering::gather;

@@ -10,9 +10,9 @@ ghost use Rattle.lw_crew.specs.inner.Refusals.{IsMissing};
 ghost use Rattle.lw_crew.specs.declared.job.Done.{Done as Told};
 
 use crate::board::Board;
+use crate::checking::{first_untrue, lengths_of};
 use crate::gathering::gather;
 use crate::job::{CrewFault, Done, Job};
-use crate::checking::{first_untrue, lengths_of};
 use crate::work::work_all;
 use lw_held::{Gate, Pass, Shelf};
 use lw_stamp::NoMemory;

@@ -4,9 +4,9 @@ ghost use Rattle.std.specs.Prelude.{◌≡◌, ◌≤◌, vec_capacity, vec_len,
 ghost use Rattle.lw_crew.specs.Continues.{AllContinue, Continues};
 
 use crate::board::Board;
+use crate::checking::shelf_of;
 use crate::job::{Done, Job, JobOutcome};
 use crate::need::threads_for;
-use crate::checking::shelf_of;
 use lw_held::{Gate, Pass, Shelf};
 use lw_stamp::NoMemory;
 use std::snapshot::Snapshot;

@@ -13,6 +13,7 @@ use Rattle.lw_delta.specs.Writing.{delta_bytes}
 use Rattle.lw_call.specs.declared.merge_fault.MergeFault.{MergeFault}
 use Rattle.lw_call.specs.declared.merge_fault.MergeFault.TheVariants.{Malformed, NoMemory}
 use Rattle.lw_node.specs.Node.{NodeContent}
+
 -- Replicated Data Types, 2011).
 
 -- the state of the slots: the least above each, under its endpoint

@@ -3,6 +3,7 @@ use Rattle.std.specs.Prelude.{◌≡◌, ℕ, ◌<◌, ◌≤◌, ◌⊎◌, Lis
 use Rattle.lw_link.specs.Link.{LinkContent}
 use Rattle.lw_link.specs.Spelling.{Spells}
 use Rattle.lw_link.specs.Printing.{printing}
+
 -- RFC 6690, section 2).
 
 -- the bytes spell 1 to 256 links, and the object list is their printing

@@ -8,6 +8,7 @@ use Rattle.lw_reg.specs.Attribute.{is_attribute_name}
 use Rattle.lw_reg.specs.declared.binding.Binding.{Binding}
 use Rattle.lw_reg.specs.Binding.{binding_text}
 use Rattle.lw_reg.specs.BindingText.{IsBindingText}
+
 -- 6.4.3).
 
 -- a query is split at its first `=`; without one its value is empty

@@ -11,6 +11,7 @@ use Rattle.lw_reg.specs.declared.addr.Addr.{Addr}
 use Rattle.lw_reg.specs.declared.path.Path.{Path}
 use Rattle.lw_reg.specs.Addr.{addr_text, IsAddr}
 use Rattle.lw_reg.specs.Path.{path_numbers}
+
 -- host and a port as in the authority of a URI (RFC 3986, section 3.2), bytes are in base 16 (RFC 4648, section 8).
 
 -- the number is below the limit, and the text is how it is printed

@@ -8,7 +8,7 @@ ghost use Rattle.std.specs.Prelude.{◌≤◌};
 use crate::calls::{REGISTER, reply_text, take};
 use crate::held::steps::settle_alone;
 use crate::hold::{holds, is_text, same};
-use lw_crew::{Crew, CrewFault, Done, Gate, Job, NoGate, JobOutcome, Pass, Shelf, gather};
+use lw_crew::{Crew, CrewFault, Done, Gate, Job, JobOutcome, NoGate, Pass, Shelf, gather};
 use lw_held::{Part, Settled, Unsettled, set_up};
 use std::alloc::{AllocError, Global};
 use std::sync::Wait;

@@ -13,7 +13,11 @@ use std::alloc::Global;
 
 /// The keys that come or go where the second slot is joined to the first, among the keys of both. A slot that
 /// brings or takes none takes no memory.
-pub(crate) fn key_changes(alloc: Global, old: Option<&Slot>, other: &Slot) -> Result<Vec<Key>, NoMemory>
+pub(crate) fn key_changes(
+    alloc: Global,
+    old: Option<&Slot>,
+    other: &Slot,
+) -> Result<Vec<Key>, NoMemory>
     ensures { IfOk result (λ keys. HasKeyChanges (option_copied old.entry) other.now keys.items) }
 {
     let mut keys = Vec::new(alloc);

@@ -5,6 +5,7 @@
 mod copying;
 mod filed;
 mod key;
+mod key_changes;
 mod lifts;
 mod look_ups;
 mod moves;
@@ -13,7 +14,6 @@ mod row;
 mod rows;
 mod since;
 mod table;
-mod key_changes;
 
 pub use key::Key;
 pub use table::Table;

@@ -11,9 +11,9 @@ ghost use Rattle.lw_table.specs.inner.KeyChanges.{HasKeyChanges};
 
 use crate::filed::{Filed, add_due, add_number, drop_number, lower_due, move_number};
 use crate::key::Key;
+use crate::key_changes::key_changes;
 use crate::row::Row;
 use crate::rows::{Rows, end_of};
-use crate::key_changes::key_changes;
 use lw_join::Join;
 use lw_reg::Slot;
 use lw_stamp::NoMemory;

@@ -11,6 +11,7 @@ use Rattle.lw_table.specs.Changes.{Count, Recounts}
 use Rattle.lw_table.specs.Table.{none_counted}
 use Rattle.lw_delta.specs.Delta.{DeltaContent}
 use Rattle.lw_node.specs.Node.{NodeContent}
+
 -- Conflict-free Replicated Data Types, 2011). A program keeps none of it.
 
 -- what a node knows: its number, its clock, the operations that reached it, and how it has counted the changes
