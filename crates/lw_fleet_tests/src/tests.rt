@@ -119,6 +119,7 @@ const LINES: [(&[u8], &[u8]); 5] = [
     (b"40 \r\n", b"40 \r"),
 ];
 
+/// Tries: read_line
 #[test]
 fn lines_end_at_the_first_line_feed(rt: HostRuntime) -> Result<(), Fail> {
     for &(input, line) in &LINES {
@@ -137,6 +138,7 @@ fn length_before_a_fault(alloc: Global, input: &[u8]) -> Result<usize, Fault> {
     Ok(read_line(alloc, &mut FewBytes::new(input, 1, true))?.len())
 }
 
+/// Tries: read_line
 #[test]
 fn a_read_may_fail_behind_the_line_alone(rt: HostRuntime) -> Result<(), Fail> {
     holds(
@@ -158,6 +160,7 @@ fn lengths_read(alloc: Global, length: usize) -> Result<(usize, usize), Fault> {
     Ok((open, ended))
 }
 
+/// Tries: read_line
 #[test]
 fn lines_up_to_the_longest(rt: HostRuntime) -> Result<(), Fail> {
     for &length in &[0, 1, 4095, 4096, 4097, 8192, 100_000, 1_048_575, 1_048_576] {
@@ -179,6 +182,7 @@ fn fills(alloc: Global, most: usize, room: usize, fails: bool) -> (Result<(), Fa
     (result, writer.has_front(b"fleet\n", room))
 }
 
+/// Tries: write_text, write_all, flush
 #[test]
 fn writes_go_on_until_one_takes_nothing(rt: HostRuntime) -> Result<(), Fail> {
     for &(room, fails, result) in &[
@@ -204,6 +208,7 @@ fn flushed(alloc: Global, flush_fails: bool) -> (Result<(), Fault>, usize, bool)
     (result, writer.flushed, writer.has_front(b"fleet\n", 6))
 }
 
+/// Tries: write_text, flush
 #[test]
 fn a_written_text_is_flushed(rt: HostRuntime) -> Result<(), Fail> {
     holds(
@@ -228,6 +233,7 @@ fn spells_long(alloc: Global, digits: usize, count: usize) -> Result<bool, Fail>
     Ok(spells(alloc, &line, &bytes)?)
 }
 
+/// Tries: bytes_of_hex
 #[test]
 fn hex_lines(rt: HostRuntime) -> Result<(), Fail> {
     let rows: [(&[u8], &[u8], Result<bool, Fault>); 6] = [
@@ -250,6 +256,7 @@ fn is_told(alloc: Global, fault: Fault, line: &str) -> bool {
     fault.tell(&mut errors) && errors.as_slice() == line.as_bytes()
 }
 
+/// Tries: Fault::tell
 #[test]
 fn fault_lines(rt: HostRuntime) -> Result<(), Fail> {
     for &(fault, line) in &[
@@ -276,6 +283,7 @@ fn is_told_in_part(alloc: Global, fault: Fault, line: &str, room: usize) -> bool
     !fault.tell(&mut errors) && errors.has_front(line.as_bytes(), room)
 }
 
+/// Tries: Fault::tell
 #[test]
 fn a_fault_line_in_part(rt: HostRuntime) -> Result<(), Fail> {
     let fault = Fault::LineRefused { line: 1024 };
@@ -317,6 +325,7 @@ fn told(alloc: Global, input: &[u8]) -> Result<String, Fail> {
     Ok(String::from_utf8(writer)?)
 }
 
+/// Tries: one
 #[test]
 fn a_line_is_answered(rt: HostRuntime) -> Result<(), Fail> {
     let upper =
@@ -343,6 +352,7 @@ fn told_long(alloc: Global, length: usize) -> Result<String, Fail> {
     told(alloc, &vec![in alloc; b'a'; length]?)
 }
 
+/// Tries: one
 #[test]
 fn the_longest_line_is_answered(rt: HostRuntime) -> Result<(), Fail> {
     same(told_long(rt.alloc(), 1_048_576)?.as_str(), "-\n")?;
@@ -383,6 +393,7 @@ fn is_register_answered(alloc: Global, ones: usize) -> Result<bool, Fail> {
     Ok(longest_answer(alloc, ones)?.as_str() == text.as_str())
 }
 
+/// Tries: one
 #[test]
 fn the_longest_register_is_answered(rt: HostRuntime) -> Result<(), Fail> {
     holds(
@@ -411,6 +422,7 @@ fn failed(
     (result, reader.rest.len(), writer.len())
 }
 
+/// Tries: one
 #[test]
 fn a_refused_address_reads_nothing(rt: HostRuntime) -> Result<(), Fail> {
     for &from in &["x", "127.0.0.1", "[::1]:5683", ""] {
@@ -422,6 +434,7 @@ fn a_refused_address_reads_nothing(rt: HostRuntime) -> Result<(), Fail> {
     Ok(())
 }
 
+/// Tries: one
 #[test]
 fn a_reader_that_fails_is_told(rt: HostRuntime) -> Result<(), Fail> {
     holds(
@@ -445,6 +458,7 @@ fn answered(
     (result, is_front)
 }
 
+/// Tries: one
 #[test]
 fn a_writer_that_fails_is_told(rt: HostRuntime) -> Result<(), Fail> {
     for &(most, room, fails, flush_fails, result) in &[

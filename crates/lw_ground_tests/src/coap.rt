@@ -118,6 +118,7 @@ fn is_written_and_fits(alloc: Global, message: &mut Message) -> Result<(), Fail>
     holds("code 0.00 with more does not fit", !message.fits())
 }
 
+/// Tries: decode, Message::fits
 #[test]
 fn a_register_is_read_and_written(rt: HostRuntime) -> Result<(), Fail> {
     let mut message = decode(rt.alloc(), &REGISTER)?;
@@ -126,6 +127,7 @@ fn a_register_is_read_and_written(rt: HostRuntime) -> Result<(), Fail> {
     is_written_and_fits(rt.alloc(), &mut message)
 }
 
+/// Tries: decode, encode
 #[test]
 fn numbers_add_up(rt: HostRuntime) -> Result<(), Fail> {
     let message = decode(rt.alloc(), HEADS)?;
@@ -198,6 +200,7 @@ fn refuses(alloc: Global, bytes: &[u8], fault: Option<Fault>) -> Result<(), Fail
     Err(Fail::new(format_args!("{bytes:?}: not {fault:?}")))
 }
 
+/// Tries: decode
 #[test]
 fn faults(rt: HostRuntime) -> Result<(), Fail> {
     for (bytes, fault) in &FAULTS {
@@ -231,6 +234,7 @@ fn are_written_again(alloc: Global, bytes: &mut [u8], place: usize) -> Result<bo
     Ok(true)
 }
 
+/// Tries: decode
 #[test]
 fn each_byte_of_a_register_is_changed(rt: HostRuntime) -> Result<(), Fail> {
     for place in 0..41usize {
@@ -254,6 +258,7 @@ fn refuses_long(alloc: Global, head: &[u8], first: u8) -> Result<(), Fail> {
     refuses(alloc, &bytes, Some(Fault::TooLong))
 }
 
+/// Tries: decode
 #[test]
 fn too_long(rt: HostRuntime) -> Result<(), Fail> {
     for head in &TOO_LONG {
@@ -299,6 +304,7 @@ static MESSAGES: [(&[u8], Shape); 14] = [
     ),
 ];
 
+/// Tries: decode, encode
 #[test]
 fn messages(rt: HostRuntime) -> Result<(), Fail> {
     for (bytes, shape) in &MESSAGES {
@@ -342,6 +348,7 @@ static BOUNDS: [(&[u8], usize, Shape); 25] = [
     (&[0xff], 8187, [0, 0, 0, 0, 8187]),
 ];
 
+/// Tries: decode, encode
 #[test]
 fn options_and_payloads_at_the_bounds(rt: HostRuntime) -> Result<(), Fail> {
     for (front, count, shape) in &BOUNDS {
@@ -390,6 +397,7 @@ static RUNS: [(u8, u64, usize); 6] = [
     (0xc1, 12, 4094),
 ];
 
+/// Tries: decode, encode
 #[test]
 fn many_options(rt: HostRuntime) -> Result<(), Fail> {
     for (head, delta, count) in &RUNS {
@@ -404,6 +412,7 @@ fn zeros(alloc: Global) -> Result<Vec<u8>, AllocError> {
     datagram(alloc, &zeros, 0)
 }
 
+/// Tries: decode, encode
 #[test]
 fn empty_options(rt: HostRuntime) -> Result<(), Fail> {
     let bytes = zeros(rt.alloc())?;
@@ -430,6 +439,7 @@ static HEADERS: [(&[u8], Option<(Kind, u8, u16)>); 7] = [
     (&[0x00, 0x01, 0x00, 0x01], None),
 ];
 
+/// Tries: uint, peek_header
 #[test]
 fn numbers_and_headers(rt: HostRuntime) {
     for (bytes, number) in &NUMBERS {

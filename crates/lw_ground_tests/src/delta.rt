@@ -533,6 +533,7 @@ fn accepts(
     holds(text, is_written_as(alloc, &bytes, &again)?)
 }
 
+/// Tries: check, read, Writer::new, Writer::end, laws::written_deltas_are_shortest
 #[test]
 fn deltas_are_read_and_written(rt: HostRuntime) -> Result<(), Fail> {
     for row in &ACCEPTED {
@@ -594,6 +595,7 @@ fn reads(alloc: Global, bytes: &[u8], clock: u64, slots: &str) -> Result<bool, F
     Ok(reader.clock() == clock && text.as_str() == slots && reader.next()?.is_none())
 }
 
+/// Tries: Reader::new, Reader::clock, Reader::next
 #[test]
 fn slots_are_read_one_by_one(rt: HostRuntime) -> Result<(), Fail> {
     for (text, clock, slots) in &SLOTS {
@@ -610,6 +612,7 @@ fn is_truncated(bytes: &[u8], len: usize) -> bool {
     }
 }
 
+/// Tries: check, read, Reader::new
 #[test]
 fn the_first_fault_is_told(rt: HostRuntime) -> Result<(), Fail> {
     for (text, fault) in &REFUSED {

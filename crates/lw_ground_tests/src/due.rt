@@ -39,6 +39,7 @@ fn has_first(moments: &mut DueMoments) -> Result<(), Fail> {
     Ok(())
 }
 
+/// Tries: DueMoments::first
 #[test]
 fn the_least_endpoint_that_is_due(rt: HostRuntime) -> Result<(), Fail> {
     let mut moments = DueMoments::new(rt.alloc());
@@ -58,6 +59,7 @@ fn raises_each(moments: &mut DueMoments) -> Result<(), Fail> {
     holds("due at 41", moments.first(41) == Some("b"))
 }
 
+/// Tries: DueMoments::raise_first
 #[test]
 fn each_is_raised_in_turn(rt: HostRuntime) -> Result<(), Fail> {
     let mut moments = DueMoments::new(rt.alloc());
@@ -80,6 +82,7 @@ fn lowers_two(moments: &mut DueMoments) -> Result<(), Fail> {
     holds("neither is due at 9", moments.first(9).is_none())
 }
 
+/// Tries: DueMoments::add, DueMoments::lower
 #[test]
 fn a_due_moment_is_only_lowered(rt: HostRuntime) -> Result<(), Fail> {
     let mut moments = DueMoments::new(rt.alloc());
@@ -96,6 +99,7 @@ fn is_due_last(moments: &mut DueMoments, endpoint: &str) -> Result<(), Fail> {
     holds("lowered", moments.first(0) == Some(endpoint))
 }
 
+/// Tries: DueMoments::new, DueMoments::add
 #[test]
 fn a_new_endpoint_is_due_at_the_last_moment(rt: HostRuntime) -> Result<(), Fail> {
     let longest = "x".repeat(rt.alloc(), 252)?;
@@ -134,6 +138,7 @@ fn rise_by_bytes(moments: &mut DueMoments) -> Result<(), Fail> {
     holds("rising", has_only(moments, &RISING))
 }
 
+/// Tries: DueMoments::add, DueMoments::first, DueMoments::lower, DueMoments::raise_first
 #[test]
 fn endpoints_rise_by_their_bytes(rt: HostRuntime) -> Result<(), Fail> {
     let mut moments = DueMoments::new(rt.alloc());
@@ -160,6 +165,7 @@ fn adds_endpoint(moments: &mut DueMoments, count: usize, endpoint: &str) -> Resu
     Ok(moments.add(endpoint).is_ok() && has_only(moments, after))
 }
 
+/// Tries: DueMoments::add
 #[test]
 fn a_refused_add_leaves_the_endpoints(rt: HostRuntime) -> Result<(), Fail> {
     let mut moments = DueMoments::new(rt.alloc());

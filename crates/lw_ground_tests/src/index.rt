@@ -33,6 +33,7 @@ fn goes_and_comes(index: &mut Index<u32>, longest: &str) -> Result<(), Fail> {
     holds("the other key", has_only(index, 8, &["c"]))
 }
 
+/// Tries: Index::new, Index::add, Index::drop_one, Index::of
 #[test]
 fn the_endpoints_of_a_key(rt: HostRuntime) -> Result<(), Fail> {
     let longest = "x".repeat(rt.alloc(), 252)?;
@@ -51,6 +52,7 @@ fn keeps_the_other(index: &mut Index<u32>) -> Result<(), Fail> {
     holds("still the other", has_only(index, 7, &["a"]))
 }
 
+/// Tries: Index::add, Index::drop_one, Index::of
 #[test]
 fn a_key_keeps_what_is_not_dropped(rt: HostRuntime) -> Result<(), Fail> {
     let mut index = Index::new(rt.alloc());
@@ -79,6 +81,7 @@ fn has_a_hundred(alloc: Global, index: &Index<u32>) -> Result<bool, NoMemory> {
     Ok(endpoints.next().is_none())
 }
 
+/// Tries: Index::add
 #[test]
 fn a_hundred_endpoints_of_a_key(rt: HostRuntime) -> Result<(), Fail> {
     let mut index = Index::new(rt.alloc());
@@ -104,6 +107,7 @@ fn adds_endpoint(index: &mut Index<u32>, count: usize, endpoint: &str) -> Result
     Ok(has_only(index, 7, after))
 }
 
+/// Tries: Index::add
 #[test]
 fn a_refused_add_leaves_the_endpoints_of_a_key(rt: HostRuntime) -> Result<(), Fail> {
     let mut index = Index::new(rt.alloc());
@@ -137,6 +141,7 @@ fn adds_key(index: &mut Index<u32>, key: u32) -> Result<bool, NoMemory> {
     Ok(is_filled_below(index, key.saturating_add(1)))
 }
 
+/// Tries: Index::add
 #[test]
 fn a_refused_add_leaves_the_keys(rt: HostRuntime) -> Result<(), Fail> {
     let mut index = Index::new(rt.alloc());

@@ -55,6 +55,7 @@ static SPELLINGS: [(&str, &str); 11] = [
     ("</3/0>;A-z.0_*=1;b", "</3/0>;A-z.0_*=1;b"),
 ];
 
+/// Tries: read, well_formed, LinkText::read, LinkText::as_str
 #[test]
 fn spellings_of_the_grammar(rt: HostRuntime) -> Result<(), Fail> {
     for (given, printed) in &SPELLINGS {
@@ -120,6 +121,7 @@ fn are_no_text(alloc: Global) -> bool {
     half == Some(LinkFault::NotText) && none == Some(LinkFault::NotText) && !is_printing(b"<\xff>")
 }
 
+/// Tries: read
 #[test]
 fn near_misses(rt: HostRuntime) -> Result<(), Fail> {
     for (text, place) in &NEAR_MISSES {
@@ -144,6 +146,7 @@ static COUNTS: [(usize, Result<usize, LinkFault>); 2] = [
     (256, Err(LinkFault::TooMany)),
 ];
 
+/// Tries: read
 #[test]
 fn at_most_256_links(rt: HostRuntime) -> Result<(), Fail> {
     for row in &COUNTS {
@@ -207,6 +210,7 @@ fn prints_printing(alloc: Global, parts: &[Part], length: usize) -> Result<(), F
     prints(alloc, given.as_str(), given.as_str())
 }
 
+/// Tries: read, print, is_printing, LinkText::of_printing, LinkText::read, LinkText::copy_of
 #[test]
 fn printings_at_their_bounds(rt: HostRuntime) -> Result<(), Fail> {
     for (parts, length) in &PRINTINGS {
@@ -247,6 +251,7 @@ fn prints_spelling(alloc: Global, spelling: &[Part], printing: &[Part]) -> Resul
     prints(alloc, given.as_str(), want.as_str())
 }
 
+/// Tries: print, is_printing, LinkText::read
 #[test]
 fn long_spellings_are_printed(rt: HostRuntime) -> Result<(), Fail> {
     for (spelling, printing) in &LONG_SPELLINGS {

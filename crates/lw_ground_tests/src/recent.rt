@@ -34,6 +34,7 @@ fn moves_and_goes(recent: &mut Recent, longest: &str) -> Result<(), Fail> {
     holds("above the last", has_only(recent, Some(9), &[]))
 }
 
+/// Tries: Recent::new, Recent::add, Recent::drop_one, Recent::move_to, Recent::since
 #[test]
 fn endpoints_under_numbers(rt: HostRuntime) -> Result<(), Fail> {
     let longest = "x".repeat(rt.alloc(), 252)?;
@@ -52,6 +53,7 @@ fn tells_them_apart(recent: &mut Recent) -> Result<(), Fail> {
     holds("none above", has_only(recent, Some(u64::MAX), &[]))
 }
 
+/// Tries: Recent::drop_one
 #[test]
 fn endpoints_of_one_number(rt: HostRuntime) -> Result<(), Fail> {
     let mut recent = Recent::new(rt.alloc());
@@ -67,6 +69,7 @@ fn comes_and_goes(recent: &mut Recent, number: u64) -> Result<bool, NoMemory> {
     Ok(moved && has_only(recent, None, &["a"]))
 }
 
+/// Tries: Recent::add, Recent::move_to, Recent::since
 #[test]
 fn what_comes_and_goes_leaves_the_others(rt: HostRuntime) -> Result<(), Fail> {
     let mut recent = Recent::new(rt.alloc());
@@ -94,6 +97,7 @@ fn adds_endpoint(recent: &mut Recent, count: usize, endpoint: &str) -> Result<bo
     Ok(has_only(recent, None, after))
 }
 
+/// Tries: Recent::add
 #[test]
 fn a_refused_add_leaves_the_endpoints(rt: HostRuntime) -> Result<(), Fail> {
     let mut recent = Recent::new(rt.alloc());

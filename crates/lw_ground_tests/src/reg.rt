@@ -88,6 +88,7 @@ static NO_ADDRESSES: [&str; 22] = [
     "[2001:0db8:0000:0000:0000:0000:0000:00ff]:",
 ];
 
+/// Tries: Addr::print, Addr::read
 #[test]
 fn addresses_are_read_and_printed(rt: HostRuntime) -> Result<(), Fail> {
     for (text, address) in &ADDRESSES {
@@ -136,6 +137,7 @@ fn is_version(text: &str, version: Version) -> bool {
     Version::read(text) == Some(version) && version.as_str() == text
 }
 
+/// Tries: Binding::read, Binding::as_str, Binding::default, Version::read, Version::as_str
 #[test]
 fn bindings_and_versions_have_texts() -> Result<(), Fail> {
     for text in &BINDINGS {
@@ -154,6 +156,7 @@ fn bindings_and_versions_have_texts() -> Result<(), Fail> {
     Ok(())
 }
 
+/// Tries: laws::addresses_are_ordered, laws::versions_are_ordered
 #[test]
 fn addresses_and_versions_are_ordered() -> Result<(), Fail> {
     holds("the port", LOW < OTHER_PORT)?;

@@ -72,6 +72,7 @@ fn check(alloc: Global, cases: &str) -> Result<(), Fail> {
     Ok(())
 }
 
+/// Tries: understand
 #[test]
 fn requests_have_meanings(rt: HostRuntime) -> Result<(), Fail> {
     check(rt.alloc(), cases::REGISTERS)?;
@@ -80,6 +81,7 @@ fn requests_have_meanings(rt: HostRuntime) -> Result<(), Fail> {
     check(rt.alloc(), cases::UPDATES)
 }
 
+/// Tries: understand, Refusal::code
 #[test]
 fn the_first_cause_refuses(rt: HostRuntime) -> Result<(), Fail> {
     check(rt.alloc(), cases::UNRECOGNISED)?;
@@ -88,6 +90,7 @@ fn the_first_cause_refuses(rt: HostRuntime) -> Result<(), Fail> {
     check(rt.alloc(), cases::PATHS)
 }
 
+/// Tries: understand
 #[test]
 fn messages_have_roles_and_reports_no_critical_option(rt: HostRuntime) -> Result<(), Fail> {
     check(rt.alloc(), cases::ROLES)?;
@@ -150,6 +153,7 @@ static LONG: [(&str, &str, usize, &str); 9] = [
     ),
 ];
 
+/// Tries: understand
 #[test]
 fn long_queries_and_lists_are_refused(rt: HostRuntime) -> Result<(), Fail> {
     for (front, part, count, want) in &LONG {
@@ -215,6 +219,7 @@ fn empty_answers_have_the_number() -> bool {
         && ack(0xfedc) == [0x60, 0x00, 0xfe, 0xdc]
 }
 
+/// Tries: answer, reset, ack
 #[test]
 fn answers_have_the_token_and_the_location(rt: HostRuntime) -> Result<(), Fail> {
     for (datagram, code, is_made, want) in &ANSWERS {

@@ -41,6 +41,7 @@ fn is_spelled(stamp: Stamp, bytes: [u8; 8], id: &[u8]) -> bool {
         && Stamp::read_id(id) == Some(stamp)
 }
 
+/// Tries: Stamp::to_bytes, Stamp::from_bytes, Stamp::id_text, Stamp::read_id
 #[test]
 fn stamps_have_bytes_and_identifiers() -> Result<(), Fail> {
     for row in &STAMPS {
@@ -69,6 +70,7 @@ const LATER: Stamp = Stamp {
     node: 2,
 };
 
+/// Tries: laws::stamps_are_ordered
 #[test]
 fn the_counter_comes_before_the_node() -> Result<(), Fail> {
     laws::stamps_are_ordered();
@@ -76,6 +78,8 @@ fn the_counter_comes_before_the_node() -> Result<(), Fail> {
     holds("the node", LATE < LATER)
 }
 
+/// Tries: Clock::new, Clock::default, Clock::counter, Clock::next, Clock::raise, Moment::new, Moment::ms
+/// Tries: laws::moments_have_a_last
 #[test]
 fn clocks_and_moments_end_below_2_to_the_48() -> Result<(), Fail> {
     let mut clock = Clock::new();
@@ -130,6 +134,7 @@ static TEXTS: [(&str, usize, usize); 12] = [
     ("\u{10000}", 2048, 8192),
 ];
 
+/// Tries: Text::copy_of, Text::from, Text::as_str, Text::into_string
 #[test]
 fn texts_keep_their_bytes(rt: HostRuntime) -> Result<(), Fail> {
     for row in &TEXTS {
@@ -146,6 +151,7 @@ fn is_below(alloc: Global, left: &str, right: &str) -> Result<bool, NoMemory> {
     Ok(left < right && left != right)
 }
 
+/// Tries: laws::texts_are_ordered
 #[test]
 fn texts_compare_by_bytes(rt: HostRuntime) -> Result<(), Fail> {
     laws::texts_are_ordered();

@@ -119,6 +119,7 @@ fn is_read(alloc: Global, line: &str) -> bool {
     read_line(alloc, line).is_ok()
 }
 
+/// Tries: read_line
 #[test]
 fn lines_are_read(rt: HostRuntime) -> Result<(), Fail> {
     for line in &LINES {
@@ -131,6 +132,7 @@ fn is_refused(alloc: Global, line: &str) -> bool {
     matches!(read_line(alloc, line), Err(LineFault::Refused))
 }
 
+/// Tries: read_line
 #[test]
 fn other_lines_are_refused(rt: HostRuntime) -> Result<(), Fail> {
     for line in &REFUSED {
@@ -151,6 +153,7 @@ const DIGITS: [(&[u8], bool); 8] = [
     (b" 00 ", false),
 ];
 
+/// Tries: is_hex
 #[test]
 fn digits_of_whole_bytes() -> Result<(), Fail> {
     for (text, are_digits) in DIGITS {

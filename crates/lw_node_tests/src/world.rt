@@ -27,6 +27,7 @@ fn clock(world: &World, number: u16) -> Option<u64> {
     Some(world.node(number)?.clock())
 }
 
+/// Tries: World::node
 #[test]
 fn nodes_are_found_by_number(rt: HostRuntime) -> Result<(), Fail> {
     let world = ran(rt.alloc())?;
@@ -36,6 +37,7 @@ fn nodes_are_found_by_number(rt: HostRuntime) -> Result<(), Fail> {
     holds("no node 3", clock(&world, 3).is_none())
 }
 
+/// Tries: World::message
 #[test]
 fn messages_are_found_by_number(rt: HostRuntime) -> Result<(), Fail> {
     let world = ran(rt.alloc())?;

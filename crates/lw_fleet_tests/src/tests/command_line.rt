@@ -14,6 +14,7 @@ fn asked<'a>(alloc: Global, words: &'a [&'a str]) -> Result<Request<'a>, Fail> {
     Ok(read_request(alloc, words)?)
 }
 
+/// Tries: read_request
 #[test]
 fn a_replay(rt: HostRuntime) -> Result<(), Fail> {
     holds(
@@ -50,6 +51,7 @@ const GIVEN_TO_ONE: [(&[&str], (u16, u64, &str)); 5] = [
     (&["fleet", "one", "--from="], (1, 0, "")),
 ];
 
+/// Tries: read_request
 #[test]
 fn options(rt: HostRuntime) -> Result<(), Fail> {
     for &(words, given) in &GIVEN_TO_ONE {
@@ -92,6 +94,7 @@ Options:
   -V, --version  Print version
 |";
 
+/// Tries: read_request, program
 #[test]
 fn help_of_the_program(rt: HostRuntime) -> Result<(), Fail> {
     for &word in &["--help", "-h", "help"] {
@@ -113,6 +116,7 @@ Options:
   -h, --help         Print help
 |";
 
+/// Tries: read_request, program
 #[test]
 fn help_of_one(rt: HostRuntime) -> Result<(), Fail> {
     for words in [["fleet", "one", "--help"], ["fleet", "help", "one"]] {
@@ -122,6 +126,7 @@ fn help_of_one(rt: HostRuntime) -> Result<(), Fail> {
     Ok(())
 }
 
+/// Tries: read_request
 #[test]
 fn help_of_replay(rt: HostRuntime) -> Result<(), Fail> {
     let text = printed(&rt, rt.alloc(), &["fleet", "replay", "--help"])?;
@@ -138,6 +143,7 @@ Options:
     )
 }
 
+/// Tries: read_request
 #[test]
 fn help_of_serve(rt: HostRuntime) -> Result<(), Fail> {
     let text = printed(&rt, rt.alloc(), &["fleet", "serve", "--help"])?;
@@ -205,6 +211,7 @@ const GIVEN_TO_SERVE: [(&[&str], Given); 4] = [
     ),
 ];
 
+/// Tries: read_request
 #[test]
 fn options_to_serve(rt: HostRuntime) -> Result<(), Fail> {
     for &(words, given) in &GIVEN_TO_SERVE {
@@ -244,6 +251,7 @@ const REFUSED_BY_SERVE: [(&str, &str, &str, &str); 14] = [
     ("1", "--cut", "", BAD_CUT),
 ];
 
+/// Tries: read_request
 #[test]
 fn refused_words_of_serve(rt: HostRuntime) -> Result<(), Fail> {
     for &(count, option, number, line) in &REFUSED_BY_SERVE {
@@ -256,6 +264,7 @@ fn refused_words_of_serve(rt: HostRuntime) -> Result<(), Fail> {
     Ok(())
 }
 
+/// Tries: read_request
 #[test]
 fn a_count_has_to_be_given(rt: HostRuntime) -> Result<(), Fail> {
     let line = "the following required arguments were not provided:\n  --count <K>";
@@ -266,6 +275,7 @@ fn a_count_has_to_be_given(rt: HostRuntime) -> Result<(), Fail> {
     )
 }
 
+/// Tries: read_request, program
 #[test]
 fn the_version(rt: HostRuntime) -> Result<(), Fail> {
     for &flag in &["--version", "-V"] {
@@ -367,6 +377,7 @@ const REFUSED_WORDS: [(&[&str], &str, &str); 14] = [
     ),
 ];
 
+/// Tries: read_request, program
 #[test]
 fn refused_words(rt: HostRuntime) -> Result<(), Fail> {
     for &(words, line, usage) in &REFUSED_WORDS {
@@ -390,6 +401,7 @@ const REFUSED_BY_ONE: [(&str, &str, &str); 7] = [
     ("--now", "0x1", BAD_NOW),
 ];
 
+/// Tries: read_request
 #[test]
 fn refused_numbers(rt: HostRuntime) -> Result<(), Fail> {
     for &(option, number, line) in &REFUSED_BY_ONE {

@@ -34,6 +34,7 @@ fn fault_is_told(alloc: Global, fault: Fault) -> Result<(), Fail> {
     same(str::from_utf8(&line)?, want.as_str())
 }
 
+/// Tries: Fault::tell
 #[test]
 fn faults_of_one_and_replay(rt: HostRuntime) -> Result<(), Fail> {
     for &fault in &FAULTS {
@@ -64,6 +65,7 @@ fn serving_fault_is_told(alloc: Global, fault: ServingFault) -> Result<(), Fail>
     same(str::from_utf8(&line)?, want.as_str())
 }
 
+/// Tries: ServingFault::tell, program
 #[test]
 fn faults_of_serve(rt: HostRuntime) -> Result<(), Fail> {
     for &fault in &SERVING_FAULTS {

@@ -145,6 +145,7 @@ const ROWS: [Row; 11] = [
     ),
 ];
 
+/// Tries: program, Ending::status
 #[test]
 fn endings(rt: HostRuntime) -> Result<(), Fail> {
     for &(words, input, status, output, errors, unread) in &ROWS {
@@ -160,6 +161,7 @@ fn run_long<R: Threads + Wait + Sync>(rt: &R, alloc: Global, length: usize) -> R
     run_with(rt, alloc, &["fleet"], &input)
 }
 
+/// Tries: program
 #[test]
 fn a_line_that_is_too_long_ends_the_run(rt: HostRuntime) -> Result<(), Fail> {
     let ended = run_long(&rt, rt.alloc(), 1_048_577)?;
@@ -169,6 +171,7 @@ fn a_line_that_is_too_long_ends_the_run(rt: HostRuntime) -> Result<(), Fail> {
     )
 }
 
+/// Tries: program
 #[test]
 fn a_reader_that_fails_ends_the_run(rt: HostRuntime) -> Result<(), Fail> {
     let words = Ok(["fleet"].to_vec(rt.alloc())?);
@@ -221,6 +224,7 @@ fn fails_with_its_writer<R: Threads + Wait + Sync>(
     )
 }
 
+/// Tries: program
 #[test]
 fn a_writer_that_fails_ends_the_run(rt: HostRuntime) -> Result<(), Fail> {
     for word in ["one", "--version", "--help"] {
@@ -253,6 +257,7 @@ fn untold<R: Threads + Wait + Sync>(
     Ok((ending, errors.taken.as_slice() == taken))
 }
 
+/// Tries: program
 #[test]
 fn standard_error_changes_no_status(rt: HostRuntime) -> Result<(), Fail> {
     let rows: [(&[&str], usize, u8, &[u8]); 4] = [
@@ -289,6 +294,7 @@ fn run_without_words<R: Threads + Wait + Sync>(rt: &R, alloc: Global, kind: Erro
     run_on(rt, alloc, &words, reader, &mut NoServer)
 }
 
+/// Tries: not_utf8, program
 #[test]
 fn words_that_cannot_be_had(rt: HostRuntime) -> Result<(), Fail> {
     for &(kind, status, line) in &[

@@ -32,6 +32,7 @@ fn replayed(alloc: Global, script: &[u8]) -> Result<String, Fail> {
     Ok(String::from_utf8(writer)?)
 }
 
+/// Tries: lw_print::outcome_line, replay
 #[test]
 fn a_script_prints_its_lines(rt: HostRuntime) -> Result<(), Fail> {
     let Some(front) = SCRIPT.strip_suffix('\n') else {
@@ -72,6 +73,7 @@ joined 1
 {"address":"127.0.0.1:5683","attributes":{"x":"3","y":""},"binding":"U","endpoint":"a","id":"0000000000010001","lifetime":86400,"lwm2m":"1.0","objects":"</>","queue":false,"seen":0,"sms":null}
 "#;
 
+/// Tries: replay
 #[test]
 fn attributes_of_two_nodes(rt: HostRuntime) -> Result<(), Fail> {
     let lines = replayed(rt.alloc(), ATTRIBUTES.as_bytes())?;
@@ -128,6 +130,7 @@ swept 0000000000010001
 no node
 "#;
 
+/// Tries: lw_print::outcome_line
 #[test]
 fn what_is_swept_at_one_node_is_updated_at_another(rt: HostRuntime) -> Result<(), Fail> {
     let lines = replayed(rt.alloc(), SWEPT.as_bytes())?;
@@ -156,6 +159,7 @@ const REFUSED: [(&[u8], usize); 11] = [
     (b"nodes 1\nsend 1 0\ndeliver 1 4294967296\n", 3),
 ];
 
+/// Tries: replay
 #[test]
 fn refused_scripts(rt: HostRuntime) -> Result<(), Fail> {
     for &(script, line) in &REFUSED {
@@ -195,6 +199,7 @@ fn outcome_of_blanks(alloc: Global, count: usize) -> Result<(Result<(), Fault>, 
     Ok(outcome(alloc, FewBytes::new(&blanks, 5, false)))
 }
 
+/// Tries: replay, read_all
 #[test]
 fn the_longest_script(rt: HostRuntime) -> Result<(), Fail> {
     let (too_long, refused) = (Err(Fault::TooLong), Err(Fault::LineRefused { line: 1 }));
@@ -213,6 +218,7 @@ fn the_longest_script(rt: HostRuntime) -> Result<(), Fail> {
     )
 }
 
+/// Tries: replay
 #[test]
 fn a_reader_that_fails_after_any_byte(rt: HostRuntime) -> Result<(), Fail> {
     let script = SCRIPT.as_bytes();
@@ -244,6 +250,7 @@ fn written(
     )
 }
 
+/// Tries: replay
 #[test]
 fn a_writer_that_fails_after_any_byte(rt: HostRuntime) -> Result<(), Fail> {
     let failed = (Err(Fault::WriteFailed), true);
@@ -254,6 +261,7 @@ fn a_writer_that_fails_after_any_byte(rt: HostRuntime) -> Result<(), Fail> {
     Ok(())
 }
 
+/// Tries: replay
 #[test]
 fn a_writer_that_takes_a_byte_at_a_time(rt: HostRuntime) -> Result<(), Fail> {
     let failed = Err(Fault::WriteFailed);

@@ -69,6 +69,7 @@ fn served<R: Threads + Wait + Sync, V: Serves>(
     Ok(run_on(rt, alloc, &words, reader, server))
 }
 
+/// Tries: program, Serves::serve
 #[test]
 fn a_server_that_settles(rt: HostRuntime) -> Result<(), Fail> {
     let mut server = Server {
@@ -98,6 +99,7 @@ fn stopped<R: Threads + Wait + Sync, V: Serves>(
     Ok((ended.ending, ended.shows(1, "", line, 1)))
 }
 
+/// Tries: program, Serves::serve
 #[test]
 fn a_server_that_stops(rt: HostRuntime) -> Result<(), Fail> {
     let mut server = Server {
@@ -168,6 +170,7 @@ fn is_told_in_part(alloc: Global, fault: ServingFault, line: &str, room: usize) 
     !fault.tell(&mut errors) && errors.has_front(line.as_bytes(), room)
 }
 
+/// Tries: ServingFault::tell, program
 #[test]
 fn lines_of_serving_faults(rt: HostRuntime) -> Result<(), Fail> {
     for &(fault, line) in &LINES {

@@ -10,6 +10,7 @@ fn read_in_two_tries(alloc: Global, bytes: &[u8]) -> Result<Message, Fault> {
     }
 }
 
+/// Tries: decode
 #[test]
 fn a_refused_decode_gives_the_message_when_it_is_made_again(rt: HostRuntime) -> Result<(), Fail> {
     let message = read_in_two_tries(rt.alloc(), &REGISTER)?;

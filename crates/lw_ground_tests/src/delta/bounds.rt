@@ -130,6 +130,7 @@ Some((Stamp { counter: 281474976710655, node: 1 }, 4294967295)) \
 Some((Stamp { counter: 281474976710655, node: 1 }, Binding { letters: [65, 66, 67, 68, 69, 70, 71, 72] })) \
 Some(Stamp { counter: 281474976710655, node: 1 })";
 
+/// Tries: read, Writer::slot
 #[test]
 fn the_longest_fields_are_read_and_written_again(rt: HostRuntime) -> Result<(), Fail> {
     let rows = [
@@ -182,6 +183,7 @@ fn reads_many(alloc: Global, bytes: &[u8]) -> Result<bool, DeltaFault> {
     }
 }
 
+/// Tries: read, Writer::slot
 #[test]
 fn three_hundred_slots_are_read_and_written_again(rt: HostRuntime) -> Result<(), Fail> {
     let bytes = many(rt.alloc())?;
@@ -230,6 +232,7 @@ fn reads_attribute(alloc: Global, bytes: &[u8], name: u8, value: u8) -> Result<b
     }
 }
 
+/// Tries: read, Writer::slot, Writer::end
 #[test]
 fn the_longest_attributes_are_read_and_written_again(rt: HostRuntime) -> Result<(), Fail> {
     for (name, value) in [(1, 0), (1, 253), (127, 127), (253, 1), (254, 0), (255, 0)] {
@@ -246,6 +249,7 @@ fn the_longest_attributes_are_read_and_written_again(rt: HostRuntime) -> Result<
     Ok(())
 }
 
+/// Tries: check
 #[test]
 fn a_name_and_its_value_have_room_in_a_query(rt: HostRuntime) -> Result<(), Fail> {
     for (name, value) in [(1, 254), (127, 128), (253, 2), (254, 1), (255, 1)] {

@@ -75,12 +75,16 @@ fn is_as_listed(alloc: Global, moments: &mut DueMoments, step: usize) -> Result<
     Ok(())
 }
 
+/// Tries: DueMoments::add, DueMoments::lower, laws::an_entry_is_put_in, laws::an_entry_is_lowered
+/// Tries: laws::the_first_is_the_least
 #[test]
 fn a_thousand_that_come_rising(rt: HostRuntime) -> Result<(), Fail> {
     let mut moments = DueMoments::new(rt.alloc());
     is_as_listed(rt.alloc(), &mut moments, 1)
 }
 
+/// Tries: DueMoments::add, DueMoments::raise_first, laws::an_entry_is_put_in, laws::the_first_is_raised
+/// Tries: laws::the_first_is_the_least
 #[test]
 fn a_thousand_that_come_scattered(rt: HostRuntime) -> Result<(), Fail> {
     let mut moments = DueMoments::new(rt.alloc());

@@ -367,6 +367,7 @@ fn slots_are_copied(alloc: Global) -> Result<(), Fail> {
     holds("whole slots", whole_slots_are_copied(alloc)?)
 }
 
+/// Tries: Copied::copy
 #[test]
 fn each_kind_of_value_is_copied(rt: HostRuntime) -> Result<(), Fail> {
     values_are_copied(rt.alloc())?;

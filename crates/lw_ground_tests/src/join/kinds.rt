@@ -34,6 +34,7 @@ static FLAGS: [Case<bool>; 4] = [
     (true, true, true, true),
 ];
 
+/// Tries: Join::le, Join::join_with, Calm::join_calm
 #[test]
 fn a_raised_flag_stays_raised() -> Result<(), Fail> {
     laws::joins_are_semilattices::<Flag>();
@@ -62,6 +63,7 @@ static VALUES: [Case<Option<u32>>; 6] = [
     (Some(5), Some(5), true, Some(5)),
 ];
 
+/// Tries: Join::le, Join::join_with, Calm::join_calm
 #[test]
 fn the_greater_value_counts() -> Result<(), Fail> {
     for case in &VALUES {
@@ -101,6 +103,7 @@ static WRITES: [Case<Option<(Mark, u16)>>; 6] = [
     ),
 ];
 
+/// Tries: Join::le, Join::join_with, Calm::join_calm
 #[test]
 fn the_last_write_wins() -> Result<(), Fail> {
     for (row, case) in WRITES.iter().enumerate() {
@@ -130,6 +133,7 @@ static LAST_WRITES: [Case<(Mark, u16)>; 5] = [
     ((Fourth, 4), (Fourth, 3), false, (Fourth, 4)),
 ];
 
+/// Tries: Join::le, Join::join_with, Calm::join_calm
 #[test]
 fn the_last_write_that_is_always_there_wins() -> Result<(), Fail> {
     for (row, case) in LAST_WRITES.iter().enumerate() {
@@ -212,6 +216,7 @@ static PARTED: [Case<Parted>; 9] = [
     ),
 ];
 
+/// Tries: Join::le, Join::join_with, Calm::join_calm
 #[test]
 fn stamped_values_that_may_be_gone_join_in_pairs() -> Result<(), Fail> {
     for (row, case) in PARTED.iter().enumerate() {
@@ -261,6 +266,7 @@ static MAPS: [Case<Entries>; 7] = [
     ),
 ];
 
+/// Tries: laws::maps_join_key_by_key, Join::le, Join::join_with
 #[test]
 fn maps_join_key_by_key(rt: HostRuntime) -> Result<(), Fail> {
     for case in &MAPS {
@@ -295,6 +301,7 @@ fn two_maps_join(
     Ok(is_below && are_joined && maps.is_empty() == is_empty)
 }
 
+/// Tries: Both::is_empty, Join::le, Join::join_with
 #[test]
 fn two_maps_join_at_once(rt: HostRuntime) -> Result<(), Fail> {
     for left in &MAPS {
@@ -323,6 +330,8 @@ fn has_three(map: Parts<u16, Flag>) -> bool {
     is_read && are_entries(&entries, &[(2, false), (4, true), (7, true)])
 }
 
+/// Tries: Parts::new, Parts::one, Parts::entries, Parts::into_entries, Parts::from_entries, Parts::len
+/// Tries: Parts::is_empty, Parts::get
 #[test]
 fn maps_are_their_entries(rt: HostRuntime) -> Result<(), Fail> {
     for rows in &NO_MAPS {

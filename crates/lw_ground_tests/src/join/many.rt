@@ -124,6 +124,7 @@ fn joins_missing(alloc: Global, missing: u32) -> Result<bool, NoMemory> {
     Ok(joins_as_wanted(alloc, &EVEN, &all)? && joins_as_wanted(alloc, &few, &all)?)
 }
 
+/// Tries: Join::join_with
 #[test]
 fn maps_of_many_keys_join(rt: HostRuntime) -> Result<(), Fail> {
     for (what, left, right) in &CASES {
@@ -144,6 +145,7 @@ fn joins_in_place(alloc: Global) -> Option<bool> {
     Some(is_joined && is_as_wanted(&map, &ALL, &EVEN))
 }
 
+/// Tries: Join::join_with
 #[test]
 fn a_refused_growth_leaves_a_join_in_place(rt: HostRuntime) -> Result<(), Fail> {
     holds("in place", joins_in_place(rt.alloc()) != Some(false))

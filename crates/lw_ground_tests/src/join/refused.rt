@@ -51,6 +51,7 @@ fn is_joined_or_left(alloc: Global, case: (Entries, Entries, Entries)) -> Result
     Ok(are_entries(left.entries(), wanted))
 }
 
+/// Tries: Join::join_with
 #[test]
 fn a_refused_join_leaves_a_map_as_it_was(rt: HostRuntime) -> Result<(), Fail> {
     for case in &CASES {
@@ -83,6 +84,7 @@ fn are_joined_or_left(
     Ok(are_entries(maps.left.entries(), left) && are_entries(maps.right.entries(), right))
 }
 
+/// Tries: Join::join_with
 #[test]
 fn a_refused_join_leaves_both_maps_as_they_were(rt: HostRuntime) -> Result<(), Fail> {
     for left in &CASES {
@@ -120,6 +122,7 @@ fn is_beside_joined_or_left(alloc: Global) -> Result<bool, Fail> {
     Ok(has(&left, wanted, is_joined))
 }
 
+/// Tries: Join::join_with
 #[test]
 fn a_refused_join_leaves_a_map_beside_and_behind_others(rt: HostRuntime) -> Result<(), Fail> {
     holds("stamped, in a pair", is_beside_joined_or_left(rt.alloc())?)

@@ -29,6 +29,7 @@ fn are_printed(alloc: Global, links: &[Link], want: &str) -> Result<bool, NoMemo
     Ok(text.as_str() == want)
 }
 
+/// Tries: read, print
 #[test]
 fn a_refused_read_or_print_gives_the_links_when_it_is_made_again(
     rt: HostRuntime,
@@ -51,6 +52,7 @@ fn is_kept_in_two_tries(alloc: Global, given: &str, want: &str) -> Result<bool, 
     Ok(text.as_str() == want)
 }
 
+/// Tries: LinkText::read
 #[test]
 fn a_refused_link_text_is_kept_when_it_is_read_again(rt: HostRuntime) -> Result<(), Fail> {
     holds("kept", is_kept_in_two_tries(rt.alloc(), SPACED, PRINTED)?)

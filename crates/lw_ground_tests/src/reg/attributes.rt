@@ -43,6 +43,7 @@ fn attributes(
     Ok(Attributes::from_pairs(pairs))
 }
 
+/// Tries: is_attribute_name
 #[test]
 fn names_are_of_attributes_or_not(rt: HostRuntime) -> Result<(), Fail> {
     for case in &NAMES {
@@ -75,6 +76,7 @@ fn is_pair(attributes: &Attributes, name: usize, value: usize) -> bool {
     }
 }
 
+/// Tries: Attributes::from_pairs, Attributes::as_slice
 #[test]
 fn names_and_values_have_room_in_a_query(rt: HostRuntime) -> Result<(), Fail> {
     for case in &LENGTHS {
@@ -95,6 +97,7 @@ static PAIRS: [(&str, &str, bool); 4] = [
     ("a", "a", false),
 ];
 
+/// Tries: Attributes::from_pairs
 #[test]
 fn names_of_attributes_rise(rt: HostRuntime) -> Result<(), Fail> {
     for case in &PAIRS {

@@ -106,6 +106,8 @@ fn joins_in_each_order(
     Ok(())
 }
 
+/// Tries: atom, atom_with_endpoint, laws::atoms_are_states, Slot::join_with, Slot::view, Attributes::new
+/// Tries: Attributes::into_pairs
 #[test]
 fn operations_join_in_each_order(rt: HostRuntime) -> Result<(), Fail> {
     for (changes, ms, wanted) in &SCENES {
@@ -148,6 +150,7 @@ fn is_shown_until(slot: &Slot, end: u64) -> bool {
         && slot.expired(at(end))
 }
 
+/// Tries: Slot::view, Slot::expired, Slot::is_removed
 #[test]
 fn what_is_removed_registers_once_more_and_expires(rt: HostRuntime) -> Result<(), Fail> {
     let mut slot = joined(rt.alloc(), REGISTERED, REMOVED)?;
@@ -194,6 +197,7 @@ fn loses_its_watches(alloc: Global, slot: &mut Slot) -> Result<(), Fail> {
     holds("all end", slot.watches().is_empty())
 }
 
+/// Tries: Slot::join_with, Slot::watch, Slot::watching, Slot::token_at, Slot::watches
 #[test]
 fn a_watch_is_cancelled_or_ends(rt: HostRuntime) -> Result<(), Fail> {
     let mut slot = joined(rt.alloc(), REGISTERED, &WATCHED)?;
@@ -304,6 +308,7 @@ fn ends(alloc: Global, changes: &[Change<'_>], told: Told) -> Result<(), Fail> {
     holds_for(&changes.len(), tells(&slot, told))
 }
 
+/// Tries: atom, Slot::lift
 #[test]
 fn what_was_seen_is_over(rt: HostRuntime) -> Result<(), Fail> {
     for (changes, told) in &ENDS {
@@ -313,6 +318,7 @@ fn what_was_seen_is_over(rt: HostRuntime) -> Result<(), Fail> {
 }
 
 /// An end before all that it is about.
+/// Tries: atom, Slot::join_with
 #[test]
 fn an_end_comes_before_its_registration(rt: HostRuntime) -> Result<(), Fail> {
     let mut slot = slot_of(rt.alloc(), (Fifth, First, Expire(First)))?;
@@ -359,6 +365,7 @@ fn lifts(alloc: Global, changes: &[Change<'_>], upto: Mark) -> Result<(), Fail> 
     )
 }
 
+/// Tries: Slot::ended, Slot::lift
 #[test]
 fn a_slot_is_lifted(rt: HostRuntime) -> Result<(), Fail> {
     for (changes, upto) in &LIFTED {
@@ -368,6 +375,7 @@ fn a_slot_is_lifted(rt: HostRuntime) -> Result<(), Fail> {
 }
 
 /// Nothing was seen of the one, and the other was removed.
+/// Tries: Slot::lift
 #[test]
 fn nothing_is_lifted_that_was_not_seen(rt: HostRuntime) -> Result<(), Fail> {
     let mut watched = slot_of(rt.alloc(), WATCH)?;
@@ -401,6 +409,7 @@ static DEADLINES: [(Change<'static>, &[Change<'static>], Option<u64>); 7] = [
     ((First, First, Update(HOST_A, 7, Some(60), None)), &[], None),
 ];
 
+/// Tries: Slot::deadline
 #[test]
 fn a_slot_has_a_deadline(rt: HostRuntime) -> Result<(), Fail> {
     for (first, others, wanted) in &DEADLINES {
@@ -428,6 +437,7 @@ static RISING: [(&[u16], &[u16]); 4] = [
     (&[0], &[0, 0]),
 ];
 
+/// Tries: Path::new, Path::numbers, laws::paths_are_ordered
 #[test]
 fn paths_have_one_to_four_numbers() -> Result<(), Fail> {
     for numbers in &PATHS {

@@ -279,6 +279,8 @@ fn is_whole(slot: &Slot) -> bool {
         && has_the_last_texts(slot)
 }
 
+/// Tries: Slot::join_with, Slot::watch_after, Slot::watching, Slot::stamp, Slot::base, Slot::address, Slot::seen
+/// Tries: Slot::lifetime, Slot::binding, Slot::sms, Slot::objects, Slot::attributes, Slot::from_parts
 #[test]
 fn a_whole_slot_is_joined_in_both_orders(rt: HostRuntime) -> Result<(), Fail> {
     for last_first in [false, true] {
@@ -312,6 +314,8 @@ fn seen(alloc: Global, slot: &Slot) -> Result<Seen, Fail> {
     Ok(view.to_seen(alloc)?)
 }
 
+/// Tries: View::to_seen, Seen::as_view, AttributesView::of_writes, AttributesView::len, AttributesView::get
+/// Tries: AttributesView::to_attributes, Attributes::as_view
 #[test]
 fn a_whole_slot_is_shown_and_copied(rt: HostRuntime) -> Result<(), Fail> {
     let slot = whole(rt.alloc(), false)?;
@@ -354,6 +358,7 @@ fn takes_the_others(alloc: Global, slot: &mut Slot) -> Result<(), Fail> {
     holds("removed", slot.is_removed())
 }
 
+/// Tries: Slot::join_with, Slot::from_parts
 #[test]
 fn a_slot_without_fields_takes_the_others(rt: HostRuntime) -> Result<(), Fail> {
     let mut slot = without_fields(rt.alloc())?;
@@ -378,6 +383,7 @@ fn is_sms_number(alloc: Global, length: usize) -> Result<bool, NoMemory> {
     Ok(is_letters(copy.as_str(), b'1', length))
 }
 
+/// Tries: Endpoint::new, Endpoint::as_str, Endpoint::copy_of, SmsNumber::new, SmsNumber::copy_of, SmsNumber::as_str
 #[test]
 fn endpoints_and_sms_numbers_have_bounds(rt: HostRuntime) -> Result<(), Fail> {
     for (length, is_one) in [(0, false), (1, true), (252, true), (253, false)] {

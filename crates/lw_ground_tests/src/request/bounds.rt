@@ -104,6 +104,7 @@ static REGISTERS: [[usize; 4]; 6] = [
 /// Lengths of an Update.
 static UPDATES: [[usize; 4]; 4] = [[1, 8, 0, 0], [1, 8, 1, 1], [1, 8, 9, 3], [1, 8, 251, 255]];
 
+/// Tries: understand
 #[test]
 fn registers_and_updates_at_their_bounds(rt: HostRuntime) -> Result<(), Fail> {
     for lengths in &REGISTERS {
@@ -129,6 +130,7 @@ static BEHIND: [(&str, &str, &str); 7] = [
 ];
 
 /// A Register of the endpoint `a` with a query 700 times before another.
+/// Tries: understand
 #[test]
 fn hundreds_of_queries(rt: HostRuntime) -> Result<(), Fail> {
     for (query, last, want) in &BEHIND {
@@ -139,6 +141,7 @@ fn hundreds_of_queries(rt: HostRuntime) -> Result<(), Fail> {
 }
 
 /// A payload of over 8,192 bytes stands in no datagram.
+/// Tries: understand
 #[test]
 fn more_than_a_datagram_is_too_large(rt: HostRuntime) -> Result<(), Fail> {
     let payload = "x".repeat(rt.alloc(), 8193)?;

@@ -51,6 +51,7 @@ fn are_shown(table: &Table) -> bool {
     true
 }
 
+/// Tries: Table::join, Table::by_endpoint
 #[test]
 fn endpoints_that_end_alike_are_told_apart(rt: HostRuntime) -> Result<(), Fail> {
     let table = table_of(rt.alloc(), &ALIKE)?;
@@ -69,6 +70,7 @@ fn endpoints_that_end_alike_are_told_apart(rt: HostRuntime) -> Result<(), Fail> 
     )
 }
 
+/// Tries: Table::join
 #[test]
 fn endpoints_that_end_alike_come_in_any_order(rt: HostRuntime) -> Result<(), Fail> {
     let mut table = Table::new(rt.alloc());

@@ -86,6 +86,7 @@ fn hundred_are_copied(alloc: Global, table: &Table) -> Result<(), Fail> {
     holds("a hundred", has_hundred(alloc, &copy)?)
 }
 
+/// Tries: lw_reg::Slot::copy, Table::copy, Table::same
 #[test]
 fn a_table_and_its_copy_are_the_same(rt: HostRuntime) -> Result<(), Fail> {
     for (changes, state) in &COPIED {
@@ -124,6 +125,7 @@ fn keeps_after(
     keeps(alloc, &mut copy, number, rows)
 }
 
+/// Tries: Table::copy
 #[test]
 fn a_copy_keeps_the_change_numbers(rt: HostRuntime) -> Result<(), Fail> {
     for (changes, number, rows) in &NUMBERED {
@@ -176,6 +178,7 @@ fn are_compared(alloc: Global, row: &(&[Of<'_>], &[Of<'_>], bool)) -> Result<boo
     }
 }
 
+/// Tries: Table::same
 #[test]
 fn a_table_with_one_row_more_is_not_the_same(rt: HostRuntime) -> Result<(), Fail> {
     for (place, row) in COMPARED.iter().enumerate() {

@@ -54,6 +54,7 @@ static ONE: [Step; 7] = [
     Lifts(Moment::LAST_MS, None),
 ];
 
+/// Tries: Table::lift_first
 #[test]
 fn what_is_lifted_has_moved_once(rt: HostRuntime) -> Result<(), Fail> {
     let table = played(rt.alloc(), &ONE)?;
@@ -89,6 +90,7 @@ static SEVERAL: [Step; 10] = [
     Lifts(61_000, Some(Fourth)),
 ];
 
+/// Tries: Table::lift_first
 #[test]
 fn the_least_of_several_is_lifted_first(rt: HostRuntime) -> Result<(), Fail> {
     let table = played(rt.alloc(), &SEVERAL)?;
@@ -117,6 +119,7 @@ fn is_watched(table: &Table, now: u64) -> bool {
     table.by_token(at(now), Second.stamp()).is_some()
 }
 
+/// Tries: Table::lift_first
 #[test]
 fn an_update_revives_what_was_lifted(rt: HostRuntime) -> Result<(), Fail> {
     let mut table = played(rt.alloc(), &ENDED)?;
@@ -150,6 +153,7 @@ static CHANGED: [Step; 17] = [
     Lifts(Moment::LAST_MS, None),
 ];
 
+/// Tries: Table::lift_first
 #[test]
 fn what_is_prolonged_is_not_lifted(rt: HostRuntime) -> Result<(), Fail> {
     let _table = played(rt.alloc(), &CHANGED)?;
@@ -169,6 +173,7 @@ static BACK: [Step; 9] = [
     Lifts(110_000, None),
 ];
 
+/// Tries: Table::lift_first
 #[test]
 fn a_moment_may_go_back(rt: HostRuntime) -> Result<(), Fail> {
     let _table = played(rt.alloc(), &BACK)?;
@@ -186,6 +191,7 @@ static ALIKE: [Step; 7] = [
     Lifts(90_000, Some(Third)),
 ];
 
+/// Tries: Table::lift_first
 #[test]
 fn endpoints_that_end_alike_are_lifted(rt: HostRuntime) -> Result<(), Fail> {
     let table = played(rt.alloc(), &ALIKE)?;
@@ -224,6 +230,7 @@ fn lift_as_found(table: &mut Table) -> Result<(), Fail> {
 }
 
 /// No join comes between, so each moves to a number for which no memory is taken.
+/// Tries: Table::lift_first
 #[test]
 fn a_thousand_are_lifted(rt: HostRuntime) -> Result<(), Fail> {
     let mut table = Table::new(rt.alloc());

@@ -66,6 +66,8 @@ fn are_found(table: &Table) -> bool {
     table.change() == 101
 }
 
+/// Tries: Table::by_endpoint, Table::by_id, Table::by_address, Table::by_token, Table::watch_after
+/// Tries: Table::first_after, Table::expired_after, Table::change
 #[test]
 fn a_registration_and_a_hundred_watches_are_looked_up(rt: HostRuntime) -> Result<(), Fail> {
     let mut table = Table::new(rt.alloc());

@@ -51,6 +51,7 @@ fn registers_and_moves(alloc: Global, table: &mut Table) -> Result<(), Fail> {
     joins(alloc, table, update, AT_HOST_A, AT_HOST_B)
 }
 
+/// Tries: Table::join
 #[test]
 fn a_refused_join_leaves_the_slot(rt: HostRuntime) -> Result<(), Fail> {
     let mut table = Table::new(rt.alloc());
@@ -82,6 +83,7 @@ fn observes_twice(alloc: Global, table: &mut Table) -> Result<(), Fail> {
     joins(alloc, table, another, WITH_SECOND, WITH_THIRD)
 }
 
+/// Tries: Table::join
 #[test]
 fn a_refused_join_leaves_the_tokens(rt: HostRuntime) -> Result<(), Fail> {
     let mut table = Table::new(rt.alloc());

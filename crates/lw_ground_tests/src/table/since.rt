@@ -78,11 +78,13 @@ fn moves(alloc: Global, changes: &[Of<'_>], number: u64, rows: &[(u64, &str)]) -
     tells(alloc, &table, rows)
 }
 
+/// Tries: Table::changed_since, Table::change
 #[test]
 fn what_has_moved_since_a_number(rt: HostRuntime) -> Result<(), Fail> {
     moves(rt.alloc(), &FIVE, 6, &OF_FIVE)
 }
 
+/// Tries: Table::join, Table::changed_since
 #[test]
 fn what_has_moved_again(rt: HostRuntime) -> Result<(), Fail> {
     moves(rt.alloc(), &AGAIN, 3, &OF_AGAIN)
@@ -131,6 +133,7 @@ pub(super) fn join_hundred(alloc: Global, table: &mut Table) -> Result<(), Fail>
     tells(alloc, table, &[(97, "900+100 901+99 902+98 ")])
 }
 
+/// Tries: Table::keys, Table::changed_since
 #[test]
 fn a_hundred_at_one_address_have_moved(rt: HostRuntime) -> Result<(), Fail> {
     let mut table = Table::new(rt.alloc());

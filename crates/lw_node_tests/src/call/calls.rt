@@ -150,6 +150,7 @@ fn copy_is_same(alloc: Global, place: usize, other: usize) -> Result<bool, Fail>
     Ok(call.copy(alloc)?.same(&other))
 }
 
+/// Tries: Call::copy, Question::copy, Call::same, Question::same
 #[test]
 fn a_copy_is_the_same_as_its_call_alone(rt: HostRuntime) -> Result<(), Fail> {
     for place in 0..CALLS {

@@ -194,6 +194,7 @@ fn reply_is_alone(alloc: Global, place: usize) -> Result<(), Fail> {
     is_at_alone(alloc, &reply, place)
 }
 
+/// Tries: Reply::same, lw_reg::Attributes::same
 #[test]
 fn replies_differ_where_their_content_does(rt: HostRuntime) -> Result<(), Fail> {
     for place in 0..REPLIES {
@@ -225,6 +226,7 @@ fn copy_is_the_same(alloc: Global, place: usize) -> Result<bool, Fail> {
     is_the_copy(alloc, &reply)
 }
 
+/// Tries: Taken::copy, Outgoing::copy, Sent::copy, Answer::copy
 #[test]
 fn copies_of_what_is_given_are_the_same(rt: HostRuntime) -> Result<(), Fail> {
     for place in 0..GIVEN {

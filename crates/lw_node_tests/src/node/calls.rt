@@ -228,6 +228,7 @@ fn sweeps_act_alike(alloc: Global, once: &mut Node, twice: &mut Node) -> Result<
     play(alloc, twice, &AFTER_SWEEPS)
 }
 
+/// Tries: Node::ask, Node::act, Node::act_twice
 #[test]
 fn a_call_made_twice_gives_what_it_gives_once(rt: HostRuntime) -> Result<(), Fail> {
     let mut once = Node::new(rt.alloc(), 1);

@@ -70,6 +70,8 @@ fn all_are_merged(alloc: Global, bytes: &mut [u8], removal: &[u8]) -> Result<(),
     Ok(())
 }
 
+/// Tries: lw_delta::read, lw_delta::laws::written_deltas_are_shortest, lw_delta::laws::written_deltas_read_back
+/// Tries: lw_delta::laws::deltas_can_be_written, Node::merge
 #[test]
 fn each_byte_of_a_delta_is_changed(rt: HostRuntime) -> Result<(), Fail> {
     let removal = hex::decode(rt.alloc(), REMOVED)?;

@@ -115,6 +115,7 @@ fn answer_alike(alloc: Global, node: &mut Node, copy: &mut Node) -> Result<(), F
     holds("the same after what comes next", are_same(node, copy))
 }
 
+/// Tries: Node::copy
 #[test]
 fn a_copy_is_the_same_and_answers_alike(rt: HostRuntime) -> Result<(), Fail> {
     let mut node = Node::new(rt.alloc(), 1);
@@ -182,6 +183,7 @@ fn register_many(alloc: Global, node: &mut Node) -> Result<(), Fail> {
     holds("the change number", node.change() == 266)
 }
 
+/// Tries: Node::copy, Node::same
 #[test]
 fn nodes_with_nothing_and_with_much_are_copied(rt: HostRuntime) -> Result<(), Fail> {
     for rows in &BOUNDS {
@@ -273,6 +275,7 @@ fn differs_after(alloc: Global, row: Row<'_>, changes: bool) -> Result<(), Fail>
     differs(alloc, &mut node, &mut copy, row, changes)
 }
 
+/// Tries: Node::same
 #[test]
 fn a_copy_is_no_longer_the_same_after_a_request(rt: HostRuntime) -> Result<(), Fail> {
     for (row, changes) in REQUESTS {
@@ -307,6 +310,7 @@ fn are_compared(one: &Node, other: &Node, wanted: bool) -> Result<(), Fail> {
 
 const BOTH_AT_ONCE: [Row<'static>; 1] = [(Merges(TWO), "Ok(2)")];
 
+/// Tries: Node::same
 #[test]
 fn nodes_of_other_numbers_are_not_the_same(rt: HostRuntime) -> Result<(), Fail> {
     for rows in [&BOTH_AT_ONCE[..0], &BOTH_AT_ONCE] {
@@ -324,6 +328,7 @@ const THE_OTHER_WAY: [Row<'static>; 2] = [(Merges(SECOND), "Ok(1)"), (Merges(FIR
 
 const IN_STEPS: [Row<'static>; 2] = [(Merges(DELTA), "Ok(1)"), (Merges(TWO), "Ok(2)")];
 
+/// Tries: Node::same
 #[test]
 fn nodes_that_met_are_not_the_same_with_other_change_numbers(rt: HostRuntime) -> Result<(), Fail> {
     let at_once = (1, &BOTH_AT_ONCE[..]);

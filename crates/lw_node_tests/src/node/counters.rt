@@ -45,6 +45,7 @@ const A_MILLION: [Row<'static>; 9] = [
     (Numbers, "1000004 5"),
 ];
 
+/// Tries: Node::take, Node::merge
 #[test]
 fn a_clock_goes_on_at_a_million(rt: HostRuntime) -> Result<(), Fail> {
     play_new(rt.alloc(), &A_MILLION)
@@ -82,6 +83,7 @@ fn goes_on(alloc: Global, clock: u64) -> Result<(), Fail> {
     )
 }
 
+/// Tries: Node::take, Node::merge
 #[test]
 fn clocks_go_on_in_the_middle_of_their_range(rt: HostRuntime) -> Result<(), Fail> {
     for &clock in &CLOCKS {

@@ -40,6 +40,7 @@ const SENT_AND_MERGED: [Row<'static>; 18] = [
     (Numbers, "2 2"),
 ];
 
+/// Tries: Node::new, Node::take, Node::change, Node::delta_since, Node::merge
 #[test]
 fn a_delta_is_sent_and_merged(rt: HostRuntime) -> Result<(), Fail> {
     play_new(rt.alloc(), &SENT_AND_MERGED)
@@ -74,6 +75,7 @@ const FORMATS: [Row<'static>; 11] = [
     (Numbers, "1 2"),
 ];
 
+/// Tries: Node::merge, Node::delta_since
 #[test]
 fn deltas_of_formats_1_and_2_come_back_in_format_3(rt: HostRuntime) -> Result<(), Fail> {
     play_new(rt.alloc(), &FORMATS)
@@ -115,6 +117,7 @@ const ATTRIBUTES: [Row<'static>; 10] = [
     ),
 ];
 
+/// Tries: Node::take, Node::delta_since, Node::by_endpoint
 #[test]
 fn attributes_are_taken_sent_and_shown(rt: HostRuntime) -> Result<(), Fail> {
     play_new(rt.alloc(), &ATTRIBUTES)
@@ -137,6 +140,7 @@ const FULLER: [Row<'static>; 5] = [
     (ByEndpoint(0, "a"), "-"),
 ];
 
+/// Tries: Node::merge, Node::delta_since
 #[test]
 fn a_fuller_spelling_of_a_removal_comes_back_short(rt: HostRuntime) -> Result<(), Fail> {
     play_new(rt.alloc(), &FULLER)
@@ -165,6 +169,7 @@ const AT_THE_END: [Row<'static>; 10] = [
     (Numbers, "281474976710655 1"),
 ];
 
+/// Tries: Node::take, Node::observe, Node::cancel, Node::sweep, Node::clock
 #[test]
 fn the_clock_has_an_end(rt: HostRuntime) -> Result<(), Fail> {
     play_new(rt.alloc(), &AT_THE_END)
@@ -194,6 +199,7 @@ const REPORT_AT_THE_END: [Row<'static>; 7] = [
     ),
 ];
 
+/// Tries: Node::take
 #[test]
 fn a_report_at_the_end_of_the_clock_is_reset(rt: HostRuntime) -> Result<(), Fail> {
     play_new(rt.alloc(), &REPORT_AT_THE_END)
@@ -248,6 +254,7 @@ const MERGED: [Row<'static>; 13] = [
     (DeltaSince(2), "4c57443300000000000600"),
 ];
 
+/// Tries: Node::delta_since, Node::merge
 #[test]
 fn slots_with_observations_are_merged_and_sent(rt: HostRuntime) -> Result<(), Fail> {
     play_new(rt.alloc(), &MERGED)
@@ -271,6 +278,7 @@ const LONGEST: [Row<'static>; 4] = [
     (DeltaSince(1), "4c57443300000000000100"),
 ];
 
+/// Tries: Node::delta_since
 #[test]
 fn the_longest_name_is_sent(rt: HostRuntime) -> Result<(), Fail> {
     play_new(rt.alloc(), &LONGEST)

@@ -44,6 +44,7 @@ const IS_OVER: [Row<'static>; 18] = [
     (Numbers, "2 2"),
 ];
 
+/// Tries: Node::merge, Node::delta_since
 #[test]
 fn an_end_is_merged_and_sent(rt: HostRuntime) -> Result<(), Fail> {
     play_new(rt.alloc(), &IS_OVER)
@@ -68,6 +69,7 @@ const OTHERS: [Row<'static>; 9] = [
     (Numbers, "2 3"),
 ];
 
+/// Tries: Node::merge, Node::take
 #[test]
 fn a_later_register_has_no_end(rt: HostRuntime) -> Result<(), Fail> {
     play_new(rt.alloc(), &OTHERS)
@@ -102,6 +104,7 @@ const OBSERVED: [Row<'static>; 15] = [
     (Numbers, "3 5"),
 ];
 
+/// Tries: Node::merge, Node::take
 #[test]
 fn observations_come_back_with_a_registration(rt: HostRuntime) -> Result<(), Fail> {
     play_new(rt.alloc(), &OBSERVED)

@@ -87,6 +87,7 @@ fn play_largest<'a>(
     )
 }
 
+/// Tries: Node::take, Node::delta_since, Node::merge
 #[test]
 fn the_largest_register_is_taken_sent_and_merged(rt: HostRuntime) -> Result<(), Fail> {
     let values = longest_values(rt.alloc())?;
@@ -119,6 +120,7 @@ fn watched_delta(alloc: Global) -> Result<String, Fail> {
     Ok(text)
 }
 
+/// Tries: Node::merge, Node::delta_since, Node::cancel
 #[test]
 fn a_hundred_observations_are_merged_sent_and_ended(rt: HostRuntime) -> Result<(), Fail> {
     let delta = watched_delta(rt.alloc())?;

@@ -41,6 +41,8 @@ const CALLS: [Row<'static>; 23] = [
     (Numbers, "4 4"),
 ];
 
+/// Tries: Node::new, Node::by_endpoint, Node::by_id, Node::by_address, Node::by_token, Node::watch_after
+/// Tries: Node::first_after, Node::expired_after, Node::change
 #[test]
 fn each_call_answers(rt: HostRuntime) -> Result<(), Fail> {
     play_new(rt.alloc(), &CALLS)

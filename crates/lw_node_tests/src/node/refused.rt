@@ -48,6 +48,7 @@ fn merges_in_two_tries(node: &mut Node, deltas: &Deltas) -> Result<(), Fail> {
     holds("the second is sent", sends(node, 1, &deltas.second)?)
 }
 
+/// Tries: Node::merge
 #[test]
 fn a_refused_merge_leaves_the_first_slots(rt: HostRuntime) -> Result<(), Fail> {
     let alloc = rt.alloc();
@@ -83,6 +84,7 @@ fn is_copy(node: &Node, copy: &Node, both: &[u8]) -> Result<(), Fail> {
     holds("what the copy sends", sends(copy, 0, both)?)
 }
 
+/// Tries: Node::copy
 #[test]
 fn a_refused_copy_is_made_again(rt: HostRuntime) -> Result<(), Fail> {
     let both = hex::decode(rt.alloc(), TWO)?;
@@ -97,6 +99,7 @@ fn is_swept_once(node: &mut Node, id: Stamp, now: Moment) -> bool {
     node.sweep(now) == Ok(Some(id)) && node.sweep(now) == Ok(None)
 }
 
+/// Tries: Node::sweep
 #[test]
 fn a_refused_growth_is_none_of_a_sweep(rt: HostRuntime) -> Result<(), Fail> {
     let alloc = rt.alloc();

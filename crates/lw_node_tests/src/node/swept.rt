@@ -38,6 +38,7 @@ const ONE: [Row<'static>; 16] = [
     (Sweeps(60_000), "-"),
 ];
 
+/// Tries: Node::sweep, lw_reg::Slot::deadline
 #[test]
 fn a_sweep_ends_what_has_expired(rt: HostRuntime) -> Result<(), Fail> {
     play_new(rt.alloc(), &ONE)
@@ -83,6 +84,7 @@ const SEVERAL: [Row<'static>; 13] = [
 const IS_C: &str =
     r#"{"address":"127.0.0.1:5683","attributes":{},"binding":"U","endpoint":"c","id":"0000000000020001","lifetime":0,"lwm2m":"1.0","objects":"</>","queue":false,"seen":0,"sms":null}"#;
 
+/// Tries: Node::sweep, lw_reg::Slot::deadline
 #[test]
 fn sweeps_end_the_least_endpoint_first(rt: HostRuntime) -> Result<(), Fail> {
     play_new(rt.alloc(), &SEVERAL)
@@ -108,6 +110,7 @@ const AT_THE_END: [Row<'static>; 10] = [
 const SHOWN_FOR_A_MINUTE: &str =
     r#"{"address":"127.0.0.1:5683","attributes":{},"binding":"U","endpoint":"a","id":"0000000000010001","lifetime":60,"lwm2m":"1.0","objects":"</>","queue":false,"seen":0,"sms":null}"#;
 
+/// Tries: Node::sweep
 #[test]
 fn a_sweep_at_the_end_of_the_clock_changes_nothing(rt: HostRuntime) -> Result<(), Fail> {
     play_new(rt.alloc(), &AT_THE_END)
@@ -123,6 +126,7 @@ const TOLD: [Row<'static>; 6] = [
     (ExpiredAfter(60_000, None), "-"),
 ];
 
+/// Tries: Node::sweep, Node::merge
 #[test]
 fn what_another_node_swept_is_not_swept_again(rt: HostRuntime) -> Result<(), Fail> {
     play_new(rt.alloc(), &TOLD)

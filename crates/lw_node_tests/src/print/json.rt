@@ -7,6 +7,7 @@ fn is_shown(alloc: Global, shown: &View<'_>, want: &str) -> Result<(), Fail> {
     same(registration_text(alloc, shown)?.as_str(), want)
 }
 
+/// Tries: registration_text
 #[test]
 fn a_registration(rt: HostRuntime) -> Result<(), Fail> {
     let objects = LinkText::read(rt.alloc(), b"</3/0>")?;
@@ -16,6 +17,7 @@ fn a_registration(rt: HostRuntime) -> Result<(), Fail> {
 const OTHER: &str =
     r#"{"address":"[2001:0db8:0000:0000:0000:0000:0000:0001]:65535","attributes":{},"binding":"U","endpoint":"a\"b\n","id":"0000000000010001","lifetime":4294967295,"lwm2m":"1.0","objects":"</3/0>;ct=\"1\\\"\"","queue":true,"seen":281474976710655,"sms":"+49"}"#;
 
+/// Tries: registration_text
 #[test]
 fn another_registration(rt: HostRuntime) -> Result<(), Fail> {
     let objects = LinkText::read(rt.alloc(), b"</3/0>;ct=\"1\\\"\"")?;
@@ -50,6 +52,7 @@ fn is_shown_with(alloc: Global, texts: &[(&str, &str)], members: &str) -> Result
     is_shown(alloc, &view, &want)
 }
 
+/// Tries: registration_text
 #[test]
 fn registrations_with_attributes(rt: HostRuntime) -> Result<(), Fail> {
     for (texts, members) in &ATTRIBUTES {
@@ -70,6 +73,7 @@ fn length_of<'a>(
     Ok(registration_text(alloc, &view)?.len())
 }
 
+/// Tries: registration_text
 #[test]
 fn the_longest_registration(rt: HostRuntime) -> Result<(), Fail> {
     let objects = long_list(rt.alloc())?;
@@ -84,6 +88,7 @@ fn is_watched(alloc: Global, shown: &View<'_>, watch: &Watch, want: &str) -> Res
     same(watch_text(alloc, shown, watch)?.as_str(), want)
 }
 
+/// Tries: watch_text
 #[test]
 fn a_watch(rt: HostRuntime) -> Result<(), Fail> {
     let objects = LinkText::read(rt.alloc(), b"</>")?;
@@ -95,6 +100,7 @@ fn a_watch(rt: HostRuntime) -> Result<(), Fail> {
     )
 }
 
+/// Tries: watch_text
 #[test]
 fn a_watch_that_accepts_a_format(rt: HostRuntime) -> Result<(), Fail> {
     let objects = LinkText::read(rt.alloc(), b"</>")?;
@@ -126,6 +132,7 @@ fn is_stale(alloc: Global, endpoint: &str, escaped: &str) -> Result<(), Fail> {
     same(stale_text(alloc, endpoint, THIRD)?.as_str(), want.as_str())
 }
 
+/// Tries: stale_text
 #[test]
 fn endpoints_that_have_expired(rt: HostRuntime) -> Result<(), Fail> {
     for (endpoint, escaped) in ENDPOINTS {
@@ -134,6 +141,7 @@ fn endpoints_that_have_expired(rt: HostRuntime) -> Result<(), Fail> {
     Ok(())
 }
 
+/// Tries: stale_text
 #[test]
 fn the_longest_endpoint_that_has_expired(rt: HostRuntime) -> Result<(), Fail> {
     let endpoint = "\u{1}".repeat(rt.alloc(), 252)?;
@@ -141,12 +149,14 @@ fn the_longest_endpoint_that_has_expired(rt: HostRuntime) -> Result<(), Fail> {
     is_stale(rt.alloc(), endpoint.as_str(), escaped.as_str())
 }
 
+/// Tries: notice_text
 #[test]
 fn a_notice(rt: HostRuntime) -> Result<(), Fail> {
     let notice = notice(rt.alloc())?;
     same(notice_text(rt.alloc(), &notice)?.as_str(), NOTICE)
 }
 
+/// Tries: notice_text
 #[test]
 fn a_notice_that_ends_a_watch(rt: HostRuntime) -> Result<(), Fail> {
     let mut notice = notice(rt.alloc())?;
@@ -171,6 +181,7 @@ fn longest_notice(alloc: Global, length: usize) -> Result<String, Fail> {
     Ok(notice_text(alloc, &notice)?)
 }
 
+/// Tries: notice_text
 #[test]
 fn the_longest_notice(rt: HostRuntime) -> Result<(), Fail> {
     let text = longest_notice(rt.alloc(), 8_192)?;
@@ -190,6 +201,7 @@ const PATHS: [(&[u16], &str); 6] = [
     (&[65534, 65534, 65534, 65534], "/65534/65534/65534/65534"),
 ];
 
+/// Tries: path_text
 #[test]
 fn paths(rt: HostRuntime) -> Result<(), Fail> {
     for (numbers, text) in PATHS {
@@ -205,6 +217,7 @@ const ANSWERS: [(Option<&[u8]>, &[u8]); 3] = [
     (Some(&[]), b"\n"),
 ];
 
+/// Tries: answer_text
 #[test]
 fn answers(rt: HostRuntime) -> Result<(), Fail> {
     for (reply, line) in ANSWERS {
@@ -214,6 +227,7 @@ fn answers(rt: HostRuntime) -> Result<(), Fail> {
     Ok(())
 }
 
+/// Tries: answer_text
 #[test]
 fn the_longest_answer(rt: HostRuntime) -> Result<(), Fail> {
     let objects = long_list(rt.alloc())?;

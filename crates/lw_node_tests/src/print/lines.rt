@@ -115,16 +115,19 @@ fn has_line(
     same(str::from_utf8(&line)?, text)
 }
 
+/// Tries: outcome_line
 #[test]
 fn outcomes_without_text(rt: HostRuntime) -> Result<(), Fail> {
     have_lines(rt.alloc(), &PLAIN)
 }
 
+/// Tries: outcome_line
 #[test]
 fn malformed_messages(rt: HostRuntime) -> Result<(), Fail> {
     have_lines(rt.alloc(), &MALFORMED)
 }
 
+/// Tries: outcome_line
 #[test]
 fn answers_without_text(rt: HostRuntime) -> Result<(), Fail> {
     have_lines(rt.alloc(), &NOT_FOUND)
@@ -142,6 +145,7 @@ fn is_sent(
     has_line(alloc, &outcome, bytes, text)
 }
 
+/// Tries: outcome_line
 #[test]
 fn numbers_of_a_message(rt: HostRuntime) -> Result<(), Fail> {
     is_sent(
@@ -166,6 +170,7 @@ fn long_line(alloc: Global, count: usize) -> Result<String, Fail> {
     Ok(format!(in alloc; "message 7 8 {bytes}\n")?)
 }
 
+/// Tries: outcome_line
 #[test]
 fn a_long_message(rt: HostRuntime) -> Result<(), Fail> {
     let text = long_line(rt.alloc(), 1_000_000)?;

@@ -84,6 +84,7 @@ fn long_script(alloc: Global, lines: usize) -> Result<Vec<u8>, AllocError> {
     Ok(text)
 }
 
+/// Tries: read_script
 #[test]
 fn seven_lines_are_read(rt: HostRuntime) -> Result<(), Fail> {
     for text in [SEVEN, SEVEN.trim_end()] {
@@ -93,6 +94,7 @@ fn seven_lines_are_read(rt: HostRuntime) -> Result<(), Fail> {
     Ok(())
 }
 
+/// Tries: read_script
 #[test]
 fn scripts_are_read(rt: HostRuntime) -> Result<(), Fail> {
     for (text, nodes, events) in GOOD {
@@ -102,6 +104,7 @@ fn scripts_are_read(rt: HostRuntime) -> Result<(), Fail> {
     Ok(())
 }
 
+/// Tries: read_script
 #[test]
 fn first_bad_line_is_refused(rt: HostRuntime) -> Result<(), Fail> {
     for (text, line) in REFUSED {
@@ -111,6 +114,7 @@ fn first_bad_line_is_refused(rt: HostRuntime) -> Result<(), Fail> {
     Ok(())
 }
 
+/// Tries: read_script
 #[test]
 fn line_that_is_no_text_is_refused(rt: HostRuntime) -> Result<(), Fail> {
     let first = refused_line(rt.alloc(), b"nodes 1\xff");
@@ -119,6 +123,7 @@ fn line_that_is_no_text_is_refused(rt: HostRuntime) -> Result<(), Fail> {
     holds("the second line", second == Some(2))
 }
 
+/// Tries: read_script
 #[test]
 fn thousand_lines_are_read(rt: HostRuntime) -> Result<(), Fail> {
     let mut text = long_script(rt.alloc(), 1_000)?;

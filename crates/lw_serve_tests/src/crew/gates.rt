@@ -177,6 +177,7 @@ fn counted<R: Threads + Wait + Sync, C: Clock + Sync>(
     }
 }
 
+/// Tries: Crew::serve_jobs, lw_held::Shelf::call
 #[test]
 fn three_workers_do_jobs_at_once_and_in_order(rt: HostRuntime) -> Result<(), Fail> {
     let gate = Rounds::new(rt.alloc(), &rt)?;
@@ -224,6 +225,7 @@ impl<C: Clock + Sync> Gate for Turns<'_, C> {
     }
 }
 
+/// Tries: Crew::serve_jobs, lw_held::Shelf::call
 #[test]
 fn a_call_is_alone_inside_and_answered_after_the_lock(rt: HostRuntime) -> Result<(), Fail> {
     let gate = Turns {
@@ -268,6 +270,7 @@ impl<C: Clock + Sync> Gate for Lingers<'_, C> {
     fn answered(&self, _node: u16, _pass: u32) {}
 }
 
+/// Tries: Crew::serve_jobs
 #[test]
 fn jobs_at_one_node_are_done_on_one_thread(rt: HostRuntime) -> Result<(), Fail> {
     let gate = Lingers {

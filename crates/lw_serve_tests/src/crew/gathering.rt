@@ -40,6 +40,7 @@ fn backwards(alloc: Global) -> Result<Vec<u64>, Fail> {
     Ok(jobs)
 }
 
+/// Tries: gather
 #[test]
 fn results_are_put_in_order(rt: HostRuntime) -> Result<(), Fail> {
     are_gathered(rt.alloc(), &[], &[])?;
@@ -47,6 +48,7 @@ fn results_are_put_in_order(rt: HostRuntime) -> Result<(), Fail> {
     are_gathered(rt.alloc(), &[2, 0, 1], &[1, 2, 0])
 }
 
+/// Tries: gather
 #[test]
 fn many_results_are_put_in_order(rt: HostRuntime) -> Result<(), Fail> {
     let jobs = backwards(rt.alloc())?;
@@ -76,6 +78,7 @@ fn is_fault(alloc: Global, fault: CrewFault, want: &str) -> Result<(), Fail> {
     is_text(format!(in alloc; "{number} {fault:?}"), want)
 }
 
+/// Tries: gather, CrewFault::number
 #[test]
 fn faults_have_numbers(rt: HostRuntime) -> Result<(), Fail> {
     for (count, jobs, want) in &FAULTS {

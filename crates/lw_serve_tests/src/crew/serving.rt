@@ -74,6 +74,7 @@ const REGISTERED: &str = "0: 1 0 604100048272640d0330303030303030303030303130303
 1: 2 0 604100048272640d0330303030303030303030303130303032
 2 passes, 2 parts, Ok(Settled)";
 
+/// Tries: Crew::serve_jobs, Crew::new
 #[test]
 fn two_nodes_are_called_at_once(rt: HostRuntime) -> Result<(), Fail> {
     let gate = Meeting::new(&rt);
@@ -194,6 +195,7 @@ fn settles_not<R: Wait>(
     )
 }
 
+/// Tries: Crew::serve_jobs
 #[test]
 fn a_node_without_shelf_is_told(rt: HostRuntime) -> Result<(), Fail> {
     is_played(
@@ -238,6 +240,7 @@ impl Gate for Counts {
     fn answered(&self, _node: u16, _pass: u32) {}
 }
 
+/// Tries: Crew::serve_jobs
 #[test]
 fn one_worker_does_the_jobs_in_order(rt: HostRuntime) -> Result<(), Fail> {
     let gate = Counts {
@@ -321,6 +324,7 @@ impl<C: Clock + Sync> Gate for Assembly<'_, C> {
     fn answered(&self, _node: u16, _pass: u32) {}
 }
 
+/// Tries: Crew::serve_jobs
 #[test]
 fn many_jobs_are_done_by_all_workers(rt: HostRuntime) -> Result<(), Fail> {
     let nodes = all_nodes(rt.alloc())?;
@@ -336,6 +340,7 @@ fn many_jobs_are_done_by_all_workers(rt: HostRuntime) -> Result<(), Fail> {
     holds("eight at once", lost == 0)
 }
 
+/// Tries: Crew::serve_jobs, Crew::new
 #[test]
 fn no_jobs_are_done(rt: HostRuntime) -> Result<(), Fail> {
     let want = "3 passes, 0 parts, Ok(Settled)";

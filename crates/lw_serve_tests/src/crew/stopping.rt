@@ -16,12 +16,14 @@ impl Gate for Refuses {
     fn answered(&self, _node: u16, _pass: u32) {}
 }
 
+/// Tries: Crew::serve_jobs
 #[test]
 fn a_stopped_worker_leaves_its_job(rt: HostRuntime) -> Result<(), Fail> {
     let want = "Missing { job: 0 }\n2 passes, 1 parts, Ok(Settled)";
     is_played(&rt, rt.alloc(), 1, 2, &[1, 1], &Refuses(0), want)
 }
 
+/// Tries: Crew::serve_jobs
 #[test]
 fn one_stopped_worker_leaves_what_comes_behind(rt: HostRuntime) -> Result<(), Fail> {
     let none = "Missing { job: 0 }\n1 passes, 0 parts, Ok(Settled)";
@@ -46,6 +48,7 @@ fn done_after_a_stop<R: Threads + Wait + Sync>(rt: &R, alloc: Global) -> Result<
     Ok(lines)
 }
 
+/// Tries: Crew::serve_jobs
 #[test]
 fn a_crew_goes_on_after_a_stopped_worker(rt: HostRuntime) -> Result<(), Fail> {
     let want = "0: 1 1 604100048272640d0330303030303030303030303230303031\n\

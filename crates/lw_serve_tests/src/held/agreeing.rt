@@ -91,6 +91,7 @@ fn played_by_another(alloc: Global, rows: &[Row<'_>]) -> Result<Vec<Pass>, Fail>
     passes
 }
 
+/// Tries: Pass::step, Held::agrees
 #[test]
 fn two_passes_make_one_journal(rt: HostRuntime) -> Result<(), Fail> {
     for case in &WHOLE {
@@ -99,6 +100,7 @@ fn two_passes_make_one_journal(rt: HostRuntime) -> Result<(), Fail> {
     Ok(())
 }
 
+/// Tries: Held::agrees
 #[test]
 fn other_transcripts_fail(rt: HostRuntime) -> Result<(), Fail> {
     for case in &ASTRAY {
@@ -107,6 +109,7 @@ fn other_transcripts_fail(rt: HostRuntime) -> Result<(), Fail> {
     Ok(())
 }
 
+/// Tries: Pass::step
 #[test]
 fn a_pass_reads_what_another_wrote(rt: HostRuntime) -> Result<(), Fail> {
     let passes = played_by_another(rt.alloc(), &REGISTERED)?;
@@ -163,6 +166,7 @@ fn agrees_with_both(alloc: Global, held: &mut Held) -> Result<(), Fail> {
     holds("the second before the first", said == Ok(()))
 }
 
+/// Tries: Held::agrees
 #[test]
 fn passes_agree_in_any_order_but_not_alone(rt: HostRuntime) -> Result<(), Fail> {
     let mut held = Held::new(rt.alloc(), 1);

@@ -43,6 +43,7 @@ fn cuts_in_turn(alloc: Global, held: &mut Held) -> Result<(), Fail> {
     cuts(alloc, held, (3, &CALLS[..3], &CALLS, &REPLIES[3..]))
 }
 
+/// Tries: Held::step, Held::cut, Volume::node, Volume::first, Volume::entries, Volume::opening, Volume::closing
 #[test]
 fn a_cut_gives_a_volume_and_an_empty_journal(rt: HostRuntime) -> Result<(), Fail> {
     let mut held = Held::new(rt.alloc(), 1);
@@ -64,6 +65,7 @@ fn cuts_nothing_in_turn(alloc: Global, held: &mut Held) -> Result<(), Fail> {
     cuts_nothing(held)
 }
 
+/// Tries: Held::cut
 #[test]
 fn a_cut_of_an_empty_journal_gives_none(rt: HostRuntime) -> Result<(), Fail> {
     let mut held = Held::new(rt.alloc(), 1);
@@ -232,6 +234,7 @@ static BESIDE: [Case; 4] = [
     (1, &BESIDE_MANY, Err(1)),
 ];
 
+/// Tries: Held::agrees
 #[test]
 fn volumes_of_another_node_are_passed_over(rt: HostRuntime) -> Result<(), Fail> {
     are_said(rt.alloc(), &BESIDE)
@@ -273,6 +276,7 @@ static OVERLAPS: [Case; 3] = [
     (1, &SECOND_TWICE, Err(1)),
 ];
 
+/// Tries: Held::agrees
 #[test]
 fn an_overlap_is_told_at_its_first_place(rt: HostRuntime) -> Result<(), Fail> {
     are_said(rt.alloc(), &OVERLAPS)
@@ -333,6 +337,7 @@ static LINKS: [Case; 5] = [
     (1, &SAME_NODE, Ok(())),
 ];
 
+/// Tries: Held::agrees
 #[test]
 fn a_broken_link_is_told_where_it_begins(rt: HostRuntime) -> Result<(), Fail> {
     are_said(rt.alloc(), &LINKS)
@@ -393,6 +398,7 @@ static GAPS: [Case; 6] = [
     (1, &ALL_LOST, Err(0)),
 ];
 
+/// Tries: Held::agrees
 #[test]
 fn a_gap_is_told_at_its_first_place(rt: HostRuntime) -> Result<(), Fail> {
     are_said(rt.alloc(), &GAPS)
@@ -433,6 +439,7 @@ static AFTER: [Case; 3] = [
     (1, &OVER_THE_FIRST, Err(1)),
 ];
 
+/// Tries: Held::agrees
 #[test]
 fn a_volume_after_the_beginning_of_the_journal_is_told(rt: HostRuntime) -> Result<(), Fail> {
     are_said(rt.alloc(), &AFTER)
@@ -617,6 +624,7 @@ fn settle_in_turn<R: Wait>(
     holds("the second before the first", settled == Ok(Settled))
 }
 
+/// Tries: Shelf::cut, settle, Held::agrees
 #[test]
 fn the_two_passes_settle_with_both_volumes_alone(rt: HostRuntime) -> Result<(), Fail> {
     let (shelves, mut passes) = set_up(rt.alloc(), 1, 2)?;
@@ -654,6 +662,7 @@ fn takes_and_keeps(alloc: Global, held: &mut Held, volumes: &mut Vec<Volume>) ->
     keeps(held, volumes)
 }
 
+/// Tries: settle
 #[test]
 fn a_volume_of_another_node_is_told_by_settle(rt: HostRuntime) -> Result<(), Fail> {
     for number in [1, 2] {

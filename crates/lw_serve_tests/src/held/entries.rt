@@ -8,6 +8,7 @@ const REPLIES: [&str; 2] = [
     "604100048272640d0330303030303030303030303230303031",
 ];
 
+/// Tries: Held::new, Held::step
 #[test]
 fn a_step_gives_the_entry_and_its_place(rt: HostRuntime) -> Result<(), Fail> {
     enters_all(rt.alloc(), take(rt.alloc(), REGISTER)?, &REPLIES)
@@ -65,6 +66,7 @@ static SENDINGS: [(u32, u64, u64, bool); 4] = [
     (1, 2, 1, false),
 ];
 
+/// Tries: Entry::same
 #[test]
 fn entries_are_the_same_where_all_parts_are(rt: HostRuntime) -> Result<(), Fail> {
     let mut held = Held::new(rt.alloc(), 1);
@@ -89,6 +91,7 @@ fn is_sent(held: &mut Held, pass: u32, number: u64, since: u64, want: bool) -> R
 }
 
 /// Two Registers have identifiers of their own.
+/// Tries: Entry::same
 #[test]
 fn entries_with_other_replies_differ(rt: HostRuntime) -> Result<(), Fail> {
     let register = take(rt.alloc(), REGISTER)?;
@@ -100,6 +103,7 @@ fn entries_with_other_replies_differ(rt: HostRuntime) -> Result<(), Fail> {
 }
 
 /// Sweeps of a node that knows of nothing.
+/// Tries: Entry::same, Held::step
 #[test]
 fn entries_of_sweeps_are_the_same_at_one_moment(rt: HostRuntime) -> Result<(), Fail> {
     let mut held = Held::new(rt.alloc(), 1);
@@ -111,6 +115,7 @@ fn entries_of_sweeps_are_the_same_at_one_moment(rt: HostRuntime) -> Result<(), F
 }
 
 /// The second of two sweeps has nothing to end.
+/// Tries: Entry::same, Held::step
 #[test]
 fn entries_of_sweeps_differ_by_what_ended(rt: HostRuntime) -> Result<(), Fail> {
     let mut held = Held::new(rt.alloc(), 1);

@@ -54,6 +54,7 @@ fn longest_take(alloc: Global) -> Result<Call, Fail> {
     take(alloc, &register)
 }
 
+/// Tries: Held::step
 #[test]
 fn the_longest_register_is_entered(rt: HostRuntime) -> Result<(), Fail> {
     enters_all(rt.alloc(), longest_take(rt.alloc())?, &[CREATED])
@@ -89,6 +90,7 @@ fn is_merged<R: Wait>(rt: &R, alloc: Global, texts: &[String]) -> Result<(), Fai
     take_turns(rt, alloc, 2, 64, &[(&rows, &[(0, 64, Ok(Settled))])])
 }
 
+/// Tries: Held::step
 #[test]
 fn the_longest_register_is_sent_and_merged(rt: HostRuntime) -> Result<(), Fail> {
     let texts = texts(rt.alloc())?;

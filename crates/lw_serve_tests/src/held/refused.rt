@@ -131,6 +131,7 @@ fn gives_in_two_tries(alloc: Global, held: &mut Held, row: &Row) -> Result<(), F
     Ok(())
 }
 
+/// Tries: Held::step
 #[test]
 fn a_refused_step_leaves_what_the_node_knows(rt: HostRuntime) -> Result<(), Fail> {
     for row in &ROWS {
@@ -186,6 +187,7 @@ fn cuts_in_two_tries(alloc: Global, held: &mut Held) -> Result<(), Fail> {
     cuts_nothing(held)
 }
 
+/// Tries: Held::cut
 #[test]
 fn a_refused_growth_of_a_cut_leaves_the_journal(rt: HostRuntime) -> Result<(), Fail> {
     let mut held = Held::new(rt.alloc(), 1);

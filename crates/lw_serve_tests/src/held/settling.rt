@@ -175,6 +175,7 @@ fn take_each<R: Wait>(
     Ok(())
 }
 
+/// Tries: Pass::number, Pass::len, Pass::part, Shelf::call, settle, NoGate::start
 #[test]
 fn two_nodes_take_calls_and_settle(rt: HostRuntime) -> Result<(), Fail> {
     let turns: [Turn<'_>; 3] = [
@@ -239,6 +240,7 @@ pub(super) fn last_two(passes: &mut Vec<Pass>) -> Option<(Pass, Pass)> {
     Some((second, first))
 }
 
+/// Tries: settle
 #[test]
 fn passes_settle_in_any_order_but_not_alone(rt: HostRuntime) -> Result<(), Fail> {
     let (shelves, mut passes) = set_up(rt.alloc(), 1, 2)?;
@@ -275,6 +277,7 @@ fn are_numbered(shelves: &[Shelf], passes: &[Pass]) -> bool {
     true
 }
 
+/// Tries: Pass::number, Pass::len, Pass::part, Shelf::number, set_up
 #[test]
 fn shelves_and_passes_are_set_up(rt: HostRuntime) -> Result<(), Fail> {
     are_set_up(rt.alloc(), 1, 1)?;
@@ -297,6 +300,7 @@ static NUMBERED: [Row<'static>; 2] = [
     ),
 ];
 
+/// Tries: set_up
 #[test]
 fn each_node_has_its_own_number(rt: HostRuntime) -> Result<(), Fail> {
     take_turns(

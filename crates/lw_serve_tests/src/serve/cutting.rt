@@ -29,6 +29,7 @@ fn hundred_are_served<R: Threads + Wait + Sync>(
     holds(text.as_str(), are_sent)
 }
 
+/// Tries: serve_on, Nodes::settle, cut_journals, Plan::cuts_after, Server::cut
 #[test]
 fn a_run_that_is_cut_after_each_round_settles(rt: HostRuntime) -> Result<(), Fail> {
     for cut in [1, 2, 1_000_000] {
@@ -59,6 +60,7 @@ fn is_planned(cut: Option<u32>) -> bool {
     }
 }
 
+/// Tries: Plan::new, Plan::cuts_after
 #[test]
 fn a_plan_is_cut_after_1_to_1000000_rounds() -> Result<(), Fail> {
     for (cut, wanted) in CUTS {

@@ -43,6 +43,7 @@ fn are_replied<R: Threads + Wait + Sync>(
     is_served_at(rt, &mut wire, 1, &moments, &want)
 }
 
+/// Tries: serve_on
 #[test]
 fn a_lifetime_ends_between_rounds(rt: HostRuntime) -> Result<(), Fail> {
     let [first, second] = UPDATES;
@@ -79,6 +80,7 @@ fn moment_by(since_1970: Option<Duration>) -> Option<u64> {
     Some(moment?.ms())
 }
 
+/// Tries: moment_after
 #[test]
 fn the_host_counts_milliseconds_since_1970(rt: HostRuntime) -> Result<(), Fail> {
     let _rt = rt;

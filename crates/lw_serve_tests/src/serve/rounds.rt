@@ -44,6 +44,7 @@ static FAULTS: [(u32, bool, &str); 3] = [
     (0, true, "Ok(()) 1 1 0 1\nsettled\n"),
 ];
 
+/// Tries: serve_on, Server::round, receive, Server::finish, wait
 #[test]
 fn faults_of_a_wire_are_passed_over(rt: HostRuntime) -> Result<(), Fail> {
     let register = bytes(rt.alloc(), REGISTER)?;
@@ -116,6 +117,7 @@ fn is_ended(
     is_text(format!(in alloc; "{ended:?} {written}"), want)
 }
 
+/// Tries: serve_on
 #[test]
 fn a_clock_and_a_writer_that_fail_are_told(rt: HostRuntime) -> Result<(), Fail> {
     for (now, room, fails, flush_fails, want) in &ENDS {
@@ -132,6 +134,7 @@ fn a_clock_and_a_writer_that_fail_are_told(rt: HostRuntime) -> Result<(), Fail> 
 }
 
 /// Serves a datagram of 8,193 bytes with message ID 0x99.
+/// Tries: serve_on
 #[test]
 fn a_datagram_that_is_too_long(rt: HostRuntime) -> Result<(), Fail> {
     let mut long = vec![in rt.alloc(); 0x41; 8_193]?;
@@ -176,6 +179,7 @@ pub(super) fn run_two_cut<R: Threads + Wait + Sync>(
     is_served_cut(rt, &mut MemoryWire::new(alloc, &arrivals), 2, 2, cut, want)
 }
 
+/// Tries: serve_on, Server::finish, node_of, round_jobs, Nodes::new
 #[test]
 fn nodes_tell_each_other_between_rounds(rt: HostRuntime) -> Result<(), Fail> {
     let first = bytes(rt.alloc(), REGISTER)?;
@@ -214,6 +218,7 @@ settled
 56833 60440010
 ";
 
+/// Tries: serve_on, Server::new, serve_rounds, send_jobs, changes_after, put_merges, put_all_merges
 #[test]
 fn a_node_updates_what_another_registered(rt: HostRuntime) -> Result<(), Fail> {
     let register = bytes(rt.alloc(), REGISTER)?;
@@ -248,6 +253,7 @@ fn run_some<R: Threads + Wait + Sync>(
     same(ran.as_str(), want)
 }
 
+/// Tries: Plan::new, receive
 #[test]
 fn no_more_is_taken_than_asked_for(rt: HostRuntime) -> Result<(), Fail> {
     let arrivals = many(rt.alloc(), PING, &[0x80, 0, 0, 7])?;
@@ -337,6 +343,7 @@ pub(super) fn run_all<R: Threads + Wait + Sync>(
     Ok(format!(in alloc; "{sent} {replies} {ran}")?)
 }
 
+/// Tries: serve_on, reply_in, Server::round
 #[test]
 fn every_request_has_its_reply(rt: HostRuntime) -> Result<(), Fail> {
     let datagrams = registers(rt.alloc(), 400)?;

@@ -69,6 +69,7 @@ fn are_served<R: Threads + Wait + Sync>(
     is_served_at(rt, &mut wire, 2, &moments, want)
 }
 
+/// Tries: round_jobs
 #[test]
 fn what_has_expired_is_swept_at_each_node(rt: HostRuntime) -> Result<(), Fail> {
     let [one_update, other_update] = UPDATES;

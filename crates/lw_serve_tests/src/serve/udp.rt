@@ -62,6 +62,7 @@ fn serve_over<R: Clock + Threads + Wait + Sync>(
     (ended, written)
 }
 
+/// Tries: UdpWire::new, address_of, socket_address_of, Wire::wait, Wire::more
 #[test]
 fn two_clients_at_two_nodes(rt: HostRuntime) -> Result<(), Fail> {
     let Some(plan) = Plan::new(2, 2, 1, None) else {
@@ -136,6 +137,7 @@ fn is_there<C: Clock>(
     Err("a datagram that is there".into())
 }
 
+/// Tries: address_of, socket_address_of
 #[test]
 fn a_client_at_another_address_is_told(rt: HostRuntime) -> Result<(), Fail> {
     let (mut wire, at) = wire_at(&rt, "127.0.0.1:0")?;
@@ -147,6 +149,7 @@ fn a_client_at_another_address_is_told(rt: HostRuntime) -> Result<(), Fail> {
 }
 
 /// The socket does not wait once it was asked for what is there.
+/// Tries: UdpWire::new, Wire::wait, Wire::more
 #[test]
 fn a_wire_that_did_not_wait_waits_and_sends(rt: HostRuntime) -> Result<(), Fail> {
     let (mut wire, at) = wire_at(&rt, "127.0.0.1:0")?;
@@ -157,6 +160,7 @@ fn a_wire_that_did_not_wait_waits_and_sends(rt: HostRuntime) -> Result<(), Fail>
     is_waited_for(&mut wire, at, &client, from)
 }
 
+/// Tries: address_of, socket_address_of
 #[test]
 fn a_reply_arrives_at_another_address(rt: HostRuntime) -> Result<(), Fail> {
     let (mut wire, _at) = wire_at(&rt, "127.0.0.1:0")?;
@@ -165,6 +169,7 @@ fn a_reply_arrives_at_another_address(rt: HostRuntime) -> Result<(), Fail> {
 }
 
 /// No datagram can be sent to port 0.
+/// Tries: UdpWire::new
 #[test]
 fn a_send_that_fails_is_told(rt: HostRuntime) -> Result<(), Fail> {
     let (mut wire, _at) = wire_at(&rt, "127.0.0.1:0")?;
@@ -175,6 +180,7 @@ fn a_send_that_fails_is_told(rt: HostRuntime) -> Result<(), Fail> {
     holds("a fault", wire.send(nowhere, PING) == Err(WireFault))
 }
 
+/// Tries: address_of, socket_address_of
 #[test]
 fn a_datagram_is_sent_back_over_ipv6(rt: HostRuntime) -> Result<(), Fail> {
     match (wire_at(&rt, "[::1]:0"), bound(&rt, "[::1]:0")) {
