@@ -21,7 +21,6 @@ fn is_first(seen: Option<&Seen>) -> bool {
 }
 
 /// Tries: register_and_find
-/// Tries: register_and_find
 #[test]
 fn a_device_registers_and_is_found(rt: HostRuntime) -> Result<(), Fail> {
     let alloc = rt.alloc();
@@ -47,7 +46,6 @@ fn count_names(alloc: Global, node: &Node) -> Result<usize, Fail> {
 }
 
 /// Tries: names
-/// Tries: names
 #[test]
 fn names_rise(rt: HostRuntime) -> Result<(), Fail> {
     let alloc = rt.alloc();
@@ -61,7 +59,6 @@ fn names_rise(rt: HostRuntime) -> Result<(), Fail> {
     holds("the second", name_at(&all, 1) == Some("b"))
 }
 
-/// Tries: meet
 /// Tries: meet
 #[test]
 fn two_servers_meet(rt: HostRuntime) -> Result<(), Fail> {
@@ -106,7 +103,6 @@ fn followed(alloc: Global, node: &mut Node) -> Result<(Outgoing, Vec<Notice>), F
     Ok(follow(alloc, node, Moment::START, FIRST, device()?, &came)?)
 }
 
-/// Tries: follow
 /// Tries: follow
 #[test]
 fn a_path_is_followed(rt: HostRuntime) -> Result<(), Fail> {

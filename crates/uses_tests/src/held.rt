@@ -62,7 +62,6 @@ fn asked<R: Threads + Wait + Sync>(
 }
 
 /// Tries: ask_from_threads
-/// Tries: ask_from_threads
 #[test]
 fn two_threads_ask(rt: HostRuntime) -> Result<(), Fail> {
     let (shelves, first, second) = one_shelf(rt.alloc())?;
@@ -95,7 +94,6 @@ fn is_in(volume: &Volume, pass: &Pass) -> Result<bool, Fail> {
     Ok(stands_in(volume, pass.part(0).ok_or("a part")?))
 }
 
-/// Tries: call_and_cut, clocks, stands_in
 /// Tries: call_and_cut, clocks, stands_in
 #[test]
 fn a_volume_is_read(rt: HostRuntime) -> Result<(), Fail> {

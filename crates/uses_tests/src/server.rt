@@ -62,7 +62,6 @@ fn in_ten_lines(
 }
 
 /// Tries: ten_lines
-/// Tries: ten_lines
 #[test]
 fn ten_lines_do_it(rt: HostRuntime) -> Result<(), Fail> {
     let alloc = rt.alloc();
@@ -81,7 +80,6 @@ fn ten_lines_do_it(rt: HostRuntime) -> Result<(), Fail> {
     holds("at the other", shown.len() == 1)
 }
 
-/// Tries: ten_lines
 /// Tries: ten_lines
 #[test]
 fn ten_lines_find_no_stranger(rt: HostRuntime) -> Result<(), Fail> {
