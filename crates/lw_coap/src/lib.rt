@@ -2,7 +2,7 @@
 //!
 //! Each message that fits has one spelling, and bytes that spell none have one first fault. `decode`
 //! walks the grammar whole before it takes any memory, so a fault never depends on memory. The walk
-//! counts the options, so their room is made once; `encode` makes the room of all bytes at once.
+//! counts the options, so their room is made once; `encode` and `encode_lent` make the room of all bytes at once.
 #![tactic(auto)]
 
 pub mod codes;
@@ -21,7 +21,7 @@ mod writing;
 pub use fault::Fault;
 pub use header::peek_header;
 pub use limits::{MAX_LENGTH, MAX_TOKEN};
-pub use message::{CoapOption, Kind, Message};
+pub use message::{CoapOption, Kind, LentMessage, LentOption, Message};
 pub use number::uint;
 pub use reading::decode;
-pub use writing::encode;
+pub use writing::{encode, encode_lent};

@@ -97,3 +97,45 @@ impl Message {
         self.code != 0 || len == HEADER_LENGTH
     }
 }
+
+/// An option that is lent.
+#[derive(Drop)]
+pub struct LentOption<'a> {
+    pub number: u16,
+    pub value: &'a [u8],
+}
+
+impl<'a> Model for LentOption<'a> {
+    ghost use Rattle.lw_coap.specs.Message.{OptionContent};
+
+    ghost Value = { OptionContent };
+
+    ghost view = { λ a. record { number = a.number; value = a.value.now } };
+}
+
+/// A message whose parts are lent.
+#[derive(Drop)]
+pub struct LentMessage<'a> {
+    pub kind: Kind,
+    pub code: u8,
+    pub mid: u16,
+    pub token: &'a [u8],
+    /// In the order of their numbers.
+    pub options: &'a [LentOption<'a>],
+    pub payload: &'a [u8],
+}
+
+impl<'a> Model for LentMessage<'a> {
+    ghost use Rattle.lw_coap.specs.Message.{MessageContent};
+
+    ghost Value = { MessageContent };
+
+    ghost view = { λ a. record {
+      kind = a.kind;
+      code = a.code;
+      mid = a.mid;
+      token = a.token.now;
+      options = a.options.now;
+      payload = a.payload.now;
+    } };
+}

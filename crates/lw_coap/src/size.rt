@@ -1,10 +1,10 @@
 //! How many bytes the parts of a message take.
 
-ghost use Rattle.std.specs.Prelude.{◌≡◌, ◌<◌, ◌≤◌, length, IfSome, IfNone};
+ghost use Rattle.std.specs.Prelude.{◌≡◌, ◌+◌, ◌<◌, ◌≤◌, length, IfSome, IfNone};
 ghost use Rattle.lw_coap.specs.Fits.{AreRising, extension_length, options_length, payload_length, printed_length};
 
 use crate::limits::{HEADER_LENGTH, MAX_LENGTH};
-use crate::message::{CoapOption, Message};
+use crate::message::{CoapOption, LentMessage, Message};
 
 /// How many bytes extend the nibble of a number (RFC 7252, section 3.1).
 fn bytes_of_extension(number: usize) -> usize
@@ -18,6 +18,14 @@ fn bytes_of_extension(number: usize) -> usize
     } else {
         2
     }
+}
+
+/// How many bytes of an option stand before its value.
+fn bytes_before_value(delta: usize, size: usize) -> usize
+    ensures value { result ≡ 1 + extension_length delta + extension_length size }
+    ensures below { result ≤ 5 }
+{
+    1 + bytes_of_extension(delta) + bytes_of_extension(size)
 }
 
 /// How many bytes the options take. There is no answer where their numbers fall, or past 8,192 bytes.
@@ -35,7 +43,7 @@ fn bytes_of_options(options: &[CoapOption]) -> Option<usize>
             return None;
         }
         let delta = (option.number - before) as usize;
-        len += 1 + bytes_of_extension(delta) + bytes_of_extension(size) + size;
+        len += bytes_before_value(delta, size) + size;
         if len > MAX_LENGTH {
             return None;
         }
@@ -69,4 +77,20 @@ pub(crate) fn bytes_of_message(message: &Message) -> Option<usize>
     let payload = bytes_of_payload(&message.payload);
     let len = HEADER_LENGTH + message.token.len() + options + payload;
     (len <= MAX_LENGTH).then_some(len)
+}
+
+/// Room for a message. It serves to make it once, and promises nothing.
+pub(crate) fn room_of(message: &LentMessage<'_>) -> usize {
+    let mut before = 0;
+    let mut room = HEADER_LENGTH + usize::from(!message.payload.is_empty());
+    for option in message.options {
+        let delta = usize::from(option.number.saturating_sub(before));
+        let size = option.value.len();
+        room = room
+            .saturating_add(bytes_before_value(delta, size))
+            .saturating_add(size);
+        before = option.number;
+    }
+    room.saturating_add(message.token.len())
+        .saturating_add(message.payload.len())
 }

@@ -4,8 +4,8 @@ ghost use Rattle.lw_coap.specs.Fits.{AreRising, options_length, Fits};
 ghost use Rattle.lw_coap.specs.inner.Writing.{nibble_of, extension_of, option_bytes, options_bytes, payload_bytes, header_bytes, message_bytes};
 
 use crate::limits::PAYLOAD_MARKER;
-use crate::message::{CoapOption, Kind, Message};
-use crate::size::bytes_of_message;
+use crate::message::{CoapOption, LentMessage, LentOption, Message};
+use crate::size::room_of;
 use lw_stamp::NoMemory;
 use std::alloc::Global;
 
@@ -40,7 +40,7 @@ fn put_extension(out: &mut Vec<u8>, number: usize) -> Result<(), NoMemory>
 }
 
 /// An option, behind an option of the number before.
-fn put_option(out: &mut Vec<u8>, before: u16, option: &CoapOption) -> Result<(), NoMemory>
+fn put_option(out: &mut Vec<u8>, before: u16, option: &LentOption<'_>) -> Result<(), NoMemory>
     requires rising { before ≤ option.now.number }
     requires small { length option.now.value < 65536 }
     ensures { OnOk result (out.new.items ≡ out.old.items ++ option_bytes before option.now) }
@@ -50,7 +50,7 @@ fn put_option(out: &mut Vec<u8>, before: u16, option: &CoapOption) -> Result<(),
     out.push(16 * nibble(delta) + nibble(len))?;
     put_extension(out, delta)?;
     put_extension(out, len)?;
-    out.extend_from_slice(&option.value)?;
+    out.extend_from_slice(option.value)?;
     Ok(())
 }
 
@@ -66,7 +66,7 @@ fn put_payload(out: &mut Vec<u8>, payload: &[u8]) -> Result<(), NoMemory>
 }
 
 /// Options, one after another.
-fn put_options(out: &mut Vec<u8>, options: &[CoapOption]) -> Result<(), NoMemory>
+fn put_options(out: &mut Vec<u8>, options: &[LentOption<'_>]) -> Result<(), NoMemory>
     requires rising { AreRising 0 options.now }
     requires small { options_length 0 options.now ≤ 8192 }
     ensures { OnOk result (out.new.items ≡ out.old.items ++ options_bytes 0 options.now) }
@@ -79,7 +79,7 @@ fn put_options(out: &mut Vec<u8>, options: &[CoapOption]) -> Result<(), NoMemory
     Ok(())
 }
 
-fn put_header(out: &mut Vec<u8>, message: &Message) -> Result<(), NoMemory>
+fn put_header(out: &mut Vec<u8>, message: &LentMessage<'_>) -> Result<(), NoMemory>
     requires { length message.now.token ≤ 8 }
     ensures { OnOk result (out.new.items ≡ out.old.items ++ header_bytes message.now) }
 {
@@ -90,19 +90,38 @@ fn put_header(out: &mut Vec<u8>, message: &Message) -> Result<(), NoMemory>
     Ok(())
 }
 
-fn write(alloc: Global, message: &Message) -> Result<Vec<u8>, NoMemory>
+fn write(alloc: Global, message: &LentMessage<'_>) -> Result<Vec<u8>, NoMemory>
     requires { Fits message.now }
     ensures { IfOk result (λ bytes. bytes.items ≡ message_bytes message.now) }
 {
-    let Some(len) = bytes_of_message(message) else {
-        unreachable!()
-    };
-    let mut out = Vec::with_capacity(alloc, len)?;
+    let mut out = Vec::with_capacity(alloc, room_of(message))?;
     put_header(&mut out, message)?;
-    out.extend_from_slice(&message.token)?;
-    put_options(&mut out, &message.options)?;
-    put_payload(&mut out, &message.payload)?;
+    out.extend_from_slice(message.token)?;
+    put_options(&mut out, message.options)?;
+    put_payload(&mut out, message.payload)?;
     Ok(out)
+}
+
+/// The one spelling of the message. `Message::fits` tells of an owned one whether there is one.
+pub fn encode_lent(alloc: Global, message: &LentMessage<'_>) -> Result<Vec<u8>, NoMemory>
+    requires { Fits message.now }
+    ensures { IfOk result (λ bytes. IsSpelling bytes.items message.now) }
+{
+    write(alloc, message)
+}
+
+/// The options, lent.
+fn lend_options(alloc: Global, options: &[CoapOption]) -> Result<Vec<LentOption<'_>>, NoMemory>
+    ensures { IfOk result (λ lent. lent.items ≡ options.now) }
+{
+    let mut lent = Vec::with_capacity(alloc, options.len())?;
+    for option in options {
+        lent.push(LentOption {
+            number: option.number,
+            value: &option.value,
+        })?;
+    }
+    Ok(lent)
 }
 
 /// The one spelling of the message. `Message::fits` tells whether there is one.
@@ -110,5 +129,16 @@ pub fn encode(alloc: Global, message: &Message) -> Result<Vec<u8>, NoMemory>
     requires { Fits message.now }
     ensures { IfOk result (λ bytes. IsSpelling bytes.items message.now) }
 {
-    write(alloc, message)
+    let options = lend_options(alloc, &message.options)?;
+    encode_lent(
+        alloc,
+        &LentMessage {
+            kind: message.kind,
+            code: message.code,
+            mid: message.mid,
+            token: &message.token,
+            options: &options,
+            payload: &message.payload,
+        },
+    )
 }

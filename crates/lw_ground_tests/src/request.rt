@@ -219,7 +219,7 @@ fn empty_answers_have_the_number() -> bool {
         && ack(0xfedc) == [0x60, 0x00, 0xfe, 0xdc]
 }
 
-/// Tries: answer, reset, ack
+/// Tries: answer, reset, ack, lw_coap::encode_lent
 #[test]
 fn answers_have_the_token_and_the_location(rt: HostRuntime) -> Result<(), Fail> {
     for (datagram, code, is_made, want) in &ANSWERS {

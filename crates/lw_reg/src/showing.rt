@@ -1,6 +1,6 @@
 //! What a slot shows at a moment.
 
-ghost use Rattle.std.specs.Prelude.{◌≡◌, ◌↔◌, ◌≤◌, ℕ, List, [], IsTrue, IsSomeAnd};
+ghost use Rattle.std.specs.Prelude.{◌≡◌, ◌↔◌, ◌≤◌, ℕ, ◌+◌, ◌*◌, ◌==◌, List, [], Some, None, if◌then◌else◌, IsTrue, IsSomeAnd};
 ghost use Rattle.lw_stamp.specs.Moment.{ms_of};
 ghost use Rattle.lw_reg.specs.Marks.{Mark, among};
 ghost use Rattle.lw_reg.specs.Reading.{registered_in, view_in, in_time, end_of, is_late, lasting, ended_of, seen_of, deadline_in, shown_by, IsSlotOf};
@@ -40,8 +40,14 @@ impl Slot {
         ensures expires { (now : ℕ) → IsSomeAnd result (λ d. d ≤ now)
             ↔ IsTrue (is_late now (registered_in [] self.now)) }
     {
-        let view = self.registered("")?;
-        end_of(&view)
+        let _ = self.base()?;
+        let _ = self.address()?;
+        let (_, last) = self.lasting()?;
+        let (_, lifetime) = self.lifetime()?;
+        let _ = self.binding()?;
+        let _ = self.sms()?;
+        let _ = self.objects()?;
+        end_at(last, lifetime)
     }
 
     fn shown<'a>(&'a self, endpoint: &'a str, now: Moment) -> Option<View<'a>>
@@ -113,9 +119,16 @@ fn is_in_time(view: &View<'_>, now: Moment) -> bool
 fn end_of(view: &View<'_>) -> Option<u64>
     ensures { result ≡ end_of view.now }
 {
-    if view.lifetime == 0 {
+    end_at(view.seen, view.lifetime)
+}
+
+/// When what was seen then is over, by its lifetime in seconds.
+fn end_at(seen: Moment, lifetime: u32) -> Option<u64>
+    ensures { result ≡ (if lifetime == 0 then None else Some (ms_of seen + 1000 * lifetime)) }
+{
+    if lifetime == 0 {
         None
     } else {
-        Some(view.seen.ms() + 1000 * u64::from(view.lifetime))
+        Some(seen.ms() + 1000 * u64::from(lifetime))
     }
 }

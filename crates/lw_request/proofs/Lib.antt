@@ -4,6 +4,5 @@ pub mod ObjectLemmas
 pub mod QueryLemmas
 pub mod AttributeLemmas
 pub mod Meanings
-pub mod Replies
 pub mod OneMeaning
 pub mod SomeMeaning

@@ -1,10 +1,9 @@
 -- The object list of a Register or an Update: its payload in the link format (LwM2M 1.1 Core, section 6.2.1;
+-- RFC 6690, section 2).
 use Rattle.std.specs.Prelude.{◌≡◌, ℕ, ◌<◌, ◌≤◌, ◌⊎◌, List, length}
 use Rattle.lw_link.specs.Link.{LinkContent}
 use Rattle.lw_link.specs.Spelling.{Spells}
 use Rattle.lw_link.specs.Printing.{printing}
-
--- RFC 6690, section 2).
 
 -- the bytes spell 1 to 256 links, and the object list is their printing
 abbrev pub IsObjectList : List ℕ → List ℕ → Type 0

@@ -1,4 +1,5 @@
 -- The Uri-Queries of a Register and an Update (LwM2M 1.1 Core, section 6.2.1; LwM2M 1.1 Transport, section
+-- 6.4.3).
 use Rattle.std.specs.Prelude.{◌≡◌, ℕ, ◌+◌, ◌*◌, ◌-◌, ◌<◌, ◌≤◌, ◌⊎◌, ◌==◌, Bool, true, false, IsTrue, IsUtf8, if◌then◌else◌, List, [], ◌∷◌, length, fold, codes, Option, Some, None, bytes_eq}
 use Rattle.std.specs.List.{before_first, after_first, AllByRecursion}
 use Rattle.std.specs.Option.{option_map}
@@ -8,8 +9,6 @@ use Rattle.lw_reg.specs.Attribute.{is_attribute_name}
 use Rattle.lw_reg.specs.declared.binding.Binding.{Binding}
 use Rattle.lw_reg.specs.Binding.{binding_text}
 use Rattle.lw_reg.specs.BindingText.{IsBindingText}
-
--- 6.4.3).
 
 -- a query is split at its first `=`; without one its value is empty
 abbrev pub name_of : List ℕ → List ℕ

@@ -2,3 +2,4 @@ pub mod Meaning
 pub mod Objects
 pub mod Parameters
 pub mod Queries
+pub mod Reply

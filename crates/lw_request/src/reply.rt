@@ -1,11 +1,13 @@
 //! The messages that a request is answered with, and their bytes.
 
 ghost use Rattle.std.specs.Prelude.{◌≡◌, ◌≤◌, ◌<◌, ◌⊎◌, IfOk, length};
+ghost use Rattle.lw_coap.specs.Fits.{Fits};
 ghost use Rattle.lw_coap.specs.Grammar.{IsSpelling};
-ghost use Rattle.lw_request.specs.Reply.{answer_kind, answer_of, location_options, reset_of, ack_of};
+ghost use Rattle.lw_request.specs.Reply.{answer_kind, answer_of, reset_of, ack_of};
+ghost use Rattle.lw_request.specs.inner.Reply.{answer_with};
 
 use lw_coap::option_numbers::LOCATION_PATH;
-use lw_coap::{CoapOption, Kind, Message, encode};
+use lw_coap::{Kind, LentMessage, LentOption, encode_lent};
 use lw_stamp::{NoMemory, Stamp};
 use std::alloc::Global;
 
@@ -18,26 +20,27 @@ fn kind_of_answer(kind: Kind) -> Kind
     }
 }
 
-fn location_path(alloc: Global, segment: &[u8]) -> Result<CoapOption, NoMemory>
-    ensures { IfOk result (λ o. o ≡ record { number = 8; value = segment.now }) }
+/// The message with these parts and no payload.
+fn written(
+    alloc: Global,
+    kind: Kind,
+    mid: u16,
+    token: &[u8],
+    code: u8,
+    options: &[LentOption<'_>],
+) -> Result<Vec<u8>, NoMemory>
+    requires { Fits (answer_with kind mid token.now code options.now) }
+    ensures { IfOk result (λ bytes. IsSpelling bytes.items (answer_with kind mid token.now code options.now)) }
 {
-    Ok(CoapOption {
-        number: LOCATION_PATH,
-        value: Vec::from_slice(alloc, segment)?,
-    })
-}
-
-/// The Location-Path of a registration.
-fn options_of(alloc: Global, location: Option<Stamp>) -> Result<Vec<CoapOption>, NoMemory>
-    ensures { IfOk result (λ options. options.items ≡ location_options location) }
-{
-    let Some(id) = location else {
-        return Ok(Vec::new(alloc));
+    let message = LentMessage {
+        kind,
+        code,
+        mid,
+        token,
+        options,
+        payload: &[],
     };
-    Ok(vec![in alloc;
-        location_path(alloc, b"rd")?,
-        location_path(alloc, &id.id_text())?,
-    ]?)
+    encode_lent(alloc, &message)
 }
 
 /// The answer to a confirmable or non-confirmable request with this message ID and token: an acknowledgement, or
@@ -55,15 +58,22 @@ pub fn answer(
     requires code { 0 < code }
     ensures { IfOk result (λ bytes. IsSpelling bytes.items (answer_of kind mid token.now code location)) }
 {
-    let message = Message {
-        kind: kind_of_answer(kind),
-        code,
-        mid,
-        token: Vec::from_slice(alloc, token)?,
-        options: options_of(alloc, location)?,
-        payload: Vec::new(alloc),
+    let kind = kind_of_answer(kind);
+    let Some(id) = location else {
+        return written(alloc, kind, mid, token, code, &[]);
     };
-    encode(alloc, &message)
+    let id = id.id_text();
+    let path = [
+        LentOption {
+            number: LOCATION_PATH,
+            value: b"rd",
+        },
+        LentOption {
+            number: LOCATION_PATH,
+            value: &id,
+        },
+    ];
+    written(alloc, kind, mid, token, code, &path)
 }
 
 /// The Reset of the message with this message ID.

@@ -1,10 +1,9 @@
 -- Tables that are copied and compared, row by row.
-use Rattle.std.proofs.Common.{◌≡◌, ◌≢◌, ◌⊎◌, ◌↔◌, inl, inr, ℕ, true, false, cond, List, [], ◌∷◌, Option, Some, None, refl, sym, ap, ◌∙◌, subst}
+use Rattle.std.proofs.Common.{◌≡◌, ◌⊎◌, inl, inr, ℕ, true, false, cond, List, [], ◌∷◌, Option, Some, None, refl, sym, ap, ◌∙◌, subst}
 use Rattle.std.specs.Prelude.{Contains, bytes_eq, IsSome, option_map}
 use Rattle.std.specs.FinMap.{get}
 use Rattle.lw_recent.specs.Recent.{IsUnder, AreSince}
 use Rattle.lw_reg.proofs.Members.{none_there, there_or_first}
-use Rattle.lw_reg.specs.declared.slot.Slot.{Slot}
 use Rattle.lw_table.specs.inner.Copying.{Copies, MayBeCopied, CopiesRow}
 use Rattle.lw_table.specs.inner.Filed.{HasNumber, IsFiled, OthersSame, slot_of, number_of}
 use Rattle.lw_table.specs.Rows.{IsRows, table_in}

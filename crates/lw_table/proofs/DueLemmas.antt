@@ -13,7 +13,7 @@ use Rattle.lw_reg.specs.Reading.{deadline_in, deadline_of, is_late, registered_i
 use Rattle.lw_reg.specs.Registration.{Registration}
 use Rattle.lw_reg.specs.declared.slot.Slot.{Slot}
 use Rattle.lw_table.specs.Due.{HasDue, OptionHasDue}
-use Rattle.lw_table.specs.inner.Due.{OtherDue, deadline_at}
+use Rattle.lw_table.specs.inner.Due.{IsDueBy, OtherDue, deadline_at}
 use Rattle.lw_table.specs.inner.Found.{expired_with}
 use Rattle.lw_table.proofs.RowLemmas.{same_or_not}
 
@@ -21,17 +21,14 @@ use Rattle.lw_table.proofs.RowLemmas.{same_or_not}
 apart : (n e : List ℕ) → n ≢ e → text_cmp n e ≢ Equal
 apart n e other tie = other (text_order.exact n e tie)
 
-pub others_added : (e : List ℕ) (due : ℕ) (xs : List Entry) → OtherDue e xs (with_entry e due xs)
-others_added e due xs = record { same = λ n other. due_of-with_entry_other n e due xs (apart n e other) }
-
 pub others_lowered : (e : List ℕ) (due : ℕ) (xs : List Entry) → OtherDue e xs (lowered e due xs)
 others_lowered e due xs = record { same = λ n other. due_of-lowered_other n e due xs (apart n e other) }
 
 pub others_raised : (e : List ℕ) (now due : ℕ) (xs : List Entry) → first_due now xs ≡ Some e → OtherDue e xs (raised now due xs)
 others_raised e now due xs first = record { same = λ n other. due_of-raised_other n e now due xs first (apart n e other) }
 
-pub added_there : (e : List ℕ) (due : ℕ) (xs : List Entry) → IsSome (due_of e (with_entry e due xs))
-added_there e due xs = subst IsSome (sym (due_of-with_entry e due xs)) refl
+pub others_put : (e : List ℕ) (due : ℕ) (xs : List Entry) → OtherDue e xs (with_entry e due (lowered e due xs))
+others_put e due xs = record { same = λ n other. due_of-with_entry_other n e due (lowered e due xs) (apart n e other) ∙ due_of-lowered_other n e due xs (apart n e other) }
 
 -- ---- what an endpoint has
 one_moment : (a b : ℕ) → ◌≡◌ {A = Option ℕ} (Some a) (Some b) → a ≡ b
@@ -59,6 +56,22 @@ has_lowered e d xs slot there deadline = lowered_has (due_of e xs) e d xs slot r
 at_deadline : (o : Option ℕ) (d : ℕ) → o ≡ Some d → unwrap_or o (2 ^ 64 - 1) ≤ d
 at_deadline None d h = absurd cc
 at_deadline (Some x) d h = let same : x ≡ d = one_moment x d h in omega arith
+
+-- the lesser of two due moments, or the new one
+put_at : (o : Option ℕ) (d : ℕ) → unwrap_or (option_map (λ k. min k d) o) d ≤ d
+put_at None d = omega arith
+put_at (Some k) d = omega arith
+
+pub has_put : (e : List ℕ) (d : ℕ) (xs : List Entry) (slot : Slot) → d ≡ unwrap_or (deadline_in slot) (2 ^ 64 - 1) → HasDue (with_entry e d (lowered e d xs)) e slot
+has_put e d xs slot last = record {
+  at = unwrap_or (option_map (λ k. min k d) (due_of e xs)) d;
+  is = due_of-with_entry e d (lowered e d xs) ∙ ap (λ o. Some (unwrap_or o d)) (due_of-lowered e d xs);
+  by = λ x h. omega (arith, last, put_at (due_of e xs) d, at_deadline (deadline_in slot) x h);
+}
+
+-- where the deadline does not fall
+pub is_due_still : (xs : List Entry) (e : List ℕ) (slot : Slot) (before : Option ℕ) (d : ℕ) → IsDueBy xs e before → Some d ≡ deadline_in slot → ((at : ℕ) → ((x : ℕ) → before ≡ Some x → at ≤ x) → at ≤ d) → HasDue xs e slot
+is_due_still xs e slot before d h is stays = record { at = h.at; is = h.is; by = λ x same. subst (λ n. h.at ≤ n) (one_moment d x (is ∙ same)) (stays h.at h.by) }
 
 -- the first that is due, raised to the deadline of its slot
 has_raised : (e : List ℕ) (now : ℕ) (xs : List Entry) (slot : Option Slot) → IsRising xs → first_due now xs ≡ Some e → OptionHasDue (raised now (deadline_at slot) xs) e slot

@@ -1,13 +1,12 @@
 //! What is filed beside the rows: the name, the keys, the change number and the due moment of each endpoint.
 
-ghost use Rattle.std.specs.Prelude.{◌≡◌, ◌↔◌, ◌⊎◌, ℕ, true, List, [], Some, Contains, OnOk, OnErr, IsSome, IsTrue};
+ghost use Rattle.std.specs.Prelude.{◌≡◌, ◌↔◌, ◌⊎◌, ◌≤◌, ℕ, true, false, List, [], Some, Contains, OnOk, OnErr, IsTrue};
 ghost use Rattle.std.specs.Option.{option_copied};
-ghost use Rattle.lw_due.specs.Due.{due_of};
 ghost use Rattle.lw_index.specs.Index.{Has};
 ghost use Rattle.lw_recent.specs.Recent.{IsUnder};
 ghost use Rattle.lw_table.specs.declared.key.Key.{Key as Keys};
 ghost use Rattle.lw_table.specs.Due.{HasDue};
-ghost use Rattle.lw_table.specs.inner.Due.{OtherDue};
+ghost use Rattle.lw_table.specs.inner.Due.{IsDueBy, OtherDue};
 ghost use Rattle.lw_table.specs.inner.Filed.{IsFiled, IsOver, OthersSame, OtherKeys, OtherNames, OtherNumbers, IsBetween, HasAll, slot_of};
 ghost use Rattle.lw_table.specs.Keys.{key_cmp, HasKey, OptionHasKey};
 ghost use Rattle.lw_table.specs.Table.{IsKept};
@@ -180,18 +179,29 @@ pub(crate) fn add_due(due: &mut DueMoments, endpoint: &str, slot: &Slot) -> Resu
     ensures others { OtherDue endpoint.now due.old due.new }
     ensures due { OnOk result (HasDue due.new endpoint.now slot.now) }
 {
-    due.add(endpoint)?;
-    lower_due(due, endpoint, slot);
-    Ok(())
+    let moment = slot.deadline().unwrap_or(u64::MAX);
+    due.add(endpoint, moment)
 }
 
-/// Lowers the due moment of the endpoint to the deadline of the slot. It takes no memory.
-pub(crate) fn lower_due(due: &mut DueMoments, endpoint: &str, slot: &Slot)
-    requires { IsSome (due_of endpoint.now due.old) }
+/// Lowers the due moment of the endpoint to the deadline of the slot, where that falls. It takes no memory.
+pub(crate) fn lower_due(due: &mut DueMoments, endpoint: &str, before: Option<u64>, slot: &Slot)
+    requires { IsDueBy due.old endpoint.now before }
     ensures others { OtherDue endpoint.now due.old due.new }
     ensures due { HasDue due.new endpoint.now slot.now }
 {
     if let Some(deadline) = slot.deadline() {
-        due.lower(endpoint, deadline);
+        if falls(before, deadline) {
+            due.lower(endpoint, deadline);
+        }
+    }
+}
+
+// Whether what is not after the deadline before may be after the deadline now.
+fn falls(before: Option<u64>, now: u64) -> bool
+    ensures { (at : ℕ) → result ≡ false → ((d : ℕ) → before ≡ Some d → at ≤ d) → at ≤ now }
+{
+    match before {
+        None => true,
+        Some(before) => now < before,
     }
 }

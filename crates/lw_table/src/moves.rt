@@ -141,10 +141,11 @@ fn try_move(
     ensures unchanged { OnErr result ((row.new ≡ row.old) × IsOver filed.new endpoint.now (Some row.new) keys.now) }
 {
     filed.add(alloc, endpoint, may_revive(row, &slot), keys)?;
+    let before = row.slot.deadline();
     row.slot.join_with(slot)?;
     move_number(&mut filed.numbers, endpoint, row.number, number);
     row.number = number;
-    lower_due(&mut filed.due, endpoint, &row.slot);
+    lower_due(&mut filed.due, endpoint, before, &row.slot);
     Ok(())
 }
 

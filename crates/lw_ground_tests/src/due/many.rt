@@ -15,14 +15,13 @@ fn due_of(number: usize) -> u64 {
     (number % COUNT * 37 % 100) as u64
 }
 
-/// Puts the endpoints in, beginning at 0 and going on by a step. Each is put in twice.
+/// Puts the endpoints in, beginning at 0 and going on by a step. Each is put in twice, later first.
 fn put_all(alloc: Global, moments: &mut DueMoments, step: usize) -> Result<(), NoMemory> {
     for place in 0..COUNT {
         let number = place.wrapping_mul(step) % COUNT;
         let name = name_of(alloc, number)?;
-        moments.add(name.as_str())?;
-        moments.lower(name.as_str(), due_of(number));
-        moments.add(name.as_str())?;
+        moments.add(name.as_str(), 100)?;
+        moments.add(name.as_str(), due_of(number))?;
     }
     Ok(())
 }

@@ -1,5 +1,5 @@
 -- What a step keeps of the due moments, and of those of other endpoints.
-use Rattle.std.specs.Prelude.{◌≡◌, ◌≢◌, ◌-◌, ◌^◌, ℕ, List, Option, Some, None}
+use Rattle.std.specs.Prelude.{◌≡◌, ◌≢◌, ◌≤◌, ◌-◌, ◌^◌, ℕ, List, Option, Some, None}
 use Rattle.std.specs.Option.{unwrap_or}
 use Rattle.lw_due.specs.Due.{Entry, due_of}
 use Rattle.lw_reg.specs.declared.slot.Slot.{Slot}
@@ -13,6 +13,12 @@ KeepsDue slots old new = (e : List ℕ) → OptionHasDue old e (slots e) → Opt
 -- of each endpoint but one the due moment is the same
 pub record OtherDue (endpoint : List ℕ) (old new : List Entry) : Type 0 where
   pub same : (e : List ℕ) → e ≢ endpoint → due_of e new ≡ due_of e old
+
+-- the endpoint has a due moment, and it is not after the deadline, if there is one
+pub record IsDueBy (due : List Entry) (e : List ℕ) (deadline : Option ℕ) : Type 0 where
+  pub at : ℕ
+  pub is : due_of e due ≡ Some at
+  pub by : (d : ℕ) → deadline ≡ Some d → at ≤ d
 
 -- the deadline of the slot, and the last moment of all where there is none
 abbrev pub deadline_at : Option Slot → ℕ

@@ -5,7 +5,6 @@ use Rattle.lw_join.specs.declared.once.Once.{Once}
 use Rattle.lw_join.specs.declared.or_gone.OrGone.{OrGone}
 use Rattle.lw_join.specs.declared.or_gone.OrGone.TheVariants.{Here, Gone}
 use Rattle.lw_reg.specs.Body.{Watching}
-use Rattle.lw_table.specs.contracts.key.KeyOrd.TheImpl as derived
 
 -- the token of a watch that was not cancelled
 abbrev pub token_here : Stamp → OrGone (Once ℕ) → Option Stamp

@@ -1,10 +1,7 @@
-use Rattle.std.proofs.Common.{◌≡◌, ℕ, List, [], ◌++◌, ap, ◌∙◌, arith, append_assoc}
+use Rattle.std.proofs.Common.{◌≡◌, ℕ, List, [], ◌++◌, ap, append_assoc}
 use Rattle.lw_coap.specs.Message.{OptionContent, MessageContent}
 use Rattle.lw_coap.specs.inner.Writing.{options_bytes, payload_bytes, header_bytes, message_bytes}
 use Rattle.lw_coap.proofs.writing.write.Goals as goal
-
-pub unreachable-requires : goal.unreachable-requires
-unreachable-requires c = omega (arith, c.in_default.ensures.none c.requires.options, c.requires.within)
 
 -- the parts of a message, one after another
 joined : (m : MessageContent) (nothing header token options whole t p : List ℕ) (o : List OptionContent) → t ≡ m.token → o ≡ m.options → p ≡ m.payload → nothing ≡ []
@@ -14,7 +11,7 @@ joined m nothing header token options whole t p o ht ho hp a b c d e =
 
 pub returns : goal.returns
 returns c =
-    joined c.args.message.now _ _ _ _ _ _ _ _ (c.deref.ensures.value ∙ ap (λ (m : MessageContent). m.token) c.message.view_is)
-    (c.deref-2.ensures.value ∙ ap (λ (m : MessageContent). m.options) c.message.view_is)
-    (c.deref-3.ensures.value ∙ ap (λ (m : MessageContent). m.payload) c.message.view_is)
+    joined c.args.message.now _ _ _ _ _ _ _ _ (ap (λ (m : MessageContent). m.token) c.message.view_is)
+    (ap (λ (m : MessageContent). m.options) c.message.view_is)
+    (ap (λ (m : MessageContent). m.payload) c.message.view_is)
     c.in_ok-out.ensures.items c.in_ok-put_header.ensures c.in_ok-extend_from_slice.ensures.items c.in_ok-put_options.ensures c.in_ok-put_payload.ensures

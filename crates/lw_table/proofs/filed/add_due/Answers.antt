@@ -1,15 +1,18 @@
-use Rattle.std.proofs.Common.{◌-◌, ◌^◌, sym, subst}
-use Rattle.std.specs.Option.{IsSome}
-use Rattle.lw_due.specs.Due.{due_of}
+use Rattle.std.proofs.Common.{sym, subst}
+use Rattle.lw_table.specs.Due.{HasDue}
 use Rattle.lw_table.specs.inner.Due.{OtherDue}
-use Rattle.lw_table.proofs.DueLemmas.{added_there, others_added}
-use Rattle.lw_table.proofs.FiledLemmas.{due_then}
+use Rattle.lw_table.proofs.DueLemmas.{has_put, others_put}
+use Rattle.lw_table.proofs.FiledLemmas.{either, on_ok, same_due}
 use Rattle.lw_table.proofs.filed.add_due.Goals as goal
-
-pub lower_due-requires : goal.lower_due-requires
-lower_due-requires c = subst (λ xs. IsSome (due_of c.args.endpoint.now xs)) (sym c.in_ok-add.ensures.added) (added_there c.args.endpoint.now (2 ^ 64 - 1) c.args.due.now)
 
 pub returns-clause-others : goal.returns-clause-others
 returns-clause-others c =
-    due_then c.args.endpoint.now c.args.due.now c.add.new.self c.lower_due.new.due
-    (subst (OtherDue c.args.endpoint.now c.args.due.now) (sym c.in_ok-add.ensures.added) (others_added c.args.endpoint.now (2 ^ 64 - 1) c.args.due.now)) c.lower_due.ensures.others
+    either _ _ (OtherDue c.args.endpoint.now c.args.due.now c.add.new.self) c.add.result c.add.ensures.added c.add.ensures.unchanged
+    (λ added. subst (OtherDue c.args.endpoint.now c.args.due.now) (sym added) (others_put c.args.endpoint.now c.unwrap_or-moment.result c.args.due.now))
+    (λ same. subst (OtherDue c.args.endpoint.now c.args.due.now) (sym same) (same_due c.args.endpoint.now c.args.due.now))
+
+pub returns-clause-due : goal.returns-clause-due
+returns-clause-due c = on_ok _ _ c.add.result
+    (λ added. subst (λ xs. HasDue xs c.args.endpoint.now c.args.slot.now) (sym added)
+    (has_put c.args.endpoint.now c.unwrap_or-moment.result c.args.due.now c.args.slot.now (rw (← c.deadline.ensures.value) c.unwrap_or-moment.ensures)))
+    c.add.ensures.added

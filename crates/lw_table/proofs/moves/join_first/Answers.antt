@@ -1,18 +1,16 @@
-use Rattle.std.proofs.Common.{◌≡◌, false, cond, Option, Some, None, refl, sym, ap, ◌∙◌, subst, rules}
-use Rattle.std.specs.Prelude.{bytes_eq, is_some, string_bytes}
+use Rattle.std.proofs.Common.{◌≡◌, false, cond, Some, refl, sym, ap, ◌∙◌, subst, rules}
+use Rattle.std.specs.Prelude.{bytes_eq, string_bytes}
 use Rattle.std.specs.BTreeMap.{is_at}
 use Rattle.std.specs.BTreeMap as tree
 use Rattle.std.specs.Option.{IfSome}
 use Rattle.std.specs.Ordering.{nat_cmp}
 use Rattle.lw_table.specs.inner.Filed.{IsFiled}
-use Rattle.lw_table.specs.inner.Moves.{next_row, IsKnown, PutsRow, SameRows}
-use Rattle.lw_table.specs.Rows.{IsRows, end_of}
-use Rattle.lw_table.specs.inner.Rows.{has_end, row_at}
+use Rattle.lw_table.specs.inner.Moves.{IsKnown}
+use Rattle.lw_table.specs.Rows.{end_of}
 use Rattle.lw_table.specs.declared.rows.First.{First}
 use Rattle.lw_table.specs.declared.rows.Rows.{Rows}
 use Rattle.lw_table.proofs.FiledLemmas.{on_err}
-use Rattle.lw_table.proofs.JoinLemmas.{added_at, if_not, if_ok, joined_at, same_then_joins}
-use Rattle.lw_table.proofs.MoveLemmas.{err_then}
+use Rattle.lw_table.proofs.JoinLemmas.{if_ok, joined_at, same_then_joins}
 use Rattle.lw_table.proofs.RowLemmas.{no_first, own_first, first_put, put_again, passed_over, same_then_same}
 use Rattle.lw_table.proofs.moves.join_first.Goals as goal
 

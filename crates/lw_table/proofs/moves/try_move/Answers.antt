@@ -1,8 +1,7 @@
-use Rattle.std.proofs.Common.{◌≡◌, ◌↔◌, Some, refl, sym, ap, subst}
-use Rattle.std.specs.Option.{IsSome}
-use Rattle.lw_due.specs.Due.{due_of}
+use Rattle.std.proofs.Common.{◌≡◌, ◌↔◌, Some, refl, sym, ap, ◌∙◌, subst}
 use Rattle.lw_recent.specs.Recent.{IsUnder}
 use Rattle.lw_table.specs.Due.{HasDue}
+use Rattle.lw_table.specs.inner.Due.{IsDueBy}
 use Rattle.lw_table.specs.inner.Filed.{IsOver}
 use Rattle.lw_table.specs.inner.Moves.{moved_row}
 use Rattle.lw_table.specs.declared.filed.Filed.{Filed}
@@ -38,7 +37,10 @@ pub move_number-requires : goal.move_number-requires
 move_number-requires c = λ n. subst (λ l. IsUnder l n c.args.endpoint.now ↔ (Some c.args.row.now.number ≡ Some n)) (sym c.add.ensures.between.numbers) (c.requires.filed.numbers n)
 
 pub lower_due-requires : goal.lower_due-requires
-lower_due-requires c = subst (λ l. IsSome (due_of c.args.endpoint.now l)) (sym c.add.ensures.between.due) (subst IsSome (sym c.requires.filed.due.is) refl)
+lower_due-requires c =
+    let was = c.requires.filed.due in
+    subst (λ l. IsDueBy l c.args.endpoint.now c.deadline-before.result) (sym c.add.ensures.between.due)
+    (record { at = was.at; is = was.is; by = λ d h. was.by d (sym c.deadline-before.ensures.value ∙ h) })
 
 pub returns : goal.returns
 returns c =

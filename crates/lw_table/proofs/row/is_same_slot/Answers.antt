@@ -1,4 +1,4 @@
-use Rattle.std.proofs.Common.{◌≡◌, ◌↔◌, ◌∙◌, false, true, sym, subst}
+use Rattle.std.proofs.Common.{◌≡◌, ◌∙◌, false, true, sym, subst}
 use Rattle.lw_reg.specs.Slot.{slot_below}
 use Rattle.lw_reg.specs.SlotLaws.{slot_laws}
 use Rattle.lw_table.proofs.row.is_same_slot.Goals as goal

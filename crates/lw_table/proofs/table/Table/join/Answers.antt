@@ -1,6 +1,5 @@
-use Rattle.std.proofs.Common.{◌≡◌, Bool, true, false, refl, sym, ap, ◌∙◌, subst}
+use Rattle.std.proofs.Common.{◌≡◌, Bool, true, false, refl, ◌∙◌, subst}
 use Rattle.lw_table.specs.inner.Moves.{JoinsRowAt}
-use Rattle.lw_table.specs.Table.{TableContent}
 use Rattle.lw_table.proofs.CountLemmas.{next_after, saturated}
 use Rattle.lw_table.proofs.JoinLemmas.{joins_count, joins_state, known_row, stays_count, stays_state, stays_table}
 use Rattle.lw_table.proofs.MoveLemmas.{err_then}

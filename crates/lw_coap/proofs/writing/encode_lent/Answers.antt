@@ -3,7 +3,7 @@ use Rattle.std.proofs.Common.{◌≡◌}
 use Rattle.lw_coap.specs.Grammar.{IsSpelling}
 use Rattle.lw_coap.specs.inner.Writing.{message_bytes}
 use Rattle.lw_coap.proofs.Written.{written_spells}
-use Rattle.lw_coap.proofs.writing.encode.Goals as goal
+use Rattle.lw_coap.proofs.writing.encode_lent.Goals as goal
 
 pub returns : goal.returns
 returns c =
