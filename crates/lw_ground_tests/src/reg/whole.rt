@@ -280,7 +280,7 @@ fn is_whole(slot: &Slot) -> bool {
 }
 
 /// Tries: Slot::join_with, Slot::watch_after, Slot::watching, Slot::stamp, Slot::base, Slot::address, Slot::seen
-/// Tries: Slot::lifetime, Slot::binding, Slot::sms, Slot::objects, Slot::attributes, Slot::from_parts
+/// Tries: Slot::lifetime, Slot::binding, Slot::sms, Slot::objects, Slot::attributes, Slot::token_at, Slot::from_parts
 #[test]
 fn a_whole_slot_is_joined_in_both_orders(rt: HostRuntime) -> Result<(), Fail> {
     for last_first in [false, true] {
