@@ -10,9 +10,9 @@ Placed = (ℕ × ℕ) × List ℕ
 
 pub data LogCall : Type 0 where
   Read : Option (ℕ × ℕ) → List Placed → LogCall  -- the first entries above a position
-  Wrote : Placed → LogCall                       -- an entry, whose append returned with this position
-  Tried : List ℕ → LogCall                       -- one whose append did not: it may be there, or come to be there
-  Trimmed : ℕ × ℕ → LogCall                      -- the entries at or below a position were to go
+  Wrote : Placed → LogCall  -- an entry, whose append returned with this position
+  Tried : List ℕ → LogCall  -- one whose append did not: it may be there, or come to be there
+  Trimmed : ℕ × ℕ → LogCall  -- the entries at or below a position were to go
 
 -- ---- the library's positions and entries
 abbrev pub place : Position → ℕ × ℕ

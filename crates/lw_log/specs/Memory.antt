@@ -1,5 +1,5 @@
 -- What a log in memory was asked.
-use Rattle.std.specs.Prelude.{◌≡◌, ℕ, ◌<◌, ◌⊎◌, List, map, Option, Some, None}
+use Rattle.std.specs.Prelude.{List, map}
 use Rattle.lw_log.specs.declared.memory_log.MemoryCall.{MemoryCall}
 use Rattle.lw_log.specs.declared.memory_log.MemoryCall.TheVariants.{Read as ReadCall, Wrote as WroteCall, Tried as TriedCall, Trimmed as TrimmedCall}
 use Rattle.lw_log.specs.declared.position.Position.{Position}
@@ -14,8 +14,3 @@ call_of (TrimmedCall upto) = Trimmed (place upto)
 
 abbrev pub calls_of : List MemoryCall → List LogCall
 calls_of calls = map call_of calls
-
--- positions rise by the major and then by the minor number
-abbrev pub IsAbove : Option Position → Position → Type 0
-IsAbove None p = Unit {0}
-IsAbove (Some after) p = (after.major < p.major) ⊎ ((after.major ≡ p.major) × (after.minor < p.minor))

@@ -1,8 +1,8 @@
 //! A log in memory, which knows what was asked of it.
 
 ghost use Rattle.std.specs.Prelude.{◌≡◌, ◌+◌, ◌≤◌, ◌↔◌, ◌++◌, [], ◌∷◌, IsTrue, IfOk, OnOk, OnErr, All, MatchResult, vec_len, vec_capacity};
-ghost use Rattle.lw_log.specs.Calls.{Calls, read_calls, append_calls, trim_calls};
-ghost use Rattle.lw_log.specs.Memory.{IsAbove};
+ghost use Rattle.lw_log.specs.Calls.{Calls, read_calls};
+ghost use Rattle.lw_log.specs.inner.Memory.{IsAbove};
 
 use crate::{DeltaLog, LogFault, PAGE, Position};
 use bytes::Bytes;
@@ -51,7 +51,10 @@ fn is_above(after: Option<Position>, position: Position) -> bool
 }
 
 /// A second copy of entries.
-fn copy_of(alloc: Global, entries: &[(Position, Bytes)]) -> Result<Vec<(Position, Bytes)>, AllocError>
+fn copy_of(
+    alloc: Global,
+    entries: &[(Position, Bytes)],
+) -> Result<Vec<(Position, Bytes)>, AllocError>
     ensures { IfOk result (λ copy. copy.items ≡ entries.now) }
 {
     let mut copy = Vec::with_capacity(alloc, entries.len())?;
@@ -105,8 +108,7 @@ impl MemoryLog {
     }
 
     /// Whether this append is the one that fails, and then whether its entry is kept.
-    fn failing(&mut self) -> Option<bool>
-    {
+    fn failing(&mut self) -> Option<bool> {
         let Some(Failure { after, kept }) = self.failure else {
             return None;
         };
@@ -125,7 +127,12 @@ impl DeltaLog for MemoryLog {
 
     ghost calls = { λ log. Some (calls_of log.asked.items) };
 
-    fn read(&mut self, after: Option<Position>) -> Result<Vec<(Position, Bytes)>, LogFault> {
+    fn read(&mut self, after: Option<Position>) -> Result<Vec<(Position, Bytes)>, LogFault>
+        ensures calls { MatchResult result
+            (λ page. Calls (Some (calls_of self.old.asked.items)) (Some (calls_of self.new.asked.items)) (read_calls after page.items))
+            (λ _. Calls (Some (calls_of self.old.asked.items)) (Some (calls_of self.new.asked.items)) []) }
+        ensures above { IfOk result (λ page. All (λ e. IsAbove after e.0) page.items) }
+    {
         self.asked.reserve(1)?;
         let page = self.page(after)?;
         let told = copy_of(self.alloc, &page)?;

@@ -3,7 +3,7 @@
 ghost use Rattle.std.specs.Prelude.{◌≡◌, ◌↔◌, ◌+◌, ◌<◌, ◌≤◌, IsTrue, IfOk, IfErr, OnOk, IsOkAnd, Err, take, drop, length};
 ghost use Rattle.lw_log.specs.declared.entry_fault.EntryFault.{EntryFault as Faults};
 ghost use Rattle.lw_log.specs.Entries.{EntryContent, IsEntry, content_of, body_content};
-ghost use Rattle.lw_log.specs.EntryFaults.{HasMagic, HasHead, IsHeadFault, IsBodyFault, IsNewerDelta, IsFault, IsNewer, kind_in, body_in};
+ghost use Rattle.lw_log.specs.EntryFaults.{HasMagic, HasHead, IsHeadFault, IsBodyFault, IsNewerDelta, IsFault, IsNewer, number_in};
 ghost use Rattle.lw_log.specs.inner.Reading.{IsChunk, IsHead, IsBodyOf, IsDelta, IsDeltaFaultOf};
 
 use crate::{Body, Entry, EntryFault, FleetId, Start};
@@ -11,10 +11,15 @@ use lw_delta::check;
 
 /// Where the parts of an entry stand.
 const FLEET_AT: usize = 4;
+
 const NUMBER_AT: usize = 20;
+
 const TAG_AT: usize = 22;
+
 const SEQUENCE_AT: usize = 30;
+
 const KIND_AT: usize = 38;
+
 const BODY_AT: usize = 39;
 
 /// What stands before the body of an entry.
@@ -45,15 +50,22 @@ fn check_magic(bytes: &[u8]) -> Result<(), EntryFault>
     ensures found { OnOk result (HasMagic bytes.now) }
     ensures fault { IfErr result (IsHeadFault bytes.now) }
 {
-    let magic: [u8; 4] = chunk(bytes, 0)?;
-    match &magic {
-        b"LWE1" => Ok(()),
-        [b'L', b'W', b'E', _] => Err(EntryFault::Newer),
-        _ => Err(EntryFault::Magic),
+    let magic = chunk::<4>(bytes, 0)?;
+    let family = chunk::<3>(bytes, 0)?;
+    if family != *b"LWE" {
+        return Err(EntryFault::Magic);
     }
+    if magic != *b"LWE1" {
+        return Err(EntryFault::Newer);
+    }
+    Ok(())
 }
 
+/// The number, behind a magic.
 fn number(bytes: &[u8]) -> Result<u16, EntryFault>
+    requires { HasMagic bytes.now }
+    ensures found { IfOk result (λ number. (22 ≤ length bytes.now) × (1 ≤ number) × (number ≡ number_in bytes.now)) }
+    ensures fault { IfErr result (IsHeadFault bytes.now) }
 {
     let number = u16::from_be_bytes(chunk(bytes, NUMBER_AT)?);
     if number == 0 {
@@ -87,11 +99,10 @@ fn read_head(bytes: &[u8]) -> Result<Head<'_>, EntryFault>
 fn is_newer_delta(delta: &[u8]) -> bool
     ensures { IsTrue result ↔ IsNewerDelta delta.now }
 {
-    match delta {
-        [b'L', b'W', b'D', b'1' | b'2' | b'3', ..] => false,
-        [b'L', b'W', b'D', _, ..] => true,
-        _ => false,
-    }
+    let (Ok(family), Ok(magic)) = (chunk::<3>(delta, 0), chunk::<4>(delta, 0)) else {
+        return false;
+    };
+    family == *b"LWD" && magic != *b"LWD1" && magic != *b"LWD2" && magic != *b"LWD3"
 }
 
 fn check_delta(delta: &[u8]) -> Result<(), EntryFault>

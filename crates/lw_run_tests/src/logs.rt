@@ -33,11 +33,20 @@ fn entries_are_read_in_the_order_of_their_positions(rt: HostRuntime) -> Result<(
     holds("it begins empty", are(&log.read(None)?, &[]))?;
     append_all(&mut log, 3)?;
     holds("all", are(&log.read(None)?, &[(1, 0), (2, 1), (3, 2)]))?;
-    holds("above the first", are(&log.read(Some(at(1)))?, &[(2, 1), (3, 2)]))?;
+    holds(
+        "above the first",
+        are(&log.read(Some(at(1)))?, &[(2, 1), (3, 2)]),
+    )?;
     holds("above the last", are(&log.read(Some(at(3)))?, &[]))?;
     let between = Position { major: 1, minor: 9 };
-    holds("above a minor", are(&log.read(Some(between))?, &[(2, 1), (3, 2)]))?;
-    holds("what is there", are(log.entries(), &[(1, 0), (2, 1), (3, 2)]))
+    holds(
+        "above a minor",
+        are(&log.read(Some(between))?, &[(2, 1), (3, 2)]),
+    )?;
+    holds(
+        "what is there",
+        are(log.entries(), &[(1, 0), (2, 1), (3, 2)]),
+    )
 }
 
 /// Tries: lw_log::DeltaLog::read, lw_log::DeltaLog::append
@@ -47,8 +56,14 @@ fn a_page_has_256_entries(rt: HostRuntime) -> Result<(), Fail> {
     append_all(&mut log, 257)?;
     let page = log.read(None)?;
     holds("the first page", page.len() == PAGE)?;
-    holds("its last", page.last().is_some_and(|entry| entry.0 == at(256)))?;
-    holds("the second page", are(&log.read(Some(at(256)))?, &[(257, 0)]))?;
+    holds(
+        "its last",
+        page.last().is_some_and(|entry| entry.0 == at(256)),
+    )?;
+    holds(
+        "the second page",
+        are(&log.read(Some(at(256)))?, &[(257, 0)]),
+    )?;
     let page = log.read(Some(at(1)))?;
     holds("a whole page is at the end", page.len() == PAGE)?;
     holds("and then none", are(&log.read(Some(at(257)))?, &[]))
@@ -103,7 +118,10 @@ fn what_was_asked_is_known_in_order(rt: HostRuntime) -> Result<(), Fail> {
     else {
         return Err(Fail::new("four calls"));
     };
-    holds("the append", *place == at(1) && wrote.as_slice() == [1].as_slice())?;
+    holds(
+        "the append",
+        *place == at(1) && wrote.as_slice() == [1].as_slice(),
+    )?;
     holds("the failed one", tried.as_slice() == [2].as_slice())?;
     holds("the reading", *after == Some(at(1)) && are(page, &[(2, 2)]))?;
     holds("the trim", *upto == at(2))
