@@ -1,5 +1,5 @@
 -- Bytes are at most one entry, or have one first fault, and never both.
-use Rattle.std.proofs.Common.{◌≡◌, ◌⊎◌, ◌↔◌, ◌<◌, ◌^◌, ℕ, List, [], ◌∷◌, ◌++◌, length, take, drop, Result, Ok, Err, IfOk, IfErr, IsOkAnd, refl, sym, ap, ◌∙◌, subst, inl, inr, arith}
+use Rattle.std.proofs.Common.{◌≡◌, ◌⊎◌, ◌↔◌, ◌<◌, ◌^◌, ℕ, List, [], ◌∷◌, ◌++◌, length, take, drop, Result, Ok, Err, IfOk, IfErr, IsErrAnd, IsOkAnd, refl, sym, ap, ◌∙◌, subst, inl, inr, arith}
 use Rattle.std.proofs.lemmas.List.{take_at, drop_at}
 use Rattle.std.specs.Int.{w64, from_be_bytes}
 use Rattle.lw_log.specs.declared.entry_fault.EntryFault.{EntryFault}
@@ -80,3 +80,9 @@ pub fault_is_first : {A : Type 0} (content : A → EntryContent) (bytes : List �
 fault_is_first content bytes (Ok x) found fault f = ((λ e. cc), (λ h. absurd (entry_apart bytes (content x) f found h)))
 fault_is_first content bytes (Err g) found fault f =
     ((λ e. let same : g ≡ f = cc in subst (IsFault bytes) same fault), (λ h. ap Err (one_first_fault bytes g f fault h)))
+
+-- ---- what the exit of a `?` answers
+pub raised : {T : Type 0} (P : EntryFault → Type 0) (r : Result T EntryFault) {fault : EntryFault} → IsErrAnd r (λ y. y ≡ fault) → P fault → IfErr r P
+raised P (Ok x) h p = absurd h
+raised P (Err y) h p = subst P (sym h) p
+

@@ -58,8 +58,8 @@ fn copy_of(
     ensures { IfOk result (λ copy. copy.items ≡ entries.now) }
 {
     let mut copy = Vec::with_capacity(alloc, entries.len())?;
-    for (position, bytes) in entries {
-        copy.push((*position, bytes.clone()?))?;
+    for entry in entries {
+        copy.push((entry.0, entry.1.clone()?))?;
     }
     Ok(copy)
 }
@@ -99,16 +99,18 @@ impl MemoryLog {
         ensures above { IfOk result (λ page. All (λ e. IsAbove after e.0) page.items) }
     {
         let mut page = Vec::new(self.alloc);
-        for (position, bytes) in &self.entries {
-            if page.len() < PAGE && is_above(after, *position) {
-                page.push((*position, bytes.clone()?))?;
+        for entry in &self.entries {
+            if page.len() < PAGE && is_above(after, entry.0) {
+                page.push((entry.0, entry.1.clone()?))?;
             }
         }
         Ok(page)
     }
 
     /// Whether this append is the one that fails, and then whether its entry is kept.
-    fn failing(&mut self) -> Option<bool> {
+    fn failing(&mut self) -> Option<bool>
+        ensures { self.new ≡ record self.old { failure = self.new.failure } }
+    {
         let Some(Failure { after, kept }) = self.failure else {
             return None;
         };

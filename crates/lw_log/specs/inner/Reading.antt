@@ -1,13 +1,13 @@
 -- Parts of an entry, where they stand in its bytes.
-use Rattle.std.specs.Prelude.{◌≡◌, ℕ, ◌+◌, ◌≤◌, ◌<◌, ◌++◌, List, length, take, drop, Result, Ok, Err}
+use Rattle.std.specs.Prelude.{◌≡◌, ℕ, ◌+◌, ◌≤◌, ◌<◌, ◌^◌, List, length, take, drop}
 use Rattle.std.specs.Int.{w64, from_be_bytes}
 use Rattle.lw_delta.specs.declared.fault.DeltaFault.{DeltaFault}
 use Rattle.lw_delta.specs.Delta.{DeltaContent, IsSpelling, IsFault as IsDeltaFault}
 use Rattle.lw_log.specs.declared.entry_fault.EntryFault.{EntryFault}
 use Rattle.lw_log.specs.declared.entry_fault.EntryFault.TheVariants.{Magic, Newer, Truncated, Range, Trailing, Delta}
 use Rattle.lw_log.specs.declared.reading.Head.{Head}
-use Rattle.lw_log.specs.Entries.{BodyContent, FitsBody, HasDelta, kind_of, body_bytes, EntryContent, IsEntry}
-use Rattle.lw_log.specs.EntryFaults.{HasHead, number_in, kind_in, body_in, IsNewerDelta, IsFault}
+use Rattle.lw_log.specs.Entries.{BodyContent, FitsBody, HasDelta, kind_of, body_bytes}
+use Rattle.lw_log.specs.EntryFaults.{HasHead, number_in, kind_in, body_in, IsNewerDelta}
 
 -- so many bytes at a place
 abbrev pub IsChunk : List ℕ → ℕ → ℕ → List ℕ → Type 0
@@ -22,6 +22,7 @@ pub record IsHead (bytes : List ℕ) (head : Head) : Type 0 where
   pub sequence : head.sequence ≡ from_be_bytes w64 (take 8 (drop 30 bytes))
   pub kind : head.kind ≡ kind_in bytes
   pub body : head.body.now ≡ body_in bytes
+  pub fits : (head.start.number < 2 ^ 16) × (head.start.tag < 2 ^ 64) × (head.sequence < 2 ^ 64)
 
 -- a delta
 abbrev pub IsDelta : List ℕ → Type 0
