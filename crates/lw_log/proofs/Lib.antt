@@ -5,4 +5,4 @@ pub mod Deltas
 pub mod HeadFaults
 pub mod BodyFaults
 pub mod Entries
-pub mod Memory
+pub mod Bodies

@@ -38,7 +38,7 @@ fn put_body(out: &mut Vec<u8>, body: &Body<'_>) -> Result<(), NoMemory>
     Ok(())
 }
 
-/// Writes the bytes of an entry behind what is there.
+/// Writes the bytes of an entry behind what is there. Where a growth is refused, a part of them may stand there.
 pub fn put_entry(out: &mut Vec<u8>, entry: &Entry<'_>) -> Result<(), NoMemory>
     ensures { OnOk result (out.new.items ≡ out.old.items ++ entry_bytes (content_of entry.now)) }
 {
