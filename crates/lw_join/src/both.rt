@@ -14,6 +14,7 @@ impl<K: Exact, J: Drop, L: Exact, M: Drop> Both<K, J, L, M> {
     ghost use Rattle.std.specs.Prelude.{◌≡◌, ◌↔◌, [], IsTrue};
     ghost use Rattle.lw_join.specs.Parts.{entries_of};
 
+    /// Whether neither map has an entry.
     pub fn is_empty(&self) -> bool
         ensures { IsTrue result ↔ ((entries_of self.now.left ≡ []) × (entries_of self.now.right ≡ [])) }
     {

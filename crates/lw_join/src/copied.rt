@@ -14,6 +14,7 @@ use std::alloc::Global;
 
 /// Values that can be copied: a copy is equal to its original, as contracts see them.
 pub trait Copied: Drop {
+    /// A value that is equal to the original.
     fn copy(&self, alloc: Global) -> Result<Self, NoMemory>
         ensures { IfOk result (λ copy. copy ≡ self.now) };
 }

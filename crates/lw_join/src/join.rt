@@ -14,9 +14,11 @@ pub trait Join: Drop {
     /// Holds of two values where the second joins into the first without memory.
     ghost in_place: { Self → Self → Type 0 };
 
+    /// Whether the other is above this, or the same.
     fn le(&self, other: &Self) -> bool
         ensures { IsTrue result ↔ below self.now other.now };
 
+    /// Makes this the join of both. Where that is refused, nothing has changed.
     fn join_with(&mut self, other: Self) -> Result<(), NoMemory>
         ensures ok { OnOk result (self.new ≡ join self.old other) }
         ensures err { OnErr result (self.new ≡ self.old) }
@@ -27,6 +29,7 @@ pub trait Join: Drop {
 
 /// A type whose joins take no memory, whatever the two values.
 pub trait Calm: Join {
+    /// Makes this the join of both. It is never refused.
     fn join_calm(&mut self, other: Self)
         ensures { self.new ≡ Self.join self.old other };
 

@@ -70,12 +70,14 @@ impl<K: Exact, J: Drop> Parts<K, J> {
         self.entries.into_vec()
     }
 
+    /// How many entries there are.
     pub fn len(&self) -> usize
         ensures { result ≡ length (entries_of self.now) }
     {
         self.entries.as_slice().len()
     }
 
+    /// Whether there is no entry.
     pub fn is_empty(&self) -> bool
         ensures { IsTrue result ↔ (entries_of self.now ≡ []) }
     {

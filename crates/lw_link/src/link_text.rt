@@ -104,6 +104,7 @@ impl LinkText {
         self.text.as_str()
     }
 
+    /// A copy of the same text.
     pub fn copy_of(&self, alloc: Global) -> Result<LinkText, NoMemory>
         ensures { IfOk result (λ copy. copy ≡ self.now) }
     {

@@ -125,8 +125,8 @@ impl Node {
         self.carry_out(command)
     }
 
-    /// Ends the registration of the least endpoint that has expired, as it was last seen: its identifier. An Update that
-    /// another server took later revives it with its watches. It takes no memory.
+    /// Ends the registration of the least endpoint that has expired, as it was last seen: its identifier. An Update
+    /// elsewhere with a greater stamp than what it was last seen by revives it with its watches. It takes no memory.
     pub fn sweep(&mut self, now: Moment) -> Result<Option<Stamp>, ClockEnd>
         ensures read { Sweeps self.old (shown_in self.old.table.state) (ms_of now) result self.new }
         ensures marks { (ms : List Mark) → Knows self.old ms → Sweeps self.old (among ms) (ms_of now) result self.new }

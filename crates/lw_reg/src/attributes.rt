@@ -114,6 +114,7 @@ impl Attributes {
         self.pairs.into_entries()
     }
 
+    /// The same pairs, lent.
     pub fn as_view(&self) -> AttributesView<'_>
         ensures { result ≡ self.now }
     {
@@ -166,6 +167,7 @@ impl<'a> AttributesView<'a> {
         }
     }
 
+    /// How many pairs there are.
     pub fn len(&self) -> usize
         ensures value { result ≡ length self.now }
         ensures attributes { AreAttributes self.now }

@@ -33,6 +33,7 @@ impl Binding {
         }
     }
 
+    /// Its letters.
     #[tactic(auto, using(crate::proofs::BindingLemmas::text_is_utf8))]
     pub fn as_str(&self) -> &str
         ensures { result.now ≡ binding_text self.now }

@@ -52,6 +52,7 @@ impl Endpoint {
         }
     }
 
+    /// Its name, of 1 to 252 bytes.
     pub fn as_str(&self) -> &str
         ensures value { result.now ≡ self.now }
         ensures within { IsEndpoint result.now }

@@ -38,6 +38,7 @@ impl Path {
         })
     }
 
+    /// Its 1 to 4 numbers.
     pub fn numbers(&self) -> &[u16]
         ensures value { result.now ≡ path_numbers self.now }
         ensures numbers { IsPathNumbers result.now }

@@ -44,6 +44,7 @@ impl Model for Seen {
 }
 
 impl Seen {
+    /// The same registration, lent.
     pub fn as_view(&self) -> View<'_>
         ensures { result ≡ self.now }
     {

@@ -50,6 +50,7 @@ impl SmsNumber {
         }
     }
 
+    /// Its text, of at most 251 bytes.
     pub fn as_str(&self) -> &str
         ensures value { result.now ≡ self.now }
         ensures within { length result.now ≤ 251 }

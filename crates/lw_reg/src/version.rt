@@ -22,6 +22,7 @@ impl Version {
         }
     }
 
+    /// `1.0` or `1.1`.
     pub fn as_str(&self) -> &'static str
         ensures { result.now ≡ version_text self.now }
     {

@@ -25,6 +25,7 @@ impl Model for Text {
 }
 
 impl Text {
+    /// A text of the same bytes.
     pub fn copy_of(alloc: Global, text: &str) -> Result<Text, NoMemory>
         ensures { IfOk result (λ t. t ≡ text.now) }
     {
@@ -33,12 +34,14 @@ impl Text {
         })
     }
 
+    /// Its bytes.
     pub fn as_str(&self) -> &str
         ensures { result.now ≡ self.now }
     {
         self.text.as_str()
     }
 
+    /// The string that it keeps.
     pub fn into_string(self) -> String
         ensures { string_bytes result ≡ self }
     {

@@ -7,8 +7,8 @@ use Rattle.lw_table.proofs.MoveLemmas.{err_then}
 use Rattle.lw_table.proofs.TableLemmas.{filed_at, kept_table, put_table, rows_of, same_table}
 use Rattle.lw_table.proofs.table.Table.join.Goals as goal
 
-pub put-requires : goal.put-requires
-put-requires c = record {
+pub join_first-requires : goal.join_first-requires
+join_first-requires c = record {
   filed = filed_at c.self.inside.filed c.self.inside.rows c.self.invariant.0 c.self.inside.change c.self.invariant.1 _;
   rows = c.self.invariant.0;
 }
