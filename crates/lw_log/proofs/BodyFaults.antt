@@ -1,5 +1,5 @@
 -- A body has at most one first fault, and none where it is one of its kind.
-use Rattle.std.proofs.Common.{◌≡◌, ◌⊎◌, ◌≤◌, ◌<◌, ℕ, List, [], ◌∷◌, ◌++◌, length, drop, refl, sym, ap, ◌∙◌, subst, inl, inr, arith}
+use Rattle.std.proofs.Common.{◌≡◌, ◌≤◌, ◌<◌, ℕ, List, length, refl, sym, ap, ◌∙◌, subst, inl, inr, arith}
 use Rattle.std.proofs.lemmas.List.{drop_at, length-append}
 use Rattle.lw_delta.specs.declared.fault.DeltaFault.{DeltaFault}
 use Rattle.lw_delta.specs.Delta.{DeltaContent, IsSpelling, IsFault as IsDeltaFault}

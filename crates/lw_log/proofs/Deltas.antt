@@ -1,10 +1,10 @@
 -- A delta that is spelled is of a format that is read.
-use Rattle.std.proofs.Common.{◌≡◌, ℕ, List, [], ◌∷◌, ◌++◌, length, take, codes, sym, ap, ◌∙◌, arith}
+use Rattle.std.proofs.Common.{◌≡◌, ℕ, List, take, sym, ap, ◌∙◌}
 use Rattle.std.proofs.lemmas.List.{take_at}
 use Rattle.lw_delta.specs.declared.form.Form.{Form}
 use Rattle.lw_delta.specs.declared.form.Form.TheVariants.{First, Second, Third}
 use Rattle.lw_delta.specs.Form.{magic_of}
-use Rattle.lw_delta.specs.Part.{Found, followed, bytes_of, must}
+use Rattle.lw_delta.specs.Part.{followed, bytes_of, must}
 use Rattle.lw_delta.specs.Delta.{DeltaContent, IsSpelling}
 use Rattle.lw_log.specs.EntryFaults.{IsNewerDelta}
 

@@ -1,13 +1,13 @@
 -- Bytes are at most one entry, or have one first fault, and never both.
-use Rattle.std.proofs.Common.{◌≡◌, ◌⊎◌, ◌↔◌, ◌<◌, ◌^◌, ℕ, List, [], ◌∷◌, ◌++◌, length, take, drop, Result, Ok, Err, IfOk, IfErr, IsErrAnd, IsOkAnd, refl, sym, ap, ◌∙◌, subst, inl, inr, arith}
+use Rattle.std.proofs.Common.{◌≡◌, ◌↔◌, ◌<◌, ◌^◌, ℕ, List, ◌∷◌, length, take, drop, Result, Ok, Err, IfOk, IfErr, IsErrAnd, IsOkAnd, refl, sym, ap, ◌∙◌, subst, inl, inr, arith}
 use Rattle.std.proofs.lemmas.List.{take_at, drop_at}
 use Rattle.std.specs.Int.{w64, from_be_bytes}
 use Rattle.lw_log.specs.declared.entry_fault.EntryFault.{EntryFault}
-use Rattle.lw_log.specs.Entries.{BodyContent, EntryContent, FitsBody, FitsEntry, IsEntry, kind_of, body_bytes, headed}
+use Rattle.lw_log.specs.Entries.{BodyContent, EntryContent, FitsBody, IsEntry, kind_of, body_bytes, headed}
 use Rattle.lw_log.specs.Entries.BodyContent.{Start, Delta, Whole}
 use Rattle.lw_log.specs.EntryFaults.{HasHead, IsFault, IsBodyFault, number_in, kind_in, body_in}
 use Rattle.lw_log.specs.inner.Reading.{IsBodyOf}
-use Rattle.lw_log.proofs.Places.{AreBytes, HasParts, parts_of, has_head, head_written, fleet_long}
+use Rattle.lw_log.proofs.Places.{AreBytes, parts_of, has_head, head_written, fleet_long}
 use Rattle.lw_log.proofs.HeadFaults.{head_apart, head_once}
 use Rattle.lw_log.proofs.BodyFaults.{body_apart, body_once}
 
@@ -85,4 +85,3 @@ fault_is_first content bytes (Err g) found fault f =
 pub raised : {T : Type 0} (P : EntryFault → Type 0) (r : Result T EntryFault) {fault : EntryFault} → IsErrAnd r (λ y. y ≡ fault) → P fault → IfErr r P
 raised P (Ok x) h p = absurd h
 raised P (Err y) h p = subst P (sym h) p
-

@@ -1,5 +1,5 @@
 -- What stands before the body has at most one first fault, and none where it is good.
-use Rattle.std.proofs.Common.{◌≡◌, ◌⊎◌, ℕ, List, take, codes, refl, sym, ap, ◌∙◌, inl, inr, arith}
+use Rattle.std.proofs.Common.{◌≡◌, ℕ, List, take, codes, refl, sym, ap, ◌∙◌, inl, inr, arith}
 use Rattle.std.proofs.lemmas.List.{take-take}
 use Rattle.lw_log.specs.declared.entry_fault.EntryFault.{EntryFault}
 use Rattle.lw_log.specs.declared.entry_fault.EntryFault.TheVariants.{Magic, Newer, Truncated, Range, Trailing, Delta}

@@ -1,9 +1,9 @@
 -- What a log leads, step by step.
-use Rattle.std.proofs.Common.{◌≡◌, ◌⊎◌, ◌≤◌, ℕ, List, [], ◌∷◌, refl, sym, subst, inl, inr, arith}
+use Rattle.std.proofs.Common.{◌≡◌, ◌⊎◌, List, [], ◌∷◌, refl, sym, subst, inl, inr, arith}
 use Rattle.lw_reg.proofs.States.{state_laws}
 use Rattle.lw_node.specs.Exchange.{IsBelow}
 use Rattle.lw_log.specs.inner.Order.{IsOrder}
-use Rattle.lw_log.specs.Log.{IsAmong, Covers, Log, empty_log, Event, Trims, Steps, Runs, Leads, Told, ReadersKnow, AppendsLead}
+use Rattle.lw_log.specs.Log.{IsAmong, Covers, Log, empty_log, Event, Trims, Steps, Runs, Told, ReadersKnow, AppendsLead}
 use Rattle.lw_log.specs.Log.Event.{Append, Trim}
 
 module _ {S : Type 0} (below : S → S → Type 0) (order : IsOrder below) where

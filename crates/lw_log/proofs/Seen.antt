@@ -1,6 +1,5 @@
 -- What a process has seen of its log grows.
-use Rattle.std.proofs.Common.{◌≡◌, ◌⊎◌, ℕ, List, [], ◌∷◌, ◌++◌, refl, inl, inr}
-use Rattle.lw_delta.specs.Delta.{DeltaContent}
+use Rattle.std.proofs.Common.{ℕ, List, [], ◌∷◌, ◌++◌, refl, inl, inr}
 use Rattle.lw_log.specs.Calls.{LogCall}
 use Rattle.lw_log.specs.Calls.LogCall.{Read, Wrote, Tried, Trimmed}
 use Rattle.lw_log.specs.Known.{IsSeen, SeenLeads, OwnAppendsLead}

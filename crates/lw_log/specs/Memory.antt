@@ -2,7 +2,6 @@
 use Rattle.std.specs.Prelude.{List, map}
 use Rattle.lw_log.specs.declared.memory_log.MemoryCall.{MemoryCall}
 use Rattle.lw_log.specs.declared.memory_log.MemoryCall.TheVariants.{Read as ReadCall, Wrote as WroteCall, Tried as TriedCall, Trimmed as TrimmedCall}
-use Rattle.lw_log.specs.declared.position.Position.{Position}
 use Rattle.lw_log.specs.Calls.{LogCall, place, place_of, placed}
 use Rattle.lw_log.specs.Calls.LogCall.{Read, Wrote, Tried, Trimmed}
 

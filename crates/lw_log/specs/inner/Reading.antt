@@ -1,7 +1,6 @@
 -- Parts of an entry, where they stand in its bytes.
 use Rattle.std.specs.Prelude.{◌≡◌, ℕ, ◌+◌, ◌≤◌, ◌<◌, ◌^◌, List, length, take, drop}
 use Rattle.std.specs.Int.{w64, from_be_bytes}
-use Rattle.lw_delta.specs.declared.fault.DeltaFault.{DeltaFault}
 use Rattle.lw_delta.specs.Delta.{DeltaContent, IsSpelling, IsFault as IsDeltaFault}
 use Rattle.lw_log.specs.declared.entry_fault.EntryFault.{EntryFault}
 use Rattle.lw_log.specs.declared.entry_fault.EntryFault.TheVariants.{Magic, Newer, Truncated, Range, Trailing, Delta}

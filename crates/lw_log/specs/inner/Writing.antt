@@ -1,6 +1,5 @@
 -- The bytes of an entry up to its kind, and from there on.
-use Rattle.std.specs.Prelude.{ℕ, List, [], ◌∷◌, ◌++◌, codes}
-use Rattle.std.specs.Int.{w16, w64, to_be_bytes}
+use Rattle.std.specs.Prelude.{ℕ, List, [], ◌∷◌}
 use Rattle.lw_log.specs.declared.entry.Body.{Body}
 use Rattle.lw_log.specs.declared.entry.Entry.{Entry}
 use Rattle.lw_log.specs.Entries.{body_content, kind_of, body_bytes, headed}

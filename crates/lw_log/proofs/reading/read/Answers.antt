@@ -1,6 +1,6 @@
-use Rattle.std.proofs.Common.{◌≡◌, ℕ, List, refl, subst, inl, inr, sym, arith}
-use Rattle.lw_log.specs.Entries.{content_of, body_content}
-use Rattle.lw_log.specs.EntryFaults.{IsFault, IsBodyFault, kind_in, body_in}
+use Rattle.std.proofs.Common.{inl, inr, arith}
+use Rattle.lw_log.specs.Entries.{body_content}
+use Rattle.lw_log.specs.EntryFaults.{IsFault, kind_in, body_in}
 use Rattle.lw_log.specs.inner.Reading.{IsBodyOf}
 use Rattle.lw_log.proofs.Entries.{read_entry_is, raised}
 use Rattle.lw_log.proofs.reading.read.Goals as goal
