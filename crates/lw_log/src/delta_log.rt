@@ -10,7 +10,7 @@ pub const PAGE: usize = 256;
 ///
 /// A call that answers `NoMemory` has asked nothing of the log.
 pub trait DeltaLog: Drop {
-    ghost use Rattle.std.specs.Prelude.{Option, None, List, [], ◌∷◌, map, MatchResult};
+    ghost use Rattle.std.specs.Prelude.{Option, None, List, [], MatchResult};
     ghost use Rattle.lw_log.specs.Calls.{LogCall, Calls, read_calls, append_calls, trim_calls};
 
     /// What was asked of it, in order, where that is known.

@@ -1,6 +1,6 @@
 //! A log in memory, which knows what was asked of it.
 
-ghost use Rattle.std.specs.Prelude.{◌≡◌, ◌+◌, ◌≤◌, ◌↔◌, ◌++◌, [], ◌∷◌, IsTrue, IfOk, OnOk, OnErr, All, MatchResult, vec_len, vec_capacity};
+ghost use Rattle.std.specs.Prelude.{◌≡◌, ◌↔◌, [], IsTrue, IfOk, All, MatchResult};
 ghost use Rattle.lw_log.specs.Calls.{Calls, read_calls};
 ghost use Rattle.lw_log.specs.inner.Memory.{IsAbove};
 
@@ -130,9 +130,10 @@ impl DeltaLog for MemoryLog {
     ghost calls = { λ log. Some (calls_of log.asked.items) };
 
     fn read(&mut self, after: Option<Position>) -> Result<Vec<(Position, Bytes)>, LogFault>
-        ensures calls { MatchResult result
-            (λ page. Calls (Some (calls_of self.old.asked.items)) (Some (calls_of self.new.asked.items)) (read_calls after page.items))
-            (λ _. Calls (Some (calls_of self.old.asked.items)) (Some (calls_of self.new.asked.items)) []) }
+        ensures calls { let old = Some (calls_of self.old.asked.items) in
+            let new = Some (calls_of self.new.asked.items) in
+            MatchResult result (λ page. Calls old new (read_calls after page.items)) (λ _. Calls old new []) }
+        // Each entry stands above the position.
         ensures above { IfOk result (λ page. All (λ e. IsAbove after e.0) page.items) }
     {
         self.asked.reserve(1)?;

@@ -1,6 +1,6 @@
 //! Reading an entry, part by part, without taking memory.
 
-ghost use Rattle.std.specs.Prelude.{◌≡◌, ◌↔◌, ◌+◌, ◌<◌, ◌≤◌, IsTrue, IfOk, IfErr, OnOk, IsOkAnd, Err, take, drop, length};
+ghost use Rattle.std.specs.Prelude.{◌≡◌, ◌↔◌, ◌+◌, ◌<◌, ◌≤◌, IsTrue, IfOk, IfErr, OnOk, IsOkAnd, Err, length};
 ghost use Rattle.lw_log.specs.declared.entry_fault.EntryFault.{EntryFault as Faults};
 ghost use Rattle.lw_log.specs.Entries.{EntryContent, IsEntry, content_of, body_content};
 ghost use Rattle.lw_log.specs.EntryFaults.{HasMagic, HasHead, IsHeadFault, IsBodyFault, IsNewerDelta, IsFault, IsNewer, number_in};
