@@ -1,0 +1,28 @@
+-- What a process has seen of its log grows.
+use Rattle.std.proofs.Common.{ℕ, List, [], ◌∷◌, ◌++◌, refl, inl, inr}
+use Rattle.lw_log.specs.Calls.{LogCall}
+use Rattle.lw_log.specs.Calls.LogCall.{Read, Wrote, Tried, Trimmed}
+use Rattle.lw_log.specs.Known.{IsSeen, SeenLeads, OwnAppendsLead}
+
+seen_before : (calls more : List LogCall) (e : List ℕ) → IsSeen e calls → IsSeen e (calls ++ more)
+seen_before [] more e s = absurd s
+seen_before (Read after es ∷ calls) more e (inl h) = inl h
+seen_before (Read after es ∷ calls) more e (inr s) = inr (seen_before calls more e s)
+seen_before (Wrote p ∷ calls) more e (inl h) = inl h
+seen_before (Wrote p ∷ calls) more e (inr s) = inr (seen_before calls more e s)
+seen_before (Tried own ∷ calls) more e s = seen_before calls more e s
+seen_before (Trimmed upto ∷ calls) more e s = seen_before calls more e s
+
+seen_behind : (calls more : List LogCall) (e : List ℕ) → IsSeen e more → IsSeen e (calls ++ more)
+seen_behind [] more e s = s
+seen_behind (Read after es ∷ calls) more e s = inr (seen_behind calls more e s)
+seen_behind (Wrote p ∷ calls) more e s = inr (seen_behind calls more e s)
+seen_behind (Tried own ∷ calls) more e s = seen_behind calls more e s
+seen_behind (Trimmed upto ∷ calls) more e s = seen_behind calls more e s
+
+pub seen_leads : SeenLeads
+seen_leads calls more known led = λ reader has. led reader (λ e seen. has e (seen_before calls more e seen))
+
+pub own_appends_lead : OwnAppendsLead
+own_appends_lead calls p d known brings leads = λ reader has.
+    leads reader (λ e seen. has e (seen_before calls (Wrote p ∷ []) e seen)) (has p.1 (seen_behind calls (Wrote p ∷ []) p.1 (inl refl)) d brings)

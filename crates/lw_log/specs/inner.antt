@@ -1,0 +1,4 @@
+pub mod Memory
+pub mod Order
+pub mod Reading
+pub mod Writing

@@ -1,0 +1,23 @@
+//! Laws of a log, each the contract of a function that does nothing.
+
+ghost use Rattle.lw_node.specs.Exchange.{IsBelow};
+ghost use Rattle.lw_log.specs.Log.{Told, ReadersKnow, AppendsLead};
+ghost use Rattle.lw_log.specs.Known.{SeenLeads, OwnAppendsLead};
+
+/// What was written before it was told is known to whoever reads the log to its end, at any later time: whatever is
+/// appended and trimmed in between, by whomever. Whoever reads to the end has all that was ever appended.
+pub fn told_is_known()
+    ensures told { Told IsBelow }
+    ensures readers { ReadersKnow IsBelow }
+{}
+
+/// A process that appends what the log does not lead yet has the log lead all that it knows.
+pub fn appends_lead()
+    ensures { AppendsLead IsBelow }
+{}
+
+/// What a process has seen of its log leads what it led before, and an entry that it has appended leads its delta.
+pub fn seen_leads()
+    ensures kept { SeenLeads }
+    ensures own { OwnAppendsLead }
+{}
