@@ -27,7 +27,7 @@ fn try_join(
 ) -> Result<Result<(), NoMemory>, Fail> {
     let endpoint = endpoint(alloc, name)?;
     let slot = slot_of(alloc, change)?;
-    Ok(table.join(&endpoint, slot))
+    Ok(table.join(endpoint, slot))
 }
 
 fn join(alloc: Global, table: &mut Table, change: Of<'_>) -> Result<(), Fail> {

@@ -70,5 +70,5 @@ fn join_slot(table: &mut Table, entry: (Endpoint, Slot)) -> Result<(), NoMemory>
     ensures unchanged { OnErr result (table.new ≡ table.old) }
 {
     let (endpoint, slot) = entry;
-    table.join(&endpoint, slot)
+    table.join(endpoint, slot)
 }

@@ -219,7 +219,7 @@ impl Node {
     {
         let counter = operation.stamp.counter;
         let (endpoint, slot) = atom_with_endpoint(self.alloc, operation)?;
-        self.table.join(&endpoint, slot)?;
+        self.table.join(endpoint, slot)?;
         self.clock.raise(counter);
         Ok(())
     }

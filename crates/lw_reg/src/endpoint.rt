@@ -59,4 +59,13 @@ impl Endpoint {
     {
         self.text.as_str()
     }
+
+    /// The name as a text, which is moved.
+    pub fn into_text(self) -> Text
+        ensures value { result ≡ self }
+        ensures within { IsEndpoint result }
+    {
+        let Endpoint { text } = self;
+        text
+    }
 }

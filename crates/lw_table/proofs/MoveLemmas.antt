@@ -7,7 +7,9 @@ use Rattle.std.specs.declared.cmp.Ordering.TheVariants.{Less, Equal, Greater}
 use Rattle.lw_stamp.specs.declared.stamp.Stamp.{Stamp}
 use Rattle.lw_stamp.specs.StampOrder.{stamp_cmp}
 use Rattle.lw_due.specs.Due.{Entry}
+use Rattle.lw_index.specs.Index.{Has}
 use Rattle.lw_recent.specs.Recent.{IsUnder}
+use Rattle.lw_table.specs.Keys.{key_cmp}
 use Rattle.lw_join.specs.Lex.{lex_of}
 use Rattle.lw_join.specs.OrGone.{gone_join}
 use Rattle.lw_join.specs.declared.or_gone.OrGone.{OrGone}
@@ -110,6 +112,17 @@ module _ (old new : Filed) (e : List ℕ) (kept : Bool) (keys : List Key) (betwe
       numbers = numbers_are;
       due = is_due;
     }
+
+-- under no more than keys of its slot, once its number was taken
+pub over_none : (old new : Filed) (e : List ℕ) (slot : Slot) (number : ℕ) (keys : List Key) → new.keys ≡ old.keys → IsFiled old e (Some (record { slot = slot; number = number })) → HasKeyChanges None slot keys
+    → ((n : ℕ) → IsUnder new.numbers n e → ⊥) → IsOver new e None keys
+over_none old new e slot number keys same filed key_changes none = record {
+  name = λ h. absurd h;
+  keys_has = λ k h. absurd h;
+  keys_from = λ k h. key_changes.gained k ((filed.keys k).0 (subst (λ (l : List (Key × List (List ℕ))). Has key_cmp l k e) same h));
+  numbers = λ n. (λ h. absurd (none n h), λ h. absurd cc);
+  due = tt;
+}
 
 -- where there is no row a due moment does not matter
 pub over_numbered : (filed : Filed) (e : List ℕ) (keys : List Key) → IsOver filed e None keys → (numbers : List (ℕ × List ℕ)) → numbers ≡ filed.numbers → (due : List Entry)

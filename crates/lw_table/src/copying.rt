@@ -81,7 +81,8 @@ fn copy_row(
             let slot = row.slot.copy(alloc)?;
             let number = row.number;
             let taken = rows.has_end(endpoint);
-            add_row(alloc, filed, rows, endpoint, Row { slot, number }, taken)
+            let name = String::from_str(alloc, endpoint)?;
+            add_row(alloc, filed, rows, name, Row { slot, number }, taken)
         }
     }
 }

@@ -1,10 +1,10 @@
 //! A row that comes or moves, and what is filed of its endpoint.
 
-ghost use Rattle.std.specs.Prelude.{◌≡◌, ◌≢◌, ◌↔◌, ℕ, List, Some, None, IfOk, OnOk, OnErr, IsOk, IsTrue};
+ghost use Rattle.std.specs.Prelude.{◌≡◌, ◌≢◌, ◌↔◌, ℕ, List, Some, None, IfOk, OnOk, OnErr, IsOk, IsTrue, string_bytes};
 ghost use Rattle.lw_reg.specs.Reading.{IsRemoved};
 ghost use Rattle.lw_reg.specs.Slot.{slot_below};
 ghost use Rattle.lw_table.specs.inner.Filed.{IsFiled, IsOver, OthersSame};
-ghost use Rattle.lw_table.specs.inner.Moves.{moved_row, IsKnown, IsTaken, JoinsRow, JoinsRowAt, PutsRow, SameRows};
+ghost use Rattle.lw_table.specs.inner.Moves.{moved_row, IsFirstFiled, IsKnown, IsTaken, JoinsRow, JoinsRowAt, PutsRow, SameRows};
 ghost use Rattle.lw_table.specs.Rows.{IsRows};
 ghost use Rattle.lw_table.specs.inner.Rows.{has_end, row_at};
 ghost use Rattle.lw_table.specs.inner.KeyChanges.{HasKeyChanges};
@@ -25,26 +25,27 @@ pub(crate) fn join_first(
     alloc: Global,
     filed: &mut Filed,
     rows: &mut Rows,
-    endpoint: &str,
+    endpoint: String,
     slot: Slot,
     number: u64,
 ) -> Result<bool, NoMemory>
-    requires filed { IsFiled filed.old endpoint.now (row_at rows.old endpoint.now) }
+    requires filed { IsFiled filed.old (string_bytes endpoint) (row_at rows.old (string_bytes endpoint)) }
     requires rows { IsRows rows.old }
-    ensures others { OthersSame filed.old filed.new endpoint.now }
-    ensures joined { IfOk result (λ moved. JoinsRowAt moved endpoint.now slot number rows.old rows.new filed.new) }
-    ensures known { IsKnown (row_at rows.old endpoint.now) slot → IsOk result }
+    ensures others { OthersSame filed.old filed.new (string_bytes endpoint) }
+    ensures joined { IfOk result (λ moved. JoinsRowAt moved (string_bytes endpoint) slot number rows.old rows.new filed.new) }
+    ensures known { IsKnown (row_at rows.old (string_bytes endpoint)) slot → IsOk result }
     ensures unchanged { OnErr result (SameRows rows.old rows.new
-        × IsFiled filed.new endpoint.now (row_at rows.old endpoint.now)) }
+        × IsFiled filed.new (string_bytes endpoint) (row_at rows.old (string_bytes endpoint))) }
 {
-    match rows.firsts.get_mut(&end_of(endpoint)) {
+    let name = endpoint.as_str();
+    match rows.firsts.get_mut(&end_of(name)) {
         None => {
             add_row(alloc, filed, rows, endpoint, Row { slot, number }, false)?;
             Ok(true)
         }
         Some(first) => {
-            if first.endpoint.as_str() == endpoint {
-                join_row(alloc, filed, &mut first.row, endpoint, slot, number)
+            if first.endpoint.as_str() == name {
+                join_row(alloc, filed, &mut first.row, name, slot, number)
             } else {
                 join_behind(alloc, filed, rows, endpoint, slot, number)
             }
@@ -57,21 +58,22 @@ fn join_behind(
     alloc: Global,
     filed: &mut Filed,
     rows: &mut Rows,
-    endpoint: &str,
+    endpoint: String,
     slot: Slot,
     number: u64,
 ) -> Result<bool, NoMemory>
-    requires filed { IsFiled filed.old endpoint.now (row_at rows.old endpoint.now) }
+    requires filed { IsFiled filed.old (string_bytes endpoint) (row_at rows.old (string_bytes endpoint)) }
     requires rows { IsRows rows.old }
-    requires taken { IsTaken rows.old endpoint.now }
-    ensures others { OthersSame filed.old filed.new endpoint.now }
-    ensures joined { IfOk result (λ moved. JoinsRowAt moved endpoint.now slot number rows.old rows.new filed.new) }
-    ensures known { IsKnown (row_at rows.old endpoint.now) slot → IsOk result }
+    requires taken { IsTaken rows.old (string_bytes endpoint) }
+    ensures others { OthersSame filed.old filed.new (string_bytes endpoint) }
+    ensures joined { IfOk result (λ moved. JoinsRowAt moved (string_bytes endpoint) slot number rows.old rows.new filed.new) }
+    ensures known { IsKnown (row_at rows.old (string_bytes endpoint)) slot → IsOk result }
     ensures unchanged { OnErr result (SameRows rows.old rows.new
-        × IsFiled filed.new endpoint.now (row_at rows.old endpoint.now)) }
+        × IsFiled filed.new (string_bytes endpoint) (row_at rows.old (string_bytes endpoint))) }
 {
-    match rows.others.get_mut(endpoint) {
-        Some(row) => join_row(alloc, filed, row, endpoint, slot, number),
+    let name = endpoint.as_str();
+    match rows.others.get_mut(name) {
+        Some(row) => join_row(alloc, filed, row, name, slot, number),
         None => {
             add_row(alloc, filed, rows, endpoint, Row { slot, number }, true)?;
             Ok(true)
@@ -161,57 +163,79 @@ pub(crate) fn add_row(
     alloc: Global,
     filed: &mut Filed,
     rows: &mut Rows,
-    endpoint: &str,
+    endpoint: String,
     row: Row,
     taken: bool,
 ) -> Result<(), NoMemory>
-    requires filed { IsFiled filed.old endpoint.now None }
+    requires filed { IsFiled filed.old (string_bytes endpoint) None }
     requires rows { IsRows rows.old }
-    requires absent { row_at rows.old endpoint.now ≡ None }
-    requires taken { taken ≡ has_end rows.old endpoint.now }
-    ensures others { OthersSame filed.old filed.new endpoint.now }
-    ensures added { OnOk result (PutsRow endpoint.now row rows.old rows.new
-        × IsFiled filed.new endpoint.now (Some row)) }
-    ensures unchanged { OnErr result (SameRows rows.old rows.new × IsFiled filed.new endpoint.now None) }
+    requires absent { row_at rows.old (string_bytes endpoint) ≡ None }
+    requires taken { taken ≡ has_end rows.old (string_bytes endpoint) }
+    ensures others { OthersSame filed.old filed.new (string_bytes endpoint) }
+    ensures added { OnOk result (PutsRow (string_bytes endpoint) row rows.old rows.new
+        × IsFiled filed.new (string_bytes endpoint) (Some row)) }
+    ensures unchanged { OnErr result (SameRows rows.old rows.new × IsFiled filed.new (string_bytes endpoint) None) }
 {
     let keys = key_changes(alloc, None, &row.slot)?;
-    match try_add(alloc, filed, rows, endpoint, row, taken, &keys) {
+    let number = row.number;
+    file_first(alloc, filed, endpoint.as_str(), &row, &keys)?;
+    match rows.insert(endpoint, row, taken) {
+        Ok(()) => Ok(()),
+        Err(endpoint) => {
+            unfile_first(filed, endpoint.as_str(), number, &keys);
+            Err(NoMemory)
+        }
+    }
+}
+
+/// Files the endpoint, which has no row yet, under what its first row has. Refused, it is filed under nothing.
+fn file_first(
+    alloc: Global,
+    filed: &mut Filed,
+    endpoint: &str,
+    row: &Row,
+    keys: &[Key],
+) -> Result<(), NoMemory>
+    requires filed { IsFiled filed.old endpoint.now None }
+    requires keys { HasKeyChanges None row.now.slot keys.now }
+    ensures others { OthersSame filed.old filed.new endpoint.now }
+    ensures filed { OnOk result (IsFiled filed.new endpoint.now (Some row.now)) }
+    ensures unchanged { OnErr result (IsFiled filed.new endpoint.now None) }
+{
+    match try_file(alloc, filed, endpoint, row, keys) {
         Ok(()) => Ok(()),
         Err(refused) => {
-            filed.remove_stale(endpoint, None, &keys);
+            filed.remove_stale(endpoint, None, keys);
             Err(refused)
         }
     }
 }
 
-fn try_add(
+// The endpoint may be left filed under some of the keys.
+fn try_file(
     alloc: Global,
     filed: &mut Filed,
-    rows: &mut Rows,
     endpoint: &str,
-    row: Row,
-    taken: bool,
+    row: &Row,
     keys: &[Key],
 ) -> Result<(), NoMemory>
     requires filed { IsFiled filed.old endpoint.now None }
-    requires keys { HasKeyChanges None row.slot keys.now }
-    requires rows { IsRows rows.old }
-    requires absent { row_at rows.old endpoint.now ≡ None }
-    requires taken { taken ≡ has_end rows.old endpoint.now }
+    requires keys { HasKeyChanges None row.now.slot keys.now }
     ensures others { OthersSame filed.old filed.new endpoint.now }
-    ensures added { OnOk result (PutsRow endpoint.now row rows.old rows.new
-        × IsFiled filed.new endpoint.now (Some row)) }
-    ensures unchanged { OnErr result (SameRows rows.old rows.new × IsOver filed.new endpoint.now None keys.now) }
+    ensures filed { OnOk result (IsFiled filed.new endpoint.now (Some row.now)) }
+    ensures unchanged { OnErr result (IsOver filed.new endpoint.now None keys.now) }
 {
     filed.add(alloc, endpoint, !row.slot.is_removed(), keys)?;
     add_due(&mut filed.due, endpoint, &row.slot)?;
-    let number = row.number;
-    add_number(&mut filed.numbers, endpoint, number)?;
-    match rows.insert(alloc, endpoint, row, taken) {
-        Ok(()) => Ok(()),
-        Err(refused) => {
-            drop_number(&mut filed.numbers, endpoint, number);
-            Err(refused)
-        }
-    }
+    add_number(&mut filed.numbers, endpoint, row.number)
+}
+
+/// Takes away what is filed of an endpoint whose row was refused.
+fn unfile_first(filed: &mut Filed, endpoint: &str, number: u64, keys: &[Key])
+    requires { IsFirstFiled filed.old endpoint.now number keys.now }
+    ensures others { OthersSame filed.old filed.new endpoint.now }
+    ensures none { IsFiled filed.new endpoint.now None }
+{
+    drop_number(&mut filed.numbers, endpoint, number);
+    filed.remove_stale(endpoint, None, keys);
 }

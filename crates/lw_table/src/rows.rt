@@ -1,13 +1,12 @@
 //! Rows, found by their endpoints.
 
-ghost use Rattle.std.specs.Prelude.{◌≡◌, ℕ, List, None, IfSome, OnOk, OnErr};
+ghost use Rattle.std.specs.Prelude.{◌≡◌, ℕ, List, None, IfSome, IfErr, OnOk, OnErr, string_bytes};
 ghost use Rattle.std.specs.Option.{option_map};
 ghost use Rattle.lw_table.specs.inner.Moves.{PutsRow, SameRows};
 ghost use Rattle.lw_table.specs.Rows.{IsRows, appended, end_of};
 ghost use Rattle.lw_table.specs.inner.Rows.{has_end, row_at};
 
 use crate::row::Row;
-use lw_stamp::NoMemory;
 use std::alloc::Global;
 use std::collections::BTreeMap;
 
@@ -83,27 +82,26 @@ impl Rows {
         self.firsts.contains_key(&end_of(endpoint))
     }
 
-    /// Puts the first row of an endpoint, whose end is taken where another row has it.
-    pub(crate) fn insert(
-        &mut self,
-        alloc: Global,
-        endpoint: &str,
-        row: Row,
-        taken: bool,
-    ) -> Result<(), NoMemory>
+    /// Puts the first row of an endpoint, whose end is taken where another row has it. Refused, the endpoint comes back.
+    pub(crate) fn insert(&mut self, endpoint: String, row: Row, taken: bool) -> Result<(), String>
         requires rows { IsRows self.old }
-        requires absent { row_at self.old endpoint.now ≡ None }
-        requires taken { taken ≡ has_end self.old endpoint.now }
-        ensures put { OnOk result (PutsRow endpoint.now row self.old self.new) }
+        requires absent { row_at self.old (string_bytes endpoint) ≡ None }
+        requires taken { taken ≡ has_end self.old (string_bytes endpoint) }
+        ensures put { OnOk result (PutsRow (string_bytes endpoint) row self.old self.new) }
+        ensures returned { IfErr result (λ back. string_bytes back ≡ string_bytes endpoint) }
         ensures unchanged { OnErr result (SameRows self.old self.new) }
     {
-        let end = end_of(endpoint);
-        let endpoint = String::from_str(alloc, endpoint)?;
         if taken {
-            self.others.insert(endpoint, row)?;
+            match self.others.insert(endpoint, row) {
+                Ok(_) => Ok(()),
+                Err(refused) => Err(refused.value.0),
+            }
         } else {
-            self.firsts.insert(end, First { endpoint, row })?;
+            let end = end_of(endpoint.as_str());
+            match self.firsts.insert(end, First { endpoint, row }) {
+                Ok(_) => Ok(()),
+                Err(refused) => Err(refused.value.1.endpoint),
+            }
         }
-        Ok(())
     }
 }

@@ -57,10 +57,10 @@ impl Table {
 
     /// Joins a slot to that of the endpoint. A slot that tells nothing new takes no memory. Refused, nothing is
     /// changed.
-    pub fn join(&mut self, endpoint: &Endpoint, slot: Slot) -> Result<(), NoMemory>
-        ensures state { OnOk result (self.new.state ≡ state_join self.old.state (one_key endpoint.now slot)) }
+    pub fn join(&mut self, endpoint: Endpoint, slot: Slot) -> Result<(), NoMemory>
+        ensures state { OnOk result (self.new.state ≡ state_join self.old.state (one_key endpoint slot)) }
         ensures count { OnOk result (Recounts self.old.state self.new.state self.old.count self.new.count) }
-        ensures known { IsSomeAnd (get self.old.state endpoint.now) (slot_below slot) → IsOk result
+        ensures known { IsSomeAnd (get self.old.state endpoint) (slot_below slot) → IsOk result
             × (self.new ≡ self.old) }
         ensures unchanged { OnErr result (self.new ≡ self.old) }
     {
@@ -69,7 +69,7 @@ impl Table {
             self.alloc,
             &mut self.filed,
             &mut self.rows,
-            endpoint.as_str(),
+            endpoint.into_text().into_string(),
             slot,
             change,
         )?;

@@ -134,7 +134,7 @@ fn check_joins(alloc: Global, changes: &[Of<'_>], state: State) -> Result<(), Fa
     holds("its keys", has(&table, state))
 }
 
-/// Tries: Table::new, Table::join, Table::keys
+/// Tries: Table::new, Table::join, Table::keys, lw_reg::Endpoint::into_text
 #[test]
 fn slots_are_filed_under_their_keys(rt: HostRuntime) -> Result<(), Fail> {
     for (changes, state) in &JOINS {

@@ -1,5 +1,5 @@
 -- Rows that are put into a table.
-use Rattle.std.specs.Prelude.{◌≡◌, ℕ, Bool, true, false, List, Option, Some, string_bytes, bytes_eq, cond, IsSome}
+use Rattle.std.specs.Prelude.{◌≡◌, ℕ, Bool, true, false, List, Option, Some, None, string_bytes, bytes_eq, cond, IsSome}
 use Rattle.std.specs.Option.{IsSomeAnd}
 use Rattle.std.specs.BTreeMap.{get}
 use Rattle.std.specs.Ordering.{nat_cmp}
@@ -11,8 +11,9 @@ use Rattle.lw_reg.specs.Slot.{slot_below, slot_join, ending}
 use Rattle.lw_table.specs.inner.Filed.{IsFiled, slot_of}
 use Rattle.lw_table.specs.Rows.{IsRows, end_of}
 use Rattle.lw_table.specs.inner.Rows.{row_at}
-use Rattle.lw_table.specs.inner.KeyChanges.{joined_with}
+use Rattle.lw_table.specs.inner.KeyChanges.{HasKeyChanges, joined_with}
 use Rattle.lw_table.specs.declared.filed.Filed.{Filed}
+use Rattle.lw_table.specs.declared.key.Key.{Key}
 use Rattle.lw_table.specs.declared.row.Row.{Row}
 use Rattle.lw_table.specs.declared.rows.Rows.{Rows}
 
@@ -22,6 +23,12 @@ moved_row row slot number = record { slot = slot_join row.slot slot; number = nu
 -- the first row, or the row that moved
 abbrev pub next_row : Option Row → Slot → ℕ → Row
 next_row row slot number = record { slot = joined_with (slot_of row) slot; number = number }
+
+-- the endpoint is filed under what a first row with this number has, and the keys are those of its slot
+pub record IsFirstFiled (filed : Filed) (e : List ℕ) (number : ℕ) (keys : List Key) : Type 0 where
+  pub slot : Slot
+  pub is : IsFiled filed e (Some (record { slot = slot; number = number }))
+  pub keys_are : HasKeyChanges None slot keys
 
 -- the row is put under the endpoint, and nothing else changes
 pub record PutsRow (endpoint : List ℕ) (row : Row) (old new : Rows) : Type 0 where

@@ -1,6 +1,8 @@
-use Rattle.std.proofs.Common.{◌≡◌, Some, None, refl, sym, ap, ◌∙◌, subst, rules}
+use Rattle.std.specs.Prelude.{bytes_eq, string_bytes}
+use Rattle.std.specs.BTreeMap.{get_by_text}
+use Rattle.std.proofs.Common.{◌≡◌, cond, Some, None, refl, sym, ap, ◌∙◌, subst, rules}
 use Rattle.std.proofs.lemmas.Map.Text.{btree_map_updates_text}
-use Rattle.lw_table.specs.inner.Filed.{IsFiled}
+use Rattle.lw_table.specs.inner.Filed.{IsFiled, OthersSame}
 use Rattle.lw_table.specs.inner.Moves.{next_row, IsKnown, PutsRow, SameRows}
 use Rattle.lw_table.specs.Rows.{IsRows}
 use Rattle.lw_table.specs.inner.Rows.{has_end, row_at}
@@ -13,27 +15,33 @@ use Rattle.lw_table.proofs.moves.join_behind.Goals as goal
 
 pub join_row-requires : goal.join_row-requires
 join_row-requires c =
-    subst (IsFiled c.args.filed.now c.args.endpoint.now) (sym (c.in-Some.ensures.value ∙ taken_others c.args.rows.now c.args.endpoint.now c.requires.taken)) c.requires.filed
+    let m = c.args.rows.now in
+    let q = c.as_str-name.ensures.value in
+    let e = string_bytes c.args.endpoint in
+    let filed = subst (IsFiled c.args.filed.now e) (sym (c.in-Some.ensures.value ∙ ap (get_by_text m.others) q ∙ taken_others m e c.requires.taken)) c.requires.filed in
+    subst (λ x. IsFiled c.args.filed.now x (Some c.in-Some.row.now)) (sym q) filed
 
 pub returns-in-Some : goal.returns-in-Some
 returns-in-Some c =
     let m = c.args.rows.now in
-    let e = c.args.endpoint.now in
+    let q = c.as_str-name.ensures.value in
+    let e = string_bytes c.args.endpoint in
     let w = c.join_row.new.row in
     let others = c.get_mut.follows.lender w in
     let n : Rows = record m { others = others } in
     let slot = c.args.slot in
     let number = c.args.number in
-    let is = c.in-Some.ensures.value ∙ taken_others m e c.requires.taken in
-    let put = other_put m n e w c.requires.rows refl (c.get_mut.follows.holds w).4 (btree_map_updates_text e m.others others (Some w) ((c.get_mut.follows.holds w).3 (search rules))) c.requires.taken in
+    let is = c.in-Some.ensures.value ∙ ap (get_by_text m.others) q ∙ taken_others m e c.requires.taken in
+    let put = other_put m n e w c.requires.rows refl (c.get_mut.follows.holds w).4 (λ k. subst (λ x. get_by_text others k ≡ cond (bytes_eq x k) (Some w) (get_by_text m.others k)) q (btree_map_updates_text c.as_str-name.result.now m.others others (Some w) ((c.get_mut.follows.holds w).3 (search rules)) k)) c.requires.taken in
+    let filed : IsFiled c.join_row.new.filed e (Some w) = subst (λ x. IsFiled c.join_row.new.filed x (Some w)) q c.join_row.ensures.filed in
     record {
-      others = c.join_row.ensures.others;
-      joined = if_ok _ _ c.join_row.result (joined_at e slot number c.join_row.new.filed m n c.in-Some.row.now w is put c.join_row.ensures.filed) c.join_row.ensures.joined;
+      others = subst (OthersSame c.args.filed.now c.join_row.new.filed) q c.join_row.ensures.others;
+      joined = if_ok _ _ c.join_row.result (joined_at e slot number c.join_row.new.filed m n c.in-Some.row.now w is put filed) c.join_row.ensures.joined;
       known = λ known. c.join_row.ensures.known (subst (λ o. IsKnown o slot) (sym is) known);
       unchanged = on_err _ _ c.join_row.result
           (λ same. (
             put_again m n e w put (ap Some same ∙ is),
-            subst (IsFiled c.join_row.new.filed e) (ap Some same ∙ is) c.join_row.ensures.filed,
+            subst (IsFiled c.join_row.new.filed e) (ap Some same ∙ is) filed,
           ))
           c.join_row.ensures.unchanged;
     }
@@ -41,9 +49,10 @@ returns-in-Some c =
 pub add_row-requires : goal.add_row-requires
 add_row-requires c =
     let m = c.args.rows.now in
-    let e = c.args.endpoint.now in
+    let q = c.as_str-name.ensures.value in
+    let e = string_bytes c.args.endpoint in
     let same : record m { others = c.get_mut.follows.lender-at-none } ≡ m = λ i. record m { others = c.get_mut.follows.holds-at-none i } in
-    let none = c.in-None.ensures.value ∙ taken_others m e c.requires.taken in
+    let none = c.in-None.ensures.value ∙ ap (get_by_text m.others) q ∙ taken_others m e c.requires.taken in
     record {
       filed = subst (IsFiled c.args.filed.now e) (sym none) c.requires.filed;
       rows = subst IsRows (sym same) c.requires.rows;
@@ -54,8 +63,9 @@ add_row-requires c =
 pub returns-in_err-add_row-in-None : goal.returns-in_err-add_row-in-None
 returns-in_err-add_row-in-None c =
     let m = c.args.rows.now in
-    let e = c.args.endpoint.now in
-    let none = c.in-None.ensures.value ∙ taken_others m e c.requires.taken in
+    let q = c.as_str-name.ensures.value in
+    let e = string_bytes c.args.endpoint in
+    let none = c.in-None.ensures.value ∙ ap (get_by_text m.others) q ∙ taken_others m e c.requires.taken in
     let held : record m { others = c.get_mut.follows.lender-at-none } ≡ m = λ i. record m { others = c.get_mut.follows.holds-at-none i } in
     let same = c.in_err-add_row-in-None.ensures.unchanged in
     record {
@@ -68,11 +78,12 @@ returns-in_err-add_row-in-None c =
 pub returns-in_ok-add_row-in-None : goal.returns-in_ok-add_row-in-None
 returns-in_ok-add_row-in-None c =
     let m = c.args.rows.now in
-    let e = c.args.endpoint.now in
+    let q = c.as_str-name.ensures.value in
+    let e = string_bytes c.args.endpoint in
     let n = c.add_row.new.rows in
     let slot = c.args.slot in
     let number = c.args.number in
-    let none = c.in-None.ensures.value ∙ taken_others m e c.requires.taken in
+    let none = c.in-None.ensures.value ∙ ap (get_by_text m.others) q ∙ taken_others m e c.requires.taken in
     let held : record m { others = c.get_mut.follows.lender-at-none } ≡ m = λ i. record m { others = c.get_mut.follows.holds-at-none i } in
     let added = c.in_ok-add_row-in-None.ensures.added in
     record {

@@ -1,4 +1,6 @@
-use Rattle.std.proofs.Common.{◌≡◌, Bool, true, false, refl, ◌∙◌, subst}
+use Rattle.std.proofs.Common.{◌≡◌, Bool, true, false, refl, sym, ◌∙◌, subst}
+use Rattle.std.specs.Prelude.{string_bytes}
+use Rattle.lw_reg.specs.Endpoint.{IsEndpoint}
 use Rattle.lw_table.specs.inner.Moves.{JoinsRowAt}
 use Rattle.lw_table.proofs.CountLemmas.{next_after, saturated}
 use Rattle.lw_table.proofs.JoinLemmas.{joins_count, joins_state, known_row, stays_count, stays_state, stays_table}
@@ -15,7 +17,7 @@ join_first-requires c = record {
 -- ---- refused
 pub returns-in_err-moved-clause-known : goal.returns-in_err-moved-clause-known
 returns-in_err-moved-clause-known c = λ below.
-    absurd (let ok : false ≡ true = c.in_err-moved.ensures.known ((known_row c.self.inside.rows c.self.invariant.0 c.self.inside.change c.args.self.now c.self.view_is c.as_str.result.now c.args.endpoint.now c.as_str.ensures.value c.args.slot).0 below) in cc)
+    absurd (let ok : false ≡ true = c.in_err-moved.ensures.known ((known_row c.self.inside.rows c.self.invariant.0 c.self.inside.change c.args.self.now c.self.view_is (string_bytes c.into_string.result) c.args.endpoint (c.into_string.ensures ∙ c.into_text.ensures.value) c.args.slot).0 below) in cc)
 
 pub returns-in_err-moved-clause-unchanged : goal.returns-in_err-moved-clause-unchanged
 returns-in_err-moved-clause-unchanged c =
@@ -26,7 +28,7 @@ pub invariant_of-self : goal.invariant_of-self
 invariant_of-self c =
     let kept = c.in_err-moved.ensures.unchanged in (
       kept.0.rows,
-      kept_table c.self.inside.filed c.join_first.new.filed c.self.inside.rows c.join_first.new.rows c.self.invariant.0 kept.0.rows c.self.inside.change c.as_str.result.now c.join_first.ensures.others c.self.invariant.1 kept.0.same kept.1,
+      kept_table c.self.inside.filed c.join_first.new.filed c.self.inside.rows c.join_first.new.rows c.self.invariant.0 kept.0.rows c.self.inside.change (string_bytes c.into_string.result) c.join_first.ensures.others c.self.invariant.1 kept.0.same kept.1,
     )
 
 -- ---- moved
@@ -36,14 +38,14 @@ returns-then-moved c =
     let n = c.join_first.new.rows in
     let change = c.self.inside.change in
     let number = c.saturating_add-change.result in
-    let joins = subst (λ (b : Bool). JoinsRowAt b c.as_str.result.now c.args.slot number m n c.join_first.new.filed) c.if-moved.true c.in_ok-moved.ensures.joined in
+    let joins = subst (λ (b : Bool). JoinsRowAt b (string_bytes c.into_string.result) c.args.slot number m n c.join_first.new.filed) c.if-moved.true c.in_ok-moved.ensures.joined in
     let rows_n = joins.1.rows in
     let rows = rows_of c.self.inside.filed m c.self.invariant.0 change c.self.invariant.1 in
     record {
-      state = joins_state m n c.self.invariant.0 rows_n change c.args.self.now c.self.view_is c.as_str.result.now c.args.endpoint.now c.as_str.ensures.value c.args.slot number c.join_first.new.filed joins;
-      count = joins_count m n c.self.invariant.0 rows_n change c.args.self.now c.self.view_is c.as_str.result.now c.args.endpoint.now c.as_str.ensures.value c.args.slot number c.join_first.new.filed joins
+      state = joins_state m n c.self.invariant.0 rows_n change c.args.self.now c.self.view_is (string_bytes c.into_string.result) c.args.endpoint (c.into_string.ensures ∙ c.into_text.ensures.value) c.args.slot number c.join_first.new.filed joins;
+      count = joins_count m n c.self.invariant.0 rows_n change c.args.self.now c.self.view_is (string_bytes c.into_string.result) c.args.endpoint (c.into_string.ensures ∙ c.into_text.ensures.value) c.args.slot number c.join_first.new.filed joins
           (saturated change number c.saturating_add-change.ensures rows.last);
-      known = λ below. absurd (joins.0 ((known_row m c.self.invariant.0 change c.args.self.now c.self.view_is c.as_str.result.now c.args.endpoint.now c.as_str.ensures.value c.args.slot).0 below));
+      known = λ below. absurd (joins.0 ((known_row m c.self.invariant.0 change c.args.self.now c.self.view_is (string_bytes c.into_string.result) c.args.endpoint (c.into_string.ensures ∙ c.into_text.ensures.value) c.args.slot).0 below));
       unchanged = tt;
     }
 
@@ -53,11 +55,11 @@ invariant_of-self-then-moved c =
     let n = c.join_first.new.rows in
     let change = c.self.inside.change in
     let number = c.saturating_add-change.result in
-    let joins = subst (λ (b : Bool). JoinsRowAt b c.as_str.result.now c.args.slot number m n c.join_first.new.filed) c.if-moved.true c.in_ok-moved.ensures.joined in
+    let joins = subst (λ (b : Bool). JoinsRowAt b (string_bytes c.into_string.result) c.args.slot number m n c.join_first.new.filed) c.if-moved.true c.in_ok-moved.ensures.joined in
     let rows = rows_of c.self.inside.filed m c.self.invariant.0 change c.self.invariant.1 in
     let next = next_after change number (saturated change number c.saturating_add-change.ensures rows.last) rows.last in (
       joins.1.rows,
-      put_table c.self.inside.filed c.join_first.new.filed m n c.self.invariant.0 joins.1.rows change c.as_str.result.now c.join_first.ensures.others c.self.invariant.1 _ number joins.1.at joins.2 next.0 next.1 next.2 c.as_str.ensures.within,
+      put_table c.self.inside.filed c.join_first.new.filed m n c.self.invariant.0 joins.1.rows change (string_bytes c.into_string.result) c.join_first.ensures.others c.self.invariant.1 _ number joins.1.at joins.2 next.0 next.1 next.2 (subst IsEndpoint (sym c.into_string.ensures) c.into_text.ensures.within),
     )
 
 -- ---- known
@@ -67,12 +69,12 @@ returns-else-moved c =
     let n = c.join_first.new.rows in
     let change = c.self.inside.change in
     let number = c.saturating_add-change.result in
-    let joins = subst (λ (b : Bool). JoinsRowAt b c.as_str.result.now c.args.slot number m n c.join_first.new.filed) c.if-moved.false c.in_ok-moved.ensures.joined in
+    let joins = subst (λ (b : Bool). JoinsRowAt b (string_bytes c.into_string.result) c.args.slot number m n c.join_first.new.filed) c.if-moved.false c.in_ok-moved.ensures.joined in
     let rows_n = joins.1.rows in
     record {
-      state = stays_state m n c.self.invariant.0 rows_n change c.args.self.now c.self.view_is c.as_str.result.now c.args.endpoint.now c.as_str.ensures.value c.args.slot number c.join_first.new.filed joins;
-      count = stays_count m n c.self.invariant.0 rows_n change c.args.self.now c.self.view_is c.as_str.result.now c.args.endpoint.now c.as_str.ensures.value c.args.slot number c.join_first.new.filed joins;
-      known = λ below. (refl, stays_table m n c.self.invariant.0 rows_n change c.args.self.now c.self.view_is c.as_str.result.now c.args.endpoint.now c.as_str.ensures.value c.args.slot number c.join_first.new.filed joins);
+      state = stays_state m n c.self.invariant.0 rows_n change c.args.self.now c.self.view_is (string_bytes c.into_string.result) c.args.endpoint (c.into_string.ensures ∙ c.into_text.ensures.value) c.args.slot number c.join_first.new.filed joins;
+      count = stays_count m n c.self.invariant.0 rows_n change c.args.self.now c.self.view_is (string_bytes c.into_string.result) c.args.endpoint (c.into_string.ensures ∙ c.into_text.ensures.value) c.args.slot number c.join_first.new.filed joins;
+      known = λ below. (refl, stays_table m n c.self.invariant.0 rows_n change c.args.self.now c.self.view_is (string_bytes c.into_string.result) c.args.endpoint (c.into_string.ensures ∙ c.into_text.ensures.value) c.args.slot number c.join_first.new.filed joins);
       unchanged = tt;
     }
 
@@ -80,7 +82,7 @@ pub invariant_of-self-else-moved : goal.invariant_of-self-else-moved
 invariant_of-self-else-moved c =
     let m = c.self.inside.rows in
     let n = c.join_first.new.rows in
-    let joins = subst (λ (b : Bool). JoinsRowAt b c.as_str.result.now c.args.slot c.saturating_add-change.result m n c.join_first.new.filed) c.if-moved.false c.in_ok-moved.ensures.joined in (
+    let joins = subst (λ (b : Bool). JoinsRowAt b (string_bytes c.into_string.result) c.args.slot c.saturating_add-change.result m n c.join_first.new.filed) c.if-moved.false c.in_ok-moved.ensures.joined in (
       joins.1.rows,
-      kept_table c.self.inside.filed c.join_first.new.filed m n c.self.invariant.0 joins.1.rows c.self.inside.change c.as_str.result.now c.join_first.ensures.others c.self.invariant.1 joins.1.same joins.2,
+      kept_table c.self.inside.filed c.join_first.new.filed m n c.self.invariant.0 joins.1.rows c.self.inside.change (string_bytes c.into_string.result) c.join_first.ensures.others c.self.invariant.1 joins.1.same joins.2,
     )

@@ -1,0 +1,5 @@
+use Rattle.lw_table.proofs.MoveLemmas.{others_then}
+use Rattle.lw_table.proofs.moves.file_first.Goals as goal
+
+pub returns-in-Err-clause-others : goal.returns-in-Err-clause-others
+returns-in-Err-clause-others c = others_then c.args.endpoint.now c.args.filed.now c.try_file.new.filed c.remove_stale.new.self c.try_file.ensures.others c.remove_stale.ensures.others
