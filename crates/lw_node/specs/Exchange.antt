@@ -1,4 +1,5 @@
 -- What a node sends of its state, and what it is after a delta was merged (Shapiro et al., Conflict-free
+-- Replicated Data Types, 2011).
 use Rattle.std.specs.Prelude.{◌≡◌, ◌↔◌, ℕ, ◌<◌, ◌≤◌, max, List, [], ◌∷◌, length, take, Contains, Result, Ok, Err, Some, IsSomeAnd}
 use Rattle.std.specs.FinMap.{empty, get}
 use Rattle.lw_join.specs.Maps.{one_key}
@@ -13,8 +14,6 @@ use Rattle.lw_delta.specs.Writing.{delta_bytes}
 use Rattle.lw_call.specs.declared.merge_fault.MergeFault.{MergeFault}
 use Rattle.lw_call.specs.declared.merge_fault.MergeFault.TheVariants.{Malformed, NoMemory}
 use Rattle.lw_node.specs.Node.{NodeContent}
-
--- Replicated Data Types, 2011).
 
 -- the state of the slots: the least above each, under its endpoint
 abbrev pub state_in : List (List ℕ × Slot) → State

@@ -1,4 +1,5 @@
 -- The fields of a line of a script, and what each spells. Numbers are decimal without leading zeros; an address is a
+-- host and a port as in the authority of a URI (RFC 3986, section 3.2), bytes are in base 16 (RFC 4648, section 8).
 use Rattle.std.specs.Prelude.{◌≡◌, ◌<◌, ◌≤◌, ◌^◌, ◌==◌, ℕ, Bool, List, [], ◌∷◌, length, Option, Some, None, Ok, codes}
 use Rattle.std.specs.Fmt.{decimal}
 use Rattle.std.specs.List.{position_or_len, before_first, after_first}
@@ -11,8 +12,6 @@ use Rattle.lw_reg.specs.declared.addr.Addr.{Addr}
 use Rattle.lw_reg.specs.declared.path.Path.{Path}
 use Rattle.lw_reg.specs.Addr.{addr_text, IsAddr}
 use Rattle.lw_reg.specs.Path.{path_numbers}
-
--- host and a port as in the authority of a URI (RFC 3986, section 3.2), bytes are in base 16 (RFC 4648, section 8).
 
 -- the number is below the limit, and the text is how it is printed
 pub record IsNumber (limit n : ℕ) (text : List ℕ) : Type 0 where

@@ -1,4 +1,5 @@
 -- What a node of a run knows: the operations that it issued, and those that deltas brought (Shapiro et al.,
+-- Conflict-free Replicated Data Types, 2011). A program keeps none of it.
 use Rattle.std.specs.Prelude.{◌≡◌, ℕ, ◌+◌, List, [], ◌∷◌, ◌++◌, Option, Some, None, Bool, map, filter, max}
 use Rattle.std.specs.List.{list_any}
 use Rattle.std.specs.Ordering.{eq_by_cmp}
@@ -11,8 +12,6 @@ use Rattle.lw_table.specs.Changes.{Count, Recounts}
 use Rattle.lw_table.specs.Table.{none_counted}
 use Rattle.lw_delta.specs.Delta.{DeltaContent}
 use Rattle.lw_node.specs.Node.{NodeContent}
-
--- Conflict-free Replicated Data Types, 2011). A program keeps none of it.
 
 -- what a node knows: its number, its clock, the operations that reached it, and how it has counted the changes
 pub record Knowledge : Type 0 where
