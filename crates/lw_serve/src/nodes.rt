@@ -9,7 +9,7 @@ ghost use Rattle.lw_serve.specs.inner.Volumes.{AreOfNodes};
 use crate::cutting::cut_journals;
 use crate::plan::Plan;
 use crate::sink::VolumeSink;
-use lw_crew::{Crew, CrewFault, Done, Job};
+use lw_crew::{Crew, CrewFault, Done, Job, Sharing};
 use lw_held::{NoGate, Pass, Settled, Shelf, Unsettled, set_up, settle};
 use lw_stamp::NoMemory;
 use std::alloc::Global;
@@ -41,7 +41,7 @@ impl Nodes {
     {
         let (shelves, passes) = set_up(alloc, plan.nodes, plan.workers)?;
         Ok(Nodes {
-            crew: Crew::new(),
+            crew: Crew::new(Sharing::ByWork),
             shelves,
             passes,
             due: vec![in alloc; false; plan.nodes as usize]?,

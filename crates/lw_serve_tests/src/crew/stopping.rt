@@ -36,7 +36,7 @@ fn one_stopped_worker_leaves_what_comes_behind(rt: HostRuntime) -> Result<(), Fa
 fn done_after_a_stop<R: Threads + Wait + Sync>(rt: &R, alloc: Global) -> Result<String, Fail> {
     let jobs = registers(alloc, &[1, 1, 1])?;
     let (shelves, passes) = set_up(alloc, 1, 1)?;
-    let mut crew = Crew::new();
+    let mut crew = Crew::new(Sharing::ByNode);
     let (passes, stopped) = crew.serve_jobs(rt, alloc, &shelves, passes, &jobs, &Refuses(1));
     let (passes, done) = crew.serve_jobs(rt, alloc, &shelves, passes, &jobs, &NoGate);
     drop(crew);
@@ -71,7 +71,7 @@ fn done_after_fewer<R: Threads + Wait + Sync>(rt: &R, alloc: Global) -> Result<S
     let few = registers(alloc, &[1, 2, 1])?;
     let many = registers(alloc, &[2; 200])?;
     let (shelves, passes) = set_up(alloc, 2, 2)?;
-    let mut crew = Crew::new();
+    let mut crew = Crew::new(Sharing::ByNode);
     let (passes, first) = crew.serve_jobs(rt, alloc, &shelves, passes, &few, &NoGate);
     let (passes, second) = crew.serve_jobs(rt, alloc, &shelves, passes, &many, &NoGate);
     drop(crew);
