@@ -1,5 +1,7 @@
 //! Where jobs are handed out, and where workers tell what became of them.
 
+ghost use Rattle.std.specs.Prelude.{◌≤◌, IfOk};
+
 use crate::job::Done;
 use crossbeam_channel::{Receiver, Sender, bounded};
 use lw_stamp::NoMemory;
@@ -27,7 +29,9 @@ pub(crate) struct Board {
 
 impl Board {
     /// A board with room for the jobs, and nothing on it.
-    fn new(alloc: Global, jobs: usize) -> Result<Board, NoMemory> {
+    fn new(alloc: Global, jobs: usize) -> Result<Board, NoMemory>
+        ensures { IfOk result (λ board. jobs ≤ board.room) }
+    {
         let room = jobs.max(LEAST_ROOM);
         let (ask, numbers) = bounded(alloc, room)?;
         let (tell, told) = bounded(alloc, room)?;
@@ -48,7 +52,9 @@ impl Board {
         alloc: Global,
         kept: &mut Option<Board>,
         jobs: usize,
-    ) -> Result<Board, NoMemory> {
+    ) -> Result<Board, NoMemory>
+        ensures { IfOk result (λ board. jobs ≤ board.room) }
+    {
         let board = match kept.take() {
             Some(board) => board.with_room(alloc, jobs)?,
             None => Board::new(alloc, jobs)?,
@@ -63,7 +69,9 @@ impl Board {
     }
 
     /// This board, if it has room for the jobs, and else a new one.
-    fn with_room(self, alloc: Global, jobs: usize) -> Result<Board, NoMemory> {
+    fn with_room(self, alloc: Global, jobs: usize) -> Result<Board, NoMemory>
+        ensures { IfOk result (λ board. jobs ≤ board.room) }
+    {
         if self.room < jobs {
             return Board::new(alloc, jobs);
         }

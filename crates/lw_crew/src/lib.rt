@@ -15,4 +15,5 @@ mod work;
 pub use gathering::gather;
 pub use job::{CrewFault, Done, Job, JobOutcome};
 pub use lw_held::{Gate, NoGate, Pass, Shelf};
+pub use need::Sharing;
 pub use serving::Crew;

@@ -13,6 +13,7 @@ use crate::board::Board;
 use crate::checking::{first_untrue, lengths_of};
 use crate::gathering::gather;
 use crate::job::{CrewFault, Done, Job};
+use crate::need::{Sharing, threads_for};
 use crate::work::work_all;
 use lw_held::{Gate, Pass, Shelf};
 use lw_stamp::NoMemory;
@@ -23,15 +24,19 @@ use std::thread::Threads;
 /// Workers, who keep the channels between them from one list of jobs to the next.
 #[derive(Drop)]
 pub struct Crew {
+    sharing: Sharing,
     board: Option<Board>,
 }
 
 impl Crew {
-    /// Workers without channels. These are made for the first list of jobs.
-    pub fn new() -> Crew
+    /// Workers who share jobs so, without channels. These are made for the first list of jobs.
+    pub fn new(sharing: Sharing) -> Crew
         ensures { result.board ≡ None }
     {
-        Crew { board: None }
+        Crew {
+            sharing,
+            board: None,
+        }
     }
 
     /// Has the jobs done by one worker for each pass: the first on the thread that calls, and others on threads of
@@ -65,7 +70,17 @@ impl Crew {
         let Ok(before) = lengths_of(alloc, &passes) else {
             return (passes, Err(CrewFault::NoMemory));
         };
-        let (passes, told) = run(rt, alloc, &mut self.board, shelves, passes, jobs, gate);
+        let threads = threads_for(self.sharing, jobs);
+        let (passes, told) = run(
+            rt,
+            alloc,
+            &mut self.board,
+            threads,
+            shelves,
+            passes,
+            jobs,
+            gate,
+        );
         let result = match told {
             Ok(dones) => checked(alloc, shelves, before, &passes, jobs, dones),
             Err(NoMemory) => Err(CrewFault::NoMemory),
@@ -74,12 +89,13 @@ impl Crew {
     }
 }
 
-/// Has the workers work, and gives what they tell.
+/// Has the workers work on so many threads, and gives what they tell.
 #[tactic(auto, using(crate::proofs::Continue::distinct_after))]
 fn run<R: Threads + Wait + Sync, G: Gate>(
     rt: &R,
     alloc: Global,
     kept: &mut Option<Board>,
+    threads: u32,
     shelves: &[Shelf],
     passes: Vec<Pass>,
     jobs: &[Job],
@@ -97,7 +113,7 @@ fn run<R: Threads + Wait + Sync, G: Gate>(
         Ok(board) => board,
         Err(refused) => return (passes, Err(refused)),
     };
-    let passes = work_all(rt, gate, shelves, jobs, &board, passes);
+    let passes = work_all(rt, gate, shelves, jobs, &board, threads, passes);
     (passes, board.results(rt, kept, jobs.len(), dones))
 }
 

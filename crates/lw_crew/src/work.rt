@@ -6,7 +6,6 @@ ghost use Rattle.lw_crew.specs.Continues.{AllContinue, Continues};
 use crate::board::Board;
 use crate::checking::shelf_of;
 use crate::job::{Done, Job, JobOutcome};
-use crate::need::threads_for;
 use lw_held::{Gate, Pass, Shelf};
 use lw_stamp::NoMemory;
 use std::snapshot::Snapshot;
@@ -188,20 +187,20 @@ fn work_with<'s, E, R: Threads + Wait + Sync, G: Gate>(
     back
 }
 
-/// Has a worker work with each pass, on as many threads as the jobs need. A worker that cannot be started does nothing.
-/// The passes come back in order.
+/// Has a worker work with each pass, on so many threads. A worker that cannot be started does nothing. The passes come
+/// back in order.
 pub(crate) fn work_all<R: Threads + Wait + Sync, G: Gate>(
     rt: &R,
     gate: &G,
     shelves: &[Shelf],
     jobs: &[Job],
     board: &Board,
+    threads: u32,
     passes: Vec<Pass>,
 ) -> Vec<Pass>
     requires { vec_len passes ≤ 8 }
     ensures { AllContinue passes.items result.items }
 {
-    let threads = threads_for(jobs);
     if threads == 1 || passes.len() == 1 {
         return work_in_turn(rt, gate, shelves, jobs, board, passes);
     }

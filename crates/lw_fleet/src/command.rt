@@ -187,7 +187,12 @@ fn serve_command<'a>(alloc: Global) -> Result<Command<'a>, AllocError>
             "N",
             "Nodes, which share the clients by their ports, 1 to 16 [default: 2]",
         ))?
-        .arg(option(alloc, "workers", "W", "Worker threads, 1 to 8 [default: 2]"))?
+        .arg(option(
+            alloc,
+            "workers",
+            "W",
+            "Worker threads at most, 1 to 8 [default: 2]",
+        ))?
         .arg(option(
             alloc,
             "cut",

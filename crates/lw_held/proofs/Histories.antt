@@ -1,17 +1,17 @@
 -- Histories that go on.
-use Rattle.std.proofs.Common.{◌≡◌, ℕ, List, [], ◌∷◌, ◌++◌, Option, Some, None, Result, Ok, Err, refl, sym, ap, ◌∙◌, subst}
+use Rattle.std.proofs.Common.{◌≡◌, ◌≢◌, ℕ, ◌+◌, List, [], ◌∷◌, ◌++◌, length, Option, Some, None, Result, Ok, Err, refl, sym, ap, ◌∙◌, subst, arith}
 use Rattle.lw_reg.specs.declared.op.Op.{Op}
 use Rattle.lw_call.specs.declared.call.Call.{Call}
 use Rattle.lw_call.specs.declared.merge_fault.MergeFault.{MergeFault}
 use Rattle.lw_call.specs.declared.merge_fault.MergeFault.TheVariants as merge_faults
 use Rattle.lw_call.specs.declared.reply.Reply.{Reply}
 use Rattle.lw_node.specs.Exchange.{Merges}
-use Rattle.lw_node.specs.Node.{NodeContent, marks_in, Leaves}
+use Rattle.lw_node.specs.Node.{NodeContent, fresh, marks_in, Leaves}
 use Rattle.lw_node.specs.Node.Known.{Shown}
 use Rattle.lw_node.specs.Steps.{at_node, Steps}
 use Rattle.lw_reg.specs.Marks.{Marks}
 use Rattle.lw_held.specs.declared.entry.Entry.{Entry}
-use Rattle.lw_held.specs.History.{IsStep, Leads}
+use Rattle.lw_held.specs.History.{IsBegun, IsStep, Leads}
 use Rattle.lw_held.specs.Laws.{HistoriesFollow}
 use Rattle.lw_held.proofs.Carrying.{carried}
 
@@ -57,3 +57,12 @@ legal_longer opening old new journal room longer pass number call copy reply leg
     let own : IsStep old copy reply new = subst (λ c. IsStep old c reply new) (sym same) step in
     let is : longer ≡ journal ++ entry ∷ [] = pushed ∙ ap (λ (es : List Entry). es ++ entry ∷ []) kept in
     subst (λ es. Leads opening es new) (sym is) (leads_push opening journal old entry new legal own)
+
+-- ---- beginnings
+pub new_begun : (first number : ℕ) (node : NodeContent) → node ≡ fresh number → IsBegun first node
+new_begun first number node is at = is ∙ ap fresh (sym (ap (λ (n : NodeContent). n.number) is))
+
+-- behind a journal that is not empty nothing begins at place 0
+pub never_begun : (first next : ℕ) (journal : List Entry) (node : NodeContent) → next ≡ first + length journal → journal ≢ [] → IsBegun next node
+never_begun first next [] node is some at = absurd (some refl)
+never_begun first next (entry ∷ entries) node is some at = absurd (omega (arith, is, at))

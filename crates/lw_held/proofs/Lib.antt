@@ -8,3 +8,4 @@ pub mod Longer
 pub mod Stepping
 pub mod Marking
 pub mod Crossing
+pub mod OfMarks

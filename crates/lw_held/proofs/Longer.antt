@@ -7,7 +7,7 @@ use Rattle.lw_call.specs.declared.call.Call.{Call}
 use Rattle.lw_held.specs.declared.entry.Entry.{Entry}
 use Rattle.lw_held.specs.declared.entry.Part.{Part}
 use Rattle.lw_held.specs.declared.shelf.Shelf.{Shelf}
-use Rattle.lw_held.specs.Agree.{Agrees, Fails, IsSettled}
+use Rattle.lw_held.specs.Agree.{Agrees, Fails, IsSettledWith}
 use Rattle.lw_held.specs.History.{HeldContent, VolumeContent, IsLegal, IsVolume, Enters, Cuts}
 use Rattle.lw_held.proofs.Agreement.{same_some}
 use Rattle.lw_held.proofs.Pieces.{one_history}
@@ -57,9 +57,9 @@ pub answered : (r : Result ℕ NoMemory) (pass number : ℕ) (call : Call) (old 
 answered (Ok place) pass number call old new Q legal entered = (entered.0, (old, new, legal, entered.1), entered.2)
 answered (Err refused) pass number call old new Q legal entered = tt
 
--- a journal that agrees is, behind its volumes, the history that is settled
+-- a journal that agrees is, behind its volumes, the history that is settled and has them
 pub settles : {T E : Type 0} (r : Result T E) (node : ℕ) (volumes : List VolumeContent) (held : HeldContent) (passes : List Transcript) → ((i : ℕ) (volume : VolumeContent) → slice_get volumes i ≡ Some volume → IsVolume volume) → IsLegal held
-    → OnOk r (Agrees node volumes held passes) → OnOk r (IsSettled node passes)
+    → OnOk r (Agrees node volumes held passes) → OnOk r (IsSettledWith node volumes passes)
 settles (Ok t) node volumes held passes volumes_legal legal agrees = one_history node volumes held passes agrees.1 volumes_legal legal
 settles (Err e) node volumes held passes volumes_legal legal agrees = tt
 

@@ -1,12 +1,12 @@
 -- How volumes and a journal are laid: where the least place is that is not, and that pieces which are laid end to end are
 -- one history.
-use Rattle.std.proofs.Common.{◌≡◌, ◌≢◌, ◌↔◌, ◌⊎◌, inl, inr, ℕ, zero, suc, ◌+◌, ◌<◌, ◌≤◌, List, [], ◌∷◌, ◌++◌, length, Option, None, Some, refl, sym, ap, ◌∙◌, subst, arith, length-append}
+use Rattle.std.proofs.Common.{◌≡◌, ◌≢◌, ◌↔◌, ◌⊎◌, inl, inr, ℕ, zero, suc, ◌+◌, ◌<◌, ◌≤◌, List, [], ◌∷◌, ◌++◌, length, Option, None, Some, refl, sym, ap, ◌∙◌, subst, arith, append_assoc, append-nil, length-append}
 use Rattle.std.specs.Prelude.{Bool, true, false, not, IsTrue, is_some, slice_get}
 use Rattle.std.proofs.lemmas.Option.{slice_get_within}
 use Rattle.std.proofs.lemmas.Bool.{cases_lt}
 use Rattle.lw_node.specs.Node.{NodeContent, fresh}
 use Rattle.lw_held.specs.declared.entry.Entry.{Entry}
-use Rattle.lw_held.specs.Agree.{IsFirstBreak, IsSettled, end_of, Covers, IsEntryAt, journal_of, IsVolumeOf, IsPiece, IsLinked, IsCoveredOnce, AreLinked, IsLaid, IsFineIn}
+use Rattle.lw_held.specs.Agree.{HasVolume, IsFirstBreak, IsSettledWith, end_of, Covers, IsEntryAt, journal_of, IsVolumeOf, IsPiece, IsLinked, IsCoveredOnce, AreLinked, IsLaid, IsFineIn}
 use Rattle.lw_held.specs.History.{HeldContent, VolumeContent, IsLegal, IsVolume, Leads}
 use Rattle.lw_held.specs.inner.Looks.{IsEndOf, IsFirstFrom, IsTurn, TurnIsLaid, lesser_of}
 use Rattle.lw_held.specs.Transcript.{Transcript}
@@ -186,6 +186,25 @@ some_length : (entries : List Entry) → entries ≢ [] → 1 ≤ length entries
 some_length [] some = absurd (some refl)
 some_length (e ∷ entries) some = omega arith
 
+last_place : (volume : VolumeContent) → 1 ≤ length volume.entries → (m : ℕ) × (end_of volume ≡ m + 1)
+last_place volume some = go (end_of volume) refl
+  where
+    go : (n : ℕ) → end_of volume ≡ n → (m : ℕ) × (end_of volume ≡ m + 1)
+    go zero is = absurd (omega (arith, is, some))
+    go (suc m) is = (m, (let so : end_of volume ≡ m + 1 = omega (arith, is) in so))
+
+-- a history that has a volume has it still where it goes on
+has_more : (node : ℕ) (journal more : List Entry) (mid last : NodeContent) (volume : VolumeContent) → HasVolume node journal mid volume → Leads mid more last → HasVolume node (journal ++ more) last volume
+has_more node journal more mid last volume has leads = record {
+  before = has.before;
+  behind = has.behind ++ more;
+  journal_is = ap (λ (es : List Entry). es ++ more) has.journal_is ∙ append_assoc (has.before ++ volume.entries) has.behind more;
+  first_is = has.first_is;
+  opens = has.opens;
+  leads = has.leads;
+  closes = follow volume.closing mid last has.behind more has.closes leads;
+}
+
 module _ (node : ℕ) (volumes : List VolumeContent) (held : HeldContent) (passes : List Transcript) (fine : (p : ℕ) → IsFineIn node volumes held passes p) (legal : (i : ℕ) (volume : VolumeContent) → slice_get volumes i ≡ Some volume → IsVolume volume) where
   -- the volumes up to a place as one list, and the node that they lead to
   record Upto (p : ℕ) : Type 0 where
@@ -194,6 +213,7 @@ module _ (node : ℕ) (volumes : List VolumeContent) (held : HeldContent) (passe
     many : length entries ≡ p
     leads : Leads (fresh node) entries last
     are : (q : ℕ) (e : Entry) → slice_get entries q ≡ Some e → (i : ℕ) × (volume : VolumeContent) × IsVolumeOf node volumes i volume × IsEntryAt volume.first volume.entries q e
+    has : (i : ℕ) (volume : VolumeContent) → IsVolumeOf node volumes i volume → end_of volume ≤ p → HasVolume node entries last volume
     ends : ((p ≡ 0) × (last ≡ fresh node)) ⊎ ((i : ℕ) × (volume : VolumeContent) × IsVolumeOf node volumes i volume × (end_of volume ≡ p) × (last ≡ volume.closing))
 
   -- what has the place begins there
@@ -230,6 +250,30 @@ module _ (node : ℕ) (volumes : List VolumeContent) (held : HeldContent) (passe
         | inr ended ↦ link.goes_on ended.0 ended.1 ended.2 (ended.3 ∙ sym at) ∙ sym ended.4
       ]
 
+  -- with the volume that begins there the list has each volume that ends by then
+  one_has : (p : ℕ) (upto : Upto p) (i : ℕ) (volume : VolumeContent) → IsVolumeOf node volumes i volume → volume.first ≡ p → volume.opening ≡ upto.last
+      → (j : ℕ) (other : VolumeContent) → IsVolumeOf node volumes j other → end_of other ≤ end_of volume → HasVolume node (upto.entries ++ volume.entries) volume.closing other
+  one_has p upto i volume is at opening j other own end =
+      let own_leads = (legal i volume is.0).1 in
+      elim (cases_lt p (end_of other)) [
+        | inr before ↦ has_more node upto.entries volume.entries upto.last volume.closing other (upto.has j other own (omega (arith, before))) (subst (λ (n : NodeContent). Leads n volume.entries volume.closing) opening own_leads)
+        | inl past ↦
+            let some = some_length other.entries (legal j other own.0).0 in
+            let q : (m : ℕ) × (end_of other ≡ m + 1) = last_place other some in
+            let next = q.1 in
+            let same = (fine q.0).laid.0.single i j volume other is own (omega (arith, at, next, past), omega (arith, next, end)) (omega (arith, next, some), omega (arith, next)) in
+            let one : other ≡ volume = same_some other volume _ own.0 (subst (λ k. slice_get volumes k ≡ Some volume) same is.0) in
+            subst (HasVolume node (upto.entries ++ volume.entries) volume.closing) (sym one) (record {
+              before = upto.entries;
+              behind = [];
+              journal_is = sym (append-nil (upto.entries ++ volume.entries));
+              first_is = at ∙ sym upto.many;
+              opens = subst (Leads (fresh node) upto.entries) (sym opening) upto.leads;
+              leads = own_leads;
+              closes = refl;
+            })
+      ]
+
   one_more : (p : ℕ) → Upto p → (i : ℕ) (volume : VolumeContent) → IsVolumeOf node volumes i volume → Covers volume p → Upto (end_of volume)
   one_more p upto i volume is c =
       let at = begins_here p upto i volume is c in
@@ -245,8 +289,17 @@ module _ (node : ℕ) (volumes : List VolumeContent) (held : HeldContent) (passe
           | inl first ↦ upto.are q e first
           | inr after ↦ let k = after.1 in (i, volume, is, (after.0, (let so : q ≡ volume.first + after.0 = omega (arith, k, many, at) in so), after.2))
         ];
+        has = one_has p upto i volume is at opening;
         ends = inr (i, volume, is, refl, refl);
       }
+
+  ends_below : (i : ℕ) (volume : VolumeContent) → IsVolumeOf node volumes i volume → end_of volume ≤ held.first
+  ends_below i volume is =
+      let some = some_length volume.entries (legal i volume is.0).0 in
+      let q : (m : ℕ) × (end_of volume ≡ m + 1) = last_place volume some in
+      let next = q.1 in
+      let below = (fine q.0).laid.0.behind i volume is (omega (arith, next, some), omega (arith, next)) in
+      omega (arith, next, below)
 
   goes : (fuel p : ℕ) → held.first ≤ p + fuel → p ≤ held.first → Upto p → Upto held.first
   goes zero p enough upto led = subst Upto (let is : p ≡ held.first = omega (arith, enough, upto) in is) led
@@ -258,41 +311,30 @@ module _ (node : ℕ) (volumes : List VolumeContent) (held : HeldContent) (passe
         let end : end_of found.1 ≤ held.first = ends_below found.0 found.1 found.2 in
         goes fuel (end_of found.1) (omega (arith, enough, high)) end (one_more p led found.0 found.1 found.2 found.3)
   ]
-    where
-      ends_below : (i : ℕ) (volume : VolumeContent) → IsVolumeOf node volumes i volume → end_of volume ≤ held.first
-      ends_below i volume is =
-          let some = some_length volume.entries (legal i volume is.0).0 in
-          let q : (m : ℕ) × (end_of volume ≡ m + 1) = last_place volume some in
-          let next = q.1 in
-          let below = (fine q.0).laid.0.behind i volume is (omega (arith, next, some), omega (arith, next)) in
-          omega (arith, next, below)
-        where
-          last_place : (volume : VolumeContent) → 1 ≤ length volume.entries → (m : ℕ) × (end_of volume ≡ m + 1)
-          last_place volume some = go (end_of volume) refl
-            where
-              go : (n : ℕ) → end_of volume ≡ n → (m : ℕ) × (end_of volume ≡ m + 1)
-              go zero is = absurd (omega (arith, is, some))
-              go (suc m) is = (m, (let so : end_of volume ≡ m + 1 = omega (arith, is) in so))
 
-  pub one_history : IsLegal held → IsSettled node passes
+  pub one_history : IsLegal held → IsSettledWith node volumes passes
   one_history own =
-      let begun : Upto 0 = record { entries = []; last = fresh node; many = refl; leads = refl; are = λ q e there. absurd (let bad : ◌≡◌ {A = Option Entry} None (Some e) = there in cc); ends = inl (refl, refl) } in
+      let begun : Upto 0 = record { entries = []; last = fresh node; many = refl; leads = refl; are = λ q e there. absurd (let bad : ◌≡◌ {A = Option Entry} None (Some e) = there in cc); has = λ i volume is none. absurd (let some = some_length volume.entries (legal i volume is.0).0 in omega (arith, some, none)); ends = inl (refl, refl) } in
       let upto = goes held.first 0 (omega arith) (omega arith) begun in
       let opening : held.opening ≡ upto.last = goes_on held.first upto None (journal_of held) refl refl in
       let long = length-append upto.entries held.journal in
       let many = upto.many in
+      let own_leads = subst (λ (n : NodeContent). Leads n held.journal held.node) opening own.0 in
       record {
-        journal = upto.entries ++ held.journal;
-        last = held.node;
-        legal = follow (fresh node) upto.last held.node upto.entries held.journal upto.leads (subst (λ (n : NodeContent). Leads n held.journal held.node) opening own);
-        fine = λ p. record {
-          held = λ e there. elim (there_or_after upto.entries held.journal p e there) [
-            | inl first ↦ let f = upto.are p e first in (fine p).told (Some f.0) f.1 e f.2 f.3
-            | inr after ↦ let k = after.1 in (fine p).told None (journal_of held) e refl (after.0, (let so : p ≡ held.first + after.0 = omega (arith, k, many) in so), after.2)
-          ];
-          alone = (fine p).alone;
-          within = λ i k pass part is of. let w = (fine p).within i k pass part is of in inside p w.0 w.1 w.2 w.3 (length (upto.entries ++ held.journal)) (omega (arith, long, many));
+        settled = record {
+          journal = upto.entries ++ held.journal;
+          last = held.node;
+          legal = follow (fresh node) upto.last held.node upto.entries held.journal upto.leads own_leads;
+          fine = λ p. record {
+            held = λ e there. elim (there_or_after upto.entries held.journal p e there) [
+              | inl first ↦ let f = upto.are p e first in (fine p).told (Some f.0) f.1 e f.2 f.3
+              | inr after ↦ let k = after.1 in (fine p).told None (journal_of held) e refl (after.0, (let so : p ≡ held.first + after.0 = omega (arith, k, many) in so), after.2)
+            ];
+            alone = (fine p).alone;
+            within = λ i k pass part is of. let w = (fine p).within i k pass part is of in inside p w.0 w.1 w.2 w.3 (length (upto.entries ++ held.journal)) (omega (arith, long, many));
+          };
         };
+        has = λ i volume is. has_more node upto.entries held.journal upto.last held.node volume (upto.has i volume is (ends_below i volume is)) own_leads;
       }
     where
       inside : (p : ℕ) (w : Option ℕ) (piece : VolumeContent) → IsPiece node volumes held w piece → Covers piece p → (n : ℕ) → n ≡ held.first + length held.journal → p < n

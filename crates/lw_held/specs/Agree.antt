@@ -1,5 +1,5 @@
 -- When the transcripts of passes are a journal, and the volumes that were cut off it.
-use Rattle.std.specs.Prelude.{◌≡◌, ℕ, ◌+◌, ◌<◌, ◌≤◌, List, length, Option, Some, None, slice_get, ◌⊎◌}
+use Rattle.std.specs.Prelude.{◌≡◌, ℕ, ◌+◌, ◌<◌, ◌≤◌, List, ◌++◌, length, Option, Some, None, slice_get, ◌⊎◌}
 use Rattle.lw_node.specs.Node.{NodeContent, fresh}
 use Rattle.lw_held.specs.declared.entry.Entry.{Entry}
 use Rattle.lw_held.specs.declared.entry.Part.{Part}
@@ -77,6 +77,22 @@ journal_of held = record { first = held.first; opening = held.opening; entries =
 -- the volume at place i is one of the node
 abbrev pub IsVolumeOf : ℕ → List VolumeContent → ℕ → VolumeContent → Type 0
 IsVolumeOf node volumes i volume = (slice_get volumes i ≡ Some volume) × (volume.opening.number ≡ node)
+
+-- The history has the volume: some entries before it lead from a new node to its opening, its entries are next, from its
+-- first place on, and some entries behind lead on from its closing.
+pub record HasVolume (node : ℕ) (journal : List Entry) (last : NodeContent) (volume : VolumeContent) : Type 0 where
+  pub before : List Entry
+  pub behind : List Entry
+  pub journal_is : journal ≡ before ++ volume.entries ++ behind
+  pub first_is : volume.first ≡ length before
+  pub opens : Leads (fresh node) before volume.opening
+  pub leads : Leads volume.opening volume.entries volume.closing
+  pub closes : Leads volume.closing behind last
+
+-- The passes are settled, and the history has each volume of the node.
+pub record IsSettledWith (node : ℕ) (volumes : List VolumeContent) (passes : List Transcript) : Type 0 where
+  pub settled : IsSettled node passes
+  pub has : (i : ℕ) (volume : VolumeContent) → IsVolumeOf node volumes i volume → HasVolume node settled.journal settled.last volume
 
 -- the pieces of the node's entries: its journal, and the volumes that are of the node
 abbrev pub IsPiece : ℕ → List VolumeContent → HeldContent → Option ℕ → VolumeContent → Type 0

@@ -2,7 +2,7 @@
 use Rattle.std.specs.Prelude.{◌≡◌, ◌≢◌, ℕ, ◌+◌, List, [], ◌∷◌, ◌++◌, length}
 use Rattle.lw_call.specs.declared.call.Call.{Call}
 use Rattle.lw_call.specs.declared.reply.Reply.{Reply}
-use Rattle.lw_node.specs.Node.{NodeContent, Known, IsKnown, marks_in}
+use Rattle.lw_node.specs.Node.{NodeContent, Known, IsKnown, fresh, marks_in}
 use Rattle.lw_node.specs.Steps.{Steps}
 use Rattle.lw_held.specs.declared.entry.Entry.{Entry}
 
@@ -23,9 +23,13 @@ pub record HeldContent : Type 0 where
   pub first : ℕ
   pub journal : List Entry
 
--- the journal is a legal history from the opening, and the node is where it leads
+-- what begins at the place 0 has a new node as its opening
+abbrev pub IsBegun : ℕ → NodeContent → Type 0
+IsBegun first opening = first ≡ 0 → opening ≡ fresh opening.number
+
+-- the journal is a legal history from the opening, and the node is where it leads; the first opening is a new node
 abbrev pub IsLegal : HeldContent → Type 0
-IsLegal held = Leads held.opening held.journal held.node
+IsLegal held = Leads held.opening held.journal held.node × IsBegun held.first held.opening
 
 -- entries that were cut off: the place of the first, the node before it, and the node after the last
 pub record VolumeContent : Type 0 where
@@ -34,9 +38,9 @@ pub record VolumeContent : Type 0 where
   pub entries : List Entry
   pub closing : NodeContent
 
--- there are entries, and they are a legal history from the opening to the closing
+-- there are entries, and they are a legal history from the opening to the closing; the first opening is a new node
 abbrev pub IsVolume : VolumeContent → Type 0
-IsVolume volume = (volume.entries ≢ []) × Leads volume.opening volume.entries volume.closing
+IsVolume volume = (volume.entries ≢ []) × Leads volume.opening volume.entries volume.closing × IsBegun volume.first volume.opening
 
 -- The journal is cut off: it stands in the volume, the opening is the node as it stands, and places go on.
 pub record Cuts (old : HeldContent) (volume : VolumeContent) (new : HeldContent) : Type 0 where

@@ -93,3 +93,7 @@ abbrev pub HistoriesAreOfMarks : Type 0
 HistoriesAreOfMarks =
     (opening : Marked) (entries : List Entry) (node : NodeContent) → NamesAll (among opening.marks)
     → Leads (node_of opening) entries node ↔ IsHistoryFrom opening entries node
+
+-- Each node knows just some marks, which name each registration that they are about: so each opening is one.
+abbrev pub NodesAreOfMarks : Type 0
+NodesAreOfMarks = (node : NodeContent) → (known : Marked) × NamesAll (among known.marks) × (node ≡ node_of known)

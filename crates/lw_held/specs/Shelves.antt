@@ -4,7 +4,7 @@ use Rattle.lw_call.specs.declared.call.Call.{Call}
 use Rattle.lw_held.specs.declared.entry.Entry.{Entry}
 use Rattle.lw_held.specs.declared.shelf.Shelf.{Shelf}
 use Rattle.lw_held.specs.declared.shelf.Unsettled.{Unsettled}
-use Rattle.lw_held.specs.Agree.{Fails, IsSettled}
+use Rattle.lw_held.specs.Agree.{Fails, IsSettledWith}
 use Rattle.lw_held.specs.History.{HeldContent, VolumeContent, IsLegal, Enters, Cuts}
 use Rattle.lw_held.specs.Transcript.{Transcript, with_part}
 
@@ -33,9 +33,9 @@ IsCutOff volume = (old : HeldContent) × (new : HeldContent) × IsLegal old × C
 abbrev pub HaveShelves : List Shelf → List VolumeContent → Type 0
 HaveShelves shelves volumes = (i : ℕ) (volume : VolumeContent) → slice_get volumes i ≡ Some volume → (k : ℕ) × (shelf : Shelf) × (slice_get shelves k ≡ Some shelf) × (shelf.number ≡ volume.opening.number)
 
--- the passes' parts are legal histories of the nodes of the shelves
-abbrev pub AreSettled : List Shelf → List Transcript → Type 0
-AreSettled shelves passes = (i : ℕ) (shelf : Shelf) → slice_get shelves i ≡ Some shelf → IsSettled shelf.number passes
+-- the passes' parts are legal histories of the nodes of the shelves, which have the volumes
+abbrev pub AreSettled : List Shelf → List VolumeContent → List Transcript → Type 0
+AreSettled shelves volumes passes = (i : ℕ) (shelf : Shelf) → slice_get shelves i ≡ Some shelf → IsSettledWith shelf.number volumes passes
 
 -- Some node with a legal history, taken for that of the number, fails at the place beside the volumes. A node of another
 -- number fails at place 0, whatever the passes are: so at place 0 this says nothing of the journal.
@@ -44,11 +44,11 @@ FailsAt node volumes passes place = (held : HeldContent) × IsLegal held × Fail
 
 -- The node that is named is that of a shelf, and some node with a legal history, taken for it, fails at the place, which
 -- says nothing of the journal where the place is 0. The passes' parts are legal histories of the nodes of all shelves
--- before it.
+-- before it, which have the volumes.
 pub record IsUnsettled (shelves : List Shelf) (volumes : List VolumeContent) (passes : List Transcript) (unsettled : Unsettled) : Type 0 where
   pub i : ℕ
   pub shelf : Shelf
   pub is : slice_get shelves i ≡ Some shelf
   pub node_is : unsettled.node ≡ shelf.number
-  pub before : (j : ℕ) (earlier : Shelf) → j < i → slice_get shelves j ≡ Some earlier → IsSettled earlier.number passes
+  pub before : (j : ℕ) (earlier : Shelf) → j < i → slice_get shelves j ≡ Some earlier → IsSettledWith earlier.number volumes passes
   pub fails : FailsAt unsettled.node volumes passes unsettled.place

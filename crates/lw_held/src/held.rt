@@ -15,7 +15,7 @@ use std::mem;
 const MOST_PLACES: u64 = u64::MAX / 2;
 
 /// A node, and the journal of its calls since an opening, a node as it stood before the first of them: the journal is a
-/// legal history from the opening, and the node is where it leads.
+/// legal history from the opening, and the node is where it leads. Before the first call of all that is a new node.
 #[derive(Drop)]
 pub struct Held {
     alloc: Global,
@@ -37,11 +37,12 @@ impl Model for Held {
     ghost coded = { Prim.hlevel (codes, node_code) };
 
     ghost use Rattle.std.specs.Prelude.{◌≡◌, ◌<◌, ◌^◌};
-    ghost use Rattle.lw_held.specs.History.{Leads};
+    ghost use Rattle.lw_held.specs.History.{IsBegun, Leads};
 
     ghost view = { λ h. record { node = h.node; opening = h.opening; first = h.first; journal = h.journal.items } };
 
-    ghost invariant = { λ h. (h.number ≡ h.node.number) × Leads h.opening h.journal.items h.node × (h.first < 2 ^ 63) };
+    ghost invariant = { λ h. (h.number ≡ h.node.number) × Leads h.opening h.journal.items h.node × (h.first < 2 ^ 63)
+        × IsBegun h.first h.opening };
 }
 
 impl Held {
@@ -62,7 +63,8 @@ impl Held {
         }
     }
 
-    /// Does nothing: its contract says that the journal is a legal history from the opening to the node.
+    /// Does nothing: its contract says that the journal is a legal history from the opening to the node, and the first
+    /// opening a new node.
     pub fn legal(&self)
         ensures { IsLegal self.now }
     {

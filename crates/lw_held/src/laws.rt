@@ -2,12 +2,18 @@
 
 ghost use Rattle.lw_held.specs.Joint.{JointHistoriesRun};
 ghost use Rattle.lw_held.specs.Laws.{HistoriesFollow, OwnOrder};
-ghost use Rattle.lw_held.specs.Marked.{HistoriesAreOfMarks};
+ghost use Rattle.lw_held.specs.Marked.{HistoriesAreOfMarks, NodesAreOfMarks};
 
 /// The histories from an opening are those over its clock and the marks that reached it alone: each reply is that of
 /// what the entries before it left, and an operation, or a delta that is merged, adds its marks.
 pub fn of_marks()
     ensures { HistoriesAreOfMarks }
+{}
+
+/// Each node, and so the opening of each volume, is one that knows just some marks, which name each registration that
+/// they are about.
+pub fn nodes_are_of_marks()
+    ensures { NodesAreOfMarks }
 {}
 
 /// A history that begins where another ends goes on with it.

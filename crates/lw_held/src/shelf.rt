@@ -2,7 +2,7 @@
 
 ghost use Rattle.std.specs.Prelude.{◌≡◌, ◌≤◌, ℕ, slice_get, vec_len, Some, IfErr, IfOk, IfSome, OnOk, OnErr};
 ghost use Rattle.lw_held.specs.History.{IsVolume, VolumeContent};
-ghost use Rattle.lw_held.specs.Agree.{AreDistinct, IsSettled};
+ghost use Rattle.lw_held.specs.Agree.{AreDistinct, IsSettledWith};
 ghost use Rattle.lw_held.specs.Shelves.{AreInOrder, AreNew, AreSettled, FailsAt, GivesPart, HaveShelves, IsCutOff, IsUnsettled};
 
 use crate::gate::Gate;
@@ -91,7 +91,7 @@ impl Shelf {
     /// Whether the passes' parts for the node are the node's volumes and the journal behind the lock.
     fn agrees<R: Wait>(&self, rt: &R, volumes: &[Volume], passes: &[Pass]) -> Result<(), u64>
         requires { AreDistinct passes.now }
-        ensures settled { OnOk result (IsSettled self.now.number passes.now) }
+        ensures settled { OnOk result (IsSettledWith self.now.number volumes.now passes.now) }
         ensures fails { IfErr result (λ place. FailsAt self.now.number volumes.now passes.now place) }
     {
         are_legal(volumes);
@@ -135,7 +135,7 @@ pub fn settle<R: Wait>(
     requires shelves { AreInOrder shelves.now }
     requires volumes { HaveShelves shelves.now volumes.now }
     requires passes { AreDistinct passes.now }
-    ensures settled { OnOk result (AreSettled shelves.now passes.now) }
+    ensures settled { OnOk result (AreSettled shelves.now volumes.now passes.now) }
     ensures unsettled { IfErr result (λ unsettled. IsUnsettled shelves.now volumes.now passes.now unsettled) }
 {
     for shelf in shelves {

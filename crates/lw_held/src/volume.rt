@@ -5,7 +5,7 @@ use lw_node::Node;
 use std::marker::Model;
 
 /// Entries that were cut off a journal, with the node as it stood before the first of them and after the last: they are
-/// a legal history from the one to the other. It cannot be copied.
+/// a legal history from the one to the other. Before the first entry of all the node is a new one. It cannot be copied.
 #[derive(Drop)]
 pub struct Volume {
     number: u16,
@@ -25,18 +25,18 @@ impl Model for Volume {
     ghost coded = { Prim.hlevel (codes, node_code) };
 
     ghost use Rattle.std.specs.Prelude.{◌≡◌, ◌≢◌, ◌<◌, ◌^◌, []};
-    ghost use Rattle.lw_held.specs.History.{Leads};
+    ghost use Rattle.lw_held.specs.History.{IsBegun, Leads};
 
     ghost view = { λ v.
         record { first = v.first; opening = v.opening; entries = v.entries.items; closing = v.closing } };
 
     ghost invariant = { λ v. (v.number ≡ v.opening.number) × (v.entries.items ≢ [])
-        × Leads v.opening v.entries.items v.closing × (v.first < 2 ^ 63) };
+        × Leads v.opening v.entries.items v.closing × (v.first < 2 ^ 63) × IsBegun v.first v.opening };
 }
 
 impl Volume {
     ghost use Rattle.lw_held.specs.Agree.{end_of};
-    ghost use Rattle.lw_held.specs.History.{Leads, IsVolume};
+    ghost use Rattle.lw_held.specs.History.{Leads, IsBegun, IsVolume};
 
     /// The volume of these entries, which lead from the opening, a node of the number, to the closing.
     pub(crate) fn new(
@@ -50,6 +50,7 @@ impl Volume {
         requires some { entries.items ≢ [] }
         requires legal { Leads opening entries.items closing }
         requires within { first < 2 ^ 63 }
+        requires begun { IsBegun first opening }
         ensures { result ≡ record { first = first; opening = opening; entries = entries.items; closing = closing } }
     {
         Volume {
@@ -61,8 +62,8 @@ impl Volume {
         }
     }
 
-    /// Does nothing: its contract says that there are entries, and that they are a legal history from the opening to
-    /// the closing.
+    /// Does nothing: its contract says that there are entries, that they are a legal history from the opening to the
+    /// closing, and that the first opening is a new node.
     pub fn legal(&self)
         ensures { IsVolume self.now }
     {

@@ -1,5 +1,6 @@
 -- What ends a batch or a round ends the rounds, and what ends the rounds or the end of a run is a cause of its fault.
 use Rattle.lw_held.specs.declared.shelf.Shelf.{Shelf}
+use Rattle.lw_held.specs.History.{VolumeContent}
 use Rattle.lw_held.specs.Transcript.{Transcript}
 use Rattle.lw_crew.specs.declared.job.Job.{Job}
 use Rattle.std.proofs.Common.{◌≡◌, List, Result, Ok, Err, sym, subst}
@@ -26,30 +27,30 @@ round_ends (Unsettled node place) ends = absurd ends
 round_ends WriteFailed ends = absurd ends
 round_ends NoMemory ends = tt
 
-pub rounds_cause : (plan : Plan) (fault : ServeFault) → EndsRounds fault → HasCause plan fault
-rounds_cause plan ReceiveFailed ends = tt
-rounds_cause plan ClockRefused ends = tt
-rounds_cause plan (Crew fault) ends = tt
-rounds_cause plan (Unsettled node place) ends = absurd ends
-rounds_cause plan WriteFailed ends = absurd ends
-rounds_cause plan NoMemory ends = tt
+pub rounds_cause : (plan : Plan) (volumes : List VolumeContent) (fault : ServeFault) → EndsRounds fault → HasCause plan volumes fault
+rounds_cause plan volumes ReceiveFailed ends = tt
+rounds_cause plan volumes ClockRefused ends = tt
+rounds_cause plan volumes (Crew fault) ends = tt
+rounds_cause plan volumes (Unsettled node place) ends = absurd ends
+rounds_cause plan volumes WriteFailed ends = absurd ends
+rounds_cause plan volumes NoMemory ends = tt
 
-pub finish_cause : (plan : Plan) (shelves : List Shelf) (passes : List Transcript) (kept : List Job) (fault : ServeFault) → AreOver plan shelves passes kept → EndsFinish shelves passes kept fault → HasCause plan fault
-finish_cause plan shelves passes kept ReceiveFailed over ends = tt
-finish_cause plan shelves passes kept ClockRefused over ends = tt
-finish_cause plan shelves passes kept (Crew fault) over ends = tt
-finish_cause plan shelves passes kept (Unsettled node place) over ends = record { shelves = shelves; passes = passes; kept = kept; over = over; refused = ends }
-finish_cause plan shelves passes kept WriteFailed over ends = record { shelves = shelves; passes = passes; kept = kept; over = over; finished = ends }
-finish_cause plan shelves passes kept NoMemory over ends = tt
+pub finish_cause : (plan : Plan) (shelves : List Shelf) (volumes : List VolumeContent) (passes : List Transcript) (kept : List Job) (fault : ServeFault) → AreOver plan shelves passes kept → EndsFinish shelves volumes passes kept fault → HasCause plan volumes fault
+finish_cause plan shelves volumes passes kept ReceiveFailed over ends = tt
+finish_cause plan shelves volumes passes kept ClockRefused over ends = tt
+finish_cause plan shelves volumes passes kept (Crew fault) over ends = tt
+finish_cause plan shelves volumes passes kept (Unsettled node place) over ends = record { shelves = shelves; passes = passes; kept = kept; over = over; refused = ends }
+finish_cause plan shelves volumes passes kept WriteFailed over ends = record { shelves = shelves; passes = passes; kept = kept; over = over; finished = ends }
+finish_cause plan shelves volumes passes kept NoMemory over ends = tt
 
 -- the same of a result: what a run leaves at the end is what it was to leave
-pub finished : {A : Type 0} (plan : Plan) (shelves : List Shelf) (passes : List Transcript) (kept : List Job) (result : Result A ServeFault) → AreOver plan shelves passes kept → OnOk result (IsFinished shelves passes kept) → OnOk result (IsServed plan)
-finished plan shelves passes kept (Ok a) over done = record { shelves = shelves; passes = passes; kept = kept; over = over; finished = done }
-finished plan shelves passes kept (Err fault) over done = tt
+pub finished : {A : Type 0} (plan : Plan) (shelves : List Shelf) (volumes : List VolumeContent) (passes : List Transcript) (kept : List Job) (result : Result A ServeFault) → AreOver plan shelves passes kept → OnOk result (IsFinished shelves volumes passes kept) → OnOk result (IsServed plan volumes)
+finished plan shelves volumes passes kept (Ok a) over done = record { shelves = shelves; passes = passes; kept = kept; over = over; finished = done }
+finished plan shelves volumes passes kept (Err fault) over done = tt
 
-pub failed : {A : Type 0} (plan : Plan) (shelves : List Shelf) (passes : List Transcript) (kept : List Job) (result : Result A ServeFault) → AreOver plan shelves passes kept → IfErr result (EndsFinish shelves passes kept) → IfErr result (HasCause plan)
-failed plan shelves passes kept (Ok a) over ends = tt
-failed plan shelves passes kept (Err fault) over ends = finish_cause plan shelves passes kept fault over ends
+pub failed : {A : Type 0} (plan : Plan) (shelves : List Shelf) (volumes : List VolumeContent) (passes : List Transcript) (kept : List Job) (result : Result A ServeFault) → AreOver plan shelves passes kept → IfErr result (EndsFinish shelves volumes passes kept) → IfErr result (HasCause plan volumes)
+failed plan shelves volumes passes kept (Ok a) over ends = tt
+failed plan shelves volumes passes kept (Err fault) over ends = finish_cause plan shelves volumes passes kept fault over ends
 
 -- ---- results
 pub raised : {A : Type 0} (P : ServeFault → Type 0) (result : Result A ServeFault) {fault : ServeFault} → IsErrAnd result (λ y. y ≡ fault) → P fault → IfErr result P
@@ -60,6 +61,15 @@ pub always : {A : Type 0} {P : Type 0} (result : Result A ServeFault) → P → 
 always (Ok a) p = p
 always (Err fault) p = tt
 
-pub only_write : {A : Type 0} (shelves : List Shelf) (passes : List Transcript) (kept : List Job) (result : Result A ServeFault) → IsOkUnless result WriteFailed → IsFinished shelves passes kept → IfErr result (EndsFinish shelves passes kept)
-only_write shelves passes kept (Ok a) unless done = tt
-only_write shelves passes kept (Err fault) unless done = subst (EndsFinish shelves passes kept) (sym unless) done
+pub only_write : {A : Type 0} (shelves : List Shelf) (volumes : List VolumeContent) (passes : List Transcript) (kept : List Job) (result : Result A ServeFault) → IsOkUnless result WriteFailed → IsFinished shelves volumes passes kept → IfErr result (EndsFinish shelves volumes passes kept)
+only_write shelves volumes passes kept (Ok a) unless done = tt
+only_write shelves volumes passes kept (Err fault) unless done = subst (EndsFinish shelves volumes passes kept) (sym unless) done
+
+-- what is so of these volumes is so of some
+pub some_served : {A : Type 0} (P : List VolumeContent → Type 0) (volumes : List VolumeContent) (result : Result A ServeFault) → OnOk result (P volumes) → OnOk result ((those : List VolumeContent) × P those)
+some_served P volumes (Ok a) is = (volumes, is)
+some_served P volumes (Err fault) is = tt
+
+pub some_cause : {A : Type 0} (P : List VolumeContent → ServeFault → Type 0) (volumes : List VolumeContent) (result : Result A ServeFault) → IfErr result (P volumes) → IfErr result (λ fault. (those : List VolumeContent) × P those fault)
+some_cause P volumes (Ok a) is = tt
+some_cause P volumes (Err fault) is = (volumes, is)

@@ -57,41 +57,42 @@ pub record AreOver (plan : Plan) (shelves : List Shelf) (passes : List Transcrip
   pub reached : IsReached plan shelves rounds (record { left = 0; passes = passes; kept = kept; since = since })
 
 -- ---- the end
--- The kept merges are done, and the passes are then settled.
-pub record IsFinished (shelves : List Shelf) (passes : List Transcript) (kept : List Job) : Type 0 where
+-- The kept merges are done, and the passes are then settled with the volumes.
+pub record IsFinished (shelves : List Shelf) (volumes : List VolumeContent) (passes : List Transcript) (kept : List Job) : Type 0 where
   pub last : List Transcript
   pub dones : List Done
   pub served : Serves shelves passes last kept dones
-  pub settled : AreSettled shelves last
+  pub settled : AreSettled shelves volumes last
 
--- The kept merges are done, and the passes are then not settled beside some volumes, first at the node and place that are
--- told.
-pub record IsRefused (shelves : List Shelf) (passes : List Transcript) (kept : List Job) (told : Unsettled) : Type 0 where
+-- The kept merges are done, and some node with a legal history, of the number that is told, is then with the volumes not
+-- what the passes say, first at the place that is told.
+pub record IsRefused (shelves : List Shelf) (volumes : List VolumeContent) (passes : List Transcript) (kept : List Job) (told : Unsettled) : Type 0 where
   pub last : List Transcript
   pub dones : List Done
   pub served : Serves shelves passes last kept dones
-  pub volumes : List VolumeContent
   pub unsettled : IsUnsettled shelves volumes last told
 
--- The plan was served whole: its rounds are over, and the passes that served them are settled with their nodes.
-pub record IsServed (plan : Plan) : Type 0 where
+-- The plan was served whole: its rounds are over, and the passes that served them are settled with the volumes.
+pub record IsServed (plan : Plan) (volumes : List VolumeContent) : Type 0 where
   pub shelves : List Shelf
   pub passes : List Transcript
   pub kept : List Job
   pub over : AreOver plan shelves passes kept
-  pub finished : IsFinished shelves passes kept
+  pub finished : IsFinished shelves volumes passes kept
 
--- The rounds of the plan are over, and the passes that served them are not settled with their nodes.
-pub record IsUnserved (plan : Plan) (told : Unsettled) : Type 0 where
+-- The rounds of the plan are over, and some node with a legal history is, with the volumes, not what the passes that
+-- served them say.
+pub record IsUnserved (plan : Plan) (volumes : List VolumeContent) (told : Unsettled) : Type 0 where
   pub shelves : List Shelf
   pub passes : List Transcript
   pub kept : List Job
   pub over : AreOver plan shelves passes kept
-  pub refused : IsRefused shelves passes kept told
+  pub refused : IsRefused shelves volumes passes kept told
 
--- Why a run of the plan ended at a fault, where its passes tell: `Unsettled` where the passes that served the plan are
--- not settled, first at that node and place; `WriteFailed` where they are.
-abbrev pub HasCause : Plan → ServeFault → Type 0
-HasCause plan (faults.Unsettled node place) = IsUnserved plan (record { node = node; place = place })
-HasCause plan faults.WriteFailed = IsServed plan
-HasCause plan _ = Unit {0}
+-- Why a run of the plan ended at a fault, where its passes tell: `Unsettled` where some node with a legal history, of that
+-- number, is with the volumes not what the passes that served the plan say, first at that place; `WriteFailed` where the
+-- passes are settled with the volumes.
+abbrev pub HasCause : Plan → List VolumeContent → ServeFault → Type 0
+HasCause plan volumes (faults.Unsettled node place) = IsUnserved plan volumes (record { node = node; place = place })
+HasCause plan volumes faults.WriteFailed = IsServed plan volumes
+HasCause plan volumes _ = Unit {0}

@@ -18,6 +18,7 @@ mod receiving;
 mod replying;
 mod server;
 mod serving;
+mod sink;
 mod udp;
 mod wire;
 
@@ -26,6 +27,7 @@ pub use fault::ServeFault;
 pub use lw_crew::CrewFault;
 pub use lw_reg::Addr;
 pub use plan::Plan;
-pub use serving::serve_on;
+pub use serving::{serve_into, serve_on};
+pub use sink::VolumeSink;
 pub use udp::UdpWire;
 pub use wire::{Wire, WireFault};

@@ -8,20 +8,20 @@ ghost use Rattle.lw_serve.specs.inner.Volumes.{AreOfNodes};
 
 use crate::cutting::cut_journals;
 use crate::plan::Plan;
-use lw_crew::{Crew, CrewFault, Done, Job};
-use lw_held::{NoGate, Pass, Settled, Shelf, Unsettled, Volume, set_up, settle};
+use crate::sink::VolumeSink;
+use lw_crew::{Crew, CrewFault, Done, Job, Sharing};
+use lw_held::{NoGate, Pass, Settled, Shelf, Unsettled, set_up, settle};
 use lw_stamp::NoMemory;
 use std::alloc::Global;
 use std::sync::Wait;
 use std::thread::Threads;
 
-/// Nodes behind locks, the workers that call them, with their passes, and what was cut off the journals.
+/// Nodes behind locks, and the workers that call them, with their passes.
 #[derive(Drop)]
 pub(crate) struct Nodes {
     crew: Crew,
     shelves: Vec<Shelf>,
     passes: Vec<Pass>,
-    volumes: Vec<Volume>,
     /// Of each node whether its journal is still to be cut.
     due: Vec<bool>,
     ghost nodes_in_range: { AreNodes (vec_len shelves) },
@@ -30,22 +30,20 @@ pub(crate) struct Nodes {
     ghost distinct: { AreDistinct passes.items },
     ghost numbered: { AreNumbered passes.items },
     ghost each_due: { vec_len due ≡ vec_len shelves },
-    ghost of_nodes: { AreOfNodes (length shelves.items) volumes.items },
 }
 
 impl Nodes {
     /// Nodes and passes that no call was made with.
-    #[tactic(auto, using(crate::proofs::Numbering::numbered_new, crate::proofs::Keeping::none_kept))]
+    #[tactic(auto, using(crate::proofs::Numbering::numbered_new))]
     pub(crate) fn new(alloc: Global, plan: &Plan) -> Result<Nodes, NoMemory>
         ensures shelves { IfOk result (λ nodes. vec_len nodes.shelves ≡ plan.now.nodes) }
         ensures passes { IfOk result (λ nodes. (vec_len nodes.passes ≡ plan.now.workers) × AreNew nodes.passes.items) }
     {
         let (shelves, passes) = set_up(alloc, plan.nodes, plan.workers)?;
         Ok(Nodes {
-            crew: Crew::new(),
+            crew: Crew::new(Sharing::ByWork),
             shelves,
             passes,
-            volumes: Vec::new(alloc),
             due: vec![in alloc; false; plan.nodes as usize]?,
         })
     }
@@ -81,7 +79,6 @@ impl Nodes {
             mut crew,
             shelves,
             passes,
-            volumes,
             due,
         } = self;
         let (passes, result) = crew.serve_jobs(rt, alloc, &shelves, passes, jobs, &NoGate);
@@ -90,41 +87,46 @@ impl Nodes {
             crew,
             shelves,
             passes,
-            volumes,
             due,
         };
         Ok((nodes, dones))
     }
 
-    /// Cuts all journals, or those that are still to be cut, and keeps the volumes. A cut that is refused is to be
-    /// tried again.
-    pub(crate) fn cut<R: Wait>(self, rt: &R, all: bool) -> Nodes
+    /// Cuts all journals, or those that are still to be cut, and hands the volumes to the sink. A cut that is refused is
+    /// to be tried again.
+    pub(crate) fn cut<R: Wait, S: VolumeSink>(self, rt: &R, all: bool, sink: &mut S) -> Nodes
+        requires { AreOfNodes (length self.shelves.items) (S.kept sink.old) }
         ensures shelves { result.shelves ≡ self.shelves }
         ensures passes { result.passes ≡ self.passes }
+        ensures kept { AreOfNodes (length self.shelves.items) (S.kept sink.new) }
     {
         let Nodes {
             crew,
             shelves,
             passes,
-            mut volumes,
             mut due,
         } = self;
-        cut_journals(rt, &shelves, all, &mut due, &mut volumes);
+        cut_journals(rt, &shelves, all, &mut due, sink);
         Nodes {
             crew,
             shelves,
             passes,
-            volumes,
             due,
         }
     }
 
-    /// Compares the transcripts of the passes with the volumes and the journals of the nodes.
-    pub(crate) fn settle<R: Wait>(&self, rt: &R) -> Result<Settled, Unsettled>
-        ensures settled { OnOk result (AreSettled self.now.shelves.items self.now.passes.items) }
+    /// Compares the transcripts of the passes with the volumes of the sink and the journals of the nodes.
+    pub(crate) fn settle<R: Wait, S: VolumeSink>(
+        &self,
+        rt: &R,
+        sink: &S,
+    ) -> Result<Settled, Unsettled>
+        requires { AreOfNodes (length self.now.shelves.items) (S.kept sink.now) }
+        ensures settled { OnOk result
+            (AreSettled self.now.shelves.items (S.kept sink.now) self.now.passes.items) }
         ensures unsettled { IfErr result
-            (IsUnsettled self.now.shelves.items self.now.volumes.items self.now.passes.items) }
+            (IsUnsettled self.now.shelves.items (S.kept sink.now) self.now.passes.items) }
     {
-        settle(rt, &self.shelves, &self.volumes, &self.passes)
+        settle(rt, &self.shelves, sink.volumes(), &self.passes)
     }
 }

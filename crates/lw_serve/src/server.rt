@@ -1,9 +1,10 @@
-ghost use Rattle.std.specs.Prelude.{◌≡◌, vec_len, IfErr, IfOk, OnOk};
+ghost use Rattle.std.specs.Prelude.{◌≡◌, length, vec_len, IfErr, IfOk, OnOk};
 ghost use Rattle.std.specs.Io.KnownBytes.{Appends};
 ghost use Rattle.lw_serve.specs.Ending.{settled_line, IsStopped};
 ghost use Rattle.lw_serve.specs.Rounds.{IsRound};
 ghost use Rattle.lw_serve.specs.Runs.{IsBegun, IsFinished};
 ghost use Rattle.lw_serve.specs.inner.Runs.{EndsFinish, EndsRound};
+ghost use Rattle.lw_serve.specs.inner.Volumes.{AreOfNodes};
 
 use crate::ending::write_settled;
 use crate::fault::ServeFault;
@@ -13,6 +14,7 @@ use crate::outcomes::{changes_after, put_all_merges, refused_merges};
 use crate::plan::Plan;
 use crate::receiving::Datagram;
 use crate::replying::send_replies;
+use crate::sink::VolumeSink;
 use crate::wire::Wire;
 use log::Log;
 use lw_crew::Job;
@@ -81,8 +83,10 @@ impl Server {
         Ok(Server { nodes, kept, since })
     }
 
-    /// Cuts all journals, or those whose last cut was refused.
-    pub(crate) fn cut<R: Wait>(self, rt: &R, all: bool) -> Server
+    /// Cuts all journals, or those whose last cut was refused, and hands the volumes to the sink.
+    pub(crate) fn cut<R: Wait, S: VolumeSink>(self, rt: &R, all: bool, sink: &mut S) -> Server
+        requires { AreOfNodes (length self.nodes.shelves.items) (S.kept sink.old) }
+        ensures volumes { AreOfNodes (length self.nodes.shelves.items) (S.kept sink.new) }
         ensures shelves { result.nodes.shelves ≡ self.nodes.shelves }
         ensures passes { result.nodes.passes ≡ self.nodes.passes }
         ensures kept { result.kept ≡ self.kept }
@@ -90,28 +94,32 @@ impl Server {
     {
         let Server { nodes, kept, since } = self;
         Server {
-            nodes: nodes.cut(rt, all),
+            nodes: nodes.cut(rt, all, sink),
             kept,
             since,
         }
     }
 
-    /// Has the last merges done, and writes `settled` where the volumes and the journals are then what the transcripts
-    /// say.
-    pub(crate) fn finish<R: Threads + Wait + Sync, O: Write>(
+    /// Has the last merges done, and writes `settled` where the sink's volumes and the journals are then what the
+    /// transcripts say.
+    pub(crate) fn finish<R: Threads + Wait + Sync, S: VolumeSink, O: Write>(
         self,
         rt: &R,
         alloc: Global,
+        sink: &S,
         writer: &mut O,
     ) -> Result<(), ServeFault>
-        ensures finished { OnOk result (IsFinished self.nodes.shelves.items self.nodes.passes.items self.kept.items) }
+        requires { AreOfNodes (length self.nodes.shelves.items) (S.kept sink.now) }
+        ensures finished { OnOk result
+            (IsFinished self.nodes.shelves.items (S.kept sink.now) self.nodes.passes.items self.kept.items) }
         ensures settled { OnOk result (Appends (O.contents writer.old) (O.contents writer.new) settled_line) }
         ensures stopped { IfErr result (λ fault. IsStopped fault (O.contents writer.old) (O.contents writer.new)) }
-        ensures fault { IfErr result (EndsFinish self.nodes.shelves.items self.nodes.passes.items self.kept.items) }
+        ensures fault { IfErr result
+            (EndsFinish self.nodes.shelves.items (S.kept sink.now) self.nodes.passes.items self.kept.items) }
     {
         let Server { nodes, kept, .. } = self;
         let (nodes, _dones) = nodes.serve(rt, alloc, &kept)?;
-        nodes.settle(rt)?;
+        nodes.settle(rt, sink)?;
         write_settled(writer)
     }
 }

@@ -8,7 +8,7 @@ ghost use Rattle.std.specs.Prelude.{◌≤◌};
 use crate::calls::{REGISTER, reply_text, take};
 use crate::held::steps::settle_alone;
 use crate::hold::{holds, is_text, same};
-use lw_crew::{Crew, CrewFault, Done, Gate, Job, JobOutcome, NoGate, Pass, Shelf, gather};
+use lw_crew::{Crew, CrewFault, Done, Gate, Job, JobOutcome, NoGate, Pass, Sharing, Shelf, gather};
 use lw_held::{Part, Settled, Unsettled, set_up};
 use std::alloc::{AllocError, Global};
 use std::sync::Wait;
@@ -57,7 +57,7 @@ fn done_by<R: Threads + Wait + Sync, G: Gate>(
     requires { (1 ≤ nodes) × (nodes ≤ 16) × (1 ≤ workers) × (workers ≤ 8) }
 {
     let (shelves, passes) = set_up(alloc, nodes, workers)?;
-    let mut crew = Crew::new();
+    let mut crew = Crew::new(Sharing::ByNode);
     let (passes, result) = crew.serve_jobs(rt, alloc, &shelves, passes, jobs, gate);
     let settled = settle_alone(rt, &shelves, &passes);
     told(alloc, &passes, &result, settled)

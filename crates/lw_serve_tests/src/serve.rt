@@ -1,5 +1,7 @@
 mod cutting;
+mod keeping;
 mod moments;
+mod refused;
 mod rounds;
 mod sweeping;
 mod udp;

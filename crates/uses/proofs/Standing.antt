@@ -5,6 +5,7 @@ use Rattle.std.proofs.lemmas.Option.{slice_get_cases}
 use Rattle.lw_held.specs.declared.entry.Part.{Part}
 use Rattle.lw_held.specs.declared.shelf.Shelf.{Shelf}
 use Rattle.lw_held.specs.Agree.{IsPart, IsSettled}
+use Rattle.lw_held.specs.History.{VolumeContent}
 use Rattle.lw_held.specs.Shelves.{AreSettled}
 use Rattle.lw_held.specs.Transcript.{Transcript}
 use Rattle.lw_held.proofs.Agreement.{same_some}
@@ -27,7 +28,7 @@ part_stands node passes settled i k pass part is of =
       | inr w ↦ absurd (let past = w.0 in omega (arith, past, within))
     ]
 
-pub all_stand : (shelves : List Shelf) (passes : List Transcript) → AreSettled shelves passes → AllStand shelves passes
-all_stand shelves passes settled i shelf at =
-    let s = settled i shelf at in
+pub all_stand : (shelves : List Shelf) (volumes : List VolumeContent) (passes : List Transcript) → AreSettled shelves volumes passes → AllStand shelves passes
+all_stand shelves volumes passes settled i shelf at =
+    let s = (settled i shelf at).settled in
     record { journal = s.journal; last = s.last; legal = s.legal; each = part_stands shelf.number passes s }

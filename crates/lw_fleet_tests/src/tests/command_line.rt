@@ -158,7 +158,7 @@ Options:
       --count <K>    Datagrams that are served before the end, 1 to 1000000
       --port <P>     UDP port, 0 to 65535 [default: 5683]
       --nodes <N>    Nodes, which share the clients by their ports, 1 to 16 [default: 2]
-      --workers <W>  Worker threads, 1 to 8 [default: 2]
+      --workers <W>  Worker threads at most, 1 to 8 [default: 2]
       --cut <C>      Rounds after which the journals are cut, 1 to 1000000 [default: never]
   -h, --help         Print help
 |",

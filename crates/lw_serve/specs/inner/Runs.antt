@@ -2,6 +2,7 @@
 use Rattle.std.specs.Prelude.{List}
 use Rattle.lw_held.specs.declared.shelf.Shelf.{Shelf}
 use Rattle.lw_held.specs.declared.shelf.Unsettled.{Unsettled}
+use Rattle.lw_held.specs.History.{VolumeContent}
 use Rattle.lw_held.specs.Transcript.{Transcript}
 use Rattle.lw_crew.specs.declared.job.Job.{Job}
 use Rattle.lw_serve.specs.declared.fault.ServeFault.{ServeFault}
@@ -27,10 +28,10 @@ EndsRounds (faults.Unsettled node place) = ⊥
 EndsRounds faults.WriteFailed = ⊥
 EndsRounds _ = Unit {0}
 
--- what may end a run whose rounds are over: a fault of the crew; passes that are not settled; or a writer that fails,
--- and then they are
-abbrev pub EndsFinish : List Shelf → List Transcript → List Job → ServeFault → Type 0
-EndsFinish shelves passes kept (faults.Crew fault) = Unit {0}
-EndsFinish shelves passes kept (faults.Unsettled node place) = IsRefused shelves passes kept (record { node = node; place = place })
-EndsFinish shelves passes kept faults.WriteFailed = IsFinished shelves passes kept
-EndsFinish shelves passes kept _ = ⊥
+-- what may end a run whose rounds are over: a fault of the crew; a node that is not what the passes say; or a writer that
+-- fails, and then the passes are settled
+abbrev pub EndsFinish : List Shelf → List VolumeContent → List Transcript → List Job → ServeFault → Type 0
+EndsFinish shelves volumes passes kept (faults.Crew fault) = Unit {0}
+EndsFinish shelves volumes passes kept (faults.Unsettled node place) = IsRefused shelves volumes passes kept (record { node = node; place = place })
+EndsFinish shelves volumes passes kept faults.WriteFailed = IsFinished shelves volumes passes kept
+EndsFinish shelves volumes passes kept _ = ⊥

@@ -1,6 +1,9 @@
 //! What a gate is told, and when.
 
 use super::*;
+use lw_node::{Bytes, Call};
+use lw_reg::Addr;
+use lw_stamp::Moment;
 use std::sync::atomic::{AtomicU64, Ordering};
 use std::thread;
 use std::time::{Clock, Duration};
@@ -169,7 +172,7 @@ fn counted<R: Threads + Wait + Sync, C: Clock + Sync>(
 ) -> Result<String, Fail> {
     let jobs = registers(alloc, &[1, 2, 3, 1, 2, 3, 1, 2, 3])?;
     let (shelves, passes) = set_up(alloc, 3, 3)?;
-    let mut crew = Crew::new();
+    let mut crew = Crew::new(Sharing::ByNode);
     let (_passes, result) = crew.serve_jobs(rt, alloc, &shelves, passes, &jobs, gate);
     match result {
         Ok(dones) => Ok(format!(in alloc; "{:?}", gate.counts(&dones))?),
@@ -286,4 +289,56 @@ fn jobs_at_one_node_are_done_on_one_thread(rt: HostRuntime) -> Result<(), Fail> 
         "all settle",
         lines.ends_with("\n3 passes, 3 parts, Ok(Settled)"),
     )
+}
+
+/// A Take of 8,192 bytes that are no message.
+fn long_at(alloc: Global, node: u16) -> Result<Job, Fail> {
+    let call = Call::Take {
+        now: Moment::START,
+        from: Addr::V4 {
+            address: [127, 0, 0, 1],
+            port: 5683,
+        },
+        bytes: Bytes::from_vec(vec![in alloc; 0x41; 8_192]?)?,
+    };
+    Ok(Job { node, call })
+}
+
+/// How many of the jobs at two nodes are done by the second of two workers who share them so. Each takes a while.
+fn done_by_the_second<R: Threads + Wait + Sync, C: Clock + Sync>(
+    rt: &R,
+    clock: &C,
+    alloc: Global,
+    sharing: Sharing,
+    jobs: &[Job],
+) -> Result<u64, Fail> {
+    let gate = Lingers {
+        clock,
+        others: Count::new(),
+    };
+    let (shelves, passes) = set_up(alloc, 2, 2)?;
+    let mut crew = Crew::new(sharing);
+    let (_passes, result) = crew.serve_jobs(rt, alloc, &shelves, passes, jobs, &gate);
+    let others = gate.others.get();
+    drop(gate);
+    match result {
+        Ok(_) => Ok(others),
+        Err(_) => Err("results".into()),
+    }
+}
+
+/// Tries: Crew::new, Crew::serve_jobs
+#[test]
+fn short_jobs_at_two_nodes_are_shared_by_node_alone(rt: HostRuntime) -> Result<(), Fail> {
+    let alloc = rt.alloc();
+    let short = registers(alloc, &[1, 2, 1, 2])?;
+    let by_work = done_by_the_second(&rt, &rt, alloc, Sharing::ByWork, &short)?;
+    holds("short jobs on one thread", by_work == 0)?;
+    let by_node = done_by_the_second(&rt, &rt, alloc, Sharing::ByNode, &short)?;
+    holds("short jobs on two threads", by_node > 0)?;
+    let mut long = Vec::new(alloc);
+    long.push(long_at(alloc, 1)?)?;
+    long.push(long_at(alloc, 2)?)?;
+    let of_long = done_by_the_second(&rt, &rt, alloc, Sharing::ByWork, &long)?;
+    holds("long jobs on two threads", of_long > 0)
 }

@@ -103,7 +103,7 @@ fn do_at_once<R: Threads + Wait + Sync, G: Gate>(
     gate: &G,
 ) -> Result<(), Fail> {
     let (shelves, passes) = set_up(alloc, 2, 2)?;
-    let mut crew = Crew::new();
+    let mut crew = Crew::new(Sharing::ByNode);
     let (mut passes, result) = crew.serve_jobs(rt, alloc, &shelves, passes, jobs, gate);
     are_registered(rt, alloc, &shelves, &mut passes, &result)
 }

@@ -477,7 +477,7 @@ fn have_shelves(shelves: &[Shelf], volumes: &[Volume]) -> bool
 }
 
 /// Whether the transcripts of the passes are the volumes and the journals. Each volume has to be of a shelf's node.
-fn settle_with<R: Wait>(
+pub(super) fn settle_with<R: Wait>(
     rt: &R,
     shelves: &[Shelf],
     volumes: &[Volume],

@@ -1,7 +1,8 @@
-//! The largest that a node with its journal takes, sends and merges.
+//! The largest that a node with its journal takes, sends and merges, and a long journal.
 
 use super::entries::enters_all;
 use super::settling::take_turns;
+use super::volumes::{alone, cut};
 use super::*;
 use crate::calls::CREATED;
 
@@ -95,4 +96,37 @@ fn is_merged<R: Wait>(rt: &R, alloc: Global, texts: &[String]) -> Result<(), Fai
 fn the_longest_register_is_sent_and_merged(rt: HostRuntime) -> Result<(), Fail> {
     let texts = texts(rt.alloc())?;
     is_merged(&rt, rt.alloc(), &texts)
+}
+
+/// Asks the node so many times, the first of them at the place.
+fn asks(alloc: Global, held: &mut Held, first: u64, count: u64) -> Result<(), Fail> {
+    for number in 0..count {
+        let place = alone(alloc, held, 1, number, ByEndpoint("a"))?;
+        holds("the place", place == first.saturating_add(number))?;
+    }
+    Ok(())
+}
+
+/// What is cut off begins at the place and has so many entries.
+fn cuts_many(held: &mut Held, first: u64, count: usize) -> Result<(), Fail> {
+    let volume = cut(held)?;
+    let is_such = volume.first() == first && volume.entries().len() == count;
+    drop(volume);
+    holds("what is cut off", is_such)
+}
+
+fn asks_and_cuts(alloc: Global, held: &mut Held) -> Result<(), Fail> {
+    asks(alloc, held, 0, 2_000)?;
+    cuts_many(held, 0, 2_000)?;
+    asks(alloc, held, 2_000, 3)?;
+    cuts_many(held, 2_000, 3)
+}
+
+/// Tries: Held::step, Held::cut
+#[test]
+fn a_journal_of_2000_entries_is_cut(rt: HostRuntime) -> Result<(), Fail> {
+    let mut held = Held::new(rt.alloc(), 1);
+    let cut = asks_and_cuts(rt.alloc(), &mut held);
+    drop(held);
+    cut
 }

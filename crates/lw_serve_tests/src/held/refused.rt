@@ -1,5 +1,9 @@
 //! What a node knows after a call that is refused memory, and what the same call then gives. The same of a cut.
 
+ghost use Rattle.lw_held.specs.Agree.{AreDistinct};
+ghost use Rattle.lw_held.specs.Shelves.{AreInOrder};
+
+use super::cutting::settle_with;
 use super::volumes::{Wanted, cut, cuts_nothing, enters, is_volume};
 use super::*;
 use crate::calls::{CREATED, wants_memory};
@@ -194,4 +198,68 @@ fn a_refused_growth_of_a_cut_leaves_the_journal(rt: HostRuntime) -> Result<(), F
     let cut = cuts_in_two_tries(rt.alloc(), &mut held);
     drop(held);
     cut
+}
+
+/// What is cut off the journal of the shelf. Where the cut is refused, it is made again.
+fn cut_of_shelf<R: Wait>(rt: &R, shelf: &Shelf) -> Result<Volume, Fail> {
+    match shelf.cut(rt) {
+        Ok(Some(volume)) => Ok(volume),
+        Ok(None) => Err("a volume".into()),
+        Err(NoMemory) => cut_of_shelf_again(rt, shelf),
+    }
+}
+
+fn cut_of_shelf_again<R: Wait>(rt: &R, shelf: &Shelf) -> Result<Volume, Fail> {
+    match shelf.cut(rt) {
+        Ok(Some(volume)) => Ok(volume),
+        Ok(None) => Err("a volume".into()),
+        Err(NoMemory) => Err(NoMemory.into()),
+    }
+}
+
+/// Keeps what is cut off the journal of the shelf, which begins at the place and has so many entries.
+fn keeps_cut<R: Wait>(
+    rt: &R,
+    shelf: &Shelf,
+    volumes: &mut Vec<Volume>,
+    first: u64,
+    count: usize,
+) -> Result<(), Fail> {
+    let volume = cut_of_shelf(rt, shelf)?;
+    let is_such = volume.first() == first && volume.entries().len() == count;
+    volumes.push(volume)?;
+    holds("what is cut off", is_such)
+}
+
+/// The node of the shelf makes two calls, which are cut off, and a third, which is cut off too; and it is settled.
+fn settles_after_cuts<R: Wait>(
+    rt: &R,
+    alloc: Global,
+    shelves: &[Shelf],
+    passes: &mut [Pass],
+    volumes: &mut Vec<Volume>,
+) -> Result<(), Fail>
+    requires shelves { AreInOrder shelves.now }
+    requires passes { AreDistinct passes.old }
+{
+    let Some(shelf) = shelves.first() else {
+        return Err("a shelf".into());
+    };
+    call(rt, alloc, shelf, passes, 0, Takes(REGISTER))?;
+    call(rt, alloc, shelf, passes, 0, Takes(REGISTER_B))?;
+    keeps_cut(rt, shelf, volumes, 0, 2)?;
+    call(rt, alloc, shelf, passes, 0, Sweeps(86_400_000))?;
+    keeps_cut(rt, shelf, volumes, 2, 1)?;
+    let settled = settle_with(rt, shelves, volumes, passes);
+    holds("settled", settled == Ok(Settled))
+}
+
+/// Tries: Shelf::cut, settle
+#[test]
+fn a_refused_cut_of_a_shelf_settles(rt: HostRuntime) -> Result<(), Fail> {
+    let (shelves, mut passes) = set_up(rt.alloc(), 1, 1)?;
+    let mut volumes = Vec::new(rt.alloc());
+    let settles = settles_after_cuts(&rt, rt.alloc(), &shelves, &mut passes, &mut volumes);
+    drop(volumes);
+    settles
 }

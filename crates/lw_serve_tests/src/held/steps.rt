@@ -71,7 +71,7 @@ pub(crate) fn call<R: Wait>(
     drop(made);
     match placed {
         Ok(place) => Ok(place),
-        Err(NoMemory) => Err("no memory".into()),
+        Err(NoMemory) => Err(NoMemory.into()),
     }
 }
 

@@ -226,6 +226,15 @@ fn a_node_updates_what_another_registered(rt: HostRuntime) -> Result<(), Fail> {
     run_two(&rt, rt.alloc(), &datagrams, Coming::Alone, UPDATED)
 }
 
+/// Tries: serve_on
+#[test]
+fn sixteen_nodes_serve_three_rounds(rt: HostRuntime) -> Result<(), Fail> {
+    let arrivals = [alone(PING), alone(PING), alone(PING)];
+    let mut wire = MemoryWire::new(rt.alloc(), &arrivals);
+    let ran = run(&rt, &mut wire, 3, 16, 2)?;
+    same(ran.as_str(), "Ok(()) 3 0 0 0\nsettled\n")
+}
+
 /// Eighty datagrams that are there at once, of which every second has a reply.
 fn many<'a>(alloc: Global, ping: &'a [u8], nothing: &'a [u8]) -> Result<Vec<Arrival<'a>>, Fail> {
     let mut arrivals = Vec::new(alloc);

@@ -7,11 +7,11 @@ use Rattle.lw_serve.specs.inner.Volumes.{AreOfNodes}
 pub returns-then-node-number : goal.returns-then-node-number
 returns-then-node-number g c =
     let count = length c.args.shelves.now in
-    let kept = subst (AreOfNodes count) (sym c.reserve.ensures.items) c.requires.kept in
+    let kept = subst (AreOfNodes count) (sym c.make_room.ensures.kept) c.requires.kept in
     let shelf = slice_get_read _ _ _ _ refl c.requires.within c.index-shelves-place.is in
     let own : c.in-Ok-Some.volume.opening.number ≡ c.index-shelves-place.result.number = sym c.node.ensures ∙ c.if-node-number.true ∙ c.number.ensures in
-    one_kept count c.reserve.new.self.items c.push_reserved.new.self.items c.in-Ok-Some.volume kept c.push_reserved.ensures.items
+    one_kept count (g.S.VolumeSink.kept c.make_room.new.self) (g.S.VolumeSink.kept c.keep.new.self) c.in-Ok-Some.volume kept c.keep.ensures
     (subst (λ n. (1 ≤ n) × (n ≤ count)) (sym own) (shelf_number c.args.shelves.now c.args.place c.index-shelves-place.result c.requires.in_order shelf))
 
 pub returns-else-node-number : goal.returns-else-node-number
-returns-else-node-number g c = subst (AreOfNodes (length c.args.shelves.now)) (sym c.reserve.ensures.items) c.requires.kept
+returns-else-node-number g c = subst (AreOfNodes (length c.args.shelves.now)) (sym c.make_room.ensures.kept) c.requires.kept

@@ -1,12 +1,9 @@
-use Rattle.lw_serve.specs.Runs.{HasCause}
-use Rattle.lw_serve.proofs.Causes.{failed, finished, raised, rounds_cause}
+use Rattle.lw_serve.specs.Runs.{HasCause, IsServed}
+use Rattle.lw_serve.proofs.Causes.{some_cause, some_served}
 use Rattle.lw_serve.proofs.serving.serve_on.Goals as goal
 
-pub returns-in_err-server-clause-cause : goal.returns-in_err-server-clause-cause
-returns-in_err-server-clause-cause g c = raised (HasCause c.args.plan.now) c.from_residual.result c.from_residual.ensures.1 (rounds_cause _ _ c.in_err-server.ensures.fault)
-
 pub returns-clause-served : goal.returns-clause-served
-returns-clause-served g c = finished _ _ _ _ _ c.in_ok-server.ensures.over c.finish.ensures.finished
+returns-clause-served g c = some_served (IsServed c.args.plan.now) c.serve_into.new.sink.volumes.items c.serve_into.result c.serve_into.ensures.served
 
 pub returns-clause-cause : goal.returns-clause-cause
-returns-clause-cause g c = failed _ _ _ _ _ c.in_ok-server.ensures.over c.finish.ensures.fault
+returns-clause-cause g c = some_cause (HasCause c.args.plan.now) c.serve_into.new.sink.volumes.items c.serve_into.result c.serve_into.ensures.cause

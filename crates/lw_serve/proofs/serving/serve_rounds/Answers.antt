@@ -1,11 +1,23 @@
-use Rattle.std.proofs.Common.{◌≡◌, ◌∙◌, ◌-◌, suc, refl, sym, arith}
+use Rattle.std.proofs.Common.{◌≡◌, ◌∙◌, ◌-◌, suc, length, refl, sym, subst, arith}
 use Rattle.lw_serve.specs.inner.Runs.{EndsRounds}
+use Rattle.lw_serve.specs.inner.Volumes.{AreOfNodes}
 use Rattle.lw_serve.proofs.Causes.{raised, receiving_ends, round_ends}
+use Rattle.lw_serve.proofs.Keeping.{none_kept}
 use Rattle.lw_serve.proofs.Reaching.{one_more, over_at}
 use Rattle.lw_serve.proofs.serving.serve_rounds.Goals as goal
 
 pub loop-left-init : goal.loop-left-init
-loop-left-init g c = record { nodes = c.in_ok-server.ensures.shelves; rounds = 0; reached = c.in_ok-server.ensures.begun }
+loop-left-init g c =
+    let count = length c.in_ok-server.server.nodes.shelves.items in
+    record {
+      nodes = c.in_ok-server.ensures.shelves;
+      volumes = subst (AreOfNodes count) (sym c.requires) (none_kept count);
+      rounds = 0;
+      reached = c.in_ok-server.ensures.begun;
+    }
+
+pub cut-server-requires : goal.cut-server-requires
+cut-server-requires g c = rw c.in_ok-served.ensures.shelves c.loop-left.invariant.volumes
 
 pub returns-in_err-batch-clause-fault : goal.returns-in_err-batch-clause-fault
 returns-in_err-batch-clause-fault g c = raised EndsRounds c.from_residual-in_err-batch.result c.from_residual-in_err-batch.ensures.1 (receiving_ends _ c.in_err-batch.ensures.fault)
@@ -23,6 +35,7 @@ loop-left-preserved g c =
     let counted = c.in_ok-batch.batch.ok.0 in
     record {
       nodes = rw c.cut-server.ensures.shelves (rw c.in_ok-served.ensures.shelves c.loop-left.invariant.nodes);
+      volumes = rw c.cut-server.ensures.shelves c.cut-server.ensures.volumes;
       rounds = suc c.loop-left.invariant.rounds;
       reached = one_more c.args.plan.now old.nodes.shelves.items new.nodes.shelves.items c.loop-left.invariant.rounds
           (record { left = c.loop-left.left; passes = old.nodes.passes.items; kept = old.kept.items; since = old.since.items })

@@ -33,4 +33,4 @@ join-first-requires-send-F g c κs within =
     param_send 1 (arg-0-1 g.row.R g.R.laws g.R.Threads-dict g.R.Wait-dict κs) (arg_send _ no (row captured) s)
 
 pub returns-clause-stand : goal.returns-clause-stand
-returns-clause-stand g c = all_stand c.args.shelves.now (c.join-first.result.0 ∷ c.join-first.result.1 ∷ []) c.in_ok-settle.ensures.settled
+returns-clause-stand g c = all_stand c.args.shelves.now _ (c.join-first.result.0 ∷ c.join-first.result.1 ∷ []) c.in_ok-settle.ensures.settled

@@ -6,6 +6,6 @@ use Rattle.lw_serve.proofs.nodes.Nodes.settle.Goals as goal
 pub settle-requires-clause-volumes : goal.settle-requires-clause-volumes
 settle-requires-clause-volumes g c =
     let nodes = c.args.self.now in
-    subst (HaveShelves c.deref.result.now) (sym c.deref-2.ensures.value)
-    (subst (λ shelves. HaveShelves shelves nodes.volumes.items) (sym c.deref.ensures.value)
-    (have_shelves nodes.shelves.items nodes.volumes.items nodes.in_order nodes.of_nodes))
+    subst (HaveShelves c.deref.result.now) (sym c.volumes.ensures)
+    (subst (λ shelves. HaveShelves shelves (g.S.VolumeSink.kept c.args.sink.now)) (sym c.deref.ensures.value)
+    (have_shelves nodes.shelves.items (g.S.VolumeSink.kept c.args.sink.now) nodes.in_order c.requires))
