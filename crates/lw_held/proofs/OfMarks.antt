@@ -14,16 +14,14 @@ use Rattle.lw_reg.specs.OrderLaws.{text_order}
 use Rattle.lw_reg.specs.declared.slot.Slot.{Slot}
 use Rattle.lw_reg.specs.Slot.{slot_below}
 use Rattle.lw_reg.specs.SlotLaws.{slot_laws}
-use Rattle.lw_reg.specs.State.{State, state_join, state_below, state_of}
-use Rattle.lw_reg.specs.Marks.{NamesAll, among}
+use Rattle.lw_reg.specs.State.{State, state_below, state_of}
 use Rattle.lw_reg.proofs.Members.{none_there, first_there, more_there, there_or_first}
 use Rattle.lw_reg.proofs.States.{state_laws}
 use Rattle.lw_table.specs.inner.Since.{slots_at}
 use Rattle.lw_table.proofs.SinceLemmas.{slots_are}
 use Rattle.lw_node.specs.Exchange.{state_in}
-use Rattle.lw_node.specs.Node.{NodeContent}
 use Rattle.lw_node.proofs.Shown.{marks_shown, shown_names, shown_state}
-use Rattle.lw_held.specs.Marked.{Marked, node_of, NodesAreOfMarks}
+use Rattle.lw_held.specs.Marked.{NodesAreOfMarks}
 
 -- ---- as in lw_node's RestLemmas, where they are private
 one_below : (s : State) (e : List ℕ) (slot : Slot) → get s e ≡ Some slot → state_below (one_key e slot) s
@@ -68,7 +66,7 @@ any_there (k ∷ ks) e h = go (eq_by_cmp text_cmp e k) refl h (any_there ks e)
 key_there : (s : State) (e : List ℕ) (slot : Slot) → get s e ≡ Some slot → Contains (keys s) e
 key_there s e slot h = any_there (keys s) e (sym (contains_key-keys s e) ∙ ap is_some h)
 
-all_slots : State → List (List ℕ × Slot)
+abbrev all_slots : State → List (List ℕ × Slot)
 all_slots s = slots_at s (keys s)
 
 state_is : (s : State) → state_in (all_slots s) ≡ s

@@ -5,7 +5,11 @@ use Rattle.lw_held.specs.Transcript.{Transcript}
 use Rattle.lw_crew.specs.declared.job.Job.{Job}
 use Rattle.std.proofs.Common.{◌≡◌, List, Result, Ok, Err, sym, subst}
 use Rattle.std.specs.Prelude.{IfErr, IsErrAnd, IsOkUnless, OnOk}
-use Rattle.lw_serve.specs.Runs.{AreOver, HasCause, IsFinished, IsServed}
+use Rattle.lw_held.specs.declared.shelf.Unsettled.{Unsettled as Told}
+use Rattle.lw_held.specs.Shelves.{AreSettled, IsUnsettled}
+use Rattle.lw_crew.specs.declared.job.Done.{Done}
+use Rattle.lw_serve.specs.Rounds.{Serves}
+use Rattle.lw_serve.specs.Runs.{AreOver, HasCause, IsFinished, IsRefused, IsServed}
 use Rattle.lw_serve.specs.inner.Runs.{EndsFinish, EndsReceiving, EndsRound, EndsRounds}
 use Rattle.lw_serve.specs.declared.fault.ServeFault.{ServeFault}
 use Rattle.lw_serve.specs.declared.fault.ServeFault.TheVariants.{ReceiveFailed, ClockRefused, Crew, Unsettled, WriteFailed, NoMemory}
@@ -73,3 +77,21 @@ some_served P volumes (Err fault) is = tt
 pub some_cause : {A : Type 0} (P : List VolumeContent → ServeFault → Type 0) (volumes : List VolumeContent) (result : Result A ServeFault) → IfErr result (P volumes) → IfErr result (λ fault. (those : List VolumeContent) × P those fault)
 some_cause P volumes (Ok a) is = tt
 some_cause P volumes (Err fault) is = (volumes, is)
+
+-- ---- the end
+module _ (old new : List Shelf) (volumes : List VolumeContent) (before last : List Transcript) (kept jobs : List Job) (dones : List Done) (same : new ≡ old) (are : jobs ≡ kept) (served : Serves old before last jobs dones) where
+  pub is_finished : AreSettled new volumes last → IsFinished old volumes before kept
+  is_finished settled = record {
+    last = last;
+    dones = dones;
+    served = subst (λ (js : List Job). Serves old before last js dones) are served;
+    settled = subst (λ (shelves : List Shelf). AreSettled shelves volumes last) same settled;
+  }
+
+  pub is_refused : (told : Told) → IsUnsettled new volumes last told → IsRefused old volumes before kept told
+  is_refused told unsettled = record {
+    last = last;
+    dones = dones;
+    served = subst (λ (js : List Job). Serves old before last js dones) are served;
+    unsettled = subst (λ (shelves : List Shelf). IsUnsettled shelves volumes last told) same unsettled;
+  }

@@ -3,7 +3,6 @@ use Rattle.std.specs.Prelude.{ℕ, List, Option, None, option_map, Ok}
 use Rattle.lw_reg.specs.declared.addr.Addr.{Addr}
 use Rattle.lw_call.specs.declared.call.Call.{Call}
 use Rattle.lw_call.specs.declared.call.Call.TheVariants as calls
-use Rattle.lw_call.specs.declared.merge_fault.MergeFault.TheVariants as merging
 use Rattle.lw_call.specs.declared.reply.Reply.{Reply}
 use Rattle.lw_call.specs.declared.reply.Reply.TheVariants as replies
 use Rattle.lw_held.specs.declared.entry.Part.{Part}

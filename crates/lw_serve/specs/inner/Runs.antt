@@ -1,7 +1,6 @@
 -- How the parts of a run end.
 use Rattle.std.specs.Prelude.{List}
 use Rattle.lw_held.specs.declared.shelf.Shelf.{Shelf}
-use Rattle.lw_held.specs.declared.shelf.Unsettled.{Unsettled}
 use Rattle.lw_held.specs.History.{VolumeContent}
 use Rattle.lw_held.specs.Transcript.{Transcript}
 use Rattle.lw_crew.specs.declared.job.Job.{Job}
