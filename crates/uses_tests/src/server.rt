@@ -33,7 +33,7 @@ impl Server for Counting {
     }
 }
 
-fn counting() -> Counting {
+fn idle_server() -> Counting {
     Counting {
         sent: 0,
         told: 0,
@@ -65,7 +65,7 @@ fn in_ten_lines(
 #[test]
 fn ten_lines_do_it(rt: HostRuntime) -> Result<(), Fail> {
     let alloc = rt.alloc();
-    let mut server = counting();
+    let mut server = idle_server();
     let mut peer = Node::new(alloc, 8);
     let id = Stamp {
         counter: 1,
@@ -84,7 +84,7 @@ fn ten_lines_do_it(rt: HostRuntime) -> Result<(), Fail> {
 #[test]
 fn ten_lines_find_no_stranger(rt: HostRuntime) -> Result<(), Fail> {
     let alloc = rt.alloc();
-    let mut server = counting();
+    let mut server = idle_server();
     let mut peer = Node::new(alloc, 8);
     let refused = in_ten_lines(alloc, &mut server, &mut peer, FIRST)?;
     let stranger = Err(Fault::NotObserved(ObserveFault::NotFound));
