@@ -56,7 +56,7 @@ fn asked<R: Threads + Wait + Sync>(
     let shelf = shelves.first().ok_or("a shelf")?;
     let (call, asks) = (registering(alloc)?, question(alloc)?);
     match ask_from_threads(rt, shelves, shelf, (first, &call), (second, &asks)) {
-        Ok([first, second]) => Ok((first.len(), second.len())),
+        Ok(passes) => Ok((passes[0].len(), passes[1].len())),
         Err(_) => Err("settled".into()),
     }
 }
@@ -82,11 +82,22 @@ fn ask(alloc: Global, held: &mut Held, pass: &mut Pass) -> Result<(), Fail> {
     Ok(())
 }
 
+/// Whether the part is of a question by which a registration was found.
 fn has_found(part: &Part) -> bool {
-    matches!(
-        part.entry.reply,
-        Reply::Ask(Ok(Answer::Registration(Some(_))))
-    )
+    match &part.entry.reply {
+        Reply::Ask(answered) => match answered {
+            Ok(answer) => is_registration(answer),
+            Err(_) => false,
+        },
+        _ => false,
+    }
+}
+
+fn is_registration(answer: &Answer) -> bool {
+    match answer {
+        Answer::Registration(found) => found.is_some(),
+        _ => false,
+    }
 }
 
 /// The part is the first of the pass, and whether it is in the volume.
