@@ -44,7 +44,9 @@ fn is_updated(ended: Result<(), ServeFault>, sent: &[(u16, Vec<u8>)]) -> Result<
             let is_unknown = is_sent_to(sent, 56833, [0x60, 0x84]);
             holds("an update of what is known", !(is_created && is_unknown))
         }
-        Err(ServeFault::NoMemory | ServeFault::Crew(CrewFault::NoMemory)) => Err(NoMemory.into()),
+        // What is written is kept in memory.
+        Err(ServeFault::NoMemory | ServeFault::WriteFailed) => Err(NoMemory.into()),
+        Err(ServeFault::Crew(CrewFault::NoMemory)) => Err(NoMemory.into()),
         Err(fault) => Err(Fail::new(format_args!("{fault:?}"))),
     }
 }
