@@ -8,12 +8,12 @@ use Rattle.lw_call.specs.declared.reply.Reply.{Reply}
 use Rattle.lw_node.specs.Exchange.{Merges}
 use Rattle.lw_node.specs.Node.{NodeContent, fresh, marks_in, Leaves}
 use Rattle.lw_node.specs.Node.Known.{Shown}
-use Rattle.lw_node.specs.Steps.{at_node, Steps}
+use Rattle.lw_node.specs.Steps.{at_node, IsStep, Steps}
 use Rattle.lw_reg.specs.Marks.{Marks}
 use Rattle.lw_held.specs.declared.entry.Entry.{Entry}
-use Rattle.lw_held.specs.History.{IsBegun, IsStep, Leads}
+use Rattle.lw_held.specs.History.{IsBegun, Leads}
 use Rattle.lw_held.specs.Laws.{HistoriesFollow}
-use Rattle.lw_held.proofs.Carrying.{carried}
+use Rattle.lw_node.proofs.Carrying.{carried}
 
 -- ---- a step keeps the number
 module _ (old new : NodeContent) where

@@ -31,7 +31,7 @@ use Rattle.lw_world.proofs.Learning.{LeftSo, learn_or}
 use Rattle.lw_world.proofs.Making.{all_sound, delivers, happens_steps}
 use Rattle.lw_held.specs.declared.entry.Entry.{Entry}
 use Rattle.lw_held.specs.History.{Leads}
-use Rattle.lw_held.proofs.Carrying.{carried}
+use Rattle.lw_node.proofs.Carrying.{carried}
 use Rattle.lw_held.proofs.Marking.{histories_are_of_marks}
 use Rattle.lw_held.specs.Marked.{unmarked}
 use Rattle.lw_held.specs.Joint.{Turn, entries_of, AreOfRun, with_delta, IsPassedOn, ArePassedOn, IsToldAs, AreToldAs, JointHistoriesRun}

@@ -1,4 +1,3 @@
-pub mod Carrying
 pub mod Histories
 pub mod Agreement
 pub mod Lawful

@@ -23,7 +23,7 @@ use Rattle.lw_node.specs.Steps.{Steps as NodeSteps}
 use Rattle.lw_held.specs.declared.entry.Entry.{Entry}
 use Rattle.lw_held.specs.History.{Leads}
 use Rattle.lw_held.specs.Marked.{Marked, node_of, Adds, AddsOr, Brings, Merges, Steps, MarksLead, HistoriesAreOfMarks}
-use Rattle.lw_held.proofs.Carrying.{carried}
+use Rattle.lw_node.proofs.Carrying.{carried}
 use Rattle.lw_held.proofs.Stepping.{marks_lead}
 use Rattle.lw_node.proofs.Shown.{about_names, marks_shown, shown_names, shown_state, state_append, are_shown}
 

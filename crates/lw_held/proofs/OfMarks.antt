@@ -1,58 +1,24 @@
 -- Each node is one that knows just some marks, which name each registration that they are about.
-use Rattle.std.proofs.Common.{◌≡◌, ◌⊎◌, inl, inr, ℕ, Bool, true, false, cond, List, [], ◌∷◌, ◌||◌, Option, Some, None, refl, sym, ap, ◌∙◌, subst}
+use Rattle.std.proofs.Common.{◌≡◌, ℕ, Bool, true, false, List, [], ◌∷◌, ◌||◌, Option, Some, None, refl, sym, ap, ◌∙◌, subst}
 use Rattle.std.specs.Prelude.{Contains, is_some}
 use Rattle.std.specs.FinMap.{get, keys, contains_key-keys}
 use Rattle.std.specs.List.{list_any}
 use Rattle.std.specs.Ordering.{eq_by_cmp}
 use Rattle.std.proofs.lemmas.Map.Views.{tells_apart}
 use Rattle.lw_stamp.specs.TextOrder.{text_cmp}
-use Rattle.lw_join.specs.Maps.{one_key}
-use Rattle.lw_join.specs.OptionLaws.{option_laws}
 use Rattle.lw_join.specs.Options.{option_below}
-use Rattle.lw_join.proofs.MapLemmas.{get-one_key, get-own_key, empty_below}
 use Rattle.lw_reg.specs.OrderLaws.{text_order}
 use Rattle.lw_reg.specs.declared.slot.Slot.{Slot}
 use Rattle.lw_reg.specs.Slot.{slot_below}
-use Rattle.lw_reg.specs.SlotLaws.{slot_laws}
 use Rattle.lw_reg.specs.State.{State, state_below, state_of}
-use Rattle.lw_reg.proofs.Members.{none_there, first_there, more_there, there_or_first}
+use Rattle.lw_reg.proofs.Members.{first_there, more_there}
 use Rattle.lw_reg.proofs.States.{state_laws}
 use Rattle.lw_table.specs.inner.Since.{slots_at}
 use Rattle.lw_table.proofs.SinceLemmas.{slots_are}
 use Rattle.lw_node.specs.Exchange.{state_in}
+use Rattle.lw_node.proofs.RestLemmas.{slots_below, member_below}
 use Rattle.lw_node.proofs.Shown.{marks_shown, shown_names, shown_state}
 use Rattle.lw_held.specs.Marked.{NodesAreOfMarks}
-
--- ---- as in lw_node's RestLemmas, where they are private
-one_below : (s : State) (e : List ℕ) (slot : Slot) → get s e ≡ Some slot → state_below (one_key e slot) s
-one_below s e slot h k = subst (λ (o : Option Slot). option_below slot_below o (get s k)) (sym (get-one_key text_order e slot k)) (go (eq_by_cmp text_cmp k e) refl)
-  where
-    go : (b : Bool) → eq_by_cmp text_cmp k e ≡ b → option_below slot_below (cond b (Some slot) None) (get s k)
-    go true same = subst (λ (o : Option Slot). option_below slot_below (Some slot) o) (sym (ap (get s) (tells_apart text_order.exact k e same) ∙ h)) (slot_laws.reflexive slot)
-    go false same = tt
-
-slots_below : (slots : List (List ℕ × Slot)) (s : State) → ((e : List ℕ) (slot : Slot) → Contains slots (e, slot) → get s e ≡ Some slot) → state_below (state_in slots) s
-slots_below [] s at = empty_below text_order slot_laws s
-slots_below (x ∷ xs) s at =
-    state_laws.least (one_key x.0 x.1) (state_in xs) s
-    (one_below s x.0 x.1 (at x.0 x.1 (first_there x xs x refl)))
-    (slots_below xs s (λ e slot there. at e slot (more_there x xs (e, slot) there)))
-
-member_below : (slots : List (List ℕ × Slot)) (e : List ℕ) (slot : Slot) → Contains slots (e, slot) → option_below slot_below (Some slot) (get (state_in slots) e)
-member_below [] e slot there = none_there (e, slot) there
-member_below (x ∷ xs) e slot there = go (there_or_first x xs (e, slot) there) (member_below xs e slot)
-  where
-    joined : State
-    joined = state_in (x ∷ xs)
-
-    first : ◌≡◌ {A = List ℕ × Slot} (e, slot) x → option_below slot_below (Some slot) (get joined e)
-    first same =
-        let own : get (one_key {R = text_cmp} x.0 x.1) e ≡ Some slot = ap (λ (y : List ℕ × Slot). get (one_key {R = text_cmp} y.0 y.1) e) (sym same) ∙ get-own_key text_order e slot in
-        subst (λ (o : Option Slot). option_below slot_below o (get joined e)) own (state_laws.above_left (one_key x.0 x.1) (state_in xs) e)
-
-    go : (◌≡◌ {A = List ℕ × Slot} (e, slot) x) ⊎ Contains xs (e, slot) → (Contains xs (e, slot) → option_below slot_below (Some slot) (get (state_in xs) e)) → option_below slot_below (Some slot) (get joined e)
-    go (inl same) more = first same
-    go (inr later) more = (option_laws slot_laws).transitive (Some slot) (get (state_in xs) e) (get joined e) (more later) (state_laws.above_right (one_key x.0 x.1) (state_in xs) e)
 
 -- ---- the slots of a state
 any_there : (ks : List (List ℕ)) (e : List ℕ) → list_any (eq_by_cmp text_cmp e) ks ≡ true → Contains ks e

@@ -32,13 +32,13 @@ use Rattle.lw_node.specs.Exchange.{Merged, AreShown, state_in}
 use Rattle.lw_node.specs.Exchange.{Merges as NodeMerges}
 use Rattle.lw_node.specs.Node.{NodeContent, Leaves}
 use Rattle.lw_node.specs.Node.Known.{Shown, Told}
-use Rattle.lw_node.specs.Steps.{Steps as NodeSteps}
+use Rattle.lw_node.specs.Steps.{IsStep, Steps as NodeSteps}
 use Rattle.lw_world.proofs.Deciding.{Agree, told_agree, id_along, token_along, answers_along}
 use Rattle.lw_world.proofs.Freshness.{datagram_along, sweep_along}
 use Rattle.lw_held.specs.declared.entry.Entry.{Entry}
-use Rattle.lw_held.specs.History.{IsStep, Leads}
+use Rattle.lw_held.specs.History.{Leads}
 use Rattle.lw_held.specs.Marked.{Marked, node_of, Adds, AddsOr, Brings, Merges, at_marked, Steps, MarksLead}
-use Rattle.lw_held.proofs.Carrying.{carried}
+use Rattle.lw_node.proofs.Carrying.{carried}
 use Rattle.lw_node.proofs.Shown.{about_names, marks_shown, shown_names, shown_state, state_append, are_shown}
 
 -- ---- what the same state decides

@@ -1,14 +1,9 @@
 -- Histories of a node, what stands behind a lock, a node with its journal, and what is cut off a journal.
 use Rattle.std.specs.Prelude.{◌≡◌, ◌≢◌, ℕ, ◌+◌, List, [], ◌∷◌, ◌++◌, length}
 use Rattle.lw_call.specs.declared.call.Call.{Call}
-use Rattle.lw_call.specs.declared.reply.Reply.{Reply}
-use Rattle.lw_node.specs.Node.{NodeContent, Known, IsKnown, fresh, marks_in}
-use Rattle.lw_node.specs.Steps.{Steps}
+use Rattle.lw_node.specs.Node.{NodeContent, fresh}
+use Rattle.lw_node.specs.Steps.{IsStep}
 use Rattle.lw_held.specs.declared.entry.Entry.{Entry}
-
--- The node answers the call so and becomes the other, over every set of marks that its state is known from.
-abbrev pub IsStep : NodeContent → Call → Reply → NodeContent → Type 0
-IsStep old call reply new = (known : Known) → IsKnown old.table.state known → Steps old (marks_in old.table.state known) call reply new
 
 -- The entries are a legal history from one node to another: each reply is that of the node which the entries before left.
 abbrev pub Leads : NodeContent → List Entry → NodeContent → Type 0

@@ -4,7 +4,7 @@ use Rattle.lw_log.specs.Calls.{LogCall}
 use Rattle.lw_log.specs.Calls.LogCall.{Read, Wrote, Tried, Trimmed}
 use Rattle.lw_log.specs.Known.{IsSeen, SeenLeads, OwnAppendsLead}
 
-seen_before : (calls more : List LogCall) (e : List ℕ) → IsSeen e calls → IsSeen e (calls ++ more)
+pub seen_before : (calls more : List LogCall) (e : List ℕ) → IsSeen e calls → IsSeen e (calls ++ more)
 seen_before [] more e s = absurd s
 seen_before (Read after es ∷ calls) more e (inl h) = inl h
 seen_before (Read after es ∷ calls) more e (inr s) = inr (seen_before calls more e s)
@@ -13,7 +13,7 @@ seen_before (Wrote p ∷ calls) more e (inr s) = inr (seen_before calls more e s
 seen_before (Tried own ∷ calls) more e s = seen_before calls more e s
 seen_before (Trimmed upto ∷ calls) more e s = seen_before calls more e s
 
-seen_behind : (calls more : List LogCall) (e : List ℕ) → IsSeen e more → IsSeen e (calls ++ more)
+pub seen_behind : (calls more : List LogCall) (e : List ℕ) → IsSeen e more → IsSeen e (calls ++ more)
 seen_behind [] more e s = s
 seen_behind (Read after es ∷ calls) more e s = inr (seen_behind calls more e s)
 seen_behind (Wrote p ∷ calls) more e s = inr (seen_behind calls more e s)

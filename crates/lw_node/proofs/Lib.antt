@@ -20,3 +20,4 @@ pub mod StepLemmas
 pub mod Sweeping
 pub mod Shown
 pub mod Knowing
+pub mod Carrying

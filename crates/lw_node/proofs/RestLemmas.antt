@@ -22,21 +22,21 @@ use Rattle.lw_node.specs.Exchange.{state_in, DeltasBringTheRest}
 use Rattle.lw_node.proofs.Joining.{below_or_not}
 
 -- ---- slots below a state, and their members
-one_below : (s : State) (e : List ℕ) (slot : Slot) → get s e ≡ Some slot → state_below (one_key e slot) s
+pub one_below : (s : State) (e : List ℕ) (slot : Slot) → get s e ≡ Some slot → state_below (one_key e slot) s
 one_below s e slot h k = subst (λ (o : Option Slot). option_below slot_below o (get s k)) (sym (get-one_key text_order e slot k)) (go (eq_by_cmp text_cmp k e) refl)
   where
     go : (b : Bool) → eq_by_cmp text_cmp k e ≡ b → option_below slot_below (cond b (Some slot) None) (get s k)
     go true same = subst (λ (o : Option Slot). option_below slot_below (Some slot) o) (sym (ap (get s) (tells_apart text_order.exact k e same) ∙ h)) (slot_laws.reflexive slot)
     go false same = tt
 
-slots_below : (slots : List (List ℕ × Slot)) (s : State) → ((e : List ℕ) (slot : Slot) → Contains slots (e, slot) → get s e ≡ Some slot) → state_below (state_in slots) s
+pub slots_below : (slots : List (List ℕ × Slot)) (s : State) → ((e : List ℕ) (slot : Slot) → Contains slots (e, slot) → get s e ≡ Some slot) → state_below (state_in slots) s
 slots_below [] s at = empty_below text_order slot_laws s
 slots_below (x ∷ xs) s at =
     state_laws.least (one_key x.0 x.1) (state_in xs) s
     (one_below s x.0 x.1 (at x.0 x.1 (first_there x xs x refl)))
     (slots_below xs s (λ e slot there. at e slot (more_there x xs (e, slot) there)))
 
-member_below : (slots : List (List ℕ × Slot)) (e : List ℕ) (slot : Slot) → Contains slots (e, slot) → option_below slot_below (Some slot) (get (state_in slots) e)
+pub member_below : (slots : List (List ℕ × Slot)) (e : List ℕ) (slot : Slot) → Contains slots (e, slot) → option_below slot_below (Some slot) (get (state_in slots) e)
 member_below [] e slot there = none_there (e, slot) there
 member_below (x ∷ xs) e slot there = go (there_or_first x xs (e, slot) there) (member_below xs e slot)
   where
@@ -53,14 +53,14 @@ member_below (x ∷ xs) e slot there = go (there_or_first x xs (e, slot) there) 
     go (inr later) more = (option_laws slot_laws).transitive (Some slot) (get (state_in xs) e) (get joined e) (more later) (state_laws.above_right (one_key x.0 x.1) (state_in xs) e)
 
 -- ---- whether a slot moved since
-same_or_other : {G : Type 0} (a b : ℕ) → (a ≡ b → G) → ((a ≡ b → ⊥) → G) → G
+pub same_or_other : {G : Type 0} (a b : ℕ) → (a ≡ b → G) → ((a ≡ b → ⊥) → G) → G
 same_or_other {G} a b same other = go (nat_eq a b) refl
   where
     go : (t : Bool) → nat_eq a b ≡ t → G
     go true h = same (eqb-true a b h)
     go false h = other (λ e. let is = eq-eqb a b e in cc)
 
-since_or_not : {G : Type 0} (count : Count) (since : ℕ) (e : List ℕ) → (IsSince count since e → G) → ((IsSince count since e → ⊥) → G) → G
+pub since_or_not : {G : Type 0} (count : Count) (since : ℕ) (e : List ℕ) → (IsSince count since e → G) → ((IsSince count since e → ⊥) → G) → G
 since_or_not {G} count since e moved stayed = same_or_other count.change LAST (λ last. moved (inl last)) (λ before. go (get count.numbers e) refl before)
   where
     some_number : (a b : ℕ) → ◌≡◌ {A = Option ℕ} (Some a) (Some b) → a ≡ b
@@ -82,7 +82,7 @@ since_or_not {G} count since e moved stayed = same_or_other count.change LAST (�
     go (Some k) h before = below_or_not since k (λ less. moved (inr (k, h, less))) (λ j is. stayed (at_most k j is h before))
 
 -- ---- the law
-some_below : (o : Option Slot) (slot : Slot) → IsSomeAnd o (slot_below slot) → option_below slot_below (Some slot) o
+pub some_below : (o : Option Slot) (slot : Slot) → IsSomeAnd o (slot_below slot) → option_below slot_below (Some slot) o
 some_below None slot h = absurd h
 some_below (Some s) slot h = h
 

@@ -21,7 +21,7 @@ use Rattle.lw_call.specs.Found.{IsFound}
 use Rattle.lw_node.specs.Calls.{TakesSo, IsSilent, Sent, Swept, issuer_at}
 use Rattle.lw_node.specs.Effects.{Issuer, DatagramMeans, ObserveMeans, CancelMeans, SweepMeans}
 use Rattle.lw_node.specs.Exchange.{IsDeltaSince, Merges}
-use Rattle.lw_node.specs.Node.{NodeContent, Leaves}
+use Rattle.lw_node.specs.Node.{NodeContent, Known, IsKnown, Leaves, marks_in}
 
 -- the answer of a node, of which these marks tell
 abbrev pub Answers : NodeContent → Marks → ℕ → Question → Answer → Type 0
@@ -75,3 +75,7 @@ at_node old M new = record {
 -- a call of a node, its reply, and the node before and after
 abbrev pub Steps : NodeContent → Marks → Call → Reply → NodeContent → Type 0
 Steps old M call reply new = StepsIn (at_node old M new) call reply
+
+-- The node answers the call so and becomes the other, over every set of marks that its state is known from.
+abbrev pub IsStep : NodeContent → Call → Reply → NodeContent → Type 0
+IsStep old call reply new = (known : Known) → IsKnown old.table.state known → Steps old (marks_in old.table.state known) call reply new

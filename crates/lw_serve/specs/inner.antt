@@ -1,5 +1,4 @@
 pub mod Outcomes
 pub mod Rounds
 pub mod Runs
-pub mod Udp
 pub mod Volumes

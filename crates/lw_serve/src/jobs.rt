@@ -5,12 +5,12 @@ ghost use Rattle.lw_serve.specs.Plan.{AreNodes};
 ghost use Rattle.lw_reg.specs.AddrOrder.{port_of as port_in};
 ghost use Rattle.lw_serve.specs.Jobs.{jobs_of_round, merges_of, node_of_source, sends_from, sweeps_of, take_of as take_job};
 
-use crate::receiving::Datagram;
 use bytes::Bytes;
 use lw_crew::Job;
 use lw_node::Call;
 use lw_reg::Addr;
 use lw_stamp::{Moment, NoMemory};
+use lw_wire::Datagram;
 use std::alloc::Global;
 
 /// The jobs that were kept, behind them a Take for each datagram, at the node of its source, and last a Sweep of each

@@ -6,7 +6,6 @@
 //! traits; `UdpWire` and `SystemClock` are those of the host.
 #![tactic(auto)]
 
-mod clock;
 mod cutting;
 mod ending;
 mod fault;
@@ -22,12 +21,12 @@ mod sink;
 mod udp;
 mod wire;
 
-pub use clock::{HostClock, SystemClock};
 pub use fault::ServeFault;
 pub use lw_crew::CrewFault;
 pub use lw_reg::Addr;
+pub use lw_wire::{HostClock, SystemClock, WireFault};
 pub use plan::Plan;
 pub use serving::{serve_into, serve_on};
 pub use sink::VolumeSink;
 pub use udp::UdpWire;
-pub use wire::{Wire, WireFault};
+pub use wire::Wire;

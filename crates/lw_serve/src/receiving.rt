@@ -5,40 +5,17 @@ ghost use Rattle.lw_serve.specs.Plan.{most_at_once};
 ghost use Rattle.lw_serve.specs.inner.Runs.{EndsReceiving};
 
 use crate::fault::ServeFault;
-use crate::wire::{Wire, WireFault};
-use bytes::Bytes;
+use crate::wire::Wire;
 use log::{Log, warn};
 use lw_reg::Addr;
-use lw_stamp::NoMemory;
+use lw_wire::{Datagram, WireFault};
 use std::alloc::Global;
-
-/// How many bytes of a datagram are looked at: one more than the longest that is taken, so that a longer one is seen to
-/// be too long.
-pub(crate) const BUFFER: usize = 8_193;
 
 /// How many datagrams make a batch at most.
 const MOST_AT_ONCE: u32 = 32;
 
 /// How many faults in a row end a run.
 const FAULTS_IN_A_ROW: u32 = 1_000;
-
-/// A datagram that came.
-#[derive(Drop)]
-pub(crate) struct Datagram {
-    pub(crate) from: Addr,
-    pub(crate) bytes: Bytes,
-}
-
-impl Datagram {
-    fn new(alloc: Global, from: Addr, bytes: &[u8]) -> Result<Datagram, NoMemory>
-        ensures { IfOk result (λ datagram. (datagram.from ≡ from) × (datagram.bytes ≡ bytes.now)) }
-    {
-        Ok(Datagram {
-            from,
-            bytes: Bytes::copy_from_slice(alloc, bytes)?,
-        })
-    }
-}
 
 /// Waits for a datagram and takes those that are already there, at most as many as are left. A fault behind the first
 /// ends the batch.

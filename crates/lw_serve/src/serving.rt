@@ -6,14 +6,14 @@ ghost use Rattle.lw_serve.specs.Runs.{AreOver, HasCause, IsServed};
 ghost use Rattle.lw_serve.specs.inner.Runs.{EndsRounds};
 ghost use Rattle.lw_serve.specs.inner.Volumes.{AreOfNodes};
 
-use crate::clock::HostClock;
 use crate::fault::ServeFault;
 use crate::plan::Plan;
-use crate::receiving::{BUFFER, receive};
+use crate::receiving::receive;
 use crate::server::Server;
 use crate::sink::{Kept, VolumeSink};
 use crate::wire::Wire;
 use log::Log;
+use lw_wire::{BUFFER, HostClock};
 use std::alloc::Global;
 use std::io::Write;
 use std::sync::Wait;

@@ -1,10 +1,10 @@
 ghost use Rattle.std.specs.Prelude.{◌≡◌, true};
-ghost use Rattle.lw_serve.specs.inner.Udp.{addr_of, IsAt};
 
-use crate::wire::{Wire, WireFault};
+use crate::wire::Wire;
 use lw_reg::Addr;
+use lw_wire::{WireFault, address_of, socket_address_of};
 use std::io::{self, ErrorKind};
-use std::net::{IpAddr, Ipv4Addr, Ipv6Addr, SocketAddr, UdpSocket};
+use std::net::UdpSocket;
 
 /// A UDP socket as a wire.
 #[derive(Drop)]
@@ -81,30 +81,5 @@ impl Wire for UdpWire {
         } else {
             Err(WireFault)
         }
-    }
-}
-
-fn address_of(address: &SocketAddr) -> Addr
-    ensures { result ≡ addr_of address.now }
-{
-    let port = address.port();
-    match address.ip() {
-        IpAddr::V4(ip) => Addr::V4 {
-            address: ip.octets(),
-            port,
-        },
-        IpAddr::V6(ip) => Addr::V6 {
-            address: ip.octets(),
-            port,
-        },
-    }
-}
-
-fn socket_address_of(address: &Addr) -> SocketAddr
-    ensures { IsAt address.now result }
-{
-    match *address {
-        Addr::V4 { address, port } => SocketAddr::new(IpAddr::V4(Ipv4Addr::from(address)), port),
-        Addr::V6 { address, port } => SocketAddr::new(IpAddr::V6(Ipv6Addr::from(address)), port),
     }
 }

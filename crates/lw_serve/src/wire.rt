@@ -1,12 +1,7 @@
 ghost use Rattle.std.specs.Prelude.{◌≤◌, length, IfOk, IfSome};
 
 use lw_reg::Addr;
-use thiserror::Error;
-
-/// A call of a wire failed.
-#[derive(Clone, Copy, Debug, PartialEq, Eq, Error)]
-#[error("a call of the wire failed")]
-pub struct WireFault;
+use lw_wire::WireFault;
 
 /// What datagrams come and go over.
 pub trait Wire {

@@ -2,7 +2,8 @@
 use Rattle.std.specs.Prelude.{◌≡◌, ◌⊎◌, ℕ, ◌+◌, List, [], ◌∷◌, ◌++◌, length}
 use Rattle.lw_call.specs.declared.call.Call.{Call}
 use Rattle.lw_held.specs.declared.entry.Entry.{Entry}
-use Rattle.lw_held.specs.History.{HeldContent, VolumeContent, IsStep, Enters}
+use Rattle.lw_node.specs.Steps.{IsStep}
+use Rattle.lw_held.specs.History.{HeldContent, VolumeContent, Enters}
 use Rattle.lw_held.specs.Transcript.{Transcript, with_part}
 
 -- The call with its answer is the last of the entries, and the pass has it as well. The volume has what the journal had
