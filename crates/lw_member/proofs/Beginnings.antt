@@ -1,0 +1,60 @@
+-- What a first look has seen of entries, one after another.
+use Rattle.std.proofs.Common.{◌≡◌, ◌⊎◌, inl, inr, ℕ, List, [], ◌∷◌, ◌++◌, Bool, true, false, refl, sym, subst}
+use Rattle.std.specs.Prelude.{IsTrue}
+use Rattle.lw_log.specs.Entries.{BodyContent, EntryContent, IsEntry}
+use Rattle.lw_log.specs.Entries.BodyContent.{Start, Delta, Whole}
+use Rattle.lw_member.specs.declared.looking.FirstLook.{FirstLook}
+use Rattle.lw_member.specs.Beginning.{BeginsLog, IsWhole, HasWhole, IsUncut}
+use Rattle.lw_member.specs.inner.Looking.{IsFirst, IsFirstBody, IsAll, IsAllBody, HasBeginning, HasSeen}
+
+-- ---- lists of entries
+whole_before : (xs ys : List (List ℕ)) → HasWhole xs → HasWhole (xs ++ ys)
+whole_before [] ys h = absurd h
+whole_before (x ∷ xs) ys (inl w) = inl w
+whole_before (x ∷ xs) ys (inr later) = inr (whole_before xs ys later)
+
+whole_behind : (xs ys : List (List ℕ)) → HasWhole ys → HasWhole (xs ++ ys)
+whole_behind [] ys h = h
+whole_behind (x ∷ xs) ys h = inr (whole_behind xs ys h)
+
+pub beginning_before : (xs ys : List (List ℕ)) → HasBeginning xs → HasBeginning (xs ++ ys)
+beginning_before [] ys h = absurd h
+beginning_before (x ∷ xs) ys (inl first) = inl first
+beginning_before (x ∷ xs) ys (inr w) = inr (whole_before (x ∷ xs) ys w)
+
+whole_begins : (xs : List (List ℕ)) (bytes : List ℕ) → IsWhole bytes → HasBeginning (xs ++ bytes ∷ [])
+whole_begins [] bytes w = inr (inl w)
+whole_begins (x ∷ xs) bytes w = inr (whole_behind (x ∷ xs) (bytes ∷ []) (inl w))
+
+pub begins : (xs : List (List ℕ)) (look : FirstLook) (bytes : List ℕ) → HasSeen xs look → IsWhole bytes ⊎ ((look.any ≡ false) × BeginsLog bytes) → HasBeginning (xs ++ bytes ∷ [])
+begins xs look bytes seen (inl w) = whole_begins xs bytes w
+begins xs look bytes seen (inr x) = subst (λ es. HasBeginning (es ++ bytes ∷ [])) (sym (seen.none x.0)) (inl x.1)
+
+-- ---- one entry
+whole_body : (bytes : List ℕ) (e : EntryContent) → IsEntry bytes e → (b : BodyContent) → e.body ≡ b → IsAllBody b → IsWhole bytes
+whole_body bytes e is Start same h = absurd h
+whole_body bytes e is (Delta delta) same h = absurd h
+whole_body bytes e is (Whole numbers delta) same h = (e, numbers, delta, is, same)
+
+pub whole_of : (bytes : List ℕ) (e : EntryContent) → IsEntry bytes e → IsAll e → IsWhole bytes
+whole_of bytes e is h = whole_body bytes e is e.body refl h
+
+first_body : (bytes : List ℕ) (e : EntryContent) → IsEntry bytes e → (b : BodyContent) → e.body ≡ b → IsFirstBody b e.sequence → BeginsLog bytes
+first_body bytes e is Start same h = (e, is, same, h)
+first_body bytes e is (Delta delta) same h = absurd h
+first_body bytes e is (Whole numbers delta) same h = absurd h
+
+pub first_of_log : (bytes : List ℕ) (e : EntryContent) → IsEntry bytes e → IsFirst e → BeginsLog bytes
+first_of_log bytes e is h = first_body bytes e is e.body refl h
+
+-- ---- all of them
+pub uncut_by : (es : List (List ℕ)) → HasBeginning es → IsUncut es
+uncut_by [] h = tt
+uncut_by (e ∷ es) h = h
+
+pub uncut_none : (look : FirstLook) (es : List (List ℕ)) → HasSeen es look → (IsTrue look.any → ⊥) → IsUncut es
+uncut_none look es seen not_any = subst (λ xs. IsUncut xs) (sym (seen.none (false_of look.any not_any))) tt
+  where
+    false_of : (b : Bool) → (IsTrue b → ⊥) → b ≡ false
+    false_of true not_any = absurd (not_any refl)
+    false_of false not_any = refl

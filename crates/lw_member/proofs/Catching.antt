@@ -1,0 +1,156 @@
+-- Pages of a log that are read and taken, one after another.
+use Rattle.std.proofs.Common.{◌≡◌, ℕ, suc, ◌<◌, ◌≤◌, List, [], ◌∷◌, ◌++◌, length, Option, Bool, refl, sym, ap, ◌∙◌, subst, append-nil, arith}
+use Rattle.lw_log.specs.Calls.{LogCall, Placed, Calls, placed, place_of}
+use Rattle.lw_log.specs.Calls.LogCall.{Read}
+use Rattle.lw_log.specs.declared.position.Position.{Position}
+use Rattle.lw_log.specs.declared.start.Start.{Start}
+use Rattle.lw_member.specs.declared.standing.Standing.{Standing}
+use Rattle.lw_node.specs.Node.{NodeContent}
+use Rattle.lw_member.specs.Member.{IsWritten}
+use Rattle.lw_member.specs.Parts.{IsLeading, IsMember}
+use Rattle.lw_member.specs.Reading.{AreReads, AreReadToTheEnd, bytes_of, entries_in, last_read, place_read}
+use Rattle.lw_member.specs.inner.Going.{Goes}
+use Rattle.lw_member.specs.inner.Seeing.{AreSeenBy}
+use Rattle.lw_member.specs.inner.Standing.{HasSameStart}
+use Rattle.lw_member.specs.inner.Taking.{ArePages, Takes, IsJudged}
+use Rattle.lw_member.proofs.Asking.{calls_none, calls_then, pages_more, pages_end, pages_last, pages_are_reads, reads_more, entries_more, page_seen}
+use Rattle.lw_member.proofs.Leading.{written_more}
+use Rattle.lw_member.proofs.Taking.{takes_none, takes_then, judged_start, judged_then}
+
+pub record Caught (before : Option (List LogCall)) (old : Standing) (now : Option (List LogCall)) (new : Standing) (own : Bool) : Type 0 where
+  pub pages : List LogCall
+  pub asked : Calls before now pages
+  pub are : ArePages (place_of old.read_to) pages (place_of new.read_to)
+  pub takes : Takes old (entries_in pages) new
+  pub judged : IsJudged old.claimed old.start.number old.start.tag (entries_in pages) own
+  pub same : HasSameStart old new
+
+abbrev pub Asked : Option (List LogCall) → Option (List LogCall) → Type 0
+Asked before now = (pages : List LogCall) × Calls before now pages × AreReads pages
+
+pub caught_start : (asked : Option (List LogCall)) (s : Standing) → Caught asked s asked s s.claimed
+caught_start asked s = record {
+  pages = [];
+  asked = calls_none asked;
+  are = refl;
+  takes = takes_none s;
+  judged = judged_start s.claimed s.start.number s.start.tag;
+  same = record { number = refl; start = refl; made_up = refl; alone = refl; claimed = refl; floor = refl };
+}
+
+pub asked_none : (a b c : Option (List LogCall)) → Asked a b → Calls b c [] → Asked a c
+asked_none a b c one two = (one.0, subst (λ xs. Calls a c xs) (append-nil one.0) (calls_then a b c one.0 [] one.1 two), one.2)
+
+pub asked_page : (a b c : Option (List LogCall)) (from : Option (ℕ × ℕ)) (es : List Placed) → Asked a b → Calls b c (Read from es ∷ []) → Asked a c
+asked_page a b c from es one two = (one.0 ++ Read from es ∷ [], calls_then a b c one.0 (Read from es ∷ []) one.1 two, reads_more one.0 from es one.2)
+
+-- the log was asked more
+pub member_more : (a b : Option (List LogCall)) (more : List LogCall) (s : Standing) → Calls a b more → IsMember a s → IsMember b s
+member_more a b more s asked m = record {
+  leading = record { written = written_more a b more s.node s.led s.written asked m.leading.written; up_to = m.leading.up_to };
+  number = m.number;
+  floor = m.floor;
+}
+
+-- the parts go on, and the log still leads what it is said to
+pub member_same : (asked : Option (List LogCall)) (a b : Standing) → HasSameStart a b → IsLeading asked b → IsMember asked a → IsMember asked b
+member_same asked a b same leading m = record {
+  leading = leading;
+  number = ap (λ (s : Start). s.number) same.start ∙ m.number ∙ sym same.number;
+  floor = subst (λ n. n < 281474976710656) (sym same.floor) m.floor;
+}
+
+pub length_placed : (page : List (Position × List ℕ)) → length (placed page) ≡ length page
+length_placed [] = refl
+length_placed (x ∷ xs) = ap suc (length_placed xs)
+
+module _ (a0 a a1 : Option (List LogCall)) (s0 s s1 : Standing) (own later : Bool) (page : List (Position × List ℕ)) (c : Caught a0 s0 a s own)
+    (asked : Calls a a1 (Read (place_of s.read_to) (placed page) ∷ [])) (judged : IsJudged own s.start.number s.start.tag (bytes_of (placed page)) later)
+    (takes : Takes s (bytes_of (placed page)) s1) (read_to : place_of s1.read_to ≡ place_read (place_of s.read_to) (placed page)) (same : HasSameStart s s1) where
+  abbrev all : List LogCall
+  all = c.pages ++ Read (place_of s.read_to) (placed page) ∷ []
+
+  is : entries_in all ≡ entries_in c.pages ++ bytes_of (placed page)
+  is = entries_more c.pages (place_of s.read_to) (placed page)
+
+  takes_all : Takes s0 (entries_in all) s1
+  takes_all = subst (λ es. Takes s0 es s1) (sym is) (takes_then s0 s s1 (entries_in c.pages) (bytes_of (placed page)) c.takes takes)
+
+  judged_all : IsJudged s0.claimed s0.start.number s0.start.tag (entries_in all) later
+  judged_all =
+      let here : IsJudged own s0.start.number s0.start.tag (bytes_of (placed page)) later = subst (λ (x : Start). IsJudged own x.number x.tag (bytes_of (placed page)) later) c.same.start judged in
+      subst (λ es. IsJudged s0.claimed s0.start.number s0.start.tag es later) (sym is) (judged_then s0.claimed own later s0.start.number s0.start.tag (entries_in c.pages) (bytes_of (placed page)) c.judged here)
+
+  same_all : HasSameStart s0 s1
+  same_all = record {
+    number = same.number ∙ c.same.number;
+    start = same.start ∙ c.same.start;
+    made_up = same.made_up ∙ c.same.made_up;
+    alone = same.alone ∙ c.same.alone;
+    claimed = same.claimed ∙ c.same.claimed;
+    floor = same.floor ∙ c.same.floor;
+  }
+
+  pub caught_page : 256 ≤ length page → Caught a0 s0 a1 s1 later
+  caught_page full = record {
+    pages = all;
+    asked = calls_then a0 a a1 c.pages (Read (place_of s.read_to) (placed page) ∷ []) c.asked asked;
+    are = subst (λ p. ArePages (place_of s0.read_to) all p) (sym read_to) (pages_more (place_of s0.read_to) (place_of s.read_to) c.pages (place_of s.read_to) (placed page) c.are refl (let l = length_placed page in omega (arith, l, full)));
+    takes = takes_all;
+    judged = judged_all;
+    same = same_all;
+  }
+
+  pub caught_end : length page < 256
+      → (pages : List LogCall) × Calls a0 a1 pages × AreReadToTheEnd (place_of s0.read_to) pages × Takes s0 (entries_in pages) s1 × IsJudged s0.claimed s0.start.number s0.start.tag (entries_in pages) later
+      × (place_of s1.read_to ≡ last_read (place_of s0.read_to) pages)
+  caught_end few = (
+    all,
+    calls_then a0 a a1 c.pages (Read (place_of s.read_to) (placed page) ∷ []) c.asked asked,
+    pages_end (place_of s0.read_to) (place_of s.read_to) c.pages (place_of s.read_to) (placed page) c.are refl (let l = length_placed page in omega (arith, l, few)),
+    takes_all,
+    judged_all,
+    read_to ∙ sym (pages_last (place_of s0.read_to) (place_of s.read_to) c.pages (place_of s.read_to) (placed page) c.are),
+  )
+
+pub caught_asked : (a0 a : Option (List LogCall)) (s0 s : Standing) (own : Bool) → Caught a0 s0 a s own → Asked a0 a
+caught_asked a0 a s0 s own c = (c.pages, c.asked, pages_are_reads (place_of s0.read_to) (place_of s.read_to) c.pages c.are)
+
+-- what was read was seen
+pub page_leads : (a a1 : Option (List LogCall)) (s s1 : Standing) (from : Option (ℕ × ℕ)) (page : List (Position × List ℕ)) → Calls a a1 (Read from (placed page) ∷ [])
+    → ((asked : Option (List LogCall)) → AreSeenBy asked (bytes_of (placed page)) → IsLeading asked s → IsLeading asked s1) → HasSameStart s s1 → IsMember a s → IsMember a1 s1
+page_leads a a1 s s1 from page asked leads same m =
+    let more = member_more a a1 (Read from (placed page) ∷ []) s asked m in
+    member_same a1 s s1 same (leads a1 (page_seen a a1 from (placed page) asked) more.leading) more
+
+-- an append failed, and what was written may be written again
+pub member_failed : (a b : Option (List LogCall)) (more : List LogCall) (s s1 : Standing) → Calls a b more → s1 ≡ record s { written = s1.written; led = s1.led } → ((asked : Option (List LogCall)) → IsLeading asked s → IsLeading asked s1) → IsMember a s → IsMember b s1
+member_failed a b more s s1 asked only leads m =
+    let later = member_more a b more s asked m in
+    record {
+      leading = leads b later.leading;
+      number = ap (λ (x : Standing). x.start.number) only ∙ later.number ∙ sym (ap (λ (x : Standing). x.node.number) only);
+      floor = subst (λ n. n < 281474976710656) (sym (ap (λ (x : Standing). x.floor) only)) later.floor;
+    }
+
+-- what is led is not touched
+pub member_parts : (asked : Option (List LogCall)) (a b : Standing) → b.node ≡ a.node → b.led ≡ a.led → b.written ≡ a.written → b.start ≡ a.start → b.floor ≡ a.floor → IsMember asked a → IsMember asked b
+member_parts asked a b node led written start floor m = record {
+  leading = record {
+    written = subst (λ n. IsWritten asked n b.led b.written) (sym node) (subst (λ l. IsWritten asked a.node l b.written) (sym led) (subst (λ w. IsWritten asked a.node a.led w) (sym written) m.leading.written));
+    up_to = λ h. written ∙ m.leading.up_to (sym led ∙ h) ∙ ap (λ (n : NodeContent). n.table.count.change) (sym node);
+  };
+  number = ap (λ (s : Start). s.number) start ∙ m.number ∙ ap (λ (n : NodeContent). n.number) (sym node);
+  floor = subst (λ n. n < 281474976710656) (sym floor) m.floor;
+}
+
+-- the node goes on, and nothing else changes but whether all is led
+pub member_goes : (asked : Option (List LogCall)) (a b : Standing) → b ≡ record a { node = b.node; led = b.led } → Goes a.node b.node → ((asked : Option (List LogCall)) → IsLeading asked a → IsLeading asked b) → IsMember asked a → IsMember asked b
+member_goes asked a b only goes leads m = record {
+  leading = leads asked m.leading;
+  number = ap (λ (x : Standing). x.start.number) only ∙ m.number ∙ sym goes.number;
+  floor = subst (λ n. n < 281474976710656) (sym (ap (λ (x : Standing). x.floor) only)) m.floor;
+}
+
+pub member_claimed : (asked : Option (List LogCall)) (s : Standing) (claimed : Bool) → IsMember asked s → IsMember asked (record s { claimed = claimed })
+member_claimed asked s claimed m = record { leading = record { written = m.leading.written; up_to = m.leading.up_to }; number = m.number; floor = m.floor }

@@ -1,0 +1,94 @@
+-- A claim, put together from its parts.
+use Rattle.std.proofs.Common.{◌≡◌, ◌↔◌, ℕ, List, [], ◌∷◌, ◌++◌, Option, Some, Bool, true, false, sym, ap, ◌∙◌, subst}
+use Rattle.std.specs.Prelude.{IsTrue, option_map}
+use Rattle.lw_node.specs.Exchange.{Merged}
+use Rattle.lw_node.specs.Node.{NodeContent}
+use Rattle.lw_log.specs.Calls.{LogCall, Calls, place_of}
+use Rattle.lw_log.specs.Calls.LogCall.{Wrote}
+use Rattle.lw_log.specs.declared.entry.FleetId.{FleetId}
+use Rattle.lw_log.specs.declared.start.Start.{Start as Starts}
+use Rattle.lw_member.specs.declared.standing.Standing.{Standing}
+use Rattle.lw_member.specs.Parts.{fleet_of, numbers_of, IsMember}
+use Rattle.lw_member.specs.Reading.{AreReads, AreReadToTheEnd, entries_in, AreGood, HoldsNumber, MergesEntries}
+use Rattle.lw_member.specs.inner.Going.{Goes}
+use Rattle.lw_member.specs.inner.Standing.{HasSameStart, IsStill}
+use Rattle.lw_member.specs.inner.Taking.{Takes, IsJudged}
+use Rattle.lw_member.specs.inner.Writing.{Claims, IsStarted, IsClaimed}
+use Rattle.lw_member.proofs.Asking.{calls_then}
+use Rattle.lw_member.proofs.Owning.{claims_append, reads_claim}
+use Rattle.lw_member.proofs.Numbering.{noted_same}
+use Rattle.lw_member.proofs.Taking.{judged_holds}
+
+module _ (a0 a1 a2 : Option (List LogCall)) (s0 s1 s2 s3 : Standing) (fleet : List ℕ) (own : Bool) (pages : List LogCall)
+    (started : IsStarted a0 s0 fleet a1 s1) (asked : Calls a1 a2 pages) (read : AreReadToTheEnd (place_of s1.read_to) pages) (takes : Takes s1 (entries_in pages) s2)
+    (judged : IsJudged s1.claimed s1.start.number s1.start.tag (entries_in pages) own) (same : HasSameStart s1 s2) (in_fleet : fleet_of s2 ≡ Some fleet)
+    (number : s0.start.number ≡ s0.node.number) (unclaimed : s0.claimed ≡ false) (member : IsMember a2 s2)
+    (raised : Merged s2.node s2.floor [] s3.node) (still : IsTrue s3.led ↔ IsStill s2 s3.node) (only : s3 ≡ record s2 { node = s3.node; led = s3.led }) (goes : Goes s2.node s3.node) where
+  one : s1 ≡ record s0 { sequence = s1.sequence; read_to = s1.read_to; size = s1.size; fleet = s1.fleet }
+  one = started.only
+
+  start_is : s3.start ≡ s0.start
+  start_is = ap (λ (s : Standing). s.start) only ∙ same.start ∙ ap (λ (s : Standing). s.start) one
+
+  number_is : s3.node.number ≡ s0.node.number
+  number_is = goes.number ∙ same.number ∙ ap (λ (s : Standing). s.node.number) one
+
+  fleet_is : fleet_of s3 ≡ Some fleet
+  fleet_is = ap (λ (s : Standing). option_map (λ (f : FleetId). f.bytes) s.fleet) only ∙ in_fleet
+
+  holds_first : HoldsNumber s1.start.number s1.start.tag (entries_in pages)
+  holds_first = judged_holds s1.start.number s1.start.tag (entries_in pages) own (subst (λ b. IsJudged b s1.start.number s1.start.tag (entries_in pages) own) (ap (λ (s : Standing). s.claimed) one ∙ unclaimed) judged)
+
+  holds_now : HoldsNumber s3.node.number s3.start.tag (entries_in pages)
+  holds_now =
+      let n : s1.start.number ≡ s3.node.number = ap (λ (s : Standing). s.start.number) one ∙ number ∙ sym number_is in
+      let t : s1.start.tag ≡ s3.start.tag = ap (λ (x : Starts). x.tag) (ap (λ (s : Standing). s.start) one ∙ sym start_is) in
+      subst (λ x. HoldsNumber x s3.start.tag (entries_in pages)) n (subst (λ x. HoldsNumber s1.start.number x (entries_in pages)) t holds_first)
+
+  pub claim_is : IsClaimed a0 s0 a2 (record s3 { claimed = true })
+  claim_is = record {
+    place = started.place;
+    pages = pages;
+    merged = s2;
+    asked = calls_then a0 a1 a2 (Wrote started.place ∷ []) pages started.asked asked;
+    own = (
+      record {
+        entry = started.entry.entry;
+        is = started.entry.is;
+        number = started.entry.number ∙ number ∙ sym number_is;
+        tag = started.entry.tag ∙ ap (λ (x : Starts). x.tag) (sym start_is);
+        body_is = started.entry.body_is;
+      },
+      fleet_is ∙ ap (λ f. Some f) (sym started.entry.fleet_is),
+    );
+    read = subst (λ p. AreReadToTheEnd p pages) started.read_to read;
+    good = subst (λ f. AreGood f (entries_in pages)) (ap (λ (s : Standing). option_map (λ (f : FleetId). f.bytes) s.fleet) (sym only)) takes.good;
+    holds = holds_now;
+    merges = subst (λ (n : NodeContent). MergesEntries n (entries_in pages) s2.node) (ap (λ (s : Standing). s.node) one) takes.merged;
+    numbers = noted_same (numbers_of s1) (numbers_of s0) (numbers_of s2) (numbers_of s3) (entries_in pages) (sym (ap numbers_of one)) (ap numbers_of only) takes.numbers;
+    led = takes.led ∙ ap (λ (s : Standing). s.led) one;
+    written = λ h. takes.written (ap (λ (s : Standing). s.led) one ∙ h) ∙ ap (λ (s : Standing). s.written) one;
+    up_to = λ h. member.leading.up_to (takes.led ∙ ap (λ (s : Standing). s.led) one ∙ h);
+    raised = subst (λ n. Merged s2.node n [] s3.node) (same.floor ∙ ap (λ (s : Standing). s.floor) one) raised;
+    goes = goes;
+    still = still;
+    written_is = ap (λ (s : Standing). s.written) only;
+  }
+
+  pub claim_same : HasSameStart s0 (record s3 { claimed = false })
+  claim_same = record {
+    number = number_is;
+    start = start_is;
+    made_up = ap (λ (s : Standing). s.made_up) only ∙ same.made_up ∙ ap (λ (s : Standing). s.made_up) one;
+    alone = ap (λ (s : Standing). s.alone) only ∙ same.alone ∙ ap (λ (s : Standing). s.alone) one;
+    claimed = sym unclaimed;
+    floor = ap (λ (s : Standing). s.floor) only ∙ same.floor ∙ ap (λ (s : Standing). s.floor) one;
+  }
+
+-- a claim, and what was read behind it
+pub claims_read : (a0 a1 a2 : Option (List LogCall)) (s0 : Standing) → Claims a0 a1 s0 → (pages : List LogCall) × Calls a1 a2 pages × AreReads pages → Claims a0 a2 s0
+claims_read a0 a1 a2 s0 one two = (
+  one.0 ++ two.0,
+  calls_then a0 a1 a2 one.0 two.0 one.1 two.1,
+  claims_append s0.start.number s0.start.tag one.0 two.0 one.2 (reads_claim s0.start.number s0.start.tag two.0 two.2),
+)

@@ -1,0 +1,161 @@
+-- A compaction, put together from its parts.
+use Rattle.std.proofs.Common.{◌≡◌, ◌⊎◌, inl, inr, ℕ, List, [], ◌∷◌, Option, Some, None, Bool, false, refl, sym, ap, ◌∙◌, subst, append-nil}
+use Rattle.std.specs.Prelude.{Result, Ok, Err, option_map}
+use Rattle.lw_node.specs.Exchange.{IsDeltaSince}
+use Rattle.lw_node.specs.Node.{NodeContent}
+use Rattle.lw_log.specs.Calls.{LogCall, Calls, place, place_of, trim_calls}
+use Rattle.lw_log.specs.Calls.LogCall.{Read, Wrote, Tried, Trimmed}
+use Rattle.lw_log.specs.Entries.BodyContent.{Whole}
+use Rattle.lw_log.specs.declared.entry.FleetId.{FleetId}
+use Rattle.lw_log.specs.declared.log_fault.LogFault.{LogFault}
+use Rattle.lw_log.specs.declared.log_fault.LogFault.TheVariants.{Away, Refused, Lost, NoMemory}
+use Rattle.lw_log.specs.declared.position.Position.{Position}
+use Rattle.lw_log.specs.declared.start.Start.{Start as Starts}
+use Rattle.lw_member.specs.declared.standing.Standing.{Standing}
+use Rattle.lw_member.specs.Compaction.{IsOwnWhole, IsRenewing, IsCompacted, Compacts}
+use Rattle.lw_member.specs.Parts.{content_of, fleet_of, numbers_of, IsMember}
+use Rattle.lw_member.specs.Reading.{AreReads, AreReadToTheEnd, AreGood, AreNoted, HoldsNumber, MergesEntries, entries_in, last_read, place_read}
+use Rattle.lw_member.specs.inner.Standing.{HasSameStart}
+use Rattle.lw_member.specs.inner.Taking.{Takes, IsJudged}
+use Rattle.lw_member.specs.inner.Wholes.{IsWholeOf, IsWrittenWhole, IsTryingWhole, TriesWhole}
+use Rattle.lw_member.proofs.Asking.{calls_then}
+use Rattle.lw_member.proofs.Taking.{judged_holds}
+
+-- what is read to the end is read
+ended_reads : (after : Option (ℕ × ℕ)) (pages : List LogCall) → AreReadToTheEnd after pages → AreReads pages
+ended_reads after [] h = absurd h
+ended_reads after (Read from es ∷ []) h = tt
+ended_reads after (Read from es ∷ Read to ys ∷ pages) h = ended_reads (place_read after es) (Read to ys ∷ pages) h.2
+ended_reads after (Read from es ∷ Wrote p ∷ pages) h = absurd h.2
+ended_reads after (Read from es ∷ Tried e ∷ pages) h = absurd h.2
+ended_reads after (Read from es ∷ Trimmed p ∷ pages) h = absurd h.2
+ended_reads after (Wrote p ∷ pages) h = absurd h
+ended_reads after (Tried e ∷ pages) h = absurd h
+ended_reads after (Trimmed p ∷ pages) h = absurd h
+
+pub none_of : {A : Type 0} (o : Option A) → ((x : A) → o ≡ Some x → ⊥) → o ≡ None
+none_of None h = refl
+none_of (Some x) h = absurd (h x refl)
+
+own_whole : (asked : Option (List LogCall)) (s1 s2 : Standing) (fleet bytes : List ℕ) → s2.node ≡ s1.node → s2.start ≡ s1.start → fleet_of s2 ≡ Some fleet → numbers_of s2 ≡ numbers_of s1 → s1.start.number ≡ s1.node.number → IsWholeOf s1 fleet bytes
+    → IsOwnWhole (content_of asked s2) bytes
+own_whole asked s1 s2 fleet bytes node start fleet_is numbers number w = (
+  w.delta,
+  subst (λ (n : NodeContent). IsDeltaSince n 0 w.delta) (sym node) w.is,
+  (
+    record {
+      entry = w.entry.entry;
+      is = w.entry.is;
+      number = w.entry.number ∙ number ∙ ap (λ (n : NodeContent). n.number) (sym node);
+      tag = w.entry.tag ∙ ap (λ (x : Starts). x.tag) (sym start);
+      body_is = subst (λ ns. w.entry.entry.body ≡ Whole ns w.delta) (sym numbers) w.entry.body_is;
+    },
+    fleet_is ∙ ap (λ f. Some f) (sym w.entry.fleet_is),
+  ),
+)
+
+-- ---- what was asked, also where it fails
+pub compacts_read : (a0 a1 : Option (List LogCall)) (s0 s1 : Standing) → (pages : List LogCall) × Calls a0 a1 pages × AreReads pages → Compacts (content_of a0 s0) (content_of a1 s1)
+compacts_read a0 a1 s0 s1 reads = record { pages = reads.0; more = []; asked = subst (λ cs. Calls a0 a1 cs) (sym (append-nil reads.0)) reads.1; reads = reads.2; renewing = tt }
+
+-- the log was read to its end
+module _ (a0 a1 : Option (List LogCall)) (s0 s1 : Standing) (pages : List LogCall) (own : Bool) (asked : Calls a0 a1 pages) (read : AreReadToTheEnd (place_of s0.read_to) pages)
+    (takes : Takes s0 (entries_in pages) s1) (judged : IsJudged s0.claimed s0.start.number s0.start.tag (entries_in pages) own) (last : place_of s1.read_to ≡ last_read (place_of s0.read_to) pages)
+    (same : HasSameStart s0 s1) (member : IsMember a0 s0) where
+  number_is : s1.start.number ≡ s1.node.number
+  number_is = ap (λ (x : Starts). x.number) same.start ∙ member.number ∙ sym same.number
+
+  holds_read : s0.claimed ≡ false → HoldsNumber s1.node.number s1.start.tag (entries_in pages)
+  holds_read unclaimed =
+      let number : s0.start.number ≡ s1.node.number = member.number ∙ sym same.number in
+      let tag : s0.start.tag ≡ s1.start.tag = ap (λ (x : Starts). x.tag) (sym same.start) in
+      let h : HoldsNumber s0.start.number s0.start.tag (entries_in pages) = judged_holds s0.start.number s0.start.tag (entries_in pages) own (subst (λ b. IsJudged b s0.start.number s0.start.tag (entries_in pages) own) unclaimed judged) in
+      subst (λ n. HoldsNumber n s1.start.tag (entries_in pages)) number (subst (λ t. HoldsNumber s0.start.number t (entries_in pages)) tag h)
+
+  -- ---- nothing is written
+  pub compacted_none : (place_of s1.read_to ≡ None) ⊎ (fleet_of s1 ≡ None) → IsCompacted (content_of a0 s0) (content_of a1 s1)
+  compacted_none none = record {
+    pages = pages;
+    wrote = [];
+    asked = subst (λ cs. Calls a0 a1 cs) (sym (append-nil pages)) asked;
+    start = record { number = same.number; tag = ap (λ (x : Starts). x.tag) same.start; floor = same.floor; alone = same.alone };
+    claimed = same.claimed;
+    read = read;
+    good = takes.good;
+    holds = holds_read;
+    merged = takes.merged;
+    numbers = takes.numbers;
+    renewed = inl (
+      refl,
+      elim none [
+        | inl h ↦ inl (sym last ∙ h)
+        | inr h ↦ inr h
+      ],
+    );
+  }
+
+  -- ---- a whole entry is appended, or tried
+  module _ (a2 : Option (List LogCall)) (s2 : Standing) (fleet : List ℕ) (fleet_is : fleet_of s1 ≡ Some fleet) (later : HasSameStart s1 s2) (node : s2.node ≡ s1.node) (in_fleet : s2.fleet ≡ s1.fleet) (numbers : s2.numbers ≡ s1.numbers) where
+    fleet_now : fleet_of s2 ≡ fleet_of s1
+    fleet_now = ap (λ (f : Option FleetId). option_map (λ (x : FleetId). x.bytes) f) in_fleet
+
+    numbers_now : numbers_of s2 ≡ numbers_of s1
+    numbers_now = ap (λ n. n.bytes.value) numbers
+
+    is_own : (a : Option (List LogCall)) (bytes : List ℕ) → IsWholeOf s1 fleet bytes → IsOwnWhole (content_of a s2) bytes
+    is_own a bytes w = own_whole a s1 s2 fleet bytes node later.start (fleet_now ∙ fleet_is) numbers_now number_is w
+
+    trying : (a : Option (List LogCall)) (more : List LogCall) → IsTryingWhole s1 fleet more → IsRenewing (content_of a0 s0) pages (content_of a s2) more
+    trying a [] t = tt
+    trying a (Wrote p ∷ []) t = (read, is_own a p.1 t)
+    trying a (Tried e ∷ []) t = (read, is_own a e t)
+    trying a (Read from es ∷ []) t = absurd t
+    trying a (Trimmed p ∷ []) t = absurd t
+    trying a (Wrote p ∷ x ∷ more) t = absurd t
+    trying a (Tried e ∷ x ∷ more) t = absurd t
+    trying a (Read from es ∷ x ∷ more) t = absurd t
+    trying a (Trimmed p ∷ x ∷ more) t = absurd t
+
+    pub compacts_tried : TriesWhole a1 s1 fleet a2 → Compacts (content_of a0 s0) (content_of a2 s2)
+    compacts_tried tries = record { pages = pages; more = tries.0; asked = calls_then a0 a1 a2 pages tries.0 asked tries.1; reads = ended_reads (place_of s0.read_to) pages read; renewing = trying a2 tries.0 tries.2 }
+
+    -- ---- and what was read goes
+    module _ (a3 : Option (List LogCall)) (upto : Position) (is : s1.read_to ≡ Some upto) (w : IsWrittenWhole a1 s1 fleet a2 s2) where
+      last_is : last_read (place_of s0.read_to) pages ≡ Some (place upto)
+      last_is = sym last ∙ ap (λ p. place_of p) is
+
+      renewing_trim : (r : Result Unit LogFault) → IsRenewing (content_of a0 s0) pages (content_of a3 s2) (Wrote w.place ∷ trim_calls upto r)
+      renewing_trim (Ok x) = (read, is_own a3 w.place.1 w.whole, last_is)
+      renewing_trim (Err NoMemory) = (read, is_own a3 w.place.1 w.whole)
+      renewing_trim (Err Away) = (read, is_own a3 w.place.1 w.whole, last_is)
+      renewing_trim (Err Refused) = (read, is_own a3 w.place.1 w.whole, last_is)
+      renewing_trim (Err Lost) = (read, is_own a3 w.place.1 w.whole, last_is)
+
+      pub compacts_trimmed : (r : Result Unit LogFault) → Calls a2 a3 (trim_calls upto r) → Compacts (content_of a0 s0) (content_of a3 s2)
+      compacts_trimmed r trimmed = record {
+        pages = pages;
+        more = Wrote w.place ∷ trim_calls upto r;
+        asked = calls_then a0 a1 a3 pages (Wrote w.place ∷ trim_calls upto r) asked (calls_then a1 a2 a3 (Wrote w.place ∷ []) (trim_calls upto r) w.asked trimmed);
+        reads = ended_reads (place_of s0.read_to) pages read;
+        renewing = renewing_trim r;
+      }
+
+      pub compacted_whole : Calls a2 a3 (Trimmed (place upto) ∷ []) → IsMember a3 s2 → IsCompacted (content_of a0 s0) (content_of a3 s2)
+      compacted_whole trimmed now = record {
+        pages = pages;
+        wrote = Wrote w.place ∷ Trimmed (place upto) ∷ [];
+        asked = calls_then a0 a1 a3 pages (Wrote w.place ∷ Trimmed (place upto) ∷ []) asked (calls_then a1 a2 a3 (Wrote w.place ∷ []) (Trimmed (place upto) ∷ []) w.asked trimmed);
+        start = record {
+          number = later.number ∙ same.number;
+          tag = ap (λ (x : Starts). x.tag) (later.start ∙ same.start);
+          floor = later.floor ∙ same.floor;
+          alone = later.alone ∙ same.alone;
+        };
+        claimed = later.claimed ∙ same.claimed;
+        read = read;
+        good = subst (λ f. AreGood f (entries_in pages)) (sym fleet_now) takes.good;
+        holds = λ unclaimed. subst (λ n. HoldsNumber n s2.start.tag (entries_in pages)) (sym later.number) (subst (λ (x : Starts). HoldsNumber s1.node.number x.tag (entries_in pages)) (sym later.start) (holds_read unclaimed));
+        merged = subst (λ (n : NodeContent). MergesEntries s0.node (entries_in pages) n) (sym node) takes.merged;
+        numbers = subst (λ ns. AreNoted (numbers_of s0) (entries_in pages) ns) (sym numbers_now) takes.numbers;
+        renewed = inr (w.place, place upto, refl, is_own a3 w.place.1 w.whole, last_is, w.led, now.leading.written.whole w.led);
+      }

@@ -1,0 +1,14 @@
+pub mod Stable
+pub mod Going
+pub mod Leading
+pub mod Asking
+pub mod Numbering
+pub mod Taking
+pub mod Merging
+pub mod Making
+pub mod RoundLemmas
+pub mod Catching
+pub mod Owning
+pub mod Claiming
+pub mod Beginnings
+pub mod Compacting

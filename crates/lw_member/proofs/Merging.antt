@@ -1,0 +1,130 @@
+-- What a member takes from one entry.
+use Rattle.std.proofs.Common.{◌≡◌, ◌↔◌, ◌⊎◌, inl, inr, ℕ, ◌<◌, ◌≤◌, List, [], ◌∷◌, Option, Some, Result, Ok, Err, Bool, true, false, refl, sym, ap, ◌∙◌, subst, arith}
+use Rattle.std.specs.Prelude.{IsTrue, OnOk}
+use Rattle.std.specs.Result.{is_err}
+use Rattle.lw_join.proofs.MapLemmas.{empty_below}
+use Rattle.lw_reg.specs.OrderLaws.{text_order}
+use Rattle.lw_reg.specs.SlotLaws.{slot_laws}
+use Rattle.lw_table.specs.Changes.{LAST}
+use Rattle.lw_delta.specs.Delta.{DeltaContent, IsSpelling}
+use Rattle.lw_delta.proofs.Answering.{one_delta}
+use Rattle.lw_call.specs.declared.merge_fault.MergeFault.{MergeFault}
+use Rattle.lw_node.specs.Exchange.{Merged, Merges}
+use Rattle.lw_node.specs.Node.{NodeContent, fresh}
+use Rattle.lw_log.specs.Calls.{LogCall}
+use Rattle.lw_log.specs.Entries.{BodyContent, EntryContent, IsEntry, HasDelta, BringsDelta}
+use Rattle.lw_log.specs.EntryFaults.{IsNewer}
+use Rattle.lw_member.specs.declared.standing.Standing.{Standing}
+use Rattle.lw_member.specs.Member.{IsWritten}
+use Rattle.lw_member.specs.Parts.{fleet_of, numbers_of, IsLeading}
+use Rattle.lw_member.specs.Reading.{HasBit, TellsOf, Meets}
+use Rattle.lw_member.specs.inner.Going.{Goes}
+use Rattle.lw_member.specs.inner.Seeing.{IsSeenBy}
+use Rattle.lw_member.specs.inner.Standing.{HasSameStart, IsStill}
+use Rattle.lw_member.specs.inner.Taking.{Takes}
+use Rattle.lw_member.proofs.Numbering.{noted_one, noted_entry}
+use Rattle.lw_member.proofs.Leading.{written_goes, written_calm, written_whole, taken_led}
+
+-- ---- merges
+-- the delta that the bytes spell was merged, if there was no fault
+pub merged_whole : (old new : NodeContent) (bytes : List ℕ) (outcome : Result ℕ MergeFault) → Merges old bytes outcome new → is_err outcome ≡ false → (d : DeltaContent) → IsSpelling bytes d → Merged old d.clock d.slots new
+merged_whole old new bytes (Ok count) m good d spelled = subst (λ (x : DeltaContent). Merged old x.clock x.slots new) (one_delta bytes m.delta d m.spelled spelled) m.merged
+merged_whole old new bytes (Err fault) m good d spelled = absurd cc
+
+-- ---- what is led
+module _ (asked : Option (List LogCall)) (old new : NodeContent) (led : Bool) (written : ℕ) where
+  -- a whole delta is merged where all was led: it still is
+  pub leading_taken : (change : ℕ) (bytes : List ℕ) (d : DeltaContent) → led ≡ true → change ≡ new.table.count.change → IsSeenBy asked bytes → BringsDelta bytes d → Merged old d.clock d.slots new → IsWritten asked old led written
+      → IsWritten asked new led change
+  leading_taken change bytes d all is seen brings m w =
+      let whole = written_whole asked new (taken_led asked old new bytes d seen brings m (w.whole all)) in
+      subst (λ b. IsWritten asked new b change) (sym all) (subst (λ n. IsWritten asked new true n) (sym is) whole)
+
+  pub leading_kept : led ≡ false → Goes old new → new.table.count.change ≤ LAST → IsWritten asked old led written → IsWritten asked new led written
+  leading_kept none goes last w = subst (λ b. IsWritten asked new b written) (sym none) (written_goes asked old new led written goes last w)
+
+  -- the log leads all only where nothing has moved
+  pub leading_settled : (later : Bool) → Goes old new → new.table.count.change ≤ LAST
+      → (IsTrue later → (led ≡ true) × (new.table.count.change ≡ old.table.count.change) × (new.table.count.change < LAST) × (new.clock ≡ old.clock))
+      → (led ≡ true → written ≡ old.table.count.change) → IsWritten asked old led written → IsWritten asked new later written × (later ≡ true → written ≡ new.table.count.change)
+  leading_settled false goes last calm up_to w = (written_goes asked old new led written goes last w, λ f. absurd cc)
+  leading_settled true goes last calm up_to w =
+      let c = calm refl in
+      (subst (λ b. IsWritten asked new b written) c.0 (written_calm asked old new led written goes c.1 c.3 c.2 w), λ t. up_to c.0 ∙ sym c.1)
+
+-- a new node knows nothing that is not led
+pub written_new : (asked : Option (List LogCall)) (node : NodeContent) (number : ℕ) → node ≡ fresh number → IsWritten asked node true 0
+written_new asked node number is =
+    subst (λ (n : NodeContent). IsWritten asked n true 0) (sym is)
+    (written_whole asked (fresh number) (λ calls known. λ reader has. (omega arith, empty_below text_order slot_laws reader.1)))
+
+-- ---- one entry
+-- an entry that brings nothing, or bytes that are none
+pub takes_nothing : (old new : Standing) (bytes : List ℕ) → (IsNewer bytes → ⊥) → ((d : DeltaContent) → BringsDelta bytes d → ⊥) → new.node ≡ old.node → (old.settled ≡ true → (new.settled ≡ true) × (new.fleet ≡ old.fleet))
+    → new.led ≡ old.led → new.written ≡ old.written → ((n : ℕ) → HasBit (numbers_of new) n ↔ (HasBit (numbers_of old) n ⊎ Meets n bytes)) → Takes old (bytes ∷ []) new
+takes_nothing old new bytes known none node settled led written noted = record {
+  merged = (new.node, inr (none, node), refl);
+  good = (record { known = known; of_fleet = λ d brings. absurd (none d brings) }, tt);
+  settled = settled;
+  unsettled = λ h. (none, tt);
+  led = led;
+  written = λ h. written;
+  numbers = noted_one (numbers_of old) (numbers_of new) bytes noted;
+}
+
+no_delta : (body : BodyContent) (delta : List ℕ) → ((d : List ℕ) → HasDelta body d → ⊥) → HasDelta body delta → ⊥
+no_delta body delta none has = none delta has
+
+-- an entry without a delta brings none
+pub brings_none : (bytes : List ℕ) (e : EntryContent) → ((x : EntryContent) → IsEntry bytes x → e ≡ x) → ((delta : List ℕ) → HasDelta e.body delta → ⊥) → (d : DeltaContent) → BringsDelta bytes d → ⊥
+brings_none bytes e only none d brings = none brings.delta (subst (λ (x : EntryContent). HasDelta x.body brings.delta) (sym (only brings.entry brings.is)) brings.has)
+
+-- bytes that are no entry bring none
+pub brings_no_entry : (bytes : List ℕ) → ((x : EntryContent) → IsEntry bytes x → ⊥) → (d : DeltaContent) → BringsDelta bytes d → ⊥
+brings_no_entry bytes none d brings = none brings.entry brings.is
+
+same_delta : (body : BodyContent) (a b : List ℕ) → HasDelta body a → HasDelta body b → a ≡ b
+same_delta BodyContent.Start a b h g = absurd h
+same_delta (BodyContent.Delta own) a b h g = sym h ∙ g
+same_delta (BodyContent.Whole numbers own) a b h g = sym h ∙ g
+
+pub takes_delta : (old new : Standing) (bytes : List ℕ) (e : EntryContent) (delta : List ℕ) (d : DeltaContent) → IsEntry bytes e → ((x : EntryContent) → IsEntry bytes x → e ≡ x) → HasDelta e.body delta → IsSpelling delta d → (IsNewer bytes → ⊥)
+    → Merged old.node d.clock d.slots new.node → new.settled ≡ true → fleet_of new ≡ Some e.fleet → (old.settled ≡ true → new.fleet ≡ old.fleet) → new.led ≡ old.led → (old.led ≡ false → new.written ≡ old.written)
+    → ((n : ℕ) → HasBit (numbers_of new) n ↔ (HasBit (numbers_of old) n ⊎ ((e.number ≡ n) ⊎ TellsOf n e.body))) → Takes old (bytes ∷ []) new
+takes_delta old new bytes e delta d is only has spelled known merged settled fleet kept led written noted = record {
+  merged = (new.node, inl (d, record { entry = e; delta = delta; is = is; has = has; spelled = spelled }, merged), refl);
+  good = (record { known = known; of_fleet = λ x brings. fleet ∙ ap (λ (y : EntryContent). Some y.fleet) (only brings.entry brings.is) }, tt);
+  settled = λ h. (settled, kept h);
+  unsettled = λ h. absurd cc;
+  led = led;
+  written = written;
+  numbers = noted_one (numbers_of old) (numbers_of new) bytes (noted_entry (numbers_of old) (numbers_of new) bytes e is only noted);
+}
+
+-- ---- what holds of a success
+pub on_ok : {E P Q : Type 0} (r : Result (Unit {0}) E) → OnOk r P → (P → Q) → OnOk r Q
+on_ok (Ok x) p f = f p
+on_ok (Err e) p f = tt
+
+pub on_ok_four : {E A B C D Q : Type 0} (r : Result (Unit {0}) E) → OnOk r A → OnOk r B → OnOk r C → OnOk r D → (A → B → C → D → Q) → OnOk r Q
+on_ok_four (Ok x) a b c d f = f a b c d
+on_ok_four (Err e) a b c d f = tt
+
+-- ---- a member's parts
+pub same_then : (a b c : Standing) → HasSameStart a b → HasSameStart b c → HasSameStart a c
+same_then a b c one two = record {
+  number = two.number ∙ one.number;
+  start = two.start ∙ one.start;
+  made_up = two.made_up ∙ one.made_up;
+  alone = two.alone ∙ one.alone;
+  claimed = two.claimed ∙ one.claimed;
+  floor = two.floor ∙ one.floor;
+}
+
+pub same_none : (s : Standing) → HasSameStart s s
+same_none s = record { number = refl; start = refl; made_up = refl; alone = refl; claimed = refl; floor = refl }
+
+pub settled_leading : (asked : Option (List LogCall)) (old new : Standing) → Goes old.node new.node → new.node.table.count.change ≤ LAST → (IsTrue new.led → IsStill old new.node) → new.written ≡ old.written → IsLeading asked old → IsLeading asked new
+settled_leading asked old new goes last calm is leading =
+    let x = leading_settled asked old.node new.node old.led old.written new.led goes last calm leading.up_to leading.written in
+    record { written = subst (λ w. IsWritten asked new.node new.led w) (sym is) x.0; up_to = λ h. is ∙ x.1 h }

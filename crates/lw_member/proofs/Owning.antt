@@ -1,0 +1,161 @@
+-- What a member has appended is its own.
+use Rattle.std.proofs.Common.{◌≡◌, ◌<◌, inl, ℕ, List, [], ◌∷◌, ◌++◌, Option, Bool, true, false, refl, sym, ap, ◌∙◌, subst}
+use Rattle.std.specs.Prelude.{Result, Ok, Err, Some, IfOk}
+use Rattle.lw_node.specs.Exchange.{IsDeltaSince}
+use Rattle.lw_node.specs.Node.{NodeContent}
+use Rattle.lw_log.specs.Calls.{LogCall, Placed, Calls, append_calls}
+use Rattle.lw_delta.specs.Delta.{DeltaContent, IsSpelling}
+use Rattle.lw_log.specs.Entries.{BodyContent, HasDelta, BringsDelta}
+use Rattle.lw_log.specs.Entries.BodyContent.{Start, Delta, Whole}
+use Rattle.lw_log.specs.declared.log_fault.LogFault.{LogFault}
+use Rattle.lw_log.specs.declared.log_fault.LogFault.TheVariants.{Away, Refused, Lost, NoMemory}
+use Rattle.lw_log.specs.declared.position.Position.{Position}
+use Rattle.lw_log.specs.declared.start.Start.{Start as Starts}
+use Rattle.lw_member.specs.declared.standing.Standing.{Standing}
+use Rattle.lw_log.specs.Calls.LogCall.{Read, Wrote, Tried, Trimmed}
+use Rattle.lw_member.specs.Member.{MemberContent}
+use Rattle.lw_member.specs.Member.{IsWritten}
+use Rattle.lw_member.specs.Own.{AreOwnCalls, IsOwnEntry, IsOwnSince, WritesOwn}
+use Rattle.lw_member.specs.Parts.{content_of, fleet_of, numbers_of, IsMember}
+use Rattle.lw_member.specs.Reading.{AreReads}
+use Rattle.lw_member.specs.inner.Taking.{IsEntryOf}
+use Rattle.lw_member.specs.inner.Wholes.{IsWholeOf, IsTryingWhole}
+use Rattle.lw_member.specs.inner.Writing.{IsStartOf, AreClaims, Claims, WritesOwnCalls}
+use Rattle.lw_member.proofs.Asking.{calls_then}
+use Rattle.lw_member.proofs.Leading.{appended_led, written_anew, written_whole}
+
+pub own_append : (m : MemberContent) (xs ys : List LogCall) → AreOwnCalls m xs → AreOwnCalls m ys → AreOwnCalls m (xs ++ ys)
+own_append m [] ys one two = two
+own_append m (x ∷ xs) ys one two = (one.0, own_append m xs ys one.1 two)
+
+pub reads_own : (m : MemberContent) (calls : List LogCall) → AreReads calls → AreOwnCalls m calls
+reads_own m [] reads = tt
+reads_own m (Read from es ∷ calls) reads = (tt, reads_own m calls reads)
+reads_own m (Wrote p ∷ calls) reads = absurd reads
+reads_own m (Tried e ∷ calls) reads = absurd reads
+reads_own m (Trimmed p ∷ calls) reads = absurd reads
+
+-- ---- claims
+pub claims_append : (number tag : ℕ) (xs ys : List LogCall) → AreClaims number tag xs → AreClaims number tag ys → AreClaims number tag (xs ++ ys)
+claims_append number tag [] ys one two = two
+claims_append number tag (Read from es ∷ xs) ys one two = claims_append number tag xs ys one two
+claims_append number tag (Wrote p ∷ xs) ys one two = (one.0, claims_append number tag xs ys one.1 two)
+claims_append number tag (Tried e ∷ xs) ys one two = (one.0, claims_append number tag xs ys one.1 two)
+claims_append number tag (Trimmed p ∷ xs) ys one two = absurd one
+
+pub reads_claim : (number tag : ℕ) (calls : List LogCall) → AreReads calls → AreClaims number tag calls
+reads_claim number tag [] reads = tt
+reads_claim number tag (Read from es ∷ calls) reads = reads_claim number tag calls reads
+reads_claim number tag (Wrote p ∷ calls) reads = absurd reads
+reads_claim number tag (Tried e ∷ calls) reads = absurd reads
+reads_claim number tag (Trimmed p ∷ calls) reads = absurd reads
+
+claim_owns : (m : MemberContent) (bytes : List ℕ) → IsStartOf m.node.number m.tag bytes → IsOwnEntry m bytes
+claim_owns m bytes s = inl (record { entry = s.entry; is = s.is; number = s.number_is; tag = s.tag_is; body_is = s.body_is })
+
+pub claims_own : (m : MemberContent) (calls : List LogCall) → AreClaims m.node.number m.tag calls → AreOwnCalls m calls
+claims_own m [] claims = tt
+claims_own m (Read from es ∷ calls) claims = (tt, claims_own m calls claims)
+claims_own m (Wrote p ∷ calls) claims = (claim_owns m p.1 claims.0, claims_own m calls claims.1)
+claims_own m (Tried e ∷ calls) claims = (claim_owns m e claims.0, claims_own m calls claims.1)
+claims_own m (Trimmed p ∷ calls) claims = absurd claims
+
+pub append_claims : (number tag : ℕ) (entry : List ℕ) (r : Result Position LogFault) → IsStartOf number tag entry → AreClaims number tag (append_calls entry r)
+append_claims number tag entry (Ok p) own = (own, tt)
+append_claims number tag entry (Err NoMemory) own = tt
+append_claims number tag entry (Err Away) own = (own, tt)
+append_claims number tag entry (Err Refused) own = (own, tt)
+append_claims number tag entry (Err Lost) own = (own, tt)
+
+pub start_of : (s : Standing) (fleet bytes : List ℕ) → IsEntryOf s fleet Start bytes → IsStartOf s.start.number s.start.tag bytes
+start_of s fleet bytes e = record { entry = e.entry; is = e.is; number_is = e.number; tag_is = e.tag; body_is = e.body_is }
+
+-- ---- deltas
+pub append_own : (m : MemberContent) (entry : List ℕ) (r : Result Position LogFault) → IsOwnEntry m entry → AreOwnCalls m (append_calls entry r)
+append_own m entry (Ok p) own = (own, tt)
+append_own m entry (Err NoMemory) own = tt
+append_own m entry (Err Away) own = (own, tt)
+append_own m entry (Err Refused) own = (own, tt)
+append_own m entry (Err Lost) own = (own, tt)
+
+pub own_since : (asked : Option (List LogCall)) (s0 s : Standing) (fleet delta bytes : List ℕ) (since : ℕ) → s.node ≡ s0.node → s.start ≡ s0.start → fleet_of s ≡ Some fleet → IsDeltaSince s0.node since delta → IsEntryOf s0 fleet (Delta delta) bytes
+    → s0.start.number ≡ s0.node.number → IsOwnSince (content_of asked s) since bytes
+own_since asked s0 s fleet delta bytes since node start fleet_is is e number = (
+  delta,
+  subst (λ (n : NodeContent). IsDeltaSince n since delta) (sym node) is,
+  (
+    record {
+      entry = e.entry;
+      is = e.is;
+      number = e.number ∙ number ∙ ap (λ (n : NodeContent). n.number) (sym node);
+      tag = e.tag ∙ ap (λ (x : Starts). x.tag) (sym start);
+      body_is = e.body_is;
+    },
+    fleet_is ∙ ap (λ f. Some f) (sym e.fleet_is),
+  ),
+)
+
+-- after an entry with all that has moved since then was appended, the log leads all that the node knows
+pub member_brings : (a0 a1 : Option (List LogCall)) (s0 s : Standing) (p : Placed) (since : ℕ) (led : Bool) (delta : List ℕ) (is : IsDeltaSince s0.node since delta) → BringsDelta p.1 (record { clock = s0.node.clock; slots = is.slots })
+    → Calls a0 a1 (Wrote p ∷ []) → IsWritten a0 s0.node led since → s.node ≡ s0.node → s.start ≡ s0.start → s.floor ≡ s0.floor → s.led ≡ true → s.written ≡ s0.node.table.count.change → IsMember a0 s0 → IsMember a1 s
+member_brings a0 a1 s0 s p since led delta is brings asked was node start floor is_led written m =
+    let whole = appended_led s0.node since is.slots is.are a0 a1 p led asked brings was in
+    let now = written_whole a1 s0.node whole in
+    record {
+      leading = record {
+        written = subst (λ n. IsWritten a1 n s.led s.written) (sym node) (subst (λ l. IsWritten a1 s0.node l s.written) (sym is_led) (subst (λ w. IsWritten a1 s0.node true w) (sym written) now));
+        up_to = λ h. written ∙ ap (λ (n : NodeContent). n.table.count.change) (sym node);
+      };
+      number = ap (λ (x : Starts). x.number) start ∙ m.number ∙ ap (λ (n : NodeContent). n.number) (sym node);
+      floor = subst (λ n. n < 281474976710656) (sym floor) m.floor;
+    }
+
+brought_by : (s : Standing) (fleet delta bytes : List ℕ) (body : BodyContent) (d : DeltaContent) → IsEntryOf s fleet body bytes → HasDelta body delta → IsSpelling delta d → BringsDelta bytes d
+brought_by s fleet delta bytes body d e has spelled = record { entry = e.entry; delta = delta; is = e.is; has = subst (λ b. HasDelta b delta) (sym e.body_is) has; spelled = spelled }
+
+-- after its entry was appended the log leads all that the node knows
+pub member_written : (a0 a1 : Option (List LogCall)) (s0 s : Standing) (p : Placed) (fleet delta : List ℕ) → IsDeltaSince s0.node s0.written delta → IsEntryOf s0 fleet (Delta delta) p.1 → Calls a0 a1 (Wrote p ∷ [])
+    → s.node ≡ s0.node → s.start ≡ s0.start → s.floor ≡ s0.floor → s.led ≡ true → s.written ≡ s0.node.table.count.change → IsMember a0 s0 → IsMember a1 s
+member_written a0 a1 s0 s p fleet delta is e asked node start floor led written m =
+    member_brings a0 a1 s0 s p s0.written s0.led delta is (brought_by s0 fleet delta p.1 (Delta delta) _ e refl is.spelled) asked m.leading.written node start floor led written m
+
+-- and so it is after a whole one
+pub member_whole : (a0 a1 : Option (List LogCall)) (s0 s : Standing) (p : Placed) (fleet : List ℕ) → IsWholeOf s0 fleet p.1 → Calls a0 a1 (Wrote p ∷ [])
+    → s.node ≡ s0.node → s.start ≡ s0.start → s.floor ≡ s0.floor → s.led ≡ true → s.written ≡ s0.node.table.count.change → IsMember a0 s0 → IsMember a1 s
+member_whole a0 a1 s0 s p fleet w asked node start floor led written m =
+    member_brings a0 a1 s0 s p 0 false w.delta w.is (brought_by s0 fleet w.delta p.1 (Whole (numbers_of s0) w.delta) _ w.entry refl w.is.spelled) asked (written_anew a0 s0.node s0.led s0.written m.leading.written) node start floor led written m
+
+pub append_whole : (s : Standing) (fleet entry : List ℕ) (r : Result Position LogFault) → IsWholeOf s fleet entry → IsTryingWhole s fleet (append_calls entry r)
+append_whole s fleet entry (Ok p) whole = whole
+append_whole s fleet entry (Err NoMemory) whole = tt
+append_whole s fleet entry (Err Away) whole = whole
+append_whole s fleet entry (Err Refused) whole = whole
+append_whole s fleet entry (Err Lost) whole = whole
+
+-- ---- what a round has appended
+claims_at : (a : Option (List LogCall)) (s0 s : Standing) (calls : List LogCall) → s0.start.number ≡ s.node.number → s0.start.tag ≡ s.start.tag → AreClaims s0.start.number s0.start.tag calls → AreOwnCalls (content_of a s) calls
+claims_at a s0 s calls number tag claims = claims_own (content_of a s) calls (subst (λ t. AreClaims s.node.number t calls) tag (subst (λ n. AreClaims n s0.start.tag calls) number claims))
+
+pub claims_write : (a0 a1 : Option (List LogCall)) (s0 s : Standing) → Claims a0 a1 s0 → s0.start.number ≡ s0.node.number → s.node.number ≡ s0.node.number → s.start ≡ s0.start → WritesOwn (content_of a0 s0) (content_of a1 s)
+claims_write a0 a1 s0 s claims own number start = record { more = claims.0; asked = claims.1; own = claims_at a1 s0 s claims.0 (own ∙ sym number) (ap (λ (x : Starts). x.tag) (sym start)) claims.2 }
+
+pub claims_write_more : (a0 a1 a2 : Option (List LogCall)) (s0 s : Standing) → Claims a0 a1 s0 → WritesOwnCalls a1 a2 s → s0.start.number ≡ s0.node.number → s.node.number ≡ s0.node.number → s.start ≡ s0.start → WritesOwn (content_of a0 s0) (content_of a2 s)
+claims_write_more a0 a1 a2 s0 s claims more own number start = record {
+  more = claims.0 ++ more.0;
+  asked = calls_then a0 a1 a2 claims.0 more.0 claims.1 more.1;
+  own = own_append (content_of a2 s) claims.0 more.0 (claims_at a2 s0 s claims.0 (own ∙ sym number) (ap (λ (x : Starts). x.tag) (sym start)) claims.2) more.2;
+}
+
+pub reads_write : (a0 a1 : Option (List LogCall)) (s0 s : Standing) → (pages : List LogCall) × Calls a0 a1 pages × AreReads pages → WritesOwn (content_of a0 s0) (content_of a1 s)
+reads_write a0 a1 s0 s reads = record { more = reads.0; asked = reads.1; own = reads_own (content_of a1 s) reads.0 reads.2 }
+
+pub reads_write_more : (a0 a1 a2 : Option (List LogCall)) (s0 s : Standing) → (pages : List LogCall) × Calls a0 a1 pages × AreReads pages → WritesOwnCalls a1 a2 s → WritesOwn (content_of a0 s0) (content_of a2 s)
+reads_write_more a0 a1 a2 s0 s reads more = record {
+  more = reads.0 ++ more.0;
+  asked = calls_then a0 a1 a2 reads.0 more.0 reads.1 more.1;
+  own = own_append (content_of a2 s) reads.0 more.0 (reads_own (content_of a2 s) reads.0 reads.2) more.2;
+}
+
+pub if_ok : {A E : Type 0} (P Q : A → Type 0) (r : Result A E) → IfOk r P → ((x : A) → P x → Q x) → IfOk r Q
+if_ok P Q (Ok x) p f = f x p
+if_ok P Q (Err e) p f = tt

@@ -1,0 +1,173 @@
+-- A round, put together from its parts.
+use Rattle.std.proofs.Common.{◌≡◌, inl, inr, ℕ, List, [], ◌∷◌, Option, Bool, true, false, cond, refl, sym, ap, ◌∙◌, subst, arith}
+use Rattle.std.specs.Prelude.{IsTrue, option_map}
+use Rattle.lw_call.specs.declared.call.Call.{Call}
+use Rattle.lw_call.specs.declared.reply.Reply.{Reply}
+use Rattle.lw_node.specs.Node.{NodeContent}
+use Rattle.lw_log.specs.Calls.{LogCall, Calls, place_of}
+use Rattle.lw_log.specs.Calls.LogCall.{Wrote}
+use Rattle.lw_log.specs.declared.entry.FleetId.{FleetId}
+use Rattle.lw_log.specs.declared.start.Start.{Start as Starts}
+use Rattle.lw_log.specs.Entries.BodyContent.{Start}
+use Rattle.lw_member.specs.declared.numbers.Numbers.{Numbers}
+use Rattle.lw_member.specs.declared.standing.Standing.{Standing}
+use Rattle.lw_member.specs.Own.{IsOwnIn, IsOwnSince}
+use Rattle.lw_member.specs.Parts.{content_of, fleet_of, numbers_of, IsMember}
+use Rattle.lw_member.specs.Reading.{AreReadToTheEnd, entries_in, AreGood, AreNoted, HoldsNumber}
+use Rattle.lw_member.specs.Rounds.{Makes, IsClaiming, IsCalm, IsWriting, IsRound, IsSameStart, place_after, since_of}
+use Rattle.lw_member.specs.inner.Going.{Goes}
+use Rattle.lw_member.specs.inner.Standing.{HasSameStart, IsStill}
+use Rattle.lw_member.specs.inner.Taking.{Takes, IsJudged}
+use Rattle.lw_member.specs.inner.Writing.{Made, Written, IsClaimed}
+use Rattle.lw_member.proofs.Asking.{calls_then}
+use Rattle.lw_member.proofs.Numbering.{noted_same}
+use Rattle.lw_member.proofs.Taking.{judged_holds}
+
+not_both : {G : Type 0} → false ≡ true → G
+not_both h = absurd cc
+
+place_none : (alone : Bool) (after : Option (ℕ × ℕ)) → after ≡ place_after alone after []
+place_none true after = refl
+place_none false after = refl
+
+since_is : (led : Bool) (change written s : ℕ) → (led ≡ true → s ≡ change) → (led ≡ false → s ≡ written) → cond led change written ≡ s
+since_is true change written s one other = sym (one refl)
+since_is false change written s one other = sym (other refl)
+
+module _ (a1 a2 : Option (List LogCall)) (old merged s1 s2 s3 : Standing) (asked : Option (List LogCall)) (calls : List Call) (replies : List Reply)
+    (made : Made s1 calls replies s2) (wrote : Written a1 s2 a2 s3)
+    (led : merged.led ≡ old.led) (up_to : old.led ≡ true → merged.written ≡ merged.node.table.count.change) (written : old.led ≡ false → merged.written ≡ old.written)
+    (written_is : s1.written ≡ merged.written)
+    (calm : IsTrue s2.led → IsStill merged s2.node) (still : IsStill merged s2.node → IsTrue s2.led) where
+  to_calm : IsStill merged s2.node → IsCalm (content_of asked old) merged.node s3.node
+  to_calm h = subst (λ (n : NodeContent). IsCalm (content_of asked old) merged.node n) (sym wrote.node) (sym led ∙ h.0, h.1, h.2, h.3)
+
+  from_calm : IsCalm (content_of asked old) merged.node s3.node → IsStill merged s2.node
+  from_calm h = let x = subst (λ (n : NodeContent). IsCalm (content_of asked old) merged.node n) wrote.node h in (led ∙ x.0, x.1, x.2, x.3)
+
+  written_now : s2.written ≡ merged.written
+  written_now = ap (λ (s : Standing). s.written) made.only ∙ written_is
+
+  since_now : since_of (content_of asked old) merged.node ≡ s2.written
+  since_now = since_is old.led merged.node.table.count.change old.written s2.written (λ h. written_now ∙ up_to h) (λ h. written_now ∙ written h)
+
+  pub is_writing : IsWriting (content_of asked old) merged.node wrote.now.wrote (content_of a2 s3)
+  is_writing = elim wrote.now.one [
+    | inl x ↦ inl (to_calm (calm x.0), x.1)
+    | inr x ↦ inr (λ h. not_both (sym x.0 ∙ still (from_calm h)), x.1, x.2, subst (λ since. IsOwnSince (content_of a2 s3) since x.1.1) (sym since_now) x.3)
+  ]
+
+-- the start stays the same
+same_start : (a0 a3 : Option (List LogCall)) (s0 s1 s2 s3 : Standing) → s1.node.number ≡ s0.node.number → s1.start ≡ s0.start → s1.alone ≡ s0.alone → s1.floor ≡ s0.floor → Goes s1.node s2.node → s2 ≡ record s1 { node = s2.node; led = s2.led }
+    → HasSameStart s2 s3 → IsSameStart (content_of a0 s0) (content_of a3 s3)
+same_start a0 a3 s0 s1 s2 s3 number start alone floor goes only same = record {
+  number = same.number ∙ goes.number ∙ number;
+  tag = ap (λ (s : Starts). s.tag) (same.start ∙ ap (λ (s : Standing). s.start) only ∙ start);
+  floor = same.floor ∙ ap (λ (s : Standing). s.floor) only ∙ floor;
+  alone = same.alone ∙ ap (λ (s : Standing). s.alone) only ∙ alone;
+}
+
+good_later : (s1 s2 s3 : Standing) (es : List (List ℕ)) → s2 ≡ record s1 { node = s2.node; led = s2.led } → s3.fleet ≡ s2.fleet → AreGood (fleet_of s1) es → AreGood (fleet_of s3) es
+good_later s1 s2 s3 es only fleet good =
+    subst (λ f. AreGood f es) (ap (λ (f : Option FleetId). option_map (λ (x : FleetId). x.bytes) f) (sym (fleet ∙ ap (λ (s : Standing). s.fleet) only))) good
+
+noted_later : (s0 s1 s2 s3 : Standing) (es : List (List ℕ)) → s2 ≡ record s1 { node = s2.node; led = s2.led } → s3.numbers ≡ s2.numbers → AreNoted (numbers_of s0) es (numbers_of s1) → AreNoted (numbers_of s0) es (numbers_of s3)
+noted_later s0 s1 s2 s3 es only numbers noted = noted_same (numbers_of s0) (numbers_of s0) (numbers_of s1) (numbers_of s3) es refl (ap (λ (x : Numbers). x.bytes.value) numbers ∙ ap numbers_of only) noted
+
+-- ---- a round that claims nothing
+module _ (a0 a1 a2 : Option (List LogCall)) (s0 s1 s2 s3 : Standing) (calls : List Call) (replies : List Reply) (pages : List LogCall) (own : Bool)
+    (asked : Calls a0 a1 pages) (read : AreReadToTheEnd (place_of s0.read_to) pages) (takes : Takes s0 (entries_in pages) s1)
+    (judged : IsJudged s0.claimed s0.start.number s0.start.tag (entries_in pages) own) (same : HasSameStart s0 s1) (member : IsMember a0 s0) (later : IsMember a1 s1)
+    (made : Made s1 calls replies s2) (wrote : Written a1 s2 a2 s3) (idle : ¬ IsClaiming (content_of a0 s0) calls) where
+  holds_idle : s0.claimed ≡ false → HoldsNumber s3.node.number s3.start.tag (entries_in pages)
+  holds_idle unclaimed =
+      let number : s0.start.number ≡ s3.node.number = member.number ∙ sym (wrote.same.number ∙ made.goes.number ∙ same.number) in
+      let tag : s0.start.tag ≡ s3.start.tag = ap (λ (s : Starts). s.tag) (sym (wrote.same.start ∙ ap (λ (s : Standing). s.start) made.only ∙ same.start)) in
+      let h : HoldsNumber s0.start.number s0.start.tag (entries_in pages) = judged_holds s0.start.number s0.start.tag (entries_in pages) own (subst (λ b. IsJudged b s0.start.number s0.start.tag (entries_in pages) own) unclaimed judged) in
+      subst (λ n. HoldsNumber n s3.start.tag (entries_in pages)) number (subst (λ t. HoldsNumber s0.start.number t (entries_in pages)) tag h)
+
+  pub idle_round : IsRound (content_of a0 s0) calls replies (content_of a2 s3)
+  idle_round = record {
+    claim = [];
+    pages = pages;
+    merged_node = s1.node;
+    mid = s1.node;
+    wrote = wrote.now.wrote;
+    asked = calls_then a0 a1 a2 pages wrote.now.wrote asked wrote.now.asked;
+    start = same_start a0 a2 s0 s1 s2 s3 same.number same.start same.alone same.floor made.goes made.only wrote.same;
+    claims = inl (idle, refl, wrote.same.claimed ∙ ap (λ (s : Standing). s.claimed) made.only ∙ same.claimed);
+    read = subst (λ p. AreReadToTheEnd p pages) (place_none s0.alone (place_of s0.read_to)) read;
+    good = good_later s1 s2 s3 (entries_in pages) made.only wrote.fleet takes.good;
+    holds = holds_idle;
+    numbers = noted_later s0 s1 s2 s3 (entries_in pages) made.only wrote.numbers takes.numbers;
+    merged = takes.merged;
+    raised = refl;
+    made = subst (λ (n : NodeContent). Makes s1.node calls replies n) (sym wrote.node) made.made;
+    written = is_writing a1 a2 s0 s1 s1 s2 s3 a0 calls replies made wrote takes.led (λ h. later.leading.up_to (takes.led ∙ h)) takes.written refl made.still.0 made.still.1;
+    all = wrote.now.led;
+    led = wrote.member.leading.written.whole wrote.now.led;
+  }
+
+-- ---- a round that claims its number
+module _ (a0 a1 a2 : Option (List LogCall)) (s0 s1 s2 s3 : Standing) (calls : List Call) (replies : List Reply)
+    (claimed : IsClaimed a0 s0 a1 s1) (same : HasSameStart s0 (record s1 { claimed = false })) (is : s1.claimed ≡ true)
+    (made : Made s1 calls replies s2) (wrote : Written a1 s2 a2 s3) (claiming : IsClaiming (content_of a0 s0) calls) where
+  -- the log led all, and nothing has moved since the merges
+  calm_since : IsTrue s2.led → IsStill claimed.merged s2.node
+  calm_since h =
+      let x = made.still.0 h in
+      let y = claimed.still.0 x.0 in
+      (y.0, x.1 ∙ y.1, x.2, x.3 ∙ y.3)
+
+  still_since : IsStill claimed.merged s2.node → IsTrue s2.led
+  still_since h =
+      let a = claimed.goes.change in
+      let b = made.goes.change in
+      let c = claimed.goes.clock in
+      let d = made.goes.clock in
+      let e = h.1 in
+      let f = h.3 in
+      let l = h.2 in
+      made.still.1 (
+        claimed.still.1 (h.0, omega (arith, a, b, e), omega (arith, a, b, e, l), omega (arith, c, d, f)),
+        omega (arith, a, b, e),
+        l,
+        omega (arith, c, d, f),
+      )
+
+  tag_is : s1.start.tag ≡ s3.start.tag
+  tag_is = ap (λ (s : Starts). s.tag) (sym (wrote.same.start ∙ ap (λ (s : Standing). s.start) made.only))
+
+  number_is : s1.node.number ≡ s3.node.number
+  number_is = sym (wrote.same.number ∙ made.goes.number)
+
+  fleet_is : fleet_of s1 ≡ fleet_of s3
+  fleet_is = ap (λ (f : Option FleetId). option_map (λ (x : FleetId). x.bytes) f) (sym (wrote.fleet ∙ ap (λ (s : Standing). s.fleet) made.only))
+
+  own_start : IsOwnIn (content_of a2 s3) Start claimed.place.1
+  own_start = (
+    record { entry = claimed.own.0.entry; is = claimed.own.0.is; number = claimed.own.0.number ∙ number_is; tag = claimed.own.0.tag ∙ tag_is; body_is = claimed.own.0.body_is },
+    sym fleet_is ∙ claimed.own.1,
+  )
+
+  pub claimed_round : IsRound (content_of a0 s0) calls replies (content_of a2 s3)
+  claimed_round = record {
+    claim = Wrote claimed.place ∷ [];
+    pages = claimed.pages;
+    merged_node = claimed.merged.node;
+    mid = s1.node;
+    wrote = wrote.now.wrote;
+    asked = calls_then a0 a1 a2 (Wrote claimed.place ∷ claimed.pages) wrote.now.wrote claimed.asked wrote.now.asked;
+    start = same_start a0 a2 s0 s1 s2 s3 same.number same.start same.alone same.floor made.goes made.only wrote.same;
+    claims = inr (claiming, wrote.same.claimed ∙ ap (λ (s : Standing). s.claimed) made.only ∙ is, claimed.place, refl, own_start);
+    read = claimed.read;
+    good = good_later s1 s2 s3 (entries_in claimed.pages) made.only wrote.fleet claimed.good;
+    holds = λ unclaimed. subst (λ n. HoldsNumber n s3.start.tag (entries_in claimed.pages)) number_is (subst (λ t. HoldsNumber s1.node.number t (entries_in claimed.pages)) tag_is claimed.holds);
+    numbers = noted_later s0 s1 s2 s3 (entries_in claimed.pages) made.only wrote.numbers claimed.numbers;
+    merged = claimed.merges;
+    raised = claimed.raised;
+    made = subst (λ (n : NodeContent). Makes s1.node calls replies n) (sym wrote.node) made.made;
+    written = is_writing a1 a2 s0 claimed.merged s1 s2 s3 a0 calls replies made wrote claimed.led claimed.up_to claimed.written claimed.written_is calm_since still_since;
+    all = wrote.now.led;
+    led = wrote.member.leading.written.whole wrote.now.led;
+  }

@@ -1,0 +1,57 @@
+use Rattle.std.proofs.Common.{true, ap, ◌∙◌, sym, refl, subst}
+use Rattle.lw_delta.specs.Delta.{IsSpelling}
+use Rattle.lw_node.specs.Exchange.{IsDeltaSince}
+use Rattle.lw_node.specs.Node.{NodeContent}
+use Rattle.lw_log.specs.Calls.{place}
+use Rattle.lw_log.specs.Entries.BodyContent.{Whole}
+use Rattle.lw_member.specs.inner.Taking.{IsEntryOf}
+use Rattle.lw_member.specs.Parts.{numbers_of}
+use Rattle.lw_member.specs.declared.standing.Standing.{Standing}
+use Rattle.lw_member.proofs.Catching.{member_failed}
+use Rattle.lw_member.proofs.Owning.{append_whole, member_whole}
+use Rattle.lw_member.proofs.compaction.write_whole.Goals as goal
+
+pub entry-requires-clause-fits : goal.entry-requires-clause-fits
+entry-requires-clause-fits g c = c.as_bytes.ensures.length
+
+pub entry-requires-clause-spelt : goal.entry-requires-clause-spelt
+entry-requires-clause-spelt g c =
+    let is = subst (λ d. IsDeltaSince c.args.standing.now.node 0 d) (sym c.deref.ensures.value) c.in_ok-delta.ensures in
+    λ delta has. (record { clock = c.args.standing.now.node.clock; slots = is.slots }, subst (λ d. IsSpelling d (record { clock = c.args.standing.now.node.clock; slots = is.slots })) has is.spelled)
+
+pub returns-in_err-position-clause-member : goal.returns-in_err-position-clause-member
+returns-in_err-position-clause-member g c = member_failed _ _ _ _ _ c.append.ensures.asked c.append.ensures.only c.append.ensures.leading c.requires
+
+pub returns-in_err-position-clause-own : goal.returns-in_err-position-clause-own
+returns-in_err-position-clause-own g c =
+    let s0 = c.args.standing.now in
+    let is = subst (λ d. IsDeltaSince s0.node 0 d) (sym c.deref.ensures.value) c.in_ok-delta.ensures in
+    let e = subst (λ b. IsEntryOf s0 c.args.fleet.bytes (Whole (numbers_of s0) c.deref.result.now) b) (sym c.deref-2.ensures.value) (subst (λ ns. IsEntryOf s0 c.args.fleet.bytes (Whole ns c.deref.result.now) c.in_ok-entry.entry.items) c.as_bytes.ensures.bytes c.in_ok-entry.ensures) in
+    (_, c.append.ensures.asked, append_whole s0 _ _ _ (record { delta = c.deref.result.now; is = is; entry = e }))
+
+pub returns-clause-own : goal.returns-clause-own
+returns-clause-own g c =
+    let s0 = c.args.standing.now in
+    let is = subst (λ d. IsDeltaSince s0.node 0 d) (sym c.deref.ensures.value) c.in_ok-delta.ensures in
+    let e = subst (λ b. IsEntryOf s0 c.args.fleet.bytes (Whole (numbers_of s0) c.deref.result.now) b) (sym c.deref-2.ensures.value) (subst (λ ns. IsEntryOf s0 c.args.fleet.bytes (Whole ns c.deref.result.now) c.in_ok-entry.entry.items) c.as_bytes.ensures.bytes c.in_ok-entry.ensures) in
+    (_, c.append.ensures.asked, append_whole s0 _ _ _ (record { delta = c.deref.result.now; is = is; entry = e }))
+
+pub returns-clause-written : goal.returns-clause-written
+returns-clause-written g c =
+    let s0 = c.args.standing.now in
+    let is = subst (λ d. IsDeltaSince s0.node 0 d) (sym c.deref.ensures.value) c.in_ok-delta.ensures in
+    let e = subst (λ b. IsEntryOf s0 c.args.fleet.bytes (Whole (numbers_of s0) c.deref.result.now) b) (sym c.deref-2.ensures.value) (subst (λ ns. IsEntryOf s0 c.args.fleet.bytes (Whole ns c.deref.result.now) c.in_ok-entry.entry.items) c.as_bytes.ensures.bytes c.in_ok-entry.ensures) in
+    record { place = (place c.in_ok-position.position, c.deref-2.result.now); asked = c.in_ok-position.ensures.asked; whole = record { delta = c.deref.result.now; is = is; entry = e }; led = refl }
+
+pub returns-clause-member : goal.returns-clause-member
+returns-clause-member g c =
+    let s0 = c.args.standing.now in
+    let only = c.appended_whole.ensures.only in
+    let done = c.in_ok-position.ensures.done in
+    let is = subst (λ d. IsDeltaSince s0.node 0 d) (sym c.deref.ensures.value) c.in_ok-delta.ensures in
+    let e = subst (λ b. IsEntryOf s0 c.args.fleet.bytes (Whole (numbers_of s0) c.deref.result.now) b) (sym c.deref-2.ensures.value) (subst (λ ns. IsEntryOf s0 c.args.fleet.bytes (Whole ns c.deref.result.now) c.in_ok-entry.entry.items) c.as_bytes.ensures.bytes c.in_ok-entry.ensures) in
+    let node = ap (λ (x : Standing). x.node) only ∙ ap (λ (x : Standing). x.node) done in
+    let start = ap (λ (x : Standing). x.start) only ∙ ap (λ (x : Standing). x.start) done in
+    let floor = ap (λ (x : Standing). x.floor) only ∙ ap (λ (x : Standing). x.floor) done in
+    let s : Standing = record c.appended_whole.new.self { led = true; written = c.change-standing.result } in
+    member_whole _ _ s0 s (place c.in_ok-position.position, c.deref-2.result.now) _ (record { delta = c.deref.result.now; is = is; entry = e }) c.in_ok-position.ensures.asked node start floor refl (c.change-standing.ensures ∙ ap (λ (n : NodeContent). n.table.count.change) node) c.requires

@@ -1,0 +1,47 @@
+use Rattle.std.proofs.Common.{◌≡◌, ◌≤◌, false, sym, ap, ◌∙◌, subst}
+use Rattle.lw_node.specs.Node.{NodeContent, fresh}
+use Rattle.lw_log.specs.declared.start.Start.{Start}
+use Rattle.lw_member.specs.Reading.{AreReadToTheEnd, IsFree, IsMet, MergesEntries, entries_in}
+use Rattle.lw_member.specs.Beginning.{IsFirstFree}
+use Rattle.lw_member.specs.Parts.{numbers_of}
+use Rattle.lw_member.specs.inner.Taking.{IsJudged}
+use Rattle.lw_member.proofs.Asking.{calls_then}
+use Rattle.lw_member.proofs.Numbering.{first_free_met, noted_new}
+use Rattle.lw_member.proofs.member.Member.begin.Goals as goal
+
+pub invariant_of-result : goal.invariant_of-result
+invariant_of-result g c = c.catch_up.ensures.member (c.in_ok-standing.ensures.member _)
+
+pub returns : goal.returns
+returns g c =
+    let found = c.in_ok-found.ensures in
+    let read = c.in_ok-catch_up.ensures.read in
+    let s = c.in_ok-standing.standing in
+    let s1 = c.catch_up.new.standing in
+    let same = c.catch_up.ensures.same in
+    let new = c.in_ok-standing.ensures.new in
+    let m = c.catch_up.ensures.member (c.in_ok-standing.ensures.member _) in
+    let number : s.start.number ≡ s1.node.number = ap (λ (x : Start). x.number) (sym same.start) ∙ m.number in
+    let judged = subst (λ o. IsJudged s.claimed s.start.number s.start.tag (entries_in read.0) o) c.if-branch.false read.4 in
+    let free : IsFree s.start.number (entries_in read.0) = subst (λ b. IsJudged b s.start.number s.start.tag (entries_in read.0) false) new.unclaimed judged in
+    let start = new.start_is in
+    record {
+      looked = found.0;
+      pages = read.0;
+      asked = calls_then _ _ _ found.0 read.0 found.1 read.1;
+      found = found.2;
+      uncut = found.3;
+      read = subst (λ p. AreReadToTheEnd p read.0) new.unread read.2;
+      good = read.3.good;
+      free = subst (λ n. IsFree n (entries_in read.0)) number free;
+      number = subst (λ n. 1 ≤ n) (ap (λ (x : Start). x.number) (sym start) ∙ number) c.in-Some.ensures.found.within.0;
+      first_free = subst (λ n. IsFirstFree (λ m. IsMet m (entries_in found.0)) c.args.chance.now.number n) (ap (λ (x : Start). x.number) (sym start) ∙ number)
+          (first_free_met c.in_ok-found.found.numbers.bytes.value (entries_in found.0) c.args.chance.now.number c.in-Some.number found.4 c.in-Some.ensures.found);
+      numbers = noted_new (numbers_of s) (numbers_of s1) (entries_in read.0) new.numbers read.3.numbers;
+      merged = subst (λ (n : NodeContent). MergesEntries n (entries_in read.0) s1.node) (new.node ∙ ap fresh (ap (λ (x : Start). x.number) (sym start) ∙ number)) read.3.merged;
+      tag_is = ap (λ (x : Start). x.tag) (same.start ∙ start);
+      floor_is = same.floor ∙ new.floor_is ∙ c.floor_at.ensures;
+      unclaimed = same.claimed ∙ new.unclaimed;
+      all = read.3.led ∙ new.led;
+      led = m.leading.written.whole (read.3.led ∙ new.led);
+    }

@@ -1,0 +1,34 @@
+use Rattle.std.proofs.Common.{◌≡◌, ◌<◌, Some, true, ◌∙◌, sym, refl, subst}
+use Rattle.lw_member.specs.Parts.{fleet_of}
+use Rattle.lw_member.proofs.Catching.{member_goes, member_claimed}
+use Rattle.lw_member.proofs.Claiming.{claim_is, claims_read}
+use Rattle.lw_member.proofs.rounds.claim.Goals as goal
+
+pub returns-in_err-catch_up-clause-own : goal.returns-in_err-catch_up-clause-own
+returns-in_err-catch_up-clause-own g c = claims_read _ _ _ c.args.standing.now c.in_ok-fleet.ensures.own c.catch_up.ensures.asked
+
+pub returns-clause-own : goal.returns-clause-own
+returns-clause-own g c = claims_read _ _ _ c.args.standing.now c.in_ok-fleet.ensures.own c.catch_up.ensures.asked
+
+pub raise-requires : goal.raise-requires
+raise-requires g c = subst (λ n. n < 281474976710656) (sym (c.catch_up.ensures.same.floor ∙ c.in_ok-fleet.ensures.same.floor)) c.requires.floor
+
+pub returns-in_err-raise-clause-own : goal.returns-in_err-raise-clause-own
+returns-in_err-raise-clause-own g c = claims_read _ _ _ c.args.standing.now c.in_ok-fleet.ensures.own c.catch_up.ensures.asked
+
+pub returns-in_err-raise-clause-member : goal.returns-in_err-raise-clause-member
+returns-in_err-raise-clause-member g c = λ m. member_goes _ c.catch_up.new.standing c.raise.new.self c.raise.ensures.only c.raise.ensures.goes c.raise.ensures.leading (c.catch_up.ensures.member (c.in_ok-fleet.ensures.member m))
+
+pub returns-then-is_in-clause-claimed : goal.returns-then-is_in-clause-claimed
+returns-then-is_in-clause-claimed g c = λ m.
+    let read = c.in_ok-catch_up.ensures.read in
+    let fleet : fleet_of c.catch_up.new.standing ≡ Some c.in_ok-fleet.fleet.bytes = c.if-is_in.ensures.0 refl in
+    claim_is _ _ _ c.args.standing.now c.write_start.new.standing c.catch_up.new.standing c.raise.new.self c.in_ok-fleet.fleet.bytes c.in_ok-catch_up.field-0 read.0
+    c.in_ok-fleet.ensures.started read.1 read.2 read.3 read.4 c.catch_up.ensures.same fleet m.number c.requires.unclaimed (c.catch_up.ensures.member (c.in_ok-fleet.ensures.member m))
+    c.in_ok-raise.ensures.raised c.in_ok-raise.ensures.led c.raise.ensures.only c.raise.ensures.goes
+
+pub returns-then-is_in-clause-own : goal.returns-then-is_in-clause-own
+returns-then-is_in-clause-own g c = claims_read _ _ _ c.args.standing.now c.in_ok-fleet.ensures.own c.catch_up.ensures.asked
+
+pub returns-then-is_in-clause-member : goal.returns-then-is_in-clause-member
+returns-then-is_in-clause-member g c = λ m. member_claimed _ c.raise.new.self true (member_goes _ c.catch_up.new.standing c.raise.new.self c.raise.ensures.only c.raise.ensures.goes c.raise.ensures.leading (c.catch_up.ensures.member (c.in_ok-fleet.ensures.member m)))

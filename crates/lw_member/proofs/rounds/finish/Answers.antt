@@ -1,0 +1,30 @@
+use Rattle.std.proofs.Common.{◌≡◌, ◌++◌, List, ap, ◌∙◌, sym, subst}
+use Rattle.lw_call.specs.declared.reply.Reply.{Reply}
+use Rattle.lw_member.specs.Rounds.{Makes}
+use Rattle.lw_member.proofs.Catching.{member_goes}
+use Rattle.lw_member.proofs.rounds.finish.Goals as goal
+
+pub returns-clause-finished : goal.returns-clause-finished
+returns-clause-finished g c =
+    let s0 = c.args.standing.now in
+    let mid = c.make.new.self in
+    let m = member_goes _ s0 mid c.make.ensures.only c.make.ensures.goes c.make.ensures.leading c.requires in
+    let made = c.make.ensures.made in
+    let items : c.make.new.replies.items ≡ made.0 = made.1 ∙ ap (λ (xs : List Reply). xs ++ made.0) c.in_ok-replies.ensures.items in
+    record {
+      mid = mid;
+      made = record { made = subst (λ rs. Makes s0.node c.args.calls.now rs mid.node) (sym items) made.2; goes = c.make.ensures.goes; still = c.make.ensures.led; only = c.make.ensures.only };
+      written = record { now = c.in_ok-write.ensures.written m; same = c.write.ensures.same; node = c.write.ensures.node; fleet = c.write.ensures.fleet; numbers = c.write.ensures.numbers; member = c.write.ensures.member m };
+    }
+
+pub returns-in_err-write-clause-own : goal.returns-in_err-write-clause-own
+returns-in_err-write-clause-own g c = c.write.ensures.own (member_goes _ c.args.standing.now c.make.new.self c.make.ensures.only c.make.ensures.goes c.make.ensures.leading c.requires)
+
+pub returns-in_err-write-clause-member : goal.returns-in_err-write-clause-member
+returns-in_err-write-clause-member g c = c.write.ensures.member (member_goes _ c.args.standing.now c.make.new.self c.make.ensures.only c.make.ensures.goes c.make.ensures.leading c.requires)
+
+pub returns-clause-own : goal.returns-clause-own
+returns-clause-own g c = c.write.ensures.own (member_goes _ c.args.standing.now c.make.new.self c.make.ensures.only c.make.ensures.goes c.make.ensures.leading c.requires)
+
+pub returns-clause-member : goal.returns-clause-member
+returns-clause-member g c = c.write.ensures.member (member_goes _ c.args.standing.now c.make.new.self c.make.ensures.only c.make.ensures.goes c.make.ensures.leading c.requires)

@@ -1,0 +1,78 @@
+use Rattle.std.proofs.Common.{◌∷◌, [], Option, true, ap, ◌∙◌, sym, inr, refl, subst}
+use Rattle.std.specs.Prelude.{option_map}
+use Rattle.lw_delta.specs.Delta.{IsSpelling}
+use Rattle.lw_node.specs.Exchange.{IsDeltaSince}
+use Rattle.lw_node.specs.Node.{NodeContent}
+use Rattle.lw_log.specs.Calls.{place}
+use Rattle.lw_log.specs.Calls.LogCall.{Wrote}
+use Rattle.lw_log.specs.Entries.BodyContent.{Delta}
+use Rattle.lw_member.specs.Parts.{content_of}
+use Rattle.lw_member.specs.inner.Taking.{IsEntryOf}
+use Rattle.lw_log.specs.declared.entry.FleetId.{FleetId}
+use Rattle.lw_member.specs.declared.standing.Standing.{Standing}
+use Rattle.lw_member.proofs.Catching.{member_failed}
+use Rattle.lw_member.proofs.Owning.{append_own, own_since, member_written}
+use Rattle.lw_member.proofs.rounds.write.Goals as goal
+
+pub entry-requires-clause-spelt : goal.entry-requires-clause-spelt
+entry-requires-clause-spelt g c =
+    let is = subst (λ d. IsDeltaSince c.args.standing.now.node c.args.standing.now.written d) (sym c.deref.ensures.value) c.in_ok-delta.ensures in
+    λ delta has. (record { clock = c.args.standing.now.node.clock; slots = is.slots }, subst (λ d. IsSpelling d (record { clock = c.args.standing.now.node.clock; slots = is.slots })) has is.spelled)
+
+pub returns-in_err-position-clause-member : goal.returns-in_err-position-clause-member
+returns-in_err-position-clause-member g c = λ m. member_failed _ _ _ _ _ c.append.ensures.asked c.append.ensures.only c.append.ensures.leading m
+
+pub returns-in_err-position-clause-own : goal.returns-in_err-position-clause-own
+returns-in_err-position-clause-own g c = λ m.
+    let s0 = c.args.standing.now in
+    let s = c.append.new.standing in
+    let only = c.append.ensures.only in
+    let is = subst (λ d. IsDeltaSince s0.node s0.written d) (sym c.deref.ensures.value) c.in_ok-delta.ensures in
+    let fleet = ap (λ (f : Option FleetId). option_map (λ (x : FleetId). x.bytes) f) (ap (λ (x : Standing). x.fleet) only ∙ c.in-Some.is) in
+    let e = subst (λ b. IsEntryOf s0 c.in-Some.fleet.bytes (Delta c.deref.result.now) b) (sym c.deref-2.ensures.value) c.in_ok-entry.ensures in
+    (_, c.append.ensures.asked, append_own (content_of (g.G.DeltaLog.calls c.append.new.log) s) _ _ (inr (s0.written, own_since _ s0 s _ _ _ s0.written (ap (λ (x : Standing). x.node) only) (ap (λ (x : Standing). x.start) only) fleet is e m.number)))
+
+pub returns-clause-own : goal.returns-clause-own
+returns-clause-own g c = λ m.
+    let s0 = c.args.standing.now in
+    let only = c.appended.ensures.only in
+    let done = c.in_ok-position.ensures.done in
+    let is = subst (λ d. IsDeltaSince s0.node s0.written d) (sym c.deref.ensures.value) c.in_ok-delta.ensures in
+    let e = subst (λ b. IsEntryOf s0 c.in-Some.fleet.bytes (Delta c.deref.result.now) b) (sym c.deref-2.ensures.value) c.in_ok-entry.ensures in
+    let node = ap (λ (x : Standing). x.node) only ∙ ap (λ (x : Standing). x.node) done in
+    let start = ap (λ (x : Standing). x.start) only ∙ ap (λ (x : Standing). x.start) done in
+    let fleet = ap (λ (f : Option FleetId). option_map (λ (x : FleetId). x.bytes) f) (ap (λ (x : Standing). x.fleet) only ∙ ap (λ (x : Standing). x.fleet) done ∙ c.in-Some.is) in
+    let s : Standing = record c.appended.new.self { led = true; written = c.change-standing.result } in
+    (_, c.append.ensures.asked, append_own (content_of (g.G.DeltaLog.calls c.append.new.log) s) _ _ (inr (s0.written, own_since _ s0 s _ _ _ s0.written node start fleet is e m.number)))
+
+pub returns-clause-written : goal.returns-clause-written
+returns-clause-written g c = λ m.
+    let s0 = c.args.standing.now in
+    let only = c.appended.ensures.only in
+    let done = c.in_ok-position.ensures.done in
+    let is = subst (λ d. IsDeltaSince s0.node s0.written d) (sym c.deref.ensures.value) c.in_ok-delta.ensures in
+    let e = subst (λ b. IsEntryOf s0 c.in-Some.fleet.bytes (Delta c.deref.result.now) b) (sym c.deref-2.ensures.value) c.in_ok-entry.ensures in
+    let node = ap (λ (x : Standing). x.node) only ∙ ap (λ (x : Standing). x.node) done in
+    let start = ap (λ (x : Standing). x.start) only ∙ ap (λ (x : Standing). x.start) done in
+    let fleet = ap (λ (f : Option FleetId). option_map (λ (x : FleetId). x.bytes) f) (ap (λ (x : Standing). x.fleet) only ∙ ap (λ (x : Standing). x.fleet) done ∙ c.in-Some.is) in
+    let s : Standing = record c.appended.new.self { led = true; written = c.change-standing.result } in
+    record {
+      wrote = Wrote (place c.in_ok-position.position, c.deref-2.result.now) ∷ [];
+      asked = c.in_ok-position.ensures.asked;
+      one = inr (c.if-standing.false, (place c.in_ok-position.position, c.deref-2.result.now), refl, own_since _ s0 s _ _ _ s0.written node start fleet is e m.number);
+      led = refl;
+    }
+
+pub returns-clause-member : goal.returns-clause-member
+returns-clause-member g c = λ m.
+    let s0 = c.args.standing.now in
+    let only = c.appended.ensures.only in
+    let done = c.in_ok-position.ensures.done in
+    let is = subst (λ d. IsDeltaSince s0.node s0.written d) (sym c.deref.ensures.value) c.in_ok-delta.ensures in
+    let e = subst (λ b. IsEntryOf s0 c.in-Some.fleet.bytes (Delta c.deref.result.now) b) (sym c.deref-2.ensures.value) c.in_ok-entry.ensures in
+    let node = ap (λ (x : Standing). x.node) only ∙ ap (λ (x : Standing). x.node) done in
+    let start = ap (λ (x : Standing). x.start) only ∙ ap (λ (x : Standing). x.start) done in
+    let fleet = ap (λ (f : Option FleetId). option_map (λ (x : FleetId). x.bytes) f) (ap (λ (x : Standing). x.fleet) only ∙ ap (λ (x : Standing). x.fleet) done ∙ c.in-Some.is) in
+    let s : Standing = record c.appended.new.self { led = true; written = c.change-standing.result } in
+    let floor = ap (λ (x : Standing). x.floor) only ∙ ap (λ (x : Standing). x.floor) done in
+    member_written _ _ s0 s (place c.in_ok-position.position, c.deref-2.result.now) _ _ is e c.in_ok-position.ensures.asked node start floor refl (c.change-standing.ensures ∙ ap (λ (n : NodeContent). n.table.count.change) node) m

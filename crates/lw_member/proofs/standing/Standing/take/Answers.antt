@@ -1,0 +1,74 @@
+use Rattle.std.proofs.Common.{◌≡◌, ◌↔◌, ◌⊎◌, List, ℕ, refl, sym, ap, ◌∙◌, subst}
+use Rattle.lw_log.specs.Entries.{HasDelta, body_content, content_of}
+use Rattle.lw_member.specs.declared.standing.Standing.{Standing}
+use Rattle.lw_member.specs.declared.numbers.Numbers.{Numbers}
+use Rattle.lw_member.specs.Parts.{numbers_of}
+use Rattle.lw_member.specs.Reading.{HasBit, TellsOf}
+use Rattle.lw_member.proofs.Numbering.{noted_entry, noted_no_entry}
+use Rattle.lw_member.proofs.Merging.{takes_nothing, takes_delta, brings_none, brings_no_entry, on_ok, on_ok_four, same_none}
+use Rattle.lw_member.proofs.standing.Standing.take.Goals as goal
+
+pub returns-in-Err : goal.returns-in-Err
+returns-in-Err c = record {
+  taken = on_ok c.pass_over.result c.pass_over.ensures (λ known.
+      takes_nothing c.args.self.now c.args.self.now c.args.bytes.now
+      (λ newer. let bad = c.in-Err.ensures.newer.1 newer in known cc)
+      (brings_no_entry c.args.bytes.now (λ x is. c.in-Err.ensures.only x is)) refl (λ h. (h, refl)) refl refl
+      (noted_no_entry (numbers_of c.args.self.now) c.args.bytes.now (λ x is. c.in-Err.ensures.only x is)));
+  read_to = refl;
+  same = same_none c.args.self.now;
+  leading = λ asked seen leading. leading;
+}
+
+pub returns-in-Start-clause-taken : goal.returns-in-Start-clause-taken
+returns-in-Start-clause-taken c =
+    let old = c.args.self.now in
+    let new = c.hear_start.new.self in
+    takes_nothing old new c.args.bytes.now
+    (λ newer. let bad = c.in-Ok.ensures.newer.1 newer in cc)
+    (brings_none c.args.bytes.now (content_of c.in-Ok.entry) (λ x is. c.in-Ok.ensures.only x is) (λ delta has. subst (λ b. HasDelta (body_content b) delta) c.in-Start.is has))
+    (ap (λ (s : Standing). s.node) c.hear_start.ensures.only)
+    (λ h. (ap (λ (s : Standing). s.settled) c.hear_start.ensures.only ∙ h, c.hear_start.ensures.fleet h))
+    (ap (λ (s : Standing). s.led) c.hear_start.ensures.only)
+    (ap (λ (s : Standing). s.written) c.hear_start.ensures.only)
+    (noted_entry (numbers_of old) (numbers_of new) c.args.bytes.now (content_of c.in-Ok.entry) c.in-Ok.ensures.found (λ x is. c.in-Ok.ensures.only x is)
+    (λ n. subst (λ (xs : List ℕ). HasBit xs n ↔ (HasBit (numbers_of old) n ⊎ ((c.in-Ok.entry.start.number ≡ n) ⊎ TellsOf n (body_content c.in-Ok.entry.body))))
+    (sym (ap numbers_of c.hear_start.ensures.only)) (c.note.ensures n)))
+
+pub returns-in-Delta-clause-taken : goal.returns-in-Delta-clause-taken
+returns-in-Delta-clause-taken c =
+    let bytes = c.args.bytes.now in
+    let e = content_of c.in-Ok.entry in
+    let delta = c.in-Delta.delta.now in
+    let has : HasDelta (body_content c.in-Ok.entry.body) delta = subst (λ b. HasDelta (body_content b) delta) (sym c.in-Delta.is) refl in
+    let d = c.in-Ok.ensures.found.spelled delta has in
+    on_ok_four c.merge.result c.merge.ensures.merged c.merge.ensures.fleet c.merge.ensures.settled c.merge.ensures.led
+    (λ merged fleet settled led. takes_delta c.args.self.now c.merge.new.self bytes e delta d.0 c.in-Ok.ensures.found (λ x is. c.in-Ok.ensures.only x is) has d.1 (λ newer. let bad = c.in-Ok.ensures.newer.1 newer in cc) (merged d.0 d.1) fleet.0 fleet.1 settled led c.merge.ensures.written
+    (λ n. subst (λ (x : Numbers). HasBit x.bytes.value n ↔ (HasBit (numbers_of c.args.self.now) n ⊎ ((e.number ≡ n) ⊎ TellsOf n e.body)))
+    (sym c.merge.ensures.numbers) (c.note.ensures n)))
+
+pub returns-in-Delta-clause-leading : goal.returns-in-Delta-clause-leading
+returns-in-Delta-clause-leading c = λ asked seen leading.
+    let delta = c.in-Delta.delta.now in
+    let has : HasDelta (body_content c.in-Ok.entry.body) delta = subst (λ b. HasDelta (body_content b) delta) (sym c.in-Delta.is) refl in
+    c.merge.ensures.leading asked c.args.bytes.now (λ d spelled. record { entry = content_of c.in-Ok.entry; delta = delta; is = c.in-Ok.ensures.found; has = has; spelled = spelled }) seen
+    (record { written = leading.written; up_to = leading.up_to })
+
+pub returns-in-Whole-clause-taken : goal.returns-in-Whole-clause-taken
+returns-in-Whole-clause-taken c =
+    let bytes = c.args.bytes.now in
+    let e = content_of c.in-Ok.entry in
+    let delta = c.in-Whole.delta.now in
+    let has : HasDelta (body_content c.in-Ok.entry.body) delta = subst (λ b. HasDelta (body_content b) delta) (sym c.in-Whole.is) refl in
+    let d = c.in-Ok.ensures.found.spelled delta has in
+    on_ok_four c.merge-in-Whole.result c.merge-in-Whole.ensures.merged c.merge-in-Whole.ensures.fleet c.merge-in-Whole.ensures.settled c.merge-in-Whole.ensures.led
+    (λ merged fleet settled led. takes_delta c.args.self.now c.merge-in-Whole.new.self bytes e delta d.0 c.in-Ok.ensures.found (λ x is. c.in-Ok.ensures.only x is) has d.1 (λ newer. let bad = c.in-Ok.ensures.newer.1 newer in cc) (merged d.0 d.1) fleet.0 fleet.1 settled led c.merge-in-Whole.ensures.written
+    (λ n. subst (λ (x : Numbers). HasBit x.bytes.value n ↔ (HasBit (numbers_of c.args.self.now) n ⊎ ((e.number ≡ n) ⊎ TellsOf n e.body)))
+    (sym c.merge-in-Whole.ensures.numbers) (c.note.ensures n)))
+
+pub returns-in-Whole-clause-leading : goal.returns-in-Whole-clause-leading
+returns-in-Whole-clause-leading c = λ asked seen leading.
+    let delta = c.in-Whole.delta.now in
+    let has : HasDelta (body_content c.in-Ok.entry.body) delta = subst (λ b. HasDelta (body_content b) delta) (sym c.in-Whole.is) refl in
+    c.merge-in-Whole.ensures.leading asked c.args.bytes.now (λ d spelled. record { entry = content_of c.in-Ok.entry; delta = delta; is = c.in-Ok.ensures.found; has = has; spelled = spelled }) seen
+    (record { written = leading.written; up_to = leading.up_to })

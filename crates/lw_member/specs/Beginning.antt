@@ -1,0 +1,61 @@
+-- How a member begins: a new node, with a number that no start in its log has had, that has merged the log.
+use Rattle.std.specs.Prelude.{◌≡◌, ℕ, ◌-◌, ◌*◌, ◌^◌, ◌<◌, ◌≤◌, ◌⊎◌, min, List, [], ◌∷◌, ◌++◌, Option, None, true, false}
+use Rattle.lw_stamp.specs.declared.moment.Moment.{Moment}
+use Rattle.lw_stamp.specs.Moment.{ms_of}
+use Rattle.lw_node.specs.Exchange.{known_by}
+use Rattle.lw_node.specs.Node.{fresh}
+use Rattle.lw_log.specs.Calls.{LogCall, Calls}
+use Rattle.lw_log.specs.Entries.{EntryContent, IsEntry}
+use Rattle.lw_log.specs.Entries.BodyContent.{Start, Whole}
+use Rattle.lw_member.specs.Member.{MemberContent, IsLedBy}
+use Rattle.lw_member.specs.Reading.{AreReadToTheEnd, entries_in, AreGood, IsFree, IsMet, AreNoted, MergesEntries}
+
+-- the first entry that a log ever has: a start, and the first of its own
+abbrev pub BeginsLog : List ℕ → Type 0
+BeginsLog bytes = (e : EntryContent) × IsEntry bytes e × (e.body ≡ Start) × (e.sequence ≡ 1)
+
+abbrev pub IsWhole : List ℕ → Type 0
+IsWhole bytes = (e : EntryContent) × (numbers delta : List ℕ) × IsEntry bytes e × (e.body ≡ Whole numbers delta)
+
+abbrev pub HasWhole : List (List ℕ) → Type 0
+HasWhole [] = ⊥
+HasWhole (e ∷ es) = IsWhole e ⊎ HasWhole es
+
+-- nothing of the log is missing: it begins with its first entry, or has a whole one
+abbrev pub IsUncut : List (List ℕ) → Type 0
+IsUncut [] = Unit {0}
+IsUncut (e ∷ es) = BeginsLog e ⊎ HasWhole (e ∷ es)
+
+-- 64 for each millisecond, as far as a clock goes
+abbrev pub floor_at : Moment → ℕ
+floor_at moment = min (64 * ms_of moment) (2 ^ 48 - 1)
+
+-- from the first on, and round from the last to 1, the one comes before the other
+abbrev pub ComesBefore : ℕ → ℕ → ℕ → Type 0
+ComesBefore first n number = ((first ≤ n) × (n < number)) ⊎ ((number < first) × ((first ≤ n) ⊎ (n < number)))
+
+-- of the numbers from the first on, and round from the last to 1, this one is the first that was not had
+pub record IsFirstFree (had : ℕ → Type 0) (first number : ℕ) : Type 0 where
+  pub within : (1 ≤ number) × (number < 2 ^ 16)
+  pub free : ¬ had number
+  pub before : (n : ℕ) → 1 ≤ n → n < 2 ^ 16 → ComesBefore first n number → had n
+
+-- The log is read to its end twice: to find a number, from the first on, and to merge.
+pub record IsBegun (before : Option (List LogCall)) (moment : Moment) (tag first : ℕ) (new : MemberContent) : Type 0 where
+  pub looked : List LogCall
+  pub pages : List LogCall
+  pub asked : Calls before new.calls (looked ++ pages)
+  pub found : AreReadToTheEnd None looked
+  pub uncut : IsUncut (entries_in looked)
+  pub read : AreReadToTheEnd None pages
+  pub good : AreGood new.fleet (entries_in pages)
+  pub free : IsFree new.node.number (entries_in pages)
+  pub number : 1 ≤ new.node.number
+  pub first_free : IsFirstFree (λ n. IsMet n (entries_in looked)) first new.node.number
+  pub numbers : AreNoted [] (entries_in pages) new.numbers
+  pub merged : MergesEntries (fresh new.node.number) (entries_in pages) new.node
+  pub tag_is : new.tag ≡ tag
+  pub floor_is : new.floor ≡ floor_at moment
+  pub unclaimed : new.claimed ≡ false
+  pub all : new.led ≡ true
+  pub led : IsLedBy new.calls (known_by new.node)

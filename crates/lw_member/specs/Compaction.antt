@@ -1,0 +1,60 @@
+-- How a member has its log go on from all that its node knows.
+use Rattle.std.specs.Prelude.{◌≡◌, ℕ, ◌<◌, ◌*◌, ◌⊎◌, List, [], ◌∷◌, ◌++◌, Some, None, true, false}
+use Rattle.lw_node.specs.Exchange.{IsDeltaSince, known_by}
+use Rattle.lw_log.specs.Calls.{LogCall, Placed, Calls}
+use Rattle.lw_log.specs.Calls.LogCall.{Wrote, Tried, Trimmed}
+use Rattle.lw_log.specs.Entries.BodyContent.{Whole}
+use Rattle.lw_member.specs.Member.{MemberContent, IsLedBy}
+use Rattle.lw_member.specs.Own.{IsOwnIn}
+use Rattle.lw_member.specs.Reading.{AreReads, AreReadToTheEnd, entries_in, last_read, AreGood, AreNoted, HoldsNumber, MergesEntries}
+use Rattle.lw_member.specs.Rounds.{IsSameStart}
+
+-- ---- when it is due
+-- more than 16 MiB, and more than four times the bytes of the whole entry
+abbrev pub IsLarge : ℕ → ℕ → Type 0
+IsLarge whole behind = (16 * 1024 * 1024 < behind) × (4 * whole < behind)
+
+abbrev pub IsCompactionDue : MemberContent → Type 0
+IsCompactionDue member = (member.claimed ≡ true) × IsLarge member.whole member.behind
+
+-- ---- what it writes
+-- an entry with all that the node knows, and the numbers that starts have had
+abbrev pub IsOwnWhole : MemberContent → List ℕ → Type 0
+IsOwnWhole member bytes = (delta : List ℕ) × IsDeltaSince member.node 0 delta × IsOwnIn member (Whole member.numbers delta) bytes
+
+-- All that the node knows is appended, and then goes what was read. Nothing is written where no entry was read that tells of
+-- a fleet.
+abbrev pub IsRenewed : MemberContent → List LogCall → MemberContent → List LogCall → Type 0
+IsRenewed old pages new calls =
+    ((calls ≡ []) × ((last_read old.read_to pages ≡ None) ⊎ (new.fleet ≡ None)))
+    ⊎ ((p : Placed) × (upto : ℕ × ℕ) × (calls ≡ Wrote p ∷ Trimmed upto ∷ []) × IsOwnWhole new p.1 × (last_read old.read_to pages ≡ Some upto) × (new.led ≡ true) × IsLedBy new.calls (known_by new.node))
+
+-- The log is read to its end and merged; all that the node knows is appended; and then goes what was read.
+pub record IsCompacted (old new : MemberContent) : Type 0 where
+  pub pages : List LogCall
+  pub wrote : List LogCall
+  pub asked : Calls old.calls new.calls (pages ++ wrote)
+  pub start : IsSameStart old new
+  pub claimed : new.claimed ≡ old.claimed
+  pub read : AreReadToTheEnd old.read_to pages
+  pub good : AreGood new.fleet (entries_in pages)
+  pub holds : old.claimed ≡ false → HoldsNumber new.node.number new.tag (entries_in pages)
+  pub merged : MergesEntries old.node (entries_in pages) new.node
+  pub numbers : AreNoted old.numbers (entries_in pages) new.numbers
+  pub renewed : IsRenewed old pages new wrote
+
+-- ---- also where it fails
+-- what was read goes only after an append that returned, and only where the log was read to its end
+abbrev pub IsRenewing : MemberContent → List LogCall → MemberContent → List LogCall → Type 0
+IsRenewing old pages new [] = Unit {0}
+IsRenewing old pages new (Tried e ∷ []) = AreReadToTheEnd old.read_to pages × IsOwnWhole new e
+IsRenewing old pages new (Wrote p ∷ []) = AreReadToTheEnd old.read_to pages × IsOwnWhole new p.1
+IsRenewing old pages new (Wrote p ∷ Trimmed upto ∷ []) = AreReadToTheEnd old.read_to pages × IsOwnWhole new p.1 × (last_read old.read_to pages ≡ Some upto)
+IsRenewing old pages new _ = ⊥
+
+pub record Compacts (old new : MemberContent) : Type 0 where
+  pub pages : List LogCall
+  pub more : List LogCall
+  pub asked : Calls old.calls new.calls (pages ++ more)
+  pub reads : AreReads pages
+  pub renewing : IsRenewing old pages new more

@@ -1,0 +1,9 @@
+pub mod Member
+pub mod Parts
+pub mod Faults
+pub mod Reading
+pub mod Own
+pub mod Rounds
+pub mod Beginning
+pub mod Compaction
+pub mod inner

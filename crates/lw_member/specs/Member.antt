@@ -1,0 +1,42 @@
+-- What contracts see of a member: a node, what was asked of its log, and how far the log leads what the node knows.
+use Rattle.std.specs.Prelude.{◌≡◌, ℕ, ◌≤◌, List, Option, Some, IsSomeAnd, Bool, true}
+use Rattle.std.specs.FinMap.{get}
+use Rattle.lw_reg.specs.declared.slot.Slot.{Slot}
+use Rattle.lw_reg.specs.Slot.{slot_below}
+use Rattle.lw_reg.specs.State.{State}
+use Rattle.lw_table.specs.Changes.{IsSince}
+use Rattle.lw_node.specs.Exchange.{known_by}
+use Rattle.lw_node.specs.Node.{NodeContent}
+use Rattle.lw_log.specs.Calls.{LogCall}
+use Rattle.lw_log.specs.Known.{HasSeen, IsLed}
+
+pub record MemberContent : Type 0 where
+  pub node : NodeContent
+  pub calls : Option (List LogCall)  -- what was asked of its log, where that is known
+  pub fleet : Option (List ℕ)  -- none while the log is empty
+  pub settled : Bool  -- a delta has told the fleet
+  pub tag : ℕ  -- of this start
+  pub alone : Bool  -- nobody else appends to its log
+  pub claimed : Bool  -- the log has told that the number is its own
+  pub floor : ℕ  -- to which the clock is raised with the claim
+  pub led : Bool  -- the log leads all that the node knows
+  pub written : ℕ  -- the change number up to which it leads what the node knows
+  pub read_to : Option (ℕ × ℕ)  -- the position of the last entry that was read
+  pub numbers : List ℕ  -- the numbers that starts have had, a bit each
+  pub whole : ℕ  -- how many bytes the last whole entry of its log has
+  pub behind : ℕ  -- and the entries behind it
+
+-- where it is known what was asked, the log leads this
+abbrev pub IsLedBy : Option (List LogCall) → ℕ × State → Type 0
+IsLedBy asked known = (calls : List LogCall) → asked ≡ Some calls → IsLed calls known
+
+-- each slot of the node that did not move since then is in the state, or below what is there
+abbrev pub HasUnmoved : NodeContent → ℕ → State → Type 0
+HasUnmoved node since state = (e : List ℕ) (slot : Slot) → get node.table.state e ≡ Some slot → ¬ IsSince node.table.count since e → IsSomeAnd (get state e) (slot_below slot)
+
+-- Whoever has the entries that were seen has each slot that did not move since the change number, and all that the node
+-- knows where the log leads it.
+pub record IsWritten (asked : Option (List LogCall)) (node : NodeContent) (led : Bool) (written : ℕ) : Type 0 where
+  pub within : written ≤ node.table.count.change
+  pub unmoved : (calls : List LogCall) → asked ≡ Some calls → (reader : ℕ × State) → HasSeen reader calls → HasUnmoved node written reader.1
+  pub whole : led ≡ true → IsLedBy asked (known_by node)

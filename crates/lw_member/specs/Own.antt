@@ -1,0 +1,45 @@
+-- What a member writes into its log.
+use Rattle.std.specs.Prelude.{◌≡◌, ℕ, ◌⊎◌, List, [], ◌∷◌, Some}
+use Rattle.lw_node.specs.Exchange.{IsDeltaSince}
+use Rattle.lw_log.specs.Calls.{LogCall, Calls}
+use Rattle.lw_log.specs.Calls.LogCall.{Read, Wrote, Tried, Trimmed}
+use Rattle.lw_log.specs.Entries.{BodyContent, EntryContent, IsEntry}
+use Rattle.lw_log.specs.Entries.BodyContent.{Start, Delta}
+use Rattle.lw_member.specs.Member.{MemberContent}
+
+-- an entry of this start, with this body
+pub record IsOwn (member : MemberContent) (body : BodyContent) (bytes : List ℕ) : Type 0 where
+  pub entry : EntryContent
+  pub is : IsEntry bytes entry
+  pub number : entry.number ≡ member.node.number
+  pub tag : entry.tag ≡ member.tag
+  pub body_is : entry.body ≡ body
+
+-- one in the member's fleet
+abbrev pub IsOwnIn : MemberContent → BodyContent → List ℕ → Type 0
+IsOwnIn member body bytes = (own : IsOwn member body bytes) × (member.fleet ≡ Some own.entry.fleet)
+
+-- the delta of the node's clock, and of exactly the slots that moved after the change number
+abbrev pub IsOwnSince : MemberContent → ℕ → List ℕ → Type 0
+IsOwnSince member since bytes = (delta : List ℕ) × IsDeltaSince member.node since delta × IsOwnIn member (Delta delta) bytes
+
+-- a start entry, or the delta of what moved since some change number
+abbrev pub IsOwnEntry : MemberContent → List ℕ → Type 0
+IsOwnEntry member bytes = IsOwn member Start bytes ⊎ ((since : ℕ) × IsOwnSince member since bytes)
+
+abbrev pub IsOwnCall : MemberContent → LogCall → Type 0
+IsOwnCall member (Wrote p) = IsOwnEntry member p.1
+IsOwnCall member (Tried bytes) = IsOwnEntry member bytes
+IsOwnCall member (Read after es) = Unit {0}
+IsOwnCall member (Trimmed upto) = ⊥
+
+abbrev pub AreOwnCalls : MemberContent → List LogCall → Type 0
+AreOwnCalls member [] = Unit {0}
+AreOwnCalls member (call ∷ calls) = IsOwnCall member call × AreOwnCalls member calls
+
+-- Nothing that the node does not know is put into the log, also by an append that failed and is there all the same; and
+-- nothing is let go.
+pub record WritesOwn (old new : MemberContent) : Type 0 where
+  pub more : List LogCall
+  pub asked : Calls old.calls new.calls more
+  pub own : AreOwnCalls new more

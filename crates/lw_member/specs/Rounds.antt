@@ -1,0 +1,92 @@
+-- A round of a member: the log is read to its end, calls are made, and what has changed is written before a reply is given.
+use Rattle.std.specs.Prelude.{◌≡◌, ◌≢◌, ℕ, ◌<◌, ◌⊎◌, List, [], ◌∷◌, ◌++◌, Option, Some, Bool, true, false, cond}
+use Rattle.lw_call.specs.declared.call.Call.{Call}
+use Rattle.lw_call.specs.declared.reply.Reply.{Reply}
+use Rattle.lw_table.specs.Changes.{LAST}
+use Rattle.lw_node.specs.Exchange.{Merged, known_by}
+use Rattle.lw_node.specs.Node.{NodeContent}
+use Rattle.lw_node.specs.Steps.{IsStep}
+use Rattle.lw_log.specs.Calls.{LogCall, Placed, Calls}
+use Rattle.lw_log.specs.Calls.LogCall.{Wrote}
+use Rattle.lw_log.specs.Entries.BodyContent.{Start}
+use Rattle.lw_member.specs.Member.{MemberContent, IsLedBy}
+use Rattle.lw_member.specs.Own.{IsOwnIn, IsOwnSince}
+use Rattle.lw_member.specs.Reading.{AreReadToTheEnd, entries_in, AreGood, HoldsNumber, AreNoted, MergesEntries}
+
+-- the calls, made one after another, each with the reply that the node gives
+abbrev pub Makes : NodeContent → List Call → List Reply → NodeContent → Type 0
+Makes old [] [] new = new ≡ old
+Makes old (call ∷ calls) (reply ∷ replies) new = (mid : NodeContent) × IsStep old call reply mid × Makes mid calls replies new
+Makes old [] (reply ∷ replies) new = ⊥
+Makes old (call ∷ calls) [] new = ⊥
+
+-- ---- the claim of its number
+-- there is something to write, or may be
+abbrev pub IsActive : MemberContent → List Call → Type 0
+IsActive old calls = (calls ≢ []) ⊎ (old.led ≡ false)
+
+-- it claims its number where it has not yet, with the first round that has something to write
+abbrev pub IsClaiming : MemberContent → List Call → Type 0
+IsClaiming old calls = (old.claimed ≡ false) × IsActive old calls
+
+-- the claim is a start entry in its fleet, which is appended before the log is read
+abbrev pub IsClaim : MemberContent → List Call → List LogCall → MemberContent → Type 0
+IsClaim old calls claim new =
+    ((¬ IsClaiming old calls) × (claim ≡ []) × (new.claimed ≡ old.claimed))
+    ⊎ (IsClaiming old calls × (new.claimed ≡ true) × (p : Placed) × (claim ≡ Wrote p ∷ []) × IsOwnIn new Start p.1)
+
+-- with a claim, the clock is raised to the floor: the empty delta with that clock is merged
+abbrev pub IsRaised : List LogCall → ℕ → NodeContent → NodeContent → Type 0
+IsRaised [] floor old new = new ≡ old
+IsRaised (call ∷ calls) floor old new = Merged old floor [] new
+
+-- where nobody else appends to the log, it goes on reading behind what it has written
+abbrev pub place_after : Bool → Option (ℕ × ℕ) → List LogCall → Option (ℕ × ℕ)
+place_after true after (Wrote p ∷ calls) = Some p.0
+place_after _ after calls = after
+
+-- ---- what is written
+-- what moved since the merges, where the log led all before them; else since what was written
+abbrev pub since_of : MemberContent → NodeContent → ℕ
+since_of old merged = cond old.led merged.table.count.change old.written
+
+-- the log led all, and neither change number nor clock has moved since the merges; at the last change number it is not
+-- known what has moved
+abbrev pub IsCalm : MemberContent → NodeContent → NodeContent → Type 0
+IsCalm old merged new = (old.led ≡ true) × (new.table.count.change ≡ merged.table.count.change) × (new.table.count.change < LAST) × (new.clock ≡ merged.clock)
+
+-- nothing where all is calm, else one entry
+abbrev pub IsWriting : MemberContent → NodeContent → List LogCall → MemberContent → Type 0
+IsWriting old merged wrote new =
+    (IsCalm old merged new.node × (wrote ≡ []))
+    ⊎ ((¬ IsCalm old merged new.node) × (p : Placed) × (wrote ≡ Wrote p ∷ []) × IsOwnSince new (since_of old merged) p.1)
+
+-- the start is the same
+pub record IsSameStart (old new : MemberContent) : Type 0 where
+  pub number : new.node.number ≡ old.node.number
+  pub tag : new.tag ≡ old.tag
+  pub floor : new.floor ≡ old.floor
+  pub alone : new.alone ≡ old.alone
+
+-- ---- the round
+-- Its claim is appended, if it claims; the log is read to its end and merged; the calls are made; and what has changed is
+-- appended. Then the log leads all that the node knows.
+pub record IsRound (old : MemberContent) (calls : List Call) (replies : List Reply) (new : MemberContent) : Type 0 where
+  pub claim : List LogCall
+  pub pages : List LogCall
+  pub merged_node : NodeContent
+  pub mid : NodeContent
+  pub wrote : List LogCall
+  pub asked : Calls old.calls new.calls (claim ++ (pages ++ wrote))
+  pub start : IsSameStart old new
+  pub claims : IsClaim old calls claim new
+  pub read : AreReadToTheEnd (place_after old.alone old.read_to claim) pages
+  pub good : AreGood new.fleet (entries_in pages)
+  pub holds : old.claimed ≡ false → HoldsNumber new.node.number new.tag (entries_in pages)
+  pub numbers : AreNoted old.numbers (entries_in pages) new.numbers
+  pub merged : MergesEntries old.node (entries_in pages) merged_node
+  pub raised : IsRaised claim old.floor merged_node mid
+  pub made : Makes mid calls replies new.node
+  pub written : IsWriting old merged_node wrote new
+  pub all : new.led ≡ true
+  pub led : IsLedBy new.calls (known_by new.node)

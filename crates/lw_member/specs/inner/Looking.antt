@@ -1,0 +1,33 @@
+-- What a first look has seen of entries.
+use Rattle.std.specs.Prelude.{◌≡◌, ℕ, ◌⊎◌, List, [], ◌∷◌, true, false}
+use Rattle.lw_log.specs.Entries.{BodyContent, EntryContent}
+use Rattle.lw_log.specs.Entries.BodyContent.{Start, Delta, Whole}
+use Rattle.lw_member.specs.declared.looking.FirstLook.{FirstLook}
+use Rattle.lw_member.specs.Beginning.{BeginsLog, HasWhole}
+use Rattle.lw_member.specs.Reading.{AreNoted}
+
+abbrev pub IsFirstBody : BodyContent → ℕ → Type 0
+IsFirstBody Start sequence = sequence ≡ 1
+IsFirstBody (Delta delta) sequence = ⊥
+IsFirstBody (Whole numbers delta) sequence = ⊥
+
+abbrev pub IsFirst : EntryContent → Type 0
+IsFirst e = IsFirstBody e.body e.sequence
+
+abbrev pub IsAllBody : BodyContent → Type 0
+IsAllBody Start = ⊥
+IsAllBody (Delta delta) = ⊥
+IsAllBody (Whole numbers delta) = Unit {0}
+
+abbrev pub IsAll : EntryContent → Type 0
+IsAll e = IsAllBody e.body
+
+abbrev pub HasBeginning : List (List ℕ) → Type 0
+HasBeginning [] = ⊥
+HasBeginning (e ∷ es) = BeginsLog e ⊎ HasWhole (e ∷ es)
+
+-- these entries were seen
+pub record HasSeen (es : List (List ℕ)) (look : FirstLook) : Type 0 where
+  pub none : look.any ≡ false → es ≡ []
+  pub whole : look.whole ≡ true → HasBeginning es
+  pub numbers : AreNoted [] es look.numbers.bytes.value

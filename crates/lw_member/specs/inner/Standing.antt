@@ -1,0 +1,32 @@
+-- How a member's parts go on.
+use Rattle.std.specs.Prelude.{◌≡◌, ◌<◌, ℕ, None, true, false}
+use Rattle.lw_table.specs.Changes.{LAST}
+use Rattle.lw_node.specs.Node.{NodeContent, fresh}
+use Rattle.lw_log.specs.Calls.{place_of}
+use Rattle.lw_log.specs.declared.start.Start.{Start}
+use Rattle.lw_member.specs.declared.standing.Standing.{Standing}
+use Rattle.lw_member.specs.Reading.{HasBit}
+use Rattle.lw_member.specs.Parts.{numbers_of}
+
+-- the start is the same, with what it has claimed
+pub record HasSameStart (old new : Standing) : Type 0 where
+  pub number : new.node.number ≡ old.node.number
+  pub start : new.start ≡ old.start
+  pub made_up : new.made_up ≡ old.made_up
+  pub alone : new.alone ≡ old.alone
+  pub claimed : new.claimed ≡ old.claimed
+  pub floor : new.floor ≡ old.floor
+
+-- the log leads all of it still: neither its change number nor its clock has moved
+abbrev pub IsStill : Standing → NodeContent → Type 0
+IsStill old node = (old.led ≡ true) × (node.table.count.change ≡ old.node.table.count.change) × (node.table.count.change < LAST) × (node.clock ≡ old.node.clock)
+
+-- a new node with the number, which has read and written nothing
+pub record IsNew (s : Standing) (start : Start) (floor : ℕ) : Type 0 where
+  pub node : s.node ≡ fresh start.number
+  pub start_is : s.start ≡ start
+  pub unclaimed : s.claimed ≡ false
+  pub floor_is : s.floor ≡ floor
+  pub unread : place_of s.read_to ≡ None
+  pub led : s.led ≡ true
+  pub numbers : (n : ℕ) → ¬ HasBit (numbers_of s) n

@@ -1,0 +1,64 @@
+-- What a member takes from entries, and judges of them.
+use Rattle.std.specs.Prelude.{◌≡◌, ℕ, ◌≤◌, List, [], ◌∷◌, length, Option, Some, None, Bool, true, false}
+use Rattle.lw_delta.specs.Delta.{DeltaContent, IsSpelling}
+use Rattle.lw_log.specs.Calls.{LogCall}
+use Rattle.lw_log.specs.Calls.LogCall.{Read, Wrote, Tried, Trimmed}
+use Rattle.lw_log.specs.Entries.{BodyContent, EntryContent, IsEntry, HasDelta, BringsDelta}
+use Rattle.lw_member.specs.declared.standing.Standing.{Standing}
+use Rattle.lw_member.specs.Reading.{MergesEntries, AreGood, AreNoted, IsFree, IsOf, IsTakenFirst, Meets, place_read}
+use Rattle.lw_member.specs.Parts.{fleet_of, numbers_of}
+
+-- no entry brings a delta
+abbrev pub AreBare : List (List ℕ) → Type 0
+AreBare [] = Unit {0}
+AreBare (e ∷ es) = ((d : DeltaContent) → ¬ BringsDelta e d) × AreBare es
+
+-- what is taken from entries, one after another
+pub record Takes (old : Standing) (entries : List (List ℕ)) (new : Standing) : Type 0 where
+  pub merged : MergesEntries old.node entries new.node
+  pub good : AreGood (fleet_of new) entries
+  pub settled : old.settled ≡ true → (new.settled ≡ true) × (new.fleet ≡ old.fleet)
+  pub unsettled : new.settled ≡ false → AreBare entries
+  pub led : new.led ≡ old.led
+  pub written : old.led ≡ false → new.written ≡ old.written
+  pub numbers : AreNoted (numbers_of old) entries (numbers_of new)
+
+-- the entry of an option for the number: its own, another's, or none that tells of it
+abbrev pub IsJudgedEntry : ℕ → ℕ → List ℕ → Option Bool → Type 0
+IsJudgedEntry number tag bytes (Some true) = IsOf number tag bytes
+IsJudgedEntry number tag bytes (Some false) = Unit {0}
+IsJudgedEntry number tag bytes None = ¬ Meets number bytes
+
+abbrev pub IsJudgedPage : ℕ → ℕ → List (List ℕ) → Option Bool → Type 0
+IsJudgedPage number tag es (Some true) = IsTakenFirst number tag es
+IsJudgedPage number tag es (Some false) = Unit {0}
+IsJudgedPage number tag es None = IsFree number es
+
+-- after some pages: it has claimed its number before, or its own start was the first, or none was there
+abbrev pub IsJudged : Bool → ℕ → ℕ → List (List ℕ) → Bool → Type 0
+IsJudged true number tag es own = own ≡ true
+IsJudged false number tag es true = IsTakenFirst number tag es
+IsJudged false number tag es false = IsFree number es
+
+-- ---- pages
+-- full pages, read one after another from a position to another
+abbrev pub ArePages : Option (ℕ × ℕ) → List LogCall → Option (ℕ × ℕ) → Type 0
+ArePages after [] upto = upto ≡ after
+ArePages after (Read from es ∷ calls) upto = (from ≡ after) × (256 ≤ length es) × ArePages (place_read after es) calls upto
+ArePages after (Wrote p ∷ calls) upto = ⊥
+ArePages after (Tried e ∷ calls) upto = ⊥
+ArePages after (Trimmed p ∷ calls) upto = ⊥
+
+-- ---- entries that are written
+-- the body's delta is spelled
+abbrev pub IsSpelt : BodyContent → Type 0
+IsSpelt body = (delta : List ℕ) → HasDelta body delta → (d : DeltaContent) × IsSpelling delta d
+
+-- the bytes are an entry of this start, in a fleet, with a body
+pub record IsEntryOf (s : Standing) (fleet : List ℕ) (body : BodyContent) (bytes : List ℕ) : Type 0 where
+  pub entry : EntryContent
+  pub is : IsEntry bytes entry
+  pub number : entry.number ≡ s.start.number
+  pub tag : entry.tag ≡ s.start.tag
+  pub fleet_is : entry.fleet ≡ fleet
+  pub body_is : entry.body ≡ body

@@ -1,0 +1,97 @@
+-- What is appended to a log, and what a member is then.
+use Rattle.std.specs.Prelude.{◌≡◌, ◌↔◌, ℕ, ◌⊎◌, List, [], ◌∷◌, Option, IsTrue, true, false}
+use Rattle.lw_log.specs.Calls.{LogCall, Placed, Calls, place_of}
+use Rattle.lw_log.specs.Calls.LogCall.{Read, Wrote, Tried, Trimmed}
+use Rattle.lw_log.specs.Entries.{EntryContent, IsEntry}
+use Rattle.lw_log.specs.Entries.BodyContent.{Start}
+use Rattle.lw_call.specs.declared.call.Call.{Call}
+use Rattle.lw_call.specs.declared.reply.Reply.{Reply}
+use Rattle.lw_node.specs.Exchange.{Merged}
+use Rattle.lw_member.specs.declared.standing.Standing.{Standing}
+use Rattle.lw_member.specs.Own.{AreOwnCalls, IsOwnIn, IsOwnSince}
+use Rattle.lw_member.specs.Reading.{AreReadToTheEnd, entries_in, AreGood, AreNoted, HoldsNumber, MergesEntries}
+use Rattle.lw_member.specs.Rounds.{Makes, place_after}
+use Rattle.lw_member.specs.Parts.{content_of, fleet_of, numbers_of, IsMember}
+use Rattle.lw_member.specs.inner.Going.{Goes}
+use Rattle.lw_member.specs.inner.Standing.{HasSameStart, IsStill}
+use Rattle.lw_member.specs.inner.Taking.{IsEntryOf}
+
+-- all that was appended, or tried, is the member's own
+abbrev pub WritesOwnCalls : Option (List LogCall) → Option (List LogCall) → Standing → Type 0
+WritesOwnCalls before after new = (more : List LogCall) × Calls before after more × AreOwnCalls (content_of after new) more
+
+-- a start entry of this number and tag
+pub record IsStartOf (number tag : ℕ) (bytes : List ℕ) : Type 0 where
+  pub entry : EntryContent
+  pub is : IsEntry bytes entry
+  pub number_is : entry.number ≡ number
+  pub tag_is : entry.tag ≡ tag
+  pub body_is : entry.body ≡ Start
+
+-- readings, and start entries that were appended or tried
+abbrev pub AreClaims : ℕ → ℕ → List LogCall → Type 0
+AreClaims number tag [] = Unit {0}
+AreClaims number tag (Read after es ∷ calls) = AreClaims number tag calls
+AreClaims number tag (Wrote p ∷ calls) = IsStartOf number tag p.1 × AreClaims number tag calls
+AreClaims number tag (Tried e ∷ calls) = IsStartOf number tag e × AreClaims number tag calls
+AreClaims number tag (Trimmed upto ∷ calls) = ⊥
+
+abbrev pub Claims : Option (List LogCall) → Option (List LogCall) → Standing → Type 0
+Claims before after s = (more : List LogCall) × Calls before after more × AreClaims s.start.number s.start.tag more
+
+-- a start entry was appended
+pub record IsStarted (before : Option (List LogCall)) (old : Standing) (fleet : List ℕ) (after : Option (List LogCall)) (new : Standing) : Type 0 where
+  pub place : Placed
+  pub asked : Calls before after (Wrote place ∷ [])
+  pub entry : IsEntryOf old fleet Start place.1
+  pub only : new ≡ record old { sequence = new.sequence; read_to = new.read_to; size = new.size; fleet = new.fleet }
+  pub read_to : place_of new.read_to ≡ place_after old.alone (place_of old.read_to) (Wrote place ∷ [])
+
+-- nothing was to be written, or one entry was
+pub record IsWritingNow (before : Option (List LogCall)) (old : Standing) (after : Option (List LogCall)) (new : Standing) : Type 0 where
+  pub wrote : List LogCall
+  pub asked : Calls before after wrote
+  pub one : ((old.led ≡ true) × (wrote ≡ [])) ⊎ ((old.led ≡ false) × (p : Placed) × (wrote ≡ Wrote p ∷ []) × IsOwnSince (content_of after new) old.written p.1)
+  pub led : new.led ≡ true
+
+-- the number is claimed, the log is read to its end, and the clock is raised
+pub record IsClaimed (before : Option (List LogCall)) (old : Standing) (after : Option (List LogCall)) (new : Standing) : Type 0 where
+  pub place : Placed
+  pub pages : List LogCall
+  pub merged : Standing
+  pub asked : Calls before after (Wrote place ∷ pages)
+  pub own : IsOwnIn (content_of after new) Start place.1
+  pub read : AreReadToTheEnd (place_after old.alone (place_of old.read_to) (Wrote place ∷ [])) pages
+  pub good : AreGood (fleet_of new) (entries_in pages)
+  pub holds : HoldsNumber new.node.number new.start.tag (entries_in pages)
+  pub merges : MergesEntries old.node (entries_in pages) merged.node
+  pub numbers : AreNoted (numbers_of old) (entries_in pages) (numbers_of new)
+  pub led : merged.led ≡ old.led
+  pub written : old.led ≡ false → merged.written ≡ old.written
+  pub up_to : old.led ≡ true → merged.written ≡ merged.node.table.count.change
+  pub raised : Merged merged.node old.floor [] new.node
+  pub goes : Goes merged.node new.node
+  pub still : IsTrue new.led ↔ IsStill merged new.node
+  pub written_is : new.written ≡ merged.written
+
+-- what the calls have left
+pub record Made (old : Standing) (calls : List Call) (replies : List Reply) (new : Standing) : Type 0 where
+  pub made : Makes old.node calls replies new.node
+  pub goes : Goes old.node new.node
+  pub still : IsTrue new.led ↔ IsStill old new.node
+  pub only : new ≡ record old { node = new.node; led = new.led }
+
+-- what the writing has left
+pub record Written (before : Option (List LogCall)) (old : Standing) (after : Option (List LogCall)) (new : Standing) : Type 0 where
+  pub now : IsWritingNow before old after new
+  pub same : HasSameStart old new
+  pub node : new.node ≡ old.node
+  pub fleet : new.fleet ≡ old.fleet
+  pub numbers : new.numbers ≡ old.numbers
+  pub member : IsMember after new
+
+-- the calls are made, and what has changed is written
+pub record Finished (before : Option (List LogCall)) (old : Standing) (calls : List Call) (replies : List Reply) (after : Option (List LogCall)) (new : Standing) : Type 0 where
+  pub mid : Standing
+  pub made : Made old calls replies mid
+  pub written : Written before mid after new

@@ -1,0 +1,61 @@
+//! A compaction: all that the node knows is written anew, and what was read goes.
+
+ghost use Rattle.std.specs.Prelude.{◌≡◌, OnOk};
+ghost use Rattle.lw_member.specs.Compaction.{IsCompacted, Compacts};
+ghost use Rattle.lw_member.specs.Parts.{content_of, IsMember};
+ghost use Rattle.lw_member.specs.inner.Standing.{HasSameStart};
+ghost use Rattle.lw_member.specs.inner.Wholes.{IsWrittenWhole, TriesWhole};
+
+use crate::MemberFault;
+use crate::rounds::{append, catch_up};
+use crate::standing::Standing;
+use lw_log::{Body, DeltaLog, FleetId};
+
+/// Appends all that the node knows, with the numbers that starts have had.
+fn write_whole<G: DeltaLog>(
+    log: &mut G,
+    standing: &mut Standing,
+    fleet: FleetId,
+) -> Result<(), MemberFault>
+    requires { IsMember (G.calls log.old) standing.old }
+    ensures written { OnOk result (IsWrittenWhole (G.calls log.old) standing.old fleet.bytes (G.calls log.new) standing.new) }
+    ensures own { TriesWhole (G.calls log.old) standing.old fleet.bytes (G.calls log.new) }
+    ensures same { HasSameStart standing.old standing.new }
+    ensures node { standing.new.node ≡ standing.old.node }
+    ensures fleet { standing.new.fleet ≡ standing.old.fleet }
+    ensures numbers { standing.new.numbers ≡ standing.old.numbers }
+    ensures member { IsMember (G.calls log.new) standing.new }
+{
+    let delta = standing.node.delta_since(0)?;
+    let body = Body::Whole {
+        numbers: standing.numbers.as_bytes(),
+        delta: &delta,
+    };
+    let entry = standing.entry(fleet, body)?;
+    let position = append(log, standing, &entry)?;
+    standing.appended_whole(position, entry.len());
+    standing.written = standing.node.change();
+    standing.led = true;
+    Ok(())
+}
+
+/// Reads the log to its end, appends all that the node knows, and then has go what was read.
+pub(crate) fn compact<G: DeltaLog>(log: &mut G, standing: &mut Standing) -> Result<(), MemberFault>
+    requires { IsMember (G.calls log.old) standing.old }
+    ensures compacted { OnOk result (IsCompacted (content_of (G.calls log.old) standing.old)
+        (content_of (G.calls log.new) standing.new)) }
+    ensures own { Compacts (content_of (G.calls log.old) standing.old)
+        (content_of (G.calls log.new) standing.new) }
+    ensures member { IsMember (G.calls log.new) standing.new }
+{
+    catch_up(log, standing)?;
+    let Some(upto) = standing.read_to else {
+        return Ok(());
+    };
+    let Some(fleet) = standing.fleet else {
+        return Ok(());
+    };
+    write_whole(log, standing, fleet)?;
+    log.trim(upto)?;
+    Ok(())
+}

@@ -1,0 +1,72 @@
+//! Why a member did not do what it was asked.
+
+ghost use Rattle.std.specs.Prelude.{◌≡◌};
+ghost use Rattle.lw_log.specs.declared.log_fault.LogFault.{LogFault as LogFaults};
+ghost use Rattle.lw_member.specs.declared.fault.MemberFault.TheVariants.{NoMemory as OutOfMemory};
+ghost use Rattle.lw_member.specs.Faults.{fault_of};
+
+use lw_log::LogFault;
+use lw_stamp::NoMemory;
+use std::alloc::{AllocError, AllocFailed};
+use thiserror::Error;
+
+/// Why a member did not do what it was asked. No reply is given then.
+#[derive(Clone, Copy, Debug, PartialEq, Eq, Error)]
+pub enum MemberFault {
+    /// The log did not do it.
+    #[error("{0}")]
+    Log(LogFault),
+    /// The log has a delta of another fleet.
+    #[error("the log has a delta of another fleet")]
+    AnotherFleet,
+    /// The log does not begin with its first entry, and has no whole one.
+    #[error("the log does not begin with its first entry, and has no whole one")]
+    LogCut,
+    /// The log has an entry of a format that is not read here.
+    #[error("the log has an entry of a newer format")]
+    LogNewer,
+    /// Another start has the number, or has made the fleet.
+    #[error("another start has the number")]
+    NumberTaken,
+    /// Each number has had a start.
+    #[error("each number has had a start")]
+    NumbersEnded,
+    /// A growth was refused.
+    #[error("out of memory")]
+    NoMemory,
+}
+
+impl From<LogFault> for MemberFault {
+    ghost from_gives = { λ error fault. fault ≡ fault_of error };
+
+    fn from(error: LogFault) -> MemberFault {
+        match error {
+            LogFault::NoMemory => MemberFault::NoMemory,
+            fault => MemberFault::Log(fault),
+        }
+    }
+}
+
+impl From<NoMemory> for MemberFault {
+    ghost from_gives = { λ _ fault. fault ≡ OutOfMemory };
+
+    fn from(_error: NoMemory) -> MemberFault {
+        MemberFault::NoMemory
+    }
+}
+
+impl From<AllocError> for MemberFault {
+    ghost from_gives = { λ _ fault. fault ≡ OutOfMemory };
+
+    fn from(_error: AllocError) -> MemberFault {
+        MemberFault::NoMemory
+    }
+}
+
+impl<T: Drop> From<AllocFailed<T>> for MemberFault {
+    ghost from_gives = { λ _ fault. fault ≡ OutOfMemory };
+
+    fn from(_error: AllocFailed<T>) -> MemberFault {
+        MemberFault::NoMemory
+    }
+}

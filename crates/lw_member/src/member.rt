@@ -1,0 +1,163 @@
+//! A member.
+
+ghost use Rattle.std.specs.Prelude.{◌≡◌, ◌↔◌, IfOk, IfSome, IsNone, IsTrue, OnOk, false, option_map};
+ghost use Rattle.lw_node.specs.Exchange.{known_by};
+ghost use Rattle.lw_member.specs.Beginning.{IsBegun, floor_at as floor_of};
+ghost use Rattle.lw_member.specs.Compaction.{IsCompactionDue, IsCompacted, Compacts};
+ghost use Rattle.lw_member.specs.Member.{IsLedBy};
+ghost use Rattle.lw_member.specs.Own.{WritesOwn};
+ghost use Rattle.lw_member.specs.Rounds.{IsRound};
+
+use crate::compaction::compact;
+use crate::looking::look;
+use crate::rounds::{catch_up, round};
+use crate::standing::Standing;
+use crate::{Chance, MemberFault};
+use lw_call::{Call, Reply};
+use lw_log::{DeltaLog, FleetId, Start};
+use lw_node::Node;
+use lw_stamp::Moment;
+use std::alloc::Global;
+use std::marker::Model;
+
+/// The greatest clock of a node.
+const LAST_CLOCK: u64 = (1 << 48) - 1;
+
+/// By how much a clock is raised for each millisecond since 1970.
+const FLOOR_A_MILLISECOND: u64 = 64;
+
+/// A server of a fleet: a node, and its log, which it owns.
+#[derive(Drop)]
+pub struct Member<G: DeltaLog> {
+    log: G,
+    standing: Standing,
+}
+
+impl<G: DeltaLog> Model for Member<G> {
+    ghost use Rattle.std.specs.Coded.{codes};
+    ghost use Rattle.lw_node.specs.Node.{node_code};
+    ghost use Rattle.lw_member.specs.Member.{MemberContent};
+
+    ghost Value = { MemberContent };
+
+    ghost coded = { Prim.hlevel (codes, node_code) };
+
+    ghost use Rattle.lw_member.specs.Parts.{content_of, IsMember};
+
+    ghost view = { λ m. content_of (G.calls m.log) m.standing };
+
+    ghost invariant = { λ m. IsMember (G.calls m.log) m.standing };
+}
+
+/// The clock that a member is raised to that begins at the moment.
+fn floor_at(moment: Moment) -> u64
+    ensures { result ≡ floor_of moment }
+{
+    moment
+        .ms()
+        .saturating_mul(FLOOR_A_MILLISECOND)
+        .min(LAST_CLOCK)
+}
+
+impl<G: DeltaLog> Member<G> {
+    /// Reads the log to its end, takes the first number from that of the chance on which no start in it has had, and is then
+    /// a new node that has merged it.
+    pub fn begin(
+        alloc: Global,
+        log: G,
+        chance: &Chance,
+        moment: Moment,
+    ) -> Result<Member<G>, MemberFault>
+        ensures { IfOk result (IsBegun (G.calls log) moment chance.now.tag chance.now.number) }
+    {
+        let mut log = log;
+        let found = look(alloc, &mut log)?;
+        let Some(number) = found.numbers.free_from(chance.number) else {
+            return Err(MemberFault::NumbersEnded);
+        };
+        let start = Start {
+            number,
+            tag: chance.tag,
+        };
+        let mut standing = Standing::new(
+            alloc,
+            start,
+            chance.fleet,
+            log.is_alone(),
+            floor_at(moment),
+        )?;
+        if catch_up(&mut log, &mut standing)? {
+            return Err(MemberFault::NumberTaken);
+        }
+        Ok(Member { log, standing })
+    }
+
+    /// One round: reads the log to its end, makes the calls, writes what has changed, and gives the replies. Where it fails
+    /// nothing is given, and what was done is written by the next round that succeeds.
+    pub fn round(&mut self, calls: &[Call]) -> Result<Vec<Reply>, MemberFault>
+        ensures round { IfOk result (λ replies. IsRound self.old calls.now replies.items self.new) }
+        // Also where it fails.
+        ensures own { WritesOwn self.old self.new }
+    {
+        round(&mut self.log, &mut self.standing, calls)
+    }
+
+    /// Whether the log is to be compacted: the number is claimed, and what stands behind the last whole entry has more than
+    /// 16 MiB, and more than four times its bytes.
+    pub fn wants_compaction(&self) -> bool
+        ensures { IsTrue result ↔ IsCompactionDue self.now }
+    {
+        self.standing.claimed && self.standing.size.is_large()
+    }
+
+    /// Reads the log to its end, appends all that the node knows, and then has go what was read.
+    pub fn compact(&mut self) -> Result<(), MemberFault>
+        ensures compacted { OnOk result (IsCompacted self.old self.new) }
+        // Also where it fails.
+        ensures own { Compacts self.old self.new }
+    {
+        compact(&mut self.log, &mut self.standing)
+    }
+
+    /// The node, where the log leads all that it knows. Else there is something that may not be told.
+    pub fn node(&self) -> Option<&Node>
+        ensures some { IfSome result (λ node. (node.now ≡ self.now.node)
+            × IsLedBy self.now.calls (known_by node.now)) }
+        ensures none { IsNone result ↔ (self.now.led ≡ false) }
+    {
+        if self.standing.led {
+            Some(&self.standing.node)
+        } else {
+            None
+        }
+    }
+
+    /// The number of its node, and the tag of this start.
+    pub fn start(&self) -> Start
+        ensures number { result.number ≡ self.now.node.number }
+        ensures tag { result.tag ≡ self.now.tag }
+    {
+        self.standing.start
+    }
+
+    /// The fleet, which is none while the log is empty.
+    pub fn fleet(&self) -> Option<FleetId>
+        ensures { option_map (λ fleet. fleet.bytes) result ≡ self.now.fleet }
+    {
+        self.standing.fleet
+    }
+
+    /// Its log.
+    pub fn log(&self) -> &G
+        ensures { G.calls result.now ≡ self.now.calls }
+    {
+        &self.log
+    }
+
+    /// Whether the log has told that the number is its own.
+    pub fn is_claimed(&self) -> bool
+        ensures { result ≡ self.now.claimed }
+    {
+        self.standing.claimed
+    }
+}

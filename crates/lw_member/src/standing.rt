@@ -1,0 +1,383 @@
+//! What a member knows, and how far it has read and written.
+
+ghost use Rattle.std.specs.Prelude.{◌≡◌, ◌≢◌, ◌↔◌, ◌≤◌, ◌<◌, ◌^◌, ◌+◌, ◌++◌, ◌⊎◌, ℕ, List, [], ◌∷◌, length, Option, Some, true, false, cond, IfOk, OnOk, IsTrue, vec_len, vec_capacity};
+ghost use Rattle.lw_call.specs.declared.reply.Reply.{Reply as Replies};
+ghost use Rattle.lw_delta.specs.Delta.{DeltaContent, IsSpelling};
+ghost use Rattle.lw_node.specs.Exchange.{Merged};
+ghost use Rattle.lw_table.specs.Changes.{LAST};
+ghost use Rattle.lw_log.specs.Calls.{LogCall, placed, place, place_of};
+ghost use Rattle.lw_log.specs.Entries.{BringsDelta, FitsBody, body_content};
+ghost use Rattle.lw_member.specs.Reading.{TellsOf, bytes_of, place_read};
+ghost use Rattle.lw_member.specs.Rounds.{Makes};
+ghost use Rattle.lw_member.specs.inner.Seeing.{IsSeenBy, AreSeenBy};
+ghost use Rattle.lw_member.specs.inner.Going.{Goes};
+ghost use Rattle.lw_member.specs.Parts.{fleet_of, IsLeading, IsMember};
+ghost use Rattle.lw_member.specs.inner.Standing.{IsNew, HasSameStart, IsStill};
+ghost use Rattle.lw_member.specs.inner.Taking.{Takes, IsJudged, IsJudgedEntry, IsJudgedPage, IsSpelt, IsEntryOf};
+
+use crate::MemberFault;
+use crate::numbers::{Numbers, has_bit};
+use crate::size::LogSize;
+use lw_call::{Call, Reply};
+use lw_delta::Writer;
+use lw_log::{
+    Body, Bytes, Entry, EntryFault, FleetId, LogFault, Position, Start, put_entry, read_entry,
+};
+use lw_node::Node;
+use lw_stamp::NoMemory;
+use std::alloc::Global;
+
+/// A node, the start that it is of, and how far its log has been read and written.
+#[derive(Drop)]
+pub(crate) struct Standing {
+    pub alloc: Global,
+    pub node: Node,
+    pub start: Start,
+    /// The fleet that is made up where the log has none.
+    pub made_up: FleetId,
+    pub fleet: Option<FleetId>,
+    /// Whether a delta has told the fleet, and not a start alone.
+    pub settled: bool,
+    /// Whether nobody else appends to the log.
+    pub alone: bool,
+    pub claimed: bool,
+    pub floor: u64,
+    /// Of the last entry whose append returned.
+    pub sequence: u64,
+    /// Whether the log leads all that the node knows.
+    pub led: bool,
+    /// The change number up to which the log leads what the node knows.
+    pub written: u64,
+    pub read_to: Option<Position>,
+    pub numbers: Numbers,
+    pub size: LogSize,
+}
+
+impl Standing {
+    /// That of a new node, which has read and written nothing.
+    pub(crate) fn new(
+        alloc: Global,
+        start: Start,
+        made_up: FleetId,
+        alone: bool,
+        floor: u64,
+    ) -> Result<Standing, NoMemory>
+        requires { floor < 2 ^ 48 }
+        ensures new { IfOk result (λ standing. IsNew standing start floor) }
+        ensures member { IfOk result (λ standing. (asked : Option (List LogCall)) → IsMember asked standing) }
+    {
+        let numbers = Numbers::new(alloc)?;
+        Ok(Standing {
+            alloc,
+            node: Node::new(alloc, start.number),
+            start,
+            made_up,
+            fleet: None,
+            settled: false,
+            alone,
+            claimed: false,
+            floor,
+            sequence: 0,
+            led: true,
+            written: 0,
+            read_to: None,
+            numbers,
+            size: LogSize::new(),
+        })
+    }
+
+    /// Takes what the entries bring, one after another.
+    pub(crate) fn take_page(&mut self, page: &[(Position, Bytes)]) -> Result<(), MemberFault>
+        ensures taken { OnOk result (Takes self.old (bytes_of (placed page.now)) self.new) }
+        ensures read_to { OnOk result (place_of self.new.read_to
+            ≡ place_read (place_of self.old.read_to) (placed page.now)) }
+        ensures same { HasSameStart self.old self.new }
+        ensures leading { (asked : Option (List LogCall)) → AreSeenBy asked (bytes_of (placed page.now))
+            → IsLeading asked self.old → IsLeading asked self.new }
+    {
+        for (position, bytes) in page {
+            self.take(bytes)?;
+            self.read_to = Some(*position);
+        }
+        Ok(())
+    }
+
+    /// Takes what an entry brings. Bytes that are none are passed over.
+    fn take(&mut self, bytes: &[u8]) -> Result<(), MemberFault>
+        ensures taken { OnOk result (Takes self.old (bytes.now ∷ []) self.new) }
+        ensures read_to { self.new.read_to ≡ self.old.read_to }
+        ensures same { HasSameStart self.old self.new }
+        ensures leading { (asked : Option (List LogCall)) → IsSeenBy asked bytes.now
+            → IsLeading asked self.old → IsLeading asked self.new }
+    {
+        let entry = match read_entry(bytes) {
+            Ok(entry) => entry,
+            Err(fault) => return pass_over(fault),
+        };
+        self.numbers.note(&entry);
+        self.size = self.size.with(&entry, bytes.len());
+        match entry.body {
+            Body::Start => {
+                self.hear_start(entry.fleet);
+                Ok(())
+            }
+            Body::Delta(delta) => self.merge(entry.fleet, delta),
+            Body::Whole { delta, .. } => self.merge(entry.fleet, delta),
+        }
+    }
+
+    /// The first start of a log tells the fleet, until a delta does.
+    fn hear_start(&mut self, fleet: FleetId)
+        ensures only { self.new ≡ record self.old { fleet = self.new.fleet } }
+        ensures fleet { self.old.settled ≡ true → self.new.fleet ≡ self.old.fleet }
+    {
+        if !self.settled && self.fleet.is_none() {
+            self.fleet = Some(fleet);
+        }
+    }
+
+    /// Merges a delta of a fleet.
+    fn merge(&mut self, fleet: FleetId, delta: &[u8]) -> Result<(), MemberFault>
+        requires { (d : DeltaContent) × IsSpelling delta.now d }
+        ensures merged { OnOk result ((d : DeltaContent) → IsSpelling delta.now d
+            → Merged self.old.node d.clock d.slots self.new.node) }
+        ensures fleet { OnOk result ((self.new.settled ≡ true) × (fleet_of self.new ≡ Some fleet.bytes)) }
+        ensures settled { OnOk result (self.old.settled ≡ true → self.new.fleet ≡ self.old.fleet) }
+        ensures led { OnOk result (self.new.led ≡ self.old.led) }
+        ensures written { self.old.led ≡ false → self.new.written ≡ self.old.written }
+        ensures read_to { self.new.read_to ≡ self.old.read_to }
+        ensures numbers { self.new.numbers ≡ self.old.numbers }
+        ensures same { HasSameStart self.old self.new }
+        ensures leading { (asked : Option (List LogCall)) (bytes : List ℕ)
+            → ((d : DeltaContent) → IsSpelling delta.now d → BringsDelta bytes d) → IsSeenBy asked bytes
+            → IsLeading asked self.old → IsLeading asked self.new }
+    {
+        if self.settled && self.fleet != Some(fleet) {
+            return Err(MemberFault::AnotherFleet);
+        }
+        let merged = self.node.merge(delta);
+        let change = self.node.change();
+        if merged.is_err() {
+            // A part of it may be merged.
+            self.led = false;
+            return Err(MemberFault::NoMemory);
+        }
+        self.fleet = Some(fleet);
+        self.settled = true;
+        if self.led {
+            self.written = change;
+        }
+        Ok(())
+    }
+
+    /// Raises the clock to the floor.
+    pub(crate) fn raise(&mut self) -> Result<(), MemberFault>
+        requires { self.old.floor < 2 ^ 48 }
+        ensures raised { OnOk result (Merged self.old.node self.old.floor [] self.new.node) }
+        ensures led { OnOk result (IsTrue self.new.led ↔ IsStill self.old self.new.node) }
+        ensures only { self.new ≡ record self.old { node = self.new.node; led = self.new.led } }
+        ensures goes { Goes self.old.node self.new.node }
+        ensures leading { (asked : Option (List LogCall)) → IsLeading asked self.old → IsLeading asked self.new }
+    {
+        let delta = Writer::new(self.alloc, self.floor)?.end()?;
+        let before = (self.node.change(), self.node.clock());
+        let merged = self.node.merge(&delta);
+        self.settle_led(before);
+        match merged {
+            Ok(_) => Ok(()),
+            Err(_) => Err(MemberFault::NoMemory),
+        }
+    }
+
+    /// Makes the calls, one after another. There is room for their replies.
+    pub(crate) fn make(&mut self, calls: &[Call], replies: &mut Vec<Reply>)
+        requires { vec_len replies.old + length calls.now ≤ vec_capacity replies.old }
+        ensures made { (more : List Replies) × (replies.new.items ≡ replies.old.items ++ more)
+            × Makes self.old.node calls.now more self.new.node }
+        ensures led { IsTrue self.new.led ↔ IsStill self.old self.new.node }
+        ensures only { self.new ≡ record self.old { node = self.new.node; led = self.new.led } }
+        ensures goes { Goes self.old.node self.new.node }
+        ensures leading { (asked : Option (List LogCall)) → IsLeading asked self.old → IsLeading asked self.new }
+    {
+        let before = (self.node.change(), self.node.clock());
+        for call in calls {
+            replies.push_reserved(self.node.act(call));
+        }
+        self.settle_led(before);
+    }
+
+    /// The log leads all no more where the node has moved since these were its change number and its clock.
+    fn settle_led(&mut self, before: (u64, u64))
+        ensures led { IsTrue self.new.led ↔ ((self.old.led ≡ true) × (self.new.node.table.count.change ≡ before.0)
+            × (self.new.node.table.count.change < LAST) × (self.new.node.clock ≡ before.1)) }
+        ensures only { self.new ≡ record self.old { led = self.new.led } }
+        ensures last { self.new.node.table.count.change ≤ LAST }
+    {
+        let (change, clock) = before;
+        if self.node.change() != change
+            || self.node.clock() != clock
+            || self.node.change() == u64::MAX
+        {
+            self.led = false;
+        }
+    }
+
+    /// The bytes of an entry with this body, the next of this start.
+    pub(crate) fn entry(&self, fleet: FleetId, body: Body<'_>) -> Result<Vec<u8>, NoMemory>
+        requires fits { FitsBody (body_content body) }
+        requires spelt { IsSpelt (body_content body) }
+        ensures { IfOk result (λ bytes.
+            IsEntryOf self.now fleet.bytes (body_content body.entry) bytes.items) }
+    {
+        let mut bytes = Vec::new(self.alloc);
+        let entry = Entry {
+            fleet,
+            start: self.start,
+            sequence: self.sequence.saturating_add(1),
+            body,
+        };
+        put_entry(&mut bytes, &entry)?;
+        Ok(bytes)
+    }
+
+    /// An entry was appended that is not whole, of so many bytes.
+    pub(crate) fn appended(&mut self, position: Position, length: usize)
+        ensures only { self.new ≡ record self.old {
+          sequence = self.new.sequence;
+          read_to = self.new.read_to;
+          size = self.new.size;
+        } }
+        ensures read_to { place_of self.new.read_to
+            ≡ cond self.old.alone (Some (place position)) (place_of self.old.read_to) }
+    {
+        self.follow(position, self.size.with_length(length));
+    }
+
+    /// A whole entry was appended, of so many bytes.
+    pub(crate) fn appended_whole(&mut self, position: Position, length: usize)
+        ensures only { self.new ≡ record self.old {
+          sequence = self.new.sequence;
+          read_to = self.new.read_to;
+          size = self.new.size;
+        } }
+        ensures read_to { place_of self.new.read_to
+            ≡ cond self.old.alone (Some (place position)) (place_of self.old.read_to) }
+    {
+        self.follow(position, LogSize::of_whole(length));
+    }
+
+    /// An entry of its own was appended. Where nobody else appends, it is not read again.
+    fn follow(&mut self, position: Position, size: LogSize)
+        ensures only { self.new ≡ record self.old {
+          sequence = self.new.sequence;
+          read_to = self.new.read_to;
+          size = self.new.size;
+        } }
+        ensures read_to { place_of self.new.read_to
+            ≡ cond self.old.alone (Some (place position)) (place_of self.old.read_to) }
+    {
+        self.sequence = self.sequence.saturating_add(1);
+        if self.alone {
+            self.read_to = Some(position);
+            self.size = size;
+        }
+    }
+
+    /// The start entry was appended, in this fleet, of so many bytes.
+    pub(crate) fn started(&mut self, position: Position, fleet: FleetId, length: usize)
+        ensures only { self.new ≡ record self.old {
+          sequence = self.new.sequence;
+          read_to = self.new.read_to;
+          size = self.new.size;
+          fleet = self.new.fleet;
+        } }
+        ensures read_to { place_of self.new.read_to
+            ≡ cond self.old.alone (Some (place position)) (place_of self.old.read_to) }
+    {
+        self.appended(position, length);
+        if self.alone {
+            self.fleet = Some(fleet);
+        }
+    }
+
+    /// An append has failed. What the log has lost is written again.
+    pub(crate) fn failed(&mut self, fault: LogFault)
+        ensures only { self.new ≡ record self.old { written = self.new.written; led = self.new.led } }
+        ensures leading { (asked : Option (List LogCall)) → IsLeading asked self.old → IsLeading asked self.new }
+    {
+        if fault == LogFault::Lost {
+            self.written = 0;
+            self.led = false;
+        }
+    }
+
+    /// Whether its own start was read, before the page or in it. Where another start was first with the number, it is taken.
+    pub(crate) fn judge_on(
+        &self,
+        own: bool,
+        page: &[(Position, Bytes)],
+    ) -> Result<bool, MemberFault>
+        ensures { IfOk result (IsJudged own self.now.start.number self.now.start.tag (bytes_of (placed page.now))) }
+    {
+        if own {
+            return Ok(true);
+        }
+        match self.judge(page) {
+            Some(true) => Ok(true),
+            Some(false) => Err(MemberFault::NumberTaken),
+            None => Ok(false),
+        }
+    }
+
+    /// Whether the first entry of the page that tells of the number is of this start; none where none tells of it.
+    fn judge(&self, page: &[(Position, Bytes)]) -> Option<bool>
+        ensures { IsJudgedPage self.now.start.number self.now.start.tag (bytes_of (placed page.now)) result }
+    {
+        for (_, bytes) in page {
+            match self.judge_entry(bytes) {
+                Some(own) => return Some(own),
+                None => {}
+            }
+        }
+        None
+    }
+
+    fn judge_entry(&self, bytes: &[u8]) -> Option<bool>
+        ensures { IsJudgedEntry self.now.start.number self.now.start.tag bytes.now result }
+    {
+        let Ok(entry) = read_entry(bytes) else {
+            return None;
+        };
+        if entry.start.number == self.start.number && entry.start.tag == self.start.tag {
+            return Some(true);
+        }
+        if tells_of(&entry, self.start.number) {
+            return Some(false);
+        }
+        None
+    }
+}
+
+/// Passes over bytes that are no entry. One of a newer format is not passed over.
+fn pass_over(fault: EntryFault) -> Result<(), MemberFault>
+    ensures { OnOk result (fault ≢ EntryFault.Newer) }
+{
+    match fault {
+        EntryFault::Newer => Err(MemberFault::LogNewer),
+        _ => Ok(()),
+    }
+}
+
+/// Whether the entry tells that a start has had the number.
+fn tells_of(entry: &Entry<'_>, number: u16) -> bool
+    ensures { IsTrue result ↔ ((entry.now.start.number ≡ number)
+        ⊎ TellsOf number (body_content entry.now.body)) }
+{
+    if entry.start.number == number {
+        return true;
+    }
+    match entry.body {
+        Body::Whole { numbers, .. } => has_bit(numbers, number),
+        _ => false,
+    }
+}
