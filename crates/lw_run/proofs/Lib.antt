@@ -1,0 +1,2 @@
+mod Sends
+mod Turns

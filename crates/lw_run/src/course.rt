@@ -1,0 +1,174 @@
+//! How a run goes on: turns, what they failed by, and what ends them.
+
+ghost use Rattle.std.specs.Prelude.{◌≤◌, length, IfErr};
+
+use crate::receiving::{pass_over, receive};
+use crate::telling::Refusals;
+use crate::{Compaction, Front, RunFault, Server, TurnFault};
+use log::{Log, info, warn};
+use lw_log::DeltaLog;
+use lw_reg::Addr;
+use lw_wire::HostClock;
+
+/// How many faults of the front, or turns without memory, in a row end a run.
+const FAULTS_IN_A_ROW: u32 = 1_000;
+
+/// How many turns after a compaction that was put off it is tried again.
+const TURNS_BETWEEN_COMPACTIONS: u32 = 1_000;
+
+/// A server, and how its last turns went.
+#[derive(Drop)]
+pub(crate) struct Course<G: DeltaLog, C: HostClock + Drop> {
+    server: Server<G, C>,
+    /// How many times in a row the front failed.
+    faults: u32,
+    /// How many turns in a row found no memory.
+    starved: u32,
+    compaction: Compaction,
+    /// How many turns are left before a compaction is tried again.
+    rest: u32,
+    /// Whether the log is away.
+    is_away: bool,
+    refusals: Refusals,
+}
+
+impl<G: DeltaLog, C: HostClock + Drop> Course<G, C> {
+    pub(crate) fn new(server: Server<G, C>, compaction: Compaction) -> Course<G, C> {
+        Course {
+            server,
+            compaction,
+            faults: 0,
+            starved: 0,
+            rest: 0,
+            is_away: false,
+            refusals: Refusals::new(),
+        }
+    }
+
+    /// A turn with the datagram that came, and with those that are there behind it. Where the log is away they are passed
+    /// over.
+    pub(crate) fn take<F: Front, L: Log>(
+        &mut self,
+        front: &mut F,
+        log: &L,
+        buffer: &mut [u8],
+        count: usize,
+        from: Addr,
+    ) -> Result<(), RunFault>
+        requires { count ≤ length buffer.old }
+    {
+        if self.is_away {
+            pass_over(front, buffer);
+            return self.tick(log);
+        }
+        self.faults = 0;
+        match self.try_take(front, log, buffer, count, from) {
+            Ok(()) => self.goes_on(log),
+            Err(fault) => self.endures(log, fault),
+        }
+    }
+
+    fn try_take<F: Front, L: Log>(
+        &mut self,
+        front: &mut F,
+        log: &L,
+        buffer: &mut [u8],
+        count: usize,
+        from: Addr,
+    ) -> Result<(), TurnFault>
+        requires { count ≤ length buffer.old }
+    {
+        let batch = receive(self.server.allocator(), front, buffer, count, from)?;
+        for (to, bytes) in self.server.take(batch)? {
+            self.send(front, log, to, &bytes);
+        }
+        Ok(())
+    }
+
+    /// Sends a reply. A fault is passed over.
+    fn send<F: Front, L: Log>(&mut self, front: &mut F, log: &L, to: Addr, bytes: &[u8]) {
+        self.refusals
+            .tell(log, self.server.latest().ms() / 1_000, to, bytes);
+        if front.send(to, bytes).is_err() {
+            warn!(log; "send passed over");
+        }
+    }
+
+    /// A turn without datagrams.
+    pub(crate) fn tick<L: Log>(&mut self, log: &L) -> Result<(), RunFault> {
+        self.faults = 0;
+        match self.server.tick() {
+            Ok(()) => self.goes_on(log),
+            Err(fault) => self.endures(log, fault),
+        }
+    }
+
+    /// The front failed.
+    pub(crate) fn fail<L: Log>(&mut self, log: &L) -> Result<(), RunFault> {
+        self.faults = self.faults.saturating_add(1);
+        if self.faults >= FAULTS_IN_A_ROW {
+            return Err(RunFault::ReceiveFailed);
+        }
+        warn!(log; "receive passed over");
+        Ok(())
+    }
+
+    /// A turn was made.
+    fn goes_on<L: Log>(&mut self, log: &L) -> Result<(), RunFault> {
+        self.starved = 0;
+        if self.is_away {
+            self.is_away = false;
+            info!(log; "log back");
+        }
+        self.compact_if_due(log)
+    }
+
+    fn is_compaction_due(&self) -> bool {
+        self.compaction == Compaction::WhereDue && self.rest == 0 && self.server.wants_compaction()
+    }
+
+    /// Compacts the log where that is due. Where it fails for now, it is put off by some turns.
+    fn compact_if_due<L: Log>(&mut self, log: &L) -> Result<(), RunFault> {
+        self.rest = self.rest.saturating_sub(1);
+        if !self.is_compaction_due() {
+            return Ok(());
+        }
+        match self.server.compact() {
+            Ok(()) => {
+                info!(log; "compacted");
+                Ok(())
+            }
+            Err(TurnFault::Away | TurnFault::NoMemory) => {
+                warn!(log; "compaction put off");
+                self.rest = TURNS_BETWEEN_COMPACTIONS;
+                Ok(())
+            }
+            Err(fault) => self.endures(log, fault),
+        }
+    }
+
+    /// A turn failed: whether the run goes on.
+    fn endures<L: Log>(&mut self, log: &L, fault: TurnFault) -> Result<(), RunFault> {
+        match fault {
+            TurnFault::Away => {
+                if !self.is_away {
+                    self.is_away = true;
+                    warn!(log; "log away");
+                }
+                Ok(())
+            }
+            TurnFault::NoMemory => {
+                if self.starved == 0 {
+                    warn!(log; "no memory for a turn");
+                }
+                self.starved = self.starved.saturating_add(1);
+                if self.starved >= FAULTS_IN_A_ROW {
+                    return Err(RunFault::NoMemory);
+                }
+                Ok(())
+            }
+            TurnFault::ClockRefused => Err(RunFault::ClockRefused),
+            TurnFault::Member(fault) => Err(RunFault::from(fault)),
+        }
+    }
+}

@@ -1,0 +1,33 @@
+//! What the datagrams of a server come over.
+
+ghost use Rattle.std.specs.Prelude.{◌≤◌, length, IfOk, IfSome};
+ghost use Rattle.lw_run.specs.Front.{IsWithin};
+
+use lw_reg::Addr;
+use lw_wire::WireFault;
+use std::time::Duration;
+
+/// What comes next.
+#[derive(Clone, Copy, Debug, PartialEq, Eq)]
+pub enum Heard {
+    /// A datagram: how many of its bytes stand in the buffer, and where it comes from.
+    Datagram(usize, Addr),
+    /// The time is over.
+    Nothing,
+    /// Nothing will come any more.
+    End,
+}
+
+/// What datagrams come and go over.
+pub trait Front {
+    /// Waits so long for a datagram. Bytes for which the buffer has no room are lost.
+    fn attend(&mut self, buffer: &mut [u8], time: Duration) -> Result<Heard, WireFault>
+        ensures { IfOk result (IsWithin (length buffer.new)) };
+
+    /// A datagram that is already there, without waiting.
+    fn more(&mut self, buffer: &mut [u8]) -> Result<Option<(usize, Addr)>, WireFault>
+        ensures { IfOk result (λ there. IfSome there (λ taken. taken.0 ≤ length buffer.new)) };
+
+    /// Sends a datagram. Nothing tells that it arrives.
+    fn send(&mut self, to: Addr, bytes: &[u8]) -> Result<(), WireFault>;
+}

@@ -1,0 +1,23 @@
+//! The loop of a server: datagrams come over a front, a member takes them in rounds, and what it replies goes out only
+//! once its log leads all that the replies tell of.
+#![tactic(auto)]
+
+mod calling;
+mod course;
+mod fault;
+mod front;
+mod receiving;
+mod running;
+mod sending;
+mod server;
+mod telling;
+
+pub use fault::{RunFault, TurnFault};
+pub use front::{Front, Heard};
+pub use lw_log::{DeltaLog, LogFault};
+pub use lw_member::{Member, MemberFault};
+pub use lw_reg::Addr;
+pub use lw_stamp::Moment;
+pub use lw_wire::{Datagram, HostClock, WireFault};
+pub use running::{Compaction, run_on};
+pub use server::Server;

@@ -1,0 +1,44 @@
+//! Batches of datagrams.
+
+ghost use Rattle.std.specs.Prelude.{◌≤◌, length, vec_len, IfOk};
+ghost use Rattle.lw_run.specs.inner.Batches.{most_at_once};
+
+use crate::Front;
+use lw_reg::Addr;
+use lw_stamp::NoMemory;
+use lw_wire::Datagram;
+use std::alloc::Global;
+
+/// How many datagrams make a batch at most.
+const MOST_AT_ONCE: u32 = 256;
+
+/// The datagram that came, and those that are there behind it. A fault behind the first ends the batch.
+pub(crate) fn receive<F: Front>(
+    alloc: Global,
+    front: &mut F,
+    buffer: &mut [u8],
+    count: usize,
+    from: Addr,
+) -> Result<Vec<Datagram>, NoMemory>
+    requires { count ≤ length buffer.old }
+    ensures { IfOk result (λ batch. (1 ≤ vec_len batch) × (vec_len batch ≤ most_at_once)) }
+{
+    let mut batch = Vec::new(alloc);
+    batch.push(Datagram::new(alloc, from, &buffer[..count])?)?;
+    for _taken in 1..MOST_AT_ONCE {
+        let Ok(Some((count, from))) = front.more(buffer) else {
+            break;
+        };
+        batch.push(Datagram::new(alloc, from, &buffer[..count])?)?;
+    }
+    Ok(batch)
+}
+
+/// Passes over the datagrams that are there, as many as make a batch.
+pub(crate) fn pass_over<F: Front>(front: &mut F, buffer: &mut [u8]) {
+    for _passed in 1..MOST_AT_ONCE {
+        let Ok(Some(_)) = front.more(buffer) else {
+            break;
+        };
+    }
+}

@@ -1,0 +1,43 @@
+//! What a run logs of the replies that it sends.
+
+use log::{Log, debug, info};
+use lw_reg::Addr;
+use lw_wire::socket_address_of;
+
+/// How many refusals of a second are told.
+const REFUSALS_A_SECOND: u32 = 10;
+
+/// How many refusals of the present second were told.
+#[derive(Clone, Copy)]
+pub(crate) struct Refusals {
+    second: u64,
+    told: u32,
+}
+
+impl Refusals {
+    pub(crate) fn new() -> Refusals {
+        Refusals { second: 0, told: 0 }
+    }
+
+    /// Whether one more is told in the second, which is then counted.
+    fn tells(&mut self, second: u64) -> bool {
+        if self.second != second {
+            *self = Refusals { second, told: 0 };
+        }
+        self.told = self.told.saturating_add(1);
+        self.told <= REFUSALS_A_SECOND
+    }
+
+    /// Tells of a reply that is sent in the second: at level debug, and at level info where it refuses.
+    pub(crate) fn tell<L: Log>(&mut self, log: &L, second: u64, to: Addr, reply: &[u8]) {
+        let Some(code) = reply.get(1) else {
+            return;
+        };
+        let (class, detail) = (code >> 5, code & 31);
+        let from = socket_address_of(&to);
+        debug!(log; "take from={from} reply={class}.{detail:02}");
+        if class >= 4 && self.tells(second) {
+            info!(log; "refused from={from} code={class}.{detail:02}");
+        }
+    }
+}
