@@ -1,9 +1,10 @@
 //! The program `fleet`: `fleet one` takes one datagram at a new node and prints what the node answers; `fleet replay`
 //! runs a script of several nodes and prints a line of what comes of each event; `fleet serve` serves datagrams that come
-//! to a UDP port.
+//! to a UDP port, and ends; `fleet run` serves devices until it is killed.
 #![tactic(auto)]
 
 mod host;
+mod run_host;
 
 use host::Host;
 use lw_fleet::program;

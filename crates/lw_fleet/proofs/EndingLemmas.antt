@@ -8,13 +8,13 @@ use Rattle.clap.specs.declared.error.kind.ErrorKind.TheVariants.{ValueValidation
 use Rattle.lw_stamp.specs.Moment.{ms_of}
 use Rattle.lw_fleet.specs.declared.command.OneOptions.{OneOptions}
 use Rattle.lw_fleet.specs.declared.command.Request.{Request}
-use Rattle.lw_fleet.specs.declared.command.Request.TheVariants.{One, Replay, Serve}
+use Rattle.lw_fleet.specs.declared.command.Request.TheVariants.{One, Replay, Serve, Run}
 use Rattle.lw_fleet.specs.declared.fault.Fault.TheVariants.{NoMemory}
 use Rattle.lw_fleet.specs.declared.running.Ending.{Ending}
-use Rattle.lw_fleet.specs.declared.running.Ending.TheVariants.{Done, Failed, Unserved, Refused}
-use Rattle.lw_fleet.specs.CommandLine.{fleet_app, option_rows, AsksForText, IsAsked, IsGiven, IsRequest, NamesReplay, NamesServe}
+use Rattle.lw_fleet.specs.declared.running.Ending.TheVariants.{Done, Failed, Unserved, Stopped, Refused}
+use Rattle.lw_fleet.specs.CommandLine.{fleet_app, option_rows, AsksForText, IsAsked, IsGiven, IsRequest, NamesReplay, NamesRun, NamesServe}
 use Rattle.lw_fleet.specs.One.{IsAddressText, IsAnswered, IsPrinted, Prints, PrintsFront}
-use Rattle.lw_fleet.specs.Program.{EndsOne, EndsRefused, EndsReplay, EndsRequest, EndsServe, EndsShown, EndsWithoutMemory}
+use Rattle.lw_fleet.specs.Program.{EndsOne, EndsRefused, EndsReplay, EndsRequest, EndsRun, EndsServe, EndsShown, EndsWithoutMemory}
 use Rattle.lw_fleet.proofs.OneLemmas.{if_some}
 
 -- ---- memory that ran out
@@ -54,11 +54,15 @@ replay_without_memory input before after ending early = subst (EndsReplay input 
 pub serve_without_memory : (before after : Option (List ℕ)) (ending : Ending) → EndsWithoutMemory before after ending → EndsServe before after ending
 serve_without_memory before after ending early = subst (EndsServe before after) (sym early.1) (refl, early.2)
 
+run_without_memory : (before after : Option (List ℕ)) (ending : Ending) → EndsWithoutMemory before after ending → EndsRun before after ending
+run_without_memory before after ending early = subst (EndsRun before after) (sym early.1) (refl, early.2)
+
 pub request_without_memory : (request : Request) (input before after : Option (List ℕ)) (ending : Ending) → EndsWithoutMemory before after ending
     → EndsRequest request input before after ending
 request_without_memory (One options) input before after ending early = one_without_memory options input before after ending early
 request_without_memory Replay input before after ending early = replay_without_memory input before after ending early
 request_without_memory (Serve options) input before after ending early = serve_without_memory before after ending early
+request_without_memory (Run options) input before after ending early = run_without_memory before after ending early
 
 -- ---- words that ask for something
 
@@ -126,22 +130,36 @@ same_end a b input before after (Failed fault told) same h = record {
   no_script = h.no_script;
 }
 same_end a b input before after (Unserved fault told) same h = h
+same_end a b input before after (Stopped fault told) same h = h
 same_end a b input before after Refused same h = h
 
--- no command has both names
-pub names_differ : (command : Option (Text × List Row)) → NamesReplay command → NamesServe command → ⊥
-names_differ command replays serves = cc
+-- no command has two names
+pub replay_or_serve : (command : Option (Text × List Row)) → NamesReplay command → NamesServe command → ⊥
+replay_or_serve command replays serves = cc
+
+pub replay_or_run : (command : Option (Text × List Row)) → NamesReplay command → NamesRun command → ⊥
+replay_or_run command replays runs = cc
+
+pub serve_or_run : (command : Option (Text × List Row)) → NamesServe command → NamesRun command → ⊥
+serve_or_run command serves runs = cc
 
 -- the same words ask for one thing
 pub end_of_asked : (command : Option (Text × List Row)) (a b : Request) (input before after : Option (List ℕ)) (ending : Ending)
     → IsAsked command a → IsAsked command b
     → EndsRequest a input before after ending → EndsRequest b input before after ending
-end_of_asked command (One a) (One b) input before after ending (_, _, ga) (_, _, gb) h = same_end a b input before after ending (are_same (option_rows command) a b ga gb) h
-end_of_asked command (One a) Replay input before after ending (other, _, ga) replays h = absurd (other replays)
-end_of_asked command (One a) (Serve b) input before after ending (_, other, ga) (serves, gb) h = absurd (other serves)
-end_of_asked command Replay (One b) input before after ending replays (other, _, gb) h = absurd (other replays)
+end_of_asked command (One a) (One b) input before after ending (_, _, _, ga) (_, _, _, gb) h = same_end a b input before after ending (are_same (option_rows command) a b ga gb) h
+end_of_asked command (One a) Replay input before after ending (other, _, _, ga) replays h = absurd (other replays)
+end_of_asked command (One a) (Serve b) input before after ending (_, other, _, ga) (serves, gb) h = absurd (other serves)
+end_of_asked command (One a) (Run b) input before after ending (_, _, other, ga) (runs, gb) h = absurd (other runs)
+end_of_asked command Replay (One b) input before after ending replays (other, _, _, gb) h = absurd (other replays)
 end_of_asked command Replay Replay input before after ending replays again h = h
-end_of_asked command Replay (Serve b) input before after ending replays (serves, gb) h = absurd (names_differ command replays serves)
-end_of_asked command (Serve a) (One b) input before after ending (serves, ga) (_, other, gb) h = absurd (other serves)
-end_of_asked command (Serve a) Replay input before after ending (serves, ga) replays h = absurd (names_differ command replays serves)
+end_of_asked command Replay (Serve b) input before after ending replays (serves, gb) h = absurd (replay_or_serve command replays serves)
+end_of_asked command Replay (Run b) input before after ending replays (runs, gb) h = absurd (replay_or_run command replays runs)
+end_of_asked command (Serve a) (One b) input before after ending (serves, ga) (_, other, _, gb) h = absurd (other serves)
+end_of_asked command (Serve a) Replay input before after ending (serves, ga) replays h = absurd (replay_or_serve command replays serves)
 end_of_asked command (Serve a) (Serve b) input before after ending asked again h = h
+end_of_asked command (Serve a) (Run b) input before after ending (serves, ga) (runs, gb) h = absurd (serve_or_run command serves runs)
+end_of_asked command (Run a) (One b) input before after ending (runs, ga) (_, _, other, gb) h = absurd (other runs)
+end_of_asked command (Run a) Replay input before after ending (runs, ga) replays h = absurd (replay_or_run command replays runs)
+end_of_asked command (Run a) (Serve b) input before after ending (runs, ga) (serves, gb) h = absurd (serve_or_run command serves runs)
+end_of_asked command (Run a) (Run b) input before after ending asked again h = h

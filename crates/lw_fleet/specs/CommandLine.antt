@@ -1,16 +1,23 @@
--- The command line of the program, in the words of `clap`: the command `one` with its three options, `replay`, and
--- `serve` with its five.
-use Rattle.std.specs.Prelude.{◌≡◌, ◌⊎◌, ◌<◌, ◌^◌, ℕ, List, [], ◌∷◌, Option, Some, None, option_map, codes, unwrap_or, true}
+-- The command line of the program, in the words of `clap`: the command `one` with its three options, `replay`, `serve`
+-- with its five, and `run` with its five.
+use Rattle.std.specs.Prelude.{◌≡◌, ◌≢◌, ◌⊎◌, ◌<◌, ◌^◌, ℕ, List, [], ◌∷◌, Option, Some, None, option_map, codes, unwrap_or, true}
+use Rattle.std.specs.Net.Grammar.{IsIpText}
 use Rattle.std.specs.Str.Parse.{IsNumeral, digits_value}
 use Rattle.clap.specs.Kinds.{IsAmong, Kinds, or_else}
-use Rattle.clap.specs.Words.{App, Row, Rule, Text, fault_of, first_of, new_app, new_rule, subcommand_of, with_rule, with_subcommand}
+use Rattle.clap.specs.Words.{App, Row, Rule, Text, fault_of, first_of, new_app, new_rule, one_of, subcommand_of, with_rule, with_subcommand}
+use Rattle.clap.specs.declared.builder.action.ArgAction.TheVariants.{SetTrue}
 use Rattle.clap.specs.declared.error.kind.ErrorKind.{ErrorKind}
 use Rattle.clap.specs.declared.error.kind.ErrorKind.TheVariants.{DisplayHelp, DisplayVersion, ValueValidation}
 use Rattle.lw_stamp.specs.Moment.{ms_of}
 use Rattle.lw_fleet.specs.declared.command.OneOptions.{OneOptions}
 use Rattle.lw_fleet.specs.declared.command.Request.{Request}
-use Rattle.lw_fleet.specs.declared.command.Request.TheVariants.{One, Replay, Serve}
+use Rattle.lw_fleet.specs.declared.command.Request.TheVariants.{One, Replay, Serve, Run}
 use Rattle.lw_fleet.specs.declared.command.ServeOptions.{ServeOptions}
+use Rattle.lw_fleet.specs.declared.run_options.Keeps.{Keeps}
+use Rattle.lw_fleet.specs.declared.run_options.Keeps.TheVariants.{Nothing, Folder}
+use Rattle.lw_fleet.specs.declared.run_options.LogLevel.{LogLevel}
+use Rattle.lw_fleet.specs.declared.run_options.LogLevel.TheVariants.{Off, Error, Warn, Info, Debug}
+use Rattle.lw_fleet.specs.declared.run_options.RunOptions.{RunOptions}
 
 -- an option that is given by its long name
 abbrev pub long_option : Text → Rule
@@ -19,6 +26,10 @@ long_option name = record (new_rule name) { long = Some name; value_names = 1 }
 -- one that has to be given
 abbrev pub needed_option : Text → Rule
 needed_option name = record (long_option name) { required = true }
+
+-- an option that is given alone, without a text
+abbrev pub flag_option : Text → Rule
+flag_option name = record (new_rule name) { long = Some name; action = Some SetTrue }
 
 -- `one` with the options `--node`, `--now` and `--from`
 unfoldable pub one_app : App
@@ -43,10 +54,22 @@ serve_app = with_rule
     (long_option (codes "workers")))
     (long_option (codes "cut"))
 
+-- `run` with the options `--bind`, `--port`, `--log`, `--memory` and `--data`
+unfoldable pub run_app : App
+run_app = with_rule
+    (with_rule
+    (with_rule
+    (with_rule (with_rule (new_app (codes "run")) (long_option (codes "bind"))) (long_option (codes "port")))
+    (long_option (codes "log")))
+    (flag_option (codes "memory")))
+    (long_option (codes "data"))
+
 unfoldable pub fleet_app : App
 fleet_app = with_subcommand
+    (with_subcommand
     (with_subcommand (with_subcommand (with_version (new_app (codes "fleet"))) one_app.top) replay_app.top)
-    serve_app.top
+    serve_app.top)
+    run_app.top
 
 -- what was given for the options of a command, and nothing where there was no command
 abbrev pub option_rows : Option (Text × List Row) → List Row
@@ -84,6 +107,33 @@ pub record IsGivenToServe (rows : List Row) (options : ServeOptions) : Type 0 wh
   pub workers : Writes (given (codes "workers") (codes "2") rows) options.plan.workers
   pub cut : WritesIfGiven (first_of (codes "cut") rows) options.plan.cut
 
+-- the option is given that has no text
+abbrev pub HasFlag : Text → List Row → Type 0
+HasFlag name rows = one_of name rows ≡ Some (codes "true")
+
+-- the name of a level
+abbrev pub level_text : LogLevel → Text
+level_text Off = codes "off"
+level_text Error = codes "error"
+level_text Warn = codes "warn"
+level_text Info = codes "info"
+level_text Debug = codes "debug"
+
+-- What is registered is kept nowhere where `--memory` is given, and else in a folder: that of `--data`, or `fleet-data`.
+-- Not both are given, and the path of a folder is not empty.
+abbrev pub IsKept : List Row → Keeps → Type 0
+IsKept rows Nothing = HasFlag (codes "memory") rows × (first_of (codes "data") rows ≡ None)
+IsKept rows (Folder path) = (¬ HasFlag (codes "memory") rows)
+    × (path.now ≡ given (codes "data") (codes "fleet-data") rows) × (path.now ≢ [])
+
+-- the options are those that were given: the address 127.0.0.1, the port 5683 and the level `info` where they were not
+pub record IsGivenToRun (rows : List Row) (options : RunOptions) : Type 0 where
+  pub bind : IsIpText (given (codes "bind") (codes "127.0.0.1") rows) options.bind
+  pub port : Writes (given (codes "port") (codes "5683") rows) options.port
+  pub port_fits : options.port < 2 ^ 16
+  pub level : level_text options.level ≡ given (codes "log") (codes "info") rows
+  pub keeps : IsKept rows options.keeps
+
 -- the command has the name
 abbrev pub Names : Text → Option (Text × List Row) → Type 0
 Names name command = option_map (λ c. c.0) command ≡ Some name
@@ -96,18 +146,24 @@ NamesReplay command = Names (codes "replay") command
 abbrev pub NamesServe : Option (Text × List Row) → Type 0
 NamesServe command = Names (codes "serve") command
 
+-- the command is `run`
+abbrev pub NamesRun : Option (Text × List Row) → Type 0
+NamesRun command = Names (codes "run") command
+
 -- what a command asks for with what is given for its options; no command is `one`
 abbrev pub IsAsked : Option (Text × List Row) → Request → Type 0
-IsAsked command (One options) = (¬ NamesReplay command) × (¬ NamesServe command) × IsGiven (option_rows command) options
+IsAsked command (One options) = (¬ NamesReplay command) × (¬ NamesServe command) × (¬ NamesRun command)
+    × IsGiven (option_rows command) options
 IsAsked command Replay = NamesReplay command
 IsAsked command (Serve options) = NamesServe command × IsGivenToServe (option_rows command) options
+IsAsked command (Run options) = NamesRun command × IsGivenToRun (option_rows command) options
 
 -- the words of a command line are taken, and ask for this
 abbrev pub Asks : List Text → Request → Type 0
 Asks words request = (fault_of fleet_app words ≡ []) × IsAsked (subcommand_of fleet_app words) request
 
--- the kinds of error that the words may have where they ask for nothing: those that `clap` finds, or else a number
--- out of its range
+-- the kinds of error that the words may have where they ask for nothing: those that `clap` finds, or else a text that
+-- its option does not take
 abbrev pub kinds_of_words : List Text → Kinds
 kinds_of_words words = or_else (fault_of fleet_app words) (ValueValidation ∷ [])
 

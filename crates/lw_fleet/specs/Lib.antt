@@ -6,3 +6,4 @@ pub mod Replay
 pub mod Fault
 pub mod Program
 pub mod Serving
+pub mod RunningServer

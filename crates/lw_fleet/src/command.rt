@@ -4,7 +4,7 @@ ghost use Rattle.std.specs.Str.Parse.{IsNumeral, digits_value};
 ghost use Rattle.clap.specs.declared.builder.texts.Texts.TheVariants.{One};
 ghost use Rattle.clap.specs.Words.{app_of, first_of, rule_of, kind_of, fault_of, subcommand_of, subcommand_rows_of, HasKind};
 ghost use Rattle.clap.specs.declared.builder.command.Command.TheViews.{out-Command as fields_of};
-ghost use Rattle.lw_fleet.specs.CommandLine.{fleet_app, one_app, replay_app, serve_app, given, kinds_of_words, long_option, needed_option as needed, option_rows, IsAsked, IsGiven, IsGivenToServe, Names, Writes, WritesIfGiven};
+ghost use Rattle.lw_fleet.specs.CommandLine.{fleet_app, flag_option, one_app, replay_app, serve_app, given, kinds_of_words, long_option, needed_option as needed, option_rows, HasFlag, IsAsked, IsGiven, IsGivenToServe, Names, Writes, WritesIfGiven};
 ghost use Rattle.lw_serve.specs.Plan.{IsCut};
 ghost use Rattle.lw_stamp.specs.Moment.{ms_of};
 ghost use Rattle.lw_stamp.specs.declared.moment.Moment.{Moment as Moments};
@@ -12,8 +12,9 @@ ghost use Rattle.lw_fleet.specs.declared.command.OneOptions.{OneOptions as Optio
 ghost use Rattle.lw_fleet.specs.declared.command.Request.{Request as Requests};
 ghost use Rattle.lw_fleet.specs.declared.command.ServeOptions.{ServeOptions as ServingOptions};
 
+use crate::run_options::{BadRunOption, RunOptions, run_command, run_options_in};
 use clap::error::ErrorKind;
-use clap::{Arg, ArgMatches, Command, Error};
+use clap::{Arg, ArgAction, ArgMatches, Command, Error};
 use lw_serve::Plan;
 use lw_stamp::Moment;
 use std::alloc::{AllocError, Global};
@@ -25,6 +26,7 @@ pub enum Request<'a> {
     One(OneOptions<'a>),
     Replay,
     Serve(ServeOptions),
+    Run(RunOptions<'a>),
 }
 
 /// The options of `fleet one`.
@@ -50,9 +52,12 @@ pub struct ServeOptions {
 /// What `--version` prints after the name of the program.
 const VERSION: &str = "0.1.0";
 
-/// An option whose text is no number that it takes.
+/// What is said of a port that is none.
+pub(crate) const BAD_PORT: &str = "'--port <P>' takes a number from 0 to 65535, in digits alone";
+
+/// An option with a text that it does not take.
 #[derive(Clone, Copy)]
-enum BadNumber {
+enum BadOption {
     Node,
     Now,
     Count,
@@ -60,29 +65,38 @@ enum BadNumber {
     Nodes,
     Workers,
     Cut,
+    Run(BadRunOption),
 }
 
-impl BadNumber {
+impl BadOption {
     fn message(self) -> &'static str {
         match self {
-            BadNumber::Node => "'--node <N>' takes a number from 0 to 65535, in digits alone",
-            BadNumber::Now => {
+            BadOption::Node => "'--node <N>' takes a number from 0 to 65535, in digits alone",
+            BadOption::Now => {
                 "'--now <MS>' takes a number from 0 to 281474976710655, in digits alone"
             }
-            BadNumber::Count => "'--count <K>' takes a number from 1 to 1000000, in digits alone",
-            BadNumber::Port => "'--port <P>' takes a number from 0 to 65535, in digits alone",
-            BadNumber::Nodes => "'--nodes <N>' takes a number from 1 to 16, in digits alone",
-            BadNumber::Workers => "'--workers <W>' takes a number from 1 to 8, in digits alone",
-            BadNumber::Cut => "'--cut <C>' takes a number from 1 to 1000000, in digits alone",
+            BadOption::Count => "'--count <K>' takes a number from 1 to 1000000, in digits alone",
+            BadOption::Port => BAD_PORT,
+            BadOption::Nodes => "'--nodes <N>' takes a number from 1 to 16, in digits alone",
+            BadOption::Workers => "'--workers <W>' takes a number from 1 to 8, in digits alone",
+            BadOption::Cut => "'--cut <C>' takes a number from 1 to 1000000, in digits alone",
+            BadOption::Run(bad) => bad.message(),
         }
     }
 
     /// The command that has the option.
     fn command<'a>(self, alloc: Global) -> Result<Command<'a>, AllocError> {
         match self {
-            BadNumber::Node | BadNumber::Now => one_command(alloc)?.bin_name("fleet one"),
+            BadOption::Node | BadOption::Now => one_command(alloc)?.bin_name("fleet one"),
+            BadOption::Run(_) => run_command(alloc)?.bin_name("fleet run"),
             _ => serve_command(alloc)?.bin_name("fleet serve"),
         }
+    }
+}
+
+impl From<BadRunOption> for BadOption {
+    fn from(bad: BadRunOption) -> BadOption {
+        BadOption::Run(bad)
     }
 }
 
@@ -99,7 +113,7 @@ pub fn read_request<'a, S: AsStr>(alloc: Global, words: &'a [S]) -> Result<Reque
     let matches = command.try_get_matches_from(words)?;
     match request_in(&matches) {
         Ok(request) => Ok(request),
-        Err(bad) => Err(number_refused(alloc, bad)?),
+        Err(bad) => Err(option_refused(alloc, bad)?),
     }
 }
 
@@ -111,7 +125,7 @@ pub fn not_utf8(alloc: Global) -> Result<Error, AllocError>
     command.error(ErrorKind::ValueValidation, "a word is not UTF-8")
 }
 
-fn number_refused(alloc: Global, bad: BadNumber) -> Result<Error, AllocError>
+fn option_refused(alloc: Global, bad: BadOption) -> Result<Error, AllocError>
     ensures { IfOk result (λ error. kind_of error ≡ ErrorKind.ValueValidation) }
 {
     let mut command = bad.command(alloc)?;
@@ -126,7 +140,8 @@ fn fleet_command<'a>(alloc: Global) -> Result<Command<'a>, AllocError>
         .about("The registration store behind LwM2M servers; without a command, `fleet one`")
         .subcommand(one_command(alloc)?)?
         .subcommand(replay_command(alloc))?
-        .subcommand(serve_command(alloc)?)
+        .subcommand(serve_command(alloc)?)?
+        .subcommand(run_command(alloc)?)
 }
 
 fn one_command<'a>(alloc: Global) -> Result<Command<'a>, AllocError>
@@ -212,7 +227,7 @@ fn needed_option<'a>(alloc: Global, name: &'a str, value: &'a str, help: &'a str
     option(alloc, name, value, help).required(true)
 }
 
-fn option<'a>(alloc: Global, name: &'a str, value: &'a str, help: &'a str) -> Arg<'a>
+pub(crate) fn option<'a>(alloc: Global, name: &'a str, value: &'a str, help: &'a str) -> Arg<'a>
     ensures rule { rule_of result ≡ long_option name.entry.now }
     ensures local { result.global ≡ false }
     ensures value_name { result.val_names ≡ One value.entry }
@@ -224,7 +239,19 @@ fn option<'a>(alloc: Global, name: &'a str, value: &'a str, help: &'a str) -> Ar
         .help(help)
 }
 
-fn request_in<'a>(matches: &ArgMatches<'a>) -> Result<Request<'a>, BadNumber>
+/// An option that is given alone, without a text.
+pub(crate) fn flag<'a>(alloc: Global, name: &'a str, help: &'a str) -> Arg<'a>
+    ensures rule { rule_of result ≡ flag_option name.entry.now }
+    ensures local { result.global ≡ false }
+    ensures help { result.help ≡ Some help.entry }
+{
+    Arg::new(alloc, name)
+        .long(name)
+        .help(help)
+        .action(ArgAction::SetTrue)
+}
+
+fn request_in<'a>(matches: &ArgMatches<'a>) -> Result<Request<'a>, BadOption>
     ensures asked { IfOk result (IsAsked (subcommand_rows_of matches.now)) }
     ensures none { OnErr result ((r : Requests) → ¬ IsAsked (subcommand_rows_of matches.now) r) }
 {
@@ -233,6 +260,9 @@ fn request_in<'a>(matches: &ArgMatches<'a>) -> Result<Request<'a>, BadNumber>
     }
     if names(matches, "serve") {
         return Ok(Request::Serve(serve_options_in(matches)?));
+    }
+    if names(matches, "run") {
+        return Ok(Request::Run(run_options_in(matches)?));
     }
     Ok(Request::One(options_in(matches)?))
 }
@@ -246,15 +276,15 @@ fn names(matches: &ArgMatches<'_>, command: &str) -> bool
     }
 }
 
-fn options_in<'a>(matches: &ArgMatches<'a>) -> Result<OneOptions<'a>, BadNumber>
+fn options_in<'a>(matches: &ArgMatches<'a>) -> Result<OneOptions<'a>, BadOption>
     ensures given { IfOk result (IsGiven (option_rows (subcommand_rows_of matches.now))) }
     ensures none { OnErr result ((o : Options) → ¬ IsGiven (option_rows (subcommand_rows_of matches.now)) o) }
 {
     let Some(node) = small_number(text_of(matches, "node", "1")) else {
-        return Err(BadNumber::Node);
+        return Err(BadOption::Node);
     };
     let Some(now) = moment(text_of(matches, "now", "0")) else {
-        return Err(BadNumber::Now);
+        return Err(BadOption::Now);
     };
     Ok(OneOptions {
         node,
@@ -263,32 +293,32 @@ fn options_in<'a>(matches: &ArgMatches<'a>) -> Result<OneOptions<'a>, BadNumber>
     })
 }
 
-fn serve_options_in(matches: &ArgMatches<'_>) -> Result<ServeOptions, BadNumber>
+fn serve_options_in(matches: &ArgMatches<'_>) -> Result<ServeOptions, BadOption>
     ensures given { IfOk result (IsGivenToServe (option_rows (subcommand_rows_of matches.now))) }
     ensures none { OnErr result ((o : ServingOptions)
         → ¬ IsGivenToServe (option_rows (subcommand_rows_of matches.now)) o) }
 {
     let Some(count) = number_within(text_of(matches, "count", ""), 1, 1_000_000) else {
-        return Err(BadNumber::Count);
+        return Err(BadOption::Count);
     };
     let Some(port) = small_number(text_of(matches, "port", "5683")) else {
-        return Err(BadNumber::Port);
+        return Err(BadOption::Port);
     };
     let Some(nodes) = number_within(text_of(matches, "nodes", "2"), 1, 16) else {
-        return Err(BadNumber::Nodes);
+        return Err(BadOption::Nodes);
     };
     let Some(workers) = number_within(text_of(matches, "workers", "2"), 1, 8) else {
-        return Err(BadNumber::Workers);
+        return Err(BadOption::Workers);
     };
     let cut = cut_in(matches)?;
     match Plan::new(count as u32, nodes as u16, workers as u32, cut) {
         Some(plan) => Ok(ServeOptions { plan, port }),
-        None => Err(BadNumber::Count),
+        None => Err(BadOption::Count),
     }
 }
 
 /// After how many rounds the journals are cut, if that is given.
-fn cut_in(matches: &ArgMatches<'_>) -> Result<Option<u32>, BadNumber>
+fn cut_in(matches: &ArgMatches<'_>) -> Result<Option<u32>, BadOption>
     ensures given { IfOk result (λ cut.
         WritesIfGiven (first_of (codes "cut") (option_rows (subcommand_rows_of matches.now))) cut × IsCut cut) }
     ensures none { OnErr result ((cut : Option ℕ) → IsCut cut
@@ -299,19 +329,29 @@ fn cut_in(matches: &ArgMatches<'_>) -> Result<Option<u32>, BadNumber>
     };
     match number_within(text, 1, 1_000_000) {
         Some(rounds) => Ok(Some(rounds as u32)),
-        None => Err(BadNumber::Cut),
+        None => Err(BadOption::Cut),
     }
 }
 
 /// The text that is given for the option, if one is.
-fn given_text<'a>(matches: &ArgMatches<'a>, option: &str) -> Option<&'a str>
+pub(crate) fn given_text<'a>(matches: &ArgMatches<'a>, option: &str) -> Option<&'a str>
     ensures { option_copied result ≡ first_of option.now (option_rows (subcommand_rows_of matches.now)) }
 {
     let (_, options) = matches.subcommand()?;
     options.get_str(option)
 }
 
-fn text_of<'a>(matches: &ArgMatches<'a>, option: &str, default: &'a str) -> &'a str
+/// Whether the option is given, which has no text.
+pub(crate) fn has_flag(matches: &ArgMatches<'_>, option: &str) -> bool
+    ensures { IsTrue result ↔ HasFlag option.now (option_rows (subcommand_rows_of matches.now)) }
+{
+    match matches.subcommand() {
+        Some((_, options)) => options.get_one(option).unwrap_or(false),
+        None => false,
+    }
+}
+
+pub(crate) fn text_of<'a>(matches: &ArgMatches<'a>, option: &str, default: &'a str) -> &'a str
     ensures { result.now ≡ given option.now default.entry.now (option_rows (subcommand_rows_of matches.now)) }
 {
     given_text(matches, option).unwrap_or(default)
@@ -326,7 +366,7 @@ fn number_within(text: &str, least: u64, most: u64) -> Option<u64>
     (least <= number && number <= most).then_some(number)
 }
 
-fn small_number(text: &str) -> Option<u16>
+pub(crate) fn small_number(text: &str) -> Option<u16>
     ensures { SomeIff result (IsNumeral 10 text.now × (digits_value 10 text.now < 2 ^ 16)) (digits_value 10 text.now) }
 {
     u16::try_from(number(text)?).ok()

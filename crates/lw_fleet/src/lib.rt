@@ -1,4 +1,4 @@
-//! The program `fleet` as a library: its command line, its three commands and their endings, over any reader, writer and
+//! The program `fleet` as a library: its command line, its four commands and their endings, over any reader, writer and
 //! server.
 #![tactic(auto)]
 
@@ -9,7 +9,9 @@ mod input;
 mod one_datagram;
 mod output;
 mod replaying;
+mod run_options;
 mod running;
+mod running_server;
 mod serving;
 
 pub use command::{OneOptions, Request, ServeOptions, not_utf8, read_request};
@@ -19,5 +21,7 @@ pub use input::{read_all, read_line};
 pub use one_datagram::one;
 pub use output::{flush, write_all, write_text};
 pub use replaying::replay;
+pub use run_options::{Keeps, LogLevel, RunOptions};
 pub use running::{Ending, program};
+pub use running_server::{RunningFault, Runs};
 pub use serving::{Serves, ServingFault};

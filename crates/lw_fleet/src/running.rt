@@ -1,17 +1,19 @@
-ghost use Rattle.std.specs.Prelude.{◌≡◌, ◌≢◌, Bool, IfOk, IfErr, map};
+ghost use Rattle.std.specs.Prelude.{◌≡◌, ◌≢◌, ℕ, Bool, List, Option, IfOk, IfErr, map};
 ghost use Rattle.std.specs.IoError.{error_kind};
 ghost use Rattle.std.specs.declared.io.ErrorKind.TheVariants.{InvalidData};
 ghost use Rattle.clap.specs.Words.{kind_of};
 ghost use Rattle.clap.specs.declared.error.kind.ErrorKind.TheVariants.{OutOfMemory};
 ghost use Rattle.lw_fleet.specs.CommandLine.{IsRequest};
 ghost use Rattle.lw_fleet.specs.One.{IsAddressText};
-ghost use Rattle.lw_fleet.specs.Program.{status_of, EndsOne, EndsOtherwise, EndsRefused, EndsReplay, EndsRequest, EndsServe, EndsShown, EndsWithoutMemory, IsEnd, IsOfInput, IsRefusal, Reads, Tells};
+ghost use Rattle.lw_fleet.specs.Program.{status_of, EndsOne, EndsOtherwise, EndsRefused, EndsReplay, EndsRequest, EndsRun, EndsServe, EndsShown, EndsWithoutMemory, IsEnd, IsOfInput, IsRefusal, Reads, Tells};
 
 use crate::command::{OneOptions, Request, ServeOptions, not_utf8, read_request};
 use crate::fault::Fault;
 use crate::one_datagram::one;
 use crate::output::write_text;
 use crate::replaying::replay;
+use crate::run_options::RunOptions;
+use crate::running_server::{RunningFault, Runs};
 use crate::serving::{Serves, ServingFault};
 use clap::Error;
 use clap::error::ErrorKind;
@@ -31,6 +33,8 @@ pub enum Ending {
     Failed { fault: Fault, told: bool },
     /// `serve` stopped at a fault, which is told in the same way.
     Unserved { fault: ServingFault, told: bool },
+    /// `run` stopped at a fault, which is told in the same way.
+    Stopped { fault: RunningFault, told: bool },
     /// The command line is refused, with a text on standard error.
     Refused,
 }
@@ -44,6 +48,7 @@ impl Ending {
             Ending::Done => 0,
             Ending::Failed { .. } => 1,
             Ending::Unserved { .. } => 1,
+            Ending::Stopped { .. } => 1,
             Ending::Refused => 2,
         }
     }
@@ -51,8 +56,8 @@ impl Ending {
 
 #[tactic(auto, using(crate::proofs::EndingLemmas::refused_early))]
 /// Runs the program on the words of its command line, if they could be had, the program's name first. Where they ask
-/// for it, the server serves.
-pub fn program<T: Threads + Wait + Sync, S: AsStr, R: Read, W: Write, E: Write, V: Serves>(
+/// for it, the server serves or runs.
+pub fn program<T: Threads + Wait + Sync, S: AsStr, R: Read, W: Write, E: Write, V: Serves + Runs>(
     rt: &T,
     alloc: Global,
     words: &io::Result<Vec<S>>,
@@ -83,7 +88,7 @@ pub fn program<T: Threads + Wait + Sync, S: AsStr, R: Read, W: Write, E: Write, 
 }
 
 /// Runs the program on its words, which are texts.
-fn run_words<T: Threads + Wait + Sync, S: AsStr, R: Read, W: Write, E: Write, V: Serves>(
+fn run_words<T: Threads + Wait + Sync, S: AsStr, R: Read, W: Write, E: Write, V: Serves + Runs>(
     rt: &T,
     alloc: Global,
     words: &[S],
@@ -104,7 +109,7 @@ fn run_words<T: Threads + Wait + Sync, S: AsStr, R: Read, W: Write, E: Write, V:
 }
 
 /// Does what the words ask for.
-fn run_request<T: Threads + Wait + Sync, R: Read, W: Write, E: Write, V: Serves>(
+fn run_request<T: Threads + Wait + Sync, R: Read, W: Write, E: Write, V: Serves + Runs>(
     rt: &T,
     alloc: Global,
     request: &Request<'_>,
@@ -122,6 +127,7 @@ fn run_request<T: Threads + Wait + Sync, R: Read, W: Write, E: Write, V: Serves>
         Request::One(options) => run_one(alloc, options, reader, writer, errors),
         Request::Replay => run_replay(alloc, reader, writer, errors),
         Request::Serve(options) => run_serve(rt, options, writer, errors, server),
+        Request::Run(options) => run_server(rt, options, errors, server),
     }
 }
 
@@ -158,7 +164,7 @@ fn run_replay<R: Read, W: Write, E: Write>(
     }
 }
 
-fn run_serve<T: Threads + Wait + Sync, W: Write, E: Write, V: Serves>(
+fn run_serve<T: Threads + Wait + Sync, W: Write, E: Write, V: Serves + Runs>(
     rt: &T,
     options: &ServeOptions,
     writer: &mut W,
@@ -171,6 +177,24 @@ fn run_serve<T: Threads + Wait + Sync, W: Write, E: Write, V: Serves>(
     match server.serve(rt, options, writer) {
         Ok(()) => Ending::Done,
         Err(fault) => Ending::Unserved {
+            fault,
+            told: fault.tell(errors),
+        },
+    }
+}
+
+fn run_server<T: Wait, E: Write, V: Runs>(
+    rt: &T,
+    options: &RunOptions<'_>,
+    errors: &mut E,
+    server: &mut V,
+) -> Ending
+    ensures end { (written : Option (List ℕ)) → EndsRun written written result }
+    ensures told { Tells result (E.contents errors.old) (E.contents errors.new) }
+{
+    match server.run(rt, options) {
+        Ok(()) => Ending::Done,
+        Err(fault) => Ending::Stopped {
             fault,
             told: fault.tell(errors),
         },

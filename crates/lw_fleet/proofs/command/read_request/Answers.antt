@@ -6,17 +6,17 @@ use Rattle.clap.specs.declared.error.Error.{Error}
 use Rattle.clap.specs.declared.parser.matches.ArgMatches.{ArgMatches}
 use Rattle.clap.specs.declared.error.kind.ErrorKind.TheVariants.{OutOfMemory, ValueValidation}
 use Rattle.clap.proofs.OnLiterals.{clap_on_literals}
-use Rattle.lw_fleet.specs.CommandLine.{fleet_app, one_app, replay_app, serve_app, kinds_of_words, IsAsked}
+use Rattle.lw_fleet.specs.CommandLine.{fleet_app, one_app, replay_app, run_app, serve_app, kinds_of_words, IsAsked}
 use Rattle.lw_fleet.specs.declared.command.Request.{Request}
 use Rattle.lw_fleet.proofs.EndingLemmas.{or_more}
 use Rattle.lw_fleet.proofs.command.read_request.Goals as goal
 
 fleet_is_simple : is_simple fleet_app ≡ true
-unfolding fleet_app one_app replay_app serve_app clap_on_literals
+unfolding fleet_app one_app replay_app serve_app run_app clap_on_literals
 fleet_is_simple = refl
 
 fleet_is_free : is_simple_and_free fleet_app ≡ true
-unfolding fleet_app one_app replay_app serve_app clap_on_literals
+unfolding fleet_app one_app replay_app serve_app run_app clap_on_literals
 fleet_is_free = refl
 
 -- what a parse of these words answers
@@ -50,9 +50,9 @@ pub returns-in-Ok-clause-accepted : goal.returns-in-Ok-clause-accepted
 returns-in-Ok-clause-accepted g c =
     fails_by (map g.S.AsStr.text c.args.words.now) _ (Ok c.in_ok-matches.matches) c.in_ok-command.ensures c.in_ok-matches.ensures.kinds
 
-pub returns-in_err-number_refused-in-Err-clause-refused : goal.returns-in_err-number_refused-in-Err-clause-refused
-returns-in_err-number_refused-in-Err-clause-refused g c =
-    passed_on (map g.S.AsStr.text c.args.words.now) _ _ c.from_residual-in_err-number_refused-in-Err.ensures.1 (λ e memory taken request asked. memory)
+pub returns-in_err-option_refused-in-Err-clause-refused : goal.returns-in_err-option_refused-in-Err-clause-refused
+returns-in_err-option_refused-in-Err-clause-refused g c =
+    passed_on (map g.S.AsStr.text c.args.words.now) _ _ c.from_residual-in_err-option_refused-in-Err.ensures.1 (λ e memory taken request asked. memory)
 
 -- what the parse found is what the words give
 rows_of_words : (words : List Text) (app : App) (found : Option (Text × List Row)) → app ≡ fleet_app
@@ -84,5 +84,5 @@ pub returns-clause-kinds : goal.returns-clause-kinds
 returns-clause-kinds g c =
     let words = map g.S.AsStr.text c.args.words.now in
     let none = fails_by words _ (Ok c.in_ok-matches.matches) c.in_ok-command.ensures c.in_ok-matches.ensures.kinds in
-    subst (λ kinds. HasKind (or_else kinds (ValueValidation ∷ [])) c.in_ok-number_refused-in-Err.field-0) (sym none)
-    (inr (inl c.in_ok-number_refused-in-Err.ensures))
+    subst (λ kinds. HasKind (or_else kinds (ValueValidation ∷ [])) c.in_ok-option_refused-in-Err.field-0) (sym none)
+    (inr (inl c.in_ok-option_refused-in-Err.ensures))

@@ -1,0 +1,165 @@
+//! The command `run` and what is given for its options.
+
+ghost use Rattle.std.specs.Prelude.{◌≡◌, ◌≢◌, false, IfOk, IfSome, IfNone, OnErr};
+ghost use Rattle.clap.specs.Words.{app_of, subcommand_rows_of};
+ghost use Rattle.clap.specs.declared.builder.command.Command.TheViews.{out-Command as fields_of};
+ghost use Rattle.std.specs.Net.Grammar.{IsIpText};
+ghost use Rattle.std.specs.declared.net.ip_addr.IpAddr.{IpAddr as Addresses};
+ghost use Rattle.lw_fleet.specs.CommandLine.{level_text, option_rows, run_app, IsGivenToRun, IsKept};
+ghost use Rattle.lw_fleet.specs.declared.run_options.Keeps.{Keeps as Kept};
+ghost use Rattle.lw_fleet.specs.declared.run_options.LogLevel.{LogLevel as Levels};
+ghost use Rattle.lw_fleet.specs.declared.run_options.RunOptions.{RunOptions as RunningOptions};
+
+use crate::command::{BAD_PORT, flag, given_text, has_flag, option, small_number, text_of};
+use clap::{ArgMatches, Command};
+use std::alloc::{AllocError, Global};
+use std::net::IpAddr;
+
+/// The options of `fleet run`.
+#[derive(Clone, Copy, Debug, PartialEq, Eq)]
+pub struct RunOptions<'a> {
+    /// The IP address of the UDP socket.
+    pub bind: IpAddr,
+    /// Its UDP port.
+    pub port: u16,
+    /// What is logged.
+    pub level: LogLevel,
+    /// Where what is registered is kept.
+    pub keeps: Keeps<'a>,
+}
+
+/// Where what is registered is kept.
+#[derive(Clone, Copy, Debug, PartialEq, Eq)]
+pub enum Keeps<'a> {
+    /// Nowhere: a restart begins empty.
+    Nothing,
+    /// In the folder with this path.
+    Folder(&'a str),
+}
+
+/// The least severe lines that are logged.
+#[derive(Clone, Copy, Debug, PartialEq, Eq)]
+pub enum LogLevel {
+    Off,
+    Error,
+    Warn,
+    Info,
+    Debug,
+}
+
+/// An option of `run` with a text that it does not take, or beside one that it does not go with.
+#[derive(Clone, Copy)]
+pub(crate) enum BadRunOption {
+    Bind,
+    Port,
+    Level,
+    KeptTwice,
+    Folder,
+}
+
+impl BadRunOption {
+    pub(crate) fn message(self) -> &'static str {
+        match self {
+            BadRunOption::Bind => "'--bind <IP>' takes an IPv4 or IPv6 address",
+            BadRunOption::Port => BAD_PORT,
+            BadRunOption::Level => "'--log <LEVEL>' takes off, error, warn, info or debug",
+            BadRunOption::KeptTwice => "only one of '--data <DIR>' and '--memory' can be given",
+            BadRunOption::Folder => {
+                "'--data <DIR>' takes the path of a folder, and not an empty text"
+            }
+        }
+    }
+}
+
+pub(crate) fn run_command<'a>(alloc: Global) -> Result<Command<'a>, AllocError>
+    ensures app { IfOk result (λ command. app_of command ≡ run_app) }
+    ensures local { IfOk result (λ command. (fields_of command).has_globals ≡ false) }
+{
+    Command::new(alloc, "run")
+        .about("Serves devices over UDP until it is killed, and keeps what is registered")
+        .arg(option(
+            alloc,
+            "bind",
+            "IP",
+            "IP address of the UDP socket [default: 127.0.0.1]",
+        ))?
+        .arg(option(alloc, "port", "P", "UDP port, 0 to 65535 [default: 5683]"))?
+        .arg(option(
+            alloc,
+            "log",
+            "LEVEL",
+            "What is logged to standard error: off, error, warn, info, debug [default: info]",
+        ))?
+        .arg(flag(
+            alloc,
+            "memory",
+            "Keeps nothing: a restart begins without registrations",
+        ))?
+        .arg(option(
+            alloc,
+            "data",
+            "DIR",
+            "Folder that keeps what is registered; it is made where it is missing [default: fleet-data]",
+        ))
+}
+
+pub(crate) fn run_options_in<'a>(matches: &ArgMatches<'a>) -> Result<RunOptions<'a>, BadRunOption>
+    ensures given { IfOk result (IsGivenToRun (option_rows (subcommand_rows_of matches.now))) }
+    ensures none { OnErr result ((o : RunningOptions)
+        → ¬ IsGivenToRun (option_rows (subcommand_rows_of matches.now)) o) }
+{
+    let Some(bind) = address(text_of(matches, "bind", "127.0.0.1")) else {
+        return Err(BadRunOption::Bind);
+    };
+    let Some(port) = small_number(text_of(matches, "port", "5683")) else {
+        return Err(BadRunOption::Port);
+    };
+    let Some(level) = level(text_of(matches, "log", "info")) else {
+        return Err(BadRunOption::Level);
+    };
+    let keeps = keeps_in(matches)?;
+    Ok(RunOptions {
+        bind,
+        port,
+        level,
+        keeps,
+    })
+}
+
+/// Where what is registered is kept, by `--memory` and `--data`.
+fn keeps_in<'a>(matches: &ArgMatches<'a>) -> Result<Keeps<'a>, BadRunOption>
+    ensures kept { IfOk result (IsKept (option_rows (subcommand_rows_of matches.now))) }
+    ensures none { OnErr result ((keeps : Kept)
+        → ¬ IsKept (option_rows (subcommand_rows_of matches.now)) keeps) }
+{
+    match (has_flag(matches, "memory"), given_text(matches, "data")) {
+        (true, None) => Ok(Keeps::Nothing),
+        (true, Some(_)) => Err(BadRunOption::KeptTwice),
+        (false, None) => Ok(Keeps::Folder("fleet-data")),
+        (false, Some(folder)) if folder.is_empty() => Err(BadRunOption::Folder),
+        (false, Some(folder)) => Ok(Keeps::Folder(folder)),
+    }
+}
+
+/// The IPv4 or IPv6 address that the text writes.
+fn address(text: &str) -> Option<IpAddr>
+    ensures some { IfSome result (IsIpText text.now) }
+    ensures none { IfNone result ((address : Addresses) → ¬ IsIpText text.now address) }
+{
+    text.parse().ok()
+}
+
+/// The level with this name.
+fn level(text: &str) -> Option<LogLevel>
+    ensures some { IfSome result (λ level. level_text level ≡ text.now) }
+    ensures none { IfNone result ((level : Levels) → level_text level ≢ text.now) }
+{
+    match text {
+        "off" => Some(LogLevel::Off),
+        "error" => Some(LogLevel::Error),
+        "warn" => Some(LogLevel::Warn),
+        "info" => Some(LogLevel::Info),
+        "debug" => Some(LogLevel::Debug),
+        _ => None,
+    }
+}
