@@ -1,9 +1,12 @@
 use lw_coap::Fault;
 use lw_delta::DeltaFault;
 use lw_link::LinkFault;
+use lw_member::MemberFault;
 use lw_node::MergeFault;
+use lw_run::RunFault;
 use lw_script::ScriptFault;
 use lw_serve::ServeFault;
+use lw_sqlite_log::OpenFault;
 use lw_stamp::NoMemory;
 use std::alloc::{AllocError, AllocFailed};
 use std::io;
@@ -20,6 +23,10 @@ pub(crate) enum BenchFault {
     UnknownWord,
     /// A run that served ended so.
     Served(ServeFault),
+    /// A member that answered did not begin, or its run ended so.
+    Ran(RunFault),
+    /// The folder of a member was not opened.
+    Unopened(OpenFault),
 }
 
 impl From<NoMemory> for BenchFault {
@@ -79,5 +86,23 @@ impl From<ScriptFault> for BenchFault {
 impl From<ServeFault> for BenchFault {
     fn from(fault: ServeFault) -> BenchFault {
         BenchFault::Served(fault)
+    }
+}
+
+impl From<MemberFault> for BenchFault {
+    fn from(fault: MemberFault) -> BenchFault {
+        BenchFault::Ran(RunFault::from(fault))
+    }
+}
+
+impl From<RunFault> for BenchFault {
+    fn from(fault: RunFault) -> BenchFault {
+        BenchFault::Ran(fault)
+    }
+}
+
+impl From<OpenFault> for BenchFault {
+    fn from(fault: OpenFault) -> BenchFault {
+        BenchFault::Unopened(fault)
     }
 }

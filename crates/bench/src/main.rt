@@ -2,7 +2,7 @@
 //!
 //! Without a word each call is made a few times, and then it prints `ok`. With `full` it prints a table, and with a
 //! word behind that those of its rows whose name has the word. With `serving` it prints how fast requests over UDP are
-//! answered.
+//! answered; with a folder behind that, also how fast they are by a server that keeps them there.
 #![tactic(auto)]
 
 mod copies;
@@ -27,7 +27,7 @@ mod slots;
 mod table;
 
 use crate::fault::BenchFault;
-use crate::serving::{FULL_REQUESTS, TRIAL_REQUESTS, serving};
+use crate::serving::{FULL_REQUESTS, Kept, TRIAL_REQUESTS, serving};
 use crate::table::{ALL, FULL, TRIAL, table};
 use std::env;
 use std::net::Net;
@@ -37,27 +37,32 @@ use std::thread::Threads;
 use std::time::{Clock, CpuClock};
 
 fn main(rt: HostRuntime) -> Result<(), BenchFault> {
-    let text = answer(&rt)?;
+    let text = answer(&rt, &rt)?;
     Ok(println!(rt; "{}", text.as_str())?)
 }
 
 /// What is printed to the words of the command line.
 fn answer<R: Env + AllocGlobal + CpuClock + Files + Wait + Threads + Net + Clock + Sync>(
     rt: &R,
+    host: &HostRuntime,
 ) -> Result<String, BenchFault> {
     let mut words = env::args(rt)?;
     words.next();
-    text_of(rt, words.next().as_deref(), words.next().as_deref())
+    text_of(rt, host, words.next().as_deref(), words.next().as_deref())
 }
 
 fn text_of<R: AllocGlobal + CpuClock + Files + Wait + Threads + Net + Clock + Sync>(
     rt: &R,
+    host: &HostRuntime,
     table_word: Option<&str>,
-    row_word: Option<&str>,
+    further_word: Option<&str>,
 ) -> Result<String, BenchFault> {
     match table_word {
-        Some("serving") => serving(rt, rt.alloc(), FULL_REQUESTS),
-        Some("full") => table(rt, FULL, row_word.unwrap_or(ALL)),
+        Some("serving") => {
+            let kept = further_word.map(|folder| Kept { host, folder });
+            serving(rt, rt.alloc(), FULL_REQUESTS, kept)
+        }
+        Some("full") => table(rt, FULL, further_word.unwrap_or(ALL)),
         Some(_) => Err(BenchFault::UnknownWord),
         None => trial(rt),
     }
@@ -67,6 +72,6 @@ fn trial<R: AllocGlobal + CpuClock + Files + Wait + Threads + Net + Clock + Sync
     rt: &R,
 ) -> Result<String, BenchFault> {
     table(rt, TRIAL, ALL)?;
-    serving(rt, rt.alloc(), TRIAL_REQUESTS)?;
+    serving(rt, rt.alloc(), TRIAL_REQUESTS, None)?;
     Ok(String::from_str(rt.alloc(), "ok")?)
 }

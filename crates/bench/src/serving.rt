@@ -1,9 +1,11 @@
-//! How many datagrams of eight clients the rounds of `lw_serve` answer in a second, over UDP on the loopback, beside a
-//! plain echo of the same datagrams.
+//! How many datagrams of eight clients are answered in a second, over UDP on the loopback: by the rounds of `lw_serve`, and by
+//! the member of `lw_run`. Beside each is a plain echo of the same datagrams.
 
 mod client;
+mod member;
 mod peer;
 
+pub(crate) use self::member::Kept;
 use self::peer::{CLIENTS, Peer, measure};
 use crate::fault::BenchFault;
 use std::alloc::Global;
@@ -17,37 +19,66 @@ pub(crate) const TRIAL_REQUESTS: u32 = 10;
 
 pub(crate) const FULL_REQUESTS: u32 = 2_500;
 
-/// How many nodes and workers are measured.
-const PEERS: [(u16, u32); 3] = [(1, 1), (2, 2), (4, 4)];
+/// What is measured, and what its row begins with.
+const PEERS: [(&str, Peer<'static>); 4] = [
+    (
+        "1/1          ",
+        Peer::Rounds {
+            nodes: 1,
+            workers: 1,
+        },
+    ),
+    (
+        "2/2          ",
+        Peer::Rounds {
+            nodes: 2,
+            workers: 2,
+        },
+    ),
+    (
+        "4/4          ",
+        Peer::Rounds {
+            nodes: 4,
+            workers: 4,
+        },
+    ),
+    ("run, memory  ", Peer::Member(None)),
+];
 
-/// The table: for each number of nodes and workers the replies in a second, those of an echo measured beside them, and
-/// how many hundredths of the echo's they are.
+/// The table: for each number of nodes and workers, and for a member, the replies in a second, those of an echo measured
+/// beside them, and how many hundredths of the echo's they are. The last row is of a member that keeps what it is told.
 pub(crate) fn serving<R: Threads + Wait + Net + Clock + Sync>(
     rt: &R,
     alloc: Global,
     requests: u32,
+    kept: Option<Kept<'_>>,
 ) -> Result<String, BenchFault> {
-    let mut text = String::from_str(alloc, "nodes/workers  replies/s  echo/s  hundredths\n")?;
-    put_rows(rt, alloc, requests, &mut text)?;
+    let header = "nodes/workers  replies/s  echo/s  hundredths\n";
+    let mut text = String::from_str(alloc, header)?;
+    for (name, peer) in PEERS {
+        put_row(rt, alloc, name, peer, requests, &mut text)?;
+    }
+    if kept.is_some() {
+        let peer = Peer::Member(kept);
+        put_row(rt, alloc, "run, data    ", peer, requests, &mut text)?;
+    }
     Ok(text)
 }
 
-fn put_rows<R: Threads + Wait + Net + Clock + Sync>(
+fn put_row<R: Threads + Wait + Net + Clock + Sync>(
     rt: &R,
     alloc: Global,
+    name: &str,
+    peer: Peer<'_>,
     requests: u32,
     text: &mut String,
 ) -> Result<(), BenchFault> {
     let all = requests.saturating_mul(u32::from(CLIENTS));
-    for (nodes, workers) in PEERS {
-        let echo = per_second(all, measure(rt, alloc, Peer::Echo, requests)?);
-        let peer = Peer::Rounds { nodes, workers };
-        let served = per_second(all, measure(rt, alloc, peer, requests)?);
-        let ratio = hundredths(served, echo);
-        let row = format!(in alloc; "{nodes}/{workers}{served:>21}{echo:>8}{ratio:>12}\n")?;
-        text.push_str(&row)?;
-    }
-    Ok(())
+    let echo = per_second(all, measure(rt, alloc, Peer::Echo, requests)?);
+    let served = per_second(all, measure(rt, alloc, peer, requests)?);
+    let ratio = hundredths(served, echo);
+    let row = format!(in alloc; "{name}{served:>11}{echo:>8}{ratio:>12}\n")?;
+    Ok(text.push_str(&row)?)
 }
 
 /// How many there are in a second, rounded down; 0 where no time has passed.

@@ -1,6 +1,7 @@
 //! What answers the clients, and how fast.
 
 use super::client::{Client, Codes, loopback};
+use super::member::{Kept, answer_by_member};
 use crate::fault::BenchFault;
 use log::sink::Discard;
 use lw_serve::{Plan, ServeFault, SystemClock, UdpWire, serve_on};
@@ -16,17 +17,19 @@ pub(super) const CLIENTS: u8 = 8;
 
 /// What answers.
 #[derive(Clone, Copy)]
-pub(super) enum Peer {
+pub(super) enum Peer<'a> {
     /// So many nodes with so many workers.
     Rounds { nodes: u16, workers: u32 },
+    /// A member, and where it keeps what it is told, if it does.
+    Member(Option<Kept<'a>>),
     /// Each datagram is sent back as it came.
     Echo,
 }
 
-impl Peer {
+impl Peer<'_> {
     fn codes(self) -> Codes {
         match self {
-            Peer::Rounds { .. } => Codes {
+            Peer::Rounds { .. } | Peer::Member(_) => Codes {
                 register: 0x41,
                 update: 0x44,
             },
@@ -42,7 +45,7 @@ impl Peer {
 pub(super) fn measure<R: Threads + Wait + Net + Clock + Sync>(
     rt: &R,
     alloc: Global,
-    peer: Peer,
+    peer: Peer<'_>,
     requests: u32,
 ) -> Result<Duration, BenchFault> {
     let socket = UdpSocket::bind(rt, loopback(0))?;
@@ -53,7 +56,7 @@ pub(super) fn measure<R: Threads + Wait + Net + Clock + Sync>(
 fn time_of<R: Threads + Wait + Net + Clock + Sync>(
     rt: &R,
     alloc: Global,
-    peer: Peer,
+    peer: Peer<'_>,
     socket: UdpSocket,
     clients: &mut [Client],
     requests: u32,
@@ -74,7 +77,7 @@ fn time_of<R: Threads + Wait + Net + Clock + Sync>(
 fn exchange<R: Threads + Wait + Clock + Sync>(
     rt: &R,
     alloc: Global,
-    peer: Peer,
+    peer: Peer<'_>,
     socket: UdpSocket,
     clients: &mut [Client],
     requests: u32,
@@ -106,7 +109,7 @@ fn ask<R: Threads + Sync>(rt: &R, clients: &mut [Client], requests: u32, codes: 
 fn answer<R: Threads + Wait + Clock + Sync>(
     rt: &R,
     alloc: Global,
-    peer: Peer,
+    peer: Peer<'_>,
     socket: UdpSocket,
     count: u32,
 ) -> Result<(), BenchFault> {
@@ -115,6 +118,7 @@ fn answer<R: Threads + Wait + Clock + Sync>(
             Some(plan) => Ok(serve(rt, alloc, socket, &plan)?),
             None => Err(BenchFault::Unexpected),
         },
+        Peer::Member(kept) => answer_by_member(rt, alloc, socket, count, kept),
         Peer::Echo => Ok(echo(&socket, count)?),
     }
 }

@@ -1,0 +1,93 @@
+//! A member that answers, as that of `fleet run` does, until it has answered so many datagrams.
+
+use crate::fault::BenchFault;
+use log::sink::Discard;
+use lw_log::{DeltaLog, FleetId, Nowhere};
+use lw_member::{Chance, Member};
+use lw_reg::Addr;
+use lw_run::{Compaction, Front, Heard, Server, run_on};
+use lw_serve::{UdpWire, Wire};
+use lw_sqlite_log::SqliteLog;
+use lw_stamp::Moment;
+use lw_wire::{SystemClock, WireFault};
+use std::alloc::Global;
+use std::net::UdpSocket;
+use std::time::{Clock, Duration};
+
+/// What a start draws.
+const CHANCE: Chance = Chance {
+    fleet: FleetId { bytes: [1; 16] },
+    tag: 1,
+    number: 1,
+};
+
+/// Where a member keeps what it is told.
+#[derive(Clone, Copy)]
+pub(crate) struct Kept<'a> {
+    pub(crate) host: &'a HostRuntime,
+    pub(crate) folder: &'a str,
+}
+
+/// A wire on which nothing comes any more once so many replies were sent.
+#[derive(Drop)]
+struct CountedFront {
+    wire: UdpWire,
+    left: u32,
+}
+
+impl Front for CountedFront {
+    fn attend(&mut self, buffer: &mut [u8], _time: Duration) -> Result<Heard, WireFault> {
+        if self.left == 0 {
+            return Ok(Heard::End);
+        }
+        let (count, from) = self.wire.wait(buffer)?;
+        Ok(Heard::Datagram(count, from))
+    }
+
+    fn more(&mut self, buffer: &mut [u8]) -> Result<Option<(usize, Addr)>, WireFault> {
+        self.wire.more(buffer)
+    }
+
+    fn send(&mut self, to: Addr, bytes: &[u8]) -> Result<(), WireFault> {
+        self.left = self.left.saturating_sub(1);
+        self.wire.send(to, bytes)
+    }
+}
+
+/// Answers so many datagrams.
+pub(super) fn answer_by_member<R: Clock>(
+    rt: &R,
+    alloc: Global,
+    socket: UdpSocket,
+    count: u32,
+    kept: Option<Kept<'_>>,
+) -> Result<(), BenchFault> {
+    match kept {
+        None => {
+            let log = Nowhere::new(alloc);
+            answer_over(rt, alloc, socket, count, log, Compaction::Never)
+        }
+        Some(Kept { host, folder }) => {
+            let log = SqliteLog::open(host, folder)?;
+            answer_over(rt, alloc, socket, count, log, Compaction::WhereDue)
+        }
+    }
+}
+
+fn answer_over<R: Clock, G: DeltaLog>(
+    rt: &R,
+    alloc: Global,
+    socket: UdpSocket,
+    count: u32,
+    log: G,
+    compaction: Compaction,
+) -> Result<(), BenchFault> {
+    let member = Member::begin(alloc, log, &CHANCE, Moment::START)?;
+    let server = Server::new(alloc, member, SystemClock { clock: rt }, 0);
+    let mut front = CountedFront {
+        wire: UdpWire::new(socket),
+        left: count,
+    };
+    let wait = Duration::from_secs(1);
+    Ok(run_on(&mut front, server, &Discard, wait, compaction)?)
+}
