@@ -9,6 +9,8 @@ mod command_line;
 mod derived_texts;
 mod program;
 mod replay;
+mod run_command;
+mod running_server;
 mod serving;
 
 /// Gives its bytes a few at a time, and then ends or fails. Every other read is interrupted.

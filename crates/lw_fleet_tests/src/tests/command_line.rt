@@ -10,7 +10,7 @@ use std::test::Fail;
 use std::thread::Threads;
 
 /// What the words ask for.
-fn asked<'a>(alloc: Global, words: &'a [&'a str]) -> Result<Request<'a>, Fail> {
+pub(super) fn asked<'a>(alloc: Global, words: &'a [&'a str]) -> Result<Request<'a>, Fail> {
     Ok(read_request(alloc, words)?)
 }
 
@@ -61,7 +61,7 @@ fn options(rt: HostRuntime) -> Result<(), Fail> {
 }
 
 /// The status of a command line that gives no options, and what it prints, errors behind a bar.
-fn printed<R: Threads + Wait + Sync>(
+pub(super) fn printed<R: Threads + Wait + Sync>(
     rt: &R,
     alloc: Global,
     words: &[&str],
@@ -87,6 +87,7 @@ Commands:
   one     Takes one datagram, a line of hex on standard input, and prints the reply and the registration
   replay  Runs a script of several nodes, read from standard input, and prints a line for each event
   serve   Serves datagrams that come to a UDP port of 127.0.0.1, and prints `settled` when the journals are checked
+  run     Serves devices over UDP until it is killed, and keeps what is registered
   help    Print this message or the help of the given subcommand(s)
 
 Options:
@@ -225,7 +226,7 @@ fn options_to_serve(rt: HostRuntime) -> Result<(), Fail> {
 
 const BAD_COUNT: &str = "'--count <K>' takes a number from 1 to 1000000, in digits alone";
 
-const BAD_PORT: &str = "'--port <P>' takes a number from 0 to 65535, in digits alone";
+pub(super) const BAD_PORT: &str = "'--port <P>' takes a number from 0 to 65535, in digits alone";
 
 const BAD_NODES: &str = "'--nodes <N>' takes a number from 1 to 16, in digits alone";
 
@@ -286,7 +287,7 @@ fn the_version(rt: HostRuntime) -> Result<(), Fail> {
 }
 
 /// Whether the command line is refused with these lines.
-fn is_refused<R: Threads + Wait + Sync>(
+pub(super) fn is_refused<R: Threads + Wait + Sync>(
     rt: &R,
     alloc: Global,
     words: &[&str],

@@ -1,7 +1,8 @@
 //! The line of each fault is the text that is derived for it, up to where that explains itself.
 
+use super::running_server::LINES;
 use crate::hold::same;
-use lw_fleet::{Fault, ServingFault};
+use lw_fleet::{Fault, RunningFault, ServingFault};
 use lw_serve::{CrewFault, ServeFault};
 use std::alloc::Global;
 use std::str;
@@ -70,6 +71,24 @@ fn serving_fault_is_told(alloc: Global, fault: ServingFault) -> Result<(), Fail>
 fn faults_of_serve(rt: HostRuntime) -> Result<(), Fail> {
     for &fault in &SERVING_FAULTS {
         serving_fault_is_told(rt.alloc(), fault)?;
+    }
+    Ok(())
+}
+
+/// As `fault_is_told`, of a fault of `run`.
+fn running_fault_is_told(alloc: Global, fault: RunningFault) -> Result<(), Fail> {
+    let mut line = Vec::new(alloc);
+    fault.tell(&mut line);
+    let text = format!(in alloc; "{fault}")?;
+    let want = format!(in alloc; "{}\n", before_the_cause(text.as_str()))?;
+    same(str::from_utf8(&line)?, want.as_str())
+}
+
+/// Tries: RunningFault::tell
+#[test]
+fn faults_of_run(rt: HostRuntime) -> Result<(), Fail> {
+    for &(fault, _line) in &LINES {
+        running_fault_is_told(rt.alloc(), fault)?;
     }
     Ok(())
 }

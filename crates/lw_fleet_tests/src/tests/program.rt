@@ -3,7 +3,7 @@
 use super::serving::NoServer;
 use super::{ANSWER, FewBytes, FewWrites, REGISTER};
 use crate::hold::{holds, holds_for};
-use lw_fleet::{Ending, Fault, Serves, program};
+use lw_fleet::{Ending, Fault, Runs, Serves, program};
 use std::alloc::Global;
 use std::io::{self, ErrorKind, Read, Write};
 use std::sync::Wait;
@@ -30,7 +30,7 @@ impl Ended {
 }
 
 /// Runs the program. That no clause says how keeps the proofs of its callers short.
-fn ending_of<T: Threads + Wait + Sync, R: Read, W: Write, E: Write, V: Serves>(
+fn ending_of<T: Threads + Wait + Sync, R: Read, W: Write, E: Write, V: Serves + Runs>(
     rt: &T,
     alloc: Global,
     words: &io::Result<Vec<&str>>,
@@ -43,7 +43,7 @@ fn ending_of<T: Threads + Wait + Sync, R: Read, W: Write, E: Write, V: Serves>(
 }
 
 /// Runs the program on the words of a command line, if they can be had, an input and a server.
-pub(super) fn run_on<R: Threads + Wait + Sync, V: Serves>(
+pub(super) fn run_on<R: Threads + Wait + Sync, V: Serves + Runs>(
     rt: &R,
     alloc: Global,
     words: &io::Result<Vec<&str>>,

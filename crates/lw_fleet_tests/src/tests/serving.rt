@@ -3,7 +3,9 @@
 use super::program::{Ended, run_on};
 use super::{FewBytes, FewWrites};
 use crate::hold::{holds, holds_for};
-use lw_fleet::{Ending, ServeOptions, Serves, ServingFault, write_text};
+use lw_fleet::{
+    Ending, RunOptions, RunningFault, Runs, ServeOptions, Serves, ServingFault, write_text,
+};
 use lw_serve::{CrewFault, ServeFault};
 use std::alloc::Global;
 use std::io::Write;
@@ -23,6 +25,12 @@ impl Serves for NoServer {
         _writer: &mut W,
     ) -> Result<(), ServingFault> {
         Err(ServingFault::BindFailed)
+    }
+}
+
+impl Runs for NoServer {
+    fn run<R: Wait>(&mut self, _rt: &R, _options: &RunOptions<'_>) -> Result<(), RunningFault> {
+        Err(RunningFault::BindFailed)
     }
 }
 
@@ -48,6 +56,12 @@ impl Serves for Server {
     }
 }
 
+impl Runs for Server {
+    fn run<R: Wait>(&mut self, _rt: &R, _options: &RunOptions<'_>) -> Result<(), RunningFault> {
+        Err(RunningFault::BindFailed)
+    }
+}
+
 const WORDS: [&str; 7] = [
     "fleet",
     "serve",
@@ -59,7 +73,7 @@ const WORDS: [&str; 7] = [
 ];
 
 /// Runs `fleet serve` with a server.
-fn served<R: Threads + Wait + Sync, V: Serves>(
+fn served<R: Threads + Wait + Sync, V: Serves + Runs>(
     rt: &R,
     alloc: Global,
     server: &mut V,
@@ -89,7 +103,7 @@ fn a_server_that_settles(rt: HostRuntime) -> Result<(), Fail> {
 }
 
 /// How `fleet serve` ends with a server, and whether this line alone is written, as an error.
-fn stopped<R: Threads + Wait + Sync, V: Serves>(
+fn stopped<R: Threads + Wait + Sync, V: Serves + Runs>(
     rt: &R,
     alloc: Global,
     server: &mut V,

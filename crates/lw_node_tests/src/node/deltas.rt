@@ -6,6 +6,13 @@ use super::*;
 pub(super) const DELTA: &str =
     "4c57443300000000000101016100000000000100017f000000000000010001047f0000011633000000000001000100000000000000000000000100010001518000000000000100010155000000000001000100000000000001000100033c2f3e00000000";
 
+/// What has changed since, once it has also taken a Register of `b`: 100 bytes.
+const DELTA_OF_B: &str =
+    "4c57443300000000000201016200000000000200017f000000000000020001047f0000011633000000000002000100000000000000000000000200010001518000000000000200010155000000000002000100000000000002000100033c2f3e00000000";
+
+/// The reply to that Register.
+const CREATED_B: &str = "604100058272640d0330303030303030303030303230303031";
+
 /// Deltas that a node sends and merges.
 const SENT_AND_MERGED: [Row<'static>; 18] = [
     (DeltaSince(0), "4c57443300000000000000"),
@@ -19,14 +26,8 @@ const SENT_AND_MERGED: [Row<'static>; 18] = [
     (Merges(DELTA), "Ok(1)"),
     (Numbers, "1 1"),
     // what moved since a number
-    (
-        Takes(REGISTER_B),
-        "604100058272640d0330303030303030303030303230303031",
-    ),
-    (
-        DeltaSince(1),
-        "4c57443300000000000201016200000000000200017f000000000000020001047f0000011633000000000002000100000000000000000000000200010001518000000000000200010155000000000002000100000000000002000100033c2f3e00000000",
-    ),
+    (Takes(REGISTER_B), CREATED_B),
+    (DeltaSince(1), DELTA_OF_B),
     (DeltaSince(2), "4c57443300000000000200"),
     (DeltaSince(18446744073709551615), "4c57443300000000000200"),
     // bytes that are no delta
@@ -44,6 +45,21 @@ const SENT_AND_MERGED: [Row<'static>; 18] = [
 #[test]
 fn a_delta_is_sent_and_merged(rt: HostRuntime) -> Result<(), Fail> {
     play_new(rt.alloc(), &SENT_AND_MERGED)
+}
+
+/// Each of two Registers takes the next change number.
+const TAKEN_AND_SENT: [Row<'static>; 5] = [
+    (Takes(REGISTER), CREATED),
+    (Takes(REGISTER_B), CREATED_B),
+    (Numbers, "2 2"),
+    (DeltaSince(1), DELTA_OF_B),
+    (DeltaSince(2), "4c57443300000000000200"),
+];
+
+/// Tries: Node::take, Node::change, Node::delta_since
+#[test]
+fn what_was_taken_since_a_number_is_sent(rt: HostRuntime) -> Result<(), Fail> {
+    play_new(rt.alloc(), &TAKEN_AND_SENT)
 }
 
 /// The same in formats 1 and 2.

@@ -80,7 +80,7 @@ fn moment_by(since_1970: Option<Duration>) -> Option<u64> {
     Some(moment?.ms())
 }
 
-/// Tries: moment_after
+/// Tries: lw_wire::moment_after
 #[test]
 fn the_host_counts_milliseconds_since_1970(rt: HostRuntime) -> Result<(), Fail> {
     let _rt = rt;

@@ -62,7 +62,7 @@ fn serve_over<R: Clock + Threads + Wait + Sync>(
     (ended, written)
 }
 
-/// Tries: UdpWire::new, address_of, socket_address_of, Wire::wait, Wire::more
+/// Tries: UdpWire::new, Wire::wait, Wire::more, lw_wire::Datagram::new, lw_wire::address_of, lw_wire::socket_address_of
 #[test]
 fn two_clients_at_two_nodes(rt: HostRuntime) -> Result<(), Fail> {
     let Some(plan) = Plan::new(2, 2, 1, None) else {
@@ -137,7 +137,7 @@ fn is_there<C: Clock>(
     Err("a datagram that is there".into())
 }
 
-/// Tries: address_of, socket_address_of
+/// Tries: lw_wire::address_of, lw_wire::socket_address_of
 #[test]
 fn a_client_at_another_address_is_told(rt: HostRuntime) -> Result<(), Fail> {
     let (mut wire, at) = wire_at(&rt, "127.0.0.1:0")?;
@@ -160,7 +160,7 @@ fn a_wire_that_did_not_wait_waits_and_sends(rt: HostRuntime) -> Result<(), Fail>
     is_waited_for(&mut wire, at, &client, from)
 }
 
-/// Tries: address_of, socket_address_of
+/// Tries: lw_wire::address_of, lw_wire::socket_address_of
 #[test]
 fn a_reply_arrives_at_another_address(rt: HostRuntime) -> Result<(), Fail> {
     let (mut wire, _at) = wire_at(&rt, "127.0.0.1:0")?;
@@ -180,7 +180,7 @@ fn a_send_that_fails_is_told(rt: HostRuntime) -> Result<(), Fail> {
     holds("a fault", wire.send(nowhere, PING) == Err(WireFault))
 }
 
-/// Tries: address_of, socket_address_of
+/// Tries: lw_wire::address_of, lw_wire::socket_address_of
 #[test]
 fn a_datagram_is_sent_back_over_ipv6(rt: HostRuntime) -> Result<(), Fail> {
     match (wire_at(&rt, "[::1]:0"), bound(&rt, "[::1]:0")) {

@@ -1,0 +1,185 @@
+//! Members over logs in memory.
+
+mod asked;
+mod compaction;
+mod due;
+mod ends;
+mod failures;
+mod poisoned;
+mod refused;
+mod restarts;
+mod several;
+
+use crate::hold::{holds, holds_for, same};
+use crate::shared::{Entries, Shared, entries_of, has_count, has_entries, lose, put};
+use bytes::Bytes;
+use lw_call::{Call, Reply, Taken};
+use lw_log::{DeltaLog, FleetId, LogFault};
+use lw_member::{Chance, Member, MemberFault, Moment};
+use lw_reg::Addr;
+use std::alloc::Global;
+use std::test::Fail;
+
+const FLEET: FleetId = FleetId {
+    bytes: [0, 1, 2, 3, 4, 5, 6, 7, 8, 9, 10, 11, 12, 13, 14, 15],
+};
+
+const OTHER_FLEET: FleetId = FleetId {
+    bytes: [
+        0xf0, 0xf1, 0xf2, 0xf3, 0xf4, 0xf5, 0xf6, 0xf7, 0xf8, 0xf9, 0xfa, 0xfb, 0xfc, 0xfd, 0xfe,
+        0xff,
+    ],
+};
+
+/// What the first start draws.
+const FIRST_CHANCE: Chance = Chance {
+    fleet: FLEET,
+    tag: 0xa1a2_a3a4_a5a6_a7a8,
+    number: 1,
+};
+
+/// What the second start draws: another fleet, another tag and another number.
+const SECOND_CHANCE: Chance = Chance {
+    fleet: OTHER_FLEET,
+    tag: 0xb1b2_b3b4_b5b6_b7b8,
+    number: 2,
+};
+
+/// The start entry of the first: magic, fleet, number 1, tag, sequence 1, kind 0.
+const START: &str =
+    "4c574531000102030405060708090a0b0c0d0e0f0001a1a2a3a4a5a6a7a8000000000000000100";
+
+/// Its delta with the first Register of `a`, sequence 2.
+const DELTA: &str = "4c574531000102030405060708090a0b0c0d0e0f0001a1a2a3a4a5a6a7a8000000000000000201\
+4c57443300000000000101016100000000000100017f000000000000010001047f0000011633\
+000000000001000100000000000000000000000100010001518000000000000100010155\
+000000000001000100000000000001000100033c2f3e00000000";
+
+/// A start entry of the first once more, sequence 2.
+const START_AGAIN: &str =
+    "4c574531000102030405060708090a0b0c0d0e0f0001a1a2a3a4a5a6a7a8000000000000000200";
+
+/// The start entry of the second in the same fleet.
+const SECOND_START: &str =
+    "4c574531000102030405060708090a0b0c0d0e0f0002b1b2b3b4b5b6b7b8000000000000000100";
+
+/// A Register of `a` with the object list `</>`, message ID 4.
+const REGISTER: &str = "40020004b272644465703d61ff3c2f3e";
+
+/// A Register of `b` with the object list `</>`, message ID 5.
+const REGISTER_B: &str = "40020005b272644465703d62ff3c2f3e";
+
+/// The reply to the first of them with counter 1 at node 1.
+const CREATED: &str = "604100048272640d0330303030303030303030303130303031";
+
+/// The reply to the second of them with counter 2 at node 1.
+const CREATED_B: &str = "604100058272640d0330303030303030303030303230303031";
+
+/// An Update of the first registration, message ID 17, and its reply where it is known, and where it is not.
+const UPDATE: &str = "40020011b272640d0330303030303030303030303130303031";
+
+const CHANGED: &str = "60440011";
+
+const NOT_FOUND: &str = "60840011";
+
+/// Its identifier.
+const FIRST_ID: &[u8; 16] = b"0000000000010001";
+
+/// The same of the registration with counter 2.
+const UPDATE_OF_SECOND: &str = "40020011b272640d0330303030303030303030303230303031";
+
+/// Where the devices are.
+const HOME: Addr = Addr::V4 {
+    address: [127, 0, 0, 1],
+    port: 5683,
+};
+
+/// A member that begins at moment 0 over entries to which others may append.
+fn begin<'a>(
+    alloc: Global,
+    entries: &'a Entries,
+    chance: &Chance,
+) -> Result<Member<Shared<'a>>, MemberFault> {
+    let log = Shared::new(alloc, entries, false);
+    Member::begin(alloc, log, chance, Moment::START)
+}
+
+/// A datagram of the device comes at moment 0.
+fn take(alloc: Global, datagram: &str) -> Result<Call, Fail> {
+    Ok(Call::Take {
+        now: Moment::START,
+        from: HOME,
+        bytes: Bytes::from_vec(hex::decode(alloc, datagram)?)?,
+    })
+}
+
+/// What the node took, where this is the reply to one datagram.
+fn taken_in(replies: &[Reply]) -> Result<&Taken, Fail> {
+    let [Reply::Take(taken)] = replies else {
+        return Err("one datagram is taken".into());
+    };
+    match taken {
+        Ok(taken) => Ok(taken),
+        Err(error) => Err((*error).into()),
+    }
+}
+
+/// The datagram that is sent back in hex, or `-`.
+fn reply_text(alloc: Global, replies: &[Reply]) -> Result<String, Fail> {
+    match &taken_in(replies)?.reply {
+        Some(bytes) => Ok(hex::encode(alloc, bytes)?),
+        None => Ok(String::from_str(alloc, "-")?),
+    }
+}
+
+/// Fails where the member's reply to the datagram, in a round of its own, is another.
+fn answers<G: DeltaLog>(
+    alloc: Global,
+    member: &mut Member<G>,
+    datagram: &str,
+    want: &str,
+) -> Result<(), Fail> {
+    let calls = [take(alloc, datagram)?];
+    let replies = member.round(&calls)?;
+    same(&reply_text(alloc, &replies)?, want)
+}
+
+/// What a round with the datagram is refused for.
+fn refusal<G: DeltaLog>(
+    alloc: Global,
+    member: &mut Member<G>,
+    datagram: &str,
+) -> Result<MemberFault, Fail> {
+    let calls = [take(alloc, datagram)?];
+    match member.round(&calls) {
+        Ok(_) => Err("a round fails".into()),
+        Err(fault) => Ok(fault),
+    }
+}
+
+/// A round without calls.
+fn rest<G: DeltaLog>(member: &mut Member<G>) -> Result<(), MemberFault> {
+    member.round(&[])?;
+    Ok(())
+}
+
+/// The identifier at the end of the reply to a Register.
+fn id_in(replies: &[Reply]) -> Result<&[u8], Fail> {
+    let Some(reply) = &taken_in(replies)?.reply else {
+        return Err("a reply".into());
+    };
+    Ok(reply.as_slice().last_chunk::<16>().ok_or("an identifier")?)
+}
+
+/// Fails where the member does not know a registration with the identifier.
+fn knows(alloc: Global, member: &mut Member<Shared<'_>>, id: &[u8]) -> Result<(), Fail> {
+    let mut datagram = hex::decode(alloc, "40020011b272640d03")?;
+    datagram.extend_from_slice(id)?;
+    let calls = [Call::Take {
+        now: Moment::START,
+        from: HOME,
+        bytes: Bytes::from_vec(datagram)?,
+    }];
+    let replies = member.round(&calls)?;
+    same(&reply_text(alloc, &replies)?, CHANGED)
+}

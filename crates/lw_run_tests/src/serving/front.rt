@@ -1,0 +1,131 @@
+//! A front and a clock in memory.
+
+ghost use Rattle.std.specs.Prelude.{◌≤◌, length, IfOk};
+
+use super::*;
+use std::time::Duration;
+
+/// What a front gives.
+#[derive(Clone, Copy)]
+pub(super) enum Coming<'a> {
+    /// A datagram from the port of 127.0.0.1, in hex, when it is waited for.
+    Datagram(u16, &'a str),
+    /// One that is there with what came before.
+    AtOnce(u16, &'a str),
+    /// The time is over.
+    Nothing,
+    /// A fault.
+    Fault,
+}
+
+/// A front in memory. Where all has come it is over.
+#[derive(Drop)]
+pub(super) struct MemoryFront<'a> {
+    alloc: Global,
+    comings: &'a [Coming<'a>],
+    /// How many have come.
+    taken: usize,
+    /// Whether each send fails.
+    send_fails: bool,
+    /// What was sent, to which ports, a line each.
+    sent: String,
+}
+
+impl<'a> MemoryFront<'a> {
+    pub(super) fn new(
+        alloc: Global,
+        comings: &'a [Coming<'a>],
+        send_fails: bool,
+    ) -> MemoryFront<'a> {
+        MemoryFront {
+            alloc,
+            comings,
+            taken: 0,
+            send_fails,
+            sent: String::new(alloc),
+        }
+    }
+
+    pub(super) fn into_sent(self) -> String {
+        self.sent
+    }
+
+    fn put(&self, buffer: &mut [u8], port: u16, datagram: &str) -> Result<(usize, Addr), WireFault>
+        ensures { IfOk result (λ taken. taken.0 ≤ length buffer.new) }
+    {
+        let bytes = hex::decode(self.alloc, datagram).map_err(|_| WireFault)?;
+        let count = bytes.len().min(buffer.len());
+        buffer[..count].copy_from_slice(&bytes[..count]);
+        Ok((count, from_port(port)))
+    }
+
+    /// Adds a line, if there is memory for it.
+    fn put_sent(&mut self, to: Addr, bytes: &[u8]) -> Option<()> {
+        let (Addr::V4 { port, .. } | Addr::V6 { port, .. }) = to;
+        let bytes = hex::encode(self.alloc, bytes).ok()?;
+        writeln!(self.sent, "{port} {bytes}").ok()
+    }
+}
+
+fn from_port(port: u16) -> Addr {
+    Addr::V4 {
+        address: [127, 0, 0, 1],
+        port,
+    }
+}
+
+impl Front for MemoryFront<'_> {
+    fn attend(&mut self, buffer: &mut [u8], _time: Duration) -> Result<Heard, WireFault> {
+        let Some(coming) = self.comings.get(self.taken) else {
+            return Ok(Heard::End);
+        };
+        self.taken = self.taken.wrapping_add(1);
+        match *coming {
+            Coming::Datagram(port, datagram) | Coming::AtOnce(port, datagram) => {
+                let (count, from) = self.put(buffer, port, datagram)?;
+                Ok(Heard::Datagram(count, from))
+            }
+            Coming::Nothing => Ok(Heard::Nothing),
+            Coming::Fault => Err(WireFault),
+        }
+    }
+
+    fn more(&mut self, buffer: &mut [u8]) -> Result<Option<(usize, Addr)>, WireFault> {
+        let Some(Coming::AtOnce(port, datagram)) = self.comings.get(self.taken) else {
+            return Ok(None);
+        };
+        self.taken = self.taken.wrapping_add(1);
+        Ok(Some(self.put(buffer, *port, datagram)?))
+    }
+
+    fn send(&mut self, to: Addr, bytes: &[u8]) -> Result<(), WireFault> {
+        if self.send_fails {
+            return Err(WireFault);
+        }
+        self.put_sent(to, bytes).ok_or(WireFault)
+    }
+}
+
+/// A clock in memory. It gives the moments in turn, in milliseconds, and the last of them from then on.
+#[derive(Drop)]
+pub(super) struct Ticks<'a> {
+    moments: &'a [u64],
+    readings: usize,
+}
+
+impl<'a> Ticks<'a> {
+    pub(super) fn new(moments: &'a [u64]) -> Ticks<'a> {
+        Ticks {
+            moments,
+            readings: 0,
+        }
+    }
+}
+
+impl HostClock for Ticks<'_> {
+    fn now(&mut self) -> Option<Moment> {
+        let ms = self.moments.get(self.readings).or(self.moments.last())?;
+        self.readings = self.readings.wrapping_add(1);
+        Moment::new(*ms)
+    }
+}

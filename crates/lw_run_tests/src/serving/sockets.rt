@@ -1,0 +1,92 @@
+//! Sockets of the loopback as a front.
+
+use super::*;
+use lw_front::Sockets;
+use lw_wire::address_of;
+use std::io;
+use std::net::{Net, SocketAddr, ToSocketAddrs, UdpSocket};
+use std::time::{Duration, Instant};
+
+/// A front at some port of the host, a client at another, which waits for 20 seconds, and where the front is.
+fn bound<N: Net>(
+    net: &N,
+    alloc: Global,
+    host: &str,
+) -> io::Result<(Sockets, UdpSocket, SocketAddr)> {
+    let client = UdpSocket::bind(net, host)?;
+    client.set_read_timeout(Some(Duration::from_secs(20)))?;
+    let mut address = client.local_addr()?;
+    address.set_port(0);
+    let sockets = Sockets::bind(net, alloc, address)?;
+    let at = sockets.local_address()?;
+    Ok((sockets, client, at))
+}
+
+/// Two datagrams that were sent come in their order, where they were sent from, and what the front sends arrives there.
+fn is_served(sockets: &mut Sockets, client: &UdpSocket, at: SocketAddr) -> Result<(), Fail> {
+    let from = address_of(&client.local_addr()?);
+    let mut buffer = [0; 4];
+    client.send_to(b"one", at)?;
+    client.send_to(b"second", at)?;
+    let heard = sockets.attend(&mut buffer, Duration::from_secs(1));
+    holds("the first", heard == Ok(Heard::Datagram(3, from)))?;
+    holds("its bytes", &buffer[..3] == b"one".as_slice())?;
+    let there = sockets.more(&mut buffer);
+    holds(
+        "the second, as far as there is room",
+        there == Ok(Some((4, from))),
+    )?;
+    holds("its bytes", buffer == *b"seco")?;
+    holds("no more", sockets.more(&mut buffer) == Ok(None))?;
+    holds("a reply", sockets.send(from, b"reply").is_ok())?;
+    let mut reply = [0; 8];
+    let (count, sender) = client.recv_from(&mut reply)?;
+    holds("where it comes from", sender == at)?;
+    holds("what arrives", &reply[..count] == b"reply".as_slice())
+}
+
+/// Tries: lw_front::Sockets::bind, lw_front::Sockets::local_address, lw_run::Front::attend, lw_run::Front::more
+#[test]
+fn datagrams_come_and_go_over_ipv4(rt: HostRuntime) -> Result<(), Fail> {
+    let (mut sockets, client, at) = bound(&rt, rt.alloc(), "127.0.0.1:0")?;
+    is_served(&mut sockets, &client, at)?;
+    is_served(&mut sockets, &client, at)
+}
+
+/// Tries: lw_front::Sockets::bind
+#[test]
+fn datagrams_come_and_go_over_ipv6(rt: HostRuntime) -> Result<(), Fail> {
+    match bound(&rt, rt.alloc(), "[::1]:0") {
+        Ok((mut sockets, client, at)) => is_served(&mut sockets, &client, at),
+        // The machine has no IPv6.
+        Err(_) => Ok(()),
+    }
+}
+
+/// Tries: lw_front::Sockets::bind
+#[test]
+fn a_wait_ends_when_its_time_is_over(rt: HostRuntime) -> Result<(), Fail> {
+    let (mut sockets, _client, _at) = bound(&rt, rt.alloc(), "127.0.0.1:0")?;
+    let began = Instant::now(&rt)?;
+    let heard = sockets.attend(&mut [0; 4], Duration::from_millis(300));
+    holds("nothing comes", heard == Ok(Heard::Nothing))?;
+    let waited = began.elapsed(&rt)?;
+    holds("so long", waited >= Duration::from_millis(300))?;
+    holds("and not much longer", waited < Duration::from_secs(20))
+}
+
+/// A second socket at the same address, and a send to port 0.
+/// Tries: lw_front::Sockets::bind
+#[test]
+fn what_the_system_refuses_is_a_fault(rt: HostRuntime) -> Result<(), Fail> {
+    let (mut sockets, _client, at) = bound(&rt, rt.alloc(), "127.0.0.1:0")?;
+    holds(
+        "one socket an address",
+        Sockets::bind(&rt, rt.alloc(), at).is_err(),
+    )?;
+    let nowhere = Addr::V4 {
+        address: [127, 0, 0, 1],
+        port: 0,
+    };
+    holds("a send", sockets.send(nowhere, b"reply") == Err(WireFault))
+}
