@@ -18,11 +18,3 @@ pub(crate) fn holds_for<D: Debug>(row: &D, is_so: bool) -> Result<(), Fail> {
     }
     Err(Fail::new(format_args!("{row:?}")))
 }
-
-/// Fails where the text is another than it is to be.
-pub(crate) fn same(text: &str, want: &str) -> Result<(), Fail> {
-    if text == want {
-        return Ok(());
-    }
-    Err(Fail::new(format_args!("{text} in place of {want}")))
-}

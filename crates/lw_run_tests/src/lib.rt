@@ -1,17 +1,7 @@
-//! Tests of what `fleet run` stands on, over its public calls: `lw_log`, `lw_member`, `lw_run` and `lw_front`.
+//! Tests of `lw_run` and `lw_front`, over their public calls.
 #![tactic(auto)]
 
 #[cfg(test)]
-mod entries;
-#[cfg(test)]
 mod hold;
 #[cfg(test)]
-mod large;
-#[cfg(test)]
-mod logs;
-#[cfg(test)]
-mod member;
-#[cfg(test)]
 mod serving;
-#[cfg(test)]
-mod shared;

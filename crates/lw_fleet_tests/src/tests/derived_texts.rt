@@ -26,13 +26,17 @@ const FAULTS: [Fault; 7] = [
     Fault::NoMemory,
 ];
 
+/// Fails where the line is another than the text up to its cause.
+fn is_told(alloc: Global, line: &[u8], text: &str) -> Result<(), Fail> {
+    let want = format!(in alloc; "{}\n", before_the_cause(text))?;
+    same(str::from_utf8(line)?, want.as_str())
+}
+
 /// Fails where the line that is told of the fault is another than its text up to its cause.
 fn fault_is_told(alloc: Global, fault: Fault) -> Result<(), Fail> {
     let mut line = Vec::new(alloc);
     fault.tell(&mut line);
-    let text = format!(in alloc; "{fault}")?;
-    let want = format!(in alloc; "{}\n", before_the_cause(text.as_str()))?;
-    same(str::from_utf8(&line)?, want.as_str())
+    is_told(alloc, &line, format!(in alloc; "{fault}")?.as_str())
 }
 
 /// Tries: Fault::tell
@@ -61,9 +65,7 @@ const SERVING_FAULTS: [ServingFault; 10] = [
 fn serving_fault_is_told(alloc: Global, fault: ServingFault) -> Result<(), Fail> {
     let mut line = Vec::new(alloc);
     fault.tell(&mut line);
-    let text = format!(in alloc; "{fault}")?;
-    let want = format!(in alloc; "{}\n", before_the_cause(text.as_str()))?;
-    same(str::from_utf8(&line)?, want.as_str())
+    is_told(alloc, &line, format!(in alloc; "{fault}")?.as_str())
 }
 
 /// Tries: ServingFault::tell, program
@@ -79,9 +81,7 @@ fn faults_of_serve(rt: HostRuntime) -> Result<(), Fail> {
 fn running_fault_is_told(alloc: Global, fault: RunningFault) -> Result<(), Fail> {
     let mut line = Vec::new(alloc);
     fault.tell(&mut line);
-    let text = format!(in alloc; "{fault}")?;
-    let want = format!(in alloc; "{}\n", before_the_cause(text.as_str()))?;
-    same(str::from_utf8(&line)?, want.as_str())
+    is_told(alloc, &line, format!(in alloc; "{fault}")?.as_str())
 }
 
 /// Tries: RunningFault::tell

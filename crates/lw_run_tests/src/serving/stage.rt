@@ -1,7 +1,6 @@
 //! What a run is made of, and what came of it as a text.
 
 use super::*;
-use crate::large::fill;
 use bytes::Bytes;
 use log::sink::Memory;
 use log::{Level, Logged};
@@ -136,12 +135,21 @@ static CHANCE: Chance = Chance {
     number: 1,
 };
 
-/// The start entry of another start in that fleet: number 2, sequence 1; and what stands before its deltas, sequence 2.
+/// The start entry of another start in that fleet: number 2, sequence 1.
 const OTHER_START: &str =
     "4c5745310707070707070707070707070707070700020000000000000008000000000000000100";
 
-const OTHER_DELTA: &str =
-    "4c5745310707070707070707070707070707070700020000000000000008000000000000000201";
+/// A delta of it, sequence 2, up to the object list of its one registration: counter 65,536, the name `0000`, and twice the
+/// stamp with counter 1 of node 1.
+const BEFORE_LIST: &str =
+    "4c5745310707070707070707070707070707070700020000000000000008000000000000000201\
+4c5744330000000100000104303030300000000000010001400000000000010001";
+
+/// Behind the list: no attributes, not ended, no watches, and the end.
+const BEHIND_LIST: [u8; 4] = [0; 4];
+
+/// How many bytes the entry has with the longest list, which has 8,192.
+const LONGEST: usize = 8_270;
 
 /// A log in which another start has left so many bytes.
 fn log_of(alloc: Global, kept: usize) -> Result<MemoryLog, Fail> {
@@ -149,10 +157,28 @@ fn log_of(alloc: Global, kept: usize) -> Result<MemoryLog, Fail> {
     if kept > 0 {
         let start = hex::decode(alloc, OTHER_START)?;
         log.append(&start)?;
-        let head = hex::decode(alloc, OTHER_DELTA)?;
-        fill(alloc, &mut log, &head, kept.saturating_sub(start.len()))?;
+        let left = kept.saturating_sub(start.len());
+        let longest = delta_of(alloc, LONGEST)?;
+        for _entry in 0..left / LONGEST {
+            log.append(&longest)?;
+        }
+        log.append(&delta_of(alloc, left % LONGEST)?)?;
     }
     Ok(log)
+}
+
+/// A delta of the other start that has exactly so many bytes.
+fn delta_of(alloc: Global, length: usize) -> Result<Vec<u8>, Fail> {
+    let mut bytes = hex::decode(alloc, BEFORE_LIST)?;
+    let list = length.saturating_sub(bytes.len() + size_of::<u16>() + BEHIND_LIST.len());
+    bytes.extend_from_slice(&u16::try_from(list)?.to_be_bytes())?;
+    bytes.extend_from_slice(b"</")?;
+    for _letter in b"</>".len()..list {
+        bytes.push(b'a')?;
+    }
+    bytes.push(b'>')?;
+    bytes.extend_from_slice(&BEHIND_LIST)?;
+    Ok(bytes)
 }
 
 /// How many calls were made of the log.

@@ -1,0 +1,28 @@
+//! How a test tells what does not hold.
+
+use std::fmt::Debug;
+use std::test::Fail;
+
+/// Fails with the text where it is not so.
+pub(crate) fn holds(what: &str, is_so: bool) -> Result<(), Fail> {
+    if is_so {
+        return Ok(());
+    }
+    Err(Fail::new(what))
+}
+
+/// Fails with the row of a table for which it is not so.
+pub(crate) fn holds_for<D: Debug>(row: &D, is_so: bool) -> Result<(), Fail> {
+    if is_so {
+        return Ok(());
+    }
+    Err(Fail::new(format_args!("{row:?}")))
+}
+
+/// Fails where the text is another than it is to be.
+pub(crate) fn same(text: &str, want: &str) -> Result<(), Fail> {
+    if text == want {
+        return Ok(());
+    }
+    Err(Fail::new(format_args!("{text} in place of {want}")))
+}

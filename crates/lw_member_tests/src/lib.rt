@@ -1,0 +1,15 @@
+//! Tests of `lw_log` and `lw_member`, over their public calls.
+#![tactic(auto)]
+
+#[cfg(test)]
+mod entries;
+#[cfg(test)]
+mod hold;
+#[cfg(test)]
+mod large;
+#[cfg(test)]
+mod logs;
+#[cfg(test)]
+mod member;
+#[cfg(test)]
+mod shared;
