@@ -170,7 +170,8 @@ fn log_of(alloc: Global, kept: usize) -> Result<MemoryLog, Fail> {
 /// A delta of the other start that has exactly so many bytes.
 fn delta_of(alloc: Global, length: usize) -> Result<Vec<u8>, Fail> {
     let mut bytes = hex::decode(alloc, BEFORE_LIST)?;
-    let list = length.saturating_sub(bytes.len() + size_of::<u16>() + BEHIND_LIST.len());
+    let around = size_of::<u16>() + BEHIND_LIST.len();
+    let list = length.saturating_sub(bytes.len()).saturating_sub(around);
     bytes.extend_from_slice(&u16::try_from(list)?.to_be_bytes())?;
     bytes.extend_from_slice(b"</")?;
     for _letter in b"</>".len()..list {
