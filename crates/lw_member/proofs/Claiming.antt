@@ -9,7 +9,7 @@ use Rattle.lw_log.specs.declared.entry.FleetId.{FleetId}
 use Rattle.lw_log.specs.declared.start.Start.{Start as Starts}
 use Rattle.lw_member.specs.declared.standing.Standing.{Standing}
 use Rattle.lw_member.specs.Parts.{fleet_of, numbers_of, IsMember}
-use Rattle.lw_member.specs.Reading.{AreReads, AreReadToTheEnd, entries_in, AreGood, HoldsNumber, MergesEntries}
+use Rattle.lw_member.specs.Reading.{AreReads, AreReadToTheEnd, entries_in, last_read, AreGood, HoldsNumber, MergesEntries}
 use Rattle.lw_member.specs.inner.Going.{Goes}
 use Rattle.lw_member.specs.inner.Standing.{HasSameStart, IsStill}
 use Rattle.lw_member.specs.inner.Taking.{Takes, IsJudged}
@@ -21,7 +21,7 @@ use Rattle.lw_member.proofs.Taking.{judged_holds}
 
 module _ (a0 a1 a2 : Option (List LogCall)) (s0 s1 s2 s3 : Standing) (fleet : List ℕ) (own : Bool) (pages : List LogCall)
     (started : IsStarted a0 s0 fleet a1 s1) (asked : Calls a1 a2 pages) (read : AreReadToTheEnd (place_of s1.read_to) pages) (takes : Takes s1 (entries_in pages) s2)
-    (judged : IsJudged s1.claimed s1.start.number s1.start.tag (entries_in pages) own) (same : HasSameStart s1 s2) (in_fleet : fleet_of s2 ≡ Some fleet)
+    (judged : IsJudged s1.claimed s1.start.number s1.start.tag (entries_in pages) own) (same : HasSameStart s1 s2) (in_fleet : fleet_of s2 ≡ Some fleet) (last : place_of s2.read_to ≡ last_read (place_of s1.read_to) pages)
     (number : s0.start.number ≡ s0.node.number) (unclaimed : s0.claimed ≡ false) (member : IsMember a2 s2)
     (raised : Merged s2.node s2.floor [] s3.node) (still : IsTrue s3.led ↔ IsStill s2 s3.node) (only : s3 ≡ record s2 { node = s3.node; led = s3.led }) (goes : Goes s2.node s3.node) where
   one : s1 ≡ record s0 { sequence = s1.sequence; read_to = s1.read_to; size = s1.size; fleet = s1.fleet }
@@ -62,6 +62,7 @@ module _ (a0 a1 a2 : Option (List LogCall)) (s0 s1 s2 s3 : Standing) (fleet : Li
       fleet_is ∙ ap (λ f. Some f) (sym started.entry.fleet_is),
     );
     read = subst (λ p. AreReadToTheEnd p pages) started.read_to read;
+    read_to = ap (λ (s : Standing). place_of s.read_to) only ∙ last ∙ ap (λ p. last_read p pages) started.read_to;
     good = subst (λ f. AreGood f (entries_in pages)) (ap (λ (s : Standing). option_map (λ (f : FleetId). f.bytes) s.fleet) (sym only)) takes.good;
     holds = holds_now;
     merges = subst (λ (n : NodeContent). MergesEntries n (entries_in pages) s2.node) (ap (λ (s : Standing). s.node) one) takes.merged;

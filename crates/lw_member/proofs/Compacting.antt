@@ -1,5 +1,5 @@
 -- A compaction, put together from its parts.
-use Rattle.std.proofs.Common.{◌≡◌, ◌⊎◌, inl, inr, ℕ, List, [], ◌∷◌, Option, Some, None, Bool, false, refl, sym, ap, ◌∙◌, subst, append-nil}
+use Rattle.std.proofs.Common.{◌≡◌, ◌⊎◌, inl, inr, ℕ, List, [], ◌∷◌, Option, Some, None, Bool, false, cond, refl, sym, ap, ◌∙◌, subst, append-nil}
 use Rattle.std.specs.Prelude.{Result, Ok, Err, option_map}
 use Rattle.lw_node.specs.Exchange.{IsDeltaSince}
 use Rattle.lw_node.specs.Node.{NodeContent}
@@ -81,6 +81,7 @@ module _ (a0 a1 : Option (List LogCall)) (s0 s1 : Standing) (pages : List LogCal
     start = record { number = same.number; tag = ap (λ (x : Starts). x.tag) same.start; floor = same.floor; alone = same.alone };
     claimed = same.claimed;
     read = read;
+    read_to = last;
     good = takes.good;
     holds = holds_read;
     merged = takes.merged;
@@ -153,6 +154,7 @@ module _ (a0 a1 : Option (List LogCall)) (s0 s1 : Standing) (pages : List LogCal
         };
         claimed = later.claimed ∙ same.claimed;
         read = read;
+        read_to = w.read_to ∙ ap (λ b. cond b (Some w.place.0) (place_of s1.read_to)) same.alone ∙ ap (λ p. cond s0.alone (Some w.place.0) p) last;
         good = subst (λ f. AreGood f (entries_in pages)) (sym fleet_now) takes.good;
         holds = λ unclaimed. subst (λ n. HoldsNumber n s2.start.tag (entries_in pages)) (sym later.number) (subst (λ (x : Starts). HoldsNumber s1.node.number x.tag (entries_in pages)) (sym later.start) (holds_read unclaimed));
         merged = subst (λ (n : NodeContent). MergesEntries s0.node (entries_in pages) n) (sym node) takes.merged;

@@ -13,7 +13,7 @@ use Rattle.lw_member.specs.declared.numbers.Numbers.{Numbers}
 use Rattle.lw_member.specs.declared.standing.Standing.{Standing}
 use Rattle.lw_member.specs.Own.{IsOwnIn, IsOwnSince}
 use Rattle.lw_member.specs.Parts.{content_of, fleet_of, numbers_of, IsMember}
-use Rattle.lw_member.specs.Reading.{AreReadToTheEnd, entries_in, AreGood, AreNoted, HoldsNumber}
+use Rattle.lw_member.specs.Reading.{AreReadToTheEnd, entries_in, last_read, AreGood, AreNoted, HoldsNumber}
 use Rattle.lw_member.specs.Rounds.{Makes, IsClaiming, IsCalm, IsWriting, IsRound, IsSameStart, place_after, since_of}
 use Rattle.lw_member.specs.inner.Going.{Goes}
 use Rattle.lw_member.specs.inner.Standing.{HasSameStart, IsStill}
@@ -25,10 +25,6 @@ use Rattle.lw_member.proofs.Taking.{judged_holds}
 
 not_both : {G : Type 0} → false ≡ true → G
 not_both h = absurd cc
-
-place_none : (alone : Bool) (after : Option (ℕ × ℕ)) → after ≡ place_after alone after []
-place_none true after = refl
-place_none false after = refl
 
 since_is : (led : Bool) (change written s : ℕ) → (led ≡ true → s ≡ change) → (led ≡ false → s ≡ written) → cond led change written ≡ s
 since_is true change written s one other = sym (one refl)
@@ -74,10 +70,19 @@ good_later s1 s2 s3 es only fleet good =
 noted_later : (s0 s1 s2 s3 : Standing) (es : List (List ℕ)) → s2 ≡ record s1 { node = s2.node; led = s2.led } → s3.numbers ≡ s2.numbers → AreNoted (numbers_of s0) es (numbers_of s1) → AreNoted (numbers_of s0) es (numbers_of s3)
 noted_later s0 s1 s2 s3 es only numbers noted = noted_same (numbers_of s0) (numbers_of s0) (numbers_of s1) (numbers_of s3) es refl (ap (λ (x : Numbers). x.bytes.value) numbers ∙ ap numbers_of only) noted
 
+-- what was read, and then written
+read_later : (s0 s1 s2 s3 : Standing) (from : Option (ℕ × ℕ)) (pages wrote : List LogCall) → s1.alone ≡ s0.alone → place_of s1.read_to ≡ last_read from pages → s2 ≡ record s1 { node = s2.node; led = s2.led }
+    → place_of s3.read_to ≡ place_after s2.alone (place_of s2.read_to) wrote → place_of s3.read_to ≡ place_after s0.alone (last_read from pages) wrote
+read_later s0 s1 s2 s3 from pages wrote alone last only now =
+    now
+    ∙ ap (λ b. place_after b (place_of s2.read_to) wrote) (ap (λ (s : Standing). s.alone) only ∙ alone)
+    ∙ ap (λ p. place_after s0.alone p wrote) (ap (λ (s : Standing). place_of s.read_to) only ∙ last)
+
 -- ---- a round that claims nothing
 module _ (a0 a1 a2 : Option (List LogCall)) (s0 s1 s2 s3 : Standing) (calls : List Call) (replies : List Reply) (pages : List LogCall) (own : Bool)
     (asked : Calls a0 a1 pages) (read : AreReadToTheEnd (place_of s0.read_to) pages) (takes : Takes s0 (entries_in pages) s1)
-    (judged : IsJudged s0.claimed s0.start.number s0.start.tag (entries_in pages) own) (same : HasSameStart s0 s1) (member : IsMember a0 s0) (later : IsMember a1 s1)
+    (judged : IsJudged s0.claimed s0.start.number s0.start.tag (entries_in pages) own) (last : place_of s1.read_to ≡ last_read (place_of s0.read_to) pages)
+    (same : HasSameStart s0 s1) (member : IsMember a0 s0) (later : IsMember a1 s1)
     (made : Made s1 calls replies s2) (wrote : Written a1 s2 a2 s3) (idle : ¬ IsClaiming (content_of a0 s0) calls) where
   holds_idle : s0.claimed ≡ false → HoldsNumber s3.node.number s3.start.tag (entries_in pages)
   holds_idle unclaimed =
@@ -96,7 +101,8 @@ module _ (a0 a1 a2 : Option (List LogCall)) (s0 s1 s2 s3 : Standing) (calls : Li
     asked = calls_then a0 a1 a2 pages wrote.now.wrote asked wrote.now.asked;
     start = same_start a0 a2 s0 s1 s2 s3 same.number same.start same.alone same.floor made.goes made.only wrote.same;
     claims = inl (idle, refl, wrote.same.claimed ∙ ap (λ (s : Standing). s.claimed) made.only ∙ same.claimed);
-    read = subst (λ p. AreReadToTheEnd p pages) (place_none s0.alone (place_of s0.read_to)) read;
+    read = read;
+    read_to = read_later s0 s1 s2 s3 (place_of s0.read_to) pages wrote.now.wrote same.alone last made.only wrote.now.read_to;
     good = good_later s1 s2 s3 (entries_in pages) made.only wrote.fleet takes.good;
     holds = holds_idle;
     numbers = noted_later s0 s1 s2 s3 (entries_in pages) made.only wrote.numbers takes.numbers;
@@ -161,6 +167,7 @@ module _ (a0 a1 a2 : Option (List LogCall)) (s0 s1 s2 s3 : Standing) (calls : Li
     start = same_start a0 a2 s0 s1 s2 s3 same.number same.start same.alone same.floor made.goes made.only wrote.same;
     claims = inr (claiming, wrote.same.claimed ∙ ap (λ (s : Standing). s.claimed) made.only ∙ is, claimed.place, refl, own_start);
     read = claimed.read;
+    read_to = read_later s0 s1 s2 s3 (place_after s0.alone (place_of s0.read_to) (Wrote claimed.place ∷ [])) claimed.pages wrote.now.wrote same.alone claimed.read_to made.only wrote.now.read_to;
     good = good_later s1 s2 s3 (entries_in claimed.pages) made.only wrote.fleet claimed.good;
     holds = λ unclaimed. subst (λ n. HoldsNumber n s3.start.tag (entries_in claimed.pages)) number_is (subst (λ t. HoldsNumber s1.node.number t (entries_in claimed.pages)) tag_is claimed.holds);
     numbers = noted_later s0 s1 s2 s3 (entries_in claimed.pages) made.only wrote.numbers claimed.numbers;

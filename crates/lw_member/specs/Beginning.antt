@@ -8,7 +8,7 @@ use Rattle.lw_log.specs.Calls.{LogCall, Calls}
 use Rattle.lw_log.specs.Entries.{EntryContent, IsEntry}
 use Rattle.lw_log.specs.Entries.BodyContent.{Start, Whole}
 use Rattle.lw_member.specs.Member.{MemberContent, IsLedBy}
-use Rattle.lw_member.specs.Reading.{AreReadToTheEnd, entries_in, AreGood, IsFree, IsMet, AreNoted, MergesEntries}
+use Rattle.lw_member.specs.Reading.{AreReadToTheEnd, entries_in, last_read, AreGood, IsFree, IsMet, AreNoted, MergesEntries}
 
 -- the first entry that a log ever has: a start, and the first of its own
 abbrev pub BeginsLog : List ℕ → Type 0
@@ -48,6 +48,7 @@ pub record IsBegun (before : Option (List LogCall)) (moment : Moment) (tag first
   pub found : AreReadToTheEnd None looked
   pub uncut : IsUncut (entries_in looked)
   pub read : AreReadToTheEnd None pages
+  pub read_to : new.read_to ≡ last_read None pages
   pub good : AreGood new.fleet (entries_in pages)
   pub free : IsFree new.node.number (entries_in pages)
   pub number : 1 ≤ new.node.number

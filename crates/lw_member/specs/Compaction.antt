@@ -7,7 +7,7 @@ use Rattle.lw_log.specs.Entries.BodyContent.{Whole}
 use Rattle.lw_member.specs.Member.{MemberContent, IsLedBy}
 use Rattle.lw_member.specs.Own.{IsOwnIn}
 use Rattle.lw_member.specs.Reading.{AreReads, AreReadToTheEnd, entries_in, last_read, AreGood, AreNoted, HoldsNumber, MergesEntries}
-use Rattle.lw_member.specs.Rounds.{IsSameStart}
+use Rattle.lw_member.specs.Rounds.{IsSameStart, place_after}
 
 -- ---- when it is due
 -- more than 16 MiB, and more than four times the bytes of the whole entry
@@ -37,6 +37,7 @@ pub record IsCompacted (old new : MemberContent) : Type 0 where
   pub start : IsSameStart old new
   pub claimed : new.claimed ≡ old.claimed
   pub read : AreReadToTheEnd old.read_to pages
+  pub read_to : new.read_to ≡ place_after old.alone (last_read old.read_to pages) wrote
   pub good : AreGood new.fleet (entries_in pages)
   pub holds : old.claimed ≡ false → HoldsNumber new.node.number new.tag (entries_in pages)
   pub merged : MergesEntries old.node (entries_in pages) new.node

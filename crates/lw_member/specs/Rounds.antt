@@ -7,11 +7,11 @@ use Rattle.lw_node.specs.Exchange.{Merged, known_by}
 use Rattle.lw_node.specs.Node.{NodeContent}
 use Rattle.lw_node.specs.Steps.{IsStep}
 use Rattle.lw_log.specs.Calls.{LogCall, Placed, Calls}
-use Rattle.lw_log.specs.Calls.LogCall.{Wrote}
+use Rattle.lw_log.specs.Calls.LogCall.{Read, Wrote, Tried, Trimmed}
 use Rattle.lw_log.specs.Entries.BodyContent.{Start}
 use Rattle.lw_member.specs.Member.{MemberContent, IsLedBy}
 use Rattle.lw_member.specs.Own.{IsOwnIn, IsOwnSince}
-use Rattle.lw_member.specs.Reading.{AreReadToTheEnd, entries_in, AreGood, HoldsNumber, AreNoted, MergesEntries}
+use Rattle.lw_member.specs.Reading.{AreReadToTheEnd, entries_in, last_read, AreGood, HoldsNumber, AreNoted, MergesEntries}
 
 -- the calls, made one after another, each with the reply that the node gives
 abbrev pub Makes : NodeContent → List Call → List Reply → NodeContent → Type 0
@@ -42,8 +42,11 @@ IsRaised (call ∷ calls) floor old new = Merged old floor [] new
 
 -- where nobody else appends to the log, it goes on reading behind what it has written
 abbrev pub place_after : Bool → Option (ℕ × ℕ) → List LogCall → Option (ℕ × ℕ)
-place_after true after (Wrote p ∷ calls) = Some p.0
-place_after _ after calls = after
+place_after alone after (Wrote p ∷ calls) = cond alone (Some p.0) after
+place_after alone after [] = after
+place_after alone after (Read from es ∷ calls) = after
+place_after alone after (Tried e ∷ calls) = after
+place_after alone after (Trimmed upto ∷ calls) = after
 
 -- ---- what is written
 -- what moved since the merges, where the log led all before them; else since what was written
@@ -81,6 +84,7 @@ pub record IsRound (old : MemberContent) (calls : List Call) (replies : List Rep
   pub start : IsSameStart old new
   pub claims : IsClaim old calls claim new
   pub read : AreReadToTheEnd (place_after old.alone old.read_to claim) pages
+  pub read_to : new.read_to ≡ place_after old.alone (last_read (place_after old.alone old.read_to claim) pages) wrote
   pub good : AreGood new.fleet (entries_in pages)
   pub holds : old.claimed ≡ false → HoldsNumber new.node.number new.tag (entries_in pages)
   pub numbers : AreNoted old.numbers (entries_in pages) new.numbers

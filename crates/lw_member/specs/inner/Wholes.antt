@@ -1,11 +1,12 @@
 -- A whole entry is appended.
 use Rattle.std.specs.Prelude.{◌≡◌, ℕ, List, [], ◌∷◌, Option, true}
 use Rattle.lw_node.specs.Exchange.{IsDeltaSince}
-use Rattle.lw_log.specs.Calls.{LogCall, Placed, Calls}
+use Rattle.lw_log.specs.Calls.{LogCall, Placed, Calls, place_of}
 use Rattle.lw_log.specs.Calls.LogCall.{Wrote, Tried}
 use Rattle.lw_log.specs.Entries.BodyContent.{Whole}
 use Rattle.lw_member.specs.declared.standing.Standing.{Standing}
 use Rattle.lw_member.specs.Parts.{numbers_of}
+use Rattle.lw_member.specs.Rounds.{place_after}
 use Rattle.lw_member.specs.inner.Taking.{IsEntryOf}
 
 -- an entry of the member's, in the fleet, with all that the node knows
@@ -20,6 +21,7 @@ pub record IsWrittenWhole (before : Option (List LogCall)) (old : Standing) (fle
   pub asked : Calls before after (Wrote place ∷ [])
   pub whole : IsWholeOf old fleet place.1
   pub led : new.led ≡ true
+  pub read_to : place_of new.read_to ≡ place_after old.alone (place_of old.read_to) (Wrote place ∷ [])
 
 -- it was appended, or tried, or nothing was asked
 abbrev pub IsTryingWhole : Standing → List ℕ → List LogCall → Type 0

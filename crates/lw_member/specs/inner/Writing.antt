@@ -9,7 +9,7 @@ use Rattle.lw_call.specs.declared.reply.Reply.{Reply}
 use Rattle.lw_node.specs.Exchange.{Merged}
 use Rattle.lw_member.specs.declared.standing.Standing.{Standing}
 use Rattle.lw_member.specs.Own.{AreOwnCalls, IsOwnIn, IsOwnSince}
-use Rattle.lw_member.specs.Reading.{AreReadToTheEnd, entries_in, AreGood, AreNoted, HoldsNumber, MergesEntries}
+use Rattle.lw_member.specs.Reading.{AreReadToTheEnd, entries_in, last_read, AreGood, AreNoted, HoldsNumber, MergesEntries}
 use Rattle.lw_member.specs.Rounds.{Makes, place_after}
 use Rattle.lw_member.specs.Parts.{content_of, fleet_of, numbers_of, IsMember}
 use Rattle.lw_member.specs.inner.Going.{Goes}
@@ -53,6 +53,7 @@ pub record IsWritingNow (before : Option (List LogCall)) (old : Standing) (after
   pub asked : Calls before after wrote
   pub one : ((old.led ≡ true) × (wrote ≡ [])) ⊎ ((old.led ≡ false) × (p : Placed) × (wrote ≡ Wrote p ∷ []) × IsOwnSince (content_of after new) old.written p.1)
   pub led : new.led ≡ true
+  pub read_to : place_of new.read_to ≡ place_after old.alone (place_of old.read_to) wrote
 
 -- the number is claimed, the log is read to its end, and the clock is raised
 pub record IsClaimed (before : Option (List LogCall)) (old : Standing) (after : Option (List LogCall)) (new : Standing) : Type 0 where
@@ -62,6 +63,7 @@ pub record IsClaimed (before : Option (List LogCall)) (old : Standing) (after : 
   pub asked : Calls before after (Wrote place ∷ pages)
   pub own : IsOwnIn (content_of after new) Start place.1
   pub read : AreReadToTheEnd (place_after old.alone (place_of old.read_to) (Wrote place ∷ [])) pages
+  pub read_to : place_of new.read_to ≡ last_read (place_after old.alone (place_of old.read_to) (Wrote place ∷ [])) pages
   pub good : AreGood (fleet_of new) (entries_in pages)
   pub holds : HoldsNumber new.node.number new.start.tag (entries_in pages)
   pub merges : MergesEntries old.node (entries_in pages) merged.node

@@ -1,8 +1,8 @@
-use Rattle.std.proofs.Common.{true, ap, ◌∙◌, sym, refl, subst}
+use Rattle.std.proofs.Common.{Some, true, cond, ap, ◌∙◌, sym, refl, subst}
 use Rattle.lw_delta.specs.Delta.{IsSpelling}
 use Rattle.lw_node.specs.Exchange.{IsDeltaSince}
 use Rattle.lw_node.specs.Node.{NodeContent}
-use Rattle.lw_log.specs.Calls.{place}
+use Rattle.lw_log.specs.Calls.{place, place_of}
 use Rattle.lw_log.specs.Entries.BodyContent.{Whole}
 use Rattle.lw_member.specs.inner.Taking.{IsEntryOf}
 use Rattle.lw_member.specs.Parts.{numbers_of}
@@ -41,7 +41,13 @@ returns-clause-written g c =
     let s0 = c.args.standing.now in
     let is = subst (λ d. IsDeltaSince s0.node 0 d) (sym c.deref.ensures.value) c.in_ok-delta.ensures in
     let e = subst (λ b. IsEntryOf s0 c.args.fleet.bytes (Whole (numbers_of s0) c.deref.result.now) b) (sym c.deref-2.ensures.value) (subst (λ ns. IsEntryOf s0 c.args.fleet.bytes (Whole ns c.deref.result.now) c.in_ok-entry.entry.items) c.as_bytes.ensures.bytes c.in_ok-entry.ensures) in
-    record { place = (place c.in_ok-position.position, c.deref-2.result.now); asked = c.in_ok-position.ensures.asked; whole = record { delta = c.deref.result.now; is = is; entry = e }; led = refl }
+    record {
+      place = (place c.in_ok-position.position, c.deref-2.result.now);
+      asked = c.in_ok-position.ensures.asked;
+      whole = record { delta = c.deref.result.now; is = is; entry = e };
+      led = refl;
+      read_to = c.appended_whole.ensures.read_to ∙ ap (λ (x : Standing). cond x.alone (Some (place c.in_ok-position.position)) (place_of x.read_to)) c.in_ok-position.ensures.done;
+    }
 
 pub returns-clause-member : goal.returns-clause-member
 returns-clause-member g c =

@@ -24,7 +24,7 @@ returns-then-is_in-clause-claimed g c = λ m.
     let read = c.in_ok-catch_up.ensures.read in
     let fleet : fleet_of c.catch_up.new.standing ≡ Some c.in_ok-fleet.fleet.bytes = c.if-is_in.ensures.0 refl in
     claim_is _ _ _ c.args.standing.now c.write_start.new.standing c.catch_up.new.standing c.raise.new.self c.in_ok-fleet.fleet.bytes c.in_ok-catch_up.field-0 read.0
-    c.in_ok-fleet.ensures.started read.1 read.2 read.3 read.4 c.catch_up.ensures.same fleet m.number c.requires.unclaimed (c.catch_up.ensures.member (c.in_ok-fleet.ensures.member m))
+    c.in_ok-fleet.ensures.started read.1 read.2 read.3 read.4 c.catch_up.ensures.same fleet read.5 m.number c.requires.unclaimed (c.catch_up.ensures.member (c.in_ok-fleet.ensures.member m))
     c.in_ok-raise.ensures.raised c.in_ok-raise.ensures.led c.raise.ensures.only c.raise.ensures.goes
 
 pub returns-then-is_in-clause-own : goal.returns-then-is_in-clause-own

@@ -24,7 +24,7 @@ pub returns-clause-round : goal.returns-clause-round
 returns-clause-round g c =
     let read = c.in_ok-catch_up.ensures.read in
     if_ok _ _ c.finish-2.result c.finish-2.ensures.finished (λ replies f.
-    idle_round _ _ _ c.args.standing.now c.catch_up.new.standing f.mid c.finish-2.new.standing c.args.calls.now replies.items read.0 c.in_ok-catch_up.field-0 read.1 read.2 read.3 read.4
+    idle_round _ _ _ c.args.standing.now c.catch_up.new.standing f.mid c.finish-2.new.standing c.args.calls.now replies.items read.0 c.in_ok-catch_up.field-0 read.1 read.2 read.3 read.4 read.5
     c.catch_up.ensures.same c.requires (c.catch_up.ensures.member c.requires) f.made f.written (λ h. let bad = c.if-is_claiming.ensures.1 h in cc))
 
 pub returns-clause-own : goal.returns-clause-own

@@ -1,9 +1,9 @@
-use Rattle.std.proofs.Common.{◌∷◌, [], Option, true, ap, ◌∙◌, sym, inr, refl, subst}
+use Rattle.std.proofs.Common.{◌∷◌, [], Option, Some, true, cond, ap, ◌∙◌, sym, inr, refl, subst}
 use Rattle.std.specs.Prelude.{option_map}
 use Rattle.lw_delta.specs.Delta.{IsSpelling}
 use Rattle.lw_node.specs.Exchange.{IsDeltaSince}
 use Rattle.lw_node.specs.Node.{NodeContent}
-use Rattle.lw_log.specs.Calls.{place}
+use Rattle.lw_log.specs.Calls.{place, place_of}
 use Rattle.lw_log.specs.Calls.LogCall.{Wrote}
 use Rattle.lw_log.specs.Entries.BodyContent.{Delta}
 use Rattle.lw_member.specs.Parts.{content_of}
@@ -61,6 +61,7 @@ returns-clause-written g c = λ m.
       asked = c.in_ok-position.ensures.asked;
       one = inr (c.if-standing.false, (place c.in_ok-position.position, c.deref-2.result.now), refl, own_since _ s0 s _ _ _ s0.written node start fleet is e m.number);
       led = refl;
+      read_to = c.appended.ensures.read_to ∙ ap (λ (x : Standing). cond x.alone (Some (place c.in_ok-position.position)) (place_of x.read_to)) done;
     }
 
 pub returns-clause-member : goal.returns-clause-member

@@ -1,7 +1,7 @@
 use Rattle.std.proofs.Common.{◌≡◌, ◌≤◌, false, sym, ap, ◌∙◌, subst}
 use Rattle.lw_node.specs.Node.{NodeContent, fresh}
 use Rattle.lw_log.specs.declared.start.Start.{Start}
-use Rattle.lw_member.specs.Reading.{AreReadToTheEnd, IsFree, IsMet, MergesEntries, entries_in}
+use Rattle.lw_member.specs.Reading.{AreReadToTheEnd, last_read, IsFree, IsMet, MergesEntries, entries_in}
 use Rattle.lw_member.specs.Beginning.{IsFirstFree}
 use Rattle.lw_member.specs.Parts.{numbers_of}
 use Rattle.lw_member.specs.inner.Taking.{IsJudged}
@@ -32,6 +32,7 @@ returns g c =
       found = found.2;
       uncut = found.3;
       read = subst (λ p. AreReadToTheEnd p read.0) new.unread read.2;
+      read_to = read.5 ∙ ap (λ p. last_read p read.0) new.unread;
       good = read.3.good;
       free = subst (λ n. IsFree n (entries_in read.0)) number free;
       number = subst (λ n. 1 ≤ n) (ap (λ (x : Start). x.number) (sym start) ∙ number) c.in-Some.ensures.found.within.0;
