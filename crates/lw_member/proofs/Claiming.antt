@@ -8,14 +8,16 @@ use Rattle.lw_log.specs.Calls.LogCall.{Wrote}
 use Rattle.lw_log.specs.declared.entry.FleetId.{FleetId}
 use Rattle.lw_log.specs.declared.start.Start.{Start as Starts}
 use Rattle.lw_member.specs.declared.standing.Standing.{Standing}
+use Rattle.lw_member.specs.Counting.{CountsEntries, own_entries}
 use Rattle.lw_member.specs.Parts.{fleet_of, numbers_of, IsMember}
 use Rattle.lw_member.specs.Reading.{AreReads, AreReadToTheEnd, entries_in, last_read, AreGood, HoldsNumber, MergesEntries}
 use Rattle.lw_member.specs.inner.Going.{Goes}
-use Rattle.lw_member.specs.inner.Standing.{HasSameStart, IsStill}
+use Rattle.lw_member.specs.inner.Standing.{HasSameStart, IsStill, counted_in}
 use Rattle.lw_member.specs.inner.Taking.{Takes, IsJudged}
 use Rattle.lw_member.specs.inner.Writing.{Claims, IsStarted, IsClaimed}
 use Rattle.lw_member.proofs.Asking.{calls_then}
 use Rattle.lw_member.proofs.Owning.{claims_append, reads_claim}
+use Rattle.lw_member.proofs.Counting.{counts_then}
 use Rattle.lw_member.proofs.Numbering.{noted_same}
 use Rattle.lw_member.proofs.Taking.{judged_holds}
 
@@ -67,6 +69,8 @@ module _ (a0 a1 a2 : Option (List LogCall)) (s0 s1 s2 s3 : Standing) (fleet : Li
     holds = holds_now;
     merges = subst (λ (n : NodeContent). MergesEntries n (entries_in pages) s2.node) (ap (λ (s : Standing). s.node) one) takes.merged;
     numbers = noted_same (numbers_of s1) (numbers_of s0) (numbers_of s2) (numbers_of s3) (entries_in pages) (sym (ap numbers_of one)) (ap numbers_of only) takes.numbers;
+    counted = counts_then (counted_in s0) (counted_in s1) (counted_in s3) (own_entries s0.alone (Wrote started.place ∷ [])) (entries_in pages) started.counted
+        (subst (λ (n : ℕ × ℕ). CountsEntries (counted_in s1) (entries_in pages) n) (sym (ap counted_in only)) takes.counted);
     led = takes.led ∙ ap (λ (s : Standing). s.led) one;
     written = λ h. takes.written (ap (λ (s : Standing). s.led) one ∙ h) ∙ ap (λ (s : Standing). s.written) one;
     up_to = λ h. member.leading.up_to (takes.led ∙ ap (λ (s : Standing). s.led) one ∙ h);

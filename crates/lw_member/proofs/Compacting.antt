@@ -13,12 +13,14 @@ use Rattle.lw_log.specs.declared.position.Position.{Position}
 use Rattle.lw_log.specs.declared.start.Start.{Start as Starts}
 use Rattle.lw_member.specs.declared.standing.Standing.{Standing}
 use Rattle.lw_member.specs.Compaction.{IsOwnWhole, IsRenewing, IsCompacted, Compacts}
+use Rattle.lw_member.specs.Counting.{CountsEntries, own_entries}
 use Rattle.lw_member.specs.Parts.{content_of, fleet_of, numbers_of, IsMember}
 use Rattle.lw_member.specs.Reading.{AreReads, AreReadToTheEnd, AreGood, AreNoted, HoldsNumber, MergesEntries, entries_in, last_read, place_read}
-use Rattle.lw_member.specs.inner.Standing.{HasSameStart}
+use Rattle.lw_member.specs.inner.Standing.{HasSameStart, counted_in}
 use Rattle.lw_member.specs.inner.Taking.{Takes, IsJudged}
 use Rattle.lw_member.specs.inner.Wholes.{IsWholeOf, IsWrittenWhole, IsTryingWhole, TriesWhole}
 use Rattle.lw_member.proofs.Asking.{calls_then}
+use Rattle.lw_member.proofs.Counting.{counts_then}
 use Rattle.lw_member.proofs.Taking.{judged_holds}
 
 -- what is read to the end is read
@@ -86,6 +88,7 @@ module _ (a0 a1 : Option (List LogCall)) (s0 s1 : Standing) (pages : List LogCal
     holds = holds_read;
     merged = takes.merged;
     numbers = takes.numbers;
+    counted = subst (λ es. CountsEntries (counted_in s0) es (counted_in s1)) (sym (append-nil (entries_in pages))) takes.counted;
     renewed = inl (
       refl,
       elim none [
@@ -159,5 +162,7 @@ module _ (a0 a1 : Option (List LogCall)) (s0 s1 : Standing) (pages : List LogCal
         holds = λ unclaimed. subst (λ n. HoldsNumber n s2.start.tag (entries_in pages)) (sym later.number) (subst (λ (x : Starts). HoldsNumber s1.node.number x.tag (entries_in pages)) (sym later.start) (holds_read unclaimed));
         merged = subst (λ (n : NodeContent). MergesEntries s0.node (entries_in pages) n) (sym node) takes.merged;
         numbers = subst (λ ns. AreNoted (numbers_of s0) (entries_in pages) ns) (sym numbers_now) takes.numbers;
+        counted = counts_then (counted_in s0) (counted_in s1) (counted_in s2) (entries_in pages) (own_entries s0.alone (Wrote w.place ∷ [])) takes.counted
+            (subst (λ b. CountsEntries (counted_in s1) (own_entries b (Wrote w.place ∷ [])) (counted_in s2)) same.alone w.counted);
         renewed = inr (w.place, place upto, refl, is_own a3 w.place.1 w.whole, last_is, w.led, now.leading.written.whole w.led);
       }

@@ -3,6 +3,7 @@ pub mod Going
 pub mod Leading
 pub mod Asking
 pub mod Numbering
+pub mod Counting
 pub mod Taking
 pub mod Merging
 pub mod Making

@@ -1,5 +1,5 @@
 -- What a member takes from one entry.
-use Rattle.std.proofs.Common.{◌≡◌, ◌↔◌, ◌⊎◌, inl, inr, ℕ, ◌<◌, ◌≤◌, List, [], ◌∷◌, Option, Some, Result, Ok, Err, Bool, true, false, refl, sym, ap, ◌∙◌, subst, arith}
+use Rattle.std.proofs.Common.{◌≡◌, ◌↔◌, ◌⊎◌, inl, inr, ℕ, ◌<◌, ◌≤◌, List, [], ◌∷◌, length, Option, Some, Result, Ok, Err, Bool, true, false, refl, sym, ap, ◌∙◌, subst, arith}
 use Rattle.std.specs.Prelude.{IsTrue, OnOk}
 use Rattle.std.specs.Result.{is_err}
 use Rattle.lw_join.proofs.MapLemmas.{empty_below}
@@ -16,12 +16,14 @@ use Rattle.lw_log.specs.Entries.{BodyContent, EntryContent, IsEntry, HasDelta, B
 use Rattle.lw_log.specs.EntryFaults.{IsNewer}
 use Rattle.lw_member.specs.declared.standing.Standing.{Standing}
 use Rattle.lw_member.specs.Member.{IsWritten}
+use Rattle.lw_member.specs.Counting.{counted_with, CountsEntry}
 use Rattle.lw_member.specs.Parts.{fleet_of, numbers_of, IsLeading}
 use Rattle.lw_member.specs.Reading.{HasBit, TellsOf, Meets}
 use Rattle.lw_member.specs.inner.Going.{Goes}
 use Rattle.lw_member.specs.inner.Seeing.{IsSeenBy}
-use Rattle.lw_member.specs.inner.Standing.{HasSameStart, IsStill}
+use Rattle.lw_member.specs.inner.Standing.{HasSameStart, IsStill, counted_in}
 use Rattle.lw_member.specs.inner.Taking.{Takes}
+use Rattle.lw_member.proofs.Counting.{counts_one}
 use Rattle.lw_member.proofs.Numbering.{noted_one, noted_entry}
 use Rattle.lw_member.proofs.Leading.{written_goes, written_calm, written_whole, taken_led}
 
@@ -61,8 +63,8 @@ written_new asked node number is =
 -- ---- one entry
 -- an entry that brings nothing, or bytes that are none
 pub takes_nothing : (old new : Standing) (bytes : List ℕ) → (IsNewer bytes → ⊥) → ((d : DeltaContent) → BringsDelta bytes d → ⊥) → new.node ≡ old.node → (old.settled ≡ true → (new.settled ≡ true) × (new.fleet ≡ old.fleet))
-    → new.led ≡ old.led → new.written ≡ old.written → ((n : ℕ) → HasBit (numbers_of new) n ↔ (HasBit (numbers_of old) n ⊎ Meets n bytes)) → Takes old (bytes ∷ []) new
-takes_nothing old new bytes known none node settled led written noted = record {
+    → new.led ≡ old.led → new.written ≡ old.written → ((n : ℕ) → HasBit (numbers_of new) n ↔ (HasBit (numbers_of old) n ⊎ Meets n bytes)) → CountsEntry (counted_in old) bytes (counted_in new) → Takes old (bytes ∷ []) new
+takes_nothing old new bytes known none node settled led written noted counts = record {
   merged = (new.node, inr (none, node), refl);
   good = (record { known = known; of_fleet = λ d brings. absurd (none d brings) }, tt);
   settled = settled;
@@ -70,6 +72,7 @@ takes_nothing old new bytes known none node settled led written noted = record {
   led = led;
   written = λ h. written;
   numbers = noted_one (numbers_of old) (numbers_of new) bytes noted;
+  counted = counts_one (counted_in old) (counted_in new) bytes counts;
 }
 
 no_delta : (body : BodyContent) (delta : List ℕ) → ((d : List ℕ) → HasDelta body d → ⊥) → HasDelta body delta → ⊥
@@ -90,8 +93,8 @@ same_delta (BodyContent.Whole numbers own) a b h g = sym h ∙ g
 
 pub takes_delta : (old new : Standing) (bytes : List ℕ) (e : EntryContent) (delta : List ℕ) (d : DeltaContent) → IsEntry bytes e → ((x : EntryContent) → IsEntry bytes x → e ≡ x) → HasDelta e.body delta → IsSpelling delta d → (IsNewer bytes → ⊥)
     → Merged old.node d.clock d.slots new.node → new.settled ≡ true → fleet_of new ≡ Some e.fleet → (old.settled ≡ true → new.fleet ≡ old.fleet) → new.led ≡ old.led → (old.led ≡ false → new.written ≡ old.written)
-    → ((n : ℕ) → HasBit (numbers_of new) n ↔ (HasBit (numbers_of old) n ⊎ ((e.number ≡ n) ⊎ TellsOf n e.body))) → Takes old (bytes ∷ []) new
-takes_delta old new bytes e delta d is only has spelled known merged settled fleet kept led written noted = record {
+    → ((n : ℕ) → HasBit (numbers_of new) n ↔ (HasBit (numbers_of old) n ⊎ ((e.number ≡ n) ⊎ TellsOf n e.body))) → counted_in new ≡ counted_with e.body (length bytes) (counted_in old) → Takes old (bytes ∷ []) new
+takes_delta old new bytes e delta d is only has spelled known merged settled fleet kept led written noted counts = record {
   merged = (new.node, inl (d, record { entry = e; delta = delta; is = is; has = has; spelled = spelled }, merged), refl);
   good = (record { known = known; of_fleet = λ x brings. fleet ∙ ap (λ (y : EntryContent). Some y.fleet) (only brings.entry brings.is) }, tt);
   settled = λ h. (settled, kept h);
@@ -99,6 +102,7 @@ takes_delta old new bytes e delta d is only has spelled known merged settled fle
   led = led;
   written = written;
   numbers = noted_one (numbers_of old) (numbers_of new) bytes (noted_entry (numbers_of old) (numbers_of new) bytes e is only noted);
+  counted = counts_one (counted_in old) (counted_in new) bytes (inl (e, is, counts));
 }
 
 -- ---- what holds of a success

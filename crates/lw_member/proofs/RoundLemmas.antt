@@ -1,5 +1,6 @@
 -- A round, put together from its parts.
-use Rattle.std.proofs.Common.{◌≡◌, inl, inr, ℕ, List, [], ◌∷◌, Option, Bool, true, false, cond, refl, sym, ap, ◌∙◌, subst, arith}
+use Rattle.std.proofs.lemmas.List.{append_assoc}
+use Rattle.std.proofs.Common.{◌≡◌, inl, inr, ℕ, List, [], ◌∷◌, ◌++◌, Option, Bool, true, false, cond, refl, sym, ap, ◌∙◌, subst, arith}
 use Rattle.std.specs.Prelude.{IsTrue, option_map}
 use Rattle.lw_call.specs.declared.call.Call.{Call}
 use Rattle.lw_call.specs.declared.reply.Reply.{Reply}
@@ -12,14 +13,16 @@ use Rattle.lw_log.specs.Entries.BodyContent.{Start}
 use Rattle.lw_member.specs.declared.numbers.Numbers.{Numbers}
 use Rattle.lw_member.specs.declared.standing.Standing.{Standing}
 use Rattle.lw_member.specs.Own.{IsOwnIn, IsOwnSince}
+use Rattle.lw_member.specs.Counting.{CountsEntries, own_entries}
 use Rattle.lw_member.specs.Parts.{content_of, fleet_of, numbers_of, IsMember}
 use Rattle.lw_member.specs.Reading.{AreReadToTheEnd, entries_in, last_read, AreGood, AreNoted, HoldsNumber}
 use Rattle.lw_member.specs.Rounds.{Makes, IsClaiming, IsCalm, IsWriting, IsRound, IsSameStart, place_after, since_of}
 use Rattle.lw_member.specs.inner.Going.{Goes}
-use Rattle.lw_member.specs.inner.Standing.{HasSameStart, IsStill}
+use Rattle.lw_member.specs.inner.Standing.{HasSameStart, IsStill, counted_in}
 use Rattle.lw_member.specs.inner.Taking.{Takes, IsJudged}
 use Rattle.lw_member.specs.inner.Writing.{Made, Written, IsClaimed}
 use Rattle.lw_member.proofs.Asking.{calls_then}
+use Rattle.lw_member.proofs.Counting.{counts_then}
 use Rattle.lw_member.proofs.Numbering.{noted_same}
 use Rattle.lw_member.proofs.Taking.{judged_holds}
 
@@ -78,6 +81,13 @@ read_later s0 s1 s2 s3 from pages wrote alone last only now =
     ∙ ap (λ b. place_after b (place_of s2.read_to) wrote) (ap (λ (s : Standing). s.alone) only ∙ alone)
     ∙ ap (λ p. place_after s0.alone p wrote) (ap (λ (s : Standing). place_of s.read_to) only ∙ last)
 
+-- what was counted, and then what was written
+counted_later : (s0 s1 s2 s3 : Standing) (from : ℕ × ℕ) (es : List (List ℕ)) (wrote : List LogCall) → s1.alone ≡ s0.alone → CountsEntries from es (counted_in s1) → s2 ≡ record s1 { node = s2.node; led = s2.led }
+    → CountsEntries (counted_in s2) (own_entries s2.alone wrote) (counted_in s3) → CountsEntries from (es ++ own_entries s0.alone wrote) (counted_in s3)
+counted_later s0 s1 s2 s3 from es wrote alone before only now =
+    counts_then from (counted_in s2) (counted_in s3) es (own_entries s0.alone wrote) (subst (λ (n : ℕ × ℕ). CountsEntries from es n) (sym (ap counted_in only)) before)
+    (subst (λ b. CountsEntries (counted_in s2) (own_entries b wrote) (counted_in s3)) (ap (λ (s : Standing). s.alone) only ∙ alone) now)
+
 -- ---- a round that claims nothing
 module _ (a0 a1 a2 : Option (List LogCall)) (s0 s1 s2 s3 : Standing) (calls : List Call) (replies : List Reply) (pages : List LogCall) (own : Bool)
     (asked : Calls a0 a1 pages) (read : AreReadToTheEnd (place_of s0.read_to) pages) (takes : Takes s0 (entries_in pages) s1)
@@ -106,6 +116,7 @@ module _ (a0 a1 a2 : Option (List LogCall)) (s0 s1 s2 s3 : Standing) (calls : Li
     good = good_later s1 s2 s3 (entries_in pages) made.only wrote.fleet takes.good;
     holds = holds_idle;
     numbers = noted_later s0 s1 s2 s3 (entries_in pages) made.only wrote.numbers takes.numbers;
+    counted = counted_later s0 s1 s2 s3 (counted_in s0) (entries_in pages) wrote.now.wrote same.alone takes.counted made.only wrote.now.counted;
     merged = takes.merged;
     raised = refl;
     made = subst (λ (n : NodeContent). Makes s1.node calls replies n) (sym wrote.node) made.made;
@@ -171,6 +182,8 @@ module _ (a0 a1 a2 : Option (List LogCall)) (s0 s1 s2 s3 : Standing) (calls : Li
     good = good_later s1 s2 s3 (entries_in claimed.pages) made.only wrote.fleet claimed.good;
     holds = λ unclaimed. subst (λ n. HoldsNumber n s3.start.tag (entries_in claimed.pages)) number_is (subst (λ t. HoldsNumber s1.node.number t (entries_in claimed.pages)) tag_is claimed.holds);
     numbers = noted_later s0 s1 s2 s3 (entries_in claimed.pages) made.only wrote.numbers claimed.numbers;
+    counted = subst (λ es. CountsEntries (counted_in s0) es (counted_in s3)) (append_assoc (own_entries s0.alone (Wrote claimed.place ∷ [])) (entries_in claimed.pages) (own_entries s0.alone wrote.now.wrote))
+        (counted_later s0 s1 s2 s3 (counted_in s0) (own_entries s0.alone (Wrote claimed.place ∷ []) ++ entries_in claimed.pages) wrote.now.wrote same.alone claimed.counted made.only wrote.now.counted);
     merged = claimed.merges;
     raised = claimed.raised;
     made = subst (λ (n : NodeContent). Makes s1.node calls replies n) (sym wrote.node) made.made;

@@ -7,6 +7,7 @@ use Rattle.lw_node.specs.Node.{fresh}
 use Rattle.lw_log.specs.Calls.{LogCall, Calls}
 use Rattle.lw_log.specs.Entries.{EntryContent, IsEntry}
 use Rattle.lw_log.specs.Entries.BodyContent.{Start, Whole}
+use Rattle.lw_member.specs.Counting.{CountsEntries, counted_by}
 use Rattle.lw_member.specs.Member.{MemberContent, IsLedBy}
 use Rattle.lw_member.specs.Reading.{AreReadToTheEnd, entries_in, last_read, AreGood, IsFree, IsMet, AreNoted, MergesEntries}
 
@@ -54,6 +55,7 @@ pub record IsBegun (before : Option (List LogCall)) (moment : Moment) (tag first
   pub number : 1 ≤ new.node.number
   pub first_free : IsFirstFree (λ n. IsMet n (entries_in looked)) first new.node.number
   pub numbers : AreNoted [] (entries_in pages) new.numbers
+  pub counted : CountsEntries (0, 0) (entries_in pages) (counted_by new)
   pub merged : MergesEntries (fresh new.node.number) (entries_in pages) new.node
   pub tag_is : new.tag ≡ tag
   pub floor_is : new.floor ≡ floor_at moment

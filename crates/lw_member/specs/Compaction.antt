@@ -4,6 +4,7 @@ use Rattle.lw_node.specs.Exchange.{IsDeltaSince, known_by}
 use Rattle.lw_log.specs.Calls.{LogCall, Placed, Calls}
 use Rattle.lw_log.specs.Calls.LogCall.{Wrote, Tried, Trimmed}
 use Rattle.lw_log.specs.Entries.BodyContent.{Whole}
+use Rattle.lw_member.specs.Counting.{CountsEntries, counted_by, own_entries}
 use Rattle.lw_member.specs.Member.{MemberContent, IsLedBy}
 use Rattle.lw_member.specs.Own.{IsOwnIn}
 use Rattle.lw_member.specs.Reading.{AreReads, AreReadToTheEnd, entries_in, last_read, AreGood, AreNoted, HoldsNumber, MergesEntries}
@@ -42,6 +43,7 @@ pub record IsCompacted (old new : MemberContent) : Type 0 where
   pub holds : old.claimed ≡ false → HoldsNumber new.node.number new.tag (entries_in pages)
   pub merged : MergesEntries old.node (entries_in pages) new.node
   pub numbers : AreNoted old.numbers (entries_in pages) new.numbers
+  pub counted : CountsEntries (counted_by old) (entries_in pages ++ own_entries old.alone wrote) (counted_by new)
   pub renewed : IsRenewed old pages new wrote
 
 -- ---- also where it fails

@@ -2,6 +2,7 @@ pub mod Member
 pub mod Parts
 pub mod Faults
 pub mod Reading
+pub mod Counting
 pub mod Own
 pub mod Rounds
 pub mod Beginning

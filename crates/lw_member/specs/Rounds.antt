@@ -10,6 +10,7 @@ use Rattle.lw_log.specs.Calls.{LogCall, Placed, Calls}
 use Rattle.lw_log.specs.Calls.LogCall.{Read, Wrote, Tried, Trimmed}
 use Rattle.lw_log.specs.Entries.BodyContent.{Start}
 use Rattle.lw_member.specs.Member.{MemberContent, IsLedBy}
+use Rattle.lw_member.specs.Counting.{CountsEntries, counted_by, own_entries}
 use Rattle.lw_member.specs.Own.{IsOwnIn, IsOwnSince}
 use Rattle.lw_member.specs.Reading.{AreReadToTheEnd, entries_in, last_read, AreGood, HoldsNumber, AreNoted, MergesEntries}
 
@@ -88,6 +89,7 @@ pub record IsRound (old : MemberContent) (calls : List Call) (replies : List Rep
   pub good : AreGood new.fleet (entries_in pages)
   pub holds : old.claimed ≡ false → HoldsNumber new.node.number new.tag (entries_in pages)
   pub numbers : AreNoted old.numbers (entries_in pages) new.numbers
+  pub counted : CountsEntries (counted_by old) (own_entries old.alone claim ++ (entries_in pages ++ own_entries old.alone wrote)) (counted_by new)
   pub merged : MergesEntries old.node (entries_in pages) merged_node
   pub raised : IsRaised claim old.floor merged_node mid
   pub made : Makes mid calls replies new.node

@@ -1,7 +1,10 @@
 //! How much stands in a log.
 
-ghost use Rattle.std.specs.Prelude.{◌↔◌, IsTrue};
+ghost use Rattle.std.specs.Prelude.{◌≡◌, ◌↔◌, IsTrue, min, ◌+◌, ◌-◌, ◌^◌};
+ghost use Rattle.lw_log.specs.Entries.{body_content};
 ghost use Rattle.lw_member.specs.Compaction.{IsLarge};
+ghost use Rattle.lw_member.specs.Counting.{counted_with};
+ghost use Rattle.lw_member.specs.inner.Standing.{counted_of};
 
 use lw_log::{Body, Entry};
 
@@ -22,7 +25,9 @@ pub(crate) struct LogSize {
 
 impl LogSize {
     /// Of an empty log.
-    pub(crate) fn new() -> LogSize {
+    pub(crate) fn new() -> LogSize
+        ensures { counted_of result ≡ (0, 0) }
+    {
         LogSize {
             whole: 0,
             behind: 0,
@@ -30,7 +35,10 @@ impl LogSize {
     }
 
     /// With one more entry, of so many bytes.
-    pub(crate) fn with(self, entry: &Entry<'_>, length: usize) -> LogSize {
+    pub(crate) fn with_entry(self, entry: &Entry<'_>, length: usize) -> LogSize
+        ensures { counted_of result
+            ≡ counted_with (body_content entry.now.body) length (counted_of self) }
+    {
         match entry.body {
             Body::Whole { .. } => LogSize::of_whole(length),
             _ => self.with_length(length),
@@ -38,7 +46,9 @@ impl LogSize {
     }
 
     /// With a whole entry of so many bytes.
-    pub(crate) fn of_whole(length: usize) -> LogSize {
+    pub(crate) fn of_whole(length: usize) -> LogSize
+        ensures { counted_of result ≡ (length, 0) }
+    {
         LogSize {
             whole: length as u64,
             behind: 0,
@@ -46,7 +56,9 @@ impl LogSize {
     }
 
     /// With one more entry that is not whole.
-    pub(crate) fn with_length(self, length: usize) -> LogSize {
+    pub(crate) fn with_length(self, length: usize) -> LogSize
+        ensures { counted_of result ≡ (self.whole, min (self.behind + length) (2 ^ 64 - 1)) }
+    {
         LogSize {
             behind: self.behind.saturating_add(length as u64),
             ..self

@@ -7,12 +7,14 @@ ghost use Rattle.lw_node.specs.Exchange.{Merged};
 ghost use Rattle.lw_table.specs.Changes.{LAST};
 ghost use Rattle.lw_log.specs.Calls.{LogCall, placed, place, place_of};
 ghost use Rattle.lw_log.specs.Entries.{BringsDelta, FitsBody, body_content};
+ghost use Rattle.lw_log.specs.Entries.BodyContent.{Start as StartContent};
 ghost use Rattle.lw_member.specs.Reading.{TellsOf, bytes_of, place_read};
 ghost use Rattle.lw_member.specs.Rounds.{Makes};
 ghost use Rattle.lw_member.specs.inner.Seeing.{IsSeenBy, AreSeenBy};
 ghost use Rattle.lw_member.specs.inner.Going.{Goes};
+ghost use Rattle.lw_member.specs.Counting.{counted_with};
 ghost use Rattle.lw_member.specs.Parts.{fleet_of, IsLeading, IsMember};
-ghost use Rattle.lw_member.specs.inner.Standing.{IsNew, HasSameStart, IsStill};
+ghost use Rattle.lw_member.specs.inner.Standing.{IsNew, HasSameStart, IsStill, counted_in, counted_of};
 ghost use Rattle.lw_member.specs.inner.Taking.{Takes, IsJudged, IsJudgedEntry, IsJudgedPage, IsSpelt, IsEntryOf};
 
 use crate::MemberFault;
@@ -115,7 +117,7 @@ impl Standing {
             Err(fault) => return pass_over(fault),
         };
         self.numbers.note(&entry);
-        self.size = self.size.with(&entry, bytes.len());
+        self.size = self.size.with_entry(&entry, bytes.len());
         match entry.body {
             Body::Start => {
                 self.hear_start(entry.fleet);
@@ -147,6 +149,7 @@ impl Standing {
         ensures written { self.old.led ≡ false → self.new.written ≡ self.old.written }
         ensures read_to { self.new.read_to ≡ self.old.read_to }
         ensures numbers { self.new.numbers ≡ self.old.numbers }
+        ensures size { self.new.size ≡ self.old.size }
         ensures same { HasSameStart self.old self.new }
         ensures leading { (asked : Option (List LogCall)) (bytes : List ℕ)
             → ((d : DeltaContent) → IsSpelling delta.now d → BringsDelta bytes d) → IsSeenBy asked bytes
@@ -249,6 +252,8 @@ impl Standing {
         } }
         ensures read_to { place_of self.new.read_to
             ≡ cond self.old.alone (Some (place position)) (place_of self.old.read_to) }
+        ensures counted { counted_in self.new
+            ≡ cond self.old.alone (counted_with StartContent length (counted_in self.old)) (counted_in self.old) }
     {
         self.follow(position, self.size.with_length(length));
     }
@@ -262,6 +267,7 @@ impl Standing {
         } }
         ensures read_to { place_of self.new.read_to
             ≡ cond self.old.alone (Some (place position)) (place_of self.old.read_to) }
+        ensures counted { counted_in self.new ≡ cond self.old.alone (length, 0) (counted_in self.old) }
     {
         self.follow(position, LogSize::of_whole(length));
     }
@@ -275,6 +281,8 @@ impl Standing {
         } }
         ensures read_to { place_of self.new.read_to
             ≡ cond self.old.alone (Some (place position)) (place_of self.old.read_to) }
+        ensures counted { counted_in self.new
+            ≡ cond self.old.alone (counted_of size) (counted_in self.old) }
     {
         self.sequence = self.sequence.saturating_add(1);
         if self.alone {
@@ -293,6 +301,8 @@ impl Standing {
         } }
         ensures read_to { place_of self.new.read_to
             ≡ cond self.old.alone (Some (place position)) (place_of self.old.read_to) }
+        ensures counted { counted_in self.new
+            ≡ cond self.old.alone (counted_with StartContent length (counted_in self.old)) (counted_in self.old) }
     {
         self.appended(position, length);
         if self.alone {

@@ -4,9 +4,17 @@ use Rattle.lw_table.specs.Changes.{LAST}
 use Rattle.lw_node.specs.Node.{NodeContent, fresh}
 use Rattle.lw_log.specs.Calls.{place_of}
 use Rattle.lw_log.specs.declared.start.Start.{Start}
+use Rattle.lw_member.specs.declared.size.LogSize.{LogSize}
 use Rattle.lw_member.specs.declared.standing.Standing.{Standing}
 use Rattle.lw_member.specs.Reading.{HasBit}
 use Rattle.lw_member.specs.Parts.{numbers_of}
+
+-- the bytes that were counted
+abbrev pub counted_of : LogSize → ℕ × ℕ
+counted_of size = (size.whole, size.behind)
+
+abbrev pub counted_in : Standing → ℕ × ℕ
+counted_in s = counted_of s.size
 
 -- the start is the same, with what it has claimed
 pub record HasSameStart (old new : Standing) : Type 0 where
@@ -30,3 +38,4 @@ pub record IsNew (s : Standing) (start : Start) (floor : ℕ) : Type 0 where
   pub unread : place_of s.read_to ≡ None
   pub led : s.led ≡ true
   pub numbers : (n : ℕ) → ¬ HasBit (numbers_of s) n
+  pub counted : counted_in s ≡ (0, 0)

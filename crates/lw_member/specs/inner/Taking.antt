@@ -6,7 +6,9 @@ use Rattle.lw_log.specs.Calls.LogCall.{Read, Wrote, Tried, Trimmed}
 use Rattle.lw_log.specs.Entries.{BodyContent, EntryContent, IsEntry, HasDelta, BringsDelta}
 use Rattle.lw_member.specs.declared.standing.Standing.{Standing}
 use Rattle.lw_member.specs.Reading.{MergesEntries, AreGood, AreNoted, IsFree, IsOf, IsTakenFirst, Meets, place_read}
+use Rattle.lw_member.specs.Counting.{CountsEntries}
 use Rattle.lw_member.specs.Parts.{fleet_of, numbers_of}
+use Rattle.lw_member.specs.inner.Standing.{counted_in}
 
 -- no entry brings a delta
 abbrev pub AreBare : List (List ℕ) → Type 0
@@ -22,6 +24,7 @@ pub record Takes (old : Standing) (entries : List (List ℕ)) (new : Standing) :
   pub led : new.led ≡ old.led
   pub written : old.led ≡ false → new.written ≡ old.written
   pub numbers : AreNoted (numbers_of old) entries (numbers_of new)
+  pub counted : CountsEntries (counted_in old) entries (counted_in new)
 
 -- the entry of an option for the number: its own, another's, or none that tells of it
 abbrev pub IsJudgedEntry : ℕ → ℕ → List ℕ → Option Bool → Type 0

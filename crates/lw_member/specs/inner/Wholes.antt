@@ -5,9 +5,11 @@ use Rattle.lw_log.specs.Calls.{LogCall, Placed, Calls, place_of}
 use Rattle.lw_log.specs.Calls.LogCall.{Wrote, Tried}
 use Rattle.lw_log.specs.Entries.BodyContent.{Whole}
 use Rattle.lw_member.specs.declared.standing.Standing.{Standing}
+use Rattle.lw_member.specs.Counting.{CountsEntries, own_entries}
 use Rattle.lw_member.specs.Parts.{numbers_of}
 use Rattle.lw_member.specs.Rounds.{place_after}
 use Rattle.lw_member.specs.inner.Taking.{IsEntryOf}
+use Rattle.lw_member.specs.inner.Standing.{counted_in}
 
 -- an entry of the member's, in the fleet, with all that the node knows
 pub record IsWholeOf (s : Standing) (fleet : List ℕ) (bytes : List ℕ) : Type 0 where
@@ -22,6 +24,7 @@ pub record IsWrittenWhole (before : Option (List LogCall)) (old : Standing) (fle
   pub whole : IsWholeOf old fleet place.1
   pub led : new.led ≡ true
   pub read_to : place_of new.read_to ≡ place_after old.alone (place_of old.read_to) (Wrote place ∷ [])
+  pub counted : CountsEntries (counted_in old) (own_entries old.alone (Wrote place ∷ [])) (counted_in new)
 
 -- it was appended, or tried, or nothing was asked
 abbrev pub IsTryingWhole : Standing → List ℕ → List LogCall → Type 0

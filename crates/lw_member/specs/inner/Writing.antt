@@ -1,5 +1,5 @@
 -- What is appended to a log, and what a member is then.
-use Rattle.std.specs.Prelude.{◌≡◌, ◌↔◌, ℕ, ◌⊎◌, List, [], ◌∷◌, Option, IsTrue, true, false}
+use Rattle.std.specs.Prelude.{◌≡◌, ◌↔◌, ℕ, ◌⊎◌, List, [], ◌∷◌, ◌++◌, Option, IsTrue, true, false}
 use Rattle.lw_log.specs.Calls.{LogCall, Placed, Calls, place_of}
 use Rattle.lw_log.specs.Calls.LogCall.{Read, Wrote, Tried, Trimmed}
 use Rattle.lw_log.specs.Entries.{EntryContent, IsEntry}
@@ -11,9 +11,10 @@ use Rattle.lw_member.specs.declared.standing.Standing.{Standing}
 use Rattle.lw_member.specs.Own.{AreOwnCalls, IsOwnIn, IsOwnSince}
 use Rattle.lw_member.specs.Reading.{AreReadToTheEnd, entries_in, last_read, AreGood, AreNoted, HoldsNumber, MergesEntries}
 use Rattle.lw_member.specs.Rounds.{Makes, place_after}
+use Rattle.lw_member.specs.Counting.{CountsEntries, own_entries}
 use Rattle.lw_member.specs.Parts.{content_of, fleet_of, numbers_of, IsMember}
 use Rattle.lw_member.specs.inner.Going.{Goes}
-use Rattle.lw_member.specs.inner.Standing.{HasSameStart, IsStill}
+use Rattle.lw_member.specs.inner.Standing.{HasSameStart, IsStill, counted_in}
 use Rattle.lw_member.specs.inner.Taking.{IsEntryOf}
 
 -- all that was appended, or tried, is the member's own
@@ -46,6 +47,7 @@ pub record IsStarted (before : Option (List LogCall)) (old : Standing) (fleet : 
   pub entry : IsEntryOf old fleet Start place.1
   pub only : new ≡ record old { sequence = new.sequence; read_to = new.read_to; size = new.size; fleet = new.fleet }
   pub read_to : place_of new.read_to ≡ place_after old.alone (place_of old.read_to) (Wrote place ∷ [])
+  pub counted : CountsEntries (counted_in old) (own_entries old.alone (Wrote place ∷ [])) (counted_in new)
 
 -- nothing was to be written, or one entry was
 pub record IsWritingNow (before : Option (List LogCall)) (old : Standing) (after : Option (List LogCall)) (new : Standing) : Type 0 where
@@ -54,6 +56,7 @@ pub record IsWritingNow (before : Option (List LogCall)) (old : Standing) (after
   pub one : ((old.led ≡ true) × (wrote ≡ [])) ⊎ ((old.led ≡ false) × (p : Placed) × (wrote ≡ Wrote p ∷ []) × IsOwnSince (content_of after new) old.written p.1)
   pub led : new.led ≡ true
   pub read_to : place_of new.read_to ≡ place_after old.alone (place_of old.read_to) wrote
+  pub counted : CountsEntries (counted_in old) (own_entries old.alone wrote) (counted_in new)
 
 -- the number is claimed, the log is read to its end, and the clock is raised
 pub record IsClaimed (before : Option (List LogCall)) (old : Standing) (after : Option (List LogCall)) (new : Standing) : Type 0 where
@@ -68,6 +71,7 @@ pub record IsClaimed (before : Option (List LogCall)) (old : Standing) (after : 
   pub holds : HoldsNumber new.node.number new.start.tag (entries_in pages)
   pub merges : MergesEntries old.node (entries_in pages) merged.node
   pub numbers : AreNoted (numbers_of old) (entries_in pages) (numbers_of new)
+  pub counted : CountsEntries (counted_in old) (own_entries old.alone (Wrote place ∷ []) ++ entries_in pages) (counted_in new)
   pub led : merged.led ≡ old.led
   pub written : old.led ≡ false → merged.written ≡ old.written
   pub up_to : old.led ≡ true → merged.written ≡ merged.node.table.count.change

@@ -1,4 +1,4 @@
-use Rattle.std.proofs.Common.{Some, true, cond, ap, ◌∙◌, sym, refl, subst}
+use Rattle.std.proofs.Common.{Some, length, true, cond, ap, ◌∙◌, sym, refl, subst}
 use Rattle.lw_delta.specs.Delta.{IsSpelling}
 use Rattle.lw_node.specs.Exchange.{IsDeltaSince}
 use Rattle.lw_node.specs.Node.{NodeContent}
@@ -7,7 +7,9 @@ use Rattle.lw_log.specs.Entries.BodyContent.{Whole}
 use Rattle.lw_member.specs.inner.Taking.{IsEntryOf}
 use Rattle.lw_member.specs.Parts.{numbers_of}
 use Rattle.lw_member.specs.declared.standing.Standing.{Standing}
+use Rattle.lw_member.specs.inner.Standing.{counted_in}
 use Rattle.lw_member.proofs.Catching.{member_failed}
+use Rattle.lw_member.proofs.Counting.{counts_own}
 use Rattle.lw_member.proofs.Owning.{append_whole, member_whole}
 use Rattle.lw_member.proofs.compaction.write_whole.Goals as goal
 
@@ -47,6 +49,9 @@ returns-clause-written g c =
       whole = record { delta = c.deref.result.now; is = is; entry = e };
       led = refl;
       read_to = c.appended_whole.ensures.read_to ∙ ap (λ (x : Standing). cond x.alone (Some (place c.in_ok-position.position)) (place_of x.read_to)) c.in_ok-position.ensures.done;
+      counted = counts_own s0.alone (counted_in s0) (counted_in c.appended_whole.new.self) c.deref-2.result.now e.entry (Whole (numbers_of s0) c.deref.result.now) c.len.result e.is e.body_is
+          (c.len.ensures ∙ c.in_ok-entry.entry.ok.0 ∙ ap length (sym c.deref-2.ensures.value))
+          (c.appended_whole.ensures.counted ∙ ap (λ (x : Standing). cond x.alone (c.len.result, 0) (counted_in x)) c.in_ok-position.ensures.done);
     }
 
 pub returns-clause-member : goal.returns-clause-member

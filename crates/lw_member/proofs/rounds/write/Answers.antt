@@ -1,16 +1,19 @@
-use Rattle.std.proofs.Common.{◌∷◌, [], Option, Some, true, cond, ap, ◌∙◌, sym, inr, refl, subst}
+use Rattle.std.proofs.Common.{◌∷◌, [], length, Option, Some, true, cond, ap, ◌∙◌, sym, inr, refl, subst}
 use Rattle.std.specs.Prelude.{option_map}
 use Rattle.lw_delta.specs.Delta.{IsSpelling}
 use Rattle.lw_node.specs.Exchange.{IsDeltaSince}
 use Rattle.lw_node.specs.Node.{NodeContent}
 use Rattle.lw_log.specs.Calls.{place, place_of}
 use Rattle.lw_log.specs.Calls.LogCall.{Wrote}
-use Rattle.lw_log.specs.Entries.BodyContent.{Delta}
+use Rattle.lw_log.specs.Entries.BodyContent.{Start, Delta}
+use Rattle.lw_member.specs.Counting.{counted_with}
 use Rattle.lw_member.specs.Parts.{content_of}
 use Rattle.lw_member.specs.inner.Taking.{IsEntryOf}
 use Rattle.lw_log.specs.declared.entry.FleetId.{FleetId}
 use Rattle.lw_member.specs.declared.standing.Standing.{Standing}
+use Rattle.lw_member.specs.inner.Standing.{counted_in}
 use Rattle.lw_member.proofs.Catching.{member_failed}
+use Rattle.lw_member.proofs.Counting.{counts_own}
 use Rattle.lw_member.proofs.Owning.{append_own, own_since, member_written}
 use Rattle.lw_member.proofs.rounds.write.Goals as goal
 
@@ -62,6 +65,9 @@ returns-clause-written g c = λ m.
       one = inr (c.if-standing.false, (place c.in_ok-position.position, c.deref-2.result.now), refl, own_since _ s0 s _ _ _ s0.written node start fleet is e m.number);
       led = refl;
       read_to = c.appended.ensures.read_to ∙ ap (λ (x : Standing). cond x.alone (Some (place c.in_ok-position.position)) (place_of x.read_to)) done;
+      counted = counts_own s0.alone (counted_in s0) (counted_in s) c.deref-2.result.now e.entry (Delta c.deref.result.now) c.len.result e.is e.body_is
+          (c.len.ensures ∙ c.in_ok-entry.entry.ok.0 ∙ ap length (sym c.deref-2.ensures.value))
+          (c.appended.ensures.counted ∙ ap (λ (x : Standing). cond x.alone (counted_with Start c.len.result (counted_in x)) (counted_in x)) done);
     }
 
 pub returns-clause-member : goal.returns-clause-member

@@ -1,7 +1,11 @@
-use Rattle.std.proofs.Common.{ap, ◌∙◌, sym, subst}
+use Rattle.std.proofs.Common.{length, Some, cond, ap, ◌∙◌, sym, subst}
+use Rattle.lw_log.specs.Calls.{place, place_of}
 use Rattle.lw_log.specs.Entries.BodyContent.{Start}
 use Rattle.lw_member.specs.inner.Taking.{IsEntryOf}
 use Rattle.lw_member.specs.declared.standing.Standing.{Standing}
+use Rattle.lw_member.specs.Counting.{counted_with}
+use Rattle.lw_member.specs.inner.Standing.{counted_in}
+use Rattle.lw_member.proofs.Counting.{counts_own}
 use Rattle.lw_member.proofs.Catching.{member_failed, member_more, member_parts}
 use Rattle.lw_member.proofs.Owning.{append_claims, start_of}
 use Rattle.lw_member.proofs.rounds.write_start.Goals as goal
@@ -14,6 +18,24 @@ returns-in_err-position-clause-own g c = (_, c.append.ensures.asked, append_clai
 
 pub returns-clause-own : goal.returns-clause-own
 returns-clause-own g c = (_, c.append.ensures.asked, append_claims _ _ _ _ (start_of _ _ _ (subst (λ b. IsEntryOf c.args.standing.now c.match-standing.fleet.bytes Start b) (sym c.deref.ensures.value) c.in_ok-entry.ensures)))
+
+pub returns-clause-started : goal.returns-clause-started
+returns-clause-started g c =
+    let s0 = c.args.standing.now in
+    let s = c.started.new.self in
+    let only = c.started.ensures.only in
+    let done = c.in_ok-position.ensures.done in
+    let e = subst (λ b. IsEntryOf s0 c.match-standing.fleet.bytes Start b) (sym c.deref.ensures.value) c.in_ok-entry.ensures in
+    record {
+      place = (place c.in_ok-position.position, c.deref.result.now);
+      asked = c.in_ok-position.ensures.asked;
+      entry = e;
+      only = only ∙ ap (λ (x : Standing). record x { sequence = s.sequence; read_to = s.read_to; size = s.size; fleet = s.fleet }) done;
+      read_to = c.started.ensures.read_to ∙ ap (λ (x : Standing). cond x.alone (Some (place c.in_ok-position.position)) (place_of x.read_to)) done;
+      counted = counts_own s0.alone (counted_in s0) (counted_in s) c.deref.result.now e.entry Start c.len.result e.is e.body_is
+          (c.len.ensures ∙ c.in_ok-entry.entry.ok.0 ∙ ap length (sym c.deref.ensures.value))
+          (c.started.ensures.counted ∙ ap (λ (x : Standing). cond x.alone (counted_with Start c.len.result (counted_in x)) (counted_in x)) done);
+    }
 
 pub returns-clause-member : goal.returns-clause-member
 returns-clause-member g c = λ m.

@@ -1,10 +1,12 @@
-use Rattle.std.proofs.Common.{◌≡◌, ◌≤◌, false, sym, ap, ◌∙◌, subst}
+use Rattle.std.proofs.Common.{◌≡◌, ℕ, ◌≤◌, false, sym, ap, ◌∙◌, subst}
 use Rattle.lw_node.specs.Node.{NodeContent, fresh}
 use Rattle.lw_log.specs.declared.start.Start.{Start}
 use Rattle.lw_member.specs.Reading.{AreReadToTheEnd, last_read, IsFree, IsMet, MergesEntries, entries_in}
 use Rattle.lw_member.specs.Beginning.{IsFirstFree}
+use Rattle.lw_member.specs.Counting.{CountsEntries}
 use Rattle.lw_member.specs.Parts.{numbers_of}
 use Rattle.lw_member.specs.inner.Taking.{IsJudged}
+use Rattle.lw_member.specs.inner.Standing.{counted_in}
 use Rattle.lw_member.proofs.Asking.{calls_then}
 use Rattle.lw_member.proofs.Numbering.{first_free_met, noted_new}
 use Rattle.lw_member.proofs.member.Member.begin.Goals as goal
@@ -39,6 +41,7 @@ returns g c =
       first_free = subst (λ n. IsFirstFree (λ m. IsMet m (entries_in found.0)) c.args.chance.now.number n) (ap (λ (x : Start). x.number) (sym start) ∙ number)
           (first_free_met c.in_ok-found.found.numbers.bytes.value (entries_in found.0) c.args.chance.now.number c.in-Some.number found.4 c.in-Some.ensures.found);
       numbers = noted_new (numbers_of s) (numbers_of s1) (entries_in read.0) new.numbers read.3.numbers;
+      counted = subst (λ (n : ℕ × ℕ). CountsEntries n (entries_in read.0) (counted_in s1)) new.counted read.3.counted;
       merged = subst (λ (n : NodeContent). MergesEntries n (entries_in read.0) s1.node) (new.node ∙ ap fresh (ap (λ (x : Start). x.number) (sym start) ∙ number)) read.3.merged;
       tag_is = ap (λ (x : Start). x.tag) (same.start ∙ start);
       floor_is = same.floor ∙ new.floor_is ∙ c.floor_at.ensures;

@@ -1,9 +1,10 @@
-use Rattle.std.proofs.Common.{◌≡◌, ◌↔◌, ◌⊎◌, List, ℕ, refl, sym, ap, ◌∙◌, subst}
+use Rattle.std.proofs.Common.{◌≡◌, ◌↔◌, ◌⊎◌, inl, inr, List, ℕ, refl, sym, ap, ◌∙◌, subst}
 use Rattle.lw_log.specs.Entries.{HasDelta, body_content, content_of}
 use Rattle.lw_member.specs.declared.standing.Standing.{Standing}
 use Rattle.lw_member.specs.declared.numbers.Numbers.{Numbers}
 use Rattle.lw_member.specs.Parts.{numbers_of}
 use Rattle.lw_member.specs.Reading.{HasBit, TellsOf}
+use Rattle.lw_member.specs.inner.Standing.{counted_in, counted_of}
 use Rattle.lw_member.proofs.Numbering.{noted_entry, noted_no_entry}
 use Rattle.lw_member.proofs.Merging.{takes_nothing, takes_delta, brings_none, brings_no_entry, on_ok, on_ok_four, same_none}
 use Rattle.lw_member.proofs.standing.Standing.take.Goals as goal
@@ -14,7 +15,8 @@ returns-in-Err c = record {
       takes_nothing c.args.self.now c.args.self.now c.args.bytes.now
       (λ newer. let bad = c.in-Err.ensures.newer.1 newer in known cc)
       (brings_no_entry c.args.bytes.now (λ x is. c.in-Err.ensures.only x is)) refl (λ h. (h, refl)) refl refl
-      (noted_no_entry (numbers_of c.args.self.now) c.args.bytes.now (λ x is. c.in-Err.ensures.only x is)));
+      (noted_no_entry (numbers_of c.args.self.now) c.args.bytes.now (λ x is. c.in-Err.ensures.only x is))
+      (inr (λ x is. c.in-Err.ensures.only x is, refl)));
   read_to = refl;
   same = same_none c.args.self.now;
   leading = λ asked seen leading. leading;
@@ -34,6 +36,7 @@ returns-in-Start-clause-taken c =
     (noted_entry (numbers_of old) (numbers_of new) c.args.bytes.now (content_of c.in-Ok.entry) c.in-Ok.ensures.found (λ x is. c.in-Ok.ensures.only x is)
     (λ n. subst (λ (xs : List ℕ). HasBit xs n ↔ (HasBit (numbers_of old) n ⊎ ((c.in-Ok.entry.start.number ≡ n) ⊎ TellsOf n (body_content c.in-Ok.entry.body))))
     (sym (ap numbers_of c.hear_start.ensures.only)) (c.note.ensures n)))
+    (inl (content_of c.in-Ok.entry, c.in-Ok.ensures.found, ap counted_in c.hear_start.ensures.only ∙ c.with_entry-self.ensures))
 
 pub returns-in-Delta-clause-taken : goal.returns-in-Delta-clause-taken
 returns-in-Delta-clause-taken c =
@@ -45,7 +48,8 @@ returns-in-Delta-clause-taken c =
     on_ok_four c.merge.result c.merge.ensures.merged c.merge.ensures.fleet c.merge.ensures.settled c.merge.ensures.led
     (λ merged fleet settled led. takes_delta c.args.self.now c.merge.new.self bytes e delta d.0 c.in-Ok.ensures.found (λ x is. c.in-Ok.ensures.only x is) has d.1 (λ newer. let bad = c.in-Ok.ensures.newer.1 newer in cc) (merged d.0 d.1) fleet.0 fleet.1 settled led c.merge.ensures.written
     (λ n. subst (λ (x : Numbers). HasBit x.bytes.value n ↔ (HasBit (numbers_of c.args.self.now) n ⊎ ((e.number ≡ n) ⊎ TellsOf n e.body)))
-    (sym c.merge.ensures.numbers) (c.note.ensures n)))
+    (sym c.merge.ensures.numbers) (c.note.ensures n))
+    (ap counted_of c.merge.ensures.size ∙ c.with_entry-self.ensures))
 
 pub returns-in-Delta-clause-leading : goal.returns-in-Delta-clause-leading
 returns-in-Delta-clause-leading c = λ asked seen leading.
@@ -64,7 +68,8 @@ returns-in-Whole-clause-taken c =
     on_ok_four c.merge-in-Whole.result c.merge-in-Whole.ensures.merged c.merge-in-Whole.ensures.fleet c.merge-in-Whole.ensures.settled c.merge-in-Whole.ensures.led
     (λ merged fleet settled led. takes_delta c.args.self.now c.merge-in-Whole.new.self bytes e delta d.0 c.in-Ok.ensures.found (λ x is. c.in-Ok.ensures.only x is) has d.1 (λ newer. let bad = c.in-Ok.ensures.newer.1 newer in cc) (merged d.0 d.1) fleet.0 fleet.1 settled led c.merge-in-Whole.ensures.written
     (λ n. subst (λ (x : Numbers). HasBit x.bytes.value n ↔ (HasBit (numbers_of c.args.self.now) n ⊎ ((e.number ≡ n) ⊎ TellsOf n e.body)))
-    (sym c.merge-in-Whole.ensures.numbers) (c.note.ensures n)))
+    (sym c.merge-in-Whole.ensures.numbers) (c.note.ensures n))
+    (ap counted_of c.merge-in-Whole.ensures.size ∙ c.with_entry-self.ensures))
 
 pub returns-in-Whole-clause-leading : goal.returns-in-Whole-clause-leading
 returns-in-Whole-clause-leading c = λ asked seen leading.
