@@ -86,23 +86,77 @@ fn what_was_read_goes_once_all_is_written(rt: HostRuntime) -> Result<(), Fail> {
     holds("the whole one", left.0 == at(3))
 }
 
+/// A member over the log registers and observes `a`, and compacts.
+fn compacts_alone(alloc: Global, log: Shared<'_>) -> Result<(), Fail> {
+    let mut member = serves(alloc, log)?;
+    is_observed(alloc, &mut member)?;
+    member.compact()?;
+    holds("nothing is unwritten", member.node().is_some())
+}
+
+/// Fails where the second start does not know what the first has compacted.
+fn is_second(alloc: Global, next: &mut Member<Shared<'_>>) -> Result<(), Fail> {
+    holds("another number", next.start().number == 2)?;
+    holds("the fleet of the log", next.fleet() == Some(FLEET))?;
+    is_told(alloc, next)?;
+    answers(alloc, next, UPDATE, CHANGED)
+}
+
 /// Tries: lw_member::Member::compact, lw_member::Member::begin
 #[test]
 fn what_was_compacted_the_next_start_knows(rt: HostRuntime) -> Result<(), Fail> {
     for alone in [false, true] {
         let entries = entries_of(rt.alloc(), &[])?;
-        let mut member = serves(rt.alloc(), Shared::new(rt.alloc(), &entries, alone))?;
-        is_observed(rt.alloc(), &mut member)?;
-        member.compact()?;
+        compacts_alone(rt.alloc(), Shared::new(rt.alloc(), &entries, alone))?;
         has_count(&entries, 1)?;
-        holds("nothing is unwritten", member.node().is_some())?;
         let mut next = begin(rt.alloc(), &entries, &LATER_CHANCE)?;
-        holds("another number", next.start().number == 2)?;
-        holds("the fleet of the log", next.fleet() == Some(FLEET))?;
-        is_told(rt.alloc(), &mut next)?;
-        answers(rt.alloc(), &mut next, UPDATE, CHANGED)?;
+        is_second(rt.alloc(), &mut next)?;
     }
     Ok(())
+}
+
+/// Fails where the member does not know one of the registrations.
+fn knows_each(
+    alloc: Global,
+    member: &mut Member<Shared<'_>>,
+    ids: &[&[u8; 16]],
+) -> Result<(), Fail> {
+    for &id in ids {
+        knows(alloc, member, id)?;
+    }
+    Ok(())
+}
+
+/// Fails where a start that reads the entries does not know one of the registrations.
+fn next_knows(
+    alloc: Global,
+    entries: &Entries,
+    chance: &Chance,
+    ids: &[&[u8; 16]],
+) -> Result<(), Fail> {
+    let mut next = begin(alloc, entries, chance)?;
+    knows_each(alloc, &mut next, ids)
+}
+
+/// The registrations of the first with counters 1 and 2.
+const ITS_IDS: [&[u8; 16]; 2] = [FIRST_ID, b"0000000000020001"];
+
+/// Registers `b` between two compactions. Who was idle meanwhile knows it, and so does a later start.
+fn is_kept_behind(
+    alloc: Global,
+    entries: &Entries,
+    idle: &mut Member<Shared<'_>>,
+    member: &mut Member<Shared<'_>>,
+) -> Result<(), Fail> {
+    member.compact()?;
+    answers(alloc, member, REGISTER_B, CREATED_B)?;
+    has_count(entries, 2)?;
+    rest(idle)?;
+    member.compact()?;
+    has_count(entries, 1)?;
+    next_knows(alloc, entries, &FAR_CHANCE, &ITS_IDS)?;
+    knows_each(alloc, idle, &ITS_IDS)?;
+    answers(alloc, member, UPDATE, CHANGED)
 }
 
 /// What comes behind a whole entry is known to those that have read it, to one that had read little before, and to a later
@@ -114,45 +168,74 @@ fn what_comes_behind_a_whole_entry_is_kept(rt: HostRuntime) -> Result<(), Fail> 
         let entries = entries_of(rt.alloc(), &[])?;
         let mut idle = begin(rt.alloc(), &entries, &SECOND_CHANCE)?;
         let mut member = serves(rt.alloc(), Shared::new(rt.alloc(), &entries, alone))?;
-        member.compact()?;
-        answers(rt.alloc(), &mut member, REGISTER_B, CREATED_B)?;
-        has_count(&entries, 2)?;
-        rest(&mut idle)?;
-        member.compact()?;
-        has_count(&entries, 1)?;
-        let mut next = begin(rt.alloc(), &entries, &FAR_CHANCE)?;
-        for id in [FIRST_ID, b"0000000000020001"] {
-            knows(rt.alloc(), &mut next, id)?;
-            knows(rt.alloc(), &mut idle, id)?;
-        }
-        answers(rt.alloc(), &mut member, UPDATE, CHANGED)?;
+        is_kept_behind(rt.alloc(), &entries, &mut idle, &mut member)?;
     }
     Ok(())
+}
+
+/// The first registrations of two members.
+const IDS_OF_TWO: [&[u8; 16]; 2] = [FIRST_ID, SECOND_ID];
+
+/// Compacts in this order, a digit for a member.
+fn compact_in(
+    order: &str,
+    one: &mut Member<Shared<'_>>,
+    other: &mut Member<Shared<'_>>,
+) -> Result<(), MemberFault> {
+    for digit in order.bytes() {
+        match digit {
+            b'1' => one.compact()?,
+            _ => other.compact()?,
+        }
+    }
+    Ok(())
+}
+
+/// Fails where one of the members, or a later start, does not know what both have registered.
+fn all_know(
+    alloc: Global,
+    entries: &Entries,
+    one: &mut Member<Shared<'_>>,
+    other: &mut Member<Shared<'_>>,
+) -> Result<(), Fail> {
+    next_knows(alloc, entries, &FAR_CHANCE, &IDS_OF_TWO)?;
+    knows_each(alloc, one, &IDS_OF_TWO)?;
+    knows_each(alloc, other, &IDS_OF_TWO)
+}
+
+/// Fails where two members that compact in this order leave more than one entry, or lose something.
+fn two_compact_in(alloc: Global, order: &str) -> Result<(), Fail> {
+    let entries = entries_of(alloc, &[])?;
+    let mut one = serves(alloc, Shared::new(alloc, &entries, false))?;
+    let mut other = begin(alloc, &entries, &SECOND_CHANCE)?;
+    answers(alloc, &mut other, REGISTER_B, CREATED_AT_SECOND)?;
+    compact_in(order, &mut one, &mut other)?;
+    has_count(&entries, 1)?;
+    all_know(alloc, &entries, &mut one, &mut other)
 }
 
 /// Tries: lw_member::Member::compact, lw_member::Member::round
 #[test]
 fn two_members_compact_in_any_order(rt: HostRuntime) -> Result<(), Fail> {
     for order in ["12", "21", "112", "221", "1212"] {
-        let entries = entries_of(rt.alloc(), &[])?;
-        let mut one = serves(rt.alloc(), Shared::new(rt.alloc(), &entries, false))?;
-        let mut other = begin(rt.alloc(), &entries, &SECOND_CHANCE)?;
-        answers(rt.alloc(), &mut other, REGISTER_B, CREATED_AT_SECOND)?;
-        for digit in order.bytes() {
-            match digit {
-                b'1' => one.compact()?,
-                _ => other.compact()?,
-            }
-        }
-        has_count(&entries, 1)?;
-        let mut next = begin(rt.alloc(), &entries, &FAR_CHANCE)?;
-        for id in [FIRST_ID, SECOND_ID] {
-            knows(rt.alloc(), &mut one, id)?;
-            knows(rt.alloc(), &mut other, id)?;
-            knows(rt.alloc(), &mut next, id)?;
-        }
+        two_compact_in(rt.alloc(), order)?;
     }
     Ok(())
+}
+
+/// The second member writes before the next append of this one.
+fn second_comes_between(alloc: Global, member: &Member<Shared<'_>>) -> Result<(), Fail> {
+    for text in [SECOND_START, SECOND_DELTA] {
+        member.log().come_between(hex::decode(alloc, text)?)?;
+    }
+    Ok(())
+}
+
+/// Fails where a start that reads the entries has another number than 3, or does not know both registrations.
+fn is_third(alloc: Global, entries: &Entries) -> Result<(), Fail> {
+    let mut next = begin(alloc, entries, &LATER_CHANCE)?;
+    holds("both numbers had a start", next.start().number == 3)?;
+    knows_each(alloc, &mut next, &IDS_OF_TWO)
 }
 
 /// Another member writes after the compacting one has read, and before its entry is there.
@@ -161,20 +244,12 @@ fn two_members_compact_in_any_order(rt: HostRuntime) -> Result<(), Fail> {
 fn what_comes_between_the_reading_and_the_entry_is_kept(rt: HostRuntime) -> Result<(), Fail> {
     let entries = entries_of(rt.alloc(), &[])?;
     let mut member = serves(rt.alloc(), Shared::new(rt.alloc(), &entries, false))?;
-    for text in [SECOND_START, SECOND_DELTA] {
-        let entry = hex::decode(rt.alloc(), text)?;
-        member.log().come_between(entry)?;
-    }
+    second_comes_between(rt.alloc(), &member)?;
     member.compact()?;
     has_first(rt.alloc(), &entries, &[SECOND_START, SECOND_DELTA])?;
     has_count(&entries, 3)?;
-    let mut next = begin(rt.alloc(), &entries, &LATER_CHANCE)?;
-    holds("both numbers had a start", next.start().number == 3)?;
-    for id in [FIRST_ID, SECOND_ID] {
-        knows(rt.alloc(), &mut member, id)?;
-        knows(rt.alloc(), &mut next, id)?;
-    }
-    Ok(())
+    is_third(rt.alloc(), &entries)?;
+    knows_each(rt.alloc(), &mut member, &IDS_OF_TWO)
 }
 
 /// Fails where the first entries are others than the texts spell in hex.
@@ -189,7 +264,6 @@ fn has_first(alloc: Global, entries: &Entries, want: &[&str]) -> Result<(), Fail
     Ok(())
 }
 
-/// Nothing is written where there is no entry, or nothing that is one.
 /// Tries: lw_member::Member::compact
 #[test]
 fn an_empty_log_is_left_so(rt: HostRuntime) -> Result<(), Fail> {
@@ -200,7 +274,12 @@ fn an_empty_log_is_left_so(rt: HostRuntime) -> Result<(), Fail> {
     let Some([MemoryCall::Read(None, page)]) = member.log().asked().get(before..) else {
         return Err("one reading".into());
     };
-    holds("nothing is there", page.is_empty())?;
+    holds("nothing is there", page.is_empty())
+}
+
+/// Tries: lw_member::Member::compact
+#[test]
+fn bytes_that_are_no_entry_are_left_so(rt: HostRuntime) -> Result<(), Fail> {
     let entries = entries_of(rt.alloc(), &[])?;
     let mut member = begin(rt.alloc(), &entries, &FIRST_CHANCE)?;
     put(&entries, hex::decode(rt.alloc(), "00")?)?;
@@ -233,13 +312,11 @@ fn is_whole_again(
     entries: &Entries,
     member: &mut Member<Shared<'_>>,
 ) -> Result<(), Fail> {
-    let mut next = begin(alloc, entries, &SECOND_CHANCE)?;
-    knows(alloc, &mut next, FIRST_ID)?;
+    next_knows(alloc, entries, &SECOND_CHANCE, &[FIRST_ID])?;
     answers(alloc, member, UPDATE, CHANGED)?;
     member.compact()?;
     has_count(entries, 1)?;
-    let mut last = begin(alloc, entries, &LATER_CHANCE)?;
-    knows(alloc, &mut last, FIRST_ID)
+    next_knows(alloc, entries, &LATER_CHANCE, &[FIRST_ID])
 }
 
 /// Tries: lw_member::Member::compact
@@ -259,17 +336,26 @@ fn where_the_reading_or_the_trim_fails_nothing_goes(rt: HostRuntime) -> Result<(
     is_whole_again(rt.alloc(), &entries, &mut member)
 }
 
+/// The second member registers `b`, and compacts: the entry has both numbers.
+fn second_compacts(
+    alloc: Global,
+    entries: &Entries,
+    second: &mut Member<Shared<'_>>,
+) -> Result<(), Fail> {
+    answers(alloc, second, REGISTER_B, CREATED_AT_SECOND)?;
+    second.compact()?;
+    has_count(entries, 1)?;
+    has_numbers(entries)
+}
+
 /// The numbers of a whole entry: that of the start that wrote it, and that of one whose entries are gone.
 /// Tries: lw_member::Member::compact, lw_member::Member::begin
 #[test]
 fn numbers_stay_taken_where_their_entries_go(rt: HostRuntime) -> Result<(), Fail> {
     let entries = entries_of(rt.alloc(), &[])?;
     let _one = serves(rt.alloc(), Shared::new(rt.alloc(), &entries, false))?;
-    let mut other = begin(rt.alloc(), &entries, &SECOND_CHANCE)?;
-    answers(rt.alloc(), &mut other, REGISTER_B, CREATED_AT_SECOND)?;
-    other.compact()?;
-    has_count(&entries, 1)?;
-    has_numbers(&entries)?;
+    let mut second = begin(rt.alloc(), &entries, &SECOND_CHANCE)?;
+    second_compacts(rt.alloc(), &entries, &mut second)?;
     let next = begin(rt.alloc(), &entries, &LATER_CHANCE)?;
     holds("1 and 2 had a start", next.start().number == 3)
 }
