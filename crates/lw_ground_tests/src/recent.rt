@@ -106,3 +106,25 @@ fn a_refused_add_leaves_the_endpoints(rt: HostRuntime) -> Result<(), Fail> {
     }
     Ok(())
 }
+
+/// Tries: Recent::next_above
+#[test]
+fn the_next_number_is_found_behind_holes(rt: HostRuntime) -> Result<(), Fail> {
+    let mut recent = Recent::new(rt.alloc());
+    holds("none", recent.next_above(0).is_none())?;
+    for (number, endpoint) in [(1, "a"), (2, "b"), (3, "c"), (u64::MAX, "d")] {
+        recent.add(number, endpoint)?;
+    }
+    recent.move_to(2, 5, "b");
+    recent.drop_one(3, "c");
+    for (number, next) in [
+        (0, Some((1, "a"))),
+        (1, Some((5, "b"))),
+        (4, Some((5, "b"))),
+        (5, Some((u64::MAX, "d"))),
+        (u64::MAX, None),
+    ] {
+        holds_for(&number, recent.next_above(number) == next)?;
+    }
+    Ok(())
+}

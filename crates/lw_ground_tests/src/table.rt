@@ -13,6 +13,7 @@ mod copied;
 mod joins;
 mod lifts;
 mod look_ups;
+mod pages;
 mod refused;
 mod since;
 

@@ -4,7 +4,7 @@ ghost use Rattle.std.specs.Prelude.{◌≡◌, ◌≢◌, ◌↔◌, ◌⊎◌, 
 ghost use Rattle.std.specs.List.Sorted.{IsNonDecreasingBy};
 ghost use Rattle.lw_recent.specs.Entries.{pairs_in, number_of, endpoints_in};
 ghost use Rattle.lw_recent.specs.inner.Entries.{shown_at, with_hole, HasHole};
-ghost use Rattle.lw_recent.specs.Recent.{IsUnder, Adds, Drops, AreSince};
+ghost use Rattle.lw_recent.specs.Recent.{IsUnder, Adds, Drops, AreSince, IsNextAbove};
 
 use lw_stamp::NoMemory;
 
@@ -126,4 +126,19 @@ pub(crate) fn entries_above(entries: &[Entry], number: Option<u64>) -> &[Entry]
         None => entries,
         Some(number) => &entries[entries.partition_point(|entry| entry.number <= number)..],
     }
+}
+
+/// The first endpoint under a number above the given one, and its number. Holes in between are passed over.
+pub(crate) fn first_above(entries: &[Entry], number: u64) -> Option<(u64, &str)>
+    requires { IsNonDecreasingBy number_of entries.now }
+    ensures { IsNextAbove number (pairs_in entries.now) (option_map (λ x. (x.0, x.1.now)) result) }
+{
+    let start = entries.partition_point(|entry| entry.number <= number);
+    for place in start..entries.len() {
+        let entry = &entries[place];
+        if let Some(endpoint) = &entry.endpoint {
+            return Some((entry.number, endpoint.as_str()));
+        }
+    }
+    None
 }

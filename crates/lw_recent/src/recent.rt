@@ -1,7 +1,7 @@
-ghost use Rattle.std.specs.Prelude.{◌≡◌, [], OnOk, OnErr};
-ghost use Rattle.lw_recent.specs.Recent.{IsUnder, Adds, Drops, Moves, AreSince};
+ghost use Rattle.std.specs.Prelude.{◌≡◌, [], OnOk, OnErr, option_map};
+ghost use Rattle.lw_recent.specs.Recent.{IsUnder, Adds, Drops, Moves, AreSince, IsNextAbove};
 
-use crate::entry::{Entry, close_up, entries_above, make_room, put, take_out};
+use crate::entry::{Entry, close_up, entries_above, first_above, make_room, put, take_out};
 use crate::since::Since;
 use lw_stamp::NoMemory;
 use std::alloc::Global;
@@ -86,5 +86,12 @@ impl Recent {
         Since {
             entries: entries_above(&self.entries, number),
         }
+    }
+
+    /// The endpoint under the least number above the given one, and that number. Of several under it any may be given.
+    pub fn next_above(&self, number: u64) -> Option<(u64, &str)>
+        ensures { IsNextAbove number self.now (option_map (λ x. (x.0, x.1.now)) result) }
+    {
+        first_above(&self.entries, number)
     }
 }

@@ -79,6 +79,7 @@ absent_is_copied original rows x may absent = elim may [ inl is ↦ is | inr non
 pub same_rows : (m n : Rows) (change : ℕ) → ((e : List ℕ) → row_at n e ≡ row_at m e) → AreRows m change → AreRows n change
 same_rows m n change same rows = record {
   within = λ e k h. rows.within e k (ap number_of (sym (same e)) ∙ h);
+  alone = λ d e k below h j. rows.alone d e k below (ap number_of (sym (same d)) ∙ h) (ap number_of (sym (same e)) ∙ j);
   last = rows.last;
   endpoints = λ e h. rows.endpoints e (subst (λ o. IsSome (slot_of o)) (same e) h);
 }

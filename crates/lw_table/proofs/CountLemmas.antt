@@ -1,5 +1,5 @@
 -- How a count goes on where one slot moves, or none.
-use Rattle.std.proofs.Common.{◌≡◌, inl, inr, ℕ, zero, suc, ◌+◌, ◌≤◌, Bool, true, false, cond, List, [], ◌∷◌, Option, Some, None, refl, sym, ap, ◌∙◌, subst, arith}
+use Rattle.std.proofs.Common.{◌≡◌, inl, inr, ℕ, zero, suc, ◌+◌, ◌<◌, ◌≤◌, Bool, true, false, cond, List, [], ◌∷◌, Option, Some, None, refl, sym, ap, ◌∙◌, subst, arith}
 use Rattle.std.specs.Prelude.{bytes_eq, min, slice_get}
 use Rattle.std.specs.Option.{IsSomeAnd}
 use Rattle.std.specs.Cmp.Lexicographic.{bytes_decides}
@@ -110,8 +110,8 @@ known_state state e0 slot known =
     by_key e false h = alone (get state e)
 
 -- the next number: the last is not gone past
-pub next_after : (change number : ℕ) → number ≡ counted change 1 → change ≤ LAST → (number ≤ number) × (change ≤ number) × (number ≤ LAST)
-next_after change number is last = (omega arith, omega arith, omega arith)
+pub next_after : (change number : ℕ) → number ≡ counted change 1 → change ≤ LAST → (number ≤ number) × (change ≤ number) × (number ≤ LAST) × (number < LAST → change < number)
+next_after change number is last = (omega arith, omega arith, omega arith, λ below. omega arith)
 
 -- one more, which stays at the last
 pub saturated : (change number : ℕ) → number ≡ min (change + 1) LAST → change ≤ LAST → number ≡ counted change 1

@@ -23,7 +23,7 @@ below_at_most : (x y : List ℕ) → text_cmp x y ≡ Less → AtMost text_cmp x
 below_at_most x y h = ap is_gt h
 
 -- the head of texts that rise is below the others
-below_all : (x : List ℕ) (xs : List (List ℕ)) → AllByRecursion (λ k. text_cmp x k ≡ Less) xs → (y : List ℕ) → Contains xs y → text_cmp x y ≡ Less
+pub below_all : (x : List ℕ) (xs : List (List ℕ)) → AllByRecursion (λ k. text_cmp x k ≡ Less) xs → (y : List ℕ) → Contains xs y → text_cmp x y ≡ Less
 below_all x [] h y c = none_there y c
 below_all x (z ∷ zs) h y c = go (below_all x zs h.1 y) (there_or_first z zs y c)
   where

@@ -12,7 +12,9 @@ pub mod TableLemmas
 pub mod FirstLemmas
 pub mod LookUpLemmas
 pub mod Answering
+pub mod PageLemmas
 pub mod LiftLemmas
 pub mod LiftedTable
 pub mod SinceLemmas
+pub mod ChangeLemmas
 pub mod CopyLemmas

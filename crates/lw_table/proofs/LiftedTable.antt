@@ -51,6 +51,7 @@ raised_table filed m rows_m change due is below = record {
   due_below = λ e. subst (OptionHasDue due e) (sym (get-state m rows_m e)) (below e (subst (OptionHasDue filed.due e) (get-state m rows_m e) (is.due_below e)));
   numbered = is.numbered;
   within = is.within;
+  alone = is.alone;
   last = is.last;
   endpoints = is.endpoints;
 }
@@ -159,4 +160,4 @@ module _ (old : Filed) (m n : Rows) (rows_m : IsRows m) (change : ℕ) (was : Is
     pub lifted_table : IsTable old.names old.keys numbers due (table_in n number)
     lifted_table =
         let next = next_after change number is_next was.last in
-        put_table old after m n rows_m lifted.put.rows change e0 others was row number put_at filed next.0 next.1 next.2 named
+        put_table old after m n rows_m lifted.put.rows change e0 others was row number put_at filed next.0 next.1 next.2 next.3 named

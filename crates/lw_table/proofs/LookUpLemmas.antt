@@ -135,11 +135,11 @@ shown_id : (now : ℕ) (e : List ℕ) (o : Option Slot) (r : Registration) → v
 shown_id now e None r h = absurd cc
 shown_id now e (Some slot) r h = let k = view_keeps now e slot r h in (k.kept, k.id)
 
-shown_kept : (now : ℕ) (e : List ℕ) (o : Option Slot) (r : Registration) → view_with now e o ≡ Some r → IsKept o
+pub shown_kept : (now : ℕ) (e : List ℕ) (o : Option Slot) (r : Registration) → view_with now e o ≡ Some r → IsKept o
 shown_kept now e None r h = absurd cc
 shown_kept now e (Some slot) r h = (view_keeps now e slot r h).kept
 
-after_test : (after : Option (List ℕ)) (e : List ℕ) → (is_after after e ≡ true) ↔ IsAfter after e
+pub after_test : (after : Option (List ℕ)) (e : List ℕ) → (is_after after e ≡ true) ↔ IsAfter after e
 after_test None e = (λ h. tt, λ h. refl)
 after_test (Some a) e = (less (text_cmp a e), λ h. ap is_lt h)
   where

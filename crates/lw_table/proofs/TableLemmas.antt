@@ -1,5 +1,5 @@
 -- A table row by row: its state, its numbers, and what is filed beside.
-use Rattle.std.proofs.Common.{◌≡◌, ◌≢◌, ◌↔◌, ℕ, ◌≤◌, Bool, true, false, cond, List, [], Option, Some, None, refl, sym, ap, ◌∙◌, subst, arith}
+use Rattle.std.proofs.Common.{◌≡◌, ◌≢◌, ◌↔◌, ℕ, ◌<◌, ◌≤◌, Bool, true, false, cond, List, [], Option, Some, None, refl, sym, ap, ◌∙◌, subst, arith}
 use Rattle.std.specs.Prelude.{Contains, bytes_eq, IsSome}
 use Rattle.std.specs.Option.{option_map}
 use Rattle.std.specs.FinMap.{get, get-empty}
@@ -67,12 +67,14 @@ filed_at filed m rows_m change is e = record {
 -- rows of endpoints, under numbers that were given
 pub record AreRows (m : Rows) (change : ℕ) : Type 0 where
   pub within : (e : List ℕ) (n : ℕ) → number_of (row_at m e) ≡ Some n → n ≤ change
+  pub alone : (d e : List ℕ) (n : ℕ) → n < LAST → number_of (row_at m d) ≡ Some n → number_of (row_at m e) ≡ Some n → d ≡ e
   pub last : change ≤ LAST
   pub endpoints : (e : List ℕ) → IsSome (slot_of (row_at m e)) → IsEndpoint e
 
 pub rows_of : (filed : Filed) (m : Rows) → IsRows m → (change : ℕ) → IsTable filed.names filed.keys filed.numbers filed.due (table_in m change) → AreRows m change
 rows_of filed m rows_m change is = record {
   within = λ e n h. is.within n e (get-number m rows_m e ∙ h);
+  alone = λ d e n below h k. is.alone n d e below (get-number m rows_m d ∙ h) (get-number m rows_m e ∙ k);
   last = is.last;
   endpoints = λ e h. is.endpoints e (subst IsSome (sym (get-state m rows_m e)) h);
 }
@@ -88,6 +90,7 @@ table_of filed m rows_m change each rows = record {
     λ h. subst IsSome (sym (get-state m rows_m e)) ((slot_some (row_at m e)).1 (subst IsSome (get-number m rows_m e) h)),
   );
   within = λ n e h. rows.within e n (sym (get-number m rows_m e) ∙ h);
+  alone = λ n d e below h k. rows.alone d e n below (sym (get-number m rows_m d) ∙ h) (sym (get-number m rows_m e) ∙ k);
   last = rows.last;
   endpoints = λ e h. rows.endpoints e (subst IsSome (get-state m rows_m e) h);
 }
@@ -120,13 +123,24 @@ module _ (old new : Filed) (m n : Rows) (rows_m : IsRows m) (rows_n : IsRows n) 
     some_number : (a b : ℕ) → ◌≡◌ {A = Option ℕ} (Some a) (Some b) → a ≡ b
     some_number a b h = cc
 
-    pub put_table : row.number ≤ next → change ≤ next → next ≤ LAST → IsEndpoint e0 → IsTable new.names new.keys new.numbers new.due (table_in n next)
-    put_table given more last endpoint =
+    -- the number is another's alone where it is the last
+    not_taken : (row.number < LAST → change < row.number) → (e : List ℕ) (k : ℕ) → k < LAST → row.number ≡ k → k ≤ change → ⊥
+    not_taken fresh e k below is taken = (let above = fresh (omega (arith, below, is)) in omega (arith, above, is, taken))
+
+    pub put_table : row.number ≤ next → change ≤ next → next ≤ LAST → (row.number < LAST → change < row.number) → IsEndpoint e0 → IsTable new.names new.keys new.numbers new.due (table_in n next)
+    put_table given more last fresh endpoint =
         let rows = rows_of old m rows_m change was in
         table_of new n rows_n next put_each (record {
           within = λ e k h. same_or_not e0 e
               (λ t same. let is : row.number ≡ k = some_number row.number k (ap number_of (sym (here e t)) ∙ h) in omega arith)
               (λ f other. let below : k ≤ change = rows.within e k (ap number_of (sym (apart e f)) ∙ h) in omega arith);
+          alone = λ d e k below h j. same_or_not e0 d
+              (λ t same. same_or_not e0 e
+              (λ u alike. sym same ∙ alike)
+              (λ f other. absurd (not_taken fresh e k below (some_number row.number k (ap number_of (sym (here d t)) ∙ h)) (rows.within e k (ap number_of (sym (apart e f)) ∙ j)))))
+              (λ f other. same_or_not e0 e
+              (λ u alike. absurd (not_taken fresh d k below (some_number row.number k (ap number_of (sym (here e u)) ∙ j)) (rows.within d k (ap number_of (sym (apart d f)) ∙ h))))
+              (λ g apart_too. rows.alone d e k below (ap number_of (sym (apart d f)) ∙ h) (ap number_of (sym (apart e g)) ∙ j)));
           last = last;
           endpoints = λ e h. same_or_not e0 e
               (λ t same. subst IsEndpoint same endpoint)
@@ -143,6 +157,7 @@ module _ (old new : Filed) (m n : Rows) (rows_m : IsRows m) (rows_n : IsRows n) 
       (λ f other. same_filed old new e0 others e (row_at m e) (λ alike. other (sym alike)) (filed_at old m rows_m change was e))))
       (record {
         within = λ e k h. rows.within e k (ap number_of (sym (same e)) ∙ h);
+        alone = λ d e k below h j. rows.alone d e k below (ap number_of (sym (same d)) ∙ h) (ap number_of (sym (same e)) ∙ j);
         last = rows.last;
         endpoints = λ e h. rows.endpoints e (subst (λ o. IsSome (slot_of o)) (same e) h);
       })
@@ -215,6 +230,7 @@ nothing_filed names keys numbers due m rows_m no_names no_keys no_numbers none =
     }))
     (record {
       within = λ e n h. absurd (let bad : None ≡ Some n = ap number_of (sym (none e)) ∙ h in cc);
+      alone = λ d e n below h k. absurd (let bad : None ≡ Some n = ap number_of (sym (none d)) ∙ h in cc);
       last = omega arith;
       endpoints = λ e h. absurd (let bad : false ≡ true = subst (λ o. IsSome (slot_of o)) (none e) h in cc);
     })

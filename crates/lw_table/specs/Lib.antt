@@ -1,5 +1,6 @@
 pub mod Answers
 pub mod LookUps
+pub mod Pages
 pub mod Changes
 pub mod Keys
 pub mod Due

@@ -1,5 +1,5 @@
 -- What contracts see of a table: the state of all that is known, and the change numbers.
-use Rattle.std.specs.Prelude.{◌≡◌, ◌≤◌, ◌↔◌, ℕ, List, Contains, Option, Some, None, IsSome, refl}
+use Rattle.std.specs.Prelude.{◌≡◌, ◌<◌, ◌≤◌, ◌↔◌, ℕ, List, Contains, Option, Some, None, IsSome, refl}
 use Rattle.std.specs.Coded.{Coded, coded×, coded_ℕ, coded_list, code_by}
 use Rattle.std.specs.FinMap.{empty, get, code}
 use Rattle.lw_due.specs.Due.{Entry}
@@ -46,8 +46,8 @@ IsKept None = ⊥
 IsKept (Some slot) = ¬ IsRemoved slot
 
 -- What is filed beside the slots. The names are the endpoints whose registration was not removed, rising; the
--- keys are the inverse of their slots; each endpoint is filed under its change number, and has one where it has
--- a slot, and a due moment that is not after the deadline of that.
+-- keys are the inverse of their slots; each endpoint is filed under its change number, alone below the last, and has
+-- one where it has a slot, and a due moment that is not after the deadline of that.
 pub record IsTable (names : List (List ℕ)) (keys : List (Key × List (List ℕ))) (numbers : List (ℕ × List ℕ)) (due : List Entry) (t : TableContent) : Type 0 where
   pub names_are : (e : List ℕ) → Contains names e ↔ IsKept (get t.state e)
   pub keys_are : (k : Key) (e : List ℕ) → Has key_cmp keys k e ↔ OptionHasKey (get t.state e) k
@@ -55,5 +55,6 @@ pub record IsTable (names : List (List ℕ)) (keys : List (Key × List (List ℕ
   pub due_below : (e : List ℕ) → OptionHasDue due e (get t.state e)
   pub numbered : (e : List ℕ) → IsSome (get t.state e) ↔ IsSome (get t.count.numbers e)
   pub within : (n : ℕ) (e : List ℕ) → get t.count.numbers e ≡ Some n → n ≤ t.count.change
+  pub alone : (n : ℕ) (d e : List ℕ) → n < LAST → get t.count.numbers d ≡ Some n → get t.count.numbers e ≡ Some n → d ≡ e
   pub last : t.count.change ≤ LAST
   pub endpoints : (e : List ℕ) → IsSome (get t.state e) → IsEndpoint e

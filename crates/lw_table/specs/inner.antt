@@ -8,3 +8,5 @@ pub mod Names
 pub mod Rows
 pub mod Since
 pub mod KeyChanges
+pub mod Pages
+pub mod Changes

@@ -10,10 +10,13 @@ mod lifts;
 mod look_ups;
 mod moves;
 mod names;
+mod pages;
 mod row;
 mod rows;
 mod since;
 mod table;
 
 pub use key::Key;
+pub use pages::Page;
+pub use since::Moved;
 pub use table::Table;

@@ -112,7 +112,7 @@ impl Table {
         Some((endpoint, &row.slot))
     }
 
-    fn view(&self, now: Moment, endpoint: &str) -> Option<View<'_>>
+    pub(crate) fn view(&self, now: Moment, endpoint: &str) -> Option<View<'_>>
         ensures { result ≡ view_at (ms_of now) self.now.state endpoint.now }
     {
         let (endpoint, slot) = self.slot(endpoint)?;
@@ -268,7 +268,7 @@ fn later<'a>(
     }
 }
 
-fn is_after(after: Option<&str>, endpoint: &str) -> bool
+pub(crate) fn is_after(after: Option<&str>, endpoint: &str) -> bool
     ensures { result ≡ is_after (after_text after.entry) endpoint.now }
 {
     match after {

@@ -1,4 +1,4 @@
-ghost use Rattle.std.specs.Prelude.{◌≡◌, ◌≢◌, ◌↔◌, ◌⊎◌, ℕ, List, [], Contains, IfSome, OnOk, OnErr, map, filter, string_bytes};
+ghost use Rattle.std.specs.Prelude.{◌≡◌, ◌≢◌, ◌↔◌, ◌⊎◌, ℕ, List, [], Contains, IfSome, OnOk, OnErr, length, map, filter, string_bytes};
 ghost use Rattle.std.specs.List.Sorted.{IsStrictlySortedBy};
 ghost use Rattle.lw_stamp.specs.TextOrder.{text_cmp};
 ghost use Rattle.lw_table.specs.Answers.{after_text};
@@ -75,6 +75,14 @@ impl Names {
             .range((Bound::Excluded(&bound), Bound::Unbounded));
         self.room.set(Some(bound));
         names
+    }
+
+    /// How many there are.
+    pub(crate) fn len(&self) -> usize
+        ensures count { result ≡ length self.now }
+        ensures rise { IsStrictlySortedBy text_cmp self.now }
+    {
+        self.names.len()
     }
 
     /// Makes the room, if it is not there yet.

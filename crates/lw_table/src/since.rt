@@ -1,10 +1,11 @@
 //! Which slots have moved since a change number.
 
-ghost use Rattle.std.specs.Prelude.{◌≡◌, ◌↔◌, ℕ, List, Contains, IfOk, map};
+ghost use Rattle.std.specs.Prelude.{◌≡◌, ◌↔◌, ◌<◌, ◌≤◌, ℕ, List, Contains, None, IfOk, IfSome, IsNone, length, map, option_map};
 ghost use Rattle.std.specs.List.Sorted.{IsStrictlySortedBy};
 ghost use Rattle.lw_recent.specs.Recent.{AreSince};
 ghost use Rattle.lw_stamp.specs.TextOrder.{text_cmp};
-ghost use Rattle.lw_table.specs.Changes.{IsSinceIn};
+ghost use Rattle.lw_table.specs.Changes.{LAST, upto_of, IsSinceIn, IsChangePage};
+ghost use Rattle.lw_table.specs.inner.Changes.{AreNext, IsNextChange};
 ghost use Rattle.lw_table.specs.inner.Since.{slots_at};
 
 use crate::table::Table;
@@ -12,6 +13,14 @@ use lw_recent::Recent;
 use lw_reg::Slot;
 use lw_stamp::NoMemory;
 use std::alloc::Global;
+
+/// A slot that moved, and the change number that it took last.
+#[derive(Clone, Copy)]
+pub struct Moved<'a> {
+    pub number: u64,
+    pub endpoint: &'a str,
+    pub slot: &'a Slot,
+}
 
 impl Table {
     /// The slots that moved after this change number, endpoints rising; all of them once numbers have come to
@@ -24,6 +33,56 @@ impl Table {
         let since = if all { None } else { Some(since) };
         let endpoints = endpoints_above(self.alloc, &self.filed.numbers, since)?;
         self.slots(in_order(endpoints))
+    }
+
+    /// The slots that moved after this change number, in the order of the numbers that they took: so many at most. There
+    /// are none to give once numbers have come to their end, where one number stands for many.
+    pub fn changes_after(
+        &self,
+        since: u64,
+        limit: usize,
+    ) -> Result<Option<Vec<Moved<'_>>>, NoMemory>
+        ensures none { IfOk result (λ page. IsNone page ↔ (self.now.count.change ≡ LAST)) }
+        ensures some { IfOk result (λ page. IfSome page (λ page. IsChangePage self.now.state self.now.count since limit
+            (map (λ x. (x.number, (x.endpoint.now, x.slot.now))) page.items))) }
+    {
+        if self.change == u64::MAX {
+            return Ok(None);
+        }
+        Ok(Some(self.changes(since, limit)?))
+    }
+
+    fn changes(&self, since: u64, limit: usize) -> Result<Vec<Moved<'_>>, NoMemory>
+        ensures next { IfOk result (λ page. AreNext self.now.state self.now.count since
+            (map (λ x. (x.number, (x.endpoint.now, x.slot.now))) page.items)) }
+        ensures within { IfOk result (λ page. length page.items ≤ limit) }
+        ensures whole { IfOk result (λ page. length page.items < limit → IsNextChange self.now.state self.now.count
+            (upto_of since (map (λ x. (x.number, (x.endpoint.now, x.slot.now))) page.items)) None) }
+    {
+        let mut page = Vec::new(self.alloc);
+        let mut upto = since;
+        for _ in 0..limit {
+            let Some(moved) = self.next_moved(upto) else {
+                return Ok(page);
+            };
+            upto = moved.number;
+            page.push(moved)?;
+        }
+        Ok(page)
+    }
+
+    /// The slot that moved first after the change number.
+    fn next_moved(&self, since: u64) -> Option<Moved<'_>>
+        ensures { IsNextChange self.now.state self.now.count since
+            (option_map (λ x. (x.number, (x.endpoint.now, x.slot.now))) result) }
+    {
+        let (number, endpoint) = self.filed.numbers.next_above(since)?;
+        let (endpoint, slot) = self.slot(endpoint)?;
+        Some(Moved {
+            number,
+            endpoint,
+            slot,
+        })
     }
 
     /// The slots of these endpoints.

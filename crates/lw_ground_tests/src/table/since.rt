@@ -139,3 +139,41 @@ fn a_hundred_at_one_address_have_moved(rt: HostRuntime) -> Result<(), Fail> {
     let mut table = Table::new(rt.alloc());
     join_hundred(rt.alloc(), &mut table)
 }
+
+/// So many changes after a number: the number that each took, and its endpoint.
+fn changes(alloc: Global, table: &Table, since: u64, limit: usize) -> Result<String, Fail> {
+    let mut text = String::new(alloc);
+    for moved in table.changes_after(since, limit)?.ok_or("changes")?.iter() {
+        let one = format!(in alloc; "{}{} ", moved.number, moved.endpoint)?;
+        text.push_str(one.as_str())?;
+    }
+    Ok(text)
+}
+
+/// Behind which number, how many at most, and which changes.
+const PAGES: [(u64, usize, &str); 9] = [
+    (0, 64, "1a 2b 3c 5d 6e "),
+    (0, 0, ""),
+    (0, 2, "1a 2b "),
+    (2, 2, "3c 5d "),
+    (3, 1_000_000, "5d 6e "),
+    (4, 64, "5d 6e "),
+    (5, 1, "6e "),
+    (6, 64, ""),
+    (u64::MAX, 64, ""),
+];
+
+fn are_changes(alloc: Global, table: &Table, rows: &[(u64, usize, &str)]) -> Result<(), Fail> {
+    for (since, limit, wanted) in rows {
+        let text = changes(alloc, table, *since, *limit)?;
+        holds(wanted, text.as_str() == *wanted)?;
+    }
+    Ok(())
+}
+
+/// Tries: Table::changes_after
+#[test]
+fn changes_come_by_their_numbers(rt: HostRuntime) -> Result<(), Fail> {
+    let table = table_of(rt.alloc(), &FIVE)?;
+    are_changes(rt.alloc(), &table, &PAGES)
+}

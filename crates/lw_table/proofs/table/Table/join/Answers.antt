@@ -59,7 +59,7 @@ invariant_of-self-then-moved c =
     let rows = rows_of c.self.inside.filed m c.self.invariant.0 change c.self.invariant.1 in
     let next = next_after change number (saturated change number c.saturating_add-change.ensures rows.last) rows.last in (
       joins.1.rows,
-      put_table c.self.inside.filed c.join_first.new.filed m n c.self.invariant.0 joins.1.rows change (string_bytes c.into_string.result) c.join_first.ensures.others c.self.invariant.1 _ number joins.1.at joins.2 next.0 next.1 next.2 (subst IsEndpoint (sym c.into_string.ensures) c.into_text.ensures.within),
+      put_table c.self.inside.filed c.join_first.new.filed m n c.self.invariant.0 joins.1.rows change (string_bytes c.into_string.result) c.join_first.ensures.others c.self.invariant.1 _ number joins.1.at joins.2 next.0 next.1 next.2 next.3 (subst IsEndpoint (sym c.into_string.ensures) c.into_text.ensures.within),
     )
 
 -- ---- known
