@@ -1,6 +1,6 @@
 //! A log in memory, which knows what was asked of it.
 
-ghost use Rattle.std.specs.Prelude.{◌≡◌, ◌↔◌, [], IsTrue, IfOk, All, MatchResult};
+ghost use Rattle.std.specs.Prelude.{◌≡◌, ◌↔◌, [], Some, None, IsTrue, IfOk, All, MatchResult};
 ghost use Rattle.lw_log.specs.Calls.{Calls, read_calls};
 ghost use Rattle.lw_log.specs.inner.Memory.{IsAbove};
 
@@ -66,7 +66,9 @@ fn copy_of(
 
 impl MemoryLog {
     /// One with no entries, of which nothing was asked.
-    pub fn new(alloc: Global) -> MemoryLog {
+    pub fn new(alloc: Global) -> MemoryLog
+        ensures { (result.entries.items ≡ []) × (result.asked.items ≡ []) × (result.failure ≡ None) }
+    {
         MemoryLog {
             alloc,
             count: 0,
@@ -77,7 +79,9 @@ impl MemoryLog {
     }
 
     /// Has an append answer `Away`, after so many others, with its entry kept or not.
-    pub fn fail_after(&mut self, appends: u64, kept: bool) {
+    pub fn fail_after(&mut self, appends: u64, kept: bool)
+        ensures { self.new ≡ record self.old { failure = Some (record { after = appends; kept = kept }) } }
+    {
         self.failure = Some(Failure {
             after: appends,
             kept,
@@ -85,12 +89,16 @@ impl MemoryLog {
     }
 
     /// The entries that are there, in order.
-    pub fn entries(&self) -> &[(Position, Bytes)] {
+    pub fn entries(&self) -> &[(Position, Bytes)]
+        ensures { result.now ≡ self.now.entries.items }
+    {
         &self.entries
     }
 
     /// What was asked of it, in order.
-    pub fn asked(&self) -> &[MemoryCall] {
+    pub fn asked(&self) -> &[MemoryCall]
+        ensures { result.now ≡ self.now.asked.items }
+    {
         &self.asked
     }
 
@@ -124,7 +132,6 @@ impl MemoryLog {
 }
 
 impl DeltaLog for MemoryLog {
-    ghost use Rattle.std.specs.Prelude.{Some};
     ghost use Rattle.lw_log.specs.Memory.{calls_of};
 
     ghost calls = { λ log. Some (calls_of log.asked.items) };

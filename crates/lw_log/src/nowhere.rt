@@ -1,5 +1,7 @@
 //! A log that keeps nothing.
 
+ghost use Rattle.std.specs.Prelude.{◌≡◌};
+
 use crate::{DeltaLog, LogFault, Position};
 use bytes::Bytes;
 use std::alloc::Global;
@@ -13,7 +15,9 @@ pub struct Nowhere {
 
 impl Nowhere {
     /// One to which nothing was appended.
-    pub fn new(alloc: Global) -> Nowhere {
+    pub fn new(alloc: Global) -> Nowhere
+        ensures { result.count ≡ 0 }
+    {
         Nowhere { alloc, count: 0 }
     }
 }
