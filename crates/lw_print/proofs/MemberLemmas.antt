@@ -1,10 +1,11 @@
 -- The objects of the values are those of what the values tell of.
-use Rattle.std.proofs.Common.{◌≡◌, ℕ, ◌+◌, List, [], ◌∷◌, ◌||◌, zero, suc, false, Option, Some, None, take, refl, sym, ap, subst, arith}
+use Rattle.std.proofs.Common.{◌≡◌, ℕ, ◌+◌, List, [], ◌∷◌, ◌||◌, zero, suc, false, Option, Some, None, take, map, refl, sym, ap, ◌∙◌, subst, arith}
 use Rattle.std.specs.declared.cmp.Ordering.{Ordering}
 use Rattle.std.specs.declared.cmp.Ordering.TheVariants.{Less}
 use Rattle.std.specs.Ordering.{match_ordering}
 use Rattle.serde_json.specs.Data.{put, boolean, number, unsigned, string, object, member, no_members}
-use Rattle.serde_json.specs.Written.{has_float, members_have_float}
+use Rattle.serde_json.specs.View.{items_of}
+use Rattle.serde_json.specs.Written.{has_float, items_have_float, members_have_float}
 use Rattle.std.specs.Prelude.{IfSome, codes, slice_get}
 use Rattle.lw_stamp.specs.TextOrder.{text_cmp}
 use Rattle.lw_stamp.proofs.TextLemmas.{text_order}
@@ -16,7 +17,7 @@ use Rattle.lw_call.specs.Contents.{NoticeContent}
 use Rattle.lw_print.specs.declared.notice.NoticeMembers.{NoticeMembers}
 use Rattle.lw_print.specs.declared.registration.Members.{Members}
 use Rattle.lw_print.specs.declared.watch.WatchMembers.{WatchMembers}
-use Rattle.lw_print.specs.Json.{attributes_json, text_or_null, registration_json, watch_json, notice_json}
+use Rattle.lw_print.specs.Json.{attributes_json, text_or_null, registration_json, page_json, watch_json, notice_json}
 use Rattle.lw_print.specs.inner.Members.{members_json, TellsOf, watch_members_json, TellsOfWatch, notice_members_json, TellsOfNotice}
 
 -- ---- the attributes
@@ -51,6 +52,14 @@ registration_plain r = rw (attributes_plain r.attributes) (sms_plain r.sms)
     sms_plain : (sms : Option (List ℕ)) → (has_float (text_or_null sms) || false) ≡ false
     sms_plain None = refl
     sms_plain (Some text) = refl
+
+items_plain : (shown : List Registration) → items_have_float (items_of (map registration_json shown)) ≡ false
+items_plain [] = refl
+items_plain (r ∷ shown) = ap (λ b. b || items_have_float (items_of (map registration_json shown))) (registration_plain r) ∙ items_plain shown
+
+pub page_plain : (shown : List Registration) (next : Option (List ℕ)) → has_float (page_json shown next) ≡ false
+page_plain shown None = ap (λ b. b || false) (items_plain shown)
+page_plain shown (Some text) = ap (λ b. b || false) (items_plain shown)
 
 -- ---- the objects
 pub json_of_members : (m : Members) (r : Registration) → TellsOf m r → members_json m ≡ registration_json r

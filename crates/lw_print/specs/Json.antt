@@ -1,8 +1,9 @@
 -- What is shown of a registration (LwM2M 1.1 Core, section 6.2), of an observation (RFC 7641) and of what a device tells
 -- of one, as JSON objects (RFC 8259, section 4). Their keys stand in order.
-use Rattle.std.specs.Prelude.{ℕ, List, [], ◌∷◌, Option, Some, None, codes}
+use Rattle.std.specs.Prelude.{ℕ, List, [], ◌∷◌, map, Option, Some, None, codes}
 use Rattle.hex.specs.Hex.{encode_lower}
-use Rattle.serde_json.specs.Data.{Data, Members, null, boolean, number, unsigned, string, object, member, no_members}
+use Rattle.serde_json.specs.Data.{Data, Members, null, boolean, number, unsigned, string, array, object, member, no_members}
+use Rattle.serde_json.specs.View.{items_of}
 use Rattle.lw_stamp.specs.declared.stamp.Stamp.{Stamp}
 use Rattle.lw_stamp.specs.Moment.{ms_of}
 use Rattle.lw_stamp.specs.Stamp.{id_of}
@@ -43,6 +44,13 @@ registration_json r = object
     (member (codes "seen") (number (unsigned (ms_of r.seen)))
     (member (codes "sms") (text_or_null r.sms)
     no_members)))))))))))
+
+-- registrations, and the endpoint that the page behind goes on from
+abbrev pub page_json : List Registration → Option (List ℕ) → Data
+page_json shown next = object
+    (member (codes "next") (text_or_null next)
+    (member (codes "registrations") (array (items_of (map registration_json shown)))
+    no_members))
 
 -- a watch, and its registration
 abbrev pub watch_json : Registration → Watch → Data

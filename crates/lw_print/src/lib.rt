@@ -4,6 +4,7 @@
 mod line;
 mod notice;
 mod one;
+mod page;
 mod path;
 mod registration;
 mod value;
@@ -12,6 +13,7 @@ mod watch;
 pub use line::outcome_line;
 pub use notice::notice_text;
 pub use one::answer_text;
+pub use page::page_text;
 pub use path::path_text;
 pub use registration::registration_text;
 pub use watch::{stale_text, watch_text};

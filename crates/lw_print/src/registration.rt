@@ -37,7 +37,7 @@ pub fn registration_text(alloc: Global, shown: &View<'_>) -> Result<String, NoMe
 }
 
 #[tactic(auto, using(crate::proofs::MemberLemmas::json_of_members))]
-fn registration_value(alloc: Global, shown: &View<'_>) -> Result<Value, NoMemory>
+pub(crate) fn registration_value(alloc: Global, shown: &View<'_>) -> Result<Value, NoMemory>
     ensures { IfOk result (λ value. view value ≡ registration_json shown.now) }
 {
     let members = members_of(alloc, shown)?;

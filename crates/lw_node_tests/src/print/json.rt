@@ -83,6 +83,38 @@ fn the_longest_registration(rt: HostRuntime) -> Result<(), Fail> {
     holds("the length", length == 223 + 252 + 251 + 4 + 255 * (31 + 6))
 }
 
+/// The JSON of the page.
+fn is_page(alloc: Global, shown: &[View<'_>], next: Option<&str>, want: &str) -> Result<(), Fail> {
+    same(page_text(alloc, shown, next)?.as_str(), want)
+}
+
+/// Tries: page_text
+#[test]
+fn a_page_of_no_registration(rt: HostRuntime) -> Result<(), Fail> {
+    let none = r#"{"next":null,"registrations":[]}"#;
+    is_page(rt.alloc(), &[], None, none)?;
+    let more = r#"{"next":"a\"b","registrations":[]}"#;
+    is_page(rt.alloc(), &[], Some("a\"b"), more)
+}
+
+/// A page of two registrations, behind which another goes on.
+fn is_page_of_two(alloc: Global, objects: &LinkText, others: &LinkText) -> Result<(), Fail> {
+    let want = format!(in alloc; r#"{{"next":"z","registrations":[{SHOWN},{OTHER}]}}"#)?;
+    let shown = [
+        registration("a", objects),
+        other_registration("a\"b\n", others),
+    ];
+    is_page(alloc, &shown, Some("z"), want.as_str())
+}
+
+/// Tries: page_text
+#[test]
+fn a_page_of_two_registrations(rt: HostRuntime) -> Result<(), Fail> {
+    let objects = LinkText::read(rt.alloc(), b"</3/0>")?;
+    let others = LinkText::read(rt.alloc(), b"</3/0>;ct=\"1\\\"\"")?;
+    is_page_of_two(rt.alloc(), &objects, &others)
+}
+
 /// The JSON of the watch of the registration.
 fn is_watched(alloc: Global, shown: &View<'_>, watch: &Watch, want: &str) -> Result<(), Fail> {
     same(watch_text(alloc, shown, watch)?.as_str(), want)

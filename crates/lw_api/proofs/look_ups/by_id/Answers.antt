@@ -1,0 +1,14 @@
+use Rattle.lw_stamp.specs.Moment.{ms_of}
+use Rattle.lw_table.specs.LookUps.{ById}
+use Rattle.lw_table.proofs.SinceLemmas.{if_slots}
+use Rattle.lw_api.proofs.Knowing.{of_known}
+use Rattle.lw_api.proofs.look_ups.by_id.Goals as goal
+
+pub returns : goal.returns
+returns c =
+    let shown = c.by_id.result in
+    if_slots _ _ (λ text is. record {
+      shown = shown;
+      answer = of_known c.args.node.now.table.state (λ M. ById M (ms_of c.args.now) c.args.id shown) c.by_id.ensures.read c.by_id.ensures.marks;
+      text_is = is;
+    }) c.told.result c.told.ensures

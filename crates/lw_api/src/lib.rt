@@ -1,0 +1,9 @@
+//! What a node tells, over HTTP, of the registrations that it shows: JSON texts, each the one that is defined over what the
+//! node knows.
+#![tactic(auto)]
+
+mod look_ups;
+mod pages;
+
+pub use look_ups::{by_address, by_id, by_token, registration};
+pub use pages::registrations;
