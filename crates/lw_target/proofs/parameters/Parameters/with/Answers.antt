@@ -1,0 +1,12 @@
+use Rattle.std.proofs.Common.{◌≡◌, rules}
+use Rattle.std.specs.List.{before_first, after_first}
+use Rattle.lw_target.specs.Parameters.{is_equals, HasEquals}
+use Rattle.lw_target.proofs.PartLemmas.{part_answered}
+use Rattle.lw_target.proofs.parameters.Parameters.with.Goals as goal
+
+pub returns-in-Some-read-clause-given : goal.returns-in-Some-read-clause-given
+returns-in-Some-read-clause-given c =
+    let has : HasEquals c.args.part.now = search rules in
+    let before : c.in-Some.name.now ≡ before_first is_equals c.args.part.now = search rules in
+    let after : c.in-Some.value.now ≡ after_first is_equals c.args.part.now = search rules in
+    part_answered c.args.resource c.args.self c.args.part.now c.in-Some.name.now c.in-Some.value.now c.in-Some-read.name c.with_value.result has before after c.in-Some-read.ensures c.with_value.ensures.given

@@ -1,0 +1,91 @@
+-- The parameters of a query: NAME=VALUE, with `&` between each two (RFC 3986, section 3.4, has a query of such pairs).
+use Rattle.std.specs.Prelude.{◌≡◌, ◌<◌, ◌==◌, ℕ, Bool, true, false, List, [], ◌∷◌, length, Option, Some, None, Result, Ok, Err, codes}
+use Rattle.std.specs.List.{position_or_len, before_first, after_first, slice_split}
+use Rattle.lw_target.specs.declared.refused.Refused.{Refused}
+use Rattle.lw_target.specs.declared.refused.Refused.TheVariants as refused
+use Rattle.lw_target.specs.declared.resource.Resource.{Resource}
+use Rattle.lw_target.specs.declared.resource.Resource.TheVariants as resource
+use Rattle.lw_target.specs.declared.parameters.Name.{Name}
+use Rattle.lw_target.specs.declared.parameters.Name.TheVariants.{After, Limit, Since, Start}
+use Rattle.lw_target.specs.declared.parameters.Parameters.{Parameters}
+use Rattle.lw_target.specs.Answers.{Reads, Then}
+use Rattle.lw_target.specs.Decoding.{IsShort}
+use Rattle.lw_target.specs.Numbers.{IsSince, IsLimit, IsTag}
+
+abbrev pub is_equals : ℕ → Bool
+is_equals byte = byte == 61
+
+abbrev pub is_ampersand : ℕ → Bool
+is_ampersand byte = byte == 38
+
+-- ---- names
+abbrev pub name_text : Name → List ℕ
+name_text After = codes "after"
+name_text Limit = codes "limit"
+name_text Since = codes "since"
+name_text Start = codes "start"
+
+-- the resource takes a parameter of the name
+abbrev pub takes : Resource → Name → Bool
+takes resource.Registrations After = true
+takes resource.Registrations Limit = true
+takes resource.Changes Since = true
+takes resource.Changes Start = true
+takes resource.Changes Limit = true
+takes _ _ = false
+
+-- the part has `=`
+abbrev pub HasEquals : List ℕ → Type 0
+HasEquals part = position_or_len is_equals part < length part
+
+-- what stands before the first `=` is the name of a parameter of the resource
+pub record IsNamed (resource : Resource) (name : Name) (part : List ℕ) : Type 0 where
+  pub parted : HasEquals part
+  pub taken : takes resource name ≡ true
+  pub name_is : before_first is_equals part ≡ name_text name
+
+-- ---- values
+-- a parameter that was not given before has the value that is read; one that was is refused
+abbrev pub IsGivenOnce : {V : Type 0} → Option V → (Result V Refused → Type 0) → (V → Parameters)
+    → Result Parameters Refused → Type 0
+IsGivenOnce (Some value) Reading parameters answer = answer ≡ Err refused.Twice
+IsGivenOnce None Reading parameters answer = Then Reading (λ value answer. answer ≡ Ok (parameters value)) answer
+
+-- The parameters with this value of the name. That of `after` is percent-decoded, where `+` stands for itself, and may be
+-- empty: all endpoints stand behind it. The others are read as they stand.
+abbrev pub IsGiven : Name → Parameters → List ℕ → Result Parameters Refused → Type 0
+IsGiven After before value =
+    IsGivenOnce before.after (Reads IsShort refused.After value) (λ after. record before { after = Some after })
+IsGiven Limit before value =
+    IsGivenOnce before.limit (Reads IsLimit refused.Limit value) (λ limit. record before { limit = Some limit })
+IsGiven Since before value =
+    IsGivenOnce before.since (Reads IsSince refused.Since value) (λ since. record before { since = Some since })
+IsGiven Start before value =
+    IsGivenOnce before.start (Reads IsTag refused.Start value) (λ start. record before { start = Some start })
+
+-- ---- parts
+-- what the parameters are with one part more
+pub record IsPart (resource : Resource) (before : Parameters) (part : List ℕ) (answer : Result Parameters Refused)
+    : Type 0 where
+  pub no_value : ¬ HasEquals part → answer ≡ Err refused.NoValue
+  pub no_parameter : HasEquals part → ((name : Name) → ¬ IsNamed resource name part) → answer ≡ Err refused.NoParameter
+  pub given : (name : Name) → IsNamed resource name part → IsGiven name before (after_first is_equals part) answer
+
+-- the parts from left to right, of which the first that is refused decides
+abbrev pub AreParts : Resource → Parameters → List (List ℕ) → Result Parameters Refused → Type 0
+AreParts resource before [] answer = answer ≡ Ok before
+AreParts resource before (part ∷ parts) answer =
+    Then (IsPart resource before part) (λ after. AreParts resource after parts) answer
+
+-- no query and an empty one have no parts
+abbrev pub parts_of : Option (List ℕ) → List (List ℕ)
+parts_of None = []
+parts_of (Some []) = []
+parts_of (Some (byte ∷ bytes)) = slice_split is_ampersand (byte ∷ bytes)
+
+abbrev pub no_parameters : Parameters
+no_parameters = record { after = None; limit = None; since = None; start = None }
+
+-- the parameters that the query gives
+abbrev pub AreParameters : Resource → Option (List ℕ) → Result Parameters Refused → Type 0
+AreParameters resource query = AreParts resource no_parameters (parts_of query)

@@ -1,0 +1,112 @@
+-- What a request asks for, by its method and the path and query of its target (RFC 9110, sections 7.1 and 9).
+use Rattle.std.specs.Prelude.{◌≡◌, ◌≢◌, ◌≤◌, ◌++◌, ℕ, Bool, true, false, List, [], ◌∷◌, length, Option, Result, Ok, Err, codes}
+use Rattle.std.specs.List.{All}
+use Rattle.std.specs.Option.{unwrap_or}
+use Rattle.lw_stamp.specs.declared.stamp.Stamp.{Stamp}
+use Rattle.lw_stamp.specs.Stamp.{id_of}
+use Rattle.lw_reg.specs.declared.addr.Addr.{Addr}
+use Rattle.lw_reg.specs.Addr.{addr_text, IsAddr}
+use Rattle.lw_target.specs.declared.method.Method.{Method}
+use Rattle.lw_target.specs.declared.method.Method.TheVariants.{Get}
+use Rattle.lw_target.specs.declared.refused.Refused.{Refused}
+use Rattle.lw_target.specs.declared.refused.Refused.TheVariants as refused
+use Rattle.lw_target.specs.declared.resource.Resource.{Resource}
+use Rattle.lw_target.specs.declared.resource.Resource.TheVariants.{Page, Health, Node, Metrics, Registrations, Registration, ById, ByAddress, ByToken, Changes}
+use Rattle.lw_target.specs.declared.asked.Asked.{Asked}
+use Rattle.lw_target.specs.declared.asked.Asked.TheVariants as asked
+use Rattle.lw_target.specs.declared.parameters.Parameters.{Parameters}
+use Rattle.lw_target.specs.Answers.{Reads, Then}
+use Rattle.lw_target.specs.Decoding.{IsDecoded, IsShort}
+use Rattle.lw_target.specs.Parameters.{AreParameters}
+
+-- ---- paths
+-- where a resource stands: at a path, or at each path that has one segment more
+pub data Place : Type 0 where
+  At : List ℕ → Place
+  Below : List ℕ → Place
+
+abbrev pub place_of : Resource → Place
+place_of Page = At (codes "/")
+place_of Health = At (codes "/v1/health")
+place_of Node = At (codes "/v1/node")
+place_of Metrics = At (codes "/metrics")
+place_of Registrations = At (codes "/v1/registrations")
+place_of Registration = Below (codes "/v1/registrations")
+place_of ById = Below (codes "/v1/ids")
+place_of ByAddress = Below (codes "/v1/addresses")
+place_of ByToken = Below (codes "/v1/tokens")
+place_of Changes = At (codes "/v1/changes")
+
+abbrev pub slash : ℕ
+slash = 47
+
+-- the path is the upper one, `/`, and a segment that is not empty (RFC 3986, section 3.3: `segment-nz`)
+pub record IsBelow (upper segment path : List ℕ) : Type 0 where
+  pub path_is : path ≡ upper ++ slash ∷ segment
+  pub some : 1 ≤ length segment
+  pub one : All (λ byte. byte ≢ slash) segment
+
+-- the path is of the place, with this as its segment, which is empty where the place has none
+abbrev pub IsPathOf : Place → List ℕ → List ℕ → Type 0
+IsPathOf (At whole) segment path = (path ≡ whole) × (segment ≡ [])
+IsPathOf (Below upper) segment path = IsBelow upper segment path
+
+-- ---- segments
+-- the identifier of a registration, or the token of an observation
+abbrev pub IsId : Stamp → List ℕ → Type 0
+IsId stamp segment = IsDecoded (id_of stamp) segment
+
+pub record IsAddress (address : Addr) (segment : List ℕ) : Type 0 where
+  pub in_range : IsAddr address
+  pub decoded : IsDecoded (addr_text address) segment
+
+-- ---- requests
+-- a request for the resource may have a text that takes memory to decode: a segment, or the value of `after`
+abbrev pub takes_text : Resource → Bool
+takes_text Registrations = true
+takes_text Registration = true
+takes_text ById = true
+takes_text ByAddress = true
+takes_text ByToken = true
+takes_text _ = false
+
+-- the path is of a resource for which a text may be decoded
+pub record HasText (path : List ℕ) : Type 0 where
+  pub resource : Resource
+  pub segment : List ℕ
+  pub path_is : IsPathOf (place_of resource) segment path
+  pub text : takes_text resource ≡ true
+
+-- what the parameters of the query ask for
+abbrev pub Given : Resource → Option (List ℕ) → (Parameters → Asked) → Result Asked Refused → Type 0
+Given resource query ask = Then (AreParameters resource query) (λ parameters answer. answer ≡ Ok (ask parameters))
+
+-- What is asked for at the resource with the segment: first the segment is read, and then the query. The name of an
+-- endpoint has a byte or more, as its segment does.
+abbrev pub IsAskedAt : Resource → List ℕ → Option (List ℕ) → Result Asked Refused → Type 0
+IsAskedAt Page segment query = Given Page query (λ parameters. asked.Page)
+IsAskedAt Health segment query = Given Health query (λ parameters. asked.Health)
+IsAskedAt Node segment query = Given Node query (λ parameters. asked.Node)
+IsAskedAt Metrics segment query = Given Metrics query (λ parameters. asked.Metrics)
+IsAskedAt Registrations segment query =
+    Given Registrations query (λ parameters. asked.Registrations parameters.after (unwrap_or parameters.limit 64))
+IsAskedAt Registration segment query = Then (Reads IsShort refused.Endpoint segment)
+    (λ endpoint. Given Registration query (λ parameters. asked.Registration endpoint))
+IsAskedAt ById segment query = Then (Reads IsId refused.Id segment)
+    (λ id. Given ById query (λ parameters. asked.ById id))
+IsAskedAt ByAddress segment query = Then (Reads IsAddress refused.Address segment)
+    (λ address. Given ByAddress query (λ parameters. asked.ByAddress address))
+IsAskedAt ByToken segment query = Then (Reads IsId refused.Token segment)
+    (λ token. Given ByToken query (λ parameters. asked.ByToken token))
+IsAskedAt Changes segment query = Given Changes query
+    (λ parameters. asked.Changes (unwrap_or parameters.since 0) parameters.start (unwrap_or parameters.limit 64))
+
+-- What a request comes to. Each path is of one resource at most.
+pub record IsAsked (method : Method) (path : List ℕ) (query : Option (List ℕ)) (answer : Result Asked Refused)
+    : Type 0 where
+  pub no_resource : ((resource : Resource) (segment : List ℕ) → ¬ IsPathOf (place_of resource) segment path)
+      → answer ≡ Err refused.NoResource
+  pub not_allowed : (resource : Resource) (segment : List ℕ) → IsPathOf (place_of resource) segment path
+      → method ≢ Get → answer ≡ Err refused.MethodNotAllowed
+  pub asked_at : (resource : Resource) (segment : List ℕ) → IsPathOf (place_of resource) segment path
+      → method ≡ Get → IsAskedAt resource segment query answer

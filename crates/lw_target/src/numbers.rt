@@ -1,0 +1,77 @@
+//! Numbers of a query.
+
+ghost use Rattle.std.specs.Prelude.{◌≡◌, ◌^◌, ℕ, IfSome, IfNone, ◌↔◌, IsTrue};
+ghost use Rattle.std.specs.Int.{w64, to_be_bytes};
+ghost use Rattle.hex.specs.Hex.{encode_lower};
+ghost use Rattle.lw_reg.specs.inner.Addr.Reading.{IsPlain};
+ghost use Rattle.lw_target.specs.Answers.{Reads};
+ghost use Rattle.lw_target.specs.Numbers.{IsNumber, IsSince, IsLimit, IsTag};
+ghost use Rattle.lw_target.specs.declared.refused.Refused.TheVariants as refused;
+
+use crate::Refused;
+use hex::FromHex;
+
+/// The number in decimal, without leading zeros.
+pub(crate) fn since(text: &str) -> Result<u64, Refused>
+    ensures { Reads IsSince refused.Since text.now result }
+{
+    decimal(text).ok_or(Refused::Since)
+}
+
+/// The number of entries, from 1 to 256.
+pub(crate) fn limit(text: &str) -> Result<usize, Refused>
+    ensures { Reads IsLimit refused.Limit text.now result }
+{
+    let Some(limit) = decimal(text) else {
+        return Err(Refused::Limit);
+    };
+    if !(1..=256).contains(&limit) {
+        return Err(Refused::Limit);
+    }
+    Ok(limit as usize)
+}
+
+/// The number of 16 lower-case hex digits.
+pub(crate) fn tag(text: &str) -> Result<u64, Refused>
+    ensures { Reads IsTag refused.Start text.now result }
+{
+    tag_of(text.as_bytes()).ok_or(Refused::Start)
+}
+
+fn decimal(text: &str) -> Option<u64>
+    ensures found { IfSome result (λ n. IsNumber (2 ^ 64) n text.now) }
+    ensures none { IfNone result ((n : ℕ) → ¬ IsNumber (2 ^ 64) n text.now) }
+{
+    if !is_plain(text) {
+        return None;
+    }
+    text.parse().ok()
+}
+
+/// Whether a number has no sign and no leading zero.
+fn is_plain(text: &str) -> bool
+    ensures { IsTrue result ↔ IsPlain text.now }
+{
+    !matches!(text.as_bytes(), [b'+', ..] | [b'0', _, ..])
+}
+
+fn tag_of(text: &[u8]) -> Option<u64>
+    ensures found { IfSome result (λ tag. IsTag tag text.now) }
+    ensures none { IfNone result ((tag : ℕ) → ¬ IsTag tag text.now) }
+{
+    let bytes = <[u8; 8]>::from_hex(text).ok()?;
+    let tag = u64::from_be_bytes(bytes);
+    if tag_text(tag).as_slice() == text {
+        Some(tag)
+    } else {
+        None
+    }
+}
+
+fn tag_text(tag: u64) -> [u8; 16]
+    ensures { result ≡ encode_lower (to_be_bytes w64 tag) }
+{
+    let mut text = [0; 16];
+    let _written = hex::encode_to_slice(tag.to_be_bytes(), &mut text);
+    text
+}

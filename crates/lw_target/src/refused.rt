@@ -1,0 +1,67 @@
+ghost use Rattle.std.specs.Prelude.{◌≡◌};
+ghost use Rattle.lw_target.specs.Refusals.{status_of, text_of};
+
+/// Why a request asks for nothing, in the order in which the causes are looked for.
+#[derive(Clone, Copy, Debug, PartialEq, Eq)]
+pub enum Refused {
+    /// No resource has the path.
+    NoResource,
+    /// The resource has another method.
+    MethodNotAllowed,
+    /// The last segment of the path is no name of an endpoint.
+    Endpoint,
+    /// It is no identifier of a registration.
+    Id,
+    /// It is no address.
+    Address,
+    /// It is no token.
+    Token,
+    /// A part of the query has no `=`.
+    NoValue,
+    /// The resource has no parameter of the name.
+    NoParameter,
+    /// A parameter is given twice.
+    Twice,
+    /// The value of `limit` is none.
+    Limit,
+    /// The value of `after` is none.
+    After,
+    /// The value of `since` is none.
+    Since,
+    /// The value of `start` is none.
+    Start,
+}
+
+impl Refused {
+    /// The status code of the response (RFC 9110, section 15.5).
+    pub fn status(&self) -> u16
+        ensures { result ≡ status_of self.now }
+    {
+        match self {
+            Refused::NoResource => 404,
+            Refused::MethodNotAllowed => 405,
+            _ => 400,
+        }
+    }
+
+    /// What the response says.
+    pub fn text(&self) -> &'static str
+        ensures { result.now ≡ text_of self.now }
+    {
+        match self {
+            Refused::NoResource => "no such resource",
+            Refused::MethodNotAllowed => "method not allowed",
+            Refused::Endpoint => "endpoint",
+            Refused::Id => "id",
+            Refused::Address => "address",
+            Refused::Token => "token",
+            Refused::NoValue => "a parameter without a value",
+            Refused::NoParameter => "no such parameter",
+            Refused::Twice => "a parameter twice",
+            Refused::Limit => "limit",
+            Refused::After => "after",
+            Refused::Since => "since",
+            Refused::Start => "start",
+        }
+    }
+}

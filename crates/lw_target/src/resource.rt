@@ -1,0 +1,82 @@
+ghost use Rattle.std.specs.Prelude.{◌≡◌, ◌↔◌, ℕ, List, Some, IfSome, IsSomeAnd};
+ghost use Rattle.lw_target.specs.Targets.{place_of, IsPathOf, IsBelow};
+ghost use Rattle.lw_target.specs.Targets.Place.{At, Below};
+
+/// What a path of the table is of.
+#[derive(Clone, Copy)]
+pub(crate) enum Resource {
+    Page,
+    Health,
+    Node,
+    Metrics,
+    Registrations,
+    Registration,
+    ById,
+    ByAddress,
+    ByToken,
+    Changes,
+}
+
+impl Resource {
+    ghost use Rattle.lw_target.specs.declared.resource.Resource.{Resource as Resources};
+
+    /// The resource of a path, and the segment that names one of its kind, or an empty text.
+    pub(crate) fn of_path(path: &str) -> Option<(Resource, &str)>
+        ensures found { IfSome result (λ x. IsPathOf (place_of x.0) x.1.now path.now) }
+        ensures only { (resource : Resources) (segment : List ℕ) → IsPathOf (place_of resource) segment path.now
+            → IsSomeAnd result (λ x. (x.0 ≡ resource) × (x.1.now ≡ segment)) }
+    {
+        match Resource::at(path) {
+            Some(resource) => Some((resource, "")),
+            None => Resource::below(path),
+        }
+    }
+
+    fn at(path: &str) -> Option<Resource>
+        ensures { (resource : Resources) → (result ≡ Some resource) ↔ (place_of resource ≡ At path.now) }
+    {
+        match path {
+            "/" => Some(Resource::Page),
+            "/v1/health" => Some(Resource::Health),
+            "/v1/node" => Some(Resource::Node),
+            "/metrics" => Some(Resource::Metrics),
+            "/v1/registrations" => Some(Resource::Registrations),
+            "/v1/changes" => Some(Resource::Changes),
+            _ => None,
+        }
+    }
+
+    fn below(path: &str) -> Option<(Resource, &str)>
+        ensures found { IfSome result (λ x. IsPathOf (place_of x.0) x.1.now path.now) }
+        ensures only { (resource : Resources) (upper segment : List ℕ) → place_of resource ≡ Below upper
+            → IsBelow upper segment path.now → IsSomeAnd result (λ x. (x.0 ≡ resource) × (x.1.now ≡ segment)) }
+    {
+        let (upper, segment) = last_segment(path)?;
+        Some((Resource::named_below(upper)?, segment))
+    }
+
+    fn named_below(upper: &str) -> Option<Resource>
+        ensures { (resource : Resources) → (result ≡ Some resource) ↔ (place_of resource ≡ Below upper.now) }
+    {
+        match upper {
+            "/v1/registrations" => Some(Resource::Registration),
+            "/v1/ids" => Some(Resource::ById),
+            "/v1/addresses" => Some(Resource::ByAddress),
+            "/v1/tokens" => Some(Resource::ByToken),
+            _ => None,
+        }
+    }
+}
+
+/// What stands before the last slash, and the segment behind it, if that is not empty.
+fn last_segment(path: &str) -> Option<(&str, &str)>
+    ensures found { IfSome result (λ x. IsBelow x.0.now x.1.now path.now) }
+    ensures only { (upper segment : List ℕ) → IsBelow upper segment path.now
+        → IsSomeAnd result (λ x. (x.0.now ≡ upper) × (x.1.now ≡ segment)) }
+{
+    let (upper, segment) = path.rsplit_once('/')?;
+    if segment.is_empty() {
+        return None;
+    }
+    Some((upper, segment))
+}

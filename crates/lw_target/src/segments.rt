@@ -1,0 +1,35 @@
+//! What the last segment of a path names.
+
+ghost use Rattle.lw_target.specs.Answers.{Reads};
+ghost use Rattle.lw_target.specs.Targets.{IsId, IsAddress};
+ghost use Rattle.lw_target.specs.inner.Faults.{IsAnswered};
+ghost use Rattle.lw_target.specs.declared.refused.Refused.TheVariants as refused;
+
+use crate::Refused;
+use crate::decoding::decoded;
+use crate::fault::Fault;
+use lw_reg::Addr;
+use lw_stamp::Stamp;
+use std::alloc::Global;
+
+/// The identifier of a registration, or the token of an observation.
+pub(crate) fn id(alloc: Global, segment: &str, refused: Refused) -> Result<Stamp, Fault>
+    ensures { IsAnswered (Reads IsId refused segment.now) result }
+{
+    let name = decoded(alloc, segment, refused)?;
+    match Stamp::read_id(name.as_str().as_bytes()) {
+        Some(id) => Ok(id),
+        None => Err(Fault::Refused(refused)),
+    }
+}
+
+/// The address of a client.
+pub(crate) fn address(alloc: Global, segment: &str) -> Result<Addr, Fault>
+    ensures { IsAnswered (Reads IsAddress refused.Address segment.now) result }
+{
+    let name = decoded(alloc, segment, Refused::Address)?;
+    match Addr::read(name.as_str()) {
+        Some(address) => Ok(address),
+        None => Err(Fault::Refused(Refused::Address)),
+    }
+}

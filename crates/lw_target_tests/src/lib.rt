@@ -1,0 +1,7 @@
+//! Tests of the crate `lw_target`, over its public calls.
+#![tactic(auto)]
+
+#[cfg(test)]
+mod targets;
+#[cfg(test)]
+mod told;

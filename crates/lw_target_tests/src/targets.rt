@@ -1,0 +1,280 @@
+use crate::told::told;
+use lw_target::Method;
+use std::alloc::Global;
+use std::test::Fail;
+
+/// A target that is asked for with GET, and what it comes to.
+type Row = (&'static str, &'static str);
+
+fn check(alloc: Global, method: Method, target: &str, want: &str) -> Result<(), Fail> {
+    let got = told(alloc, method, target)?;
+    if got.as_str() == want {
+        return Ok(());
+    }
+    Err(Fail::new(format_args!("{target}: {got}")))
+}
+
+fn check_rows(alloc: Global, rows: &[Row]) -> Result<(), Fail> {
+    for (target, want) in rows {
+        check(alloc, Method::Get, target, want)?;
+    }
+    Ok(())
+}
+
+const TABLE: [Row; 13] = [
+    ("/", "page"),
+    ("/?", "page"),
+    ("/v1/health", "health"),
+    ("/v1/node", "node"),
+    ("/metrics", "metrics"),
+    ("/v1/registrations", "64 of all"),
+    ("/v1/registrations/lamp", "of lamp"),
+    ("/v1/ids/0000000000090001", "id 9 1"),
+    ("/v1/ids/ffffffffffff00ff", "id 281474976710655 255"),
+    ("/v1/addresses/192.0.2.1:5683", "at 192.0.2.1:5683"),
+    (
+        "/v1/addresses/%5B2001:0db8:0000:0000:0000:0000:0000:0001%5D:5683",
+        "at [2001:0db8:0000:0000:0000:0000:0000:0001]:5683",
+    ),
+    ("/v1/tokens/0000000000090001", "token 9 1"),
+    ("/v1/changes", "64 since 0"),
+];
+
+/// Tries: lw_target::asked_of
+#[test]
+fn each_target_is_known(rt: HostRuntime) -> Result<(), Fail> {
+    check_rows(rt.alloc(), &TABLE)
+}
+
+const NO_TARGETS: [Row; 16] = [
+    ("", "404 no such resource"),
+    ("v1/health", "404 no such resource"),
+    ("//", "404 no such resource"),
+    ("/v1", "404 no such resource"),
+    ("/v1/", "404 no such resource"),
+    ("/v1/health/", "404 no such resource"),
+    ("/v1/Health", "404 no such resource"),
+    ("/v1/h%65alth", "404 no such resource"),
+    ("/metrics/", "404 no such resource"),
+    ("/health", "404 no such resource"),
+    ("/v1/registrations/", "404 no such resource"),
+    ("/v1/registrations//", "404 no such resource"),
+    ("/v1/registrations/lamp/", "404 no such resource"),
+    ("/v1/registrations/a/b", "404 no such resource"),
+    ("/v1/ids/", "404 no such resource"),
+    ("/v1/nothing/lamp?limit=0", "404 no such resource"),
+];
+
+/// Tries: lw_target::asked_of
+#[test]
+fn no_other_path_is_of_a_resource(rt: HostRuntime) -> Result<(), Fail> {
+    check_rows(rt.alloc(), &NO_TARGETS)
+}
+
+const OTHER_METHODS: [(Method, &str, &str); 6] = [
+    (Method::Post, "/", "405 method not allowed"),
+    (Method::Delete, "/v1/ids/none", "405 method not allowed"),
+    (Method::Other, "/v1/health?x=1", "405 method not allowed"),
+    (
+        Method::Post,
+        "/v1/registrations/%",
+        "405 method not allowed",
+    ),
+    (Method::Delete, "/v1/nothing", "404 no such resource"),
+    (Method::Other, "/v1/registrations/", "404 no such resource"),
+];
+
+/// Tries: lw_target::asked_of
+#[test]
+fn only_get_is_allowed(rt: HostRuntime) -> Result<(), Fail> {
+    for (method, target, want) in OTHER_METHODS {
+        check(rt.alloc(), method, target, want)?;
+    }
+    Ok(())
+}
+
+const SEGMENTS: [Row; 19] = [
+    ("/v1/registrations/urn:imei:1", "of urn:imei:1"),
+    ("/v1/registrations/a%2Fb", "of a/b"),
+    ("/v1/registrations/a%2fb", "of a/b"),
+    ("/v1/registrations/a+b", "of a+b"),
+    ("/v1/registrations/a%20b", "of a b"),
+    ("/v1/registrations/%25", "of %"),
+    ("/v1/registrations/%2541", "of %41"),
+    ("/v1/registrations/%C3%A9", "of é"),
+    ("/v1/registrations/..", "of .."),
+    ("/v1/registrations/%", "400 endpoint"),
+    ("/v1/registrations/a%4", "400 endpoint"),
+    ("/v1/registrations/%zz", "400 endpoint"),
+    ("/v1/registrations/%4g", "400 endpoint"),
+    ("/v1/registrations/%%41", "400 endpoint"),
+    ("/v1/registrations/%ff", "400 endpoint"),
+    ("/v1/registrations/%C3", "400 endpoint"),
+    ("/v1/ids/%30000000000090001", "id 9 1"),
+    ("/v1/ids/000000000009000", "400 id"),
+    ("/v1/tokens/000000000009000A", "400 token"),
+];
+
+/// Tries: lw_target::asked_of
+#[test]
+fn a_segment_is_decoded_after_the_path_was_split(rt: HostRuntime) -> Result<(), Fail> {
+    check_rows(rt.alloc(), &SEGMENTS)
+}
+
+const NO_SEGMENTS: [Row; 9] = [
+    ("/v1/ids/0000000000000001", "400 id"),
+    ("/v1/ids/00000000000900011", "400 id"),
+    ("/v1/ids/000000000009000%", "400 id"),
+    ("/v1/tokens/%ff", "400 token"),
+    ("/v1/addresses/192.0.2.1", "400 address"),
+    ("/v1/addresses/192.0.2.01:1", "400 address"),
+    ("/v1/addresses/192.0.2.1:65536", "400 address"),
+    ("/v1/addresses/192.0.2.1:1%", "400 address"),
+    ("/v1/addresses/[::1]:1", "400 address"),
+];
+
+/// Tries: lw_target::asked_of
+#[test]
+fn a_segment_that_names_nothing_is_refused(rt: HostRuntime) -> Result<(), Fail> {
+    check_rows(rt.alloc(), &NO_SEGMENTS)
+}
+
+const LIMITS: [Row; 12] = [
+    ("/v1/registrations?limit=1", "1 of all"),
+    ("/v1/registrations?limit=256", "256 of all"),
+    ("/v1/registrations?limit=0", "400 limit"),
+    ("/v1/registrations?limit=257", "400 limit"),
+    ("/v1/registrations?limit=00", "400 limit"),
+    ("/v1/registrations?limit=01", "400 limit"),
+    ("/v1/registrations?limit=+1", "400 limit"),
+    ("/v1/registrations?limit=%31", "400 limit"),
+    ("/v1/registrations?limit=", "400 limit"),
+    ("/v1/registrations?limit=a", "400 limit"),
+    ("/v1/registrations?limit=18446744073709551617", "400 limit"),
+    ("/v1/changes?limit=257", "400 limit"),
+];
+
+/// Tries: lw_target::asked_of
+#[test]
+fn a_limit_is_from_1_to_256(rt: HostRuntime) -> Result<(), Fail> {
+    check_rows(rt.alloc(), &LIMITS)
+}
+
+const AFTERS: [Row; 9] = [
+    ("/v1/registrations?after=lamp", "64 after lamp"),
+    ("/v1/registrations?after=", "64 after "),
+    ("/v1/registrations?after=a%26b%3D", "64 after a&b="),
+    ("/v1/registrations?after=a=b", "64 after a=b"),
+    ("/v1/registrations?after=a+b?", "64 after a+b?"),
+    ("/v1/registrations?after=a/b&limit=2", "2 after a/b"),
+    ("/v1/registrations?limit=2&after=lamp", "2 after lamp"),
+    ("/v1/registrations?after=%4", "400 after"),
+    ("/v1/registrations?after=%ff", "400 after"),
+];
+
+/// Tries: lw_target::asked_of
+#[test]
+fn a_text_to_begin_behind_is_decoded(rt: HostRuntime) -> Result<(), Fail> {
+    check_rows(rt.alloc(), &AFTERS)
+}
+
+/// Whether a name of so many bytes is taken behind the front of a target.
+fn takes(alloc: Global, front: &str, letter: &str, count: usize) -> Result<bool, Fail> {
+    let name = letter.repeat(alloc, count)?;
+    let target = format!(in alloc; "{front}{name}")?;
+    let got = told(alloc, Method::Get, target.as_str())?;
+    Ok(!got.as_str().starts_with("400 "))
+}
+
+fn has_252_bytes_at_most(alloc: Global, front: &str) -> Result<bool, Fail> {
+    let plain = takes(alloc, front, "x", 252)? && !takes(alloc, front, "x", 253)?;
+    let encoded = takes(alloc, front, "%41", 252)? && !takes(alloc, front, "%41", 253)?;
+    Ok(plain && encoded)
+}
+
+/// Tries: lw_target::asked_of
+#[test]
+fn names_have_252_bytes_at_most(rt: HostRuntime) -> Result<(), Fail> {
+    for front in ["/v1/registrations/", "/v1/registrations?after="] {
+        if !has_252_bytes_at_most(rt.alloc(), front)? {
+            return Err(Fail::new(front));
+        }
+    }
+    Ok(())
+}
+
+const CHANGES: [Row; 12] = [
+    ("/v1/changes?since=0", "64 since 0"),
+    (
+        "/v1/changes?since=18446744073709551615",
+        "64 since 18446744073709551615",
+    ),
+    ("/v1/changes?since=18446744073709551616", "400 since"),
+    ("/v1/changes?since=01", "400 since"),
+    ("/v1/changes?since=", "400 since"),
+    ("/v1/changes?since=-1", "400 since"),
+    ("/v1/changes?start=000000000000000a", "64 since 0 of 10"),
+    (
+        "/v1/changes?limit=3&start=ffffffffffffffff&since=7",
+        "3 since 7 of 18446744073709551615",
+    ),
+    ("/v1/changes?start=000000000000000A", "400 start"),
+    ("/v1/changes?start=a", "400 start"),
+    ("/v1/changes?start=0000000000000000a", "400 start"),
+    ("/v1/changes?start=", "400 start"),
+];
+
+/// Tries: lw_target::asked_of
+#[test]
+fn changes_are_asked_for_since_a_number(rt: HostRuntime) -> Result<(), Fail> {
+    check_rows(rt.alloc(), &CHANGES)
+}
+
+const NO_PARAMETERS: [Row; 16] = [
+    ("/v1/health?", "health"),
+    ("/v1/health?a=1", "400 no such parameter"),
+    ("/v1/health?limit=1", "400 no such parameter"),
+    ("/v1/health?a", "400 a parameter without a value"),
+    ("/v1/registrations/lamp?limit=1", "400 no such parameter"),
+    ("/v1/registrations/%?a", "400 endpoint"),
+    ("/v1/registrations?since=1", "400 no such parameter"),
+    ("/v1/registrations?Limit=1", "400 no such parameter"),
+    ("/v1/registrations?l%69mit=1", "400 no such parameter"),
+    ("/v1/registrations?=1", "400 no such parameter"),
+    ("/v1/registrations?limit", "400 a parameter without a value"),
+    ("/v1/registrations?&", "400 a parameter without a value"),
+    (
+        "/v1/registrations?limit=1&&after=a",
+        "400 a parameter without a value",
+    ),
+    (
+        "/v1/registrations?limit=1&",
+        "400 a parameter without a value",
+    ),
+    ("/v1/registrations??limit=1", "400 no such parameter"),
+    ("/v1/changes?after=a", "400 no such parameter"),
+];
+
+/// Tries: lw_target::asked_of
+#[test]
+fn other_parameters_are_refused(rt: HostRuntime) -> Result<(), Fail> {
+    check_rows(rt.alloc(), &NO_PARAMETERS)
+}
+
+const SEVERAL: [Row; 6] = [
+    ("/v1/registrations?limit=1&limit=1", "400 a parameter twice"),
+    ("/v1/registrations?after=&after=%", "400 a parameter twice"),
+    (
+        "/v1/changes?start=000000000000000a&since=1&since=1",
+        "400 a parameter twice",
+    ),
+    ("/v1/registrations?limit=0&limit=1&x=1", "400 limit"),
+    ("/v1/registrations?x=1&limit=0", "400 no such parameter"),
+    ("/v1/registrations?after=%&x", "400 after"),
+];
+
+/// Tries: lw_target::asked_of, lw_target::Refused::status, lw_target::Refused::text
+#[test]
+fn the_first_fault_decides(rt: HostRuntime) -> Result<(), Fail> {
+    check_rows(rt.alloc(), &SEVERAL)
+}

@@ -1,0 +1,60 @@
+//! What is asked for in words.
+
+use lw_target::{Asked, Method, asked_of};
+use std::alloc::Global;
+use std::test::Fail;
+
+/// The path of a target, and what stands behind its `?`.
+fn parts(target: &str) -> (&str, Option<&str>) {
+    match target.split_once('?') {
+        Some((path, query)) => (path, Some(query)),
+        None => (target, None),
+    }
+}
+
+/// What the request asks for, or the status code and the text of why it asks for nothing.
+pub(crate) fn told(alloc: Global, method: Method, target: &str) -> Result<String, Fail> {
+    let (path, query) = parts(target);
+    match asked_of(alloc, method, path, query)? {
+        Ok(asked) => in_words(alloc, &asked),
+        Err(refused) => Ok(format!(in alloc; "{} {}", refused.status(), refused.text())?),
+    }
+}
+
+fn in_words(alloc: Global, asked: &Asked) -> Result<String, Fail> {
+    match asked {
+        Asked::Page => Ok(String::from_str(alloc, "page")?),
+        Asked::Health => Ok(String::from_str(alloc, "health")?),
+        Asked::Node => Ok(String::from_str(alloc, "node")?),
+        Asked::Metrics => Ok(String::from_str(alloc, "metrics")?),
+        Asked::Registrations { after, limit } => match after {
+            Some(after) => Ok(format!(in alloc; "{limit} after {}", after.as_str())?),
+            None => Ok(format!(in alloc; "{limit} of all")?),
+        },
+        Asked::Changes {
+            since,
+            start,
+            limit,
+        } => match start {
+            Some(start) => Ok(format!(in alloc; "{limit} since {since} of {start}")?),
+            None => Ok(format!(in alloc; "{limit} since {since}")?),
+        },
+        _ => one_in_words(alloc, asked),
+    }
+}
+
+fn one_in_words(alloc: Global, asked: &Asked) -> Result<String, Fail> {
+    match asked {
+        Asked::Registration { endpoint } => Ok(format!(in alloc; "of {}", endpoint.as_str())?),
+        Asked::ById { id } => Ok(format!(in alloc; "id {} {}", id.counter, id.node)?),
+        Asked::ByToken { token } => Ok(format!(in alloc;
+            "token {} {}",
+            token.counter, token.node
+        )?),
+        Asked::ByAddress { address } => Ok(format!(in alloc;
+            "at {}",
+            address.print(alloc)?.as_str()
+        )?),
+        _ => Err(Fail::from("one registration or observation")),
+    }
+}
