@@ -39,24 +39,51 @@ fn fault_of(bytes: &[u8]) -> Option<EntryFault> {
     read_entry(bytes).err()
 }
 
+/// The entry that the bytes are, where they are one.
+fn entry_of(bytes: &[u8]) -> Option<Entry<'_>> {
+    read_entry(bytes).ok()
+}
+
 /// The bytes of a head, so many numbers that each have bits 0, and what stands behind them.
 fn whole(alloc: Global, count: usize, behind: &str) -> Result<Vec<u8>, Fail> {
     let mut bytes = hex::decode(alloc, WHOLE_HEAD)?;
-    for _ in 0..count {
-        bytes.push(0)?;
-    }
-    bytes.extend_from_slice(&hex::decode(alloc, behind)?)?;
+    put_zeros(&mut bytes, count)?;
+    put_text(alloc, &mut bytes, behind)?;
     Ok(bytes)
 }
 
-/// Fails where the entry that the bytes are is written as others.
-fn is_written_again(alloc: Global, bytes: &[u8]) -> Result<(), Fail> {
-    let Ok(entry) = read_entry(bytes) else {
+fn put_zeros(bytes: &mut Vec<u8>, count: usize) -> Result<(), Fail> {
+    for _ in 0..count {
+        bytes.push(0)?;
+    }
+    Ok(())
+}
+
+/// Adds what the text spells in hex.
+fn put_text(alloc: Global, bytes: &mut Vec<u8>, text: &str) -> Result<(), Fail> {
+    let behind = hex::decode(alloc, text)?;
+    bytes.extend_from_slice(&behind)?;
+    Ok(())
+}
+
+/// A byte 7, and the entry that the bytes are behind it.
+fn written(alloc: Global, bytes: &[u8]) -> Result<Vec<u8>, Fail> {
+    let Some(entry) = entry_of(bytes) else {
         return Err(Fail::new("the bytes are an entry"));
     };
     let mut out = Vec::new(alloc);
     out.push(7)?;
     put_entry(&mut out, &entry)?;
+    Ok(out)
+}
+
+/// Fails where the entry that the bytes are is written as others.
+fn is_written_again(alloc: Global, bytes: &[u8]) -> Result<(), Fail> {
+    let out = written(alloc, bytes)?;
+    is_behind_seven(&out, bytes)
+}
+
+fn is_behind_seven(out: &[u8], bytes: &[u8]) -> Result<(), Fail> {
     let Some((first, rest)) = out.split_first() else {
         return Err(Fail::new("something is written"));
     };
@@ -72,40 +99,46 @@ fn is_of_the_start(entry: &Entry<'_>, sequence: u64) -> Result<(), Fail> {
     holds("its sequence", entry.sequence == sequence)
 }
 
-/// Tries: lw_log::read_entry, lw_log::put_entry
-#[test]
-fn a_start_is_read_and_written(rt: HostRuntime) -> Result<(), Fail> {
-    let bytes = hex::decode(rt.alloc(), START)?;
-    let Ok(entry) = read_entry(&bytes) else {
+/// Fails where the bytes are not a start with sequence 1.
+fn is_start(bytes: &[u8]) -> Result<(), Fail> {
+    let Some(entry) = entry_of(bytes) else {
         return Err(Fail::new("a start is read"));
     };
     is_of_the_start(&entry, 1)?;
-    holds("its body", matches!(entry.body, Body::Start))?;
-    is_written_again(rt.alloc(), &bytes)
+    holds("its body", matches!(entry.body, Body::Start))
 }
 
 /// Tries: lw_log::read_entry, lw_log::put_entry
 #[test]
-fn a_delta_is_read_and_written(rt: HostRuntime) -> Result<(), Fail> {
-    let delta = hex::decode(rt.alloc(), EMPTY_DELTA)?;
-    let bytes = hex::decode(rt.alloc(), DELTA)?;
-    let Ok(entry) = read_entry(&bytes) else {
+fn a_start_is_read_and_written(rt: HostRuntime) -> Result<(), Fail> {
+    let bytes = hex::decode(rt.alloc(), START)?;
+    is_start(&bytes)?;
+    is_written_again(rt.alloc(), &bytes)
+}
+
+/// Fails where the bytes are not a delta with sequence 2.
+fn is_delta(bytes: &[u8], delta: &[u8]) -> Result<(), Fail> {
+    let Some(entry) = entry_of(bytes) else {
         return Err(Fail::new("a delta is read"));
     };
     is_of_the_start(&entry, 2)?;
     let Body::Delta(own) = entry.body else {
         return Err(Fail::new("its body"));
     };
-    holds("its delta", own == delta.as_slice())?;
-    is_written_again(rt.alloc(), &bytes)
+    holds("its delta", own == delta)
 }
 
 /// Tries: lw_log::read_entry, lw_log::put_entry
 #[test]
-fn a_whole_one_is_read_and_written(rt: HostRuntime) -> Result<(), Fail> {
-    let delta = hex::decode(rt.alloc(), EMPTY_DELTA)?;
-    let bytes = whole(rt.alloc(), 8192, EMPTY_DELTA)?;
-    let Ok(entry) = read_entry(&bytes) else {
+fn a_delta_is_read_and_written(rt: HostRuntime) -> Result<(), Fail> {
+    let bytes = hex::decode(rt.alloc(), DELTA)?;
+    is_delta(&bytes, &hex::decode(rt.alloc(), EMPTY_DELTA)?)?;
+    is_written_again(rt.alloc(), &bytes)
+}
+
+/// Fails where the bytes are not a whole one with sequence 3, whose numbers are all 0.
+fn is_whole(bytes: &[u8], delta: &[u8]) -> Result<(), Fail> {
+    let Some(entry) = entry_of(bytes) else {
         return Err(Fail::new("a whole one is read"));
     };
     is_of_the_start(&entry, 3)?;
@@ -117,7 +150,14 @@ fn a_whole_one_is_read_and_written(rt: HostRuntime) -> Result<(), Fail> {
         return Err(Fail::new("its body"));
     };
     holds("its numbers", numbers.iter().all(|byte| *byte == 0))?;
-    holds("its delta", own == delta.as_slice())?;
+    holds("its delta", own == delta)
+}
+
+/// Tries: lw_log::read_entry, lw_log::put_entry
+#[test]
+fn a_whole_one_is_read_and_written(rt: HostRuntime) -> Result<(), Fail> {
+    let bytes = whole(rt.alloc(), 8192, EMPTY_DELTA)?;
+    is_whole(&bytes, &hex::decode(rt.alloc(), EMPTY_DELTA)?)?;
     is_written_again(rt.alloc(), &bytes)
 }
 
@@ -138,13 +178,18 @@ static READ: [&str; 8] = [
     "4c574531ffffffffffffffffffffffffffffffff0102ffffffffffffffff000000000000000100",
 ];
 
+/// Fails where the text spells no entry in hex, or one that is written as another.
+fn is_read_and_written(alloc: Global, text: &str) -> Result<(), Fail> {
+    let bytes = hex::decode(alloc, text)?;
+    holds_for(&text, entry_of(&bytes).is_some())?;
+    is_written_again(alloc, &bytes)
+}
+
 /// Tries: lw_log::read_entry, lw_log::put_entry
 #[test]
 fn what_is_read_is_written_again(rt: HostRuntime) -> Result<(), Fail> {
     for text in &READ {
-        let bytes = hex::decode(rt.alloc(), text)?;
-        holds_for(text, read_entry(&bytes).is_ok())?;
-        is_written_again(rt.alloc(), &bytes)?;
+        is_read_and_written(rt.alloc(), text)?;
     }
     Ok(())
 }
@@ -268,26 +313,38 @@ fn is_truncated(bytes: &[u8], delta_at: usize) -> Result<(), Fail> {
     Ok(())
 }
 
-/// Tries: lw_log::read_entry
-#[test]
-fn no_beginning_of_an_entry_is_one(rt: HostRuntime) -> Result<(), Fail> {
-    is_truncated(&hex::decode(rt.alloc(), START)?, 39)?;
-    is_truncated(&hex::decode(rt.alloc(), DELTA)?, 39)?;
-    is_truncated(&whole(rt.alloc(), 8192, EMPTY_DELTA)?, 8231)
+/// The same of bytes in hex whose head has 39.
+fn text_is_truncated(alloc: Global, text: &str) -> Result<(), Fail> {
+    let bytes = hex::decode(alloc, text)?;
+    is_truncated(&bytes, 39)
 }
 
 /// Tries: lw_log::read_entry
 #[test]
+fn no_beginning_of_an_entry_is_one(rt: HostRuntime) -> Result<(), Fail> {
+    text_is_truncated(rt.alloc(), START)?;
+    text_is_truncated(rt.alloc(), DELTA)?;
+    is_truncated(&whole(rt.alloc(), 8192, EMPTY_DELTA)?, 8231)
+}
+
+/// How many bytes of numbers there are, what stands behind them, and the fault.
+static LENGTHS: [(usize, &str, EntryFault); 4] = [
+    (8191, "", EntryFault::Truncated),
+    (8191, EMPTY_DELTA, EntryFault::Delta(DeltaFault::Magic)),
+    (8193, EMPTY_DELTA, EntryFault::Delta(DeltaFault::Magic)),
+    // LWD4
+    (8192, "4c57443400", EntryFault::Newer),
+];
+
+/// Tries: lw_log::read_entry
+#[test]
 fn a_whole_one_has_8192_bytes_of_numbers(rt: HostRuntime) -> Result<(), Fail> {
-    let cut = whole(rt.alloc(), 8191, "")?;
-    holds("8191", fault_of(&cut) == Some(EntryFault::Truncated))?;
-    let fewer = whole(rt.alloc(), 8191, EMPTY_DELTA)?;
-    let no_delta = Some(EntryFault::Delta(DeltaFault::Magic));
-    holds("8191 and a delta", fault_of(&fewer) == no_delta)?;
-    let more = whole(rt.alloc(), 8193, EMPTY_DELTA)?;
-    holds("8193 and a delta", fault_of(&more) == no_delta)?;
-    let newer = whole(rt.alloc(), 8192, "4c57443400")?;
-    holds("LWD4", fault_of(&newer) == Some(EntryFault::Newer))
+    for row in &LENGTHS {
+        let (count, behind, fault) = row;
+        let bytes = whole(rt.alloc(), *count, behind)?;
+        holds_for(row, fault_of(&bytes) == Some(*fault))?;
+    }
+    Ok(())
 }
 
 /// A second try where the first is refused memory.
@@ -307,7 +364,7 @@ fn put_in_two_tries(alloc: Global, entry: &Entry<'_>) -> Result<Vec<u8>, AllocEr
 #[test]
 fn a_refused_put_entry_writes_it_when_it_is_made_again(rt: HostRuntime) -> Result<(), Fail> {
     let bytes = whole(rt.alloc(), 8192, EMPTY_DELTA)?;
-    let Ok(entry) = read_entry(&bytes) else {
+    let Some(entry) = entry_of(&bytes) else {
         return Err(Fail::new("a whole one is read"));
     };
     let written = put_in_two_tries(rt.alloc(), &entry)?;

@@ -22,17 +22,28 @@ const LONGEST_LIST: usize = 8_192;
 pub(crate) fn large(alloc: Global, head: &[u8], length: usize) -> Result<Vec<u8>, Fail> {
     let mut bytes = Vec::with_capacity(alloc, length)?;
     bytes.extend_from_slice(head)?;
+    put_delta(&mut bytes, length)?;
+    Ok(bytes)
+}
+
+/// Adds a delta that makes the bytes so many.
+fn put_delta(bytes: &mut Vec<u8>, length: usize) -> Result<(), Fail> {
     bytes.extend_from_slice(BEFORE_SLOTS)?;
+    put_slots(bytes, length)?;
+    bytes.push(0)?;
+    Ok(())
+}
+
+/// Adds slots that make the bytes so many, but for the end of the delta, which has one byte.
+fn put_slots(bytes: &mut Vec<u8>, length: usize) -> Result<(), Fail> {
     for number in 0..u16::MAX {
-        // The end of the delta has one byte.
         let left = length.saturating_sub(bytes.len()).saturating_sub(1);
         if left == 0 {
             break;
         }
-        put_slot(&mut bytes, number, list_in(left))?;
+        put_slot(bytes, number, list_in(left))?;
     }
-    bytes.push(0)?;
-    Ok(bytes)
+    Ok(())
 }
 
 /// How long a list is, where so many bytes are left for slots: those behind it have room for a list too.
@@ -47,29 +58,36 @@ fn list_in(left: usize) -> usize {
 
 /// A registration whose name is the number in hex, with an object list of so many bytes and nothing else.
 fn put_slot(bytes: &mut Vec<u8>, number: u16, list: usize) -> Result<(), Fail> {
+    put_slot_head(bytes, number, u16::try_from(list)?)?;
+    put_list(bytes, list)
+}
+
+/// What stands before the list: the name, and two stamps with the counter number + 1 of node 1.
+fn put_slot_head(bytes: &mut Vec<u8>, number: u16, list: u16) -> Result<(), Fail> {
     let [high, low] = number.to_be_bytes();
-    // The stamp has the counter number + 1 of node 1.
     let [_, _, first, second] = u32::from(number).wrapping_add(1).to_be_bytes();
-    let stamp = [0, 0, 0, 0, first, second, 0, 1];
-    bytes.extend_from_slice(&[
-        1,
-        4,
+    let [list_high, list_low] = list.to_be_bytes();
+    let name = [
         digit(high / 16),
         digit(high % 16),
         digit(low / 16),
         digit(low % 16),
+    ];
+    bytes.extend_from_slice(&[1, 4])?;
+    bytes.extend_from_slice(&name)?;
+    bytes.extend_from_slice(&[
+        0, 0, 0, 0, first, second, 0, 1, 0x40, 0, 0, 0, 0, first, second, 0, 1, list_high, list_low,
     ])?;
-    bytes.extend_from_slice(&stamp)?;
-    bytes.push(0x40)?;
-    bytes.extend_from_slice(&stamp)?;
-    bytes.extend_from_slice(&u16::try_from(list)?.to_be_bytes())?;
+    Ok(())
+}
+
+/// The list, and what stands behind it: no attributes, not ended, no watches.
+fn put_list(bytes: &mut Vec<u8>, list: usize) -> Result<(), Fail> {
     bytes.extend_from_slice(b"</")?;
     for _ in SHORTEST_LIST..list {
         bytes.push(b'a')?;
     }
-    bytes.push(b'>')?;
-    // No attributes, not ended, no watches.
-    bytes.extend_from_slice(&[0, 0, 0])?;
+    bytes.extend_from_slice(b">\x00\x00\x00")?;
     Ok(())
 }
 
@@ -89,13 +107,17 @@ pub(crate) fn fill<G: DeltaLog>(
     head: &[u8],
     total: usize,
 ) -> Result<(), Fail> {
-    let entry = large(alloc, head, LENGTH)?;
     let count = (total / LENGTH).saturating_sub(1);
-    for _ in 0..count {
-        log.append(&entry)?;
-    }
+    append(log, &large(alloc, head, LENGTH)?, count)?;
     let left = total.saturating_sub(count.saturating_mul(LENGTH));
-    log.append(&large(alloc, head, left)?)?;
+    append(log, &large(alloc, head, left)?, 1)
+}
+
+/// Appends the entry so many times.
+pub(crate) fn append<G: DeltaLog>(log: &mut G, entry: &[u8], count: usize) -> Result<(), Fail> {
+    for _ in 0..count {
+        log.append(entry)?;
+    }
     Ok(())
 }
 

@@ -12,4 +12,6 @@ mod logs;
 #[cfg(test)]
 mod member;
 #[cfg(test)]
+mod place;
+#[cfg(test)]
 mod shared;

@@ -1,5 +1,6 @@
 //! Members over logs in memory.
 
+mod acts;
 mod asked;
 mod compaction;
 mod due;
@@ -9,14 +10,23 @@ mod poisoned;
 mod refused;
 mod restarts;
 mod several;
+mod stage;
 
-use crate::hold::{holds, holds_for, same};
-use crate::shared::{Entries, Shared, entries_of, has_count, has_entries, lose, put};
+use crate::hold::{holds, holds_for};
+use crate::place::Place;
+use crate::shared::*;
+use acts::Act::*;
+use acts::Look::*;
+use acts::{Act, Look, ask_all};
 use bytes::Bytes;
 use lw_call::{Call, Reply, Taken};
-use lw_log::{DeltaLog, FleetId, LogFault};
+use lw_log::{DeltaLog, FleetId, LogFault, MemoryLog};
 use lw_member::{Chance, Member, MemberFault, Moment};
 use lw_reg::Addr;
+use stage::Entry::*;
+use stage::Fate::*;
+use stage::Step::*;
+use stage::{FIRST, SECOND, Step, THIRD, play, play_both, play_row};
 use std::alloc::Global;
 use std::test::Fail;
 
@@ -94,23 +104,51 @@ const HOME: Addr = Addr::V4 {
     port: 5683,
 };
 
+/// What a member answers while its log is away.
+const AWAY: MemberFault = MemberFault::Log(LogFault::Away);
+
 /// A member that begins at moment 0 over entries to which others may append.
 fn begin<'a>(
     alloc: Global,
     entries: &'a Entries,
     chance: &Chance,
 ) -> Result<Member<Shared<'a>>, MemberFault> {
-    let log = Shared::new(alloc, entries, false);
+    begin_at(alloc, entries, false, chance, Moment::START)
+}
+
+/// A member that begins at the moment over entries to which others may append, or none.
+fn begin_at<'a>(
+    alloc: Global,
+    entries: &'a Entries,
+    alone: bool,
+    chance: &Chance,
+    moment: Moment,
+) -> Result<Member<Shared<'a>>, MemberFault> {
+    let log = Shared::new(alloc, entries, alone);
+    Member::begin(alloc, log, chance, moment)
+}
+
+/// A member that begins at moment 0 over a log that tells what it was asked.
+fn begin_in_memory(
+    alloc: Global,
+    log: MemoryLog,
+    chance: &Chance,
+) -> Result<Member<MemoryLog>, MemberFault> {
     Member::begin(alloc, log, chance, Moment::START)
 }
 
 /// A datagram of the device comes at moment 0.
-fn take(alloc: Global, datagram: &str) -> Result<Call, Fail> {
+fn taking(datagram: Vec<u8>) -> Result<Call, Fail> {
     Ok(Call::Take {
         now: Moment::START,
         from: HOME,
-        bytes: Bytes::from_vec(hex::decode(alloc, datagram)?)?,
+        bytes: Bytes::from_vec(datagram)?,
     })
+}
+
+/// The same of a datagram in hex.
+fn take(alloc: Global, datagram: &str) -> Result<Call, Fail> {
+    taking(hex::decode(alloc, datagram)?)
 }
 
 /// What the node took, where this is the reply to one datagram.
@@ -132,54 +170,10 @@ fn reply_text(alloc: Global, replies: &[Reply]) -> Result<String, Fail> {
     }
 }
 
-/// Fails where the member's reply to the datagram, in a round of its own, is another.
-fn answers<G: DeltaLog>(
-    alloc: Global,
-    member: &mut Member<G>,
-    datagram: &str,
-    want: &str,
-) -> Result<(), Fail> {
-    let calls = [take(alloc, datagram)?];
-    let replies = member.round(&calls)?;
-    same(&reply_text(alloc, &replies)?, want)
-}
-
-/// What a round with the datagram is refused for.
-fn refusal<G: DeltaLog>(
-    alloc: Global,
-    member: &mut Member<G>,
-    datagram: &str,
-) -> Result<MemberFault, Fail> {
-    let calls = [take(alloc, datagram)?];
-    match member.round(&calls) {
-        Ok(_) => Err("a round fails".into()),
-        Err(fault) => Ok(fault),
-    }
-}
-
-/// A round without calls.
-fn rest<G: DeltaLog>(member: &mut Member<G>) -> Result<(), MemberFault> {
-    member.round(&[])?;
-    Ok(())
-}
-
 /// The identifier at the end of the reply to a Register.
 fn id_in(replies: &[Reply]) -> Result<&[u8], Fail> {
     let Some(reply) = &taken_in(replies)?.reply else {
         return Err("a reply".into());
     };
     Ok(reply.as_slice().last_chunk::<16>().ok_or("an identifier")?)
-}
-
-/// Fails where the member does not know a registration with the identifier.
-fn knows(alloc: Global, member: &mut Member<Shared<'_>>, id: &[u8]) -> Result<(), Fail> {
-    let mut datagram = hex::decode(alloc, "40020011b272640d03")?;
-    datagram.extend_from_slice(id)?;
-    let calls = [Call::Take {
-        now: Moment::START,
-        from: HOME,
-        bytes: Bytes::from_vec(datagram)?,
-    }];
-    let replies = member.round(&calls)?;
-    same(&reply_text(alloc, &replies)?, CHANGED)
 }

@@ -1,6 +1,6 @@
 //! A log in memory that several members share, and that can be made to fail.
 
-use crate::hold::{holds_for, same};
+use crate::place::Place;
 use lw_log::{Bytes, DeltaLog, LogFault, PAGE, Position};
 use std::alloc::Global;
 use std::cell::{Cell, RefCell};
@@ -19,8 +19,8 @@ struct Failure {
     kept: bool,
 }
 
-/// A log over entries that others may share. A reading, an append and a trim can be made to fail, and others can be made to
-/// append in between.
+/// A log over entries that others may share. A reading, an append and a trim can be made to fail, and others can be
+/// made to append in between.
 #[derive(Drop)]
 pub(crate) struct Shared<'a> {
     alloc: Global,
@@ -72,10 +72,11 @@ impl<'a> Shared<'a> {
 
     /// Has another process append the entry before the next append.
     pub(crate) fn come_between(&self, entry: Vec<u8>) -> Result<(), Fail> {
+        let bytes = Bytes::from_vec(entry)?;
         let Ok(mut between) = self.between.try_borrow_mut() else {
             return Err("the entries between are free".into());
         };
-        between.push(Bytes::from_vec(entry)?)?;
+        between.push(bytes)?;
         Ok(())
     }
 
@@ -84,11 +85,20 @@ impl<'a> Shared<'a> {
         let Ok(mut between) = self.between.try_borrow_mut() else {
             return Err(LogFault::Away);
         };
-        for entry in between.iter() {
-            add(self.entries, entry.clone()?)?;
-        }
+        add_all(self.entries, between.as_slice())?;
         between.clear();
         Ok(())
+    }
+
+    /// Adds the entry, or fails where this append is to fail.
+    fn add_or_fail(&self, bytes: Bytes) -> Result<Position, LogFault> {
+        let Some(failure) = failing(&self.append) else {
+            return add(self.entries, bytes);
+        };
+        if failure.kept {
+            add(self.entries, bytes)?;
+        }
+        Err(failure.fault)
     }
 
     /// Whether all that was to fail has failed.
@@ -129,6 +139,29 @@ fn add(entries: &Entries, bytes: Bytes) -> Result<Position, LogFault> {
     Ok(position)
 }
 
+/// Adds copies of the entries behind the others.
+fn add_all(entries: &Entries, added: &[Bytes]) -> Result<(), LogFault> {
+    for bytes in added {
+        add(entries, bytes.clone()?)?;
+    }
+    Ok(())
+}
+
+/// The first entries above the position.
+fn page_above(
+    alloc: Global,
+    entries: &[(Position, Bytes)],
+    after: Option<Position>,
+) -> Result<Vec<(Position, Bytes)>, LogFault> {
+    let mut page = Vec::new(alloc);
+    for (position, bytes) in entries {
+        if page.len() < PAGE && is_above(after, *position) {
+            page.push((*position, bytes.clone()?))?;
+        }
+    }
+    Ok(page)
+}
+
 /// Whether the position is above another, where there is one.
 fn is_above(after: Option<Position>, position: Position) -> bool {
     match after {
@@ -145,25 +178,12 @@ impl DeltaLog for Shared<'_> {
         let Ok(entries) = self.entries.try_borrow() else {
             return Err(LogFault::Away);
         };
-        let mut page = Vec::new(self.alloc);
-        for entry in entries.iter() {
-            if page.len() < PAGE && is_above(after, entry.0) {
-                page.push((entry.0, entry.1.clone()?))?;
-            }
-        }
-        Ok(page)
+        page_above(self.alloc, entries.as_slice(), after)
     }
 
     fn append(&mut self, entry: &[u8]) -> Result<Position, LogFault> {
         self.let_others()?;
-        let bytes = Bytes::copy_from_slice(self.alloc, entry)?;
-        let Some(failure) = failing(&self.append) else {
-            return add(self.entries, bytes);
-        };
-        if failure.kept {
-            add(self.entries, bytes)?;
-        }
-        Err(failure.fault)
+        self.add_or_fail(Bytes::copy_from_slice(self.alloc, entry)?)
     }
 
     fn trim(&mut self, upto: Position) -> Result<(), LogFault> {
@@ -188,11 +208,16 @@ pub(crate) fn put(entries: &Entries, bytes: Vec<u8>) -> Result<(), Fail> {
     Ok(())
 }
 
+/// Puts the entry that the text spells in hex behind the others.
+pub(crate) fn put_text(alloc: Global, entries: &Entries, text: &str) -> Result<(), Fail> {
+    put(entries, hex::decode(alloc, text)?)
+}
+
 /// The entries that the texts spell in hex, in this order.
 pub(crate) fn entries_of(alloc: Global, texts: &[&str]) -> Result<Entries, Fail> {
     let entries = RefCell::new(Vec::new(alloc));
     for text in texts {
-        put(&entries, hex::decode(alloc, text)?)?;
+        put_text(alloc, &entries, text)?;
     }
     Ok(entries)
 }
@@ -206,22 +231,63 @@ pub(crate) fn lose(entries: &Entries) -> Result<(), Fail> {
     Ok(())
 }
 
-/// Fails where the entries are others than the texts spell in hex.
-pub(crate) fn has_entries(alloc: Global, entries: &Entries, want: &[&str]) -> Result<(), Fail> {
+/// The last entry that is there.
+pub(crate) fn last_of(alloc: Global, entries: &Entries) -> Result<Vec<u8>, Fail> {
     let Ok(entries) = entries.try_borrow() else {
         return Err("the entries are free".into());
     };
-    holds_for(&want.len(), entries.len() == want.len())?;
+    match entries.last() {
+        Some((_, bytes)) => Ok(bytes.to_vec(alloc)?),
+        None => Err("an entry".into()),
+    }
+}
+
+/// Fails where the entries are others than the texts spell in hex.
+pub(crate) fn has_entries(
+    alloc: Global,
+    at: Place,
+    entries: &Entries,
+    want: &[&str],
+) -> Result<(), Fail> {
+    has_count(at, entries, want.len())?;
+    has_first(alloc, at, entries, want)
+}
+
+/// Fails where the first entries are others than the texts spell in hex.
+pub(crate) fn has_first(
+    alloc: Global,
+    at: Place,
+    entries: &Entries,
+    want: &[&str],
+) -> Result<(), Fail> {
+    let Ok(entries) = entries.try_borrow() else {
+        return Err("the entries are free".into());
+    };
+    begin_with(alloc, at, entries.as_slice(), want)
+}
+
+fn begin_with(
+    alloc: Global,
+    at: Place,
+    entries: &[(Position, Bytes)],
+    want: &[&str],
+) -> Result<(), Fail> {
+    at.holds(entries.len() >= want.len())?;
     for (entry, text) in entries.iter().zip(want) {
-        same(&hex::encode(alloc, &entry.1)?, text)?;
+        is_entry(alloc, at, &entry.1, text)?;
     }
     Ok(())
 }
 
+fn is_entry(alloc: Global, at: Place, bytes: &Bytes, want: &str) -> Result<(), Fail> {
+    let text = hex::encode(alloc, bytes)?;
+    at.same(text.as_str(), want)
+}
+
 /// Fails where there are not so many entries.
-pub(crate) fn has_count(entries: &Entries, want: usize) -> Result<(), Fail> {
+pub(crate) fn has_count(at: Place, entries: &Entries, want: usize) -> Result<(), Fail> {
     let Ok(entries) = entries.try_borrow() else {
         return Err("the entries are free".into());
     };
-    holds_for(&entries.len(), entries.len() == want)
+    at.counts(entries.len(), want)
 }

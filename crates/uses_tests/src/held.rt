@@ -40,7 +40,26 @@ fn one_shelf(alloc: Global) -> Result<(Vec<Shelf>, Pass, Pass), Fail>
     Ok((shelves, first, second))
 }
 
-/// How many parts each pass has once a Register and a question were asked of the first shelf from two threads.
+/// How many parts each pass has once the calls were made from two threads.
+fn parts_of<R: Threads + Wait + Sync>(
+    rt: &R,
+    shelves: &[Shelf],
+    shelf: &Shelf,
+    one: (Pass, &Call),
+    other: (Pass, &Call),
+) -> Result<(u64, u64), Fail>
+    requires { AreInOrder shelves.now }
+{
+    if one.0.number() == other.0.number() {
+        return Err("two numbers".into());
+    }
+    match ask_from_threads(rt, shelves, shelf, one, other) {
+        Ok(passes) => Ok((passes[0].len(), passes[1].len())),
+        Err(_) => Err("settled".into()),
+    }
+}
+
+/// The parts once a Register and a question were asked of the first shelf.
 fn asked<R: Threads + Wait + Sync>(
     rt: &R,
     alloc: Global,
@@ -50,15 +69,10 @@ fn asked<R: Threads + Wait + Sync>(
 ) -> Result<(u64, u64), Fail>
     requires { AreInOrder shelves.now }
 {
-    if first.number() == second.number() {
-        return Err("two numbers".into());
-    }
     let shelf = shelves.first().ok_or("a shelf")?;
-    let (call, asks) = (registering(alloc)?, question(alloc)?);
-    match ask_from_threads(rt, shelves, shelf, (first, &call), (second, &asks)) {
-        Ok(passes) => Ok((passes[0].len(), passes[1].len())),
-        Err(_) => Err("settled".into()),
-    }
+    let call = registering(alloc)?;
+    let asks = question(alloc)?;
+    parts_of(rt, shelves, shelf, (first, &call), (second, &asks))
 }
 
 /// Tries: ask_from_threads
@@ -102,20 +116,37 @@ fn is_registration(answer: &Answer) -> bool {
 
 /// The part is the first of the pass, and whether it is in the volume.
 fn is_in(volume: &Volume, pass: &Pass) -> Result<bool, Fail> {
-    Ok(stands_in(volume, pass.part(0).ok_or("a part")?))
+    let part = pass.part(0).ok_or("a part")?;
+    Ok(stands_in(volume, part))
+}
+
+fn are_clocks(volume: &Volume, wanted: (u64, u64)) -> bool {
+    clocks(volume) == wanted
+}
+
+/// Whether the call of the one pass is in the volume, and that of the other is not, which has found what registered.
+fn is_read(volume: &Volume, pass: &Pass, other: &Pass) -> Result<(), Fail> {
+    holds("the call is in it", is_in(volume, pass)?)?;
+    holds("the later one is not", !is_in(volume, other)?)?;
+    holds("found", other.part(0).is_some_and(has_found))
+}
+
+fn cut_and_ask(
+    alloc: Global,
+    held: &mut Held,
+    pass: &mut Pass,
+    other: &mut Pass,
+) -> Result<(), Fail> {
+    let volume = registered(alloc, held, pass)?;
+    ask(alloc, held, other)?;
+    holds("the clocks", are_clocks(&volume, (0, 1)))?;
+    is_read(&volume, pass, other)
 }
 
 /// Tries: call_and_cut, clocks, stands_in
 #[test]
 fn a_volume_is_read(rt: HostRuntime) -> Result<(), Fail> {
-    let alloc = rt.alloc();
-    let mut held = Held::new(alloc, 1);
-    let (_shelves, mut pass, mut other) = one_shelf(alloc)?;
-    let volume = registered(alloc, &mut held, &mut pass)?;
-    holds("the clocks", clocks(&volume) == (0, 1))?;
-    ask(alloc, &mut held, &mut other)?;
-    holds("the call is in it", is_in(&volume, &pass)?)?;
-    holds("the later one is not", !is_in(&volume, &other)?)?;
-    let found = other.part(0).is_some_and(has_found);
-    holds("what registered is found", found)
+    let mut held = Held::new(rt.alloc(), 1);
+    let (_shelves, mut pass, mut other) = one_shelf(rt.alloc())?;
+    cut_and_ask(rt.alloc(), &mut held, &mut pass, &mut other)
 }

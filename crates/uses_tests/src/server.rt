@@ -1,5 +1,6 @@
 //! A server around a node.
 
+use crate::callers::has_names;
 use crate::given::{FIRST, HOME, REGISTER, bytes, device, holds};
 use lw_call::{Notice, ObserveFault};
 use lw_node::Node;
@@ -7,7 +8,7 @@ use lw_reg::{Addr, View};
 use lw_stamp::{Moment, Stamp};
 use std::alloc::Global;
 use std::test::Fail;
-use uses::{Fault, Server, Wish, names, ten_lines};
+use uses::{Fault, Server, Wish, ten_lines};
 
 /// Counts what it is asked to do, and keeps where the last datagram went.
 #[derive(Drop)]
@@ -61,33 +62,31 @@ fn in_ten_lines(
     Ok(ten_lines(alloc, server, peer, 0, &wish))
 }
 
+/// Whether it has sent a reply and a request to the device, and shown it once.
+fn has_served(server: &Counting) -> bool {
+    server.sent == 2 && server.last == Some(HOME) && server.shown == 1 && server.told == 0
+}
+
 /// Tries: ten_lines
 #[test]
 fn ten_lines_do_it(rt: HostRuntime) -> Result<(), Fail> {
-    let alloc = rt.alloc();
     let mut server = idle_server();
-    let mut peer = Node::new(alloc, 8);
+    let mut peer = Node::new(rt.alloc(), 8);
     let id = Stamp {
         counter: 1,
         node: 7,
     };
-    let next = in_ten_lines(alloc, &mut server, &mut peer, id)?;
-    holds("the next", next == Ok(2))?;
-    holds("a reply and a request", server.sent == 2)?;
-    holds("to the device", server.last == Some(HOME))?;
-    holds("shown once", server.shown == 1 && server.told == 0)?;
-    let shown = names(alloc, &peer, Moment::START)?;
-    holds("at the other", shown.len() == 1)
+    let next = in_ten_lines(rt.alloc(), &mut server, &mut peer, id)?;
+    holds("what was sent", next == Ok(2) && has_served(&server))?;
+    has_names(rt.alloc(), &peer, &["a"])
 }
 
 /// Tries: ten_lines
 #[test]
 fn ten_lines_find_no_stranger(rt: HostRuntime) -> Result<(), Fail> {
-    let alloc = rt.alloc();
     let mut server = idle_server();
-    let mut peer = Node::new(alloc, 8);
-    let refused = in_ten_lines(alloc, &mut server, &mut peer, FIRST)?;
+    let mut peer = Node::new(rt.alloc(), 8);
+    let refused = in_ten_lines(rt.alloc(), &mut server, &mut peer, FIRST)?;
     let stranger = Err(Fault::NotObserved(ObserveFault::NotFound));
-    holds("not found", refused == stranger)?;
-    holds("the reply alone", server.sent == 1)
+    holds("not found", refused == stranger && server.sent == 1)
 }

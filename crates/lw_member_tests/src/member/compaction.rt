@@ -1,9 +1,10 @@
 //! Compactions: all that a member knows is written anew, and what it has read goes.
 
+use super::acts::compact;
 use super::failures::FAULTS;
-use super::restarts::{is_observed, is_told};
 use super::*;
-use lw_log::{MemoryCall, MemoryLog, Position};
+use crate::hold::same;
+use lw_log::{MemoryCall, Position};
 
 /// What stands before the numbers of a whole entry of the first: its head with sequence 3, kind 2.
 const WHOLE_HEAD: &str =
@@ -21,9 +22,7 @@ const SECOND_DELTA: &str =
 000000000002000200000000000000000000000200020001518000000000000200020155\
 000000000002000200000000000002000200033c2f3e00000000";
 
-/// The identifier of it, and the reply to its Register.
-const SECOND_ID: &[u8; 16] = b"0000000000020002";
-
+/// The reply to its Register.
 const CREATED_AT_SECOND: &str = "604100058272640d0330303030303030303030303230303032";
 
 /// Starts with other tags: one looks for a number from 1 on, and one has a number of its own.
@@ -39,6 +38,15 @@ const FAR_CHANCE: Chance = Chance {
     number: 7,
 };
 
+/// The registrations of the first with counters 1 and 2.
+const ITS_IDS: &[&[u8; 16]] = &[FIRST_ID, b"0000000000020001"];
+
+/// The first registrations of two members.
+const IDS_OF_TWO: &[&[u8; 16]] = &[FIRST_ID, b"0000000000020002"];
+
+/// The first registration alone.
+const ITS_ID: &[&[u8; 16]] = &[FIRST_ID];
+
 fn at(major: u64) -> Position {
     Position { major, minor: 0 }
 }
@@ -47,328 +55,279 @@ fn at(major: u64) -> Position {
 fn is_whole(alloc: Global, entry: &[u8], head: &str, delta: &str) -> Result<(), Fail> {
     let (start, rest) = entry.split_first_chunk::<39>().ok_or("a head")?;
     let (_, known) = rest.split_first_chunk::<8192>().ok_or("numbers")?;
-    same(&hex::encode(alloc, start)?, head)?;
-    same(&hex::encode(alloc, known)?, delta)
+    is_hex(alloc, start, head)?;
+    is_hex(alloc, known, delta)
 }
 
-/// The first member over a log, which has registered `a`.
-fn serves<G: DeltaLog>(alloc: Global, log: G) -> Result<Member<G>, Fail> {
-    let mut member = Member::begin(alloc, log, &FIRST_CHANCE, Moment::START)?;
-    answers(alloc, &mut member, REGISTER, CREATED)?;
-    Ok(member)
+fn is_hex(alloc: Global, bytes: &[u8], want: &str) -> Result<(), Fail> {
+    let text = hex::encode(alloc, bytes)?;
+    same(text.as_str(), want)
 }
 
-/// Tries: lw_member::Member::compact
-#[test]
-fn what_was_read_goes_once_all_is_written(rt: HostRuntime) -> Result<(), Fail> {
-    let mut member = serves(rt.alloc(), MemoryLog::new(rt.alloc()))?;
+/// Compacts, and gives how many calls of its log were made before.
+fn compact_behind(member: &mut Member<MemoryLog>) -> Result<usize, MemberFault> {
     let before = member.log().asked().len();
-    member.compact()?;
-    let Some(
-        [
-            MemoryCall::Read(after, page),
-            MemoryCall::Wrote(place, entry),
-            MemoryCall::Trimmed(upto),
-        ],
-    ) = member.log().asked().get(before..)
+    compact(member)?;
+    Ok(before)
+}
+
+/// Fails where the calls are others than those that read the delta, write all and trim.
+fn is_compaction(alloc: Global, calls: &[MemoryCall]) -> Result<(), Fail> {
+    let [
+        MemoryCall::Read(after, page),
+        MemoryCall::Wrote(place, entry),
+        MemoryCall::Trimmed(upto),
+    ] = calls
     else {
         return Err("a reading, an append and a trim".into());
     };
     // The start has position 1, and the delta 2.
     holds("from the last that was read", *after == Some(at(1)))?;
     holds("the last", page.last().is_some_and(|last| last.0 == at(2)))?;
-    holds("the entry is behind it", *place == at(3))?;
-    holds("the last one goes", *upto == at(2))?;
-    is_whole(rt.alloc(), entry, WHOLE_HEAD, KNOWN)?;
-    let [left] = member.log().entries() else {
+    holds(
+        "the entry is behind it, and the last one goes",
+        *place == at(3) && *upto == at(2),
+    )?;
+    is_whole(alloc, entry, WHOLE_HEAD, KNOWN)
+}
+
+/// Fails where a compaction behind so many calls has asked for something else, or has left more than its entry.
+fn has_compacted(alloc: Global, log: &MemoryLog, before: usize) -> Result<(), Fail> {
+    is_compaction(alloc, log.asked().get(before..).ok_or("calls")?)?;
+    let [left] = log.entries() else {
         return Err("one entry is left".into());
     };
     holds("the whole one", left.0 == at(3))
 }
 
-/// A member over the log registers and observes `a`, and compacts.
-fn compacts_alone(alloc: Global, log: Shared<'_>) -> Result<(), Fail> {
-    let mut member = serves(alloc, log)?;
-    is_observed(alloc, &mut member)?;
-    member.compact()?;
-    holds("nothing is unwritten", member.node().is_some())
+/// Registers `a` and compacts.
+fn register_and_compact(alloc: Global, member: &mut Member<MemoryLog>) -> Result<(), Fail> {
+    ask_all(alloc, member, &[Answers(REGISTER, CREATED)])?;
+    let before = compact_behind(member)?;
+    has_compacted(alloc, member.log(), before)
 }
 
-/// Fails where the second start does not know what the first has compacted.
-fn is_second(alloc: Global, next: &mut Member<Shared<'_>>) -> Result<(), Fail> {
-    holds("another number", next.start().number == 2)?;
-    holds("the fleet of the log", next.fleet() == Some(FLEET))?;
-    is_told(alloc, next)?;
-    answers(alloc, next, UPDATE, CHANGED)
+/// Tries: lw_member::Member::compact
+#[test]
+fn what_was_read_goes_once_all_is_written(rt: HostRuntime) -> Result<(), Fail> {
+    let mut member = begin_in_memory(rt.alloc(), MemoryLog::new(rt.alloc()), &FIRST_CHANCE)?;
+    register_and_compact(rt.alloc(), &mut member)
 }
+
+/// A member registers and observes `a`, and compacts. A later start knows it.
+static COMPACTED: [Step; 12] = [
+    Begins(FIRST_CHANCE),
+    Does(FIRST, Answers(REGISTER, CREATED)),
+    Does(FIRST, Observes),
+    Does(FIRST, Compacts),
+    Shows(FIRST, Shown(true)),
+    End,
+    Log(HasCount(1)),
+    BeginsBeside(LATER_CHANCE),
+    Shows(FIRST, Number(2)),
+    Shows(FIRST, Fleet(Some(FLEET))),
+    Does(FIRST, Tells),
+    Does(FIRST, Answers(UPDATE, CHANGED)),
+];
 
 /// Tries: lw_member::Member::compact, lw_member::Member::begin
 #[test]
 fn what_was_compacted_the_next_start_knows(rt: HostRuntime) -> Result<(), Fail> {
-    for alone in [false, true] {
-        let entries = entries_of(rt.alloc(), &[])?;
-        compacts_alone(rt.alloc(), Shared::new(rt.alloc(), &entries, alone))?;
-        has_count(&entries, 1)?;
-        let mut next = begin(rt.alloc(), &entries, &LATER_CHANCE)?;
-        is_second(rt.alloc(), &mut next)?;
-    }
-    Ok(())
+    play_both(rt.alloc(), &COMPACTED)
 }
 
-/// Fails where the member does not know one of the registrations.
-fn knows_each(
-    alloc: Global,
-    member: &mut Member<Shared<'_>>,
-    ids: &[&[u8; 16]],
-) -> Result<(), Fail> {
-    for &id in ids {
-        knows(alloc, member, id)?;
-    }
-    Ok(())
-}
+/// The second member registers `b` between two compactions, while the first is idle.
+static BETWEEN_TWO: [Step; 12] = [
+    BeginsBeside(SECOND_CHANCE),
+    Begins(FIRST_CHANCE),
+    Does(SECOND, Answers(REGISTER, CREATED)),
+    Does(SECOND, Compacts),
+    Does(SECOND, Answers(REGISTER_B, CREATED_B)),
+    Log(HasCount(2)),
+    Does(FIRST, Rests),
+    Does(SECOND, Compacts),
+    Log(HasCount(1)),
+    NextKnows(FAR_CHANCE, ITS_IDS),
+    Does(FIRST, Knows(ITS_IDS)),
+    Does(SECOND, Answers(UPDATE, CHANGED)),
+];
 
-/// Fails where a start that reads the entries does not know one of the registrations.
-fn next_knows(
-    alloc: Global,
-    entries: &Entries,
-    chance: &Chance,
-    ids: &[&[u8; 16]],
-) -> Result<(), Fail> {
-    let mut next = begin(alloc, entries, chance)?;
-    knows_each(alloc, &mut next, ids)
-}
-
-/// The registrations of the first with counters 1 and 2.
-const ITS_IDS: [&[u8; 16]; 2] = [FIRST_ID, b"0000000000020001"];
-
-/// Registers `b` between two compactions. Who was idle meanwhile knows it, and so does a later start.
-fn is_kept_behind(
-    alloc: Global,
-    entries: &Entries,
-    idle: &mut Member<Shared<'_>>,
-    member: &mut Member<Shared<'_>>,
-) -> Result<(), Fail> {
-    member.compact()?;
-    answers(alloc, member, REGISTER_B, CREATED_B)?;
-    has_count(entries, 2)?;
-    rest(idle)?;
-    member.compact()?;
-    has_count(entries, 1)?;
-    next_knows(alloc, entries, &FAR_CHANCE, &ITS_IDS)?;
-    knows_each(alloc, idle, &ITS_IDS)?;
-    answers(alloc, member, UPDATE, CHANGED)
-}
-
-/// What comes behind a whole entry is known to those that have read it, to one that had read little before, and to a later
-/// start; and it is not lost by another compaction.
+/// What comes behind a whole entry is known to those that have read it, to one that had read little before, and to a
+/// later start; and it is not lost by another compaction.
 /// Tries: lw_member::Member::compact, lw_member::Member::round
 #[test]
 fn what_comes_behind_a_whole_entry_is_kept(rt: HostRuntime) -> Result<(), Fail> {
-    for alone in [false, true] {
-        let entries = entries_of(rt.alloc(), &[])?;
-        let mut idle = begin(rt.alloc(), &entries, &SECOND_CHANCE)?;
-        let mut member = serves(rt.alloc(), Shared::new(rt.alloc(), &entries, alone))?;
-        is_kept_behind(rt.alloc(), &entries, &mut idle, &mut member)?;
-    }
-    Ok(())
+    play_both(rt.alloc(), &BETWEEN_TWO)
 }
 
-/// The first registrations of two members.
-const IDS_OF_TWO: [&[u8; 16]; 2] = [FIRST_ID, SECOND_ID];
+const BOTH: &[usize] = &[FIRST, SECOND];
 
-/// Compacts in this order, a digit for a member.
-fn compact_in(
-    order: &str,
-    one: &mut Member<Shared<'_>>,
-    other: &mut Member<Shared<'_>>,
-) -> Result<(), MemberFault> {
-    for digit in order.bytes() {
-        match digit {
-            b'1' => one.compact()?,
-            _ => other.compact()?,
-        }
-    }
-    Ok(())
+/// Fails where two members that compact in this order leave more than one entry, or where one of them or a later start
+/// does not know what both have registered.
+fn two_compact_in(alloc: Global, row: usize, order: &'static [usize]) -> Result<(), Fail> {
+    let steps = [
+        Begins(FIRST_CHANCE),
+        Does(FIRST, Answers(REGISTER, CREATED)),
+        Begins(SECOND_CHANCE),
+        Does(SECOND, Answers(REGISTER_B, CREATED_AT_SECOND)),
+        Each(order, Compacts),
+        Log(HasCount(1)),
+        NextKnows(FAR_CHANCE, IDS_OF_TWO),
+        Each(BOTH, Knows(IDS_OF_TWO)),
+    ];
+    play_row(alloc, row, false, &[], &steps)
 }
 
-/// Fails where one of the members, or a later start, does not know what both have registered.
-fn all_know(
-    alloc: Global,
-    entries: &Entries,
-    one: &mut Member<Shared<'_>>,
-    other: &mut Member<Shared<'_>>,
-) -> Result<(), Fail> {
-    next_knows(alloc, entries, &FAR_CHANCE, &IDS_OF_TWO)?;
-    knows_each(alloc, one, &IDS_OF_TWO)?;
-    knows_each(alloc, other, &IDS_OF_TWO)
-}
-
-/// Fails where two members that compact in this order leave more than one entry, or lose something.
-fn two_compact_in(alloc: Global, order: &str) -> Result<(), Fail> {
-    let entries = entries_of(alloc, &[])?;
-    let mut one = serves(alloc, Shared::new(alloc, &entries, false))?;
-    let mut other = begin(alloc, &entries, &SECOND_CHANCE)?;
-    answers(alloc, &mut other, REGISTER_B, CREATED_AT_SECOND)?;
-    compact_in(order, &mut one, &mut other)?;
-    has_count(&entries, 1)?;
-    all_know(alloc, &entries, &mut one, &mut other)
-}
+static ORDERS: [&[usize]; 5] = [
+    &[FIRST, SECOND],
+    &[SECOND, FIRST],
+    &[FIRST, FIRST, SECOND],
+    &[SECOND, SECOND, FIRST],
+    &[FIRST, SECOND, FIRST, SECOND],
+];
 
 /// Tries: lw_member::Member::compact, lw_member::Member::round
 #[test]
 fn two_members_compact_in_any_order(rt: HostRuntime) -> Result<(), Fail> {
-    for order in ["12", "21", "112", "221", "1212"] {
-        two_compact_in(rt.alloc(), order)?;
+    for (row, order) in ORDERS.iter().enumerate() {
+        two_compact_in(rt.alloc(), row, order)?;
     }
     Ok(())
 }
 
-/// The second member writes before the next append of this one.
-fn second_comes_between(alloc: Global, member: &Member<Shared<'_>>) -> Result<(), Fail> {
-    for text in [SECOND_START, SECOND_DELTA] {
-        member.log().come_between(hex::decode(alloc, text)?)?;
-    }
-    Ok(())
-}
-
-/// Fails where a start that reads the entries has another number than 3, or does not know both registrations.
-fn is_third(alloc: Global, entries: &Entries) -> Result<(), Fail> {
-    let mut next = begin(alloc, entries, &LATER_CHANCE)?;
-    holds("both numbers had a start", next.start().number == 3)?;
-    knows_each(alloc, &mut next, &IDS_OF_TWO)
-}
+/// The second member writes before the next append of the first. Both of their numbers had a start.
+static BETWEEN: [Step; 9] = [
+    Begins(FIRST_CHANCE),
+    Does(FIRST, Answers(REGISTER, CREATED)),
+    LogOf(FIRST, ComesBetween(&[SECOND_START, SECOND_DELTA])),
+    Does(FIRST, Compacts),
+    Log(HasFirst(&[SECOND_START, SECOND_DELTA])),
+    Log(HasCount(3)),
+    Begins(LATER_CHANCE),
+    Shows(SECOND, Number(3)),
+    Each(&[SECOND, FIRST], Knows(IDS_OF_TWO)),
+];
 
 /// Another member writes after the compacting one has read, and before its entry is there.
 /// Tries: lw_member::Member::compact, lw_member::Member::round
 #[test]
 fn what_comes_between_the_reading_and_the_entry_is_kept(rt: HostRuntime) -> Result<(), Fail> {
-    let entries = entries_of(rt.alloc(), &[])?;
-    let mut member = serves(rt.alloc(), Shared::new(rt.alloc(), &entries, false))?;
-    second_comes_between(rt.alloc(), &member)?;
-    member.compact()?;
-    has_first(rt.alloc(), &entries, &[SECOND_START, SECOND_DELTA])?;
-    has_count(&entries, 3)?;
-    is_third(rt.alloc(), &entries)?;
-    knows_each(rt.alloc(), &mut member, &IDS_OF_TWO)
+    play(rt.alloc(), &[], &BETWEEN)
 }
 
-/// Fails where the first entries are others than the texts spell in hex.
-fn has_first(alloc: Global, entries: &Entries, want: &[&str]) -> Result<(), Fail> {
-    let Ok(entries) = entries.try_borrow() else {
-        return Err("the entries are free".into());
-    };
-    holds_for(&entries.len(), entries.len() >= want.len())?;
-    for (entry, text) in entries.iter().zip(want) {
-        same(&hex::encode(alloc, &entry.1)?, text)?;
-    }
-    Ok(())
-}
-
-/// Tries: lw_member::Member::compact
-#[test]
-fn an_empty_log_is_left_so(rt: HostRuntime) -> Result<(), Fail> {
-    let log = MemoryLog::new(rt.alloc());
-    let mut member = Member::begin(rt.alloc(), log, &FIRST_CHANCE, Moment::START)?;
-    let before = member.log().asked().len();
-    member.compact()?;
-    let Some([MemoryCall::Read(None, page)]) = member.log().asked().get(before..) else {
+/// Fails where a compaction behind so many calls has asked for more than a reading, or has found something.
+fn has_found_nothing(log: &MemoryLog, before: usize) -> Result<(), Fail> {
+    let Some([MemoryCall::Read(None, page)]) = log.asked().get(before..) else {
         return Err("one reading".into());
     };
     holds("nothing is there", page.is_empty())
 }
 
+/// Compacts an empty log.
+fn compact_nothing(member: &mut Member<MemoryLog>) -> Result<(), Fail> {
+    let before = compact_behind(member)?;
+    has_found_nothing(member.log(), before)
+}
+
+/// Tries: lw_member::Member::compact
+#[test]
+fn an_empty_log_is_left_so(rt: HostRuntime) -> Result<(), Fail> {
+    let mut member = begin_in_memory(rt.alloc(), MemoryLog::new(rt.alloc()), &FIRST_CHANCE)?;
+    compact_nothing(&mut member)
+}
+
+static NO_ENTRY: [Step; 4] = [
+    Begins(FIRST_CHANCE),
+    Log(Puts("00")),
+    Does(FIRST, Compacts),
+    Log(Has(&["00"])),
+];
+
 /// Tries: lw_member::Member::compact
 #[test]
 fn bytes_that_are_no_entry_are_left_so(rt: HostRuntime) -> Result<(), Fail> {
-    let entries = entries_of(rt.alloc(), &[])?;
-    let mut member = begin(rt.alloc(), &entries, &FIRST_CHANCE)?;
-    put(&entries, hex::decode(rt.alloc(), "00")?)?;
-    member.compact()?;
-    has_entries(rt.alloc(), &entries, &["00"])
+    play(rt.alloc(), &[], &NO_ENTRY)
+}
+
+/// What the first member has written.
+const WRITTEN: &[&str] = &[START, DELTA];
+
+/// Fails where something goes or is lost, or where the next compaction then leaves more than its entry.
+fn nothing_goes(
+    alloc: Global,
+    row: usize,
+    alone: bool,
+    (fault, kept, want): (LogFault, bool, MemberFault),
+) -> Result<(), Fail> {
+    let steps = [
+        Begins(FIRST_CHANCE),
+        Does(FIRST, Answers(REGISTER, CREATED)),
+        LogOf(FIRST, FailsAppend(0, fault, kept)),
+        Does(FIRST, CompactsNot(want)),
+        Log(HasFirst(WRITTEN)),
+        Log(HasCount(if kept { 3 } else { 2 })),
+        NextKnows(SECOND_CHANCE, ITS_ID),
+        Does(FIRST, Answers(UPDATE, CHANGED)),
+        Does(FIRST, Compacts),
+        Log(HasCount(1)),
+        NextKnows(LATER_CHANCE, ITS_ID),
+    ];
+    play_row(alloc, row, alone, &[], &steps)
 }
 
 /// Where the append fails nothing goes, and nothing is lost. The next compaction does it.
 /// Tries: lw_member::Member::compact
 #[test]
 fn where_the_append_fails_nothing_goes(rt: HostRuntime) -> Result<(), Fail> {
-    for row in &FAULTS {
-        let (fault, kept, want) = *row;
+    for (row, fault) in FAULTS.iter().enumerate() {
         for alone in [false, true] {
-            let entries = entries_of(rt.alloc(), &[])?;
-            let mut member = serves(rt.alloc(), Shared::new(rt.alloc(), &entries, alone))?;
-            member.log().fail_append(0, fault, kept);
-            holds_for(row, member.compact().err() == Some(want))?;
-            has_first(rt.alloc(), &entries, &[START, DELTA])?;
-            has_count(&entries, 2_usize.saturating_add(usize::from(kept)))?;
-            is_whole_again(rt.alloc(), &entries, &mut member)?;
+            nothing_goes(rt.alloc(), row, alone, *fault)?;
         }
     }
     Ok(())
 }
 
-/// Fails where a later start or the member does not know `a`, and where a compaction then leaves more than its entry.
-fn is_whole_again(
-    alloc: Global,
-    entries: &Entries,
-    member: &mut Member<Shared<'_>>,
-) -> Result<(), Fail> {
-    next_knows(alloc, entries, &SECOND_CHANCE, &[FIRST_ID])?;
-    answers(alloc, member, UPDATE, CHANGED)?;
-    member.compact()?;
-    has_count(entries, 1)?;
-    next_knows(alloc, entries, &LATER_CHANCE, &[FIRST_ID])
-}
+/// Nothing is read, and then nothing is trimmed. The next compaction leaves its entry alone.
+static UNREAD: [Step; 15] = [
+    Begins(FIRST_CHANCE),
+    Does(FIRST, Answers(REGISTER, CREATED)),
+    LogOf(FIRST, FailsReading(LogFault::Away)),
+    Does(FIRST, CompactsNot(AWAY)),
+    Log(Has(WRITTEN)),
+    LogOf(FIRST, FailsTrim(LogFault::Away)),
+    Does(FIRST, CompactsNot(AWAY)),
+    LogOf(FIRST, HasFailed),
+    Log(HasFirst(WRITTEN)),
+    Log(HasCount(3)),
+    NextKnows(SECOND_CHANCE, ITS_ID),
+    Does(FIRST, Answers(UPDATE, CHANGED)),
+    Does(FIRST, Compacts),
+    Log(HasCount(1)),
+    NextKnows(LATER_CHANCE, ITS_ID),
+];
 
 /// Tries: lw_member::Member::compact
 #[test]
 fn where_the_reading_or_the_trim_fails_nothing_goes(rt: HostRuntime) -> Result<(), Fail> {
-    let away = MemberFault::Log(LogFault::Away);
-    let entries = entries_of(rt.alloc(), &[])?;
-    let mut member = serves(rt.alloc(), Shared::new(rt.alloc(), &entries, false))?;
-    member.log().fail_reading(0, LogFault::Away);
-    holds("nothing is read", member.compact() == Err(away))?;
-    has_entries(rt.alloc(), &entries, &[START, DELTA])?;
-    member.log().fail_trim(LogFault::Away);
-    holds("nothing is trimmed", member.compact() == Err(away))?;
-    holds("both have failed", member.log().has_failed())?;
-    has_first(rt.alloc(), &entries, &[START, DELTA])?;
-    has_count(&entries, 3)?;
-    is_whole_again(rt.alloc(), &entries, &mut member)
+    play(rt.alloc(), &[], &UNREAD)
 }
 
-/// The second member registers `b`, and compacts: the entry has both numbers.
-fn second_compacts(
-    alloc: Global,
-    entries: &Entries,
-    second: &mut Member<Shared<'_>>,
-) -> Result<(), Fail> {
-    answers(alloc, second, REGISTER_B, CREATED_AT_SECOND)?;
-    second.compact()?;
-    has_count(entries, 1)?;
-    has_numbers(entries)
-}
+/// The second member registers `b`, and compacts: its entry has numbers 1 and 2, which are bits of the first byte.
+static NUMBERED: [Step; 9] = [
+    Begins(FIRST_CHANCE),
+    Does(FIRST, Answers(REGISTER, CREATED)),
+    Begins(SECOND_CHANCE),
+    Does(SECOND, Answers(REGISTER_B, CREATED_AT_SECOND)),
+    Does(SECOND, Compacts),
+    Log(HasCount(1)),
+    Log(HasNumbers(6)),
+    Begins(LATER_CHANCE),
+    Shows(THIRD, Number(3)),
+];
 
 /// The numbers of a whole entry: that of the start that wrote it, and that of one whose entries are gone.
 /// Tries: lw_member::Member::compact, lw_member::Member::begin
 #[test]
 fn numbers_stay_taken_where_their_entries_go(rt: HostRuntime) -> Result<(), Fail> {
-    let entries = entries_of(rt.alloc(), &[])?;
-    let _one = serves(rt.alloc(), Shared::new(rt.alloc(), &entries, false))?;
-    let mut second = begin(rt.alloc(), &entries, &SECOND_CHANCE)?;
-    second_compacts(rt.alloc(), &entries, &mut second)?;
-    let next = begin(rt.alloc(), &entries, &LATER_CHANCE)?;
-    holds("1 and 2 had a start", next.start().number == 3)
-}
-
-/// Fails where the last entry has other numbers than 1 and 2: bits 1 and 2 of the first of 8192 bytes.
-fn has_numbers(entries: &Entries) -> Result<(), Fail> {
-    let Ok(entries) = entries.try_borrow() else {
-        return Err("the entries are free".into());
-    };
-    let (_, entry) = entries.last().ok_or("an entry")?;
-    let (_, rest) = entry.split_first_chunk::<39>().ok_or("a head")?;
-    let (first, rest) = rest.split_first().ok_or("numbers")?;
-    let (others, _) = rest.split_first_chunk::<8191>().ok_or("numbers")?;
-    holds_for(first, *first == 6)?;
-    holds("no other", others.iter().all(|byte| *byte == 0))
+    play(rt.alloc(), &[], &NUMBERED)
 }

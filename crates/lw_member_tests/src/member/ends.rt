@@ -1,5 +1,6 @@
 //! Clocks, where they end and where they begin.
 
+use super::acts::is_seen;
 use super::*;
 use lw_log::Nowhere;
 
@@ -11,17 +12,19 @@ const LAST_CLOCK: &str =
 /// The reply to a Register of `a` with the clock at its end: 5.03.
 const UNAVAILABLE: &str = "60a30004";
 
+static AT_END: [Step; 6] = [
+    Begins(SECOND_CHANCE),
+    Shows(FIRST, Shown(true)),
+    Does(FIRST, Answers(REGISTER, UNAVAILABLE)),
+    Shows(FIRST, Shown(true)),
+    Does(FIRST, Answers(REGISTER, UNAVAILABLE)),
+    Log(Has(&[START, LAST_CLOCK, SECOND_START])),
+];
+
 /// Tries: lw_member::Member::round, lw_member::Member::node
 #[test]
 fn nothing_is_registered_at_the_end_of_the_clock(rt: HostRuntime) -> Result<(), Fail> {
-    let entries = entries_of(rt.alloc(), &[START, LAST_CLOCK])?;
-    let mut member = begin(rt.alloc(), &entries, &SECOND_CHANCE)?;
-    holds("nothing is unwritten", member.node().is_some())?;
-    answers(rt.alloc(), &mut member, REGISTER, UNAVAILABLE)?;
-    holds("nothing is unwritten", member.node().is_some())?;
-    answers(rt.alloc(), &mut member, REGISTER, UNAVAILABLE)?;
-    let want = [START, LAST_CLOCK, SECOND_START];
-    has_entries(rt.alloc(), &entries, &want)
+    play(rt.alloc(), &[START, LAST_CLOCK], &AT_END)
 }
 
 /// A moment in milliseconds, and the reply to the first Register of `a` at a member that begins then: its counter is
@@ -45,17 +48,21 @@ static FLOORS: [(u64, &str); 6] = [
     (4_398_046_511_104, UNAVAILABLE),
 ];
 
+/// Fails where a member that begins at the moment gives another reply.
+fn begins_above(alloc: Global, row: usize, (ms, want): (u64, &'static str)) -> Result<(), Fail> {
+    let steps = [
+        BeginsAt(ms, FIRST_CHANCE),
+        Does(FIRST, Answers(REGISTER, want)),
+        Shows(FIRST, Shown(true)),
+    ];
+    play_row(alloc, row, false, &[], &steps)
+}
+
 /// Tries: lw_member::Member::begin, lw_member::Member::round
 #[test]
 fn a_first_counter_is_above_the_floor(rt: HostRuntime) -> Result<(), Fail> {
-    for row in &FLOORS {
-        let (ms, want) = row;
-        let entries = entries_of(rt.alloc(), &[])?;
-        let log = Shared::new(rt.alloc(), &entries, false);
-        let moment = Moment::new(*ms).ok_or("a moment")?;
-        let mut member = Member::begin(rt.alloc(), log, &FIRST_CHANCE, moment)?;
-        answers(rt.alloc(), &mut member, REGISTER, want)?;
-        holds_for(row, member.node().is_some())?;
+    for (row, floor) in FLOORS.iter().enumerate() {
+        begins_above(rt.alloc(), row, *floor)?;
     }
     Ok(())
 }
@@ -67,21 +74,39 @@ fn begin_nowhere(alloc: Global, ms: u64) -> Result<Member<Nowhere>, Fail> {
     Ok(Member::begin(alloc, log, &FIRST_CHANCE, moment)?)
 }
 
+/// Asks it of a member that keeps nothing and begins at a moment. Then number 1 is its own, and nothing is unwritten.
+fn ask_nowhere(alloc: Global, ms: u64, acts: &[Act]) -> Result<(), Fail> {
+    let mut member = begin_nowhere(alloc, ms)?;
+    ask_all(alloc, &mut member, acts)?;
+    let is_so = is_seen(&member, Number(1)) && is_seen(&member, Shown(true));
+    holds("number 1, and nothing is unwritten", is_so)
+}
+
+/// An Update of the registration with counter 64,001.
+const UPDATE_OF_BEFORE: &str = "40020011b272640d0330303030303030306661303130303031";
+
+static BEFORE: [Act; 2] = [
+    Answers(
+        REGISTER,
+        "604100048272640d0330303030303030306661303130303031",
+    ),
+    Answers(UPDATE_OF_BEFORE, CHANGED),
+];
+
+/// The Register then has counter 64,065.
+static AFTER: [Act; 2] = [
+    Answers(UPDATE_OF_BEFORE, NOT_FOUND),
+    Answers(
+        REGISTER,
+        "604100048272640d0330303030303030306661343130303031",
+    ),
+];
+
 /// Tries: lw_member::Member::begin, lw_member::Member::round
 #[test]
 fn a_start_that_knows_nothing_gives_no_identifier_of_before(rt: HostRuntime) -> Result<(), Fail> {
-    let mut member = begin_nowhere(rt.alloc(), 1_000)?;
-    let first = "604100048272640d0330303030303030306661303130303031";
-    answers(rt.alloc(), &mut member, REGISTER, first)?;
-    let update = "40020011b272640d0330303030303030306661303130303031";
-    answers(rt.alloc(), &mut member, update, CHANGED)?;
-    holds("nothing is unwritten", member.node().is_some())?;
-    let mut next = begin_nowhere(rt.alloc(), 1_001)?;
-    holds("the same number", next.start().number == 1)?;
-    answers(rt.alloc(), &mut next, update, NOT_FOUND)?;
-    // 64,065 in place of 64,001
-    let second = "604100048272640d0330303030303030306661343130303031";
-    answers(rt.alloc(), &mut next, REGISTER, second)
+    ask_nowhere(rt.alloc(), 1_000, &BEFORE)?;
+    ask_nowhere(rt.alloc(), 1_001, &AFTER)
 }
 
 /// The first delta of the second start, sequence 2: no slot, and a clock of 64,000.
@@ -89,25 +114,19 @@ const CLOCK_ALONE: &str =
     "4c574531000102030405060708090a0b0c0d0e0f0002b1b2b3b4b5b6b7b8000000000000000201\
 4c57443300000000fa0000";
 
+static CLOCKS: [Step; 7] = [
+    BeginsAt(1_000, SECOND_CHANCE),
+    Does(FIRST, Rests),
+    Shows(FIRST, Clock(1)),
+    Log(Has(&[START, DELTA])),
+    Does(FIRST, Answers("40000007", "70000007")),
+    Shows(FIRST, Clock(64_000)),
+    Log(Has(&[START, DELTA, SECOND_START, CLOCK_ALONE])),
+];
+
 /// Without calls the clock stays below the floor. It is raised with the claim, and written also where nothing else is.
 /// Tries: lw_member::Member::round
 #[test]
 fn a_clock_that_alone_has_moved_is_written(rt: HostRuntime) -> Result<(), Fail> {
-    let entries = entries_of(rt.alloc(), &[START, DELTA])?;
-    let log = Shared::new(rt.alloc(), &entries, false);
-    let moment = Moment::new(1_000).ok_or("a moment")?;
-    let mut member = Member::begin(rt.alloc(), log, &SECOND_CHANCE, moment)?;
-    rest(&mut member)?;
-    holds(
-        "its clock",
-        member.node().is_some_and(|node| node.clock() == 1),
-    )?;
-    has_entries(rt.alloc(), &entries, &[START, DELTA])?;
-    answers(rt.alloc(), &mut member, "40000007", "70000007")?;
-    holds(
-        "its clock",
-        member.node().is_some_and(|node| node.clock() == 64_000),
-    )?;
-    let want = [START, DELTA, SECOND_START, CLOCK_ALONE];
-    has_entries(rt.alloc(), &entries, &want)
+    play(rt.alloc(), &[START, DELTA], &CLOCKS)
 }

@@ -5,59 +5,20 @@ use super::*;
 /// A Register of `c` with the object list `</>`, message ID 6.
 const REGISTER_C: &str = "40020006b272644465703d63ff3c2f3e";
 
-/// Adds the identifier that is given for a Register, which the device sends again where a round fails.
-fn register(
-    alloc: Global,
-    member: &mut Member<Shared<'_>>,
-    datagram: &str,
-    given: &mut Vec<u8>,
-) -> Result<(), Fail> {
-    let calls = [take(alloc, datagram)?];
-    if let Ok(replies) = member.round(&calls) {
-        given.extend_from_slice(id_in(&replies)?)?;
-        return Ok(());
-    }
-    // With its start alone a member has written no less than it knows.
-    let is_shown = member.node().is_some();
-    holds(
-        "what is unwritten is not shown",
-        is_shown != member.is_claimed(),
-    )?;
-    let replies = member.round(&calls)?;
-    holds("all is written", member.node().is_some())?;
-    given.extend_from_slice(id_in(&replies)?)?;
-    Ok(())
-}
-
-/// The identifiers that a member gives three devices, one behind another, where an append fails.
-fn given_by(
-    alloc: Global,
-    entries: &Entries,
-    alone: bool,
-    append: u64,
-    kept: bool,
-) -> Result<Vec<u8>, Fail> {
-    let log = Shared::new(alloc, entries, alone);
-    let mut member = Member::begin(alloc, log, &FIRST_CHANCE, Moment::START)?;
-    member.log().fail_append(append, LogFault::Away, kept);
-    let mut given = Vec::new(alloc);
-    for datagram in [REGISTER, REGISTER_B, REGISTER_C] {
-        register(alloc, &mut member, datagram, &mut given)?;
-    }
-    holds("an append has failed", member.log().has_failed())?;
-    Ok(given)
-}
-
-/// All that is given where an append fails is known at the next start.
-fn is_known_afterwards(alloc: Global, alone: bool, append: u64, kept: bool) -> Result<(), Fail> {
-    let entries = entries_of(alloc, &[])?;
-    let given = given_by(alloc, &entries, alone, append, kept)?;
-    holds("three identifiers", given.len() == 48)?;
-    let mut next = begin(alloc, &entries, &SECOND_CHANCE)?;
-    for id in given.chunks_exact(16) {
-        knows(alloc, &mut next, id)?;
-    }
-    Ok(())
+/// All that is given to three devices where an append fails is known at the next start.
+fn is_known_afterwards(alloc: Global, alone: bool, after: u64, kept: bool) -> Result<(), Fail> {
+    let steps = [
+        Begins(FIRST_CHANCE),
+        LogOf(FIRST, FailsAppend(after, LogFault::Away, kept)),
+        Registers(FIRST, REGISTER),
+        Registers(FIRST, REGISTER_B),
+        Registers(FIRST, REGISTER_C),
+        LogOf(FIRST, HasFailed),
+        End,
+        BeginsBeside(SECOND_CHANCE),
+        KnowsGiven(FIRST, 3),
+    ];
+    play_row(alloc, after as usize, alone, &[], &steps)
 }
 
 /// Tries: lw_member::Member::round, lw_member::Member::node, lw_member::Member::begin
@@ -75,8 +36,8 @@ fn what_is_given_around_a_failed_append_is_known(rt: HostRuntime) -> Result<(), 
 
 /// A fault of a log at an append, whether the entry is kept, and what the member answers.
 pub(super) static FAULTS: [(LogFault, bool, MemberFault); 7] = [
-    (LogFault::Away, false, MemberFault::Log(LogFault::Away)),
-    (LogFault::Away, true, MemberFault::Log(LogFault::Away)),
+    (LogFault::Away, false, AWAY),
+    (LogFault::Away, true, AWAY),
     (
         LogFault::Refused,
         false,
@@ -88,63 +49,82 @@ pub(super) static FAULTS: [(LogFault, bool, MemberFault); 7] = [
     (LogFault::NoMemory, false, MemberFault::NoMemory),
 ];
 
+/// What an empty round leaves in the log where the delta was not kept, and where it was.
+const WRITTEN: &[&str] = &[START, DELTA];
+
+const WRITTEN_TWICE: &[&str] = &[START, DELTA, DELTA];
+
+/// Fails where an empty round does not write what the failed one left.
+fn is_written(
+    alloc: Global,
+    row: usize,
+    (fault, kept, want): (LogFault, bool, MemberFault),
+) -> Result<(), Fail> {
+    let steps = [
+        Begins(FIRST_CHANCE),
+        LogOf(FIRST, FailsAppend(1, fault, kept)),
+        Does(FIRST, Refuses(REGISTER, want)),
+        Shows(FIRST, Shown(false)),
+        Does(FIRST, Rests),
+        Shows(FIRST, Shown(true)),
+        Log(Has(if kept { WRITTEN_TWICE } else { WRITTEN })),
+        Does(FIRST, Answers(UPDATE, CHANGED)),
+    ];
+    play_row(alloc, row, false, &[], &steps)
+}
+
 /// Tries: lw_member::Member::round, lw_member::Member::node
 #[test]
 fn an_empty_round_writes_what_a_failed_one_left(rt: HostRuntime) -> Result<(), Fail> {
-    for row in &FAULTS {
-        let (fault, kept, want) = *row;
-        let entries = entries_of(rt.alloc(), &[])?;
-        let mut member = begin(rt.alloc(), &entries, &FIRST_CHANCE)?;
-        member.log().fail_append(1, fault, kept);
-        holds_for(row, refusal(rt.alloc(), &mut member, REGISTER)? == want)?;
-        holds_for(row, member.node().is_none())?;
-        rest(&mut member)?;
-        holds_for(row, member.node().is_some())?;
-        if kept {
-            has_entries(rt.alloc(), &entries, &[START, DELTA, DELTA])?;
-        } else {
-            has_entries(rt.alloc(), &entries, &[START, DELTA])?;
-        }
-        answers(rt.alloc(), &mut member, UPDATE, CHANGED)?;
+    for (row, fault) in FAULTS.iter().enumerate() {
+        is_written(rt.alloc(), row, *fault)?;
     }
     Ok(())
 }
 
+/// An Update and a Register fail, which have taken counters 2 and 3. The next start knows them.
+static FOLLOWED: [Step; 16] = [
+    Begins(FIRST_CHANCE),
+    Does(FIRST, Answers(REGISTER, CREATED)),
+    LogOf(FIRST, FailsAppend(0, LogFault::Away, false)),
+    Does(FIRST, Refuses(UPDATE, AWAY)),
+    Shows(FIRST, Shown(false)),
+    LogOf(FIRST, FailsAppend(0, LogFault::Away, false)),
+    Does(FIRST, Refuses(REGISTER_B, AWAY)),
+    Shows(FIRST, Shown(false)),
+    LogOf(FIRST, FailsReading(LogFault::Away)),
+    Does(FIRST, RestsNot(AWAY)),
+    Shows(FIRST, Shown(false)),
+    Log(Has(WRITTEN)),
+    Does(FIRST, Rests),
+    Shows(FIRST, Shown(true)),
+    Begins(SECOND_CHANCE),
+    Does(SECOND, Knows(&[b"0000000000030001"])),
+];
+
 /// Tries: lw_member::Member::round, lw_member::Member::node
 #[test]
 fn a_failed_round_may_be_followed_by_another(rt: HostRuntime) -> Result<(), Fail> {
-    let entries = entries_of(rt.alloc(), &[])?;
-    let mut member = begin(rt.alloc(), &entries, &FIRST_CHANCE)?;
-    let away = MemberFault::Log(LogFault::Away);
-    answers(rt.alloc(), &mut member, REGISTER, CREATED)?;
-    for datagram in [UPDATE, REGISTER_B] {
-        member.log().fail_append(0, LogFault::Away, false);
-        holds("away", refusal(rt.alloc(), &mut member, datagram)? == away)?;
-        holds("nothing is shown", member.node().is_none())?;
-    }
-    member.log().fail_reading(0, LogFault::Away);
-    holds("nothing is read", member.round(&[]).err() == Some(away))?;
-    holds("nothing is shown", member.node().is_none())?;
-    has_entries(rt.alloc(), &entries, &[START, DELTA])?;
-    rest(&mut member)?;
-    holds("all is shown", member.node().is_some())?;
-    // The Update has taken counter 2, and the Register counter 3.
-    let mut next = begin(rt.alloc(), &entries, &SECOND_CHANCE)?;
-    knows(rt.alloc(), &mut next, b"0000000000030001")
+    play(rt.alloc(), &[], &FOLLOWED)
 }
+
+static NOTHING_READ: [Step; 7] = [
+    Begins(FIRST_CHANCE),
+    Does(FIRST, Answers(REGISTER, CREATED)),
+    LogOf(FIRST, FailsReading(LogFault::Refused)),
+    Does(
+        FIRST,
+        Refuses(REGISTER_B, MemberFault::Log(LogFault::Refused)),
+    ),
+    Shows(FIRST, Shown(true)),
+    Log(Has(WRITTEN)),
+    Does(FIRST, Answers(REGISTER_B, CREATED_B)),
+];
 
 /// Tries: lw_member::Member::round, lw_member::Member::node
 #[test]
 fn no_call_is_made_where_nothing_is_read(rt: HostRuntime) -> Result<(), Fail> {
-    let entries = entries_of(rt.alloc(), &[])?;
-    let mut member = begin(rt.alloc(), &entries, &FIRST_CHANCE)?;
-    answers(rt.alloc(), &mut member, REGISTER, CREATED)?;
-    member.log().fail_reading(0, LogFault::Refused);
-    let fault = refusal(rt.alloc(), &mut member, REGISTER_B)?;
-    holds("refused", fault == MemberFault::Log(LogFault::Refused))?;
-    holds("nothing is unwritten", member.node().is_some())?;
-    has_entries(rt.alloc(), &entries, &[START, DELTA])?;
-    answers(rt.alloc(), &mut member, REGISTER_B, CREATED_B)
+    play(rt.alloc(), &[], &NOTHING_READ)
 }
 
 /// The first delta behind two starts, sequence 3.
@@ -154,18 +134,28 @@ const DELTA_AFTER: &str =
 000000000001000100000000000000000000000100010001518000000000000100010155\
 000000000001000100000000000001000100033c2f3e00000000";
 
+static CLAIMED_AGAIN: [Step; 7] = [
+    Begins(FIRST_CHANCE),
+    LogOf(FIRST, FailsReading(LogFault::Away)),
+    Does(FIRST, Refuses(REGISTER, AWAY)),
+    Shows(FIRST, Claimed(false)),
+    Log(Has(&[START])),
+    Does(FIRST, Answers(REGISTER, CREATED)),
+    Log(Has(&[START, START_AGAIN, DELTA_AFTER])),
+];
+
 /// Tries: lw_member::Member::round, lw_member::Member::is_claimed
 #[test]
 fn a_claim_that_was_not_read_is_made_again(rt: HostRuntime) -> Result<(), Fail> {
-    let entries = entries_of(rt.alloc(), &[])?;
-    let mut member = begin(rt.alloc(), &entries, &FIRST_CHANCE)?;
-    member.log().fail_reading(0, LogFault::Away);
-    let fault = refusal(rt.alloc(), &mut member, REGISTER)?;
-    holds("away", fault == MemberFault::Log(LogFault::Away))?;
-    holds("its number is not claimed", !member.is_claimed())?;
-    has_entries(rt.alloc(), &entries, &[START])?;
-    answers(rt.alloc(), &mut member, REGISTER, CREATED)?;
-    has_entries(rt.alloc(), &entries, &[START, START_AGAIN, DELTA_AFTER])
+    play(rt.alloc(), &[], &CLAIMED_AGAIN)
+}
+
+/// Whether no member begins over the entries where a reading fails after so many others.
+fn begins_not(alloc: Global, entries: &Entries, after: u64) -> bool {
+    let log = Shared::new(alloc, entries, false);
+    log.fail_reading(after, LogFault::Lost);
+    let begun = Member::begin(alloc, log, &SECOND_CHANCE, Moment::START);
+    begun.err() == Some(MemberFault::Log(LogFault::Lost))
 }
 
 /// Tries: lw_member::Member::begin
@@ -173,39 +163,27 @@ fn a_claim_that_was_not_read_is_made_again(rt: HostRuntime) -> Result<(), Fail> 
 fn a_member_begins_where_all_is_read(rt: HostRuntime) -> Result<(), Fail> {
     let entries = entries_of(rt.alloc(), &[START, DELTA])?;
     for before in 0..2 {
-        let log = Shared::new(rt.alloc(), &entries, false);
-        log.fail_reading(before, LogFault::Lost);
-        let begun = Member::begin(rt.alloc(), log, &SECOND_CHANCE, Moment::START);
-        let lost = MemberFault::Log(LogFault::Lost);
-        holds_for(&before, begun.err() == Some(lost))?;
+        holds_for(&before, begins_not(rt.alloc(), &entries, before))?;
     }
     Ok(())
 }
 
-/// The last entry that is there.
-fn last_of(alloc: Global, entries: &Entries) -> Result<Vec<u8>, Fail> {
-    let Ok(entries) = entries.try_borrow() else {
-        return Err("the entries are free".into());
-    };
-    let (_, bytes) = entries.last().ok_or("an entry")?;
-    Ok(bytes.to_vec(alloc)?)
-}
+/// The log loses all, is given what was written since, and has the start again that was lost.
+static LOST: [Step; 10] = [
+    Begins(FIRST_CHANCE),
+    Does(FIRST, Answers(REGISTER, CREATED)),
+    LogOf(FIRST, FailsAppend(0, LogFault::Lost, false)),
+    Does(FIRST, Refuses(REGISTER_B, MemberFault::Log(LogFault::Lost))),
+    Log(Loses),
+    Does(FIRST, Rests),
+    Log(Restores(START)),
+    Begins(SECOND_CHANCE),
+    Does(SECOND, Answers(UPDATE, CHANGED)),
+    Does(SECOND, Answers(UPDATE_OF_SECOND, CHANGED)),
+];
 
 /// Tries: lw_member::Member::round
 #[test]
 fn a_log_that_has_lost_entries_is_given_all(rt: HostRuntime) -> Result<(), Fail> {
-    let entries = entries_of(rt.alloc(), &[])?;
-    let mut member = begin(rt.alloc(), &entries, &FIRST_CHANCE)?;
-    answers(rt.alloc(), &mut member, REGISTER, CREATED)?;
-    member.log().fail_append(0, LogFault::Lost, false);
-    let fault = refusal(rt.alloc(), &mut member, REGISTER_B)?;
-    holds("lost", fault == MemberFault::Log(LogFault::Lost))?;
-    lose(&entries)?;
-    rest(&mut member)?;
-    // The start that was lost, and what was written since.
-    let kept = entries_of(rt.alloc(), &[START])?;
-    put(&kept, last_of(rt.alloc(), &entries)?)?;
-    let mut next = begin(rt.alloc(), &kept, &SECOND_CHANCE)?;
-    answers(rt.alloc(), &mut next, UPDATE, CHANGED)?;
-    answers(rt.alloc(), &mut next, UPDATE_OF_SECOND, CHANGED)
+    play(rt.alloc(), &[], &LOST)
 }

@@ -32,15 +32,21 @@ static REFUSED: [(&[&str], MemberFault); 10] = [
     (&[START, DELTA, NEWER, OTHER_DELTA], MemberFault::LogNewer),
 ];
 
+/// Fails where a member begins over the entries, or changes them.
+fn begins_not(
+    alloc: Global,
+    row: usize,
+    (texts, want): (&'static [&'static str], MemberFault),
+) -> Result<(), Fail> {
+    let steps = [BeginsNot(SECOND_CHANCE, want), Log(Has(texts))];
+    play_row(alloc, row, false, texts, &steps)
+}
+
 /// Tries: lw_member::Member::begin
 #[test]
 fn no_member_begins_over_a_log_that_it_cannot_go_on_with(rt: HostRuntime) -> Result<(), Fail> {
-    for row in &REFUSED {
-        let (texts, want) = row;
-        let entries = entries_of(rt.alloc(), texts)?;
-        let begun = begin(rt.alloc(), &entries, &SECOND_CHANCE);
-        holds_for(row, begun.err() == Some(*want))?;
-        has_entries(rt.alloc(), &entries, texts)?;
+    for (row, refused) in REFUSED.iter().enumerate() {
+        begins_not(rt.alloc(), row, *refused)?;
     }
     Ok(())
 }
@@ -52,19 +58,29 @@ static LATER: [(&str, MemberFault); 3] = [
     (NEWER_DELTA, MemberFault::LogNewer),
 ];
 
+/// Fails where a member makes a round after the entry has come.
+fn makes_no_round(
+    alloc: Global,
+    row: usize,
+    (text, want): (&'static str, MemberFault),
+) -> Result<(), Fail> {
+    let steps = [
+        Begins(SECOND_CHANCE),
+        Log(Puts(text)),
+        Does(FIRST, RestsNot(want)),
+        Does(FIRST, Refuses(UPDATE, want)),
+        Does(FIRST, Refuses(UPDATE, want)),
+    ];
+    play_row(alloc, row, false, &[START, DELTA], &steps)
+}
+
 /// Tries: lw_member::Member::round
 #[test]
 fn no_round_is_made_over_a_log_that_a_member_cannot_go_on_with(
     rt: HostRuntime,
 ) -> Result<(), Fail> {
-    for row in &LATER {
-        let (text, want) = row;
-        let entries = entries_of(rt.alloc(), &[START, DELTA])?;
-        let mut member = begin(rt.alloc(), &entries, &SECOND_CHANCE)?;
-        put(&entries, hex::decode(rt.alloc(), text)?)?;
-        holds_for(row, rest(&mut member) == Err(*want))?;
-        holds_for(row, refusal(rt.alloc(), &mut member, UPDATE)? == *want)?;
-        holds_for(row, refusal(rt.alloc(), &mut member, UPDATE)? == *want)?;
+    for (row, later) in LATER.iter().enumerate() {
+        makes_no_round(rt.alloc(), row, *later)?;
     }
     Ok(())
 }
@@ -89,21 +105,20 @@ static GOOD: [&[&str]; 5] = [
     &[START, OTHER_START, DELTA],
 ];
 
+static GOES_ON: [Step; 3] = [
+    Begins(SECOND_CHANCE),
+    Shows(FIRST, Fleet(Some(FLEET))),
+    Does(FIRST, Answers(UPDATE, CHANGED)),
+];
+
 /// Tries: lw_member::Member::begin, lw_member::Member::fleet
 #[test]
 fn a_member_begins_over_what_is_good_of_a_log(rt: HostRuntime) -> Result<(), Fail> {
-    for texts in &GOOD {
-        let entries = entries_of(rt.alloc(), texts)?;
-        let mut member = begin(rt.alloc(), &entries, &SECOND_CHANCE)?;
-        holds_for(texts, member.fleet() == Some(FLEET))?;
-        answers(rt.alloc(), &mut member, UPDATE, CHANGED)?;
+    for (row, texts) in GOOD.iter().enumerate() {
+        play_row(rt.alloc(), row, false, texts, &GOES_ON)?;
     }
     Ok(())
 }
-
-/// What stands before the numbers of a whole entry of number 3.
-const WHOLE_HEAD: &str =
-    "4c574531000102030405060708090a0b0c0d0e0f0003c1c2c3c4c5c6c7c8000000000000000302";
 
 /// A delta without slots.
 const EMPTY_DELTA: &str = "4c57443300000000000100";
@@ -114,39 +129,42 @@ const FULL_DELTA: &str =
 000000000001000100000000000000000000000100010001518000000000000100010155\
 000000000001000100000000000001000100033c2f3e00000000";
 
-/// A whole entry with these numbers.
-fn whole(alloc: Global, numbers: &[u8; 8192], delta: &str) -> Result<Vec<u8>, Fail> {
-    let mut bytes = hex::decode(alloc, WHOLE_HEAD)?;
-    bytes.extend_from_slice(numbers)?;
-    bytes.extend_from_slice(&hex::decode(alloc, delta)?)?;
-    Ok(bytes)
-}
+/// What others wrote while a whole entry was made stands before it.
+static CUT: [&str; 3] = [DELTA, START_AGAIN, "00"];
+
+static GOOD_AGAIN: [Step; 4] = [
+    Log(PutsWhole(0, 0, 0, FULL_DELTA)),
+    Begins(SECOND_CHANCE),
+    Shows(FIRST, Fleet(Some(FLEET))),
+    Does(FIRST, Answers(UPDATE, CHANGED)),
+];
 
 /// Tries: lw_member::Member::begin
 #[test]
 fn a_whole_entry_makes_a_cut_log_good(rt: HostRuntime) -> Result<(), Fail> {
-    // what others wrote while it was made stands before it
-    for text in [DELTA, START_AGAIN, "00"] {
-        let entries = entries_of(rt.alloc(), &[text])?;
-        put(&entries, whole(rt.alloc(), &[0; 8192], FULL_DELTA)?)?;
-        let mut member = begin(rt.alloc(), &entries, &SECOND_CHANCE)?;
-        holds("its fleet", member.fleet() == Some(FLEET))?;
-        answers(rt.alloc(), &mut member, UPDATE, CHANGED)?;
+    for (row, text) in CUT.iter().enumerate() {
+        play_row(rt.alloc(), row, false, &[text], &GOOD_AGAIN)?;
     }
     Ok(())
 }
 
+/// The bit of number 0 says nothing.
+static ENDED: [[Step; 2]; 2] = [
+    [
+        Log(PutsWhole(0xff, 0, 0xfe, EMPTY_DELTA)),
+        BeginsNot(SECOND_CHANCE, MemberFault::NumbersEnded),
+    ],
+    [
+        Log(PutsWhole(0xff, 0, 0xff, EMPTY_DELTA)),
+        BeginsNot(SECOND_CHANCE, MemberFault::NumbersEnded),
+    ],
+];
+
 /// Tries: lw_member::Member::begin
 #[test]
 fn no_member_begins_where_each_number_has_had_a_start(rt: HostRuntime) -> Result<(), Fail> {
-    // the bit of number 0 says nothing
-    for first in [0xfe, 0xff] {
-        let mut numbers = [0xff; 8192];
-        numbers[0] = first;
-        let entries = entries_of(rt.alloc(), &[])?;
-        put(&entries, whole(rt.alloc(), &numbers, EMPTY_DELTA)?)?;
-        let begun = begin(rt.alloc(), &entries, &SECOND_CHANCE);
-        holds("ended", begun.err() == Some(MemberFault::NumbersEnded))?;
+    for (row, steps) in ENDED.iter().enumerate() {
+        play_row(rt.alloc(), row, false, &[], steps)?;
     }
     Ok(())
 }
@@ -166,39 +184,52 @@ static NUMBERS: [(usize, u8, u16, u16); 9] = [
     (8191, 0xff, 65528, 1),
 ];
 
+/// Fails where a member takes another number.
+fn takes_number(
+    alloc: Global,
+    row: usize,
+    (place, bits, drawn, want): (usize, u8, u16, u16),
+) -> Result<(), Fail> {
+    let chance = Chance {
+        number: drawn,
+        ..SECOND_CHANCE
+    };
+    let steps = [
+        Log(PutsWhole(0, place, bits, EMPTY_DELTA)),
+        Begins(chance),
+        Shows(FIRST, Number(want)),
+    ];
+    play_row(alloc, row, false, &[], &steps)
+}
+
 /// Tries: lw_member::Member::begin, lw_member::Member::start
 #[test]
 fn a_member_takes_a_number_that_no_start_has_had(rt: HostRuntime) -> Result<(), Fail> {
-    for row in &NUMBERS {
-        let (place, bits, drawn, want) = *row;
-        let mut numbers = [0; 8192];
-        *numbers.get_mut(place).ok_or("a place")? = bits;
-        let entries = entries_of(rt.alloc(), &[])?;
-        put(&entries, whole(rt.alloc(), &numbers, EMPTY_DELTA)?)?;
-        let chance = Chance {
-            number: drawn,
-            ..SECOND_CHANCE
-        };
-        let member = begin(rt.alloc(), &entries, &chance)?;
-        holds_for(row, member.start().number == want)?;
+    for (row, numbers) in NUMBERS.iter().enumerate() {
+        takes_number(rt.alloc(), row, *numbers)?;
     }
     Ok(())
 }
+
+/// The whole entry comes before the start of the member.
+static BEFORE: [Step; 3] = [
+    Begins(SECOND_CHANCE),
+    Log(PutsWhole(0, 0, 0x04, EMPTY_DELTA)),
+    Does(FIRST, Refuses(UPDATE, MemberFault::NumberTaken)),
+];
+
+/// The whole entry comes behind it.
+static BEHIND: [Step; 4] = [
+    Begins(SECOND_CHANCE),
+    Does(FIRST, Answers(UPDATE, CHANGED)),
+    Log(PutsWhole(0, 0, 0x04, EMPTY_DELTA)),
+    Does(FIRST, Answers(UPDATE, CHANGED)),
+];
 
 /// A number is lost where a whole entry that comes before its start has its bit.
 /// Tries: lw_member::Member::round
 #[test]
 fn a_whole_entry_tells_of_a_number(rt: HostRuntime) -> Result<(), Fail> {
-    let entries = entries_of(rt.alloc(), &[START, DELTA])?;
-    let mut member = begin(rt.alloc(), &entries, &SECOND_CHANCE)?;
-    let mut numbers = [0; 8192];
-    numbers[0] = 0x04;
-    put(&entries, whole(rt.alloc(), &numbers, EMPTY_DELTA)?)?;
-    let fault = refusal(rt.alloc(), &mut member, UPDATE)?;
-    holds("before it", fault == MemberFault::NumberTaken)?;
-    let entries = entries_of(rt.alloc(), &[START, DELTA])?;
-    let mut member = begin(rt.alloc(), &entries, &SECOND_CHANCE)?;
-    answers(rt.alloc(), &mut member, UPDATE, CHANGED)?;
-    put(&entries, whole(rt.alloc(), &numbers, EMPTY_DELTA)?)?;
-    answers(rt.alloc(), &mut member, UPDATE, CHANGED)
+    play_row(rt.alloc(), 0, false, &[START, DELTA], &BEFORE)?;
+    play_row(rt.alloc(), 1, false, &[START, DELTA], &BEHIND)
 }

@@ -2,109 +2,148 @@
 
 use super::*;
 
+/// Without calls the second reads the fleet. Counter 1 is taken, 2 is the Update's, and 3 that of the Register of `b`
+/// at node 2.
+static KNOWN: [Step; 8] = [
+    Begins(FIRST_CHANCE),
+    Begins(SECOND_CHANCE),
+    Does(FIRST, Answers(REGISTER, CREATED)),
+    Does(SECOND, Rests),
+    Shows(SECOND, Fleet(Some(FLEET))),
+    Does(SECOND, Answers(UPDATE, CHANGED)),
+    Does(
+        SECOND,
+        Answers(
+            REGISTER_B,
+            "604100058272640d0330303030303030303030303330303032",
+        ),
+    ),
+    Does(
+        FIRST,
+        Answers(
+            "40020011b272640d0330303030303030303030303330303032",
+            CHANGED,
+        ),
+    ),
+];
+
 /// Tries: lw_member::Member::round, lw_member::Member::fleet
 #[test]
 fn what_one_member_answers_the_other_knows(rt: HostRuntime) -> Result<(), Fail> {
-    let entries = entries_of(rt.alloc(), &[])?;
-    let mut one = begin(rt.alloc(), &entries, &FIRST_CHANCE)?;
-    let mut other = begin(rt.alloc(), &entries, &SECOND_CHANCE)?;
-    answers(rt.alloc(), &mut one, REGISTER, CREATED)?;
-    // Without calls it reads the fleet.
-    rest(&mut other)?;
-    holds("the fleet of the log", other.fleet() == Some(FLEET))?;
-    answers(rt.alloc(), &mut other, UPDATE, CHANGED)?;
-    // Counter 1 is taken, 2 is the Update's, and 3 that of the Register of `b` at node 2.
-    let created = "604100058272640d0330303030303030303030303330303032";
-    answers(rt.alloc(), &mut other, REGISTER_B, created)?;
-    let update = "40020011b272640d0330303030303030303030303330303032";
-    answers(rt.alloc(), &mut one, update, CHANGED)
+    play(rt.alloc(), &[], &KNOWN)
 }
+
+/// A Register without a name is refused, and changes nothing.
+static READ: [Step; 6] = [
+    Begins(SECOND_CHANCE),
+    Log(Puts(DELTA)),
+    Does(FIRST, Rests),
+    Log(Has(&[START, DELTA])),
+    Does(FIRST, Answers("40020006b27264ff3c2f3e", "60800006")),
+    Log(Has(&[START, DELTA, SECOND_START])),
+];
 
 /// What a round of one member leaves unchanged is written by no other.
 /// Tries: lw_member::Member::round
 #[test]
 fn what_was_read_is_not_written_again(rt: HostRuntime) -> Result<(), Fail> {
-    let entries = entries_of(rt.alloc(), &[START])?;
-    let mut other = begin(rt.alloc(), &entries, &SECOND_CHANCE)?;
-    put(&entries, hex::decode(rt.alloc(), DELTA)?)?;
-    rest(&mut other)?;
-    has_entries(rt.alloc(), &entries, &[START, DELTA])?;
-    // A Register without a name is refused, and changes nothing.
-    answers(rt.alloc(), &mut other, "40020006b27264ff3c2f3e", "60800006")?;
-    has_entries(rt.alloc(), &entries, &[START, DELTA, SECOND_START])
+    play(rt.alloc(), &[START], &READ)
 }
+
+/// What the second draws where it draws the number and the fleet of the first.
+const SAME_CHANCE: Chance = Chance {
+    fleet: FLEET,
+    tag: 0xb1b2_b3b4_b5b6_b7b8,
+    number: 1,
+};
+
+/// The second has a round without calls before it has one with calls.
+static IDLE: [Step; 9] = [
+    Begins(FIRST_CHANCE),
+    Begins(SAME_CHANCE),
+    Shows(FIRST, Number(1)),
+    Shows(SECOND, Number(1)),
+    Does(FIRST, Answers(REGISTER, CREATED)),
+    Does(SECOND, RestsNot(MemberFault::NumberTaken)),
+    Does(SECOND, Refuses(REGISTER_B, MemberFault::NumberTaken)),
+    Shows(SECOND, Claimed(false)),
+    Does(FIRST, Answers(UPDATE, CHANGED)),
+];
+
+static NOT_IDLE: [Step; 8] = [
+    Begins(FIRST_CHANCE),
+    Begins(SAME_CHANCE),
+    Shows(FIRST, Number(1)),
+    Shows(SECOND, Number(1)),
+    Does(FIRST, Answers(REGISTER, CREATED)),
+    Does(SECOND, Refuses(REGISTER_B, MemberFault::NumberTaken)),
+    Shows(SECOND, Claimed(false)),
+    Does(FIRST, Answers(UPDATE, CHANGED)),
+];
 
 /// Tries: lw_member::Member::round, lw_member::Member::is_claimed
 #[test]
 fn two_starts_with_one_number_are_not_both_served(rt: HostRuntime) -> Result<(), Fail> {
-    let chance = Chance {
-        number: 1,
-        fleet: FLEET,
-        ..SECOND_CHANCE
-    };
-    for is_idle in [false, true] {
-        let entries = entries_of(rt.alloc(), &[])?;
-        let mut one = begin(rt.alloc(), &entries, &FIRST_CHANCE)?;
-        let mut other = begin(rt.alloc(), &entries, &chance)?;
-        holds("one number", one.start().number == other.start().number)?;
-        answers(rt.alloc(), &mut one, REGISTER, CREATED)?;
-        if is_idle {
-            let idle = rest(&mut other);
-            holds("without calls", idle == Err(MemberFault::NumberTaken))?;
-        }
-        let fault = refusal(rt.alloc(), &mut other, REGISTER_B)?;
-        holds("with calls", fault == MemberFault::NumberTaken)?;
-        holds("it has claimed nothing", !other.is_claimed())?;
-        answers(rt.alloc(), &mut one, UPDATE, CHANGED)?;
-    }
-    Ok(())
+    play_row(rt.alloc(), 0, false, &[], &IDLE)?;
+    play_row(rt.alloc(), 1, false, &[], &NOT_IDLE)
 }
 
 /// The start entry of a start with number 1 and another tag.
 const SAME_NUMBER: &str =
     "4c574531000102030405060708090a0b0c0d0e0f0001b1b2b3b4b5b6b7b8000000000000000100";
 
+/// Its start comes behind the other one.
+static BEHIND: [Step; 4] = [
+    Begins(FIRST_CHANCE),
+    Log(Puts(SAME_NUMBER)),
+    Does(FIRST, Refuses(REGISTER, MemberFault::NumberTaken)),
+    Log(Has(&[SAME_NUMBER, START])),
+];
+
+/// Its start is written, and not read before the other one is there.
+static BEFORE: [Step; 5] = [
+    Begins(FIRST_CHANCE),
+    LogOf(FIRST, FailsReading(LogFault::Away)),
+    Does(FIRST, Refuses(REGISTER, AWAY)),
+    Log(Puts(SAME_NUMBER)),
+    Does(FIRST, Answers(REGISTER, CREATED)),
+];
+
 /// Tries: lw_member::Member::round
 #[test]
 fn a_number_is_of_the_start_that_is_first_in_the_log(rt: HostRuntime) -> Result<(), Fail> {
-    let entries = entries_of(rt.alloc(), &[])?;
-    let mut behind = begin(rt.alloc(), &entries, &FIRST_CHANCE)?;
-    put(&entries, hex::decode(rt.alloc(), SAME_NUMBER)?)?;
-    let fault = refusal(rt.alloc(), &mut behind, REGISTER)?;
-    holds("behind another", fault == MemberFault::NumberTaken)?;
-    has_entries(rt.alloc(), &entries, &[SAME_NUMBER, START])?;
-    // Its start is written, and not read before the other one is there.
-    let entries = entries_of(rt.alloc(), &[])?;
-    let mut before = begin(rt.alloc(), &entries, &FIRST_CHANCE)?;
-    before.log().fail_reading(0, LogFault::Away);
-    refusal(rt.alloc(), &mut before, REGISTER)?;
-    put(&entries, hex::decode(rt.alloc(), SAME_NUMBER)?)?;
-    answers(rt.alloc(), &mut before, REGISTER, CREATED)
+    play_row(rt.alloc(), 0, false, &[], &BEHIND)?;
+    play_row(rt.alloc(), 1, false, &[], &BEFORE)
 }
 
 /// The start of the second in the fleet that it has drawn.
 const OTHER_START: &str =
     "4c574531f0f1f2f3f4f5f6f7f8f9fafbfcfdfeff0002b1b2b3b4b5b6b7b8000000000000000100";
 
+/// What a third start draws.
+const THIRD_CHANCE: Chance = Chance {
+    fleet: OTHER_FLEET,
+    tag: 1,
+    number: 2,
+};
+
+/// The start of the first is written, and not read before the other's is there. Number 2 was taken.
+static TWO_FLEETS: [Step; 11] = [
+    Begins(FIRST_CHANCE),
+    Begins(SECOND_CHANCE),
+    LogOf(FIRST, FailsReading(LogFault::Away)),
+    Does(FIRST, Refuses(REGISTER, AWAY)),
+    Does(SECOND, Refuses(REGISTER_B, MemberFault::NumberTaken)),
+    Log(Has(&[START, OTHER_START])),
+    Does(FIRST, Answers(REGISTER, CREATED)),
+    Begins(THIRD_CHANCE),
+    Shows(THIRD, Fleet(Some(FLEET))),
+    Shows(THIRD, Number(3)),
+    Does(THIRD, Answers(UPDATE, CHANGED)),
+];
+
 /// Tries: lw_member::Member::round, lw_member::Member::begin
 #[test]
 fn of_two_fleets_the_first_in_the_log_is_served(rt: HostRuntime) -> Result<(), Fail> {
-    let entries = entries_of(rt.alloc(), &[])?;
-    let mut one = begin(rt.alloc(), &entries, &FIRST_CHANCE)?;
-    let mut other = begin(rt.alloc(), &entries, &SECOND_CHANCE)?;
-    // The start of the one is written, and not read before the other's is there.
-    one.log().fail_reading(0, LogFault::Away);
-    refusal(rt.alloc(), &mut one, REGISTER)?;
-    let fault = refusal(rt.alloc(), &mut other, REGISTER_B)?;
-    holds("the other", fault == MemberFault::NumberTaken)?;
-    has_entries(rt.alloc(), &entries, &[START, OTHER_START])?;
-    answers(rt.alloc(), &mut one, REGISTER, CREATED)?;
-    let chance = Chance {
-        tag: 1,
-        ..SECOND_CHANCE
-    };
-    let mut third = begin(rt.alloc(), &entries, &chance)?;
-    holds("the first fleet", third.fleet() == Some(FLEET))?;
-    holds("number 2 was taken", third.start().number == 3)?;
-    answers(rt.alloc(), &mut third, UPDATE, CHANGED)
+    play(rt.alloc(), &[], &TWO_FLEETS)
 }
