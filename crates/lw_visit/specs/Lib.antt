@@ -1,0 +1,4 @@
+pub mod Guard
+pub mod Responses
+pub mod Visits
+pub mod inner

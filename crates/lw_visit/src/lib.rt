@@ -1,0 +1,11 @@
+//! Visits over HTTP: who may ask, what a response says, and a connection that is answered.
+#![tactic(auto)]
+
+mod asking;
+mod guard;
+mod refusal;
+mod visiting;
+
+pub use asking::Asking;
+pub use guard::Guard;
+pub use visiting::{advance, new_connection, visit};

@@ -1,0 +1,59 @@
+//! A connection that is answered.
+
+ghost use Rattle.std.specs.Prelude.{◌≡◌, OnOk};
+ghost use Rattle.std.specs.Io.KnownBytes.{Appends, Consumes};
+ghost use Rattle.http_server.specs.Connection.{config_of, history};
+ghost use Rattle.http_server.specs.History.{new_history, History, IsDone, IsQuiet, IsServed, Rests};
+ghost use Rattle.lw_visit.specs.Visits.{AreAnswered, IsLimited, IsVisited};
+
+use crate::{Asking, Guard};
+use http_server::{Config, Connection, serve};
+use lw_target::Desk;
+use std::alloc::Global;
+use std::hash::RandomState;
+use std::io::{self, Read, Write};
+
+/// The most bytes of a request's line and fields.
+const MOST_HEAD: usize = 8_192;
+
+/// A connection that is answered. No request has a body.
+pub fn new_connection(alloc: Global, keys: RandomState) -> Connection
+    ensures history { history result ≡ new_history }
+    ensures limited { IsLimited (config_of result) }
+{
+    let mut config = Config::default();
+    config.limits.max_head_len = MOST_HEAD;
+    config.max_body_len = 0;
+    Connection::new(alloc, keys, config)
+}
+
+/// Answers the requests that have come whole.
+pub fn advance<D: Desk>(alloc: Global, connection: &mut Connection, desk: &D, guard: &Guard)
+    ensures answered { AreAnswered guard.now (D.tells desk.now) (history connection.old) (history connection.new) }
+    ensures served { ∥ IsServed (config_of connection.new) (history connection.new) ∥₁ }
+    ensures rests { Rests (config_of connection.new) (history connection.new) }
+    ensures quiet { IsQuiet (history connection.old) (history connection.new) }
+    ensures config { config_of connection.new ≡ config_of connection.old }
+{
+    let mut asking = Asking { alloc, desk, guard };
+    connection.advance(&mut asking);
+}
+
+/// Answers a reader's requests by what it writes, until the connection is done.
+pub fn visit<D: Desk, R: Read, W: Write>(
+    alloc: Global,
+    keys: RandomState,
+    desk: &D,
+    guard: &Guard,
+    reader: &mut R,
+    writer: &mut W,
+) -> io::Result<()>
+    ensures visited { (all : History) × IsVisited guard.now (D.tells desk.now) all
+        × Consumes (R.remaining reader.old) (R.remaining reader.new) all.received
+        × Appends (W.contents writer.old) (W.contents writer.new) all.sent
+        × OnOk result (IsDone all) }
+{
+    let mut connection = new_connection(alloc, keys);
+    let mut asking = Asking { alloc, desk, guard };
+    serve(&mut connection, &mut asking, reader, writer)
+}
