@@ -15,7 +15,7 @@ use Rattle.lw_visit.specs.declared.guard.Guard.{Guard}
 
 -- the token that a request has to bring, if it has to
 abbrev pub token_of : Guard → Option (List ℕ)
-token_of guard = option_map string_bytes guard.token
+token_of guard = option_map (λ token. token.items) guard.token
 
 -- the name that a request may be for, beside addresses
 abbrev pub host_name : Guard → Option (List ℕ)

@@ -1,4 +1,5 @@
 pub mod Guard
 pub mod Responses
+pub mod Token
 pub mod Visits
 pub mod inner

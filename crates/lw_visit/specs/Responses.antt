@@ -13,7 +13,7 @@ use Rattle.lw_target.specs.declared.desk.Media.TheVariants.{Json, Metrics}
 use Rattle.lw_target.specs.declared.desk.Status.{Status}
 use Rattle.lw_target.specs.declared.desk.Status.TheVariants as status
 use Rattle.lw_target.specs.declared.method.Method.{Method}
-use Rattle.lw_target.specs.declared.method.Method.TheVariants.{Get, Other}
+use Rattle.lw_target.specs.declared.method.Method.TheVariants.{Get}
 use Rattle.lw_target.specs.declared.refused.Refused.{Refused}
 use Rattle.lw_target.specs.declared.refused.Refused.TheVariants.{NoResource, MethodNotAllowed}
 use Rattle.lw_target.specs.Refusals.{status_of, text_of}

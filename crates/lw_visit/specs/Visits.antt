@@ -1,5 +1,5 @@
 -- A connection that is answered.
-use Rattle.std.specs.Prelude.{◌≡◌, ℕ, List, ◌++◌, All}
+use Rattle.std.specs.Prelude.{◌≡◌, List, ◌++◌, All}
 use Rattle.http_server.specs.Exchange.{Call}
 use Rattle.http_server.specs.History.{History, IsServed}
 use Rattle.http_server.specs.declared.state.Config.{Config}

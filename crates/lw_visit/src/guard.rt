@@ -19,7 +19,7 @@ const SCHEME: &[u8] = b"bearer ";
 #[derive(Drop)]
 pub struct Guard {
     /// The token that a request has to bring, if it has to.
-    pub token: Option<String>,
+    pub token: Option<Vec<u8>>,
     /// The name that a request may be for, beside IP addresses and `localhost`.
     pub host: Option<String>,
 }
@@ -67,7 +67,7 @@ impl Guard {
         ensures { IsTrue result ↔ HasToken (token_of self.now) (tokens_in request.now) }
     {
         match &self.token {
-            Some(token) => brings(request, token.as_bytes()),
+            Some(token) => brings(request, token),
             None => true,
         }
     }

@@ -4,8 +4,10 @@
 mod asking;
 mod guard;
 mod refusal;
+mod token;
 mod visiting;
 
 pub use asking::Asking;
 pub use guard::Guard;
+pub use token::token_in;
 pub use visiting::{advance, new_connection, visit};

@@ -1,4 +1,4 @@
-use Rattle.std.proofs.Common.{◌≡◌, sym, subst}
+use Rattle.std.proofs.Common.{sym, subst}
 use Rattle.lw_visit.specs.Responses.{IsAllowed}
 use Rattle.lw_visit.proofs.asking.Asking.told.Goals as goal
 
