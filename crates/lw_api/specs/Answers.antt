@@ -1,14 +1,31 @@
 -- What is told of the registrations that a node shows at a moment (LwM2M 1.1 Core, section 6.2; RFC 7641), as JSON texts
 -- (RFC 8259).
-use Rattle.std.specs.Prelude.{◌≡◌, ◌≤◌, ℕ, List, length, max, Option}
+use Rattle.std.specs.Prelude.{◌≡◌, ◌≢◌, ◌<◌, ◌≤◌, ◌↔◌, ℕ, List, length, map, max, nat_lt, All, Contains, Option, Some, None, IfSome, codes, string_bytes}
+use Rattle.std.specs.FinMap.{get}
+use Rattle.std.specs.List.Sorted.{IsStrictlySortedBy}
 use Rattle.std.specs.Option.{option_map}
 use Rattle.serde_json.specs.Written.{compact_text}
 use Rattle.lw_reg.specs.Marks.{Marks}
 use Rattle.lw_reg.specs.Registration.{Registration}
 use Rattle.lw_reg.specs.State.{State}
 use Rattle.lw_reg.specs.declared.watch.Watch.{Watch}
+use Rattle.lw_reg.specs.Showing.{ShownOf}
+use Rattle.lw_stamp.specs.TextOrder.{text_cmp}
+use Rattle.lw_table.specs.Changes.{IsChangePage, LAST, Moved, upto_of}
+use Rattle.lw_table.specs.LookUps.{ById, ByAddress, ByToken}
 use Rattle.lw_table.specs.Pages.{IsPage, MovesOn}
-use Rattle.lw_print.specs.Json.{registration_json, watch_json, page_json}
+use Rattle.lw_table.specs.Table.{IsKept}
+use Rattle.lw_node.specs.Node.{NodeContent}
+use Rattle.lw_print.specs.declared.node.NodeNumbers.{NodeNumbers}
+use Rattle.lw_print.specs.Changes.{Change, changes_json}
+use Rattle.lw_print.specs.Json.{registration_json, watch_json, page_json, node_json}
+use Rattle.lw_target.specs.declared.asked.Asked.{Asked}
+use Rattle.lw_target.specs.declared.asked.Asked.TheVariants as asked
+use Rattle.lw_target.specs.declared.desk.Answer.{Answer}
+use Rattle.lw_target.specs.declared.desk.Media.TheVariants.{Json}
+use Rattle.lw_target.specs.declared.desk.Status.{Status}
+use Rattle.lw_target.specs.declared.desk.Status.TheVariants as status
+use Rattle.lw_api.specs.declared.answering.About.{About}
 use Rattle.lw_api.specs.Known.{OfKnown}
 
 -- the text is that of the registration that is the answer, or there is none
@@ -31,3 +48,72 @@ pub record TellsPage (state : State) (now : ℕ) (after : Option (List ℕ)) (li
   pub within : length page ≤ max 1 limit
   pub further : MovesOn after next
   pub text_is : text ≡ compact_text (page_json page next)
+
+-- how many registrations were not removed
+pub record CountsRegistrations (state : State) (n : ℕ) : Type 0 where
+  pub all : List (List ℕ)
+  pub rising : IsStrictlySortedBy text_cmp all
+  pub exactly : (e : List ℕ) → Contains all e ↔ IsKept (get state e)
+  pub count : n ≡ length all
+
+-- the text is that of the node in numbers
+pub record TellsNode (node : NodeContent) (about : About) (text : List ℕ) : Type 0 where
+  pub numbers : NodeNumbers
+  pub change : numbers.change ≡ node.table.count.change
+  pub counter : numbers.counter ≡ node.clock
+  pub number : numbers.number ≡ about.number
+  pub registrations : CountsRegistrations node.table.state numbers.registrations
+  pub start : numbers.start ≡ about.tag
+  pub text_is : text ≡ compact_text (node_json numbers)
+
+-- Changes, behind a number: of each endpoint that moved since then the last change, and what is shown of it now. They are so
+-- many at most. There are more where the node has changed after the last of them.
+pub record TellsChanges (node : NodeContent) (about : About) (now since limit : ℕ) (text : List ℕ) : Type 0 where
+  pub page : List Moved
+  pub moved : IsChangePage node.table.state node.table.count since limit page
+  pub changes : List Change
+  pub of_them : map (λ change. (change.0, change.1.0)) changes ≡ map (λ moved. (moved.0, moved.1.0)) page
+  pub shown : All (λ change. OfKnown node.table.state (λ M. ShownOf M now change.1.0 change.1.1)) changes
+  pub text_is : text ≡ compact_text (changes_json changes (nat_lt (upto_of since page) node.table.count.change) (upto_of since page) about.tag)
+
+-- ---- answers
+-- it has the status, and the text as its JSON
+pub record IsJson (status : Status) (text : List ℕ) (answer : Answer) : Type 0 where
+  pub status_is : answer.status ≡ status
+  pub media_is : answer.media ≡ Json
+  pub body_is : string_bytes answer.body ≡ text
+
+abbrev pub IsNotFound : Answer → Type 0
+IsNotFound = IsJson status.NotFound (codes "{\"error\":\"not found\"}")
+
+-- what was found, or that nothing was
+abbrev pub IsFound : Option (List ℕ) → Answer → Type 0
+IsFound (Some text) answer = IsJson status.Ok text answer
+IsFound None answer = IsNotFound answer
+
+-- Changes are told to who follows this start, or begins. At the last change number, where one number stands for many, none
+-- are told.
+pub record IsChangesAnswer (node : NodeContent) (about : About) (now since : ℕ) (start : Option ℕ) (limit : ℕ) (answer : Answer)
+    : Type 0 where
+  pub unsaid : start ≡ None → 0 < since → IsJson status.BadRequest (codes "{\"error\":\"start\"}") answer
+  pub other : IfSome start (λ tag. tag ≢ about.tag → IsJson status.Gone (codes "{\"error\":\"gone\"}") answer)
+  pub told : (start ≡ None → since ≡ 0) → IfSome start (λ tag. tag ≡ about.tag) → node.table.count.change ≢ LAST
+      → (text : List ℕ) × TellsChanges node about now since limit text × IsJson status.Ok text answer
+  pub ended : (start ≡ None → since ≡ 0) → IfSome start (λ tag. tag ≡ about.tag) → node.table.count.change ≡ LAST
+      → IsJson status.ServiceUnavailable (codes "{\"error\":\"no more changes\"}") answer
+
+-- The answer of a node to what is asked of it. The page, the measures, and whether the server serves are not.
+abbrev pub IsAnswer : NodeContent → About → ℕ → Asked → Answer → Type 0
+IsAnswer node about now (asked.Registrations after limit) answer =
+    (text : List ℕ) × TellsPage node.table.state now after limit text × IsJson status.Ok text answer
+IsAnswer node about now (asked.Registration endpoint) answer =
+    (text : Option (List ℕ)) × Tells node.table.state (λ M. ShownOf M now endpoint) text × IsFound text answer
+IsAnswer node about now (asked.ById id) answer =
+    (text : Option (List ℕ)) × Tells node.table.state (λ M. ById M now id) text × IsFound text answer
+IsAnswer node about now (asked.ByAddress address) answer =
+    (text : Option (List ℕ)) × Tells node.table.state (λ M. ByAddress M now address) text × IsFound text answer
+IsAnswer node about now (asked.ByToken token) answer =
+    (text : Option (List ℕ)) × TellsWatch node.table.state (λ M. ByToken M now token) text × IsFound text answer
+IsAnswer node about now asked.Node answer = (text : List ℕ) × TellsNode node about text × IsJson status.Ok text answer
+IsAnswer node about now (asked.Changes since start limit) answer = IsChangesAnswer node about now since start limit answer
+IsAnswer node about now _ answer = IsNotFound answer

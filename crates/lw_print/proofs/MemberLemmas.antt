@@ -1,5 +1,5 @@
 -- The objects of the values are those of what the values tell of.
-use Rattle.std.proofs.Common.{◌≡◌, ℕ, ◌+◌, List, [], ◌∷◌, ◌||◌, zero, suc, false, Option, Some, None, take, map, refl, sym, ap, ◌∙◌, subst, arith}
+use Rattle.std.proofs.Common.{◌≡◌, ℕ, ◌+◌, List, [], ◌∷◌, ◌||◌, zero, suc, Bool, false, Option, Some, None, take, map, refl, sym, ap, ◌∙◌, subst, arith}
 use Rattle.std.specs.declared.cmp.Ordering.{Ordering}
 use Rattle.std.specs.declared.cmp.Ordering.TheVariants.{Less}
 use Rattle.std.specs.Ordering.{match_ordering}
@@ -7,6 +7,7 @@ use Rattle.serde_json.specs.Data.{put, boolean, number, unsigned, string, object
 use Rattle.serde_json.specs.View.{items_of}
 use Rattle.serde_json.specs.Written.{has_float, items_have_float, members_have_float}
 use Rattle.std.specs.Prelude.{IfSome, codes, slice_get}
+use Rattle.lw_stamp.specs.declared.moment.Moment.{Moment}
 use Rattle.lw_stamp.specs.TextOrder.{text_cmp}
 use Rattle.lw_stamp.proofs.TextLemmas.{text_order}
 use Rattle.lw_join.specs.Entries.{AllAbove, Rises}
@@ -14,10 +15,12 @@ use Rattle.lw_join.specs.EntriesLaws.{turned}
 use Rattle.lw_reg.specs.declared.watch.Watch.{Watch}
 use Rattle.lw_reg.specs.Registration.{Registration}
 use Rattle.lw_call.specs.Contents.{NoticeContent}
+use Rattle.lw_print.specs.declared.node.NodeNumbers.{NodeNumbers}
 use Rattle.lw_print.specs.declared.notice.NoticeMembers.{NoticeMembers}
 use Rattle.lw_print.specs.declared.registration.Members.{Members}
 use Rattle.lw_print.specs.declared.watch.WatchMembers.{WatchMembers}
-use Rattle.lw_print.specs.Json.{attributes_json, text_or_null, registration_json, page_json, watch_json, notice_json}
+use Rattle.lw_print.specs.Json.{attributes_json, text_or_null, number_or_null, registration_json, page_json, watch_json, notice_json, node_json, health_json}
+use Rattle.lw_print.specs.Changes.{Change, change_json, changes_json, registration_or_null}
 use Rattle.lw_print.specs.inner.Members.{members_json, TellsOf, watch_members_json, TellsOfWatch, notice_members_json, TellsOfNotice}
 
 -- ---- the attributes
@@ -60,6 +63,28 @@ items_plain (r ∷ shown) = ap (λ b. b || items_have_float (items_of (map regis
 pub page_plain : (shown : List Registration) (next : Option (List ℕ)) → has_float (page_json shown next) ≡ false
 page_plain shown None = ap (λ b. b || false) (items_plain shown)
 page_plain shown (Some text) = ap (λ b. b || false) (items_plain shown)
+
+number_plain : (n : Option ℕ) (rest : Bool) → has_float (number_or_null n) || rest ≡ rest
+number_plain None rest = refl
+number_plain (Some n) rest = refl
+
+pub node_plain : (n : NodeNumbers) → has_float (node_json n) ≡ false
+node_plain n = number_plain n.number false
+
+pub health_plain : (now : Moment) (serves : Bool) (version : List ℕ) → has_float (health_json now serves version) ≡ false
+health_plain now serves version = refl
+
+registration_or_null_plain : (shown : Option Registration) → has_float (registration_or_null shown) || false ≡ false
+registration_or_null_plain None = refl
+registration_or_null_plain (Some r) = ap (λ b. b || false) (registration_plain r)
+
+changed_plain : (changes : List Change) → items_have_float (items_of (map change_json changes)) ≡ false
+changed_plain [] = refl
+changed_plain (c ∷ changes) =
+    ap (λ b. b || items_have_float (items_of (map change_json changes))) (registration_or_null_plain c.1.1) ∙ changed_plain changes
+
+pub changes_plain : (changes : List Change) (more : Bool) (next start : ℕ) → has_float (changes_json changes more next start) ≡ false
+changes_plain changes more next start = ap (λ b. b || false) (changed_plain changes)
 
 -- ---- the objects
 pub json_of_members : (m : Members) (r : Registration) → TellsOf m r → members_json m ≡ registration_json r

@@ -1,10 +1,12 @@
 -- What is shown of a registration (LwM2M 1.1 Core, section 6.2), of an observation (RFC 7641) and of what a device tells
--- of one, as JSON objects (RFC 8259, section 4). Their keys stand in order.
-use Rattle.std.specs.Prelude.{ℕ, List, [], ◌∷◌, map, Option, Some, None, codes}
+-- of one, and of a node and its server, as JSON objects (RFC 8259, section 4). Their keys stand in order.
+use Rattle.std.specs.Prelude.{ℕ, Bool, true, false, List, [], ◌∷◌, map, Option, Some, None, codes}
+use Rattle.std.specs.Int.{w64, to_be_bytes}
 use Rattle.hex.specs.Hex.{encode_lower}
 use Rattle.serde_json.specs.Data.{Data, Members, null, boolean, number, unsigned, string, array, object, member, no_members}
 use Rattle.serde_json.specs.View.{items_of}
 use Rattle.lw_stamp.specs.declared.stamp.Stamp.{Stamp}
+use Rattle.lw_stamp.specs.declared.moment.Moment.{Moment}
 use Rattle.lw_stamp.specs.Moment.{ms_of}
 use Rattle.lw_stamp.specs.Stamp.{id_of}
 use Rattle.lw_reg.specs.declared.watch.Watch.{Watch}
@@ -13,6 +15,7 @@ use Rattle.lw_reg.specs.Binding.{binding_text}
 use Rattle.lw_reg.specs.Registration.{Registration}
 use Rattle.lw_reg.specs.Version.{version_text}
 use Rattle.lw_call.specs.Contents.{NoticeContent}
+use Rattle.lw_print.specs.declared.node.NodeNumbers.{NodeNumbers}
 use Rattle.lw_print.specs.PathText.{path_text}
 
 -- the text, or null where there is none
@@ -82,3 +85,29 @@ notice_json n = object
     (member (codes "payload") (string (encode_lower n.payload))
     (member (codes "token") (string (id_of n.token))
     no_members)))))))))
+
+-- a tag of 64 bits, as 16 hex digits
+abbrev pub tag_text : ℕ → List ℕ
+tag_text tag = encode_lower (to_be_bytes w64 tag)
+
+-- a node in numbers
+abbrev pub node_json : NodeNumbers → Data
+node_json n = object
+    (member (codes "change") (number (unsigned n.change))
+    (member (codes "counter") (number (unsigned n.counter))
+    (member (codes "number") (number_or_null n.number)
+    (member (codes "registrations") (number (unsigned n.registrations))
+    (member (codes "start") (string (tag_text n.start))
+    no_members)))))
+
+-- a server serves, or its log is away
+abbrev pub status_text : Bool → List ℕ
+status_text true = codes "serving"
+status_text false = codes "away"
+
+abbrev pub health_json : Moment → Bool → List ℕ → Data
+health_json now serves version = object
+    (member (codes "now") (number (unsigned (ms_of now)))
+    (member (codes "status") (string (status_text serves))
+    (member (codes "version") (string version)
+    no_members)))

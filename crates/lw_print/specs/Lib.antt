@@ -1,5 +1,6 @@
 pub mod PathText
 pub mod Json
+pub mod Changes
 pub mod Answer
 pub mod Lines
 pub mod inner

@@ -1,7 +1,9 @@
 //! What the programs print: registrations, watches and notices as JSON, and the line of what comes of an event.
 #![tactic(auto)]
 
+mod changes;
 mod line;
+mod node;
 mod notice;
 mod one;
 mod page;
@@ -10,7 +12,9 @@ mod registration;
 mod value;
 mod watch;
 
+pub use changes::{Change, ChangePage, changes_text};
 pub use line::outcome_line;
+pub use node::{NodeNumbers, health_text, node_text};
 pub use notice::notice_text;
 pub use one::answer_text;
 pub use page::page_text;

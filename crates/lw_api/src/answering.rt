@@ -1,0 +1,139 @@
+//! What is told to what is asked.
+
+ghost use Rattle.std.specs.Prelude.{◌≡◌, ℕ, List, IfOk, codes, option_copied, option_map, string_bytes};
+ghost use Rattle.lw_reg.specs.Showing.{ShownOf};
+ghost use Rattle.lw_stamp.specs.Moment.{ms_of};
+ghost use Rattle.lw_table.specs.Answers.{after_text};
+ghost use Rattle.lw_api.specs.Answers.{IsAnswer, IsFound, IsJson, IsNotFound, TellsNode};
+ghost use Rattle.lw_target.specs.declared.asked.Asked.TheVariants as asking;
+ghost use Rattle.lw_target.specs.declared.desk.Status.TheVariants as statuses;
+
+use crate::changes::changes_answer;
+use crate::{by_address, by_id, by_token, registration, registrations};
+use lw_node::Node;
+use lw_print::{NodeNumbers, node_text};
+use lw_stamp::{Moment, NoMemory, Text};
+use lw_target::{Answer, Asked, Media, Status};
+use std::alloc::Global;
+
+/// What a server knows of its start.
+#[derive(Clone, Copy, Debug, PartialEq, Eq)]
+pub struct About {
+    /// The number that it makes stamps with, once it does.
+    pub number: Option<u16>,
+    /// Its tag.
+    pub tag: u64,
+}
+
+/// The answer of a node to what is asked of it.
+pub fn answer(
+    alloc: Global,
+    node: &Node,
+    about: About,
+    now: Moment,
+    asked: &Asked,
+) -> Result<Answer, NoMemory>
+    ensures { IfOk result (IsAnswer node.now about (ms_of now) asked.now) }
+{
+    match asked {
+        Asked::Registrations { after, limit } => page(alloc, node, now, after, *limit),
+        Asked::Registration { endpoint } => one(alloc, node, now, endpoint),
+        Asked::ById { id } => found(alloc, by_id(alloc, node, now, *id)?),
+        Asked::ByAddress { address } => found(alloc, by_address(alloc, node, now, *address)?),
+        Asked::ByToken { token } => found(alloc, by_token(alloc, node, now, *token)?),
+        Asked::Node => numbers(alloc, node, about),
+        Asked::Changes {
+            since,
+            start,
+            limit,
+        } => changes_answer(alloc, node, about, now, *since, *start, *limit),
+        Asked::Page | Asked::Health | Asked::Metrics => not_found(alloc),
+    }
+}
+
+fn page(
+    alloc: Global,
+    node: &Node,
+    now: Moment,
+    after: &Option<Text>,
+    limit: usize,
+) -> Result<Answer, NoMemory>
+    ensures { IfOk result (IsAnswer node.now about (ms_of now) (asking.Registrations after.now limit)) }
+{
+    Ok(ok(registrations(alloc, node, now, text_of(after), limit)?))
+}
+
+fn text_of(text: &Option<Text>) -> Option<&str>
+    ensures { option_map (λ t. t.now) result ≡ text.now }
+{
+    match text {
+        Some(text) => Some(text.as_str()),
+        None => None,
+    }
+}
+
+fn one(alloc: Global, node: &Node, now: Moment, endpoint: &Text) -> Result<Answer, NoMemory>
+    ensures { IfOk result (IsAnswer node.now about (ms_of now) (asking.Registration endpoint.now)) }
+{
+    found(alloc, registration(alloc, node, now, endpoint.as_str())?)
+}
+
+fn found(alloc: Global, text: Option<String>) -> Result<Answer, NoMemory>
+    ensures { IfOk result (IsFound (option_map string_bytes text.entry)) }
+{
+    match text {
+        Some(text) => Ok(ok(text)),
+        None => not_found(alloc),
+    }
+}
+
+/// The answer that has the text as its JSON.
+pub(crate) fn ok(body: String) -> Answer
+    ensures { IsJson statuses.Ok (string_bytes body.entry) result }
+{
+    Answer {
+        status: Status::Ok,
+        media: Media::Json,
+        body,
+    }
+}
+
+fn not_found(alloc: Global) -> Result<Answer, NoMemory>
+    ensures { IfOk result IsNotFound }
+{
+    error(alloc, Status::NotFound, r#"{"error":"not found"}"#)
+}
+
+/// The answer that has the text as its JSON, and another status than 200.
+pub(crate) fn error(alloc: Global, status: Status, text: &str) -> Result<Answer, NoMemory>
+    ensures { IfOk result (IsJson status text.now) }
+{
+    Ok(Answer {
+        status,
+        media: Media::Json,
+        body: String::from_str(alloc, text)?,
+    })
+}
+
+fn numbers(alloc: Global, node: &Node, about: About) -> Result<Answer, NoMemory>
+    ensures { IfOk result (λ answer. (text : List ℕ) × TellsNode node.now about text × IsJson statuses.Ok text answer) }
+{
+    let numbers = numbers_of(node, about);
+    Ok(ok(node_text(alloc, &numbers)?))
+}
+
+fn numbers_of(node: &Node, about: About) -> NodeNumbers
+    ensures change { result.change ≡ node.now.table.count.change }
+    ensures counter { result.counter ≡ node.now.clock }
+    ensures number { result.number ≡ about.number }
+    ensures registrations { CountsRegistrations node.now.table.state result.registrations }
+    ensures start { result.start ≡ about.tag }
+{
+    NodeNumbers {
+        change: node.change(),
+        counter: node.clock(),
+        number: about.number,
+        registrations: node.table().registrations() as u64,
+        start: about.tag,
+    }
+}
