@@ -66,14 +66,26 @@ pub record TellsNode (node : NodeContent) (about : About) (text : List ℕ) : Ty
   pub start : numbers.start ≡ about.tag
   pub text_is : text ≡ compact_text (node_json numbers)
 
+-- ---- changes
+-- of which endpoint a change is, and its number
+abbrev pub named_by_change : Change → ℕ × List ℕ
+named_by_change change = (change.0, change.1.0)
+
+abbrev pub named_by_moved : Moved → ℕ × List ℕ
+named_by_moved moved = (moved.0, moved.1.0)
+
+-- the change tells what is shown of its endpoint
+abbrev pub IsShownAs : NodeContent → ℕ → Change → Type 0
+IsShownAs node now change = OfKnown node.table.state (λ M. ShownOf M now change.1.0 change.1.1)
+
 -- Changes, behind a number: of each endpoint that moved since then the last change, and what is shown of it now. They are so
 -- many at most. There are more where the node has changed after the last of them.
 pub record TellsChanges (node : NodeContent) (about : About) (now since limit : ℕ) (text : List ℕ) : Type 0 where
   pub page : List Moved
   pub moved : IsChangePage node.table.state node.table.count since limit page
   pub changes : List Change
-  pub of_them : map (λ change. (change.0, change.1.0)) changes ≡ map (λ moved. (moved.0, moved.1.0)) page
-  pub shown : All (λ change. OfKnown node.table.state (λ M. ShownOf M now change.1.0 change.1.1)) changes
+  pub of_them : map named_by_change changes ≡ map named_by_moved page
+  pub shown : All (IsShownAs node now) changes
   pub text_is : text ≡ compact_text (changes_json changes (nat_lt (upto_of since page) node.table.count.change) (upto_of since page) about.tag)
 
 -- ---- answers

@@ -1,11 +1,9 @@
 //! What is told to what is asked.
 
-ghost use Rattle.std.specs.Prelude.{◌≡◌, ℕ, List, IfOk, codes, option_copied, option_map, string_bytes};
+ghost use Rattle.std.specs.Prelude.{◌≡◌, ℕ, List, Option, IfOk, option_map, string_bytes};
 ghost use Rattle.lw_reg.specs.Showing.{ShownOf};
 ghost use Rattle.lw_stamp.specs.Moment.{ms_of};
-ghost use Rattle.lw_table.specs.Answers.{after_text};
-ghost use Rattle.lw_api.specs.Answers.{IsAnswer, IsFound, IsJson, IsNotFound, TellsNode};
-ghost use Rattle.lw_target.specs.declared.asked.Asked.TheVariants as asking;
+ghost use Rattle.lw_api.specs.Answers.{CountsRegistrations, IsAnswer, IsFound, IsJson, IsNotFound, Tells, TellsNode, TellsPage};
 ghost use Rattle.lw_target.specs.declared.desk.Status.TheVariants as statuses;
 
 use crate::changes::changes_answer;
@@ -58,7 +56,7 @@ fn page(
     after: &Option<Text>,
     limit: usize,
 ) -> Result<Answer, NoMemory>
-    ensures { IfOk result (IsAnswer node.now about (ms_of now) (asking.Registrations after.now limit)) }
+    ensures { IfOk result (λ answer. (text : List ℕ) × TellsPage node.now.table.state (ms_of now) after.now limit text × IsJson statuses.Ok text answer) }
 {
     Ok(ok(registrations(alloc, node, now, text_of(after), limit)?))
 }
@@ -73,13 +71,13 @@ fn text_of(text: &Option<Text>) -> Option<&str>
 }
 
 fn one(alloc: Global, node: &Node, now: Moment, endpoint: &Text) -> Result<Answer, NoMemory>
-    ensures { IfOk result (IsAnswer node.now about (ms_of now) (asking.Registration endpoint.now)) }
+    ensures { IfOk result (λ answer. (text : Option (List ℕ)) × Tells node.now.table.state (λ M. ShownOf M (ms_of now) endpoint.now) text × IsFound text answer) }
 {
     found(alloc, registration(alloc, node, now, endpoint.as_str())?)
 }
 
 fn found(alloc: Global, text: Option<String>) -> Result<Answer, NoMemory>
-    ensures { IfOk result (IsFound (option_map string_bytes text.entry)) }
+    ensures { IfOk result (IsFound (option_map string_bytes text)) }
 {
     match text {
         Some(text) => Ok(ok(text)),
@@ -89,7 +87,7 @@ fn found(alloc: Global, text: Option<String>) -> Result<Answer, NoMemory>
 
 /// The answer that has the text as its JSON.
 pub(crate) fn ok(body: String) -> Answer
-    ensures { IsJson statuses.Ok (string_bytes body.entry) result }
+    ensures { IsJson statuses.Ok (string_bytes body) result }
 {
     Answer {
         status: Status::Ok,

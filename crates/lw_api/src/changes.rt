@@ -1,11 +1,11 @@
 //! What has changed since a number.
 
-ghost use Rattle.std.specs.Prelude.{◌≡◌, ◌≢◌, ◌↔◌, ℕ, List, IfOk, IfSome, IsSome, IsTrue, None, map, nat_lt, string_bytes};
+ghost use Rattle.std.specs.Prelude.{◌≡◌, ◌≢◌, ◌↔◌, ℕ, List, IfOk, map, codes, string_bytes};
 ghost use Rattle.lw_stamp.specs.Moment.{ms_of};
-ghost use Rattle.lw_table.specs.Changes.{IsChangePage, LAST, Moved as Moves, upto_of};
+ghost use Rattle.lw_table.specs.Changes.{IsChangePage, LAST, upto_of};
 ghost use Rattle.lw_print.specs.Changes.{change_of};
 ghost use Rattle.lw_api.specs.Answers.{IsChangesAnswer, IsJson, TellsChanges};
-ghost use Rattle.lw_api.specs.inner.Changes.{AreShown, AreTold, moved_of};
+ghost use Rattle.lw_api.specs.inner.Changes.{moved_of, AreShown};
 ghost use Rattle.lw_target.specs.declared.desk.Status.TheVariants as statuses;
 
 use crate::About;

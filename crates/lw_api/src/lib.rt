@@ -2,8 +2,11 @@
 //! node knows.
 #![tactic(auto)]
 
+mod answering;
+mod changes;
 mod look_ups;
 mod pages;
 
+pub use answering::{About, answer};
 pub use look_ups::{by_address, by_id, by_token, registration};
 pub use pages::registrations;
