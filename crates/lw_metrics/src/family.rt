@@ -7,6 +7,7 @@ ghost use Rattle.lw_metrics.specs.Families.{labelled, of_number, reply_family, r
 ghost use Rattle.lw_metrics.specs.ReplyCodes.{code_text, reply_codes};
 
 use crate::REPLY_CODES;
+use crate::escaping::put_value;
 use crate::metric::Metric;
 use lw_stamp::NoMemory;
 use std::alloc::Global;
@@ -100,7 +101,9 @@ fn put_labelled(
         ≡ string_bytes text.old ++ sample_text metric (labelled label.now value.now number)) }
 {
     let name = metric.name();
-    Ok(write!(text, "{name}{{{label}=\"{value}\"}} {number}\n")?)
+    write!(text, "{name}{{{label}=\"")?;
+    put_value(text, value)?;
+    Ok(write!(text, "\"}} {number}\n")?)
 }
 
 /// How a code is written: class, a dot, and two digits of the detail.

@@ -3,6 +3,7 @@
 //! Nothing is asked, read or written here.
 #![tactic(auto)]
 
+mod escaping;
 mod family;
 mod measures;
 mod metric;

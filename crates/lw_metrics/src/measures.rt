@@ -4,7 +4,7 @@ use lw_stamp::Moment;
 /// What is shown of a server.
 #[derive(Clone, Copy, Debug)]
 pub struct Measures {
-    /// The version of the program, without quotes, backslashes and line feeds.
+    /// The version of the program.
     pub version: &'static str,
     /// When the program was started.
     pub started: Moment,

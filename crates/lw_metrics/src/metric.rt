@@ -53,11 +53,11 @@ impl Metric {
     {
         match self {
             Metric::BuildInfo => "The version of the program.",
-            Metric::StartTime => "When the program was started, since 1970.",
-            Metric::Registrations => "Registrations that are kept.",
+            Metric::StartTime => "When the program was started, in seconds since 1970.",
+            Metric::Registrations => "Registrations that are known.",
             Metric::StampCounter => "The greatest counter of a stamp that is known.",
             Metric::Change => "The number of the last change.",
-            Metric::Number => "The number of this start.",
+            Metric::Number => "The number of the node in its fleet.",
             Metric::Rounds => "Rounds of calls.",
             Metric::Datagrams => "Datagrams that were taken.",
             Metric::Replies => "Replies, by code.",

@@ -6,4 +6,6 @@ mod counting;
 #[cfg(test)]
 mod rounds;
 #[cfg(test)]
+mod showing;
+#[cfg(test)]
 mod shown;

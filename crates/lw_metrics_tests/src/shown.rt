@@ -17,17 +17,20 @@ pub(crate) fn measures_of(tally: Tally) -> Measures {
     }
 }
 
-/// Fails where the lines of the text are others than these, each with a line feed behind it.
-pub(crate) fn check_lines(text: &str, want: &[&str]) -> Result<(), Fail> {
+/// Fails where the lines of the text are others than these parts, each line with a line feed behind it.
+pub(crate) fn check_lines(text: &str, parts: &[&[&str]]) -> Result<(), Fail> {
     let mut lines = text.split('\n');
-    for line in want {
-        check_line(lines.next(), Some(*line))?;
+    for part in parts {
+        for line in *part {
+            check_line(lines.next(), Some(*line))?;
+        }
     }
     check_line(lines.next(), Some(""))?;
     check_line(lines.next(), None)
 }
 
-fn check_line(line: Option<&str>, want: Option<&str>) -> Result<(), Fail> {
+/// Fails where a line is another than this one.
+pub(crate) fn check_line(line: Option<&str>, want: Option<&str>) -> Result<(), Fail> {
     if line == want {
         return Ok(());
     }
