@@ -1,5 +1,5 @@
 -- What a round adds to a tally. A number stays at 2^64 - 1.
-use Rattle.std.specs.Prelude.{ℕ, ◌+◌, ◌-◌, ◌^◌, ◌==◌, min, if◌then◌else◌, List, [], ◌∷◌, fold, position, replicate, slice_index, slice_set, Option, Some, None, Ok, Err}
+use Rattle.std.specs.Prelude.{ℕ, ◌+◌, ◌-◌, ◌^◌, ◌==◌, min, if◌then◌else◌, List, ◌∷◌, fold, position, replicate, slice_index, slice_set, Option, Some, None, Ok, Err}
 use Rattle.lw_call.specs.Contents.{NoticeContent, TakenContent}
 use Rattle.lw_call.specs.declared.call.Call.{Call}
 use Rattle.lw_call.specs.declared.call.Call.TheVariants as calls

@@ -7,7 +7,7 @@ use Rattle.lw_metrics.specs.declared.measures.NodeMeasures.{NodeMeasures}
 use Rattle.lw_metrics.specs.declared.metric.Metric.{Metric}
 use Rattle.lw_metrics.specs.declared.metric.Metric.TheVariants.{BuildInfo, StartTime, Registrations, StampCounter, Change, Number, Rounds, Datagrams, Replies, EmptyReplies, Unanswered, Notifications, Swept, NoMemory, PassedOver, LogAway}
 use Rattle.lw_metrics.specs.declared.tally.Tally.{Tally}
-use Rattle.lw_metrics.specs.Exposition.{Label, Sample, Family}
+use Rattle.lw_metrics.specs.Exposition.{Sample, Family}
 use Rattle.lw_metrics.specs.ReplyCodes.{reply_codes, code_text}
 
 -- one sample without a label
