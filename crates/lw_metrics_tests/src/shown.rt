@@ -17,18 +17,6 @@ pub(crate) fn measures_of(tally: Tally) -> Measures {
     }
 }
 
-/// Fails where the lines of the text are others than these parts, each line with a line feed behind it.
-pub(crate) fn check_lines(text: &str, parts: &[&[&str]]) -> Result<(), Fail> {
-    let mut lines = text.split('\n');
-    for part in parts {
-        for line in *part {
-            check_line(lines.next(), Some(*line))?;
-        }
-    }
-    check_line(lines.next(), Some(""))?;
-    check_line(lines.next(), None)
-}
-
 /// Fails where a line is another than this one.
 pub(crate) fn check_line(line: Option<&str>, want: Option<&str>) -> Result<(), Fail> {
     if line == want {
@@ -37,21 +25,42 @@ pub(crate) fn check_line(line: Option<&str>, want: Option<&str>) -> Result<(), F
     Err(Fail::new(format_args!("{line:?} in place of {want:?}")))
 }
 
-/// Whether the line is a sample with a number above 0.
-fn is_counted(line: &str) -> bool {
-    !line.starts_with('#') && !line.ends_with(" 0")
+/// Fails where a line is another than that at the place. Behind the last there is an empty one.
+pub(crate) fn check_line_at(want: &[&str], place: usize, line: &str) -> Result<(), Fail> {
+    let wanted = match want.get(place) {
+        Some(wanted) => *wanted,
+        None => "",
+    };
+    check_line(Some(line), Some(wanted))
 }
 
-/// Fails where the samples of the tally whose numbers are above 0 are others than these, behind that of the version.
+/// Fails where the samples whose numbers are above 0 are others than these, behind that of the version.
+fn check_samples(text: &str, want: &[&str]) -> Result<(), Fail> {
+    let mut place = 0usize;
+    for line in text.lines() {
+        if is_counted(line) {
+            check_line_at(want, place, line)?;
+            place = place.saturating_add(1);
+        }
+    }
+    check_count(place, want.len())
+}
+
+/// Fails where there are more or fewer lines than these.
+pub(crate) fn check_count(lines: usize, want: usize) -> Result<(), Fail> {
+    if lines == want {
+        return Ok(());
+    }
+    Err(Fail::new(format_args!("{lines} lines in place of {want}")))
+}
+
+/// Whether the line is a sample of a number above 0, and not that of the version.
+fn is_counted(line: &str) -> bool {
+    !line.starts_with('#') && !line.ends_with(" 0") && !line.starts_with("fleet_build_info")
+}
+
+/// Fails where the samples of the tally whose numbers are above 0 are others than these.
 pub(crate) fn check_counted(alloc: Global, tally: Tally, want: &[&str]) -> Result<(), Fail> {
     let text = metrics_text(alloc, &measures_of(tally))?;
-    let mut counted = text.lines().filter(|line| is_counted(line));
-    check_line(
-        counted.next(),
-        Some("fleet_build_info{version=\"0.1.0\"} 1"),
-    )?;
-    for line in want {
-        check_line(counted.next(), Some(*line))?;
-    }
-    check_line(counted.next(), None)
+    check_samples(&text, want)
 }
