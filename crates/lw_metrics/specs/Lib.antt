@@ -1,0 +1,5 @@
+pub mod ReplyCodes
+pub mod Counting
+pub mod Metrics
+pub mod Exposition
+pub mod Families

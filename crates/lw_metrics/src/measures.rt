@@ -1,0 +1,30 @@
+use crate::Tally;
+use lw_stamp::Moment;
+
+/// What is shown of a server.
+#[derive(Clone, Copy, Debug)]
+pub struct Measures {
+    /// The version of the program.
+    pub version: &'static str,
+    /// When the program was started.
+    pub started: Moment,
+    /// What is told of its node. It is not told while the log is away.
+    pub node: Option<NodeMeasures>,
+    pub tally: Tally,
+    /// How many rounds failed for want of memory.
+    pub passed_over: u64,
+    /// Whether the log is away.
+    pub away: bool,
+}
+
+/// What is shown of a node.
+#[derive(Clone, Copy, Debug)]
+pub struct NodeMeasures {
+    /// How many registrations it keeps.
+    pub registrations: u64,
+    /// The greatest counter of a stamp that it knows.
+    pub counter: u64,
+    /// The number of its last change.
+    pub change: u64,
+    pub number: u16,
+}

@@ -1,0 +1,89 @@
+ghost use Rattle.std.specs.Prelude.{◌≡◌};
+ghost use Rattle.lw_metrics.specs.Metrics.{name_of, help_of, kind_of};
+
+/// What is shown.
+#[derive(Clone, Copy)]
+pub(crate) enum Metric {
+    BuildInfo,
+    StartTime,
+    Registrations,
+    StampCounter,
+    Change,
+    Number,
+    Rounds,
+    Datagrams,
+    Replies,
+    EmptyReplies,
+    Unanswered,
+    Notifications,
+    Swept,
+    NoMemory,
+    PassedOver,
+    LogAway,
+}
+
+impl Metric {
+    #[tactic(auto, unfolding(crate::specs::Metrics::name_of))]
+    pub(crate) fn name(self) -> &'static str
+        ensures { result.now ≡ name_of self }
+    {
+        match self {
+            Metric::BuildInfo => "fleet_build_info",
+            Metric::StartTime => "fleet_start_time_seconds",
+            Metric::Registrations => "fleet_registrations",
+            Metric::StampCounter => "fleet_stamp_counter",
+            Metric::Change => "fleet_change",
+            Metric::Number => "fleet_number",
+            Metric::Rounds => "fleet_rounds_total",
+            Metric::Datagrams => "fleet_datagrams_total",
+            Metric::Replies => "fleet_replies_total",
+            Metric::EmptyReplies => "fleet_empty_replies_total",
+            Metric::Unanswered => "fleet_unanswered_total",
+            Metric::Notifications => "fleet_notifications_total",
+            Metric::Swept => "fleet_swept_total",
+            Metric::NoMemory => "fleet_no_memory_total",
+            Metric::PassedOver => "fleet_passed_over_total",
+            Metric::LogAway => "fleet_log_away",
+        }
+    }
+
+    #[tactic(auto, unfolding(crate::specs::Metrics::help_of))]
+    pub(crate) fn help(self) -> &'static str
+        ensures { result.now ≡ help_of self }
+    {
+        match self {
+            Metric::BuildInfo => "The version of the program.",
+            Metric::StartTime => "When the program was started, in seconds since 1970.",
+            Metric::Registrations => "Registrations that are known.",
+            Metric::StampCounter => "The greatest counter of a stamp that is known.",
+            Metric::Change => "The number of the last change.",
+            Metric::Number => "The number of the node in its fleet.",
+            Metric::Rounds => "Rounds of calls.",
+            Metric::Datagrams => "Datagrams that were taken.",
+            Metric::Replies => "Replies, by code.",
+            Metric::EmptyReplies => "Replies that are empty messages.",
+            Metric::Unanswered => "Datagrams that are owed no reply.",
+            Metric::Notifications => "Notifications of observations.",
+            Metric::Swept => "Registrations that expired and were ended.",
+            Metric::NoMemory => "Calls that failed for want of memory.",
+            Metric::PassedOver => "Rounds that failed for want of memory.",
+            Metric::LogAway => "Whether the log is away: 1, or 0.",
+        }
+    }
+
+    #[tactic(auto, unfolding(crate::specs::Metrics::kind_of))]
+    pub(crate) fn kind(self) -> &'static str
+        ensures { result.now ≡ kind_of self }
+    {
+        match self {
+            Metric::BuildInfo
+            | Metric::StartTime
+            | Metric::Registrations
+            | Metric::StampCounter
+            | Metric::Change
+            | Metric::Number
+            | Metric::LogAway => "gauge",
+            _ => "counter",
+        }
+    }
+}

@@ -1,0 +1,193 @@
+//! The whole text.
+
+use crate::shown::{check_count, check_line_at, measures_of};
+use lw_metrics::{Measures, NodeMeasures, Tally, metrics_text};
+use lw_stamp::Moment;
+use std::test::Fail;
+
+/// The lines of a server that was started on 14 November 2023, at 22:13:20 and 999 ms.
+const LINES: [&str; 59] = [
+    "# HELP fleet_build_info The version of the program.",
+    "# TYPE fleet_build_info gauge",
+    "fleet_build_info{version=\"0.1.0\"} 1",
+    "# HELP fleet_start_time_seconds When the program was started, in seconds since 1970.",
+    "# TYPE fleet_start_time_seconds gauge",
+    "fleet_start_time_seconds 1700000000",
+    "# HELP fleet_registrations Registrations that are known.",
+    "# TYPE fleet_registrations gauge",
+    "fleet_registrations 3",
+    "# HELP fleet_stamp_counter The greatest counter of a stamp that is known.",
+    "# TYPE fleet_stamp_counter gauge",
+    "fleet_stamp_counter 281474976710655",
+    "# HELP fleet_change The number of the last change.",
+    "# TYPE fleet_change gauge",
+    "fleet_change 12",
+    "# HELP fleet_number The number of the node in its fleet.",
+    "# TYPE fleet_number gauge",
+    "fleet_number 65535",
+    "# HELP fleet_rounds_total Rounds of calls.",
+    "# TYPE fleet_rounds_total counter",
+    "fleet_rounds_total 21",
+    "# HELP fleet_datagrams_total Datagrams that were taken.",
+    "# TYPE fleet_datagrams_total counter",
+    "fleet_datagrams_total 22",
+    "# HELP fleet_replies_total Replies, by code.",
+    "# TYPE fleet_replies_total counter",
+    "fleet_replies_total{code=\"2.01\"} 1",
+    "fleet_replies_total{code=\"2.02\"} 2",
+    "fleet_replies_total{code=\"2.04\"} 3",
+    "fleet_replies_total{code=\"4.00\"} 4",
+    "fleet_replies_total{code=\"4.02\"} 5",
+    "fleet_replies_total{code=\"4.04\"} 6",
+    "fleet_replies_total{code=\"4.05\"} 7",
+    "fleet_replies_total{code=\"4.12\"} 8",
+    "fleet_replies_total{code=\"4.13\"} 9",
+    "fleet_replies_total{code=\"4.15\"} 10",
+    "fleet_replies_total{code=\"5.03\"} 11",
+    "fleet_replies_total{code=\"5.05\"} 12",
+    "# HELP fleet_empty_replies_total Replies that are empty messages.",
+    "# TYPE fleet_empty_replies_total counter",
+    "fleet_empty_replies_total 23",
+    "# HELP fleet_unanswered_total Datagrams that are owed no reply.",
+    "# TYPE fleet_unanswered_total counter",
+    "fleet_unanswered_total 24",
+    "# HELP fleet_notifications_total Notifications of observations.",
+    "# TYPE fleet_notifications_total counter",
+    "fleet_notifications_total 25",
+    "# HELP fleet_swept_total Registrations that expired and were ended.",
+    "# TYPE fleet_swept_total counter",
+    "fleet_swept_total 26",
+    "# HELP fleet_no_memory_total Calls that failed for want of memory.",
+    "# TYPE fleet_no_memory_total counter",
+    "fleet_no_memory_total 27",
+    "# HELP fleet_passed_over_total Rounds that failed for want of memory.",
+    "# TYPE fleet_passed_over_total counter",
+    "fleet_passed_over_total 28",
+    "# HELP fleet_log_away Whether the log is away: 1, or 0.",
+    "# TYPE fleet_log_away gauge",
+    "fleet_log_away 1",
+];
+
+/// Where the lines of a node begin among them, and where they end.
+const NODE_BEGINS: usize = 6;
+
+const NODE_ENDS: usize = 18;
+
+/// Fails where the text is another than these lines, each with a line feed behind it.
+fn check_text(text: &str, want: &[&str]) -> Result<(), Fail> {
+    let mut place = 0usize;
+    for line in text.split('\n') {
+        check_line_at(want, place, line)?;
+        place = place.saturating_add(1);
+    }
+    check_count(place, want.len().saturating_add(1))
+}
+
+fn tally() -> Tally {
+    Tally {
+        rounds: 21,
+        datagrams: 22,
+        replies: [1, 2, 3, 4, 5, 6, 7, 8, 9, 10, 11, 12],
+        empty_replies: 23,
+        unanswered: 24,
+        notifications: 25,
+        swept: 26,
+        no_memory: 27,
+    }
+}
+
+fn measures(node: Option<NodeMeasures>) -> Result<Measures, Fail> {
+    let started = Moment::new(1_700_000_000_999).ok_or("a moment")?;
+    Ok(Measures {
+        version: "0.1.0",
+        started,
+        node,
+        tally: tally(),
+        passed_over: 28,
+        away: true,
+    })
+}
+
+/// Tries: lw_metrics::metrics_text
+#[test]
+fn all_of_a_server_is_shown(rt: HostRuntime) -> Result<(), Fail> {
+    let node = NodeMeasures {
+        registrations: 3,
+        counter: (1 << 48) - 1,
+        change: 12,
+        number: 65_535,
+    };
+    let measures = measures(Some(node))?;
+    let text = metrics_text(rt.alloc(), &measures)?;
+    check_text(&text, &LINES)
+}
+
+/// Tries: lw_metrics::metrics_text
+#[test]
+fn nothing_is_told_of_a_node_that_is_away(rt: HostRuntime) -> Result<(), Fail> {
+    let measures = measures(None)?;
+    let text = metrics_text(rt.alloc(), &measures)?;
+    let mut want = Vec::new(rt.alloc());
+    want.extend_from_slice(&LINES[..NODE_BEGINS])?;
+    want.extend_from_slice(&LINES[NODE_ENDS..])?;
+    check_text(&text, &want)
+}
+
+/// The samples of a new tally.
+const NOTHING_YET: [&str; 23] = [
+    "fleet_build_info{version=\"0.1.0\"} 1",
+    "fleet_start_time_seconds 0",
+    "fleet_rounds_total 0",
+    "fleet_datagrams_total 0",
+    "fleet_replies_total{code=\"2.01\"} 0",
+    "fleet_replies_total{code=\"2.02\"} 0",
+    "fleet_replies_total{code=\"2.04\"} 0",
+    "fleet_replies_total{code=\"4.00\"} 0",
+    "fleet_replies_total{code=\"4.02\"} 0",
+    "fleet_replies_total{code=\"4.04\"} 0",
+    "fleet_replies_total{code=\"4.05\"} 0",
+    "fleet_replies_total{code=\"4.12\"} 0",
+    "fleet_replies_total{code=\"4.13\"} 0",
+    "fleet_replies_total{code=\"4.15\"} 0",
+    "fleet_replies_total{code=\"5.03\"} 0",
+    "fleet_replies_total{code=\"5.05\"} 0",
+    "fleet_empty_replies_total 0",
+    "fleet_unanswered_total 0",
+    "fleet_notifications_total 0",
+    "fleet_swept_total 0",
+    "fleet_no_memory_total 0",
+    "fleet_passed_over_total 0",
+    "fleet_log_away 0",
+];
+
+/// Fails where the samples of the text are others than these.
+fn check_samples(text: &str, want: &[&str]) -> Result<(), Fail> {
+    let mut place = 0usize;
+    for line in text.lines() {
+        if !line.starts_with('#') {
+            check_line_at(want, place, line)?;
+            place = place.saturating_add(1);
+        }
+    }
+    check_count(place, want.len())
+}
+
+/// Tries: lw_metrics::Tally::new, lw_metrics::metrics_text
+#[test]
+fn each_sample_is_there_from_the_start(rt: HostRuntime) -> Result<(), Fail> {
+    let text = metrics_text(rt.alloc(), &measures_of(Tally::new()))?;
+    check_samples(&text, &NOTHING_YET)
+}
+
+/// Tries: lw_metrics::metrics_text
+#[test]
+fn the_version_is_escaped(rt: HostRuntime) -> Result<(), Fail> {
+    let mut measures = measures_of(Tally::new());
+    measures.version = "1 \"é\" \\ n\n";
+    let text = metrics_text(rt.alloc(), &measures)?;
+    let want = "fleet_build_info{version=\"1 \\\"é\\\" \\\\ n\\n\"} 1\n";
+    if text.contains(want) {
+        return Ok(());
+    }
+    Err(Fail::new("a version that is not escaped"))
+}
