@@ -120,7 +120,8 @@ fn numbers(alloc: Global, node: &Node, about: About) -> Result<Answer, NoMemory>
     Ok(ok(node_text(alloc, &numbers)?))
 }
 
-fn numbers_of(node: &Node, about: About) -> NodeNumbers
+/// A node in numbers.
+pub fn numbers_of(node: &Node, about: About) -> NodeNumbers
     ensures change { result.change ≡ node.now.table.count.change }
     ensures counter { result.counter ≡ node.now.clock }
     ensures number { result.number ≡ about.number }

@@ -7,6 +7,6 @@ mod changes;
 mod look_ups;
 mod pages;
 
-pub use answering::{About, answer};
+pub use answering::{About, answer, numbers_of};
 pub use look_ups::{by_address, by_id, by_token, registration};
 pub use pages::registrations;

@@ -13,6 +13,7 @@ use Rattle.lw_log.specs.Calls.{LogCall, Calls}
 use Rattle.lw_member.specs.Member.{MemberContent}
 use Rattle.lw_member.specs.Own.{WritesOwn}
 use Rattle.lw_member.specs.Rounds.{IsRound}
+use Rattle.lw_metrics.specs.Counting.{counted}
 use Rattle.lw_run.specs.Server.{ServerContent}
 use Rattle.lw_run.specs.Turns.{calls_of, sends_of, IsTurn}
 
@@ -38,8 +39,9 @@ sends_of-tick now before true replies = sends_of-sweeps 32 before replies
 pub is_turn : (now before : Moment) (old mid new : ServerContent) (batch : List Datagram) (calls : List Call) (replies : List Reply) (sends : List (Addr × List ℕ))
     → mid ≡ old → ms_of before ≡ ms_of now - 1000 * mid.skew → calls ≡ calls_of now before mid.member.claimed batch
     → IsRound mid.member calls replies new.member → sends ≡ sends_of (calls_of now before mid.member.claimed batch) replies
+    → new.tally ≡ counted mid.tally calls replies → new.latest ≡ now
     → IsTurn now old batch sends new
-is_turn now before old mid new batch calls replies sends same back are round sent =
+is_turn now before old mid new batch calls replies sends same back are round sent counts latest =
     subst (λ (server : ServerContent). IsTurn now server batch sends new) same
     (record {
       before = before;
@@ -47,6 +49,8 @@ is_turn now before old mid new batch calls replies sends same back are round sen
       before_is = back;
       round = subst (λ (cs : List Call). IsRound mid.member cs replies new.member) are round;
       sent = sent;
+      counts = subst (λ (cs : List Call). new.tally ≡ counted mid.tally cs replies) are counts;
+      latest = latest;
     })
 
 -- where nothing came, nothing is sent
@@ -60,4 +64,6 @@ is_tick now old new batch sends none turn =
       before_is = empty.before_is;
       round = empty.round;
       sent = sym (sends_of-tick now empty.before old.member.claimed empty.replies);
+      counts = empty.counts;
+      latest = empty.latest;
     }

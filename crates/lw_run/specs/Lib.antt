@@ -2,4 +2,5 @@ pub mod Front
 pub mod Faults
 pub mod Server
 pub mod Turns
+pub mod Desk
 pub mod inner

@@ -11,6 +11,7 @@ use Rattle.lw_call.specs.declared.call.Call.TheVariants as calls
 use Rattle.lw_call.specs.declared.reply.Reply.{Reply}
 use Rattle.lw_call.specs.declared.reply.Reply.TheVariants as replies
 use Rattle.lw_member.specs.Rounds.{IsRound}
+use Rattle.lw_metrics.specs.Counting.{counted}
 use Rattle.lw_run.specs.Server.{ServerContent}
 
 -- how many registrations that have expired end in a turn at most
@@ -37,10 +38,12 @@ reply_to call reply = None
 abbrev pub sends_of : List Call → List Reply → List (Addr × List ℕ)
 sends_of calls replies = filter_map (λ p. reply_to p.0 p.1) (zip calls replies)
 
--- One round of the member. The Sweeps are at the moment less the seconds that clocks may differ.
+-- One round of the member, which is counted. The Sweeps are at the moment less the seconds that clocks may differ.
 pub record IsTurn (now : Moment) (old : ServerContent) (batch : List Datagram) (sends : List (Addr × List ℕ)) (new : ServerContent) : Type 0 where
   pub before : Moment
   pub replies : List Reply
   pub before_is : ms_of before ≡ ms_of now - 1000 * old.skew
   pub round : IsRound old.member (calls_of now before old.member.claimed batch) replies new.member
   pub sent : sends ≡ sends_of (calls_of now before old.member.claimed batch) replies
+  pub counts : new.tally ≡ counted old.tally (calls_of now before old.member.claimed batch) replies
+  pub latest : new.latest ≡ now

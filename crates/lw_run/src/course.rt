@@ -161,6 +161,7 @@ impl<G: DeltaLog, C: HostClock + Drop> Course<G, C> {
                 if self.starved == 0 {
                     warn!(log; "no memory for a turn");
                 }
+                self.server.pass_over();
                 self.starved = self.starved.saturating_add(1);
                 if self.starved >= FAULTS_IN_A_ROW {
                     return Err(RunFault::NoMemory);

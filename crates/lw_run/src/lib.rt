@@ -4,6 +4,7 @@
 
 mod calling;
 mod course;
+mod desk;
 mod fault;
 mod front;
 mod receiving;

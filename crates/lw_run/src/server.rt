@@ -3,6 +3,8 @@
 ghost use Rattle.std.specs.Prelude.{◌≡◌, ◌↔◌, [], map, IfOk, OnOk, IsTrue};
 ghost use Rattle.lw_member.specs.Compaction.{IsCompactionDue, IsCompacted, Compacts};
 ghost use Rattle.lw_member.specs.Own.{WritesOwn};
+ghost use Rattle.lw_metrics.specs.Counting.{new_tally, one_more};
+ghost use Rattle.lw_run.specs.Server.{Stays};
 ghost use Rattle.lw_run.specs.Turns.{IsTurn, sent};
 
 use crate::TurnFault;
@@ -10,6 +12,7 @@ use crate::calling::{calls_of, moment_before};
 use crate::sending::put_sends;
 use lw_log::DeltaLog;
 use lw_member::Member;
+use lw_metrics::Tally;
 use lw_reg::Addr;
 use lw_stamp::Moment;
 use lw_wire::{Datagram, HostClock};
@@ -19,13 +22,17 @@ use std::marker::Model;
 /// A member, and the clock that it takes datagrams by.
 #[derive(Drop)]
 pub struct Server<G: DeltaLog, C: HostClock + Drop> {
-    alloc: Global,
-    member: Member<G>,
+    pub(crate) alloc: Global,
+    pub(crate) member: Member<G>,
     clock: C,
     /// How many seconds the clocks of the fleet's servers may differ.
     skew: u32,
-    /// The moment of the last turn.
-    latest: Moment,
+    pub(crate) started: Moment,
+    /// The moment of the last turn, or of the start.
+    pub(crate) latest: Moment,
+    pub(crate) tally: Tally,
+    /// How many turns failed for want of memory.
+    pub(crate) passed_over: u64,
 }
 
 impl<G: DeltaLog, C: HostClock + Drop> Model for Server<G, C> {
@@ -37,20 +44,37 @@ impl<G: DeltaLog, C: HostClock + Drop> Model for Server<G, C> {
 
     ghost coded = { Prim.hlevel (codes, node_code) };
 
-    ghost view = { λ s. record { member = s.member; skew = s.skew } };
+    ghost view = { λ s. record {
+      member = s.member;
+      skew = s.skew;
+      started = s.started;
+      latest = s.latest;
+      tally = s.tally;
+      passed_over = s.passed_over;
+    } };
 }
 
 impl<G: DeltaLog, C: HostClock + Drop> Server<G, C> {
-    /// The server of a member. The clocks of the fleet's servers may differ by so many seconds.
-    pub fn new(alloc: Global, member: Member<G>, clock: C, skew: u32) -> Server<G, C>
-        ensures { result ≡ record { member = member; skew = skew } }
+    /// The server of a member, which is started now. The clocks of the fleet's servers may differ by so many seconds.
+    pub fn new(alloc: Global, member: Member<G>, clock: C, skew: u32, now: Moment) -> Server<G, C>
+        ensures { result ≡ record {
+          member = member;
+          skew = skew;
+          started = now;
+          latest = now;
+          tally = new_tally;
+          passed_over = 0;
+        } }
     {
         Server {
             alloc,
             member,
             clock,
             skew,
-            latest: Moment::START,
+            started: now,
+            latest: now,
+            tally: Tally::new(),
+            passed_over: 0,
         }
     }
 
@@ -60,7 +84,7 @@ impl<G: DeltaLog, C: HostClock + Drop> Server<G, C> {
         ensures turn { IfOk result (λ sends. (now : Moment) × IsTurn now self.old batch.items (map sent sends.items) self.new) }
         // Also where it fails.
         ensures own { WritesOwn self.old.member self.new.member }
-        ensures skew { self.new.skew ≡ self.old.skew }
+        ensures stays { Stays self.old self.new }
     {
         let Some(now) = self.clock.now() else {
             return Err(TurnFault::ClockRefused);
@@ -70,6 +94,7 @@ impl<G: DeltaLog, C: HostClock + Drop> Server<G, C> {
         let calls = calls_of(self.alloc, now, before, self.member.is_claimed(), batch)?;
         let mut sends = Vec::with_capacity(self.alloc, calls.len())?;
         let replies = self.member.round(&calls)?;
+        self.tally.count(&calls, &replies);
         put_sends(&calls, replies, &mut sends);
         Ok(sends)
     }
@@ -78,7 +103,7 @@ impl<G: DeltaLog, C: HostClock + Drop> Server<G, C> {
     pub fn tick(&mut self) -> Result<(), TurnFault>
         ensures turn { OnOk result ((now : Moment) × IsTurn now self.old [] [] self.new) }
         ensures own { WritesOwn self.old.member self.new.member }
-        ensures skew { self.new.skew ≡ self.old.skew }
+        ensures stays { Stays self.old self.new }
     {
         self.take(Vec::new(self.alloc))?;
         Ok(())
@@ -96,10 +121,17 @@ impl<G: DeltaLog, C: HostClock + Drop> Server<G, C> {
         ensures compacted { OnOk result (IsCompacted self.old.member self.new.member) }
         // Also where it fails.
         ensures own { Compacts self.old.member self.new.member }
-        ensures skew { self.new.skew ≡ self.old.skew }
+        ensures stays { Stays self.old self.new }
     {
         self.member.compact()?;
         Ok(())
+    }
+
+    /// Counts a turn that failed for want of memory.
+    pub(crate) fn pass_over(&mut self)
+        ensures { self.new ≡ record (self.old) { passed_over = one_more self.old.passed_over } }
+    {
+        self.passed_over = self.passed_over.saturating_add(1);
     }
 
     pub(crate) fn allocator(&self) -> Global {

@@ -1,0 +1,72 @@
+-- What a server tells over HTTP (RFC 9110, section 15; RFC 8259).
+use Rattle.std.specs.Prelude.{◌≡◌, ◌≢◌, ℕ, Bool, true, false, not, List, Option, Some, None, IsSomeAnd, if◌then◌else◌, codes, string_bytes}
+use Rattle.serde_json.specs.Written.{compact_text}
+use Rattle.lw_stamp.specs.Moment.{ms_of}
+use Rattle.lw_node.specs.Node.{NodeContent}
+use Rattle.lw_member.specs.Member.{MemberContent}
+use Rattle.lw_print.specs.Json.{health_json}
+use Rattle.lw_metrics.specs.declared.measures.Measures.{Measures}
+use Rattle.lw_metrics.specs.declared.measures.NodeMeasures.{NodeMeasures}
+use Rattle.lw_metrics.specs.Exposition.{exposition}
+use Rattle.lw_metrics.specs.Families.{families_of}
+use Rattle.lw_target.specs.declared.asked.Asked.{Asked}
+use Rattle.lw_target.specs.declared.asked.Asked.TheVariants.{Health, Metrics}
+use Rattle.lw_target.specs.declared.desk.Answer.{Answer}
+use Rattle.lw_target.specs.declared.desk.Media.TheVariants as media
+use Rattle.lw_target.specs.declared.desk.Status.{Status}
+use Rattle.lw_target.specs.declared.desk.Status.TheVariants as status
+use Rattle.lw_api.specs.declared.answering.About.{About}
+use Rattle.lw_api.specs.Answers.{CountsRegistrations, IsAnswer, IsJson}
+use Rattle.lw_run.specs.Server.{ServerContent}
+
+abbrev pub version : List ℕ
+version = codes "0.1.0"
+
+-- what the server knows of its start: the number, once its log has told that it is its own, and the tag
+abbrev pub about_of : MemberContent → About
+about_of member = record { number = if member.claimed then Some member.node.number else None; tag = member.tag }
+
+-- ---- whether it serves: while its log does not lead all that the node knows, it is away
+abbrev pub health_status : Bool → Status
+health_status true = status.Ok
+health_status false = status.ServiceUnavailable
+
+abbrev pub TellsHealth : ServerContent → Answer → Type 0
+TellsHealth server = IsJson (health_status server.member.led) (compact_text (health_json server.latest server.member.led version))
+
+-- ---- measures
+pub record AreOfNode (node : NodeContent) (measures : NodeMeasures) : Type 0 where
+  pub registrations : CountsRegistrations node.table.state measures.registrations
+  pub counter : measures.counter ≡ node.clock
+  pub change : measures.change ≡ node.table.count.change
+  pub number : measures.number ≡ node.number
+
+-- nothing is told of the node while the log is away
+abbrev pub IsMeasuredBy : Bool → NodeContent → Option NodeMeasures → Type 0
+IsMeasuredBy true node measures = IsSomeAnd measures (AreOfNode node)
+IsMeasuredBy false node measures = measures ≡ None
+
+pub record AreMeasures (server : ServerContent) (measures : Measures) : Type 0 where
+  pub version_is : measures.version.now ≡ version
+  pub started : measures.started ≡ server.started
+  pub node : IsMeasuredBy server.member.led server.member.node measures.node
+  pub tally : measures.tally ≡ server.tally
+  pub passed_over : measures.passed_over ≡ server.passed_over
+  pub away : measures.away ≡ not server.member.led
+
+pub record TellsMetrics (server : ServerContent) (answer : Answer) : Type 0 where
+  pub measures : Measures
+  pub are : AreMeasures server measures
+  pub status_is : answer.status ≡ status.Ok
+  pub media_is : answer.media ≡ media.Metrics
+  pub body_is : string_bytes answer.body ≡ exposition (families_of measures)
+
+-- ---- what its node tells, at the moment of the last turn; nothing is told that the log does not lead
+abbrev pub TellsOfNode : Bool → ServerContent → Asked → Answer → Type 0
+TellsOfNode true server asked answer = IsAnswer server.member.node (about_of server.member) (ms_of server.latest) asked answer
+TellsOfNode false server asked answer = IsJson status.ServiceUnavailable (codes "{\"error\":\"away\"}") answer
+
+pub record TellsOf (server : ServerContent) (asked : Asked) (answer : Answer) : Type 0 where
+  pub health : asked ≡ Health → TellsHealth server answer
+  pub metrics : asked ≡ Metrics → TellsMetrics server answer
+  pub node : asked ≢ Health → asked ≢ Metrics → TellsOfNode server.member.led server asked answer

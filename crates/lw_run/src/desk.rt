@@ -1,0 +1,115 @@
+//! What a server tells over HTTP.
+
+ghost use Rattle.std.specs.Prelude.{◌≡◌, IfOk, false};
+ghost use Rattle.lw_run.specs.Desk.{about_of, health_status, version, AreMeasures, IsMeasuredBy, TellsHealth, TellsMetrics, TellsOfNode};
+
+use crate::Server;
+use lw_api::{About, answer, numbers_of};
+use lw_log::DeltaLog;
+use lw_metrics::{Measures, NodeMeasures, metrics_text};
+use lw_print::health_text;
+use lw_stamp::NoMemory;
+use lw_target::{Answer, Asked, Desk, Media, Status};
+use lw_wire::HostClock;
+
+/// The version of the program.
+const VERSION: &str = "0.1.0";
+
+/// What is told while the log does not lead all that the node knows.
+const AWAY: &str = r#"{"error":"away"}"#;
+
+impl<G: DeltaLog, C: HostClock + Drop> Desk for Server<G, C> {
+    ghost use Rattle.lw_run.specs.Desk.{TellsOf};
+
+    ghost tells = { λ server asked answer. TellsOf server asked answer };
+
+    fn answer(&self, asked: &Asked) -> Result<Answer, NoMemory> {
+        match asked {
+            Asked::Health => self.health(),
+            Asked::Metrics => self.metrics(),
+            _ => self.of_node(asked),
+        }
+    }
+}
+
+impl<G: DeltaLog, C: HostClock + Drop> Server<G, C> {
+    fn health(&self) -> Result<Answer, NoMemory>
+        ensures { IfOk result (TellsHealth self.now) }
+    {
+        let leads = self.member.node().is_some();
+        Ok(Answer {
+            status: status_of(leads),
+            media: Media::Json,
+            body: health_text(self.alloc, self.latest, leads, VERSION)?,
+        })
+    }
+
+    fn metrics(&self) -> Result<Answer, NoMemory>
+        ensures { IfOk result (TellsMetrics self.now) }
+    {
+        Ok(Answer {
+            status: Status::Ok,
+            media: Media::Metrics,
+            body: metrics_text(self.alloc, &self.measures())?,
+        })
+    }
+
+    fn measures(&self) -> Measures
+        ensures { AreMeasures self.now result }
+    {
+        let node = self.node_measures();
+        Measures {
+            version: VERSION,
+            started: self.started,
+            away: node.is_none(),
+            node,
+            tally: self.tally,
+            passed_over: self.passed_over,
+        }
+    }
+
+    fn node_measures(&self) -> Option<NodeMeasures>
+        ensures { IsMeasuredBy self.now.member.led self.now.member.node result }
+    {
+        let numbers = numbers_of(self.member.node()?, self.about());
+        Some(NodeMeasures {
+            registrations: numbers.registrations,
+            counter: numbers.counter,
+            change: numbers.change,
+            number: self.member.start().number,
+        })
+    }
+
+    fn about(&self) -> About
+        ensures { result ≡ about_of self.now.member }
+    {
+        let start = self.member.start();
+        About {
+            number: self.member.is_claimed().then_some(start.number),
+            tag: start.tag,
+        }
+    }
+
+    fn of_node(&self, asked: &Asked) -> Result<Answer, NoMemory>
+        ensures { IfOk result (TellsOfNode self.now.member.led self.now asked.now) }
+    {
+        match self.member.node() {
+            Some(node) => answer(self.alloc, node, self.about(), self.latest, asked),
+            None => Ok(Answer {
+                status: Status::ServiceUnavailable,
+                media: Media::Json,
+                body: String::from_str(self.alloc, AWAY)?,
+            }),
+        }
+    }
+}
+
+fn status_of(leads: bool) -> Status
+    ensures { result ≡ health_status leads }
+{
+    if leads {
+        Status::Ok
+    } else {
+        Status::ServiceUnavailable
+    }
+}
