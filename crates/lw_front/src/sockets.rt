@@ -1,41 +1,56 @@
 //! Sockets, and the one wait for them.
 
+use crate::reception::{Reception, VISIT, VISITORS};
 use lw_reg::Addr;
 use lw_run::{Front, Heard};
+use lw_target::Desk;
+use lw_visit::Guard;
 use lw_wire::{WireFault, address_of, socket_address_of};
 use mio::net::UdpSocket;
 use mio::{Events, Interest, Poll, Token};
 use std::alloc::Global;
+use std::hash::RandomState;
 use std::io::{self, ErrorKind};
 use std::net::{Net, SocketAddr};
-use std::time::Duration;
+use std::time::{Clock, Duration, Instant};
 
 /// What the socket of datagrams is waited for under.
 const DATAGRAMS: Token = Token(0);
 
-/// How many events a wait tells of: there is one socket.
-const EVENTS: usize = 1;
+/// How many events a wait tells of.
+const EVENTS: usize = 32;
 
-/// A UDP socket that never waits itself, and what waits for it.
+/// A UDP socket that never waits itself, a listener for visitors where there is one, and what waits for them.
 #[derive(Drop)]
-pub struct Sockets {
+pub struct Sockets<'a, C: Clock> {
+    clock: &'a C,
+    alloc: Global,
     poll: Poll,
     events: Events<Global>,
     datagrams: UdpSocket,
+    reception: Option<Reception>,
 }
 
-impl Sockets {
+impl<'a, C: Clock> Sockets<'a, C> {
     /// Binds a UDP socket at the address.
-    pub fn bind<N: Net>(net: &N, alloc: Global, address: SocketAddr) -> io::Result<Sockets> {
+    pub fn bind<N: Net>(
+        net: &N,
+        clock: &'a C,
+        alloc: Global,
+        address: SocketAddr,
+    ) -> io::Result<Sockets<'a, C>> {
         let poll = Poll::new(net)?;
         let events = Events::with_capacity(alloc, EVENTS)?;
         let mut datagrams = UdpSocket::bind(net, address)?;
         poll.registry()
             .register(&mut datagrams, DATAGRAMS, Interest::READABLE)?;
         Ok(Sockets {
+            clock,
+            alloc,
             poll,
             events,
             datagrams,
+            reception: None,
         })
     }
 
@@ -43,21 +58,86 @@ impl Sockets {
     pub fn local_address(&self) -> io::Result<SocketAddr> {
         self.datagrams.local_addr()
     }
-}
 
-impl Front for Sockets {
-    fn attend(&mut self, buffer: &mut [u8], time: Duration) -> Result<Heard, WireFault> {
-        // The wait tells of what comes, and not of what is there: that is looked for first.
-        if let Some((count, from)) = self.more(buffer)? {
-            return Ok(Heard::Datagram(count, from));
-        }
+    /// Lets visitors in over HTTP at the address, and gives the address at which it is.
+    pub fn receive<N: Net>(
+        &mut self,
+        net: &N,
+        keys: RandomState,
+        guard: Guard,
+        address: SocketAddr,
+    ) -> io::Result<SocketAddr> {
+        let reception = Reception::bind(net, self.alloc, keys, guard, &self.poll, address)?;
+        let bound = reception.local_address()?;
+        self.reception = Some(reception);
+        Ok(bound)
+    }
+
+    /// Waits until something is there, and notes what.
+    fn look(&mut self, time: Duration) -> Result<(), WireFault> {
         self.poll
             .poll(&mut self.events, Some(time))
             .map_err(|_| WireFault)?;
-        match self.more(buffer)? {
-            Some((count, from)) => Ok(Heard::Datagram(count, from)),
-            None => Ok(Heard::Nothing),
+        let Some(reception) = &mut self.reception else {
+            return Ok(());
+        };
+        for event in self.events.iter() {
+            let token = event.token();
+            reception.knocks = reception.knocks || token == VISITORS;
+            reception.stirs = reception.stirs || token == VISIT;
         }
+        Ok(())
+    }
+
+    /// Answers the visitors that are there. A datagram goes before the next of them.
+    fn receive_visitors<D: Desk>(&mut self, desk: &D) -> Result<(), WireFault> {
+        if self.reception.is_none() {
+            return Ok(());
+        }
+        self.look(Duration::ZERO)?;
+        let now = self.now()?;
+        if let Some(reception) = &mut self.reception {
+            reception.receive(&self.poll, now, desk);
+        }
+        Ok(())
+    }
+
+    fn now(&self) -> Result<Instant, WireFault> {
+        Instant::now(self.clock).map_err(|_| WireFault)
+    }
+
+    /// Waits for what comes next, but no longer than is left of the time. It tells whether some was left.
+    fn wait(&mut self, began: Instant, time: Duration) -> Result<bool, WireFault> {
+        let passed = self.now()?.saturating_duration_since(began);
+        let left = time.saturating_sub(passed);
+        let stirs = self
+            .reception
+            .as_ref()
+            .is_some_and(|reception| reception.stirs);
+        self.look(if stirs { Duration::ZERO } else { left })?;
+        Ok(left != Duration::ZERO)
+    }
+}
+
+impl<C: Clock> Front for Sockets<'_, C> {
+    fn attend<D: Desk>(
+        &mut self,
+        desk: &D,
+        buffer: &mut [u8],
+        time: Duration,
+    ) -> Result<Heard, WireFault> {
+        let began = self.now()?;
+        for _turn in 0..u64::MAX {
+            self.receive_visitors(desk)?;
+            // The wait tells of what comes, and not of what is there: that is looked for first.
+            if let Some((count, from)) = self.more(buffer)? {
+                return Ok(Heard::Datagram(count, from));
+            }
+            if !self.wait(began, time)? {
+                return Ok(Heard::Nothing);
+            }
+        }
+        Ok(Heard::Nothing)
     }
 
     fn more(&mut self, buffer: &mut [u8]) -> Result<Option<(usize, Addr)>, WireFault> {

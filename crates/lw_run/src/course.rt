@@ -45,6 +45,11 @@ impl<G: DeltaLog, C: HostClock + Drop> Course<G, C> {
         }
     }
 
+    /// Who is asked by visitors.
+    pub(crate) fn server(&self) -> &Server<G, C> {
+        &self.server
+    }
+
     /// A turn with the datagram that came, and with those that are there behind it. Where the log is away they are passed
     /// over.
     pub(crate) fn take<F: Front, L: Log>(

@@ -4,6 +4,7 @@ ghost use Rattle.std.specs.Prelude.{◌≤◌, length, IfOk, IfSome};
 ghost use Rattle.lw_run.specs.Front.{IsWithin};
 
 use lw_reg::Addr;
+use lw_target::Desk;
 use lw_wire::WireFault;
 use std::time::Duration;
 
@@ -18,10 +19,16 @@ pub enum Heard {
     End,
 }
 
-/// What datagrams come and go over.
+/// What datagrams come and go over, and visitors.
 pub trait Front {
-    /// Waits so long for a datagram. Bytes for which the buffer has no room are lost.
-    fn attend(&mut self, buffer: &mut [u8], time: Duration) -> Result<Heard, WireFault>
+    /// Waits so long for a datagram, and has the desk answer visitors meanwhile. Bytes for which the buffer has no room are
+    /// lost.
+    fn attend<D: Desk>(
+        &mut self,
+        desk: &D,
+        buffer: &mut [u8],
+        time: Duration,
+    ) -> Result<Heard, WireFault>
         ensures { IfOk result (IsWithin (length buffer.new)) };
 
     /// A datagram that is already there, without waiting.

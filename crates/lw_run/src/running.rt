@@ -26,7 +26,7 @@ pub fn run_on<F: Front, G: DeltaLog, C: HostClock + Drop, L: Log>(
     let mut buffer = vec![in server.allocator(); 0; BUFFER]?;
     let mut course = Course::new(server, compaction);
     for _turn in 0..u64::MAX {
-        match front.attend(&mut buffer, wait) {
+        match front.attend(course.server(), &mut buffer, wait) {
             Ok(Heard::Datagram(count, from)) => course.take(front, log, &mut buffer, count, from)?,
             Ok(Heard::Nothing) => course.tick(log)?,
             Ok(Heard::End) => return Ok(()),
