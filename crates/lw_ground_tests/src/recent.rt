@@ -107,13 +107,19 @@ fn a_refused_add_leaves_the_endpoints(rt: HostRuntime) -> Result<(), Fail> {
     Ok(())
 }
 
+/// Files an endpoint, which then moves.
+fn moves(recent: &mut Recent, last: u64, number: u64) -> Result<(), NoMemory> {
+    recent.add(last, "b")?;
+    recent.move_to(last, number, "b");
+    Ok(())
+}
+
 /// Files four endpoints, of which one moves and one is dropped.
 fn leaves_holes(recent: &mut Recent) -> Result<(), NoMemory> {
     for (number, endpoint) in [(1, "a"), (3, "c"), (u64::MAX, "d")] {
         recent.add(number, endpoint)?;
     }
-    recent.add(2, "b")?;
-    recent.move_to(2, 5, "b");
+    moves(recent, 2, 5)?;
     recent.drop_one(3, "c");
     Ok(())
 }
