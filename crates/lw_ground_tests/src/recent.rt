@@ -107,16 +107,29 @@ fn a_refused_add_leaves_the_endpoints(rt: HostRuntime) -> Result<(), Fail> {
     Ok(())
 }
 
+/// Files an endpoint, which then moves.
+fn moves(recent: &mut Recent, last: u64, number: u64) -> Result<(), NoMemory> {
+    recent.add(last, "b")?;
+    recent.move_to(last, number, "b");
+    Ok(())
+}
+
+/// Files four endpoints, of which one moves and one is dropped.
+fn leaves_holes(recent: &mut Recent) -> Result<(), NoMemory> {
+    for (number, endpoint) in [(1, "a"), (3, "c"), (u64::MAX, "d")] {
+        recent.add(number, endpoint)?;
+    }
+    moves(recent, 2, 5)?;
+    recent.drop_one(3, "c");
+    Ok(())
+}
+
 /// Tries: Recent::next_above
 #[test]
 fn the_next_number_is_found_behind_holes(rt: HostRuntime) -> Result<(), Fail> {
     let mut recent = Recent::new(rt.alloc());
     holds("none", recent.next_above(0).is_none())?;
-    for (number, endpoint) in [(1, "a"), (2, "b"), (3, "c"), (u64::MAX, "d")] {
-        recent.add(number, endpoint)?;
-    }
-    recent.move_to(2, 5, "b");
-    recent.drop_one(3, "c");
+    leaves_holes(&mut recent)?;
     for (number, next) in [
         (0, Some((1, "a"))),
         (1, Some((5, "b"))),
