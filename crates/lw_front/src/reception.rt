@@ -13,6 +13,7 @@ use std::time::{Duration, Instant};
 
 /// What the listener is waited for under, and what each visit.
 pub(crate) const VISITORS: Token = Token(1);
+
 pub(crate) const VISIT: Token = Token(2);
 
 /// How many visits there are at once at most.
@@ -82,11 +83,7 @@ impl Reception {
                     return Ok(());
                 }
             };
-            poll.registry().register(
-                &mut stream,
-                VISIT,
-                Interest::READABLE | Interest::WRITABLE,
-            )?;
+            poll.registry().register(&mut stream, VISIT, Interest::READABLE | Interest::WRITABLE)?;
             self.make_room();
             self.visits
                 .push(Visit::new(self.alloc, self.keys, stream, now))?;

@@ -33,7 +33,12 @@ pub(crate) enum Going {
 }
 
 impl Visit {
-    pub(crate) fn new(alloc: Global, keys: RandomState, stream: TcpStream, began: Instant) -> Visit {
+    pub(crate) fn new(
+        alloc: Global,
+        keys: RandomState,
+        stream: TcpStream,
+        began: Instant,
+    ) -> Visit {
         Visit {
             stream,
             connection: new_connection(alloc, keys),
