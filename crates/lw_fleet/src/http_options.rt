@@ -1,6 +1,6 @@
 //! What is given for the options of `run` that are about HTTP.
 
-ghost use Rattle.std.specs.Prelude.{◌≡◌, ◌≢◌, ◌↔◌, [], Option, Some, None, codes, option_copied, false, IfOk, IfSome, IfNone, IsTrue, OnErr};
+ghost use Rattle.std.specs.Prelude.{◌≡◌, ◌↔◌, [], Option, Some, None, codes, false, IfOk, IfSome, IfNone, IsTrue, OnErr};
 ghost use Rattle.std.specs.Net.Grammar.{IsSocketText};
 ghost use Rattle.std.specs.declared.net.socket_addr.SocketAddr.{SocketAddr as SocketAddresses};
 ghost use Rattle.clap.specs.Words.{app_of, first_of, subcommand_rows_of};
