@@ -128,7 +128,7 @@ fn http_at<'a>(
     })
 }
 
-/// The text that is given for the option, if one is. An empty one is refused as it is told.
+/// The text that is given for the option, if one is. An empty text is refused, with `empty`.
 fn text_in<'a>(
     matches: &ArgMatches<'a>,
     option: &str,
