@@ -4,3 +4,4 @@ pub mod NodeLemmas
 pub mod EndingLemmas
 pub mod ReplayLemmas
 pub mod CommandLemmas
+pub mod HttpLemmas

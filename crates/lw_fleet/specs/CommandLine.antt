@@ -1,7 +1,11 @@
 -- The command line of the program, in the words of `clap`: the command `one` with its three options, `replay`, `serve`
--- with its five, and `run` with its five.
-use Rattle.std.specs.Prelude.{◌≡◌, ◌≢◌, ◌⊎◌, ◌<◌, ◌^◌, ℕ, List, [], ◌∷◌, Option, Some, None, option_map, codes, unwrap_or, true}
-use Rattle.std.specs.Net.Grammar.{IsIpText}
+-- with its five, and `run` with its eight.
+use Rattle.std.specs.Prelude.{◌≡◌, ◌≢◌, ◌⊎◌, ◌<◌, ◌^◌, ℕ, List, [], ◌∷◌, Option, Some, None, option_copied, option_map, codes, unwrap_or, true}
+use Rattle.std.specs.Borrow.{Bor}
+use Rattle.std.specs.Net.Addr.{IsLoopbackV4, IsLoopbackV6, MatchIp}
+use Rattle.std.specs.Net.Grammar.{IsIpText, IsSocketText}
+use Rattle.std.specs.Net.Socket.{socket_ip}
+use Rattle.std.specs.declared.net.socket_addr.SocketAddr.{SocketAddr}
 use Rattle.std.specs.Str.Parse.{IsNumeral, digits_value}
 use Rattle.clap.specs.Kinds.{IsAmong, Kinds, or_else}
 use Rattle.clap.specs.Words.{App, Row, Rule, Text, fault_of, first_of, new_app, new_rule, one_of, subcommand_of, with_rule, with_subcommand}
@@ -13,6 +17,7 @@ use Rattle.lw_fleet.specs.declared.command.OneOptions.{OneOptions}
 use Rattle.lw_fleet.specs.declared.command.Request.{Request}
 use Rattle.lw_fleet.specs.declared.command.Request.TheVariants.{One, Replay, Serve, Run}
 use Rattle.lw_fleet.specs.declared.command.ServeOptions.{ServeOptions}
+use Rattle.lw_fleet.specs.declared.http_options.HttpOptions.{HttpOptions}
 use Rattle.lw_fleet.specs.declared.run_options.Keeps.{Keeps}
 use Rattle.lw_fleet.specs.declared.run_options.Keeps.TheVariants.{Nothing, Folder}
 use Rattle.lw_fleet.specs.declared.run_options.LogLevel.{LogLevel}
@@ -55,14 +60,24 @@ serve_app = with_rule
     (long_option (codes "cut"))
 
 -- `run` with the options `--bind`, `--port`, `--log`, `--memory` and `--data`
-unfoldable pub run_app : App
-run_app = with_rule
+unfoldable pub udp_app : App
+udp_app = with_rule
     (with_rule
     (with_rule
     (with_rule (with_rule (new_app (codes "run")) (long_option (codes "bind"))) (long_option (codes "port")))
     (long_option (codes "log")))
     (flag_option (codes "memory")))
     (long_option (codes "data"))
+
+-- a command with the options `--http`, `--http-token-file` and `--http-host`
+abbrev pub with_http_options : App → App
+with_http_options app = with_rule
+    (with_rule (with_rule app (long_option (codes "http"))) (long_option (codes "http-token-file")))
+    (long_option (codes "http-host"))
+
+-- `run` with all its options
+unfoldable pub run_app : App
+run_app = with_http_options udp_app
 
 unfoldable pub fleet_app : App
 fleet_app = with_subcommand
@@ -126,6 +141,34 @@ IsKept rows Nothing = HasFlag (codes "memory") rows × (first_of (codes "data") 
 IsKept rows (Folder path) = (¬ HasFlag (codes "memory") rows)
     × (path.now ≡ given (codes "data") (codes "fleet-data") rows) × (path.now ≢ [])
 
+-- the address is the one that was given, and there is none where none was
+abbrev pub IsAddressIfGiven : Option Text → Option SocketAddr → Type 0
+IsAddressIfGiven None address = address ≡ None
+IsAddressIfGiven (Some text) None = ⊥
+IsAddressIfGiven (Some text) (Some address) = IsSocketText text address
+
+-- the text is the one that was given, which is not empty, and there is none where none was
+abbrev pub IsTextIfGiven : Option Text → Option (Bor Text) → Type 0
+IsTextIfGiven given text = (option_copied text ≡ given) × (given ≢ Some [])
+
+-- the address is in 127.0.0.0/8 or is ::1, or there is a file with a token
+abbrev pub IsGuarded : SocketAddr → Option (Bor Text) → Type 0
+IsGuarded address token_file = MatchIp (socket_ip address) IsLoopbackV4 IsLoopbackV6 ⊎ (token_file ≢ None)
+
+-- What is served over HTTP is what was given. Neither the path nor the name is empty, and off the loopback there is a
+-- file with a token.
+pub record IsGivenToHttp (rows : List Row) (http : HttpOptions) : Type 0 where
+  pub address : IsAddressIfGiven (first_of (codes "http") rows) (Some http.address)
+  pub token_file : IsTextIfGiven (first_of (codes "http-token-file") rows) http.token_file
+  pub host : IsTextIfGiven (first_of (codes "http-host") rows) http.host
+  pub guarded : IsGuarded http.address http.token_file
+
+-- Nothing is served over HTTP where `--http` is not given, and then neither are the options that go with it.
+abbrev pub IsHttp : List Row → Option HttpOptions → Type 0
+IsHttp rows None = (first_of (codes "http") rows ≡ None) × (first_of (codes "http-token-file") rows ≡ None)
+    × (first_of (codes "http-host") rows ≡ None)
+IsHttp rows (Some http) = IsGivenToHttp rows http
+
 -- the options are those that were given: the address 127.0.0.1, the port 5683 and the level `info` where they were not
 pub record IsGivenToRun (rows : List Row) (options : RunOptions) : Type 0 where
   pub bind : IsIpText (given (codes "bind") (codes "127.0.0.1") rows) options.bind
@@ -133,6 +176,7 @@ pub record IsGivenToRun (rows : List Row) (options : RunOptions) : Type 0 where
   pub port_fits : options.port < 2 ^ 16
   pub level : level_text options.level ≡ given (codes "log") (codes "info") rows
   pub keeps : IsKept rows options.keeps
+  pub http : IsHttp rows options.http
 
 -- the command has the name
 abbrev pub Names : Text → Option (Text × List Row) → Type 0

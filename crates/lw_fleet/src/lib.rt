@@ -5,6 +5,7 @@
 mod command;
 mod fault;
 mod hex_line;
+mod http_options;
 mod input;
 mod one_datagram;
 mod output;
@@ -17,6 +18,7 @@ mod serving;
 pub use command::{OneOptions, Request, ServeOptions, not_utf8, read_request};
 pub use fault::Fault;
 pub use hex_line::bytes_of_hex;
+pub use http_options::HttpOptions;
 pub use input::{read_all, read_line};
 pub use one_datagram::one;
 pub use output::{flush, write_all, write_text};

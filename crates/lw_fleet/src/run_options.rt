@@ -5,12 +5,13 @@ ghost use Rattle.clap.specs.Words.{app_of, subcommand_rows_of};
 ghost use Rattle.clap.specs.declared.builder.command.Command.TheViews.{out-Command as fields_of};
 ghost use Rattle.std.specs.Net.Grammar.{IsIpText};
 ghost use Rattle.std.specs.declared.net.ip_addr.IpAddr.{IpAddr as Addresses};
-ghost use Rattle.lw_fleet.specs.CommandLine.{level_text, option_rows, run_app, IsGivenToRun, IsKept};
+ghost use Rattle.lw_fleet.specs.CommandLine.{level_text, option_rows, run_app, udp_app, IsGivenToRun, IsKept};
 ghost use Rattle.lw_fleet.specs.declared.run_options.Keeps.{Keeps as Kept};
 ghost use Rattle.lw_fleet.specs.declared.run_options.LogLevel.{LogLevel as Levels};
 ghost use Rattle.lw_fleet.specs.declared.run_options.RunOptions.{RunOptions as RunningOptions};
 
 use crate::command::{BAD_PORT, flag, given_text, has_flag, option, small_number, text_of};
+use crate::http_options::{HttpOptions, add_http_options, http_in};
 use clap::{ArgMatches, Command};
 use std::alloc::{AllocError, Global};
 use std::net::IpAddr;
@@ -26,6 +27,8 @@ pub struct RunOptions<'a> {
     pub level: LogLevel,
     /// Where what is registered is kept.
     pub keeps: Keeps<'a>,
+    /// What is served over HTTP, if anything is.
+    pub http: Option<HttpOptions<'a>>,
 }
 
 /// Where what is registered is kept.
@@ -55,6 +58,12 @@ pub(crate) enum BadRunOption {
     Level,
     KeptTwice,
     Folder,
+    Http,
+    TokenFileWithoutHttp,
+    HostWithoutHttp,
+    TokenFile,
+    Host,
+    NoTokenFile,
 }
 
 impl BadRunOption {
@@ -67,12 +76,33 @@ impl BadRunOption {
             BadRunOption::Folder => {
                 "'--data <DIR>' takes the path of a folder, and not an empty text"
             }
+            BadRunOption::Http => {
+                "'--http <ADDR>' takes an IP address and a port, as 127.0.0.1:8080 or [::1]:8080"
+            }
+            BadRunOption::TokenFileWithoutHttp =>
+                "'--http-token-file <FILE>' needs '--http <ADDR>'",
+            BadRunOption::HostWithoutHttp => "'--http-host <NAME>' needs '--http <ADDR>'",
+            BadRunOption::TokenFile => {
+                "'--http-token-file <FILE>' takes the path of a file, and not an empty text"
+            }
+            BadRunOption::Host => "'--http-host <NAME>' takes a name, and not an empty text",
+            BadRunOption::NoTokenFile => {
+                "'--http <ADDR>' off the loopback needs '--http-token-file <FILE>'"
+            }
         }
     }
 }
 
 pub(crate) fn run_command<'a>(alloc: Global) -> Result<Command<'a>, AllocError>
     ensures app { IfOk result (λ command. app_of command ≡ run_app) }
+    ensures local { IfOk result (λ command. (fields_of command).has_globals ≡ false) }
+{
+    add_http_options(alloc, command_over_udp(alloc)?)
+}
+
+/// The command with the options that are about devices, and about what is kept.
+fn command_over_udp<'a>(alloc: Global) -> Result<Command<'a>, AllocError>
+    ensures app { IfOk result (λ command. app_of command ≡ udp_app) }
     ensures local { IfOk result (λ command. (fields_of command).has_globals ≡ false) }
 {
     Command::new(alloc, "run")
@@ -118,11 +148,13 @@ pub(crate) fn run_options_in<'a>(matches: &ArgMatches<'a>) -> Result<RunOptions<
         return Err(BadRunOption::Level);
     };
     let keeps = keeps_in(matches)?;
+    let http = http_in(matches)?;
     Ok(RunOptions {
         bind,
         port,
         level,
         keeps,
+        http,
     })
 }
 

@@ -46,6 +46,12 @@ pub enum RunningFault {
     /// No socket could be bound to the address.
     #[error("bind failed: no socket could be bound to the address and the port")]
     BindFailed,
+    /// No socket could be bound to the address for HTTP.
+    #[error("http bind failed: no socket could be bound to the address of --http")]
+    HttpBindFailed,
+    /// The file of the token gives none.
+    #[error("token refused: the file cannot be read, or its first line is no token")]
+    TokenRefused,
     /// The socket failed again and again.
     #[error("receive failed: the socket failed 1000 times in a row")]
     ReceiveFailed,
@@ -82,6 +88,8 @@ impl RunningFault {
             RunningFault::NumberTaken => "number taken\n",
             RunningFault::NumbersEnded => "numbers ended\n",
             RunningFault::BindFailed => "bind failed\n",
+            RunningFault::HttpBindFailed => "http bind failed\n",
+            RunningFault::TokenRefused => "token refused\n",
             RunningFault::ReceiveFailed => "receive failed\n",
             RunningFault::ClockRefused => "clock refused\n",
             RunningFault::RandomFailed => "random failed\n",

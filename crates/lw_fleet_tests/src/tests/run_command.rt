@@ -1,10 +1,10 @@
 //! What the command line gives to `run`, and the words that it refuses.
 
 use super::command_line::{BAD_PORT, asked, is_refused, printed};
-use crate::hold::{holds_for, same};
-use lw_fleet::{Keeps, LogLevel, Request, RunOptions};
+use crate::hold::{holds, holds_for, same};
+use lw_fleet::{HttpOptions, Keeps, LogLevel, Request, RunOptions};
 use std::alloc::Global;
-use std::net::{IpAddr, Ipv4Addr, Ipv6Addr};
+use std::net::{IpAddr, Ipv4Addr, Ipv6Addr, SocketAddr, SocketAddrV6};
 use std::test::Fail;
 
 /// What the words give to `run`.
@@ -71,6 +71,7 @@ fn options_to_run(rt: HostRuntime) -> Result<(), Fail> {
             port,
             level,
             keeps,
+            http: None,
         };
         holds_for(&words, given_to_run(rt.alloc(), words)? == given)?;
     }
@@ -109,18 +110,148 @@ fn addresses_to_run(rt: HostRuntime) -> Result<(), Fail> {
     Ok(())
 }
 
+/// What the words give to `run` for HTTP.
+fn http_given<'a>(alloc: Global, words: &'a [&'a str]) -> Result<Option<HttpOptions<'a>>, Fail> {
+    Ok(given_to_run(alloc, words)?.http)
+}
+
+/// The bytes of an IPv4 address, the port, the path of the token's file, and the name.
+type ServedV4 = ([u8; 4], u16, Option<&'static str>, Option<&'static str>);
+
+/// Words, and what they have served over HTTP at an IPv4 address.
+const SERVED: [(&[&str], ServedV4); 8] = [
+    (
+        &["fleet", "run", "--http", "127.0.0.1:8080"],
+        ([127, 0, 0, 1], 8080, None, None),
+    ),
+    (
+        &["fleet", "run", "--http=127.0.0.0:0"],
+        ([127, 0, 0, 0], 0, None, None),
+    ),
+    (
+        &["fleet", "run", "--http=127.255.255.255:65535"],
+        ([127, 255, 255, 255], 65535, None, None),
+    ),
+    (
+        &["fleet", "run", "--memory", "--http=127.0.0.1:0080"],
+        ([127, 0, 0, 1], 80, None, None),
+    ),
+    (
+        &[
+            "fleet",
+            "run",
+            "--http-token-file",
+            "t",
+            "--http=127.0.0.1:1",
+        ],
+        ([127, 0, 0, 1], 1, Some("t"), None),
+    ),
+    (
+        &[
+            "fleet",
+            "run",
+            "--http=127.0.0.1:1",
+            "--http-host",
+            "example",
+        ],
+        ([127, 0, 0, 1], 1, None, Some("example")),
+    ),
+    (
+        &["fleet", "run", "--http=0.0.0.0:80", "--http-token-file= "],
+        ([0, 0, 0, 0], 80, Some(" "), None),
+    ),
+    (
+        &[
+            "fleet",
+            "run",
+            "--http=192.0.2.7:443",
+            "--http-token-file=/etc/fleet/token",
+            "--http-host=fleet.example.org",
+        ],
+        (
+            [192, 0, 2, 7],
+            443,
+            Some("/etc/fleet/token"),
+            Some("fleet.example.org"),
+        ),
+    ),
+];
+
+/// Tries: read_request
+#[test]
+fn http_to_run(rt: HostRuntime) -> Result<(), Fail> {
+    for &(words, (bytes, port, token_file, host)) in &SERVED {
+        let [a, b, c, d] = bytes;
+        let served = HttpOptions {
+            address: SocketAddr::new(IpAddr::V4(Ipv4Addr::new(a, b, c, d)), port),
+            token_file,
+            host,
+        };
+        holds_for(&words, http_given(rt.alloc(), words)? == Some(served))?;
+    }
+    Ok(())
+}
+
+/// The address that a text gives to `run` for HTTP, beside a token.
+fn http_address_given(alloc: Global, text: &str) -> Result<Option<SocketAddr>, Fail> {
+    let words = ["fleet", "run", "--http-token-file=t", "--http", text];
+    Ok(http_given(alloc, &words)?.map(|served| served.address))
+}
+
+/// Tries: read_request
+#[test]
+fn ipv6_addresses_of_http(rt: HostRuntime) -> Result<(), Fail> {
+    for &(text, groups, port, scope) in &[
+        ("[::1]:8080", [0, 0, 0, 0, 0, 0, 0, 1], 8080, 0),
+        ("[::]:1", [0, 0, 0, 0, 0, 0, 0, 0], 1, 0),
+        (
+            "[2001:DB8::7]:443",
+            [0x2001, 0xdb8, 0, 0, 0, 0, 0, 7],
+            443,
+            0,
+        ),
+        ("[fe80::2%3]:80", [0xfe80, 0, 0, 0, 0, 0, 0, 2], 80, 3),
+    ] {
+        let host = Ipv6Addr::from_segments(groups);
+        let address = SocketAddr::V6(SocketAddrV6::new(host, port, 0, scope));
+        holds_for(
+            &text,
+            http_address_given(rt.alloc(), text)? == Some(address),
+        )?;
+    }
+    Ok(())
+}
+
+/// Tries: read_request
+#[test]
+fn the_loopback_of_ipv6_without_a_token(rt: HostRuntime) -> Result<(), Fail> {
+    let served = HttpOptions {
+        address: SocketAddr::new(
+            IpAddr::V6(Ipv6Addr::from_segments([0, 0, 0, 0, 0, 0, 0, 1])),
+            8080,
+        ),
+        token_file: None,
+        host: None,
+    };
+    let words = ["fleet", "run", "--http", "[::1]:8080"];
+    holds_for(&words, http_given(rt.alloc(), &words)? == Some(served))
+}
+
 const RUN_HELP: &str = "0 \
 Serves devices over UDP until it is killed, and keeps what is registered
 
 Usage: fleet run [OPTIONS]
 
 Options:
-      --bind <IP>    IP address of the UDP socket [default: 127.0.0.1]
-      --port <P>     UDP port, 0 to 65535 [default: 5683]
-      --log <LEVEL>  What is logged to standard error: off, error, warn, info, debug [default: info]
-      --memory       Keeps nothing: a restart begins without registrations
-      --data <DIR>   Folder that keeps what is registered; it is made where it is missing [default: fleet-data]
-  -h, --help         Print help
+      --bind <IP>               IP address of the UDP socket [default: 127.0.0.1]
+      --port <P>                UDP port, 0 to 65535 [default: 5683]
+      --log <LEVEL>             What is logged to standard error: off, error, warn, info, debug [default: info]
+      --memory                  Keeps nothing: a restart begins without registrations
+      --data <DIR>              Folder that keeps what is registered; it is made where it is missing [default: fleet-data]
+      --http <ADDR>             Address and port that HTTP is served on, as 127.0.0.1:8080 or [::1]:8080 [default: none]
+      --http-token-file <FILE>  File whose first line is the token that HTTP requests have to bring
+      --http-host <NAME>        Name that HTTP requests may be for, beside IP addresses and localhost
+  -h, --help                    Print help
 |";
 
 /// Tries: read_request, program
@@ -142,6 +273,20 @@ const BAD_LEVEL: &str = "'--log <LEVEL>' takes off, error, warn, info or debug";
 const KEPT_TWICE: &str = "only one of '--data <DIR>' and '--memory' can be given";
 
 const BAD_FOLDER: &str = "'--data <DIR>' takes the path of a folder, and not an empty text";
+
+const BAD_HTTP: &str =
+    "'--http <ADDR>' takes an IP address and a port, as 127.0.0.1:8080 or [::1]:8080";
+
+const TOKEN_ALONE: &str = "'--http-token-file <FILE>' needs '--http <ADDR>'";
+
+const HOST_ALONE: &str = "'--http-host <NAME>' needs '--http <ADDR>'";
+
+const BAD_TOKEN_FILE: &str =
+    "'--http-token-file <FILE>' takes the path of a file, and not an empty text";
+
+const BAD_HOST: &str = "'--http-host <NAME>' takes a name, and not an empty text";
+
+const NO_TOKEN: &str = "'--http <ADDR>' off the loopback needs '--http-token-file <FILE>'";
 
 /// Words that are refused, and the line. Of several rules the first that fails is told.
 const REFUSED: [(&[&str], &str); 20] = [
@@ -195,8 +340,111 @@ fn refused_words_of_run(rt: HostRuntime) -> Result<(), Fail> {
     Ok(())
 }
 
+/// Texts of `--http` that are no address with a port.
+const NO_ADDRESSES: [&str; 12] = [
+    "",
+    "8080",
+    ":8080",
+    "127.0.0.1",
+    "127.0.0.1:",
+    "127.0.0.1:65536",
+    "127.0.0.1:+80",
+    "127.0.0.1:80 ",
+    "localhost:8080",
+    "::1:8080",
+    "[::1]",
+    "http://127.0.0.1:8080",
+];
+
+/// Tries: read_request, program
+#[test]
+fn refused_addresses_of_http(rt: HostRuntime) -> Result<(), Fail> {
+    for &text in &NO_ADDRESSES {
+        let words = ["fleet", "run", "--http-token-file=t", "--http", text];
+        holds(text, is_refused(&rt, rt.alloc(), &words, BAD_HTTP, RUN)?)?;
+    }
+    Ok(())
+}
+
+/// Addresses that are off the loopback.
+const OFF_THE_LOOPBACK: [&str; 8] = [
+    "192.0.2.7:80",
+    "0.0.0.0:80",
+    "126.255.255.255:80",
+    "128.0.0.1:80",
+    "[::]:80",
+    "[::2]:80",
+    "[1::1]:80",
+    "[::ffff:127.0.0.1]:80",
+];
+
+/// Tries: read_request, program
+#[test]
+fn addresses_of_http_that_need_a_token(rt: HostRuntime) -> Result<(), Fail> {
+    for &text in &OFF_THE_LOOPBACK {
+        let words = ["fleet", "run", "--http-host=h", "--http", text];
+        holds(text, is_refused(&rt, rt.alloc(), &words, NO_TOKEN, RUN)?)?;
+    }
+    Ok(())
+}
+
+/// Words that are refused for what goes with `--http`, behind `fleet run`, and the line.
+const REFUSED_FOR_HTTP: [(&[&str], &str); 12] = [
+    (&["fleet", "run", "--http-token-file", "t"], TOKEN_ALONE),
+    (&["fleet", "run", "--http-token-file="], TOKEN_ALONE),
+    (&["fleet", "run", "--http-host", "h"], HOST_ALONE),
+    (&["fleet", "run", "--http-host="], HOST_ALONE),
+    (
+        &["fleet", "run", "--http-host=h", "--http-token-file=t"],
+        TOKEN_ALONE,
+    ),
+    (
+        &["fleet", "run", "--http=127.0.0.1:1", "--http-token-file="],
+        BAD_TOKEN_FILE,
+    ),
+    (
+        &["fleet", "run", "--http=192.0.2.7:1", "--http-token-file="],
+        BAD_TOKEN_FILE,
+    ),
+    (
+        &["fleet", "run", "--http=127.0.0.1:1", "--http-host="],
+        BAD_HOST,
+    ),
+    (
+        &["fleet", "run", "--http=192.0.2.7:1", "--http-host="],
+        BAD_HOST,
+    ),
+    (
+        &[
+            "fleet",
+            "run",
+            "--http=[::1]:1",
+            "--http-host=",
+            "--http-token-file=",
+        ],
+        BAD_TOKEN_FILE,
+    ),
+    (
+        &["fleet", "run", "--http=", "--http-host=", "--data="],
+        BAD_FOLDER,
+    ),
+    (
+        &["fleet", "run", "--http-host=", "--memory", "--data=a"],
+        KEPT_TWICE,
+    ),
+];
+
+/// Tries: read_request, program
+#[test]
+fn refused_words_of_http(rt: HostRuntime) -> Result<(), Fail> {
+    for &(words, line) in &REFUSED_FOR_HTTP {
+        holds_for(&words, is_refused(&rt, rt.alloc(), words, line, RUN)?)?;
+    }
+    Ok(())
+}
+
 /// Words that no option takes, the line, and the usage where there is one.
-const STRAY: [(&[&str], &str, &str); 6] = [
+const STRAY: [(&[&str], &str, &str); 9] = [
     (
         &["fleet", "run", "here"],
         "unexpected argument 'here' found",
@@ -226,6 +474,21 @@ const STRAY: [(&[&str], &str, &str); 6] = [
         &["fleet", "run", "--bind", "::1", "--bind", "::1"],
         "the argument '--bind <IP>' cannot be used multiple times",
         RUN,
+    ),
+    (
+        &["fleet", "run", "--http"],
+        "a value is required for '--http <ADDR>' but none was supplied",
+        "",
+    ),
+    (
+        &["fleet", "run", "--http-host=a", "--http-host=b"],
+        "the argument '--http-host <NAME>' cannot be used multiple times",
+        RUN,
+    ),
+    (
+        &["fleet", "run", "--http-token-file=a", "--http-token-file"],
+        "a value is required for '--http-token-file <FILE>' but none was supplied",
+        "",
     ),
 ];
 

@@ -13,8 +13,8 @@ use std::sync::Wait;
 use std::test::Fail;
 use std::thread::Threads;
 
-/// What a server was asked to run by: the address, the port, the level, and whether it keeps nothing.
-type Asked = (IpAddr, u16, LogLevel, bool);
+/// What a server was asked to run by: the address, the port, the level, whether it keeps nothing, and the port of HTTP.
+type Asked = (IpAddr, u16, LogLevel, bool, Option<u16>);
 
 /// Ends as it is told to.
 #[derive(Drop)]
@@ -37,18 +37,26 @@ impl Serves for Server {
 impl Runs for Server {
     fn run<R: Wait>(&mut self, _rt: &R, options: &RunOptions<'_>) -> Result<(), RunningFault> {
         let keeps_nothing = options.keeps == Keeps::Nothing;
-        self.asked = Some((options.bind, options.port, options.level, keeps_nothing));
+        let http_port = options.http.map(|http| http.address.port());
+        self.asked = Some((
+            options.bind,
+            options.port,
+            options.level,
+            keeps_nothing,
+            http_port,
+        ));
         self.end
     }
 }
 
-const WORDS: [&str; 6] = [
+const WORDS: [&str; 7] = [
     "fleet",
     "run",
     "--bind=192.0.2.7",
     "--port=1",
     "--log=warn",
     "--memory",
+    "--http=127.0.0.1:8080",
 ];
 
 /// Runs `fleet run` with a server that ends so, and tells what it was asked.
@@ -75,12 +83,12 @@ fn a_server_that_is_over(rt: HostRuntime) -> Result<(), Fail> {
     let bind = IpAddr::V4(Ipv4Addr::new(192, 0, 2, 7));
     holds(
         "a server that is over",
-        asked == Some((bind, 1, LogLevel::Warn, true)),
+        asked == Some((bind, 1, LogLevel::Warn, true, Some(8080))),
     )
 }
 
 /// Each fault, and its line.
-pub(super) const LINES: [(RunningFault, &str); 13] = [
+pub(super) const LINES: [(RunningFault, &str); 15] = [
     (RunningFault::DataFailed, "data failed\n"),
     (RunningFault::DataInUse, "data in use\n"),
     (RunningFault::DataDamaged, "data damaged\n"),
@@ -90,6 +98,8 @@ pub(super) const LINES: [(RunningFault, &str); 13] = [
     (RunningFault::NumberTaken, "number taken\n"),
     (RunningFault::NumbersEnded, "numbers ended\n"),
     (RunningFault::BindFailed, "bind failed\n"),
+    (RunningFault::HttpBindFailed, "http bind failed\n"),
+    (RunningFault::TokenRefused, "token refused\n"),
     (RunningFault::ReceiveFailed, "receive failed\n"),
     (RunningFault::ClockRefused, "clock refused\n"),
     (RunningFault::RandomFailed, "random failed\n"),

@@ -6,17 +6,17 @@ use Rattle.clap.specs.declared.error.Error.{Error}
 use Rattle.clap.specs.declared.parser.matches.ArgMatches.{ArgMatches}
 use Rattle.clap.specs.declared.error.kind.ErrorKind.TheVariants.{OutOfMemory, ValueValidation}
 use Rattle.clap.proofs.OnLiterals.{clap_on_literals}
-use Rattle.lw_fleet.specs.CommandLine.{fleet_app, one_app, replay_app, run_app, serve_app, kinds_of_words, IsAsked}
+use Rattle.lw_fleet.specs.CommandLine.{fleet_app, one_app, replay_app, run_app, serve_app, udp_app, kinds_of_words, IsAsked}
 use Rattle.lw_fleet.specs.declared.command.Request.{Request}
 use Rattle.lw_fleet.proofs.EndingLemmas.{or_more}
 use Rattle.lw_fleet.proofs.command.read_request.Goals as goal
 
 fleet_is_simple : is_simple fleet_app ≡ true
-unfolding fleet_app one_app replay_app serve_app run_app clap_on_literals
+unfolding fleet_app one_app replay_app serve_app run_app udp_app clap_on_literals
 fleet_is_simple = refl
 
 fleet_is_free : is_simple_and_free fleet_app ≡ true
-unfolding fleet_app one_app replay_app serve_app run_app clap_on_literals
+unfolding fleet_app one_app replay_app serve_app run_app udp_app clap_on_literals
 fleet_is_free = refl
 
 -- what a parse of these words answers

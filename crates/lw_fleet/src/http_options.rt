@@ -1,0 +1,161 @@
+//! What is given for the options of `run` that are about HTTP.
+
+ghost use Rattle.std.specs.Prelude.{◌≡◌, ◌↔◌, [], Option, Some, None, codes, false, IfOk, IfSome, IfNone, IsTrue, OnErr};
+ghost use Rattle.std.specs.Net.Grammar.{IsSocketText};
+ghost use Rattle.std.specs.declared.net.socket_addr.SocketAddr.{SocketAddr as SocketAddresses};
+ghost use Rattle.clap.specs.Words.{app_of, first_of, subcommand_rows_of};
+ghost use Rattle.clap.specs.declared.builder.command.Command.TheViews.{out-Command as fields_of};
+ghost use Rattle.lw_fleet.specs.CommandLine.{option_rows, with_http_options, IsAddressIfGiven, IsGivenToHttp, IsGuarded, IsHttp, IsTextIfGiven};
+ghost use Rattle.lw_fleet.specs.declared.http_options.HttpOptions.{HttpOptions as Served};
+
+use crate::command::{given_text, option};
+use crate::run_options::BadRunOption;
+use clap::{ArgMatches, Command};
+use std::alloc::{AllocError, Global};
+use std::net::SocketAddr;
+
+/// What is served over HTTP.
+#[derive(Clone, Copy, Debug, PartialEq, Eq)]
+pub struct HttpOptions<'a> {
+    /// Where visitors come.
+    pub address: SocketAddr,
+    /// The path of the file with the token that requests have to bring.
+    pub token_file: Option<&'a str>,
+    /// The name that requests may be for, beside IP addresses and `localhost`.
+    pub host: Option<&'a str>,
+}
+
+/// The command with the options that are about HTTP.
+pub(crate) fn add_http_options<'a>(
+    alloc: Global,
+    command: Command<'a>,
+) -> Result<Command<'a>, AllocError>
+    ensures app { IfOk result (λ added. app_of added ≡ with_http_options (app_of command.entry)) }
+    ensures local { IfOk result (λ added. (fields_of command.entry).has_globals ≡ false
+        → (fields_of added).has_globals ≡ false) }
+{
+    command
+        .arg(option(
+            alloc,
+            "http",
+            "ADDR",
+            "Address and port that HTTP is served on, as 127.0.0.1:8080 or [::1]:8080 [default: none]",
+        ))?
+        .arg(option(
+            alloc,
+            "http-token-file",
+            "FILE",
+            "File whose first line is the token that HTTP requests have to bring",
+        ))?
+        .arg(option(
+            alloc,
+            "http-host",
+            "NAME",
+            "Name that HTTP requests may be for, beside IP addresses and localhost",
+        ))
+}
+
+/// What is served over HTTP, by `--http` and the options that go with it.
+pub(crate) fn http_in<'a>(matches: &ArgMatches<'a>) -> Result<Option<HttpOptions<'a>>, BadRunOption>
+    ensures given { IfOk result (IsHttp (option_rows (subcommand_rows_of matches.now))) }
+    ensures none { OnErr result ((http : Option Served)
+        → ¬ IsHttp (option_rows (subcommand_rows_of matches.now)) http) }
+{
+    match address_of_visitors(matches)? {
+        Some(address) => Ok(Some(http_at(matches, address)?)),
+        None => {
+            refuse_without_http(matches)?;
+            Ok(None)
+        }
+    }
+}
+
+/// The address of `--http`, if that is given.
+fn address_of_visitors(matches: &ArgMatches<'_>) -> Result<Option<SocketAddr>, BadRunOption>
+    ensures given { IfOk result (IsAddressIfGiven
+        (first_of (codes "http") (option_rows (subcommand_rows_of matches.now)))) }
+    ensures none { OnErr result ((address : Option SocketAddresses)
+        → ¬ IsAddressIfGiven (first_of (codes "http") (option_rows (subcommand_rows_of matches.now))) address) }
+{
+    let Some(text) = given_text(matches, "http") else {
+        return Ok(None);
+    };
+    match socket_address(text) {
+        Some(address) => Ok(Some(address)),
+        None => Err(BadRunOption::Http),
+    }
+}
+
+/// Refuses the options that go with `--http`, which is not given.
+fn refuse_without_http(matches: &ArgMatches<'_>) -> Result<(), BadRunOption>
+    ensures neither { IfOk result (λ _.
+        (first_of (codes "http-token-file") (option_rows (subcommand_rows_of matches.now)) ≡ None)
+        × (first_of (codes "http-host") (option_rows (subcommand_rows_of matches.now)) ≡ None)) }
+    ensures some { OnErr result (¬ (
+        (first_of (codes "http-token-file") (option_rows (subcommand_rows_of matches.now)) ≡ None)
+        × (first_of (codes "http-host") (option_rows (subcommand_rows_of matches.now)) ≡ None))) }
+{
+    match (
+        given_text(matches, "http-token-file"),
+        given_text(matches, "http-host"),
+    ) {
+        (None, None) => Ok(()),
+        (Some(_), _) => Err(BadRunOption::TokenFileWithoutHttp),
+        (None, Some(_)) => Err(BadRunOption::HostWithoutHttp),
+    }
+}
+
+/// What is served at the address of `--http`.
+fn http_at<'a>(
+    matches: &ArgMatches<'a>,
+    address: SocketAddr,
+) -> Result<HttpOptions<'a>, BadRunOption>
+    requires { IsAddressIfGiven (first_of (codes "http") (option_rows (subcommand_rows_of matches.now)))
+        (Some address) }
+    ensures given { IfOk result (IsGivenToHttp (option_rows (subcommand_rows_of matches.now))) }
+    ensures none { OnErr result ((http : Served)
+        → ¬ IsGivenToHttp (option_rows (subcommand_rows_of matches.now)) http) }
+{
+    let token_file = text_in(matches, "http-token-file", BadRunOption::TokenFile)?;
+    let host = text_in(matches, "http-host", BadRunOption::Host)?;
+    if !is_guarded(address, token_file) {
+        return Err(BadRunOption::NoTokenFile);
+    }
+    Ok(HttpOptions {
+        address,
+        token_file,
+        host,
+    })
+}
+
+/// The text that is given for the option, if one is. An empty text is refused, with `empty`.
+fn text_in<'a>(
+    matches: &ArgMatches<'a>,
+    option: &str,
+    empty: BadRunOption,
+) -> Result<Option<&'a str>, BadRunOption>
+    ensures given { IfOk result (IsTextIfGiven
+        (first_of option.now (option_rows (subcommand_rows_of matches.now)))) }
+    ensures empty { OnErr result
+        (first_of option.now (option_rows (subcommand_rows_of matches.now)) ≡ Some []) }
+{
+    match given_text(matches, option) {
+        Some(text) if text.is_empty() => Err(empty),
+        text => Ok(text),
+    }
+}
+
+/// Whether only the host itself reaches the address, or else a token is asked for.
+fn is_guarded(address: SocketAddr, token_file: Option<&str>) -> bool
+    ensures { IsTrue result ↔ IsGuarded address token_file.entry }
+{
+    token_file.is_some() || address.ip().is_loopback()
+}
+
+/// The address and the port that the text writes.
+fn socket_address(text: &str) -> Option<SocketAddr>
+    ensures some { IfSome result (IsSocketText text.now) }
+    ensures none { IfNone result ((address : SocketAddresses) → ¬ IsSocketText text.now address) }
+{
+    text.parse().ok()
+}
