@@ -56,12 +56,15 @@ class Scene:
             yield server
 
     def plays(self, parts):
-        """Makes the checks of each part, and then looks at what all runs have printed."""
+        """Makes the checks of each part, and then looks at what all runs have printed.
+
+        A part that cannot go on is a check that failed, whatever keeps it from that.
+        """
         for part in parts:
             try:
                 part(self)
-            except NoServer as fault:
-                self.holds(f"{part.__name__}: a server that serves", str(fault), "one")
+            except Exception as fault:
+                self.holds(f"{part.__name__}: its end", repr(fault), "as it should be")
         printed = [path.read_text(errors="replace") for path in self.folder.glob("told-*/output")]
         self.holds(f"what {len(printed)} runs have printed on standard output", "".join(printed), "")
 
