@@ -1,5 +1,6 @@
 """Requests as no library sends them: in pieces, pipelined, too long, cut short, and what is no request."""
 
+from checks import SERVES
 from visiting import answer_to, read, refused_unread, spelled, told
 
 HEALTH = spelled("/v1/health")
@@ -81,7 +82,7 @@ def is_health(text):
 
 def bytewise(scene):
     """However a request comes, it is answered once, and the connection is closed; and so is what is no request."""
-    with scene.serving("--memory", "--port", "0", "--http", "127.0.0.1:0") as server:
+    with scene.serving(*SERVES) as server:
         for check, text in ANSWERED:
             answer = answer_to(server.visited, text)
             scene.is_true(f"as bytes: {check}", is_health(answer), answer)

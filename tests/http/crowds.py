@@ -9,9 +9,9 @@ import time
 
 import coap
 from asking import Client, codes_of, registered
+from checks import SERVES
 from visiting import Visitor, answer_to, ask, connected, hear, is_closed, read, say, spelled
 
-SERVES = ("--memory", "--port", "0", "--http", "127.0.0.1:0")
 HEALTH = spelled("/v1/health")
 # how many seconds a visit has, and how much later its end may be seen
 VISIT, LATER = 5.0, 2.0
@@ -101,9 +101,11 @@ def idle_visitors(scene):
         scene.holds(f"a visitor beside {IDLE} idle ones", response.status, "200 OK")
         scene.is_true("he waits less than a second", waited < 1, waited)
         # he had one of the seats
-        left = IDLE - SEATS + 1
-        closed = [is_closed(it) for it in visitors]
-        scene.holds("idle visitors whose seats were taken", closed, [True] * left + [False] * (IDLE - left))
+        gone = IDLE - SEATS + 1
+        want, closed, end = [True] * gone + [False] * (IDLE - gone), [], time.monotonic() + 1
+        while closed != want and time.monotonic() < end:
+            closed = [is_closed(it) for it in visitors]
+        scene.holds("idle visitors whose seats were taken", closed, want)
         last = visitors[-1]
         last.settimeout(VISIT)
         say(last, [HEALTH])

@@ -121,7 +121,7 @@ def first_causes(scene, server):
         ("no token, a parameter that is none", "/v1/node?x=1", {}, NO_TOKEN),
         ("an endpoint and a parameter that are none", "/v1/registrations/%ff?x=1", right, NO_ENDPOINT),
         ("a parameter that is none, nobody", "/v1/registrations/b?x=1", right, NO_PARAMETER),
-        ("no start, another start", f"/v1/changes?start={ID}&since=x", right, NO_SINCE),
+        ("a number that is none, another start", f"/v1/changes?start={ID}&since=x", right, NO_SINCE),
     )
     for check, target, further, want in rows:
         scene.holds(f"first causes: {check}", ask(server.visited, target, **further), want)

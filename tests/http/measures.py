@@ -82,6 +82,7 @@ MEASURED = {
     "fleet_notifications_total": 0,
     "fleet_swept_total": 0,
     "fleet_no_memory_total": 0,
+    "fleet_passed_over_total": 0,
     "fleet_log_away": 0,
 }
 
