@@ -77,6 +77,7 @@ PRESENTED = (
     (("",), False),
     ((TOKEN,), False),
     ((f"Basic {TOKEN}",), False),
+    ((f"Digest {TOKEN}",), False),
     (("Basic dXNlcjpwYXNzd29yZA==",), False),
     ((f"Bearer {TOKEN}", f"Bearer {TOKEN}"), False),
     ((f"Bearer {TOKEN}", f"Basic {TOKEN}"), False),
@@ -153,7 +154,7 @@ def token_files(scene):
     """A file gives a token, or the server does not begin."""
     for text, token in FILES:
         words = (*SERVES, "--http-token-file", token_file(scene, text.encode()))
-        name = repr(text) if len(text) < 40 else f"{len(text)} characters"
+        name = repr(text) if len(text) < 40 else f"{len(text)} bytes"
         if token is None:
             with scene.server(*words) as server:
                 scene.holds(f"a file of {name}", server.ends(10), (1, "token refused"))
