@@ -144,6 +144,8 @@ FILES = (
     (f"{TOKEN} \n", None),
     ("a b c d e f g h i j\n", None),
     (f"{TOKEN}\r\n", TOKEN),
+    (f"{TOKEN}\r", None),
+    (f"{TOKEN}\rb\n", None),
     ("ä" * 16 + "\n", None),
     (f"{TOKEN}:\n", None),
     (f"{TOKEN}\0\n", None),
