@@ -107,7 +107,7 @@ def tokens(scene):
             scene.holds(f"GET {target} without the token", ask(server.visited, target), NO_TOKEN)
             scene.holds(f"HEAD {target} without it", ask(server.visited, target, "HEAD"), NO_TOKEN.without_body())
         scene.holds("the health without it", ask(server.visited, "/v1/health").status, "200 OK")
-        scene.holds("the page without it", ask(server.visited, "/").status, "404 Not Found")
+        scene.holds("GET / without it", ask(server.visited, "/"), NOT_FOUND)
         first_causes(scene, server)
         scene.holds("the token among what is logged", [it for it in (TOKEN, WRONG) if it in server.errors()], [])
 
