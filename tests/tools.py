@@ -17,7 +17,7 @@ def tool(names, package):
     may_install = os.environ.get("FLEET_INSTALL") == "1" and os.geteuid() == 0 and shutil.which("apt-get")
     if found or not may_install:
         return found
-    for words in (["update"], ["install", "-y", package]):
+    for words in (["update"], ["install", "-y", "--no-install-recommends", package]):
         try:
             subprocess.run(["apt-get", *words], stdout=subprocess.DEVNULL, stderr=subprocess.DEVNULL, timeout=180)
         except (OSError, subprocess.TimeoutExpired):

@@ -95,6 +95,26 @@ class Client:
         return replies
 
 
+def codes_of(replies):
+    """How many replies have each code, or are none."""
+    codes = [reply.code if reply else "none" for reply in replies]
+    return {code: codes.count(code) for code in sorted(set(codes))}
+
+
+def identifiers(replies):
+    """The identifiers of the Registers that were answered."""
+    return [reply.located for reply in replies if reply and reply.code == "2.01"]
+
+
+def registered(port, count, at_once=25, **further):
+    """The identifiers of so many Registers, of those that were answered.
+
+    So few are under way at once that the socket's buffer holds them, long lists too.
+    """
+    with Client(port) as client:
+        return identifiers(client.ask_all([coap.register(f"name-{it}", **further) for it in range(count)], at_once=at_once))
+
+
 class Device(threading.Thread):
     """A client that registers names of its own, until it is stopped, whatever becomes of the server.
 

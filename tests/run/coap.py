@@ -27,8 +27,8 @@ class Reply(NamedTuple):
     located: str
 
 
-def register(endpoint, lifetime=86400, objects=b"</1/0>,</3/0>"):
-    queries = (f"ep={endpoint}", f"lt={lifetime}", "lwm2m=1.1", "b=U")
+def register(endpoint, lifetime=86400, objects=b"</1/0>,</3/0>", further=("b=U",)):
+    queries = (f"ep={endpoint}", f"lt={lifetime}", "lwm2m=1.1", *further)
     options = ((URI_PATH, b"rd"), (CONTENT_FORMAT, LINK_FORMAT), *((URI_QUERY, it.encode()) for it in queries))
     return Request(POST, options, objects)
 

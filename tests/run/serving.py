@@ -14,6 +14,7 @@ import time
 
 LIMIT = 60
 SERVING = re.compile(r"serving address=(\S+):(\d+) number=(\d+) keeps=(\w+)\n")
+VISITED = re.compile(r"http address=\[?([^\]\s]+)\]?:(\d+)\n")
 TABLES = ("udp", "udp6", "tcp", "tcp6")
 
 
@@ -64,6 +65,8 @@ class Server:
     def __init__(self, program, folder, *words, wrapper=(), before=None, stdin=subprocess.DEVNULL, inside=None):
         self.place = pathlib.Path(tempfile.mkdtemp(prefix="told-", dir=folder))
         self.address = self.port = self.number = self.keeps = None
+        # where it is asked over HTTP, if it is
+        self.visited, self.is_visited = None, "--http" in words
         with open(self.place / "output", "wb") as output, open(self.place / "errors", "wb") as errors:
             streams = {"stdin": stdin, "stdout": output, "stderr": errors}
             words = [*wrapper, program, "run", *map(str, words)]
@@ -80,13 +83,15 @@ class Server:
         return (self.place / "errors").read_text(errors="replace")
 
     def serves(self, wait=LIMIT):
-        """Whether it tells in that time that it serves. Its address, port and number are then known."""
+        """Whether it tells in that time that it serves. Its addresses, port and number are then known."""
         end = time.monotonic() + wait
         while time.monotonic() < end:
-            found = SERVING.search(self.errors())
-            if found:
+            errors = self.errors()
+            found, visited = SERVING.search(errors), VISITED.search(errors)
+            if found and (visited or not self.is_visited):
                 self.address, port, number, self.keeps = found.groups()
                 self.port, self.number = int(port), int(number)
+                self.visited = visited and (visited.group(1), int(visited.group(2)))
                 return True
             if self.run.poll() is not None:
                 return False
