@@ -5,7 +5,7 @@ use Rattle.lw_stamp.specs.Moment.{ms_of}
 use Rattle.lw_metrics.specs.declared.measures.Measures.{Measures}
 use Rattle.lw_metrics.specs.declared.measures.NodeMeasures.{NodeMeasures}
 use Rattle.lw_metrics.specs.declared.metric.Metric.{Metric}
-use Rattle.lw_metrics.specs.declared.metric.Metric.TheVariants.{BuildInfo, StartTime, Registrations, StampCounter, Change, Number, Rounds, Datagrams, Replies, EmptyReplies, Unanswered, Notifications, Swept, NoMemory, PassedOver, LogAway}
+use Rattle.lw_metrics.specs.declared.metric.Metric.TheVariants.{BuildInfo, StartTime, Registrations, StampClock, Change, Number, Rounds, Datagrams, Replies, EmptyReplies, Unanswered, Notifications, Swept, NoMemory, PassedOver, LogAway}
 use Rattle.lw_metrics.specs.declared.tally.Tally.{Tally}
 use Rattle.lw_metrics.specs.Exposition.{Sample, Family}
 use Rattle.lw_metrics.specs.ReplyCodes.{reply_codes, code_text}
@@ -39,7 +39,7 @@ abbrev pub node_families : Option NodeMeasures → List Family
 node_families None = []
 node_families (Some node) =
     of_number Registrations node.registrations
-    ∷ of_number StampCounter node.counter
+    ∷ of_number StampClock node.counter
     ∷ of_number Change node.change
     ∷ of_number Number node.number
     ∷ []

@@ -1,13 +1,13 @@
 -- The metrics that are shown: their names, what is said of them, and whether they only rise.
 use Rattle.std.specs.Prelude.{ℕ, List, codes}
 use Rattle.lw_metrics.specs.declared.metric.Metric.{Metric}
-use Rattle.lw_metrics.specs.declared.metric.Metric.TheVariants.{BuildInfo, StartTime, Registrations, StampCounter, Change, Number, Rounds, Datagrams, Replies, EmptyReplies, Unanswered, Notifications, Swept, NoMemory, PassedOver, LogAway}
+use Rattle.lw_metrics.specs.declared.metric.Metric.TheVariants.{BuildInfo, StartTime, Registrations, StampClock, Change, Number, Rounds, Datagrams, Replies, EmptyReplies, Unanswered, Notifications, Swept, NoMemory, PassedOver, LogAway}
 
 unfoldable pub name_of : Metric → List ℕ
 name_of BuildInfo = codes "fleet_build_info"
 name_of StartTime = codes "fleet_start_time_seconds"
 name_of Registrations = codes "fleet_registrations"
-name_of StampCounter = codes "fleet_stamp_counter"
+name_of StampClock = codes "fleet_stamp_clock"
 name_of Change = codes "fleet_change"
 name_of Number = codes "fleet_number"
 name_of Rounds = codes "fleet_rounds_total"
@@ -25,7 +25,7 @@ unfoldable pub help_of : Metric → List ℕ
 help_of BuildInfo = codes "The version of the program."
 help_of StartTime = codes "When the program was started, in seconds since 1970."
 help_of Registrations = codes "Registrations that are known."
-help_of StampCounter = codes "The greatest counter of a stamp that is known."
+help_of StampClock = codes "The greatest counter of a stamp that is known."
 help_of Change = codes "The number of the last change."
 help_of Number = codes "The number of the node in its fleet."
 help_of Rounds = codes "Rounds of calls."
@@ -44,7 +44,7 @@ unfoldable pub kind_of : Metric → List ℕ
 kind_of BuildInfo = codes "gauge"
 kind_of StartTime = codes "gauge"
 kind_of Registrations = codes "gauge"
-kind_of StampCounter = codes "gauge"
+kind_of StampClock = codes "gauge"
 kind_of Change = codes "gauge"
 kind_of Number = codes "gauge"
 kind_of LogAway = codes "gauge"

@@ -7,7 +7,7 @@ pub(crate) enum Metric {
     BuildInfo,
     StartTime,
     Registrations,
-    StampCounter,
+    StampClock,
     Change,
     Number,
     Rounds,
@@ -31,7 +31,7 @@ impl Metric {
             Metric::BuildInfo => "fleet_build_info",
             Metric::StartTime => "fleet_start_time_seconds",
             Metric::Registrations => "fleet_registrations",
-            Metric::StampCounter => "fleet_stamp_counter",
+            Metric::StampClock => "fleet_stamp_clock",
             Metric::Change => "fleet_change",
             Metric::Number => "fleet_number",
             Metric::Rounds => "fleet_rounds_total",
@@ -55,7 +55,7 @@ impl Metric {
             Metric::BuildInfo => "The version of the program.",
             Metric::StartTime => "When the program was started, in seconds since 1970.",
             Metric::Registrations => "Registrations that are known.",
-            Metric::StampCounter => "The greatest counter of a stamp that is known.",
+            Metric::StampClock => "The greatest counter of a stamp that is known.",
             Metric::Change => "The number of the last change.",
             Metric::Number => "The number of the node in its fleet.",
             Metric::Rounds => "Rounds of calls.",
@@ -79,7 +79,7 @@ impl Metric {
             Metric::BuildInfo
             | Metric::StartTime
             | Metric::Registrations
-            | Metric::StampCounter
+            | Metric::StampClock
             | Metric::Change
             | Metric::Number
             | Metric::LogAway => "gauge",

@@ -40,7 +40,7 @@ fn put_node(text: &mut String, node: Option<NodeMeasures>) -> Result<(), NoMemor
         return Ok(());
     };
     put_number(text, Metric::Registrations, node.registrations)?;
-    put_number(text, Metric::StampCounter, node.counter)?;
+    put_number(text, Metric::StampClock, node.counter)?;
     put_number(text, Metric::Change, node.change)?;
     put_number(text, Metric::Number, u64::from(node.number))
 }

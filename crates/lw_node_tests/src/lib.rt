@@ -1,8 +1,6 @@
-//! Tests of `lw_call`, `lw_node`, `lw_world`, `lw_print`, `lw_api` and `lw_script`, over their public calls.
+//! Tests of the crates from `lw_call` to `lw_script`, over their public calls.
 #![tactic(auto)]
 
-#[cfg(test)]
-mod api;
 #[cfg(test)]
 mod call;
 #[cfg(test)]

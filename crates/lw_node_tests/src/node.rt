@@ -19,16 +19,16 @@ use steps::Step::*;
 use steps::{Row, at, id, path, play};
 
 /// A Register of `a` with the object list `</>`, message ID 4.
-pub(crate) const REGISTER: &str = "40020004b272644465703d61ff3c2f3e";
+const REGISTER: &str = "40020004b272644465703d61ff3c2f3e";
 
 /// A Register of `b` with the object list `</>`, message ID 5.
-pub(crate) const REGISTER_B: &str = "40020005b272644465703d62ff3c2f3e";
+const REGISTER_B: &str = "40020005b272644465703d62ff3c2f3e";
 
 /// The reply to the first Register with message ID 4 at node 1.
 const CREATED: &str = "604100048272640d0330303030303030303030303130303031";
 
 /// What a first Register of `a` at node 1 shows.
-pub(crate) const SHOWN: &str =
+const SHOWN: &str =
     r#"{"address":"127.0.0.1:5683","attributes":{},"binding":"U","endpoint":"a","id":"0000000000010001","lifetime":86400,"lwm2m":"1.0","objects":"</>","queue":false,"seen":0,"sms":null}"#;
 
 /// The first identifier of node 1.

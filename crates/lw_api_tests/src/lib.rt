@@ -1,0 +1,7 @@
+//! Tests of `lw_api`, over its public calls: what a node with two registrations tells over HTTP.
+#![tactic(auto)]
+
+#[cfg(test)]
+mod hold;
+#[cfg(test)]
+mod told;

@@ -1,0 +1,282 @@
+//! What is told of a node with two registrations, of which the first is observed.
+
+use crate::hold::same;
+use lw_api::{About, answer};
+use lw_node::{Addr, Node, Path};
+use lw_stamp::{Moment, Stamp};
+use lw_target::{Answer, Method, Status, asked_of};
+use std::alloc::Global;
+use std::test::Fail;
+
+/// Where both devices are.
+const HOME: Addr = Addr::V4 {
+    address: [127, 0, 0, 1],
+    port: 5683,
+};
+
+/// A Register of `a` with the object list `</>`, message ID 4, and one of `b`, message ID 5.
+const REGISTER: &str = "40020004b272644465703d61ff3c2f3e";
+
+const REGISTER_B: &str = "40020005b272644465703d62ff3c2f3e";
+
+/// The identifier of the first registration.
+const FIRST: Stamp = Stamp {
+    counter: 1,
+    node: 1,
+};
+
+const ABOUT: About = About {
+    number: Some(1),
+    tag: 18,
+};
+
+/// When both have expired.
+const LATE: u64 = 86_400_000;
+
+/// When it is asked, for which path, with which query, and what is told.
+type Row<'a> = (u64, &'a str, &'a str, &'a str);
+
+const PAGES: [Row<'static>; 6] = [
+    (
+        0,
+        "/v1/registrations",
+        "",
+        r#"{"next":null,"registrations":[{"address":"127.0.0.1:5683","attributes":{},"binding":"U","endpoint":"a","id":"0000000000010001","lifetime":86400,"lwm2m":"1.0","objects":"</>","queue":false,"seen":0,"sms":null},{"address":"127.0.0.1:5683","attributes":{},"binding":"U","endpoint":"b","id":"0000000000020001","lifetime":86400,"lwm2m":"1.0","objects":"</>","queue":false,"seen":0,"sms":null}]}"#,
+    ),
+    (
+        0,
+        "/v1/registrations",
+        "limit=1",
+        r#"{"next":"a","registrations":[{"address":"127.0.0.1:5683","attributes":{},"binding":"U","endpoint":"a","id":"0000000000010001","lifetime":86400,"lwm2m":"1.0","objects":"</>","queue":false,"seen":0,"sms":null}]}"#,
+    ),
+    (
+        0,
+        "/v1/registrations",
+        "after=a&limit=1",
+        r#"{"next":null,"registrations":[{"address":"127.0.0.1:5683","attributes":{},"binding":"U","endpoint":"b","id":"0000000000020001","lifetime":86400,"lwm2m":"1.0","objects":"</>","queue":false,"seen":0,"sms":null}]}"#,
+    ),
+    (
+        0,
+        "/v1/registrations",
+        "after=b",
+        r#"{"next":null,"registrations":[]}"#,
+    ),
+    (
+        LATE,
+        "/v1/registrations",
+        "",
+        r#"{"next":null,"registrations":[]}"#,
+    ),
+    (
+        0,
+        "/v1/node",
+        "",
+        r#"{"change":3,"counter":3,"number":1,"registrations":2,"start":"0000000000000012"}"#,
+    ),
+];
+
+/// What is told of one registration, or of one observation.
+const ONES: [Row<'static>; 5] = [
+    (
+        0,
+        "/v1/registrations/a",
+        "",
+        r#"{"address":"127.0.0.1:5683","attributes":{},"binding":"U","endpoint":"a","id":"0000000000010001","lifetime":86400,"lwm2m":"1.0","objects":"</>","queue":false,"seen":0,"sms":null}"#,
+    ),
+    (
+        0,
+        "/v1/registrations/%62",
+        "",
+        r#"{"address":"127.0.0.1:5683","attributes":{},"binding":"U","endpoint":"b","id":"0000000000020001","lifetime":86400,"lwm2m":"1.0","objects":"</>","queue":false,"seen":0,"sms":null}"#,
+    ),
+    (
+        0,
+        "/v1/ids/0000000000010001",
+        "",
+        r#"{"address":"127.0.0.1:5683","attributes":{},"binding":"U","endpoint":"a","id":"0000000000010001","lifetime":86400,"lwm2m":"1.0","objects":"</>","queue":false,"seen":0,"sms":null}"#,
+    ),
+    (
+        0,
+        "/v1/addresses/127.0.0.1:5683",
+        "",
+        r#"{"address":"127.0.0.1:5683","attributes":{},"binding":"U","endpoint":"b","id":"0000000000020001","lifetime":86400,"lwm2m":"1.0","objects":"</>","queue":false,"seen":0,"sms":null}"#,
+    ),
+    (
+        0,
+        "/v1/tokens/0000000000030001",
+        "",
+        r#"{"accept":null,"endpoint":"a","id":"0000000000010001","path":"/3/0","token":"0000000000030001"}"#,
+    ),
+];
+
+const CHANGES: [Row<'static>; 5] = [
+    (
+        0,
+        "/v1/changes",
+        "",
+        r#"{"changes":[{"change":2,"endpoint":"b","registration":{"address":"127.0.0.1:5683","attributes":{},"binding":"U","endpoint":"b","id":"0000000000020001","lifetime":86400,"lwm2m":"1.0","objects":"</>","queue":false,"seen":0,"sms":null}},{"change":3,"endpoint":"a","registration":{"address":"127.0.0.1:5683","attributes":{},"binding":"U","endpoint":"a","id":"0000000000010001","lifetime":86400,"lwm2m":"1.0","objects":"</>","queue":false,"seen":0,"sms":null}}],"more":false,"next":3,"start":"0000000000000012"}"#,
+    ),
+    (
+        LATE,
+        "/v1/changes",
+        "limit=1",
+        r#"{"changes":[{"change":2,"endpoint":"b","registration":null}],"more":true,"next":2,"start":"0000000000000012"}"#,
+    ),
+    (
+        LATE,
+        "/v1/changes",
+        "since=2&start=0000000000000012",
+        r#"{"changes":[{"change":3,"endpoint":"a","registration":null}],"more":false,"next":3,"start":"0000000000000012"}"#,
+    ),
+    (
+        0,
+        "/v1/changes",
+        "since=3&start=0000000000000012",
+        r#"{"changes":[],"more":false,"next":3,"start":"0000000000000012"}"#,
+    ),
+    (
+        0,
+        "/v1/changes",
+        "since=18446744073709551615&start=0000000000000012",
+        r#"{"changes":[],"more":false,"next":18446744073709551615,"start":"0000000000000012"}"#,
+    ),
+];
+
+const FOLLOWS_NO_START: [Row<'static>; 1] = [(0, "/v1/changes", "since=1", r#"{"error":"start"}"#)];
+
+const FOLLOWS_ANOTHER: [Row<'static>; 2] = [
+    (
+        0,
+        "/v1/changes",
+        "since=1&start=0000000000000013",
+        r#"{"error":"gone"}"#,
+    ),
+    (
+        0,
+        "/v1/changes",
+        "start=0000000000000013",
+        r#"{"error":"gone"}"#,
+    ),
+];
+
+const NOTHING: [Row<'static>; 9] = [
+    (0, "/v1/registrations/c", "", r#"{"error":"not found"}"#),
+    (LATE, "/v1/registrations/a", "", r#"{"error":"not found"}"#),
+    (
+        0,
+        "/v1/ids/0000000000030001",
+        "",
+        r#"{"error":"not found"}"#,
+    ),
+    (
+        0,
+        "/v1/addresses/127.0.0.1:5684",
+        "",
+        r#"{"error":"not found"}"#,
+    ),
+    (
+        0,
+        "/v1/tokens/0000000000010001",
+        "",
+        r#"{"error":"not found"}"#,
+    ),
+    (
+        LATE,
+        "/v1/tokens/0000000000030001",
+        "",
+        r#"{"error":"not found"}"#,
+    ),
+    // What is not asked of a node.
+    (0, "/", "", r#"{"error":"not found"}"#),
+    (0, "/metrics", "", r#"{"error":"not found"}"#),
+    (0, "/v1/health", "", r#"{"error":"not found"}"#),
+];
+
+fn query_of(text: &str) -> Option<&str> {
+    if text.is_empty() { None } else { Some(text) }
+}
+
+fn told(alloc: Global, node: &Node, row: Row<'_>) -> Result<Answer, Fail> {
+    let (ms, path, query, _) = row;
+    let now = Moment::new(ms).ok_or("a moment")?;
+    match asked_of(alloc, Method::Get, path, query_of(query))? {
+        Ok(asked) => Ok(answer(alloc, node, ABOUT, now, &asked)?),
+        Err(_) => Err(Fail::new("it asks for nothing")),
+    }
+}
+
+fn is_told(alloc: Global, node: &Node, status: Status, row: Row<'_>) -> Result<(), Fail> {
+    let answer = told(alloc, node, row)?;
+    if answer.status != status {
+        return Err(Fail::new(row.1));
+    }
+    same(answer.body.as_str(), row.3)
+}
+
+fn are_told(alloc: Global, node: &Node, status: Status, rows: &[Row<'_>]) -> Result<(), Fail> {
+    for row in rows {
+        is_told(alloc, node, status, *row)?;
+    }
+    Ok(())
+}
+
+fn takes(alloc: Global, node: &mut Node, text: &str) -> Result<(), Fail> {
+    let datagram = hex::decode(alloc, text)?;
+    node.take(Moment::START, HOME, &datagram)?;
+    Ok(())
+}
+
+/// Observes `/3/0` of the first registration.
+fn observes(node: &mut Node) -> Result<(), Fail> {
+    let path = Path::new(&[3, 0]).ok_or("a path")?;
+    node.observe(Moment::START, FIRST, path, None, 32)?;
+    Ok(())
+}
+
+fn registers(alloc: Global, node: &mut Node) -> Result<(), Fail> {
+    takes(alloc, node, REGISTER)?;
+    takes(alloc, node, REGISTER_B)?;
+    observes(node)
+}
+
+fn registers_and_tells(alloc: Global, status: Status, rows: &[Row<'_>]) -> Result<(), Fail> {
+    let mut node = Node::new(alloc, 1);
+    registers(alloc, &mut node)?;
+    are_told(alloc, &node, status, rows)
+}
+
+/// Tries: answer, registrations, numbers_of
+#[test]
+fn pages_and_numbers(rt: HostRuntime) -> Result<(), Fail> {
+    registers_and_tells(rt.alloc(), Status::Ok, &PAGES)
+}
+
+/// Tries: answer, registration, by_id, by_address, by_token
+#[test]
+fn one_that_is_found(rt: HostRuntime) -> Result<(), Fail> {
+    registers_and_tells(rt.alloc(), Status::Ok, &ONES)
+}
+
+/// Tries: answer
+#[test]
+fn changes_that_follow_a_start(rt: HostRuntime) -> Result<(), Fail> {
+    registers_and_tells(rt.alloc(), Status::Ok, &CHANGES)
+}
+
+/// Tries: answer
+#[test]
+fn changes_that_follow_no_start(rt: HostRuntime) -> Result<(), Fail> {
+    registers_and_tells(rt.alloc(), Status::BadRequest, &FOLLOWS_NO_START)
+}
+
+/// Tries: answer
+#[test]
+fn changes_that_follow_another_start(rt: HostRuntime) -> Result<(), Fail> {
+    registers_and_tells(rt.alloc(), Status::Gone, &FOLLOWS_ANOTHER)
+}
+
+/// Tries: answer, registration, by_id, by_address, by_token
+#[test]
+fn nothing_is_found(rt: HostRuntime) -> Result<(), Fail> {
+    registers_and_tells(rt.alloc(), Status::NotFound, &NOTHING)
+}
