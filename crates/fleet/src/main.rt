@@ -5,6 +5,7 @@
 
 mod host;
 mod run_host;
+mod visitors;
 
 use host::Host;
 use lw_fleet::program;

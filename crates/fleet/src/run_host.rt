@@ -1,6 +1,7 @@
 //! A server over a real socket and a real log.
 
 use crate::host::Host;
+use crate::visitors::Visitors;
 use log::sink::Console;
 use log::{LevelFilter, Log, Logged, info};
 use lw_fleet::{Keeps, LogLevel, RunOptions, RunningFault, Runs};
@@ -25,11 +26,18 @@ impl Runs for Host<'_, HostRuntime> {
     fn run<R: Wait>(&mut self, _rt: &R, options: &RunOptions<'_>) -> Result<(), RunningFault> {
         let host = self.host;
         let log = Logged::new(host, filter_of(options.level), Console(host));
+        let visitors = match &options.http {
+            None => None,
+            Some(http) => Some(Visitors::of_options(host, http)?),
+        };
         match options.keeps {
-            Keeps::Nothing => run_over(host, &log, Nowhere::new(host.alloc()), "nothing", options),
+            Keeps::Nothing => {
+                let kept = Nowhere::new(host.alloc());
+                run_over(host, &log, kept, "nothing", options, visitors)
+            }
             Keeps::Folder(folder) => {
                 let kept = SqliteLog::open(host, folder).map_err(fault_of_open)?;
-                run_over(host, &log, kept, "data", options)
+                run_over(host, &log, kept, "data", options, visitors)
             }
         }
     }
@@ -42,6 +50,7 @@ fn run_over<G: DeltaLog, L: Log>(
     kept: G,
     keeps: &str,
     options: &RunOptions<'_>,
+    visitors: Option<Visitors>,
 ) -> Result<(), RunningFault> {
     let mut clock = SystemClock { clock: host };
     let Some(now) = clock.now() else {
@@ -53,14 +62,18 @@ fn run_over<G: DeltaLog, L: Log>(
         Err(fault) => return Err(fault_of_run(RunFault::from(fault))),
     };
     let number = member.start().number;
-    let address = SocketAddr::new(options.bind, options.port);
-    let Ok(mut sockets) = Sockets::bind(host, host.alloc(), address) else {
-        return Err(RunningFault::BindFailed);
+    let mut sockets = bind(host, options)?;
+    let visited = match visitors {
+        None => None,
+        Some(visitors) => Some(visitors.come_to(host, &mut sockets)?),
     };
     if let Ok(address) = sockets.local_address() {
         info!(log; "serving address={address} number={number} keeps={keeps}");
     }
-    let server = Server::new(host.alloc(), member, clock, 0);
+    if let Some(address) = visited {
+        info!(log; "http address={address}");
+    }
+    let server = Server::new(host.alloc(), member, clock, 0, now);
     let compaction = compaction_of(options.keeps);
     run_on(
         &mut sockets,
@@ -70,6 +83,18 @@ fn run_over<G: DeltaLog, L: Log>(
         compaction,
     )
     .map_err(fault_of_run)
+}
+
+/// The socket that devices send to.
+fn bind<'a>(
+    host: &'a HostRuntime,
+    options: &RunOptions<'_>,
+) -> Result<Sockets<'a, HostRuntime>, RunningFault> {
+    let address = SocketAddr::new(options.bind, options.port);
+    match Sockets::bind(host, host, host.alloc(), address) {
+        Ok(sockets) => Ok(sockets),
+        Err(_) => Err(RunningFault::BindFailed),
+    }
 }
 
 fn compaction_of(keeps: Keeps<'_>) -> Compaction {

@@ -9,6 +9,7 @@ use lw_run::{Compaction, Front, Heard, Server, run_on};
 use lw_serve::{UdpWire, Wire};
 use lw_sqlite_log::SqliteLog;
 use lw_stamp::Moment;
+use lw_target::Desk;
 use lw_wire::{SystemClock, WireFault};
 use std::alloc::Global;
 use std::net::UdpSocket;
@@ -36,7 +37,12 @@ struct CountedFront {
 }
 
 impl Front for CountedFront {
-    fn attend(&mut self, buffer: &mut [u8], _time: Duration) -> Result<Heard, WireFault> {
+    fn attend<D: Desk>(
+        &mut self,
+        _desk: &D,
+        buffer: &mut [u8],
+        _time: Duration,
+    ) -> Result<Heard, WireFault> {
         if self.left == 0 {
             return Ok(Heard::End);
         }
@@ -83,7 +89,7 @@ fn answer_over<R: Clock, G: DeltaLog>(
     compaction: Compaction,
 ) -> Result<(), BenchFault> {
     let member = Member::begin(alloc, log, &CHANCE, Moment::START)?;
-    let server = Server::new(alloc, member, SystemClock { clock: rt }, 0);
+    let server = Server::new(alloc, member, SystemClock { clock: rt }, 0, Moment::START);
     let mut front = CountedFront {
         wire: UdpWire::new(socket),
         left: count,

@@ -3,6 +3,7 @@
 ghost use Rattle.std.specs.Prelude.{◌≤◌, length, IfOk};
 
 use super::*;
+use lw_target::Desk;
 use std::time::Duration;
 
 /// What a front gives.
@@ -75,7 +76,12 @@ fn from_port(port: u16) -> Addr {
 }
 
 impl Front for MemoryFront<'_> {
-    fn attend(&mut self, buffer: &mut [u8], _time: Duration) -> Result<Heard, WireFault> {
+    fn attend<D: Desk>(
+        &mut self,
+        _desk: &D,
+        buffer: &mut [u8],
+        _time: Duration,
+    ) -> Result<Heard, WireFault> {
         let Some(coming) = self.comings.get(self.taken) else {
             return Ok(Heard::End);
         };

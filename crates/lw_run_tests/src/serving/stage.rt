@@ -109,7 +109,13 @@ impl<'a> Stage<'a> {
         let member = Member::begin(alloc, shared, &CHANCE, Moment::START)?;
         let begun = asked_of(&log)?;
         trouble.set(self.trouble);
-        let server = Server::new(alloc, member, Ticks::new(self.moments), self.skew);
+        let server = Server::new(
+            alloc,
+            member,
+            Ticks::new(self.moments),
+            self.skew,
+            Moment::START,
+        );
         let mut front = MemoryFront::new(alloc, self.comings, self.send_fails);
         let logged = Logged::new((), Level::Info, Memory::new(alloc));
         let ended = run_on(

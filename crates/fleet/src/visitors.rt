@@ -1,0 +1,89 @@
+//! Who may ask over HTTP, and where.
+
+use lw_fleet::{HttpOptions, RunningFault};
+use lw_front::Sockets;
+use lw_visit::{Guard, token_in};
+use std::fs::File;
+use std::hash::RandomState;
+use std::io::{self, Read};
+use std::net::SocketAddr;
+
+/// How many bytes of a file with a token are read: a token and the end of its line fit.
+const TOKEN_ROOM: usize = 512;
+
+/// Who is let in, and where.
+#[derive(Drop)]
+pub(crate) struct Visitors {
+    guard: Guard,
+    address: SocketAddr,
+}
+
+impl Visitors {
+    /// Reads the file with the token, where there is one.
+    pub(crate) fn of_options(
+        host: &HostRuntime,
+        options: &HttpOptions<'_>,
+    ) -> Result<Visitors, RunningFault> {
+        let token = match options.token_file {
+            None => None,
+            Some(path) => Some(token_of_file(host, path)?),
+        };
+        let name = match options.host {
+            None => None,
+            Some(name) => match String::from_str(host.alloc(), name) {
+                Ok(name) => Some(name),
+                Err(_) => return Err(RunningFault::NoMemory),
+            },
+        };
+        Ok(Visitors {
+            guard: Guard { token, host: name },
+            address: options.address,
+        })
+    }
+
+    /// Lets visitors in at the sockets, and gives the address at which they come.
+    pub(crate) fn come_to(
+        self,
+        host: &HostRuntime,
+        sockets: &mut Sockets<'_, HostRuntime>,
+    ) -> Result<SocketAddr, RunningFault> {
+        let Visitors { guard, address } = self;
+        let Ok(keys) = RandomState::new(host) else {
+            return Err(RunningFault::RandomFailed);
+        };
+        match sockets.receive(host, keys, guard, address) {
+            Ok(bound) => Ok(bound),
+            Err(_) => Err(RunningFault::HttpBindFailed),
+        }
+    }
+}
+
+/// The token in the file.
+fn token_of_file(host: &HostRuntime, path: &str) -> Result<Vec<u8>, RunningFault> {
+    let mut room = [0; TOKEN_ROOM];
+    let Ok(count) = read_front(host, path, &mut room) else {
+        return Err(RunningFault::TokenRefused);
+    };
+    let Some(token) = token_in(&room[..count]) else {
+        return Err(RunningFault::TokenRefused);
+    };
+    let mut copy = Vec::new(host.alloc());
+    match copy.extend_from_slice(token) {
+        Ok(()) => Ok(copy),
+        Err(_) => Err(RunningFault::NoMemory),
+    }
+}
+
+/// Reads the front of the file, as far as there is room.
+fn read_front(host: &HostRuntime, path: &str, room: &mut [u8]) -> io::Result<usize> {
+    let mut file = File::open(host, path)?;
+    let mut count = 0;
+    while count < room.len() {
+        let more = file.read(&mut room[count..])?;
+        if more == 0 {
+            break;
+        }
+        count = count.saturating_add(more);
+    }
+    Ok(count)
+}
