@@ -3,7 +3,7 @@
 from checks import SERVES, answers
 from visiting import ask, refused, told
 
-ID = "0000000000000001"
+ID = "0000000000010001"
 LONG = "a" * 252
 NOT_FOUND, GONE = refused("404 Not Found", "not found"), refused("410 Gone", "gone")
 NO_RESOURCE = refused("404 Not Found", "no such resource")
@@ -69,7 +69,7 @@ REFUSED = (
 TAKEN = (
     (NO_REGISTRATIONS, with_query(LISTS[:1], "", "limit=1", "limit=256", "after=", "after=%C3%a9", f"after={LONG}")),
     (NO_REGISTRATIONS, with_query(LISTS[:1], "after=a&limit=2", "limit=2&after=a=b", "after=%26")),
-    (NOT_FOUND, ("/v1/registrations/lamp?", f"/v1/registrations/{LONG}", "/v1/ids/%30" + "0" * 14 + "%31")),
+    (NOT_FOUND, ("/v1/registrations/lamp?", f"/v1/registrations/{LONG}", f"/v1/ids/%30{ID[1:-1]}%31")),
     (NOT_FOUND, ("/v1/addresses/%5B2001:0db8:0000:0000:0000:0000:0000:0001%5D:5683", *ONES)),
 )
 
