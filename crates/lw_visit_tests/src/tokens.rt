@@ -1,0 +1,53 @@
+//! The token in a file.
+
+use lw_visit::token_in;
+use std::test::Fail;
+
+/// The text of a file, and the token in it; `-` where there is none.
+const ROWS: [(&str, &str); 12] = [
+    ("0123456789abcdef", "0123456789abcdef"),
+    ("0123456789abcdef\n", "0123456789abcdef"),
+    ("0123456789abcdef\r\n", "0123456789abcdef"),
+    ("-._~+/=AZaz09-._~\nmore", "-._~+/=AZaz09-._~"),
+    ("", "-"),
+    ("\n0123456789abcdef", "-"),
+    ("0123456789abcde", "-"),
+    ("0123456789abcde\n", "-"),
+    ("0123456789abcdef ", "-"),
+    ("0123456789abcdef\r", "-"),
+    ("01234567 89abcdef", "-"),
+    ("0123456789abcde\u{e9}", "-"),
+];
+
+fn is_token(text: &str, want: &str) -> bool {
+    match token_in(text.as_bytes()) {
+        Some(token) => token == want.as_bytes(),
+        None => want == "-",
+    }
+}
+
+/// Tries: token_in
+#[test]
+fn tokens_of_files(_rt: HostRuntime) -> Result<(), Fail> {
+    for (text, want) in &ROWS {
+        if !is_token(text, want) {
+            return Err(Fail::new(text));
+        }
+    }
+    Ok(())
+}
+
+/// Whether as many characters are a token.
+fn is_long_token(length: usize) -> bool {
+    let text = [b'a'; 300];
+    token_in(&text[..length.min(300)]).is_some()
+}
+
+/// Tries: token_in
+#[test]
+fn the_longest_token(_rt: HostRuntime) -> Result<(), Fail> {
+    if is_long_token(256) && !is_long_token(257) && !is_long_token(300) {
+        return Ok(());
+    }
+    Err(Fail::new("the longest token"))
+}
