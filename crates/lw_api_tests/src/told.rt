@@ -245,7 +245,7 @@ fn registers_and_tells(alloc: Global, status: Status, rows: &[Row<'_>]) -> Resul
     are_told(alloc, &node, status, rows)
 }
 
-/// Tries: answer, registrations, numbers_of
+/// Tries: answer, registrations, numbers_of, lw_print::node_text
 #[test]
 fn pages_and_numbers(rt: HostRuntime) -> Result<(), Fail> {
     registers_and_tells(rt.alloc(), Status::Ok, &PAGES)
@@ -257,19 +257,19 @@ fn one_that_is_found(rt: HostRuntime) -> Result<(), Fail> {
     registers_and_tells(rt.alloc(), Status::Ok, &ONES)
 }
 
-/// Tries: answer
+/// Tries: answer, lw_print::changes_text
 #[test]
 fn changes_that_follow_a_start(rt: HostRuntime) -> Result<(), Fail> {
     registers_and_tells(rt.alloc(), Status::Ok, &CHANGES)
 }
 
-/// Tries: answer
+/// Tries: answer, lw_print::changes_text
 #[test]
 fn changes_that_follow_no_start(rt: HostRuntime) -> Result<(), Fail> {
     registers_and_tells(rt.alloc(), Status::BadRequest, &FOLLOWS_NO_START)
 }
 
-/// Tries: answer
+/// Tries: answer, lw_print::changes_text
 #[test]
 fn changes_that_follow_another_start(rt: HostRuntime) -> Result<(), Fail> {
     registers_and_tells(rt.alloc(), Status::Gone, &FOLLOWS_ANOTHER)

@@ -143,7 +143,7 @@ fn visited<N: Net, C: Clock>(
     Ok(io::read_to_string(alloc, visitor)?)
 }
 
-/// Tries: lw_front::Sockets::receive, lw_run::Front::attend
+/// Tries: lw_front::Sockets::receive, lw_run::Front::attend, lw_visit::advance, lw_visit::new_connection
 #[test]
 fn a_visitor_is_answered_while_none_sends(rt: HostRuntime) -> Result<(), Fail> {
     let (mut sockets, _client, at) = bound(&rt, rt.alloc(), "127.0.0.1:0")?;

@@ -1,0 +1,93 @@
+//! What a server tells over HTTP, while its log leads what its node knows and while it does not.
+
+use super::*;
+use lw_target::{Asked, Desk, Status};
+
+/// The server of a new member over the log, whose turns are at a second.
+fn server_over(alloc: Global, log: MemoryLog) -> Result<Server<MemoryLog, Ticks<'static>>, Fail> {
+    let member = Member::begin(alloc, log, &CHANCE, Moment::START)?;
+    let clock = Ticks::new(&[1_000]);
+    Ok(Server::new(alloc, member, clock, 0, Moment::START))
+}
+
+/// Whether a turn with a Register has given replies.
+fn takes<C: HostClock + Drop>(
+    alloc: Global,
+    server: &mut Server<MemoryLog, C>,
+) -> Result<bool, Fail> {
+    let bytes = hex::decode(alloc, REGISTER)?;
+    let from = Addr::V4 {
+        address: [127, 0, 0, 1],
+        port: 5683,
+    };
+    let mut batch = Vec::new(alloc);
+    batch.push(Datagram::new(alloc, from, &bytes)?)?;
+    Ok(server.take(batch).is_ok())
+}
+
+fn tells<D: Desk>(desk: &D, asked: &Asked, status: Status, body: &str) -> Result<(), Fail> {
+    let answer = desk.answer(asked)?;
+    if answer.status == status && answer.body.as_str() == body {
+        return Ok(());
+    }
+    let text = answer.body.as_str();
+    Err(Fail::new(format_args!("{text} and not {body}")))
+}
+
+const SERVING: &str = r#"{"now":1000,"status":"serving","version":"0.1.0"}"#;
+
+const AWAY: &str = r#"{"now":1000,"status":"away","version":"0.1.0"}"#;
+
+const NEW: &str =
+    r#"{"change":0,"counter":0,"number":null,"registrations":0,"start":"0000000000000007"}"#;
+
+const ONE: &str =
+    r#"{"change":1,"counter":1,"number":1,"registrations":1,"start":"0000000000000007"}"#;
+
+/// Tries: lw_target::Desk::answer, lw_print::health_text, lw_print::node_text, Server::new
+#[test]
+fn a_new_server_is_asked(rt: HostRuntime) -> Result<(), Fail> {
+    let server = server_over(rt.alloc(), MemoryLog::new(rt.alloc()))?;
+    let begun = r#"{"now":0,"status":"serving","version":"0.1.0"}"#;
+    tells(&server, &Asked::Health, Status::Ok, begun)?;
+    tells(&server, &Asked::Node, Status::Ok, NEW)
+}
+
+/// Tries: lw_target::Desk::answer, lw_print::node_text, Server::take
+#[test]
+fn a_server_that_has_a_registration_is_asked(rt: HostRuntime) -> Result<(), Fail> {
+    let mut server = server_over(rt.alloc(), MemoryLog::new(rt.alloc()))?;
+    holds("replies", takes(rt.alloc(), &mut server)?)?;
+    tells(&server, &Asked::Health, Status::Ok, SERVING)?;
+    tells(&server, &Asked::Node, Status::Ok, ONE)
+}
+
+/// Tries: lw_target::Desk::answer
+#[test]
+fn nothing_is_told_that_the_log_does_not_lead(rt: HostRuntime) -> Result<(), Fail> {
+    let mut log = MemoryLog::new(rt.alloc());
+    log.fail_after(0, false);
+    let mut server = server_over(rt.alloc(), log)?;
+    holds("no replies", !takes(rt.alloc(), &mut server)?)?;
+    tells(&server, &Asked::Health, Status::ServiceUnavailable, AWAY)?;
+    let away = r#"{"error":"away"}"#;
+    tells(&server, &Asked::Node, Status::ServiceUnavailable, away)
+}
+
+/// Fails where the measures do not have the line.
+fn measures<D: Desk>(desk: &D, line: &str) -> Result<(), Fail> {
+    let answer = desk.answer(&Asked::Metrics)?;
+    holds(line, answer.body.as_str().contains(line))
+}
+
+/// Tries: lw_target::Desk::answer, Server::take
+#[test]
+fn turns_are_counted(rt: HostRuntime) -> Result<(), Fail> {
+    let mut server = server_over(rt.alloc(), MemoryLog::new(rt.alloc()))?;
+    holds("replies", takes(rt.alloc(), &mut server)?)?;
+    measures(&server, "fleet_rounds_total 1\n")?;
+    measures(&server, "fleet_datagrams_total 1\n")?;
+    measures(&server, "fleet_replies_total{code=\"2.01\"} 1\n")?;
+    measures(&server, "fleet_registrations 1\n")?;
+    measures(&server, "fleet_log_away 0\n")
+}
