@@ -1,5 +1,6 @@
 //! What a server tells over HTTP, while its log leads what its node knows and while it does not.
 
+use super::stage::CHANCE;
 use super::*;
 use lw_target::{Asked, Desk, Status};
 

@@ -135,7 +135,7 @@ impl<'a> Stage<'a> {
 }
 
 /// What a start draws: number 1 is free.
-static CHANCE: Chance = Chance {
+pub(super) static CHANCE: Chance = Chance {
     fleet: FleetId { bytes: [7; 16] },
     tag: 9,
     number: 1,
