@@ -40,10 +40,10 @@ const SERVING: &str = r#"{"now":1000,"status":"serving","version":"0.1.0"}"#;
 const AWAY: &str = r#"{"now":1000,"status":"away","version":"0.1.0"}"#;
 
 const NEW: &str =
-    r#"{"change":0,"counter":0,"number":null,"registrations":0,"start":"0000000000000007"}"#;
+    r#"{"change":0,"counter":0,"number":null,"registrations":0,"start":"0000000000000009"}"#;
 
 const ONE: &str =
-    r#"{"change":1,"counter":1,"number":1,"registrations":1,"start":"0000000000000007"}"#;
+    r#"{"change":1,"counter":1,"number":1,"registrations":1,"start":"0000000000000009"}"#;
 
 /// Tries: lw_target::Desk::answer, lw_print::health_text, lw_print::node_text, Server::new
 #[test]
