@@ -29,13 +29,15 @@ use Rattle.lw_api.specs.declared.answering.About.{About}
 use Rattle.lw_api.specs.Known.{OfKnown}
 
 -- the text is that of the registration that is the answer, or there is none
-pub record Tells (state : State) (IsAnswer : Marks → Option Registration → Type 0) (text : Option (List ℕ)) : Type 0 where
+pub record Tells (state : State) (IsAnswer : Marks → Option Registration → Type 0) (text : Option (List ℕ))
+    : Type 0 where
   pub shown : Option Registration
   pub answer : OfKnown state (λ M. IsAnswer M shown)
   pub text_is : text ≡ option_map (λ r. compact_text (registration_json r)) shown
 
 -- the text is that of the observation and its registration that are the answer, or there is none
-pub record TellsWatch (state : State) (IsAnswer : Marks → Option (Registration × Watch) → Type 0) (text : Option (List ℕ)) : Type 0 where
+pub record TellsWatch (state : State) (IsAnswer : Marks → Option (Registration × Watch) → Type 0)
+    (text : Option (List ℕ)) : Type 0 where
   pub found : Option (Registration × Watch)
   pub answer : OfKnown state (λ M. IsAnswer M found)
   pub text_is : text ≡ option_map (λ x. compact_text (watch_json x.0 x.1)) found
@@ -78,15 +80,16 @@ named_by_moved moved = (moved.0, moved.1.0)
 abbrev pub IsShownAs : NodeContent → ℕ → Change → Type 0
 IsShownAs node now change = OfKnown node.table.state (λ M. ShownOf M now change.1.0 change.1.1)
 
--- Changes, behind a number: of each endpoint that moved since then the last change, and what is shown of it now. They are so
--- many at most. There are more where the node has changed after the last of them.
+-- Changes, behind a number: of each endpoint that moved since then the last change, and what is shown of it now. They
+-- are so many at most. There are more where the node has changed after the last of them.
 pub record TellsChanges (node : NodeContent) (about : About) (now since limit : ℕ) (text : List ℕ) : Type 0 where
   pub page : List Moved
   pub moved : IsChangePage node.table.state node.table.count since limit page
   pub changes : List Change
   pub of_them : map named_by_change changes ≡ map named_by_moved page
   pub shown : All (IsShownAs node now) changes
-  pub text_is : text ≡ compact_text (changes_json changes (nat_lt (upto_of since page) node.table.count.change) (upto_of since page) about.tag)
+  pub text_is : text ≡ compact_text (changes_json changes (nat_lt (upto_of since page) node.table.count.change)
+      (upto_of since page) about.tag)
 
 -- ---- answers
 -- it has the status, and the text as its JSON
@@ -103,10 +106,10 @@ abbrev pub IsFound : Option (List ℕ) → Answer → Type 0
 IsFound (Some text) answer = IsJson status.Ok text answer
 IsFound None answer = IsNotFound answer
 
--- Changes are told to who follows this start, or begins. At the last change number, where one number stands for many, none
--- are told.
-pub record IsChangesAnswer (node : NodeContent) (about : About) (now since : ℕ) (start : Option ℕ) (limit : ℕ) (answer : Answer)
-    : Type 0 where
+-- Changes are told to who follows this start, or begins. At the last change number, where one number stands for many,
+-- none are told.
+pub record IsChangesAnswer (node : NodeContent) (about : About) (now since : ℕ) (start : Option ℕ) (limit : ℕ)
+    (answer : Answer) : Type 0 where
   pub unsaid : start ≡ None → 0 < since → IsJson status.BadRequest (codes "{\"error\":\"start\"}") answer
   pub other : IfSome start (λ tag. tag ≢ about.tag → IsJson status.Gone (codes "{\"error\":\"gone\"}") answer)
   pub told : (start ≡ None → since ≡ 0) → IfSome start (λ tag. tag ≡ about.tag) → node.table.count.change ≢ LAST
@@ -127,5 +130,6 @@ IsAnswer node about now (asked.ByAddress address) answer =
 IsAnswer node about now (asked.ByToken token) answer =
     (text : Option (List ℕ)) × TellsWatch node.table.state (λ M. ByToken M now token) text × IsFound text answer
 IsAnswer node about now asked.Node answer = (text : List ℕ) × TellsNode node about text × IsJson status.Ok text answer
-IsAnswer node about now (asked.Changes since start limit) answer = IsChangesAnswer node about now since start limit answer
+IsAnswer node about now (asked.Changes since start limit) answer =
+    IsChangesAnswer node about now since start limit answer
 IsAnswer node about now _ answer = IsNotFound answer

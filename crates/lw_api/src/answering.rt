@@ -56,7 +56,8 @@ fn page(
     after: &Option<Text>,
     limit: usize,
 ) -> Result<Answer, NoMemory>
-    ensures { IfOk result (λ answer. (text : List ℕ) × TellsPage node.now.table.state (ms_of now) after.now limit text × IsJson statuses.Ok text answer) }
+    ensures { IfOk result (λ answer. (text : List ℕ)
+        × TellsPage node.now.table.state (ms_of now) after.now limit text × IsJson statuses.Ok text answer) }
 {
     Ok(ok(registrations(alloc, node, now, text_of(after), limit)?))
 }
@@ -71,7 +72,8 @@ fn text_of(text: &Option<Text>) -> Option<&str>
 }
 
 fn one(alloc: Global, node: &Node, now: Moment, endpoint: &Text) -> Result<Answer, NoMemory>
-    ensures { IfOk result (λ answer. (text : Option (List ℕ)) × Tells node.now.table.state (λ M. ShownOf M (ms_of now) endpoint.now) text × IsFound text answer) }
+    ensures { IfOk result (λ answer. (text : Option (List ℕ))
+        × Tells node.now.table.state (λ M. ShownOf M (ms_of now) endpoint.now) text × IsFound text answer) }
 {
     found(alloc, registration(alloc, node, now, endpoint.as_str())?)
 }

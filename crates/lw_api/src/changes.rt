@@ -99,7 +99,8 @@ fn shown<'a>(
     now: Moment,
     moved: &[Moved<'a>],
 ) -> Result<Vec<Change<'a>>, NoMemory>
-    ensures { IfOk result (λ changes. AreShown node.now (ms_of now) (map moved_of moved.now) (map change_of changes.items)) }
+    ensures { IfOk result (λ changes.
+        AreShown node.now (ms_of now) (map moved_of moved.now) (map change_of changes.items)) }
 {
     let mut changes = Vec::with_capacity(alloc, moved.len())?;
     for change in moved {

@@ -1,5 +1,5 @@
-//! What a node tells, over HTTP, of the registrations that it shows: JSON texts, each the one that is defined over what the
-//! node knows.
+//! What a node tells over HTTP of the registrations that it shows: JSON texts, each the one that is defined over what
+//! the node knows.
 #![tactic(auto)]
 
 mod answering;

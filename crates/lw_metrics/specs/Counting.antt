@@ -33,7 +33,8 @@ with_call tally call = tally
 -- the reply that has the code at this place
 abbrev pub with_place : Tally → Option ℕ → Tally
 with_place tally None = tally
-with_place tally (Some place) = record tally { replies = slice_set tally.replies place (one_more (slice_index tally.replies place)) }
+with_place tally (Some place) =
+    record tally { replies = slice_set tally.replies place (one_more (slice_index tally.replies place)) }
 
 -- 0.00 is the code of an empty message
 abbrev pub with_code : Tally → ℕ → Tally
@@ -77,4 +78,5 @@ with_reply tally reply = tally
 
 -- a round, each of its calls, and what each of them has given
 abbrev pub counted : Tally → List Call → List Reply → Tally
-counted tally calls replies = fold with_reply (fold with_call (record tally { rounds = one_more tally.rounds }) calls) replies
+counted tally calls replies =
+    fold with_reply (fold with_call (record tally { rounds = one_more tally.rounds }) calls) replies

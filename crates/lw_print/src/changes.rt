@@ -36,8 +36,8 @@ pub struct ChangePage<'a> {
 
 /// The JSON object of a page of changes.
 pub fn changes_text(alloc: Global, page: &ChangePage<'_>) -> Result<String, NoMemory>
-    ensures { IfOk result (λ text. string_bytes text ≡ compact_text (changes_json (mapped change_of page.now.changes.items)
-        page.now.more page.now.next page.now.start)) }
+    ensures { IfOk result (λ text. string_bytes text
+        ≡ compact_text (changes_json (mapped change_of page.now.changes.items) page.now.more page.now.next page.now.start)) }
 {
     let value = changes_value(alloc, page)?;
     value_text(alloc, &value)
@@ -58,8 +58,8 @@ fn put_page(
     page: &ChangePage<'_>,
 ) -> Result<(), NoMemory>
     requires { map.old.entries ≡ [] }
-    ensures { OnOk result (object (members_view map.new.entries) ≡ changes_json (mapped change_of page.now.changes.items)
-        page.now.more page.now.next page.now.start) }
+    ensures { OnOk result (object (members_view map.new.entries)
+        ≡ changes_json (mapped change_of page.now.changes.items) page.now.more page.now.next page.now.start) }
 {
     let changes = change_values(alloc, &page.changes)?;
     put(map, alloc, "changes", Value::Array(changes))?;

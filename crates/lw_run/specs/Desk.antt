@@ -32,7 +32,8 @@ health_status true = status.Ok
 health_status false = status.ServiceUnavailable
 
 abbrev pub TellsHealth : ServerContent → Answer → Type 0
-TellsHealth server = IsJson (health_status server.member.led) (compact_text (health_json server.latest server.member.led version))
+TellsHealth server =
+    IsJson (health_status server.member.led) (compact_text (health_json server.latest server.member.led version))
 
 -- ---- measures
 pub record AreOfNode (node : NodeContent) (measures : NodeMeasures) : Type 0 where
@@ -63,7 +64,8 @@ pub record TellsMetrics (server : ServerContent) (answer : Answer) : Type 0 wher
 
 -- ---- what its node tells, at the moment of the last turn; nothing is told that the log does not lead
 abbrev pub TellsOfNode : Bool → ServerContent → Asked → Answer → Type 0
-TellsOfNode true server asked answer = IsAnswer server.member.node (about_of server.member) (ms_of server.latest) asked answer
+TellsOfNode true server asked answer =
+    IsAnswer server.member.node (about_of server.member) (ms_of server.latest) asked answer
 TellsOfNode false server asked answer = IsJson status.ServiceUnavailable (codes "{\"error\":\"away\"}") answer
 
 pub record TellsOf (server : ServerContent) (asked : Asked) (answer : Answer) : Type 0 where

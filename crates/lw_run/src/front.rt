@@ -21,8 +21,8 @@ pub enum Heard {
 
 /// What datagrams come and go over, and visitors.
 pub trait Front {
-    /// Waits so long for a datagram, and has the desk answer visitors meanwhile. Bytes for which the buffer has no room are
-    /// lost.
+    /// Waits so long for a datagram, and has the desk answer visitors meanwhile. Bytes for which the buffer has no room
+    /// are lost.
     fn attend<D: Desk>(
         &mut self,
         desk: &D,

@@ -100,8 +100,8 @@ pub record IsJudged (guard : Guard) (Tells : Asked → Answer → Type 0) (reque
   pub unauthorized : ¬ MayBeTold guard request asked → IsUnauthorized response
 
 -- what is told to a request that is for us
-pub record IsToldHere (guard : Guard) (Tells : Asked → Answer → Type 0) (request : Request (List ℕ)) (response : Response)
-    : Type 0 where
+pub record IsToldHere (guard : Guard) (Tells : Asked → Answer → Type 0) (request : Request (List ℕ))
+    (response : Response) : Type 0 where
   pub asked : Result Asked Refused
   pub asks : Asks request asked
   pub judged : IsJudged guard Tells request asked response

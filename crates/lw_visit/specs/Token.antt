@@ -4,7 +4,8 @@ use Rattle.std.specs.List.{prefix_len}
 use Rattle.std.specs.Char.{is_ascii_alphanumeric}
 
 abbrev pub is_token_byte : ℕ → Bool
-is_token_byte b = is_ascii_alphanumeric b || (b == 45) || (b == 46) || (b == 95) || (b == 126) || (b == 43) || (b == 47) || (b == 61)
+is_token_byte b =
+    is_ascii_alphanumeric b || (b == 45) || (b == 46) || (b == 95) || (b == 126) || (b == 43) || (b == 47) || (b == 61)
 
 -- the text ends here, or a line does, by LF or CRLF
 abbrev pub ends_line : List ℕ → Bool

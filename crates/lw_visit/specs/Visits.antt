@@ -23,8 +23,8 @@ pub record IsLimited (config : Config) : Type 0 where
   pub head : config.limits.max_head_len ≡ 8192
   pub body : config.max_body_len ≡ 0
 
--- What a visit has done: what it sent answers the requests that it received, in order, and each was told what it is to be
--- told. Where it closed, there is a reason for it.
+-- What a visit has done: what it sent answers the requests that it received, in order, and each was told what it is to
+-- be told. Where it closed, there is a reason for it.
 pub record IsVisited (guard : Guard) (Tells : Asked → Answer → Type 0) (all : History) : Type 0 where
   pub told : AreTold guard Tells all.calls
   pub config : Config

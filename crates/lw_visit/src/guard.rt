@@ -178,7 +178,7 @@ fn presents(token: &[u8], value: &[u8]) -> bool
     scheme.eq_ignore_ascii_case(SCHEME) && is_same(given, token)
 }
 
-/// Whether the texts are the same. Where they are of one length each byte is looked at, wherever the first difference is.
+/// Whether the texts are the same. Where they are of one length each byte is looked at, wherever they differ first.
 fn is_same(one: &[u8], other: &[u8]) -> bool
     ensures { IsTrue result ↔ (one.now ≡ other.now) }
 {
