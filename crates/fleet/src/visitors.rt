@@ -64,7 +64,7 @@ fn token_of_file(host: &HostRuntime, path: &str) -> Result<Vec<u8>, RunningFault
     let Ok(count) = read_front(host, path, &mut room) else {
         return Err(RunningFault::TokenRefused);
     };
-    let Some(token) = token_in(&room[..count]) else {
+    let Some(token) = token_in(&room[..count.min(TOKEN_ROOM)]) else {
         return Err(RunningFault::TokenRefused);
     };
     let mut copy = Vec::new(host.alloc());
@@ -77,9 +77,13 @@ fn token_of_file(host: &HostRuntime, path: &str) -> Result<Vec<u8>, RunningFault
 /// Reads the front of the file, as far as there is room.
 fn read_front(host: &HostRuntime, path: &str, room: &mut [u8]) -> io::Result<usize> {
     let mut file = File::open(host, path)?;
-    let mut count = 0;
-    while count < room.len() {
-        let more = file.read(&mut room[count..])?;
+    let mut count = 0usize;
+    // A read gives a byte at least, until there are none.
+    for _read in 0..TOKEN_ROOM {
+        let Some(rest) = room.get_mut(count..) else {
+            break;
+        };
+        let more = file.read(rest)?;
         if more == 0 {
             break;
         }
