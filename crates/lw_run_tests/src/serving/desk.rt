@@ -67,7 +67,8 @@ fn a_server_that_has_a_registration_is_asked(rt: HostRuntime) -> Result<(), Fail
 #[test]
 fn nothing_is_told_that_the_log_does_not_lead(rt: HostRuntime) -> Result<(), Fail> {
     let mut log = MemoryLog::new(rt.alloc());
-    log.fail_after(0, false);
+    // The claim of its number is written, and what the Register does is not.
+    log.fail_after(1, false);
     let mut server = server_over(rt.alloc(), log)?;
     holds("no replies", !takes(rt.alloc(), &mut server)?)?;
     tells(&server, &Asked::Health, Status::ServiceUnavailable, AWAY)?;
