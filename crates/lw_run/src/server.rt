@@ -1,6 +1,6 @@
 //! A member that takes datagrams.
 
-ghost use Rattle.std.specs.Prelude.{◌≡◌, ◌↔◌, [], map, IfOk, OnOk, IsTrue};
+ghost use Rattle.std.specs.Prelude.{◌≡◌, ◌↔◌, [], map, IfOk, OnErr, OnOk, IsTrue};
 ghost use Rattle.lw_member.specs.Compaction.{IsCompactionDue, IsCompacted, Compacts};
 ghost use Rattle.lw_member.specs.Own.{WritesOwn};
 ghost use Rattle.lw_metrics.specs.Counting.{new_tally, one_more};
@@ -85,6 +85,7 @@ impl<G: DeltaLog, C: HostClock + Drop> Server<G, C> {
         // Also where it fails.
         ensures own { WritesOwn self.old.member self.new.member }
         ensures stays { Stays self.old self.new }
+        ensures uncounted { OnErr result (self.new.tally ≡ self.old.tally) }
     {
         let Some(now) = self.clock.now() else {
             return Err(TurnFault::ClockRefused);
@@ -104,6 +105,7 @@ impl<G: DeltaLog, C: HostClock + Drop> Server<G, C> {
         ensures turn { OnOk result ((now : Moment) × IsTurn now self.old [] [] self.new) }
         ensures own { WritesOwn self.old.member self.new.member }
         ensures stays { Stays self.old self.new }
+        ensures uncounted { OnErr result (self.new.tally ≡ self.old.tally) }
     {
         self.take(Vec::new(self.alloc))?;
         Ok(())
@@ -122,6 +124,7 @@ impl<G: DeltaLog, C: HostClock + Drop> Server<G, C> {
         // Also where it fails.
         ensures own { Compacts self.old.member self.new.member }
         ensures stays { Stays self.old self.new }
+        ensures same { (self.new.tally ≡ self.old.tally) × (self.new.latest ≡ self.old.latest) }
     {
         self.member.compact()?;
         Ok(())
