@@ -24,9 +24,10 @@ NO_LIMIT, NO_AFTER, NO_SINCE, NO_START = map(bad, ("limit", "after", "since", "s
 ALONE = ("/", "/v1/health", "/v1/node", "/metrics")
 LISTS = ("/v1/registrations", "/v1/changes")
 ONES = ("/v1/registrations/a", f"/v1/ids/{ID}", "/v1/addresses/127.0.0.1:1", f"/v1/tokens/{ID}")
-ALL = (*ALONE, *LISTS, *ONES)
+OBSERVED = "/v1/registrations/a/observations"
+ALL = (*ALONE, *LISTS, *ONES, OBSERVED)
 # those that are told to whoever brings the token alone
-GUARDED = ("/v1/node", "/metrics", *LISTS, *ONES)
+GUARDED = ("/v1/node", "/metrics", *LISTS, *ONES, OBSERVED)
 METHODS = ("POST", "PUT", "DELETE", "PATCH", "OPTIONS", "TRACE", "BREW", "get")
 
 
@@ -44,7 +45,14 @@ REFUSED = (
     (NO_RESOURCE, ("//v1/node", "/v1//node", "/v1/node/", "/v1/%6Eode", "/v1/ids", "/v1/ids/", "/v1/addresses")),
     (NO_RESOURCE, ("/v1/tokens/", "/v1/changes/", "/v1/registrations/")),
     (NO_RESOURCE, ("/v1/registrations/a/b", "/v1/registrations/a/", "/v1/registrations//a")),
+    (NO_RESOURCE, ("/v1/registrations//observations", f"{OBSERVED}/", f"/v1/ids/{ID}/observations")),
+    (NO_RESOURCE, ("/v1/registrations/a/b/observations", "/v1/registrations/a/Observations")),
     (NO_PARAMETER, with_query(ALL, "x=1", "x=1&limit=x")),
+    (NO_PARAMETER, with_query((OBSERVED,), "since=0", f"start={ID}")),
+    (NO_LIMIT, with_query((OBSERVED,), "limit=0", "limit=257")),
+    (NO_AFTER, with_query((OBSERVED,), "after=", "after=a", "after=/", "after=3", "after=/3/", "after=/1/2/3/4/5")),
+    (NO_AFTER, with_query((OBSERVED,), "after=/65535", "after=/03", "after=%")),
+    (NO_ENDPOINT, ("/v1/registrations/%ff/observations", f"/v1/registrations/{LONG}a/observations")),
     (NO_PARAMETER, with_query((*ALONE, *ONES), "limit=1", "after=a", "since=0")),
     (NO_PARAMETER, with_query(LISTS, "Limit=1", "%6cimit=1", "limit%3D1=1")),
     (NO_PARAMETER, ("/v1/registrations?since=0", f"/v1/registrations?start={ID}", "/v1/changes?after=a")),
@@ -69,6 +77,7 @@ REFUSED = (
 TAKEN = (
     (NO_REGISTRATIONS, with_query(LISTS[:1], "", "limit=1", "limit=256", "after=", "after=%C3%a9", f"after={LONG}")),
     (NO_REGISTRATIONS, with_query(LISTS[:1], "after=a&limit=2", "limit=2&after=a=b", "after=%26")),
+    (NOT_FOUND, with_query((OBSERVED,), "", "after=/3/0", "limit=256&after=%2F65534", "after=/1/2/3/4")),
     (NOT_FOUND, ("/v1/registrations/lamp?", f"/v1/registrations/{LONG}", f"/v1/ids/%30{ID[1:-1]}%31")),
     (NOT_FOUND, ("/v1/addresses/%5B2001:0db8:0000:0000:0000:0000:0000:0001%5D:5683", *ONES)),
 )

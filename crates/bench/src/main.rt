@@ -18,6 +18,7 @@ mod messages;
 mod names;
 mod nodes;
 mod operation;
+mod pages;
 mod requests;
 mod row;
 mod runs;

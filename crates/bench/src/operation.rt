@@ -6,6 +6,7 @@ use crate::fault::BenchFault;
 use crate::indexes::IndexCall;
 use crate::names::Order;
 use crate::nodes::{NodeCall, NodeCalls};
+use crate::pages::PageCall;
 use crate::requests::RequestCall;
 use crate::runs::RunCall;
 use crate::slots::SlotCall;
@@ -24,13 +25,14 @@ pub(crate) enum Operation {
     Index(IndexCall),
     Request(RequestCall),
     Run(RunCall),
+    Page(PageCall),
 }
 
 /// The most calls in a round that reads thousands of bytes each time.
 const LONG_CALLS: u32 = 1000;
 
 /// What is measured and its name, in the order of the table.
-pub(crate) static ROWS: [(&str, Operation); 32] = [
+pub(crate) static ROWS: [(&str, Operation); 33] = [
     (
         "take of a new Register, names rising",
         Operation::Node(NodeCalls {
@@ -135,6 +137,10 @@ pub(crate) static ROWS: [(&str, Operation); 32] = [
             call: NodeCall::SweepDue,
         }),
     ),
+    (
+        "a page in front of N that have expired",
+        Operation::Page(PageCall::OfEnded),
+    ),
     ("Node::copy, each endpoint", Operation::Copy(CopyCall::Copy)),
     ("Node::same, each endpoint", Operation::Copy(CopyCall::Same)),
     (
@@ -212,6 +218,7 @@ impl Operation {
             Operation::Index(call) => call.round(clock, alloc, count),
             Operation::Request(call) => call.round(clock, alloc, count.min(LONG_CALLS)),
             Operation::Run(call) => call.round(clock, alloc, count),
+            Operation::Page(call) => call.round(clock, alloc, count),
         }
     }
 

@@ -4,6 +4,7 @@
 #![tactic(auto)]
 
 mod host;
+mod page;
 mod run_host;
 mod visitors;
 

@@ -1,14 +1,14 @@
 //! A server over a real socket and a real log.
 
 use crate::host::Host;
-use crate::visitors::Visitors;
+use crate::visitors::{Visited, Visitors};
 use log::sink::Console;
 use log::{LevelFilter, Log, Logged, info};
 use lw_fleet::{Keeps, LogLevel, RunOptions, RunningFault, Runs};
-use lw_front::Sockets;
+use lw_front::{Sockets, SystemStopwatch};
 use lw_log::{DeltaLog, FleetId, Nowhere};
 use lw_member::{Chance, Member};
-use lw_run::{Compaction, HostClock, RunFault, Server, run_on};
+use lw_run::{Compaction, HostClock, RunFault, Server, Timed, run_on};
 use lw_sqlite_log::{OpenFault, SqliteLog};
 use lw_wire::SystemClock;
 use std::net::SocketAddr;
@@ -56,13 +56,17 @@ fn run_over<G: DeltaLog, L: Log>(
     let Some(now) = clock.now() else {
         return Err(RunningFault::ClockRefused);
     };
+    let Ok(stopwatch) = SystemStopwatch::start(host) else {
+        return Err(RunningFault::ClockRefused);
+    };
     let chance = draw(host)?;
-    let member = match Member::begin(host.alloc(), kept, &chance, now) {
+    let timed = Timed::new(kept, stopwatch);
+    let member = match Member::begin(host.alloc(), timed, &chance, now) {
         Ok(member) => member,
         Err(fault) => return Err(fault_of_run(RunFault::from(fault))),
     };
     let number = member.start().number;
-    let mut sockets = bind(host, options)?;
+    let mut sockets = bind(host, log, options)?;
     let visited = match visitors {
         None => None,
         Some(visitors) => Some(visitors.come_to(host, &mut sockets)?),
@@ -70,10 +74,8 @@ fn run_over<G: DeltaLog, L: Log>(
     if let Ok(address) = sockets.local_address() {
         info!(log; "serving address={address} number={number} keeps={keeps}");
     }
-    if let Some(address) = visited {
-        info!(log; "http address={address}");
-    }
-    let server = Server::new(host.alloc(), member, clock, 0, now);
+    let page = page_of(log, visited);
+    let server = Server::new(host.alloc(), member, clock, 0, now, page);
     let compaction = compaction_of(options.keeps);
     run_on(
         &mut sockets,
@@ -85,13 +87,21 @@ fn run_over<G: DeltaLog, L: Log>(
     .map_err(fault_of_run)
 }
 
+/// Logs where visitors come, if they do, and gives the page that they see.
+fn page_of<L: Log>(log: &L, visited: Option<Visited>) -> Option<String> {
+    let Visited { address, page } = visited?;
+    info!(log; "http address={address}");
+    page
+}
+
 /// The socket that devices send to.
-fn bind<'a>(
+fn bind<'a, L: Log>(
     host: &'a HostRuntime,
+    log: &'a L,
     options: &RunOptions<'_>,
-) -> Result<Sockets<'a, HostRuntime>, RunningFault> {
+) -> Result<Sockets<'a, HostRuntime, L>, RunningFault> {
     let address = SocketAddr::new(options.bind, options.port);
-    match Sockets::bind(host, host, host.alloc(), address) {
+    match Sockets::bind(host, host, log, host.alloc(), address) {
         Ok(sockets) => Ok(sockets),
         Err(_) => Err(RunningFault::BindFailed),
     }

@@ -1,5 +1,7 @@
-//! Who may ask over HTTP, and where.
+//! Who may ask over HTTP, where, and what they see first.
 
+use crate::page::page_of_file;
+use log::Log;
 use lw_fleet::{HttpOptions, RunningFault};
 use lw_front::Sockets;
 use lw_visit::{Guard, token_in};
@@ -11,15 +13,23 @@ use std::net::SocketAddr;
 /// How many bytes of a file with a token are read: a token and the end of its line fit.
 const TOKEN_ROOM: usize = 512;
 
-/// Who is let in, and where.
+/// Who is let in, where, and the page that they see.
 #[derive(Drop)]
 pub(crate) struct Visitors {
     guard: Guard,
     address: SocketAddr,
+    page: Option<String>,
+}
+
+/// Where visitors come that are let in, and the page that they see.
+#[derive(Drop)]
+pub(crate) struct Visited {
+    pub(crate) address: SocketAddr,
+    pub(crate) page: Option<String>,
 }
 
 impl Visitors {
-    /// Reads the file with the token, where there is one.
+    /// Reads the file with the token and that of the page, where there is one.
     pub(crate) fn of_options(
         host: &HostRuntime,
         options: &HttpOptions<'_>,
@@ -35,24 +45,33 @@ impl Visitors {
                 Err(_) => return Err(RunningFault::NoMemory),
             },
         };
+        let page = match options.page_file {
+            None => None,
+            Some(path) => Some(page_of_file(host, path)?),
+        };
         Ok(Visitors {
             guard: Guard { token, host: name },
             address: options.address,
+            page,
         })
     }
 
-    /// Lets visitors in at the sockets, and gives the address at which they come.
-    pub(crate) fn come_to(
+    /// Lets visitors in at the sockets.
+    pub(crate) fn come_to<L: Log>(
         self,
         host: &HostRuntime,
-        sockets: &mut Sockets<'_, HostRuntime>,
-    ) -> Result<SocketAddr, RunningFault> {
-        let Visitors { guard, address } = self;
+        sockets: &mut Sockets<'_, HostRuntime, L>,
+    ) -> Result<Visited, RunningFault> {
+        let Visitors {
+            guard,
+            address,
+            page,
+        } = self;
         let Ok(keys) = RandomState::new(host) else {
             return Err(RunningFault::RandomFailed);
         };
         match sockets.receive(host, keys, guard, address) {
-            Ok(bound) => Ok(bound),
+            Ok(address) => Ok(Visited { address, page }),
             Err(_) => Err(RunningFault::HttpBindFailed),
         }
     }

@@ -1,6 +1,6 @@
 -- What is told of the registrations that a node shows at a moment (LwM2M 1.1 Core, section 6.2; RFC 7641), as JSON texts
 -- (RFC 8259).
-use Rattle.std.specs.Prelude.{◌≡◌, ◌≢◌, ◌<◌, ◌≤◌, ◌↔◌, ℕ, List, length, map, max, nat_lt, All, Contains, Option, Some, None, IfSome, codes, string_bytes}
+use Rattle.std.specs.Prelude.{◌≡◌, ◌≢◌, ◌<◌, ◌≤◌, ◌↔◌, ℕ, List, [], ◌∷◌, length, map, max, nat_lt, All, Contains, Option, Some, None, IfSome, IsSomeAnd, codes, string_bytes}
 use Rattle.std.specs.FinMap.{get}
 use Rattle.std.specs.List.Sorted.{IsStrictlySortedBy}
 use Rattle.std.specs.Option.{option_map}
@@ -8,17 +8,19 @@ use Rattle.serde_json.specs.Written.{compact_text}
 use Rattle.lw_reg.specs.Marks.{Marks}
 use Rattle.lw_reg.specs.Registration.{Registration}
 use Rattle.lw_reg.specs.State.{State}
+use Rattle.lw_reg.specs.declared.path.Path.{Path}
 use Rattle.lw_reg.specs.declared.watch.Watch.{Watch}
 use Rattle.lw_reg.specs.Showing.{ShownOf}
+use Rattle.lw_stamp.specs.declared.stamp.Stamp.{Stamp}
 use Rattle.lw_stamp.specs.TextOrder.{text_cmp}
 use Rattle.lw_table.specs.Changes.{IsChangePage, LAST, Moved, upto_of}
-use Rattle.lw_table.specs.LookUps.{ById, ByAddress, ByToken}
+use Rattle.lw_table.specs.LookUps.{ById, ByAddress, ByToken, WatchOfIdAfter}
 use Rattle.lw_table.specs.Pages.{IsPage, MovesOn}
 use Rattle.lw_table.specs.Table.{IsKept}
 use Rattle.lw_node.specs.Node.{NodeContent}
 use Rattle.lw_print.specs.declared.node.NodeNumbers.{NodeNumbers}
 use Rattle.lw_print.specs.Changes.{Change, changes_json}
-use Rattle.lw_print.specs.Json.{registration_json, watch_json, page_json, node_json}
+use Rattle.lw_print.specs.Json.{registration_json, watch_json, observations_json, page_json, node_json}
 use Rattle.lw_target.specs.declared.asked.Asked.{Asked}
 use Rattle.lw_target.specs.declared.asked.Asked.TheVariants as asked
 use Rattle.lw_target.specs.declared.desk.Answer.{Answer}
@@ -50,6 +52,48 @@ pub record TellsPage (state : State) (now : ℕ) (after : Option (List ℕ)) (li
   pub within : length page ≤ max 1 limit
   pub further : MovesOn after next
   pub text_is : text ≡ compact_text (page_json page next)
+
+-- the observations of the registration with the identifier: each on the least path above that of the one before
+abbrev pub AreWatchesAfter : Marks → ℕ → Stamp → Option Path → List (Registration × Watch) → Type 0
+AreWatchesAfter M now id after [] = Unit {0}
+AreWatchesAfter M now id after (x ∷ page) =
+    WatchOfIdAfter M now id after (Some x) × AreWatchesAfter M now id (Some x.1.path) page
+
+-- the path of the last of them; of none that behind which they begin
+abbrev pub last_path : Option Path → List (Registration × Watch) → Option Path
+last_path after [] = after
+last_path after (x ∷ page) = last_path (Some x.1.path) page
+
+-- the next page begins behind the last path, if an observation follows there
+abbrev pub GoesOnAt : Marks → ℕ → Stamp → Option Path → Option Path → Type 0
+GoesOnAt M now id last None = WatchOfIdAfter M now id last None
+GoesOnAt M now id last (Some next) =
+    (last ≡ Some next) × ((x : Registration × Watch) × WatchOfIdAfter M now id last (Some x))
+
+pub record IsWatchPage (M : Marks) (now : ℕ) (id : Stamp) (after next : Option Path) (page : List (Registration × Watch))
+    : Type 0 where
+  pub watches : AreWatchesAfter M now id after page
+  pub further : GoesOnAt M now id (last_path after page) next
+
+-- the text is that of a page of so many observations at most, or one
+pub record TellsWatches (state : State) (now : ℕ) (id : Stamp) (after : Option Path) (limit : ℕ) (text : List ℕ)
+    : Type 0 where
+  pub page : List (Registration × Watch)
+  pub next : Option Path
+  pub answer : OfKnown state (λ M. IsWatchPage M now id after next page)
+  pub within : length page ≤ max 1 limit
+  pub text_is : text ≡ compact_text (observations_json page next)
+
+-- of a registration that is shown its observations are told; where none is shown, there is no text
+abbrev pub TellsWatchesOf : State → ℕ → Option Path → ℕ → Option Registration → Option (List ℕ) → Type 0
+TellsWatchesOf state now after limit None text = text ≡ None
+TellsWatchesOf state now after limit (Some r) text = IsSomeAnd text (TellsWatches state now r.id after limit)
+
+pub record TellsObservations (state : State) (now : ℕ) (endpoint : List ℕ) (after : Option Path) (limit : ℕ)
+    (text : Option (List ℕ)) : Type 0 where
+  pub shown : Option Registration
+  pub answer : OfKnown state (λ M. ShownOf M now endpoint shown)
+  pub told : TellsWatchesOf state now after limit shown text
 
 -- how many registrations were not removed
 pub record CountsRegistrations (state : State) (n : ℕ) : Type 0 where
@@ -123,6 +167,8 @@ IsAnswer node about now (asked.Registrations after limit) answer =
     (text : List ℕ) × TellsPage node.table.state now after limit text × IsJson status.Ok text answer
 IsAnswer node about now (asked.Registration endpoint) answer =
     (text : Option (List ℕ)) × Tells node.table.state (λ M. ShownOf M now endpoint) text × IsFound text answer
+IsAnswer node about now (asked.Observations endpoint after limit) answer =
+    (text : Option (List ℕ)) × TellsObservations node.table.state now endpoint after limit text × IsFound text answer
 IsAnswer node about now (asked.ById id) answer =
     (text : Option (List ℕ)) × Tells node.table.state (λ M. ById M now id) text × IsFound text answer
 IsAnswer node about now (asked.ByAddress address) answer =

@@ -7,7 +7,7 @@ ghost use Rattle.lw_api.specs.Answers.{CountsRegistrations, IsAnswer, IsFound, I
 ghost use Rattle.lw_target.specs.declared.desk.Status.TheVariants as statuses;
 
 use crate::changes::changes_answer;
-use crate::{by_address, by_id, by_token, registration, registrations};
+use crate::{by_address, by_id, by_token, observations, registration, registrations};
 use lw_node::Node;
 use lw_print::{NodeNumbers, node_text};
 use lw_stamp::{Moment, NoMemory, Text};
@@ -36,6 +36,14 @@ pub fn answer(
     match asked {
         Asked::Registrations { after, limit } => page(alloc, node, now, after, *limit),
         Asked::Registration { endpoint } => one(alloc, node, now, endpoint),
+        Asked::Observations {
+            endpoint,
+            after,
+            limit,
+        } => found(
+            alloc,
+            observations(alloc, node, now, endpoint.as_str(), *after, *limit)?,
+        ),
         Asked::ById { id } => found(alloc, by_id(alloc, node, now, *id)?),
         Asked::ByAddress { address } => found(alloc, by_address(alloc, node, now, *address)?),
         Asked::ByToken { token } => found(alloc, by_token(alloc, node, now, *token)?),
@@ -98,7 +106,8 @@ pub(crate) fn ok(body: String) -> Answer
     }
 }
 
-fn not_found(alloc: Global) -> Result<Answer, NoMemory>
+/// That nothing was found.
+pub fn not_found(alloc: Global) -> Result<Answer, NoMemory>
     ensures { IfOk result IsNotFound }
 {
     error(alloc, Status::NotFound, r#"{"error":"not found"}"#)

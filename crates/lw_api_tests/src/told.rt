@@ -142,6 +142,58 @@ const CHANGES: [Row<'static>; 5] = [
     ),
 ];
 
+/// What is told of the first registration where `/5`, `/3` and `/1/0/1` are observed too, and of the second.
+const OBSERVATIONS: [Row<'static>; 8] = [
+    (
+        0,
+        "/v1/registrations/a/observations",
+        "",
+        r#"{"next":null,"observations":[{"accept":null,"endpoint":"a","id":"0000000000010001","path":"/1/0/1","token":"0000000000060001"},{"accept":110,"endpoint":"a","id":"0000000000010001","path":"/3","token":"0000000000050001"},{"accept":null,"endpoint":"a","id":"0000000000010001","path":"/3/0","token":"0000000000030001"},{"accept":null,"endpoint":"a","id":"0000000000010001","path":"/5","token":"0000000000040001"}]}"#,
+    ),
+    (
+        0,
+        "/v1/registrations/a/observations",
+        "limit=2",
+        r#"{"next":"/3","observations":[{"accept":null,"endpoint":"a","id":"0000000000010001","path":"/1/0/1","token":"0000000000060001"},{"accept":110,"endpoint":"a","id":"0000000000010001","path":"/3","token":"0000000000050001"}]}"#,
+    ),
+    (
+        0,
+        "/v1/registrations/a/observations",
+        "limit=1&after=/3",
+        r#"{"next":"/3/0","observations":[{"accept":null,"endpoint":"a","id":"0000000000010001","path":"/3/0","token":"0000000000030001"}]}"#,
+    ),
+    (
+        0,
+        "/v1/registrations/a/observations",
+        "limit=2&after=/3",
+        r#"{"next":null,"observations":[{"accept":null,"endpoint":"a","id":"0000000000010001","path":"/3/0","token":"0000000000030001"},{"accept":null,"endpoint":"a","id":"0000000000010001","path":"/5","token":"0000000000040001"}]}"#,
+    ),
+    (
+        0,
+        "/v1/registrations/a/observations",
+        "after=/3/0/65534",
+        r#"{"next":null,"observations":[{"accept":null,"endpoint":"a","id":"0000000000010001","path":"/5","token":"0000000000040001"}]}"#,
+    ),
+    (
+        0,
+        "/v1/registrations/a/observations",
+        "after=/5",
+        r#"{"next":null,"observations":[]}"#,
+    ),
+    (
+        0,
+        "/v1/registrations/b/observations",
+        "",
+        r#"{"next":null,"observations":[]}"#,
+    ),
+    (
+        0,
+        "/v1/registrations/b/observations",
+        "limit=1&after=/0",
+        r#"{"next":null,"observations":[]}"#,
+    ),
+];
+
 const FOLLOWS_NO_START: [Row<'static>; 1] = [(0, "/v1/changes", "since=1", r#"{"error":"start"}"#)];
 
 const FOLLOWS_ANOTHER: [Row<'static>; 2] = [
@@ -159,7 +211,7 @@ const FOLLOWS_ANOTHER: [Row<'static>; 2] = [
     ),
 ];
 
-const NOTHING: [Row<'static>; 9] = [
+const NOTHING: [Row<'static>; 11] = [
     (0, "/v1/registrations/c", "", r#"{"error":"not found"}"#),
     (LATE, "/v1/registrations/a", "", r#"{"error":"not found"}"#),
     (
@@ -183,6 +235,18 @@ const NOTHING: [Row<'static>; 9] = [
     (
         LATE,
         "/v1/tokens/0000000000030001",
+        "",
+        r#"{"error":"not found"}"#,
+    ),
+    (
+        0,
+        "/v1/registrations/c/observations",
+        "",
+        r#"{"error":"not found"}"#,
+    ),
+    (
+        LATE,
+        "/v1/registrations/a/observations",
         "",
         r#"{"error":"not found"}"#,
     ),
@@ -226,17 +290,17 @@ fn takes(alloc: Global, node: &mut Node, text: &str) -> Result<(), Fail> {
     Ok(())
 }
 
-/// Observes `/3/0` of the first registration.
-fn observes(node: &mut Node) -> Result<(), Fail> {
-    let path = Path::new(&[3, 0]).ok_or("a path")?;
-    node.observe(Moment::START, FIRST, path, None, 32)?;
+/// Observes a path of the first registration.
+fn observes(node: &mut Node, numbers: &[u16], accept: Option<u16>) -> Result<(), Fail> {
+    let path = Path::new(numbers).ok_or("a path")?;
+    node.observe(Moment::START, FIRST, path, accept, 32)?;
     Ok(())
 }
 
 fn registers(alloc: Global, node: &mut Node) -> Result<(), Fail> {
     takes(alloc, node, REGISTER)?;
     takes(alloc, node, REGISTER_B)?;
-    observes(node)
+    observes(node, &[3, 0], None)
 }
 
 fn registers_and_tells(alloc: Global, status: Status, rows: &[Row<'_>]) -> Result<(), Fail> {
@@ -257,6 +321,54 @@ fn one_that_is_found(rt: HostRuntime) -> Result<(), Fail> {
     registers_and_tells(rt.alloc(), Status::Ok, &ONES)
 }
 
+/// Tries: answer, observations, lw_print::observations_text
+#[test]
+fn observations_of_a_registration(rt: HostRuntime) -> Result<(), Fail> {
+    let alloc = rt.alloc();
+    let mut node = Node::new(alloc, 1);
+    registers(alloc, &mut node)?;
+    observes(&mut node, &[5], None)?;
+    observes(&mut node, &[3], Some(110))?;
+    observes(&mut node, &[1, 0, 1], None)?;
+    are_told(alloc, &node, Status::Ok, &OBSERVATIONS)
+}
+
+/// As many as a page has, and one more: paths below `/3` from `/3/1` on.
+fn observes_257(alloc: Global) -> Result<Node, Fail> {
+    let mut node = Node::new(alloc, 1);
+    registers(alloc, &mut node)?;
+    for number in 1..257 {
+        observes(&mut node, &[3, number], None)?;
+    }
+    Ok(node)
+}
+
+/// How often the text is in the other.
+fn count_of(text: &str, part: &str) -> usize {
+    text.matches(part).count()
+}
+
+/// Tries: answer, observations
+#[test]
+fn a_page_has_256_observations_at_most(rt: HostRuntime) -> Result<(), Fail> {
+    let alloc = rt.alloc();
+    let node = observes_257(alloc)?;
+    let all = (0, "/v1/registrations/a/observations", "limit=256", "");
+    let page = told(alloc, &node, all)?;
+    let text = page.body.as_str();
+    let is_page = count_of(text, "\"token\":") == 256 && text.starts_with(r#"{"next":"/3/255","#);
+    let rest = (
+        0,
+        "/v1/registrations/a/observations",
+        "limit=256&after=/3/255",
+        r#"{"next":null,"observations":[{"accept":null,"endpoint":"a","id":"0000000000010001","path":"/3/256","token":"0000000001030001"}]}"#,
+    );
+    if !is_page {
+        return Err(Fail::from("a page of 256 observations"));
+    }
+    is_told(alloc, &node, Status::Ok, rest)
+}
+
 /// Tries: answer, lw_print::changes_text
 #[test]
 fn changes_that_follow_a_start(rt: HostRuntime) -> Result<(), Fail> {
@@ -275,7 +387,7 @@ fn changes_that_follow_another_start(rt: HostRuntime) -> Result<(), Fail> {
     registers_and_tells(rt.alloc(), Status::Gone, &FOLLOWS_ANOTHER)
 }
 
-/// Tries: answer, registration, by_id, by_address, by_token
+/// Tries: answer, not_found, registration, by_id, by_address, by_token
 #[test]
 fn nothing_is_found(rt: HostRuntime) -> Result<(), Fail> {
     registers_and_tells(rt.alloc(), Status::NotFound, &NOTHING)

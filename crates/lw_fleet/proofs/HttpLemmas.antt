@@ -10,13 +10,13 @@ use Rattle.lw_fleet.specs.CommandLine.{IsAddressIfGiven, IsGivenToHttp, IsGuarde
 -- a text of `--http` that writes no address
 pub no_address : (rows : List Row) → ((address : Option SocketAddr) → ¬ IsAddressIfGiven (first_of (codes "http") rows) address)
     → (http : Option HttpOptions) → ¬ IsHttp rows http
-no_address rows none None (absent, _, _) = none None (subst (λ text. IsAddressIfGiven text None) (sym absent) refl)
+no_address rows none None (absent, _) = none None (subst (λ text. IsAddressIfGiven text None) (sym absent) refl)
 no_address rows none (Some http) given = none (Some http.address) given.address
 
 -- an address, with options that do not go with it
 pub not_at_address : (rows : List Row) (address : SocketAddr) → IsAddressIfGiven (first_of (codes "http") rows) (Some address)
     → ((http : HttpOptions) → ¬ IsGivenToHttp rows http) → (http : Option HttpOptions) → ¬ IsHttp rows http
-not_at_address rows address at none None (absent, _, _) =
+not_at_address rows address at none None (absent, _) =
     let is : Some address ≡ None = subst (λ text. IsAddressIfGiven text (Some address)) absent at in
     cc
 not_at_address rows address at none (Some http) given = none http given

@@ -2,7 +2,7 @@
 use Rattle.std.specs.Prelude.{ℕ, List, codes, Bool, true, false, Option}
 use Rattle.std.specs.Io.KnownBytes.{Appends}
 use Rattle.lw_fleet.specs.declared.running_server.RunningFault.{RunningFault}
-use Rattle.lw_fleet.specs.declared.running_server.RunningFault.TheVariants.{DataFailed, DataInUse, DataDamaged, DataNewer, DataCut, AnotherFleet, NumberTaken, NumbersEnded, BindFailed, HttpBindFailed, TokenRefused, ReceiveFailed, ClockRefused, RandomFailed, NoMemory}
+use Rattle.lw_fleet.specs.declared.running_server.RunningFault.TheVariants.{DataFailed, DataInUse, DataDamaged, DataNewer, DataCut, AnotherFleet, NumberTaken, NumbersEnded, BindFailed, HttpBindFailed, TokenRefused, PageRefused, ReceiveFailed, ClockRefused, RandomFailed, NoMemory}
 use Rattle.lw_serve.specs.Ending.{AppendsFront}
 
 -- the line of a fault of `run`, with its line feed
@@ -18,6 +18,7 @@ running_line NumbersEnded = codes "numbers ended\n"
 running_line BindFailed = codes "bind failed\n"
 running_line HttpBindFailed = codes "http bind failed\n"
 running_line TokenRefused = codes "token refused\n"
+running_line PageRefused = codes "page refused\n"
 running_line ReceiveFailed = codes "receive failed\n"
 running_line ClockRefused = codes "clock refused\n"
 running_line RandomFailed = codes "random failed\n"

@@ -1,11 +1,11 @@
 //! What is given for the options of `run` that are about HTTP.
 
-ghost use Rattle.std.specs.Prelude.{◌≡◌, ◌↔◌, [], Option, Some, None, codes, false, IfOk, IfSome, IfNone, IsTrue, OnErr};
+ghost use Rattle.std.specs.Prelude.{◌≡◌, ◌↔◌, [], Option, Some, codes, false, IfOk, IfSome, IfNone, IsTrue, OnErr, OnOk};
 ghost use Rattle.std.specs.Net.Grammar.{IsSocketText};
 ghost use Rattle.std.specs.declared.net.socket_addr.SocketAddr.{SocketAddr as SocketAddresses};
 ghost use Rattle.clap.specs.Words.{app_of, first_of, subcommand_rows_of};
 ghost use Rattle.clap.specs.declared.builder.command.Command.TheViews.{out-Command as fields_of};
-ghost use Rattle.lw_fleet.specs.CommandLine.{option_rows, with_http_options, IsAddressIfGiven, IsGivenToHttp, IsGuarded, IsHttp, IsTextIfGiven};
+ghost use Rattle.lw_fleet.specs.CommandLine.{option_rows, with_http_options, IsAddressIfGiven, IsGivenToHttp, IsGuarded, IsHttp, IsTextIfGiven, IsWithoutHttp};
 ghost use Rattle.lw_fleet.specs.declared.http_options.HttpOptions.{HttpOptions as Served};
 
 use crate::command::{given_text, option};
@@ -23,6 +23,8 @@ pub struct HttpOptions<'a> {
     pub token_file: Option<&'a str>,
     /// The name that requests may be for, beside IP addresses and `localhost`.
     pub host: Option<&'a str>,
+    /// The path of the file that is served as the page at `/`.
+    pub page_file: Option<&'a str>,
 }
 
 /// The command with the options that are about HTTP.
@@ -52,6 +54,12 @@ pub(crate) fn add_http_options<'a>(
             "http-host",
             "NAME",
             "Name that HTTP requests may be for, beside IP addresses and localhost",
+        ))?
+        .arg(option(
+            alloc,
+            "page",
+            "FILE",
+            "File that is served as the page at /",
         ))
 }
 
@@ -88,20 +96,18 @@ fn address_of_visitors(matches: &ArgMatches<'_>) -> Result<Option<SocketAddr>, B
 
 /// Refuses the options that go with `--http`, which is not given.
 fn refuse_without_http(matches: &ArgMatches<'_>) -> Result<(), BadRunOption>
-    ensures neither { IfOk result (λ _.
-        (first_of (codes "http-token-file") (option_rows (subcommand_rows_of matches.now)) ≡ None)
-        × (first_of (codes "http-host") (option_rows (subcommand_rows_of matches.now)) ≡ None)) }
-    ensures some { OnErr result (¬ (
-        (first_of (codes "http-token-file") (option_rows (subcommand_rows_of matches.now)) ≡ None)
-        × (first_of (codes "http-host") (option_rows (subcommand_rows_of matches.now)) ≡ None))) }
+    ensures none { OnOk result (IsWithoutHttp (option_rows (subcommand_rows_of matches.now))) }
+    ensures some { OnErr result (¬ IsWithoutHttp (option_rows (subcommand_rows_of matches.now))) }
 {
     match (
         given_text(matches, "http-token-file"),
         given_text(matches, "http-host"),
+        given_text(matches, "page"),
     ) {
-        (None, None) => Ok(()),
-        (Some(_), _) => Err(BadRunOption::TokenFileWithoutHttp),
-        (None, Some(_)) => Err(BadRunOption::HostWithoutHttp),
+        (None, None, None) => Ok(()),
+        (Some(_), _, _) => Err(BadRunOption::TokenFileWithoutHttp),
+        (None, Some(_), _) => Err(BadRunOption::HostWithoutHttp),
+        (None, None, Some(_)) => Err(BadRunOption::PageWithoutHttp),
     }
 }
 
@@ -118,6 +124,7 @@ fn http_at<'a>(
 {
     let token_file = text_in(matches, "http-token-file", BadRunOption::TokenFile)?;
     let host = text_in(matches, "http-host", BadRunOption::Host)?;
+    let page_file = text_in(matches, "page", BadRunOption::Page)?;
     if !is_guarded(address, token_file) {
         return Err(BadRunOption::NoTokenFile);
     }
@@ -125,6 +132,7 @@ fn http_at<'a>(
         address,
         token_file,
         host,
+        page_file,
     })
 }
 

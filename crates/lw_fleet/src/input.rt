@@ -8,7 +8,7 @@ use crate::fault::Fault;
 use std::alloc::Global;
 use std::io::{ErrorKind, Read};
 
-/// How many bytes a line may have, its line feed not counted, and a script with all of its own.
+/// How many bytes a line may have, its line feed not counted, and a script or a page with all of its own.
 const LONGEST: usize = 1_048_576;
 
 const CHUNK: usize = 4096;

@@ -61,8 +61,10 @@ pub(crate) enum BadRunOption {
     Http,
     TokenFileWithoutHttp,
     HostWithoutHttp,
+    PageWithoutHttp,
     TokenFile,
     Host,
+    Page,
     NoTokenFile,
 }
 
@@ -82,10 +84,14 @@ impl BadRunOption {
             BadRunOption::TokenFileWithoutHttp =>
                 "'--http-token-file <FILE>' needs '--http <ADDR>'",
             BadRunOption::HostWithoutHttp => "'--http-host <NAME>' needs '--http <ADDR>'",
+            BadRunOption::PageWithoutHttp => "'--page <FILE>' needs '--http <ADDR>'",
             BadRunOption::TokenFile => {
                 "'--http-token-file <FILE>' takes the path of a file, and not an empty text"
             }
             BadRunOption::Host => "'--http-host <NAME>' takes a name, and not an empty text",
+            BadRunOption::Page => {
+                "'--page <FILE>' takes the path of a file, and not an empty text"
+            }
             BadRunOption::NoTokenFile => {
                 "'--http <ADDR>' off the loopback needs '--http-token-file <FILE>'"
             }

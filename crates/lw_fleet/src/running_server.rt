@@ -52,6 +52,9 @@ pub enum RunningFault {
     /// The file of the token gives none.
     #[error("token refused: the file cannot be read, or its first line is no token")]
     TokenRefused,
+    /// The file of the page gives none.
+    #[error("page refused: the file cannot be read, has more than 1048576 bytes, or is not UTF-8")]
+    PageRefused,
     /// The socket failed again and again.
     #[error("receive failed: the socket failed 1000 times in a row")]
     ReceiveFailed,
@@ -90,6 +93,7 @@ impl RunningFault {
             RunningFault::BindFailed => "bind failed\n",
             RunningFault::HttpBindFailed => "http bind failed\n",
             RunningFault::TokenRefused => "token refused\n",
+            RunningFault::PageRefused => "page refused\n",
             RunningFault::ReceiveFailed => "receive failed\n",
             RunningFault::ClockRefused => "clock refused\n",
             RunningFault::RandomFailed => "random failed\n",

@@ -1,6 +1,8 @@
 //! Where visitors come.
 
 use crate::visit::{Going, Visit};
+use log::Log;
+use lw_metrics::Responses;
 use lw_target::Desk;
 use lw_visit::Guard;
 use mio::net::TcpListener;
@@ -34,6 +36,8 @@ pub(crate) struct Reception {
     pub(crate) knocks: bool,
     /// Whether a visit may go on.
     pub(crate) stirs: bool,
+    /// How those were answered that are over.
+    pub(crate) responses: Responses,
 }
 
 impl Reception {
@@ -56,6 +60,7 @@ impl Reception {
             visits: Vec::new(alloc),
             knocks: true,
             stirs: false,
+            responses: Responses::new(),
         })
     }
 
@@ -64,19 +69,25 @@ impl Reception {
     }
 
     /// Lets visitors in, goes on with each visit, and lets those go that are over or last too long.
-    pub(crate) fn receive<D: Desk>(&mut self, poll: &Poll, now: Instant, desk: &D) {
-        if self.knocks && self.let_in(poll, now).is_err() {
+    pub(crate) fn receive<D: Desk, L: Log>(
+        &mut self,
+        poll: &Poll,
+        now: Instant,
+        desk: &D,
+        log: &L,
+    ) {
+        if self.knocks && self.let_in(poll, now, log).is_err() {
             // It is tried again at the next turn.
             self.knocks = true;
         }
-        self.step_all(now, desk);
+        self.step_all(now, desk, log);
     }
 
     /// Seats the visitors that wait. Where all seats are taken, the oldest visit that has not asked yet makes room.
-    fn let_in(&mut self, poll: &Poll, now: Instant) -> io::Result<()> {
+    fn let_in<L: Log>(&mut self, poll: &Poll, now: Instant, log: &L) -> io::Result<()> {
         for _seat in 0..SEATS {
-            let mut stream = match self.listener.accept() {
-                Ok((stream, _from)) => stream,
+            let (mut stream, peer) = match self.listener.accept() {
+                Ok(accepted) => accepted,
                 Err(error) => {
                     // Where no descriptor is left, it is tried again.
                     self.knocks = error.kind() != ErrorKind::WouldBlock;
@@ -84,30 +95,34 @@ impl Reception {
                 }
             };
             poll.registry().register(&mut stream, VISIT, Interest::READABLE | Interest::WRITABLE)?;
-            self.make_room();
+            self.make_room(log);
             self.visits
-                .push(Visit::new(self.alloc, self.keys, stream, now))?;
+                .push(Visit::new(self.alloc, self.keys, stream, peer, now))?;
             self.stirs = true;
         }
         Ok(())
     }
 
-    fn make_room(&mut self) {
+    fn make_room<L: Log>(&mut self, log: &L) {
         if self.visits.len() < SEATS {
             return;
         }
         let oldest = self.visits.iter().position(|visit| !visit.is_asked());
-        self.let_go(oldest.unwrap_or(0));
+        self.let_go(oldest.unwrap_or(0), log);
     }
 
-    /// Ends the visit at the place, if there is one. The others keep their order.
-    fn let_go(&mut self, place: usize) {
+    /// Ends the visit at the place, if there is one, and tells of it. The others keep their order.
+    fn let_go<L: Log>(&mut self, place: usize, log: &L) {
         if place < self.visits.len() {
-            let _gone = self.visits.remove(place);
+            let visit = self.visits.remove(place);
+            if let Some(status) = visit.status {
+                self.responses.count(status);
+            }
+            visit.tell(log);
         }
     }
 
-    fn step_all<D: Desk>(&mut self, now: Instant, desk: &D) {
+    fn step_all<D: Desk, L: Log>(&mut self, now: Instant, desk: &D, log: &L) {
         self.stirs = false;
         for place in (0..self.visits.len()).rev() {
             let Some(visit) = self.visits.get_mut(place) else {
@@ -118,7 +133,7 @@ impl Reception {
             let going = visit.step(self.alloc, desk, &self.guard);
             self.stirs = self.stirs || going == Going::On;
             if is_late || going == Going::Over {
-                self.let_go(place);
+                self.let_go(place, log);
             }
         }
     }

@@ -1,6 +1,8 @@
 //! Sockets, and the one wait for them.
 
 use crate::reception::{Reception, VISIT, VISITORS};
+use log::Log;
+use lw_metrics::Responses;
 use lw_reg::Addr;
 use lw_run::{Front, Heard};
 use lw_target::Desk;
@@ -22,8 +24,9 @@ const EVENTS: usize = 32;
 
 /// A UDP socket that never waits itself, a listener for visitors where there is one, and what waits for them.
 #[derive(Drop)]
-pub struct Sockets<'a, C: Clock> {
+pub struct Sockets<'a, C: Clock, L: Log> {
     clock: &'a C,
+    log: &'a L,
     alloc: Global,
     poll: Poll,
     events: Events<Global>,
@@ -31,14 +34,15 @@ pub struct Sockets<'a, C: Clock> {
     reception: Option<Reception>,
 }
 
-impl<'a, C: Clock> Sockets<'a, C> {
-    /// Binds a UDP socket at the address.
+impl<'a, C: Clock, L: Log> Sockets<'a, C, L> {
+    /// Binds a UDP socket at the address. Of visitors a line is logged.
     pub fn bind<N: Net>(
         net: &N,
         clock: &'a C,
+        log: &'a L,
         alloc: Global,
         address: SocketAddr,
-    ) -> io::Result<Sockets<'a, C>> {
+    ) -> io::Result<Sockets<'a, C, L>> {
         let poll = Poll::new(net)?;
         let events = Events::with_capacity(alloc, EVENTS)?;
         let mut datagrams = UdpSocket::bind(net, address)?;
@@ -46,6 +50,7 @@ impl<'a, C: Clock> Sockets<'a, C> {
             .register(&mut datagrams, DATAGRAMS, Interest::READABLE)?;
         Ok(Sockets {
             clock,
+            log,
             alloc,
             poll,
             events,
@@ -97,7 +102,7 @@ impl<'a, C: Clock> Sockets<'a, C> {
         self.look(Duration::ZERO)?;
         let now = self.now()?;
         if let Some(reception) = &mut self.reception {
-            reception.receive(&self.poll, now, desk);
+            reception.receive(&self.poll, now, desk, self.log);
         }
         Ok(())
     }
@@ -119,7 +124,7 @@ impl<'a, C: Clock> Sockets<'a, C> {
     }
 }
 
-impl<C: Clock> Front for Sockets<'_, C> {
+impl<C: Clock, L: Log> Front for Sockets<'_, C, L> {
     fn attend<D: Desk>(
         &mut self,
         desk: &D,
@@ -152,6 +157,13 @@ impl<C: Clock> Front for Sockets<'_, C> {
         match self.datagrams.send_to(bytes, socket_address_of(&to)) {
             Ok(count) if count == bytes.len() => Ok(()),
             _ => Err(WireFault),
+        }
+    }
+
+    fn responses(&self) -> Responses {
+        match &self.reception {
+            Some(reception) => reception.responses,
+            None => Responses::new(),
         }
     }
 }

@@ -1,24 +1,39 @@
 //! A connection of a visitor.
 
+use crate::asked_line::AskedLine;
 use http_server::Connection;
+use log::{Log, info};
 use lw_target::Desk;
 use lw_visit::{Guard, advance, new_connection};
 use mio::net::TcpStream;
 use std::alloc::Global;
 use std::hash::RandomState;
-use std::io::ErrorKind;
+use std::io::{self, ErrorKind, Read};
+use std::net::SocketAddr;
 use std::time::Instant;
 
 /// How often a visit reads or writes before others have their turn.
 const STEPS: u32 = 8;
 
+/// How many bytes are read at once, for which a connection always has room.
+const AT_ONCE: usize = 4096;
+
+/// What may go before a response (RFC 9110, section 15.2.1).
+const CONTINUE: &[u8] = b"HTTP/1.1 100 Continue\r\n\r\n";
+
 /// A connection that is answered.
 #[derive(Drop)]
 pub(crate) struct Visit {
     stream: TcpStream,
+    peer: SocketAddr,
     connection: Connection,
     /// When it came.
     pub(crate) began: Instant,
+    asked: AskedLine,
+    /// The status of the response, once there is one.
+    pub(crate) status: Option<u16>,
+    /// How many bytes were sent.
+    sent: usize,
 }
 
 /// How a visit goes on.
@@ -37,12 +52,17 @@ impl Visit {
         alloc: Global,
         keys: RandomState,
         stream: TcpStream,
+        peer: SocketAddr,
         began: Instant,
     ) -> Visit {
         Visit {
             stream,
+            peer,
             connection: new_connection(alloc, keys),
             began,
+            asked: AskedLine::new(),
+            status: None,
+            sent: 0,
         }
     }
 
@@ -68,14 +88,47 @@ impl Visit {
     /// Reads or writes once. It tells how the visit goes on, where that can be told.
     fn moved(&mut self) -> Option<Going> {
         let moved = if self.connection.wants_write() {
-            self.connection.write_to(&mut self.stream)
+            self.write()
         } else {
-            self.connection.read_from(&mut self.stream)
+            self.read()
         };
         match moved {
-            Ok(_count) => None,
+            Ok(()) => None,
             Err(error) if error.kind() == ErrorKind::WouldBlock => Some(Going::Waits),
             Err(_) => Some(Going::Over),
         }
     }
+
+    fn read(&mut self) -> io::Result<()> {
+        let mut room = [0; AT_ONCE];
+        let count = self.stream.read(&mut room)?;
+        let mut bytes = &room[..count.min(AT_ONCE)];
+        self.asked.note(bytes);
+        self.connection.read_from(&mut bytes)?;
+        Ok(())
+    }
+
+    fn write(&mut self) -> io::Result<()> {
+        self.status = self.status.or(status_of(self.connection.output()));
+        let count = self.connection.write_to(&mut self.stream)?;
+        self.sent = self.sent.saturating_add(count);
+        Ok(())
+    }
+
+    /// Tells of the request, if it was answered.
+    pub(crate) fn tell<L: Log>(&self, log: &L) {
+        let Some(status) = self.status else {
+            return;
+        };
+        let (peer, bytes) = (self.peer, self.sent);
+        let (method, target) = (&self.asked.method, &self.asked.target);
+        info!(log; "http peer={peer} method={method} target={target} status={status} bytes={bytes}");
+    }
+}
+
+/// The status of the response that is sent next (RFC 9112, section 4).
+fn status_of(output: &[u8]) -> Option<u16> {
+    let response = output.strip_prefix(CONTINUE).unwrap_or(output);
+    let digits = response.get(b"HTTP/1.1 ".len()..b"HTTP/1.1 200".len())?;
+    str::from_utf8(digits).ok()?.parse().ok()
 }

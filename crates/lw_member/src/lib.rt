@@ -19,3 +19,4 @@ pub use lw_log::{DeltaLog, FleetId, LogFault, Position, Start};
 pub use lw_node::Node;
 pub use lw_stamp::Moment;
 pub use member::Member;
+pub use size::LogSize;

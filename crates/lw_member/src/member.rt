@@ -12,7 +12,7 @@ use crate::compaction::compact;
 use crate::looking::look;
 use crate::rounds::{catch_up, round};
 use crate::standing::Standing;
-use crate::{Chance, MemberFault};
+use crate::{Chance, LogSize, MemberFault};
 use lw_call::{Call, Reply};
 use lw_log::{DeltaLog, FleetId, Start};
 use lw_node::Node;
@@ -152,6 +152,14 @@ impl<G: DeltaLog> Member<G> {
         ensures { G.calls result.now ≡ self.now.calls }
     {
         &self.log
+    }
+
+    /// How many bytes its log has, as far as it was read and written.
+    pub fn log_size(&self) -> LogSize
+        ensures whole { result.whole ≡ self.now.whole }
+        ensures behind { result.behind ≡ self.now.behind }
+    {
+        self.standing.size
     }
 
     /// Whether the log has told that the number is its own.

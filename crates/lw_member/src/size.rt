@@ -15,8 +15,8 @@ const LEAST_BEHIND: u64 = 16 << 20;
 const WHOLES: u64 = 4;
 
 /// How many bytes the entries of a log have.
-#[derive(Clone, Copy)]
-pub(crate) struct LogSize {
+#[derive(Clone, Copy, Debug)]
+pub struct LogSize {
     /// Of the last whole entry: 0 where there is none.
     pub whole: u64,
     /// Of the entries behind it.

@@ -1,6 +1,5 @@
 -- The text format of Prometheus, version 0.0.4: of each family two lines that begin with `#`, and a line for each sample.
 use Rattle.std.specs.Prelude.{ℕ, List, [], ◌∷◌, ◌++◌, ◌==◌, if◌then◌else◌, codes, flat_map, Option, Some, None}
-use Rattle.std.specs.Fmt.{decimal}
 use Rattle.lw_metrics.specs.declared.metric.Metric.{Metric}
 use Rattle.lw_metrics.specs.Metrics.{name_of, help_of, kind_of}
 
@@ -9,9 +8,11 @@ pub record Label : Type 0 where
   pub name : List ℕ
   pub value : List ℕ
 
+-- what stands behind the metric's name, a label or none, and the number as it is written
 pub record Sample : Type 0 where
+  pub suffix : List ℕ
   pub label : Option Label
-  pub number : ℕ
+  pub value : List ℕ
 
 -- a metric with its samples
 pub record Family : Type 0 where
@@ -33,7 +34,8 @@ label_text None = []
 label_text (Some label) = codes "{" ++ (label.name ++ (codes "=\"" ++ (escaped label.value ++ codes "\"}")))
 
 unfoldable pub sample_text : Metric → Sample → List ℕ
-sample_text metric sample = name_of metric ++ (label_text sample.label ++ (codes " " ++ (decimal sample.number ++ codes "\n")))
+sample_text metric sample =
+    name_of metric ++ (sample.suffix ++ (label_text sample.label ++ (codes " " ++ (sample.value ++ codes "\n"))))
 
 unfoldable pub help_text : Metric → List ℕ
 help_text metric = codes "# HELP " ++ (name_of metric ++ (codes " " ++ (help_of metric ++ codes "\n")))

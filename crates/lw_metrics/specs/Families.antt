@@ -1,21 +1,49 @@
 -- What is shown of the measures of a server.
-use Rattle.std.specs.Prelude.{ℕ, ◌/◌, List, [], ◌∷◌, ◌++◌, codes, map, if◌then◌else◌, Option, Some, None}
+use Rattle.std.specs.Prelude.{ℕ, ◌/◌, ◌%◌, List, [], ◌∷◌, ◌++◌, codes, fold, map, if◌then◌else◌, Option, Some, None}
 use Rattle.std.specs.List.{zip}
+use Rattle.std.specs.Fmt.{decimal}
 use Rattle.lw_stamp.specs.Moment.{ms_of}
+use Rattle.lw_metrics.specs.declared.append_times.AppendTimes.{AppendTimes}
+use Rattle.lw_metrics.specs.declared.edge.LogUse.{LogUse}
+use Rattle.lw_metrics.specs.declared.edge.Edge.{Edge}
 use Rattle.lw_metrics.specs.declared.measures.Measures.{Measures}
 use Rattle.lw_metrics.specs.declared.measures.NodeMeasures.{NodeMeasures}
 use Rattle.lw_metrics.specs.declared.metric.Metric.{Metric}
-use Rattle.lw_metrics.specs.declared.metric.Metric.TheVariants.{BuildInfo, StartTime, Registrations, StampClock, Change, Number, Rounds, Datagrams, Replies, EmptyReplies, Unanswered, Notifications, Swept, NoMemory, PassedOver, LogAway}
+use Rattle.lw_metrics.specs.declared.metric.Metric.TheVariants.{BuildInfo, StartTime, Registrations, StampClock, Change, Number, Rounds, Datagrams, Replies, EmptyReplies, Unanswered, Notifications, Swept, NoMemory, PassedOver, LogAway, AppendSeconds, EntriesWritten, EntriesRead, LogBytes, WholeBytes, Compactions, AwaySeconds, ReceiveFaults, SendFaults, Dropped, Duplicates, Blocks, Bodies, Responses}
+use Rattle.lw_metrics.specs.declared.responses.Responses.{Responses as ResponseCounts}
 use Rattle.lw_metrics.specs.declared.tally.Tally.{Tally}
+use Rattle.lw_metrics.specs.Edge.{statuses, together}
 use Rattle.lw_metrics.specs.Exposition.{Sample, Family}
 use Rattle.lw_metrics.specs.ReplyCodes.{reply_codes, code_text}
 
--- one sample without a label
-abbrev pub of_number : Metric → ℕ → Family
-of_number metric number = record { metric = metric; samples = record { label = None; number = number } ∷ [] }
+-- ---- samples
+abbrev pub plain : List ℕ → Sample
+plain value = record { suffix = []; label = None; value = value }
+
+abbrev pub suffixed : List ℕ → List ℕ → List ℕ → ℕ → Sample
+suffixed suffix name value number =
+    record { suffix = suffix; label = Some (record { name = name; value = value }); value = decimal number }
 
 abbrev pub labelled : List ℕ → List ℕ → ℕ → Sample
-labelled name value number = record { label = Some (record { name = name; value = value }); number = number }
+labelled = suffixed []
+
+-- one sample without a label
+abbrev pub of_number : Metric → ℕ → Family
+of_number metric number = record { metric = metric; samples = plain (decimal number) ∷ [] }
+
+-- microseconds are told as seconds, with six digits behind the point
+unfoldable pub seconds_text : ℕ → List ℕ
+seconds_text microseconds =
+    decimal (microseconds / 1000000)
+    ++ (46 ∷ (decimal (microseconds / 100000 % 10)
+    ++ (decimal (microseconds / 10000 % 10)
+    ++ (decimal (microseconds / 1000 % 10)
+    ++ (decimal (microseconds / 100 % 10)
+    ++ (decimal (microseconds / 10 % 10)
+    ++ decimal (microseconds % 10)))))))
+
+abbrev pub of_seconds : Metric → ℕ → Family
+of_seconds metric microseconds = record { metric = metric; samples = plain (seconds_text microseconds) ∷ [] }
 
 abbrev pub version_family : List ℕ → Family
 version_family version = record { metric = BuildInfo; samples = labelled (codes "version") version 1 ∷ [] }
@@ -27,6 +55,44 @@ reply_sample reply = labelled (codes "code") (code_text reply.0) reply.1
 abbrev pub reply_family : List ℕ → Family
 reply_family numbers = record { metric = Replies; samples = map reply_sample (zip reply_codes numbers) }
 
+-- how many responses have a status
+abbrev pub response_sample : ℕ × ℕ → Sample
+response_sample response = labelled (codes "status") (decimal response.0) response.1
+
+abbrev pub response_family : ResponseCounts → Family
+response_family responses =
+    record { metric = Responses; samples = map response_sample (zip statuses responses.counts) }
+
+-- ---- a histogram (Prometheus text format 0.0.4, "Histograms and summaries"): how many took no longer than each bound,
+-- so that the numbers rise; how many there are; and then what they are together, and how many
+abbrev pub bound_texts : List (List ℕ)
+bound_texts =
+    codes "0.0005" ∷ codes "0.001" ∷ codes "0.002" ∷ codes "0.005" ∷ codes "0.01" ∷ codes "0.02" ∷ codes "0.05"
+    ∷ codes "0.1" ∷ codes "0.2" ∷ codes "0.5" ∷ codes "1" ∷ codes "2" ∷ codes "5" ∷ codes "+Inf" ∷ []
+
+-- each number with all before it
+abbrev pub sums : ℕ → List ℕ → List ℕ
+sums before [] = []
+sums before (count ∷ counts) = together before count ∷ sums (together before count) counts
+
+abbrev pub bucket_sample : List ℕ × ℕ → Sample
+bucket_sample bucket = suffixed (codes "_bucket") (codes "le") bucket.0 bucket.1
+
+abbrev pub sum_sample : ℕ → Sample
+sum_sample microseconds = record { suffix = codes "_sum"; label = None; value = seconds_text microseconds }
+
+abbrev pub count_sample : ℕ → Sample
+count_sample count = record { suffix = codes "_count"; label = None; value = decimal count }
+
+abbrev pub histogram_samples : AppendTimes → List Sample
+histogram_samples times =
+    map bucket_sample (zip bound_texts (sums 0 times.counts))
+    ++ (sum_sample times.microseconds ∷ count_sample (fold together 0 times.counts) ∷ [])
+
+abbrev pub histogram_family : AppendTimes → Family
+histogram_family times = record { metric = AppendSeconds; samples = histogram_samples times }
+
+-- ---- what is shown
 -- the start is told in seconds
 abbrev pub start_families : Measures → List Family
 start_families measures =
@@ -62,11 +128,50 @@ further_families tally =
     ∷ of_number NoMemory tally.no_memory
     ∷ []
 
+-- what went wrong
 abbrev pub failure_families : Measures → List Family
 failure_families measures =
     of_number PassedOver measures.passed_over
     ∷ of_number LogAway (if measures.away then 1 else 0)
     ∷ []
+
+-- what the log was asked
+abbrev pub use_families : LogUse → List Family
+use_families log =
+    histogram_family log.appends
+    ∷ of_number EntriesWritten log.entries_written
+    ∷ of_number EntriesRead log.entries_read
+    ∷ []
+
+-- what stands in it, and whether it was there
+abbrev pub log_families : Measures → List Family
+log_families measures =
+    of_number LogBytes measures.log_bytes
+    ∷ of_number WholeBytes measures.log_whole_bytes
+    ∷ of_number Compactions measures.edge.compactions
+    ∷ of_seconds AwaySeconds measures.edge.away
+    ∷ []
+
+-- what failed in what datagrams come over
+abbrev pub fault_families : Edge → List Family
+fault_families edge =
+    of_number ReceiveFaults edge.receive_faults
+    ∷ of_number SendFaults edge.send_faults
+    ∷ of_number Dropped edge.dropped
+    ∷ []
+
+-- what was answered beside the rounds: datagrams that came again, blocks of bodies, visitors
+abbrev pub answered_families : Measures → List Family
+answered_families measures =
+    of_number Duplicates measures.duplicates
+    ∷ of_number Blocks measures.blocks
+    ∷ of_number Bodies measures.bodies
+    ∷ response_family measures.edge.responses
+    ∷ []
+
+-- of what datagrams come over, and of visitors
+abbrev pub front_families : Measures → List Family
+front_families measures = fault_families measures.edge ++ answered_families measures
 
 abbrev pub families_of : Measures → List Family
 families_of measures =
@@ -74,4 +179,7 @@ families_of measures =
     ++ (node_families measures.node
     ++ (datagram_families measures.tally
     ++ (further_families measures.tally
-    ++ failure_families measures)))
+    ++ (failure_families measures
+    ++ (use_families measures.edge.log
+    ++ (log_families measures
+    ++ front_families measures))))))

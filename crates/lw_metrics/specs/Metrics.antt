@@ -1,7 +1,7 @@
--- The metrics that are shown: their names, what is said of them, and whether they only rise.
+-- The metrics that are shown: their names, what is said of them, and their types.
 use Rattle.std.specs.Prelude.{ℕ, List, codes}
 use Rattle.lw_metrics.specs.declared.metric.Metric.{Metric}
-use Rattle.lw_metrics.specs.declared.metric.Metric.TheVariants.{BuildInfo, StartTime, Registrations, StampClock, Change, Number, Rounds, Datagrams, Replies, EmptyReplies, Unanswered, Notifications, Swept, NoMemory, PassedOver, LogAway}
+use Rattle.lw_metrics.specs.declared.metric.Metric.TheVariants.{BuildInfo, StartTime, Registrations, StampClock, Change, Number, Rounds, Datagrams, Replies, EmptyReplies, Unanswered, Notifications, Swept, NoMemory, PassedOver, LogAway, AppendSeconds, EntriesWritten, EntriesRead, LogBytes, WholeBytes, Compactions, AwaySeconds, ReceiveFaults, SendFaults, Dropped, Duplicates, Blocks, Bodies, Responses}
 
 unfoldable pub name_of : Metric → List ℕ
 name_of BuildInfo = codes "fleet_build_info"
@@ -20,6 +20,20 @@ name_of Swept = codes "fleet_swept_total"
 name_of NoMemory = codes "fleet_no_memory_total"
 name_of PassedOver = codes "fleet_passed_over_total"
 name_of LogAway = codes "fleet_log_away"
+name_of AppendSeconds = codes "fleet_log_append_seconds"
+name_of EntriesWritten = codes "fleet_log_entries_written_total"
+name_of EntriesRead = codes "fleet_log_entries_read_total"
+name_of LogBytes = codes "fleet_log_bytes"
+name_of WholeBytes = codes "fleet_log_whole_bytes"
+name_of Compactions = codes "fleet_log_compactions_total"
+name_of AwaySeconds = codes "fleet_log_away_seconds_total"
+name_of ReceiveFaults = codes "fleet_receive_faults_total"
+name_of SendFaults = codes "fleet_send_faults_total"
+name_of Dropped = codes "fleet_dropped_total"
+name_of Duplicates = codes "fleet_duplicates_total"
+name_of Blocks = codes "fleet_blocks_total"
+name_of Bodies = codes "fleet_bodies"
+name_of Responses = codes "fleet_http_responses_total"
 
 unfoldable pub help_of : Metric → List ℕ
 help_of BuildInfo = codes "The version of the program."
@@ -38,6 +52,20 @@ help_of Swept = codes "Registrations that expired and were ended."
 help_of NoMemory = codes "Calls that failed for want of memory."
 help_of PassedOver = codes "Rounds that failed for want of memory."
 help_of LogAway = codes "Whether the log is away: 1, or 0."
+help_of AppendSeconds = codes "How long appends to the log took."
+help_of EntriesWritten = codes "Entries that were appended to the log."
+help_of EntriesRead = codes "Entries that were read from the log."
+help_of LogBytes = codes "Bytes of the last whole entry of the log, and of the entries behind it."
+help_of WholeBytes = codes "Bytes of the last whole entry of the log."
+help_of Compactions = codes "Compactions of the log."
+help_of AwaySeconds = codes "Seconds for which the log was away."
+help_of ReceiveFaults = codes "Faults in waiting for datagrams."
+help_of SendFaults = codes "Replies that could not be sent."
+help_of Dropped = codes "Datagrams that were passed over since the log was away."
+help_of Duplicates = codes "Datagrams that came again and got the same reply."
+help_of Blocks = codes "Datagrams that were blocks of bodies."
+help_of Bodies = codes "Bodies whose blocks have not all come."
+help_of Responses = codes "Responses over HTTP, by status."
 
 -- a counter only rises, until the program is started again
 unfoldable pub kind_of : Metric → List ℕ
@@ -48,4 +76,8 @@ kind_of StampClock = codes "gauge"
 kind_of Change = codes "gauge"
 kind_of Number = codes "gauge"
 kind_of LogAway = codes "gauge"
+kind_of LogBytes = codes "gauge"
+kind_of WholeBytes = codes "gauge"
+kind_of Bodies = codes "gauge"
+kind_of AppendSeconds = codes "histogram"
 kind_of _ = codes "counter"

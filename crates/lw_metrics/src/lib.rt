@@ -3,15 +3,22 @@
 //! Nothing is asked, read or written here.
 #![tactic(auto)]
 
+mod append_times;
+mod edge;
 mod escaping;
 mod family;
+mod histogram;
 mod measures;
 mod metric;
 mod reply_codes;
+mod responses;
 mod tally;
 mod text;
 
+pub use append_times::AppendTimes;
+pub use edge::{Edge, LogUse};
 pub use measures::{Measures, NodeMeasures};
 pub use reply_codes::REPLY_CODES;
+pub use responses::{Responses, STATUSES};
 pub use tally::Tally;
 pub use text::metrics_text;

@@ -1,4 +1,4 @@
-use crate::Tally;
+use crate::{Edge, Tally};
 use lw_stamp::Moment;
 
 /// What is shown of a server.
@@ -15,6 +15,17 @@ pub struct Measures {
     pub passed_over: u64,
     /// Whether the log is away.
     pub away: bool,
+    /// How many bytes the last whole entry of the log has, with the entries behind it.
+    pub log_bytes: u64,
+    /// How many bytes the last whole entry has.
+    pub log_whole_bytes: u64,
+    pub edge: Edge,
+    /// How many datagrams came again and got the same reply.
+    pub duplicates: u64,
+    /// How many datagrams were blocks of bodies, and were answered as such.
+    pub blocks: u64,
+    /// How many bodies are kept whose blocks have not all come.
+    pub bodies: u64,
 }
 
 /// What is shown of a node.

@@ -20,6 +20,20 @@ pub(crate) enum Metric {
     NoMemory,
     PassedOver,
     LogAway,
+    AppendSeconds,
+    EntriesWritten,
+    EntriesRead,
+    LogBytes,
+    WholeBytes,
+    Compactions,
+    AwaySeconds,
+    ReceiveFaults,
+    SendFaults,
+    Dropped,
+    Duplicates,
+    Blocks,
+    Bodies,
+    Responses,
 }
 
 impl Metric {
@@ -44,6 +58,20 @@ impl Metric {
             Metric::NoMemory => "fleet_no_memory_total",
             Metric::PassedOver => "fleet_passed_over_total",
             Metric::LogAway => "fleet_log_away",
+            Metric::AppendSeconds => "fleet_log_append_seconds",
+            Metric::EntriesWritten => "fleet_log_entries_written_total",
+            Metric::EntriesRead => "fleet_log_entries_read_total",
+            Metric::LogBytes => "fleet_log_bytes",
+            Metric::WholeBytes => "fleet_log_whole_bytes",
+            Metric::Compactions => "fleet_log_compactions_total",
+            Metric::AwaySeconds => "fleet_log_away_seconds_total",
+            Metric::ReceiveFaults => "fleet_receive_faults_total",
+            Metric::SendFaults => "fleet_send_faults_total",
+            Metric::Dropped => "fleet_dropped_total",
+            Metric::Duplicates => "fleet_duplicates_total",
+            Metric::Blocks => "fleet_blocks_total",
+            Metric::Bodies => "fleet_bodies",
+            Metric::Responses => "fleet_http_responses_total",
         }
     }
 
@@ -68,6 +96,22 @@ impl Metric {
             Metric::NoMemory => "Calls that failed for want of memory.",
             Metric::PassedOver => "Rounds that failed for want of memory.",
             Metric::LogAway => "Whether the log is away: 1, or 0.",
+            Metric::AppendSeconds => "How long appends to the log took.",
+            Metric::EntriesWritten => "Entries that were appended to the log.",
+            Metric::EntriesRead => "Entries that were read from the log.",
+            Metric::LogBytes => {
+                "Bytes of the last whole entry of the log, and of the entries behind it."
+            }
+            Metric::WholeBytes => "Bytes of the last whole entry of the log.",
+            Metric::Compactions => "Compactions of the log.",
+            Metric::AwaySeconds => "Seconds for which the log was away.",
+            Metric::ReceiveFaults => "Faults in waiting for datagrams.",
+            Metric::SendFaults => "Replies that could not be sent.",
+            Metric::Dropped => "Datagrams that were passed over since the log was away.",
+            Metric::Duplicates => "Datagrams that came again and got the same reply.",
+            Metric::Blocks => "Datagrams that were blocks of bodies.",
+            Metric::Bodies => "Bodies whose blocks have not all come.",
+            Metric::Responses => "Responses over HTTP, by status.",
         }
     }
 
@@ -82,7 +126,11 @@ impl Metric {
             | Metric::StampClock
             | Metric::Change
             | Metric::Number
-            | Metric::LogAway => "gauge",
+            | Metric::LogAway
+            | Metric::LogBytes
+            | Metric::WholeBytes
+            | Metric::Bodies => "gauge",
+            Metric::AppendSeconds => "histogram",
             _ => "counter",
         }
     }

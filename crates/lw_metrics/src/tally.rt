@@ -129,7 +129,7 @@ impl Tally {
 }
 
 /// One more, up to 2^64 - 1.
-fn one_more(number: u64) -> u64
+pub(crate) fn one_more(number: u64) -> u64
     ensures { result ≡ one_more_of number }
 {
     number.saturating_add(1)

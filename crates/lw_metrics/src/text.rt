@@ -2,11 +2,12 @@
 
 ghost use Rattle.std.specs.Prelude.{◌≡◌, ◌++◌, IfOk, OnOk, string_bytes};
 ghost use Rattle.lw_metrics.specs.Exposition.{exposition};
-ghost use Rattle.lw_metrics.specs.Families.{datagram_families, failure_families, families_of, further_families, node_families, start_families};
+ghost use Rattle.lw_metrics.specs.Families.{answered_families, datagram_families, failure_families, families_of, fault_families, front_families, further_families, log_families, node_families, start_families, use_families};
 
-use crate::family::{put_number, put_replies, put_version};
+use crate::family::{put_number, put_replies, put_responses, put_seconds, put_version};
+use crate::histogram::put_histogram;
 use crate::metric::Metric;
-use crate::{Measures, NodeMeasures, Tally};
+use crate::{Edge, LogUse, Measures, NodeMeasures, Tally};
 use lw_stamp::NoMemory;
 use std::alloc::Global;
 
@@ -23,6 +24,9 @@ pub fn metrics_text(alloc: Global, measures: &Measures) -> Result<String, NoMemo
     put_datagrams(&mut text, alloc, &measures.tally)?;
     put_further(&mut text, &measures.tally)?;
     put_failures(&mut text, measures)?;
+    put_use(&mut text, alloc, &measures.edge.log)?;
+    put_log(&mut text, alloc, measures)?;
+    put_front(&mut text, alloc, measures)?;
     Ok(text)
 }
 
@@ -68,4 +72,49 @@ fn put_failures(text: &mut String, measures: &Measures) -> Result<(), NoMemory>
 {
     put_number(text, Metric::PassedOver, measures.passed_over)?;
     put_number(text, Metric::LogAway, u64::from(measures.away))
+}
+
+fn put_use(text: &mut String, alloc: Global, log: &LogUse) -> Result<(), NoMemory>
+    ensures { OnOk result (string_bytes text.new ≡ string_bytes text.old ++ exposition (use_families log.now)) }
+{
+    put_histogram(text, alloc, &log.appends)?;
+    put_number(text, Metric::EntriesWritten, log.entries_written)?;
+    put_number(text, Metric::EntriesRead, log.entries_read)
+}
+
+fn put_log(text: &mut String, alloc: Global, measures: &Measures) -> Result<(), NoMemory>
+    ensures { OnOk result (string_bytes text.new
+        ≡ string_bytes text.old ++ exposition (log_families measures.now)) }
+{
+    put_number(text, Metric::LogBytes, measures.log_bytes)?;
+    put_number(text, Metric::WholeBytes, measures.log_whole_bytes)?;
+    put_number(text, Metric::Compactions, measures.edge.compactions)?;
+    put_seconds(text, alloc, Metric::AwaySeconds, measures.edge.away)
+}
+
+fn put_front(text: &mut String, alloc: Global, measures: &Measures) -> Result<(), NoMemory>
+    ensures { OnOk result (string_bytes text.new
+        ≡ string_bytes text.old ++ exposition (front_families measures.now)) }
+{
+    put_faults(text, &measures.edge)?;
+    put_answered(text, alloc, measures)?;
+    Ok(())
+}
+
+fn put_faults(text: &mut String, edge: &Edge) -> Result<(), NoMemory>
+    ensures { OnOk result (string_bytes text.new ≡ string_bytes text.old ++ exposition (fault_families edge.now)) }
+{
+    put_number(text, Metric::ReceiveFaults, edge.receive_faults)?;
+    put_number(text, Metric::SendFaults, edge.send_faults)?;
+    put_number(text, Metric::Dropped, edge.dropped)
+}
+
+fn put_answered(text: &mut String, alloc: Global, measures: &Measures) -> Result<(), NoMemory>
+    ensures { OnOk result (string_bytes text.new
+        ≡ string_bytes text.old ++ exposition (answered_families measures.now)) }
+{
+    put_number(text, Metric::Duplicates, measures.duplicates)?;
+    put_number(text, Metric::Blocks, measures.blocks)?;
+    put_number(text, Metric::Bodies, measures.bodies)?;
+    put_responses(text, alloc, &measures.edge.responses)
 }

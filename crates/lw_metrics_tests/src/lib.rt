@@ -4,6 +4,8 @@
 #[cfg(test)]
 mod counting;
 #[cfg(test)]
+mod edge;
+#[cfg(test)]
 mod rounds;
 #[cfg(test)]
 mod showing;

@@ -1,12 +1,14 @@
 //! The whole text.
 
 use crate::shown::{check_count, check_line_at, measures_of};
-use lw_metrics::{Measures, NodeMeasures, Tally, metrics_text};
+use lw_metrics::{
+    AppendTimes, Edge, LogUse, Measures, NodeMeasures, Responses, Tally, metrics_text,
+};
 use lw_stamp::Moment;
 use std::test::Fail;
 
 /// The lines of a server that was started on 14 November 2023, at 22:13:20 and 999 ms.
-const LINES: [&str; 59] = [
+const LINES: [&str; 128] = [
     "# HELP fleet_build_info The version of the program.",
     "# TYPE fleet_build_info gauge",
     "fleet_build_info{version=\"0.1.0\"} 1",
@@ -66,6 +68,75 @@ const LINES: [&str; 59] = [
     "# HELP fleet_log_away Whether the log is away: 1, or 0.",
     "# TYPE fleet_log_away gauge",
     "fleet_log_away 1",
+    "# HELP fleet_log_append_seconds How long appends to the log took.",
+    "# TYPE fleet_log_append_seconds histogram",
+    "fleet_log_append_seconds_bucket{le=\"0.0005\"} 1",
+    "fleet_log_append_seconds_bucket{le=\"0.001\"} 1",
+    "fleet_log_append_seconds_bucket{le=\"0.002\"} 3",
+    "fleet_log_append_seconds_bucket{le=\"0.005\"} 3",
+    "fleet_log_append_seconds_bucket{le=\"0.01\"} 3",
+    "fleet_log_append_seconds_bucket{le=\"0.02\"} 3",
+    "fleet_log_append_seconds_bucket{le=\"0.05\"} 3",
+    "fleet_log_append_seconds_bucket{le=\"0.1\"} 3",
+    "fleet_log_append_seconds_bucket{le=\"0.2\"} 6",
+    "fleet_log_append_seconds_bucket{le=\"0.5\"} 6",
+    "fleet_log_append_seconds_bucket{le=\"1\"} 6",
+    "fleet_log_append_seconds_bucket{le=\"2\"} 6",
+    "fleet_log_append_seconds_bucket{le=\"5\"} 6",
+    "fleet_log_append_seconds_bucket{le=\"+Inf\"} 10",
+    "fleet_log_append_seconds_sum 61.000123",
+    "fleet_log_append_seconds_count 10",
+    "# HELP fleet_log_entries_written_total Entries that were appended to the log.",
+    "# TYPE fleet_log_entries_written_total counter",
+    "fleet_log_entries_written_total 31",
+    "# HELP fleet_log_entries_read_total Entries that were read from the log.",
+    "# TYPE fleet_log_entries_read_total counter",
+    "fleet_log_entries_read_total 32",
+    "# HELP fleet_log_bytes Bytes of the last whole entry of the log, and of the entries behind it.",
+    "# TYPE fleet_log_bytes gauge",
+    "fleet_log_bytes 33",
+    "# HELP fleet_log_whole_bytes Bytes of the last whole entry of the log.",
+    "# TYPE fleet_log_whole_bytes gauge",
+    "fleet_log_whole_bytes 34",
+    "# HELP fleet_log_compactions_total Compactions of the log.",
+    "# TYPE fleet_log_compactions_total counter",
+    "fleet_log_compactions_total 35",
+    "# HELP fleet_log_away_seconds_total Seconds for which the log was away.",
+    "# TYPE fleet_log_away_seconds_total counter",
+    "fleet_log_away_seconds_total 18446744073709.551615",
+    "# HELP fleet_receive_faults_total Faults in waiting for datagrams.",
+    "# TYPE fleet_receive_faults_total counter",
+    "fleet_receive_faults_total 36",
+    "# HELP fleet_send_faults_total Replies that could not be sent.",
+    "# TYPE fleet_send_faults_total counter",
+    "fleet_send_faults_total 37",
+    "# HELP fleet_dropped_total Datagrams that were passed over since the log was away.",
+    "# TYPE fleet_dropped_total counter",
+    "fleet_dropped_total 38",
+    "# HELP fleet_duplicates_total Datagrams that came again and got the same reply.",
+    "# TYPE fleet_duplicates_total counter",
+    "fleet_duplicates_total 39",
+    "# HELP fleet_blocks_total Datagrams that were blocks of bodies.",
+    "# TYPE fleet_blocks_total counter",
+    "fleet_blocks_total 40",
+    "# HELP fleet_bodies Bodies whose blocks have not all come.",
+    "# TYPE fleet_bodies gauge",
+    "fleet_bodies 54",
+    "# HELP fleet_http_responses_total Responses over HTTP, by status.",
+    "# TYPE fleet_http_responses_total counter",
+    "fleet_http_responses_total{status=\"200\"} 41",
+    "fleet_http_responses_total{status=\"400\"} 42",
+    "fleet_http_responses_total{status=\"401\"} 43",
+    "fleet_http_responses_total{status=\"404\"} 44",
+    "fleet_http_responses_total{status=\"405\"} 45",
+    "fleet_http_responses_total{status=\"410\"} 46",
+    "fleet_http_responses_total{status=\"413\"} 47",
+    "fleet_http_responses_total{status=\"414\"} 48",
+    "fleet_http_responses_total{status=\"421\"} 49",
+    "fleet_http_responses_total{status=\"431\"} 50",
+    "fleet_http_responses_total{status=\"500\"} 51",
+    "fleet_http_responses_total{status=\"501\"} 52",
+    "fleet_http_responses_total{status=\"503\"} 53",
 ];
 
 /// Where the lines of a node begin among them, and where they end.
@@ -96,6 +167,27 @@ fn tally() -> Tally {
     }
 }
 
+fn edge() -> Edge {
+    Edge {
+        log: LogUse {
+            appends: AppendTimes {
+                counts: [1, 0, 2, 0, 0, 0, 0, 0, 3, 0, 0, 0, 0, 4],
+                microseconds: 61_000_123,
+            },
+            entries_written: 31,
+            entries_read: 32,
+        },
+        compactions: 35,
+        away: u64::MAX,
+        receive_faults: 36,
+        send_faults: 37,
+        dropped: 38,
+        responses: Responses {
+            counts: [41, 42, 43, 44, 45, 46, 47, 48, 49, 50, 51, 52, 53],
+        },
+    }
+}
+
 fn measures(node: Option<NodeMeasures>) -> Result<Measures, Fail> {
     let started = Moment::new(1_700_000_000_999).ok_or("a moment")?;
     Ok(Measures {
@@ -105,6 +197,12 @@ fn measures(node: Option<NodeMeasures>) -> Result<Measures, Fail> {
         tally: tally(),
         passed_over: 28,
         away: true,
+        log_bytes: 33,
+        log_whole_bytes: 34,
+        edge: edge(),
+        duplicates: 39,
+        blocks: 40,
+        bodies: 54,
     })
 }
 
@@ -134,7 +232,7 @@ fn nothing_is_told_of_a_node_that_is_away(rt: HostRuntime) -> Result<(), Fail> {
 }
 
 /// The samples of a new tally.
-const NOTHING_YET: [&str; 23] = [
+const NOTHING_YET: [&str; 64] = [
     "fleet_build_info{version=\"0.1.0\"} 1",
     "fleet_start_time_seconds 0",
     "fleet_rounds_total 0",
@@ -158,6 +256,47 @@ const NOTHING_YET: [&str; 23] = [
     "fleet_no_memory_total 0",
     "fleet_passed_over_total 0",
     "fleet_log_away 0",
+    "fleet_log_append_seconds_bucket{le=\"0.0005\"} 0",
+    "fleet_log_append_seconds_bucket{le=\"0.001\"} 0",
+    "fleet_log_append_seconds_bucket{le=\"0.002\"} 0",
+    "fleet_log_append_seconds_bucket{le=\"0.005\"} 0",
+    "fleet_log_append_seconds_bucket{le=\"0.01\"} 0",
+    "fleet_log_append_seconds_bucket{le=\"0.02\"} 0",
+    "fleet_log_append_seconds_bucket{le=\"0.05\"} 0",
+    "fleet_log_append_seconds_bucket{le=\"0.1\"} 0",
+    "fleet_log_append_seconds_bucket{le=\"0.2\"} 0",
+    "fleet_log_append_seconds_bucket{le=\"0.5\"} 0",
+    "fleet_log_append_seconds_bucket{le=\"1\"} 0",
+    "fleet_log_append_seconds_bucket{le=\"2\"} 0",
+    "fleet_log_append_seconds_bucket{le=\"5\"} 0",
+    "fleet_log_append_seconds_bucket{le=\"+Inf\"} 0",
+    "fleet_log_append_seconds_sum 0.000000",
+    "fleet_log_append_seconds_count 0",
+    "fleet_log_entries_written_total 0",
+    "fleet_log_entries_read_total 0",
+    "fleet_log_bytes 0",
+    "fleet_log_whole_bytes 0",
+    "fleet_log_compactions_total 0",
+    "fleet_log_away_seconds_total 0.000000",
+    "fleet_receive_faults_total 0",
+    "fleet_send_faults_total 0",
+    "fleet_dropped_total 0",
+    "fleet_duplicates_total 0",
+    "fleet_blocks_total 0",
+    "fleet_bodies 0",
+    "fleet_http_responses_total{status=\"200\"} 0",
+    "fleet_http_responses_total{status=\"400\"} 0",
+    "fleet_http_responses_total{status=\"401\"} 0",
+    "fleet_http_responses_total{status=\"404\"} 0",
+    "fleet_http_responses_total{status=\"405\"} 0",
+    "fleet_http_responses_total{status=\"410\"} 0",
+    "fleet_http_responses_total{status=\"413\"} 0",
+    "fleet_http_responses_total{status=\"414\"} 0",
+    "fleet_http_responses_total{status=\"421\"} 0",
+    "fleet_http_responses_total{status=\"431\"} 0",
+    "fleet_http_responses_total{status=\"500\"} 0",
+    "fleet_http_responses_total{status=\"501\"} 0",
+    "fleet_http_responses_total{status=\"503\"} 0",
 ];
 
 /// Fails where the samples of the text are others than these.

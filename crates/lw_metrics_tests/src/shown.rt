@@ -1,6 +1,6 @@
 //! What is shown of a tally.
 
-use lw_metrics::{Measures, Tally, metrics_text};
+use lw_metrics::{Edge, Measures, Tally, metrics_text};
 use lw_stamp::Moment;
 use std::alloc::Global;
 use std::test::Fail;
@@ -14,6 +14,12 @@ pub(crate) fn measures_of(tally: Tally) -> Measures {
         tally,
         passed_over: 0,
         away: false,
+        log_bytes: 0,
+        log_whole_bytes: 0,
+        edge: Edge::new(),
+        duplicates: 0,
+        blocks: 0,
+        bodies: 0,
     }
 }
 
@@ -56,7 +62,18 @@ pub(crate) fn check_count(lines: usize, want: usize) -> Result<(), Fail> {
 
 /// Whether the line is a sample of a number above 0, and not that of the version.
 fn is_counted(line: &str) -> bool {
-    !line.starts_with('#') && !line.ends_with(" 0") && !line.starts_with("fleet_build_info")
+    !line.starts_with('#')
+        && !line.ends_with(" 0")
+        && !line.ends_with(" 0.000000")
+        && !line.starts_with("fleet_build_info")
+}
+
+/// Fails where the samples of what is counted at the edge whose numbers are above 0 are others than these.
+pub(crate) fn check_edge(alloc: Global, edge: Edge, want: &[&str]) -> Result<(), Fail> {
+    let mut measures = measures_of(Tally::new());
+    measures.edge = edge;
+    let text = metrics_text(alloc, &measures)?;
+    check_samples(&text, want)
 }
 
 /// Fails where the samples of the tally whose numbers are above 0 are others than these.

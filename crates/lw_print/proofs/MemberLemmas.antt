@@ -12,6 +12,7 @@ use Rattle.lw_stamp.specs.TextOrder.{text_cmp}
 use Rattle.lw_stamp.proofs.TextLemmas.{text_order}
 use Rattle.lw_join.specs.Entries.{AllAbove, Rises}
 use Rattle.lw_join.specs.EntriesLaws.{turned}
+use Rattle.lw_reg.specs.declared.path.Path.{Path}
 use Rattle.lw_reg.specs.declared.watch.Watch.{Watch}
 use Rattle.lw_reg.specs.Registration.{Registration}
 use Rattle.lw_call.specs.Contents.{NoticeContent}
@@ -19,7 +20,7 @@ use Rattle.lw_print.specs.declared.node.NodeNumbers.{NodeNumbers}
 use Rattle.lw_print.specs.declared.notice.NoticeMembers.{NoticeMembers}
 use Rattle.lw_print.specs.declared.registration.Members.{Members}
 use Rattle.lw_print.specs.declared.watch.WatchMembers.{WatchMembers}
-use Rattle.lw_print.specs.Json.{attributes_json, text_or_null, number_or_null, registration_json, page_json, watch_json, notice_json, node_json, health_json}
+use Rattle.lw_print.specs.Json.{attributes_json, text_or_null, number_or_null, registration_json, page_json, watch_json, observation_json, observations_json, notice_json, node_json, health_json}
 use Rattle.lw_print.specs.Changes.{Change, change_json, changes_json, registration_or_null}
 use Rattle.lw_print.specs.inner.Members.{members_json, TellsOf, watch_members_json, TellsOfWatch, notice_members_json, TellsOfNotice}
 
@@ -67,6 +68,18 @@ page_plain shown (Some text) = ap (λ b. b || false) (items_plain shown)
 number_plain : (n : Option ℕ) (rest : Bool) → has_float (number_or_null n) || rest ≡ rest
 number_plain None rest = refl
 number_plain (Some n) rest = refl
+
+observation_plain : (x : Registration × Watch) → has_float (observation_json x) ≡ false
+observation_plain x = number_plain x.1.accept false
+
+observed_plain : (watches : List (Registration × Watch)) → items_have_float (items_of (map observation_json watches)) ≡ false
+observed_plain [] = refl
+observed_plain (x ∷ watches) =
+    ap (λ b. b || items_have_float (items_of (map observation_json watches))) (observation_plain x) ∙ observed_plain watches
+
+pub observations_plain : (watches : List (Registration × Watch)) (next : Option Path) → has_float (observations_json watches next) ≡ false
+observations_plain watches None = ap (λ b. b || false) (observed_plain watches)
+observations_plain watches (Some path) = ap (λ b. b || false) (observed_plain watches)
 
 pub node_plain : (n : NodeNumbers) → has_float (node_json n) ≡ false
 node_plain n = number_plain n.number false

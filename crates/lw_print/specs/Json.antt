@@ -9,6 +9,7 @@ use Rattle.lw_stamp.specs.declared.stamp.Stamp.{Stamp}
 use Rattle.lw_stamp.specs.declared.moment.Moment.{Moment}
 use Rattle.lw_stamp.specs.Moment.{ms_of}
 use Rattle.lw_stamp.specs.Stamp.{id_of}
+use Rattle.lw_reg.specs.declared.path.Path.{Path}
 use Rattle.lw_reg.specs.declared.watch.Watch.{Watch}
 use Rattle.lw_reg.specs.Addr.{addr_text}
 use Rattle.lw_reg.specs.Binding.{binding_text}
@@ -64,6 +65,20 @@ watch_json r watch = object
     (member (codes "path") (string (path_text watch.path))
     (member (codes "token") (string (id_of watch.token))
     no_members)))))
+
+abbrev pub observation_json : Registration × Watch → Data
+observation_json observation = watch_json observation.0 observation.1
+
+abbrev pub path_or_null : Option Path → Data
+path_or_null (Some path) = string (path_text path)
+path_or_null None = null
+
+-- watches of a registration, and the path that the page behind goes on from
+abbrev pub observations_json : List (Registration × Watch) → Option Path → Data
+observations_json watches next = object
+    (member (codes "next") (path_or_null next)
+    (member (codes "observations") (array (items_of (map observation_json watches)))
+    no_members))
 
 -- a registration that has expired
 abbrev pub stale_json : List ℕ → Stamp → Data

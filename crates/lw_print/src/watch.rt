@@ -31,7 +31,7 @@ pub fn watch_text(alloc: Global, shown: &View<'_>, watch: &Watch) -> Result<Stri
 }
 
 #[tactic(auto, using(crate::proofs::MemberLemmas::json_of_watch))]
-fn watch_value(alloc: Global, shown: &View<'_>, watch: &Watch) -> Result<Value, NoMemory>
+pub(crate) fn watch_value(alloc: Global, shown: &View<'_>, watch: &Watch) -> Result<Value, NoMemory>
     ensures { IfOk result (λ value. view value ≡ watch_json shown.now watch.now) }
 {
     let members = watch_members(alloc, shown, watch)?;

@@ -1,2 +1,4 @@
-mod Sends
+mod Handling
+mod Keeping
+mod Sorting
 mod Turns

@@ -1,21 +1,31 @@
--- Turns without datagrams, and turns in which the member was not asked.
-use Rattle.std.specs.Prelude.{◌≡◌, ◌-◌, ◌*◌, ℕ, zero, suc, Bool, true, false, List, [], ◌∷◌, replicate, Option, None, Some, refl}
-use Rattle.std.proofs.Common.{sym, ap, subst}
+-- Turns without datagrams, turns in which the member was not asked, and what a turn comes to.
+use Rattle.std.specs.Prelude.{◌≡◌, ◌+◌, ◌-◌, ◌*◌, ◌^◌, min, ◌++◌, ◌&&◌, not, ℕ, Bool, List, [], ◌∷◌, length, map, filter_map, Option, None, Some, refl}
+use Rattle.std.specs.List.{list_any}
+use Rattle.std.proofs.Common.{sym, ap, ◌∙◌, subst}
 use Rattle.std.proofs.lemmas.List.{append-nil}
 use Rattle.lw_stamp.specs.declared.moment.Moment.{Moment}
 use Rattle.lw_stamp.specs.Moment.{ms_of}
 use Rattle.lw_reg.specs.declared.addr.Addr.{Addr}
 use Rattle.lw_wire.specs.declared.datagram.Datagram.{Datagram}
 use Rattle.lw_call.specs.declared.call.Call.{Call}
-use Rattle.lw_call.specs.declared.call.Call.TheVariants.{Sweep}
 use Rattle.lw_call.specs.declared.reply.Reply.{Reply}
+use Rattle.lw_exchange.specs.declared.exchange.Exchange.{Exchange}
+use Rattle.lw_exchange.specs.Kept.{BodyContent}
 use Rattle.lw_log.specs.Calls.{LogCall, Calls}
 use Rattle.lw_member.specs.Member.{MemberContent}
 use Rattle.lw_member.specs.Own.{WritesOwn}
 use Rattle.lw_member.specs.Rounds.{IsRound}
+use Rattle.lw_metrics.specs.declared.tally.Tally.{Tally}
 use Rattle.lw_metrics.specs.Counting.{counted}
-use Rattle.lw_run.specs.Server.{ServerContent}
-use Rattle.lw_run.specs.Turns.{calls_of, sends_of, IsTurn}
+use Rattle.lw_run.specs.declared.blocks.Handled.{Handled}
+use Rattle.lw_run.specs.declared.blocks.Origin.{Origin}
+use Rattle.lw_run.specs.declared.blocks.Sorted.{Sorted}
+use Rattle.lw_run.specs.Blocks.{Arrival, answered_of, datagram_of, origin_of, lacks_block, with_blocks, AreHandled, AreTaken, GoOn}
+use Rattle.lw_run.specs.Exchanges.{fresh_of, sent_again, exchanges_of, with_duplicates, with_unkept, Keeps}
+use Rattle.lw_run.specs.Server.{ServerContent, Stays}
+use Rattle.lw_run.specs.Turns.{sends_of, IsTurn, GoesOn}
+use Rattle.lw_run.specs.inner.Settling.{all_calls, Settles}
+use Rattle.lw_run.specs.inner.Sorting.{AreSorted}
 
 pub calls_none : (asked : Option (List LogCall)) → Calls asked asked []
 calls_none None = refl
@@ -25,45 +35,153 @@ calls_none (Some calls) = ap Some (sym (append-nil calls))
 pub writes_none : (member : MemberContent) → WritesOwn member member
 writes_none member = record { more = []; asked = calls_none member.calls; own = tt }
 
--- nothing is sent for Sweeps
-pub sends_of-sweeps : (count : ℕ) (before : Moment) (replies : List Reply) → sends_of (replicate count (Sweep before)) replies ≡ []
-sends_of-sweeps zero before replies = refl
-sends_of-sweeps (suc count) before [] = refl
-sends_of-sweeps (suc count) before (reply ∷ replies) = sends_of-sweeps count before replies
+-- what is sent stands behind what is sent again
+pub all_sent : (all reserved begun again behind : List (Addr × List ℕ)) → all ≡ reserved ++ behind → reserved ≡ begun ++ again → begun ≡ []
+    → all ≡ again ++ behind
+all_sent all reserved begun again behind is more none =
+    is ∙ ap (λ (s : List (Addr × List ℕ)). s ++ behind) (more ∙ ap (λ (s : List (Addr × List ℕ)). s ++ again) none)
 
-pub sends_of-tick : (now before : Moment) (claimed : Bool) (replies : List Reply) → sends_of (calls_of now before claimed []) replies ≡ []
-sends_of-tick now before false replies = refl
-sends_of-tick now before true replies = sends_of-sweeps 32 before replies
+-- as many are counted as there are more datagrams than fresh ones
+pub more_duplicates : (old new again count left : ℕ) (batch fresh : List Datagram) → new ≡ min (old + again) (2 ^ 64 - 1) → again ≡ count - left
+    → count ≡ length batch → left ≡ length fresh → new ≡ with_duplicates old batch fresh
+more_duplicates old new again count left batch fresh is less all some =
+    is ∙ ap (λ (n : ℕ). min (old + n) (2 ^ 64 - 1)) (less ∙ (λ k. all k - some k))
 
--- a round with the calls of a turn is the turn
-pub is_turn : (now before : Moment) (old mid new : ServerContent) (batch : List Datagram) (calls : List Call) (replies : List Reply) (sends : List (Addr × List ℕ))
-    → mid ≡ old → ms_of before ≡ ms_of now - 1000 * mid.skew → calls ≡ calls_of now before mid.member.claimed batch
-    → IsRound mid.member calls replies new.member → sends ≡ sends_of (calls_of now before mid.member.claimed batch) replies
-    → new.tally ≡ counted mid.tally calls replies → new.latest ≡ now
-    → IsTurn now old batch sends new
-is_turn now before old mid new batch calls replies sends same back are round sent counts latest =
+pub stays_from : (old mid new : ServerContent) → mid ≡ old → new.skew ≡ mid.skew → new.started ≡ mid.started → new.passed_over ≡ mid.passed_over
+    → new.page ≡ mid.page → new.edge ≡ mid.edge → Stays old new
+stays_from old mid new same skew started passed_over page edge =
+    subst (λ (server : ServerContent). Stays server new) same
+    (record { skew = skew; started = started; passed_over = passed_over; page = page; edge = edge })
+
+-- a server whose member is still as it was has put nothing into its log
+pub writes_none_from : (old mid : ServerContent) → mid ≡ old → WritesOwn old.member mid.member
+writes_none_from old mid same = subst (λ (server : ServerContent). WritesOwn server.member mid.member) same (writes_none mid.member)
+
+-- bodies that did not change went on by no datagram
+pub goes_nowhere : (now : Moment) (bodies : List BodyContent) (datagrams : List Datagram) → GoOn now bodies datagrams bodies
+goes_nowhere now bodies datagrams = record { front = []; rest = datagrams; are = refl; taken = refl }
+
+-- or they went on by all
+pub goes_all : (now : Moment) (old new : List BodyContent) (datagrams : List Datagram) (sorted : Sorted) → AreSorted now old datagrams sorted new
+    → GoOn now old datagrams new
+goes_all now old new datagrams sorted are = record {
+  front = are.arrivals;
+  rest = [];
+  are = sym are.are ∙ sym (append-nil (map datagram_of are.arrivals));
+  taken = are.taken;
+}
+
+none_in_front : (arrivals : List Arrival) (rest : List Datagram) → [] ≡ map datagram_of arrivals ++ rest → arrivals ≡ []
+none_in_front [] rest is = refl
+none_in_front (a ∷ arrivals) rest is = absurd (cc)
+
+pub stays_without : (now : Moment) (old new : List BodyContent) (datagrams : List Datagram) → datagrams ≡ [] → GoOn now old datagrams new → new ≡ old
+stays_without now old new datagrams none goes =
+    subst (λ (arrivals : List Arrival). AreTaken now old arrivals new) (none_in_front goes.front goes.rest (sym none ∙ goes.are)) goes.taken
+
+-- a round with the calls, and the Sweeps behind them
+pub settles_by : (before : Moment) (old new : MemberContent) (tally counts : Tally) (sorted : Sorted) (calls asked : List Call) (replies : List Reply) (start handled more : List Handled)
+    → calls ≡ all_calls before old.claimed sorted.calls.items → asked ≡ calls → IsRound old asked replies new
+    → counts ≡ counted tally asked replies → start ≡ sorted.handled.items → handled ≡ start ++ more
+    → AreHandled sorted.origins.items replies more → Settles before old tally sorted handled new counts
+settles_by before old new tally counts sorted calls asked replies start handled more are same round counted_are begun all answers =
+    let is = same ∙ are in
+    record {
+      replies = replies;
+      more = more;
+      round = subst (λ (cs : List Call). IsRound old cs replies new) is round;
+      counted_are = counted_are ∙ ap (λ (cs : List Call). counted tally cs replies) is;
+      handled_are = all ∙ ap (λ (hs : List Handled). hs ++ more) begun;
+      answers = answers;
+    }
+
+-- the bodies of a server go on from those that it had at first
+pub goes_on_by : (now : Moment) (old mid : ServerContent) (batch fresh : List Datagram) (bodies : List BodyContent) → mid ≡ old
+    → fresh ≡ fresh_of now mid.kept batch → GoOn now mid.bodies fresh bodies
+    → (x : Moment) × GoOn x old.bodies (fresh_of x old.kept batch) bodies
+goes_on_by now old mid batch fresh bodies same some goes = (
+  now,
+  subst (λ (server : ServerContent). GoOn now server.bodies (fresh_of now server.kept batch) bodies) same
+      (subst (λ (ds : List Datagram). GoOn now mid.bodies ds bodies) some goes),
+)
+
+-- what the code does comes to a turn
+pub is_turn : (now before : Moment) (old mid new : ServerContent) (batch fresh : List Datagram) (sorted : Sorted) (handled : List Handled) (sends : List (Addr × List ℕ)) (is_all lacks : Bool)
+    → mid ≡ old → ms_of before ≡ ms_of now - 1000 * mid.skew
+    → fresh ≡ fresh_of now mid.kept batch → AreSorted now mid.bodies fresh sorted new.bodies
+    → Settles before mid.member mid.tally sorted handled new.member new.tally
+    → sends ≡ sent_again now mid.kept batch ++ sends_of handled → Keeps mid.kept (exchanges_of now handled) new.kept is_all
+    → lacks ≡ list_any lacks_block handled → new.unkept ≡ with_unkept mid.unkept (is_all && not lacks)
+    → new.duplicates ≡ with_duplicates mid.duplicates batch fresh → new.blocks ≡ with_blocks mid.blocks sorted.handled.items sorted.origins.items
+    → new.latest ≡ now → IsTurn now old batch sends new
+is_turn now before old mid new batch fresh sorted handled sends is_all lacks same back some sorts settles sent keeps lack short more blocks latest =
+    let all = settles.handled_are ∙ ap (λ (hs : List Handled). hs ++ settles.more) sorts.sorted_are.handled in
+    let calls = ap (all_calls before mid.member.claimed) sorts.sorted_are.calls in
     subst (λ (server : ServerContent). IsTurn now server batch sends new) same
     (record {
       before = before;
-      replies = replies;
+      arrivals = sorts.arrivals;
+      replies = settles.replies;
+      handled = settles.more;
+      is_all_kept = is_all;
       before_is = back;
-      round = subst (λ (cs : List Call). IsRound mid.member cs replies new.member) are round;
-      sent = sent;
-      counts = subst (λ (cs : List Call). new.tally ≡ counted mid.tally cs replies) are counts;
+      fresh = sorts.are ∙ some;
+      bodies = sorts.taken;
+      round = subst (λ (cs : List Call). IsRound mid.member cs settles.replies new.member) calls settles.round;
+      answers = subst (λ (os : List Origin). AreHandled os settles.replies settles.more) sorts.sorted_are.origins settles.answers;
+      sent = sent ∙ ap (λ (hs : List Handled). sent_again now mid.kept batch ++ sends_of hs) all;
+      counts = settles.counted_are ∙ ap (λ (cs : List Call). counted mid.tally cs settles.replies) calls;
+      kept = subst (λ (hs : List Handled). Keeps mid.kept (exchanges_of now hs) new.kept is_all) all keeps;
+      unkept = short ∙ ap (λ (l : Bool). with_unkept mid.unkept (is_all && not l)) (lack ∙ ap (list_any lacks_block) all);
+      duplicates = more ∙ ap (with_duplicates mid.duplicates batch) some;
+      blocks = blocks ∙ ap (λ (hs : List Handled). with_blocks mid.blocks hs sorted.origins.items) sorts.sorted_are.handled
+          ∙ ap (with_blocks mid.blocks (filter_map answered_of sorts.arrivals)) sorts.sorted_are.origins;
       latest = latest;
     })
 
--- where nothing came, nothing is sent
+no_arrivals : (arrivals : List Arrival) → map datagram_of arrivals ≡ [] → arrivals ≡ []
+no_arrivals [] is = refl
+no_arrivals (a ∷ arrivals) is = absurd (cc)
+
+-- where nothing came, nothing is handled, and nothing is sent
+nothing_handled : (arrivals : List Arrival) (replies : List Reply) (handled : List Handled) → arrivals ≡ []
+    → AreHandled (filter_map origin_of arrivals) replies handled → filter_map answered_of arrivals ++ handled ≡ []
+nothing_handled [] replies [] none are = refl
+nothing_handled [] replies (h ∷ handled) none are = absurd are
+nothing_handled (a ∷ arrivals) replies handled none are = absurd (cc)
+
 pub is_tick : (now : Moment) (old new : ServerContent) (batch : List Datagram) (sends : List (Addr × List ℕ)) → batch ≡ []
     → IsTurn now old batch sends new → IsTurn now old [] [] new
 is_tick now old new batch sends none turn =
     let empty = subst (λ (b : List Datagram). IsTurn now old b sends new) none turn in
+    let nothing = nothing_handled empty.arrivals empty.replies empty.handled (no_arrivals empty.arrivals empty.fresh) empty.answers in
     record {
       before = empty.before;
+      arrivals = empty.arrivals;
       replies = empty.replies;
+      handled = empty.handled;
+      is_all_kept = empty.is_all_kept;
       before_is = empty.before_is;
+      fresh = empty.fresh;
+      bodies = empty.bodies;
       round = empty.round;
-      sent = sym (sends_of-tick now empty.before old.member.claimed empty.replies);
+      answers = empty.answers;
+      sent = sym (ap sends_of nothing);
       counts = empty.counts;
+      kept = empty.kept;
+      unkept = empty.unkept;
+      duplicates = empty.duplicates;
+      blocks = empty.blocks;
       latest = empty.latest;
     }
+
+-- a turn without datagrams changes no body
+pub tick_stays : (now : Moment) (old new : ServerContent) (batch : List Datagram) (sends : List (Addr × List ℕ)) → batch ≡ []
+    → IsTurn now old batch sends new → new.bodies ≡ old.bodies
+tick_stays now old new batch sends none turn =
+    let empty = subst (λ (b : List Datagram). IsTurn now old b sends new) none turn in
+    subst (λ (arrivals : List Arrival). AreTaken now old.bodies arrivals new.bodies) (no_arrivals empty.arrivals empty.fresh) empty.bodies
+
+pub tick_fails : (kept : List Exchange) (old new : List BodyContent) (batch : List Datagram) → batch ≡ []
+    → ((now : Moment) × GoOn now old (fresh_of now kept batch) new) → new ≡ old
+tick_fails kept old new batch none goes = stays_without goes.0 old new _ (ap (fresh_of goes.0 kept) none) goes.1

@@ -1,5 +1,5 @@
 -- What a server tells over HTTP (RFC 9110, section 15; RFC 8259).
-use Rattle.std.specs.Prelude.{◌≡◌, ◌≢◌, ℕ, Bool, true, false, not, List, Option, Some, None, IsSomeAnd, if◌then◌else◌, codes, string_bytes}
+use Rattle.std.specs.Prelude.{◌≡◌, ◌≢◌, ℕ, Bool, true, false, not, List, length, Option, Some, None, IsSomeAnd, if◌then◌else◌, codes, string_bytes}
 use Rattle.serde_json.specs.Written.{compact_text}
 use Rattle.lw_stamp.specs.Moment.{ms_of}
 use Rattle.lw_node.specs.Node.{NodeContent}
@@ -7,16 +7,17 @@ use Rattle.lw_member.specs.Member.{MemberContent}
 use Rattle.lw_print.specs.Json.{health_json}
 use Rattle.lw_metrics.specs.declared.measures.Measures.{Measures}
 use Rattle.lw_metrics.specs.declared.measures.NodeMeasures.{NodeMeasures}
+use Rattle.lw_metrics.specs.Edge.{together}
 use Rattle.lw_metrics.specs.Exposition.{exposition}
 use Rattle.lw_metrics.specs.Families.{families_of}
 use Rattle.lw_target.specs.declared.asked.Asked.{Asked}
-use Rattle.lw_target.specs.declared.asked.Asked.TheVariants.{Health, Metrics}
+use Rattle.lw_target.specs.declared.asked.Asked.TheVariants.{Page, Health, Metrics}
 use Rattle.lw_target.specs.declared.desk.Answer.{Answer}
 use Rattle.lw_target.specs.declared.desk.Media.TheVariants as media
 use Rattle.lw_target.specs.declared.desk.Status.{Status}
 use Rattle.lw_target.specs.declared.desk.Status.TheVariants as status
 use Rattle.lw_api.specs.declared.answering.About.{About}
-use Rattle.lw_api.specs.Answers.{CountsRegistrations, IsAnswer, IsJson}
+use Rattle.lw_api.specs.Answers.{CountsRegistrations, IsAnswer, IsJson, IsNotFound}
 use Rattle.lw_run.specs.Server.{ServerContent}
 
 abbrev pub version : List ℕ
@@ -34,6 +35,12 @@ health_status false = status.ServiceUnavailable
 abbrev pub TellsHealth : ServerContent → Answer → Type 0
 TellsHealth server =
     IsJson (health_status server.member.led) (compact_text (health_json server.latest server.member.led version))
+
+-- ---- the page, where there is one
+abbrev pub TellsPage : Option (List ℕ) → Answer → Type 0
+TellsPage None answer = IsNotFound answer
+TellsPage (Some page) answer =
+    (answer.status ≡ status.Ok) × ((answer.media ≡ media.Html) × (string_bytes answer.body ≡ page))
 
 -- ---- measures
 pub record AreOfNode (node : NodeContent) (measures : NodeMeasures) : Type 0 where
@@ -54,6 +61,12 @@ pub record AreMeasures (server : ServerContent) (measures : Measures) : Type 0 w
   pub tally : measures.tally ≡ server.tally
   pub passed_over : measures.passed_over ≡ server.passed_over
   pub away : measures.away ≡ not server.member.led
+  pub log_bytes : measures.log_bytes ≡ together server.member.whole server.member.behind
+  pub log_whole_bytes : measures.log_whole_bytes ≡ server.member.whole
+  pub edge : measures.edge ≡ server.edge
+  pub duplicates : measures.duplicates ≡ server.duplicates
+  pub blocks : measures.blocks ≡ server.blocks
+  pub bodies : measures.bodies ≡ length server.bodies
 
 pub record TellsMetrics (server : ServerContent) (answer : Answer) : Type 0 where
   pub measures : Measures
@@ -69,6 +82,7 @@ TellsOfNode true server asked answer =
 TellsOfNode false server asked answer = IsJson status.ServiceUnavailable (codes "{\"error\":\"away\"}") answer
 
 pub record TellsOf (server : ServerContent) (asked : Asked) (answer : Answer) : Type 0 where
+  pub page : asked ≡ Page → TellsPage server.page answer
   pub health : asked ≡ Health → TellsHealth server answer
   pub metrics : asked ≡ Metrics → TellsMetrics server answer
-  pub node : asked ≢ Health → asked ≢ Metrics → TellsOfNode server.member.led server asked answer
+  pub node : asked ≢ Page → asked ≢ Health → asked ≢ Metrics → TellsOfNode server.member.led server asked answer

@@ -1,7 +1,10 @@
 -- What contracts see of a server.
-use Rattle.std.specs.Prelude.{◌≡◌, ℕ}
+use Rattle.std.specs.Prelude.{◌≡◌, ℕ, List, Option}
 use Rattle.lw_stamp.specs.declared.moment.Moment.{Moment}
 use Rattle.lw_member.specs.Member.{MemberContent}
+use Rattle.lw_metrics.specs.declared.edge.Edge.{Edge}
+use Rattle.lw_exchange.specs.declared.exchange.Exchange.{Exchange}
+use Rattle.lw_exchange.specs.Kept.{BodyContent}
 use Rattle.lw_metrics.specs.declared.tally.Tally.{Tally}
 
 pub record ServerContent : Type 0 where
@@ -11,9 +14,25 @@ pub record ServerContent : Type 0 where
   pub latest : Moment  -- of the last turn, or of the start
   pub tally : Tally  -- of the rounds that gave replies
   pub passed_over : ℕ  -- how many turns failed for want of memory
+  pub page : Option (List ℕ)  -- what is told at `/`, if there is a page
+  pub edge : Edge  -- what is counted at the edge
+  pub kept : List Exchange  -- the last requests that were answered, with their replies
+  pub duplicates : ℕ  -- how many datagrams were requests that came again
+  pub unkept : ℕ  -- how many turns had no memory for all that they answered
+  pub bodies : List BodyContent  -- the bodies whose blocks have not all come
+  pub blocks : ℕ  -- how many datagrams were blocks that were answered without the store, or made a message whole
 
 -- what no turn changes
 pub record Stays (old new : ServerContent) : Type 0 where
   pub skew : new.skew ≡ old.skew
   pub started : new.started ≡ old.started
   pub passed_over : new.passed_over ≡ old.passed_over
+  pub page : new.page ≡ old.page
+  pub edge : new.edge ≡ old.edge
+
+-- no request that was answered is kept more, and none less
+pub record KeepsStill (old new : ServerContent) : Type 0 where
+  pub kept : new.kept ≡ old.kept
+  pub duplicates : new.duplicates ≡ old.duplicates
+  pub unkept : new.unkept ≡ old.unkept
+  pub blocks : new.blocks ≡ old.blocks

@@ -1,5 +1,6 @@
 -- What a turn of a server calls, and what it sends.
-use Rattle.std.specs.Prelude.{◌≡◌, ◌-◌, ◌*◌, ◌++◌, ℕ, Bool, cond, List, [], map, replicate, zip, filter_map, Option, None, option_map, Ok}
+use Rattle.std.specs.Prelude.{◌≡◌, ◌-◌, ◌*◌, ◌++◌, ◌&&◌, not, ℕ, Bool, cond, List, [], map, replicate, filter_map, Option, option_map}
+use Rattle.std.specs.List.{list_any}
 use Rattle.std.specs.declared.alloc.Global.{Global}
 use Rattle.std.specs.declared.vec.Vec.{Vec}
 use Rattle.lw_stamp.specs.declared.moment.Moment.{Moment}
@@ -9,41 +10,56 @@ use Rattle.lw_wire.specs.declared.datagram.Datagram.{Datagram}
 use Rattle.lw_call.specs.declared.call.Call.{Call}
 use Rattle.lw_call.specs.declared.call.Call.TheVariants as calls
 use Rattle.lw_call.specs.declared.reply.Reply.{Reply}
-use Rattle.lw_call.specs.declared.reply.Reply.TheVariants as replies
 use Rattle.lw_member.specs.Rounds.{IsRound}
 use Rattle.lw_metrics.specs.Counting.{counted}
+use Rattle.lw_run.specs.declared.blocks.Handled.{Handled}
+use Rattle.lw_run.specs.Blocks.{Arrival, datagram_of, AreTaken, call_of, origin_of, answered_of, reply_of, lacks_block, with_blocks, AreHandled, GoOn}
+use Rattle.lw_run.specs.Exchanges.{fresh_of, sent_again, exchanges_of, with_duplicates, with_unkept, Keeps}
 use Rattle.lw_run.specs.Server.{ServerContent}
 
 -- how many registrations that have expired end in a turn at most
 abbrev pub sweeps_a_turn : ℕ
 sweeps_a_turn = 32
 
-abbrev pub take_of : Moment → Datagram → Call
-take_of now datagram = calls.Take now datagram.from datagram.bytes
-
--- A Take of each datagram at the moment. Behind them, where the member has claimed its number, Sweeps at the moment before.
-abbrev pub calls_of : Moment → Moment → Bool → List Datagram → List Call
-calls_of now before claimed batch = map (take_of now) batch ++ cond claimed (replicate sweeps_a_turn (calls.Sweep before)) []
+-- The messages that the store takes, at the moment. Behind them, where the member has claimed its number, Sweeps at the
+-- moment before.
+abbrev pub calls_of : Moment → Moment → Bool → List Arrival → List Call
+calls_of now before claimed arrivals = filter_map (call_of now) arrivals ++ cond claimed (replicate sweeps_a_turn (calls.Sweep before)) []
 
 -- where something is sent, and its bytes
 abbrev pub sent : Addr × Vec ℕ Global → Addr × List ℕ
 sent send = (send.0, send.1.items)
 
--- where the reply goes, and its bytes, if it is one to a datagram that has one
-abbrev pub reply_to : Call → Reply → Option (Addr × List ℕ)
-reply_to (calls.Take now from bytes) (replies.Take (Ok taken)) = option_map (λ reply. (from, reply)) taken.reply
-reply_to call reply = None
+-- where the reply goes, and its bytes, if there is one
+abbrev pub send_of : Handled → Option (Addr × List ℕ)
+send_of handled = option_map (λ reply. (handled.from, reply)) (reply_of handled)
 
--- the replies to the Takes that have one, in order
-abbrev pub sends_of : List Call → List Reply → List (Addr × List ℕ)
-sends_of calls replies = filter_map (λ p. reply_to p.0 p.1) (zip calls replies)
+-- the replies, in order
+abbrev pub sends_of : List Handled → List (Addr × List ℕ)
+sends_of handled = filter_map send_of handled
 
--- One round of the member, which is counted. The Sweeps are at the moment less the seconds that clocks may differ.
+-- One round of the member, which is counted, with what the store takes of the datagrams that are fresh. What is sent are
+-- the replies to those that were answered before, those to blocks that are answered without the store, and those of the
+-- round. The Sweeps are at the moment less the seconds that clocks may differ.
 pub record IsTurn (now : Moment) (old : ServerContent) (batch : List Datagram) (sends : List (Addr × List ℕ)) (new : ServerContent) : Type 0 where
   pub before : Moment
+  pub arrivals : List Arrival
   pub replies : List Reply
+  pub handled : List Handled
+  pub is_all_kept : Bool
   pub before_is : ms_of before ≡ ms_of now - 1000 * old.skew
-  pub round : IsRound old.member (calls_of now before old.member.claimed batch) replies new.member
-  pub sent : sends ≡ sends_of (calls_of now before old.member.claimed batch) replies
-  pub counts : new.tally ≡ counted old.tally (calls_of now before old.member.claimed batch) replies
+  pub fresh : map datagram_of arrivals ≡ fresh_of now old.kept batch
+  pub bodies : AreTaken now old.bodies arrivals new.bodies
+  pub round : IsRound old.member (calls_of now before old.member.claimed arrivals) replies new.member
+  pub answers : AreHandled (filter_map origin_of arrivals) replies handled
+  pub sent : sends ≡ sent_again now old.kept batch ++ sends_of (filter_map answered_of arrivals ++ handled)
+  pub counts : new.tally ≡ counted old.tally (calls_of now before old.member.claimed arrivals) replies
+  pub kept : Keeps old.kept (exchanges_of now (filter_map answered_of arrivals ++ handled)) new.kept is_all_kept
+  pub unkept : new.unkept ≡ with_unkept old.unkept (is_all_kept && not (list_any lacks_block (filter_map answered_of arrivals ++ handled)))
+  pub duplicates : new.duplicates ≡ with_duplicates old.duplicates batch (fresh_of now old.kept batch)
+  pub blocks : new.blocks ≡ with_blocks old.blocks (filter_map answered_of arrivals) (filter_map origin_of arrivals)
   pub latest : new.latest ≡ now
+
+-- The bodies are those before, or those after some of the datagrams that are fresh, from the first on.
+abbrev pub GoesOn : ServerContent → List Datagram → ServerContent → Type 0
+GoesOn old batch new = (now : Moment) × GoOn now old.bodies (fresh_of now old.kept batch) new.bodies

@@ -1,46 +1,31 @@
 //! The calls of a turn.
 
-ghost use Rattle.std.specs.Prelude.{◌≡◌, ◌-◌, ◌*◌, ◌++◌, IfOk, OnOk, replicate};
+ghost use Rattle.std.specs.Prelude.{◌≡◌, ◌-◌, ◌*◌, ◌++◌, [], OnOk, cond, replicate};
 ghost use Rattle.lw_call.specs.declared.call.Call.TheVariants.{Sweep};
-ghost use Rattle.lw_run.specs.Turns.{calls_of as calls_in, sweeps_a_turn, take_of as take_in};
+ghost use Rattle.lw_run.specs.Turns.{sweeps_a_turn};
 ghost use Rattle.lw_stamp.specs.Moment.{ms_of};
 
 use lw_call::Call;
 use lw_stamp::{Moment, NoMemory};
-use lw_wire::Datagram;
-use std::alloc::Global;
 
 /// How many registrations that have expired end in a turn at most.
 const SWEEPS: u32 = 32;
 
-/// A Take of each datagram at the moment. Behind them, where the member sweeps, the Sweeps at the moment before.
-pub(crate) fn calls_of(
-    alloc: Global,
-    now: Moment,
+/// Puts the Sweeps of a turn behind the calls, where the member sweeps.
+pub(crate) fn put_sweeps_where(
+    calls: &mut Vec<Call>,
     before: Moment,
     sweeps: bool,
-    batch: Vec<Datagram>,
-) -> Result<Vec<Call>, NoMemory>
-    ensures { IfOk result (λ calls. calls.items ≡ calls_in now before sweeps batch.items) }
+) -> Result<(), NoMemory>
+    ensures { OnOk result (calls.new.items
+        ≡ calls.old.items ++ cond sweeps (replicate sweeps_a_turn (Sweep before)) []) }
 {
-    let mut calls = batch
-        .into_iter()
-        .map(|datagram| take_of(now, datagram))
-        .collect(alloc)?;
     if sweeps {
-        put_sweeps(&mut calls, before)?;
+        put_sweeps(calls, before)?;
     }
-    Ok(calls)
+    Ok(())
 }
 
-fn take_of(now: Moment, datagram: Datagram) -> Call
-    ensures { result ≡ take_in now datagram }
-{
-    let Datagram { from, bytes } = datagram;
-    Call::Take { now, from, bytes }
-}
-
-/// Puts the Sweeps of a turn behind the calls.
 fn put_sweeps(calls: &mut Vec<Call>, now: Moment) -> Result<(), NoMemory>
     ensures { OnOk result (calls.new.items ≡ calls.old.items ++ replicate sweeps_a_turn (Sweep now)) }
 {

@@ -4,11 +4,13 @@ ghost use Rattle.std.specs.Prelude.{◌≤◌, length, IfErr};
 
 use crate::receiving::{pass_over, receive};
 use crate::telling::Refusals;
-use crate::{Compaction, Front, RunFault, Server, TurnFault};
+use crate::{Compaction, Front, Metered, RunFault, Server, TurnFault};
 use log::{Log, info, warn};
 use lw_log::DeltaLog;
+use lw_metrics::Responses;
 use lw_reg::Addr;
-use lw_wire::HostClock;
+use lw_stamp::Moment;
+use lw_wire::{Datagram, HostClock};
 
 /// How many faults of the front, or turns without memory, in a row end a run.
 const FAULTS_IN_A_ROW: u32 = 1_000;
@@ -16,9 +18,12 @@ const FAULTS_IN_A_ROW: u32 = 1_000;
 /// How many turns after a compaction that was put off it is tried again.
 const TURNS_BETWEEN_COMPACTIONS: u32 = 1_000;
 
+/// How many microseconds a millisecond has.
+const MICROSECONDS: u64 = 1_000;
+
 /// A server, and how its last turns went.
 #[derive(Drop)]
-pub(crate) struct Course<G: DeltaLog, C: HostClock + Drop> {
+pub(crate) struct Course<G: DeltaLog + Metered, C: HostClock + Drop> {
     server: Server<G, C>,
     /// How many times in a row the front failed.
     faults: u32,
@@ -29,20 +34,26 @@ pub(crate) struct Course<G: DeltaLog, C: HostClock + Drop> {
     rest: u32,
     /// Whether the log is away.
     is_away: bool,
+    /// The moment of the last turn.
+    last: Moment,
     refusals: Refusals,
 }
 
-impl<G: DeltaLog, C: HostClock + Drop> Course<G, C> {
+impl<G: DeltaLog + Metered, C: HostClock + Drop> Course<G, C> {
     pub(crate) fn new(server: Server<G, C>, compaction: Compaction) -> Course<G, C> {
-        Course {
+        let last = server.latest();
+        let mut course = Course {
             server,
             compaction,
             faults: 0,
             starved: 0,
             rest: 0,
             is_away: false,
+            last,
             refusals: Refusals::new(),
-        }
+        };
+        course.note_log();
+        course
     }
 
     /// Who is asked by visitors.
@@ -63,14 +74,13 @@ impl<G: DeltaLog, C: HostClock + Drop> Course<G, C> {
         requires { count ≤ length buffer.old }
     {
         if self.is_away {
-            pass_over(front, buffer);
+            let passed = pass_over(front, buffer);
+            self.drop_datagrams(passed);
             return self.tick(log);
         }
         self.faults = 0;
-        match self.try_take(front, log, buffer, count, from) {
-            Ok(()) => self.goes_on(log),
-            Err(fault) => self.endures(log, fault),
-        }
+        let made = self.try_take(front, log, buffer, count, from);
+        self.end_turn(log, made)
     }
 
     fn try_take<F: Front, L: Log>(
@@ -84,10 +94,27 @@ impl<G: DeltaLog, C: HostClock + Drop> Course<G, C> {
         requires { count ≤ length buffer.old }
     {
         let batch = receive(self.server.allocator(), front, buffer, count, from)?;
-        for (to, bytes) in self.server.take(batch)? {
+        for (to, bytes) in self.sends_of(batch)? {
             self.send(front, log, to, &bytes);
         }
         Ok(())
+    }
+
+    /// What a turn with the datagrams sends. Where the log is away they are passed over.
+    fn sends_of(&mut self, batch: Vec<Datagram>) -> Result<Vec<(Addr, Vec<u8>)>, TurnFault> {
+        let count = batch.len() as u64;
+        match self.server.take(batch) {
+            Err(TurnFault::Away) => {
+                self.drop_datagrams(count);
+                Err(TurnFault::Away)
+            }
+            taken => taken,
+        }
+    }
+
+    fn drop_datagrams(&mut self, count: u64) {
+        let edge = &mut self.server.edge;
+        edge.dropped = edge.dropped.saturating_add(count);
     }
 
     /// Sends a reply. A fault is passed over.
@@ -95,6 +122,8 @@ impl<G: DeltaLog, C: HostClock + Drop> Course<G, C> {
         self.refusals
             .tell(log, self.server.latest().ms() / 1_000, to, bytes);
         if front.send(to, bytes).is_err() {
+            let edge = &mut self.server.edge;
+            edge.send_faults = edge.send_faults.saturating_add(1);
             warn!(log; "send passed over");
         }
     }
@@ -102,14 +131,48 @@ impl<G: DeltaLog, C: HostClock + Drop> Course<G, C> {
     /// A turn without datagrams.
     pub(crate) fn tick<L: Log>(&mut self, log: &L) -> Result<(), RunFault> {
         self.faults = 0;
-        match self.server.tick() {
+        let made = self.server.tick();
+        self.end_turn(log, made)
+    }
+
+    /// A turn was made, or failed: whether the run goes on.
+    fn end_turn<L: Log>(&mut self, log: &L, made: Result<(), TurnFault>) -> Result<(), RunFault> {
+        self.note_time();
+        let ended = match made {
             Ok(()) => self.goes_on(log),
             Err(fault) => self.endures(log, fault),
+        };
+        self.note_log();
+        ended
+    }
+
+    /// Counts the time since the turn before, if the log has been away since then.
+    fn note_time(&mut self) {
+        let now = self.server.latest();
+        if self.is_away {
+            let milliseconds = now.ms().saturating_sub(self.last.ms());
+            let edge = &mut self.server.edge;
+            edge.away = edge
+                .away
+                .saturating_add(milliseconds.saturating_mul(MICROSECONDS));
         }
+        self.last = now;
+    }
+
+    /// Notes what the log was asked.
+    fn note_log(&mut self) {
+        self.server.edge.log = self.server.member.log().log_use();
+    }
+
+    /// Notes how visitors were answered.
+    pub(crate) fn note_responses(&mut self, responses: Responses) {
+        self.server.edge.responses = responses;
     }
 
     /// The front failed.
     pub(crate) fn fail<L: Log>(&mut self, log: &L) -> Result<(), RunFault> {
+        let edge = &mut self.server.edge;
+        edge.receive_faults = edge.receive_faults.saturating_add(1);
         self.faults = self.faults.saturating_add(1);
         if self.faults >= FAULTS_IN_A_ROW {
             return Err(RunFault::ReceiveFailed);
@@ -140,6 +203,8 @@ impl<G: DeltaLog, C: HostClock + Drop> Course<G, C> {
         }
         match self.server.compact() {
             Ok(()) => {
+                let edge = &mut self.server.edge;
+                edge.compactions = edge.compactions.saturating_add(1);
                 info!(log; "compacted");
                 Ok(())
             }

@@ -1,10 +1,10 @@
 //! What a server tells over HTTP.
 
 ghost use Rattle.std.specs.Prelude.{◌≡◌, IfOk, false};
-ghost use Rattle.lw_run.specs.Desk.{about_of, health_status, version, AreMeasures, IsMeasuredBy, TellsHealth, TellsMetrics, TellsOfNode};
+ghost use Rattle.lw_run.specs.Desk.{about_of, health_status, version, AreMeasures, IsMeasuredBy, TellsHealth, TellsMetrics, TellsOfNode, TellsPage};
 
 use crate::Server;
-use lw_api::{About, answer, numbers_of};
+use lw_api::{About, answer, not_found, numbers_of};
 use lw_log::DeltaLog;
 use lw_metrics::{Measures, NodeMeasures, metrics_text};
 use lw_print::health_text;
@@ -25,6 +25,7 @@ impl<G: DeltaLog, C: HostClock + Drop> Desk for Server<G, C> {
 
     fn answer(&self, asked: &Asked) -> Result<Answer, NoMemory> {
         match asked {
+            Asked::Page => self.page(),
             Asked::Health => self.health(),
             Asked::Metrics => self.metrics(),
             _ => self.of_node(asked),
@@ -33,6 +34,19 @@ impl<G: DeltaLog, C: HostClock + Drop> Desk for Server<G, C> {
 }
 
 impl<G: DeltaLog, C: HostClock + Drop> Server<G, C> {
+    fn page(&self) -> Result<Answer, NoMemory>
+        ensures { IfOk result (TellsPage self.now.page) }
+    {
+        match &self.page {
+            Some(page) => Ok(Answer {
+                status: Status::Ok,
+                media: Media::Html,
+                body: String::from_str(self.alloc, page.as_str())?,
+            }),
+            None => not_found(self.alloc),
+        }
+    }
+
     fn health(&self) -> Result<Answer, NoMemory>
         ensures { IfOk result (TellsHealth self.now) }
     {
@@ -58,6 +72,7 @@ impl<G: DeltaLog, C: HostClock + Drop> Server<G, C> {
         ensures { AreMeasures self.now result }
     {
         let node = self.node_measures();
+        let size = self.member.log_size();
         Measures {
             version: VERSION,
             started: self.started,
@@ -65,6 +80,12 @@ impl<G: DeltaLog, C: HostClock + Drop> Server<G, C> {
             node,
             tally: self.tally,
             passed_over: self.passed_over,
+            log_bytes: size.whole.saturating_add(size.behind),
+            log_whole_bytes: size.whole,
+            edge: self.edge,
+            duplicates: self.duplicates,
+            blocks: self.blocks,
+            bodies: self.bodies.count() as u64,
         }
     }
 

@@ -3,6 +3,7 @@
 ghost use Rattle.std.specs.Prelude.{◌≤◌, length, IfOk, IfSome};
 ghost use Rattle.lw_run.specs.Front.{IsWithin};
 
+use lw_metrics::Responses;
 use lw_reg::Addr;
 use lw_target::Desk;
 use lw_wire::WireFault;
@@ -37,4 +38,7 @@ pub trait Front {
 
     /// Sends a datagram. Nothing tells that it arrives.
     fn send(&mut self, to: Addr, bytes: &[u8]) -> Result<(), WireFault>;
+
+    /// How visitors were answered, since the front is there.
+    fn responses(&self) -> Responses;
 }

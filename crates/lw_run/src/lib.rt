@@ -2,23 +2,29 @@
 //! once its log leads all that the replies tell of.
 #![tactic(auto)]
 
+mod blocks;
 mod calling;
 mod course;
 mod desk;
+mod exchanges;
 mod fault;
 mod front;
 mod receiving;
 mod running;
 mod sending;
 mod server;
+mod settling;
 mod telling;
+mod timed;
 
 pub use fault::{RunFault, TurnFault};
 pub use front::{Front, Heard};
 pub use lw_log::{DeltaLog, LogFault};
 pub use lw_member::{Member, MemberFault};
+pub use lw_metrics::{LogUse, Responses};
 pub use lw_reg::Addr;
 pub use lw_stamp::Moment;
 pub use lw_wire::{Datagram, HostClock, WireFault};
 pub use running::{Compaction, run_on};
 pub use server::Server;
+pub use timed::{Metered, Stopwatch, Timed};

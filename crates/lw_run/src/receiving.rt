@@ -34,11 +34,14 @@ pub(crate) fn receive<F: Front>(
     Ok(batch)
 }
 
-/// Passes over the datagrams that are there, as many as make a batch.
-pub(crate) fn pass_over<F: Front>(front: &mut F, buffer: &mut [u8]) {
-    for _passed in 1..MOST_AT_ONCE {
+/// Passes over the datagrams that are there, which with the one that came make a batch at most: how many with that one.
+pub(crate) fn pass_over<F: Front>(front: &mut F, buffer: &mut [u8]) -> u64 {
+    let mut passed = 1u64;
+    for _more in 1..MOST_AT_ONCE {
         let Ok(Some(_)) = front.more(buffer) else {
             break;
         };
+        passed = passed.saturating_add(1);
     }
+    passed
 }

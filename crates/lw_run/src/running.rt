@@ -1,7 +1,7 @@
 //! A run.
 
 use crate::course::Course;
-use crate::{Front, Heard, RunFault, Server};
+use crate::{Front, Heard, Metered, RunFault, Server};
 use log::Log;
 use lw_log::DeltaLog;
 use lw_wire::{BUFFER, HostClock, WireFault};
@@ -16,7 +16,7 @@ pub enum Compaction {
 }
 
 /// Serves until the front tells that it is over. Where nothing comes for so long a time a turn is made without datagrams.
-pub fn run_on<F: Front, G: DeltaLog, C: HostClock + Drop, L: Log>(
+pub fn run_on<F: Front, G: DeltaLog + Metered, C: HostClock + Drop, L: Log>(
     front: &mut F,
     server: Server<G, C>,
     log: &L,
@@ -26,7 +26,9 @@ pub fn run_on<F: Front, G: DeltaLog, C: HostClock + Drop, L: Log>(
     let mut buffer = vec![in server.allocator(); 0; BUFFER]?;
     let mut course = Course::new(server, compaction);
     for _turn in 0..u64::MAX {
-        match front.attend(course.server(), &mut buffer, wait) {
+        let heard = front.attend(course.server(), &mut buffer, wait);
+        course.note_responses(front.responses());
+        match heard {
             Ok(Heard::Datagram(count, from)) => course.take(front, log, &mut buffer, count, from)?,
             Ok(Heard::Nothing) => course.tick(log)?,
             Ok(Heard::End) => return Ok(()),

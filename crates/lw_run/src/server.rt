@@ -1,18 +1,23 @@
 //! A member that takes datagrams.
 
-ghost use Rattle.std.specs.Prelude.{◌≡◌, ◌↔◌, [], map, IfOk, OnErr, OnOk, IsTrue};
+ghost use Rattle.std.specs.Prelude.{◌≡◌, ◌↔◌, [], map, option_map, string_bytes, IfOk, OnErr, OnOk, IsTrue};
 ghost use Rattle.lw_member.specs.Compaction.{IsCompactionDue, IsCompacted, Compacts};
 ghost use Rattle.lw_member.specs.Own.{WritesOwn};
 ghost use Rattle.lw_metrics.specs.Counting.{new_tally, one_more};
-ghost use Rattle.lw_run.specs.Server.{Stays};
-ghost use Rattle.lw_run.specs.Turns.{IsTurn, sent};
+ghost use Rattle.lw_metrics.specs.Edge.{new_edge};
+ghost use Rattle.lw_run.specs.Server.{KeepsStill, Stays};
+ghost use Rattle.lw_run.specs.Turns.{IsTurn, GoesOn, sent};
 
 use crate::TurnFault;
-use crate::calling::{calls_of, moment_before};
+use crate::blocks::{any_lacks_block, sort};
+use crate::calling::moment_before;
+use crate::exchanges::{fresh_of, keep_exchanges, with_unkept};
 use crate::sending::put_sends;
+use crate::settling::settle;
+use lw_exchange::{Bodies, Replies};
 use lw_log::DeltaLog;
 use lw_member::Member;
-use lw_metrics::Tally;
+use lw_metrics::{Edge, Tally};
 use lw_reg::Addr;
 use lw_stamp::Moment;
 use lw_wire::{Datagram, HostClock};
@@ -33,10 +38,25 @@ pub struct Server<G: DeltaLog, C: HostClock + Drop> {
     pub(crate) tally: Tally,
     /// How many turns failed for want of memory.
     pub(crate) passed_over: u64,
+    /// What is told at `/`, if there is a page.
+    pub(crate) page: Option<String>,
+    /// What is counted at the edge.
+    pub(crate) edge: Edge,
+    /// The last requests that were answered, with their replies.
+    kept: Replies,
+    /// How many datagrams were requests that came again.
+    pub(crate) duplicates: u64,
+    /// How many turns had no memory for all that they answered.
+    unkept: u64,
+    /// The bodies whose blocks have not all come.
+    pub(crate) bodies: Bodies,
+    /// How many datagrams were blocks that were answered without the store, or made a message whole.
+    pub(crate) blocks: u64,
 }
 
 impl<G: DeltaLog, C: HostClock + Drop> Model for Server<G, C> {
     ghost use Rattle.std.specs.Coded.{codes};
+    ghost use Rattle.std.specs.Prelude.{option_map, string_bytes};
     ghost use Rattle.lw_node.specs.Node.{node_code};
     ghost use Rattle.lw_run.specs.Server.{ServerContent};
 
@@ -51,12 +71,26 @@ impl<G: DeltaLog, C: HostClock + Drop> Model for Server<G, C> {
       latest = s.latest;
       tally = s.tally;
       passed_over = s.passed_over;
+      page = option_map string_bytes s.page;
+      edge = s.edge;
+      kept = s.kept;
+      duplicates = s.duplicates;
+      unkept = s.unkept;
+      bodies = s.bodies;
+      blocks = s.blocks;
     } };
 }
 
 impl<G: DeltaLog, C: HostClock + Drop> Server<G, C> {
     /// The server of a member, which is started now. The clocks of the fleet's servers may differ by so many seconds.
-    pub fn new(alloc: Global, member: Member<G>, clock: C, skew: u32, now: Moment) -> Server<G, C>
+    pub fn new(
+        alloc: Global,
+        member: Member<G>,
+        clock: C,
+        skew: u32,
+        now: Moment,
+        page: Option<String>,
+    ) -> Server<G, C>
         ensures { result ≡ record {
           member = member;
           skew = skew;
@@ -64,6 +98,13 @@ impl<G: DeltaLog, C: HostClock + Drop> Server<G, C> {
           latest = now;
           tally = new_tally;
           passed_over = 0;
+          page = option_map string_bytes page;
+          edge = new_edge;
+          kept = [];
+          duplicates = 0;
+          unkept = 0;
+          bodies = [];
+          blocks = 0;
         } }
     {
         Server {
@@ -75,28 +116,55 @@ impl<G: DeltaLog, C: HostClock + Drop> Server<G, C> {
             latest: now,
             tally: Tally::new(),
             passed_over: 0,
+            page,
+            edge: Edge::new(),
+            kept: Replies::new(alloc),
+            duplicates: 0,
+            unkept: 0,
+            bodies: Bodies::new(alloc),
+            blocks: 0,
         }
     }
 
-    /// Takes datagrams at the moment that it is, and ends what has expired: the replies that are to be sent, in order. Where
-    /// it fails nothing is to be sent.
+    /// Takes datagrams at the moment that it is, and ends what has expired: the replies that are to be sent, those that are
+    /// sent again before the others. Where it fails nothing is to be sent, and nothing is kept.
+    ///
+    /// Where it fails blocks of the batch may have been put to their bodies. What a device sends behind one that was lost
+    /// so is answered by 4.08, and the device begins its body anew.
     pub fn take(&mut self, batch: Vec<Datagram>) -> Result<Vec<(Addr, Vec<u8>)>, TurnFault>
         ensures turn { IfOk result (λ sends. (now : Moment) × IsTurn now self.old batch.items (map sent sends.items) self.new) }
         // Also where it fails.
         ensures own { WritesOwn self.old.member self.new.member }
         ensures stays { Stays self.old self.new }
         ensures uncounted { OnErr result (self.new.tally ≡ self.old.tally) }
+        ensures kept { OnErr result (KeepsStill self.old self.new) }
+        ensures bodies { OnErr result (GoesOn self.old batch.items self.new) }
     {
         let Some(now) = self.clock.now() else {
             return Err(TurnFault::ClockRefused);
         };
         self.latest = now;
+        let count = batch.len();
+        let mut sends = Vec::new(self.alloc);
+        let fresh = fresh_of(self.alloc, &self.kept, now, batch, &mut sends)?;
+        let again = count.saturating_sub(fresh.len()) as u64;
+        let sorted = sort(self.alloc, &mut self.bodies, now, fresh)?;
+        let blocks = sorted.with_blocks(self.blocks);
         let before = moment_before(now, self.skew);
-        let calls = calls_of(self.alloc, now, before, self.member.is_claimed(), batch)?;
-        let mut sends = Vec::with_capacity(self.alloc, calls.len())?;
-        let replies = self.member.round(&calls)?;
-        self.tally.count(&calls, &replies);
-        put_sends(&calls, replies, &mut sends);
+        let handled = settle(
+            self.alloc,
+            &mut self.member,
+            &mut self.tally,
+            before,
+            sorted,
+            &mut sends,
+        )?;
+        self.duplicates = self.duplicates.saturating_add(again);
+        self.blocks = blocks;
+        let is_all_kept = keep_exchanges(self.alloc, &mut self.kept, now, &handled);
+        let lacks_block = any_lacks_block(&handled);
+        self.unkept = with_unkept(self.unkept, is_all_kept, lacks_block);
+        put_sends(handled, &mut sends);
         Ok(sends)
     }
 
@@ -106,6 +174,8 @@ impl<G: DeltaLog, C: HostClock + Drop> Server<G, C> {
         ensures own { WritesOwn self.old.member self.new.member }
         ensures stays { Stays self.old self.new }
         ensures uncounted { OnErr result (self.new.tally ≡ self.old.tally) }
+        ensures kept { OnErr result (KeepsStill self.old self.new) }
+        ensures bodies { self.new.bodies ≡ self.old.bodies }
     {
         self.take(Vec::new(self.alloc))?;
         Ok(())
@@ -125,6 +195,8 @@ impl<G: DeltaLog, C: HostClock + Drop> Server<G, C> {
         ensures own { Compacts self.old.member self.new.member }
         ensures stays { Stays self.old self.new }
         ensures same { (self.new.tally ≡ self.old.tally) × (self.new.latest ≡ self.old.latest) }
+        ensures kept { KeepsStill self.old self.new }
+        ensures bodies { self.new.bodies ≡ self.old.bodies }
     {
         self.member.compact()?;
         Ok(())
@@ -135,6 +207,28 @@ impl<G: DeltaLog, C: HostClock + Drop> Server<G, C> {
         ensures { self.new ≡ record (self.old) { passed_over = one_more self.old.passed_over } }
     {
         self.passed_over = self.passed_over.saturating_add(1);
+    }
+
+    /// How many datagrams were requests that came again, and were answered again.
+    pub fn duplicates(&self) -> u64
+        ensures { result ≡ self.now.duplicates }
+    {
+        self.duplicates
+    }
+
+    /// How many turns had no memory for all that they answered. What was not kept is taken again if it comes again, and the
+    /// reply to a body may have gone without its block.
+    pub fn unkept(&self) -> u64
+        ensures { result ≡ self.now.unkept }
+    {
+        self.unkept
+    }
+
+    /// How many datagrams were blocks that were answered without the store, or made a message whole.
+    pub fn blocks(&self) -> u64
+        ensures { result ≡ self.now.blocks }
+    {
+        self.blocks
     }
 
     pub(crate) fn allocator(&self) -> Global {

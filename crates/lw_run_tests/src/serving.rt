@@ -1,13 +1,17 @@
 //! Runs of a server over a front in memory, by a clock in memory.
 
+mod blocks;
 mod compacting;
 mod desk;
 mod front;
+mod measured;
 mod refused;
 mod replies;
 mod runs;
 mod sockets;
 mod stage;
+mod timed;
+mod twice;
 
 use crate::hold::{holds, holds_for};
 use front::{Coming, MemoryFront, Ticks};
@@ -17,6 +21,7 @@ use lw_run::*;
 use stage::{Stage, Trouble};
 use std::alloc::Global;
 use std::test::Fail;
+use timed::Readings;
 
 /// An empty message, message ID 7, and its reply.
 const PING: &str = "40000007";

@@ -1,4 +1,3 @@
-pub mod PathLemmas
 pub mod NumberLemmas
 pub mod LineLemmas
 pub mod ScriptLemmas

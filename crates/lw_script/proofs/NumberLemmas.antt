@@ -5,7 +5,7 @@ use Rattle.lw_reg.specs.inner.Addr.Reading.{number_in}
 use Rattle.lw_reg.proofs.Addresses.Numbers.{number_in_text, number_in-decimal}
 use Rattle.lw_stamp.specs.declared.moment.Moment.{Moment}
 use Rattle.lw_stamp.specs.Moment.{ms_of}
-use Rattle.lw_script.specs.Fields.{IsNumber, IsShort, IsMoment, IsStep}
+use Rattle.lw_script.specs.Fields.{IsNumber, IsMoment}
 
 pub number_is : (limit n : ℕ) (text : List ℕ) → number_in limit text ≡ Some n → IsNumber limit n text
 number_is limit n text e =
@@ -45,8 +45,3 @@ moment_none n text None is h = λ m k.
 
 pub wide : (limit n : ℕ) (text : List ℕ) → limit ≤ 2 ^ 64 → IsNumber limit n text → IsNumber (2 ^ 64) n text
 wide limit n text small is = record { fits = omega (arith, small, is.fits); printed = is.printed }
-
-pub step_none : (n : ℕ) (text : List ℕ) → IsShort n text → 65534 < n → (v : ℕ) → ¬ IsStep v text
-step_none n text is more v k =
-    let same = one_number n v text (wide (2 ^ 16) n text (omega arith) is) (wide 65535 v text (omega arith) k) in
-    omega (arith, same, more, k.fits)

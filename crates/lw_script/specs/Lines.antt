@@ -11,7 +11,8 @@ use Rattle.lw_script.specs.declared.fault.LineFault.{LineFault}
 use Rattle.lw_script.specs.declared.fault.LineFault.TheVariants.{Refused, NoMemory}
 use Rattle.lw_script.specs.declared.word.Word.{Word}
 use Rattle.lw_script.specs.declared.word.Word.TheVariants.{Take, Observe, Cancel, Sweep, Send, Deliver, Id, Endpoint, Address, Token, Watch, Next, Expired, Change}
-use Rattle.lw_script.specs.Fields.{◌␣◌, IsShort, IsNumber, IsMoment, IsAddress, IsId, IsPath, IsAccept, IsHex, IsName, HasSpace, is_space}
+use Rattle.lw_path.specs.PathText.{IsPath}
+use Rattle.lw_script.specs.Fields.{◌␣◌, IsShort, IsNumber, IsMoment, IsAddress, IsId, IsAccept, IsHex, IsName, HasSpace, is_space}
 use Rattle.lw_script.specs.Words.{word_text}
 
 -- The fields of a line spell these values, and the event is of them.

@@ -9,9 +9,9 @@ use Rattle.std.proofs.lemmas.List.Elements.{All-from_get_or}
 use Rattle.std.proofs.lemmas.Str.Pattern.{NoCharPasses-char, drop_at_char}
 use Rattle.std.proofs.Math.Seq.{get_or-append_seam}
 use Rattle.lw_target.specs.declared.resource.Resource.{Resource}
-use Rattle.lw_target.specs.declared.resource.Resource.TheVariants.{Page, Health, Node, Metrics, Registrations, Registration, ById, ByAddress, ByToken, Changes}
-use Rattle.lw_target.specs.Targets.{Place, place_of, slash, IsBelow, IsPathOf}
-use Rattle.lw_target.specs.Targets.Place.{At, Below}
+use Rattle.lw_target.specs.declared.resource.Resource.TheVariants.{Page, Health, Node, Metrics, Registrations, Registration, Observations, ById, ByAddress, ByToken, Changes}
+use Rattle.lw_target.specs.Targets.{Place, place_of, slash, IsBelow, IsWithin, IsPathOf}
+use Rattle.lw_target.specs.Targets.Place.{At, Below, Within}
 
 -- ---- the last slash
 has_slash : (front back : List ℕ) → ¬ (All (λ byte. byte ≢ slash) (front ++ slash ∷ back))
@@ -73,16 +73,18 @@ few_slashes Metrics path e = let same : codes "/metrics" ≡ path = cc in subst 
 few_slashes Registrations path e = let same : codes "/v1/registrations" ≡ path = cc in subst (λ p. slashes p ≤ 2) same (omega arith)
 few_slashes Changes path e = let same : codes "/v1/changes" ≡ path = cc in subst (λ p. slashes p ≤ 2) same (omega arith)
 few_slashes Registration path e = absurd cc
+few_slashes Observations path e = absurd cc
 few_slashes ById path e = absurd cc
 few_slashes ByAddress path e = absurd cc
 few_slashes ByToken path e = absurd cc
 
-two_slashes : (a : Resource) (upper : List ℕ) → place_of a ≡ Below upper → 2 ≤ slashes upper
+two_slashes : (a : Resource) (upper : List ℕ) → place_of a ≡ Below upper → slashes upper ≡ 2
 unfolding slashes
-two_slashes Registration upper e = let same : codes "/v1/registrations" ≡ upper = cc in subst (λ p. 2 ≤ slashes p) same (omega arith)
-two_slashes ById upper e = let same : codes "/v1/ids" ≡ upper = cc in subst (λ p. 2 ≤ slashes p) same (omega arith)
-two_slashes ByAddress upper e = let same : codes "/v1/addresses" ≡ upper = cc in subst (λ p. 2 ≤ slashes p) same (omega arith)
-two_slashes ByToken upper e = let same : codes "/v1/tokens" ≡ upper = cc in subst (λ p. 2 ≤ slashes p) same (omega arith)
+two_slashes Registration upper e = let same : codes "/v1/registrations" ≡ upper = cc in subst (λ p. slashes p ≡ 2) same (omega arith)
+two_slashes ById upper e = let same : codes "/v1/ids" ≡ upper = cc in subst (λ p. slashes p ≡ 2) same (omega arith)
+two_slashes ByAddress upper e = let same : codes "/v1/addresses" ≡ upper = cc in subst (λ p. slashes p ≡ 2) same (omega arith)
+two_slashes ByToken upper e = let same : codes "/v1/tokens" ≡ upper = cc in subst (λ p. slashes p ≡ 2) same (omega arith)
+two_slashes Observations upper e = absurd cc
 two_slashes Page upper e = absurd cc
 two_slashes Health upper e = absurd cc
 two_slashes Node upper e = absurd cc
@@ -90,10 +92,32 @@ two_slashes Metrics upper e = absurd cc
 two_slashes Registrations upper e = absurd cc
 two_slashes Changes upper e = absurd cc
 
+within_slashes : (a : Resource) (upper lower : List ℕ) → place_of a ≡ Within upper lower → 2 ≤ slashes upper
+unfolding slashes
+within_slashes Observations upper lower e = let same : codes "/v1/registrations" ≡ upper = cc in subst (λ p. 2 ≤ slashes p) same (omega arith)
+within_slashes Registration upper lower e = absurd cc
+within_slashes ById upper lower e = absurd cc
+within_slashes ByAddress upper lower e = absurd cc
+within_slashes ByToken upper lower e = absurd cc
+within_slashes Page upper lower e = absurd cc
+within_slashes Health upper lower e = absurd cc
+within_slashes Node upper lower e = absurd cc
+within_slashes Metrics upper lower e = absurd cc
+within_slashes Registrations upper lower e = absurd cc
+within_slashes Changes upper lower e = absurd cc
+
 -- no path is of both kinds of places
 not_both : (a b : Resource) (upper segment path : List ℕ) → place_of a ≡ At path → place_of b ≡ Below upper → path ≡ upper ++ slash ∷ segment → ⊥
 not_both a b upper segment path at below is =
     omega (arith, few_slashes a path at, two_slashes b upper below, more_slashes upper segment, ap slashes is)
+
+not_within : (a b : Resource) (upper segment lower path : List ℕ) → place_of a ≡ At path → place_of b ≡ Within upper lower → IsWithin upper segment lower path → ⊥
+not_within a b upper segment lower path at within is =
+    omega (arith, few_slashes a path at, within_slashes b upper lower within, more_slashes upper segment, more_slashes is.front lower, ap slashes is.segment_is.path_is, ap slashes is.lower_is.path_is)
+
+pub not_below : (a b : Resource) (upper segment lower front : List ℕ) → place_of a ≡ Below front → place_of b ≡ Within upper lower → IsBelow upper segment front → ⊥
+not_below a b upper segment lower front below within is =
+    omega (arith, two_slashes a front below, within_slashes b upper lower within, more_slashes upper segment, ap slashes is.path_is)
 
 -- ---- the resource of a path
 some_is : (a b : Resource) → Some a ≡ Some b → a ≡ b
@@ -103,15 +127,19 @@ at_place : (a b : Resource) (path segment : List ℕ) (p : Place) → place_of b
 at_place a b path segment (At whole) e read is = (some_is a b ((read b).1 (e ∙ ap At (sym is.0))), is.1)
 at_place a b path segment (Below upper) e read is =
     absurd (not_both a b upper segment path ((read a).0 refl) e is.path_is)
+at_place a b path segment (Within upper lower) e read is =
+    absurd (not_within a b upper segment lower path ((read a).0 refl) e is)
 
 pub only_at : (a : Resource) (path : List ℕ) → ((r : Resource) → (Some a ≡ Some r) ↔ (place_of r ≡ At path)) → (b : Resource) (segment : List ℕ) → IsPathOf (place_of b) segment path → (a ≡ b) × (segment ≡ [])
 only_at a path read b segment is = at_place a b path segment (place_of b) refl read is
 
-below_place : {X : Type 0} (o : Option Resource) (r : Option X) (P : Resource → List ℕ → X → Type 0) (b : Resource) (path segment : List ℕ) (p : Place) → o ≡ None → place_of b ≡ p → ((c : Resource) → (o ≡ Some c) ↔ (place_of c ≡ At path)) → ((c : Resource) (upper segment : List ℕ) → place_of c ≡ Below upper → IsBelow upper segment path → IsSomeAnd r (P c segment)) → IsPathOf p segment path → IsSomeAnd r (P b segment)
-below_place o r P b path segment (At whole) none e read only is =
+-- what is said of paths below a place, and of those within one, is said of all that are not places themselves
+below_place : {X : Type 0} (o : Option Resource) (r : Option X) (P : Resource → List ℕ → X → Type 0) (b : Resource) (path segment : List ℕ) (p : Place) → o ≡ None → place_of b ≡ p → ((c : Resource) → (o ≡ Some c) ↔ (place_of c ≡ At path)) → ((c : Resource) (upper segment : List ℕ) → place_of c ≡ Below upper → IsBelow upper segment path → IsSomeAnd r (P c segment)) → ((c : Resource) (upper segment lower : List ℕ) → place_of c ≡ Within upper lower → IsWithin upper segment lower path → IsSomeAnd r (P c segment)) → IsPathOf p segment path → IsSomeAnd r (P b segment)
+below_place o r P b path segment (At whole) none e read below within is =
     let some = (read b).1 (e ∙ ap At (sym is.0)) in
     absurd cc
-below_place o r P b path segment (Below upper) none e read only is = only b upper segment e is
+below_place o r P b path segment (Below upper) none e read below within is = below b upper segment e is
+below_place o r P b path segment (Within upper lower) none e read below within is = within b upper segment lower e is
 
-pub only_below : {X : Type 0} (o : Option Resource) (r : Option X) (P : Resource → List ℕ → X → Type 0) (path : List ℕ) → o ≡ None → ((c : Resource) → (o ≡ Some c) ↔ (place_of c ≡ At path)) → ((c : Resource) (upper segment : List ℕ) → place_of c ≡ Below upper → IsBelow upper segment path → IsSomeAnd r (P c segment)) → (b : Resource) (segment : List ℕ) → IsPathOf (place_of b) segment path → IsSomeAnd r (P b segment)
-only_below o r P path none read only b segment is = below_place o r P b path segment (place_of b) none refl read only is
+pub only_below : {X : Type 0} (o : Option Resource) (r : Option X) (P : Resource → List ℕ → X → Type 0) (path : List ℕ) → o ≡ None → ((c : Resource) → (o ≡ Some c) ↔ (place_of c ≡ At path)) → ((c : Resource) (upper segment : List ℕ) → place_of c ≡ Below upper → IsBelow upper segment path → IsSomeAnd r (P c segment)) → ((c : Resource) (upper segment lower : List ℕ) → place_of c ≡ Within upper lower → IsWithin upper segment lower path → IsSomeAnd r (P c segment)) → (b : Resource) (segment : List ℕ) → IsPathOf (place_of b) segment path → IsSomeAnd r (P b segment)
+only_below o r P path none read below within b segment is = below_place o r P b path segment (place_of b) none refl read below within is

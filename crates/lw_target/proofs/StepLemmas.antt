@@ -1,10 +1,14 @@
 -- Steps of reading, one after another.
-use Rattle.std.proofs.Common.{◌≡◌, Result, Ok, Err, refl, sym, subst, inl, inr}
+use Rattle.std.proofs.Common.{◌≡◌, ℕ, List, Option, Some, None, Result, Ok, Err, refl, sym, subst, inl, inr}
 use Rattle.std.specs.Result.{IsErrAnd}
 use Rattle.lw_target.specs.declared.refused.Refused.{Refused}
+use Rattle.lw_target.specs.declared.refused.Refused.TheVariants as refused
 use Rattle.lw_target.specs.declared.fault.Fault.{Fault}
 use Rattle.lw_target.specs.declared.fault.Fault.TheVariants as fault
+use Rattle.lw_reg.specs.declared.path.Path.{Path}
+use Rattle.lw_path.specs.PathText.{IsPath}
 use Rattle.lw_target.specs.Answers.{Then}
+use Rattle.lw_target.specs.Targets.{AfterPath}
 use Rattle.lw_target.specs.inner.Faults.{IsAnswered}
 
 -- the first step is refused
@@ -28,3 +32,14 @@ answered_as P Q (Err fault.NoMemory) to is = tt
 pub handed_on : {V : Type 0} (P : Result V Refused → Type 0) (f : Fault) (r : Result V Fault) → IsErrAnd r (λ e. e ≡ f) → IsAnswered P (Err f) → IsAnswered P r
 handed_on P f (Ok value) is answered = absurd is
 handed_on P f (Err e) is answered = subst (λ x. IsAnswered P (Err x)) (sym is) answered
+
+-- the value of `after` is a path, or none
+pub path_behind : (o : Option (List ℕ)) (text read : List ℕ) (path : Path) → o ≡ Some text → read ≡ text → IsPath path read → AfterPath o (Ok (Some path))
+path_behind None text read path e same is = absurd cc
+path_behind (Some other) text read path e same is = let whole : read ≡ other = cc in inl (path, subst (IsPath path) whole is, refl)
+
+pub no_path_behind : (o : Option (List ℕ)) (text read : List ℕ) → o ≡ Some text → read ≡ text → ((path : Path) → ¬ IsPath path read) → AfterPath o (Err refused.After)
+no_path_behind None text read e same none = absurd cc
+no_path_behind (Some other) text read e same none =
+    let whole : read ≡ other = cc in
+    inr (refused.After, (refl, λ path is. none path (subst (IsPath path) (sym whole) is)), refl)

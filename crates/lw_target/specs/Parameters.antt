@@ -29,6 +29,8 @@ name_text Start = codes "start"
 abbrev pub takes : Resource → Name → Bool
 takes resource.Registrations After = true
 takes resource.Registrations Limit = true
+takes resource.Observations After = true
+takes resource.Observations Limit = true
 takes resource.Changes Since = true
 takes resource.Changes Start = true
 takes resource.Changes Limit = true

@@ -1,17 +1,19 @@
 -- What a request asks for, by its method and the path and query of its target (RFC 9110, sections 7.1 and 9).
-use Rattle.std.specs.Prelude.{◌≡◌, ◌≢◌, ◌≤◌, ◌++◌, ℕ, Bool, true, false, List, [], ◌∷◌, length, Option, Result, Ok, Err, codes}
+use Rattle.std.specs.Prelude.{◌≡◌, ◌≢◌, ◌≤◌, ◌++◌, ℕ, Bool, true, false, List, [], ◌∷◌, length, Option, Some, None, Result, Ok, Err, codes}
 use Rattle.std.specs.List.{All}
 use Rattle.std.specs.Option.{unwrap_or}
 use Rattle.lw_stamp.specs.declared.stamp.Stamp.{Stamp}
 use Rattle.lw_stamp.specs.Stamp.{id_of}
 use Rattle.lw_reg.specs.declared.addr.Addr.{Addr}
+use Rattle.lw_reg.specs.declared.path.Path.{Path}
 use Rattle.lw_reg.specs.Addr.{addr_text, IsAddr}
+use Rattle.lw_path.specs.PathText.{IsPath}
 use Rattle.lw_target.specs.declared.method.Method.{Method}
 use Rattle.lw_target.specs.declared.method.Method.TheVariants.{Get}
 use Rattle.lw_target.specs.declared.refused.Refused.{Refused}
 use Rattle.lw_target.specs.declared.refused.Refused.TheVariants as refused
 use Rattle.lw_target.specs.declared.resource.Resource.{Resource}
-use Rattle.lw_target.specs.declared.resource.Resource.TheVariants.{Page, Health, Node, Metrics, Registrations, Registration, ById, ByAddress, ByToken, Changes}
+use Rattle.lw_target.specs.declared.resource.Resource.TheVariants.{Page, Health, Node, Metrics, Registrations, Registration, Observations, ById, ByAddress, ByToken, Changes}
 use Rattle.lw_target.specs.declared.asked.Asked.{Asked}
 use Rattle.lw_target.specs.declared.asked.Asked.TheVariants as asked
 use Rattle.lw_target.specs.declared.parameters.Parameters.{Parameters}
@@ -20,10 +22,11 @@ use Rattle.lw_target.specs.Decoding.{IsDecoded, IsShort}
 use Rattle.lw_target.specs.Parameters.{AreParameters}
 
 -- ---- paths
--- where a resource stands: at a path, or at each path that has one segment more
+-- where a resource stands: at a path; at each path that has one segment more; or under a name below each of those
 pub data Place : Type 0 where
   At : List ℕ → Place
   Below : List ℕ → Place
+  Within : List ℕ → List ℕ → Place
 
 abbrev pub place_of : Resource → Place
 place_of Page = At (codes "/")
@@ -32,6 +35,7 @@ place_of Node = At (codes "/v1/node")
 place_of Metrics = At (codes "/metrics")
 place_of Registrations = At (codes "/v1/registrations")
 place_of Registration = Below (codes "/v1/registrations")
+place_of Observations = Within (codes "/v1/registrations") (codes "observations")
 place_of ById = Below (codes "/v1/ids")
 place_of ByAddress = Below (codes "/v1/addresses")
 place_of ByToken = Below (codes "/v1/tokens")
@@ -46,10 +50,17 @@ pub record IsBelow (upper segment path : List ℕ) : Type 0 where
   pub some : 1 ≤ length segment
   pub one : All (λ byte. byte ≢ slash) segment
 
+-- the lower name stands below a path that is below the upper one with the segment
+pub record IsWithin (upper segment lower path : List ℕ) : Type 0 where
+  pub front : List ℕ
+  pub segment_is : IsBelow upper segment front
+  pub lower_is : IsBelow front lower path
+
 -- the path is of the place, with this as its segment, which is empty where the place has none
 abbrev pub IsPathOf : Place → List ℕ → List ℕ → Type 0
 IsPathOf (At whole) segment path = (path ≡ whole) × (segment ≡ [])
 IsPathOf (Below upper) segment path = IsBelow upper segment path
+IsPathOf (Within upper lower) segment path = IsWithin upper segment lower path
 
 -- ---- segments
 -- the identifier of a registration, or the token of an observation
@@ -65,6 +76,7 @@ pub record IsAddress (address : Addr) (segment : List ℕ) : Type 0 where
 abbrev pub takes_text : Resource → Bool
 takes_text Registrations = true
 takes_text Registration = true
+takes_text Observations = true
 takes_text ById = true
 takes_text ByAddress = true
 takes_text ByToken = true
@@ -81,6 +93,17 @@ pub record HasText (path : List ℕ) : Type 0 where
 abbrev pub Given : Resource → Option (List ℕ) → (Parameters → Asked) → Result Asked Refused → Type 0
 Given resource query ask = Then (AreParameters resource query) (λ parameters answer. answer ≡ Ok (ask parameters))
 
+-- the path that the text of `after` spells, if that is given
+abbrev pub AfterPath : Option (List ℕ) → Result (Option Path) Refused → Type 0
+AfterPath None answer = answer ≡ Ok None
+AfterPath (Some text) answer =
+    Then (Reads IsPath refused.After text) (λ path answer. answer ≡ Ok (Some path)) answer
+
+-- the observations of the endpoint that the parameters of the query ask for
+abbrev pub AreObservationsOf : List ℕ → Option (List ℕ) → Result Asked Refused → Type 0
+AreObservationsOf endpoint query = Then (AreParameters Observations query) (λ parameters. Then (AfterPath parameters.after)
+    (λ after answer. answer ≡ Ok (asked.Observations endpoint after (unwrap_or parameters.limit 64))))
+
 -- What is asked for at the resource with the segment: first the segment is read, and then the query. The name of an
 -- endpoint has a byte or more, as its segment does.
 abbrev pub IsAskedAt : Resource → List ℕ → Option (List ℕ) → Result Asked Refused → Type 0
@@ -92,6 +115,8 @@ IsAskedAt Registrations segment query =
     Given Registrations query (λ parameters. asked.Registrations parameters.after (unwrap_or parameters.limit 64))
 IsAskedAt Registration segment query = Then (Reads IsShort refused.Endpoint segment)
     (λ endpoint. Given Registration query (λ parameters. asked.Registration endpoint))
+IsAskedAt Observations segment query = Then (Reads IsShort refused.Endpoint segment)
+    (λ endpoint. AreObservationsOf endpoint query)
 IsAskedAt ById segment query = Then (Reads IsId refused.Id segment)
     (λ id. Given ById query (λ parameters. asked.ById id))
 IsAskedAt ByAddress segment query = Then (Reads IsAddress refused.Address segment)

@@ -1,5 +1,5 @@
 ghost use Rattle.std.specs.Prelude.{◌≡◌, ◌≢◌, [], true, Err, IfOk, OnErr, option_copied};
-ghost use Rattle.lw_target.specs.Targets.{IsAsked, IsAskedAt, Given, HasText, takes_text};
+ghost use Rattle.lw_target.specs.Targets.{AfterPath, AreObservationsOf, IsAsked, IsAskedAt, Given, HasText, takes_text};
 ghost use Rattle.lw_target.specs.Parameters.{takes};
 ghost use Rattle.lw_target.specs.declared.parameters.Name.TheVariants.{After};
 ghost use Rattle.lw_target.specs.declared.fault.Fault.TheVariants as Faults;
@@ -11,7 +11,8 @@ use crate::fault::Fault;
 use crate::parameters::Parameters;
 use crate::resource::Resource;
 use crate::{Method, Refused, segments};
-use lw_reg::Addr;
+use lw_path::read_path;
+use lw_reg::{Addr, Path};
 use lw_stamp::{NoMemory, Stamp, Text};
 use std::alloc::Global;
 
@@ -37,6 +38,12 @@ pub enum Asked {
     /// The registration of the endpoint.
     Registration {
         endpoint: Text,
+    },
+    /// The observations of the endpoint's registration whose paths stand behind the path, as many as the limit at most.
+    Observations {
+        endpoint: Text,
+        after: Option<Path>,
+        limit: usize,
     },
     /// The registration of the identifier.
     ById {
@@ -99,6 +106,7 @@ fn asked_at(
         Resource::Metrics => alone(alloc, resource, query, Asked::Metrics),
         Resource::Registrations => registrations(alloc, query),
         Resource::Registration => registration(alloc, segment, query),
+        Resource::Observations => observations(alloc, segment, query),
         Resource::ById => by_id(alloc, segment, query),
         Resource::ByAddress => by_address(alloc, segment, query),
         Resource::ByToken => by_token(alloc, segment, query),
@@ -152,6 +160,38 @@ fn registration(alloc: Global, segment: &str, query: Option<&str>) -> Result<Ask
         query,
         Asked::Registration { endpoint },
     )
+}
+
+fn observations(alloc: Global, segment: &str, query: Option<&str>) -> Result<Asked, Fault>
+    ensures { IsAnswered (IsAskedAt Resources.Observations segment.now (option_copied query.entry)) result }
+{
+    let endpoint = short(alloc, segment, Refused::Endpoint)?;
+    observations_of(alloc, endpoint, query)
+}
+
+fn observations_of(alloc: Global, endpoint: Text, query: Option<&str>) -> Result<Asked, Fault>
+    ensures { IsAnswered (AreObservationsOf endpoint (option_copied query.entry)) result }
+{
+    let given = Parameters::read(alloc, Resource::Observations, query)?;
+    let after = after_path(&given.after)?;
+    Ok(Asked::Observations {
+        endpoint,
+        after,
+        limit: given.limit.unwrap_or(LIMIT),
+    })
+}
+
+/// The path that the text of `after` spells, if that is given.
+fn after_path(after: &Option<Text>) -> Result<Option<Path>, Refused>
+    ensures { AfterPath after.now result }
+{
+    let Some(text) = after else {
+        return Ok(None);
+    };
+    match read_path(text.as_str()) {
+        Some(path) => Ok(Some(path)),
+        None => Err(Refused::After),
+    }
 }
 
 fn by_id(alloc: Global, segment: &str, query: Option<&str>) -> Result<Asked, Fault>

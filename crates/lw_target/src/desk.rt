@@ -18,6 +18,8 @@ pub enum Status {
 pub enum Media {
     /// JSON (RFC 8259).
     Json,
+    /// The page for people (HTML, the living standard).
+    Html,
     /// Measures, in the text format that Prometheus reads.
     Metrics,
 }

@@ -43,6 +43,8 @@ impl Name {
         match (resource, text) {
             (Resource::Registrations, "after") => Some(Name::After),
             (Resource::Registrations, "limit") => Some(Name::Limit),
+            (Resource::Observations, "after") => Some(Name::After),
+            (Resource::Observations, "limit") => Some(Name::Limit),
             (Resource::Changes, "since") => Some(Name::Since),
             (Resource::Changes, "start") => Some(Name::Start),
             (Resource::Changes, "limit") => Some(Name::Limit),

@@ -1,6 +1,6 @@
 ghost use Rattle.std.specs.Prelude.{◌≡◌, ◌↔◌, ℕ, List, Some, IfSome, IsSomeAnd};
-ghost use Rattle.lw_target.specs.Targets.{place_of, IsPathOf, IsBelow};
-ghost use Rattle.lw_target.specs.Targets.Place.{At, Below};
+ghost use Rattle.lw_target.specs.Targets.{place_of, IsPathOf, IsBelow, IsWithin};
+ghost use Rattle.lw_target.specs.Targets.Place.{At, Below, Within};
 
 /// What a path of the table is of.
 #[derive(Clone, Copy)]
@@ -11,6 +11,7 @@ pub(crate) enum Resource {
     Metrics,
     Registrations,
     Registration,
+    Observations,
     ById,
     ByAddress,
     ByToken,
@@ -46,13 +47,30 @@ impl Resource {
         }
     }
 
+    /// The resource of a path that has a segment of its own.
     fn below(path: &str) -> Option<(Resource, &str)>
         ensures found { IfSome result (λ x. IsPathOf (place_of x.0) x.1.now path.now) }
-        ensures only { (resource : Resources) (upper segment : List ℕ) → place_of resource ≡ Below upper
+        ensures below { (resource : Resources) (upper segment : List ℕ) → place_of resource ≡ Below upper
+            → IsBelow upper segment path.now → IsSomeAnd result (λ x. (x.0 ≡ resource) × (x.1.now ≡ segment)) }
+        ensures within { (resource : Resources) (upper segment lower : List ℕ) → place_of resource ≡ Within upper lower
+            → IsWithin upper segment lower path.now → IsSomeAnd result (λ x. (x.0 ≡ resource) × (x.1.now ≡ segment)) }
+    {
+        let (upper, segment) = last_segment(path)?;
+        match Resource::named_below(upper) {
+            Some(resource) => Some((resource, segment)),
+            None => Resource::within(upper, segment),
+        }
+    }
+
+    /// The resource that stands under the last name, below what the last segment of the path names.
+    fn within<'a>(path: &'a str, lower: &str) -> Option<(Resource, &'a str)>
+        ensures found { IfSome result (λ x. (upper : List ℕ) × (place_of x.0 ≡ Within upper lower.now)
+            × IsBelow upper x.1.now path.now) }
+        ensures only { (resource : Resources) (upper segment : List ℕ) → place_of resource ≡ Within upper lower.now
             → IsBelow upper segment path.now → IsSomeAnd result (λ x. (x.0 ≡ resource) × (x.1.now ≡ segment)) }
     {
         let (upper, segment) = last_segment(path)?;
-        Some((Resource::named_below(upper)?, segment))
+        Some((Resource::named_within(upper, lower)?, segment))
     }
 
     fn named_below(upper: &str) -> Option<Resource>
@@ -63,6 +81,15 @@ impl Resource {
             "/v1/ids" => Some(Resource::ById),
             "/v1/addresses" => Some(Resource::ByAddress),
             "/v1/tokens" => Some(Resource::ByToken),
+            _ => None,
+        }
+    }
+
+    fn named_within(upper: &str, lower: &str) -> Option<Resource>
+        ensures { (resource : Resources) → (result ≡ Some resource) ↔ (place_of resource ≡ Within upper.now lower.now) }
+    {
+        match (upper, lower) {
+            ("/v1/registrations", "observations") => Some(Resource::Observations),
             _ => None,
         }
     }

@@ -21,7 +21,7 @@ fn check_rows(alloc: Global, rows: &[Row]) -> Result<(), Fail> {
     Ok(())
 }
 
-const TABLE: [Row; 13] = [
+const TABLE: [Row; 14] = [
     ("/", "page"),
     ("/?", "page"),
     ("/v1/health", "health"),
@@ -29,6 +29,7 @@ const TABLE: [Row; 13] = [
     ("/metrics", "metrics"),
     ("/v1/registrations", "64 of all"),
     ("/v1/registrations/lamp", "of lamp"),
+    ("/v1/registrations/lamp/observations", "64 of lamp"),
     ("/v1/ids/0000000000090001", "id 9 1"),
     ("/v1/ids/ffffffffffff00ff", "id 281474976710655 255"),
     ("/v1/addresses/192.0.2.1:5683", "at 192.0.2.1:5683"),
@@ -69,6 +70,87 @@ const NO_TARGETS: [Row; 16] = [
 #[test]
 fn no_other_path_is_of_a_resource(rt: HostRuntime) -> Result<(), Fail> {
     check_rows(rt.alloc(), &NO_TARGETS)
+}
+
+const NO_OBSERVATIONS: [Row; 9] = [
+    ("/v1/registrations//observations", "404 no such resource"),
+    ("/v1/registrations/a/b/observations", "404 no such resource"),
+    ("/v1/registrations/a/observations/", "404 no such resource"),
+    ("/v1/registrations/a/Observations", "404 no such resource"),
+    ("/v1/registrations/a/observation", "404 no such resource"),
+    (
+        "/v1/ids/0000000000090001/observations",
+        "404 no such resource",
+    ),
+    ("/v1/tokens/a/observations", "404 no such resource"),
+    ("/v1/a/observations", "404 no such resource"),
+    ("/observations", "404 no such resource"),
+];
+
+/// Tries: lw_target::asked_of
+#[test]
+fn observations_stand_below_one_endpoint(rt: HostRuntime) -> Result<(), Fail> {
+    check_rows(rt.alloc(), &NO_OBSERVATIONS)
+}
+
+const OBSERVATIONS: [Row; 24] = [
+    ("/v1/registrations/observations", "of observations"),
+    (
+        "/v1/registrations/observations/observations",
+        "64 of observations",
+    ),
+    ("/v1/registrations/a%2Fb/observations", "64 of a/b"),
+    ("/v1/registrations/a/observations?limit=256", "256 of a"),
+    ("/v1/registrations/a/observations?limit=257", "400 limit"),
+    (
+        "/v1/registrations/a/observations?after=/3",
+        "64 of a behind 3",
+    ),
+    (
+        "/v1/registrations/a/observations?after=/3/0&limit=1",
+        "1 of a behind 3 0",
+    ),
+    (
+        "/v1/registrations/a/observations?after=%2F3%2F0%2F9",
+        "64 of a behind 3 0 9",
+    ),
+    (
+        "/v1/registrations/a/observations?after=/3/0/9/1",
+        "64 of a behind 3 0 9 1",
+    ),
+    (
+        "/v1/registrations/a/observations?after=/65534/0",
+        "64 of a behind 65534 0",
+    ),
+    ("/v1/registrations/a/observations?after=/65535", "400 after"),
+    ("/v1/registrations/a/observations?after=/65536", "400 after"),
+    (
+        "/v1/registrations/a/observations?after=/3/0/9/1/2",
+        "400 after",
+    ),
+    ("/v1/registrations/a/observations?after=3/0", "400 after"),
+    ("/v1/registrations/a/observations?after=/", "400 after"),
+    ("/v1/registrations/a/observations?after=", "400 after"),
+    ("/v1/registrations/a/observations?after=/3/", "400 after"),
+    ("/v1/registrations/a/observations?after=//3", "400 after"),
+    ("/v1/registrations/a/observations?after=/03", "400 after"),
+    ("/v1/registrations/a/observations?after=/+3", "400 after"),
+    ("/v1/registrations/a/observations?after=/a", "400 after"),
+    (
+        "/v1/registrations/a/observations?since=1",
+        "400 no such parameter",
+    ),
+    ("/v1/registrations/%/observations?after=/a", "400 endpoint"),
+    (
+        "/v1/registrations/a/observations?after=/3&after=/3",
+        "400 a parameter twice",
+    ),
+];
+
+/// Tries: lw_target::asked_of, lw_path::read_path
+#[test]
+fn observations_begin_behind_a_path(rt: HostRuntime) -> Result<(), Fail> {
+    check_rows(rt.alloc(), &OBSERVATIONS)
 }
 
 const OTHER_METHODS: [(Method, &str, &str); 6] = [

@@ -1,7 +1,9 @@
 //! What is asked for in words.
 
+use lw_reg::Path;
 use lw_target::{Asked, Method, asked_of};
 use std::alloc::Global;
+use std::fmt::Write;
 use std::test::Fail;
 
 /// The path of a target, and what stands behind its `?`.
@@ -39,8 +41,30 @@ fn in_words(alloc: Global, asked: &Asked) -> Result<String, Fail> {
             Some(start) => Ok(format!(in alloc; "{limit} since {since} of {start}")?),
             None => Ok(format!(in alloc; "{limit} since {since}")?),
         },
+        Asked::Observations {
+            endpoint,
+            after,
+            limit,
+        } => observed_in_words(alloc, endpoint.as_str(), after, *limit),
         _ => one_in_words(alloc, asked),
     }
+}
+
+fn observed_in_words(
+    alloc: Global,
+    endpoint: &str,
+    after: &Option<Path>,
+    limit: usize,
+) -> Result<String, Fail> {
+    let mut text = format!(in alloc; "{limit} of {endpoint}")?;
+    let Some(path) = after else {
+        return Ok(text);
+    };
+    text.push_str(" behind")?;
+    for number in path.numbers() {
+        write!(text, " {number}")?;
+    }
+    Ok(text)
 }
 
 fn one_in_words(alloc: Global, asked: &Asked) -> Result<String, Fail> {

@@ -9,7 +9,7 @@ use Rattle.http_uri.specs.Uri.{uri_path, uri_query}
 use Rattle.lw_target.specs.declared.asked.Asked.{Asked}
 use Rattle.lw_target.specs.declared.desk.Answer.{Answer}
 use Rattle.lw_target.specs.declared.desk.Media.{Media}
-use Rattle.lw_target.specs.declared.desk.Media.TheVariants.{Json, Metrics}
+use Rattle.lw_target.specs.declared.desk.Media.TheVariants.{Json, Html, Metrics}
 use Rattle.lw_target.specs.declared.desk.Status.{Status}
 use Rattle.lw_target.specs.declared.desk.Status.TheVariants as status
 use Rattle.lw_target.specs.declared.method.Method.{Method}
@@ -29,10 +29,20 @@ always = (codes "connection", codes "close") ∷ ((codes "cache-control", codes 
 
 abbrev pub media_type : Media → List ℕ
 media_type Json = codes "application/json"
+media_type Html = codes "text/html; charset=utf-8"
 media_type Metrics = codes "text/plain; version=0.0.4"
 
+-- A page runs what stands in it, and reaches nothing but the server that it came from (Content Security Policy Level 3,
+-- section 6). It is shown in no frame.
+abbrev pub page_policy : List ℕ
+page_policy = codes "default-src 'none'; script-src 'unsafe-inline'; style-src 'unsafe-inline'; connect-src 'self'; frame-ancestors 'none'"
+
+abbrev pub media_fields : Media → List Header
+media_fields Html = (codes "content-security-policy", page_policy) ∷ []
+media_fields _ = []
+
 abbrev pub fields_for : Media → List Header → List Header
-fields_for media more = always ++ ((codes "content-type", media_type media) ∷ more)
+fields_for media more = always ++ ((codes "content-type", media_type media) ∷ (media_fields media ++ more))
 
 -- ---- refusals
 -- the text stands in a JSON object; those of refusals need no escape

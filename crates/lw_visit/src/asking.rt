@@ -1,10 +1,10 @@
 //! A desk as a service of HTTP.
 
-ghost use Rattle.std.specs.Prelude.{◌≡◌, [], IfOk, OnOk, string_bytes};
+ghost use Rattle.std.specs.Prelude.{◌≡◌, ◌++◌, [], IfOk, OnOk, string_bytes};
 ghost use Rattle.http.specs.Request.{head_of};
-ghost use Rattle.http_server.specs.Response.{IsBlank, IsResponse};
+ghost use Rattle.http_server.specs.Response.{fields_of, IsBlank, IsResponse};
 ghost use Rattle.http_server.specs.declared.response.Response.{Response as Responses};
-ghost use Rattle.lw_visit.specs.Responses.{code_of, error_body, fields_for, media_type as type_of, Asks, Gives, IsAllowed, IsJudged, IsMethod, IsTold, IsToldHere, Refuses};
+ghost use Rattle.lw_visit.specs.Responses.{code_of, error_body, fields_for, media_fields, media_type as type_of, Asks, Gives, IsAllowed, IsJudged, IsMethod, IsTold, IsToldHere, Refuses};
 ghost use Rattle.lw_visit.specs.inner.Verdicts.{code_in, more_in, text_in, IsShown};
 ghost use Rattle.lw_target.specs.declared.desk.Media.TheVariants.{Json};
 
@@ -17,6 +17,11 @@ use http_server::{Response, Service};
 use lw_stamp::NoMemory;
 use lw_target::{Answer, Asked, Desk, Media, Method, Refused, Status, asked_of};
 use std::alloc::{AllocError, Global};
+
+/// What a page may do: run what stands in it, and ask the server that it came from.
+const PAGE_POLICY: &str =
+    "default-src 'none'; script-src 'unsafe-inline'; style-src 'unsafe-inline'; connect-src 'self'; \
+    frame-ancestors 'none'";
 
 /// A desk that is asked over HTTP. Where there is no memory for an answer, the connection ends.
 #[derive(Drop)]
@@ -129,6 +134,7 @@ fn media_type(media: Media) -> HeaderValue
 {
     match media {
         Media::Json => HeaderValue::from_static("application/json"),
+        Media::Html => HeaderValue::from_static("text/html; charset=utf-8"),
         Media::Metrics => HeaderValue::from_static("text/plain; version=0.0.4"),
     }
 }
@@ -142,7 +148,20 @@ fn put_head(response: &mut Response, status: StatusCode, media: Media) -> Result
     add_field(response, header::CONNECTION, "close")?;
     add_field(response, header::CACHE_CONTROL, "no-store")?;
     add_field(response, header::X_CONTENT_TYPE_OPTIONS, "nosniff")?;
-    response.add_header(header::CONTENT_TYPE, media_type(media))
+    response.add_header(header::CONTENT_TYPE, media_type(media))?;
+    add_policy(response, media)
+}
+
+/// What a page may do, said to the browser that shows it.
+fn add_policy(response: &mut Response, media: Media) -> Result<(), AllocError>
+    ensures headers { OnOk result (fields_of response.new ≡ fields_of response.old ++ media_fields media) }
+    ensures status { OnOk result (response.new.status ≡ response.old.status) }
+    ensures body { OnOk result (response.new.body ≡ response.old.body) }
+{
+    match media {
+        Media::Html => add_field(response, header::CONTENT_SECURITY_POLICY, PAGE_POLICY),
+        Media::Json | Media::Metrics => Ok(()),
+    }
 }
 
 fn put_answer(response: &mut Response, answer: &Answer) -> Result<(), AllocError>

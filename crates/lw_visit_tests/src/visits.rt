@@ -29,6 +29,7 @@ impl Desk for ByKind {
     fn answer(&self, asked: &Asked) -> Result<Answer, NoMemory> {
         match asked {
             Asked::Health => self.told(Status::Ok, Media::Json, "{}"),
+            Asked::Page => self.told(Status::Ok, Media::Html, "<p>"),
             Asked::Metrics => self.told(Status::Ok, Media::Metrics, "one 1\n"),
             Asked::Node => self.told(Status::ServiceUnavailable, Media::Json, "[]"),
             Asked::Changes { .. } => self.told(Status::Gone, Media::Json, "1"),
@@ -46,7 +47,13 @@ const ALWAYS: &str =
 /// the body.
 type Row<'a> = (&'a str, &'a str, &'a str, &'a str);
 
-const TOLD: [Row<'static>; 7] = [
+const TOLD: [Row<'static>; 8] = [
+    (
+        "GET / HTTP/1.1\r\nhost: localhost\r\n\r\n",
+        "200 OK",
+        "content-type: text/html; charset=utf-8\r\ncontent-security-policy: default-src 'none'; script-src 'unsafe-inline'; style-src 'unsafe-inline'; connect-src 'self'; frame-ancestors 'none'\r\ncontent-length: 3\r\n",
+        "<p>",
+    ),
     (
         "GET /v1/health HTTP/1.1\r\nhost: localhost:80\r\n\r\n",
         "200 OK",

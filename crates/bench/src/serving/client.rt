@@ -47,8 +47,7 @@ impl Client {
             return;
         };
         for turn in 1..requests {
-            let datagram = update((turn % 65536) as u16, id);
-            if self.exchange(&datagram, codes.update).is_none() {
+            if self.exchange(&update(turn, id), codes.update).is_none() {
                 return;
             }
         }
@@ -91,11 +90,14 @@ fn register(name: u8) -> [u8; 17] {
     ]
 }
 
-/// A confirmable Update of the registration, without parameters.
-fn update(mid: u16, id: [u8; ID_LENGTH]) -> [u8; 25] {
-    let [high, low] = mid.to_be_bytes();
-    let mut datagram = [0; 25];
-    datagram[..9].copy_from_slice(&[0x40, 0x02, high, low, 0xb2, b'r', b'd', 0x0d, 0x03]);
-    datagram[9..].copy_from_slice(&id);
+/// A confirmable Update of the registration, without parameters. The turn is its token and its message ID, so that no
+/// two are one request that came again.
+fn update(turn: u32, id: [u8; ID_LENGTH]) -> [u8; 27] {
+    let [first, second, high, low] = turn.to_be_bytes();
+    let mut datagram = [0; 27];
+    datagram[..11].copy_from_slice(&[
+        0x42, 0x02, high, low, first, second, 0xb2, b'r', b'd', 0x0d, 0x03,
+    ]);
+    datagram[11..].copy_from_slice(&id);
     datagram
 }

@@ -2,10 +2,11 @@
 
 use crate::fault::BenchFault;
 use log::sink::Discard;
+use lw_front::SystemStopwatch;
 use lw_log::{DeltaLog, FleetId, Nowhere};
 use lw_member::{Chance, Member};
 use lw_reg::Addr;
-use lw_run::{Compaction, Front, Heard, Server, run_on};
+use lw_run::{Compaction, Front, Heard, Responses, Server, Timed, run_on};
 use lw_serve::{UdpWire, Wire};
 use lw_sqlite_log::SqliteLog;
 use lw_stamp::Moment;
@@ -58,6 +59,10 @@ impl Front for CountedFront {
         self.left = self.left.saturating_sub(1);
         self.wire.send(to, bytes)
     }
+
+    fn responses(&self) -> Responses {
+        Responses::new()
+    }
 }
 
 /// Answers so many datagrams.
@@ -88,8 +93,16 @@ fn answer_over<R: Clock, G: DeltaLog>(
     log: G,
     compaction: Compaction,
 ) -> Result<(), BenchFault> {
-    let member = Member::begin(alloc, log, &CHANCE, Moment::START)?;
-    let server = Server::new(alloc, member, SystemClock { clock: rt }, 0, Moment::START);
+    let timed = Timed::new(log, SystemStopwatch::start(rt)?);
+    let member = Member::begin(alloc, timed, &CHANCE, Moment::START)?;
+    let server = Server::new(
+        alloc,
+        member,
+        SystemClock { clock: rt },
+        0,
+        Moment::START,
+        None,
+    );
     let mut front = CountedFront {
         wire: UdpWire::new(socket),
         left: count,

@@ -115,26 +115,32 @@ fn http_given<'a>(alloc: Global, words: &'a [&'a str]) -> Result<Option<HttpOpti
     Ok(given_to_run(alloc, words)?.http)
 }
 
-/// The bytes of an IPv4 address, the port, the path of the token's file, and the name.
-type ServedV4 = ([u8; 4], u16, Option<&'static str>, Option<&'static str>);
+/// The bytes of an IPv4 address, the port, the path of the token's file, the name, and the path of the page's file.
+type ServedV4 = (
+    [u8; 4],
+    u16,
+    Option<&'static str>,
+    Option<&'static str>,
+    Option<&'static str>,
+);
 
 /// Words, and what they have served over HTTP at an IPv4 address.
-const SERVED: [(&[&str], ServedV4); 8] = [
+const SERVED: [(&[&str], ServedV4); 10] = [
     (
         &["fleet", "run", "--http", "127.0.0.1:8080"],
-        ([127, 0, 0, 1], 8080, None, None),
+        ([127, 0, 0, 1], 8080, None, None, None),
     ),
     (
         &["fleet", "run", "--http=127.0.0.0:0"],
-        ([127, 0, 0, 0], 0, None, None),
+        ([127, 0, 0, 0], 0, None, None, None),
     ),
     (
         &["fleet", "run", "--http=127.255.255.255:65535"],
-        ([127, 255, 255, 255], 65535, None, None),
+        ([127, 255, 255, 255], 65535, None, None, None),
     ),
     (
         &["fleet", "run", "--memory", "--http=127.0.0.1:0080"],
-        ([127, 0, 0, 1], 80, None, None),
+        ([127, 0, 0, 1], 80, None, None, None),
     ),
     (
         &[
@@ -144,7 +150,7 @@ const SERVED: [(&[&str], ServedV4); 8] = [
             "t",
             "--http=127.0.0.1:1",
         ],
-        ([127, 0, 0, 1], 1, Some("t"), None),
+        ([127, 0, 0, 1], 1, Some("t"), None, None),
     ),
     (
         &[
@@ -154,11 +160,19 @@ const SERVED: [(&[&str], ServedV4); 8] = [
             "--http-host",
             "example",
         ],
-        ([127, 0, 0, 1], 1, None, Some("example")),
+        ([127, 0, 0, 1], 1, None, Some("example"), None),
+    ),
+    (
+        &["fleet", "run", "--page", "p", "--http=127.0.0.1:1"],
+        ([127, 0, 0, 1], 1, None, None, Some("p")),
+    ),
+    (
+        &["fleet", "run", "--http=127.0.0.1:1", "--page= "],
+        ([127, 0, 0, 1], 1, None, None, Some(" ")),
     ),
     (
         &["fleet", "run", "--http=0.0.0.0:80", "--http-token-file= "],
-        ([0, 0, 0, 0], 80, Some(" "), None),
+        ([0, 0, 0, 0], 80, Some(" "), None, None),
     ),
     (
         &[
@@ -167,12 +181,14 @@ const SERVED: [(&[&str], ServedV4); 8] = [
             "--http=192.0.2.7:443",
             "--http-token-file=/etc/fleet/token",
             "--http-host=fleet.example.org",
+            "--page=/usr/share/fleet/index.html",
         ],
         (
             [192, 0, 2, 7],
             443,
             Some("/etc/fleet/token"),
             Some("fleet.example.org"),
+            Some("/usr/share/fleet/index.html"),
         ),
     ),
 ];
@@ -180,12 +196,13 @@ const SERVED: [(&[&str], ServedV4); 8] = [
 /// Tries: read_request
 #[test]
 fn http_to_run(rt: HostRuntime) -> Result<(), Fail> {
-    for &(words, (bytes, port, token_file, host)) in &SERVED {
+    for &(words, (bytes, port, token_file, host, page_file)) in &SERVED {
         let [a, b, c, d] = bytes;
         let served = HttpOptions {
             address: SocketAddr::new(IpAddr::V4(Ipv4Addr::new(a, b, c, d)), port),
             token_file,
             host,
+            page_file,
         };
         holds_for(&words, http_given(rt.alloc(), words)? == Some(served))?;
     }
@@ -232,6 +249,7 @@ fn the_loopback_of_ipv6_without_a_token(rt: HostRuntime) -> Result<(), Fail> {
         ),
         token_file: None,
         host: None,
+        page_file: None,
     };
     let words = ["fleet", "run", "--http", "[::1]:8080"];
     holds_for(&words, http_given(rt.alloc(), &words)? == Some(served))
@@ -251,6 +269,7 @@ Options:
       --http <ADDR>             Address and port that HTTP is served on, as 127.0.0.1:8080 or [::1]:8080 [default: none]
       --http-token-file <FILE>  File whose first line is the token that HTTP requests have to bring
       --http-host <NAME>        Name that HTTP requests may be for, beside IP addresses and localhost
+      --page <FILE>             File that is served as the page at /
   -h, --help                    Print help
 |";
 
@@ -281,10 +300,14 @@ const TOKEN_ALONE: &str = "'--http-token-file <FILE>' needs '--http <ADDR>'";
 
 const HOST_ALONE: &str = "'--http-host <NAME>' needs '--http <ADDR>'";
 
+const PAGE_ALONE: &str = "'--page <FILE>' needs '--http <ADDR>'";
+
 const BAD_TOKEN_FILE: &str =
     "'--http-token-file <FILE>' takes the path of a file, and not an empty text";
 
 const BAD_HOST: &str = "'--http-host <NAME>' takes a name, and not an empty text";
+
+const BAD_PAGE: &str = "'--page <FILE>' takes the path of a file, and not an empty text";
 
 const NO_TOKEN: &str = "'--http <ADDR>' off the loopback needs '--http-token-file <FILE>'";
 
@@ -389,13 +412,20 @@ fn addresses_of_http_that_need_a_token(rt: HostRuntime) -> Result<(), Fail> {
 }
 
 /// Words that are refused for what goes with `--http`, behind `fleet run`, and the line.
-const REFUSED_FOR_HTTP: [(&[&str], &str); 12] = [
+const REFUSED_FOR_HTTP: [(&[&str], &str); 20] = [
     (&["fleet", "run", "--http-token-file", "t"], TOKEN_ALONE),
     (&["fleet", "run", "--http-token-file="], TOKEN_ALONE),
     (&["fleet", "run", "--http-host", "h"], HOST_ALONE),
     (&["fleet", "run", "--http-host="], HOST_ALONE),
     (
         &["fleet", "run", "--http-host=h", "--http-token-file=t"],
+        TOKEN_ALONE,
+    ),
+    (&["fleet", "run", "--page", "p"], PAGE_ALONE),
+    (&["fleet", "run", "--page="], PAGE_ALONE),
+    (&["fleet", "run", "--page=p", "--http-host=h"], HOST_ALONE),
+    (
+        &["fleet", "run", "--page=p", "--http-token-file=t"],
         TOKEN_ALONE,
     ),
     (
@@ -414,6 +444,8 @@ const REFUSED_FOR_HTTP: [(&[&str], &str); 12] = [
         &["fleet", "run", "--http=192.0.2.7:1", "--http-host="],
         BAD_HOST,
     ),
+    (&["fleet", "run", "--http=127.0.0.1:1", "--page="], BAD_PAGE),
+    (&["fleet", "run", "--http=192.0.2.7:1", "--page="], BAD_PAGE),
     (
         &[
             "fleet",
@@ -423,6 +455,14 @@ const REFUSED_FOR_HTTP: [(&[&str], &str); 12] = [
             "--http-token-file=",
         ],
         BAD_TOKEN_FILE,
+    ),
+    (
+        &["fleet", "run", "--http=[::1]:1", "--page=", "--http-host="],
+        BAD_HOST,
+    ),
+    (
+        &["fleet", "run", "--http=192.0.2.7:1", "--page=p"],
+        NO_TOKEN,
     ),
     (
         &["fleet", "run", "--http=", "--http-host=", "--data="],
@@ -444,7 +484,7 @@ fn refused_words_of_http(rt: HostRuntime) -> Result<(), Fail> {
 }
 
 /// Words that no option takes, the line, and the usage where there is one.
-const STRAY: [(&[&str], &str, &str); 9] = [
+const STRAY: [(&[&str], &str, &str); 11] = [
     (
         &["fleet", "run", "here"],
         "unexpected argument 'here' found",
@@ -489,6 +529,16 @@ const STRAY: [(&[&str], &str, &str); 9] = [
         &["fleet", "run", "--http-token-file=a", "--http-token-file"],
         "a value is required for '--http-token-file <FILE>' but none was supplied",
         "",
+    ),
+    (
+        &["fleet", "run", "--page"],
+        "a value is required for '--page <FILE>' but none was supplied",
+        "",
+    ),
+    (
+        &["fleet", "run", "--http=127.0.0.1:1", "--page=p", "--page=p"],
+        "the argument '--page <FILE>' cannot be used multiple times",
+        RUN,
     ),
 ];
 

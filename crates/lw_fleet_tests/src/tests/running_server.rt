@@ -88,7 +88,7 @@ fn a_server_that_is_over(rt: HostRuntime) -> Result<(), Fail> {
 }
 
 /// Each fault, and its line.
-pub(super) const LINES: [(RunningFault, &str); 15] = [
+pub(super) const LINES: [(RunningFault, &str); 16] = [
     (RunningFault::DataFailed, "data failed\n"),
     (RunningFault::DataInUse, "data in use\n"),
     (RunningFault::DataDamaged, "data damaged\n"),
@@ -100,6 +100,7 @@ pub(super) const LINES: [(RunningFault, &str); 15] = [
     (RunningFault::BindFailed, "bind failed\n"),
     (RunningFault::HttpBindFailed, "http bind failed\n"),
     (RunningFault::TokenRefused, "token refused\n"),
+    (RunningFault::PageRefused, "page refused\n"),
     (RunningFault::ReceiveFailed, "receive failed\n"),
     (RunningFault::ClockRefused, "clock refused\n"),
     (RunningFault::RandomFailed, "random failed\n"),

@@ -45,6 +45,8 @@ pub(super) enum Look {
     Clock(u64),
     /// Whether it wants a compaction.
     IsDue(bool),
+    /// The bytes of the last whole entry of its log, and those behind it.
+    HasSize(usize, usize),
 }
 
 /// Asks it of the member.
@@ -90,6 +92,10 @@ pub(super) fn is_seen<G: DeltaLog>(member: &Member<G>, look: Look) -> bool {
         Look::Shown(is_so) => member.node().is_some() == is_so,
         Look::Clock(clock) => member.node().is_some_and(|node| node.clock() == clock),
         Look::IsDue(is_so) => member.wants_compaction() == is_so,
+        Look::HasSize(whole, behind) => {
+            let size = member.log_size();
+            size.whole == whole as u64 && size.behind == behind as u64
+        }
     }
 }
 

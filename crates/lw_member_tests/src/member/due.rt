@@ -63,6 +63,7 @@ fn is_due(alloc: Global, alone: bool, behind: usize, want: bool) -> Result<(), F
         Does(FIRST, Answers(NAMELESS, NAMELESS_REPLY)),
         Log(HasBytes(behind)),
         Shows(FIRST, IsDue(want)),
+        Shows(FIRST, HasSize(0, behind)),
     ];
     play_row(alloc, usize::from(want), alone, &[START], &steps)
 }
@@ -77,11 +78,12 @@ fn is_due_behind(alloc: Global, whole: usize, behind: usize, want: bool) -> Resu
         Does(FIRST, Answers(NAMELESS, NAMELESS_REPLY)),
         Log(HasBytes(START_LENGTH.saturating_add(whole).saturating_add(behind))),
         Shows(FIRST, IsDue(want)),
+        Shows(FIRST, HasSize(whole, behind)),
     ];
     play_row(alloc, usize::from(want), false, &[START], &steps)
 }
 
-/// Tries: lw_member::Member::wants_compaction, lw_member::Member::begin
+/// Tries: lw_member::Member::wants_compaction, lw_member::Member::begin, lw_member::Member::log_size
 #[test]
 fn a_log_of_16_mib_is_not_due_and_one_byte_more_is(rt: HostRuntime) -> Result<(), Fail> {
     for alone in [false, true] {
@@ -91,7 +93,7 @@ fn a_log_of_16_mib_is_not_due_and_one_byte_more_is(rt: HostRuntime) -> Result<()
     Ok(())
 }
 
-/// Tries: lw_member::Member::wants_compaction
+/// Tries: lw_member::Member::wants_compaction, lw_member::Member::log_size
 #[test]
 fn behind_a_whole_entry_below_4_mib_it_is_the_same(rt: HostRuntime) -> Result<(), Fail> {
     is_due_behind(rt.alloc(), MIB, 16 * MIB, false)?;

@@ -4,7 +4,7 @@ use super::runs::plays;
 use super::*;
 
 /// What another start has left, so that with the start of this one there is one byte more than 16 MiB.
-const KEPT: usize = 16 * 1_048_576 + 1 - 39;
+pub(super) const KEPT: usize = 16 * 1_048_576 + 1 - 39;
 
 /// The reply to a Register behind counter 65,536, which stands in what was left; an Update of it, message ID 16.
 const CREATED_BEHIND: &str = "604100048272640d0330303030303030313030303130303031";

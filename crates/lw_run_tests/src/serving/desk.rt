@@ -2,13 +2,21 @@
 
 use super::stage::CHANCE;
 use super::*;
-use lw_target::{Asked, Desk, Status};
+use lw_target::{Asked, Desk, Media, Status};
 
-/// The server of a new member over the log, whose turns are at a second.
+/// The server of a new member over the log, whose turns are at a second. It has no page.
 fn server_over(alloc: Global, log: MemoryLog) -> Result<Server<MemoryLog, Ticks<'static>>, Fail> {
+    server_with(alloc, log, None)
+}
+
+fn server_with(
+    alloc: Global,
+    log: MemoryLog,
+    page: Option<String>,
+) -> Result<Server<MemoryLog, Ticks<'static>>, Fail> {
     let member = Member::begin(alloc, log, &CHANCE, Moment::START)?;
     let clock = Ticks::new(&[1_000]);
-    Ok(Server::new(alloc, member, clock, 0, Moment::START))
+    Ok(Server::new(alloc, member, clock, 0, Moment::START, page))
 }
 
 /// Whether a turn with a Register has given replies.
@@ -74,6 +82,31 @@ fn nothing_is_told_that_the_log_does_not_lead(rt: HostRuntime) -> Result<(), Fai
     tells(&server, &Asked::Health, Status::ServiceUnavailable, AWAY)?;
     let away = r#"{"error":"away"}"#;
     tells(&server, &Asked::Node, Status::ServiceUnavailable, away)
+}
+
+/// Tries: lw_target::Desk::answer, Server::new
+#[test]
+fn a_page_is_told_also_while_the_log_is_away(rt: HostRuntime) -> Result<(), Fail> {
+    let alloc = rt.alloc();
+    let mut log = MemoryLog::new(alloc);
+    log.fail_after(1, false);
+    let page = String::from_str(alloc, "<p>é")?;
+    let mut server = server_with(alloc, log, Some(page))?;
+    tells(&server, &Asked::Page, Status::Ok, "<p>é")?;
+    holds("no replies", !takes(alloc, &mut server)?)?;
+    tells(&server, &Asked::Page, Status::Ok, "<p>é")?;
+    holds(
+        "as a page",
+        server.answer(&Asked::Page)?.media == Media::Html,
+    )
+}
+
+/// Tries: lw_target::Desk::answer, Server::new
+#[test]
+fn there_may_be_no_page(rt: HostRuntime) -> Result<(), Fail> {
+    let server = server_over(rt.alloc(), MemoryLog::new(rt.alloc()))?;
+    let none = r#"{"error":"not found"}"#;
+    tells(&server, &Asked::Page, Status::NotFound, none)
 }
 
 /// Fails where the measures do not have the line.

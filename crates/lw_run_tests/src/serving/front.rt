@@ -3,7 +3,7 @@
 ghost use Rattle.std.specs.Prelude.{◌≤◌, length, IfOk};
 
 use super::*;
-use lw_target::Desk;
+use lw_target::{Asked, Desk};
 use std::time::Duration;
 
 /// What a front gives.
@@ -30,6 +30,9 @@ pub(super) struct MemoryFront<'a> {
     send_fails: bool,
     /// What was sent, to which ports, a line each.
     sent: String,
+    /// Whether two visitors have asked for what is not there, and the desk is asked for its measures at the end.
+    visited: bool,
+    measures: String,
 }
 
 impl<'a> MemoryFront<'a> {
@@ -44,7 +47,21 @@ impl<'a> MemoryFront<'a> {
             taken: 0,
             send_fails,
             sent: String::new(alloc),
+            visited: false,
+            measures: String::new(alloc),
         }
+    }
+
+    /// With visitors, and measures at the end.
+    pub(super) fn visited(self) -> MemoryFront<'a> {
+        MemoryFront {
+            visited: true,
+            ..self
+        }
+    }
+
+    pub(super) fn into_measures(self) -> String {
+        self.measures
     }
 
     pub(super) fn into_sent(self) -> String {
@@ -58,6 +75,15 @@ impl<'a> MemoryFront<'a> {
         let count = bytes.len().min(buffer.len());
         buffer[..count].copy_from_slice(&bytes[..count]);
         Ok((count, from_port(port)))
+    }
+
+    /// Asks for measures, if they are to be told.
+    fn ask<D: Desk>(&mut self, desk: &D) -> Result<(), WireFault> {
+        if self.visited {
+            let answer = desk.answer(&Asked::Metrics).map_err(|_| WireFault)?;
+            self.measures = answer.body;
+        }
+        Ok(())
     }
 
     /// Adds a line, if there is memory for it.
@@ -78,11 +104,12 @@ fn from_port(port: u16) -> Addr {
 impl Front for MemoryFront<'_> {
     fn attend<D: Desk>(
         &mut self,
-        _desk: &D,
+        desk: &D,
         buffer: &mut [u8],
         _time: Duration,
     ) -> Result<Heard, WireFault> {
         let Some(coming) = self.comings.get(self.taken) else {
+            self.ask(desk)?;
             return Ok(Heard::End);
         };
         self.taken = self.taken.wrapping_add(1);
@@ -109,6 +136,15 @@ impl Front for MemoryFront<'_> {
             return Err(WireFault);
         }
         self.put_sent(to, bytes).ok_or(WireFault)
+    }
+
+    fn responses(&self) -> Responses {
+        let mut responses = Responses::new();
+        if self.visited {
+            responses.count(404);
+            responses.count(404);
+        }
+        responses
     }
 }
 

@@ -1,6 +1,8 @@
 //! Sockets of the loopback as a front.
 
 use super::*;
+use log::sink::{Discard, Memory};
+use log::{Level, Log, Logged};
 use lw_front::Sockets;
 use lw_stamp::NoMemory;
 use lw_target::{Answer, Asked, Desk, Media, Status};
@@ -8,7 +10,7 @@ use lw_visit::Guard;
 use lw_wire::address_of;
 use std::hash::RandomState;
 use std::io::{self, Read, Write};
-use std::net::{Net, SocketAddr, TcpStream, ToSocketAddrs, UdpSocket};
+use std::net::{Net, OpenStream, SocketAddr, TcpStream, ToSocketAddrs, UdpSocket};
 use std::time::{Clock, Duration, Instant};
 
 /// A desk that tells the same to all that is asked.
@@ -28,23 +30,24 @@ impl Desk for OneAnswer {
 }
 
 /// A front at some port of the host, a client at another, which waits for 20 seconds, and where the front is.
-fn bound<'a, N: Net + Clock>(
+fn bound<'a, N: Net + Clock, L: Log>(
     net: &'a N,
+    log: &'a L,
     alloc: Global,
     host: &str,
-) -> io::Result<(Sockets<'a, N>, UdpSocket, SocketAddr)> {
+) -> io::Result<(Sockets<'a, N, L>, UdpSocket, SocketAddr)> {
     let client = UdpSocket::bind(net, host)?;
     client.set_read_timeout(Some(Duration::from_secs(20)))?;
     let mut address = client.local_addr()?;
     address.set_port(0);
-    let sockets = Sockets::bind(net, net, alloc, address)?;
+    let sockets = Sockets::bind(net, net, log, alloc, address)?;
     let at = sockets.local_address()?;
     Ok((sockets, client, at))
 }
 
 /// Two datagrams that were sent come in their order, where they were sent from, and what the front sends arrives there.
-fn is_served<C: Clock>(
-    sockets: &mut Sockets<'_, C>,
+fn is_served<C: Clock, L: Log>(
+    sockets: &mut Sockets<'_, C, L>,
     desk: &OneAnswer,
     client: &UdpSocket,
     at: SocketAddr,
@@ -73,7 +76,7 @@ fn is_served<C: Clock>(
 /// Tries: lw_front::Sockets::bind, lw_front::Sockets::local_address, lw_run::Front::attend, lw_run::Front::more
 #[test]
 fn datagrams_come_and_go_over_ipv4(rt: HostRuntime) -> Result<(), Fail> {
-    let (mut sockets, client, at) = bound(&rt, rt.alloc(), "127.0.0.1:0")?;
+    let (mut sockets, client, at) = bound(&rt, &Discard, rt.alloc(), "127.0.0.1:0")?;
     is_served(&mut sockets, &OneAnswer(rt.alloc()), &client, at)?;
     is_served(&mut sockets, &OneAnswer(rt.alloc()), &client, at)
 }
@@ -81,7 +84,7 @@ fn datagrams_come_and_go_over_ipv4(rt: HostRuntime) -> Result<(), Fail> {
 /// Tries: lw_front::Sockets::bind
 #[test]
 fn datagrams_come_and_go_over_ipv6(rt: HostRuntime) -> Result<(), Fail> {
-    match bound(&rt, rt.alloc(), "[::1]:0") {
+    match bound(&rt, &Discard, rt.alloc(), "[::1]:0") {
         Ok((mut sockets, client, at)) => is_served(
             &mut sockets,
             &OneAnswer(rt.alloc()),
@@ -96,7 +99,7 @@ fn datagrams_come_and_go_over_ipv6(rt: HostRuntime) -> Result<(), Fail> {
 /// Tries: lw_front::Sockets::bind
 #[test]
 fn a_wait_ends_when_its_time_is_over(rt: HostRuntime) -> Result<(), Fail> {
-    let (mut sockets, _client, _at) = bound(&rt, rt.alloc(), "127.0.0.1:0")?;
+    let (mut sockets, _client, _at) = bound(&rt, &Discard, rt.alloc(), "127.0.0.1:0")?;
     let began = Instant::now(&rt)?;
     let heard = sockets.attend(
         &OneAnswer(rt.alloc()),
@@ -113,10 +116,10 @@ fn a_wait_ends_when_its_time_is_over(rt: HostRuntime) -> Result<(), Fail> {
 /// Tries: lw_front::Sockets::bind
 #[test]
 fn what_the_system_refuses_is_a_fault(rt: HostRuntime) -> Result<(), Fail> {
-    let (mut sockets, _client, at) = bound(&rt, rt.alloc(), "127.0.0.1:0")?;
+    let (mut sockets, _client, at) = bound(&rt, &Discard, rt.alloc(), "127.0.0.1:0")?;
     holds(
         "one socket an address",
-        Sockets::bind(&rt, &rt, rt.alloc(), at).is_err(),
+        Sockets::bind(&rt, &rt, &Discard, rt.alloc(), at).is_err(),
     )?;
     let nowhere = Addr::V4 {
         address: [127, 0, 0, 1],
@@ -130,29 +133,144 @@ const ASKED: &[u8] = b"GET /v1/health HTTP/1.1\r\nhost: localhost\r\n\r\n";
 const TOLD: &str = "HTTP/1.1 200 OK\r\nconnection: close\r\ncache-control: no-store\r\n\
     x-content-type-options: nosniff\r\ncontent-type: application/json\r\ncontent-length: 2\r\n\r\n{}";
 
-/// What a visitor at the address is told while the front waits for a datagram.
-fn visited<N: Net, C: Clock>(
+/// What a visitor at the address who says this is told while the front waits for a datagram, and where he is.
+fn visited<N: Net, C: Clock, L: Log>(
     net: &N,
     alloc: Global,
-    sockets: &mut Sockets<'_, C>,
+    sockets: &mut Sockets<'_, C, L>,
     at: SocketAddr,
-) -> Result<String, Fail> {
+    says: &[u8],
+) -> Result<(String, SocketAddr), Fail> {
     let mut visitor = TcpStream::connect(net, at)?;
-    visitor.write_all(ASKED)?;
+    let from = visitor.local_addr()?;
+    visitor.write_all(says)?;
     sockets.attend(&OneAnswer(alloc), &mut [0; 4], Duration::from_millis(300))?;
-    Ok(io::read_to_string(alloc, visitor)?)
+    Ok((io::read_to_string(alloc, visitor)?, from))
+}
+
+/// Lets anybody in at some port of the address.
+fn let_in<C: Clock, L: Log>(
+    rt: &HostRuntime,
+    sockets: &mut Sockets<'_, C, L>,
+    at: SocketAddr,
+) -> Result<SocketAddr, Fail> {
+    let guard = Guard {
+        token: None,
+        host: None,
+    };
+    let keys = RandomState::new(rt)?;
+    Ok(sockets.receive(rt, keys, guard, SocketAddr::new(at.ip(), 0))?)
 }
 
 /// Tries: lw_front::Sockets::receive, lw_run::Front::attend, lw_visit::advance, lw_visit::new_connection
 #[test]
 fn a_visitor_is_answered_while_none_sends(rt: HostRuntime) -> Result<(), Fail> {
-    let (mut sockets, _client, at) = bound(&rt, rt.alloc(), "127.0.0.1:0")?;
-    let guard = Guard {
-        token: None,
-        host: None,
-    };
-    let keys = RandomState::new(&rt)?;
-    let at = sockets.receive(&rt, keys, guard, SocketAddr::new(at.ip(), 0))?;
-    let told = visited(&rt, rt.alloc(), &mut sockets, at)?;
+    let (mut sockets, _client, at) = bound(&rt, &Discard, rt.alloc(), "127.0.0.1:0")?;
+    let at = let_in(&rt, &mut sockets, at)?;
+    let (told, _from) = visited(&rt, rt.alloc(), &mut sockets, at, ASKED)?;
     holds("what is told", told.as_str() == TOLD)
+}
+
+/// What visitors say, and what is logged of each behind where he is.
+const LINES: [(&[u8], &str); 5] = [
+    (ASKED, "method=GET target=/v1/health status=200 bytes=149"),
+    (
+        b"HEAD /v1/node HTTP/1.0\r\n\r\n",
+        "method=HEAD target=/v1/node status=200 bytes=147",
+    ),
+    (
+        b"\r\nGET /%41?a=b&c HTTP/1.1\r\nhost: localhost\r\n\r\n",
+        "method=GET target=/%41?a=b&c status=404 bytes=183",
+    ),
+    (
+        b"G\"\\\x1b\xff /\x00\ttarget=/ HTTP/1.1\r\n\r\n",
+        "method=G\\\"\\\\\\x1b\\xff target=/\\x00\\ttarget=/ status=400 bytes=66",
+    ),
+    (b"\n\n \r\n\r\n", "method=- target=- status=400 bytes=66"),
+];
+
+/// Tries: lw_front::Sockets::receive, lw_run::Front::attend, lw_run::Front::responses
+#[test]
+fn a_line_is_logged_of_each_visitor(rt: HostRuntime) -> Result<(), Fail> {
+    for (says, want) in LINES {
+        let logged = Logged::new((), Level::Info, Memory::new(rt.alloc()));
+        let from = told_of(&rt, &logged, says)?;
+        let lines = logged.into_parts().1.into_lines().into_vec();
+        let want = format!(in rt.alloc(); "[INFO  lw_front::visit] http peer={from} {want}")?;
+        holds_for(
+            &lines,
+            lines.len() == 1 && lines[0].as_str() == want.as_str(),
+        )?;
+    }
+    Ok(())
+}
+
+/// Where a visitor came from who says this.
+fn told_of<L: Log>(rt: &HostRuntime, log: &L, says: &[u8]) -> Result<SocketAddr, Fail> {
+    let (mut sockets, _client, at) = bound(rt, log, rt.alloc(), "127.0.0.1:0")?;
+    let at = let_in(rt, &mut sockets, at)?;
+    let (_told, from) = visited(rt, rt.alloc(), &mut sockets, at, says)?;
+    Ok(from)
+}
+
+/// A request of HTTP/1.0 whose method and whose target have so many bytes.
+fn long(alloc: Global, length: usize) -> Result<String, Fail> {
+    let mut says = String::new(alloc);
+    for _letter in 0..length {
+        says.push('G')?;
+    }
+    says.push_str(" /")?;
+    for _letter in 1..length {
+        says.push('x')?;
+    }
+    says.push_str(" HTTP/1.0\r\n\r\n")?;
+    Ok(says)
+}
+
+/// What is logged of one whose method and target are told to so many bytes.
+fn told_to(alloc: Global, from: SocketAddr, length: usize) -> Result<String, Fail> {
+    let mut line = format!(in alloc; "[INFO  lw_front::visit] http peer={from} method=")?;
+    for _letter in 0..length {
+        line.push('G')?;
+    }
+    line.push_str(" target=/")?;
+    for _letter in 1..length {
+        line.push('x')?;
+    }
+    line.push_str(" status=404 bytes=183")?;
+    Ok(line)
+}
+
+/// Tries: lw_front::Sockets::receive, lw_run::Front::attend
+#[test]
+fn what_is_logged_of_a_request_is_cut(rt: HostRuntime) -> Result<(), Fail> {
+    for (length, told) in [(199, 199), (200, 200), (201, 200), (2_000, 200)] {
+        let logged = Logged::new((), Level::Info, Memory::new(rt.alloc()));
+        let from = told_of(&rt, &logged, long(rt.alloc(), length)?.as_bytes())?;
+        let lines = logged.into_parts().1.into_lines().into_vec();
+        let want = told_to(rt.alloc(), from, told)?;
+        holds_for(
+            &lines,
+            lines.len() == 1 && lines[0].as_str() == want.as_str(),
+        )?;
+    }
+    Ok(())
+}
+
+/// Tries: lw_run::Front::responses
+#[test]
+fn responses_are_counted_by_status(rt: HostRuntime) -> Result<(), Fail> {
+    let (mut sockets, _client, at) = bound(&rt, &Discard, rt.alloc(), "127.0.0.1:0")?;
+    holds("nobody yet", sockets.responses().counts == [0; 13])?;
+    let at = let_in(&rt, &mut sockets, at)?;
+    for says in [
+        ASKED,
+        b"GET /none HTTP/1.0\r\n\r\n",
+        b"GET / HTTP/9.9\r\n\r\n",
+        ASKED,
+    ] {
+        visited(&rt, rt.alloc(), &mut sockets, at, says)?;
+    }
+    let want = [2, 1, 0, 1, 0, 0, 0, 0, 0, 0, 0, 0, 0];
+    holds_for(&sockets.responses(), sockets.responses().counts == want)
 }

@@ -2,7 +2,7 @@
 
 use super::*;
 use bytes::Bytes;
-use log::sink::Memory;
+use log::sink::{Discard, Memory};
 use log::{Level, Logged};
 use std::cell::{Cell, RefCell};
 use std::time::Duration;
@@ -106,16 +106,9 @@ impl<'a> Stage<'a> {
             log: &log,
             trouble: &trouble,
         };
-        let member = Member::begin(alloc, shared, &CHANCE, Moment::START)?;
+        let server = self.server(alloc, shared)?;
         let begun = asked_of(&log)?;
         trouble.set(self.trouble);
-        let server = Server::new(
-            alloc,
-            member,
-            Ticks::new(self.moments),
-            self.skew,
-            Moment::START,
-        );
         let mut front = MemoryFront::new(alloc, self.comings, self.send_fails);
         let logged = Logged::new((), Level::Info, Memory::new(alloc));
         let ended = run_on(
@@ -131,6 +124,34 @@ impl<'a> Stage<'a> {
             writeln!(text, "{line}")?;
         }
         Ok(text)
+    }
+
+    /// The server of a new member over the log, of which each append takes no time.
+    fn server<'b>(
+        &self,
+        alloc: Global,
+        shared: SharedLog<'b>,
+    ) -> Result<Server<Timed<SharedLog<'b>, Readings<'static>>, Ticks<'a>>, Fail> {
+        let log = Timed::new(shared, Readings::new(&[Some(0)]));
+        let member = Member::begin(alloc, log, &CHANCE, Moment::START)?;
+        let clock = Ticks::new(self.moments);
+        Ok(Server::new(alloc, member, clock, self.skew, Moment::START, None))
+    }
+
+    /// Serves what comes with a new member: the measures at the end.
+    pub(super) fn measured(&self, alloc: Global) -> Result<String, Fail> {
+        let log = RefCell::new(log_of(alloc, self.kept)?);
+        let trouble = Cell::new(None);
+        let shared = SharedLog {
+            log: &log,
+            trouble: &trouble,
+        };
+        let server = self.server(alloc, shared)?;
+        trouble.set(self.trouble);
+        let mut front = MemoryFront::new(alloc, self.comings, self.send_fails).visited();
+        let wait = Duration::from_secs(1);
+        run_on(&mut front, server, &Discard, wait, self.compaction)?;
+        Ok(front.into_measures())
     }
 }
 

@@ -9,4 +9,4 @@ returns-in-Some-clause-only c = λ resource segment is.
 
 pub returns-in-None-clause-only : goal.returns-in-None-clause-only
 returns-in-None-clause-only c = λ resource segment is.
-    only_below c.at.result c.below.result (λ b s x. (x.0 ≡ b) × (x.1.now ≡ s)) c.args.path.now c.in-None.is c.at.ensures c.below.ensures.only resource segment is
+    only_below c.at.result c.below.result (λ b s x. (x.0 ≡ b) × (x.1.now ≡ s)) c.args.path.now c.in-None.is c.at.ensures c.below.ensures.below c.below.ensures.within resource segment is

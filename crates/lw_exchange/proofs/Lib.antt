@@ -1,0 +1,7 @@
+pub mod HeldLemmas
+pub mod RepeatLemmas
+pub mod AnswerLemmas
+pub mod RequestLemmas
+pub mod BodyLemmas
+pub mod TakenLemmas
+pub mod SpelledLemmas

@@ -1,0 +1,9 @@
+pub mod Requests
+pub mod Replies
+pub mod Repeats
+pub mod Blocks
+pub mod BlockAnswers
+pub mod Kept
+pub mod Bodies
+pub mod Spelled
+pub mod inner

@@ -1,0 +1,5 @@
+pub mod Held
+pub mod BlockAnswers
+pub mod Reading
+pub mod Requests
+pub mod Bodies

@@ -1,0 +1,13 @@
+mod Splits
+mod Positions
+mod LiteralLemmas
+mod LineLemmas
+mod NumberLemmas
+mod Composed
+mod BulkLemmas
+mod Exact
+mod WordLemmas
+mod StreamIdLemmas
+mod Many
+mod EntryLemmas
+mod ReplyLemmas

@@ -1,0 +1,11 @@
+use Rattle.std.proofs.Common.{ℕ, List, [], ◌∷◌, Bor, refl, sym, ap, arith}
+use Rattle.lw_resp.specs.Words.{IsBulk, IsText, IsWord, word_bytes}
+use Rattle.lw_resp.specs.Words.WordContent.{Number}
+use Rattle.lw_resp.specs.inner.Parts.{AreThese, IsAtMost, as_they_are, bulk_ended, ended, number_ended}
+use Rattle.lw_resp.proofs.Composed.{read_none, cut_behind}
+use Rattle.lw_resp.proofs.words.integer.Goals as goal
+
+pub returns-in-Ok-None : goal.returns-in-Ok-None
+returns-in-Ok-None c =
+    let cut = read_none (IsAtMost 9223372036854775807) number_ended c.args.behind.now (λ (x : ℕ × Bor (List ℕ)). x.0) (λ x. x.1.now) c.in-Ok-None.field-0 c.in-Ok-None.field-0-is c.in-Ok-None.ensures in
+    cut_behind (IsAtMost 9223372036854775807) number_ended IsWord word_bytes (58 ∷ c.args.behind.now) (58 ∷ []) c.args.behind.now refl cut (Number cut.value) (omega (arith, cut.valid)) refl

@@ -1,0 +1,14 @@
+use Rattle.std.proofs.Common.{◌∙◌, ap, sym, ◌++◌, [], List, cond, replicate}
+use Rattle.lw_call.specs.declared.call.Call.TheVariants.{Sweep}
+use Rattle.lw_metrics.specs.Counting.{counted}
+use Rattle.lw_run.specs.Turns.{sweeps_a_turn}
+use Rattle.lw_run.proofs.Turns.{settles_by}
+use Rattle.lw_run.proofs.settling.settle.Goals as goal
+
+pub returns-clause-settled : goal.returns-clause-settled
+returns-clause-settled g c =
+    let calls = c.in_ok-put_sweeps_where.ensures
+    ∙ ap (λ claimed. c.args.sorted.calls.items ++ cond claimed (replicate sweeps_a_turn (Sweep c.args.before)) []) c.is_claimed.ensures in
+    let counts = c.count.ensures ∙ (λ k. counted c.args.tally.now ((c.deref-2.ensures.value ∙ sym c.deref.ensures.value) k) (c.deref-3.ensures.value k)) in
+    settles_by _ _ _ _ _ _ _ _ _ _ _ _ calls c.deref.ensures.value c.in_ok-replies.ensures.round counts c.in_ok-reserve.ensures.items
+    c.put_handled.ensures.handled.1.0 c.put_handled.ensures.handled.1.1

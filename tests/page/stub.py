@@ -1,0 +1,102 @@
+"""A server that tells what the program rarely does, written by hand from docs/HTTP.md: away, gone, silent, refusing."""
+
+import contextlib
+import http.server
+import json
+import threading
+import time
+
+from showing import PAGE, POLICY
+
+START, OTHER = "00000000000000aa", "00000000000000bb"
+MEASURES = """# HELP fleet_datagrams_total Datagrams that were taken
+# TYPE fleet_datagrams_total counter
+fleet_datagrams_total %d
+fleet_start_time_seconds 1764346801
+fleet_log_away %d
+fleet_log_append_seconds_bucket{le="0.1"} 3
+fleet_log_entries_written_total 41207
+"""
+
+
+def registration(endpoint, lifetime, seen):
+    members = {"address": "192.0.2.7:5683", "attributes": {}, "binding": "U", "endpoint": endpoint, "id": START}
+    further = {"lifetime": lifetime, "lwm2m": "1.1", "objects": "</1/0>", "queue": False, "seen": seen, "sms": None}
+    return {**members, **further}
+
+
+class Stub:
+    """It listens on the loopback until it is left. What it tells is changed by whoever tries a page on it."""
+
+    def __init__(self):
+        self.mode, self.start, self.now, self.datagrams = "serving", START, 1_000_000, 0
+        # each change is an endpoint with its registration or none; its number is its place, counted from 1
+        self.changes, self.asked = [], []
+        self.server = http.server.ThreadingHTTPServer(("127.0.0.1", 0), self.handler())
+        self.visited = self.server.server_address
+
+    def __enter__(self):
+        threading.Thread(target=self.server.serve_forever, daemon=True).start()
+        return self
+
+    def __exit__(self, *_):
+        self.mode = "serving"
+        self.server.shutdown()
+        self.server.server_close()
+
+    def handler(self):
+        stub = self
+
+        class Handler(http.server.BaseHTTPRequestHandler):
+            def do_GET(self):
+                stub.asked.append(self.path)
+                status, kind, body = stub.answer(*self.path.partition("?")[::2])
+                self.send_response(status)
+                fields = {"content-security-policy": POLICY, "content-type": kind, "content-length": str(len(body))}
+                for name, value in fields.items():
+                    self.send_header(name, value)
+                # a page waits for a silent server no longer than it likes
+                with contextlib.suppress(OSError):
+                    self.end_headers()
+                    self.wfile.write(body)
+
+            def log_message(self, *_):
+                pass
+
+        return Handler
+
+    def answer(self, path, query):
+        """The status, the kind and the body of what is told."""
+        if path == "/":
+            return 200, "text/html; charset=utf-8", PAGE.read_bytes()
+        while self.mode == "silent":
+            time.sleep(0.1)
+        if path == "/metrics":
+            return 200, "text/plain", (MEASURES % (self.datagrams, self.mode == "away")).encode()
+        status, members = self.members(path, dict(it.split("=") for it in query.split("&") if it))
+        return status, "application/json", json.dumps(members).encode()
+
+    def members(self, path, query):
+        is_away = self.mode == "away"
+        if path == "/v1/health":
+            word = "away" if is_away else "serving"
+            return 503 if is_away else 200, {"now": self.now, "status": word, "version": "0.1.0"}
+        if is_away:
+            return 503, {"error": "away"}
+        if self.mode == "refusing":
+            return 503, {"error": "no memory"}
+        if path == "/v1/node":
+            counts = {"change": len(self.changes), "counter": 1, "number": 7, "registrations": len(self.changes)}
+            return 200, {**counts, "start": self.start}
+        return self.changes_behind(int(query["since"]), query.get("start"), int(query["limit"]))
+
+    def changes_behind(self, since, start, limit):
+        """Those from a number on; an endpoint that has changed again is told later."""
+        if self.mode == "gone" or (start or self.start) != self.start:
+            self.mode = "serving"
+            return 410, {"error": "gone"}
+        last = {endpoint: at for at, (endpoint, _) in enumerate(self.changes, 1)}
+        behind = [(at, *it) for at, it in enumerate(self.changes, 1) if since < at == last[it[0]]]
+        told = [{"change": at, "endpoint": name, "registration": it} for at, name, it in behind[:limit]]
+        next_ = told[-1]["change"] if told else since
+        return 200, {"changes": told, "more": len(behind) > limit, "next": next_, "start": self.start}
