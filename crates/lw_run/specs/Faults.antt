@@ -7,10 +7,10 @@ use Rattle.lw_run.specs.declared.fault.RunFault.TheVariants as ends
 use Rattle.lw_run.specs.declared.fault.TurnFault.{TurnFault}
 use Rattle.lw_run.specs.declared.fault.TurnFault.TheVariants as turns
 
--- a log that is away, or has lost something that the next turn writes again, is away; want of memory is one thing
+-- a log that is away, or that has lost what was appended last; want of memory is one thing
 abbrev pub turn_fault_of : MemberFault → TurnFault
 turn_fault_of (faults.Log log_faults.Away) = turns.Away
-turn_fault_of (faults.Log log_faults.Lost) = turns.Away
+turn_fault_of (faults.Log log_faults.Lost) = turns.Lost
 turn_fault_of (faults.Log log_faults.NoMemory) = turns.NoMemory
 turn_fault_of faults.NoMemory = turns.NoMemory
 turn_fault_of fault = turns.Member fault

@@ -34,6 +34,9 @@ pub(crate) struct Course<G: DeltaLog + Metered, C: HostClock + Drop> {
     rest: u32,
     /// Whether the log is away.
     is_away: bool,
+    /// Whether the log has lost entries since it was compacted. Whoever reads it from its beginning may miss what stood in
+    /// them, until all is written anew.
+    has_lost: bool,
     /// The moment of the last turn.
     last: Moment,
     refusals: Refusals,
@@ -49,6 +52,7 @@ impl<G: DeltaLog + Metered, C: HostClock + Drop> Course<G, C> {
             starved: 0,
             rest: 0,
             is_away: false,
+            has_lost: false,
             last,
             refusals: Refusals::new(),
         };
@@ -104,9 +108,9 @@ impl<G: DeltaLog + Metered, C: HostClock + Drop> Course<G, C> {
     fn sends_of(&mut self, batch: Vec<Datagram>) -> Result<Vec<(Addr, Vec<u8>)>, TurnFault> {
         let count = batch.len() as u64;
         match self.server.take(batch) {
-            Err(TurnFault::Away) => {
+            Err(fault @ (TurnFault::Away | TurnFault::Lost)) => {
                 self.drop_datagrams(count);
-                Err(TurnFault::Away)
+                Err(fault)
             }
             taken => taken,
         }
@@ -192,7 +196,14 @@ impl<G: DeltaLog + Metered, C: HostClock + Drop> Course<G, C> {
     }
 
     fn is_compaction_due(&self) -> bool {
-        self.compaction == Compaction::WhereDue && self.rest == 0 && self.server.wants_compaction()
+        self.compaction == Compaction::WhereDue
+            && self.rest == 0
+            && (self.server.wants_compaction() || self.is_to_be_mended())
+    }
+
+    /// Whether the log has lost entries that this server can write anew.
+    fn is_to_be_mended(&self) -> bool {
+        self.has_lost && self.server.member.is_claimed()
     }
 
     /// Compacts the log where that is due. Where it fails for now, it is put off by some turns.
@@ -205,10 +216,11 @@ impl<G: DeltaLog + Metered, C: HostClock + Drop> Course<G, C> {
             Ok(()) => {
                 let edge = &mut self.server.edge;
                 edge.compactions = edge.compactions.saturating_add(1);
+                self.has_lost = false;
                 info!(log; "compacted");
                 Ok(())
             }
-            Err(TurnFault::Away | TurnFault::NoMemory) => {
+            Err(TurnFault::Away | TurnFault::Lost | TurnFault::NoMemory) => {
                 warn!(log; "compaction put off");
                 self.rest = TURNS_BETWEEN_COMPACTIONS;
                 Ok(())
@@ -217,14 +229,26 @@ impl<G: DeltaLog + Metered, C: HostClock + Drop> Course<G, C> {
         }
     }
 
+    /// The log is away from now on, until a turn is made.
+    fn goes_away<L: Log>(&mut self, log: &L) {
+        if !self.is_away {
+            self.is_away = true;
+            warn!(log; "log away");
+        }
+    }
+
     /// A turn failed: whether the run goes on.
     fn endures<L: Log>(&mut self, log: &L, fault: TurnFault) -> Result<(), RunFault> {
         match fault {
             TurnFault::Away => {
-                if !self.is_away {
-                    self.is_away = true;
-                    warn!(log; "log away");
-                }
+                self.goes_away(log);
+                Ok(())
+            }
+            TurnFault::Lost => {
+                self.has_lost = true;
+                self.rest = 0;
+                warn!(log; "log lost");
+                self.goes_away(log);
                 Ok(())
             }
             TurnFault::NoMemory => {

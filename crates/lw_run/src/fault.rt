@@ -14,9 +14,12 @@ use thiserror::Error;
 /// Why a turn gave no replies.
 #[derive(Clone, Copy, Debug, PartialEq, Eq, Error)]
 pub enum TurnFault {
-    /// The log cannot be asked now, or has lost what was appended last, which the next turn writes again.
+    /// The log cannot be asked now.
     #[error("the log is away")]
     Away,
+    /// The log has lost what was appended last, which the next turn writes again.
+    #[error("the log has lost what was appended last")]
+    Lost,
     /// The host's clock gave no moment.
     #[error("the host's clock gave no moment in range")]
     ClockRefused,
@@ -33,7 +36,8 @@ impl From<MemberFault> for TurnFault {
 
     fn from(error: MemberFault) -> TurnFault {
         match error {
-            MemberFault::Log(LogFault::Away | LogFault::Lost) => TurnFault::Away,
+            MemberFault::Log(LogFault::Away) => TurnFault::Away,
+            MemberFault::Log(LogFault::Lost) => TurnFault::Lost,
             MemberFault::Log(LogFault::NoMemory) | MemberFault::NoMemory => TurnFault::NoMemory,
             fault => TurnFault::Member(fault),
         }

@@ -13,6 +13,12 @@ const UPDATE_BEHIND: &str = "40020010b272640d0330303030303030313030303130303031"
 
 const PUT_OFF: &str = "[WARN  lw_run::course] compaction put off";
 
+const LOST: &str = "[WARN  lw_run::course] log lost";
+
+const AWAY: &str = "[WARN  lw_run::course] log away";
+
+const BACK: &str = "[INFO  lw_run::course] log back";
+
 const COMPACTED: &str = "[INFO  lw_run::course] compacted";
 
 /// The first turn with a datagram enters the start: an entry and a reading. Where that makes the compaction due it follows: a
@@ -99,6 +105,39 @@ fn a_compaction_is_put_off_by_a_thousand_turns(rt: HostRuntime) -> Result<(), Fa
         plays(rt.alloc(), &stage, &want)?;
     }
     Ok(())
+}
+
+/// A log that has lost entries is written anew, however short it is, by a server that has written into it.
+/// Tries: lw_run::run_on
+#[test]
+fn a_log_that_has_lost_entries_is_compacted(rt: HostRuntime) -> Result<(), Fail> {
+    let lost = Some(Trouble {
+        fault: LogFault::Lost,
+        after: 1,
+        times: 1,
+    });
+    let mut stage = Stage::new(&[Coming::Datagram(1, PING), Coming::Nothing, Coming::Nothing]);
+    stage.trouble = lost;
+    let lines = format!(in rt.alloc(); "{LOST}\n{AWAY}\n{BACK}\n{COMPACTED}\n")?;
+    let want = format!(in rt.alloc(); "Ok(()) WrrrWx\n1 {PONG}\n{lines}")?;
+    plays(rt.alloc(), &stage, &want)?;
+    stage.compaction = Compaction::Never;
+    let want = format!(in rt.alloc(); "Ok(()) Wrr\n1 {PONG}\n{LOST}\n{AWAY}\n{BACK}\n")?;
+    plays(rt.alloc(), &stage, &want)
+}
+
+/// A server that has written nothing has nothing that is lost.
+/// Tries: lw_run::run_on
+#[test]
+fn a_reader_of_a_log_that_has_lost_entries_writes_nothing(rt: HostRuntime) -> Result<(), Fail> {
+    let mut stage = Stage::new(&[Coming::Nothing, Coming::Nothing]);
+    stage.trouble = Some(Trouble {
+        fault: LogFault::Lost,
+        after: 0,
+        times: 1,
+    });
+    let want = format!(in rt.alloc(); "Ok(()) r\n{LOST}\n{AWAY}\n{BACK}\n")?;
+    plays(rt.alloc(), &stage, &want)
 }
 
 /// Tries: lw_run::run_on

@@ -71,8 +71,9 @@ const TROUBLES: [(LogFault, u32, &str); 7] = [
     (
         LogFault::Lost,
         1,
-        "Ok(()) Wrrrrr\n1 70000007\n4 70000007\n5 70000007\n6 70000007\n\
-         [WARN  lw_run::course] log away\n[INFO  lw_run::course] log back\n",
+        "Ok(()) WrrrWxrrr\n1 70000007\n4 70000007\n5 70000007\n6 70000007\n\
+         [WARN  lw_run::course] log lost\n[WARN  lw_run::course] log away\n\
+         [INFO  lw_run::course] log back\n[INFO  lw_run::course] compacted\n",
     ),
     (LogFault::Refused, 1, "Err(LogRefused) Wr\n1 70000007\n"),
     (
