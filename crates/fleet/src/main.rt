@@ -3,9 +3,11 @@
 //! to a UDP port, and ends; `fleet run` serves devices until it is killed.
 #![tactic(auto)]
 
+mod file_front;
 mod host;
 mod page;
 mod run_host;
+mod shared;
 mod visitors;
 
 use host::Host;

@@ -1,6 +1,7 @@
 //! A server over a real socket and a real log.
 
 use crate::host::Host;
+use crate::shared::begin_shared;
 use crate::visitors::{Visited, Visitors};
 use log::sink::Console;
 use log::{LevelFilter, Log, Logged, info};
@@ -8,7 +9,7 @@ use lw_fleet::{Keeps, LogLevel, RunOptions, RunningFault, Runs};
 use lw_front::{Sockets, SystemStopwatch};
 use lw_log::{DeltaLog, FleetId, Nowhere};
 use lw_member::{Chance, Member};
-use lw_run::{Compaction, HostClock, RunFault, Server, Timed, run_on};
+use lw_run::{Compaction, HostClock, Metered, Moment, RunFault, Server, Timed, run_on};
 use lw_sqlite_log::{OpenFault, SqliteLog};
 use lw_wire::SystemClock;
 use std::net::SocketAddr;
@@ -16,8 +17,11 @@ use std::random::RandomSource;
 use std::sync::Wait;
 use std::time::Duration;
 
-/// How many seconds a server waits for a datagram before it makes a turn without one.
-const WAIT: u64 = 1;
+/// How many milliseconds a server waits for a datagram before it makes a turn without one.
+const WAIT: u64 = 1_000;
+
+/// How many it waits where others may write into its log.
+const WAIT_FOR_OTHERS: u64 = 100;
 
 /// How many random bytes a start draws: a fleet, a tag and a number.
 const CHANCE: usize = 26;
@@ -30,41 +34,45 @@ impl Runs for Host<'_, HostRuntime> {
             None => None,
             Some(http) => Some(Visitors::of_options(host, http)?),
         };
-        match options.keeps {
+        match &options.keeps {
             Keeps::Nothing => {
-                let kept = Nowhere::new(host.alloc());
-                run_over(host, &log, kept, "nothing", options, visitors)
+                let member = begin(host, Nowhere::new(host.alloc()))?;
+                serve(host, &log, member, "nothing", options, visitors)
             }
             Keeps::Folder(folder) => {
-                let kept = SqliteLog::open(host, folder).map_err(fault_of_open)?;
-                run_over(host, &log, kept, "data", options, visitors)
+                let member = begin(host, SqliteLog::open(host, folder).map_err(fault_of_open)?)?;
+                serve(host, &log, member, "data", options, visitors)
+            }
+            Keeps::Redis(redis) => {
+                let member = begin_shared(host, &log, redis)?;
+                serve(host, &log, member, "redis", options, visitors).map_err(fault_of_redis)
             }
         }
     }
 }
 
-/// Serves what the log keeps: it is read to its end before the socket is bound.
-fn run_over<G: DeltaLog, L: Log>(
+/// A member over what the log keeps, which is read to its end.
+fn begin<'a, G: DeltaLog>(
+    host: &'a HostRuntime,
+    kept: G,
+) -> Result<Member<Timed<G, SystemStopwatch<'a, HostRuntime>>>, RunningFault> {
+    let timed = Timed::new(kept, stopwatch(host)?);
+    let now = moment(host)?;
+    match Member::begin(host.alloc(), timed, &draw(host)?, now) {
+        Ok(member) => Ok(member),
+        Err(fault) => Err(fault_of_run(RunFault::from(fault))),
+    }
+}
+
+/// Binds the sockets, and serves devices and visitors.
+fn serve<G: DeltaLog + Metered, L: Log>(
     host: &HostRuntime,
     log: &L,
-    kept: G,
+    member: Member<G>,
     keeps: &str,
     options: &RunOptions<'_>,
     visitors: Option<Visitors>,
 ) -> Result<(), RunningFault> {
-    let mut clock = SystemClock { clock: host };
-    let Some(now) = clock.now() else {
-        return Err(RunningFault::ClockRefused);
-    };
-    let Ok(stopwatch) = SystemStopwatch::start(host) else {
-        return Err(RunningFault::ClockRefused);
-    };
-    let chance = draw(host)?;
-    let timed = Timed::new(kept, stopwatch);
-    let member = match Member::begin(host.alloc(), timed, &chance, now) {
-        Ok(member) => member,
-        Err(fault) => return Err(fault_of_run(RunFault::from(fault))),
-    };
     let number = member.start().number;
     let mut sockets = bind(host, log, options)?;
     let visited = match visitors {
@@ -75,16 +83,42 @@ fn run_over<G: DeltaLog, L: Log>(
         info!(log; "serving address={address} number={number} keeps={keeps}");
     }
     let page = page_of(log, visited);
-    let server = Server::new(host.alloc(), member, clock, 0, now, page);
-    let compaction = compaction_of(options.keeps);
+    let clock = SystemClock { clock: host };
+    let now = moment(host)?;
+    let server = Server::new(
+        host.alloc(),
+        member,
+        clock,
+        skew_of(&options.keeps),
+        now,
+        page,
+    );
     run_on(
         &mut sockets,
         server,
         log,
-        Duration::from_secs(WAIT),
-        compaction,
+        wait_of(&options.keeps),
+        compaction_of(&options.keeps),
     )
     .map_err(fault_of_run)
+}
+
+/// The moment that it is.
+pub(crate) fn moment(host: &HostRuntime) -> Result<Moment, RunningFault> {
+    let mut clock = SystemClock { clock: host };
+    match clock.now() {
+        Some(now) => Ok(now),
+        None => Err(RunningFault::ClockRefused),
+    }
+}
+
+pub(crate) fn stopwatch(
+    host: &HostRuntime,
+) -> Result<SystemStopwatch<'_, HostRuntime>, RunningFault> {
+    match SystemStopwatch::start(host) {
+        Ok(stopwatch) => Ok(stopwatch),
+        Err(_) => Err(RunningFault::ClockRefused),
+    }
 }
 
 /// Logs where visitors come, if they do, and gives the page that they see.
@@ -107,15 +141,31 @@ fn bind<'a, L: Log>(
     }
 }
 
-fn compaction_of(keeps: Keeps<'_>) -> Compaction {
+fn compaction_of(keeps: &Keeps<'_>) -> Compaction {
     match keeps {
         Keeps::Nothing => Compaction::Never,
-        Keeps::Folder(_) => Compaction::WhereDue,
+        Keeps::Folder(_) | Keeps::Redis(_) => Compaction::WhereDue,
+    }
+}
+
+/// How long a server waits for a datagram before it makes a turn without one.
+fn wait_of(keeps: &Keeps<'_>) -> Duration {
+    match keeps {
+        Keeps::Nothing | Keeps::Folder(_) => Duration::from_millis(WAIT),
+        Keeps::Redis(_) => Duration::from_millis(WAIT_FOR_OTHERS),
+    }
+}
+
+/// How many seconds the clocks of the fleet's servers may differ.
+fn skew_of(keeps: &Keeps<'_>) -> u32 {
+    match keeps {
+        Keeps::Nothing | Keeps::Folder(_) => 0,
+        Keeps::Redis(redis) => redis.skew,
     }
 }
 
 /// What a start draws by lot.
-fn draw<S: RandomSource>(source: &S) -> Result<Chance, RunningFault> {
+pub(crate) fn draw<S: RandomSource>(source: &S) -> Result<Chance, RunningFault> {
     let mut bytes = [0; CHANCE];
     if source.fill_bytes(&mut bytes).is_err() {
         return Err(RunningFault::RandomFailed);
@@ -150,7 +200,7 @@ fn fault_of_open(fault: OpenFault) -> RunningFault {
     }
 }
 
-fn fault_of_run(fault: RunFault) -> RunningFault {
+pub(crate) fn fault_of_run(fault: RunFault) -> RunningFault {
     match fault {
         RunFault::ReceiveFailed => RunningFault::ReceiveFailed,
         RunFault::ClockRefused => RunningFault::ClockRefused,
@@ -161,5 +211,13 @@ fn fault_of_run(fault: RunFault) -> RunningFault {
         RunFault::AnotherFleet => RunningFault::AnotherFleet,
         RunFault::NumberTaken => RunningFault::NumberTaken,
         RunFault::NumbersEnded => RunningFault::NumbersEnded,
+    }
+}
+
+/// What a run over Redis ended by.
+fn fault_of_redis(fault: RunningFault) -> RunningFault {
+    match fault {
+        RunningFault::DataFailed => RunningFault::RedisRefused,
+        fault => fault,
     }
 }

@@ -1,13 +1,12 @@
 //! Who may ask over HTTP, where, and what they see first.
 
+use crate::file_front::read_front;
 use crate::page::page_of_file;
 use log::Log;
 use lw_fleet::{HttpOptions, RunningFault};
 use lw_front::Sockets;
 use lw_visit::{Guard, token_in};
-use std::fs::File;
 use std::hash::RandomState;
-use std::io::{self, Read};
 use std::net::SocketAddr;
 
 /// How many bytes of a file with a token are read: a token and the end of its line fit.
@@ -91,22 +90,4 @@ fn token_of_file(host: &HostRuntime, path: &str) -> Result<Vec<u8>, RunningFault
         Ok(()) => Ok(copy),
         Err(_) => Err(RunningFault::NoMemory),
     }
-}
-
-/// Reads the front of the file, as far as there is room.
-fn read_front(host: &HostRuntime, path: &str, room: &mut [u8]) -> io::Result<usize> {
-    let mut file = File::open(host, path)?;
-    let mut count = 0usize;
-    // A read gives a byte at least, until there are none.
-    for _read in 0..TOKEN_ROOM {
-        let Some(rest) = room.get_mut(count..) else {
-            break;
-        };
-        let more = file.read(rest)?;
-        if more == 0 {
-            break;
-        }
-        count = count.saturating_add(more);
-    }
-    Ok(count)
 }
