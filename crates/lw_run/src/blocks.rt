@@ -79,7 +79,8 @@ impl Sorted {
     }
 
     fn put_call(&mut self, now: Moment, message: Bytes, origin: Origin) -> Result<(), NoMemory>
-        ensures calls { OnOk result (self.new.calls.items ≡ self.old.calls.items ++ Take now origin.from message ∷ []) }
+        ensures calls { OnOk result
+            (self.new.calls.items ≡ self.old.calls.items ++ Take now origin.from message ∷ []) }
         ensures origins { OnOk result (self.new.origins.items ≡ self.old.origins.items ++ origin ∷ []) }
         ensures handled { OnOk result (self.new.handled.items ≡ self.old.handled.items) }
     {
@@ -96,7 +97,8 @@ impl Sorted {
     fn put_answered(&mut self, from: Addr, bytes: Bytes, reply: Vec<u8>) -> Result<(), NoMemory>
         ensures calls { OnOk result (self.new.calls.items ≡ self.old.calls.items) }
         ensures origins { OnOk result (self.new.origins.items ≡ self.old.origins.items) }
-        ensures handled { OnOk result (self.new.handled.items ≡ self.old.handled.items ++ answered from bytes reply ∷ []) }
+        ensures handled { OnOk result
+            (self.new.handled.items ≡ self.old.handled.items ++ answered from bytes reply ∷ []) }
     {
         self.handled.push(Handled {
             from,
@@ -149,7 +151,8 @@ pub(crate) fn put_handled(
     handled: &mut Vec<Handled>,
 )
     requires room { vec_len handled.old + vec_len origins ≤ vec_capacity handled.old }
-    ensures handled { (more : List Handled) × ((handled.new.items ≡ handled.old.items ++ more) × AreHandled origins.items replies.items more) }
+    ensures handled { (more : List Handled) × ((handled.new.items ≡ handled.old.items ++ more)
+        × AreHandled origins.items replies.items more) }
     ensures capacity { vec_capacity handled.new ≡ vec_capacity handled.old }
 {
     let mut replies = replies.into_iter();
@@ -189,7 +192,8 @@ struct Named {
 
 /// The reply with the block that it has to name. Where there is no memory for that, it stays as it is.
 fn name_block(alloc: Global, reply: Option<Vec<u8>>, block: Option<Block>) -> Named
-    ensures { NamesBlock block (option_map (λ r. r.items) reply) (option_map (λ r. r.items) result.reply) result.lacks_block }
+    ensures { NamesBlock block (option_map (λ r. r.items) reply) (option_map (λ r. r.items) result.reply)
+        result.lacks_block }
 {
     let Some(block) = block else {
         return Named {

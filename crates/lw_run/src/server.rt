@@ -132,7 +132,8 @@ impl<G: DeltaLog, C: HostClock + Drop> Server<G, C> {
     /// Where it fails blocks of the batch may have been put to their bodies. What a device sends behind one that was lost
     /// so is answered by 4.08, and the device begins its body anew.
     pub fn take(&mut self, batch: Vec<Datagram>) -> Result<Vec<(Addr, Vec<u8>)>, TurnFault>
-        ensures turn { IfOk result (λ sends. (now : Moment) × IsTurn now self.old batch.items (map sent sends.items) self.new) }
+        ensures turn { IfOk result (λ sends.
+            (now : Moment) × IsTurn now self.old batch.items (map sent sends.items) self.new) }
         // Also where it fails.
         ensures own { WritesOwn self.old.member self.new.member }
         ensures stays { Stays self.old self.new }
