@@ -12,6 +12,7 @@ mod pages;
 mod patience;
 mod persistence;
 mod redis_log;
+mod replies;
 mod tcp;
 
 pub use commands::{

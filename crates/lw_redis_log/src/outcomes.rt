@@ -1,5 +1,7 @@
 //! What a reply is to what was asked.
 
+ghost use Rattle.lw_redis_log.specs.Outcomes.{IsFaultOf, IsAppended, AreEntries, IsTrimmed, IsStatus, IsInfo};
+
 use crate::errors::passes;
 use lw_resp::{Entry, Reply, StreamId, Word};
 
@@ -15,7 +17,9 @@ pub enum RedisFault<'a> {
 }
 
 /// What an error is.
-fn fault_of(text: &[u8]) -> RedisFault<'_> {
+fn fault_of(text: &[u8]) -> RedisFault<'_>
+    ensures { IsFaultOf text.now result }
+{
     if passes(text) {
         return RedisFault::Away;
     }
@@ -23,7 +27,9 @@ fn fault_of(text: &[u8]) -> RedisFault<'_> {
 }
 
 /// The identifier of the entry that was appended.
-pub fn append_outcome<'a>(reply: &Reply<'a>) -> Result<StreamId, RedisFault<'a>> {
+pub fn append_outcome<'a>(reply: &Reply<'a>) -> Result<StreamId, RedisFault<'a>>
+    ensures { IsAppended reply.now result }
+{
     match reply {
         Reply::Word(Word::Bulk(text)) => match StreamId::read(text) {
             Some(id) => Ok(id),
@@ -36,7 +42,9 @@ pub fn append_outcome<'a>(reply: &Reply<'a>) -> Result<StreamId, RedisFault<'a>>
 }
 
 /// The entries that were read.
-pub fn entries_outcome<'r, 'a>(reply: &'r Reply<'a>) -> Result<&'r [Entry<'a>], RedisFault<'a>> {
+pub fn entries_outcome<'r, 'a>(reply: &'r Reply<'a>) -> Result<&'r [Entry<'a>], RedisFault<'a>>
+    ensures { AreEntries reply.now result }
+{
     match reply {
         Reply::Entries(entries) => Ok(entries),
         Reply::Word(Word::Error(text)) => Err(fault_of(text)),
@@ -45,7 +53,9 @@ pub fn entries_outcome<'r, 'a>(reply: &'r Reply<'a>) -> Result<&'r [Entry<'a>], 
 }
 
 /// How many entries were let go.
-pub fn trim_outcome<'a>(reply: &Reply<'a>) -> Result<u64, RedisFault<'a>> {
+pub fn trim_outcome<'a>(reply: &Reply<'a>) -> Result<u64, RedisFault<'a>>
+    ensures { IsTrimmed reply.now result }
+{
     match reply {
         Reply::Word(Word::Number(number)) => Ok(*number),
         Reply::Word(Word::Error(text)) => Err(fault_of(text)),
@@ -54,7 +64,9 @@ pub fn trim_outcome<'a>(reply: &Reply<'a>) -> Result<u64, RedisFault<'a>> {
 }
 
 /// Whether the reply is the status that was waited for.
-pub fn status_outcome<'a>(want: &[u8], reply: &Reply<'a>) -> Result<(), RedisFault<'a>> {
+pub fn status_outcome<'a>(want: &[u8], reply: &Reply<'a>) -> Result<(), RedisFault<'a>>
+    ensures { IsStatus want.now reply.now result }
+{
     match reply {
         Reply::Word(Word::Status(text)) => {
             if *text == want {
@@ -69,7 +81,9 @@ pub fn status_outcome<'a>(want: &[u8], reply: &Reply<'a>) -> Result<(), RedisFau
 }
 
 /// What the server told of what it keeps on its disk.
-pub fn persistence_outcome<'a>(reply: &Reply<'a>) -> Result<&'a [u8], RedisFault<'a>> {
+pub fn persistence_outcome<'a>(reply: &Reply<'a>) -> Result<&'a [u8], RedisFault<'a>>
+    ensures { IsInfo reply.now result }
+{
     match reply {
         Reply::Word(Word::Bulk(text)) => Ok(text),
         Reply::Word(Word::Error(text)) => Err(fault_of(text)),

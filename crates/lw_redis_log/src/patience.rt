@@ -1,5 +1,7 @@
 //! How long a Redis is waited for.
 
+ghost use Rattle.std.specs.Prelude.{◌≡◌, ◌+◌, ◌*◌, ◌/◌, ◌≤◌, max, min};
+
 /// The first pause after a connection was lost, in milliseconds.
 pub const SHORTEST_PAUSE: u64 = 100;
 
@@ -16,11 +18,15 @@ const PATIENCE_A_PART: u64 = 1_000;
 const PART: u64 = 10_000_000;
 
 /// The pause after this one, in milliseconds.
-pub fn longer_pause(pause: u64) -> u64 {
+pub fn longer_pause(pause: u64) -> u64
+    ensures { result ≡ min (max (2 * pause) 100) 5000 }
+{
     pause.saturating_mul(2).clamp(SHORTEST_PAUSE, LONGEST_PAUSE)
 }
 
 /// How long it may take to write so many bytes, and to read the reply, in milliseconds.
-pub fn patience_for(length: usize) -> u64 {
+pub fn patience_for(length: usize) -> u64
+    ensures { result ≡ 2000 + 1000 * (length / 10000000) }
+{
     PATIENCE + length as u64 / PART * PATIENCE_A_PART
 }

@@ -1,28 +1,31 @@
 //! A log over a stream.
 
+ghost use Rattle.std.specs.Prelude.{◌≢◌, IfErr};
+
 use crate::commands::{append_command, read_command, trim_command};
-use crate::connection::{Gone, Line};
+use crate::connection::Line;
 use crate::connects::{Connects, Notice};
 use crate::errors::shown;
 use crate::login::Login;
-use crate::outcomes::{RedisFault, append_outcome, entries_outcome, trim_outcome};
-use crate::pages::{id_of, page_of, position_of};
+use crate::outcomes::RedisFault;
+use crate::pages::{id_of, position_of};
+use crate::replies::{appended, page_read, trimmed};
 use lw_log::{Bytes, DeltaLog, LogFault, Position};
-use lw_resp::{Reply, StreamId, first_reply};
+use lw_resp::StreamId;
 use lw_stamp::NoMemory;
 use std::alloc::Global;
-use std::mem;
 
 /// Keeps entries in one stream of a Redis, which other processes append to and trim at any time.
 ///
-/// A connection that fails is made again after a pause, and each call answers `Away` until then.
+/// A connection that fails is made again after a pause, and each call answers `Away` until then. That the stream is gone,
+/// or has lost the entry that was appended last, is told by an append, once.
 #[derive(Drop)]
 pub struct RedisLog<C: Connects> {
     pub(crate) alloc: Global,
     pub(crate) line: Line<C>,
     pub(crate) login: Option<Login>,
     pub(crate) key: Vec<u8>,
-    /// Whether it is known what the server keeps on its disk.
+    /// Whether the server was asked what it keeps on its disk.
     pub(crate) is_known: bool,
     /// The entry that this process appended last.
     pub(crate) last: Option<StreamId>,
@@ -32,25 +35,6 @@ pub struct RedisLog<C: Connects> {
     makes: bool,
 }
 
-/// The reply that the bytes are, and nothing behind it.
-pub(crate) fn whole_reply(alloc: Global, bytes: &[u8]) -> Result<Reply<'_>, RedisFault<'_>> {
-    match first_reply(alloc, bytes) {
-        Ok(Some((reply, rest))) => {
-            if rest.is_empty() {
-                Ok(reply)
-            } else {
-                Err(RedisFault::Away)
-            }
-        }
-        _ => Err(RedisFault::Away),
-    }
-}
-
-impl From<Gone> for LogFault {
-    fn from(_gone: Gone) -> LogFault {
-        LogFault::Away
-    }
-}
 
 impl<C: Connects> RedisLog<C> {
     /// A log over the stream of the key. Nothing is asked before its first call.
@@ -73,9 +57,14 @@ impl<C: Connects> RedisLog<C> {
     }
 
     /// What the log answers where the server did not do it.
-    pub(crate) fn fail(&mut self, fault: RedisFault<'_>) -> LogFault {
+    pub(crate) fn fail(&mut self, fault: RedisFault<'_>) -> LogFault
+        ensures asked { result ≢ LogFault.NoMemory }
+    {
         match fault {
-            RedisFault::Away => LogFault::from(self.line.close()),
+            RedisFault::Away => {
+                self.line.close();
+                LogFault::Away
+            }
             RedisFault::Refused(text) => {
                 self.line.world.hear(Notice::Refused(shown(text)));
                 LogFault::Refused
@@ -85,45 +74,46 @@ impl<C: Connects> RedisLog<C> {
     }
 
     /// What was appended last is lost.
-    fn lose(&mut self) -> LogFault {
+    fn lose(&mut self) -> LogFault
+        ensures asked { result ≢ LogFault.NoMemory }
+    {
         self.last = None;
         self.has_lost = false;
         self.line.world.hear(Notice::Lost);
         LogFault::Lost
     }
 
-    fn try_read(&mut self, command: &[u8], from_start: bool) -> Result<Vec<(Position, Bytes)>, LogFault> {
-        self.ready()?;
-        let bytes = self.line.ask(command)?;
-        let reply = match whole_reply(self.alloc, &bytes) {
-            Ok(reply) => reply,
-            Err(fault) => return Err(self.fail(fault)),
-        };
-        let entries = match entries_outcome(&reply) {
-            Ok(entries) => entries,
-            Err(fault) => return Err(self.fail(fault)),
-        };
-        let Ok(page) = page_of(self.alloc, entries) else {
-            return Err(self.fail(RedisFault::Away));
-        };
-        self.line.settle();
-        if from_start || !page.is_empty() {
-            self.makes = page.is_empty();
+    fn ask_read(
+        &mut self,
+        command: &[u8],
+        is_whole: bool,
+    ) -> Result<Vec<(Position, Bytes)>, LogFault>
+        ensures asked { IfErr result (λ fault. fault ≢ LogFault.NoMemory) }
+    {
+        self.make_ready()?;
+        let bytes = self.ask(command)?;
+        match page_read(self.alloc, &bytes) {
+            Ok(page) => {
+                self.line.settle();
+                // Only a reading of the whole stream tells that there is none.
+                if is_whole || !page.is_empty() {
+                    self.makes = page.is_empty();
+                }
+                Ok(page)
+            }
+            Err(fault) => Err(self.fail(fault)),
         }
-        Ok(page)
     }
 
-    fn try_append(&mut self, command: &[u8]) -> Result<Position, LogFault> {
-        self.ready()?;
+    fn ask_append(&mut self, command: &[u8]) -> Result<Position, LogFault>
+        ensures asked { IfErr result (λ fault. fault ≢ LogFault.NoMemory) }
+    {
+        self.make_ready()?;
         if self.has_lost {
             return Err(self.lose());
         }
-        let bytes = self.line.ask(command)?;
-        let outcome = match whole_reply(self.alloc, &bytes) {
-            Ok(reply) => append_outcome(&reply),
-            Err(fault) => Err(fault),
-        };
-        match outcome {
+        let bytes = self.ask(command)?;
+        match appended(self.alloc, &bytes) {
             Ok(id) => {
                 self.line.settle();
                 self.last = Some(id);
@@ -137,39 +127,46 @@ impl<C: Connects> RedisLog<C> {
         }
     }
 
-    fn try_trim(&mut self, command: &[u8], upto: StreamId) -> Result<(), LogFault> {
-        self.ready()?;
-        let bytes = self.line.ask(command)?;
-        let outcome = match whole_reply(self.alloc, &bytes) {
-            Ok(reply) => trim_outcome(&reply),
-            Err(fault) => Err(fault),
-        };
-        match outcome {
+    fn ask_trim(&mut self, command: &[u8], upto: StreamId) -> Result<(), LogFault>
+        ensures asked { IfErr result (λ fault. fault ≢ LogFault.NoMemory) }
+    {
+        self.make_ready()?;
+        let bytes = self.ask(command)?;
+        match trimmed(self.alloc, &bytes) {
             Ok(_) => {
                 self.line.settle();
-                if self.last.is_some_and(|last| last <= upto) {
-                    self.last = None;
-                }
+                self.last = self.last.filter(|last| upto < *last);
                 Ok(())
             }
             Err(fault) => Err(self.fail(fault)),
         }
     }
+
+    /// The bytes of the reply to a command.
+    pub(crate) fn ask(&mut self, command: &[u8]) -> Result<Vec<u8>, LogFault>
+        ensures asked { IfErr result (λ fault. fault ≢ LogFault.NoMemory) }
+    {
+        match self.line.ask(command) {
+            Ok(bytes) => Ok(bytes),
+            Err(_) => Err(LogFault::Away),
+        }
+    }
 }
 
+// Want of memory is told only before the server is asked. What is read or written later is as away.
 impl<C: Connects> DeltaLog for RedisLog<C> {
     fn read(&mut self, after: Option<Position>) -> Result<Vec<(Position, Bytes)>, LogFault> {
         let Ok(command) = read_command(self.alloc, &self.key, after.map(id_of)) else {
             return Err(LogFault::NoMemory);
         };
-        self.try_read(&command, after.is_none())
+        self.ask_read(&command, after.is_none())
     }
 
     fn append(&mut self, entry: &[u8]) -> Result<Position, LogFault> {
         let Ok(command) = append_command(self.alloc, &self.key, entry, self.makes) else {
             return Err(LogFault::NoMemory);
         };
-        self.try_append(&command)
+        self.ask_append(&command)
     }
 
     fn trim(&mut self, upto: Position) -> Result<(), LogFault> {
@@ -177,7 +174,7 @@ impl<C: Connects> DeltaLog for RedisLog<C> {
         let Ok(command) = trim_command(self.alloc, &self.key, id) else {
             return Err(LogFault::NoMemory);
         };
-        self.try_trim(&command, id)
+        self.ask_trim(&command, id)
     }
 
     fn is_alone(&self) -> bool {

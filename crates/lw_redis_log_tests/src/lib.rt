@@ -2,4 +2,18 @@
 #![tactic(auto)]
 
 #[cfg(test)]
-mod identifiers;
+mod commands;
+#[cfg(test)]
+mod errors;
+#[cfg(test)]
+mod hold;
+#[cfg(test)]
+mod login;
+#[cfg(test)]
+mod outcomes;
+#[cfg(test)]
+mod pauses;
+#[cfg(test)]
+mod stage;
+#[cfg(test)]
+mod stories;
