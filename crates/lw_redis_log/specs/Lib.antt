@@ -1,0 +1,5 @@
+pub mod Commands
+pub mod Errors
+pub mod Outcomes
+pub mod Persistence
+pub mod Pages
