@@ -39,6 +39,7 @@ impl Runs for Host<'_, HostRuntime> {
                 let kept = SqliteLog::open(host, folder).map_err(fault_of_open)?;
                 run_over(host, &log, kept, "data", options, visitors)
             }
+            Keeps::Redis(_) => Err(RunningFault::RedisAway),
         }
     }
 }
@@ -110,7 +111,7 @@ fn bind<'a, L: Log>(
 fn compaction_of(keeps: Keeps<'_>) -> Compaction {
     match keeps {
         Keeps::Nothing => Compaction::Never,
-        Keeps::Folder(_) => Compaction::WhereDue,
+        Keeps::Folder(_) | Keeps::Redis(_) => Compaction::WhereDue,
     }
 }
 
