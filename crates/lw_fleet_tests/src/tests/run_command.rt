@@ -111,13 +111,7 @@ fn addresses_to_run(rt: HostRuntime) -> Result<(), Fail> {
 }
 
 /// The host, the port, the path of the login's file, the key of the stream, and the seconds that clocks may differ.
-type Shared = (
-    &'static str,
-    u16,
-    Option<&'static str>,
-    &'static str,
-    u32,
-);
+type Shared = (&'static str, u16, Option<&'static str>, &'static str, u32);
 
 /// Words, and the stream of Redis that they give.
 const SHARED: [(&[&str], Shared); 14] = [
@@ -570,14 +564,8 @@ fn refused_seconds_of_redis(rt: HostRuntime) -> Result<(), Fail> {
 
 /// Words that are refused for what goes with `--redis` or against it, and the line.
 const REFUSED_FOR_REDIS: [(&[&str], &str); 29] = [
-    (
-        &["fleet", "run", "--redis=r:1", "--memory"],
-        KEPT_TWICE,
-    ),
-    (
-        &["fleet", "run", "--data=a", "--redis=r:1"],
-        KEPT_TWICE,
-    ),
+    (&["fleet", "run", "--redis=r:1", "--memory"], KEPT_TWICE),
+    (&["fleet", "run", "--data=a", "--redis=r:1"], KEPT_TWICE),
     (
         &["fleet", "run", "--redis=r:1", "--data=fleet-data"],
         KEPT_TWICE,
@@ -597,7 +585,10 @@ const REFUSED_FOR_REDIS: [(&[&str], &str); 29] = [
     (&["fleet", "run", "--skew=s"], SKEW_ALONE),
     (&["fleet", "run", "--memory", "--skew=1"], SKEW_ALONE),
     (&["fleet", "run", "--data=a", "--stream=s"], STREAM_ALONE),
-    (&["fleet", "run", "--memory", "--redis-login=l"], LOGIN_ALONE),
+    (
+        &["fleet", "run", "--memory", "--redis-login=l"],
+        LOGIN_ALONE,
+    ),
     (
         &["fleet", "run", "--skew=1", "--stream=s", "--redis-login=l"],
         LOGIN_ALONE,
@@ -609,7 +600,14 @@ const REFUSED_FOR_REDIS: [(&[&str], &str); 29] = [
     ),
     (&["fleet", "run", "--redis=r:1", "--stream="], BAD_STREAM),
     (
-        &["fleet", "run", "--redis=r:1", "--skew=", "--stream=", "--redis-login="],
+        &[
+            "fleet",
+            "run",
+            "--redis=r:1",
+            "--skew=",
+            "--stream=",
+            "--redis-login=",
+        ],
         BAD_LOGIN,
     ),
     (
@@ -617,7 +615,14 @@ const REFUSED_FOR_REDIS: [(&[&str], &str); 29] = [
         BAD_STREAM,
     ),
     (
-        &["fleet", "run", "--redis=r", "--skew=s", "--stream=", "--redis-login="],
+        &[
+            "fleet",
+            "run",
+            "--redis=r",
+            "--skew=s",
+            "--stream=",
+            "--redis-login=",
+        ],
         BAD_REDIS,
     ),
     (&["fleet", "run", "--skew=s", "--data="], BAD_FOLDER),
