@@ -78,7 +78,7 @@ last_some bytes line found e h = record { is = is h.is; only = only }
         h.only part p (inl (sym (append_cancel_right part line (10 ∷ []) same)))
     by_end part last p (inr (inr both)) written =
         let same : (part ++ 13 ∷ []) ++ 10 ∷ [] ≡ line ++ 10 ∷ [] =
-          append_assoc part (13 ∷ []) (10 ∷ []) ∙ ap (λ l. part ++ l) (sym both) ∙ sym written ∙ e
+        append_assoc part (13 ∷ []) (10 ∷ []) ∙ ap (λ l. part ++ l) (sym both) ∙ sym written ∙ e
         in
         h.only part p (inr (sym (append_cancel_right (part ++ 13 ∷ []) line (10 ∷ []) same)))
 
@@ -123,7 +123,7 @@ login_found bytes line behind user password first u w is_user is_password = by_r
       ended = inr refl;
       may_end = w.is.1;
       written = first.written ∙ ap (λ l. l ++ 10 ∷ behind) same ∙ append_assoc user (13 ∷ []) (10 ∷ behind)
-        ∙ ap (λ l. user ++ 13 ∷ 10 ∷ l) w.is.2;
+          ∙ ap (λ l. user ++ 13 ∷ 10 ∷ l) w.is.2;
     }
 
 -- the first line of a login
@@ -132,8 +132,14 @@ first_of bytes u w l = by_end l.ended
   where
     by_end : IsEnd l.end → (front behind : List ℕ) × All IsNoFeed front × IsReturned front u × IsLast behind w × (bytes ≡ front ++ 10 ∷ behind)
     by_end (inl feed) = (u, w ++ l.last, part_no_feed u l.is_user, inl refl, (l.last, l.may_end, refl), l.written ∙ ap (λ e. u ++ (e ++ (w ++ l.last))) feed)
-    by_end (inr both) = (u ++ 13 ∷ [], w ++ l.last, returned_no_feed u (part_no_feed u l.is_user), inr refl, (l.last, l.may_end, refl),
-      l.written ∙ ap (λ e. u ++ (e ++ (w ++ l.last))) both ∙ sym (append_assoc u (13 ∷ []) (10 ∷ (w ++ l.last))))
+    by_end (inr both) = (
+      u ++ 13 ∷ [],
+      w ++ l.last,
+      returned_no_feed u (part_no_feed u l.is_user),
+      inr refl,
+      (l.last, l.may_end, refl),
+      l.written ∙ ap (λ e. u ++ (e ++ (w ++ l.last))) both ∙ sym (append_assoc u (13 ∷ []) (10 ∷ (w ++ l.last))),
+    )
 
 pub login_none : (bytes line behind user password : List ℕ) → IsFirstLine bytes line behind → IsPartOf (IsReturned line) user
     → IsPartOf (IsLast behind) password → (IsPart user → IsPart password → ⊥) → (u w : List ℕ) → ¬ IsLogin bytes u w
@@ -173,8 +179,8 @@ first_feed bytes line end behind place e line_is end_is behind_is =
     record {
       no_feed = subst (All IsNoFeed) (sym line_is) (fails_to bytes place (omega (arith, at.0)) at.2);
       written = sym (take-append-drop place bytes) ∙ ap (λ (l : List ℕ). l ++ drop place bytes) (sym line_is)
-        ∙ ap (λ (l : List ℕ). line ++ l) (sym end_is ∙ parts ∙ ap (λ (b : ℕ). b ∷ drop (suc place) bytes) first
-        ∙ ap (λ (l : List ℕ). 10 ∷ l) (sym rest));
+          ∙ ap (λ (l : List ℕ). line ++ l) (sym end_is ∙ parts ∙ ap (λ (b : ℕ). b ∷ drop (suc place) bytes) first
+          ∙ ap (λ (l : List ℕ). 10 ∷ l) (sym rest));
     }
 
 -- where no byte is a line feed, there is no line that ends

@@ -37,5 +37,5 @@ one_more text n none not k lt =
     elim (cases_lt k n) [
       | inl below ↦ none k below
       | inr ge ↦ let same : n ≡ k = omega (arith, lt, ge) in let there : ¬ BeginsWithIt (drop n text) = subst (λ l. ¬ BeginsWithIt l) (from_is text n) not in
-      subst (λ (m : ℕ). ¬ BeginsWithIt (drop m text)) same there
+          subst (λ (m : ℕ). ¬ BeginsWithIt (drop m text)) same there
     ]
