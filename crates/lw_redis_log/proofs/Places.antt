@@ -26,11 +26,14 @@ found p xs place h = elim (cases_lt (position_or_len p xs) (length xs)) [
   | inr whole ↦ absurd (clash place (sym h ∙ grind (arith, nat_tests)))
 ]
 
-pub not_found : (p : ℕ → Bool) (xs : List ℕ) → position p xs ≡ None → xs ≡ before_first p xs
-not_found p xs h = elim (cases_lt (position_or_len p xs) (length xs)) [
+pub nowhere : (p : ℕ → Bool) (xs : List ℕ) → position p xs ≡ None → length xs ≤ position_or_len p xs
+nowhere p xs h = elim (cases_lt (position_or_len p xs) (length xs)) [
   | inl short ↦ absurd (clash (position_or_len p xs) (sym (sym h ∙ grind (arith, nat_tests))))
-  | inr whole ↦ sym (take_all (position_or_len p xs) xs whole)
+  | inr whole ↦ whole
 ]
+
+pub not_found : (p : ℕ → Bool) (xs : List ℕ) → position p xs ≡ None → xs ≡ before_first p xs
+not_found p xs h = sym (take_all (position_or_len p xs) xs (nowhere p xs h))
 
 -- what ASCII prints is a text
 seen : (b : ℕ) → is_hidden b ≡ false → b < 128

@@ -3,3 +3,5 @@ pub mod Errors
 pub mod Outcomes
 pub mod Persistence
 pub mod Pages
+pub mod Logins
+pub mod inner

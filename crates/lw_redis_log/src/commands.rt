@@ -9,11 +9,7 @@ use lw_stamp::NoMemory;
 use std::alloc::Global;
 
 /// Asks for the first entries above an identifier, or for the first of all.
-pub fn read_command(
-    alloc: Global,
-    key: &[u8],
-    after: Option<StreamId>,
-) -> Result<Vec<u8>, NoMemory>
+pub fn read_command(alloc: Global, key: &[u8], after: Option<StreamId>) -> Result<Vec<u8>, NoMemory>
     ensures { IfOk result (λ bytes. bytes.items ≡ command_bytes (read_words key.now after)) }
 {
     let mut start = Vec::new(alloc);

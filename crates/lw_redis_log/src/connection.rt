@@ -87,21 +87,18 @@ impl<C: Connects> Line<C> {
         }
     }
 
-    /// Writes a command, and reads until the reply is whole.
+    /// Writes a command, and reads until the reply is whole. It may come slowly, as long as something comes.
     fn exchange(&mut self, command: &[u8]) -> Option<Vec<u8>> {
-        let patience = patience_for(command.len());
-        let end = self.world.milliseconds()?.saturating_add(patience);
         let connection = self.connection.as_mut()?;
-        self.world.limit(connection, patience).ok()?;
+        self.world
+            .limit(connection, patience_for(command.len()))
+            .ok()?;
         connection.write_all(command).ok()?;
         let mut bytes = Vec::new(self.alloc);
         for _ in 0..u64::MAX {
             read_some(connection, &mut bytes)?;
             if first_reply(self.alloc, &bytes).ok()?.is_some() {
                 return Some(bytes);
-            }
-            if self.world.milliseconds()? >= end {
-                return None;
             }
         }
         None

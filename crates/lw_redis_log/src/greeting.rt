@@ -107,7 +107,8 @@ impl<C: Connects> RedisLog<C> {
         let Some(last) = self.last else {
             return Ok(());
         };
-        let bytes = self.ask_made(last_command(self.alloc, &self.key, last))?;
+        let command = last_command(self.alloc, &self.key, last);
+        let bytes = self.ask_made(command)?;
         match is_found(self.alloc, &bytes) {
             Ok(is_found) => {
                 self.has_lost = !is_found;

@@ -8,10 +8,10 @@ pub const SHORTEST_PAUSE: u64 = 100;
 /// The longest pause, in milliseconds.
 pub const LONGEST_PAUSE: u64 = 5_000;
 
-/// How long a reply may take at least, in milliseconds.
+/// How long nothing may come or go at least, in milliseconds.
 const PATIENCE: u64 = 2_000;
 
-/// How much longer it may take for each part of what is written, in milliseconds.
+/// How much longer that may last for each part of what is written, in milliseconds.
 const PATIENCE_A_PART: u64 = 1_000;
 
 /// How many bytes such a part has.
@@ -24,7 +24,7 @@ pub fn longer_pause(pause: u64) -> u64
     pause.saturating_mul(2).clamp(SHORTEST_PAUSE, LONGEST_PAUSE)
 }
 
-/// How long it may take to write so many bytes, and to read the reply, in milliseconds.
+/// How long nothing may come or go where so many bytes are written, in milliseconds.
 pub fn patience_for(length: usize) -> u64
     ensures { result ≡ 2000 + 1000 * (length / 10000000) }
 {

@@ -35,7 +35,6 @@ pub struct RedisLog<C: Connects> {
     makes: bool,
 }
 
-
 impl<C: Connects> RedisLog<C> {
     /// A log over the stream of the key. Nothing is asked before its first call.
     pub fn new(

@@ -52,17 +52,11 @@ pub(crate) fn trimmed(alloc: Global, bytes: &[u8]) -> Result<u64, RedisFault<'_>
 }
 
 /// The server said what was waited for.
-pub(crate) fn said<'a>(
-    want: &[u8],
-    alloc: Global,
-    bytes: &'a [u8],
-) -> Result<(), RedisFault<'a>> {
+pub(crate) fn said<'a>(want: &[u8], alloc: Global, bytes: &'a [u8]) -> Result<(), RedisFault<'a>> {
     status_outcome(want, &whole_reply(alloc, bytes)?)
 }
 
 /// Whether the server keeps nothing on its disk.
 pub(crate) fn forgets(alloc: Global, bytes: &[u8]) -> Result<bool, RedisFault<'_>> {
-    Ok(keeps_nothing(persistence_outcome(&whole_reply(
-        alloc, bytes,
-    )?)?))
+    Ok(keeps_nothing(persistence_outcome(&whole_reply(alloc, bytes)?)?))
 }

@@ -19,8 +19,6 @@ pub(crate) enum Answer {
     Says(&'static str),
     /// These bytes, one after another.
     SaysSlowly(&'static str),
-    /// These bytes, one every so many milliseconds.
-    SaysLate(&'static str, u64),
     /// These bytes, and the end of the connection.
     Ends(&'static str),
 }
@@ -82,21 +80,15 @@ pub(crate) struct Wire<'a> {
     stage: &'a Stage<'a>,
     coming: &'static [u8],
     is_slow: bool,
-    late: u64,
     ends: bool,
 }
 
 impl Wire<'_> {
     fn take(&mut self, answer: Answer) -> io::Result<()> {
-        self.is_slow = matches!(answer, Answer::SaysSlowly(_) | Answer::SaysLate(_, _));
+        self.is_slow = matches!(answer, Answer::SaysSlowly(_));
         self.ends = matches!(answer, Answer::Ends(_));
-        self.late = 0;
         self.coming = match answer {
             Answer::Says(text) | Answer::SaysSlowly(text) | Answer::Ends(text) => text.as_bytes(),
-            Answer::SaysLate(text, late) => {
-                self.late = late;
-                text.as_bytes()
-            }
             Answer::Opens | Answer::Fails => return Err(io::Error::from(ErrorKind::BrokenPipe)),
         };
         Ok(())
@@ -118,14 +110,15 @@ impl Write for Wire<'_> {
 
 impl Read for Wire<'_> {
     fn read(&mut self, buf: &mut [u8]) -> io::Result<usize> {
-        self.stage.pass(self.late);
         if self.coming.is_empty() && !self.ends {
             return Err(io::Error::from(ErrorKind::WouldBlock));
         }
         if self.is_slow {
-            let (first, rest) = self.coming.split_at(1);
+            let Some((first, rest)) = self.coming.split_first() else {
+                return Ok(0);
+            };
             self.coming = rest;
-            return { first }.read(buf);
+            return [*first].as_slice().read(buf);
         }
         let mut coming = self.coming;
         let count = coming.read(buf)?;
@@ -151,7 +144,6 @@ impl<'a> Connects for Caller<'a> {
                     stage: self.stage,
                     coming: b"",
                     is_slow: false,
-                    late: 0,
                     ends: false,
                 })
             }

@@ -1,6 +1,6 @@
 use crate::hold::same;
 use crate::stage::Act::{Append, Pass, Read, Trim};
-use crate::stage::Answer::{Ends, Fails, Opens, Says, SaysLate, SaysSlowly};
+use crate::stage::Answer::{Ends, Fails, Opens, Says, SaysSlowly};
 use crate::stage::{Act, Answer, record_of};
 use lw_redis_log::Login;
 use std::alloc::Global;
@@ -100,7 +100,7 @@ fn a_refusal_is_told(rt: HostRuntime) -> Result<(), Fail> {
 }
 
 /// What drops the connection: an error that passes, another kind, no reply, one and more, the end, and no answer in time.
-const DROPS: [Answer; 10] = [
+const DROPS: [Answer; 9] = [
     Says("-LOADING Redis is loading the dataset in memory\r\n"),
     Says(":1\r\n"),
     Says("5-0\r\n"),
@@ -109,7 +109,6 @@ const DROPS: [Answer; 10] = [
     Says(""),
     Says("$3\r\n5-"),
     Ends("$3\r\n5-"),
-    SaysLate("$3\r\n5-0\r\n", 250),
     Fails,
 ];
 
@@ -341,7 +340,7 @@ fn a_reply_is_waited_for(rt: HostRuntime) -> Result<(), Fail> {
          *6~$6~XRANGE~$1~k~$1~-~$1~+~$5~COUNT~$3~256~\n= 5-0 ab 5-1 \n";
     let cut = "connects\n*1~$4~PING~\n*2~$4~INFO~$11~persistence~\n\
          *6~$6~XRANGE~$1~k~$1~-~$1~+~$5~COUNT~$3~256~\n= Away\n";
-    for answer in [Says(PAGE), SaysSlowly(PAGE), SaysLate(PAGE, 20), Ends(PAGE)] {
+    for answer in [Says(PAGE), SaysSlowly(PAGE), Ends(PAGE)] {
         same(read_over(alloc, answer)?.as_str(), whole)?;
     }
     for end in 0..PAGE.len() {
