@@ -10,7 +10,7 @@ abbrev pub IsAmong : List ℕ → List (List ℕ) → Type 0
 IsAmong x [] = ⊥
 IsAmong x (y ∷ ys) = (x ≡ y) ⊎ IsAmong x ys
 
--- the server does not answer now: it loads its data, runs a script, waits for a part of its keys, or has lost its primary
+-- the server does not answer now: it loads its data, runs a script, moves a part of its keys, or has lost its primary
 abbrev pub unready_prefixes : List (List ℕ)
 unready_prefixes = codes "LOADING" ∷ codes "BUSY" ∷ codes "TRYAGAIN" ∷ codes "MASTERDOWN" ∷ []
 

@@ -25,7 +25,7 @@ pub fn error_prefix(text: &[u8]) -> &[u8]
     }
 }
 
-/// Whether the error is one that passes: the server loads its data, is busy, out of room, or not the one that writes now.
+/// Whether the error is one that passes: the server does not answer now, or does not write now.
 pub fn passes(text: &[u8]) -> bool
     ensures { IsTrue result ↔ Passes text.now }
 {

@@ -17,8 +17,8 @@ use std::alloc::Global;
 
 /// Keeps entries in one stream of a Redis, which other processes append to and trim at any time.
 ///
-/// A connection that fails is made again after a pause, and each call answers `Away` until then. That the stream is gone,
-/// or has lost the entry that was appended last, is told by an append, once.
+/// A connection that fails is made again after a pause, and each call answers `Away` until then. An append tells once
+/// that the stream is gone, or has lost the entry that was appended last.
 #[derive(Drop)]
 pub struct RedisLog<C: Connects> {
     pub(crate) alloc: Global,

@@ -1,4 +1,4 @@
-//! What the bytes of a reply are to what was asked. Bytes of no reply, or of one and more, are as a server that is away.
+//! What the bytes of a reply are to what was asked. Where they are none, or more than one, the server is as away.
 
 use crate::outcomes::{
     RedisFault, append_outcome, entries_outcome, persistence_outcome, status_outcome, trim_outcome,

@@ -16,8 +16,8 @@ fn check(alloc: Global, made: Result<Vec<u8>, NoMemory>, want: &str) -> Result<(
     same(shown(alloc, &made?)?.as_str(), want)
 }
 
-/// The arrays of bulk strings of the page on the protocol, with the words of the pages on the commands; `~` is the end of a
-/// line.
+/// The arrays of bulk strings of the page on the protocol, with the words of the pages on the commands. `~` is the end
+/// of a line.
 ///
 /// Tries: lw_redis_log::read_command
 /// Tries: lw_redis_log::last_command

@@ -5,18 +5,45 @@ use std::test::Fail;
 /// Errors as Redis 7.0 writes them, and whether they pass.
 const ERRORS: [(&str, bool); 22] = [
     ("LOADING Redis is loading the dataset in memory", true),
-    ("BUSY Redis is busy running a script. You can only call SCRIPT KILL or SHUTDOWN NOSAVE.", true),
-    ("TRYAGAIN Multiple keys request during rehashing of slot", true),
-    ("MASTERDOWN Link with MASTER is down and replica-serve-stale-data is set to 'no'.", true),
-    ("READONLY You can't write against a read only replica.", true),
+    (
+        "BUSY Redis is busy running a script. You can only call SCRIPT KILL or SHUTDOWN NOSAVE.",
+        true,
+    ),
+    (
+        "TRYAGAIN Multiple keys request during rehashing of slot",
+        true,
+    ),
+    (
+        "MASTERDOWN Link with MASTER is down and replica-serve-stale-data is set to 'no'.",
+        true,
+    ),
+    (
+        "READONLY You can't write against a read only replica.",
+        true,
+    ),
     ("CLUSTERDOWN The cluster is down", true),
-    ("OOM command not allowed when used memory > 'maxmemory'.", true),
-    ("MISCONF Redis is configured to save RDB snapshots, but it's currently unable to persist to disk.", true),
+    (
+        "OOM command not allowed when used memory > 'maxmemory'.",
+        true,
+    ),
+    (
+        "MISCONF Redis is configured to save RDB snapshots, but it's currently unable to persist to disk.",
+        true,
+    ),
     ("LOADING", true),
     ("NOAUTH Authentication required.", false),
-    ("WRONGPASS invalid username-password pair or user is disabled.", false),
-    ("NOPERM this user has no permissions to run the 'xadd' command", false),
-    ("WRONGTYPE Operation against a key holding the wrong kind of value", false),
+    (
+        "WRONGPASS invalid username-password pair or user is disabled.",
+        false,
+    ),
+    (
+        "NOPERM this user has no permissions to run the 'xadd' command",
+        false,
+    ),
+    (
+        "WRONGTYPE Operation against a key holding the wrong kind of value",
+        false,
+    ),
     ("MOVED 3999 127.0.0.1:6381", false),
     ("ERR syntax error", false),
     ("NOREPLICAS Not enough good replicas to write.", false),
@@ -41,7 +68,10 @@ fn some_errors_pass(_rt: HostRuntime) -> Result<(), Fail> {
 #[test]
 fn a_prefix_is_the_first_word(_rt: HostRuntime) -> Result<(), Fail> {
     let rows = [
-        ("ERR unknown command 'AUTH', with args beginning with: 'fleet' 'secret' ", "ERR"),
+        (
+            "ERR unknown command 'AUTH', with args beginning with: 'fleet' 'secret' ",
+            "ERR",
+        ),
         ("LOADING", "LOADING"),
         (" ERR", ""),
         ("", ""),

@@ -12,9 +12,18 @@ type Row = (&'static str, &'static str);
 
 /// Errors, which are the same to each question, and kinds that no question asks for.
 const TO_ANY: [Row; 7] = [
-    ("-LOADING Redis is loading the dataset in memory\r\n", "away"),
-    ("-READONLY You can't write against a read only replica.\r\n", "away"),
-    ("-NOAUTH Authentication required.\r\n", "refused NOAUTH Authentication required."),
+    (
+        "-LOADING Redis is loading the dataset in memory\r\n",
+        "away",
+    ),
+    (
+        "-READONLY You can't write against a read only replica.\r\n",
+        "away",
+    ),
+    (
+        "-NOAUTH Authentication required.\r\n",
+        "refused NOAUTH Authentication required.",
+    ),
     (
         "-WRONGTYPE Operation against a key holding the wrong kind of value\r\n",
         "refused WRONGTYPE Operation against a key holding the wrong kind of value",
@@ -141,8 +150,14 @@ fn persistence_text(alloc: Global, bytes: &str) -> Result<String, Fail> {
 fn replies_about_the_disk(rt: HostRuntime) -> Result<(), Fail> {
     let alloc = rt.alloc();
     let rows = [
-        ("$41\r\n# Persistence\r\nloading:0\r\naof_enabled:0\r\n\r\n", "true"),
-        ("$41\r\n# Persistence\r\nloading:0\r\naof_enabled:1\r\n\r\n", "false"),
+        (
+            "$41\r\n# Persistence\r\nloading:0\r\naof_enabled:0\r\n\r\n",
+            "true",
+        ),
+        (
+            "$41\r\n# Persistence\r\nloading:0\r\naof_enabled:1\r\n\r\n",
+            "false",
+        ),
         ("$31\r\n# Persistence\r\nxaof_enabled:0\r\n\r\n", "false"),
         ("$29\r\n# Persistence\r\naof_enabled:0\n\r\n", "false"),
         ("$29\r\n# Persistence\r\naof_enabled:\r\n\r\n", "false"),
@@ -187,7 +202,10 @@ fn replies_to_a_reading(rt: HostRuntime) -> Result<(), Fail> {
     let alloc = rt.alloc();
     let rows = [
         ("*0\r\n", "page"),
-        ("*1\r\n*2\r\n$3\r\n7-1\r\n*2\r\n$1\r\ne\r\n$2\r\nab\r\n", "page 7-1=ab"),
+        (
+            "*1\r\n*2\r\n$3\r\n7-1\r\n*2\r\n$1\r\ne\r\n$2\r\nab\r\n",
+            "page 7-1=ab",
+        ),
         // Foreign entries: another name, two fields, and none.
         (
             "*4\r\n*2\r\n$3\r\n7-1\r\n*2\r\n$1\r\nf\r\n$2\r\nab\r\n\
@@ -196,7 +214,10 @@ fn replies_to_a_reading(rt: HostRuntime) -> Result<(), Fail> {
              *2\r\n$3\r\n8-0\r\n*2\r\n$1\r\ne\r\n$1\r\nz\r\n",
             "page 7-1= 7-2= 7-3= 8-0=z",
         ),
-        ("*1\r\n*2\r\n$3\r\n7_1\r\n*2\r\n$1\r\ne\r\n$2\r\nab\r\n", "malformed"),
+        (
+            "*1\r\n*2\r\n$3\r\n7_1\r\n*2\r\n$1\r\ne\r\n$2\r\nab\r\n",
+            "malformed",
+        ),
         (
             "*2\r\n*2\r\n$3\r\n7-1\r\n*2\r\n$1\r\ne\r\n$0\r\n\r\n*2\r\n$1\r\n7\r\n*2\r\n$1\r\ne\r\n$0\r\n\r\n",
             "malformed",

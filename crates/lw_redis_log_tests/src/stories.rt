@@ -78,14 +78,26 @@ fn a_stream_is_made(rt: HostRuntime) -> Result<(), Fail> {
 /// A refusal is told, and the connection stays. So it does at a trim.
 const REFUSED: [Story; 2] = [
     (
-        &[Opens, PONG, KEEPS, Says("-NOPERM no permissions\r\n"), FIRST],
+        &[
+            Opens,
+            PONG,
+            KEEPS,
+            Says("-NOPERM no permissions\r\n"),
+            FIRST,
+        ],
         &[Append("a"), Append("a")],
         "connects\n*1~$4~PING~\n*2~$4~INFO~$11~persistence~\n\
          *6~$4~XADD~$1~k~$10~NOMKSTREAM~$1~*~$1~e~$1~a~\nNOPERM no permissions\n= Refused\n\
          *6~$4~XADD~$1~k~$10~NOMKSTREAM~$1~*~$1~e~$1~a~\n= 5-0\n",
     ),
     (
-        &[Opens, PONG, KEEPS, Says(":2\r\n"), Says("-WRONGTYPE other\r\n")],
+        &[
+            Opens,
+            PONG,
+            KEEPS,
+            Says(":2\r\n"),
+            Says("-WRONGTYPE other\r\n"),
+        ],
         &[Trim(5, 0), Trim(5, 0)],
         "connects\n*1~$4~PING~\n*2~$4~INFO~$11~persistence~\n\
          *5~$5~XTRIM~$1~k~$5~MINID~$1~=~$3~5-1~\n= trimmed\n\
@@ -99,7 +111,7 @@ fn a_refusal_is_told(rt: HostRuntime) -> Result<(), Fail> {
     check_all(rt.alloc(), &REFUSED)
 }
 
-/// What drops the connection: an error that passes, another kind, no reply, one and more, the end, and no answer in time.
+/// What drops the connection: an error that passes, another kind, no reply, one and more, the end, and nothing in time.
 const DROPS: [Answer; 9] = [
     Says("-LOADING Redis is loading the dataset in memory\r\n"),
     Says(":1\r\n"),
@@ -157,7 +169,18 @@ const PAUSES: [Story; 2] = [
          connects\n*1~$4~PING~\n= Away\n399 ms\n= Away\n1 ms\nconnects not\n= Away\n",
     ),
     (
-        &[Fails, Opens, PONG, KEEPS, FIRST, Ends(""), Opens, PONG, FOUND, SECOND],
+        &[
+            Fails,
+            Opens,
+            PONG,
+            KEEPS,
+            FIRST,
+            Ends(""),
+            Opens,
+            PONG,
+            FOUND,
+            SECOND,
+        ],
         &[
             Append("a"),
             Pass(100),
@@ -181,12 +204,28 @@ fn pauses_grow(rt: HostRuntime) -> Result<(), Fail> {
     check_all(rt.alloc(), &PAUSES)
 }
 
-/// What was appended last is looked for at a new connection. Where it is gone, the next append tells it once; a reading does
-/// not. What this log let go itself is not looked for.
+/// What was appended last is looked for at a new connection. Where it is gone, the next append tells it once, and a
+/// reading does not. What this log let go itself is not looked for.
 const LOST: [Story; 3] = [
     (
-        &[Opens, PONG, KEEPS, FIRST, Ends(""), Opens, PONG, EMPTY, SECOND],
-        &[Append("a"), Append("b"), Pass(100), Append("b"), Append("b")],
+        &[
+            Opens,
+            PONG,
+            KEEPS,
+            FIRST,
+            Ends(""),
+            Opens,
+            PONG,
+            EMPTY,
+            SECOND,
+        ],
+        &[
+            Append("a"),
+            Append("b"),
+            Pass(100),
+            Append("b"),
+            Append("b"),
+        ],
         "connects\n*1~$4~PING~\n*2~$4~INFO~$11~persistence~\n\
          *6~$4~XADD~$1~k~$10~NOMKSTREAM~$1~*~$1~e~$1~a~\n= 5-0\n\
          *6~$4~XADD~$1~k~$10~NOMKSTREAM~$1~*~$1~e~$1~b~\n= Away\n100 ms\n\
@@ -194,7 +233,22 @@ const LOST: [Story; 3] = [
          *6~$4~XADD~$1~k~$10~NOMKSTREAM~$1~*~$1~e~$1~b~\n= 6-0\n",
     ),
     (
-        &[Opens, PONG, KEEPS, FIRST, Ends(""), Opens, PONG, EMPTY, EMPTY, Ends(""), Opens, PONG, EMPTY, SECOND],
+        &[
+            Opens,
+            PONG,
+            KEEPS,
+            FIRST,
+            Ends(""),
+            Opens,
+            PONG,
+            EMPTY,
+            EMPTY,
+            Ends(""),
+            Opens,
+            PONG,
+            EMPTY,
+            SECOND,
+        ],
         &[
             Append("a"),
             Append("b"),
@@ -215,14 +269,18 @@ const LOST: [Story; 3] = [
          *6~$4~XADD~$1~k~$10~NOMKSTREAM~$1~*~$1~e~$1~b~\n= 6-0\n",
     ),
     (
-        &[Opens, PONG, KEEPS, FIRST, Says(":1\r\n"), Ends(""), Opens, PONG, SECOND],
         &[
-            Append("a"),
-            Trim(5, 0),
-            Append("b"),
-            Pass(100),
-            Append("b"),
+            Opens,
+            PONG,
+            KEEPS,
+            FIRST,
+            Says(":1\r\n"),
+            Ends(""),
+            Opens,
+            PONG,
+            SECOND,
         ],
+        &[Append("a"), Trim(5, 0), Append("b"), Pass(100), Append("b")],
         "connects\n*1~$4~PING~\n*2~$4~INFO~$11~persistence~\n\
          *6~$4~XADD~$1~k~$10~NOMKSTREAM~$1~*~$1~e~$1~a~\n= 5-0\n\
          *5~$5~XTRIM~$1~k~$5~MINID~$1~=~$3~5-1~\n= trimmed\n\
@@ -254,7 +312,15 @@ const DISKS: [Story; 3] = [
          *6~$6~XRANGE~$1~k~$1~-~$1~+~$5~COUNT~$3~256~\n=\n",
     ),
     (
-        &[Opens, PONG, Says("-LOADING data\r\n"), Opens, PONG, FORGETS, EMPTY],
+        &[
+            Opens,
+            PONG,
+            Says("-LOADING data\r\n"),
+            Opens,
+            PONG,
+            FORGETS,
+            EMPTY,
+        ],
         &[Read(None), Pass(100), Read(None)],
         "connects\n*1~$4~PING~\n*2~$4~INFO~$11~persistence~\n= Away\n100 ms\n\
          connects\n*1~$4~PING~\n*2~$4~INFO~$11~persistence~\nkeeps nothing\n\
@@ -268,8 +334,8 @@ fn the_disk_is_asked_for(rt: HostRuntime) -> Result<(), Fail> {
     check_all(rt.alloc(), &DISKS)
 }
 
-/// A user logs in before all else. A connection that is refused is made again after a pause, and of a refused login only
-/// the first word is told.
+/// A user logs in before all else. A connection that is refused is made again after a pause, and of a refused login
+/// only the first word is told.
 const LOGINS: [Story; 4] = [
     (
         &[Opens, Says("+OK\r\n"), PONG, KEEPS, EMPTY],
@@ -278,7 +344,11 @@ const LOGINS: [Story; 4] = [
          *6~$6~XRANGE~$1~k~$1~-~$1~+~$5~COUNT~$3~256~\n=\n",
     ),
     (
-        &[Opens, Says("-WRONGPASS invalid username-password pair or user is disabled.\r\n"), Fails],
+        &[
+            Opens,
+            Says("-WRONGPASS invalid username-password pair or user is disabled.\r\n"),
+            Fails,
+        ],
         &[Read(None), Read(None), Pass(100), Read(None)],
         "connects\n*3~$4~AUTH~$5~fleet~$6~secret~\nWRONGPASS\n= Refused\n= Away\n100 ms\n\
          connects not\n= Away\n",
@@ -322,12 +392,7 @@ const PAGE: &str = "*2\r\n*2\r\n$3\r\n5-0\r\n*2\r\n$1\r\ne\r\n$2\r\nab\r\n\
      *2\r\n$3\r\n5-1\r\n*4\r\n$1\r\ne\r\n$1\r\na\r\n$1\r\nf\r\n$0\r\n\r\n";
 
 fn read_over(alloc: Global, answer: Answer) -> Result<String, Fail> {
-    record_of(
-        alloc,
-        &[Opens, PONG, KEEPS, answer],
-        &[Read(None)],
-        None,
-    )
+    record_of(alloc, &[Opens, PONG, KEEPS, answer], &[Read(None)], None)
 }
 
 /// A reply comes in any pieces, and one that ends before its end is none.
