@@ -18,6 +18,9 @@ INWARD, OUTWARD = ("recv", "read"), ("send", "write")
 # how Redis answers an append: by the identifier of the entry
 APPENDED = re.compile(rb"\$\d+\r\n\d+-\d+\r\n")
 
+# how a confirmable POST and a 2.01 in its acknowledgement begin, each with a token of four bytes (RFC 7252, section 3)
+REQUEST, REPLY = b"\x44\x02", b"\x64\x41"
+
 
 class Trace:
     """What came in and went out in the order in which it did: whether it went out, and the bytes."""
@@ -36,13 +39,16 @@ class Trace:
     def is_in_order(self, reply):
         """Whether its request came, then an append went out, then that was answered, and then the reply went out."""
         key = struct.pack("!H", reply.mid) + reply.token
-        at = self.first(False, lambda it: key in it)
-        for goes_out, truth in ((True, lambda it: b"XADD" in it), (False, APPENDED.match)):
-            at = at is not None and self.first(goes_out, truth, at)
-            if at is None or at is False:
-                return False
-        sent = self.first(True, lambda it: key in it)
-        return sent is not None and sent > at
+        begin, sent = self.first(False, begins(REQUEST + key)), self.first(True, begins(REPLY + key))
+        if None in (begin, sent):
+            return False
+        asked = self.first(True, lambda it: b"XADD" in it, begin)
+        appended = asked is not None and self.first(False, APPENDED.match, asked)
+        return bool(appended) and appended < sent
+
+
+def begins(head):
+    return lambda it: it.startswith(head)
 
 
 def bytes_in(text):
