@@ -6,7 +6,7 @@ import time
 
 from asking import Client, codes_of, identifiers
 from between import CUTS, HOLDS, PASSES, PIECES, Between
-from coap import read, register, update
+from coap import read, register, spelled, update
 from faults import told
 from keeper import KEY
 from scenes import SOON, is_answered, is_soon, measure, shown
@@ -48,10 +48,7 @@ def garbage(scene):
         for length in (3, 4, 20, KIND, KIND + 1, len(sound) - 1):
             appends(redis, "e", sound[:length])
         appends(redis, "e", sound + b"\0")
-        for server in servers:
-            scene.knows("entries that are none: a server knows what was told", server, found.known, found.removed)
-        scene.newcomer_knows(redis.address, found.known, found.removed)
-        scene.agree(servers)
+        scene.all_know("entries that are none", redis.address, servers, found.known, found.removed)
         appends(redis, "e", "garbage", key="foreign")
         with scene.sharer(redis.address, "--stream", "foreign") as server:
             scene.holds("a stream that begins with such an entry", server.ends(SOON), (1, "data cut"))
@@ -64,9 +61,7 @@ def fleets(scene):
             scene.holds("a Register at another fleet", client.code_of(register("stranger")), "2.01")
         scene.is_true("which its stream has", redis.length("other") >= 2, redis.length("other"))
         appends(redis, "e", first_of(redis, START, "other"))
-        for server in servers:
-            scene.knows("a start of another fleet: a server knows what was told", server, found.known, found.removed)
-        scene.newcomer_knows(redis.address, found.known, found.removed)
+        scene.all_know("a start of another fleet", redis.address, servers, found.known, found.removed)
         appends(redis, "e", first_of(redis, DELTA, "other"))
         found = [it.ends(SOON) for it in servers]
         scene.holds("servers after a delta of another fleet", found, [(1, "another fleet")] * 3)
@@ -82,11 +77,10 @@ def numbers(scene):
             entry = bytearray(first_of(redis, START))
             entry[NUMBER], entry[TAG] = struct.pack("!H", second.number), os.urandom(8)
             appends(redis, "e", bytes(entry))
-            code = other.code_of(register("second"), 5)
-            scene.is_true("a Register whose server's number is taken", code in ("none", "closed"), code)
-            scene.holds("the end of that server", second.ends(SOON), (1, "number taken"))
-        scene.knows("the other one goes on", first, known)
-        scene.newcomer_knows(redis.address, known)
+            other.say(spelled(register("second"), 1, b"a"))
+            scene.holds("the end of a server whose number is taken", second.ends(SOON), (1, "number taken"))
+            scene.holds("what it has answered", other.hear(0.1), None)
+        scene.all_know("a number that was taken", redis.address, [first], known)
 
 
 def newer(scene):
@@ -120,10 +114,7 @@ def compactions(scene):
         scene.is_true(f"the stream has {redis.length()} entries, and had {longest}", is_short, redis.length())
         kinds = [kind_of(it) for it in redis.entries()]
         scene.is_true("a whole entry is among them", WHOLE in kinds, kinds)
-        for server in servers:
-            scene.knows("a server knows what was told", server, known)
-        scene.agree(servers)
-        scene.newcomer_knows(redis.address, known)
+        scene.all_know("a stream that was written anew", redis.address, servers, known)
 
 
 def held_back(scene):
@@ -131,7 +122,7 @@ def held_back(scene):
     with scene.redis() as redis, Between(redis.port) as between:
         with scene.sharing(between.address) as server, Client(server.port) as client:
             known = identifiers([client.ask(register("held"))])
-            scene.holds("a Register by way of what stands between", len(known), 1)
+            scene.holds("a Register by way of what stands between", (len(known), client.ping()), (1, True))
             before, between.does = redis.length(), HOLDS
             reply = client.ask(update(known[0]), 1.0) if known else None
             grown = redis.length() - before
@@ -157,14 +148,14 @@ def lost(scene, redis, between, server, known):
         is_soon(lambda: client.ping(1.0))
         known += identifiers([client.ask(register("twice"))])
     scene.holds("when it comes again it is one registration", (len(known), len(shown(server))), (2, 2))
-    scene.newcomer_knows(redis.address, known)
+    scene.newcomer_knows("connections that were lost", redis.address, known)
 
 
 def in_pieces(scene, redis, known):
     """What comes in pieces is read as a whole."""
     with Between(redis.port, PIECES) as between:
         with scene.sharing(between.address) as server:
-            scene.knows("a server to which all comes in pieces knows what was told", server, known)
+            scene.knows("a server to which all comes in pieces", server, known)
 
 
 def expired(scene):

@@ -1,11 +1,12 @@
 """A Redis that is away, comes back, or has lost what it was told."""
 
 import contextlib
+import signal
 import socket
 import threading
 import time
 
-from asking import Client, identifiers
+from asking import Client, codes_of, identifiers
 from coap import deregister, register, update
 from scenes import SOON, is_answered, is_soon
 from visiting import ask, refused
@@ -126,12 +127,12 @@ class Known:
 
 
 @contextlib.contextmanager
-def told(scene, what):
+def told(scene, what, **further):
     """A Redis, three servers over it, and what they have told devices."""
-    with scene.redis() as redis, scene.several(redis.address, 3) as servers:
+    with scene.redis(**further) as redis, scene.several(redis.address, 3) as servers:
         found = Known(servers)
         scene.is_true(f"{what}: all devices are told", found.all, (len(found.known), len(found.removed)))
-        scene.agree(servers)
+        scene.agree(what, servers)
         yield redis, servers, found
 
 
@@ -162,10 +163,7 @@ def all_goes_on(scene, what, redis, servers, found):
     lines = [{it: f"{it}\n" in server.errors() for it in ("log away", "log back")} for server in servers]
     scene.holds(f"{what}: what they log", lines, [{"log away": True, "log back": True}] * 3)
     is_mended(scene, what, servers)
-    for server in servers:
-        scene.knows(f"{what}: a server knows what was told", server, found.known, found.removed)
-    scene.agree(servers)
-    scene.newcomer_knows(redis.address, found.known, found.removed)
+    scene.all_know(what, redis.address, servers, found.known, found.removed)
 
 
 def is_mended(scene, what, servers):
@@ -213,7 +211,7 @@ def loading(scene):
             codes = codes[: -len(clients)]
             scene.is_true(f"{len(codes)} Updates meanwhile", codes and set(codes) == {"none"}, set(codes))
             scene.is_true("a newcomer waits, and serves", newcomer.serves(SOON), newcomer.errors()[-200:])
-            scene.knows("it knows what was told", newcomer, found.known, found.removed)
+            scene.knows("a newcomer that has waited", newcomer, found.known, found.removed)
         all_goes_on(scene, "a Redis that has loaded", redis, servers, found)
 
 
@@ -229,10 +227,7 @@ def gone(scene):
             scene.is_true(f"{what}: an Update is soon answered ({seconds:.1f} s)", is_told, lines[-200:])
             scene.is_true(f"{what}: all is written anew", is_written, lines[-200:])
             scene.is_true(f"{what}: and the loss is logged", "log lost\n" in lines, lines[-200:])
-            scene.newcomer_knows(redis.address, found.known, found.removed)
-            for server in servers:
-                scene.knows(f"{what}: a server knows what was told", server, found.known, found.removed)
-            scene.agree(servers)
+            scene.all_know(what, redis.address, servers, found.known, found.removed)
 
 
 def trimmed(scene):
@@ -240,6 +235,48 @@ def trimmed(scene):
     with told(scene, "XTRIM") as (redis, servers, found):
         redis.ask("XTRIM", "fleet", "MAXLEN", 0)
         for server in servers:
-            scene.knows("XTRIM: a server knows what was told", server, found.known, found.removed)
+            scene.knows("XTRIM, at a server", server, found.known, found.removed)
         with scene.sharer(redis.address) as newcomer:
             scene.holds("XTRIM: a newcomer", newcomer.ends(SOON), (1, "data cut"))
+
+
+def begun_anew(scene):
+    """Whoever begins where the stream is gone begins another fleet, which ends the servers of the one before."""
+    with told(scene, "a new fleet") as (redis, servers, found):
+        redis.ask("DEL", "fleet")
+        with scene.sharing(redis.address) as newcomer, Client(newcomer.port) as client:
+            scene.holds("a Register at a server that found no stream", client.code_of(register("first")), "2.01")
+            ends = [it.ends(SOON) for it in servers]
+            scene.holds("the servers of the fleet before", ends, [(1, "another fleet")] * 3)
+            scene.holds("an Update at the new one", client.code_of(update(found.known[0])), "4.04")
+
+
+def forgetful(scene):
+    """A Redis that keeps nothing on its disk is told all again by its servers."""
+    with told(scene, "a Redis that keeps nothing", keeps="no") as (redis, servers, found):
+        warned = ["redis keeps nothing on its disk\n" in it.errors() for it in servers]
+        scene.holds("servers that warn of it", warned, [True] * 3)
+        redis.kill()
+        redis.start()
+        scene.holds("entries once it is started again", redis.length(), 0)
+        answered = [is_answered(it, update(found.known[0])) for it in servers]
+        scene.holds("a Redis that has forgotten: each server soon answers again", answered, [True] * 3)
+        scene.is_true("what it had is written anew", is_soon(lambda: any(it.compactions() for it in servers)), "not")
+        is_mended(scene, "a Redis that has forgotten", servers)
+        scene.all_know("a Redis that has forgotten", redis.address, servers, found.known, found.removed)
+
+
+def sleeper(scene):
+    """A server that stood still knows what it missed before it answers, and the others go on meanwhile."""
+    with told(scene, "a server that stands still") as (redis, servers, found):
+        servers[2].run.send_signal(signal.SIGSTOP)
+        with Client(servers[0].port) as client:
+            missed = identifiers(client.ask_all([register(f"missed-{it}") for it in range(40)]))
+            ended = client.ask_all([deregister(it) for it in found.known[:10]])
+        time.sleep(LEAST_AWAY)
+        servers[2].run.send_signal(signal.SIGCONT)
+        codes = codes_of(ended)
+        scene.holds("Registers and removals meanwhile", (len(missed), codes), (40, {"2.02": 10}))
+        known, removed = [*found.known[10:], *missed], [*found.removed, *found.known[:10]]
+        scene.knows("a server that goes on", servers[2], known, removed)
+        scene.all_know("a server that has gone on", redis.address, servers, known, removed)

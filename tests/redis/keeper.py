@@ -71,8 +71,8 @@ def reply_from(reader):
 class Redis:
     """A Redis on a port of its own, in a folder of its own, which is killed where it is left."""
 
-    def __init__(self, tool, folder, password=None):
-        self.tool, self.folder, self.password = tool, folder, password
+    def __init__(self, tool, folder, password=None, keeps="yes"):
+        self.tool, self.folder, self.password, self.keeps = tool, folder, password, keeps
         self.port, self.run = lasting_port(socket.SOCK_STREAM), None
 
     def __enter__(self):
@@ -93,7 +93,7 @@ class Redis:
     def start(self, *further, serves=True):
         """Starts it over its folder, and waits until it answers."""
         words = [self.tool, "--port", self.port, "--bind", "127.0.0.1", "--dir", self.folder, "--daemonize", "no"]
-        words += ["--save", "", "--appendonly", "yes", "--appendfsync", "everysec"]
+        words += ["--save", "", "--appendonly", self.keeps, "--appendfsync", "everysec"]
         words += ["--requirepass", self.password] if self.password else []
         with open(self.folder / "log", "ab") as log:
             streams = {"stdin": subprocess.DEVNULL, "stdout": log, "stderr": log}

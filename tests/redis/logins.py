@@ -4,7 +4,7 @@ import re
 import tempfile
 
 from asking import Client
-from coap import register
+from coap import register, spelled
 from scenes import SOON
 
 PASSWORD, WRONG, GENERAL = "pass-0123456789-word", "wrong-9876543210-word", "general-4567890123-word"
@@ -73,9 +73,9 @@ def refusals(scene):
                 is_refused(scene, what, server, error)
         may_not_write = login_of(scene, "reader", PASSWORD)
         with scene.sharing(redis.address, *may_not_write) as server, Client(server.port) as client:
-            code = client.code_of(register("a"), 3)
-            scene.is_true("a Register where nothing may be appended", code in ("none", "closed"), code)
-            is_refused(scene, "nothing may be appended", server, "NOPERM")
+            client.say(spelled(register("a"), 1, b"a"))
+            is_refused(scene, "a Register where nothing may be appended", server, "NOPERM")
+            scene.holds("what it has answered", client.hear(0.1), None)
         serving(scene, redis)
     tells_no_password(scene)
 

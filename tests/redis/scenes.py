@@ -39,7 +39,7 @@ class RedisScene(Scene):
         self.tool = tools.tool(("redis-server",), "redis-server")
 
     def redis(self, **further):
-        """A Redis in a folder of its own."""
+        """A Redis of its own, which is not started yet."""
         return Redis(self.tool, pathlib.Path(tempfile.mkdtemp(prefix="redis-", dir=self.folder)), **further)
 
     @staticmethod
@@ -64,23 +64,34 @@ class RedisScene(Scene):
             yield [stack.enter_context(self.sharing(address, *words)) for _ in range(count)]
 
     def knows(self, what, server, known, removed=()):
-        """A server knows what devices were told: Updates are answered so, again where there is no answer."""
+        """A server knows what devices were told, as its answers to Updates show."""
         found = codes_told(server.port, known), codes_told(server.port, removed)
-        self.holds(what, found, (all_of(known, "2.04"), all_of(removed, "4.04")))
+        self.holds(f"{what}: what was told is known", found, (all_of(known, "2.04"), all_of(removed, "4.04")))
 
-    def newcomer_knows(self, address, known, removed=(), words=()):
+    def newcomer_knows(self, what, address, known, removed=()):
         """A server that begins now knows what devices were told, and whoever asks it over HTTP is told the same."""
-        with self.sharing(address, *words) as server:
-            self.knows("a newcomer knows what was told", server, known, removed)
+        with self.sharing(address) as server:
             seen = set(shown(server).values())
-            self.holds("and shows it", (set(known) - seen, set(removed) & seen), (set(), set()))
+            found = len(set(known) - seen), len(set(removed) & seen)
+            self.holds(f"{what}: what a newcomer lacks, and what it shows that was removed", found, (0, 0))
+            self.knows(f"{what}, at a newcomer", server, known, removed)
 
-    def agree(self, servers):
+    def all_know(self, what, address, servers, known, removed=()):
+        """A newcomer knows what devices were told, and so does each server. The newcomer comes first.
+
+        An Update has its registration written anew, which a newcomer would then find in the stream in any case.
+        """
+        self.newcomer_knows(what, address, known, removed)
+        for number, server in enumerate(servers, 1):
+            self.knows(f"{what}, at server {number}", server, known, removed)
+        self.agree(what, servers)
+
+    def agree(self, what, servers):
         """All servers soon show the same registrations, which are given."""
         is_soon(lambda: len({tuple(sorted(shown(it).items())) for it in servers}) == 1, SPREAD)
         found = [shown(it) for it in servers]
         differing = [sorted(set(found[0].items()) ^ set(it.items()))[:3] for it in found if it != found[0]]
-        self.holds(f"{len(servers)} servers show the same {len(found[0])} registrations", differing, [])
+        self.holds(f"{what}: {len(servers)} servers show the same {len(found[0])} registrations", differing, [])
         return found[0]
 
 
