@@ -12,7 +12,7 @@ import coap
 from asking import CLOSED, TOKENS, Client
 from keeper import ends_with_the_test, lasting_port
 from scene import NoServer
-from scenes import VISITS
+from scenes import VISITS, settle
 from serving import LIMIT
 
 # how long is listened at once, and waited where a port is closed, in seconds
@@ -31,9 +31,13 @@ class Fleet:
 
     def __enter__(self):
         unserved = self.starts(*range(len(self.ports)))
-        if unserved:
+        try:
+            if unserved:
+                raise NoServer(unserved)
+            settle(self.servers)
+        except BaseException:
             self.__exit__()
-            raise NoServer(unserved)
+            raise
         return self
 
     def __exit__(self, *_):

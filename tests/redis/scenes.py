@@ -11,7 +11,7 @@ import tools
 from asking import Client, codes_of
 from coap import update
 from keeper import Redis, ends_with_the_test, lasting_port
-from scene import Scene
+from scene import NoServer, Scene
 from visiting import ask
 
 VISITS = ("--http", "127.0.0.1:0")
@@ -59,9 +59,11 @@ class RedisScene(Scene):
 
     @contextlib.contextmanager
     def several(self, address, count, *words):
-        """So many servers over the Redis at an address, which serve."""
+        """So many servers over the Redis at an address, which serve, and know of one fleet."""
         with contextlib.ExitStack() as stack:
-            yield [stack.enter_context(self.sharing(address, *words)) for _ in range(count)]
+            servers = [stack.enter_context(self.sharing(address, *words)) for _ in range(count)]
+            settle(servers)
+            yield servers
 
     def knows(self, what, server, known, removed=()):
         """A server knows what devices were told, as its answers to Updates show."""
@@ -93,6 +95,20 @@ class RedisScene(Scene):
         differing = [sorted(set(found[0].items()) ^ set(it.items()))[:3] for it in found if it != found[0]]
         self.holds(f"{what}: {len(servers)} servers show the same {len(found[0])} registrations", differing, [])
         return found[0]
+
+
+def settle(servers):
+    """The first of these servers enters the stream, and the others have read that."""
+    with Client(servers[0].port) as client:
+        client.ping()
+    if not is_soon(lambda: all(counter(it) and counter(it) >= counter(servers[0]) for it in servers)):
+        raise NoServer("a server does not read the stream")
+
+
+def counter(server):
+    """The greatest counter that a server knows, or none."""
+    response = ask(server.visited, "/v1/node")
+    return json.loads(response.body)["counter"] if response.status == "200 OK" else None
 
 
 def all_of(found, code):
