@@ -28,6 +28,8 @@ class Fleet:
         self.servers = [None] * count
         # how often each was killed
         self.ends = [0] * count
+        # how many turns devices may have made that go on until they are stopped
+        self.turns = 0
 
     def __enter__(self):
         unserved = self.starts(*range(len(self.ports)))
@@ -65,12 +67,9 @@ class Fleet:
 class Roamer(threading.Thread):
     """A device that registers names of its own at one server, updates them at others, and removes each eighth.
 
-    It goes on until it is stopped. A request to a server that was killed is sent again to another one. What no server
-    answers that was not killed is a fault.
+    It makes the turns that its fleet grants, until it is stopped. A request to a server that was killed is sent again
+    to another one. That a server which was not killed does not answer is a fault.
     """
-
-    # the longest pause between two turns, in seconds
-    PAUSE = 0.02
 
     def __init__(self, number, fleet):
         super().__init__(daemon=True)
@@ -84,10 +83,14 @@ class Roamer(threading.Thread):
         with contextlib.ExitStack() as stack:
             self.clients = [stack.enter_context(Client(port)) for port in self.fleet.ports]
             for turn in itertools.count():
-                if self.stopped.is_set():
-                    return
+                while turn >= self.fleet.turns or self.stopped.is_set():
+                    if self.stopped.wait(TURN / 10):
+                        return
                 self.lives(turn)
-                time.sleep(self.chance.uniform(0, self.PAUSE))
+
+    def made(self):
+        """How many of its Registers were answered."""
+        return len(self.known) + len(self.removed)
 
     def lives(self, turn):
         reply, _ = self.told(coap.register(f"device-{self.number}-{turn}"), "2.01")
