@@ -194,6 +194,17 @@ def killed(scene):
         all_goes_on(scene, "a Redis that is started again", redis, servers, found)
 
 
+def full(scene):
+    """A Redis without room takes nothing, so what a server has made of a request is told nobody."""
+    with told(scene, "a Redis without room") as (redis, servers, found):
+        redis.ask("CONFIG", "SET", "maxmemory", 1)
+        before = redis.length()
+        nothing_is_told(scene, "a Redis without room", servers, found.known, 1)
+        scene.holds("a Redis without room: what it took", redis.length() - before, 0)
+        redis.ask("CONFIG", "SET", "maxmemory", 0)
+        all_goes_on(scene, "a Redis with room again", redis, servers, found)
+
+
 def loading(scene):
     """A Redis that loads its data answers, and nothing but that."""
     with told(scene, "a Redis that will load") as (redis, servers, found):
