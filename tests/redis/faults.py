@@ -1,0 +1,293 @@
+"""A Redis that is away, comes back, or has lost what it was told."""
+
+import contextlib
+import signal
+import socket
+import threading
+import time
+
+from asking import Client, codes_of, identifiers
+from coap import deregister, register, update
+from scenes import SOON, is_answered, is_soon
+from visiting import ask, refused
+
+AWAY = refused("503 Service Unavailable", "away")
+# how long a server waits at a start, and how much longer the last reply may take that it waits for, in seconds
+PATIENCE, LAST_REPLY = 10, 5
+# how long a Redis is away at least, and at most, in seconds
+LEAST_AWAY, MOST_AWAY = 3, 15
+# A Redis that loads answers behind each 1,024 commands. So there are more, and each takes so many microseconds.
+FILLING, LOADING_SLOWLY = 12_000, ("--key-load-delay", "250")
+
+
+@contextlib.contextmanager
+def running(*threads):
+    """Threads that run meanwhile, and are then stopped."""
+    for thread in threads:
+        thread.start()
+    try:
+        yield
+    finally:
+        for thread in threads:
+            thread.stopped.set()
+        for thread in threads:
+            thread.join(SOON)
+
+
+class Speaker(threading.Thread):
+    """Somebody who is no Redis, and says so to all who come."""
+
+    def __init__(self):
+        super().__init__(daemon=True)
+        self.stopped, self.front = threading.Event(), socket.create_server(("127.0.0.1", 0))
+        self.port = self.front.getsockname()[1]
+        self.front.settimeout(0.05)
+
+    def run(self):
+        while not self.stopped.is_set():
+            with contextlib.suppress(OSError):
+                visitor, _ = self.front.accept()
+                with visitor:
+                    visitor.sendall(b"HTTP/1.1 400 Bad Request\r\n\r\n")
+        self.front.close()
+
+
+class Watcher(threading.Thread):
+    """A visitor who asks who is registered until he is stopped."""
+
+    def __init__(self, server):
+        super().__init__(daemon=True)
+        self.server, self.stopped, self.answers = server, threading.Event(), []
+
+    def run(self):
+        while not self.stopped.wait(0.02):
+            self.answers.append(ask(self.server.visited, "/v1/registrations"))
+
+    @property
+    def has_heard(self):
+        return AWAY in self.answers
+
+    def others(self):
+        """What else he was told once he was told that the server is away."""
+        return [it for it in self.answers[self.answers.index(AWAY) :] if it != AWAY] if self.has_heard else []
+
+
+def nobody(scene):
+    """Where no Redis is at the address, a start ends after ten seconds, and not before."""
+    closed = scene.closed_port()
+    with socket.create_server(("127.0.0.1", 0)) as silent, contextlib.ExitStack() as stack:
+        speaker = Speaker()
+        stack.enter_context(running(speaker))
+        ports = {"nobody": closed, "somebody silent": silent.getsockname()[1], "no Redis": speaker.port}
+        begun = time.monotonic()
+        runs = {it: stack.enter_context(scene.sharer(f"127.0.0.1:{port}")) for it, port in ports.items()}
+        ended = {}
+        while len(ended) < len(runs) and time.monotonic() < begun + PATIENCE + SOON:
+            for it in [it for it, server in runs.items() if it not in ended and server.run.poll() is not None]:
+                ended[it] = time.monotonic() - begun
+            time.sleep(0.01)
+        for it, server in runs.items():
+            scene.holds(f"the end where {it} is at the address", server.ends(0.1), (1, "redis away"))
+            seconds = ended.get(it, 0)
+            is_right = PATIENCE <= seconds <= PATIENCE + LAST_REPLY
+            scene.is_true(f"it comes after {PATIENCE} seconds ({seconds:.1f})", is_right, f"{seconds:.1f} s")
+            scene.holds("and nothing else is told", server.errors(), "redis away\n")
+
+
+def late(scene):
+    """A Redis that is started within ten seconds is soon enough."""
+    redis = scene.redis()
+    with contextlib.ExitStack() as stack:
+        stack.callback(redis.kill)
+        server = stack.enter_context(scene.sharer(redis.address))
+        time.sleep(LEAST_AWAY)
+        found = server.run.poll(), server.errors()
+        scene.holds("a server that waits for its Redis, and what it says", found, (None, ""))
+        redis.start()
+        scene.is_true("it serves once Redis is there", server.serves(SOON), server.errors()[-200:])
+        with Client(server.port) as client:
+            scene.holds("a Register then", client.code_of(register("late")), "2.01")
+
+
+class Known:
+    """What devices were told by several servers: the identifiers that are registered, and those that were removed."""
+
+    def __init__(self, servers, count=40):
+        self.known, self.removed = [], []
+        for number, server in enumerate(servers):
+            with Client(server.port) as client:
+                requests = [register(f"told-{number}-{it}") for it in range(count)]
+                found = identifiers(client.ask_all(requests, at_once=25))
+            self.known += found[count // 4 :]
+            # each is removed at another server than it was registered at
+            with Client(servers[number - 1].port) as client:
+                replies = client.ask_all([deregister(it) for it in found[: count // 4]])
+            self.removed += [it for it, reply in zip(found, replies) if reply and reply.code == "2.02"]
+        self.all = len(self.known) + len(self.removed) == count * len(servers)
+
+
+@contextlib.contextmanager
+def told(scene, what, **further):
+    """A Redis, three servers over it, and what they have told devices."""
+    with scene.redis(**further) as redis, scene.several(redis.address, 3) as servers:
+        found = Known(servers)
+        scene.is_true(f"{what}: all devices are told", found.all, (len(found.known), len(found.removed)))
+        scene.agree(what, servers)
+        yield redis, servers, found
+
+
+def nothing_is_told(scene, what, servers, known, seconds):
+    """Meanwhile no device is answered, and visitors are told that the servers are away."""
+    watchers, codes = [Watcher(it) for it in servers], []
+    begun = time.monotonic()
+    with contextlib.ExitStack() as stack:
+        clients = [stack.enter_context(Client(it.port)) for it in servers]
+        stack.enter_context(running(*watchers))
+        while (passed := time.monotonic() - begun) < seconds or not all(it.has_heard for it in watchers):
+            codes += [client.code_of(update(known[len(codes) % len(known)]), 0.1) for client in clients]
+            if passed > MOST_AWAY:
+                break
+    answered = [it for it in codes if it != "none"]
+    scene.holds(f"{what}: of {len(codes)} Updates those that are answered", answered, [])
+    found = [it.answers[-1:] for it in watchers if not it.has_heard]
+    scene.holds(f"{what}: servers that do not tell visitors of it", found, [])
+    found = [it.others()[:1] for it in watchers if it.others()]
+    scene.holds(f"{what}: servers that tell visitors else afterwards", found, [])
+
+
+def all_goes_on(scene, what, redis, servers, found):
+    """Each server answers again by itself, and knows all, and so does a newcomer."""
+    begun = time.monotonic()
+    answered = [is_answered(it, update(found.known[0])) for it in servers]
+    scene.holds(f"{what}: each server soon answers again ({time.monotonic() - begun:.1f} s)", answered, [True] * 3)
+    lines = [{it: f"{it}\n" in server.errors() for it in ("log away", "log back")} for server in servers]
+    scene.holds(f"{what}: what they log", lines, [{"log away": True, "log back": True}] * 3)
+    is_mended(scene, what, servers)
+    scene.all_know(what, redis.address, servers, found.known, found.removed)
+
+
+def is_mended(scene, what, servers):
+    """Who logs that the log has lost something, writes all anew."""
+    losers = [it for it in servers if "log lost\n" in it.errors()]
+    if losers:
+        found = [is_soon(lambda it=it: it.compactions()) for it in losers]
+        scene.holds(f"{what}: those write all anew that tell of a loss", found, [True] * len(losers))
+
+
+def stopped(scene):
+    """A Redis that answers nothing for a while."""
+    with told(scene, "a Redis that is stopped") as (redis, servers, found):
+        redis.stop()
+        try:
+            nothing_is_told(scene, "a Redis that is stopped", servers, found.known, LEAST_AWAY)
+        finally:
+            redis.goes_on()
+        all_goes_on(scene, "a Redis that goes on", redis, servers, found)
+
+
+def killed(scene):
+    """A Redis that is killed, and started again over its folder."""
+    with told(scene, "a Redis that is killed") as (redis, servers, found):
+        redis.kill()
+        nothing_is_told(scene, "a Redis that is killed", servers, found.known, 1)
+        redis.start()
+        all_goes_on(scene, "a Redis that is started again", redis, servers, found)
+
+
+def full(scene):
+    """A Redis without room takes nothing, so what a server has made of a request is told nobody."""
+    with told(scene, "a Redis without room") as (redis, servers, found):
+        redis.ask("CONFIG", "SET", "maxmemory", 1)
+        before = redis.length()
+        nothing_is_told(scene, "a Redis without room", servers, found.known, 1)
+        scene.holds("a Redis without room: what it took", redis.length() - before, 0)
+        redis.ask("CONFIG", "SET", "maxmemory", 0)
+        all_goes_on(scene, "a Redis with room again", redis, servers, found)
+
+
+def loading(scene):
+    """A Redis that loads its data answers, and nothing but that."""
+    with told(scene, "a Redis that will load") as (redis, servers, found):
+        redis.ask_all([("SET", "filling", it) for it in range(FILLING)])
+        redis.kill()
+        redis.start(*LOADING_SLOWLY, serves=False)
+        state = redis.state() or b""
+        scene.is_true("a Redis that loads says so", state.startswith(b"LOADING"), state)
+        with scene.sharer(redis.address) as newcomer, contextlib.ExitStack() as stack:
+            clients = [stack.enter_context(Client(it.port)) for it in servers]
+            codes = []
+            while (redis.state() or b"").startswith(b"LOADING"):
+                codes += [client.code_of(update(found.known[0]), 0.1) for client in clients]
+            # what is answered to the last ones may have come when all was loaded
+            codes = codes[: -len(clients)]
+            scene.is_true(f"{len(codes)} Updates meanwhile", codes and set(codes) == {"none"}, set(codes))
+            scene.is_true("a newcomer waits, and serves", newcomer.serves(SOON), newcomer.errors()[-200:])
+            scene.knows("a newcomer that has waited", newcomer, found.known, found.removed)
+        all_goes_on(scene, "a Redis that has loaded", redis, servers, found)
+
+
+def gone(scene):
+    """Where the stream is gone, what the servers know is written anew."""
+    for words in (("FLUSHALL",), ("DEL", "fleet")):
+        what = " ".join(words)
+        with told(scene, what) as (redis, servers, found):
+            redis.ask(*words)
+            begun, loser = time.monotonic(), servers[1]
+            is_told = is_answered(loser, update(found.known[0]))
+            seconds, is_written, lines = time.monotonic() - begun, is_soon(loser.compactions), loser.errors()
+            scene.is_true(f"{what}: an Update is soon answered ({seconds:.1f} s)", is_told, lines[-200:])
+            scene.is_true(f"{what}: all is written anew", is_written, lines[-200:])
+            scene.is_true(f"{what}: and the loss is logged", "log lost\n" in lines, lines[-200:])
+            scene.all_know(what, redis.address, servers, found.known, found.removed)
+
+
+def trimmed(scene):
+    """Where a stream lost its beginning and stays, its servers go on, and nobody begins who would know less."""
+    with told(scene, "XTRIM") as (redis, servers, found):
+        redis.ask("XTRIM", "fleet", "MAXLEN", 0)
+        for server in servers:
+            scene.knows("XTRIM, at a server", server, found.known, found.removed)
+        with scene.sharer(redis.address) as newcomer:
+            scene.holds("XTRIM: a newcomer", newcomer.ends(SOON), (1, "data cut"))
+
+
+def begun_anew(scene):
+    """Whoever begins where the stream is gone begins another fleet, which ends the servers of the one before."""
+    with told(scene, "a new fleet") as (redis, servers, found):
+        redis.ask("DEL", "fleet")
+        with scene.sharing(redis.address) as newcomer, Client(newcomer.port) as client:
+            scene.holds("a Register at a server that found no stream", client.code_of(register("first")), "2.01")
+            ends = [it.ends(SOON) for it in servers]
+            scene.holds("the servers of the fleet before", ends, [(1, "another fleet")] * 3)
+            scene.holds("an Update at the new one", client.code_of(update(found.known[0])), "4.04")
+
+
+def forgetful(scene):
+    """A Redis that keeps nothing on its disk is told all again by its servers."""
+    with told(scene, "a Redis that keeps nothing", keeps="no") as (redis, servers, found):
+        warned = ["redis keeps nothing on its disk\n" in it.errors() for it in servers]
+        scene.holds("servers that warn of it", warned, [True] * 3)
+        redis.kill()
+        redis.start()
+        scene.holds("entries once it is started again", redis.length(), 0)
+        answered = [is_answered(it, update(found.known[0])) for it in servers]
+        scene.holds("a Redis that has forgotten: each server soon answers again", answered, [True] * 3)
+        scene.is_true("what it had is written anew", is_soon(lambda: any(it.compactions() for it in servers)), "not")
+        is_mended(scene, "a Redis that has forgotten", servers)
+        scene.all_know("a Redis that has forgotten", redis.address, servers, found.known, found.removed)
+
+
+def sleeper(scene):
+    """A server that stood still knows what it missed before it answers, and the others go on meanwhile."""
+    with told(scene, "a server that stands still") as (redis, servers, found):
+        servers[2].run.send_signal(signal.SIGSTOP)
+        with Client(servers[0].port) as client:
+            missed = identifiers(client.ask_all([register(f"missed-{it}") for it in range(40)]))
+            ended = client.ask_all([deregister(it) for it in found.known[:10]])
+        time.sleep(LEAST_AWAY)
+        servers[2].run.send_signal(signal.SIGCONT)
+        codes = codes_of(ended)
+        scene.holds("Registers and removals meanwhile", (len(missed), codes), (40, {"2.02": 10}))
+        known, removed = [*found.known[10:], *missed], [*found.removed, *found.known[:10]]
+        scene.knows("a server that goes on", servers[2], known, removed)
+        scene.all_know("a server that has gone on", redis.address, servers, known, removed)
