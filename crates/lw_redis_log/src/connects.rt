@@ -1,5 +1,6 @@
 //! What a log over a Redis stands on.
 
+use lw_resp::StreamId;
 use std::io::{self, Read, Write};
 
 /// Something that a log over a Redis tells its caller, as it happens.
@@ -9,8 +10,10 @@ pub enum Notice<'a> {
     Refused(&'a str),
     /// The server keeps no file of what is appended: it has nothing when it is started again.
     KeepsNothing,
-    /// The stream is gone, or has lost what was appended last.
+    /// The stream is gone, or has lost its end.
     Lost,
+    /// What stands there is no entry of a log, and is passed over.
+    PassedOver(StreamId),
 }
 
 /// Connections to a Redis, a clock that only goes on, and who is told.

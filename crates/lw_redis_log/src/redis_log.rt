@@ -10,15 +10,15 @@ use crate::login::Login;
 use crate::outcomes::RedisFault;
 use crate::pages::{id_of, position_of};
 use crate::replies::{appended, page_read, trimmed};
-use lw_log::{Bytes, DeltaLog, LogFault, Position};
+use lw_log::{Bytes, DeltaLog, EntryFault, LogFault, Position, read_entry};
 use lw_resp::StreamId;
 use lw_stamp::NoMemory;
 use std::alloc::Global;
 
 /// Keeps entries in one stream of a Redis, which other processes append to and trim at any time.
 ///
-/// A connection that fails is made again after a pause, and each call answers `Away` until then. An append tells once
-/// that the stream is gone, or has lost the entry that was appended last.
+/// A connection that fails is made again after a pause, and each call answers `Away` until then. A reading or an append
+/// tells once that the stream is gone, or has lost its end.
 #[derive(Drop)]
 pub struct RedisLog<C: Connects> {
     pub(crate) alloc: Global,
@@ -27,12 +27,20 @@ pub struct RedisLog<C: Connects> {
     pub(crate) key: Vec<u8>,
     /// Whether the server was asked what it keeps on its disk.
     pub(crate) is_known: bool,
-    /// The entry that this process appended last.
+    /// The last entry of the stream, as far as this process has appended or read.
     pub(crate) last: Option<StreamId>,
-    /// Whether that entry is not there any more, which the next append tells.
+    /// Whether that entry is not there any more, which the next reading or append tells.
     pub(crate) has_lost: bool,
     /// Whether the next append makes the stream.
     makes: bool,
+}
+
+/// Whether the bytes are no entry, nor one of a later format.
+fn is_passed_over(bytes: &[u8]) -> bool {
+    match read_entry(bytes) {
+        Ok(_) | Err(EntryFault::Newer) => false,
+        Err(_) => true,
+    }
 }
 
 impl<C: Connects> RedisLog<C> {
@@ -72,7 +80,7 @@ impl<C: Connects> RedisLog<C> {
         }
     }
 
-    /// What was appended last is lost.
+    /// The end of the stream is lost.
     fn lose(&mut self) -> LogFault
         ensures asked { result ≢ LogFault.NoMemory }
     {
@@ -90,6 +98,9 @@ impl<C: Connects> RedisLog<C> {
         ensures asked { IfErr result (λ fault. fault ≢ LogFault.NoMemory) }
     {
         self.make_ready()?;
+        if self.has_lost {
+            return Err(self.lose());
+        }
         let bytes = self.ask(command)?;
         match page_read(self.alloc, &bytes) {
             Ok(page) => {
@@ -98,9 +109,21 @@ impl<C: Connects> RedisLog<C> {
                 if is_whole || !page.is_empty() {
                     self.makes = page.is_empty();
                 }
+                self.look_at(&page);
                 Ok(page)
             }
             Err(fault) => Err(self.fail(fault)),
+        }
+    }
+
+    /// Notes where the page ends, and tells of what in it is no entry.
+    fn look_at(&mut self, page: &[(Position, Bytes)]) {
+        for (position, bytes) in page {
+            let id = id_of(*position);
+            self.last = self.last.max(Some(id));
+            if is_passed_over(bytes) {
+                self.line.world.hear(Notice::PassedOver(id));
+            }
         }
     }
 
@@ -115,7 +138,7 @@ impl<C: Connects> RedisLog<C> {
         match appended(self.alloc, &bytes) {
             Ok(id) => {
                 self.line.settle();
-                self.last = Some(id);
+                self.last = self.last.max(Some(id));
                 self.makes = false;
                 Ok(position_of(id))
             }

@@ -3,6 +3,7 @@
 use crate::hold::shown;
 use lw_log::{Bytes, DeltaLog, Position};
 use lw_redis_log::{Connects, Login, Notice, RedisLog};
+use lw_resp::StreamId;
 use std::alloc::{AllocError, Global};
 use std::cell::{Cell, RefCell};
 use std::io::{self, ErrorKind, Read, Write};
@@ -57,6 +58,12 @@ impl<'a> Stage<'a> {
     /// Has bytes stand in the record.
     fn note_bytes(&self, bytes: &[u8]) -> Result<(), AllocError> {
         self.note(shown(self.alloc, bytes)?.as_str())
+    }
+
+    /// Has a word with an identifier stand in the record.
+    fn note_id(&self, word: &str, id: StreamId) -> Result<(), AllocError> {
+        let text = format!(in self.alloc; "{word} {}-{}", id.major, id.minor)?;
+        self.note(text.as_str())
     }
 
     /// What comes next. There is nothing behind the last.
@@ -166,13 +173,13 @@ impl<'a> Connects for Caller<'a> {
     }
 
     fn hear(&mut self, notice: Notice<'_>) {
-        let text = match notice {
-            Notice::Refused(error) => error,
-            Notice::KeepsNothing => "keeps nothing",
-            Notice::Lost => "lost",
-        };
         // A note that is missing is seen in the record.
-        let _ = self.stage.note(text);
+        let _ = match notice {
+            Notice::Refused(error) => self.stage.note(error),
+            Notice::KeepsNothing => self.stage.note("keeps nothing"),
+            Notice::Lost => self.stage.note("lost"),
+            Notice::PassedOver(id) => self.stage.note_id("passes over", id),
+        };
     }
 }
 
