@@ -1,7 +1,7 @@
 //! Connections over TCP.
 
 use crate::connects::{Connects, Notice};
-use log::{Log, info, warn};
+use log::{Log, warn};
 use std::io::{self, ErrorKind};
 use std::net::{Net, OpenStream, SocketAddr, TcpStream, ToSocketAddrs};
 use std::time::{Clock, Duration, Instant};
@@ -70,7 +70,7 @@ impl<R: Net + Clock, L: Log> Connects for TcpRedis<'_, R, L> {
         match notice {
             Notice::Refused(text) => warn!(log; "redis refused error={text}"),
             Notice::KeepsNothing => warn!(log; "redis keeps nothing on its disk"),
-            Notice::Lost => info!(log; "redis lost what was appended last"),
+            Notice::Lost => warn!(log; "redis lost what was appended last"),
         }
     }
 }
