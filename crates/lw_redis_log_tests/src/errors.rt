@@ -55,11 +55,33 @@ const ERRORS: [(&str, bool); 22] = [
     ("", false),
 ];
 
+fn check_errors(rows: &[(&str, bool)]) -> Result<(), Fail> {
+    for row in rows {
+        holds_for(row, passes(row.0.as_bytes()) == row.1)?;
+    }
+    Ok(())
+}
+
 /// Tries: lw_redis_log::passes
 #[test]
 fn some_errors_pass(_rt: HostRuntime) -> Result<(), Fail> {
-    for row in &ERRORS {
-        holds_for(row, passes(row.0.as_bytes()) == row.1)?;
+    check_errors(&ERRORS)
+}
+
+/// Errors, and their prefixes.
+const PREFIXES: [(&str, &str); 4] = [
+    (
+        "ERR unknown command 'AUTH', with args beginning with: 'fleet' 'secret' ",
+        "ERR",
+    ),
+    ("LOADING", "LOADING"),
+    (" ERR", ""),
+    ("", ""),
+];
+
+fn check_prefixes(rows: &[(&str, &str)]) -> Result<(), Fail> {
+    for row in rows {
+        holds_for(row, error_prefix(row.0.as_bytes()) == row.1.as_bytes())?;
     }
     Ok(())
 }
@@ -67,30 +89,36 @@ fn some_errors_pass(_rt: HostRuntime) -> Result<(), Fail> {
 /// Tries: lw_redis_log::error_prefix
 #[test]
 fn a_prefix_is_the_first_word(_rt: HostRuntime) -> Result<(), Fail> {
-    let rows = [
-        (
-            "ERR unknown command 'AUTH', with args beginning with: 'fleet' 'secret' ",
-            "ERR",
-        ),
-        ("LOADING", "LOADING"),
-        (" ERR", ""),
-        ("", ""),
-    ];
-    for row in &rows {
-        holds_for(row, error_prefix(row.0.as_bytes()) == row.1.as_bytes())?;
+    check_prefixes(&PREFIXES)
+}
+
+/// Texts, and what is shown of them.
+const SHOWN: [(&[u8], &str); 5] = [
+    (b"ERR syntax error", "ERR syntax error"),
+    (b"ERR ~\x7fa", "ERR ~"),
+    (b"ERR \x1b[31m", "ERR "),
+    (b"ERR \xc3\xa4", "ERR "),
+    (b"", ""),
+];
+
+fn check_shown(rows: &[(&[u8], &str)]) -> Result<(), Fail> {
+    for row in rows {
+        same(shown(row.0), row.1)?;
     }
     Ok(())
+}
+
+/// Of a text of one letter so many bytes are shown.
+fn check_length(letter: u8, length: usize, want: usize) -> Result<(), Fail> {
+    let long = [letter; 256];
+    let shown = shown(&long[..length.min(256)]);
+    holds_for(&length, shown.len() == want)
 }
 
 /// Tries: lw_redis_log::shown
 #[test]
 fn what_is_shown_is_printable(_rt: HostRuntime) -> Result<(), Fail> {
-    same(shown(b"ERR syntax error"), "ERR syntax error")?;
-    same(shown(b"ERR ~\x7fa"), "ERR ~")?;
-    same(shown(b"ERR \x1b[31m"), "ERR ")?;
-    same(shown(b"ERR \xc3\xa4"), "ERR ")?;
-    same(shown(b""), "")?;
-    let long = [b'a'; 201];
-    same(shown(&long), shown(&long[..200]))?;
-    holds_for(&"the longest", shown(&long).len() == 200)
+    check_shown(&SHOWN)?;
+    check_length(b'a', 200, 200)?;
+    check_length(b'a', 201, 200)
 }

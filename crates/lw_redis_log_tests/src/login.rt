@@ -33,17 +33,26 @@ const NONE: [&[u8]; 16] = [
     b"fleet\nsecret\x7f",
 ];
 
-/// Tries: lw_redis_log::Login::read
-#[test]
-fn two_lines_are_a_login(rt: HostRuntime) -> Result<(), Fail> {
-    for row in &LOGINS {
-        holds_for(row, Login::read(rt.alloc(), row).is_ok())?;
+fn check_logins(alloc: Global, rows: &[&[u8]]) -> Result<(), Fail> {
+    for row in rows {
+        holds_for(row, Login::read(alloc, row).is_ok())?;
     }
-    for row in &NONE {
-        let read = Login::read(rt.alloc(), row);
+    Ok(())
+}
+
+fn check_none(alloc: Global, rows: &[&[u8]]) -> Result<(), Fail> {
+    for row in rows {
+        let read = Login::read(alloc, row);
         holds_for(row, read.err() == Some(LoginFault::Malformed))?;
     }
     Ok(())
+}
+
+/// Tries: lw_redis_log::Login::read
+#[test]
+fn two_lines_are_a_login(rt: HostRuntime) -> Result<(), Fail> {
+    check_logins(rt.alloc(), &LOGINS)?;
+    check_none(rt.alloc(), &NONE)
 }
 
 /// A line of so many bytes, and another.

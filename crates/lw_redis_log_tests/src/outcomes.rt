@@ -62,29 +62,35 @@ fn append_text(alloc: Global, bytes: &str) -> Result<String, Fail> {
     }
 }
 
-/// Tries: lw_redis_log::append_outcome
-#[test]
-fn replies_to_an_append(rt: HostRuntime) -> Result<(), Fail> {
-    let alloc = rt.alloc();
-    let rows = [
-        ("$15\r\n1526919030474-0\r\n", "1526919030474-0"),
-        (
-            "$41\r\n18446744073709551615-18446744073709551615\r\n",
-            "18446744073709551615-18446744073709551615",
-        ),
-        ("$-1\r\n", "lost"),
-        ("$0\r\n\r\n", "away"),
-        ("$13\r\n1526919030474\r\n", "away"),
-        ("$22\r\n18446744073709551616-0\r\n", "away"),
-        ("$4\r\n07-1\r\n", "away"),
-        (":1\r\n", "away"),
-        ("*0\r\n", "away"),
-        ("+OK\r\n", "away"),
-    ];
-    for row in rows.iter().chain(&TO_ANY) {
+/// Replies to an append.
+const APPENDS: [Row; 10] = [
+    ("$15\r\n1526919030474-0\r\n", "1526919030474-0"),
+    (
+        "$41\r\n18446744073709551615-18446744073709551615\r\n",
+        "18446744073709551615-18446744073709551615",
+    ),
+    ("$-1\r\n", "lost"),
+    ("$0\r\n\r\n", "away"),
+    ("$13\r\n1526919030474\r\n", "away"),
+    ("$22\r\n18446744073709551616-0\r\n", "away"),
+    ("$4\r\n07-1\r\n", "away"),
+    (":1\r\n", "away"),
+    ("*0\r\n", "away"),
+    ("+OK\r\n", "away"),
+];
+
+fn check_appends(alloc: Global, rows: &[Row]) -> Result<(), Fail> {
+    for row in rows {
         same(append_text(alloc, row.0)?.as_str(), row.1)?;
     }
     Ok(())
+}
+
+/// Tries: lw_redis_log::append_outcome
+#[test]
+fn replies_to_an_append(rt: HostRuntime) -> Result<(), Fail> {
+    check_appends(rt.alloc(), &APPENDS)?;
+    check_appends(rt.alloc(), &TO_ANY)
 }
 
 fn trim_text(alloc: Global, bytes: &str) -> Result<String, Fail> {
@@ -94,21 +100,27 @@ fn trim_text(alloc: Global, bytes: &str) -> Result<String, Fail> {
     }
 }
 
-/// Tries: lw_redis_log::trim_outcome
-#[test]
-fn replies_to_a_trim(rt: HostRuntime) -> Result<(), Fail> {
-    let alloc = rt.alloc();
-    let rows = [
-        (":0\r\n", "0"),
-        (":15\r\n", "15"),
-        ("$1\r\n0\r\n", "away"),
-        ("$-1\r\n", "away"),
-        ("*0\r\n", "away"),
-    ];
-    for row in rows.iter().chain(&TO_ANY) {
+/// Replies to a trim.
+const TRIMS: [Row; 5] = [
+    (":0\r\n", "0"),
+    (":15\r\n", "15"),
+    ("$1\r\n0\r\n", "away"),
+    ("$-1\r\n", "away"),
+    ("*0\r\n", "away"),
+];
+
+fn check_trims(alloc: Global, rows: &[Row]) -> Result<(), Fail> {
+    for row in rows {
         same(trim_text(alloc, row.0)?.as_str(), row.1)?;
     }
     Ok(())
+}
+
+/// Tries: lw_redis_log::trim_outcome
+#[test]
+fn replies_to_a_trim(rt: HostRuntime) -> Result<(), Fail> {
+    check_trims(rt.alloc(), &TRIMS)?;
+    check_trims(rt.alloc(), &TO_ANY)
 }
 
 fn status_text(alloc: Global, bytes: &str) -> Result<String, Fail> {
@@ -118,23 +130,29 @@ fn status_text(alloc: Global, bytes: &str) -> Result<String, Fail> {
     }
 }
 
-/// Tries: lw_redis_log::status_outcome
-#[test]
-fn replies_to_a_greeting(rt: HostRuntime) -> Result<(), Fail> {
-    let alloc = rt.alloc();
-    let rows = [
-        ("+PONG\r\n", "ok"),
-        ("+OK\r\n", "away"),
-        ("+pong\r\n", "away"),
-        ("$4\r\nPONG\r\n", "away"),
-        ("$-1\r\n", "away"),
-        (":1\r\n", "away"),
-        ("*0\r\n", "away"),
-    ];
-    for row in rows.iter().chain(&TO_ANY) {
+/// Replies to `PING`.
+const STATUSES: [Row; 7] = [
+    ("+PONG\r\n", "ok"),
+    ("+OK\r\n", "away"),
+    ("+pong\r\n", "away"),
+    ("$4\r\nPONG\r\n", "away"),
+    ("$-1\r\n", "away"),
+    (":1\r\n", "away"),
+    ("*0\r\n", "away"),
+];
+
+fn check_statuses(alloc: Global, rows: &[Row]) -> Result<(), Fail> {
+    for row in rows {
         same(status_text(alloc, row.0)?.as_str(), row.1)?;
     }
     Ok(())
+}
+
+/// Tries: lw_redis_log::status_outcome
+#[test]
+fn replies_to_a_greeting(rt: HostRuntime) -> Result<(), Fail> {
+    check_statuses(rt.alloc(), &STATUSES)?;
+    check_statuses(rt.alloc(), &TO_ANY)
 }
 
 fn persistence_text(alloc: Global, bytes: &str) -> Result<String, Fail> {
@@ -144,32 +162,38 @@ fn persistence_text(alloc: Global, bytes: &str) -> Result<String, Fail> {
     }
 }
 
+/// Replies to `INFO persistence`.
+const DISKS: [Row; 9] = [
+    (
+        "$41\r\n# Persistence\r\nloading:0\r\naof_enabled:0\r\n\r\n",
+        "true",
+    ),
+    (
+        "$41\r\n# Persistence\r\nloading:0\r\naof_enabled:1\r\n\r\n",
+        "false",
+    ),
+    ("$31\r\n# Persistence\r\nxaof_enabled:0\r\n\r\n", "false"),
+    ("$29\r\n# Persistence\r\naof_enabled:0\n\r\n", "false"),
+    ("$29\r\n# Persistence\r\naof_enabled:\r\n\r\n", "false"),
+    ("$0\r\n\r\n", "false"),
+    ("$-1\r\n", "away"),
+    (":0\r\n", "away"),
+    ("*0\r\n", "away"),
+];
+
+fn check_disks(alloc: Global, rows: &[Row]) -> Result<(), Fail> {
+    for row in rows {
+        same(persistence_text(alloc, row.0)?.as_str(), row.1)?;
+    }
+    Ok(())
+}
+
 /// Tries: lw_redis_log::persistence_outcome
 /// Tries: lw_redis_log::keeps_nothing
 #[test]
 fn replies_about_the_disk(rt: HostRuntime) -> Result<(), Fail> {
-    let alloc = rt.alloc();
-    let rows = [
-        (
-            "$41\r\n# Persistence\r\nloading:0\r\naof_enabled:0\r\n\r\n",
-            "true",
-        ),
-        (
-            "$41\r\n# Persistence\r\nloading:0\r\naof_enabled:1\r\n\r\n",
-            "false",
-        ),
-        ("$31\r\n# Persistence\r\nxaof_enabled:0\r\n\r\n", "false"),
-        ("$29\r\n# Persistence\r\naof_enabled:0\n\r\n", "false"),
-        ("$29\r\n# Persistence\r\naof_enabled:\r\n\r\n", "false"),
-        ("$0\r\n\r\n", "false"),
-        ("$-1\r\n", "away"),
-        (":0\r\n", "away"),
-        ("*0\r\n", "away"),
-    ];
-    for row in rows.iter().chain(&TO_ANY) {
-        same(persistence_text(alloc, row.0)?.as_str(), row.1)?;
-    }
-    Ok(())
+    check_disks(rt.alloc(), &DISKS)?;
+    check_disks(rt.alloc(), &TO_ANY)
 }
 
 fn page_text(alloc: Global, entries: &[Entry<'_>]) -> Result<String, Fail> {
@@ -195,39 +219,45 @@ fn read_text(alloc: Global, bytes: &str) -> Result<String, Fail> {
     }
 }
 
+/// Replies to a reading.
+const PAGES: [Row; 8] = [
+    ("*0\r\n", "page"),
+    (
+        "*1\r\n*2\r\n$3\r\n7-1\r\n*2\r\n$1\r\ne\r\n$2\r\nab\r\n",
+        "page 7-1=ab",
+    ),
+    // Foreign entries: another name, two fields, and none.
+    (
+        "*4\r\n*2\r\n$3\r\n7-1\r\n*2\r\n$1\r\nf\r\n$2\r\nab\r\n\
+         *2\r\n$3\r\n7-2\r\n*4\r\n$1\r\ne\r\n$2\r\nab\r\n$1\r\nf\r\n$1\r\nx\r\n\
+         *2\r\n$3\r\n7-3\r\n*0\r\n\
+         *2\r\n$3\r\n8-0\r\n*2\r\n$1\r\ne\r\n$1\r\nz\r\n",
+        "page 7-1= 7-2= 7-3= 8-0=z",
+    ),
+    (
+        "*1\r\n*2\r\n$3\r\n7_1\r\n*2\r\n$1\r\ne\r\n$2\r\nab\r\n",
+        "malformed",
+    ),
+    (
+        "*2\r\n*2\r\n$3\r\n7-1\r\n*2\r\n$1\r\ne\r\n$0\r\n\r\n*2\r\n$1\r\n7\r\n*2\r\n$1\r\ne\r\n$0\r\n\r\n",
+        "malformed",
+    ),
+    ("$-1\r\n", "away"),
+    (":0\r\n", "away"),
+    ("$3\r\n7-1\r\n", "away"),
+];
+
+fn check_pages(alloc: Global, rows: &[Row]) -> Result<(), Fail> {
+    for row in rows {
+        same(read_text(alloc, row.0)?.as_str(), row.1)?;
+    }
+    Ok(())
+}
+
 /// Tries: lw_redis_log::entries_outcome
 /// Tries: lw_redis_log::page_of
 #[test]
 fn replies_to_a_reading(rt: HostRuntime) -> Result<(), Fail> {
-    let alloc = rt.alloc();
-    let rows = [
-        ("*0\r\n", "page"),
-        (
-            "*1\r\n*2\r\n$3\r\n7-1\r\n*2\r\n$1\r\ne\r\n$2\r\nab\r\n",
-            "page 7-1=ab",
-        ),
-        // Foreign entries: another name, two fields, and none.
-        (
-            "*4\r\n*2\r\n$3\r\n7-1\r\n*2\r\n$1\r\nf\r\n$2\r\nab\r\n\
-             *2\r\n$3\r\n7-2\r\n*4\r\n$1\r\ne\r\n$2\r\nab\r\n$1\r\nf\r\n$1\r\nx\r\n\
-             *2\r\n$3\r\n7-3\r\n*0\r\n\
-             *2\r\n$3\r\n8-0\r\n*2\r\n$1\r\ne\r\n$1\r\nz\r\n",
-            "page 7-1= 7-2= 7-3= 8-0=z",
-        ),
-        (
-            "*1\r\n*2\r\n$3\r\n7_1\r\n*2\r\n$1\r\ne\r\n$2\r\nab\r\n",
-            "malformed",
-        ),
-        (
-            "*2\r\n*2\r\n$3\r\n7-1\r\n*2\r\n$1\r\ne\r\n$0\r\n\r\n*2\r\n$1\r\n7\r\n*2\r\n$1\r\ne\r\n$0\r\n\r\n",
-            "malformed",
-        ),
-        ("$-1\r\n", "away"),
-        (":0\r\n", "away"),
-        ("$3\r\n7-1\r\n", "away"),
-    ];
-    for row in rows.iter().chain(&TO_ANY) {
-        same(read_text(alloc, row.0)?.as_str(), row.1)?;
-    }
-    Ok(())
+    check_pages(rt.alloc(), &PAGES)?;
+    check_pages(rt.alloc(), &TO_ANY)
 }

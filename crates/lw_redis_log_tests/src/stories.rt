@@ -49,7 +49,7 @@ const MADE: [Story; 4] = [
         &[Opens, PONG, KEEPS, FOUND, SECOND],
         &[Read(None), Append("b")],
         "connects\n*1~$4~PING~\n*2~$4~INFO~$11~persistence~\n\
-         *6~$6~XRANGE~$1~k~$1~-~$1~+~$5~COUNT~$3~256~\n= 5-0 a\n\
+         *6~$6~XRANGE~$1~k~$1~-~$1~+~$5~COUNT~$3~256~\npasses over 5-0\n= 5-0 a\n\
          *6~$4~XADD~$1~k~$10~NOMKSTREAM~$1~*~$1~e~$1~b~\n= 6-0\n",
     ),
     (
@@ -129,23 +129,27 @@ const DROPPED: &str = "connects\n*1~$4~PING~\n*2~$4~INFO~$11~persistence~\n\
      *6~$4~XADD~$1~k~$10~NOMKSTREAM~$1~*~$1~e~$1~a~\n= Away\n= Away\n99 ms\n= Away\n1 ms\n\
      connects\n*1~$4~PING~\n*6~$4~XADD~$1~k~$10~NOMKSTREAM~$1~*~$1~e~$1~a~\n= 5-0\n";
 
+fn check_drops(alloc: Global, drops: &[Answer], want: &str) -> Result<(), Fail> {
+    let acts = [
+        Append("a"),
+        Append("a"),
+        Pass(99),
+        Append("a"),
+        Pass(1),
+        Append("a"),
+    ];
+    for drop in drops {
+        let answers = [Opens, PONG, KEEPS, *drop, Opens, PONG, FIRST];
+        let record = record_of(alloc, &answers, &acts, None)?;
+        same(record.as_str(), want)?;
+    }
+    Ok(())
+}
+
 /// Tries: lw_redis_log::RedisLog
 #[test]
 fn a_connection_is_made_again(rt: HostRuntime) -> Result<(), Fail> {
-    for drop in &DROPS {
-        let answers = [Opens, PONG, KEEPS, *drop, Opens, PONG, FIRST];
-        let acts = [
-            Append("a"),
-            Append("a"),
-            Pass(99),
-            Append("a"),
-            Pass(1),
-            Append("a"),
-        ];
-        let record = record_of(rt.alloc(), &answers, &acts, None)?;
-        same(record.as_str(), DROPPED)?;
-    }
-    Ok(())
+    check_drops(rt.alloc(), &DROPS, DROPPED)
 }
 
 /// Pauses are doubled until the server does what it is asked.
@@ -204,9 +208,9 @@ fn pauses_grow(rt: HostRuntime) -> Result<(), Fail> {
     check_all(rt.alloc(), &PAUSES)
 }
 
-/// What was appended last is looked for at a new connection. Where it is gone, the next append tells it once, and a
-/// reading does not. What this log let go itself is not looked for.
-const LOST: [Story; 3] = [
+/// What was appended or read last is looked for at a new connection. Where it is gone, the next reading or append tells it
+/// once. What this log let go itself is not looked for.
+const LOST: [Story; 4] = [
     (
         &[
             Opens,
@@ -243,11 +247,6 @@ const LOST: [Story; 3] = [
             PONG,
             EMPTY,
             EMPTY,
-            Ends(""),
-            Opens,
-            PONG,
-            EMPTY,
-            SECOND,
         ],
         &[
             Append("a"),
@@ -255,18 +254,20 @@ const LOST: [Story; 3] = [
             Pass(100),
             Read(Some((5, 0))),
             Read(Some((5, 0))),
-            Pass(100),
-            Append("b"),
-            Append("b"),
         ],
         "connects\n*1~$4~PING~\n*2~$4~INFO~$11~persistence~\n\
          *6~$4~XADD~$1~k~$10~NOMKSTREAM~$1~*~$1~e~$1~a~\n= 5-0\n\
          *6~$4~XADD~$1~k~$10~NOMKSTREAM~$1~*~$1~e~$1~b~\n= Away\n100 ms\n\
-         connects\n*1~$4~PING~\n*4~$6~XRANGE~$1~k~$3~5-0~$3~5-0~\n\
-         *6~$6~XRANGE~$1~k~$4~(5-0~$1~+~$5~COUNT~$3~256~\n=\n\
-         *6~$6~XRANGE~$1~k~$4~(5-0~$1~+~$5~COUNT~$3~256~\n= Away\n100 ms\n\
          connects\n*1~$4~PING~\n*4~$6~XRANGE~$1~k~$3~5-0~$3~5-0~\nlost\n= Lost\n\
-         *6~$4~XADD~$1~k~$10~NOMKSTREAM~$1~*~$1~e~$1~b~\n= 6-0\n",
+         *6~$6~XRANGE~$1~k~$4~(5-0~$1~+~$5~COUNT~$3~256~\n=\n",
+    ),
+    (
+        &[Opens, PONG, KEEPS, FOUND, Ends(""), Opens, PONG, EMPTY],
+        &[Read(None), Append("b"), Pass(100), Append("b")],
+        "connects\n*1~$4~PING~\n*2~$4~INFO~$11~persistence~\n\
+         *6~$6~XRANGE~$1~k~$1~-~$1~+~$5~COUNT~$3~256~\npasses over 5-0\n= 5-0 a\n\
+         *6~$4~XADD~$1~k~$10~NOMKSTREAM~$1~*~$1~e~$1~b~\n= Away\n100 ms\n\
+         connects\n*1~$4~PING~\n*4~$6~XRANGE~$1~k~$3~5-0~$3~5-0~\nlost\n= Lost\n",
     ),
     (
         &[
@@ -373,11 +374,8 @@ const LOGINS: [Story; 4] = [
     ),
 ];
 
-/// Tries: lw_redis_log::RedisLog
-#[test]
-fn a_user_logs_in(rt: HostRuntime) -> Result<(), Fail> {
-    let alloc = rt.alloc();
-    for story in &LOGINS {
+fn check_logins(alloc: Global, stories: &[Story]) -> Result<(), Fail> {
+    for story in stories {
         let Ok(login) = Login::read(alloc, b"fleet\nsecret\n") else {
             return Err("no login".into());
         };
@@ -385,6 +383,12 @@ fn a_user_logs_in(rt: HostRuntime) -> Result<(), Fail> {
         same(record.as_str(), story.2)?;
     }
     Ok(())
+}
+
+/// Tries: lw_redis_log::RedisLog
+#[test]
+fn a_user_logs_in(rt: HostRuntime) -> Result<(), Fail> {
+    check_logins(rt.alloc(), &LOGINS)
 }
 
 /// Two entries, the second of which is foreign.
@@ -395,22 +399,41 @@ fn read_over(alloc: Global, answer: Answer) -> Result<String, Fail> {
     record_of(alloc, &[Opens, PONG, KEEPS, answer], &[Read(None)], None)
 }
 
+/// The record of a reading whose reply is whole.
+const WHOLE: &str = "connects\n*1~$4~PING~\n*2~$4~INFO~$11~persistence~\n\
+     *6~$6~XRANGE~$1~k~$1~-~$1~+~$5~COUNT~$3~256~\n\
+     passes over 5-0\npasses over 5-1\n= 5-0 ab 5-1 \n";
+
+/// The record of one whose reply is not.
+const CUT: &str = "connects\n*1~$4~PING~\n*2~$4~INFO~$11~persistence~\n\
+     *6~$6~XRANGE~$1~k~$1~-~$1~+~$5~COUNT~$3~256~\n= Away\n";
+
+fn check_readings(alloc: Global, answers: &[Answer], want: &str) -> Result<(), Fail> {
+    for answer in answers {
+        same(read_over(alloc, *answer)?.as_str(), want)?;
+    }
+    Ok(())
+}
+
+fn check_cuts(alloc: Global, reply: &'static str, want: &str) -> Result<(), Fail> {
+    for end in 0..reply.len() {
+        let Some(cut) = reply.get(..end) else {
+            return Err("no ASCII".into());
+        };
+        check_readings(alloc, &[Ends(cut), Says(cut)], want)?;
+    }
+    Ok(())
+}
+
 /// A reply comes in any pieces, and one that ends before its end is none.
 ///
 /// Tries: lw_redis_log::RedisLog
 #[test]
 fn a_reply_is_waited_for(rt: HostRuntime) -> Result<(), Fail> {
-    let alloc = rt.alloc();
-    let whole = "connects\n*1~$4~PING~\n*2~$4~INFO~$11~persistence~\n\
-         *6~$6~XRANGE~$1~k~$1~-~$1~+~$5~COUNT~$3~256~\n= 5-0 ab 5-1 \n";
-    let cut = "connects\n*1~$4~PING~\n*2~$4~INFO~$11~persistence~\n\
-         *6~$6~XRANGE~$1~k~$1~-~$1~+~$5~COUNT~$3~256~\n= Away\n";
-    for answer in [Says(PAGE), SaysSlowly(PAGE), Ends(PAGE)] {
-        same(read_over(alloc, answer)?.as_str(), whole)?;
-    }
-    for end in 0..PAGE.len() {
-        same(read_over(alloc, Ends(&PAGE[..end]))?.as_str(), cut)?;
-        same(read_over(alloc, Says(&PAGE[..end]))?.as_str(), cut)?;
-    }
-    Ok(())
+    check_readings(
+        rt.alloc(),
+        &[Says(PAGE), SaysSlowly(PAGE), Ends(PAGE)],
+        WHOLE,
+    )?;
+    check_cuts(rt.alloc(), PAGE, CUT)
 }
