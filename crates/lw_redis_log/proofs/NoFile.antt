@@ -6,7 +6,8 @@ use Rattle.std.proofs.lemmas.Bool.{cases_lt}
 use Rattle.std.proofs.lemmas.List.{take-append-drop, length-append}
 use Rattle.std.proofs.lemmas.Slice.Eq.{starts_is}
 use Rattle.std.proofs.Math.Seq.{drop-append_seam}
-use Rattle.lw_redis_log.specs.Persistence.{file_line, BeginsWithIt, TellsOfNoFile}
+use Rattle.lw_redis_log.specs.Persistence.{file_line, TellsOfNoFile}
+use Rattle.lw_redis_log.specs.inner.Persistence.{BeginsWithIt}
 
 pub begins : (text : List ℕ) (r : Bool) → r ≡ starts_with nat_eq text file_line → IsTrue r ↔ BeginsWithIt text
 begins text true e = (λ _. (drop (length file_line) text, (starts_is Decides-eqb text file_line true e).0 refl), λ _. refl)

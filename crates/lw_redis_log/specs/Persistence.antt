@@ -6,9 +6,6 @@ use Rattle.lw_resp.specs.Bytes.{crlf}
 abbrev pub file_line : List ℕ
 file_line = crlf ++ (codes "aof_enabled:0" ++ crlf)
 
-abbrev pub BeginsWithIt : List ℕ → Type 0
-BeginsWithIt text = (after : List ℕ) × (text ≡ file_line ++ after)
-
 -- the text tells that there is no such file
 abbrev pub TellsOfNoFile : List ℕ → Type 0
 TellsOfNoFile text = (before after : List ℕ) × (text ≡ before ++ (file_line ++ after))

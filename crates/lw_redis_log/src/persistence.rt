@@ -1,7 +1,8 @@
 //! What a Redis keeps on its disk.
 
 ghost use Rattle.std.specs.Prelude.{◌↔◌, IsTrue};
-ghost use Rattle.lw_redis_log.specs.Persistence.{BeginsWithIt, TellsOfNoFile};
+ghost use Rattle.lw_redis_log.specs.Persistence.{TellsOfNoFile};
+ghost use Rattle.lw_redis_log.specs.inner.Persistence.{BeginsWithIt};
 
 /// The line of `INFO persistence` of a server that keeps no file of what it appends.
 const NO_FILE: &[u8] = b"\r\naof_enabled:0\r\n";

@@ -69,7 +69,7 @@ const MADE: [Story; 4] = [
     ),
 ];
 
-/// Tries: lw_redis_log::RedisLog
+/// Tries: lw_redis_log::RedisLog::new
 #[test]
 fn a_stream_is_made(rt: HostRuntime) -> Result<(), Fail> {
     check_all(rt.alloc(), &MADE)
@@ -105,7 +105,7 @@ const REFUSED: [Story; 2] = [
     ),
 ];
 
-/// Tries: lw_redis_log::RedisLog
+/// Tries: lw_redis_log::RedisLog::new
 #[test]
 fn a_refusal_is_told(rt: HostRuntime) -> Result<(), Fail> {
     check_all(rt.alloc(), &REFUSED)
@@ -146,7 +146,7 @@ fn check_drops(alloc: Global, drops: &[Answer], want: &str) -> Result<(), Fail> 
     Ok(())
 }
 
-/// Tries: lw_redis_log::RedisLog
+/// Tries: lw_redis_log::RedisLog::new
 #[test]
 fn a_connection_is_made_again(rt: HostRuntime) -> Result<(), Fail> {
     check_drops(rt.alloc(), &DROPS, DROPPED)
@@ -202,7 +202,7 @@ const PAUSES: [Story; 2] = [
     ),
 ];
 
-/// Tries: lw_redis_log::RedisLog
+/// Tries: lw_redis_log::RedisLog::new
 #[test]
 fn pauses_grow(rt: HostRuntime) -> Result<(), Fail> {
     check_all(rt.alloc(), &PAUSES)
@@ -290,7 +290,7 @@ const LOST: [Story; 4] = [
     ),
 ];
 
-/// Tries: lw_redis_log::RedisLog
+/// Tries: lw_redis_log::RedisLog::new
 #[test]
 fn what_is_lost_is_told(rt: HostRuntime) -> Result<(), Fail> {
     check_all(rt.alloc(), &LOST)
@@ -329,7 +329,7 @@ const DISKS: [Story; 3] = [
     ),
 ];
 
-/// Tries: lw_redis_log::RedisLog
+/// Tries: lw_redis_log::RedisLog::new
 #[test]
 fn the_disk_is_asked_for(rt: HostRuntime) -> Result<(), Fail> {
     check_all(rt.alloc(), &DISKS)
@@ -385,7 +385,7 @@ fn check_logins(alloc: Global, stories: &[Story]) -> Result<(), Fail> {
     Ok(())
 }
 
-/// Tries: lw_redis_log::RedisLog
+/// Tries: lw_redis_log::RedisLog::new
 #[test]
 fn a_user_logs_in(rt: HostRuntime) -> Result<(), Fail> {
     check_logins(rt.alloc(), &LOGINS)
@@ -427,7 +427,7 @@ fn check_cuts(alloc: Global, reply: &'static str, want: &str) -> Result<(), Fail
 
 /// A reply comes in any pieces, and one that ends before its end is none.
 ///
-/// Tries: lw_redis_log::RedisLog
+/// Tries: lw_redis_log::RedisLog::new
 #[test]
 fn a_reply_is_waited_for(rt: HostRuntime) -> Result<(), Fail> {
     check_readings(
