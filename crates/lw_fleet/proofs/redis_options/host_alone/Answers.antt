@@ -1,4 +1,4 @@
-use Rattle.std.proofs.Common.{rules, arith, refl, sym, ap, length, eqb, eqb-true, ◌∙◌}
+use Rattle.std.proofs.Common.{arith, refl, sym, ap, length, eqb, eqb-true, ◌∙◌}
 use Rattle.std.proofs.lemmas.List.{nil_from_length}
 use Rattle.lw_fleet.proofs.RedisLemmas.{has_sign}
 use Rattle.lw_fleet.proofs.redis_options.host_alone.Goals.{then-is_empty-via-then-is_empty, then-is_empty-via-else-is_empty+then-contains, then-is_empty-via-else-is_empty+else-contains+then-contains-2}
