@@ -196,7 +196,11 @@ fn keeps_in<'a>(matches: &ArgMatches<'a>) -> Result<Keeps<'a>, BadRunOption>
         → ¬ IsKept (option_rows (subcommand_rows_of matches.now)) keeps) }
 {
     let memory = has_flag(matches, "memory");
-    let keeps = match (memory, given_text(matches, "data"), given_text(matches, "redis")) {
+    let keeps = match (
+        memory,
+        given_text(matches, "data"),
+        given_text(matches, "redis"),
+    ) {
         (true, None, None) => Keeps::Nothing,
         (false, None, None) => Keeps::Folder("fleet-data"),
         (false, Some(folder), None) if folder.is_empty() => return Err(BadRunOption::Folder),

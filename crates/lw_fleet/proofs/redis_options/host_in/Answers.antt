@@ -1,4 +1,4 @@
-use Rattle.std.proofs.Common.{◌≡◌, ◌∷◌, ◌++◌, [], Some, None, arith, refl, sym, subst, inr, ◌∙◌}
+use Rattle.std.proofs.Common.{Some, None, arith, refl, sym, subst, inr}
 use Rattle.std.proofs.lemmas.Option.{IfSome_then}
 use Rattle.std.proofs.lemmas.Str.Pattern.{strip_prefix_char, strip_suffix_char}
 use Rattle.lw_fleet.specs.CommandLine.{IsHostText}
