@@ -16,7 +16,7 @@ NUMBER, TAG, KIND = slice(20, 22), slice(22, 30), 38
 START, DELTA, WHOLE = 0, 1, 2
 # a list of some 6 KB: 300 registrations with such a list are compacted after some 2,500 Updates
 VERY_LONG_LIST = b",".join(b"</%d/0>;title=some-more-bytes" % number for number in range(1000, 1220))
-HEAVY, MOST_ROUNDS, MOST_LEFT = 300, 40, 100
+HEAVY, MOST_ROUNDS, MOST_LEFT = 300, 20, 100
 
 
 def kind_of(fields):
@@ -103,12 +103,12 @@ def compactions(scene):
         codes, longest = {}, redis.length()
         for number in range(MOST_ROUNDS):
             with Client(servers[number % 3].port) as client:
-                replies = client.ask_all([update(it) for it in known], at_once=50, wait=20)
-            codes |= codes_of(replies)
+                codes |= codes_of(client.ask_all([update(it) for it in known], at_once=8, wait=5))
             longest = max(longest, redis.length())
             if any(it.compactions() for it in servers):
                 break
-        scene.holds("Updates until all was written anew", set(codes), {"2.04"})
+        # a server that waits for a long entry may let some go, as one whose Redis is away
+        scene.holds("answers to Updates until all was written anew", set(codes) - {"none"}, {"2.04"})
         scene.is_true("that was done", any(it.compactions() for it in servers), f"{MOST_ROUNDS} rounds")
         is_short = is_soon(lambda: redis.length() <= MOST_LEFT)
         scene.is_true(f"the stream has {redis.length()} entries, and had {longest}", is_short, redis.length())

@@ -93,7 +93,7 @@ class Roamer(threading.Thread):
         return len(self.known) + len(self.removed)
 
     def lives(self, turn):
-        reply, _ = self.told(coap.register(f"device-{self.number}-{turn}"), "2.01")
+        reply = self.told(coap.register(f"device-{self.number}-{turn}"), "2.01")
         if reply is None:
             return
         if turn % 8:
@@ -105,19 +105,16 @@ class Roamer(threading.Thread):
 
     def removes(self, identifier):
         # one that is sent again may have been done before
-        reply, _ = self.told(coap.deregister(identifier), "2.02", "4.04")
-        if reply:
+        if self.told(coap.deregister(identifier), "2.02", "4.04"):
             self.removed.append(identifier)
 
     def told(self, request, code, again=None):
-        """The reply, with this code or the one that is right where it was sent again, and where it came from."""
+        """The reply, where it has this code, or the other one that is right too where the request was sent again."""
         reply, place, attempts = self.answered(request)
-        if reply is None:
-            return None, place
-        if reply.code != code and not (attempts and reply.code == again):
-            self.faults.append((self.number, place, attempts, reply.code, request.options[-1]))
-            return None, place
-        return reply, place
+        if reply is None or reply.code == code or (attempts and reply.code == again):
+            return reply
+        self.faults.append((self.number, place, attempts, reply.code, request.options[-1]))
+        return None
 
     def answered(self, request):
         """The reply, its server, and how often the request was sent before in vain. No reply where it is stopped."""
