@@ -38,7 +38,7 @@ fn text_of(alloc: Global, asked: Asked) -> Result<String, Fail> {
     Ok(shown(alloc, &bytes)?)
 }
 
-/// Commands, and their arrays of bulk strings by the pages on the protocol and on each command. `~` is the end of a line.
+/// Commands, and their arrays of bulk strings by the pages on the protocol and on each command. `~` ends a line.
 const ROWS: [(Asked, &str); 11] = [
     (
         Asked::Read(None),
