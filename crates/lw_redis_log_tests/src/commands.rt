@@ -7,7 +7,7 @@ use lw_resp::StreamId;
 use std::alloc::Global;
 use std::test::Fail;
 
-/// A command, and the array of bulk strings that the pages on the protocol and on the command tell. `~` is the end of a line.
+/// A command.
 #[derive(Clone, Copy)]
 enum Asked {
     Read(Option<(u64, u64)>),
@@ -38,6 +38,7 @@ fn text_of(alloc: Global, asked: Asked) -> Result<String, Fail> {
     Ok(shown(alloc, &bytes)?)
 }
 
+/// Commands, and their arrays of bulk strings by the pages on the protocol and on each command. `~` ends a line.
 const ROWS: [(Asked, &str); 11] = [
     (
         Asked::Read(None),
