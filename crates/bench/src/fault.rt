@@ -19,7 +19,7 @@ pub(crate) enum BenchFault {
     /// A clock, a file, a socket or the output failed.
     Device,
     NoMemory,
-    /// The first word is neither `full` nor `serving`.
+    /// The first word is none of `full`, `serving` and `asking`, or no ports stand behind the last.
     UnknownWord,
     /// A run that served ended so.
     Served(ServeFault),

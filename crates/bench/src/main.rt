@@ -2,7 +2,8 @@
 //!
 //! Without a word each call is made a few times, and then it prints `ok`. With `full` it prints a table, and with a
 //! word behind that those of its rows whose name has the word. With `serving` it prints how fast requests over UDP are
-//! answered; with a folder behind that, also how fast they are by a server that keeps them there.
+//! answered; with a folder behind that, also how fast they are by a server that keeps them there. With `asking` and ports
+//! of the loopback behind that, parted by commas, it prints how fast the servers there answer.
 #![tactic(auto)]
 
 mod copies;
@@ -28,7 +29,7 @@ mod slots;
 mod table;
 
 use crate::fault::BenchFault;
-use crate::serving::{FULL_REQUESTS, Kept, TRIAL_REQUESTS, serving};
+use crate::serving::{FULL_REQUESTS, Kept, TRIAL_REQUESTS, asking, serving};
 use crate::table::{ALL, FULL, TRIAL, table};
 use std::env;
 use std::net::Net;
@@ -63,6 +64,7 @@ fn text_of<R: AllocGlobal + CpuClock + Files + Wait + Threads + Net + Clock + Sy
             let kept = further_word.map(|folder| Kept { host, folder });
             serving(rt, rt.alloc(), FULL_REQUESTS, kept)
         }
+        Some("asking") => asking(rt, rt.alloc(), further_word.unwrap_or(""), FULL_REQUESTS),
         Some("full") => table(rt, FULL, further_word.unwrap_or(ALL)),
         Some(_) => Err(BenchFault::UnknownWord),
         None => trial(rt),

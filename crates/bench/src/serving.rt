@@ -1,10 +1,12 @@
 //! How many datagrams of eight clients are answered in a second, over UDP on the loopback: by the rounds of `lw_serve`, and by
 //! the member of `lw_run`. Beside each is a plain echo of the same datagrams.
 
+mod asking;
 mod client;
 mod member;
 mod peer;
 
+pub(crate) use self::asking::asking;
 pub(crate) use self::member::Kept;
 use self::peer::{CLIENTS, Peer, measure};
 use crate::fault::BenchFault;

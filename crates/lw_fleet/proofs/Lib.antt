@@ -5,3 +5,4 @@ pub mod EndingLemmas
 pub mod ReplayLemmas
 pub mod CommandLemmas
 pub mod HttpLemmas
+pub mod RedisLemmas

@@ -1,11 +1,12 @@
 -- The command line of the program, in the words of `clap`: the command `one` with its three options, `replay`, `serve`
--- with its five, and `run` with its nine.
-use Rattle.std.specs.Prelude.{◌≡◌, ◌≢◌, ◌⊎◌, ◌<◌, ◌^◌, ℕ, List, [], ◌∷◌, Option, Some, None, option_copied, option_map, codes, unwrap_or, true}
+-- with its five, and `run` with its thirteen.
+use Rattle.std.specs.Prelude.{◌≡◌, ◌≢◌, ◌⊎◌, ◌<◌, ◌≤◌, ◌^◌, ◌++◌, ℕ, List, [], ◌∷◌, Option, Some, None, option_copied, option_map, codes, unwrap_or, true, IsSomeAnd}
 use Rattle.std.specs.Borrow.{Bor}
 use Rattle.std.specs.Net.Addr.{IsLoopbackV4, IsLoopbackV6, MatchIp}
 use Rattle.std.specs.Net.Grammar.{IsIpText, IsSocketText}
 use Rattle.std.specs.Net.Socket.{socket_ip}
 use Rattle.std.specs.declared.net.socket_addr.SocketAddr.{SocketAddr}
+use Rattle.std.specs.Str.Iter.{HasSubslice}
 use Rattle.std.specs.Str.Parse.{IsNumeral, digits_value}
 use Rattle.clap.specs.Kinds.{IsAmong, Kinds, or_else}
 use Rattle.clap.specs.Words.{App, Row, Rule, Text, fault_of, first_of, new_app, new_rule, one_of, subcommand_of, with_rule, with_subcommand}
@@ -18,8 +19,9 @@ use Rattle.lw_fleet.specs.declared.command.Request.{Request}
 use Rattle.lw_fleet.specs.declared.command.Request.TheVariants.{One, Replay, Serve, Run}
 use Rattle.lw_fleet.specs.declared.command.ServeOptions.{ServeOptions}
 use Rattle.lw_fleet.specs.declared.http_options.HttpOptions.{HttpOptions}
+use Rattle.lw_fleet.specs.declared.redis_options.RedisOptions.{RedisOptions}
 use Rattle.lw_fleet.specs.declared.run_options.Keeps.{Keeps}
-use Rattle.lw_fleet.specs.declared.run_options.Keeps.TheVariants.{Nothing, Folder}
+use Rattle.lw_fleet.specs.declared.run_options.Keeps.TheVariants.{Nothing, Folder, Redis}
 use Rattle.lw_fleet.specs.declared.run_options.LogLevel.{LogLevel}
 use Rattle.lw_fleet.specs.declared.run_options.LogLevel.TheVariants.{Off, Error, Warn, Info, Debug}
 use Rattle.lw_fleet.specs.declared.run_options.RunOptions.{RunOptions}
@@ -69,6 +71,14 @@ udp_app = with_rule
     (flag_option (codes "memory")))
     (long_option (codes "data"))
 
+-- a command with the options `--redis`, `--redis-login`, `--stream` and `--skew`
+abbrev pub with_redis_options : App → App
+with_redis_options app = with_rule
+    (with_rule
+    (with_rule (with_rule app (long_option (codes "redis"))) (long_option (codes "redis-login")))
+    (long_option (codes "stream")))
+    (long_option (codes "skew"))
+
 -- a command with the options `--http`, `--http-token-file`, `--http-host` and `--page`
 abbrev pub with_http_options : App → App
 with_http_options app = with_rule
@@ -79,7 +89,7 @@ with_http_options app = with_rule
 
 -- `run` with all its options
 unfoldable pub run_app : App
-run_app = with_http_options udp_app
+run_app = with_http_options (with_redis_options udp_app)
 
 unfoldable pub fleet_app : App
 fleet_app = with_subcommand
@@ -136,22 +146,60 @@ level_text Warn = codes "warn"
 level_text Info = codes "info"
 level_text Debug = codes "debug"
 
--- What is registered is kept nowhere where `--memory` is given, and else in a folder: that of `--data`, or `fleet-data`.
--- Not both are given, and the path of a folder is not empty.
+-- the text is the one that was given, which is not empty, and there is none where none was
+abbrev pub IsTextIfGiven : Option Text → Option (Bor Text) → Type 0
+IsTextIfGiven given text = (option_copied text ≡ given) × (given ≢ Some [])
+
+-- a host is not empty, and has no bracket
+abbrev pub IsHost : Text → Type 0
+IsHost host = (host ≢ []) × (¬ HasSubslice host (codes "[")) × (¬ HasSubslice host (codes "]"))
+
+-- The text is a host between brackets, as that of an IPv6 address. Or it is a host alone, and then it has no colon.
+abbrev pub IsHostText : Text → Text → Type 0
+IsHostText text host = IsHost host
+    × ((text ≡ codes "[" ++ host ++ codes "]") ⊎ ((text ≡ host) × ¬ HasSubslice host (codes ":")))
+
+-- The text of a host, a colon, and digits alone that write a port from 1 to 65535. So the colon is the last one.
+pub record IsHostAndPort (text host : Text) (port : ℕ) : Type 0 where
+  pub front : Text
+  pub digits : Text
+  pub parted : text ≡ front ++ (codes ":" ++ digits)
+  pub host_text : IsHostText front host
+  pub port_digits : Writes digits port
+  pub port_fits : (1 ≤ port) × (port < 2 ^ 16)
+
+-- The options of Redis are those that were given: the key `fleet` and ten seconds where they were not. Neither the path
+-- of a file nor the key is empty.
+pub record IsGivenToRedis (rows : List Row) (redis : RedisOptions) : Type 0 where
+  pub address : IsSomeAnd (first_of (codes "redis") rows) (λ text. IsHostAndPort text redis.host.now redis.port)
+  pub login_file : IsTextIfGiven (first_of (codes "redis-login") rows) redis.login_file
+  pub stream : redis.stream.now ≡ given (codes "stream") (codes "fleet") rows
+  pub stream_some : redis.stream.now ≢ []
+  pub skew : Writes (given (codes "skew") (codes "10") rows) redis.skew
+  pub skew_fits : redis.skew ≤ 3600
+
+-- no option is given that goes with `--redis`
+abbrev pub IsWithoutRedis : List Row → Type 0
+IsWithoutRedis rows = (first_of (codes "redis-login") rows ≡ None) × (first_of (codes "stream") rows ≡ None)
+    × (first_of (codes "skew") rows ≡ None)
+
+-- What is registered is kept nowhere where `--memory` is given, and in a stream of Redis where `--redis` is. Else it is
+-- kept in a folder: that of `--data`, or `fleet-data`. Only one of the three is given, the path of a folder is not empty,
+-- and without `--redis` no option is given that goes with it.
 abbrev pub IsKept : List Row → Keeps → Type 0
 IsKept rows Nothing = HasFlag (codes "memory") rows × (first_of (codes "data") rows ≡ None)
+    × (first_of (codes "redis") rows ≡ None) × IsWithoutRedis rows
 IsKept rows (Folder path) = (¬ HasFlag (codes "memory") rows)
     × (path.now ≡ given (codes "data") (codes "fleet-data") rows) × (path.now ≢ [])
+    × (first_of (codes "redis") rows ≡ None) × IsWithoutRedis rows
+IsKept rows (Redis redis) = (¬ HasFlag (codes "memory") rows) × (first_of (codes "data") rows ≡ None)
+    × IsGivenToRedis rows redis
 
 -- the address is the one that was given, and there is none where none was
 abbrev pub IsAddressIfGiven : Option Text → Option SocketAddr → Type 0
 IsAddressIfGiven None address = address ≡ None
 IsAddressIfGiven (Some text) None = ⊥
 IsAddressIfGiven (Some text) (Some address) = IsSocketText text address
-
--- the text is the one that was given, which is not empty, and there is none where none was
-abbrev pub IsTextIfGiven : Option Text → Option (Bor Text) → Type 0
-IsTextIfGiven given text = (option_copied text ≡ given) × (given ≢ Some [])
 
 -- the address is in 127.0.0.0/8 or is ::1, or there is a file with a token
 abbrev pub IsGuarded : SocketAddr → Option (Bor Text) → Type 0

@@ -358,7 +358,7 @@ pub(crate) fn text_of<'a>(matches: &ArgMatches<'a>, option: &str, default: &'a s
 }
 
 /// The number that the digits write, if it is one of these.
-fn number_within(text: &str, least: u64, most: u64) -> Option<u64>
+pub(crate) fn number_within(text: &str, least: u64, most: u64) -> Option<u64>
     ensures { SomeIff result (IsNumeral 10 text.now × (least ≤ digits_value 10 text.now)
         × (digits_value 10 text.now ≤ most)) (digits_value 10 text.now) }
 {

@@ -9,7 +9,7 @@ ghost use Rattle.lw_fleet.specs.CommandLine.{option_rows, with_http_options, IsA
 ghost use Rattle.lw_fleet.specs.declared.http_options.HttpOptions.{HttpOptions as Served};
 
 use crate::command::{given_text, option};
-use crate::run_options::BadRunOption;
+use crate::run_options::{BadRunOption, text_in};
 use clap::{ArgMatches, Command};
 use std::alloc::{AllocError, Global};
 use std::net::SocketAddr;
@@ -134,23 +134,6 @@ fn http_at<'a>(
         host,
         page_file,
     })
-}
-
-/// The text that is given for the option, if one is. An empty text is refused, with `empty`.
-fn text_in<'a>(
-    matches: &ArgMatches<'a>,
-    option: &str,
-    empty: BadRunOption,
-) -> Result<Option<&'a str>, BadRunOption>
-    ensures given { IfOk result (IsTextIfGiven
-        (first_of option.now (option_rows (subcommand_rows_of matches.now)))) }
-    ensures empty { OnErr result
-        (first_of option.now (option_rows (subcommand_rows_of matches.now)) ≡ Some []) }
-{
-    match given_text(matches, option) {
-        Some(text) if text.is_empty() => Err(empty),
-        text => Ok(text),
-    }
 }
 
 /// Whether only the host itself reaches the address, or else a token is asked for.

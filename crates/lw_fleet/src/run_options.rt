@@ -1,17 +1,18 @@
 //! The command `run` and what is given for its options.
 
-ghost use Rattle.std.specs.Prelude.{◌≡◌, ◌≢◌, false, IfOk, IfSome, IfNone, OnErr};
-ghost use Rattle.clap.specs.Words.{app_of, subcommand_rows_of};
+ghost use Rattle.std.specs.Prelude.{◌≡◌, ◌≢◌, [], Some, false, IfOk, IfSome, IfNone, OnErr};
+ghost use Rattle.clap.specs.Words.{app_of, first_of, subcommand_rows_of};
 ghost use Rattle.clap.specs.declared.builder.command.Command.TheViews.{out-Command as fields_of};
 ghost use Rattle.std.specs.Net.Grammar.{IsIpText};
 ghost use Rattle.std.specs.declared.net.ip_addr.IpAddr.{IpAddr as Addresses};
-ghost use Rattle.lw_fleet.specs.CommandLine.{level_text, option_rows, run_app, udp_app, IsGivenToRun, IsKept};
+ghost use Rattle.lw_fleet.specs.CommandLine.{level_text, option_rows, run_app, udp_app, IsGivenToRun, IsKept, IsTextIfGiven};
 ghost use Rattle.lw_fleet.specs.declared.run_options.Keeps.{Keeps as Kept};
 ghost use Rattle.lw_fleet.specs.declared.run_options.LogLevel.{LogLevel as Levels};
 ghost use Rattle.lw_fleet.specs.declared.run_options.RunOptions.{RunOptions as RunningOptions};
 
 use crate::command::{BAD_PORT, flag, given_text, has_flag, option, small_number, text_of};
 use crate::http_options::{HttpOptions, add_http_options, http_in};
+use crate::redis_options::{RedisOptions, add_redis_options, redis_at, refuse_without_redis};
 use clap::{ArgMatches, Command};
 use std::alloc::{AllocError, Global};
 use std::net::IpAddr;
@@ -38,6 +39,8 @@ pub enum Keeps<'a> {
     Nothing,
     /// In the folder with this path.
     Folder(&'a str),
+    /// In a stream of Redis, through which several servers share one fleet.
+    Redis(RedisOptions<'a>),
 }
 
 /// The least severe lines that are logged.
@@ -58,6 +61,13 @@ pub(crate) enum BadRunOption {
     Level,
     KeptTwice,
     Folder,
+    Redis,
+    LoginFileWithoutRedis,
+    StreamWithoutRedis,
+    SkewWithoutRedis,
+    LoginFile,
+    Stream,
+    Skew,
     Http,
     TokenFileWithoutHttp,
     HostWithoutHttp,
@@ -74,10 +84,25 @@ impl BadRunOption {
             BadRunOption::Bind => "'--bind <IP>' takes an IPv4 or IPv6 address",
             BadRunOption::Port => BAD_PORT,
             BadRunOption::Level => "'--log <LEVEL>' takes off, error, warn, info or debug",
-            BadRunOption::KeptTwice => "only one of '--data <DIR>' and '--memory' can be given",
+            BadRunOption::KeptTwice => {
+                "only one of '--data <DIR>', '--memory' and '--redis <HOST:PORT>' can be given"
+            }
             BadRunOption::Folder => {
                 "'--data <DIR>' takes the path of a folder, and not an empty text"
             }
+            BadRunOption::Redis => {
+                "'--redis <HOST:PORT>' takes a host and a port, as 127.0.0.1:6379 or [::1]:6379"
+            }
+            BadRunOption::LoginFileWithoutRedis => {
+                "'--redis-login <FILE>' needs '--redis <HOST:PORT>'"
+            }
+            BadRunOption::StreamWithoutRedis => "'--stream <KEY>' needs '--redis <HOST:PORT>'",
+            BadRunOption::SkewWithoutRedis => "'--skew <S>' needs '--redis <HOST:PORT>'",
+            BadRunOption::LoginFile => {
+                "'--redis-login <FILE>' takes the path of a file, and not an empty text"
+            }
+            BadRunOption::Stream => "'--stream <KEY>' takes a key, and not an empty text",
+            BadRunOption::Skew => "'--skew <S>' takes a number from 0 to 3600, in digits alone",
             BadRunOption::Http => {
                 "'--http <ADDR>' takes an IP address and a port, as 127.0.0.1:8080 or [::1]:8080"
             }
@@ -103,7 +128,7 @@ pub(crate) fn run_command<'a>(alloc: Global) -> Result<Command<'a>, AllocError>
     ensures app { IfOk result (λ command. app_of command ≡ run_app) }
     ensures local { IfOk result (λ command. (fields_of command).has_globals ≡ false) }
 {
-    add_http_options(alloc, command_over_udp(alloc)?)
+    add_http_options(alloc, add_redis_options(alloc, command_over_udp(alloc)?)?)
 }
 
 /// The command with the options that are about devices, and about what is kept.
@@ -164,18 +189,43 @@ pub(crate) fn run_options_in<'a>(matches: &ArgMatches<'a>) -> Result<RunOptions<
     })
 }
 
-/// Where what is registered is kept, by `--memory` and `--data`.
+/// Where what is registered is kept, by `--memory`, `--data` and `--redis`.
 fn keeps_in<'a>(matches: &ArgMatches<'a>) -> Result<Keeps<'a>, BadRunOption>
     ensures kept { IfOk result (IsKept (option_rows (subcommand_rows_of matches.now))) }
     ensures none { OnErr result ((keeps : Kept)
         → ¬ IsKept (option_rows (subcommand_rows_of matches.now)) keeps) }
 {
-    match (has_flag(matches, "memory"), given_text(matches, "data")) {
-        (true, None) => Ok(Keeps::Nothing),
-        (true, Some(_)) => Err(BadRunOption::KeptTwice),
-        (false, None) => Ok(Keeps::Folder("fleet-data")),
-        (false, Some(folder)) if folder.is_empty() => Err(BadRunOption::Folder),
-        (false, Some(folder)) => Ok(Keeps::Folder(folder)),
+    let memory = has_flag(matches, "memory");
+    let keeps = match (
+        memory,
+        given_text(matches, "data"),
+        given_text(matches, "redis"),
+    ) {
+        (true, None, None) => Keeps::Nothing,
+        (false, None, None) => Keeps::Folder("fleet-data"),
+        (false, Some(folder), None) if folder.is_empty() => return Err(BadRunOption::Folder),
+        (false, Some(folder), None) => Keeps::Folder(folder),
+        (false, None, Some(text)) => return Ok(Keeps::Redis(redis_at(matches, text)?)),
+        _ => return Err(BadRunOption::KeptTwice),
+    };
+    refuse_without_redis(matches)?;
+    Ok(keeps)
+}
+
+/// The text that is given for the option, if one is. An empty text is refused, with `empty`.
+pub(crate) fn text_in<'a>(
+    matches: &ArgMatches<'a>,
+    option: &str,
+    empty: BadRunOption,
+) -> Result<Option<&'a str>, BadRunOption>
+    ensures given { IfOk result (IsTextIfGiven
+        (first_of option.now (option_rows (subcommand_rows_of matches.now)))) }
+    ensures empty { OnErr result
+        (first_of option.now (option_rows (subcommand_rows_of matches.now)) ≡ Some []) }
+{
+    match given_text(matches, option) {
+        Some(text) if text.is_empty() => Err(empty),
+        text => Ok(text),
     }
 }
 

@@ -43,6 +43,15 @@ pub enum RunningFault {
     /// No number is left for a start.
     #[error("numbers ended: all 65535 numbers had a start")]
     NumbersEnded,
+    /// Redis could not be reached at the start.
+    #[error("redis away: no connection in the first 10 seconds")]
+    RedisAway,
+    /// Redis answered an error that does not pass.
+    #[error("redis refused: Redis answered an error that does not pass; its text is in the log")]
+    RedisRefused,
+    /// The file of the login gives none.
+    #[error("login refused: the file cannot be read, or is not a user and a password, on a line each")]
+    LoginRefused,
     /// No socket could be bound to the address.
     #[error("bind failed: no socket could be bound to the address and the port")]
     BindFailed,
@@ -90,6 +99,9 @@ impl RunningFault {
             RunningFault::AnotherFleet => "another fleet\n",
             RunningFault::NumberTaken => "number taken\n",
             RunningFault::NumbersEnded => "numbers ended\n",
+            RunningFault::RedisAway => "redis away\n",
+            RunningFault::RedisRefused => "redis refused\n",
+            RunningFault::LoginRefused => "login refused\n",
             RunningFault::BindFailed => "bind failed\n",
             RunningFault::HttpBindFailed => "http bind failed\n",
             RunningFault::TokenRefused => "token refused\n",

@@ -220,7 +220,7 @@ impl<G: DeltaLog + Metered, C: HostClock + Drop> Course<G, C> {
                 info!(log; "compacted");
                 Ok(())
             }
-            Err(TurnFault::Away | TurnFault::Lost | TurnFault::NoMemory) => {
+            Err(TurnFault::Away | TurnFault::NoMemory) => {
                 warn!(log; "compaction put off");
                 self.rest = TURNS_BETWEEN_COMPACTIONS;
                 Ok(())

@@ -17,6 +17,14 @@ pub(super) struct Codes {
     pub(super) update: u8,
 }
 
+impl Codes {
+    /// 2.01 and 2.04, as a server replies.
+    pub(super) const OF_SERVERS: Codes = Codes {
+        register: 0x41,
+        update: 0x44,
+    };
+}
+
 /// The identifier in a Register's reply: its last 16 bytes.
 const ID_LENGTH: usize = 16;
 

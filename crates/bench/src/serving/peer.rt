@@ -29,10 +29,7 @@ pub(super) enum Peer<'a> {
 impl Peer<'_> {
     fn codes(self) -> Codes {
         match self {
-            Peer::Rounds { .. } | Peer::Member(_) => Codes {
-                register: 0x41,
-                update: 0x44,
-            },
+            Peer::Rounds { .. } | Peer::Member(_) => Codes::OF_SERVERS,
             Peer::Echo => Codes {
                 register: 0x02,
                 update: 0x02,
@@ -49,7 +46,7 @@ pub(super) fn measure<R: Threads + Wait + Net + Clock + Sync>(
     requests: u32,
 ) -> Result<Duration, BenchFault> {
     let socket = UdpSocket::bind(rt, loopback(0))?;
-    let mut clients = clients(rt, alloc, socket.local_addr()?.port())?;
+    let mut clients = clients(rt, alloc, &[socket.local_addr()?.port()])?;
     time_of(rt, alloc, peer, socket, &mut clients, requests)
 }
 
@@ -65,12 +62,17 @@ fn time_of<R: Threads + Wait + Net + Clock + Sync>(
     let answered = exchange(rt, alloc, peer, socket, clients, requests);
     let time = start.elapsed(rt)?;
     answered?;
-    for client in clients {
-        if client.answered != requests {
-            return Err(BenchFault::Unexpected);
-        }
-    }
+    are_answered(clients, requests)?;
     Ok(time)
+}
+
+/// Each client was answered each of so many requests.
+pub(super) fn are_answered(clients: &[Client], requests: u32) -> Result<(), BenchFault> {
+    if clients.iter().all(|client| client.answered == requests) {
+        Ok(())
+    } else {
+        Err(BenchFault::Unexpected)
+    }
 }
 
 /// All clients ask while they are answered.
@@ -91,16 +93,21 @@ fn exchange<R: Threads + Wait + Clock + Sync>(
     answered
 }
 
-fn clients<R: Net>(rt: &R, alloc: Global, server: u16) -> Result<Vec<Client>, BenchFault> {
+/// A client of each of the servers in turn.
+pub(super) fn clients<R: Net>(
+    rt: &R,
+    alloc: Global,
+    servers: &[u16],
+) -> Result<Vec<Client>, BenchFault> {
     let mut clients = Vec::new(alloc);
-    for number in 0..CLIENTS {
-        clients.push(Client::new(rt, b'0' + number, server)?)?;
+    for (number, server) in (0..CLIENTS).zip(servers.iter().cycle()) {
+        clients.push(Client::new(rt, b'0' + number, *server)?)?;
     }
     Ok(clients)
 }
 
 /// Has each client ask on a thread of its own.
-fn ask<R: Threads + Sync>(rt: &R, clients: &mut [Client], requests: u32, codes: Codes) {
+pub(super) fn ask<R: Threads + Sync>(rt: &R, clients: &mut [Client], requests: u32, codes: Codes) {
     let each = |_place: usize, client: &mut Client| client.ask_all(requests, codes);
     thread::for_each_mut(rt, clients, CLIENTS as usize, &each);
 }

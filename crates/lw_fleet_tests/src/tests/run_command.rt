@@ -2,7 +2,7 @@
 
 use super::command_line::{BAD_PORT, asked, is_refused, printed};
 use crate::hold::{holds, holds_for, same};
-use lw_fleet::{HttpOptions, Keeps, LogLevel, Request, RunOptions};
+use lw_fleet::{HttpOptions, Keeps, LogLevel, RedisOptions, Request, RunOptions};
 use std::alloc::Global;
 use std::net::{IpAddr, Ipv4Addr, Ipv6Addr, SocketAddr, SocketAddrV6};
 use std::test::Fail;
@@ -108,6 +108,119 @@ fn addresses_to_run(rt: HostRuntime) -> Result<(), Fail> {
         holds_for(&text, address_given(rt.alloc(), text)? == address)?;
     }
     Ok(())
+}
+
+/// The host, the port, the path of the login's file, the key of the stream, and the seconds that clocks may differ.
+type Shared = (&'static str, u16, Option<&'static str>, &'static str, u32);
+
+/// Words, and the stream of Redis that they give.
+const SHARED: [(&[&str], Shared); 14] = [
+    (
+        &["fleet", "run", "--redis", "127.0.0.1:6379"],
+        ("127.0.0.1", 6379, None, "fleet", 10),
+    ),
+    (
+        &["fleet", "run", "--redis=[::1]:6379"],
+        ("::1", 6379, None, "fleet", 10),
+    ),
+    (
+        &["fleet", "run", "--redis=redis.example.org:1"],
+        ("redis.example.org", 1, None, "fleet", 10),
+    ),
+    (
+        &["fleet", "run", "--redis=r:65535"],
+        ("r", 65535, None, "fleet", 10),
+    ),
+    (
+        &["fleet", "run", "--redis=r:0006379"],
+        ("r", 6379, None, "fleet", 10),
+    ),
+    (
+        &["fleet", "run", "--redis=[fe80::2%3]:80"],
+        ("fe80::2%3", 80, None, "fleet", 10),
+    ),
+    (
+        &["fleet", "run", "--redis=[redis]:80"],
+        ("redis", 80, None, "fleet", 10),
+    ),
+    (
+        &["fleet", "run", "--redis-login", "l", "--redis=r:1"],
+        ("r", 1, Some("l"), "fleet", 10),
+    ),
+    (
+        &["fleet", "run", "--redis=r:1", "--redis-login= "],
+        ("r", 1, Some(" "), "fleet", 10),
+    ),
+    (
+        &["fleet", "run", "--stream", "{a}:b", "--redis=r:1"],
+        ("r", 1, None, "{a}:b", 10),
+    ),
+    (
+        &["fleet", "run", "--redis=r:1", "--skew", "0"],
+        ("r", 1, None, "fleet", 0),
+    ),
+    (
+        &["fleet", "run", "--skew=3600", "--redis=r:1"],
+        ("r", 1, None, "fleet", 3600),
+    ),
+    (
+        &["fleet", "run", "--redis=r:1", "--skew=0000060"],
+        ("r", 1, None, "fleet", 60),
+    ),
+    (
+        &[
+            "fleet",
+            "run",
+            "--redis=[2001:db8::7]:6380",
+            "--redis-login=/etc/fleet/login",
+            "--stream=devices",
+            "--skew=2",
+        ],
+        ("2001:db8::7", 6380, Some("/etc/fleet/login"), "devices", 2),
+    ),
+];
+
+/// Tries: read_request
+#[test]
+fn redis_to_run(rt: HostRuntime) -> Result<(), Fail> {
+    for &(words, (host, port, login_file, stream, skew)) in &SHARED {
+        let given = RunOptions {
+            bind: IpAddr::V4(Ipv4Addr::new(127, 0, 0, 1)),
+            port: 5683,
+            level: LogLevel::Info,
+            keeps: Keeps::Redis(RedisOptions {
+                host,
+                port,
+                login_file,
+                stream,
+                skew,
+            }),
+            http: None,
+        };
+        holds_for(&words, given_to_run(rt.alloc(), words)? == given)?;
+    }
+    Ok(())
+}
+
+/// Tries: read_request
+#[test]
+fn redis_beside_http(rt: HostRuntime) -> Result<(), Fail> {
+    let words = [
+        "fleet",
+        "run",
+        "--http=127.0.0.1:8080",
+        "--redis=127.0.0.1:6379",
+    ];
+    let given = given_to_run(rt.alloc(), &words)?;
+    let shares = Keeps::Redis(RedisOptions {
+        host: "127.0.0.1",
+        port: 6379,
+        login_file: None,
+        stream: "fleet",
+        skew: 10,
+    });
+    let is_served = given.http.map(|http| http.address.port()) == Some(8080);
+    holds_for(&words, is_served && given.keeps == shares)
 }
 
 /// What the words give to `run` for HTTP.
@@ -266,6 +379,10 @@ Options:
       --log <LEVEL>             What is logged to standard error: off, error, warn, info, debug [default: info]
       --memory                  Keeps nothing: a restart begins without registrations
       --data <DIR>              Folder that keeps what is registered; it is made where it is missing [default: fleet-data]
+      --redis <HOST:PORT>       Redis server through which several servers share one fleet
+      --redis-login <FILE>      File with the user and the password for Redis, on a line each
+      --stream <KEY>            Key of the stream in Redis [default: fleet]
+      --skew <S>                Seconds that the clocks of the servers may differ, 0 to 3600 [default: 10]
       --http <ADDR>             Address and port that HTTP is served on, as 127.0.0.1:8080 or [::1]:8080 [default: none]
       --http-token-file <FILE>  File whose first line is the token that HTTP requests have to bring
       --http-host <NAME>        Name that HTTP requests may be for, beside IP addresses and localhost
@@ -289,9 +406,25 @@ const BAD_BIND: &str = "'--bind <IP>' takes an IPv4 or IPv6 address";
 
 const BAD_LEVEL: &str = "'--log <LEVEL>' takes off, error, warn, info or debug";
 
-const KEPT_TWICE: &str = "only one of '--data <DIR>' and '--memory' can be given";
+const KEPT_TWICE: &str =
+    "only one of '--data <DIR>', '--memory' and '--redis <HOST:PORT>' can be given";
 
 const BAD_FOLDER: &str = "'--data <DIR>' takes the path of a folder, and not an empty text";
+
+const BAD_REDIS: &str =
+    "'--redis <HOST:PORT>' takes a host and a port, as 127.0.0.1:6379 or [::1]:6379";
+
+const LOGIN_ALONE: &str = "'--redis-login <FILE>' needs '--redis <HOST:PORT>'";
+
+const STREAM_ALONE: &str = "'--stream <KEY>' needs '--redis <HOST:PORT>'";
+
+const SKEW_ALONE: &str = "'--skew <S>' needs '--redis <HOST:PORT>'";
+
+const BAD_LOGIN: &str = "'--redis-login <FILE>' takes the path of a file, and not an empty text";
+
+const BAD_STREAM: &str = "'--stream <KEY>' takes a key, and not an empty text";
+
+const BAD_SKEW: &str = "'--skew <S>' takes a number from 0 to 3600, in digits alone";
 
 const BAD_HTTP: &str =
     "'--http <ADDR>' takes an IP address and a port, as 127.0.0.1:8080 or [::1]:8080";
@@ -358,6 +491,161 @@ const REFUSED: [(&[&str], &str); 20] = [
 #[test]
 fn refused_words_of_run(rt: HostRuntime) -> Result<(), Fail> {
     for &(words, line) in &REFUSED {
+        holds_for(&words, is_refused(&rt, rt.alloc(), words, line, RUN)?)?;
+    }
+    Ok(())
+}
+
+/// Texts of `--redis` that are no host with a port.
+const NO_HOSTS: [&str; 28] = [
+    "",
+    ":",
+    "6379",
+    ":6379",
+    "[]:6379",
+    "redis",
+    "redis:",
+    "redis:0",
+    "redis:0000",
+    "redis:65536",
+    "redis:18446744073709551617",
+    "redis:+6379",
+    "redis:-1",
+    "redis: 6379",
+    "redis:6379 ",
+    "redis:6379/0",
+    "redis://redis:6379",
+    "user@redis:6379:0",
+    "::1",
+    "::1:6379",
+    "[::1]",
+    "[::1]:",
+    "[::1]6379",
+    "[::1:6379",
+    "::1]:6379",
+    "[[::1]]:6379",
+    "[::1]:[::1]:6379",
+    "redis]:6379",
+];
+
+/// Tries: read_request, program
+#[test]
+fn refused_hosts_of_redis(rt: HostRuntime) -> Result<(), Fail> {
+    for &text in &NO_HOSTS {
+        let words = ["fleet", "run", "--redis", text];
+        holds(text, is_refused(&rt, rt.alloc(), &words, BAD_REDIS, RUN)?)?;
+    }
+    Ok(())
+}
+
+/// Texts of `--skew` that are no seconds.
+const NO_SECONDS: [&str; 9] = [
+    "",
+    "3601",
+    "4294967296",
+    "18446744073709551616",
+    "+1",
+    "-1",
+    "1.5",
+    "10s",
+    " 10",
+];
+
+/// Tries: read_request, program
+#[test]
+fn refused_seconds_of_redis(rt: HostRuntime) -> Result<(), Fail> {
+    for &text in &NO_SECONDS {
+        let option = format!(in rt.alloc(); "--skew={text}")?;
+        let words = ["fleet", "run", "--redis=r:1", option.as_str()];
+        holds(text, is_refused(&rt, rt.alloc(), &words, BAD_SKEW, RUN)?)?;
+    }
+    Ok(())
+}
+
+/// Words that are refused for what goes with `--redis` or against it, and the line.
+const REFUSED_FOR_REDIS: [(&[&str], &str); 29] = [
+    (&["fleet", "run", "--redis=r:1", "--memory"], KEPT_TWICE),
+    (&["fleet", "run", "--data=a", "--redis=r:1"], KEPT_TWICE),
+    (
+        &["fleet", "run", "--redis=r:1", "--data=fleet-data"],
+        KEPT_TWICE,
+    ),
+    (
+        &["fleet", "run", "--data=a", "--redis=r:1", "--memory"],
+        KEPT_TWICE,
+    ),
+    (&["fleet", "run", "--data=", "--redis="], KEPT_TWICE),
+    (&["fleet", "run", "--memory", "--redis="], KEPT_TWICE),
+    (&["fleet", "run", "--redis-login", "l"], LOGIN_ALONE),
+    (&["fleet", "run", "--redis-login="], LOGIN_ALONE),
+    (&["fleet", "run", "--stream", "s"], STREAM_ALONE),
+    (&["fleet", "run", "--stream=fleet"], STREAM_ALONE),
+    (&["fleet", "run", "--stream="], STREAM_ALONE),
+    (&["fleet", "run", "--skew", "10"], SKEW_ALONE),
+    (&["fleet", "run", "--skew=s"], SKEW_ALONE),
+    (&["fleet", "run", "--memory", "--skew=1"], SKEW_ALONE),
+    (&["fleet", "run", "--data=a", "--stream=s"], STREAM_ALONE),
+    (
+        &["fleet", "run", "--memory", "--redis-login=l"],
+        LOGIN_ALONE,
+    ),
+    (
+        &["fleet", "run", "--skew=1", "--stream=s", "--redis-login=l"],
+        LOGIN_ALONE,
+    ),
+    (&["fleet", "run", "--skew=1", "--stream=s"], STREAM_ALONE),
+    (
+        &["fleet", "run", "--redis=r:1", "--redis-login="],
+        BAD_LOGIN,
+    ),
+    (&["fleet", "run", "--redis=r:1", "--stream="], BAD_STREAM),
+    (
+        &[
+            "fleet",
+            "run",
+            "--redis=r:1",
+            "--skew=",
+            "--stream=",
+            "--redis-login=",
+        ],
+        BAD_LOGIN,
+    ),
+    (
+        &["fleet", "run", "--redis=r:1", "--skew=s", "--stream="],
+        BAD_STREAM,
+    ),
+    (
+        &[
+            "fleet",
+            "run",
+            "--redis=r",
+            "--skew=s",
+            "--stream=",
+            "--redis-login=",
+        ],
+        BAD_REDIS,
+    ),
+    (&["fleet", "run", "--skew=s", "--data="], BAD_FOLDER),
+    (
+        &["fleet", "run", "--redis=r", "--memory", "--log=all"],
+        BAD_LEVEL,
+    ),
+    (&["fleet", "run", "--redis=r", "--port=p"], BAD_PORT),
+    (
+        &["fleet", "run", "--redis=r:1", "--skew=s", "--http=h"],
+        BAD_SKEW,
+    ),
+    (&["fleet", "run", "--skew=1", "--http-host=h"], SKEW_ALONE),
+    (
+        &["fleet", "run", "--redis=r:1", "--http-host=h"],
+        HOST_ALONE,
+    ),
+];
+
+/// Tries: read_request, program
+#[test]
+fn refused_words_of_redis(rt: HostRuntime) -> Result<(), Fail> {
+    for &(words, line) in &REFUSED_FOR_REDIS {
         holds_for(&words, is_refused(&rt, rt.alloc(), words, line, RUN)?)?;
     }
     Ok(())
@@ -484,7 +772,7 @@ fn refused_words_of_http(rt: HostRuntime) -> Result<(), Fail> {
 }
 
 /// Words that no option takes, the line, and the usage where there is one.
-const STRAY: [(&[&str], &str, &str); 11] = [
+const STRAY: [(&[&str], &str, &str); 16] = [
     (
         &["fleet", "run", "here"],
         "unexpected argument 'here' found",
@@ -513,6 +801,31 @@ const STRAY: [(&[&str], &str, &str); 11] = [
     (
         &["fleet", "run", "--bind", "::1", "--bind", "::1"],
         "the argument '--bind <IP>' cannot be used multiple times",
+        RUN,
+    ),
+    (
+        &["fleet", "run", "--redis"],
+        "a value is required for '--redis <HOST:PORT>' but none was supplied",
+        "",
+    ),
+    (
+        &["fleet", "run", "--redis=r:1", "--redis-login"],
+        "a value is required for '--redis-login <FILE>' but none was supplied",
+        "",
+    ),
+    (
+        &["fleet", "run", "--stream"],
+        "a value is required for '--stream <KEY>' but none was supplied",
+        "",
+    ),
+    (
+        &["fleet", "run", "--skew"],
+        "a value is required for '--skew <S>' but none was supplied",
+        "",
+    ),
+    (
+        &["fleet", "run", "--redis=a:1", "--redis=a:1"],
+        "the argument '--redis <HOST:PORT>' cannot be used multiple times",
         RUN,
     ),
     (

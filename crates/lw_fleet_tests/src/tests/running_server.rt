@@ -88,7 +88,7 @@ fn a_server_that_is_over(rt: HostRuntime) -> Result<(), Fail> {
 }
 
 /// Each fault, and its line.
-pub(super) const LINES: [(RunningFault, &str); 16] = [
+pub(super) const LINES: [(RunningFault, &str); 19] = [
     (RunningFault::DataFailed, "data failed\n"),
     (RunningFault::DataInUse, "data in use\n"),
     (RunningFault::DataDamaged, "data damaged\n"),
@@ -97,6 +97,9 @@ pub(super) const LINES: [(RunningFault, &str); 16] = [
     (RunningFault::AnotherFleet, "another fleet\n"),
     (RunningFault::NumberTaken, "number taken\n"),
     (RunningFault::NumbersEnded, "numbers ended\n"),
+    (RunningFault::RedisAway, "redis away\n"),
+    (RunningFault::RedisRefused, "redis refused\n"),
+    (RunningFault::LoginRefused, "login refused\n"),
     (RunningFault::BindFailed, "bind failed\n"),
     (RunningFault::HttpBindFailed, "http bind failed\n"),
     (RunningFault::TokenRefused, "token refused\n"),

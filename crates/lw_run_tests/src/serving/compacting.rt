@@ -44,7 +44,7 @@ fn a_run_compacts_after_the_turn_that_makes_it_due(rt: HostRuntime) -> Result<()
 }
 
 /// What comes of a ping at which a compaction fails by that fault, and of one behind it.
-const FAULTS: [(LogFault, &str, &[&str]); 3] = [
+const FAULTS: [(LogFault, &str, &[&str]); 4] = [
     (
         LogFault::Away,
         "Ok(()) Wrr\n1 70000007\n2 70000007\n",
@@ -54,6 +54,11 @@ const FAULTS: [(LogFault, &str, &[&str]); 3] = [
         LogFault::NoMemory,
         "Ok(()) Wrr\n1 70000007\n2 70000007\n",
         &[PUT_OFF],
+    ),
+    (
+        LogFault::Lost,
+        "Ok(()) WrrrWx\n1 70000007\n",
+        &[LOST, AWAY, BACK, COMPACTED],
     ),
     (LogFault::Refused, "Err(LogRefused) Wr\n1 70000007\n", &[]),
 ];

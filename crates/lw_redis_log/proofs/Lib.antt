@@ -1,0 +1,4 @@
+pub mod Places
+pub mod NoFile
+pub mod LoginLemmas
+pub mod PageLemmas

@@ -1,0 +1,46 @@
+-- The commands of a log over a stream, as words (Redis commands: XRANGE, XADD, XTRIM, AUTH, PING, INFO).
+use Rattle.std.specs.Prelude.{◌≡◌, ◌⊎◌, ℕ, List, [], ◌∷◌, Bool, true, false, Option, Some, None, codes}
+use Rattle.lw_resp.specs.Bytes.{command_bytes}
+use Rattle.lw_resp.specs.StreamIds.{id_text, FitsId, IsAbove, IsNextId}
+use Rattle.lw_resp.specs.declared.stream_id.StreamId.{StreamId}
+
+-- where a range starts: `-` is the first entry, and `(` with an identifier what stands above it
+abbrev pub start_word : Option StreamId → List ℕ
+start_word None = codes "-"
+start_word (Some id) = 40 ∷ id_text id
+
+-- the first 256 entries of a range to the end
+abbrev pub read_words : List ℕ → Option StreamId → List (List ℕ)
+read_words key after =
+    codes "XRANGE" ∷ key ∷ start_word after ∷ codes "+" ∷ codes "COUNT" ∷ codes "256" ∷ []
+
+-- an entry with the field `e`, whose identifier the server makes; with NOMKSTREAM only where the stream is there
+abbrev pub append_words : List ℕ → List ℕ → Bool → List (List ℕ)
+append_words key entry true = codes "XADD" ∷ key ∷ codes "*" ∷ codes "e" ∷ entry ∷ []
+append_words key entry false =
+    codes "XADD" ∷ key ∷ codes "NOMKSTREAM" ∷ codes "*" ∷ codes "e" ∷ entry ∷ []
+
+-- entries below an identifier go, exactly; or all
+abbrev pub below_words : List ℕ → StreamId → List (List ℕ)
+below_words key id = codes "XTRIM" ∷ key ∷ codes "MINID" ∷ codes "=" ∷ id_text id ∷ []
+
+abbrev pub all_words : List ℕ → List (List ℕ)
+all_words key = codes "XTRIM" ∷ key ∷ codes "MAXLEN" ∷ codes "=" ∷ codes "0" ∷ []
+
+-- entries at or below an identifier go: those below the next one, and all where there is none
+abbrev pub IsTrim : List ℕ → StreamId → List ℕ → Type 0
+IsTrim key upto bytes = ((next : StreamId) × IsNextId upto next × (bytes ≡ command_bytes (below_words key next)))
+    ⊎ (((id : StreamId) → FitsId id → ¬ IsAbove upto id) × (bytes ≡ command_bytes (all_words key)))
+
+-- the entry of an identifier
+abbrev pub last_words : List ℕ → StreamId → List (List ℕ)
+last_words key id = codes "XRANGE" ∷ key ∷ id_text id ∷ id_text id ∷ []
+
+abbrev pub login_words : List ℕ → List ℕ → List (List ℕ)
+login_words user password = codes "AUTH" ∷ user ∷ password ∷ []
+
+abbrev pub ping_words : List (List ℕ)
+ping_words = codes "PING" ∷ []
+
+abbrev pub persistence_words : List (List ℕ)
+persistence_words = codes "INFO" ∷ codes "persistence" ∷ []

@@ -1,0 +1,7 @@
+pub mod Commands
+pub mod Errors
+pub mod Outcomes
+pub mod Persistence
+pub mod Pages
+pub mod Logins
+pub mod inner

@@ -1,0 +1,34 @@
+//! What a log over a Redis stands on.
+
+use lw_resp::StreamId;
+use std::io::{self, Read, Write};
+
+/// Something that a log over a Redis tells its caller, as it happens.
+#[derive(Clone, Copy, Debug, PartialEq, Eq)]
+pub enum Notice<'a> {
+    /// The server refused, with an error that begins so.
+    Refused(&'a str),
+    /// The server keeps no file of what is appended: it has nothing when it is started again.
+    KeepsNothing,
+    /// The stream is gone, or has lost its end.
+    Lost,
+    /// What stands there is no entry of a log, and is passed over.
+    PassedOver(StreamId),
+}
+
+/// Connections to a Redis, a clock that only goes on, and who is told.
+pub trait Connects: Drop {
+    type Connection: Read + Write + Drop;
+
+    /// A new connection.
+    fn connect(&mut self) -> io::Result<Self::Connection>;
+
+    /// Has a read or a write of the connection fail that takes longer than so many milliseconds.
+    fn limit(&mut self, connection: &Self::Connection, milliseconds: u64) -> io::Result<()>;
+
+    /// How many milliseconds have passed since some moment, if the clock tells.
+    fn milliseconds(&self) -> Option<u64>;
+
+    /// Is told something.
+    fn hear(&mut self, notice: Notice<'_>);
+}

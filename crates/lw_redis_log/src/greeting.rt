@@ -1,0 +1,120 @@
+//! What is asked at a new connection.
+
+ghost use Rattle.std.specs.Prelude.{◌≢◌, IfErr};
+
+use crate::commands::{last_command, login_command, persistence_command, ping_command};
+use crate::connects::{Connects, Notice};
+use crate::errors::error_prefix;
+use crate::outcomes::RedisFault;
+use crate::redis_log::RedisLog;
+use crate::replies::{forgets, is_found, said};
+use lw_log::LogFault;
+use lw_stamp::NoMemory;
+
+impl<C: Connects> RedisLog<C> {
+    /// Makes a connection where there is none.
+    pub(crate) fn make_ready(&mut self) -> Result<(), LogFault>
+        ensures asked { IfErr result (λ fault. fault ≢ LogFault.NoMemory) }
+    {
+        if self.line.is_open() {
+            return Ok(());
+        }
+        if self.line.open().is_err() {
+            return Err(LogFault::Away);
+        }
+        self.greet()
+    }
+
+    fn greet(&mut self) -> Result<(), LogFault>
+        ensures asked { IfErr result (λ fault. fault ≢ LogFault.NoMemory) }
+    {
+        self.log_in()?;
+        self.ping()?;
+        self.learn_persistence()?;
+        self.look_for_last()
+    }
+
+    /// The connection is of no use.
+    fn give_up(&mut self, fault: RedisFault<'_>) -> LogFault
+        ensures asked { result ≢ LogFault.NoMemory }
+    {
+        let fault = self.fail(fault);
+        if self.line.is_open() {
+            self.line.close();
+        }
+        fault
+    }
+
+    /// The bytes of the reply to a command, if there was memory to make it.
+    fn ask_made(&mut self, command: Result<Vec<u8>, NoMemory>) -> Result<Vec<u8>, LogFault>
+        ensures asked { IfErr result (λ fault. fault ≢ LogFault.NoMemory) }
+    {
+        match command {
+            Ok(command) => self.ask(&command),
+            Err(_) => Err(self.fail(RedisFault::Away)),
+        }
+    }
+
+    /// Logs in. Of a refusal only the first word is told: a server that does not know the command repeats the password.
+    fn log_in(&mut self) -> Result<(), LogFault>
+        ensures asked { IfErr result (λ fault. fault ≢ LogFault.NoMemory) }
+    {
+        let Some(login) = &self.login else {
+            return Ok(());
+        };
+        let command = login_command(self.alloc, &login.user, &login.password);
+        let bytes = self.ask_made(command)?;
+        match said(b"OK", self.alloc, &bytes) {
+            Ok(()) => Ok(()),
+            Err(RedisFault::Refused(text)) => {
+                Err(self.give_up(RedisFault::Refused(error_prefix(text))))
+            }
+            Err(fault) => Err(self.give_up(fault)),
+        }
+    }
+
+    fn ping(&mut self) -> Result<(), LogFault>
+        ensures asked { IfErr result (λ fault. fault ≢ LogFault.NoMemory) }
+    {
+        let bytes = self.ask_made(ping_command(self.alloc))?;
+        match said(b"PONG", self.alloc, &bytes) {
+            Ok(()) => Ok(()),
+            Err(fault) => Err(self.give_up(fault)),
+        }
+    }
+
+    /// Asks once what the server keeps. One that does not tell is used nevertheless.
+    fn learn_persistence(&mut self) -> Result<(), LogFault>
+        ensures asked { IfErr result (λ fault. fault ≢ LogFault.NoMemory) }
+    {
+        if self.is_known {
+            return Ok(());
+        }
+        let bytes = self.ask_made(persistence_command(self.alloc))?;
+        match forgets(self.alloc, &bytes) {
+            Ok(true) => self.line.world.hear(Notice::KeepsNothing),
+            Ok(false) | Err(RedisFault::Refused(_)) => {}
+            Err(fault) => return Err(self.give_up(fault)),
+        }
+        self.is_known = true;
+        Ok(())
+    }
+
+    /// Looks whether the entry is there that was appended last.
+    fn look_for_last(&mut self) -> Result<(), LogFault>
+        ensures asked { IfErr result (λ fault. fault ≢ LogFault.NoMemory) }
+    {
+        let Some(last) = self.last else {
+            return Ok(());
+        };
+        let command = last_command(self.alloc, &self.key, last);
+        let bytes = self.ask_made(command)?;
+        match is_found(self.alloc, &bytes) {
+            Ok(is_found) => {
+                self.has_lost = !is_found;
+                Ok(())
+            }
+            Err(fault) => Err(self.give_up(fault)),
+        }
+    }
+}

@@ -1,0 +1,32 @@
+//! A log in one stream of a Redis, by which several servers share a fleet.
+#![tactic(auto)]
+
+mod commands;
+mod connection;
+mod connects;
+mod errors;
+mod greeting;
+mod login;
+mod outcomes;
+mod pages;
+mod patience;
+mod persistence;
+mod redis_log;
+mod replies;
+mod tcp;
+
+pub use commands::{
+    append_command, last_command, login_command, persistence_command, ping_command, read_command,
+    trim_command,
+};
+pub use connects::{Connects, Notice};
+pub use errors::{MAX_SHOWN, error_prefix, passes, shown};
+pub use login::{Login, LoginFault, MAX_PART};
+pub use outcomes::{
+    RedisFault, append_outcome, entries_outcome, persistence_outcome, status_outcome, trim_outcome,
+};
+pub use pages::{PageFault, page_of};
+pub use patience::{LONGEST_PAUSE, SHORTEST_PAUSE, longer_pause, patience_for};
+pub use persistence::keeps_nothing;
+pub use redis_log::RedisLog;
+pub use tcp::TcpRedis;

@@ -1,0 +1,205 @@
+//! A log over a stream.
+
+ghost use Rattle.std.specs.Prelude.{◌≢◌, IfErr};
+
+use crate::commands::{append_command, read_command, trim_command};
+use crate::connection::Line;
+use crate::connects::{Connects, Notice};
+use crate::errors::shown;
+use crate::login::Login;
+use crate::outcomes::RedisFault;
+use crate::pages::{id_of, position_of};
+use crate::replies::{appended, page_read, trimmed};
+use lw_log::{Bytes, DeltaLog, EntryFault, LogFault, Position, read_entry};
+use lw_resp::StreamId;
+use lw_stamp::NoMemory;
+use std::alloc::Global;
+
+/// Keeps entries in one stream of a Redis, which other processes append to and trim at any time.
+///
+/// A connection that fails is made again after a pause, and each call answers `Away` until then. A reading or an append
+/// tells once that the stream is gone, or has lost its end.
+#[derive(Drop)]
+pub struct RedisLog<C: Connects> {
+    pub(crate) alloc: Global,
+    pub(crate) line: Line<C>,
+    pub(crate) login: Option<Login>,
+    pub(crate) key: Vec<u8>,
+    /// Whether the server was asked what it keeps on its disk.
+    pub(crate) is_known: bool,
+    /// The last entry of the stream, as far as this process has appended or read.
+    pub(crate) last: Option<StreamId>,
+    /// Whether that entry is not there any more, which the next reading or append tells.
+    pub(crate) has_lost: bool,
+    /// Whether the next append makes the stream.
+    makes: bool,
+}
+
+/// Whether the bytes are no entry, nor one of a later format.
+fn is_passed_over(bytes: &[u8]) -> bool {
+    match read_entry(bytes) {
+        Ok(_) | Err(EntryFault::Newer) => false,
+        Err(_) => true,
+    }
+}
+
+impl<C: Connects> RedisLog<C> {
+    /// A log over the stream of the key. Nothing is asked before its first call.
+    pub fn new(
+        alloc: Global,
+        world: C,
+        login: Option<Login>,
+        key: &[u8],
+    ) -> Result<RedisLog<C>, NoMemory> {
+        Ok(RedisLog {
+            alloc,
+            line: Line::new(alloc, world),
+            login,
+            key: key.to_vec(alloc)?,
+            is_known: false,
+            last: None,
+            has_lost: false,
+            makes: false,
+        })
+    }
+
+    /// What the log answers where the server did not do it.
+    pub(crate) fn fail(&mut self, fault: RedisFault<'_>) -> LogFault
+        ensures asked { result ≢ LogFault.NoMemory }
+    {
+        match fault {
+            RedisFault::Away => {
+                self.line.close();
+                LogFault::Away
+            }
+            RedisFault::Refused(text) => {
+                self.line.world.hear(Notice::Refused(shown(text)));
+                LogFault::Refused
+            }
+            RedisFault::Lost => self.lose(),
+        }
+    }
+
+    /// The end of the stream is lost.
+    fn lose(&mut self) -> LogFault
+        ensures asked { result ≢ LogFault.NoMemory }
+    {
+        self.last = None;
+        self.has_lost = false;
+        self.line.world.hear(Notice::Lost);
+        LogFault::Lost
+    }
+
+    fn ask_read(
+        &mut self,
+        command: &[u8],
+        is_whole: bool,
+    ) -> Result<Vec<(Position, Bytes)>, LogFault>
+        ensures asked { IfErr result (λ fault. fault ≢ LogFault.NoMemory) }
+    {
+        self.make_ready()?;
+        if self.has_lost {
+            return Err(self.lose());
+        }
+        let bytes = self.ask(command)?;
+        match page_read(self.alloc, &bytes) {
+            Ok(page) => {
+                self.line.settle();
+                // Only a reading of the whole stream tells that there is none.
+                if is_whole || !page.is_empty() {
+                    self.makes = page.is_empty();
+                }
+                self.look_at(&page);
+                Ok(page)
+            }
+            Err(fault) => Err(self.fail(fault)),
+        }
+    }
+
+    /// Notes where the page ends, and tells of what in it is no entry.
+    fn look_at(&mut self, page: &[(Position, Bytes)]) {
+        for (position, bytes) in page {
+            let id = id_of(*position);
+            self.last = self.last.max(Some(id));
+            if is_passed_over(bytes) {
+                self.line.world.hear(Notice::PassedOver(id));
+            }
+        }
+    }
+
+    fn ask_append(&mut self, command: &[u8]) -> Result<Position, LogFault>
+        ensures asked { IfErr result (λ fault. fault ≢ LogFault.NoMemory) }
+    {
+        self.make_ready()?;
+        if self.has_lost {
+            return Err(self.lose());
+        }
+        let bytes = self.ask(command)?;
+        match appended(self.alloc, &bytes) {
+            Ok(id) => {
+                self.line.settle();
+                self.last = self.last.max(Some(id));
+                self.makes = false;
+                Ok(position_of(id))
+            }
+            Err(fault) => {
+                self.makes = self.makes || fault == RedisFault::Lost;
+                Err(self.fail(fault))
+            }
+        }
+    }
+
+    fn ask_trim(&mut self, command: &[u8], upto: StreamId) -> Result<(), LogFault>
+        ensures asked { IfErr result (λ fault. fault ≢ LogFault.NoMemory) }
+    {
+        self.make_ready()?;
+        let bytes = self.ask(command)?;
+        match trimmed(self.alloc, &bytes) {
+            Ok(_) => {
+                self.line.settle();
+                self.last = self.last.filter(|last| upto < *last);
+                Ok(())
+            }
+            Err(fault) => Err(self.fail(fault)),
+        }
+    }
+
+    /// The bytes of the reply to a command.
+    pub(crate) fn ask(&mut self, command: &[u8]) -> Result<Vec<u8>, LogFault>
+        ensures asked { IfErr result (λ fault. fault ≢ LogFault.NoMemory) }
+    {
+        match self.line.ask(command) {
+            Ok(bytes) => Ok(bytes),
+            Err(_) => Err(LogFault::Away),
+        }
+    }
+}
+
+// Want of memory is told only before the server is asked. What is read or written later is as away.
+impl<C: Connects> DeltaLog for RedisLog<C> {
+    fn read(&mut self, after: Option<Position>) -> Result<Vec<(Position, Bytes)>, LogFault> {
+        let Ok(command) = read_command(self.alloc, &self.key, after.map(id_of)) else {
+            return Err(LogFault::NoMemory);
+        };
+        self.ask_read(&command, after.is_none())
+    }
+
+    fn append(&mut self, entry: &[u8]) -> Result<Position, LogFault> {
+        let Ok(command) = append_command(self.alloc, &self.key, entry, self.makes) else {
+            return Err(LogFault::NoMemory);
+        };
+        self.ask_append(&command)
+    }
+
+    fn trim(&mut self, upto: Position) -> Result<(), LogFault> {
+        let id = id_of(upto);
+        let Ok(command) = trim_command(self.alloc, &self.key, id) else {
+            return Err(LogFault::NoMemory);
+        };
+        self.ask_trim(&command, id)
+    }
+
+    fn is_alone(&self) -> bool {
+        false
+    }
+}

@@ -1,0 +1,62 @@
+//! What the bytes of a reply are to what was asked. Where they are none, or more than one, the server is as away.
+
+use crate::outcomes::{
+    RedisFault, append_outcome, entries_outcome, persistence_outcome, status_outcome, trim_outcome,
+};
+use crate::pages::page_of;
+use crate::persistence::keeps_nothing;
+use lw_log::{Bytes, Position};
+use lw_resp::{Reply, StreamId, first_reply};
+use std::alloc::Global;
+
+/// The reply that the bytes are, and nothing behind it.
+fn whole_reply(alloc: Global, bytes: &[u8]) -> Result<Reply<'_>, RedisFault<'_>> {
+    match first_reply(alloc, bytes) {
+        Ok(Some((reply, rest))) => {
+            if rest.is_empty() {
+                Ok(reply)
+            } else {
+                Err(RedisFault::Away)
+            }
+        }
+        _ => Err(RedisFault::Away),
+    }
+}
+
+/// The identifier of the entry that was appended.
+pub(crate) fn appended(alloc: Global, bytes: &[u8]) -> Result<StreamId, RedisFault<'_>> {
+    append_outcome(&whole_reply(alloc, bytes)?)
+}
+
+/// The entries that were read.
+pub(crate) fn page_read(
+    alloc: Global,
+    bytes: &[u8],
+) -> Result<Vec<(Position, Bytes)>, RedisFault<'_>> {
+    let reply = whole_reply(alloc, bytes)?;
+    match page_of(alloc, entries_outcome(&reply)?) {
+        Ok(page) => Ok(page),
+        Err(_) => Err(RedisFault::Away),
+    }
+}
+
+/// Whether an entry was found.
+pub(crate) fn is_found(alloc: Global, bytes: &[u8]) -> Result<bool, RedisFault<'_>> {
+    let reply = whole_reply(alloc, bytes)?;
+    Ok(!entries_outcome(&reply)?.is_empty())
+}
+
+/// Entries were let go.
+pub(crate) fn trimmed(alloc: Global, bytes: &[u8]) -> Result<u64, RedisFault<'_>> {
+    trim_outcome(&whole_reply(alloc, bytes)?)
+}
+
+/// The server said what was waited for.
+pub(crate) fn said<'a>(want: &[u8], alloc: Global, bytes: &'a [u8]) -> Result<(), RedisFault<'a>> {
+    status_outcome(want, &whole_reply(alloc, bytes)?)
+}
+
+/// Whether the server keeps nothing on its disk.
+pub(crate) fn forgets(alloc: Global, bytes: &[u8]) -> Result<bool, RedisFault<'_>> {
+    Ok(keeps_nothing(persistence_outcome(&whole_reply(alloc, bytes)?)?))
+}

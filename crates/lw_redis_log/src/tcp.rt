@@ -1,0 +1,79 @@
+//! Connections over TCP.
+
+use crate::connects::{Connects, Notice};
+use log::{Log, warn};
+use std::io::{self, ErrorKind};
+use std::net::{Net, OpenStream, SocketAddr, TcpStream, ToSocketAddrs};
+use std::time::{Clock, Duration, Instant};
+
+/// How long connecting takes at most, in milliseconds.
+const CONNECTING: u64 = 1_000;
+
+/// A Redis at a host and a port, a clock and a log.
+#[derive(Drop)]
+pub struct TcpRedis<'a, R: Net + Clock, L: Log> {
+    runtime: &'a R,
+    log: &'a L,
+    host: &'a str,
+    port: u16,
+    began: Option<Instant>,
+}
+
+impl<'a, R: Net + Clock, L: Log> TcpRedis<'a, R, L> {
+    /// The Redis of a host, which is a name or an IP address.
+    pub fn new(runtime: &'a R, log: &'a L, host: &'a str, port: u16) -> TcpRedis<'a, R, L> {
+        TcpRedis {
+            runtime,
+            log,
+            host,
+            port,
+            began: Instant::now(runtime).ok(),
+        }
+    }
+
+    fn connect_to(&self, address: &SocketAddr) -> io::Result<R::Stream> {
+        let limit = Duration::from_millis(CONNECTING);
+        let connection = TcpStream::connect_timeout(self.runtime, address, limit)?;
+        connection.set_nodelay(true)?;
+        Ok(connection)
+    }
+}
+
+impl<R: Net + Clock, L: Log> Connects for TcpRedis<'_, R, L> {
+    type Connection = R::Stream;
+
+    /// The first address that answers.
+    fn connect(&mut self) -> io::Result<R::Stream> {
+        let mut last = io::Error::from(ErrorKind::NotFound);
+        for address in (self.host, self.port).to_socket_addrs(self.runtime)? {
+            match self.connect_to(&address) {
+                Ok(connection) => return Ok(connection),
+                Err(error) => last = error,
+            }
+        }
+        Err(last)
+    }
+
+    fn limit(&mut self, connection: &R::Stream, milliseconds: u64) -> io::Result<()> {
+        let limit = Some(Duration::from_millis(milliseconds));
+        connection.set_read_timeout(limit)?;
+        connection.set_write_timeout(limit)
+    }
+
+    fn milliseconds(&self) -> Option<u64> {
+        let passed = self.began?.elapsed(self.runtime).ok()?;
+        u64::try_from(passed.as_millis()).ok()
+    }
+
+    fn hear(&mut self, notice: Notice<'_>) {
+        let log = self.log;
+        match notice {
+            Notice::Refused(text) => warn!(log; "redis refused error={text}"),
+            Notice::KeepsNothing => warn!(log; "redis keeps nothing on its disk"),
+            Notice::Lost => warn!(log; "redis lost the end of the stream"),
+            Notice::PassedOver(id) => {
+                warn!(log; "entry passed over position={}-{}", id.major, id.minor);
+            }
+        }
+    }
+}

@@ -1,0 +1,19 @@
+//! Tests of the crate `lw_redis_log`, over its public calls.
+#![tactic(auto)]
+
+#[cfg(test)]
+mod commands;
+#[cfg(test)]
+mod errors;
+#[cfg(test)]
+mod hold;
+#[cfg(test)]
+mod login;
+#[cfg(test)]
+mod outcomes;
+#[cfg(test)]
+mod pauses;
+#[cfg(test)]
+mod stage;
+#[cfg(test)]
+mod stories;

@@ -1,0 +1,439 @@
+use crate::hold::same;
+use crate::stage::Act::{Append, Pass, Read, Trim};
+use crate::stage::Answer::{Ends, Fails, Opens, Says, SaysSlowly};
+use crate::stage::{Act, Answer, record_of};
+use lw_redis_log::Login;
+use std::alloc::Global;
+use std::test::Fail;
+
+/// What a Redis answers, what is done, and the record of it.
+type Story = (&'static [Answer], &'static [Act], &'static str);
+
+const PONG: Answer = Says("+PONG\r\n");
+
+/// What a Redis that keeps a file tells, as much of it as counts.
+const KEEPS: Answer = Says("$30\r\n# Persistence\r\naof_enabled:1\r\n\r\n");
+
+const FORGETS: Answer = Says("$30\r\n# Persistence\r\naof_enabled:0\r\n\r\n");
+
+/// The entry 5-0 was appended.
+const FIRST: Answer = Says("$3\r\n5-0\r\n");
+
+/// The entry 6-0 was appended.
+const SECOND: Answer = Says("$3\r\n6-0\r\n");
+
+const EMPTY: Answer = Says("*0\r\n");
+
+/// The entry 5-0 is there.
+const FOUND: Answer = Says("*1\r\n*2\r\n$3\r\n5-0\r\n*2\r\n$1\r\ne\r\n$1\r\na\r\n");
+
+fn check_all(alloc: Global, stories: &[Story]) -> Result<(), Fail> {
+    for story in stories {
+        let record = record_of(alloc, story.0, story.1, None)?;
+        same(record.as_str(), story.2)?;
+    }
+    Ok(())
+}
+
+/// The first entry makes the stream where a reading of the whole has found none, or where the server has said so.
+const MADE: [Story; 4] = [
+    (
+        &[Opens, PONG, KEEPS, EMPTY, FIRST, SECOND],
+        &[Read(None), Append("a"), Append("b")],
+        "connects\n*1~$4~PING~\n*2~$4~INFO~$11~persistence~\n\
+         *6~$6~XRANGE~$1~k~$1~-~$1~+~$5~COUNT~$3~256~\n=\n\
+         *5~$4~XADD~$1~k~$1~*~$1~e~$1~a~\n= 5-0\n\
+         *6~$4~XADD~$1~k~$10~NOMKSTREAM~$1~*~$1~e~$1~b~\n= 6-0\n",
+    ),
+    (
+        &[Opens, PONG, KEEPS, FOUND, SECOND],
+        &[Read(None), Append("b")],
+        "connects\n*1~$4~PING~\n*2~$4~INFO~$11~persistence~\n\
+         *6~$6~XRANGE~$1~k~$1~-~$1~+~$5~COUNT~$3~256~\npasses over 5-0\n= 5-0 a\n\
+         *6~$4~XADD~$1~k~$10~NOMKSTREAM~$1~*~$1~e~$1~b~\n= 6-0\n",
+    ),
+    (
+        &[Opens, PONG, KEEPS, EMPTY, SECOND],
+        &[Read(Some((5, 0))), Append("b")],
+        "connects\n*1~$4~PING~\n*2~$4~INFO~$11~persistence~\n\
+         *6~$6~XRANGE~$1~k~$4~(5-0~$1~+~$5~COUNT~$3~256~\n=\n\
+         *6~$4~XADD~$1~k~$10~NOMKSTREAM~$1~*~$1~e~$1~b~\n= 6-0\n",
+    ),
+    (
+        &[Opens, PONG, KEEPS, Says("$-1\r\n"), FIRST, SECOND],
+        &[Append("a"), Append("a"), Append("b")],
+        "connects\n*1~$4~PING~\n*2~$4~INFO~$11~persistence~\n\
+         *6~$4~XADD~$1~k~$10~NOMKSTREAM~$1~*~$1~e~$1~a~\nlost\n= Lost\n\
+         *5~$4~XADD~$1~k~$1~*~$1~e~$1~a~\n= 5-0\n\
+         *6~$4~XADD~$1~k~$10~NOMKSTREAM~$1~*~$1~e~$1~b~\n= 6-0\n",
+    ),
+];
+
+/// Tries: lw_redis_log::RedisLog::new
+#[test]
+fn a_stream_is_made(rt: HostRuntime) -> Result<(), Fail> {
+    check_all(rt.alloc(), &MADE)
+}
+
+/// A refusal is told, and the connection stays. So it does at a trim.
+const REFUSED: [Story; 2] = [
+    (
+        &[
+            Opens,
+            PONG,
+            KEEPS,
+            Says("-NOPERM no permissions\r\n"),
+            FIRST,
+        ],
+        &[Append("a"), Append("a")],
+        "connects\n*1~$4~PING~\n*2~$4~INFO~$11~persistence~\n\
+         *6~$4~XADD~$1~k~$10~NOMKSTREAM~$1~*~$1~e~$1~a~\nNOPERM no permissions\n= Refused\n\
+         *6~$4~XADD~$1~k~$10~NOMKSTREAM~$1~*~$1~e~$1~a~\n= 5-0\n",
+    ),
+    (
+        &[
+            Opens,
+            PONG,
+            KEEPS,
+            Says(":2\r\n"),
+            Says("-WRONGTYPE other\r\n"),
+        ],
+        &[Trim(5, 0), Trim(5, 0)],
+        "connects\n*1~$4~PING~\n*2~$4~INFO~$11~persistence~\n\
+         *5~$5~XTRIM~$1~k~$5~MINID~$1~=~$3~5-1~\n= trimmed\n\
+         *5~$5~XTRIM~$1~k~$5~MINID~$1~=~$3~5-1~\nWRONGTYPE other\n= Refused\n",
+    ),
+];
+
+/// Tries: lw_redis_log::RedisLog::new
+#[test]
+fn a_refusal_is_told(rt: HostRuntime) -> Result<(), Fail> {
+    check_all(rt.alloc(), &REFUSED)
+}
+
+/// What drops the connection: an error that passes, another kind, no reply, one and more, the end, and nothing in time.
+const DROPS: [Answer; 9] = [
+    Says("-LOADING Redis is loading the dataset in memory\r\n"),
+    Says(":1\r\n"),
+    Says("5-0\r\n"),
+    Says("$3\r\n5-0\r\n:1\r\n"),
+    Says("$3\r\n5:0\r\n"),
+    Says(""),
+    Says("$3\r\n5-"),
+    Ends("$3\r\n5-"),
+    Fails,
+];
+
+/// Nothing is asked while the pause lasts.
+const DROPPED: &str = "connects\n*1~$4~PING~\n*2~$4~INFO~$11~persistence~\n\
+     *6~$4~XADD~$1~k~$10~NOMKSTREAM~$1~*~$1~e~$1~a~\n= Away\n= Away\n99 ms\n= Away\n1 ms\n\
+     connects\n*1~$4~PING~\n*6~$4~XADD~$1~k~$10~NOMKSTREAM~$1~*~$1~e~$1~a~\n= 5-0\n";
+
+fn check_drops(alloc: Global, drops: &[Answer], want: &str) -> Result<(), Fail> {
+    let acts = [
+        Append("a"),
+        Append("a"),
+        Pass(99),
+        Append("a"),
+        Pass(1),
+        Append("a"),
+    ];
+    for drop in drops {
+        let answers = [Opens, PONG, KEEPS, *drop, Opens, PONG, FIRST];
+        let record = record_of(alloc, &answers, &acts, None)?;
+        same(record.as_str(), want)?;
+    }
+    Ok(())
+}
+
+/// Tries: lw_redis_log::RedisLog::new
+#[test]
+fn a_connection_is_made_again(rt: HostRuntime) -> Result<(), Fail> {
+    check_drops(rt.alloc(), &DROPS, DROPPED)
+}
+
+/// Pauses are doubled until the server does what it is asked.
+const PAUSES: [Story; 2] = [
+    (
+        &[Fails, Fails, Opens, Says("-BUSY script\r\n"), Fails],
+        &[
+            Read(None),
+            Pass(100),
+            Read(None),
+            Pass(199),
+            Read(None),
+            Pass(1),
+            Read(None),
+            Pass(399),
+            Read(None),
+            Pass(1),
+            Read(None),
+        ],
+        "connects not\n= Away\n100 ms\nconnects not\n= Away\n199 ms\n= Away\n1 ms\n\
+         connects\n*1~$4~PING~\n= Away\n399 ms\n= Away\n1 ms\nconnects not\n= Away\n",
+    ),
+    (
+        &[
+            Fails,
+            Opens,
+            PONG,
+            KEEPS,
+            FIRST,
+            Ends(""),
+            Opens,
+            PONG,
+            FOUND,
+            SECOND,
+        ],
+        &[
+            Append("a"),
+            Pass(100),
+            Append("a"),
+            Append("b"),
+            Pass(100),
+            Append("b"),
+        ],
+        "connects not\n= Away\n100 ms\n\
+         connects\n*1~$4~PING~\n*2~$4~INFO~$11~persistence~\n\
+         *6~$4~XADD~$1~k~$10~NOMKSTREAM~$1~*~$1~e~$1~a~\n= 5-0\n\
+         *6~$4~XADD~$1~k~$10~NOMKSTREAM~$1~*~$1~e~$1~b~\n= Away\n100 ms\n\
+         connects\n*1~$4~PING~\n*4~$6~XRANGE~$1~k~$3~5-0~$3~5-0~\n\
+         *6~$4~XADD~$1~k~$10~NOMKSTREAM~$1~*~$1~e~$1~b~\n= 6-0\n",
+    ),
+];
+
+/// Tries: lw_redis_log::RedisLog::new
+#[test]
+fn pauses_grow(rt: HostRuntime) -> Result<(), Fail> {
+    check_all(rt.alloc(), &PAUSES)
+}
+
+/// What was appended or read last is looked for at a new connection. Where it is gone, the next reading or append tells it
+/// once. What this log let go itself is not looked for.
+const LOST: [Story; 4] = [
+    (
+        &[
+            Opens,
+            PONG,
+            KEEPS,
+            FIRST,
+            Ends(""),
+            Opens,
+            PONG,
+            EMPTY,
+            SECOND,
+        ],
+        &[
+            Append("a"),
+            Append("b"),
+            Pass(100),
+            Append("b"),
+            Append("b"),
+        ],
+        "connects\n*1~$4~PING~\n*2~$4~INFO~$11~persistence~\n\
+         *6~$4~XADD~$1~k~$10~NOMKSTREAM~$1~*~$1~e~$1~a~\n= 5-0\n\
+         *6~$4~XADD~$1~k~$10~NOMKSTREAM~$1~*~$1~e~$1~b~\n= Away\n100 ms\n\
+         connects\n*1~$4~PING~\n*4~$6~XRANGE~$1~k~$3~5-0~$3~5-0~\nlost\n= Lost\n\
+         *6~$4~XADD~$1~k~$10~NOMKSTREAM~$1~*~$1~e~$1~b~\n= 6-0\n",
+    ),
+    (
+        &[
+            Opens,
+            PONG,
+            KEEPS,
+            FIRST,
+            Ends(""),
+            Opens,
+            PONG,
+            EMPTY,
+            EMPTY,
+        ],
+        &[
+            Append("a"),
+            Append("b"),
+            Pass(100),
+            Read(Some((5, 0))),
+            Read(Some((5, 0))),
+        ],
+        "connects\n*1~$4~PING~\n*2~$4~INFO~$11~persistence~\n\
+         *6~$4~XADD~$1~k~$10~NOMKSTREAM~$1~*~$1~e~$1~a~\n= 5-0\n\
+         *6~$4~XADD~$1~k~$10~NOMKSTREAM~$1~*~$1~e~$1~b~\n= Away\n100 ms\n\
+         connects\n*1~$4~PING~\n*4~$6~XRANGE~$1~k~$3~5-0~$3~5-0~\nlost\n= Lost\n\
+         *6~$6~XRANGE~$1~k~$4~(5-0~$1~+~$5~COUNT~$3~256~\n=\n",
+    ),
+    (
+        &[Opens, PONG, KEEPS, FOUND, Ends(""), Opens, PONG, EMPTY],
+        &[Read(None), Append("b"), Pass(100), Append("b")],
+        "connects\n*1~$4~PING~\n*2~$4~INFO~$11~persistence~\n\
+         *6~$6~XRANGE~$1~k~$1~-~$1~+~$5~COUNT~$3~256~\npasses over 5-0\n= 5-0 a\n\
+         *6~$4~XADD~$1~k~$10~NOMKSTREAM~$1~*~$1~e~$1~b~\n= Away\n100 ms\n\
+         connects\n*1~$4~PING~\n*4~$6~XRANGE~$1~k~$3~5-0~$3~5-0~\nlost\n= Lost\n",
+    ),
+    (
+        &[
+            Opens,
+            PONG,
+            KEEPS,
+            FIRST,
+            Says(":1\r\n"),
+            Ends(""),
+            Opens,
+            PONG,
+            SECOND,
+        ],
+        &[Append("a"), Trim(5, 0), Append("b"), Pass(100), Append("b")],
+        "connects\n*1~$4~PING~\n*2~$4~INFO~$11~persistence~\n\
+         *6~$4~XADD~$1~k~$10~NOMKSTREAM~$1~*~$1~e~$1~a~\n= 5-0\n\
+         *5~$5~XTRIM~$1~k~$5~MINID~$1~=~$3~5-1~\n= trimmed\n\
+         *6~$4~XADD~$1~k~$10~NOMKSTREAM~$1~*~$1~e~$1~b~\n= Away\n100 ms\n\
+         connects\n*1~$4~PING~\n*6~$4~XADD~$1~k~$10~NOMKSTREAM~$1~*~$1~e~$1~b~\n= 6-0\n",
+    ),
+];
+
+/// Tries: lw_redis_log::RedisLog::new
+#[test]
+fn what_is_lost_is_told(rt: HostRuntime) -> Result<(), Fail> {
+    check_all(rt.alloc(), &LOST)
+}
+
+/// What a server tells of its disk is asked once, and told where it keeps nothing. One that does not tell is used.
+const DISKS: [Story; 3] = [
+    (
+        &[Opens, PONG, FORGETS, EMPTY, Ends(""), Opens, PONG, EMPTY],
+        &[Read(None), Read(None), Pass(100), Read(None)],
+        "connects\n*1~$4~PING~\n*2~$4~INFO~$11~persistence~\nkeeps nothing\n\
+         *6~$6~XRANGE~$1~k~$1~-~$1~+~$5~COUNT~$3~256~\n=\n\
+         *6~$6~XRANGE~$1~k~$1~-~$1~+~$5~COUNT~$3~256~\n= Away\n100 ms\n\
+         connects\n*1~$4~PING~\n*6~$6~XRANGE~$1~k~$1~-~$1~+~$5~COUNT~$3~256~\n=\n",
+    ),
+    (
+        &[Opens, PONG, Says("-NOPERM no permissions\r\n"), EMPTY],
+        &[Read(None)],
+        "connects\n*1~$4~PING~\n*2~$4~INFO~$11~persistence~\n\
+         *6~$6~XRANGE~$1~k~$1~-~$1~+~$5~COUNT~$3~256~\n=\n",
+    ),
+    (
+        &[
+            Opens,
+            PONG,
+            Says("-LOADING data\r\n"),
+            Opens,
+            PONG,
+            FORGETS,
+            EMPTY,
+        ],
+        &[Read(None), Pass(100), Read(None)],
+        "connects\n*1~$4~PING~\n*2~$4~INFO~$11~persistence~\n= Away\n100 ms\n\
+         connects\n*1~$4~PING~\n*2~$4~INFO~$11~persistence~\nkeeps nothing\n\
+         *6~$6~XRANGE~$1~k~$1~-~$1~+~$5~COUNT~$3~256~\n=\n",
+    ),
+];
+
+/// Tries: lw_redis_log::RedisLog::new
+#[test]
+fn the_disk_is_asked_for(rt: HostRuntime) -> Result<(), Fail> {
+    check_all(rt.alloc(), &DISKS)
+}
+
+/// A user logs in before all else. A connection that is refused is made again after a pause, and of a refused login
+/// only the first word is told.
+const LOGINS: [Story; 4] = [
+    (
+        &[Opens, Says("+OK\r\n"), PONG, KEEPS, EMPTY],
+        &[Read(None)],
+        "connects\n*3~$4~AUTH~$5~fleet~$6~secret~\n*1~$4~PING~\n*2~$4~INFO~$11~persistence~\n\
+         *6~$6~XRANGE~$1~k~$1~-~$1~+~$5~COUNT~$3~256~\n=\n",
+    ),
+    (
+        &[
+            Opens,
+            Says("-WRONGPASS invalid username-password pair or user is disabled.\r\n"),
+            Fails,
+        ],
+        &[Read(None), Read(None), Pass(100), Read(None)],
+        "connects\n*3~$4~AUTH~$5~fleet~$6~secret~\nWRONGPASS\n= Refused\n= Away\n100 ms\n\
+         connects not\n= Away\n",
+    ),
+    (
+        &[
+            Opens,
+            Says("-ERR unknown command 'AUTH', with args beginning with: 'fleet' 'secret' \r\n"),
+        ],
+        &[Read(None)],
+        "connects\n*3~$4~AUTH~$5~fleet~$6~secret~\nERR\n= Refused\n",
+    ),
+    (
+        &[
+            Opens,
+            Says("+OK\r\n"),
+            Says("-NOPERM this user has no permissions to run the 'ping' command\r\n"),
+        ],
+        &[Read(None), Read(None)],
+        "connects\n*3~$4~AUTH~$5~fleet~$6~secret~\n*1~$4~PING~\n\
+         NOPERM this user has no permissions to run the 'ping' command\n= Refused\n= Away\n",
+    ),
+];
+
+fn check_logins(alloc: Global, stories: &[Story]) -> Result<(), Fail> {
+    for story in stories {
+        let Ok(login) = Login::read(alloc, b"fleet\nsecret\n") else {
+            return Err("no login".into());
+        };
+        let record = record_of(alloc, story.0, story.1, Some(login))?;
+        same(record.as_str(), story.2)?;
+    }
+    Ok(())
+}
+
+/// Tries: lw_redis_log::RedisLog::new
+#[test]
+fn a_user_logs_in(rt: HostRuntime) -> Result<(), Fail> {
+    check_logins(rt.alloc(), &LOGINS)
+}
+
+/// Two entries, the second of which is foreign.
+const PAGE: &str = "*2\r\n*2\r\n$3\r\n5-0\r\n*2\r\n$1\r\ne\r\n$2\r\nab\r\n\
+     *2\r\n$3\r\n5-1\r\n*4\r\n$1\r\ne\r\n$1\r\na\r\n$1\r\nf\r\n$0\r\n\r\n";
+
+fn read_over(alloc: Global, answer: Answer) -> Result<String, Fail> {
+    record_of(alloc, &[Opens, PONG, KEEPS, answer], &[Read(None)], None)
+}
+
+/// The record of a reading whose reply is whole.
+const WHOLE: &str = "connects\n*1~$4~PING~\n*2~$4~INFO~$11~persistence~\n\
+     *6~$6~XRANGE~$1~k~$1~-~$1~+~$5~COUNT~$3~256~\n\
+     passes over 5-0\npasses over 5-1\n= 5-0 ab 5-1 \n";
+
+/// The record of one whose reply is not.
+const CUT: &str = "connects\n*1~$4~PING~\n*2~$4~INFO~$11~persistence~\n\
+     *6~$6~XRANGE~$1~k~$1~-~$1~+~$5~COUNT~$3~256~\n= Away\n";
+
+fn check_readings(alloc: Global, answers: &[Answer], want: &str) -> Result<(), Fail> {
+    for answer in answers {
+        same(read_over(alloc, *answer)?.as_str(), want)?;
+    }
+    Ok(())
+}
+
+fn check_cuts(alloc: Global, reply: &'static str, want: &str) -> Result<(), Fail> {
+    for end in 0..reply.len() {
+        let Some(cut) = reply.get(..end) else {
+            return Err("no ASCII".into());
+        };
+        check_readings(alloc, &[Ends(cut), Says(cut)], want)?;
+    }
+    Ok(())
+}
+
+/// A reply comes in any pieces, and one that ends before its end is none.
+///
+/// Tries: lw_redis_log::RedisLog::new
+#[test]
+fn a_reply_is_waited_for(rt: HostRuntime) -> Result<(), Fail> {
+    check_readings(
+        rt.alloc(),
+        &[Says(PAGE), SaysSlowly(PAGE), Ends(PAGE)],
+        WHOLE,
+    )?;
+    check_cuts(rt.alloc(), PAGE, CUT)
+}
