@@ -1,6 +1,7 @@
 """What stands in a stream: entries of others, many entries, and who appends first."""
 
 import os
+import re
 import struct
 import time
 
@@ -9,7 +10,7 @@ from between import CUTS, HOLDS, PASSES, PIECES, Between
 from coap import read, register, spelled, update
 from faults import told
 from keeper import KEY
-from scenes import SOON, is_answered, is_soon, measure, shown
+from scenes import SOON, SPREAD, is_answered, is_soon, measure, shown
 
 # where the parts of an entry stand: the number of its start, the tag, the sequence, and the kind
 NUMBER, TAG, KIND = slice(20, 22), slice(22, 30), 38
@@ -37,21 +38,22 @@ def garbage(scene):
     """Entries that are none of a fleet are passed over."""
     with told(scene, "entries that are none") as (redis, servers, found):
         sound = first_of(redis, DELTA)
-        appends(redis, "e", "garbage")
-        appends(redis, "other", "field")
-        appends(redis, "e", "")
-        appends(redis, "", "")
-        appends(redis, "e", sound, "e", sound)
-        appends(redis, "E", sound)
-        appends(redis, "e", os.urandom(2_000))
-        appends(redis, "e", b"a" * 1_000_000)
-        for length in (3, 4, 20, KIND, KIND + 1, len(sound) - 1):
-            appends(redis, "e", sound[:length])
-        appends(redis, "e", sound + b"\0")
+        cut = [("e", sound[:length]) for length in (3, 4, 20, KIND, KIND + 1, len(sound) - 1)]
+        foreign = (("e", "garbage"), ("other", "field"), ("", ""), ("e", sound, "e", sound), ("E", sound))
+        strange = (("e", ""), ("e", os.urandom(2_000)), ("e", b"a" * 1_000_000), ("e", sound + b"\0"))
+        added = {appends(redis, *fields).decode() for fields in (*cut, *foreign, *strange)}
+        is_soon(lambda: all(passed_over(it) == added for it in servers), SPREAD)
+        found = [passed_over(it) ^ added for it in servers]
+        scene.holds("entries that servers pass over, and tell nothing of, or the other way", found, [set()] * 3)
         scene.all_know("entries that are none", redis.address, servers, found.known, found.removed)
         appends(redis, "e", "garbage", key="foreign")
         with scene.sharer(redis.address, "--stream", "foreign") as server:
             scene.holds("a stream that begins with such an entry", server.ends(SOON), (1, "data cut"))
+
+
+def passed_over(server):
+    """The identifiers of the entries of which a server logs that it passes them over."""
+    return set(re.findall(r"entry passed over position=(\S+)", server.errors()))
 
 
 def fleets(scene):

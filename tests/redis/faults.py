@@ -241,6 +241,20 @@ def gone(scene):
             scene.all_know(what, redis.address, servers, found.known, found.removed)
 
 
+def shortened(scene):
+    """Where the end of the stream is gone when a server connects again, it writes all anew, though nobody asks it."""
+    with told(scene, "a stream without its end") as (redis, servers, found):
+        ids = [identifier for identifier, _ in redis.ask("XRANGE", "fleet", "-", "+")]
+        redis.ask("XDEL", "fleet", *ids[len(ids) // 4 :])
+        redis.ask("CLIENT", "KILL", "TYPE", "normal")
+        is_soon(lambda: any(it.compactions() for it in servers))
+        scene.is_true("the loss is logged", any("log lost\n" in it.errors() for it in servers), "by none")
+        is_mended(scene, "a stream without its end", servers)
+        answered = [is_answered(it, update(found.known[0])) for it in servers]
+        scene.holds("a stream without its end: each server soon answers again", answered, [True] * 3)
+        scene.all_know("a stream without its end", redis.address, servers, found.known, found.removed)
+
+
 def trimmed(scene):
     """Where a stream lost its beginning and stays, its servers go on, and nobody begins who would know less."""
     with told(scene, "XTRIM") as (redis, servers, found):
