@@ -1,11 +1,11 @@
 //! A server over a real socket and a real log.
 
 use crate::host::Host;
-use crate::shared::begin_shared;
+use crate::shared::{SharedLog, begin_shared};
 use crate::visitors::{Visited, Visitors};
 use log::sink::Console;
 use log::{LevelFilter, Log, Logged, info};
-use lw_fleet::{Keeps, LogLevel, RunOptions, RunningFault, Runs};
+use lw_fleet::{Keeps, LogLevel, RedisOptions, RunOptions, RunningFault, Runs};
 use lw_front::{Sockets, SystemStopwatch};
 use lw_log::{DeltaLog, FleetId, Nowhere};
 use lw_member::{Chance, Member};
@@ -37,18 +37,42 @@ impl Runs for Host<'_, HostRuntime> {
         match &options.keeps {
             Keeps::Nothing => {
                 let member = begin(host, Nowhere::new(host.alloc()))?;
-                serve(host, &log, member, "nothing", options, visitors)
+                let mut place = Place::open(host, &log, options, visitors)?;
+                place.serve(member, "nothing", options)
             }
             Keeps::Folder(folder) => {
                 let member = begin(host, SqliteLog::open(host, folder).map_err(fault_of_open)?)?;
-                serve(host, &log, member, "data", options, visitors)
+                let mut place = Place::open(host, &log, options, visitors)?;
+                place.serve(member, "data", options)
             }
             Keeps::Redis(redis) => {
                 let member = begin_shared(host, &log, redis)?;
-                serve(host, &log, member, "redis", options, visitors).map_err(fault_of_redis)
+                let mut place = Place::open(host, &log, options, visitors)?;
+                serve_shared(&mut place, member, redis, options).map_err(fault_of_redis)
             }
         }
     }
+}
+
+/// Serves a fleet that others serve as well. Where another start was faster with the same number, or made the fleet, it
+/// begins anew: it has answered nobody yet.
+fn serve_shared<'a, L: Log>(
+    place: &mut Place<'a, L>,
+    first: Member<SharedLog<'a, L>>,
+    redis: &RedisOptions<'a>,
+    options: &RunOptions<'_>,
+) -> Result<(), RunningFault> {
+    let mut member = first;
+    for _start in 0..u64::MAX {
+        match place.serve(member, "redis", options) {
+            Err(RunningFault::NumberTaken) => {
+                info!(place.log; "number taken, another is drawn");
+                member = begin_shared(place.host, place.log, redis)?;
+            }
+            ended => return ended,
+        }
+    }
+    Ok(())
 }
 
 /// A member over what the log keeps, which is read to its end.
@@ -64,43 +88,68 @@ fn begin<'a, G: DeltaLog>(
     }
 }
 
-/// Binds the sockets, and serves devices and visitors.
-fn serve<G: DeltaLog + Metered, L: Log>(
-    host: &HostRuntime,
-    log: &L,
-    member: Member<G>,
-    keeps: &str,
-    options: &RunOptions<'_>,
-    visitors: Option<Visitors>,
-) -> Result<(), RunningFault> {
-    let number = member.start().number;
-    let mut sockets = bind(host, log, options)?;
-    let visited = match visitors {
-        None => None,
-        Some(visitors) => Some(visitors.come_to(host, &mut sockets)?),
-    };
-    if let Ok(address) = sockets.local_address() {
-        info!(log; "serving address={address} number={number} keeps={keeps}");
+/// Where devices come, and visitors, if they do.
+#[derive(Drop)]
+struct Place<'a, L: Log> {
+    host: &'a HostRuntime,
+    log: &'a L,
+    sockets: Sockets<'a, HostRuntime, L>,
+    visited: Option<Visited>,
+}
+
+impl<'a, L: Log> Place<'a, L> {
+    /// Binds the sockets.
+    fn open(
+        host: &'a HostRuntime,
+        log: &'a L,
+        options: &RunOptions<'_>,
+        visitors: Option<Visitors>,
+    ) -> Result<Place<'a, L>, RunningFault> {
+        let mut sockets = bind(host, log, options)?;
+        let visited = match visitors {
+            None => None,
+            Some(visitors) => Some(visitors.come_to(host, &mut sockets)?),
+        };
+        Ok(Place {
+            host,
+            log,
+            sockets,
+            visited,
+        })
     }
-    let page = page_of(log, visited);
-    let clock = SystemClock { clock: host };
-    let now = moment(host)?;
-    let server = Server::new(
-        host.alloc(),
-        member,
-        clock,
-        skew_of(&options.keeps),
-        now,
-        page,
-    );
-    run_on(
-        &mut sockets,
-        server,
-        log,
-        wait_of(&options.keeps),
-        compaction_of(&options.keeps),
-    )
-    .map_err(fault_of_run)
+
+    /// Serves devices and visitors.
+    fn serve<G: DeltaLog + Metered>(
+        &mut self,
+        member: Member<G>,
+        keeps: &str,
+        options: &RunOptions<'_>,
+    ) -> Result<(), RunningFault> {
+        let host = self.host;
+        if let Ok(address) = self.sockets.local_address() {
+            let number = member.start().number;
+            info!(self.log; "serving address={address} number={number} keeps={keeps}");
+        }
+        if let Some(visited) = &self.visited {
+            info!(self.log; "http address={}", visited.address);
+        }
+        let clock = SystemClock { clock: host };
+        let (skew, page) = (skew_of(&options.keeps), self.page()?);
+        let server = Server::new(host.alloc(), member, clock, skew, moment(host)?, page);
+        let (wait, compaction) = (wait_of(&options.keeps), compaction_of(&options.keeps));
+        run_on(&mut self.sockets, server, self.log, wait, compaction).map_err(fault_of_run)
+    }
+
+    /// The page that visitors see, if there is one.
+    fn page(&self) -> Result<Option<String>, RunningFault> {
+        let Some(visited) = &self.visited else {
+            return Ok(None);
+        };
+        match visited.page.clone() {
+            Ok(page) => Ok(page),
+            Err(_) => Err(RunningFault::NoMemory),
+        }
+    }
 }
 
 /// The moment that it is.
@@ -119,13 +168,6 @@ pub(crate) fn stopwatch(
         Ok(stopwatch) => Ok(stopwatch),
         Err(_) => Err(RunningFault::ClockRefused),
     }
-}
-
-/// Logs where visitors come, if they do, and gives the page that they see.
-fn page_of<L: Log>(log: &L, visited: Option<Visited>) -> Option<String> {
-    let Visited { address, page } = visited?;
-    info!(log; "http address={address}");
-    page
 }
 
 /// The socket that devices send to.

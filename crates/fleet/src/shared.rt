@@ -22,8 +22,10 @@ const PAUSE: u64 = 100;
 const LOGIN_ROOM: usize = 1_024;
 
 /// A log over the stream, which is timed.
-pub(crate) type SharedLog<'a, L> =
-    Timed<RedisLog<TcpRedis<'a, HostRuntime, L>>, SystemStopwatch<'a, HostRuntime>>;
+pub(crate) type SharedLog<'a, L> = Timed<
+    RedisLog<TcpRedis<'a, HostRuntime, L>>,
+    SystemStopwatch<'a, HostRuntime>,
+>;
 
 /// A member of the fleet that the stream has. Where Redis is away it is asked again, for ten seconds.
 pub(crate) fn begin_shared<'a, L: Log>(
@@ -36,7 +38,10 @@ pub(crate) fn begin_shared<'a, L: Log>(
         match try_begin(host, log, options)? {
             Ok(member) => return Ok(member),
             Err(MemberFault::Log(LogFault::Away | LogFault::Lost)) => {
-                if waited.microseconds().is_none_or(|passed| passed >= PATIENCE) {
+                if waited
+                    .microseconds()
+                    .is_none_or(|passed| passed >= PATIENCE)
+                {
                     break;
                 }
                 thread::sleep(host, Duration::from_millis(PAUSE));

@@ -48,10 +48,10 @@ more_duplicates old new again count left batch fresh is less all some =
     is ∙ ap (λ (n : ℕ). min (old + n) (2 ^ 64 - 1)) (less ∙ (λ k. all k - some k))
 
 pub stays_from : (old mid new : ServerContent) → mid ≡ old → new.skew ≡ mid.skew → new.started ≡ mid.started → new.passed_over ≡ mid.passed_over
-    → new.page ≡ mid.page → new.edge ≡ mid.edge → Stays old new
-stays_from old mid new same skew started passed_over page edge =
+    → new.page ≡ mid.page → new.edge ≡ mid.edge → new.away ≡ mid.away → Stays old new
+stays_from old mid new same skew started passed_over page edge away =
     subst (λ (server : ServerContent). Stays server new) same
-    (record { skew = skew; started = started; passed_over = passed_over; page = page; edge = edge })
+    (record { skew = skew; started = started; passed_over = passed_over; page = page; edge = edge; away = away })
 
 -- a server whose member is still as it was has put nothing into its log
 pub writes_none_from : (old mid : ServerContent) → mid ≡ old → WritesOwn old.member mid.member

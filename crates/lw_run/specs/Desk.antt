@@ -1,5 +1,5 @@
 -- What a server tells over HTTP (RFC 9110, section 15; RFC 8259).
-use Rattle.std.specs.Prelude.{◌≡◌, ◌≢◌, ℕ, Bool, true, false, not, List, length, Option, Some, None, IsSomeAnd, if◌then◌else◌, codes, string_bytes}
+use Rattle.std.specs.Prelude.{◌≡◌, ◌≢◌, ℕ, Bool, true, false, not, ◌&&◌, List, length, Option, Some, None, IsSomeAnd, if◌then◌else◌, codes, string_bytes}
 use Rattle.serde_json.specs.Written.{compact_text}
 use Rattle.lw_stamp.specs.Moment.{ms_of}
 use Rattle.lw_node.specs.Node.{NodeContent}
@@ -27,14 +27,17 @@ version = codes "0.1.0"
 abbrev pub about_of : MemberContent → About
 about_of member = record { number = if member.claimed then Some member.node.number else None; tag = member.tag }
 
--- ---- whether it serves: while its log does not lead all that the node knows, it is away
+-- ---- whether it serves: it is away while its log cannot be asked, or does not lead all that the node knows
+abbrev pub serves : ServerContent → Bool
+serves server = not server.away && server.member.led
+
 abbrev pub health_status : Bool → Status
 health_status true = status.Ok
 health_status false = status.ServiceUnavailable
 
 abbrev pub TellsHealth : ServerContent → Answer → Type 0
 TellsHealth server =
-    IsJson (health_status server.member.led) (compact_text (health_json server.latest server.member.led version))
+    IsJson (health_status (serves server)) (compact_text (health_json server.latest (serves server) version))
 
 -- ---- the page, where there is one
 abbrev pub TellsPage : Option (List ℕ) → Answer → Type 0
@@ -49,7 +52,7 @@ pub record AreOfNode (node : NodeContent) (measures : NodeMeasures) : Type 0 whe
   pub change : measures.change ≡ node.table.count.change
   pub number : measures.number ≡ node.number
 
--- nothing is told of the node while the log is away
+-- nothing is told of the node while the server is away
 abbrev pub IsMeasuredBy : Bool → NodeContent → Option NodeMeasures → Type 0
 IsMeasuredBy true node measures = IsSomeAnd measures (AreOfNode node)
 IsMeasuredBy false node measures = measures ≡ None
@@ -57,10 +60,10 @@ IsMeasuredBy false node measures = measures ≡ None
 pub record AreMeasures (server : ServerContent) (measures : Measures) : Type 0 where
   pub version_is : measures.version.now ≡ version
   pub started : measures.started ≡ server.started
-  pub node : IsMeasuredBy server.member.led server.member.node measures.node
+  pub node : IsMeasuredBy (serves server) server.member.node measures.node
   pub tally : measures.tally ≡ server.tally
   pub passed_over : measures.passed_over ≡ server.passed_over
-  pub away : measures.away ≡ not server.member.led
+  pub away : measures.away ≡ not (serves server)
   pub log_bytes : measures.log_bytes ≡ together server.member.whole server.member.behind
   pub log_whole_bytes : measures.log_whole_bytes ≡ server.member.whole
   pub edge : measures.edge ≡ server.edge
@@ -85,4 +88,4 @@ pub record TellsOf (server : ServerContent) (asked : Asked) (answer : Answer) : 
   pub page : asked ≡ Page → TellsPage server.page answer
   pub health : asked ≡ Health → TellsHealth server answer
   pub metrics : asked ≡ Metrics → TellsMetrics server answer
-  pub node : asked ≢ Page → asked ≢ Health → asked ≢ Metrics → TellsOfNode server.member.led server asked answer
+  pub node : asked ≢ Page → asked ≢ Health → asked ≢ Metrics → TellsOfNode (serves server) server asked answer

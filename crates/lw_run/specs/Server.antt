@@ -1,5 +1,5 @@
 -- What contracts see of a server.
-use Rattle.std.specs.Prelude.{◌≡◌, ℕ, List, Option}
+use Rattle.std.specs.Prelude.{◌≡◌, ℕ, Bool, List, Option}
 use Rattle.lw_stamp.specs.declared.moment.Moment.{Moment}
 use Rattle.lw_member.specs.Member.{MemberContent}
 use Rattle.lw_metrics.specs.declared.edge.Edge.{Edge}
@@ -16,6 +16,7 @@ pub record ServerContent : Type 0 where
   pub passed_over : ℕ  -- how many turns failed for want of memory
   pub page : Option (List ℕ)  -- what is told at `/`, if there is a page
   pub edge : Edge  -- what is counted at the edge
+  pub away : Bool  -- whether the last turn found that the log cannot be asked
   pub kept : List Exchange  -- the last requests that were answered, with their replies
   pub duplicates : ℕ  -- how many datagrams were requests that came again
   pub unkept : ℕ  -- how many turns had no memory for all that they answered
@@ -29,6 +30,7 @@ pub record Stays (old new : ServerContent) : Type 0 where
   pub passed_over : new.passed_over ≡ old.passed_over
   pub page : new.page ≡ old.page
   pub edge : new.edge ≡ old.edge
+  pub away : new.away ≡ old.away
 
 -- no request that was answered is kept more, and none less
 pub record KeepsStill (old new : ServerContent) : Type 0 where

@@ -32,8 +32,6 @@ pub(crate) struct Course<G: DeltaLog + Metered, C: HostClock + Drop> {
     compaction: Compaction,
     /// How many turns are left before a compaction is tried again.
     rest: u32,
-    /// Whether the log is away.
-    is_away: bool,
     /// Whether the log has lost entries since it was compacted. Whoever reads it from its beginning may miss what stood in
     /// them, until all is written anew.
     has_lost: bool,
@@ -51,7 +49,6 @@ impl<G: DeltaLog + Metered, C: HostClock + Drop> Course<G, C> {
             faults: 0,
             starved: 0,
             rest: 0,
-            is_away: false,
             has_lost: false,
             last,
             refusals: Refusals::new(),
@@ -77,7 +74,7 @@ impl<G: DeltaLog + Metered, C: HostClock + Drop> Course<G, C> {
     ) -> Result<(), RunFault>
         requires { count ≤ length buffer.old }
     {
-        if self.is_away {
+        if self.server.away {
             let passed = pass_over(front, buffer);
             self.drop_datagrams(passed);
             return self.tick(log);
@@ -153,7 +150,7 @@ impl<G: DeltaLog + Metered, C: HostClock + Drop> Course<G, C> {
     /// Counts the time since the turn before, if the log has been away since then.
     fn note_time(&mut self) {
         let now = self.server.latest();
-        if self.is_away {
+        if self.server.away {
             let milliseconds = now.ms().saturating_sub(self.last.ms());
             let edge = &mut self.server.edge;
             edge.away = edge
@@ -188,8 +185,8 @@ impl<G: DeltaLog + Metered, C: HostClock + Drop> Course<G, C> {
     /// A turn was made.
     fn goes_on<L: Log>(&mut self, log: &L) -> Result<(), RunFault> {
         self.starved = 0;
-        if self.is_away {
-            self.is_away = false;
+        if self.server.away {
+            self.server.away = false;
             info!(log; "log back");
         }
         self.compact_if_due(log)
@@ -231,8 +228,8 @@ impl<G: DeltaLog + Metered, C: HostClock + Drop> Course<G, C> {
 
     /// The log is away from now on, until a turn is made.
     fn goes_away<L: Log>(&mut self, log: &L) {
-        if !self.is_away {
-            self.is_away = true;
+        if !self.server.away {
+            self.server.away = true;
             warn!(log; "log away");
         }
     }

@@ -1,12 +1,13 @@
 //! What a server tells over HTTP.
 
-ghost use Rattle.std.specs.Prelude.{◌≡◌, IfOk, false};
-ghost use Rattle.lw_run.specs.Desk.{about_of, health_status, version, AreMeasures, IsMeasuredBy, TellsHealth, TellsMetrics, TellsOfNode, TellsPage};
+ghost use Rattle.std.specs.Prelude.{◌≡◌, ◌↔◌, IfOk, IfSome, IsNone, false};
+ghost use Rattle.lw_run.specs.Desk.{about_of, health_status, serves, version, AreMeasures, IsMeasuredBy, TellsHealth, TellsMetrics, TellsOfNode, TellsPage};
 
 use crate::Server;
 use lw_api::{About, answer, not_found, numbers_of};
 use lw_log::DeltaLog;
 use lw_metrics::{Measures, NodeMeasures, metrics_text};
+use lw_node::Node;
 use lw_print::health_text;
 use lw_stamp::NoMemory;
 use lw_target::{Answer, Asked, Desk, Media, Status};
@@ -15,7 +16,7 @@ use lw_wire::HostClock;
 /// The version of the program.
 const VERSION: &str = "0.1.0";
 
-/// What is told while the log does not lead all that the node knows.
+/// What is told while the server is away.
 const AWAY: &str = r#"{"error":"away"}"#;
 
 impl<G: DeltaLog, C: HostClock + Drop> Desk for Server<G, C> {
@@ -50,12 +51,23 @@ impl<G: DeltaLog, C: HostClock + Drop> Server<G, C> {
     fn health(&self) -> Result<Answer, NoMemory>
         ensures { IfOk result (TellsHealth self.now) }
     {
-        let leads = self.member.node().is_some();
+        let serves = self.node().is_some();
         Ok(Answer {
-            status: status_of(leads),
+            status: status_of(serves),
             media: Media::Json,
-            body: health_text(self.alloc, self.latest, leads, VERSION)?,
+            body: health_text(self.alloc, self.latest, serves, VERSION)?,
         })
+    }
+
+    /// The node, while the server serves.
+    fn node(&self) -> Option<&Node>
+        ensures node { IfSome result (λ node. node.now ≡ self.now.member.node) }
+        ensures none { IsNone result ↔ (serves self.now ≡ false) }
+    {
+        if self.away {
+            return None;
+        }
+        self.member.node()
     }
 
     fn metrics(&self) -> Result<Answer, NoMemory>
@@ -90,9 +102,9 @@ impl<G: DeltaLog, C: HostClock + Drop> Server<G, C> {
     }
 
     fn node_measures(&self) -> Option<NodeMeasures>
-        ensures { IsMeasuredBy self.now.member.led self.now.member.node result }
+        ensures { IsMeasuredBy (serves self.now) self.now.member.node result }
     {
-        let numbers = numbers_of(self.member.node()?, self.about());
+        let numbers = numbers_of(self.node()?, self.about());
         Some(NodeMeasures {
             registrations: numbers.registrations,
             counter: numbers.counter,
@@ -112,9 +124,9 @@ impl<G: DeltaLog, C: HostClock + Drop> Server<G, C> {
     }
 
     fn of_node(&self, asked: &Asked) -> Result<Answer, NoMemory>
-        ensures { IfOk result (TellsOfNode self.now.member.led self.now asked.now) }
+        ensures { IfOk result (TellsOfNode (serves self.now) self.now asked.now) }
     {
-        match self.member.node() {
+        match self.node() {
             Some(node) => answer(self.alloc, node, self.about(), self.latest, asked),
             None => Ok(Answer {
                 status: Status::ServiceUnavailable,
@@ -125,10 +137,10 @@ impl<G: DeltaLog, C: HostClock + Drop> Server<G, C> {
     }
 }
 
-fn status_of(leads: bool) -> Status
-    ensures { result ≡ health_status leads }
+fn status_of(serves: bool) -> Status
+    ensures { result ≡ health_status serves }
 {
-    if leads {
+    if serves {
         Status::Ok
     } else {
         Status::ServiceUnavailable

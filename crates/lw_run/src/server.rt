@@ -1,6 +1,6 @@
 //! A member that takes datagrams.
 
-ghost use Rattle.std.specs.Prelude.{◌≡◌, ◌↔◌, [], map, option_map, string_bytes, IfOk, OnErr, OnOk, IsTrue};
+ghost use Rattle.std.specs.Prelude.{◌≡◌, ◌↔◌, [], false, map, option_map, string_bytes, IfOk, OnErr, OnOk, IsTrue};
 ghost use Rattle.lw_member.specs.Compaction.{IsCompactionDue, IsCompacted, Compacts};
 ghost use Rattle.lw_member.specs.Own.{WritesOwn};
 ghost use Rattle.lw_metrics.specs.Counting.{new_tally, one_more};
@@ -42,6 +42,8 @@ pub struct Server<G: DeltaLog, C: HostClock + Drop> {
     pub(crate) page: Option<String>,
     /// What is counted at the edge.
     pub(crate) edge: Edge,
+    /// Whether the last turn found that the log cannot be asked.
+    pub(crate) away: bool,
     /// The last requests that were answered, with their replies.
     kept: Replies,
     /// How many datagrams were requests that came again.
@@ -73,6 +75,7 @@ impl<G: DeltaLog, C: HostClock + Drop> Model for Server<G, C> {
       passed_over = s.passed_over;
       page = option_map string_bytes s.page;
       edge = s.edge;
+      away = s.away;
       kept = s.kept;
       duplicates = s.duplicates;
       unkept = s.unkept;
@@ -100,6 +103,7 @@ impl<G: DeltaLog, C: HostClock + Drop> Server<G, C> {
           passed_over = 0;
           page = option_map string_bytes page;
           edge = new_edge;
+          away = false;
           kept = [];
           duplicates = 0;
           unkept = 0;
@@ -118,6 +122,7 @@ impl<G: DeltaLog, C: HostClock + Drop> Server<G, C> {
             passed_over: 0,
             page,
             edge: Edge::new(),
+            away: false,
             kept: Replies::new(alloc),
             duplicates: 0,
             unkept: 0,
