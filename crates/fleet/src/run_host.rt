@@ -56,10 +56,10 @@ impl Runs for Host<'_, HostRuntime> {
 
 /// Serves a fleet that others serve as well. Where another start was faster with the same number, or made the fleet, it
 /// begins anew: it has answered nobody yet.
-fn serve_shared<'a, L: Log>(
+fn serve_shared<'a, 'n, L: Log>(
     place: &mut Place<'a, L>,
-    first: Member<SharedLog<'a, L>>,
-    redis: &RedisOptions<'a>,
+    first: Member<SharedLog<'a, 'n, L>>,
+    redis: &RedisOptions<'n>,
     options: &RunOptions<'_>,
 ) -> Result<(), RunningFault> {
     let mut member = first;

@@ -22,17 +22,17 @@ const PAUSE: u64 = 100;
 const LOGIN_ROOM: usize = 1_024;
 
 /// A log over the stream, which is timed.
-pub(crate) type SharedLog<'a, L> = Timed<
-    RedisLog<TcpRedis<'a, HostRuntime, L>>,
+pub(crate) type SharedLog<'a, 'n, L> = Timed<
+    RedisLog<TcpRedis<'a, 'n, HostRuntime, L>>,
     SystemStopwatch<'a, HostRuntime>,
 >;
 
 /// A member of the fleet that the stream has. Where Redis is away it is asked again, for ten seconds.
-pub(crate) fn begin_shared<'a, L: Log>(
+pub(crate) fn begin_shared<'a, 'n, L: Log>(
     host: &'a HostRuntime,
     log: &'a L,
-    options: &RedisOptions<'a>,
-) -> Result<Member<SharedLog<'a, L>>, RunningFault> {
+    options: &RedisOptions<'n>,
+) -> Result<Member<SharedLog<'a, 'n, L>>, RunningFault> {
     let waited = stopwatch(host)?;
     for _attempt in 0..u64::MAX {
         match try_begin(host, log, options)? {
@@ -53,11 +53,11 @@ pub(crate) fn begin_shared<'a, L: Log>(
     Err(RunningFault::RedisAway)
 }
 
-fn try_begin<'a, L: Log>(
+fn try_begin<'a, 'n, L: Log>(
     host: &'a HostRuntime,
     log: &'a L,
-    options: &RedisOptions<'a>,
-) -> Result<Result<Member<SharedLog<'a, L>>, MemberFault>, RunningFault> {
+    options: &RedisOptions<'n>,
+) -> Result<Result<Member<SharedLog<'a, 'n, L>>, MemberFault>, RunningFault> {
     let login = match options.login_file {
         None => None,
         Some(path) => Some(login_of_file(host, path)?),

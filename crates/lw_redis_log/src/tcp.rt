@@ -11,17 +11,17 @@ const CONNECTING: u64 = 1_000;
 
 /// A Redis at a host and a port, a clock and a log.
 #[derive(Drop)]
-pub struct TcpRedis<'a, R: Net + Clock, L: Log> {
+pub struct TcpRedis<'a, 'n, R: Net + Clock, L: Log> {
     runtime: &'a R,
     log: &'a L,
-    host: &'a str,
+    host: &'n str,
     port: u16,
     began: Option<Instant>,
 }
 
-impl<'a, R: Net + Clock, L: Log> TcpRedis<'a, R, L> {
+impl<'a, 'n, R: Net + Clock, L: Log> TcpRedis<'a, 'n, R, L> {
     /// The Redis of a host, which is a name or an IP address.
-    pub fn new(runtime: &'a R, log: &'a L, host: &'a str, port: u16) -> TcpRedis<'a, R, L> {
+    pub fn new(runtime: &'a R, log: &'a L, host: &'n str, port: u16) -> TcpRedis<'a, 'n, R, L> {
         TcpRedis {
             runtime,
             log,
@@ -39,7 +39,7 @@ impl<'a, R: Net + Clock, L: Log> TcpRedis<'a, R, L> {
     }
 }
 
-impl<R: Net + Clock, L: Log> Connects for TcpRedis<'_, R, L> {
+impl<R: Net + Clock, L: Log> Connects for TcpRedis<'_, '_, R, L> {
     type Connection = R::Stream;
 
     /// The first address that answers.
