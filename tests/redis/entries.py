@@ -43,8 +43,8 @@ def garbage(scene):
         strange = (("e", ""), ("e", os.urandom(2_000)), ("e", b"a" * 1_000_000), ("e", sound + b"\0"))
         added = {appends(redis, *fields).decode() for fields in (*cut, *foreign, *strange)}
         is_soon(lambda: all(passed_over(it) == added for it in servers), SPREAD)
-        found = [passed_over(it) ^ added for it in servers]
-        scene.holds("entries that servers pass over, and tell nothing of, or the other way", found, [set()] * 3)
+        unlike = [passed_over(it) ^ added for it in servers]
+        scene.holds("entries that servers pass over, and tell nothing of, or the other way", unlike, [set()] * 3)
         scene.all_know("entries that are none", redis.address, servers, found.known, found.removed)
         appends(redis, "e", "garbage", key="foreign")
         with scene.sharer(redis.address, "--stream", "foreign") as server:
@@ -72,7 +72,7 @@ def fleets(scene):
 
 
 def numbers(scene):
-    """Where another start has the number that a server chose, it ends before it has answered; others go on."""
+    """Where another start has the number that a server chose, it draws another before it answers; others go on."""
     with scene.redis() as redis, scene.sharing(redis.address) as first, Client(first.port) as client:
         known = identifiers([client.ask(register("first"))])
         with scene.sharing(redis.address) as second, Client(second.port) as other:
@@ -80,9 +80,18 @@ def numbers(scene):
             entry[NUMBER], entry[TAG] = struct.pack("!H", second.number), os.urandom(8)
             appends(redis, "e", bytes(entry))
             other.say(spelled(register("second"), 1, b"a"))
-            scene.holds("the end of a server whose number is taken", second.ends(SOON), (1, "number taken"))
-            scene.holds("what it has answered", other.hear(0.1), None)
-        scene.all_know("a number that was taken", redis.address, [first], known)
+            is_soon(lambda: len(numbers_of(second)) > 1, SPREAD)
+            drawn = numbers_of(second)
+            scene.holds("numbers that a server drew whose first was taken", (len(drawn), len(set(drawn))), (2, 2))
+            scene.holds("what it has answered before", other.hear(0.1), None)
+            known += identifiers([other.ask(register("third"))])
+            scene.holds("what it answers then", len(known), 2)
+            scene.all_know("a number that was taken", redis.address, [first, second], known)
+
+
+def numbers_of(server):
+    """The numbers under which a server has told that it serves."""
+    return re.findall(r"serving address=\S+ number=(\d+) ", server.errors())
 
 
 def newer(scene):
