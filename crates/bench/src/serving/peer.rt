@@ -100,10 +100,20 @@ pub(super) fn clients<R: Net>(
     servers: &[u16],
 ) -> Result<Vec<Client>, BenchFault> {
     let mut clients = Vec::new(alloc);
-    for (number, server) in (0..CLIENTS).zip(servers.iter().cycle()) {
-        clients.push(Client::new(rt, b'0' + number, *server)?)?;
+    for number in 0..CLIENTS {
+        let server = server_of(servers, number)?;
+        clients.push(Client::new(rt, b'0' + number, server)?)?;
     }
     Ok(clients)
+}
+
+/// The server that a client asks.
+fn server_of(servers: &[u16], client: u8) -> Result<u16, BenchFault> {
+    let place = usize::from(client).checked_rem(servers.len());
+    match place.and_then(|place| servers.get(place)) {
+        Some(server) => Ok(*server),
+        None => Err(BenchFault::Unexpected),
+    }
 }
 
 /// Has each client ask on a thread of its own.

@@ -172,6 +172,14 @@ fn takes<C: HostClock + Drop>(
     Ok(server.take(batch)?)
 }
 
+/// Whether there is this reply and no other.
+fn is_reply(sends: &[(Addr, Vec<u8>)], want: &[u8]) -> bool {
+    match sends {
+        [(_, reply)] => reply.as_slice() == want,
+        _ => false,
+    }
+}
+
 /// Fails where something else is sent for one datagram.
 fn answers<C: HostClock + Drop>(
     alloc: Global,
@@ -180,8 +188,64 @@ fn answers<C: HostClock + Drop>(
     want: &[u8],
 ) -> Result<(), Fail> {
     let sends = takes(alloc, server, bytes)?;
-    let is_so = sends.len() == 1 && sends.iter().all(|(_, reply)| reply.as_slice() == want);
-    holds_for(&want, is_so)
+    holds_for(&want, is_reply(&sends, want))
+}
+
+/// A datagram, and behind it: how many blocks have come, what is measured of bodies, and the links that are shown.
+type Shown = (&'static str, u64, &'static str, &'static str);
+
+const SHOWN: [Shown; 6] = [
+    (FIRST, 1, "fleet_bodies 1", "[]"),
+    (SECOND, 2, "fleet_bodies 1", "[]"),
+    (
+        THIRD,
+        3,
+        "fleet_bodies 0",
+        "</1/0>,</3/0>,</4/0>,</5/0>,</6/0>,</7>",
+    ),
+    (
+        UPDATE_FIRST,
+        4,
+        "fleet_bodies 1",
+        "</1/0>,</3/0>,</4/0>,</5/0>,</6/0>,</7>",
+    ),
+    (UPDATE_SECOND, 5, "fleet_bodies 0", "</1/0>,</3/0>,</5>"),
+    (PING, 5, "fleet_bodies 0", "</1/0>,</3/0>,</5>"),
+];
+
+/// All that are registered.
+const EVERYONE: Asked = Asked::Registrations {
+    after: None,
+    limit: 10,
+};
+
+/// Fails where what is told does not have the text.
+fn tells<D: Desk>(desk: &D, asked: &Asked, text: &str) -> Result<(), Fail> {
+    let body = desk.answer(asked)?.body;
+    holds(text, body.as_str().contains(text))
+}
+
+/// Fails where a datagram is not followed by what is to be shown.
+fn shows<C: HostClock + Drop>(
+    alloc: Global,
+    server: &mut Server<MemoryLog, C>,
+    shown: Shown,
+) -> Result<(), Fail> {
+    let (datagram, blocks, bodies, links) = shown;
+    takes(alloc, server, &hex::decode(alloc, datagram)?)?;
+    holds_for(&blocks, server.blocks() == blocks)?;
+    tells(server, &Asked::Metrics, bodies)?;
+    tells(server, &EVERYONE, links)
+}
+
+fn shows_all<C: HostClock + Drop>(
+    alloc: Global,
+    server: &mut Server<MemoryLog, C>,
+) -> Result<(), Fail> {
+    for shown in SHOWN {
+        shows(alloc, server, shown)?;
+    }
+    Ok(())
 }
 
 /// What is shown is the body whole, of the Register and then of the Update. The blocks are counted, and the body that is
@@ -189,39 +253,8 @@ fn answers<C: HostClock + Drop>(
 /// Tries: lw_run::Server::take, lw_run::Server::blocks, lw_target::Desk::answer
 #[test]
 fn a_body_is_shown_whole(rt: HostRuntime) -> Result<(), Fail> {
-    let alloc = rt.alloc();
-    let mut server = new_server(alloc)?;
-    for (datagram, blocks, bodies, links) in [
-        (FIRST, 1, "fleet_bodies 1", "[]"),
-        (SECOND, 2, "fleet_bodies 1", "[]"),
-        (
-            THIRD,
-            3,
-            "fleet_bodies 0",
-            "</1/0>,</3/0>,</4/0>,</5/0>,</6/0>,</7>",
-        ),
-        (
-            UPDATE_FIRST,
-            4,
-            "fleet_bodies 1",
-            "</1/0>,</3/0>,</4/0>,</5/0>,</6/0>,</7>",
-        ),
-        (UPDATE_SECOND, 5, "fleet_bodies 0", "</1/0>,</3/0>,</5>"),
-        (PING, 5, "fleet_bodies 0", "</1/0>,</3/0>,</5>"),
-    ] {
-        let bytes = hex::decode(alloc, datagram)?;
-        takes(alloc, &mut server, &bytes)?;
-        holds_for(&blocks, server.blocks() == blocks)?;
-        let measures = server.answer(&Asked::Metrics)?.body;
-        holds(bodies, measures.as_str().contains(bodies))?;
-        let asked = Asked::Registrations {
-            after: None,
-            limit: 10,
-        };
-        let shown = server.answer(&asked)?.body;
-        holds(shown.as_str(), shown.as_str().contains(links))?;
-    }
-    Ok(())
+    let mut server = new_server(rt.alloc())?;
+    shows_all(rt.alloc(), &mut server)
 }
 
 /// The block of a Register of `a` that has the number, 1,024 bytes, and others behind it.
@@ -241,13 +274,19 @@ fn block_of(alloc: Global, number: u8) -> Result<Vec<u8>, Fail> {
 /// Tries: lw_run::Server::take
 #[test]
 fn a_body_may_be_too_large(rt: HostRuntime) -> Result<(), Fail> {
-    let alloc = rt.alloc();
-    let mut server = new_server(alloc)?;
+    let mut server = new_server(rt.alloc())?;
+    refuses_the_eighth(rt.alloc(), &mut server)
+}
+
+fn refuses_the_eighth<C: HostClock + Drop>(
+    alloc: Global,
+    server: &mut Server<MemoryLog, C>,
+) -> Result<(), Fail> {
     for number in 0..7u8 {
         let value = number.saturating_mul(16).saturating_add(8 + 6);
         let want = [0x60, 0x5f, 0x00, number, 0xd1, 0x0e, value];
-        answers(alloc, &mut server, &block_of(alloc, number)?, &want)?;
+        answers(alloc, server, &block_of(alloc, number)?, &want)?;
     }
     let want = [0x60, 0x8d, 0x00, 0x07, 0xd2, 0x2f, 0x20, 0x00];
-    answers(alloc, &mut server, &block_of(alloc, 7)?, &want)
+    answers(alloc, server, &block_of(alloc, 7)?, &want)
 }

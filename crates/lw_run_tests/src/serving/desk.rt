@@ -43,32 +43,60 @@ fn tells<D: Desk>(desk: &D, asked: &Asked, status: Status, body: &str) -> Result
     Err(Fail::new(format_args!("{text} and not {body}")))
 }
 
-const SERVING: &str = r#"{"now":1000,"status":"serving","version":"0.1.0"}"#;
+/// What a server tells of its health and of its node, and by which status.
+struct Told {
+    status: Status,
+    health: &'static str,
+    node: &'static str,
+}
 
-const AWAY: &str = r#"{"now":1000,"status":"away","version":"0.1.0"}"#;
+const NEW: Told = Told {
+    status: Status::Ok,
+    health: r#"{"now":0,"status":"serving","version":"0.1.0"}"#,
+    node: r#"{"change":0,"counter":0,"number":null,"registrations":0,"start":"0000000000000009"}"#,
+};
 
-const NEW: &str =
-    r#"{"change":0,"counter":0,"number":null,"registrations":0,"start":"0000000000000009"}"#;
+const ONE: Told = Told {
+    status: Status::Ok,
+    health: r#"{"now":1000,"status":"serving","version":"0.1.0"}"#,
+    node: r#"{"change":1,"counter":1,"number":1,"registrations":1,"start":"0000000000000009"}"#,
+};
 
-const ONE: &str =
-    r#"{"change":1,"counter":1,"number":1,"registrations":1,"start":"0000000000000009"}"#;
+const AWAY: Told = Told {
+    status: Status::ServiceUnavailable,
+    health: r#"{"now":1000,"status":"away","version":"0.1.0"}"#,
+    node: r#"{"error":"away"}"#,
+};
+
+/// Fails where something else is told.
+fn is_told<D: Desk>(desk: &D, told: &Told) -> Result<(), Fail> {
+    tells(desk, &Asked::Health, told.status, told.health)?;
+    tells(desk, &Asked::Node, told.status, told.node)
+}
+
+/// Fails where a turn with a Register has replies or not, unlike this, or where something else is told behind it.
+fn is_told_after_a_turn<C: HostClock + Drop>(
+    alloc: Global,
+    server: &mut Server<MemoryLog, C>,
+    replies: bool,
+    told: &Told,
+) -> Result<(), Fail> {
+    holds("replies", takes(alloc, server)? == replies)?;
+    is_told(server, told)
+}
 
 /// Tries: lw_target::Desk::answer, lw_print::health_text, lw_print::node_text, Server::new
 #[test]
 fn a_new_server_is_asked(rt: HostRuntime) -> Result<(), Fail> {
     let server = server_over(rt.alloc(), MemoryLog::new(rt.alloc()))?;
-    let begun = r#"{"now":0,"status":"serving","version":"0.1.0"}"#;
-    tells(&server, &Asked::Health, Status::Ok, begun)?;
-    tells(&server, &Asked::Node, Status::Ok, NEW)
+    is_told(&server, &NEW)
 }
 
 /// Tries: lw_target::Desk::answer, lw_print::node_text, Server::take
 #[test]
 fn a_server_that_has_a_registration_is_asked(rt: HostRuntime) -> Result<(), Fail> {
     let mut server = server_over(rt.alloc(), MemoryLog::new(rt.alloc()))?;
-    holds("replies", takes(rt.alloc(), &mut server)?)?;
-    tells(&server, &Asked::Health, Status::Ok, SERVING)?;
-    tells(&server, &Asked::Node, Status::Ok, ONE)
+    is_told_after_a_turn(rt.alloc(), &mut server, true, &ONE)
 }
 
 /// Tries: lw_target::Desk::answer
@@ -78,10 +106,7 @@ fn nothing_is_told_that_the_log_does_not_lead(rt: HostRuntime) -> Result<(), Fai
     // The claim of its number is written, and what the Register does is not.
     log.fail_after(1, false);
     let mut server = server_over(rt.alloc(), log)?;
-    holds("no replies", !takes(rt.alloc(), &mut server)?)?;
-    tells(&server, &Asked::Health, Status::ServiceUnavailable, AWAY)?;
-    let away = r#"{"error":"away"}"#;
-    tells(&server, &Asked::Node, Status::ServiceUnavailable, away)
+    is_told_after_a_turn(rt.alloc(), &mut server, false, &AWAY)
 }
 
 /// Tries: lw_target::Desk::answer, Server::new
@@ -92,13 +117,16 @@ fn a_page_is_told_also_while_the_log_is_away(rt: HostRuntime) -> Result<(), Fail
     log.fail_after(1, false);
     let page = String::from_str(alloc, "<p>é")?;
     let mut server = server_with(alloc, log, Some(page))?;
-    tells(&server, &Asked::Page, Status::Ok, "<p>é")?;
+    shows_page(&server)?;
     holds("no replies", !takes(alloc, &mut server)?)?;
-    tells(&server, &Asked::Page, Status::Ok, "<p>é")?;
-    holds(
-        "as a page",
-        server.answer(&Asked::Page)?.media == Media::Html,
-    )
+    shows_page(&server)
+}
+
+/// Fails where something else is told than the page, as HTML.
+fn shows_page<D: Desk>(desk: &D) -> Result<(), Fail> {
+    let answer = desk.answer(&Asked::Page)?;
+    holds("as a page", answer.media == Media::Html)?;
+    tells(desk, &Asked::Page, Status::Ok, "<p>é")
 }
 
 /// Tries: lw_target::Desk::answer, Server::new
@@ -120,9 +148,18 @@ fn measures<D: Desk>(desk: &D, line: &str) -> Result<(), Fail> {
 fn turns_are_counted(rt: HostRuntime) -> Result<(), Fail> {
     let mut server = server_over(rt.alloc(), MemoryLog::new(rt.alloc()))?;
     holds("replies", takes(rt.alloc(), &mut server)?)?;
-    measures(&server, "fleet_rounds_total 1\n")?;
-    measures(&server, "fleet_datagrams_total 1\n")?;
-    measures(&server, "fleet_replies_total{code=\"2.01\"} 1\n")?;
-    measures(&server, "fleet_registrations 1\n")?;
-    measures(&server, "fleet_log_away 0\n")
+    measures_all(&server)
+}
+
+fn measures_all<D: Desk>(desk: &D) -> Result<(), Fail> {
+    for line in [
+        "fleet_rounds_total 1\n",
+        "fleet_datagrams_total 1\n",
+        "fleet_replies_total{code=\"2.01\"} 1\n",
+        "fleet_registrations 1\n",
+        "fleet_log_away 0\n",
+    ] {
+        measures(desk, line)?;
+    }
+    Ok(())
 }
