@@ -50,24 +50,45 @@ fn holds_use(
 
 const NONE: [u64; 14] = [0; 14];
 
-/// Appends of 400 microseconds, of 3 milliseconds, and of 6 seconds.
+/// An append of 500 microseconds at most.
+const ONE: [u64; 14] = [1, 0, 0, 0, 0, 0, 0, 0, 0, 0, 0, 0, 0, 0];
+
+/// An append of 400 microseconds, one of 3 milliseconds, and one of 6 seconds.
+const COUNTS: [u64; 14] = [1, 0, 0, 1, 0, 0, 0, 0, 0, 0, 0, 0, 0, 1];
+
+/// Three entries are appended: where the first stands.
+fn three_are_timed<G: DeltaLog + Metered>(log: &mut G) -> Result<Position, Fail> {
+    holds_use(log.log_use(), NONE, 0, [0, 0])?;
+    let first = log.append(b"one")?;
+    log.append(b"two")?;
+    log.append(b"three")?;
+    holds_use(log.log_use(), COUNTS, 6_003_400, [3, 0])?;
+    Ok(first)
+}
+
+/// Fails where a reading above the position gives another count.
+fn reads<G: DeltaLog>(log: &mut G, after: Option<Position>, count: usize) -> Result<(), Fail> {
+    let page = log.read(after)?;
+    holds_for(&count, page.len() == count)
+}
+
+/// What is read is counted, also behind a trim.
+fn three_are_counted<G: DeltaLog + Metered>(log: &mut G, first: Position) -> Result<(), Fail> {
+    reads(log, None, 3)?;
+    reads(log, Some(first), 2)?;
+    holds_use(log.log_use(), COUNTS, 6_003_400, [3, 5])?;
+    log.trim(first)?;
+    reads(log, None, 2)?;
+    holds_use(log.log_use(), COUNTS, 6_003_400, [3, 7])
+}
+
 /// Tries: lw_run::Timed::new, lw_log::DeltaLog::append, lw_log::DeltaLog::read, lw_run::Metered::log_use
 #[test]
 fn appends_are_timed_and_entries_counted(rt: HostRuntime) -> Result<(), Fail> {
     let readings = [100, 500, 1_000, 4_000, 10_000, 6_010_000].map(Some);
     let mut log = Timed::new(MemoryLog::new(rt.alloc()), Readings::new(&readings));
-    holds_use(log.log_use(), NONE, 0, [0, 0])?;
-    let first = log.append(b"one")?;
-    log.append(b"two")?;
-    log.append(b"three")?;
-    let counts = [1, 0, 0, 1, 0, 0, 0, 0, 0, 0, 0, 0, 0, 1];
-    holds_use(log.log_use(), counts, 6_003_400, [3, 0])?;
-    holds("all three", log.read(None)?.len() == 3)?;
-    holds("two of them", log.read(Some(first))?.len() == 2)?;
-    holds_use(log.log_use(), counts, 6_003_400, [3, 5])?;
-    log.trim(first)?;
-    holds("two are left", log.read(None)?.len() == 2)?;
-    holds_use(log.log_use(), counts, 6_003_400, [3, 7])
+    let first = three_are_timed(&mut log)?;
+    three_are_counted(&mut log, first)
 }
 
 /// Tries: lw_log::DeltaLog::append, lw_run::Metered::log_use
@@ -77,13 +98,12 @@ fn an_append_that_fails_is_timed_and_not_counted_as_written(rt: HostRuntime) -> 
     let mut inner = MemoryLog::new(rt.alloc());
     inner.fail_after(0, false);
     let mut log = Timed::new(inner, Readings::new(&readings));
+    fails_timed(&mut log)
+}
+
+fn fails_timed<G: DeltaLog + Metered>(log: &mut G) -> Result<(), Fail> {
     holds("it fails", log.append(b"one").is_err())?;
-    holds_use(
-        log.log_use(),
-        [1, 0, 0, 0, 0, 0, 0, 0, 0, 0, 0, 0, 0, 0],
-        7,
-        [0, 0],
-    )
+    holds_use(log.log_use(), ONE, 7, [0, 0])
 }
 
 /// A clock that tells nothing, and one that goes back.
@@ -94,16 +114,15 @@ fn a_time_that_is_not_told_is_not_counted(rt: HostRuntime) -> Result<(), Fail> {
         MemoryLog::new(rt.alloc()),
         Readings::new(&[None, Some(5), Some(5), None, Some(9), Some(8)]),
     );
+    only_the_third_is_timed(&mut log)
+}
+
+fn only_the_third_is_timed<G: DeltaLog + Metered>(log: &mut G) -> Result<(), Fail> {
     log.append(b"one")?;
     log.append(b"two")?;
     holds_use(log.log_use(), NONE, 0, [2, 0])?;
     log.append(b"three")?;
-    holds_use(
-        log.log_use(),
-        [1, 0, 0, 0, 0, 0, 0, 0, 0, 0, 0, 0, 0, 0],
-        0,
-        [3, 0],
-    )
+    holds_use(log.log_use(), ONE, 0, [3, 0])
 }
 
 /// Whether nobody else appends is what the log under it tells.
