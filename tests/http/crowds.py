@@ -16,7 +16,7 @@ HEALTH = spelled("/v1/health")
 # how many seconds a visit has, and how much later its end may be seen
 VISIT, LATER = 5.0, 2.0
 SEATS, IDLE = 16, 40
-DATAGRAMS, VISITORS, LEAST_ANSWERS = 5_000, 4, 1_000
+DATAGRAMS, VISITORS, LEAST_ANSWERS = 5_000, 16, 1_000
 FLOOD = 3.0
 # 64 lists of some 7 KB are a page of nearly half a megabyte
 VERY_LONG_LIST = b",".join(b"</%d/0>;title=some-more-bytes" % number for number in range(1000, 1220))
