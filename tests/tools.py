@@ -5,7 +5,8 @@ import re
 import shutil
 import subprocess
 
-CLIENTS = ("coap-client", "coap-client-notls", "coap-client-openssl", "coap-client-gnutls")
+KINDS = ("", "-notls", "-openssl", "-gnutls")
+CLIENTS, SERVERS = (tuple(f"{name}{kind}" for kind in KINDS) for name in ("coap-client", "coap-server"))
 
 
 def tool(names, package):
@@ -28,6 +29,11 @@ def tool(names, package):
 def real_client():
     """The path of libcoap's client, or none."""
     return tool(CLIENTS, "libcoap3-bin")
+
+
+def real_device():
+    """The path of libcoap's server, or none."""
+    return tool(SERVERS, "libcoap3-bin")
 
 
 def asked_by_client(client, words, port, path):

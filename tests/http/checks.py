@@ -1,5 +1,6 @@
 """What checks of HTTP have in common: servers, devices that have registered, and what is told of them."""
 
+import re
 import time
 
 from coap import register
@@ -12,6 +13,12 @@ VERSION = "0.1.0"
 
 def milliseconds():
     return time.time_ns() // 1_000_000
+
+
+def start_of(server):
+    """The tag of the start, as the server tells it."""
+    found = re.search(r'"start":"([0-9a-f]{16})"', ask(server.visited, "/v1/node").body.decode())
+    return found.group(1) if found else "none"
 
 
 class Shown:

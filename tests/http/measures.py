@@ -105,9 +105,18 @@ MEASURED = {
     "fleet_duplicates_total": 0,
     "fleet_blocks_total": 0,
     "fleet_bodies": 0,
+    "fleet_requests_sent_total": 0,
+    "fleet_requests_sent_again_total": 0,
+    "fleet_requests_reset_total": 0,
+    "fleet_requests_unanswered_total": 0,
+    "fleet_requests_waiting": 0,
+    "fleet_notifications_stale_total": 0,
+    "fleet_notification_blocks_total": 0,
+    "fleet_notification_fetches": 0,
+    "fleet_replies_unnumbered_total": 0,
 }
 # every status that a server gives
-STATUSES = (200, 400, 401, 404, 405, 410, 413, 414, 421, 431, 500, 501, 503)
+STATUSES = (200, 201, 204, 400, 401, 403, 404, 405, 410, 413, 414, 421, 431, 500, 501, 503)
 # the bounds of a histogram, in seconds
 BOUNDS = ("0.0005", "0.001", "0.002", "0.005", "0.01", "0.02", "0.05", "0.1", "0.2", "0.5", "1", "2", "5", "+Inf")
 APPENDS = "fleet_log_append_seconds"

@@ -24,10 +24,10 @@ NO_LIMIT, NO_AFTER, NO_SINCE, NO_START = map(bad, ("limit", "after", "since", "s
 ALONE = ("/", "/v1/health", "/v1/node", "/metrics")
 LISTS = ("/v1/registrations", "/v1/changes")
 ONES = ("/v1/registrations/a", f"/v1/ids/{ID}", "/v1/addresses/127.0.0.1:1", f"/v1/tokens/{ID}")
-OBSERVED = "/v1/registrations/a/observations"
-ALL = (*ALONE, *LISTS, *ONES, OBSERVED)
+OBSERVED, NOTIFIED = "/v1/registrations/a/observations", "/v1/notifications"
+ALL = (*ALONE, *LISTS, NOTIFIED, *ONES, OBSERVED)
 # those that are told to whoever brings the token alone
-GUARDED = ("/v1/node", "/metrics", *LISTS, *ONES, OBSERVED)
+GUARDED = ("/v1/node", "/metrics", *LISTS, NOTIFIED, *ONES, OBSERVED)
 METHODS = ("POST", "PUT", "DELETE", "PATCH", "OPTIONS", "TRACE", "BREW", "get")
 
 

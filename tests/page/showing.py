@@ -17,6 +17,11 @@ HEADS = "[...document.querySelectorAll('thead th')].map(it => it.textContent)"
 ROWS = "[...document.querySelectorAll('tbody tr')].map(row => [...row.cells].map(it => it.textContent))"
 ELEMENTS = "document.querySelectorAll('*').length"
 LISTS = "[...document.querySelectorAll('dl')].map(list => [...list.children].map(it => it.textContent))"
+DEVICES = "[...document.querySelectorAll('#device option')].map(it => it.value)"
+DONE = "document.querySelector('#done')?.textContent ?? ''"
+WATCHES = "[...document.querySelectorAll('#watches li span')].map(it => it.textContent)"
+NOTICES = "[...document.querySelectorAll('#notices li')].map(item => [...item.children].map(it => it.textContent))"
+HEARD = "document.querySelector('#heard')?.textContent ?? ''"
 IS_SHOWN = "document.querySelector('%s').checkVisibility()"
 PUT_FOCUS = "document.querySelector('%s').focus()"
 PRESS = "[...document.querySelectorAll('button')].find(it => it.textContent == '%s').click()"
@@ -69,6 +74,15 @@ def rows_of(tab):
 def lists_of(tab):
     """The counters that are shown, by their names."""
     return {text: cells[at + 1] for cells in tab.value(LISTS) for at, text in enumerate(cells) if not at % 2}
+
+
+def orders(tab, path, accept=""):
+    """Types what is to be observed, and has it observed by the keyboard."""
+    for field, words in (("#path", path), ("#accept", accept)):
+        tab.value(PUT_FOCUS % field)
+        tab.value(f"document.querySelector('{field}').value = ''")
+        tab.types(words)
+    tab.presses("Enter")
 
 
 def searches(tab, words):

@@ -1,4 +1,7 @@
-"""A server that tells what the program rarely does, written by hand from docs/HTTP.md: away, gone, silent, refusing."""
+"""A server that tells what the program rarely does, written by hand from docs/HTTP.md: away, gone, silent, refusing.
+
+It also has more notifications than devices of a test would tell.
+"""
 
 import contextlib
 import http.server
@@ -25,6 +28,11 @@ def registration(endpoint, lifetime, seen):
     return {**members, **further}
 
 
+def notice(payload=b"", code=69, ended=False, content_format=None, observe=None):
+    members = {"code": code, "content_format": content_format, "ended": ended, "endpoint": "lamp", "id": START}
+    return {**members, "observe": observe, "path": "/3/0", "payload": payload.hex(), "token": START}
+
+
 class Stub:
     """It listens on the loopback until it is left. What it tells is changed by whoever tries a page on it."""
 
@@ -32,6 +40,8 @@ class Stub:
         self.mode, self.start, self.now, self.datagrams = "serving", START, 1_000_000, 0
         # each change is an endpoint with its registration or none; its number is its place, counted from 1
         self.changes, self.asked = [], []
+        # the number of the first notification that is kept, and those that are: whether each is complete, and its notice
+        self.first, self.notices = 0, []
         self.server = http.server.ThreadingHTTPServer(("127.0.0.1", 0), self.handler())
         self.visited = self.server.server_address
 
@@ -88,7 +98,21 @@ class Stub:
         if path == "/v1/node":
             counts = {"change": len(self.changes), "counter": 1, "number": 7, "registrations": len(self.changes)}
             return 200, {**counts, "start": self.start}
+        if path == "/v1/notifications":
+            return self.notices_from(int(query["from"]), query["start"], int(query["limit"]))
+        if path.endswith("/observations"):
+            return 200, {"next": None, "observations": []}
         return self.changes_behind(int(query["since"]), query.get("start"), int(query["limit"]))
+
+    def notices_from(self, begin, start, limit):
+        """Those from a number on; where they are no longer kept, the first that is."""
+        if start != self.start:
+            return 410, {"error": "gone"}
+        if begin < self.first:
+            return 410, {"error": "gone", "first": self.first}
+        told = list(enumerate(self.notices, self.first))[begin - self.first :][:limit]
+        members = [{"complete": complete, "notice": it, "number": number} for number, (complete, it) in told]
+        return 200, {"next": begin + len(told), "notifications": members, "start": self.start}
 
     def changes_behind(self, since, start, limit):
         """Those from a number on; an endpoint that has changed again is told later."""

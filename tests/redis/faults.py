@@ -1,13 +1,15 @@
 """A Redis that is away, comes back, or has lost what it was told."""
 
 import contextlib
+import json
 import signal
 import socket
 import threading
 import time
 
 from asking import Client, codes_of, identifiers
-from coap import deregister, register, update
+from coap import OBSERVE, deregister, register, update
+from devices import Observed, cancel, notices, observations, observe, token_of
 from scenes import SOON, is_answered, is_soon
 from visiting import ask, refused
 
@@ -305,3 +307,48 @@ def sleeper(scene):
         known, removed = [*found.known[10:], *missed], [*found.removed, *found.known[:10]]
         scene.knows("a server that goes on", servers[2], known, removed)
         scene.all_know("a server that has gone on", redis.address, servers, known, removed)
+
+
+def commanded(scene):
+    """A command that comes while Redis is away, or has no room, is answered so, and no request for it is made."""
+    ways = (
+        ("stopped", lambda redis: redis.stop(), lambda redis: redis.goes_on()),
+        ("without room", lambda redis: room(redis, 1), lambda redis: room(redis, 0)),
+        ("killed", lambda redis: redis.kill(), lambda redis: redis.start()),
+    )
+    for what, ends, begins in ways:
+        with scene.redis() as redis, scene.sharing(redis.address, "--http-commands") as server:
+            with Observed(server.port, "lamp") as lamp:
+                token = token_of(observe(server, lamp))
+                lamp.answers(lamp.heard(), b"1", ((OBSERVE, b"\x01"),))
+                notices(server, 1)
+                ends(redis)
+                try:
+                    found = [observe(server, lamp, f"/3/{it}") for it in (1, 2, 1)] + [cancel(server, token)]
+                    scene.holds(f"commands where Redis is {what}", found, [AWAY] * 4)
+                    scene.holds("what the device hears of them", lamp.hears_nothing(1), None)
+                finally:
+                    begins(redis)
+                is_soon(lambda: ask(server.visited, observations(lamp)).status == "200 OK")
+                commanded_again(scene, server, lamp, token)
+
+
+def room(redis, size):
+    redis.ask("CONFIG", "SET", "maxmemory", size)
+
+
+def commanded_again(scene, server, lamp, token):
+    """Once Redis goes on, a command that was refused is given again, and is carried out."""
+    scene.holds("what the device hears once Redis goes on", lamp.hears_nothing(1), None)
+    shown = json.loads(ask(server.visited, observations(lamp)).body)["observations"]
+    scene.holds("observations that the device was not asked for", [it for it in shown if it["token"] != token], [])
+    response = observe(server, lamp, "/3/1")
+    request = lamp.heard()
+    found = response.status, request and request.token.hex()
+    scene.holds("a command that is given again", found, ("201 Created", token_of(response)))
+    lamp.answers(request, b"1", ((OBSERVE, b"\x01"),))
+    response, request = cancel(server, token), lamp.heard(1)
+    found = response.status, request and request.token.hex()
+    scene.holds("an end that is asked for again", found, ("204 No Content", token))
+    shown = json.loads(ask(server.visited, observations(lamp)).body)["observations"]
+    scene.holds("paths that are observed then", [it["path"] for it in shown], ["/3/1"])

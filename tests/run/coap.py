@@ -3,9 +3,10 @@
 import struct
 from typing import NamedTuple
 
-CONFIRMABLE, ACKNOWLEDGEMENT = 0, 2
-POST, DELETE = 0x02, 0x04
-LOCATION_PATH, URI_PATH, CONTENT_FORMAT, URI_QUERY, BLOCK1 = 8, 11, 12, 15, 27
+CONFIRMABLE, NOT_CONFIRMABLE, ACKNOWLEDGEMENT, RESET = 0, 1, 2, 3
+EMPTY, GET, POST, DELETE, CONTENT, NOT_FOUND = 0x00, 0x01, 0x02, 0x04, 0x45, 0x84
+ETAG, OBSERVE, LOCATION_PATH, URI_PATH, CONTENT_FORMAT, URI_QUERY, ACCEPT = 4, 6, 8, 11, 12, 15, 17
+BLOCK2, BLOCK1 = 23, 27
 LINK_FORMAT = b"\x28"
 PING, PONG = bytes.fromhex("40000001"), bytes.fromhex("70000001")
 
@@ -16,6 +17,21 @@ class Request(NamedTuple):
     code: int
     options: tuple
     payload: bytes = b""
+
+
+class Message(NamedTuple):
+    """A message whole, its options as those of a request."""
+
+    kind: int
+    code: int
+    mid: int
+    token: bytes
+    options: tuple = ()
+    payload: bytes = b""
+
+    def option(self, number):
+        """The value of an option, of several the first, or none."""
+        return next((value for it, value in self.options if it == number), None)
 
 
 class Reply(NamedTuple):
@@ -51,9 +67,14 @@ def nibble(number):
     return 14, struct.pack("!H", number - 269)
 
 
-def spelled(request, mid, token):
-    """A request as the bytes of a confirmable message."""
-    parts = [struct.pack("!BBH", 0x40 | CONFIRMABLE << 4 | len(token), request.code, mid), token]
+def unsigned(number):
+    """A number as the value of an option: without bytes 0 before it (RFC 7252, section 3.2)."""
+    return number.to_bytes((number.bit_length() + 7) // 8, "big")
+
+
+def spelled(request, mid, token, kind=CONFIRMABLE):
+    """A request, or what a message tells, as the bytes of a message."""
+    parts = [struct.pack("!BBH", 0x40 | kind << 4 | len(token), request.code, mid), token]
     last = 0
     for number, value in request.options:
         (delta, more), (length, further) = nibble(number - last), nibble(len(value))
@@ -62,6 +83,11 @@ def spelled(request, mid, token):
     if request.payload:
         parts += [b"\xff", request.payload]
     return b"".join(parts)
+
+
+def bytes_of(message):
+    """A message as its bytes."""
+    return spelled(message, message.mid, message.token, message.kind)
 
 
 def taken(bits, message, at):
@@ -73,19 +99,28 @@ def taken(bits, message, at):
     return 269 + struct.unpack_from("!H", message, at)[0], at + 2
 
 
-def read(message):
-    """A reply that its bytes spell, or none."""
-    if len(message) < 4 or message[0] >> 6 != 1:
+def parsed(text):
+    """The message that its bytes spell, or none."""
+    if len(text) < 4 or text[0] >> 6 != 1:
         return None
-    code, mid = struct.unpack_from("!BH", message, 1)
-    at = 4 + (message[0] & 15)
-    token, number, located = message[4:at], 0, ""
-    while at < len(message) and message[at] != 0xFF:
-        head = message[at]
-        delta, at = taken(head >> 4, message, at + 1)
-        length, at = taken(head & 15, message, at)
+    code, mid = struct.unpack_from("!BH", text, 1)
+    at = 4 + (text[0] & 15)
+    token, number, options = text[4:at], 0, []
+    while at < len(text) and text[at] != 0xFF:
+        head = text[at]
+        delta, at = taken(head >> 4, text, at + 1)
+        length, at = taken(head & 15, text, at)
         number += delta
-        if number == LOCATION_PATH:
-            located = message[at : at + length].decode()
+        options.append((number, text[at : at + length]))
         at += length
-    return Reply(f"{code >> 5}.{code & 31:02}", mid, token, located)
+    return Message(text[0] >> 4 & 3, code, mid, token, tuple(options), text[at + 1 :])
+
+
+def read(text):
+    """A reply that its bytes spell, or none."""
+    message = parsed(text)
+    if not message:
+        return None
+    located = [value.decode() for number, value in message.options if number == LOCATION_PATH]
+    code = f"{message.code >> 5}.{message.code & 31:02}"
+    return Reply(code, message.mid, message.token, located[-1] if located else "")

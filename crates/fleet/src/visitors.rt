@@ -5,6 +5,7 @@ use crate::page::page_of_file;
 use log::Log;
 use lw_fleet::{HttpOptions, RunningFault};
 use lw_front::Sockets;
+use lw_target::Commands;
 use lw_visit::{Guard, token_in};
 use std::hash::RandomState;
 use std::net::SocketAddr;
@@ -49,7 +50,11 @@ impl Visitors {
             Some(path) => Some(page_of_file(host, path)?),
         };
         Ok(Visitors {
-            guard: Guard { token, host: name },
+            guard: Guard {
+                token,
+                host: name,
+                commands: commands_of(options),
+            },
             address: options.address,
             page,
         })
@@ -73,6 +78,15 @@ impl Visitors {
             Ok(address) => Ok(Visited { address, page }),
             Err(_) => Err(RunningFault::HttpBindFailed),
         }
+    }
+}
+
+/// Whether requests are taken that change something.
+fn commands_of(options: &HttpOptions<'_>) -> Commands {
+    if options.commands {
+        Commands::On
+    } else {
+        Commands::Off
     }
 }
 

@@ -1,3 +1,4 @@
 pub mod Knowing
 pub mod ChangeLemmas
+pub mod NoticeLemmas
 pub mod WatchLemmas

@@ -24,7 +24,7 @@ use Rattle.lw_print.specs.Json.{registration_json, watch_json, observations_json
 use Rattle.lw_target.specs.declared.asked.Asked.{Asked}
 use Rattle.lw_target.specs.declared.asked.Asked.TheVariants as asked
 use Rattle.lw_target.specs.declared.desk.Answer.{Answer}
-use Rattle.lw_target.specs.declared.desk.Media.TheVariants.{Json}
+use Rattle.lw_target.specs.declared.desk.Media.TheVariants.{Json, Nothing}
 use Rattle.lw_target.specs.declared.desk.Status.{Status}
 use Rattle.lw_target.specs.declared.desk.Status.TheVariants as status
 use Rattle.lw_api.specs.declared.answering.About.{About}
@@ -150,6 +150,17 @@ abbrev pub IsFound : Option (List ℕ) → Answer → Type 0
 IsFound (Some text) answer = IsJson status.Ok text answer
 IsFound None answer = IsNotFound answer
 
+-- the observation that was created, or that it is not found
+abbrev pub IsCreated : Option (List ℕ) → Answer → Type 0
+IsCreated (Some text) answer = IsJson status.Created text answer
+IsCreated None answer = IsNotFound answer
+
+-- that it was done: no body, and so no media type
+pub record IsNoContent (answer : Answer) : Type 0 where
+  pub status_is : answer.status ≡ status.NoContent
+  pub media_is : answer.media ≡ Nothing
+  pub body_is : string_bytes answer.body ≡ []
+
 -- Changes are told to who follows this start, or begins. At the last change number, where one number stands for many,
 -- none are told.
 pub record IsChangesAnswer (node : NodeContent) (about : About) (now since : ℕ) (start : Option ℕ) (limit : ℕ)
@@ -161,7 +172,8 @@ pub record IsChangesAnswer (node : NodeContent) (about : About) (now since : ℕ
   pub ended : (start ≡ None → since ≡ 0) → IfSome start (λ tag. tag ≡ about.tag) → node.table.count.change ≡ LAST
       → IsJson status.ServiceUnavailable (codes "{\"error\":\"no more changes\"}") answer
 
--- The answer of a node to what is asked of it. The page, the measures, and whether the server serves are not.
+-- The answer of a node to what is asked of it. The page, the measures, whether the server serves, and what devices told
+-- are not.
 abbrev pub IsAnswer : NodeContent → About → ℕ → Asked → Answer → Type 0
 IsAnswer node about now (asked.Registrations after limit) answer =
     (text : List ℕ) × TellsPage node.table.state now after limit text × IsJson status.Ok text answer

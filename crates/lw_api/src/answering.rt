@@ -53,7 +53,9 @@ pub fn answer(
             start,
             limit,
         } => changes_answer(alloc, node, about, now, *since, *start, *limit),
-        Asked::Page | Asked::Health | Asked::Metrics => not_found(alloc),
+        Asked::Page | Asked::Health | Asked::Metrics | Asked::Notifications { .. } => {
+            not_found(alloc)
+        }
     }
 }
 
@@ -99,8 +101,15 @@ fn found(alloc: Global, text: Option<String>) -> Result<Answer, NoMemory>
 pub(crate) fn ok(body: String) -> Answer
     ensures { IsJson statuses.Ok (string_bytes body) result }
 {
+    json(Status::Ok, body)
+}
+
+/// The answer that has the status, and the text as its JSON.
+pub(crate) fn json(status: Status, body: String) -> Answer
+    ensures { IsJson status (string_bytes body) result }
+{
     Answer {
-        status: Status::Ok,
+        status,
         media: Media::Json,
         body,
     }
@@ -110,18 +119,14 @@ pub(crate) fn ok(body: String) -> Answer
 pub fn not_found(alloc: Global) -> Result<Answer, NoMemory>
     ensures { IfOk result IsNotFound }
 {
-    error(alloc, Status::NotFound, r#"{"error":"not found"}"#)
+    refused(alloc, Status::NotFound, r#"{"error":"not found"}"#)
 }
 
-/// The answer that has the text as its JSON, and another status than 200.
-pub(crate) fn error(alloc: Global, status: Status, text: &str) -> Result<Answer, NoMemory>
+/// Why nothing else is told: the status, and the text, which is the JSON of an error.
+pub fn refused(alloc: Global, status: Status, text: &str) -> Result<Answer, NoMemory>
     ensures { IfOk result (IsJson status text.now) }
 {
-    Ok(Answer {
-        status,
-        media: Media::Json,
-        body: String::from_str(alloc, text)?,
-    })
+    Ok(json(status, String::from_str(alloc, text)?))
 }
 
 fn numbers(alloc: Global, node: &Node, about: About) -> Result<Answer, NoMemory>

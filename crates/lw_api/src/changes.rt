@@ -9,7 +9,7 @@ ghost use Rattle.lw_api.specs.inner.Changes.{moved_of, AreShown};
 ghost use Rattle.lw_target.specs.declared.desk.Status.TheVariants as statuses;
 
 use crate::About;
-use crate::answering::{error, ok};
+use crate::answering::{ok, refused};
 use lw_node::Node;
 use lw_print::{Change, ChangePage, changes_text};
 use lw_stamp::{Moment, NoMemory};
@@ -30,8 +30,8 @@ pub(crate) fn changes_answer(
     ensures { IfOk result (IsChangesAnswer node.now about (ms_of now) since start limit) }
 {
     match start {
-        None if since > 0 => error(alloc, Status::BadRequest, r#"{"error":"start"}"#),
-        Some(tag) if tag != about.tag => error(alloc, Status::Gone, r#"{"error":"gone"}"#),
+        None if since > 0 => refused(alloc, Status::BadRequest, r#"{"error":"start"}"#),
+        Some(tag) if tag != about.tag => refused(alloc, Status::Gone, r#"{"error":"gone"}"#),
         _ => changes(alloc, node, about, now, since, limit),
     }
 }
@@ -51,7 +51,7 @@ fn changes(
 {
     match node.table().changes_after(since, limit)? {
         Some(moved) => Ok(ok(text(alloc, node, about, now, since, &moved)?)),
-        None => error(
+        None => refused(
             alloc,
             Status::ServiceUnavailable,
             r#"{"error":"no more changes"}"#,

@@ -1,14 +1,20 @@
-//! What a node tells over HTTP of the registrations that it shows: JSON texts, each the one that is defined over what
-//! the node knows.
+//! What a node tells over HTTP of the registrations that it shows, and what devices told: JSON texts, each the one that
+//! is defined over what is known.
 #![tactic(auto)]
 
 mod answering;
 mod changes;
+mod commands;
 mod look_ups;
+mod notices;
+mod notified;
 mod observing;
 mod pages;
 
-pub use answering::{About, answer, not_found, numbers_of};
+pub use answering::{About, answer, not_found, numbers_of, refused};
+pub use commands::{created, no_content};
 pub use look_ups::{by_address, by_id, by_token, registration};
+pub use notices::{MAX_NOTICES, Noted, Notices};
+pub use notified::notifications;
 pub use observing::observations;
 pub use pages::registrations;

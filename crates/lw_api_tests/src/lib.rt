@@ -2,6 +2,10 @@
 #![tactic(auto)]
 
 #[cfg(test)]
+mod commanded;
+#[cfg(test)]
 mod hold;
+#[cfg(test)]
+mod noted;
 #[cfg(test)]
 mod told;

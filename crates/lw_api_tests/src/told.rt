@@ -4,7 +4,7 @@ use crate::hold::same;
 use lw_api::{About, answer};
 use lw_node::{Addr, Node, Path};
 use lw_stamp::{Moment, Stamp};
-use lw_target::{Answer, Method, Status, asked_of};
+use lw_target::{Answer, Commands, Method, Purpose, Status, purpose_of};
 use std::alloc::Global;
 use std::test::Fail;
 
@@ -20,7 +20,7 @@ const REGISTER: &str = "40020004b272644465703d61ff3c2f3e";
 const REGISTER_B: &str = "40020005b272644465703d62ff3c2f3e";
 
 /// The identifier of the first registration.
-const FIRST: Stamp = Stamp {
+pub(crate) const FIRST: Stamp = Stamp {
     counter: 1,
     node: 1,
 };
@@ -31,7 +31,7 @@ const ABOUT: About = About {
 };
 
 /// When both have expired.
-const LATE: u64 = 86_400_000;
+pub(crate) const LATE: u64 = 86_400_000;
 
 /// When it is asked, for which path, with which query, and what is told.
 type Row<'a> = (u64, &'a str, &'a str, &'a str);
@@ -263,9 +263,10 @@ fn query_of(text: &str) -> Option<&str> {
 fn told(alloc: Global, node: &Node, row: Row<'_>) -> Result<Answer, Fail> {
     let (ms, path, query, _) = row;
     let now = Moment::new(ms).ok_or("a moment")?;
-    match asked_of(alloc, Method::Get, path, query_of(query))? {
-        Ok(asked) => Ok(answer(alloc, node, ABOUT, now, &asked)?),
-        Err(_) => Err(Fail::new("it asks for nothing")),
+    let purpose = purpose_of(alloc, Commands::Off, Method::Get, path, query_of(query))?;
+    match purpose {
+        Ok(Purpose::Question(asked)) => Ok(answer(alloc, node, ABOUT, now, &asked)?),
+        Ok(Purpose::Command(_)) | Err(_) => Err(Fail::new("it asks for nothing")),
     }
 }
 
@@ -297,7 +298,7 @@ fn observes(node: &mut Node, numbers: &[u16], accept: Option<u16>) -> Result<(),
     Ok(())
 }
 
-fn registers(alloc: Global, node: &mut Node) -> Result<(), Fail> {
+pub(crate) fn registers(alloc: Global, node: &mut Node) -> Result<(), Fail> {
     takes(alloc, node, REGISTER)?;
     takes(alloc, node, REGISTER_B)?;
     observes(node, &[3, 0], None)

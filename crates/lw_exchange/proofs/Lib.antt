@@ -5,3 +5,7 @@ pub mod RequestLemmas
 pub mod BodyLemmas
 pub mod TakenLemmas
 pub mod SpelledLemmas
+mod WaitingLemmas
+pub mod MessageIdLemmas
+pub mod FetchLemmas
+pub mod FetchTaken

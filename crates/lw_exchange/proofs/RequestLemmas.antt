@@ -16,7 +16,7 @@ rising_from : (a b : ℕ) (options : List OptionContent) → a ≤ b → AreRisi
 rising_from a b [] le h = tt
 rising_from a b (option ∷ options) le h = (omega (arith, le, h.0), h.1, h.2)
 
-rising_kept : (test : OptionContent → Bool) (before : ℕ) (options : List OptionContent) → AreRising before options
+pub rising_kept : (test : OptionContent → Bool) (before : ℕ) (options : List OptionContent) → AreRising before options
     → AreRising before (filter test options)
 rising_kept test before [] h = tt
 rising_kept test before (option ∷ options) h =

@@ -6,4 +6,9 @@ pub mod BlockAnswers
 pub mod Kept
 pub mod Bodies
 pub mod Spelled
+pub mod MessageIds
+pub mod Sequences
+pub mod Waiting
+pub mod FetchMessages
+pub mod Fetches
 pub mod inner

@@ -1,6 +1,7 @@
 ghost use Rattle.std.specs.Prelude.{◌≡◌, ◌<◌, ◌≤◌, ◌^◌, ◌*◌, ◌↔◌, length, IsNone, IfSome, IfOk};
 ghost use Rattle.lw_coap.specs.Number.{number_of};
 
+use crate::shortest::shortest_bytes;
 use lw_stamp::NoMemory;
 use std::alloc::Global;
 
@@ -16,7 +17,9 @@ pub struct Block {
 
 impl Block {
     ghost use Rattle.lw_exchange.specs.Blocks.{value_of, block_number, has_more, size_exponent, block_size};
-    ghost use Rattle.lw_exchange.specs.Blocks.{block_offset, is_block_of, shortest_bytes};
+    ghost use Rattle.lw_exchange.specs.Blocks.{block_offset, is_block_of};
+    ghost use Rattle.lw_exchange.specs.Blocks.{shortest_bytes as fewest_bytes};
+    ghost use Rattle.lw_exchange.specs.FetchMessages.{value_behind};
 
     /// The block that an option's value stands for. There is none of more than three bytes.
     pub fn read(bytes: &[u8]) -> Option<Block>
@@ -61,6 +64,7 @@ impl Block {
     /// How many bytes a block has that others follow.
     pub(crate) fn size(&self) -> usize
         ensures value { result ≡ block_size (value_of self.now) }
+        ensures above { 16 ≤ result }
         ensures below { result ≤ 2048 }
     {
         match self.exponent() {
@@ -96,20 +100,21 @@ impl Block {
         }
     }
 
+    /// The block that is asked for behind so many bytes, of the size of this one.
+    pub(crate) fn behind(&self, count: usize) -> Block
+        requires { count ≤ 8192 }
+        ensures { value_of result ≡ value_behind (value_of self.now) count }
+    {
+        let number = (count / self.size()) as u32;
+        Block {
+            value: 16 * number + self.exponent(),
+        }
+    }
+
     /// The value in the fewest bytes.
     pub(crate) fn bytes(&self, alloc: Global) -> Result<Vec<u8>, NoMemory>
-        ensures { IfOk result (λ bytes. bytes.items ≡ shortest_bytes (value_of self.now)) }
+        ensures { IfOk result (λ bytes. bytes.items ≡ fewest_bytes (value_of self.now)) }
     {
-        let [_, high, middle, low] = self.value.to_be_bytes();
-        let bytes = if self.value == 0 {
-            Vec::new(alloc)
-        } else if self.value < 256 {
-            Vec::from_slice(alloc, &[low])?
-        } else if self.value < 65536 {
-            Vec::from_slice(alloc, &[middle, low])?
-        } else {
-            Vec::from_slice(alloc, &[high, middle, low])?
-        };
-        Ok(bytes)
+        shortest_bytes(alloc, self.value)
     }
 }

@@ -14,7 +14,7 @@ pub(crate) const BLOCK1: u16 = 27;
 pub(crate) const SIZE1: u16 = 60;
 
 /// The value of the option of the number that has this many of that number before it.
-fn value_at(options: &[CoapOption], number: u16, place: usize) -> Option<&[u8]>
+pub(crate) fn value_at(options: &[CoapOption], number: u16, place: usize) -> Option<&[u8]>
     ensures { option_copied result ≡ slice_get (values_of number options.now) place }
 {
     let mut left = place;

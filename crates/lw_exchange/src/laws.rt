@@ -1,9 +1,11 @@
 //! Laws of replies and of bodies, each the contract of a function that does nothing.
 
-ghost use Rattle.std.specs.Prelude.{◌≡◌, ℕ, List, ◌∷◌, Option, false};
+ghost use Rattle.std.specs.Prelude.{◌≡◌, ◌+◌, ◌<◌, ℕ, List, ◌∷◌, Option, false};
+ghost use Rattle.lw_stamp.specs.Moment.{ms_of};
 ghost use Rattle.lw_stamp.specs.declared.moment.Moment.{Moment};
 ghost use Rattle.lw_reg.specs.declared.addr.Addr.{Addr};
 ghost use Rattle.lw_exchange.specs.declared.exchange.Exchange.{Exchange};
+ghost use Rattle.lw_exchange.specs.MessageIds.{IsGivenTwice};
 ghost use Rattle.lw_exchange.specs.Repeats.{IsRepeatOf};
 ghost use Rattle.lw_exchange.specs.Replies.{replied};
 ghost use Rattle.lw_coap.specs.Message.{MessageContent};
@@ -25,4 +27,11 @@ pub fn bodies_are_spelled()
     ensures whole { (earlier : List Came) (came : Came) (whole : MessageContent) (value : ℕ)
         → outcome (kept_after earlier) came.now came.from came.message ≡ Makes whole value
         → IsSpelled false (came ∷ earlier) (body_of came.now came.from whole) }
+{}
+
+/// Whatever was asked for, at moments that never fall: where an address is given a message ID twice, that is more than
+/// 247 s apart (RFC 7252, sections 4.4 and 4.8.2).
+pub fn message_ids_are_apart()
+    ensures { (start : Moment) (to : Addr) (id : ℕ) (first last : Moment)
+        → IsGivenTwice start to id first last → ms_of first + 247000 < ms_of last }
 {}

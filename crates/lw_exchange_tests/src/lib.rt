@@ -4,8 +4,16 @@
 #[cfg(test)]
 mod bodies;
 #[cfg(test)]
+mod fetches;
+#[cfg(test)]
 mod hold;
+#[cfg(test)]
+mod message_ids;
 #[cfg(test)]
 mod replies;
 #[cfg(test)]
 mod requests;
+#[cfg(test)]
+mod retransmission;
+#[cfg(test)]
+mod sequences;

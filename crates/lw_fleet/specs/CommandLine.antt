@@ -1,6 +1,6 @@
 -- The command line of the program, in the words of `clap`: the command `one` with its three options, `replay`, `serve`
--- with its five, and `run` with its thirteen.
-use Rattle.std.specs.Prelude.{◌≡◌, ◌≢◌, ◌⊎◌, ◌<◌, ◌≤◌, ◌^◌, ◌++◌, ℕ, List, [], ◌∷◌, Option, Some, None, option_copied, option_map, codes, unwrap_or, true, IsSomeAnd}
+-- with its five, and `run` with its fourteen.
+use Rattle.std.specs.Prelude.{◌≡◌, ◌≢◌, ◌⊎◌, ◌↔◌, ◌<◌, ◌≤◌, ◌^◌, ◌++◌, ℕ, List, [], ◌∷◌, Option, Some, None, option_copied, option_map, codes, unwrap_or, true, IsSomeAnd, IsTrue}
 use Rattle.std.specs.Borrow.{Bor}
 use Rattle.std.specs.Net.Addr.{IsLoopbackV4, IsLoopbackV6, MatchIp}
 use Rattle.std.specs.Net.Grammar.{IsIpText, IsSocketText}
@@ -79,12 +79,14 @@ with_redis_options app = with_rule
     (long_option (codes "stream")))
     (long_option (codes "skew"))
 
--- a command with the options `--http`, `--http-token-file`, `--http-host` and `--page`
+-- a command with the options `--http`, `--http-token-file`, `--http-host`, `--http-commands` and `--page`
 abbrev pub with_http_options : App → App
 with_http_options app = with_rule
     (with_rule
+    (with_rule
     (with_rule (with_rule app (long_option (codes "http"))) (long_option (codes "http-token-file")))
     (long_option (codes "http-host")))
+    (flag_option (codes "http-commands")))
     (long_option (codes "page"))
 
 -- `run` with all its options
@@ -205,19 +207,20 @@ IsAddressIfGiven (Some text) (Some address) = IsSocketText text address
 abbrev pub IsGuarded : SocketAddr → Option (Bor Text) → Type 0
 IsGuarded address token_file = MatchIp (socket_ip address) IsLoopbackV4 IsLoopbackV6 ⊎ (token_file ≢ None)
 
--- What is served over HTTP is what was given. Neither a path nor the name is empty, and off the loopback there is a file
--- with a token.
+-- What is served over HTTP is what was given, and commands are taken where `--http-commands` is. Neither a path nor the
+-- name is empty, and off the loopback there is a file with a token.
 pub record IsGivenToHttp (rows : List Row) (http : HttpOptions) : Type 0 where
   pub address : IsAddressIfGiven (first_of (codes "http") rows) (Some http.address)
   pub token_file : IsTextIfGiven (first_of (codes "http-token-file") rows) http.token_file
   pub host : IsTextIfGiven (first_of (codes "http-host") rows) http.host
+  pub commands : IsTrue http.commands ↔ HasFlag (codes "http-commands") rows
   pub page_file : IsTextIfGiven (first_of (codes "page") rows) http.page_file
   pub guarded : IsGuarded http.address http.token_file
 
 -- no option is given that goes with `--http`
 abbrev pub IsWithoutHttp : List Row → Type 0
 IsWithoutHttp rows = (first_of (codes "http-token-file") rows ≡ None) × (first_of (codes "http-host") rows ≡ None)
-    × (first_of (codes "page") rows ≡ None)
+    × (¬ HasFlag (codes "http-commands") rows) × (first_of (codes "page") rows ≡ None)
 
 -- Nothing is served over HTTP where `--http` is not given, and then neither are the options that go with it.
 abbrev pub IsHttp : List Row → Option HttpOptions → Type 0

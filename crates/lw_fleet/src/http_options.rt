@@ -8,7 +8,7 @@ ghost use Rattle.clap.specs.declared.builder.command.Command.TheViews.{out-Comma
 ghost use Rattle.lw_fleet.specs.CommandLine.{option_rows, with_http_options, IsAddressIfGiven, IsGivenToHttp, IsGuarded, IsHttp, IsTextIfGiven, IsWithoutHttp};
 ghost use Rattle.lw_fleet.specs.declared.http_options.HttpOptions.{HttpOptions as Served};
 
-use crate::command::{given_text, option};
+use crate::command::{flag, given_text, has_flag, option};
 use crate::run_options::{BadRunOption, text_in};
 use clap::{ArgMatches, Command};
 use std::alloc::{AllocError, Global};
@@ -23,6 +23,8 @@ pub struct HttpOptions<'a> {
     pub token_file: Option<&'a str>,
     /// The name that requests may be for, beside IP addresses and `localhost`.
     pub host: Option<&'a str>,
+    /// Whether requests are taken that change something.
+    pub commands: bool,
     /// The path of the file that is served as the page at `/`.
     pub page_file: Option<&'a str>,
 }
@@ -54,6 +56,11 @@ pub(crate) fn add_http_options<'a>(
             "http-host",
             "NAME",
             "Name that HTTP requests may be for, beside IP addresses and localhost",
+        ))?
+        .arg(flag(
+            alloc,
+            "http-commands",
+            "Takes POST and DELETE: observations are made and ended",
         ))?
         .arg(option(
             alloc,
@@ -102,12 +109,14 @@ fn refuse_without_http(matches: &ArgMatches<'_>) -> Result<(), BadRunOption>
     match (
         given_text(matches, "http-token-file"),
         given_text(matches, "http-host"),
+        has_flag(matches, "http-commands"),
         given_text(matches, "page"),
     ) {
-        (None, None, None) => Ok(()),
-        (Some(_), _, _) => Err(BadRunOption::TokenFileWithoutHttp),
-        (None, Some(_), _) => Err(BadRunOption::HostWithoutHttp),
-        (None, None, Some(_)) => Err(BadRunOption::PageWithoutHttp),
+        (None, None, false, None) => Ok(()),
+        (Some(_), _, _, _) => Err(BadRunOption::TokenFileWithoutHttp),
+        (None, Some(_), _, _) => Err(BadRunOption::HostWithoutHttp),
+        (None, None, true, _) => Err(BadRunOption::CommandsWithoutHttp),
+        (None, None, false, Some(_)) => Err(BadRunOption::PageWithoutHttp),
     }
 }
 
@@ -132,6 +141,7 @@ fn http_at<'a>(
         address,
         token_file,
         host,
+        commands: has_flag(matches, "http-commands"),
         page_file,
     })
 }

@@ -71,6 +71,7 @@ pub(crate) enum BadRunOption {
     Http,
     TokenFileWithoutHttp,
     HostWithoutHttp,
+    CommandsWithoutHttp,
     PageWithoutHttp,
     TokenFile,
     Host,
@@ -109,6 +110,7 @@ impl BadRunOption {
             BadRunOption::TokenFileWithoutHttp =>
                 "'--http-token-file <FILE>' needs '--http <ADDR>'",
             BadRunOption::HostWithoutHttp => "'--http-host <NAME>' needs '--http <ADDR>'",
+            BadRunOption::CommandsWithoutHttp => "'--http-commands' needs '--http <ADDR>'",
             BadRunOption::PageWithoutHttp => "'--page <FILE>' needs '--http <ADDR>'",
             BadRunOption::TokenFile => {
                 "'--http-token-file <FILE>' takes the path of a file, and not an empty text"

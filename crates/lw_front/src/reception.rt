@@ -68,19 +68,20 @@ impl Reception {
         self.listener.local_addr()
     }
 
-    /// Lets visitors in, goes on with each visit, and lets those go that are over or last too long.
-    pub(crate) fn receive<D: Desk, L: Log>(
+    /// Lets visitors in, goes on with each visit, and lets those go that are over or last too long. It gives the desk
+    /// back.
+    pub(crate) fn receive<D: Desk + Drop, L: Log>(
         &mut self,
         poll: &Poll,
         now: Instant,
-        desk: &D,
+        desk: D,
         log: &L,
-    ) {
+    ) -> D {
         if self.knocks && self.let_in(poll, now, log).is_err() {
             // It is tried again at the next turn.
             self.knocks = true;
         }
-        self.step_all(now, desk, log);
+        self.step_all(now, desk, log)
     }
 
     /// Seats the visitors that wait. Where all seats are taken, the oldest visit that has not asked yet makes room.
@@ -122,19 +123,22 @@ impl Reception {
         }
     }
 
-    fn step_all<D: Desk, L: Log>(&mut self, now: Instant, desk: &D, log: &L) {
+    fn step_all<D: Desk + Drop, L: Log>(&mut self, now: Instant, desk: D, log: &L) -> D {
+        let mut desk = desk;
         self.stirs = false;
         for place in (0..self.visits.len()).rev() {
             let Some(visit) = self.visits.get_mut(place) else {
-                return;
+                return desk;
             };
             let is_late = now.saturating_duration_since(visit.began)
                 > Duration::from_secs(VISIT_SECONDS);
-            let going = visit.step(self.alloc, desk, &self.guard);
+            let (back, going) = visit.step(self.alloc, desk, &self.guard);
+            desk = back;
             self.stirs = self.stirs || going == Going::On;
             if is_late || going == Going::Over {
                 self.let_go(place, log);
             }
         }
+        desk
     }
 }

@@ -1,5 +1,8 @@
 //! Sockets, and the one wait for them.
 
+ghost use Rattle.std.specs.Prelude.{length, IfOk, IfSome};
+ghost use Rattle.lw_run.specs.Front.{IsWithin};
+
 use crate::reception::{Reception, VISIT, VISITORS};
 use log::Log;
 use lw_metrics::Responses;
@@ -94,17 +97,62 @@ impl<'a, C: Clock, L: Log> Sockets<'a, C, L> {
         Ok(())
     }
 
-    /// Answers the visitors that are there. A datagram goes before the next of them.
-    fn receive_visitors<D: Desk>(&mut self, desk: &D) -> Result<(), WireFault> {
+    /// Answers the visitors that are there, and gives the desk back. A datagram goes before the next of them.
+    fn receive_visitors<D: Desk + Drop>(&mut self, desk: D) -> (D, Result<(), WireFault>) {
         if self.reception.is_none() {
-            return Ok(());
+            return (desk, Ok(()));
         }
+        let now = match self.look_now() {
+            Ok(now) => now,
+            Err(fault) => return (desk, Err(fault)),
+        };
+        match &mut self.reception {
+            Some(reception) => (reception.receive(&self.poll, now, desk, self.log), Ok(())),
+            None => (desk, Ok(())),
+        }
+    }
+
+    /// Notes what is there, without waiting, and tells the moment.
+    fn look_now(&mut self) -> Result<Instant, WireFault> {
         self.look(Duration::ZERO)?;
-        let now = self.now()?;
-        if let Some(reception) = &mut self.reception {
-            reception.receive(&self.poll, now, desk, self.log);
+        self.now()
+    }
+
+    /// What there is to do without waiting, of which one thing is that the desk has something to send.
+    fn at_once(
+        &mut self,
+        wants_to_send: bool,
+        buffer: &mut [u8],
+    ) -> Result<Option<Heard>, WireFault>
+        ensures { IfOk result (λ there. IfSome there (IsWithin (length buffer.new))) }
+    {
+        if wants_to_send {
+            return Ok(Some(Heard::Nothing));
         }
-        Ok(())
+        // The wait tells of what comes, and not of what is there: that is looked for first.
+        match self.more(buffer)? {
+            Some((count, from)) => Ok(Some(Heard::Datagram(count, from))),
+            None => Ok(None),
+        }
+    }
+
+    /// What there is to do at once, or after a wait; nothing, where it is to be looked for again.
+    fn next(
+        &mut self,
+        wants_to_send: bool,
+        buffer: &mut [u8],
+        began: Instant,
+        time: Duration,
+    ) -> Result<Option<Heard>, WireFault>
+        ensures { IfOk result (λ there. IfSome there (IsWithin (length buffer.new))) }
+    {
+        if let Some(heard) = self.at_once(wants_to_send, buffer)? {
+            return Ok(Some(heard));
+        }
+        if self.wait(began, time)? {
+            return Ok(None);
+        }
+        Ok(Some(Heard::Nothing))
     }
 
     fn now(&self) -> Result<Instant, WireFault> {
@@ -125,24 +173,30 @@ impl<'a, C: Clock, L: Log> Sockets<'a, C, L> {
 }
 
 impl<C: Clock, L: Log> Front for Sockets<'_, C, L> {
-    fn attend<D: Desk>(
+    fn attend<D: Desk + Drop>(
         &mut self,
-        desk: &D,
+        desk: D,
         buffer: &mut [u8],
         time: Duration,
-    ) -> Result<Heard, WireFault> {
-        let began = self.now()?;
+    ) -> (D, Result<Heard, WireFault>) {
+        let mut desk = desk;
+        let began = match self.now() {
+            Ok(began) => began,
+            Err(fault) => return (desk, Err(fault)),
+        };
         for _turn in 0..u64::MAX {
-            self.receive_visitors(desk)?;
-            // The wait tells of what comes, and not of what is there: that is looked for first.
-            if let Some((count, from)) = self.more(buffer)? {
-                return Ok(Heard::Datagram(count, from));
+            let (back, received) = self.receive_visitors(desk);
+            desk = back;
+            if let Err(fault) = received {
+                return (desk, Err(fault));
             }
-            if !self.wait(began, time)? {
-                return Ok(Heard::Nothing);
+            match self.next(desk.wants_to_send(), buffer, began, time) {
+                Ok(Some(heard)) => return (desk, Ok(heard)),
+                Ok(None) => {}
+                Err(fault) => return (desk, Err(fault)),
             }
         }
-        Ok(Heard::Nothing)
+        (desk, Ok(Heard::Nothing))
     }
 
     fn more(&mut self, buffer: &mut [u8]) -> Result<Option<(usize, Addr)>, WireFault> {

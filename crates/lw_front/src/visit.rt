@@ -71,18 +71,24 @@ impl Visit {
         self.connection.wants_write() || !self.connection.wants_read()
     }
 
-    /// Reads, answers and writes as far as it goes, but not for ever.
-    pub(crate) fn step<D: Desk>(&mut self, alloc: Global, desk: &D, guard: &Guard) -> Going {
+    /// Reads, answers and writes as far as it goes, but not for ever. It gives the desk back.
+    pub(crate) fn step<D: Desk + Drop>(
+        &mut self,
+        alloc: Global,
+        desk: D,
+        guard: &Guard,
+    ) -> (D, Going) {
+        let mut desk = desk;
         for _step in 0..STEPS {
-            advance(alloc, &mut self.connection, desk, guard);
+            desk = advance(alloc, &mut self.connection, desk, guard);
             if self.connection.is_done() {
-                return Going::Over;
+                return (desk, Going::Over);
             }
             if let Some(going) = self.moved() {
-                return going;
+                return (desk, going);
             }
         }
-        Going::On
+        (desk, Going::On)
     }
 
     /// Reads or writes once. It tells how the visit goes on, where that can be told.

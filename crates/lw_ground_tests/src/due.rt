@@ -3,6 +3,7 @@ use lw_due::*;
 use lw_stamp::NoMemory;
 use std::test::Fail;
 
+mod kept;
 mod many;
 
 /// Endpoints as they are put in, each with the due moment that it is given.
@@ -10,7 +11,7 @@ static GIVEN: [(&str, u64); 5] = [("d", 40), ("b", 20), ("e", 20), ("a", 50), ("
 
 fn give_all(moments: &mut DueMoments) -> Result<(), NoMemory> {
     for (endpoint, due) in &GIVEN {
-        moments.add(endpoint, *due)?;
+        moments.add(endpoint, false, *due)?;
     }
     Ok(())
 }
@@ -71,12 +72,12 @@ fn lowers_two(moments: &mut DueMoments) -> Result<(), Fail> {
     moments.lower("b", 21);
     holds("b is not raised", moments.first(20) == Some("b"))?;
     moments.lower("z", 1);
-    moments.add("b", u64::MAX)?;
+    moments.add("b", false, u64::MAX)?;
     holds("z is absent", moments.first(19).is_none())?;
     holds("b is as it was", moments.first(20) == Some("b"))?;
     moments.lower("e", 10);
     holds("e is lowered", moments.first(19) == Some("e"))?;
-    moments.add("c", 10)?;
+    moments.add("c", false, 10)?;
     holds("c is less than e", moments.first(19) == Some("c"))?;
     holds("neither is due at 9", moments.first(9).is_none())
 }
@@ -91,7 +92,7 @@ fn a_due_moment_is_only_lowered(rt: HostRuntime) -> Result<(), Fail> {
 /// Adds one endpoint to none.
 fn is_due_last(moments: &mut DueMoments, endpoint: &str) -> Result<(), Fail> {
     holds("none yet", moments.first(u64::MAX).is_none())?;
-    moments.add(endpoint, u64::MAX)?;
+    moments.add(endpoint, false, u64::MAX)?;
     holds("not before", moments.first(u64::MAX - 1).is_none())?;
     holds("due then", moments.first(u64::MAX) == Some(endpoint))?;
     moments.lower(endpoint, 0);
@@ -131,7 +132,7 @@ static RISING: [&str; 8] = ["", "0", "10", "9", "Z", "a", "ö", "ぎ"];
 /// Adds all of them, the last first.
 fn rise_by_bytes(moments: &mut DueMoments) -> Result<(), Fail> {
     for endpoint in RISING.iter().rev() {
-        moments.add(endpoint, 0)?;
+        moments.add(endpoint, false, 0)?;
     }
     holds("rising", has_only(moments, &RISING))
 }
@@ -151,15 +152,15 @@ static ENDPOINTS: [&str; 17] = [
 /// no memory can be refused.
 fn adds_endpoint(moments: &mut DueMoments, count: usize, endpoint: &str) -> Result<bool, NoMemory> {
     let before = ENDPOINTS.get(..count).unwrap_or_default();
-    if let Err(NoMemory) = moments.add(endpoint, 0) {
+    if let Err(NoMemory) = moments.add(endpoint, false, 0) {
         moments.lower(endpoint, 0);
         if !has_only(moments, before) {
             return Ok(false);
         }
-        moments.add(endpoint, 0)?;
+        moments.add(endpoint, false, 0)?;
     }
     let after = ENDPOINTS.get(..=count).unwrap_or_default();
-    Ok(moments.add(endpoint, 1).is_ok() && has_only(moments, after))
+    Ok(moments.add(endpoint, false, 1).is_ok() && has_only(moments, after))
 }
 
 /// Tries: DueMoments::add

@@ -13,20 +13,16 @@ use Rattle.lw_node.specs.contracts.node.Node as Node
 use Rattle.lw_recent.specs.contracts.recent.Recent as Recent
 use Rattle.lw_table.proofs.rows.Rows.TheSendSync.{the_field_send as rows_send}
 use Rattle.lw_table.specs.contracts.filed.Filed as Filed
-use Rattle.lw_table.specs.contracts.names.Names as Names
 use Rattle.lw_table.specs.contracts.table.Table as Table
 
 due_send : IsSend DueMoments.the_field.row
 due_send = search (sendable, crosses, knots) depth 40
 
-names_send : IsSend Names.the_field.row
-names_send = search (sendable, crosses, maps) depth 40
-
 recent_send : IsSend Recent.the_field.row
 recent_send = search (sendable, crosses, maps) depth 40
 
 filed_send : IsSend Filed.the_field.row
-filed_send = search (due_send, names_send, recent_send, sendable, crosses, maps) depth 40
+filed_send = search (due_send, recent_send, sendable, crosses, maps) depth 40
 
 table_send : IsSend Table.the_field.row
 table_send = search (filed_send, rows_send, sendable, crosses, maps) depth 40

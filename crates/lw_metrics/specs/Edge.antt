@@ -3,6 +3,7 @@ use Rattle.std.specs.Prelude.{ℕ, ◌+◌, ◌-◌, ◌^◌, ◌==◌, nat_le, 
 use Rattle.lw_metrics.specs.declared.append_times.AppendTimes.{AppendTimes}
 use Rattle.lw_metrics.specs.declared.edge.Edge.{Edge}
 use Rattle.lw_metrics.specs.declared.edge.LogUse.{LogUse}
+use Rattle.lw_metrics.specs.declared.requests.RequestMeasures.{RequestMeasures}
 use Rattle.lw_metrics.specs.declared.responses.Responses.{Responses}
 use Rattle.lw_metrics.specs.Counting.{one_more}
 
@@ -39,10 +40,10 @@ with_time times microseconds = record {
 -- ---- how visitors were answered
 -- the statuses that a server gives (RFC 9110, section 15; RFC 6585, section 5)
 abbrev pub statuses : List ℕ
-statuses = 200 ∷ 400 ∷ 401 ∷ 404 ∷ 405 ∷ 410 ∷ 413 ∷ 414 ∷ 421 ∷ 431 ∷ 500 ∷ 501 ∷ 503 ∷ []
+statuses = 200 ∷ 201 ∷ 204 ∷ 400 ∷ 401 ∷ 403 ∷ 404 ∷ 405 ∷ 410 ∷ 413 ∷ 414 ∷ 421 ∷ 431 ∷ 500 ∷ 501 ∷ 503 ∷ []
 
 abbrev pub new_responses : Responses
-new_responses = record { counts = replicate 13 0 }
+new_responses = record { counts = replicate 16 0 }
 
 abbrev pub with_response_at : Responses → Option ℕ → Responses
 with_response_at responses None = responses
@@ -66,4 +67,17 @@ new_edge = record {
   send_faults = 0;
   dropped = 0;
   responses = new_responses;
+}
+
+abbrev pub new_requests : RequestMeasures
+new_requests = record {
+  requests_sent = 0;
+  requests_sent_again = 0;
+  requests_reset = 0;
+  requests_unanswered = 0;
+  requests_waiting = 0;
+  notifications_stale = 0;
+  notification_blocks = 0;
+  fetches = 0;
+  unnumbered = 0;
 }

@@ -9,7 +9,8 @@ use Rattle.lw_metrics.specs.declared.edge.Edge.{Edge}
 use Rattle.lw_metrics.specs.declared.measures.Measures.{Measures}
 use Rattle.lw_metrics.specs.declared.measures.NodeMeasures.{NodeMeasures}
 use Rattle.lw_metrics.specs.declared.metric.Metric.{Metric}
-use Rattle.lw_metrics.specs.declared.metric.Metric.TheVariants.{BuildInfo, StartTime, Registrations, StampClock, Change, Number, Rounds, Datagrams, Replies, EmptyReplies, Unanswered, Notifications, Swept, NoMemory, PassedOver, LogAway, AppendSeconds, EntriesWritten, EntriesRead, LogBytes, WholeBytes, Compactions, AwaySeconds, ReceiveFaults, SendFaults, Dropped, Duplicates, Blocks, Bodies, Responses}
+use Rattle.lw_metrics.specs.declared.metric.Metric.TheVariants.{BuildInfo, StartTime, Registrations, StampClock, Change, Number, Rounds, Datagrams, Replies, EmptyReplies, Unanswered, Notifications, Swept, NoMemory, RequestsSent, RequestsSentAgain, RequestsReset, RequestsUnanswered, RequestsWaiting, NotificationsStale, NotificationBlocks, Fetches, Unnumbered, PassedOver, LogAway, AppendSeconds, EntriesWritten, EntriesRead, LogBytes, WholeBytes, Compactions, AwaySeconds, ReceiveFaults, SendFaults, Dropped, Duplicates, Blocks, Bodies, Responses}
+use Rattle.lw_metrics.specs.declared.requests.RequestMeasures.{RequestMeasures}
 use Rattle.lw_metrics.specs.declared.responses.Responses.{Responses as ResponseCounts}
 use Rattle.lw_metrics.specs.declared.tally.Tally.{Tally}
 use Rattle.lw_metrics.specs.Edge.{statuses, together}
@@ -128,6 +129,29 @@ further_families tally =
     ∷ of_number NoMemory tally.no_memory
     ∷ []
 
+-- requests to devices (RFC 7252, section 4.2): how many were sent, and what came of them
+abbrev pub sent_families : RequestMeasures → List Family
+sent_families requests =
+    of_number RequestsSent requests.requests_sent
+    ∷ of_number RequestsSentAgain requests.requests_sent_again
+    ∷ of_number RequestsReset requests.requests_reset
+    ∷ of_number RequestsUnanswered requests.requests_unanswered
+    ∷ of_number RequestsWaiting requests.requests_waiting
+    ∷ []
+
+-- notifications that are not told as they came (RFC 7641, section 3.4; RFC 7959, section 2.6), and replies for which
+-- no message ID was free
+abbrev pub held_families : RequestMeasures → List Family
+held_families requests =
+    of_number NotificationsStale requests.notifications_stale
+    ∷ of_number NotificationBlocks requests.notification_blocks
+    ∷ of_number Fetches requests.fetches
+    ∷ of_number Unnumbered requests.unnumbered
+    ∷ []
+
+abbrev pub request_families : RequestMeasures → List Family
+request_families requests = sent_families requests ++ held_families requests
+
 -- what went wrong
 abbrev pub failure_families : Measures → List Family
 failure_families measures =
@@ -179,7 +203,8 @@ families_of measures =
     ++ (node_families measures.node
     ++ (datagram_families measures.tally
     ++ (further_families measures.tally
+    ++ (request_families measures.requests
     ++ (failure_families measures
     ++ (use_families measures.edge.log
     ++ (log_families measures
-    ++ front_families measures))))))
+    ++ front_families measures)))))))

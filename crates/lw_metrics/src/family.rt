@@ -89,7 +89,7 @@ pub(crate) fn put_responses(
 fn put_response_samples(
     text: &mut String,
     alloc: Global,
-    numbers: &[u64; 13],
+    numbers: &[u64; 16],
 ) -> Result<(), NoMemory>
     ensures { OnOk result (string_bytes text.new ≡ string_bytes text.old
         ++ flat_map (sample_text Metric.Responses) (map response_sample (zip statuses numbers.now))) }

@@ -1,4 +1,4 @@
-use crate::{Edge, Tally};
+use crate::{Edge, RequestMeasures, Tally};
 use lw_stamp::Moment;
 
 /// What is shown of a server.
@@ -26,6 +26,7 @@ pub struct Measures {
     pub blocks: u64,
     /// How many bodies are kept whose blocks have not all come.
     pub bodies: u64,
+    pub requests: RequestMeasures,
 }
 
 /// What is shown of a node.

@@ -18,6 +18,15 @@ pub(crate) enum Metric {
     Notifications,
     Swept,
     NoMemory,
+    RequestsSent,
+    RequestsSentAgain,
+    RequestsReset,
+    RequestsUnanswered,
+    RequestsWaiting,
+    NotificationsStale,
+    NotificationBlocks,
+    Fetches,
+    Unnumbered,
     PassedOver,
     LogAway,
     AppendSeconds,
@@ -56,6 +65,15 @@ impl Metric {
             Metric::Notifications => "fleet_notifications_total",
             Metric::Swept => "fleet_swept_total",
             Metric::NoMemory => "fleet_no_memory_total",
+            Metric::RequestsSent => "fleet_requests_sent_total",
+            Metric::RequestsSentAgain => "fleet_requests_sent_again_total",
+            Metric::RequestsReset => "fleet_requests_reset_total",
+            Metric::RequestsUnanswered => "fleet_requests_unanswered_total",
+            Metric::RequestsWaiting => "fleet_requests_waiting",
+            Metric::NotificationsStale => "fleet_notifications_stale_total",
+            Metric::NotificationBlocks => "fleet_notification_blocks_total",
+            Metric::Fetches => "fleet_notification_fetches",
+            Metric::Unnumbered => "fleet_replies_unnumbered_total",
             Metric::PassedOver => "fleet_passed_over_total",
             Metric::LogAway => "fleet_log_away",
             Metric::AppendSeconds => "fleet_log_append_seconds",
@@ -94,6 +112,17 @@ impl Metric {
             Metric::Notifications => "Notifications of observations.",
             Metric::Swept => "Registrations that expired and were ended.",
             Metric::NoMemory => "Calls that failed for want of memory.",
+            Metric::RequestsSent => "Requests that were sent to devices, each counted once.",
+            Metric::RequestsSentAgain => "Requests that were sent to devices again.",
+            Metric::RequestsReset => "Requests that devices answered with a Reset.",
+            Metric::RequestsUnanswered => "Requests that devices did not answer in time.",
+            Metric::RequestsWaiting => "Requests that wait for an acknowledgement.",
+            Metric::NotificationsStale => {
+                "Notifications that were older than one before, and were not told."
+            }
+            Metric::NotificationBlocks => "Notifications that were blocks of bodies.",
+            Metric::Fetches => "Notifications whose rest is being fetched.",
+            Metric::Unnumbered => "Replies that were not sent since no message ID was free.",
             Metric::PassedOver => "Rounds that failed for want of memory.",
             Metric::LogAway => "Whether the log is away: 1, or 0.",
             Metric::AppendSeconds => "How long appends to the log took.",
@@ -126,6 +155,8 @@ impl Metric {
             | Metric::StampClock
             | Metric::Change
             | Metric::Number
+            | Metric::RequestsWaiting
+            | Metric::Fetches
             | Metric::LogAway
             | Metric::LogBytes
             | Metric::WholeBytes

@@ -6,15 +6,15 @@ ghost use Rattle.lw_metrics.specs.Edge.{new_responses, statuses, with_response, 
 use crate::tally::one_more;
 
 /// The statuses that a server gives over HTTP.
-pub const STATUSES: [u16; 13] = [
-    200, 400, 401, 404, 405, 410, 413, 414, 421, 431, 500, 501, 503,
+pub const STATUSES: [u16; 16] = [
+    200, 201, 204, 400, 401, 403, 404, 405, 410, 413, 414, 421, 431, 500, 501, 503,
 ];
 
 /// How often visitors were answered with each status.
 #[derive(Clone, Copy, Debug)]
 pub struct Responses {
     /// The responses with each of the statuses of `STATUSES`, in their order.
-    pub counts: [u64; 13],
+    pub counts: [u64; 16],
 }
 
 impl Responses {

@@ -2,12 +2,12 @@
 
 ghost use Rattle.std.specs.Prelude.{◌≡◌, ◌++◌, IfOk, OnOk, string_bytes};
 ghost use Rattle.lw_metrics.specs.Exposition.{exposition};
-ghost use Rattle.lw_metrics.specs.Families.{answered_families, datagram_families, failure_families, families_of, fault_families, front_families, further_families, log_families, node_families, start_families, use_families};
+ghost use Rattle.lw_metrics.specs.Families.{answered_families, datagram_families, failure_families, families_of, fault_families, front_families, further_families, held_families, log_families, node_families, request_families, sent_families, start_families, use_families};
 
 use crate::family::{put_number, put_replies, put_responses, put_seconds, put_version};
 use crate::histogram::put_histogram;
 use crate::metric::Metric;
-use crate::{Edge, LogUse, Measures, NodeMeasures, Tally};
+use crate::{Edge, LogUse, Measures, NodeMeasures, RequestMeasures, Tally};
 use lw_stamp::NoMemory;
 use std::alloc::Global;
 
@@ -23,6 +23,7 @@ pub fn metrics_text(alloc: Global, measures: &Measures) -> Result<String, NoMemo
     put_node(&mut text, measures.node)?;
     put_datagrams(&mut text, alloc, &measures.tally)?;
     put_further(&mut text, &measures.tally)?;
+    put_requests(&mut text, &measures.requests)?;
     put_failures(&mut text, measures)?;
     put_use(&mut text, alloc, &measures.edge.log)?;
     put_log(&mut text, alloc, measures)?;
@@ -65,6 +66,49 @@ fn put_further(text: &mut String, tally: &Tally) -> Result<(), NoMemory>
     put_number(text, Metric::Notifications, tally.notifications)?;
     put_number(text, Metric::Swept, tally.swept)?;
     put_number(text, Metric::NoMemory, tally.no_memory)
+}
+
+fn put_requests(text: &mut String, requests: &RequestMeasures) -> Result<(), NoMemory>
+    ensures { OnOk result (string_bytes text.new ≡ string_bytes text.old ++ exposition (request_families requests.now)) }
+{
+    put_sent(text, requests)?;
+    put_held(text, requests)?;
+    Ok(())
+}
+
+fn put_sent(text: &mut String, requests: &RequestMeasures) -> Result<(), NoMemory>
+    ensures { OnOk result (string_bytes text.new ≡ string_bytes text.old ++ exposition (sent_families requests.now)) }
+{
+    put_number(text, Metric::RequestsSent, requests.requests_sent)?;
+    put_number(
+        text,
+        Metric::RequestsSentAgain,
+        requests.requests_sent_again,
+    )?;
+    put_number(text, Metric::RequestsReset, requests.requests_reset)?;
+    put_number(
+        text,
+        Metric::RequestsUnanswered,
+        requests.requests_unanswered,
+    )?;
+    put_number(text, Metric::RequestsWaiting, requests.requests_waiting)
+}
+
+fn put_held(text: &mut String, requests: &RequestMeasures) -> Result<(), NoMemory>
+    ensures { OnOk result (string_bytes text.new ≡ string_bytes text.old ++ exposition (held_families requests.now)) }
+{
+    put_number(
+        text,
+        Metric::NotificationsStale,
+        requests.notifications_stale,
+    )?;
+    put_number(
+        text,
+        Metric::NotificationBlocks,
+        requests.notification_blocks,
+    )?;
+    put_number(text, Metric::Fetches, requests.fetches)?;
+    put_number(text, Metric::Unnumbered, requests.unnumbered)
 }
 
 fn put_failures(text: &mut String, measures: &Measures) -> Result<(), NoMemory>

@@ -106,10 +106,13 @@ fn numbers_stay_at_the_greatest(rt: HostRuntime) -> Result<(), Fail> {
 }
 
 /// Statuses and their samples (RFC 9110, section 15).
-const STATUSES: [(u16, &str); 13] = [
+const STATUSES: [(u16, &str); 16] = [
     (200, "fleet_http_responses_total{status=\"200\"} 1"),
+    (201, "fleet_http_responses_total{status=\"201\"} 1"),
+    (204, "fleet_http_responses_total{status=\"204\"} 1"),
     (400, "fleet_http_responses_total{status=\"400\"} 1"),
     (401, "fleet_http_responses_total{status=\"401\"} 1"),
+    (403, "fleet_http_responses_total{status=\"403\"} 1"),
     (404, "fleet_http_responses_total{status=\"404\"} 1"),
     (405, "fleet_http_responses_total{status=\"405\"} 1"),
     (410, "fleet_http_responses_total{status=\"410\"} 1"),
@@ -134,7 +137,7 @@ fn each_status_is_counted_by_itself(rt: HostRuntime) -> Result<(), Fail> {
 }
 
 /// Statuses that no server of this program gives.
-const OTHERS: [u16; 6] = [0, 100, 204, 304, 502, 999];
+const OTHERS: [u16; 6] = [0, 100, 202, 304, 502, 999];
 
 /// Tries: lw_metrics::Responses::count
 #[test]

@@ -2,13 +2,14 @@
 
 use crate::shown::{check_count, check_line_at, measures_of};
 use lw_metrics::{
-    AppendTimes, Edge, LogUse, Measures, NodeMeasures, Responses, Tally, metrics_text,
+    AppendTimes, Edge, LogUse, Measures, NodeMeasures, RequestMeasures, Responses, Tally,
+    metrics_text,
 };
 use lw_stamp::Moment;
 use std::test::Fail;
 
 /// The lines of a server that was started on 14 November 2023, at 22:13:20 and 999 ms.
-const LINES: [&str; 128] = [
+const LINES: [&str; 158] = [
     "# HELP fleet_build_info The version of the program.",
     "# TYPE fleet_build_info gauge",
     "fleet_build_info{version=\"0.1.0\"} 1",
@@ -62,6 +63,33 @@ const LINES: [&str; 128] = [
     "# HELP fleet_no_memory_total Calls that failed for want of memory.",
     "# TYPE fleet_no_memory_total counter",
     "fleet_no_memory_total 27",
+    "# HELP fleet_requests_sent_total Requests that were sent to devices, each counted once.",
+    "# TYPE fleet_requests_sent_total counter",
+    "fleet_requests_sent_total 61",
+    "# HELP fleet_requests_sent_again_total Requests that were sent to devices again.",
+    "# TYPE fleet_requests_sent_again_total counter",
+    "fleet_requests_sent_again_total 62",
+    "# HELP fleet_requests_reset_total Requests that devices answered with a Reset.",
+    "# TYPE fleet_requests_reset_total counter",
+    "fleet_requests_reset_total 63",
+    "# HELP fleet_requests_unanswered_total Requests that devices did not answer in time.",
+    "# TYPE fleet_requests_unanswered_total counter",
+    "fleet_requests_unanswered_total 64",
+    "# HELP fleet_requests_waiting Requests that wait for an acknowledgement.",
+    "# TYPE fleet_requests_waiting gauge",
+    "fleet_requests_waiting 65",
+    "# HELP fleet_notifications_stale_total Notifications that were older than one before, and were not told.",
+    "# TYPE fleet_notifications_stale_total counter",
+    "fleet_notifications_stale_total 66",
+    "# HELP fleet_notification_blocks_total Notifications that were blocks of bodies.",
+    "# TYPE fleet_notification_blocks_total counter",
+    "fleet_notification_blocks_total 67",
+    "# HELP fleet_notification_fetches Notifications whose rest is being fetched.",
+    "# TYPE fleet_notification_fetches gauge",
+    "fleet_notification_fetches 68",
+    "# HELP fleet_replies_unnumbered_total Replies that were not sent since no message ID was free.",
+    "# TYPE fleet_replies_unnumbered_total counter",
+    "fleet_replies_unnumbered_total 69",
     "# HELP fleet_passed_over_total Rounds that failed for want of memory.",
     "# TYPE fleet_passed_over_total counter",
     "fleet_passed_over_total 28",
@@ -125,8 +153,11 @@ const LINES: [&str; 128] = [
     "# HELP fleet_http_responses_total Responses over HTTP, by status.",
     "# TYPE fleet_http_responses_total counter",
     "fleet_http_responses_total{status=\"200\"} 41",
+    "fleet_http_responses_total{status=\"201\"} 71",
+    "fleet_http_responses_total{status=\"204\"} 72",
     "fleet_http_responses_total{status=\"400\"} 42",
     "fleet_http_responses_total{status=\"401\"} 43",
+    "fleet_http_responses_total{status=\"403\"} 73",
     "fleet_http_responses_total{status=\"404\"} 44",
     "fleet_http_responses_total{status=\"405\"} 45",
     "fleet_http_responses_total{status=\"410\"} 46",
@@ -183,8 +214,24 @@ fn edge() -> Edge {
         send_faults: 37,
         dropped: 38,
         responses: Responses {
-            counts: [41, 42, 43, 44, 45, 46, 47, 48, 49, 50, 51, 52, 53],
+            counts: [
+                41, 71, 72, 42, 43, 73, 44, 45, 46, 47, 48, 49, 50, 51, 52, 53,
+            ],
         },
+    }
+}
+
+fn requests() -> RequestMeasures {
+    RequestMeasures {
+        requests_sent: 61,
+        requests_sent_again: 62,
+        requests_reset: 63,
+        requests_unanswered: 64,
+        requests_waiting: 65,
+        notifications_stale: 66,
+        notification_blocks: 67,
+        fetches: 68,
+        unnumbered: 69,
     }
 }
 
@@ -203,6 +250,7 @@ fn measures(node: Option<NodeMeasures>) -> Result<Measures, Fail> {
         duplicates: 39,
         blocks: 40,
         bodies: 54,
+        requests: requests(),
     })
 }
 
@@ -232,7 +280,7 @@ fn nothing_is_told_of_a_node_that_is_away(rt: HostRuntime) -> Result<(), Fail> {
 }
 
 /// The samples of a new tally.
-const NOTHING_YET: [&str; 64] = [
+const NOTHING_YET: [&str; 76] = [
     "fleet_build_info{version=\"0.1.0\"} 1",
     "fleet_start_time_seconds 0",
     "fleet_rounds_total 0",
@@ -254,6 +302,15 @@ const NOTHING_YET: [&str; 64] = [
     "fleet_notifications_total 0",
     "fleet_swept_total 0",
     "fleet_no_memory_total 0",
+    "fleet_requests_sent_total 0",
+    "fleet_requests_sent_again_total 0",
+    "fleet_requests_reset_total 0",
+    "fleet_requests_unanswered_total 0",
+    "fleet_requests_waiting 0",
+    "fleet_notifications_stale_total 0",
+    "fleet_notification_blocks_total 0",
+    "fleet_notification_fetches 0",
+    "fleet_replies_unnumbered_total 0",
     "fleet_passed_over_total 0",
     "fleet_log_away 0",
     "fleet_log_append_seconds_bucket{le=\"0.0005\"} 0",
@@ -285,8 +342,11 @@ const NOTHING_YET: [&str; 64] = [
     "fleet_blocks_total 0",
     "fleet_bodies 0",
     "fleet_http_responses_total{status=\"200\"} 0",
+    "fleet_http_responses_total{status=\"201\"} 0",
+    "fleet_http_responses_total{status=\"204\"} 0",
     "fleet_http_responses_total{status=\"400\"} 0",
     "fleet_http_responses_total{status=\"401\"} 0",
+    "fleet_http_responses_total{status=\"403\"} 0",
     "fleet_http_responses_total{status=\"404\"} 0",
     "fleet_http_responses_total{status=\"405\"} 0",
     "fleet_http_responses_total{status=\"410\"} 0",
@@ -311,7 +371,7 @@ fn check_samples(text: &str, want: &[&str]) -> Result<(), Fail> {
     check_count(place, want.len())
 }
 
-/// Tries: lw_metrics::Tally::new, lw_metrics::metrics_text
+/// Tries: lw_metrics::Tally::new, lw_metrics::RequestMeasures::new, lw_metrics::metrics_text
 #[test]
 fn each_sample_is_there_from_the_start(rt: HostRuntime) -> Result<(), Fail> {
     let text = metrics_text(rt.alloc(), &measures_of(Tally::new()))?;

@@ -1,6 +1,6 @@
 //! What is shown of a tally.
 
-use lw_metrics::{Edge, Measures, Tally, metrics_text};
+use lw_metrics::{Edge, Measures, RequestMeasures, Tally, metrics_text};
 use lw_stamp::Moment;
 use std::alloc::Global;
 use std::test::Fail;
@@ -20,6 +20,7 @@ pub(crate) fn measures_of(tally: Tally) -> Measures {
         duplicates: 0,
         blocks: 0,
         bodies: 0,
+        requests: RequestMeasures::new(),
     }
 }
 

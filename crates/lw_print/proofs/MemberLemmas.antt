@@ -22,6 +22,7 @@ use Rattle.lw_print.specs.declared.registration.Members.{Members}
 use Rattle.lw_print.specs.declared.watch.WatchMembers.{WatchMembers}
 use Rattle.lw_print.specs.Json.{attributes_json, text_or_null, number_or_null, registration_json, page_json, watch_json, observation_json, observations_json, notice_json, node_json, health_json}
 use Rattle.lw_print.specs.Changes.{Change, change_json, changes_json, registration_or_null}
+use Rattle.lw_print.specs.Notifications.{NotificationContent, notification_json, notifications_json}
 use Rattle.lw_print.specs.inner.Members.{members_json, TellsOf, watch_members_json, TellsOfWatch, notice_members_json, TellsOfNotice}
 
 -- ---- the attributes
@@ -98,6 +99,17 @@ changed_plain (c ∷ changes) =
 
 pub changes_plain : (changes : List Change) (more : Bool) (next start : ℕ) → has_float (changes_json changes more next start) ≡ false
 changes_plain changes more next start = ap (λ b. b || false) (changed_plain changes)
+
+notice_plain : (n : NoticeContent) → has_float (notice_json n) ≡ false
+notice_plain n = number_plain n.format _ ∙ number_plain n.observe false
+
+notified_plain : (notifications : List NotificationContent) → items_have_float (items_of (map notification_json notifications)) ≡ false
+notified_plain [] = refl
+notified_plain (n ∷ notifications) =
+    ap (λ b. (b || false) || items_have_float (items_of (map notification_json notifications))) (notice_plain n.notice) ∙ notified_plain notifications
+
+pub notifications_plain : (notifications : List NotificationContent) (next start : ℕ) → has_float (notifications_json notifications next start) ≡ false
+notifications_plain notifications next start = ap (λ b. b || false) (notified_plain notifications)
 
 -- ---- the objects
 pub json_of_members : (m : Members) (r : Registration) → TellsOf m r → members_json m ≡ registration_json r

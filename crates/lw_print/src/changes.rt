@@ -9,6 +9,7 @@ ghost use Rattle.lw_print.specs.Changes.{change_of, change_json, changes_json, r
 use crate::node::tag_text;
 use crate::registration::registration_value;
 use crate::value::{put_text, value_text};
+use crate::values::{Print, values};
 use lw_reg::View;
 use lw_stamp::NoMemory;
 use serde_json::{Map, Value, put};
@@ -72,20 +73,21 @@ fn put_page(
 fn change_values(alloc: Global, changes: &[Change<'_>]) -> Result<Vec<Value>, NoMemory>
     ensures { IfOk result (λ values. mapped view values.items ≡ mapped change_json (mapped change_of changes.now)) }
 {
-    let mut values = Vec::with_capacity(alloc, changes.len())?;
-    for change in changes {
-        values.push(change_value(alloc, change)?)?;
-    }
+    let values = values(alloc, changes)?;
     Ok(values)
 }
 
-fn change_value(alloc: Global, change: &Change<'_>) -> Result<Value, NoMemory>
-    ensures { IfOk result (λ value. view value ≡ change_json (change_of change.now)) }
-{
-    let registration = shown_value(alloc, &change.registration)?;
-    let mut map = Map::new(alloc);
-    put_change(&mut map, alloc, change, registration)?;
-    Ok(Value::Object(map))
+impl Print for Change<'_> {
+    ghost use Rattle.lw_print.specs.Changes.{change_json, change_of};
+
+    ghost json = { λ change. change_json (change_of change) };
+
+    fn value(&self, alloc: Global) -> Result<Value, NoMemory> {
+        let registration = shown_value(alloc, &self.registration)?;
+        let mut map = Map::new(alloc);
+        put_change(&mut map, alloc, self, registration)?;
+        Ok(Value::Object(map))
+    }
 }
 
 fn shown_value(alloc: Global, shown: &Option<View<'_>>) -> Result<Value, NoMemory>

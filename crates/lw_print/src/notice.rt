@@ -35,7 +35,7 @@ pub fn notice_text(alloc: Global, notice: &Notice) -> Result<String, NoMemory>
 }
 
 #[tactic(auto, using(crate::proofs::MemberLemmas::json_of_notice))]
-fn notice_value(alloc: Global, notice: &Notice) -> Result<Value, NoMemory>
+pub(crate) fn notice_value(alloc: Global, notice: &Notice) -> Result<Value, NoMemory>
     ensures { IfOk result (λ value. view value ≡ notice_json notice.now) }
 {
     let members = notice_members(alloc, notice)?;

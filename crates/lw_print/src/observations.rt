@@ -1,13 +1,14 @@
 //! Observations of a registration.
 
-ghost use Rattle.std.specs.Prelude.{◌≡◌, [], IfOk, OnOk, codes, map as mapped, string_bytes};
+ghost use Rattle.std.specs.Prelude.{◌≡◌, [], IfOk, OnOk, codes, string_bytes};
 ghost use Rattle.serde_json.specs.Data.{object as json_object, member, no_members};
 ghost use Rattle.serde_json.specs.View.{view, members_view};
 ghost use Rattle.serde_json.specs.Written.{compact_text};
-ghost use Rattle.lw_print.specs.Json.{observation_json, observations_json, path_or_null};
+ghost use Rattle.lw_print.specs.Json.{observations_json, path_or_null};
 
 use crate::path::path_text;
 use crate::value::value_text;
+use crate::values::{Print, values};
 use crate::watch::watch_value;
 use lw_reg::{Path, View, Watch};
 use lw_stamp::NoMemory;
@@ -34,19 +35,19 @@ fn page_value(
 ) -> Result<Value, NoMemory>
     ensures { IfOk result (λ value. view value ≡ observations_json watches.now next) }
 {
-    let observations = observation_values(alloc, watches)?;
+    let observations = values(alloc, watches)?;
     let next = path_value(alloc, next)?;
     page_object(alloc, next, Value::Array(observations))
 }
 
-fn observation_values(alloc: Global, watches: &[(View<'_>, Watch)]) -> Result<Vec<Value>, NoMemory>
-    ensures { IfOk result (λ values. mapped view values.items ≡ mapped observation_json watches.now) }
-{
-    let mut values = Vec::with_capacity(alloc, watches.len())?;
-    for watch in watches {
-        values.push(watch_value(alloc, &watch.0, &watch.1)?)?;
+impl Print for (View<'_>, Watch) {
+    ghost use Rattle.lw_print.specs.Json.{observation_json};
+
+    ghost json = { observation_json };
+
+    fn value(&self, alloc: Global) -> Result<Value, NoMemory> {
+        watch_value(alloc, &self.0, &self.1)
     }
-    Ok(values)
 }
 
 fn path_value(alloc: Global, path: Option<Path>) -> Result<Value, NoMemory>

@@ -1,13 +1,13 @@
 //! A page of registrations.
 
-ghost use Rattle.std.specs.Prelude.{◌≡◌, [], IfOk, OnOk, codes, map, option_map, string_bytes};
+ghost use Rattle.std.specs.Prelude.{◌≡◌, [], IfOk, OnOk, codes, option_map, string_bytes};
 ghost use Rattle.serde_json.specs.Data.{object as json_object, member, no_members};
 ghost use Rattle.serde_json.specs.View.{view, members_view};
 ghost use Rattle.serde_json.specs.Written.{compact_text};
-ghost use Rattle.lw_print.specs.Json.{registration_json, page_json};
+ghost use Rattle.lw_print.specs.Json.{page_json};
 
-use crate::registration::registration_value;
 use crate::value::{text_value, value_text};
+use crate::values::values;
 use lw_reg::View;
 use lw_stamp::NoMemory;
 use serde_json::{Map, Value, put};
@@ -26,19 +26,9 @@ pub fn page_text(alloc: Global, shown: &[View<'_>], next: Option<&str>) -> Resul
 fn page_value(alloc: Global, shown: &[View<'_>], next: Option<&str>) -> Result<Value, NoMemory>
     ensures { IfOk result (λ value. view value ≡ page_json shown.now (option_map (λ t. t.now) next.entry)) }
 {
-    let registrations = registration_values(alloc, shown)?;
+    let registrations = values(alloc, shown)?;
     let next = text_value(alloc, next)?;
     page_object(alloc, next, Value::Array(registrations))
-}
-
-fn registration_values(alloc: Global, shown: &[View<'_>]) -> Result<Vec<Value>, NoMemory>
-    ensures { IfOk result (λ values. map view values.items ≡ map registration_json shown.now) }
-{
-    let mut values = Vec::with_capacity(alloc, shown.len())?;
-    for view in shown {
-        values.push(registration_value(alloc, view)?)?;
-    }
-    Ok(values)
 }
 
 fn page_object(alloc: Global, next: Value, registrations: Value) -> Result<Value, NoMemory>

@@ -6,6 +6,7 @@ ghost use Rattle.lw_print.specs.Json.{attributes_json, registration_json};
 ghost use Rattle.lw_print.specs.inner.Members.{members_json, TellsOf};
 
 use crate::value::{id_text, put_text, text_value, value_text};
+use crate::values::Print;
 use lw_reg::{AttributesView, View};
 use lw_stamp::NoMemory;
 use serde_json::{Map, Value, put};
@@ -42,6 +43,16 @@ pub(crate) fn registration_value(alloc: Global, shown: &View<'_>) -> Result<Valu
 {
     let members = members_of(alloc, shown)?;
     object(alloc, members)
+}
+
+impl Print for View<'_> {
+    ghost use Rattle.lw_print.specs.Json.{registration_json};
+
+    ghost json = { registration_json };
+
+    fn value(&self, alloc: Global) -> Result<Value, NoMemory> {
+        registration_value(alloc, self)
+    }
 }
 
 /// The JSON object of the attributes.

@@ -48,10 +48,11 @@ more_duplicates old new again count left batch fresh is less all some =
     is ∙ ap (λ (n : ℕ). min (old + n) (2 ^ 64 - 1)) (less ∙ (λ k. all k - some k))
 
 pub stays_from : (old mid new : ServerContent) → mid ≡ old → new.skew ≡ mid.skew → new.started ≡ mid.started → new.passed_over ≡ mid.passed_over
-    → new.page ≡ mid.page → new.edge ≡ mid.edge → new.away ≡ mid.away → Stays old new
-stays_from old mid new same skew started passed_over page edge away =
+    → new.page ≡ mid.page → new.edge ≡ mid.edge → new.away ≡ mid.away → new.ids ≡ mid.ids → new.unnumbered ≡ mid.unnumbered → new.told ≡ mid.told
+    → new.devices ≡ mid.devices → new.fault ≡ mid.fault → Stays old new
+stays_from old mid new same skew started passed_over page edge away ids unnumbered told devices fault =
     subst (λ (server : ServerContent). Stays server new) same
-    (record { skew = skew; started = started; passed_over = passed_over; page = page; edge = edge; away = away })
+    (record { skew = skew; started = started; passed_over = passed_over; page = page; edge = edge; away = away; ids = ids; unnumbered = unnumbered; told = told; devices = devices; fault = fault })
 
 -- a server whose member is still as it was has put nothing into its log
 pub writes_none_from : (old mid : ServerContent) → mid ≡ old → WritesOwn old.member mid.member

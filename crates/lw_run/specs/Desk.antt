@@ -7,17 +7,19 @@ use Rattle.lw_member.specs.Member.{MemberContent}
 use Rattle.lw_print.specs.Json.{health_json}
 use Rattle.lw_metrics.specs.declared.measures.Measures.{Measures}
 use Rattle.lw_metrics.specs.declared.measures.NodeMeasures.{NodeMeasures}
+use Rattle.lw_metrics.specs.declared.requests.RequestMeasures.{RequestMeasures}
 use Rattle.lw_metrics.specs.Edge.{together}
 use Rattle.lw_metrics.specs.Exposition.{exposition}
 use Rattle.lw_metrics.specs.Families.{families_of}
 use Rattle.lw_target.specs.declared.asked.Asked.{Asked}
-use Rattle.lw_target.specs.declared.asked.Asked.TheVariants.{Page, Health, Metrics}
+use Rattle.lw_target.specs.declared.asked.Asked.TheVariants.{Page, Health, Metrics, Notifications}
 use Rattle.lw_target.specs.declared.desk.Answer.{Answer}
 use Rattle.lw_target.specs.declared.desk.Media.TheVariants as media
 use Rattle.lw_target.specs.declared.desk.Status.{Status}
 use Rattle.lw_target.specs.declared.desk.Status.TheVariants as status
 use Rattle.lw_api.specs.declared.answering.About.{About}
 use Rattle.lw_api.specs.Answers.{CountsRegistrations, IsAnswer, IsJson, IsNotFound}
+use Rattle.lw_api.specs.Notifications.{IsNotificationsAnswer}
 use Rattle.lw_run.specs.Server.{ServerContent}
 
 abbrev pub version : List ℕ
@@ -57,6 +59,17 @@ abbrev pub IsMeasuredBy : Bool → NodeContent → Option NodeMeasures → Type 
 IsMeasuredBy true node measures = IsSomeAnd measures (AreOfNode node)
 IsMeasuredBy false node measures = measures ≡ None
 
+pub record AreRequestMeasures (server : ServerContent) (measures : RequestMeasures) : Type 0 where
+  pub sent : measures.requests_sent ≡ server.devices.counts.sent
+  pub sent_again : measures.requests_sent_again ≡ server.devices.counts.sent_again
+  pub reset : measures.requests_reset ≡ server.devices.counts.reset
+  pub unanswered : measures.requests_unanswered ≡ server.devices.counts.unanswered
+  pub waiting : measures.requests_waiting ≡ length server.devices.requests
+  pub stale : measures.notifications_stale ≡ server.told.stale
+  pub blocks : measures.notification_blocks ≡ server.devices.counts.blocks
+  pub fetches : measures.fetches ≡ length server.devices.fetches.fetches
+  pub unnumbered : measures.unnumbered ≡ server.unnumbered
+
 pub record AreMeasures (server : ServerContent) (measures : Measures) : Type 0 where
   pub version_is : measures.version.now ≡ version
   pub started : measures.started ≡ server.started
@@ -70,6 +83,7 @@ pub record AreMeasures (server : ServerContent) (measures : Measures) : Type 0 w
   pub duplicates : measures.duplicates ≡ server.duplicates
   pub blocks : measures.blocks ≡ server.blocks
   pub bodies : measures.bodies ≡ length server.bodies
+  pub requests : AreRequestMeasures server measures.requests
 
 pub record TellsMetrics (server : ServerContent) (answer : Answer) : Type 0 where
   pub measures : Measures
@@ -84,8 +98,17 @@ TellsOfNode true server asked answer =
     IsAnswer server.member.node (about_of server.member) (ms_of server.latest) asked answer
 TellsOfNode false server asked answer = IsJson status.ServiceUnavailable (codes "{\"error\":\"away\"}") answer
 
+-- what devices told
+abbrev pub TellsNotifications : Bool → ServerContent → ℕ → Option ℕ → ℕ → Answer → Type 0
+TellsNotifications true server from start limit answer =
+    IsNotificationsAnswer server.told.notices (about_of server.member) from start limit answer
+TellsNotifications false server from start limit answer = IsJson status.ServiceUnavailable (codes "{\"error\":\"away\"}") answer
+
 pub record TellsOf (server : ServerContent) (asked : Asked) (answer : Answer) : Type 0 where
   pub page : asked ≡ Page → TellsPage server.page answer
   pub health : asked ≡ Health → TellsHealth server answer
   pub metrics : asked ≡ Metrics → TellsMetrics server answer
-  pub node : asked ≢ Page → asked ≢ Health → asked ≢ Metrics → TellsOfNode (serves server) server asked answer
+  pub notifications : (from : ℕ) (start : Option ℕ) (limit : ℕ) → asked ≡ Notifications from start limit
+      → TellsNotifications (serves server) server from start limit answer
+  pub node : asked ≢ Page → asked ≢ Health → asked ≢ Metrics → ((from : ℕ) (start : Option ℕ) (limit : ℕ) → asked ≢ Notifications from start limit)
+      → TellsOfNode (serves server) server asked answer

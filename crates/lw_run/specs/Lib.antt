@@ -3,6 +3,8 @@ pub mod Faults
 pub mod Server
 pub mod Blocks
 pub mod Exchanges
+pub mod Telling
+pub mod Devices
 pub mod Turns
 pub mod Desk
 pub mod inner

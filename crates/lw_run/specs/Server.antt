@@ -1,11 +1,18 @@
 -- What contracts see of a server.
-use Rattle.std.specs.Prelude.{◌≡◌, ℕ, Bool, List, Option}
+use Rattle.std.specs.Prelude.{◌≡◌, ℕ, Bool, false, List, [], Option, None}
 use Rattle.lw_stamp.specs.declared.moment.Moment.{Moment}
 use Rattle.lw_member.specs.Member.{MemberContent}
 use Rattle.lw_metrics.specs.declared.edge.Edge.{Edge}
 use Rattle.lw_exchange.specs.declared.exchange.Exchange.{Exchange}
+use Rattle.lw_exchange.specs.declared.message_ids.Lane.{Lane}
 use Rattle.lw_exchange.specs.Kept.{BodyContent}
+use Rattle.lw_exchange.specs.MessageIds.{first_lanes}
+use Rattle.lw_metrics.specs.Counting.{new_tally}
+use Rattle.lw_metrics.specs.Edge.{new_edge}
 use Rattle.lw_metrics.specs.declared.tally.Tally.{Tally}
+use Rattle.lw_run.specs.declared.fault.TurnFault.{TurnFault}
+use Rattle.lw_run.specs.Devices.{DevicesContent, new_devices}
+use Rattle.lw_run.specs.Telling.{new_told, ToldContent}
 
 pub record ServerContent : Type 0 where
   pub member : MemberContent
@@ -22,6 +29,35 @@ pub record ServerContent : Type 0 where
   pub unkept : ℕ  -- how many turns had no memory for all that they answered
   pub bodies : List BodyContent  -- the bodies whose blocks have not all come
   pub blocks : ℕ  -- how many datagrams were blocks that were answered without the store, or made a message whole
+  pub ids : List Lane  -- the message IDs of its own messages
+  pub unnumbered : ℕ  -- how many replies were not sent, since no message ID was free
+  pub told : ToldContent  -- what devices told
+  pub devices : DevicesContent  -- what is under way with devices
+  pub fault : Option TurnFault  -- what the last command failed by, until that is noted
+
+-- one of a member that has done nothing yet
+abbrev pub new_server : MemberContent → ℕ → Moment → Option (List ℕ) → ServerContent
+new_server member skew now page = record {
+  member = member;
+  skew = skew;
+  started = now;
+  latest = now;
+  tally = new_tally;
+  passed_over = 0;
+  page = page;
+  edge = new_edge;
+  away = false;
+  kept = [];
+  duplicates = 0;
+  unkept = 0;
+  bodies = [];
+  blocks = 0;
+  ids = first_lanes now;
+  unnumbered = 0;
+  told = new_told;
+  devices = new_devices now;
+  fault = None;
+}
 
 -- what no turn changes
 pub record Stays (old new : ServerContent) : Type 0 where
@@ -31,6 +67,11 @@ pub record Stays (old new : ServerContent) : Type 0 where
   pub page : new.page ≡ old.page
   pub edge : new.edge ≡ old.edge
   pub away : new.away ≡ old.away
+  pub ids : new.ids ≡ old.ids
+  pub unnumbered : new.unnumbered ≡ old.unnumbered
+  pub told : new.told ≡ old.told
+  pub devices : new.devices ≡ old.devices
+  pub fault : new.fault ≡ old.fault
 
 -- no request that was answered is kept more, and none less
 pub record KeepsStill (old new : ServerContent) : Type 0 where

@@ -1,3 +1,4 @@
 pub mod Batches
 pub mod Settling
 pub mod Sorting
+pub mod Devices

@@ -1,22 +1,27 @@
 //! How a run goes on: turns, what they failed by, and what ends them.
 
-ghost use Rattle.std.specs.Prelude.{◌≤◌, length, IfErr};
+ghost use Rattle.std.specs.Prelude.{◌≤◌, length, IfOk};
+ghost use Rattle.lw_run.specs.Front.{IsWithin};
 
+use crate::hearing::is_report;
 use crate::receiving::{pass_over, receive};
 use crate::telling::Refusals;
-use crate::{Compaction, Front, Metered, RunFault, Server, TurnFault};
-use log::{Log, info, warn};
+use crate::{Compaction, Front, Heard, Metered, Passage, Progress, RunFault, Server, TurnFault};
+use log::{Log, debug, info, warn};
 use lw_log::DeltaLog;
-use lw_metrics::Responses;
 use lw_reg::Addr;
 use lw_stamp::Moment;
-use lw_wire::{Datagram, HostClock};
+use lw_wire::{Datagram, HostClock, WireFault, socket_address_of};
+use std::time::Duration;
 
 /// How many faults of the front, or turns without memory, in a row end a run.
 const FAULTS_IN_A_ROW: u32 = 1_000;
 
 /// How many turns after a compaction that was put off it is tried again.
 const TURNS_BETWEEN_COMPACTIONS: u32 = 1_000;
+
+/// How many steps with devices are made in a turn.
+const STEPS_A_TURN: u32 = 4_096;
 
 /// How many microseconds a millisecond has.
 const MICROSECONDS: u64 = 1_000;
@@ -57,9 +62,46 @@ impl<G: DeltaLog + Metered, C: HostClock + Drop> Course<G, C> {
         course
     }
 
-    /// Who is asked by visitors.
-    pub(crate) fn server(&self) -> &Server<G, C> {
-        &self.server
+    /// Has visitors ask the server until something comes.
+    pub(crate) fn attend<F: Front>(
+        self,
+        front: &mut F,
+        buffer: &mut [u8],
+        wait: Duration,
+    ) -> (Course<G, C>, Result<Heard, WireFault>)
+        ensures { IfOk result.1 (IsWithin (length buffer.new)) }
+    {
+        let Course {
+            server,
+            faults,
+            starved,
+            compaction,
+            rest,
+            has_lost,
+            last,
+            refusals,
+        } = self;
+        let (server, heard) = front.attend(server, buffer, wait);
+        let mut course = Course {
+            server,
+            faults,
+            starved,
+            compaction,
+            rest,
+            has_lost,
+            last,
+            refusals,
+        };
+        course.server.edge.responses = front.responses();
+        (course, heard)
+    }
+
+    /// Notes how the last command went.
+    pub(crate) fn note_command<L: Log>(&mut self, log: &L) -> Result<(), RunFault> {
+        match self.server.take_fault() {
+            Some(fault) => self.end_turn(log, Err(fault)),
+            None => Ok(()),
+        }
     }
 
     /// A turn with the datagram that came, and with those that are there behind it. Where the log is away they are passed
@@ -77,7 +119,7 @@ impl<G: DeltaLog + Metered, C: HostClock + Drop> Course<G, C> {
         if self.server.away {
             let passed = pass_over(front, buffer);
             self.drop_datagrams(passed);
-            return self.tick(log);
+            return self.tick(front, log);
         }
         self.faults = 0;
         let made = self.try_take(front, log, buffer, count, from);
@@ -95,8 +137,60 @@ impl<G: DeltaLog + Metered, C: HostClock + Drop> Course<G, C> {
         requires { count ≤ length buffer.old }
     {
         let batch = receive(self.server.allocator(), front, buffer, count, from)?;
-        for (to, bytes) in self.sends_of(batch)? {
-            self.send(front, log, to, &bytes);
+        let batch = self.hear(front, log, batch)?;
+        if !batch.is_empty() {
+            for (to, bytes) in self.sends_of(batch)? {
+                self.send(front, log, to, bytes);
+            }
+        }
+        self.serve_devices(front, log)
+    }
+
+    /// Hears the datagrams before the store does: those that go on to it.
+    fn hear<F: Front, L: Log>(
+        &mut self,
+        front: &mut F,
+        log: &L,
+        batch: Vec<Datagram>,
+    ) -> Result<Vec<Datagram>, TurnFault> {
+        let alloc = self.server.allocator();
+        let mut passed = Vec::with_capacity(alloc, batch.len())?;
+        for datagram in batch {
+            match self.server.hear(&datagram)? {
+                Passage::Through if is_report(&datagram.bytes) => {
+                    self.report(front, log, datagram.from, &datagram.bytes)?;
+                }
+                Passage::Through => passed.push(datagram)?,
+                Passage::Whole(message) => self.report(front, log, datagram.from, &message)?,
+                Passage::Held(Some(reply)) => self.send(front, log, datagram.from, reply),
+                Passage::Held(None) => {}
+            }
+        }
+        Ok(passed)
+    }
+
+    /// Takes what a device reports, and answers it, if it is owed an answer.
+    fn report<F: Front, L: Log>(
+        &mut self,
+        front: &mut F,
+        log: &L,
+        from: Addr,
+        bytes: &[u8],
+    ) -> Result<(), TurnFault> {
+        if let Some(reply) = self.server.report(from, bytes)? {
+            self.send(front, log, from, reply);
+        }
+        Ok(())
+    }
+
+    /// Does what is left to do with devices, and sends the requests that are due.
+    fn serve_devices<F: Front, L: Log>(&mut self, front: &mut F, log: &L) -> Result<(), TurnFault> {
+        for _step in 0..STEPS_A_TURN {
+            match self.server.next_step()? {
+                Progress::Idle => return Ok(()),
+                Progress::Moved => {}
+                Progress::Sends(to, bytes) => self.send_request(front, log, to, &bytes),
+            }
         }
         Ok(())
     }
@@ -118,10 +212,26 @@ impl<G: DeltaLog + Metered, C: HostClock + Drop> Course<G, C> {
         edge.dropped = edge.dropped.saturating_add(count);
     }
 
-    /// Sends a reply. A fault is passed over.
-    fn send<F: Front, L: Log>(&mut self, front: &mut F, log: &L, to: Addr, bytes: &[u8]) {
+    /// Sends a reply, with a message ID of the server's own where it is not confirmable.
+    fn send<F: Front, L: Log>(&mut self, front: &mut F, log: &L, to: Addr, reply: Vec<u8>) {
+        let Some(bytes) = self.server.number(to, reply) else {
+            warn!(log; "no message ID");
+            return;
+        };
         self.refusals
-            .tell(log, self.server.latest().ms() / 1_000, to, bytes);
+            .tell(log, self.server.latest().ms() / 1_000, to, &bytes);
+        self.put_out(front, log, to, &bytes);
+    }
+
+    /// Sends a request to a device.
+    fn send_request<F: Front, L: Log>(&mut self, front: &mut F, log: &L, to: Addr, bytes: &[u8]) {
+        let address = socket_address_of(&to);
+        debug!(log; "request to={address}");
+        self.put_out(front, log, to, bytes);
+    }
+
+    /// Sends a datagram. A fault is passed over.
+    fn put_out<F: Front, L: Log>(&mut self, front: &mut F, log: &L, to: Addr, bytes: &[u8]) {
         if front.send(to, bytes).is_err() {
             let edge = &mut self.server.edge;
             edge.send_faults = edge.send_faults.saturating_add(1);
@@ -130,10 +240,23 @@ impl<G: DeltaLog + Metered, C: HostClock + Drop> Course<G, C> {
     }
 
     /// A turn without datagrams.
-    pub(crate) fn tick<L: Log>(&mut self, log: &L) -> Result<(), RunFault> {
+    pub(crate) fn tick<F: Front, L: Log>(
+        &mut self,
+        front: &mut F,
+        log: &L,
+    ) -> Result<(), RunFault> {
         self.faults = 0;
-        let made = self.server.tick();
+        let made = self.try_tick(front, log);
         self.end_turn(log, made)
+    }
+
+    fn try_tick<F: Front, L: Log>(&mut self, front: &mut F, log: &L) -> Result<(), TurnFault> {
+        self.server.tick()?;
+        if self.server.away {
+            // It is told first that the log is back.
+            return Ok(());
+        }
+        self.serve_devices(front, log)
     }
 
     /// A turn was made, or failed: whether the run goes on.
@@ -163,11 +286,6 @@ impl<G: DeltaLog + Metered, C: HostClock + Drop> Course<G, C> {
     /// Notes what the log was asked.
     fn note_log(&mut self) {
         self.server.edge.log = self.server.member.log().log_use();
-    }
-
-    /// Notes how visitors were answered.
-    pub(crate) fn note_responses(&mut self, responses: Responses) {
-        self.server.edge.responses = responses;
     }
 
     /// The front failed.

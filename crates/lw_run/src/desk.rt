@@ -1,16 +1,18 @@
 //! What a server tells over HTTP.
 
 ghost use Rattle.std.specs.Prelude.{◌≡◌, ◌↔◌, IfOk, IfSome, IsNone, false};
-ghost use Rattle.lw_run.specs.Desk.{about_of, health_status, serves, version, AreMeasures, IsMeasuredBy, TellsHealth, TellsMetrics, TellsOfNode, TellsPage};
+ghost use Rattle.lw_api.specs.Answers.{IsJson};
+ghost use Rattle.lw_target.specs.declared.desk.Status.TheVariants as statuses;
+ghost use Rattle.lw_run.specs.Desk.{about_of, health_status, serves, version, AreMeasures, AreRequestMeasures, IsMeasuredBy, TellsHealth, TellsMetrics, TellsNotifications, TellsOfNode, TellsPage};
 
-use crate::Server;
-use lw_api::{About, answer, not_found, numbers_of};
+use crate::{Done, Server, TurnFault};
+use lw_api::{About, answer, created, no_content, not_found, notifications, numbers_of, refused};
 use lw_log::DeltaLog;
-use lw_metrics::{Measures, NodeMeasures, metrics_text};
+use lw_metrics::{Measures, NodeMeasures, RequestMeasures, metrics_text};
 use lw_node::Node;
 use lw_print::health_text;
-use lw_stamp::NoMemory;
-use lw_target::{Answer, Asked, Desk, Media, Status};
+use lw_stamp::{NoMemory, Stamp};
+use lw_target::{Answer, Asked, Command, Desk, Media, Status};
 use lw_wire::HostClock;
 
 /// The version of the program.
@@ -19,18 +21,38 @@ const VERSION: &str = "0.1.0";
 /// What is told while the server is away.
 const AWAY: &str = r#"{"error":"away"}"#;
 
+/// What is told where there is no memory to do what was asked for.
+const NO_MEMORY: &str = r#"{"error":"no memory"}"#;
+
 impl<G: DeltaLog, C: HostClock + Drop> Desk for Server<G, C> {
     ghost use Rattle.lw_run.specs.Desk.{TellsOf};
 
     ghost tells = { λ server asked answer. TellsOf server asked answer };
+
+    ghost does = { λ old command answer new. Unit {0} };
 
     fn answer(&self, asked: &Asked) -> Result<Answer, NoMemory> {
         match asked {
             Asked::Page => self.page(),
             Asked::Health => self.health(),
             Asked::Metrics => self.metrics(),
+            Asked::Notifications { from, start, limit } => {
+                self.notifications(*from, *start, *limit)
+            }
             _ => self.of_node(asked),
         }
+    }
+
+    fn carry_out(&mut self, command: &Command) -> Option<Answer> {
+        let outcome = self.execute(command);
+        if let Err(fault) = outcome {
+            self.fault = Some(fault);
+        }
+        self.tell_outcome(outcome).ok()
+    }
+
+    fn wants_to_send(&self) -> bool {
+        self.fault.is_some() || self.devices.requests.is_due(self.latest)
     }
 }
 
@@ -60,7 +82,7 @@ impl<G: DeltaLog, C: HostClock + Drop> Server<G, C> {
     }
 
     /// The node, while the server serves.
-    fn node(&self) -> Option<&Node>
+    pub(crate) fn node(&self) -> Option<&Node>
         ensures node { IfSome result (λ node. node.now ≡ self.now.member.node) }
         ensures none { IsNone result ↔ (serves self.now ≡ false) }
     {
@@ -68,6 +90,60 @@ impl<G: DeltaLog, C: HostClock + Drop> Server<G, C> {
             return None;
         }
         self.member.node()
+    }
+
+    fn notifications(&self, from: u64, start: Option<u64>, limit: usize) -> Result<Answer, NoMemory>
+        ensures { IfOk result (TellsNotifications (serves self.now) self.now from start limit) }
+    {
+        if self.node().is_none() {
+            return self.unavailable(AWAY);
+        }
+        notifications(
+            self.alloc,
+            &self.told.notices,
+            self.about(),
+            from,
+            start,
+            limit,
+        )
+    }
+
+    /// What is told of a command, of which this has come.
+    fn tell_outcome(&self, outcome: Result<Done, TurnFault>) -> Result<Answer, NoMemory> {
+        match outcome {
+            Ok(done) => self.tell_done(done),
+            Err(fault) => self.unavailable(reason_of(fault)),
+        }
+    }
+
+    fn tell_done(&self, done: Done) -> Result<Answer, NoMemory> {
+        match done {
+            Done::Observed(token) => self.observed(token),
+            Done::Ended => self.ended(),
+            Done::NotFound => not_found(self.alloc),
+            Done::TooMany => self.unavailable(r#"{"error":"too many requests wait"}"#),
+            Done::ClockEnd => self.unavailable(r#"{"error":"end of the clock"}"#),
+            Done::NoMemory => self.unavailable(NO_MEMORY),
+            Done::Away => self.unavailable(AWAY),
+        }
+    }
+
+    fn ended(&self) -> Result<Answer, NoMemory> {
+        Ok(no_content(self.alloc))
+    }
+
+    /// That an observation was made.
+    fn observed(&self, token: Stamp) -> Result<Answer, NoMemory> {
+        match self.member.node() {
+            Some(node) => created(self.alloc, node, self.latest, token),
+            None => self.unavailable(AWAY),
+        }
+    }
+
+    fn unavailable(&self, text: &str) -> Result<Answer, NoMemory>
+        ensures { IfOk result (IsJson statuses.ServiceUnavailable text.now) }
+    {
+        refused(self.alloc, Status::ServiceUnavailable, text)
     }
 
     fn metrics(&self) -> Result<Answer, NoMemory>
@@ -98,6 +174,24 @@ impl<G: DeltaLog, C: HostClock + Drop> Server<G, C> {
             duplicates: self.duplicates,
             blocks: self.blocks,
             bodies: self.bodies.count() as u64,
+            requests: self.request_measures(),
+        }
+    }
+
+    fn request_measures(&self) -> RequestMeasures
+        ensures { AreRequestMeasures self.now result }
+    {
+        let counts = self.devices.counts;
+        RequestMeasures {
+            requests_sent: counts.sent,
+            requests_sent_again: counts.sent_again,
+            requests_reset: counts.reset,
+            requests_unanswered: counts.unanswered,
+            requests_waiting: self.devices.requests.count() as u64,
+            notifications_stale: self.told.stale,
+            notification_blocks: counts.blocks,
+            fetches: self.devices.fetches.count() as u64,
+            unnumbered: self.unnumbered,
         }
     }
 
@@ -128,12 +222,17 @@ impl<G: DeltaLog, C: HostClock + Drop> Server<G, C> {
     {
         match self.node() {
             Some(node) => answer(self.alloc, node, self.about(), self.latest, asked),
-            None => Ok(Answer {
-                status: Status::ServiceUnavailable,
-                media: Media::Json,
-                body: String::from_str(self.alloc, AWAY)?,
-            }),
+            None => self.unavailable(AWAY),
         }
+    }
+}
+
+/// Why a command was not carried out.
+fn reason_of(fault: TurnFault) -> &'static str {
+    match fault {
+        TurnFault::NoMemory => NO_MEMORY,
+        TurnFault::ClockRefused => r#"{"error":"clock refused"}"#,
+        TurnFault::Away | TurnFault::Lost | TurnFault::Member(_) => AWAY,
     }
 }
 

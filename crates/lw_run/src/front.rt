@@ -14,7 +14,7 @@ use std::time::Duration;
 pub enum Heard {
     /// A datagram: how many of its bytes stand in the buffer, and where it comes from.
     Datagram(usize, Addr),
-    /// The time is over.
+    /// The time is over, or the desk has something to send.
     Nothing,
     /// Nothing will come any more.
     End,
@@ -22,15 +22,15 @@ pub enum Heard {
 
 /// What datagrams come and go over, and visitors.
 pub trait Front {
-    /// Waits so long for a datagram, and has the desk answer visitors meanwhile. Bytes for which the buffer has no room
-    /// are lost.
-    fn attend<D: Desk>(
+    /// Waits so long for a datagram, and has the desk answer visitors meanwhile. As soon as they have left it something
+    /// to send, it waits no more. It gives the desk back. Bytes for which the buffer has no room are lost.
+    fn attend<D: Desk + Drop>(
         &mut self,
-        desk: &D,
+        desk: D,
         buffer: &mut [u8],
         time: Duration,
-    ) -> Result<Heard, WireFault>
-        ensures { IfOk result (IsWithin (length buffer.new)) };
+    ) -> (D, Result<Heard, WireFault>)
+        ensures { IfOk result.1 (IsWithin (length buffer.new)) };
 
     /// A datagram that is already there, without waiting.
     fn more(&mut self, buffer: &mut [u8]) -> Result<Option<(usize, Addr)>, WireFault>

@@ -4,21 +4,31 @@
 
 mod blocks;
 mod calling;
+mod commands;
 mod course;
 mod desk;
+mod devices;
 mod exchanges;
 mod fault;
 mod front;
+mod hearing;
+mod numbering;
+mod one_call;
 mod receiving;
 mod running;
 mod sending;
 mod server;
 mod settling;
+mod stepping;
 mod telling;
 mod timed;
+mod told;
 
+pub use commands::Done;
+pub use devices::{Progress, RequestCounts};
 pub use fault::{RunFault, TurnFault};
 pub use front::{Front, Heard};
+pub use hearing::Passage;
 pub use lw_log::{DeltaLog, LogFault};
 pub use lw_member::{Member, MemberFault};
 pub use lw_metrics::{LogUse, Responses};

@@ -26,11 +26,12 @@ pub fn run_on<F: Front, G: DeltaLog + Metered, C: HostClock + Drop, L: Log>(
     let mut buffer = vec![in server.allocator(); 0; BUFFER]?;
     let mut course = Course::new(server, compaction);
     for _turn in 0..u64::MAX {
-        let heard = front.attend(course.server(), &mut buffer, wait);
-        course.note_responses(front.responses());
+        let (attended, heard) = course.attend(front, &mut buffer, wait);
+        course = attended;
+        course.note_command(log)?;
         match heard {
             Ok(Heard::Datagram(count, from)) => course.take(front, log, &mut buffer, count, from)?,
-            Ok(Heard::Nothing) => course.tick(log)?,
+            Ok(Heard::Nothing) => course.tick(front, log)?,
             Ok(Heard::End) => return Ok(()),
             Err(WireFault) => course.fail(log)?,
         }

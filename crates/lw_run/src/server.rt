@@ -1,20 +1,21 @@
 //! A member that takes datagrams.
 
-ghost use Rattle.std.specs.Prelude.{◌≡◌, ◌↔◌, [], false, map, option_map, string_bytes, IfOk, OnErr, OnOk, IsTrue};
+ghost use Rattle.std.specs.Prelude.{◌≡◌, ◌↔◌, [], map, option_map, string_bytes, IfOk, OnErr, OnOk, IsTrue};
 ghost use Rattle.lw_member.specs.Compaction.{IsCompactionDue, IsCompacted, Compacts};
 ghost use Rattle.lw_member.specs.Own.{WritesOwn};
-ghost use Rattle.lw_metrics.specs.Counting.{new_tally, one_more};
-ghost use Rattle.lw_metrics.specs.Edge.{new_edge};
-ghost use Rattle.lw_run.specs.Server.{KeepsStill, Stays};
+ghost use Rattle.lw_metrics.specs.Counting.{one_more};
+ghost use Rattle.lw_run.specs.Server.{new_server, KeepsStill, Stays};
 ghost use Rattle.lw_run.specs.Turns.{IsTurn, GoesOn, sent};
 
 use crate::TurnFault;
 use crate::blocks::{any_lacks_block, sort};
 use crate::calling::moment_before;
+use crate::devices::Devices;
 use crate::exchanges::{fresh_of, keep_exchanges, with_unkept};
 use crate::sending::put_sends;
 use crate::settling::settle;
-use lw_exchange::{Bodies, Replies};
+use crate::told::Told;
+use lw_exchange::{Bodies, MessageIds, Replies};
 use lw_log::DeltaLog;
 use lw_member::Member;
 use lw_metrics::{Edge, Tally};
@@ -29,7 +30,7 @@ use std::marker::Model;
 pub struct Server<G: DeltaLog, C: HostClock + Drop> {
     pub(crate) alloc: Global,
     pub(crate) member: Member<G>,
-    clock: C,
+    pub(crate) clock: C,
     /// How many seconds the clocks of the fleet's servers may differ.
     skew: u32,
     pub(crate) started: Moment,
@@ -54,6 +55,16 @@ pub struct Server<G: DeltaLog, C: HostClock + Drop> {
     pub(crate) bodies: Bodies,
     /// How many datagrams were blocks that were answered without the store, or made a message whole.
     pub(crate) blocks: u64,
+    /// The message IDs of its own messages.
+    pub(crate) ids: MessageIds,
+    /// How many replies were not sent, since no message ID was free.
+    pub(crate) unnumbered: u64,
+    /// What devices told.
+    pub(crate) told: Told,
+    /// What is under way with devices.
+    pub(crate) devices: Devices,
+    /// What the last command failed by, until that is noted.
+    pub(crate) fault: Option<TurnFault>,
 }
 
 impl<G: DeltaLog, C: HostClock + Drop> Model for Server<G, C> {
@@ -81,6 +92,11 @@ impl<G: DeltaLog, C: HostClock + Drop> Model for Server<G, C> {
       unkept = s.unkept;
       bodies = s.bodies;
       blocks = s.blocks;
+      ids = s.ids;
+      unnumbered = s.unnumbered;
+      told = s.told;
+      devices = s.devices;
+      fault = s.fault;
     } };
 }
 
@@ -94,22 +110,7 @@ impl<G: DeltaLog, C: HostClock + Drop> Server<G, C> {
         now: Moment,
         page: Option<String>,
     ) -> Server<G, C>
-        ensures { result ≡ record {
-          member = member;
-          skew = skew;
-          started = now;
-          latest = now;
-          tally = new_tally;
-          passed_over = 0;
-          page = option_map string_bytes page;
-          edge = new_edge;
-          away = false;
-          kept = [];
-          duplicates = 0;
-          unkept = 0;
-          bodies = [];
-          blocks = 0;
-        } }
+        ensures { result ≡ new_server member skew now (option_map string_bytes page) }
     {
         Server {
             alloc,
@@ -128,6 +129,11 @@ impl<G: DeltaLog, C: HostClock + Drop> Server<G, C> {
             unkept: 0,
             bodies: Bodies::new(alloc),
             blocks: 0,
+            ids: MessageIds::new(now),
+            unnumbered: 0,
+            told: Told::new(alloc),
+            devices: Devices::new(alloc, now),
+            fault: None,
         }
     }
 
@@ -235,6 +241,11 @@ impl<G: DeltaLog, C: HostClock + Drop> Server<G, C> {
         ensures { result ≡ self.now.blocks }
     {
         self.blocks
+    }
+
+    /// What the last command failed by, once.
+    pub(crate) fn take_fault(&mut self) -> Option<TurnFault> {
+        self.fault.take()
     }
 
     pub(crate) fn allocator(&self) -> Global {

@@ -5,6 +5,7 @@ mod compacting;
 mod desk;
 mod front;
 mod measured;
+mod observing;
 mod refused;
 mod replies;
 mod runs;

@@ -1,11 +1,12 @@
 -- What each look-up of a table finds is the answer over the marks that can be read from its state, and over every
 -- set of marks whose state it is.
-use Rattle.std.proofs.Common.{◌≡◌, ℕ, List, Option, Some, None}
+use Rattle.std.proofs.Common.{◌≡◌, ◌↔◌, ℕ, List, Option, Some, None}
+use Rattle.std.specs.Prelude.{Contains, filter}
 use Rattle.std.specs.FinMap.{get}
 use Rattle.std.specs.List.Sorted.{IsStrictlySortedBy}
 use Rattle.lw_stamp.specs.declared.stamp.Stamp.{Stamp}
 use Rattle.lw_stamp.specs.TextOrder.{text_cmp}
-use Rattle.lw_due.specs.Due.{Entry}
+use Rattle.lw_due.specs.Due.{Entry, IsRising, is_after, kept_in}
 use Rattle.lw_index.specs.Index.{endpoints_of}
 use Rattle.lw_reg.specs.declared.addr.Addr.{Addr}
 use Rattle.lw_reg.specs.declared.path.Path.{Path}
@@ -22,7 +23,12 @@ use Rattle.lw_table.specs.Answers.{FirstAfter}
 use Rattle.lw_table.specs.inner.Found.{view_at, watch_at, holder_at, expired_at, if_after, first_of, last_of, holder_of, with_watch}
 use Rattle.lw_table.specs.Keys.{key_cmp}
 use Rattle.lw_table.specs.LookUps.{ById, ByAddress, ByToken, WatchOfIdAfter, ExpiredAfter}
-use Rattle.lw_table.specs.Table.{TableContent, IsTable}
+use Rattle.lw_table.specs.Pages.{IsPage}
+use Rattle.lw_table.specs.Table.{TableContent, IsKept, IsTable}
+use Rattle.lw_table.specs.inner.Due.{due_in}
+use Rattle.lw_table.specs.inner.Pages.{IsFoundUpTo}
+use Rattle.lw_table.proofs.KeptLemmas.{due_rise, expired_due, kept_rise, kept_there}
+use Rattle.lw_table.proofs.PageLemmas.{read_page, marks_page}
 use Rattle.lw_table.proofs.LookUpLemmas as answers
 
 module _ (state : State) (now : ℕ) where
@@ -32,20 +38,36 @@ module _ (state : State) (now : ℕ) where
   pub marks_by_endpoint : (e : List ℕ) (o : Option Registration) → o ≡ view_at now state e → (ms : List Mark) → NamesAll (among ms) → IsStateOf ms state → ShownOf (among ms) now e o
   marks_by_endpoint e o h ms p s = answers.by_endpoint (among ms) p state (answers.marks_tell ms p state s) now e o h
 
-module _ (names : List (List ℕ)) (keys : List (Key × List (List ℕ))) (numbers : List (ℕ × List ℕ)) (due : List Entry) (t : TableContent) (table : IsTable names keys numbers due t) (now : ℕ) where
+module _ (keys : List (Key × List (List ℕ))) (numbers : List (ℕ × List ℕ)) (due : List Entry) (t : TableContent) (table : IsTable keys numbers due t) (now : ℕ) where
   -- a set that the state tells of has the answer
-  module _ (after : Option (List ℕ)) (rise : IsStrictlySortedBy text_cmp names) where
-    pub read_first_after : (o : Option Registration) → o ≡ first_of (if_after after (view_at now t.state)) names → FirstAfter (shown_in t.state) now after o
-    read_first_after = answers.first_after (shown_in t.state) (answers.read_names t.state) t.state (answers.read_tells t.state) now names rise table.names_are after
+  module _ (after : Option (List ℕ)) (rising : IsRising due) where
+    kept_are : (e : List ℕ) → Contains (kept_in due) e ↔ IsKept (get t.state e)
+    kept_are e =
+        let there = kept_there e due rising in
+        (λ c. (table.kept_are e).0 (there.0 c), λ h. there.1 ((table.kept_are e).1 h))
 
-    pub marks_first_after : (o : Option Registration) → o ≡ first_of (if_after after (view_at now t.state)) names → (ms : List Mark) → NamesAll (among ms) → IsStateOf ms t.state → FirstAfter (among ms) now after o
-    marks_first_after o h ms p s = answers.first_after (among ms) p t.state (answers.marks_tell ms p t.state s) now names rise table.names_are after o h
+    due_are : (e : List ℕ) (x : List ℕ × Stamp) → expired_at now t.state e ≡ Some x → Contains (due_in now due) e
+    due_are e x found = expired_due now due e (get t.state e) x (table.due_below e) found
 
-    pub read_expired_after : (o : Option (List ℕ × Stamp)) → o ≡ first_of (if_after after (expired_at now t.state)) names → ExpiredAfter (shown_in t.state) now after o
-    read_expired_after = answers.expired_after (shown_in t.state) (answers.read_names t.state) t.state (answers.read_tells t.state) now names rise table.names_are after
+    pub read_first_after : (o : Option Registration) → o ≡ first_of (if_after after (view_at now t.state)) (kept_in due) → FirstAfter (shown_in t.state) now after o
+    read_first_after = answers.first_after (shown_in t.state) (answers.read_names t.state) t.state (answers.read_tells t.state) now (kept_in due) (kept_rise due rising) kept_are after
 
-    pub marks_expired_after : (o : Option (List ℕ × Stamp)) → o ≡ first_of (if_after after (expired_at now t.state)) names → (ms : List Mark) → NamesAll (among ms) → IsStateOf ms t.state → ExpiredAfter (among ms) now after o
-    marks_expired_after o h ms p s = answers.expired_after (among ms) p t.state (answers.marks_tell ms p t.state s) now names rise table.names_are after o h
+    pub marks_first_after : (o : Option Registration) → o ≡ first_of (if_after after (view_at now t.state)) (kept_in due) → (ms : List Mark) → NamesAll (among ms) → IsStateOf ms t.state → FirstAfter (among ms) now after o
+    marks_first_after o h ms p s = answers.first_after (among ms) p t.state (answers.marks_tell ms p t.state s) now (kept_in due) (kept_rise due rising) kept_are after o h
+
+    pub read_expired_after : (o : Option (List ℕ × Stamp)) → o ≡ first_of (if_after after (expired_at now t.state)) (due_in now due) → ExpiredAfter (shown_in t.state) now after o
+    read_expired_after = answers.expired_after (shown_in t.state) (answers.read_names t.state) t.state (answers.read_tells t.state) now (due_in now due) (due_rise now due rising) due_are after
+
+    pub marks_expired_after : (o : Option (List ℕ × Stamp)) → o ≡ first_of (if_after after (expired_at now t.state)) (due_in now due) → (ms : List Mark) → NamesAll (among ms) → IsStateOf ms t.state → ExpiredAfter (among ms) now after o
+    marks_expired_after o h ms p s = answers.expired_after (among ms) p t.state (answers.marks_tell ms p t.state s) now (due_in now due) (due_rise now due rising) due_are after o h
+
+    -- the page of those that are kept
+    module _ (next : Option (List ℕ)) (page : List Registration) (is : IsFoundUpTo (view_at now t.state) (filter (is_after after) (kept_in due)) next page) where
+      pub read_kept_page : IsPage (shown_in t.state) now after next page
+      read_kept_page = read_page t.state now (kept_in due) (kept_rise due rising) kept_are after next page is
+
+      pub marks_kept_page : (ms : List Mark) → NamesAll (among ms) → IsStateOf ms t.state → IsPage (among ms) now after next page
+      marks_kept_page = marks_page t.state now (kept_in due) (kept_rise due rising) kept_are after next page is
 
   abbrev Filed : Key → List (List ℕ)
   Filed = endpoints_of key_cmp keys

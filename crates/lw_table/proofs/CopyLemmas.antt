@@ -85,13 +85,13 @@ same_rows m n change same rows = record {
 }
 
 -- at first nothing is filed, and there is no row
-pub nothing_copied : (filed : Filed) (rows : Rows) → IsRows rows → filed.names ≡ [] → filed.keys ≡ [] → filed.numbers ≡ [] → ((e : List ℕ) → row_at rows e ≡ None) → AllFiled filed rows
-nothing_copied filed rows are no_names no_keys no_numbers none e =
-    filed_at filed rows are 0 (nothing_filed filed.names filed.keys filed.numbers filed.due rows are no_names no_keys no_numbers none) e
+pub nothing_copied : (filed : Filed) (rows : Rows) → IsRows rows → filed.keys ≡ [] → filed.numbers ≡ [] → filed.due ≡ [] → ((e : List ℕ) → row_at rows e ≡ None) → AllFiled filed rows
+nothing_copied filed rows are no_keys no_numbers no_due none e =
+    filed_at filed rows are 0 (nothing_filed filed.keys filed.numbers filed.due rows are no_keys no_numbers no_due none) e
 
 -- the table of a copy
-module _ (original rows : Rows) (filed : Filed) (copies : Copies original filed rows) (was : Filed) (change : ℕ) (are : IsRows original) (is : IsTable was.names was.keys was.numbers was.due (table_in original change)) where
-  pub copied_table : IsTable filed.names filed.keys filed.numbers filed.due (table_in rows change)
+module _ (original rows : Rows) (filed : Filed) (copies : Copies original filed rows) (was : Filed) (change : ℕ) (are : IsRows original) (is : IsTable was.keys was.numbers was.due (table_in original change)) where
+  pub copied_table : IsTable filed.keys filed.numbers filed.due (table_in rows change)
   copied_table = table_of filed rows copies.are_rows change copies.each_filed (same_rows original rows change copies.same (rows_of was original are change is))
 
   pub copied_content : table_in rows change ≡ table_in original change
@@ -116,13 +116,13 @@ rows_alike m n rows_m rows_n a b same e =
     (sym (get-number m rows_m e) ∙ ap (λ (t : TableContent). get t.count.numbers e) same ∙ get-number n rows_n e)
 
 -- a row is filed under its number
-pub row_filed : (filed : Filed) (m : Rows) (change : ℕ) → IsRows m → IsTable filed.names filed.keys filed.numbers filed.due (table_in m change)
+pub row_filed : (filed : Filed) (m : Rows) (change : ℕ) → IsRows m → IsTable filed.keys filed.numbers filed.due (table_in m change)
     → (e : List ℕ) (row : Row) → row_at m e ≡ Some row → IsUnder filed.numbers row.number e
 row_filed filed m change rows_m is e row h = (is.numbers_are row.number e).1 (get-number m rows_m e ∙ ap number_of h)
 
 -- Where each endpoint that is filed beside either has the same row in both, each endpoint has.
 module _ (f g : Filed) (m n : Rows) (a b : ℕ) (rows_m : IsRows m) (rows_n : IsRows n) where
-  pub both_same : IsTable f.names f.keys f.numbers f.due (table_in m a) → IsTable g.names g.keys g.numbers g.due (table_in n b)
+  pub both_same : IsTable f.keys f.numbers f.due (table_in m a) → IsTable g.keys g.numbers g.due (table_in n b)
       → ((k : ℕ) (e : List ℕ) → IsUnder f.numbers k e → row_at m e ≡ row_at n e) → ((k : ℕ) (e : List ℕ) → IsUnder g.numbers k e → row_at m e ≡ row_at n e)
       → (e : List ℕ) → row_at m e ≡ row_at n e
   both_same is_m is_n left right e = go (row_at m e) (row_at n e) refl refl
@@ -134,7 +134,7 @@ module _ (f g : Filed) (m n : Rows) (a b : ℕ) (rows_m : IsRows m) (rows_n : Is
 
 -- tables whose rows and changes are the same
 module _ (f g : Filed) (m n : Rows) (a b : ℕ) (rows_m : IsRows m) (rows_n : IsRows n) where
-  pub same_content : IsTable f.names f.keys f.numbers f.due (table_in m a) → IsTable g.names g.keys g.numbers g.due (table_in n b) → a ≡ b
+  pub same_content : IsTable f.keys f.numbers f.due (table_in m a) → IsTable g.keys g.numbers g.due (table_in n b) → a ≡ b
       → ((k : ℕ) (e : List ℕ) → IsUnder f.numbers k e → row_at m e ≡ row_at n e) → ((k : ℕ) (e : List ℕ) → IsUnder g.numbers k e → row_at m e ≡ row_at n e)
       → table_in m a ≡ table_in n b
   same_content is_m is_n same left right =

@@ -10,7 +10,7 @@ use Rattle.lw_index.specs.Index.{Has, IsPair}
 use Rattle.lw_reg.specs.declared.slot.Slot.{Slot}
 use Rattle.lw_reg.proofs.Members.{none_there, there_or_first}
 use Rattle.lw_table.specs.inner.Due.{OtherDue}
-use Rattle.lw_table.specs.inner.Filed.{OtherKeys, OtherNames, OtherNumbers, OthersSame}
+use Rattle.lw_table.specs.inner.Filed.{OtherKeys, OtherNumbers, OthersSame}
 use Rattle.lw_table.specs.declared.filed.Filed.{Filed}
 use Rattle.lw_table.specs.Keys.{key_cmp, OptionHasKey}
 use Rattle.lw_table.specs.declared.key.Key.{Key}
@@ -129,23 +129,7 @@ dropping_step endpoint slot keys first old new i key within is lacks dropped d =
       ];
 }
 
--- ---- names
-pub names_itself : (endpoint : List ℕ) (now : List (List ℕ)) → OtherNames endpoint now now
-names_itself endpoint now = record { same = λ e other. (λ h. h, λ h. h) }
-
-module _ (endpoint : List ℕ) (old new : List (List ℕ)) (added : (e : List ℕ) → Contains new e ↔ (Contains old e ⊎ (e ≡ endpoint))) where
-  pub named_others : OtherNames endpoint old new
-  named_others = record { same = λ e other. (λ h. elim ((added e).0 h) [ inl was ↦ was | inr same ↦ absurd (other same) ], λ h. (added e).1 (inl h)) }
-
-  pub named_stays : Contains old endpoint → Contains new endpoint
-  named_stays h = (added endpoint).1 (inl h)
-
-  pub named_has : Contains new endpoint
-  named_has = (added endpoint).1 (inr refl)
-
-pub removed_others : (endpoint : List ℕ) (old new : List (List ℕ)) → ((e : List ℕ) → Contains new e ↔ (Contains old e × (e ≢ endpoint))) → OtherNames endpoint old new
-removed_others endpoint old new removed = record { same = λ e other. (λ h. ((removed e).0 h).0, λ h. (removed e).1 (h, other)) }
-
+-- ---- numbers and due moments
 pub either : {T E : Type 0} (P Q G : Type 0) (r : Result T E) → OnOk r P → OnErr r Q → (P → G) → (Q → G) → G
 either P Q G (Ok x) h k f g = f h
 either P Q G (Err e) h k f g = g k
@@ -157,12 +141,12 @@ pub one_number : (a b : ℕ) → ◌≡◌ {A = Option ℕ} (Some a) (Some b) �
 one_number a b h = cc
 
 -- other endpoints see nothing of a number
-pub numbered : (old : Filed) (e : List ℕ) (numbers : List (ℕ × List ℕ)) → OtherNumbers e old.numbers numbers → OthersSame old (record { names = old.names; keys = old.keys; numbers = numbers; due = old.due }) e
-numbered old e numbers h = record { same = λ o other. record { name = (λ w. w, λ w. w); keys = λ k. (λ w. w, λ w. w); numbers = λ n. h.same n o other; due = refl } }
+pub numbered : (old : Filed) (e : List ℕ) (numbers : List (ℕ × List ℕ)) → OtherNumbers e old.numbers numbers → OthersSame old (record { keys = old.keys; numbers = numbers; due = old.due }) e
+numbered old e numbers h = record { same = λ o other. record { keys = λ k. (λ w. w, λ w. w); numbers = λ n. h.same n o other; due = refl } }
 
 -- or of a due moment
-pub put_due : (old : Filed) (e : List ℕ) (due : List Entry) → OtherDue e old.due due → OthersSame old (record { names = old.names; keys = old.keys; numbers = old.numbers; due = due }) e
-put_due old e due h = record { same = λ o other. record { name = (λ w. w, λ w. w); keys = λ k. (λ w. w, λ w. w); numbers = λ n. (λ w. w, λ w. w); due = h.same o other } }
+pub put_due : (old : Filed) (e : List ℕ) (due : List Entry) → OtherDue e old.due due → OthersSame old (record { keys = old.keys; numbers = old.numbers; due = due }) e
+put_due old e due h = record { same = λ o other. record { keys = λ k. (λ w. w, λ w. w); numbers = λ n. (λ w. w, λ w. w); due = h.same o other } }
 
 pub same_due : (endpoint : List ℕ) (now : List Entry) → OtherDue endpoint now now
 same_due endpoint now = record { same = λ e other. refl }
@@ -174,8 +158,8 @@ pub on_ok : {T E : Type 0} (P Q : Type 0) (r : Result T E) → (P → Q) → OnO
 on_ok P Q (Ok x) f h = f h
 on_ok P Q (Err e) f h = h
 
-pub enter_others : (old new : Filed) (e : List ℕ) → OtherNames e old.names new.names → OtherKeys key_cmp e old.keys new.keys → OtherNumbers e old.numbers new.numbers → OtherDue e old.due new.due → OthersSame old new e
-enter_others old new e names keys numbers due = record { same = λ o other. record { name = names.same o other; keys = λ k. keys.same k o other; numbers = λ n. numbers.same n o other; due = due.same o other } }
+pub keyed : (old : Filed) (e : List ℕ) (keys : List (Key × List (List ℕ))) → OtherKeys key_cmp e old.keys keys → OthersSame old (record { keys = keys; numbers = old.numbers; due = old.due }) e
+keyed old e keys h = record { same = λ o other. record { keys = λ k. h.same k o other; numbers = λ n. (λ w. w, λ w. w); due = refl } }
 
 pub on_err : {T E : Type 0} (P Q : Type 0) (r : Result T E) → (P → Q) → OnErr r P → OnErr r Q
 on_err P Q (Ok x) f h = h

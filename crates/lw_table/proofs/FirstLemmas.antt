@@ -16,7 +16,7 @@ use Rattle.lw_reg.specs.OrderLaws.{text_order}
 use Rattle.lw_reg.specs.Registration.{Registration}
 use Rattle.lw_reg.proofs.Members.{none_there, first_there, more_there, there_or_first}
 use Rattle.lw_table.specs.inner.Found.{found_or, first_of, if_after, later_of, last_of}
-use Rattle.lw_table.specs.inner.Names.{is_after}
+use Rattle.lw_due.specs.Due.{is_after}
 
 -- what is below is at most
 below_at_most : (x y : List ℕ) → text_cmp x y ≡ Less → AtMost text_cmp x y
@@ -79,8 +79,16 @@ module _ {A : Type 0} (f : List ℕ → Option A) where
       go true rest = ap (found_or (f e)) rest
       go false rest = rest
 
-  pub first_above_same : (after : Option (List ℕ)) (es fs : List (List ℕ)) → filter (is_after after) es ≡ filter (is_after after) fs → first_of (if_after after f) es ≡ first_of (if_after after f) fs
-  first_above_same after es fs h = first_above after es ∙ ap (first_of f) h ∙ sym (first_above after fs)
+  -- where nothing is found at the next one, the walk goes on
+  pub passed_on : (after : Option (List ℕ)) (e : List ℕ) (es : List (List ℕ)) → filter (is_after after) es ≡ e ∷ filter (is_after (Some e)) es → f e ≡ None → first_of (if_after (Some e) f) es ≡ first_of (if_after after f) es
+  passed_on after e es next none =
+      first_above (Some e) es ∙ sym (first_above after es ∙ ap (first_of f) next ∙ ap (λ o. found_or o (first_of f (filter (is_after (Some e)) es))) none)
+
+  pub found_next : (after : Option (List ℕ)) (e : List ℕ) (es : List (List ℕ)) (a : A) → filter (is_after after) es ≡ e ∷ filter (is_after (Some e)) es → f e ≡ Some a → Some a ≡ first_of (if_after after f) es
+  found_next after e es a next some = sym (first_above after es ∙ ap (first_of f) next ∙ ap (λ o. found_or o (first_of f (filter (is_after (Some e)) es))) some)
+
+  pub found_nowhere : (after : Option (List ℕ)) (es : List (List ℕ)) → filter (is_after after) es ≡ [] → None ≡ first_of (if_after after f) es
+  found_nowhere after es none = sym (first_above after es ∙ ap (first_of f) none)
 
 -- ---- the first that fits
 module _ {A : Type 0} (at : A → List ℕ) (Fits Found : A → Type 0) where

@@ -1,5 +1,4 @@
 pub mod KeyLemmas
-pub mod NameLemmas
 pub mod OrderLemmas
 pub mod FiledLemmas
 pub mod KeyChangeLemmas
@@ -8,6 +7,7 @@ pub mod RowLemmas
 pub mod JoinLemmas
 pub mod DueLemmas
 pub mod CountLemmas
+pub mod KeptLemmas
 pub mod TableLemmas
 pub mod FirstLemmas
 pub mod LookUpLemmas

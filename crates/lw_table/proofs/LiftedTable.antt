@@ -1,12 +1,12 @@
 -- A table in which the registration of the first that is due ends.
-use Rattle.std.proofs.Common.{◌≡◌, ◌↔◌, ℕ, ◌-◌, ◌^◌, true, cond, List, [], Option, Some, None, refl, sym, ap, ◌∙◌, subst}
+use Rattle.std.proofs.Common.{◌≡◌, ◌↔◌, ℕ, ◌-◌, ◌^◌, Bool, true, cond, List, [], Option, Some, None, refl, sym, ap, ◌∙◌, subst}
 use Rattle.std.specs.Prelude.{bytes_eq, IsSomeAnd}
 use Rattle.std.specs.FinMap.{get}
 use Rattle.std.specs.Option.{IsSome}
 use Rattle.lw_stamp.specs.declared.moment.Moment.{Moment}
 use Rattle.lw_stamp.specs.declared.stamp.Stamp.{Stamp}
 use Rattle.lw_due.specs.Due.{Entry, IsRising, first_due, raised}
-use Rattle.lw_due.proofs.DueOfLemmas.{due_of-before_first, due_of-none_due, due_of-raised}
+use Rattle.lw_due.proofs.NoteLemmas.{due_of-before_first, due_of-none_due, due_of-raised, kept_of-raised}
 use Rattle.lw_recent.specs.Recent.{IsUnder}
 use Rattle.lw_reg.specs.declared.slot.Slot.{Slot}
 use Rattle.lw_reg.specs.Endpoint.{IsEndpoint}
@@ -19,13 +19,14 @@ use Rattle.lw_table.specs.declared.row.Row.{Row}
 use Rattle.lw_table.specs.declared.rows.Rows.{Rows}
 use Rattle.lw_table.specs.Changes.{counted}
 use Rattle.lw_table.specs.Due.{OptionHasDue}
+use Rattle.lw_table.specs.inner.Due.{KeepsKept}
 use Rattle.lw_table.specs.inner.Filed.{IsFiled, OthersSame, OtherNumbers, slot_of}
 use Rattle.lw_table.specs.inner.Found.{expired_at}
 use Rattle.lw_table.specs.Lifts.{Lifts}
 use Rattle.lw_table.specs.inner.Moves.{LiftsRowAt, WasSeen, moved_row, next_row}
 use Rattle.lw_table.specs.Rows.{IsRows, state_in, table_in}
 use Rattle.lw_table.specs.inner.Rows.{row_at}
-use Rattle.lw_table.specs.Table.{IsTable, TableContent}
+use Rattle.lw_table.specs.Table.{IsKept, IsTable, TableContent}
 use Rattle.lw_table.proofs.CountLemmas.{next_after, recount_one}
 use Rattle.lw_table.proofs.DueLemmas.{HasPassed, not_expired, others_raised}
 use Rattle.lw_table.proofs.FiledLemmas.{numbered, put_due}
@@ -41,11 +42,12 @@ one_slot a b h = ap of h
     of (Some x) = x
 
 -- due moments that were raised no further than the deadlines
-pub raised_table : (filed : Filed) (m : Rows) → IsRows m → (change : ℕ) (due : List Entry) → IsTable filed.names filed.keys filed.numbers filed.due (table_in m change)
+pub raised_table : (filed : Filed) (m : Rows) → IsRows m → (change : ℕ) (due : List Entry) → IsTable filed.keys filed.numbers filed.due (table_in m change)
     → ((e : List ℕ) → OptionHasDue filed.due e (slot_of (row_at m e)) → OptionHasDue due e (slot_of (row_at m e)))
-    → IsTable filed.names filed.keys filed.numbers due (table_in m change)
-raised_table filed m rows_m change due is below = record {
-  names_are = is.names_are;
+    → KeepsKept filed.due due
+    → IsTable filed.keys filed.numbers due (table_in m change)
+raised_table filed m rows_m change due is below kept = record {
+  kept_are = λ e. subst (λ (o : Option Bool). (o ≡ Some true) ↔ IsKept (get (state_in m) e)) (sym (kept e)) (is.kept_are e);
   keys_are = is.keys_are;
   numbers_are = is.numbers_are;
   due_below = λ e. subst (OptionHasDue due e) (sym (get-state m rows_m e)) (below e (subst (OptionHasDue filed.due e) (get-state m rows_m e) (is.due_below e)));
@@ -57,9 +59,9 @@ raised_table filed m rows_m change due is below = record {
 }
 
 -- where none is due none has expired
-pub none_found : (names : List (List ℕ)) (keys : List (Key × List (List ℕ))) (numbers : List (ℕ × List ℕ)) (due : List Entry) (t : TableContent) → IsTable names keys numbers due t
+pub none_found : (keys : List (Key × List (List ℕ))) (numbers : List (ℕ × List ℕ)) (due : List Entry) (t : TableContent) → IsTable keys numbers due t
     → (now : ℕ) → first_due now due ≡ None → (e : List ℕ) → expired_at now t.state e ≡ None
-none_found names keys numbers due t is now none e = not_expired_here now t.state e (not_expired now due e (get t.state e) (λ k h. due_of-none_due e now k due none h) (is.due_below e))
+none_found keys numbers due t is now none e = not_expired_here now t.state e (not_expired now due e (get t.state e) (λ k h. due_of-none_due e now k due none h) (is.due_below e))
 
 -- what has passed its deadline was seen
 pub passed_seen : (now : ℕ) (o : Option Row) → HasPassed now (slot_of o) → WasSeen o
@@ -68,7 +70,7 @@ passed_seen now (Some row) passed =
     let lasts = late_lasts now passed.slot passed.late in
     subst (λ s. IsSome (seen_of s)) (sym (one_slot row.slot passed.slot passed.is)) (lasting_seen passed.slot lasts.0 lasts.1)
 
-module _ (old : Filed) (m n : Rows) (rows_m : IsRows m) (change : ℕ) (was : IsTable old.names old.keys old.numbers old.due (table_in m change)) (e0 : List ℕ) (number : ℕ) (id : Stamp)
+module _ (old : Filed) (m n : Rows) (rows_m : IsRows m) (change : ℕ) (was : IsTable old.keys old.numbers old.due (table_in m change)) (e0 : List ℕ) (number : ℕ) (id : Stamp)
     (lifted : LiftsRowAt e0 number id m n) (now : ℕ) (passed : HasPassed now (slot_of (row_at m e0))) (first : first_due now old.due ≡ Some e0) (is_next : number ≡ counted change 1) where
   abbrev slot : Slot
   slot = lifted.was.slot
@@ -134,10 +136,10 @@ module _ (old : Filed) (m n : Rows) (rows_m : IsRows m) (change : ℕ) (was : Is
     due = raised now (2 ^ 64 - 1) old.due
 
     abbrev numbered_so : Filed
-    numbered_so = record { names = old.names; keys = old.keys; numbers = numbers; due = old.due }
+    numbered_so = record { keys = old.keys; numbers = numbers; due = old.due }
 
     abbrev after : Filed
-    after = record { names = old.names; keys = old.keys; numbers = numbers; due = due }
+    after = record { keys = old.keys; numbers = numbers; due = due }
 
     others : OthersSame old after e0
     others = others_then e0 old numbered_so after (numbered old e0 numbers other_numbers) (put_due numbered_so e0 due (others_raised e0 now (2 ^ 64 - 1) old.due first))
@@ -147,7 +149,7 @@ module _ (old : Filed) (m n : Rows) (rows_m : IsRows m) (change : ℕ) (was : Is
 
     filed : IsFiled after e0 (Some row)
     filed = record {
-      name = (λ h. keeps.is, λ h. filed_was.name.1 keeps.was);
+      kept = (λ h. keeps.is, λ h. kept_of-raised e0 now (2 ^ 64 - 1) old.due ∙ filed_was.kept.1 keeps.was);
       keys = λ k. (λ h. (keeps.keys k).1 ((filed_was.keys k).0 h), λ h. (filed_was.keys k).1 ((keeps.keys k).0 h));
       numbers = numbers_are;
       due = record {
@@ -157,7 +159,7 @@ module _ (old : Filed) (m n : Rows) (rows_m : IsRows m) (change : ℕ) (was : Is
       };
     }
 
-    pub lifted_table : IsTable old.names old.keys numbers due (table_in n number)
+    pub lifted_table : IsTable old.keys numbers due (table_in n number)
     lifted_table =
         let next = next_after change number is_next was.last in
         put_table old after m n rows_m lifted.put.rows change e0 others was row number put_at filed next.0 next.1 next.2 next.3 named

@@ -54,7 +54,7 @@ use Rattle.lw_table.specs.Answers.{IsAfter, IsFirstAnswer, IsShownAfter, FirstAf
 use Rattle.lw_table.specs.inner.Found.{view_with, both_of, stamp_of_write, view_at, watch_at, watch_with, holder_at, holder_with, expired_at, expired_with, named, if_after, first_of, last_of, holder_of, with_watch}
 use Rattle.lw_table.specs.Keys.{key_cmp, OptionHasKey}
 use Rattle.lw_table.specs.LookUps.{ById, IsHolder, ByAddress, HasToken, ByToken, WatchOfIdAfter, IsExpiredAfter, named_by, ExpiredAfter}
-use Rattle.lw_table.specs.inner.Names.{is_after}
+use Rattle.lw_due.specs.Due.{is_after}
 use Rattle.lw_table.specs.Table.{IsKept}
 use Rattle.lw_table.proofs.FirstLemmas.{IsFirstFit, first_fits, LastFound, last_found}
 
@@ -201,21 +201,17 @@ module _ (M : Marks) (names : NamesAll M) (state : State) (tells : Tells (Holds 
       go None h found = absurd cc
       go (Some slot) h found = late slot h (is_late now (registered_in [] slot)) refl found
 
-  expired_found : (r : Registration) → IsExpired M now r → IsKept (get state r.endpoint) × ((x : List ℕ × Stamp) × (expired_at now state r.endpoint ≡ Some x))
+  expired_found : (r : Registration) → IsExpired M now r → (x : List ℕ × Stamp) × (expired_at now state r.endpoint ≡ Some x)
   expired_found r expired = go (get state r.endpoint) refl
     where
-      go : (o : Option Slot) → get state r.endpoint ≡ o → IsKept o × ((x : List ℕ × Stamp) × (named r.endpoint (expired_with now o) ≡ Some x))
+      go : (o : Option Slot) → get state r.endpoint ≡ o → (x : List ℕ × Stamp) × (named r.endpoint (expired_with now o) ≡ Some x)
       go None h = absurd (unnamed r.endpoint h r.id expired.registered.complete.current.member)
       go (Some slot) h =
           let late = (expired_reads M r.endpoint (names r.endpoint) slot (slot_told r.endpoint slot h) now).1 (r, refl, expired) in
-          (not_removed (registered_in [] slot) refl late, ((r.endpoint, stamp_of slot), ap (λ b. named r.endpoint (cond b (Some (stamp_of slot)) None)) late))
-        where
-          not_removed : (v : Option Registration) → registered_in [] slot ≡ v → is_late now v ≡ true → ¬ IsRemoved slot
-          not_removed None is late = absurd cc
-          not_removed (Some v) is late = (registered_keeps [] slot v is).kept
+          ((r.endpoint, stamp_of slot), ap (λ b. named r.endpoint (cond b (Some (stamp_of slot)) None)) late)
 
   pub expired_none : ((e : List ℕ) → expired_at now state e ≡ None) → ExpiredAfter M now None None
-  expired_none none = λ r fits. (let found = expired_found r fits.1 in let bad : None ≡ Some found.1.0 = sym (none r.endpoint) ∙ found.1.1 in cc)
+  expired_none none = λ r fits. (let found = expired_found r fits.1 in let bad : None ≡ Some found.0 = sym (none r.endpoint) ∙ found.1 in cc)
 
   -- the least where one is found
   pub expired_first : (e : List ℕ) (id : Stamp) → expired_at now state e ≡ Some (e, id) → ((n : List ℕ) → text_cmp n e ≡ Less → expired_at now state n ≡ None) → ExpiredAfter M now None (Some (e, id))
@@ -232,7 +228,7 @@ module _ (M : Marks) (names : NamesAll M) (state : State) (tells : Tells (Holds 
           go Greater h =
               let none = less other.endpoint (text_order.total.antisymm other.endpoint e ∙ ap ordering_reverse h) in
               let there = expired_found other expired in
-              absurd (let bad : None ≡ Some there.1.0 = sym none ∙ there.1.1 in cc)
+              absurd (let bad : None ≡ Some there.0 = sym none ∙ there.1 in cc)
 
   -- ---- the first above
   module _ (kept : List (List ℕ)) (rise : IsStrictlySortedBy text_cmp kept) (kept_are : (e : List ℕ) → Contains kept e ↔ IsKept (get state e)) (after : Option (List ℕ)) where
@@ -257,25 +253,26 @@ module _ (M : Marks) (names : NamesAll M) (state : State) (tells : Tells (Holds 
         go None h = h
         go (Some r) h = record { fits = h.0; first = h.1 }
 
-    pub expired_after : (o : Option (List ℕ × Stamp)) → o ≡ first_of (if_after after (expired_at now state)) kept → ExpiredAfter M now after o
-    expired_after o is = go o (first_fits (λ x. x.0) Fits Fits (if_after after (expired_at now state)) kept rise sound whole o is)
+  module _ (due : List (List ℕ)) (rise : IsStrictlySortedBy text_cmp due) (due_are : (e : List ℕ) (x : List ℕ × Stamp) → expired_at now state e ≡ Some x → Contains due e) (after : Option (List ℕ)) where
+    pub expired_after : (o : Option (List ℕ × Stamp)) → o ≡ first_of (if_after after (expired_at now state)) due → ExpiredAfter M now after o
+    expired_after o is = go o (first_fits (λ x. x.0) Fits Fits (if_after after (expired_at now state)) due rise sound whole o is)
       where
         Fits : List ℕ × Stamp → Type 0
         Fits x = (r : Registration) × IsExpiredAfter M now after r × (x ≡ named_by r)
 
-        sound : (e : List ℕ) (x : List ℕ × Stamp) → Contains kept e → if_after after (expired_at now state) e ≡ Some x → (x.0 ≡ e) × Fits x
+        sound : (e : List ℕ) (x : List ℕ × Stamp) → Contains due e → if_after after (expired_at now state) e ≡ Some x → (x.0 ≡ e) × Fits x
         sound e x c h =
             let p = if_after_some after (expired_at now state) e x h in
             let s = expired_reads_at e x p.1 in
             (s.0, (s.1.0, (subst (IsAfter after) (sym s.0 ∙ ap (λ w. w.0) s.1.2) p.0, s.1.1), s.1.2))
 
-        whole_of : (r : Registration) → IsExpiredAfter M now after r → Contains kept r.endpoint × ((b : List ℕ × Stamp) × (if_after after (expired_at now state) r.endpoint ≡ Some b))
+        whole_of : (r : Registration) → IsExpiredAfter M now after r → Contains due r.endpoint × ((b : List ℕ × Stamp) × (if_after after (expired_at now state) r.endpoint ≡ Some b))
         whole_of r fits =
             let found = expired_found r fits.1 in
-            ((kept_are r.endpoint).1 found.0, (found.1.0, some_if_after after (expired_at now state) r.endpoint (Some found.1.0) fits.0 found.1.1))
+            (due_are r.endpoint found.0 found.1, (found.0, some_if_after after (expired_at now state) r.endpoint (Some found.0) fits.0 found.1))
 
-        whole : (x : List ℕ × Stamp) → Fits x → Contains kept x.0 × ((b : List ℕ × Stamp) × (if_after after (expired_at now state) x.0 ≡ Some b))
-        whole x fits = subst (λ k. Contains kept k × ((b : List ℕ × Stamp) × (if_after after (expired_at now state) k ≡ Some b))) (sym (ap (λ w. w.0) fits.2)) (whole_of fits.0 fits.1)
+        whole : (x : List ℕ × Stamp) → Fits x → Contains due x.0 × ((b : List ℕ × Stamp) × (if_after after (expired_at now state) x.0 ≡ Some b))
+        whole x fits = subst (λ k. Contains due k × ((b : List ℕ × Stamp) × (if_after after (expired_at now state) k ≡ Some b))) (sym (ap (λ w. w.0) fits.2)) (whole_of fits.0 fits.1)
 
         go : (o : Option (List ℕ × Stamp)) → IsFirstFit (λ x. x.0) Fits Fits o → ExpiredAfter M now after o
         go None h = λ r fits. h (named_by r) (r, fits, refl)

@@ -1,24 +1,13 @@
 -- What an endpoint is filed under while its row comes or moves.
-use Rattle.std.proofs.Common.{◌≡◌, ◌↔◌, ◌⊎◌, ◌∙◌, inl, inr, ℕ, Bool, true, false, not, List, Option, Some, None, Result, Ok, Err, refl, sym, subst}
-use Rattle.std.specs.Prelude.{OnOk, OnErr, IsErr, IsTrue, Contains}
-use Rattle.std.specs.Ordering.{match_ordering}
-use Rattle.std.specs.declared.cmp.Ordering.{Ordering}
-use Rattle.std.specs.declared.cmp.Ordering.TheVariants.{Less, Equal, Greater}
-use Rattle.lw_stamp.specs.declared.stamp.Stamp.{Stamp}
-use Rattle.lw_stamp.specs.StampOrder.{stamp_cmp}
-use Rattle.lw_due.specs.Due.{Entry}
+use Rattle.std.proofs.Common.{◌≡◌, ◌↔◌, ◌∙◌, inl, inr, ℕ, true, List, Option, Some, None, Result, Ok, Err, refl, sym, ap, subst}
+use Rattle.std.specs.Prelude.{OnOk, OnErr, IsErr}
+use Rattle.lw_due.specs.Due.{Entry, kept_of}
 use Rattle.lw_index.specs.Index.{Has}
 use Rattle.lw_recent.specs.Recent.{IsUnder}
 use Rattle.lw_table.specs.Keys.{key_cmp}
-use Rattle.lw_join.specs.Lex.{lex_of}
-use Rattle.lw_join.specs.OrGone.{gone_join}
-use Rattle.lw_join.specs.declared.or_gone.OrGone.{OrGone}
-use Rattle.lw_join.specs.declared.or_gone.OrGone.TheVariants.{Here, Gone}
-use Rattle.lw_reg.specs.declared.body.Body.{Body}
 use Rattle.lw_reg.specs.declared.slot.Slot.{Slot}
-use Rattle.lw_reg.specs.Body.{body_join}
 use Rattle.lw_reg.specs.Reading.{IsRemoved}
-use Rattle.lw_reg.specs.Slot.{slot_at, slot_join}
+use Rattle.lw_reg.specs.Slot.{slot_join}
 use Rattle.lw_table.specs.Due.{HasDue, OptionHasDue}
 use Rattle.lw_table.specs.inner.Filed.{IsFiled, IsOver, OthersSame, IsBetween, HasAll, number_of, slot_of}
 use Rattle.lw_table.specs.inner.Moves.{moved_row}
@@ -35,79 +24,38 @@ pub err_not : {T E : Type 0} (P : Type 0) (r : Result T E) → IsErr r → OnOk 
 err_not P (Ok x) h = absurd cc
 err_not P (Err e) h = tt
 
-pub kept_is : (slot : Slot) (r : Bool) → (IsTrue r ↔ IsRemoved slot) → (not r ≡ true) ↔ (IsRemoved slot → ⊥)
-kept_is slot true h = (λ e. absurd cc, λ here. absurd (here (h.0 refl)))
-kept_is slot false h = (λ e gone. (let bad : false ≡ true = h.1 gone in absurd cc), λ here. refl)
-
-here_or_gone : (v : OrGone Body) → (v ≡ Gone) ⊎ (v ≡ Gone → ⊥)
-here_or_gone Gone = inl refl
-here_or_gone (Here b) = inr (λ e. absurd cc)
-
-abbrev gone : OrGone Body
-gone = Gone
-
-gone_by : (r : Ordering) (s t : Stamp) → (lex_of (match_ordering r (t, gone) (s, gone_join body_join gone gone) (s, gone))).value ≡ gone
-gone_by Less s t = refl
-gone_by Equal s t = refl
-gone_by Greater s t = refl
-
-both_gone : (s t : Stamp) (x y : OrGone Body) → x ≡ Gone → y ≡ Gone → IsRemoved (slot_join (slot_at s x) (slot_at t y))
-both_gone s t x y h k =
-    subst (λ z. IsRemoved (slot_join (slot_at s z) (slot_at t y))) (sym h)
-    (subst (λ z. IsRemoved (slot_join (slot_at s Gone) (slot_at t z))) (sym k) (gone_by (stamp_cmp s t) s t))
-
--- a join that was not removed is of slots of which one was not
-pub kept_from : (x y : Slot) → (IsRemoved (slot_join x y) → ⊥) → (IsRemoved x → ⊥) ⊎ (IsRemoved y → ⊥)
-kept_from x y kept =
-    elim (here_or_gone x.registration.value) [
-      | inr here ↦ inl here
-      | inl gone ↦ elim (here_or_gone y.registration.value) [
-        | inr here ↦ inr here
-        | inl also ↦ absurd (kept (both_gone x.registration.stamp y.registration.stamp x.registration.value y.registration.value gone also))
-      ]
-    ]
-
-module _ (old new : Filed) (e : List ℕ) (kept : Bool) (keys : List Key) (between : IsBetween old new e kept keys) where
+module _ (old new : Filed) (e : List ℕ) (keys : List Key) (between : IsBetween old new e keys) where
   -- with the row as it was
   pub over_old : (row : Option Row) → IsFiled old e row → IsOver new e row keys
   over_old row filed = record {
-    name = λ h. between.name_stays (filed.name.1 h);
+    kept = λ h. ap (kept_of e) between.due ∙ filed.kept.1 h;
     keys_has = λ k h. between.keys_stay k ((filed.keys k).1 h);
     keys_from = λ k h. elim (between.keys_from k h) [ inl was ↦ inl ((filed.keys k).0 was) | inr listed ↦ inr listed ];
     numbers = λ n. subst (λ l. IsUnder l n e ↔ (number_of row ≡ Some n)) (sym between.numbers) (filed.numbers n);
     due = subst (λ l. OptionHasDue l e (slot_of row)) (sym between.due) filed.due;
   }
 
-  module _ (all : HasAll new e kept keys) (slot : Slot) (number : ℕ) (numbers : List (ℕ × List ℕ)) (numbers_are : (n : ℕ) → IsUnder numbers n e ↔ (Some number ≡ Some n)) (due : List Entry) where
+  module _ (all : HasAll new e keys) (slot : Slot) (number : ℕ) (numbers : List (ℕ × List ℕ)) (numbers_are : (n : ℕ) → IsUnder numbers n e ↔ (Some number ≡ Some n)) (due : List Entry) where
     abbrev after : Filed
-    after = record { names = new.names; keys = new.keys; numbers = numbers; due = due }
-
-    moved_name : (row : Row) → IsFiled old e (Some row) → (IsRemoved row.slot → (IsRemoved slot → ⊥) → kept ≡ true) → (IsRemoved (slot_join row.slot slot) → ⊥) → Contains new.names e
-    moved_name row filed revived h = elim (kept_from row.slot slot h) [
-      | inl was ↦ between.name_stays (filed.name.1 was)
-      | inr is ↦ elim (here_or_gone row.slot.registration.value) [
-        | inl gone ↦ all.has_name (revived gone is)
-        | inr was ↦ between.name_stays (filed.name.1 was)
-      ]
-    ]
+    after = record { keys = new.keys; numbers = numbers; due = due }
 
     -- with the row that moved
-    pub over_moved : (row : Row) → IsFiled old e (Some row) → (IsRemoved row.slot → (IsRemoved slot → ⊥) → kept ≡ true) → HasKeyChanges (Some row.slot) slot keys → HasDue due e (slot_join row.slot slot) → IsOver after e (Some (moved_row row slot number)) keys
-    over_moved row filed revived key_changes is_due = record {
-      name = moved_name row filed revived;
-      keys_has = λ k h. elim (key_changes.gained k h) [ inl was ↦ between.keys_stay k ((filed.keys k).1 was) | inr listed ↦ all.has_keys k listed ];
+    pub over_moved : (row : Row) → IsFiled old e (Some row) → HasKeyChanges (Some row.slot) slot keys → HasDue due e (slot_join row.slot slot) → ((IsRemoved (slot_join row.slot slot) → ⊥) → kept_of e due ≡ Some true) → IsOver after e (Some (moved_row row slot number)) keys
+    over_moved row filed key_changes is_due is_kept = record {
+      kept = is_kept;
+      keys_has = λ k h. elim (key_changes.gained k h) [ inl was ↦ between.keys_stay k ((filed.keys k).1 was) | inr listed ↦ all k listed ];
       keys_from = λ k h. elim (between.keys_from k h) [ inl was ↦ key_changes.lost k ((filed.keys k).0 was) | inr listed ↦ inr listed ];
       numbers = numbers_are;
       due = is_due;
     }
 
     -- with the first row
-    pub filed_first : ((kept ≡ true) ↔ (IsRemoved slot → ⊥)) → IsFiled old e None → HasKeyChanges None slot keys → HasDue due e slot → IsFiled after e (Some (record { slot = slot; number = number }))
+    pub filed_first : ((kept_of e due ≡ Some true) ↔ (IsRemoved slot → ⊥)) → IsFiled old e None → HasKeyChanges None slot keys → HasDue due e slot → IsFiled after e (Some (record { slot = slot; number = number }))
     filed_first is_kept filed key_changes is_due = record {
-      name = (λ h. elim (between.name_from h) [ inl was ↦ absurd (filed.name.0 was) | inr is ↦ is_kept.0 is ], λ h. all.has_name (is_kept.1 h));
+      kept = is_kept;
       keys = λ k. (
         λ h. elim (between.keys_from k h) [ inl was ↦ absurd ((filed.keys k).0 was) | inr listed ↦ key_changes.first refl k listed ],
-        λ h. elim (key_changes.gained k h) [ inl was ↦ absurd was | inr listed ↦ all.has_keys k listed ],
+        λ h. elim (key_changes.gained k h) [ inl was ↦ absurd was | inr listed ↦ all k listed ],
       );
       numbers = numbers_are;
       due = is_due;
@@ -117,7 +65,7 @@ module _ (old new : Filed) (e : List ℕ) (kept : Bool) (keys : List Key) (betwe
 pub over_none : (old new : Filed) (e : List ℕ) (slot : Slot) (number : ℕ) (keys : List Key) → new.keys ≡ old.keys → IsFiled old e (Some (record { slot = slot; number = number })) → HasKeyChanges None slot keys
     → ((n : ℕ) → IsUnder new.numbers n e → ⊥) → IsOver new e None keys
 over_none old new e slot number keys same filed key_changes none = record {
-  name = λ h. absurd h;
+  kept = λ h. absurd h;
   keys_has = λ k h. absurd h;
   keys_from = λ k h. key_changes.gained k ((filed.keys k).0 (subst (λ (l : List (Key × List (List ℕ))). Has key_cmp l k e) same h));
   numbers = λ n. (λ h. absurd (none n h), λ h. absurd cc);
@@ -126,9 +74,9 @@ over_none old new e slot number keys same filed key_changes none = record {
 
 -- where there is no row a due moment does not matter
 pub over_numbered : (filed : Filed) (e : List ℕ) (keys : List Key) → IsOver filed e None keys → (numbers : List (ℕ × List ℕ)) → numbers ≡ filed.numbers → (due : List Entry)
-    → IsOver (record { names = filed.names; keys = filed.keys; numbers = numbers; due = due }) e None keys
+    → IsOver (record { keys = filed.keys; numbers = numbers; due = due }) e None keys
 over_numbered filed e keys over numbers same due = record {
-  name = over.name;
+  kept = λ h. absurd h;
   keys_has = over.keys_has;
   keys_from = over.keys_from;
   numbers = λ n. subst (λ l. IsUnder l n e ↔ (number_of None ≡ Some n)) (sym same) (over.numbers n);
@@ -141,7 +89,6 @@ others_then e a b c h g = record {
       let x = h.same o other in
       let y = g.same o other in
       record {
-        name = (λ w. x.name.0 (y.name.0 w), λ w. y.name.1 (x.name.1 w));
         keys = λ k. (λ w. (x.keys k).0 ((y.keys k).0 w), λ w. (y.keys k).1 ((x.keys k).1 w));
         numbers = λ n. (λ w. (x.numbers n).0 ((y.numbers n).0 w), λ w. (y.numbers n).1 ((x.numbers n).1 w));
         due = y.due ∙ x.due;
@@ -149,4 +96,4 @@ others_then e a b c h g = record {
 }
 
 pub others_itself : (e : List ℕ) (a : Filed) → OthersSame a a e
-others_itself e a = record { same = λ o other. record { name = (λ w. w, λ w. w); keys = λ k. (λ w. w, λ w. w); numbers = λ n. (λ w. w, λ w. w); due = refl } }
+others_itself e a = record { same = λ o other. record { keys = λ k. (λ w. w, λ w. w); numbers = λ n. (λ w. w, λ w. w); due = refl } }

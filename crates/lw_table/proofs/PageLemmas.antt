@@ -22,7 +22,7 @@ use Rattle.lw_table.specs.Answers.{IsAfter, IsShownAfter, after_text}
 use Rattle.lw_table.specs.Pages.{IsUpTo, IsPage, MovesOn}
 use Rattle.lw_table.specs.Table.{IsKept}
 use Rattle.lw_table.specs.inner.Found.{view_at}
-use Rattle.lw_table.specs.inner.Names.{is_after}
+use Rattle.lw_due.specs.Due.{is_after}
 use Rattle.lw_table.specs.inner.Pages.{EndsIn, IsSeen, IsFoundUpTo}
 use Rattle.lw_table.proofs.FirstLemmas.{below_all}
 use Rattle.lw_table.proofs.LookUpLemmas.{view_reads, shown_kept, after_test, read_names, read_tells, marks_tell}
@@ -208,31 +208,24 @@ module _ (state : State) (now : ℕ) (kept : List (List ℕ)) (rise : IsStrictly
   marks_page ms p s = page_is (among ms) p state (marks_tell ms p state s) now kept rise kept_are after next page is
 
 -- ---- one step along the names
-module _ (found : List ℕ → Option Registration) (after : Option (List ℕ)) where
-  abbrev Left : List (List ℕ) → List (List ℕ)
-  Left = filter (is_after after)
+module _ (found : List ℕ → Option Registration) (all : List (List ℕ)) where
+  pub none_seen : IsSeen found all all None []
+  none_seen = record { seen = []; parts = refl; ends = refl; page_is = refl }
 
-  pub none_seen : (all left : List (List ℕ)) → Left left ≡ all → IsSeen found all (Left left) None []
-  none_seen all left same = record { seen = []; parts = sym same; ends = refl; page_is = refl }
-
-  -- one that is not above is passed over
-  pub passed_over : (all rest : List (List ℕ)) (e : List ℕ) (last : Option (List ℕ)) (page : List Registration) → is_after after e ≡ false → IsSeen found all (Left (e ∷ rest)) last page → IsSeen found all (Left rest) last page
-  passed_over all rest e last page below walked = subst (λ l. IsSeen found all l last page) (ap (λ b. cond b (e ∷ Left rest) (Left rest)) below) walked
-
-  pub seen_more : (all rest : List (List ℕ)) (e : List ℕ) (last : Option (List ℕ)) (page new : List Registration) → is_after after e ≡ true → IsSeen found all (Left (e ∷ rest)) last page → new ≡ page ++ cons_option (found e) [] → IsSeen found all (Left rest) (Some e) new
-  seen_more all rest e last page new above walked is = record {
+  pub seen_more : (left rest : List (List ℕ)) (e : List ℕ) (last : Option (List ℕ)) (page new : List Registration) → left ≡ e ∷ rest → IsSeen found all left last page → new ≡ page ++ cons_option (found e) [] → IsSeen found all rest (Some e) new
+  seen_more left rest e last page new next walked is = record {
     seen = walked.seen ++ e ∷ [];
-    parts = walked.parts ∙ ap (λ b. walked.seen ++ cond b (e ∷ Left rest) (Left rest)) above ∙ one_by_one walked.seen;
+    parts = walked.parts ∙ ap (λ l. walked.seen ++ l) next ∙ one_by_one walked.seen;
     ends = (walked.seen, refl);
     page_is = is ∙ ap (λ l. l ++ cons_option (found e) []) walked.page_is ∙ sym (filter_map-append found walked.seen (e ∷ []));
   }
     where
-      one_by_one : (xs : List (List ℕ)) → xs ++ e ∷ Left rest ≡ (xs ++ e ∷ []) ++ Left rest
+      one_by_one : (xs : List (List ℕ)) → xs ++ e ∷ rest ≡ (xs ++ e ∷ []) ++ rest
       one_by_one [] = refl
       one_by_one (x ∷ xs) = ap (λ l. x ∷ l) (one_by_one xs)
 
-  pub all_seen : (all : List (List ℕ)) (last : Option (List ℕ)) (page : List Registration) → IsSeen found all (Left []) last page → page ≡ filter_map found all
-  all_seen all last page walked = walked.page_is ∙ ap (filter_map found) (sym (nothing_behind walked.seen) ∙ sym walked.parts)
+  pub all_seen : (left : List (List ℕ)) (last : Option (List ℕ)) (page : List Registration) → left ≡ [] → IsSeen found all left last page → page ≡ filter_map found all
+  all_seen left last page none walked = walked.page_is ∙ ap (filter_map found) (sym (nothing_behind walked.seen) ∙ ap (λ l. walked.seen ++ l) (sym none) ∙ sym walked.parts)
     where
       nothing_behind : (xs : List (List ℕ)) → xs ++ [] ≡ xs
       nothing_behind [] = refl

@@ -124,7 +124,7 @@ some_there None h = absurd (let bad : false ≡ true = h in cc)
 some_there (Some n) h = (n, refl)
 
 -- all have moved, at the last number
-pub all_since : (filed : Filed) (table : TableContent) (since : ℕ) (names : List (List ℕ)) → IsTable filed.names filed.keys filed.numbers filed.due table → table.count.change ≡ LAST
+pub all_since : (filed : Filed) (table : TableContent) (since : ℕ) (names : List (List ℕ)) → IsTable filed.keys filed.numbers filed.due table → table.count.change ≡ LAST
     → AreSince None filed.numbers names → (e : List ℕ) (slot : Slot) → get table.state e ≡ Some slot → Contains names e ↔ IsSince table.count since e
 all_since filed table since names is last are e slot h = (
   λ c. inl last,

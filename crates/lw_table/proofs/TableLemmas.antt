@@ -1,6 +1,6 @@
 -- A table row by row: its state, its numbers, and what is filed beside.
 use Rattle.std.proofs.Common.{◌≡◌, ◌≢◌, ◌↔◌, ℕ, ◌<◌, ◌≤◌, Bool, true, false, cond, List, [], Option, Some, None, refl, sym, ap, ◌∙◌, subst, arith}
-use Rattle.std.specs.Prelude.{Contains, bytes_eq, IsSome}
+use Rattle.std.specs.Prelude.{bytes_eq, IsSome}
 use Rattle.std.specs.Option.{option_map}
 use Rattle.std.specs.FinMap.{get, get-empty}
 use Rattle.std.specs.Ordering.{eq_by_cmp}
@@ -19,7 +19,7 @@ use Rattle.lw_table.specs.Changes.{LAST}
 use Rattle.lw_table.specs.Due.{OptionHasDue}
 use Rattle.lw_table.specs.inner.Filed.{IsFiled, OthersSame, slot_of, number_of}
 use Rattle.std.specs.declared.cmp.Ordering.{Ordering}
-use Rattle.lw_due.specs.Due.{Entry}
+use Rattle.lw_due.specs.Due.{Entry, kept_of, note_of}
 use Rattle.lw_index.specs.Index.{Has}
 use Rattle.lw_recent.specs.Recent.{IsUnder}
 use Rattle.lw_reg.proofs.Members.{none_there}
@@ -56,9 +56,9 @@ slot_some : (o : Option Row) → IsSome (slot_of o) ↔ IsSome (number_of o)
 slot_some None = (λ h. h, λ h. h)
 slot_some (Some row) = (λ h. h, λ h. h)
 
-pub filed_at : (filed : Filed) (m : Rows) → IsRows m → (change : ℕ) → IsTable filed.names filed.keys filed.numbers filed.due (table_in m change) → (e : List ℕ) → IsFiled filed e (row_at m e)
+pub filed_at : (filed : Filed) (m : Rows) → IsRows m → (change : ℕ) → IsTable filed.keys filed.numbers filed.due (table_in m change) → (e : List ℕ) → IsFiled filed e (row_at m e)
 filed_at filed m rows_m change is e = record {
-  name = subst (λ o. Contains filed.names e ↔ IsKept o) (get-state m rows_m e) (is.names_are e);
+  kept = subst (λ o. (kept_of e filed.due ≡ Some true) ↔ IsKept o) (get-state m rows_m e) (is.kept_are e);
   keys = λ k. subst (λ o. Has key_cmp filed.keys k e ↔ OptionHasKey o k) (get-state m rows_m e) (is.keys_are k e);
   numbers = λ n. subst (λ o. IsUnder filed.numbers n e ↔ (o ≡ Some n)) (get-number m rows_m e) (is.numbers_are n e);
   due = subst (OptionHasDue filed.due e) (get-state m rows_m e) (is.due_below e);
@@ -71,7 +71,7 @@ pub record AreRows (m : Rows) (change : ℕ) : Type 0 where
   pub last : change ≤ LAST
   pub endpoints : (e : List ℕ) → IsSome (slot_of (row_at m e)) → IsEndpoint e
 
-pub rows_of : (filed : Filed) (m : Rows) → IsRows m → (change : ℕ) → IsTable filed.names filed.keys filed.numbers filed.due (table_in m change) → AreRows m change
+pub rows_of : (filed : Filed) (m : Rows) → IsRows m → (change : ℕ) → IsTable filed.keys filed.numbers filed.due (table_in m change) → AreRows m change
 rows_of filed m rows_m change is = record {
   within = λ e n h. is.within n e (get-number m rows_m e ∙ h);
   alone = λ d e n below h k. is.alone n d e below (get-number m rows_m d ∙ h) (get-number m rows_m e ∙ k);
@@ -79,9 +79,9 @@ rows_of filed m rows_m change is = record {
   endpoints = λ e h. is.endpoints e (subst IsSome (sym (get-state m rows_m e)) h);
 }
 
-pub table_of : (filed : Filed) (m : Rows) → IsRows m → (change : ℕ) → ((e : List ℕ) → IsFiled filed e (row_at m e)) → AreRows m change → IsTable filed.names filed.keys filed.numbers filed.due (table_in m change)
+pub table_of : (filed : Filed) (m : Rows) → IsRows m → (change : ℕ) → ((e : List ℕ) → IsFiled filed e (row_at m e)) → AreRows m change → IsTable filed.keys filed.numbers filed.due (table_in m change)
 table_of filed m rows_m change each rows = record {
-  names_are = λ e. subst (λ o. Contains filed.names e ↔ IsKept o) (sym (get-state m rows_m e)) (each e).name;
+  kept_are = λ e. subst (λ o. (kept_of e filed.due ≡ Some true) ↔ IsKept o) (sym (get-state m rows_m e)) (each e).kept;
   keys_are = λ k e. subst (λ o. Has key_cmp filed.keys k e ↔ OptionHasKey o k) (sym (get-state m rows_m e)) ((each e).keys k);
   numbers_are = λ n e. subst (λ o. IsUnder filed.numbers n e ↔ (o ≡ Some n)) (sym (get-number m rows_m e)) ((each e).numbers n);
   due_below = λ e. subst (OptionHasDue filed.due e) (sym (get-state m rows_m e)) (each e).due;
@@ -95,18 +95,21 @@ table_of filed m rows_m change each rows = record {
   endpoints = λ e h. rows.endpoints e (subst IsSome (get-state m rows_m e) h);
 }
 
+kept_so : (old new : List Entry) (e : List ℕ) (slot : Option Slot) → note_of e new ≡ note_of e old → (kept_of e old ≡ Some true) ↔ IsKept slot → (kept_of e new ≡ Some true) ↔ IsKept slot
+kept_so old new e slot same kept = subst (λ (o : Option Bool). (o ≡ Some true) ↔ IsKept slot) (sym (ap (option_map (λ note. note.0)) same)) kept
+
 pub same_filed : (old new : Filed) (e0 : List ℕ) → OthersSame old new e0 → (e : List ℕ) (row : Option Row) → e ≢ e0 → IsFiled old e row → IsFiled new e row
 same_filed old new e0 others e row other filed =
     let same = others.same e other in
     record {
-      name = (λ h. filed.name.0 (same.name.0 h), λ h. same.name.1 (filed.name.1 h));
+      kept = kept_so old.due new.due e (slot_of row) same.due filed.kept;
       keys = λ k. (λ h. (filed.keys k).0 ((same.keys k).0 h), λ h. (same.keys k).1 ((filed.keys k).1 h));
       numbers = λ n. (λ h. (filed.numbers n).0 ((same.numbers n).0 h), λ h. (same.numbers n).1 ((filed.numbers n).1 h));
       due = still_due old.due new.due e (slot_of row) same.due filed.due;
     }
 
 -- ---- one row is put
-module _ (old new : Filed) (m n : Rows) (rows_m : IsRows m) (rows_n : IsRows n) (change : ℕ) (e0 : List ℕ) (others : OthersSame old new e0) (was : IsTable old.names old.keys old.numbers old.due (table_in m change)) where
+module _ (old new : Filed) (m n : Rows) (rows_m : IsRows m) (rows_n : IsRows n) (change : ℕ) (e0 : List ℕ) (others : OthersSame old new e0) (was : IsTable old.keys old.numbers old.due (table_in m change)) where
   module _ (row : Row) (next : ℕ) (at : (e : List ℕ) → row_at n e ≡ cond (bytes_eq e0 e) (Some row) (row_at m e)) (filed : IsFiled new e0 (Some row)) where
     here : (e : List ℕ) → bytes_eq e0 e ≡ true → row_at n e ≡ Some row
     here e h = at e ∙ ap (λ b. cond b (Some row) (row_at m e)) h
@@ -127,7 +130,7 @@ module _ (old new : Filed) (m n : Rows) (rows_m : IsRows m) (rows_n : IsRows n) 
     not_taken : (row.number < LAST → change < row.number) → (e : List ℕ) (k : ℕ) → k < LAST → row.number ≡ k → k ≤ change → ⊥
     not_taken fresh e k below is taken = (let above = fresh (omega (arith, below, is)) in omega (arith, above, is, taken))
 
-    pub put_table : row.number ≤ next → change ≤ next → next ≤ LAST → (row.number < LAST → change < row.number) → IsEndpoint e0 → IsTable new.names new.keys new.numbers new.due (table_in n next)
+    pub put_table : row.number ≤ next → change ≤ next → next ≤ LAST → (row.number < LAST → change < row.number) → IsEndpoint e0 → IsTable new.keys new.numbers new.due (table_in n next)
     put_table given more last fresh endpoint =
         let rows = rows_of old m rows_m change was in
         table_of new n rows_n next put_each (record {
@@ -148,7 +151,7 @@ module _ (old new : Filed) (m n : Rows) (rows_m : IsRows m) (rows_n : IsRows n) 
         })
 
   -- no row changed
-  pub kept_table : ((e : List ℕ) → row_at n e ≡ row_at m e) → IsFiled new e0 (row_at m e0) → IsTable new.names new.keys new.numbers new.due (table_in n change)
+  pub kept_table : ((e : List ℕ) → row_at n e ≡ row_at m e) → IsFiled new e0 (row_at m e0) → IsTable new.keys new.numbers new.due (table_in n change)
   kept_table same filed =
       let rows = rows_of old m rows_m change was in
       table_of new n rows_n change
@@ -218,12 +221,12 @@ joined_state m n rows_m rows_n e0 slot number at = maps_alike text_order _ _ (λ
 no_pair : {K G : Type 0} (cmp : K → K → Ordering) (k : K) (e : List ℕ) → Has cmp [] k e → G
 no_pair cmp k e h = none_there e h
 
-pub nothing_filed : (names : List (List ℕ)) (keys : List (Key × List (List ℕ))) (numbers : List (ℕ × List ℕ)) (due : List Entry) (m : Rows) → IsRows m
-    → names ≡ [] → keys ≡ [] → numbers ≡ [] → ((e : List ℕ) → row_at m e ≡ None) → IsTable names keys numbers due (table_in m 0)
-nothing_filed names keys numbers due m rows_m no_names no_keys no_numbers none =
-    table_of (record { names = names; keys = keys; numbers = numbers; due = due }) m rows_m 0
-    (λ e. subst (IsFiled (record { names = names; keys = keys; numbers = numbers; due = due }) e) (sym (none e)) (record {
-      name = (λ h. none_there e (subst (λ l. Contains l e) no_names h), λ h. absurd h);
+pub nothing_filed : (keys : List (Key × List (List ℕ))) (numbers : List (ℕ × List ℕ)) (due : List Entry) (m : Rows) → IsRows m
+    → keys ≡ [] → numbers ≡ [] → due ≡ [] → ((e : List ℕ) → row_at m e ≡ None) → IsTable keys numbers due (table_in m 0)
+nothing_filed keys numbers due m rows_m no_keys no_numbers no_due none =
+    table_of (record { keys = keys; numbers = numbers; due = due }) m rows_m 0
+    (λ e. subst (IsFiled (record { keys = keys; numbers = numbers; due = due }) e) (sym (none e)) (record {
+      kept = (λ h. absurd (let bad : ◌≡◌ {A = Option Bool} None (Some true) = subst (λ l. kept_of e l ≡ Some true) no_due h in cc), λ h. absurd h);
       keys = λ k. (λ h. no_pair key_cmp k e (subst (λ l. Has key_cmp l k e) no_keys h), λ h. absurd h);
       numbers = λ n. (λ h. none_there (n, e) (subst (λ l. IsUnder l n e) no_numbers h), λ h. absurd cc);
       due = tt;

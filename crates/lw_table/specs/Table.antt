@@ -1,8 +1,8 @@
 -- What contracts see of a table: the state of all that is known, and the change numbers.
-use Rattle.std.specs.Prelude.{◌≡◌, ◌<◌, ◌≤◌, ◌↔◌, ℕ, List, Contains, Option, Some, None, IsSome, refl}
+use Rattle.std.specs.Prelude.{◌≡◌, ◌<◌, ◌≤◌, ◌↔◌, ℕ, List, true, Option, Some, None, IsSome, refl}
 use Rattle.std.specs.Coded.{Coded, coded×, coded_ℕ, coded_list, code_by}
 use Rattle.std.specs.FinMap.{empty, get, code}
-use Rattle.lw_due.specs.Due.{Entry}
+use Rattle.lw_due.specs.Due.{Entry, kept_of}
 use Rattle.lw_index.specs.Index.{Has}
 use Rattle.lw_recent.specs.Recent.{IsUnder}
 use Rattle.lw_reg.specs.Endpoint.{IsEndpoint}
@@ -45,11 +45,11 @@ abbrev pub IsKept : Option Slot → Type 0
 IsKept None = ⊥
 IsKept (Some slot) = ¬ IsRemoved slot
 
--- What is filed beside the slots. The names are the endpoints whose registration was not removed, rising; the
+-- What is filed beside the slots. The endpoints whose registration was not removed are kept among the due moments; the
 -- keys are the inverse of their slots; each endpoint is filed under its change number, alone below the last, and has
 -- one where it has a slot, and a due moment that is not after the deadline of that.
-pub record IsTable (names : List (List ℕ)) (keys : List (Key × List (List ℕ))) (numbers : List (ℕ × List ℕ)) (due : List Entry) (t : TableContent) : Type 0 where
-  pub names_are : (e : List ℕ) → Contains names e ↔ IsKept (get t.state e)
+pub record IsTable (keys : List (Key × List (List ℕ))) (numbers : List (ℕ × List ℕ)) (due : List Entry) (t : TableContent) : Type 0 where
+  pub kept_are : (e : List ℕ) → (kept_of e due ≡ Some true) ↔ IsKept (get t.state e)
   pub keys_are : (k : Key) (e : List ℕ) → Has key_cmp keys k e ↔ OptionHasKey (get t.state e) k
   pub numbers_are : (n : ℕ) (e : List ℕ) → IsUnder numbers n e ↔ (get t.count.numbers e ≡ Some n)
   pub due_below : (e : List ℕ) → OptionHasDue due e (get t.state e)

@@ -4,7 +4,6 @@ pub mod Filed
 pub mod Found
 pub mod Keys
 pub mod Moves
-pub mod Names
 pub mod Rows
 pub mod Since
 pub mod KeyChanges

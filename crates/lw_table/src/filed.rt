@@ -1,18 +1,19 @@
-//! What is filed beside the rows: the name, the keys, the change number and the due moment of each endpoint.
+//! What is filed beside the rows: the keys, the change number and the due moment of each endpoint.
 
-ghost use Rattle.std.specs.Prelude.{◌≡◌, ◌↔◌, ◌⊎◌, ◌≤◌, ℕ, true, false, List, [], Some, Contains, OnOk, OnErr, IsTrue};
+ghost use Rattle.std.specs.Prelude.{◌≡◌, ◌↔◌, ◌⊎◌, ◌≤◌, ℕ, true, false, List, [], Some, Contains, IsSome, OnOk, OnErr, IsTrue};
 ghost use Rattle.std.specs.Option.{option_copied};
+ghost use Rattle.lw_due.specs.Due.{note_of, kept_of, due_of};
 ghost use Rattle.lw_index.specs.Index.{Has};
 ghost use Rattle.lw_recent.specs.Recent.{IsUnder};
 ghost use Rattle.lw_table.specs.declared.key.Key.{Key as Keys};
+ghost use Rattle.lw_reg.specs.Reading.{IsRemoved};
 ghost use Rattle.lw_table.specs.Due.{HasDue};
 ghost use Rattle.lw_table.specs.inner.Due.{IsDueBy, OtherDue};
-ghost use Rattle.lw_table.specs.inner.Filed.{IsFiled, IsOver, OthersSame, OtherKeys, OtherNames, OtherNumbers, IsBetween, HasAll, slot_of};
+ghost use Rattle.lw_table.specs.inner.Filed.{IsFiled, IsOver, OthersSame, OtherKeys, OtherNumbers, IsBetween, HasAll, slot_of};
 ghost use Rattle.lw_table.specs.Keys.{key_cmp, HasKey, OptionHasKey};
 ghost use Rattle.lw_table.specs.Table.{IsKept};
 
 use crate::key::{Key, has};
-use crate::names::Names;
 use crate::row::Row;
 use lw_due::DueMoments;
 use lw_index::Index;
@@ -24,44 +25,34 @@ use std::alloc::Global;
 /// What is filed of the endpoints.
 #[derive(Drop)]
 pub(crate) struct Filed {
-    /// The endpoints whose registration was not removed.
-    pub(crate) names: Names,
-    /// Their keys.
+    /// The keys of the endpoints whose registration was not removed.
     pub(crate) keys: Index<Key>,
     /// The change number of each endpoint.
     pub(crate) numbers: Recent,
-    /// A moment of each endpoint before which it has not expired: it is at most the deadline of the slot.
+    /// A moment of each endpoint before which it has not expired: it is at most the deadline of the slot. Those whose
+    /// registration was not removed are kept.
     pub(crate) due: DueMoments,
 }
 
 impl Filed {
     pub(crate) fn new(alloc: Global) -> Filed
-        ensures names { result.names ≡ [] }
         ensures keys { result.keys ≡ [] }
         ensures numbers { result.numbers ≡ [] }
         ensures due { result.due ≡ [] }
     {
         Filed {
-            names: Names::new(alloc),
             keys: Index::new(alloc),
             numbers: Recent::new(alloc),
             due: DueMoments::new(alloc),
         }
     }
 
-    /// Files the endpoint under the keys, and its name if it is kept. What was filed before a refusal stays.
-    pub(crate) fn add(
-        &mut self,
-        alloc: Global,
-        endpoint: &str,
-        kept: bool,
-        keys: &[Key],
-    ) -> Result<(), NoMemory>
+    /// Files the endpoint under the keys. What was filed before a refusal stays.
+    pub(crate) fn add(&mut self, endpoint: &str, keys: &[Key]) -> Result<(), NoMemory>
         ensures others { OthersSame self.old self.new endpoint.now }
-        ensures between { IsBetween self.old self.new endpoint.now kept keys.now }
-        ensures all { OnOk result (HasAll self.new endpoint.now kept keys.now) }
+        ensures between { IsBetween self.old self.new endpoint.now keys.now }
+        ensures all { OnOk result (HasAll self.new endpoint.now keys.now) }
     {
-        file_name(&mut self.names, alloc, endpoint, kept)?;
         add_all(&mut self.keys, endpoint, keys)
     }
 
@@ -71,7 +62,7 @@ impl Filed {
         ensures others { OthersSame self.old self.new endpoint.now }
         ensures settled { IsFiled self.new endpoint.now (option_copied row.entry) }
     {
-        remove_stale_name(&mut self.names, endpoint, row);
+        keep_no_more(&mut self.due, endpoint, row);
         remove_lacking(&mut self.keys, endpoint, row, keys);
     }
 }
@@ -123,27 +114,17 @@ fn remove_lacking(index: &mut Index<Key>, endpoint: &str, row: Option<&Row>, key
     }
 }
 
-fn file_name(names: &mut Names, alloc: Global, endpoint: &str, kept: bool) -> Result<(), NoMemory>
-    ensures others { OtherNames endpoint.now names.old names.new }
-    ensures stay { Contains names.old endpoint.now → Contains names.new endpoint.now }
-    ensures from { Contains names.new endpoint.now → Contains names.old endpoint.now ⊎ (kept ≡ true) }
-    ensures all { OnOk result (kept ≡ true → Contains names.new endpoint.now) }
-{
-    if !kept {
-        return Ok(());
-    }
-    names.add(alloc, endpoint)
-}
-
-fn remove_stale_name(names: &mut Names, endpoint: &str, row: Option<&Row>)
-    requires { IsKept (slot_of (option_copied row)) → Contains names.old endpoint.now }
-    ensures others { OtherNames endpoint.now names.old names.new }
-    ensures name { Contains names.new endpoint.now ↔ IsKept (slot_of (option_copied row.entry)) }
+// Keeps the endpoint no more where its row does not say that it is.
+fn keep_no_more(due: &mut DueMoments, endpoint: &str, row: Option<&Row>)
+    requires { IsKept (slot_of (option_copied row)) → kept_of endpoint.now due.old ≡ Some true }
+    ensures others { OtherDue endpoint.now due.old due.new }
+    ensures due { due_of endpoint.now due.new ≡ due_of endpoint.now due.old }
+    ensures kept { (kept_of endpoint.now due.new ≡ Some true) ↔ IsKept (slot_of (option_copied row.entry)) }
 {
     if is_kept(row) {
         return;
     }
-    names.remove(endpoint);
+    due.keep(endpoint, false);
 }
 
 /// Files the endpoint, which has no number, under its first.
@@ -178,9 +159,10 @@ pub(crate) fn drop_number(numbers: &mut Recent, endpoint: &str, number: u64)
 pub(crate) fn add_due(due: &mut DueMoments, endpoint: &str, slot: &Slot) -> Result<(), NoMemory>
     ensures others { OtherDue endpoint.now due.old due.new }
     ensures due { OnOk result (HasDue due.new endpoint.now slot.now) }
+    ensures kept { OnOk result ((kept_of endpoint.now due.new ≡ Some true) ↔ ¬ IsRemoved slot.now) }
 {
     let moment = slot.deadline().unwrap_or(u64::MAX);
-    due.add(endpoint, moment)
+    due.add(endpoint, !slot.is_removed(), moment)
 }
 
 /// Lowers the due moment of the endpoint to the deadline of the slot, where that falls. It takes no memory.
@@ -188,11 +170,25 @@ pub(crate) fn lower_due(due: &mut DueMoments, endpoint: &str, before: Option<u64
     requires { IsDueBy due.old endpoint.now before }
     ensures others { OtherDue endpoint.now due.old due.new }
     ensures due { HasDue due.new endpoint.now slot.now }
+    ensures kept { kept_of endpoint.now due.new ≡ kept_of endpoint.now due.old }
 {
     if let Some(deadline) = slot.deadline() {
         if falls(before, deadline) {
             due.lower(endpoint, deadline);
         }
+    }
+}
+
+/// Keeps the endpoint, where its registration had been removed and the slot's was not. It takes no memory.
+pub(crate) fn keep_revived(due: &mut DueMoments, endpoint: &str, was_removed: bool, slot: &Slot)
+    requires there { IsSome (note_of endpoint.now due.old) }
+    requires kept { was_removed ≡ false → kept_of endpoint.now due.old ≡ Some true }
+    ensures others { OtherDue endpoint.now due.old due.new }
+    ensures due { due_of endpoint.now due.new ≡ due_of endpoint.now due.old }
+    ensures kept { ¬ IsRemoved slot.now → kept_of endpoint.now due.new ≡ Some true }
+{
+    if was_removed && !slot.is_removed() {
+        due.keep(endpoint, true);
     }
 }
 

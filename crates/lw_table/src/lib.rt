@@ -9,7 +9,6 @@ mod key_changes;
 mod lifts;
 mod look_ups;
 mod moves;
-mod names;
 mod pages;
 mod row;
 mod rows;

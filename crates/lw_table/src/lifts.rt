@@ -6,7 +6,7 @@ ghost use Rattle.lw_reg.specs.Marks.{Mark, NamesAll, among};
 ghost use Rattle.lw_reg.specs.Reading.{seen_of, shown_in};
 ghost use Rattle.lw_reg.specs.State.{IsStateOf};
 ghost use Rattle.lw_stamp.specs.Moment.{ms_of};
-ghost use Rattle.lw_table.specs.inner.Due.{KeepsDue, deadline_at};
+ghost use Rattle.lw_table.specs.inner.Due.{KeepsDue, KeepsKept, deadline_at};
 ghost use Rattle.lw_table.specs.inner.Filed.{HasNumber, OtherNumbers, slot_of, number_of};
 ghost use Rattle.lw_table.specs.Lifts.{LiftsFirst};
 ghost use Rattle.lw_table.specs.LookUps.{ExpiredAfter};
@@ -47,6 +47,7 @@ impl Table {
 fn raise_due(due: &mut DueMoments, rows: &Rows, now: u64)
     requires { IsRows rows.now }
     ensures below { KeepsDue (λ e. slot_of (row_at rows.now e)) due.old due.new }
+    ensures kept { KeepsKept due.old due.new }
     ensures first { IfSome (first_due now due.new) (λ e. deadline_at (slot_of (row_at rows.now e)) ≤ now) }
 {
     while let Some(endpoint) = due.first(now) {

@@ -5,6 +5,7 @@ ghost use Rattle.std.specs.Option.{option_copied, option_map};
 ghost use Rattle.std.specs.FinMap.{get};
 ghost use Rattle.std.specs.List.Sorted.{IsStrictlySortedBy};
 ghost use Rattle.lw_stamp.specs.TextOrder.{text_cmp};
+ghost use Rattle.lw_due.specs.Due.{IsRising, kept_in};
 ghost use Rattle.lw_reg.specs.Marks.{Mark, NamesAll, among};
 ghost use Rattle.lw_reg.specs.declared.slot.Slot.{Slot as Slots};
 ghost use Rattle.lw_reg.specs.Reading.{shown_in, has_token, is_above, live_watch};
@@ -12,15 +13,15 @@ ghost use Rattle.lw_reg.specs.Showing.{ShownOf};
 ghost use Rattle.lw_reg.specs.State.{IsStateOf};
 ghost use Rattle.lw_stamp.specs.Moment.{ms_of};
 ghost use Rattle.lw_table.specs.Answers.{FirstAfter, after_text};
+ghost use Rattle.lw_table.specs.inner.Due.{due_in};
 ghost use Rattle.lw_table.specs.inner.Found.{view_at, watch_at, holder_at, expired_at, expired_with, if_after, first_of, last_of, later_of, holder_of, with_watch};
 ghost use Rattle.lw_index.specs.Index.{endpoints_of};
 ghost use Rattle.lw_table.specs.Keys.{key_cmp};
 ghost use Rattle.lw_table.specs.LookUps.{ById, ByAddress, ByToken, WatchOfIdAfter, ExpiredAfter};
-ghost use Rattle.lw_table.specs.inner.Names.{is_after};
 
 use crate::key::Key;
-use crate::names::Names;
 use crate::table::Table;
+use lw_due::DueMoments;
 use lw_index::Index;
 use lw_reg::{Addr, Path, Slot, View, Watch};
 use lw_stamp::{Moment, Stamp};
@@ -37,8 +38,7 @@ impl Table {
     }
 
     /// The shown registration with the identifier. Each call below costs a descent, and one for each registration that
-    /// it passes over as expired. `by_address` looks at all that have the address, and a text longer than an endpoint is
-    /// looked for from the first name on.
+    /// it passes over as expired. `by_address` looks at all that have the address.
     pub fn by_id(&self, now: Moment, id: Stamp) -> Option<View<'_>>
         ensures read { ById (shown_in self.now.state) (ms_of now) id result }
         ensures marks { (ms : List Mark) → NamesAll (among ms) → IsStateOf ms self.now.state
@@ -89,18 +89,18 @@ impl Table {
         ensures marks { (ms : List Mark) → NamesAll (among ms) → IsStateOf ms self.now.state
             → FirstAfter (among ms) (ms_of now) (after_text after.entry) result }
     {
-        self.first_shown_after(now, after, &self.filed.names)
+        self.first_shown_after(now, after, &self.filed.due)
     }
 
     /// The least endpoint above the given one, or of all, whose registration has expired, and its identifier.
-    /// It passes over those that are shown.
+    /// It passes over those whose due moment has come before their deadline.
     pub fn expired_after(&self, now: Moment, after: Option<&str>) -> Option<(&str, Stamp)>
         ensures read { ExpiredAfter (shown_in self.now.state) (ms_of now) (after_text after.entry)
             (option_map (λ x. (x.0.now, x.1)) result) }
         ensures marks { (ms : List Mark) → NamesAll (among ms) → IsStateOf ms self.now.state
             → ExpiredAfter (among ms) (ms_of now) (after_text after.entry) (option_map (λ x. (x.0.now, x.1)) result) }
     {
-        self.first_expired(now, after, &self.filed.names)
+        self.first_expired(now, after, &self.filed.due)
     }
 
     /// The slot of the endpoint, with the endpoint's text as it is kept.
@@ -202,17 +202,22 @@ impl Table {
         last
     }
 
-    fn first_shown_after(&self, now: Moment, after: Option<&str>, names: &Names) -> Option<View<'_>>
+    fn first_shown_after(
+        &self,
+        now: Moment,
+        after: Option<&str>,
+        due: &DueMoments,
+    ) -> Option<View<'_>>
         ensures found { result
-            ≡ first_of (if_after (after_text after.entry) (view_at (ms_of now) self.now.state)) names.now }
-        ensures rise { IsStrictlySortedBy text_cmp names.now }
+            ≡ first_of (if_after (after_text after.entry) (view_at (ms_of now) self.now.state)) (kept_in due.now) }
+        ensures rising { IsRising due.now }
     {
-        for endpoint in names.from(after) {
-            if is_after(after, endpoint.as_str()) {
-                if let Some(view) = self.view(now, endpoint.as_str()) {
-                    return Some(view);
-                }
+        let mut upto = after;
+        while let Some(endpoint) = due.first_kept(upto) {
+            if let Some(view) = self.view(now, endpoint) {
+                return Some(view);
             }
+            upto = Some(endpoint);
         }
         None
     }
@@ -221,18 +226,19 @@ impl Table {
         &'a self,
         now: Moment,
         after: Option<&str>,
-        names: &'a Names,
+        due: &'a DueMoments,
     ) -> Option<(&'a str, Stamp)>
         ensures found { option_map (λ x. (x.0.now, x.1)) result
-            ≡ first_of (if_after (after_text after.entry) (expired_at (ms_of now) self.now.state)) names.now }
-        ensures rise { IsStrictlySortedBy text_cmp names.now }
+            ≡ first_of (if_after (after_text after.entry) (expired_at (ms_of now) self.now.state))
+            (due_in (ms_of now) due.now) }
+        ensures rising { IsRising due.now }
     {
-        for endpoint in names.from(after) {
-            if is_after(after, endpoint.as_str()) {
-                if let Some(id) = self.expired(now, endpoint.as_str()) {
-                    return Some((endpoint.as_str(), id));
-                }
+        let mut upto = after;
+        while let Some(endpoint) = due.first_due_after(now.ms(), upto) {
+            if let Some(id) = self.expired(now, endpoint) {
+                return Some((endpoint, id));
             }
+            upto = Some(endpoint);
         }
         None
     }
@@ -265,14 +271,5 @@ fn later<'a>(
                 Some(first)
             }
         }
-    }
-}
-
-pub(crate) fn is_after(after: Option<&str>, endpoint: &str) -> bool
-    ensures { result ≡ is_after (after_text after.entry) endpoint.now }
-{
-    match after {
-        Some(after) => after.cmp(endpoint).is_lt(),
-        None => true,
     }
 }

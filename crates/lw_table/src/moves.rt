@@ -1,7 +1,6 @@
 //! A row that comes or moves, and what is filed of its endpoint.
 
-ghost use Rattle.std.specs.Prelude.{◌≡◌, ◌≢◌, ◌↔◌, ℕ, List, Some, None, IfOk, OnOk, OnErr, IsOk, IsTrue, string_bytes};
-ghost use Rattle.lw_reg.specs.Reading.{IsRemoved};
+ghost use Rattle.std.specs.Prelude.{◌≡◌, ◌≢◌, ◌↔◌, ℕ, List, Some, None, IfOk, OnOk, OnErr, IsOk, string_bytes};
 ghost use Rattle.lw_reg.specs.Slot.{slot_below};
 ghost use Rattle.lw_table.specs.inner.Filed.{IsFiled, IsOver, OthersSame};
 ghost use Rattle.lw_table.specs.inner.Moves.{moved_row, IsFirstFiled, IsKnown, IsTaken, JoinsRow, JoinsRowAt, PutsRow, SameRows};
@@ -9,7 +8,7 @@ ghost use Rattle.lw_table.specs.Rows.{IsRows};
 ghost use Rattle.lw_table.specs.inner.Rows.{has_end, row_at};
 ghost use Rattle.lw_table.specs.inner.KeyChanges.{HasKeyChanges};
 
-use crate::filed::{Filed, add_due, add_number, drop_number, lower_due, move_number};
+use crate::filed::{Filed, add_due, add_number, drop_number, keep_revived, lower_due, move_number};
 use crate::key::Key;
 use crate::key_changes::key_changes;
 use crate::row::Row;
@@ -120,14 +119,13 @@ fn move_row(
     ensures unchanged { OnErr result (row.new ≡ row.old) }
 {
     let keys = key_changes(alloc, Some(&row.slot), &slot)?;
-    let moved = try_move(alloc, filed, row, endpoint, slot, number, &keys);
+    let moved = try_move(filed, row, endpoint, slot, number, &keys);
     filed.remove_stale(endpoint, Some(row), &keys);
     moved
 }
 
 // The endpoint may be left filed under more keys than its row has.
 fn try_move(
-    alloc: Global,
     filed: &mut Filed,
     row: &mut Row,
     endpoint: &str,
@@ -142,20 +140,15 @@ fn try_move(
         × IsOver filed.new endpoint.now (Some row.new) keys.now) }
     ensures unchanged { OnErr result ((row.new ≡ row.old) × IsOver filed.new endpoint.now (Some row.new) keys.now) }
 {
-    filed.add(alloc, endpoint, may_revive(row, &slot), keys)?;
+    filed.add(endpoint, keys)?;
     let before = row.slot.deadline();
+    let was_removed = row.slot.is_removed();
     row.slot.join_with(slot)?;
     move_number(&mut filed.numbers, endpoint, row.number, number);
     row.number = number;
     lower_due(&mut filed.due, endpoint, before, &row.slot);
+    keep_revived(&mut filed.due, endpoint, was_removed, &row.slot);
     Ok(())
-}
-
-// Whether the row's registration was removed, and the slot's was not: else its name is filed where it is to be.
-fn may_revive(row: &Row, slot: &Slot) -> bool
-    ensures { IsTrue result ↔ (IsRemoved row.now.slot × ¬ IsRemoved slot.now) }
-{
-    row.slot.is_removed() && !slot.is_removed()
 }
 
 /// Puts the first row of an endpoint, whose end is taken where another row has it.
@@ -178,7 +171,7 @@ pub(crate) fn add_row(
 {
     let keys = key_changes(alloc, None, &row.slot)?;
     let number = row.number;
-    file_first(alloc, filed, endpoint.as_str(), &row, &keys)?;
+    file_first(filed, endpoint.as_str(), &row, &keys)?;
     match rows.insert(endpoint, row, taken) {
         Ok(()) => Ok(()),
         Err(endpoint) => {
@@ -189,20 +182,14 @@ pub(crate) fn add_row(
 }
 
 /// Files the endpoint, which has no row yet, under what its first row has. Refused, it is filed under nothing.
-fn file_first(
-    alloc: Global,
-    filed: &mut Filed,
-    endpoint: &str,
-    row: &Row,
-    keys: &[Key],
-) -> Result<(), NoMemory>
+fn file_first(filed: &mut Filed, endpoint: &str, row: &Row, keys: &[Key]) -> Result<(), NoMemory>
     requires filed { IsFiled filed.old endpoint.now None }
     requires keys { HasKeyChanges None row.now.slot keys.now }
     ensures others { OthersSame filed.old filed.new endpoint.now }
     ensures filed { OnOk result (IsFiled filed.new endpoint.now (Some row.now)) }
     ensures unchanged { OnErr result (IsFiled filed.new endpoint.now None) }
 {
-    match try_file(alloc, filed, endpoint, row, keys) {
+    match try_file(filed, endpoint, row, keys) {
         Ok(()) => Ok(()),
         Err(refused) => {
             filed.remove_stale(endpoint, None, keys);
@@ -211,21 +198,15 @@ fn file_first(
     }
 }
 
-// The endpoint may be left filed under some of the keys.
-fn try_file(
-    alloc: Global,
-    filed: &mut Filed,
-    endpoint: &str,
-    row: &Row,
-    keys: &[Key],
-) -> Result<(), NoMemory>
+// The endpoint may be left filed under some of the keys, and kept.
+fn try_file(filed: &mut Filed, endpoint: &str, row: &Row, keys: &[Key]) -> Result<(), NoMemory>
     requires filed { IsFiled filed.old endpoint.now None }
     requires keys { HasKeyChanges None row.now.slot keys.now }
     ensures others { OthersSame filed.old filed.new endpoint.now }
     ensures filed { OnOk result (IsFiled filed.new endpoint.now (Some row.now)) }
     ensures unchanged { OnErr result (IsOver filed.new endpoint.now None keys.now) }
 {
-    filed.add(alloc, endpoint, !row.slot.is_removed(), keys)?;
+    filed.add(endpoint, keys)?;
     add_due(&mut filed.due, endpoint, &row.slot)?;
     add_number(&mut filed.numbers, endpoint, row.number)
 }

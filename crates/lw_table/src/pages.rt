@@ -6,6 +6,7 @@ ghost use Rattle.std.specs.List.Sorted.{IsStrictlySortedBy};
 ghost use Rattle.std.specs.List.{cons_option};
 ghost use Rattle.lw_stamp.specs.Moment.{ms_of};
 ghost use Rattle.lw_stamp.specs.TextOrder.{text_cmp};
+ghost use Rattle.lw_due.specs.Due.{IsRising, is_after, kept_in};
 ghost use Rattle.lw_reg.specs.Marks.{Mark, NamesAll, among};
 ghost use Rattle.lw_reg.specs.Reading.{shown_in};
 ghost use Rattle.lw_reg.specs.State.{IsStateOf};
@@ -13,12 +14,10 @@ ghost use Rattle.lw_table.specs.Answers.{after_text};
 ghost use Rattle.lw_table.specs.Pages.{IsPage, MovesOn};
 ghost use Rattle.lw_table.specs.Table.{IsKept};
 ghost use Rattle.lw_table.specs.inner.Found.{view_at};
-ghost use Rattle.lw_table.specs.inner.Names.{is_after};
 ghost use Rattle.lw_table.specs.inner.Pages.{IsFoundUpTo};
 
-use crate::look_ups::is_after;
-use crate::names::Names;
 use crate::table::Table;
+use lw_due::DueMoments;
 use lw_reg::View;
 use lw_stamp::{Moment, NoMemory};
 
@@ -48,7 +47,7 @@ impl Table {
         ensures within { IfOk result (λ page. length page.registrations.items ≤ max 1 limit) }
         ensures further { IfOk result (λ page. MovesOn (after_text after.entry) (after_text page.next)) }
     {
-        self.page_of(now, after, &self.filed.names, limit, names)
+        self.page_of(now, after, &self.filed.due, limit, names)
     }
 
     /// How many registrations were not removed. Those that have expired count until they are swept.
@@ -56,38 +55,38 @@ impl Table {
         ensures { (all : List (List ℕ)) × IsStrictlySortedBy text_cmp all
             × ((e : List ℕ) → Contains all e ↔ IsKept (get self.now.state e)) × (result ≡ length all) }
     {
-        self.filed.names.len()
+        self.filed.due.kept_count()
     }
 
     fn page_of<'a>(
         &'a self,
         now: Moment,
         after: Option<&str>,
-        names: &'a Names,
+        due: &'a DueMoments,
         limit: usize,
         most: usize,
     ) -> Result<Page<'a>, NoMemory>
         ensures found { IfOk result (λ page. IsFoundUpTo (view_at (ms_of now) self.now.state)
-            (filter (is_after (after_text after.entry)) names.now)
+            (filter (is_after (after_text after.entry)) (kept_in due.now))
             (after_text page.next) page.registrations.items) }
-        ensures rise { IsStrictlySortedBy text_cmp names.now }
+        ensures rising { IsRising due.now }
         ensures within { IfOk result (λ page. length page.registrations.items ≤ max 1 limit) }
     {
         let mut registrations = Vec::new(self.alloc);
         let mut seen = 0;
         let mut last = None;
-        for endpoint in names.from(after) {
-            if is_after(after, endpoint.as_str()) {
-                if ends(last.is_some(), registrations.len() >= limit, seen >= most) {
-                    return Ok(Page {
-                        registrations,
-                        next: last,
-                    });
-                }
-                self.push_shown(now, endpoint.as_str(), &mut registrations)?;
-                seen = seen.saturating_add(1);
-                last = Some(endpoint.as_str());
+        let mut upto = after;
+        while let Some(endpoint) = due.first_kept(upto) {
+            if ends(last.is_some(), registrations.len() >= limit, seen >= most) {
+                return Ok(Page {
+                    registrations,
+                    next: last,
+                });
             }
+            self.push_shown(now, endpoint, &mut registrations)?;
+            seen = seen.saturating_add(1);
+            last = Some(endpoint);
+            upto = last;
         }
         Ok(Page {
             registrations,

@@ -39,7 +39,7 @@ impl Model for Table {
     ghost view = { λ t. table_in t.rows t.change };
 
     ghost invariant = { λ t. IsRows t.rows
-        × IsTable t.filed.names t.filed.keys t.filed.numbers t.filed.due (table_in t.rows t.change) };
+        × IsTable t.filed.keys t.filed.numbers t.filed.due (table_in t.rows t.change) };
 }
 
 impl Table {

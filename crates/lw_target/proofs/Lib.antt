@@ -3,3 +3,5 @@ pub mod NumberLemmas
 pub mod TagLemmas
 pub mod PartLemmas
 pub mod PathLemmas
+pub mod PathValueLemmas
+pub mod PurposeLemmas

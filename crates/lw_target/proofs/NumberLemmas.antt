@@ -1,9 +1,9 @@
 -- Numbers that are read as they are printed.
-use Rattle.std.proofs.Common.{◌≡◌, ℕ, ◌^◌, ◌≤◌, List, Option, Some, None, sym, ap, ◌∙◌, arith}
+use Rattle.std.proofs.Common.{◌≡◌, ℕ, ◌^◌, ◌<◌, ◌≤◌, List, Option, Some, None, sym, ap, ◌∙◌, arith}
 use Rattle.std.specs.Prelude.{IfSome, IfNone}
 use Rattle.lw_reg.specs.inner.Addr.Reading.{number_in}
 use Rattle.lw_reg.proofs.Addresses.Numbers.{number_in_text, number_in-decimal}
-use Rattle.lw_target.specs.Numbers.{IsNumber, IsLimit}
+use Rattle.lw_target.specs.Numbers.{IsNumber, IsAccept, IsLimit}
 
 number_is : (end n : ℕ) (text : List ℕ) → number_in end text ≡ Some n → IsNumber end n text
 number_is end n text e =
@@ -40,3 +40,13 @@ pub no_limit : (n : ℕ) (text : List ℕ) → IsNumber (2 ^ 64) n text → (1 �
 no_limit n text is out m limit =
     let same = one_number n m text is (limit_wide m text limit) in
     out (omega (arith, same, limit.some)) (omega (arith, same, limit.number.fits))
+
+-- the number of a format is a number of 64 bits
+accept_wide : (n : ℕ) (text : List ℕ) → IsAccept n text → IsNumber (2 ^ 64) n text
+accept_wide n text is = record { fits = omega (arith, is.fits); printed = is.printed }
+
+-- another number than one of 16 bits
+pub no_accept : (n : ℕ) (text : List ℕ) → IsNumber (2 ^ 64) n text → (n < 2 ^ 16 → ⊥) → (m : ℕ) → ¬ IsAccept m text
+no_accept n text is out m accept =
+    let same = one_number n m text is (accept_wide m text accept) in
+    out (omega (arith, same, accept.fits))

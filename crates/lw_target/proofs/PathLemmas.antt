@@ -9,7 +9,7 @@ use Rattle.std.proofs.lemmas.List.Elements.{All-from_get_or}
 use Rattle.std.proofs.lemmas.Str.Pattern.{NoCharPasses-char, drop_at_char}
 use Rattle.std.proofs.Math.Seq.{get_or-append_seam}
 use Rattle.lw_target.specs.declared.resource.Resource.{Resource}
-use Rattle.lw_target.specs.declared.resource.Resource.TheVariants.{Page, Health, Node, Metrics, Registrations, Registration, Observations, ById, ByAddress, ByToken, Changes}
+use Rattle.lw_target.specs.declared.resource.Resource.TheVariants.{Page, Health, Node, Metrics, Registrations, Registration, Observations, ById, ByAddress, ByToken, Changes, Notifications}
 use Rattle.lw_target.specs.Targets.{Place, place_of, slash, IsBelow, IsWithin, IsPathOf}
 use Rattle.lw_target.specs.Targets.Place.{At, Below, Within}
 
@@ -72,6 +72,7 @@ few_slashes Node path e = let same : codes "/v1/node" ≡ path = cc in subst (λ
 few_slashes Metrics path e = let same : codes "/metrics" ≡ path = cc in subst (λ p. slashes p ≤ 2) same (omega arith)
 few_slashes Registrations path e = let same : codes "/v1/registrations" ≡ path = cc in subst (λ p. slashes p ≤ 2) same (omega arith)
 few_slashes Changes path e = let same : codes "/v1/changes" ≡ path = cc in subst (λ p. slashes p ≤ 2) same (omega arith)
+few_slashes Notifications path e = let same : codes "/v1/notifications" ≡ path = cc in subst (λ p. slashes p ≤ 2) same (omega arith)
 few_slashes Registration path e = absurd cc
 few_slashes Observations path e = absurd cc
 few_slashes ById path e = absurd cc
@@ -91,6 +92,7 @@ two_slashes Node upper e = absurd cc
 two_slashes Metrics upper e = absurd cc
 two_slashes Registrations upper e = absurd cc
 two_slashes Changes upper e = absurd cc
+two_slashes Notifications upper e = absurd cc
 
 within_slashes : (a : Resource) (upper lower : List ℕ) → place_of a ≡ Within upper lower → 2 ≤ slashes upper
 unfolding slashes
@@ -105,6 +107,7 @@ within_slashes Node upper lower e = absurd cc
 within_slashes Metrics upper lower e = absurd cc
 within_slashes Registrations upper lower e = absurd cc
 within_slashes Changes upper lower e = absurd cc
+within_slashes Notifications upper lower e = absurd cc
 
 -- no path is of both kinds of places
 not_both : (a b : Resource) (upper segment path : List ℕ) → place_of a ≡ At path → place_of b ≡ Below upper → path ≡ upper ++ slash ∷ segment → ⊥

@@ -3,6 +3,8 @@ use Rattle.std.specs.Prelude.{◌≡◌, ◌≤◌, ◌+◌, ℕ, List, length, 
 use Rattle.std.specs.Char.{IsAsciiHexdigit}
 use Rattle.std.specs.Str.{IsUtf8}
 use Rattle.percent_encoding.specs.Percent.{percent_sign, percent_decode}
+use Rattle.lw_reg.specs.declared.path.Path.{Path}
+use Rattle.lw_path.specs.PathText.{IsPath}
 
 -- two hex digits follow each `%`; past the end of the text a 0 is seen, which is no digit
 abbrev pub IsPercentEncoded : List ℕ → Type 0
@@ -19,3 +21,8 @@ pub record IsDecoded (name text : List ℕ) : Type 0 where
 pub record IsShort (name text : List ℕ) : Type 0 where
   pub decoded : IsDecoded name text
   pub most : length name ≤ 252
+
+-- it stands for the text of a path
+pub record IsPathEncoded (path : Path) (text : List ℕ) : Type 0 where
+  pub decoded : IsDecoded (percent_decode text) text
+  pub spelled : IsPath path (percent_decode text)

@@ -2,6 +2,8 @@ pub mod Decoding
 pub mod Numbers
 pub mod Refusals
 pub mod Answers
+pub mod Methods
 pub mod Parameters
 pub mod Targets
+pub mod Purposes
 pub mod inner

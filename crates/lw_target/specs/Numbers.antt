@@ -18,6 +18,14 @@ pub record IsLimit (limit : ℕ) (text : List ℕ) : Type 0 where
 abbrev pub IsSince : ℕ → List ℕ → Type 0
 IsSince since text = IsNumber (2 ^ 64) since text
 
+-- a number of 64 bits
+abbrev pub IsFrom : ℕ → List ℕ → Type 0
+IsFrom from text = IsNumber (2 ^ 64) from text
+
+-- the number of a content format (RFC 7252, section 12.3)
+abbrev pub IsAccept : ℕ → List ℕ → Type 0
+IsAccept accept text = IsNumber (2 ^ 16) accept text
+
 -- a number of 64 bits as 16 lower-case hex digits
 pub record IsTag (tag : ℕ) (text : List ℕ) : Type 0 where
   pub fits : tag < 2 ^ 64

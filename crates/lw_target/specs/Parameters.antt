@@ -3,14 +3,14 @@ use Rattle.std.specs.Prelude.{◌≡◌, ◌<◌, ◌==◌, ℕ, Bool, true, fal
 use Rattle.std.specs.List.{position_or_len, before_first, after_first, slice_split}
 use Rattle.lw_target.specs.declared.refused.Refused.{Refused}
 use Rattle.lw_target.specs.declared.refused.Refused.TheVariants as refused
-use Rattle.lw_target.specs.declared.resource.Resource.{Resource}
-use Rattle.lw_target.specs.declared.resource.Resource.TheVariants as resource
 use Rattle.lw_target.specs.declared.parameters.Name.{Name}
-use Rattle.lw_target.specs.declared.parameters.Name.TheVariants.{After, Limit, Since, Start}
+use Rattle.lw_target.specs.declared.parameters.Name.TheVariants.{After, Limit, Since, Start, From, Path, Accept}
+use Rattle.lw_target.specs.declared.parameters.Form.{Form}
+use Rattle.lw_target.specs.declared.parameters.Form.TheVariants as forms
 use Rattle.lw_target.specs.declared.parameters.Parameters.{Parameters}
 use Rattle.lw_target.specs.Answers.{Reads, Then}
-use Rattle.lw_target.specs.Decoding.{IsShort}
-use Rattle.lw_target.specs.Numbers.{IsSince, IsLimit, IsTag}
+use Rattle.lw_target.specs.Decoding.{IsShort, IsPathEncoded}
+use Rattle.lw_target.specs.Numbers.{IsSince, IsFrom, IsAccept, IsLimit, IsTag}
 
 abbrev pub is_equals : ℕ → Bool
 is_equals byte = byte == 61
@@ -24,26 +24,34 @@ name_text After = codes "after"
 name_text Limit = codes "limit"
 name_text Since = codes "since"
 name_text Start = codes "start"
+name_text From = codes "from"
+name_text Path = codes "path"
+name_text Accept = codes "accept"
 
--- the resource takes a parameter of the name
-abbrev pub takes : Resource → Name → Bool
-takes resource.Registrations After = true
-takes resource.Registrations Limit = true
-takes resource.Observations After = true
-takes resource.Observations Limit = true
-takes resource.Changes Since = true
-takes resource.Changes Start = true
-takes resource.Changes Limit = true
+-- a query of the form takes a parameter of the name
+abbrev pub takes : Form → Name → Bool
+takes forms.Registrations After = true
+takes forms.Registrations Limit = true
+takes forms.Observations After = true
+takes forms.Observations Limit = true
+takes forms.Changes Since = true
+takes forms.Changes Start = true
+takes forms.Changes Limit = true
+takes forms.Notifications From = true
+takes forms.Notifications Start = true
+takes forms.Notifications Limit = true
+takes forms.Observing Path = true
+takes forms.Observing Accept = true
 takes _ _ = false
 
 -- the part has `=`
 abbrev pub HasEquals : List ℕ → Type 0
 HasEquals part = position_or_len is_equals part < length part
 
--- what stands before the first `=` is the name of a parameter of the resource
-pub record IsNamed (resource : Resource) (name : Name) (part : List ℕ) : Type 0 where
+-- what stands before the first `=` is the name of a parameter of the form
+pub record IsNamed (form : Form) (name : Name) (part : List ℕ) : Type 0 where
   pub parted : HasEquals part
-  pub taken : takes resource name ≡ true
+  pub taken : takes form name ≡ true
   pub name_is : before_first is_equals part ≡ name_text name
 
 -- ---- values
@@ -53,8 +61,8 @@ abbrev pub IsGivenOnce : {V : Type 0} → Option V → (Result V Refused → Typ
 IsGivenOnce (Some value) Reading parameters answer = answer ≡ Err refused.Twice
 IsGivenOnce None Reading parameters answer = Then Reading (λ value answer. answer ≡ Ok (parameters value)) answer
 
--- The parameters with this value of the name. That of `after` is percent-decoded, where `+` stands for itself, and may be
--- empty: all endpoints stand behind it. The others are read as they stand.
+-- The parameters with this value of the name. Those of `after` and `path` are percent-decoded, where `+` stands for
+-- itself; that of `after` may be empty, since all endpoints stand behind it. The others are read as they stand.
 abbrev pub IsGiven : Name → Parameters → List ℕ → Result Parameters Refused → Type 0
 IsGiven After before value =
     IsGivenOnce before.after (Reads IsShort refused.After value) (λ after. record before { after = Some after })
@@ -64,20 +72,26 @@ IsGiven Since before value =
     IsGivenOnce before.since (Reads IsSince refused.Since value) (λ since. record before { since = Some since })
 IsGiven Start before value =
     IsGivenOnce before.start (Reads IsTag refused.Start value) (λ start. record before { start = Some start })
+IsGiven From before value =
+    IsGivenOnce before.from (Reads IsFrom refused.From value) (λ from. record before { from = Some from })
+IsGiven Path before value =
+    IsGivenOnce before.path (Reads IsPathEncoded refused.Path value) (λ path. record before { path = Some path })
+IsGiven Accept before value =
+    IsGivenOnce before.accept (Reads IsAccept refused.Accept value) (λ accept. record before { accept = Some accept })
 
 -- ---- parts
 -- what the parameters are with one part more
-pub record IsPart (resource : Resource) (before : Parameters) (part : List ℕ) (answer : Result Parameters Refused)
+pub record IsPart (form : Form) (before : Parameters) (part : List ℕ) (answer : Result Parameters Refused)
     : Type 0 where
   pub no_value : ¬ HasEquals part → answer ≡ Err refused.NoValue
-  pub no_parameter : HasEquals part → ((name : Name) → ¬ IsNamed resource name part) → answer ≡ Err refused.NoParameter
-  pub given : (name : Name) → IsNamed resource name part → IsGiven name before (after_first is_equals part) answer
+  pub no_parameter : HasEquals part → ((name : Name) → ¬ IsNamed form name part) → answer ≡ Err refused.NoParameter
+  pub given : (name : Name) → IsNamed form name part → IsGiven name before (after_first is_equals part) answer
 
 -- the parts from left to right, of which the first that is refused decides
-abbrev pub AreParts : Resource → Parameters → List (List ℕ) → Result Parameters Refused → Type 0
-AreParts resource before [] answer = answer ≡ Ok before
-AreParts resource before (part ∷ parts) answer =
-    Then (IsPart resource before part) (λ after. AreParts resource after parts) answer
+abbrev pub AreParts : Form → Parameters → List (List ℕ) → Result Parameters Refused → Type 0
+AreParts form before [] answer = answer ≡ Ok before
+AreParts form before (part ∷ parts) answer =
+    Then (IsPart form before part) (λ after. AreParts form after parts) answer
 
 -- no query and an empty one have no parts
 abbrev pub parts_of : Option (List ℕ) → List (List ℕ)
@@ -86,8 +100,9 @@ parts_of (Some []) = []
 parts_of (Some (byte ∷ bytes)) = slice_split is_ampersand (byte ∷ bytes)
 
 abbrev pub no_parameters : Parameters
-no_parameters = record { after = None; limit = None; since = None; start = None }
+no_parameters =
+    record { after = None; limit = None; since = None; start = None; from = None; path = None; accept = None }
 
 -- the parameters that the query gives
-abbrev pub AreParameters : Resource → Option (List ℕ) → Result Parameters Refused → Type 0
-AreParameters resource query = AreParts resource no_parameters (parts_of query)
+abbrev pub AreParameters : Form → Option (List ℕ) → Result Parameters Refused → Type 0
+AreParameters form query = AreParts form no_parameters (parts_of query)

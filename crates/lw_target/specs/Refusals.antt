@@ -2,16 +2,16 @@
 -- the text that the response has.
 use Rattle.std.specs.Prelude.{ℕ, List, codes}
 use Rattle.lw_target.specs.declared.refused.Refused.{Refused}
-use Rattle.lw_target.specs.declared.refused.Refused.TheVariants.{NoResource, MethodNotAllowed, Endpoint, Id, Address, Token, NoValue, NoParameter, Twice, Limit, After, Since, Start}
+use Rattle.lw_target.specs.declared.refused.Refused.TheVariants.{NoResource, MethodNotAllowed, Endpoint, Id, Address, Token, NoValue, NoParameter, Twice, Limit, After, Since, Start, From, Path, Accept}
 
 abbrev pub status_of : Refused → ℕ
 status_of NoResource = 404
-status_of MethodNotAllowed = 405
+status_of (MethodNotAllowed allowed) = 405
 status_of _ = 400
 
 abbrev pub text_of : Refused → List ℕ
 text_of NoResource = codes "no such resource"
-text_of MethodNotAllowed = codes "method not allowed"
+text_of (MethodNotAllowed allowed) = codes "method not allowed"
 text_of Endpoint = codes "endpoint"
 text_of Id = codes "id"
 text_of Address = codes "address"
@@ -23,3 +23,6 @@ text_of Limit = codes "limit"
 text_of After = codes "after"
 text_of Since = codes "since"
 text_of Start = codes "start"
+text_of From = codes "from"
+text_of Path = codes "path"
+text_of Accept = codes "accept"

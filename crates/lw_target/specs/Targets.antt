@@ -1,5 +1,5 @@
--- What a request asks for, by its method and the path and query of its target (RFC 9110, sections 7.1 and 9).
-use Rattle.std.specs.Prelude.{◌≡◌, ◌≢◌, ◌≤◌, ◌++◌, ℕ, Bool, true, false, List, [], ◌∷◌, length, Option, Some, None, Result, Ok, Err, codes}
+-- What a request asks for, by the path and query of its target (RFC 9110, sections 7.1 and 9.3.1).
+use Rattle.std.specs.Prelude.{◌≡◌, ◌≢◌, ◌≤◌, ◌++◌, ℕ, Bool, true, false, List, [], ◌∷◌, length, Option, Some, None, Result, Ok, codes}
 use Rattle.std.specs.List.{All}
 use Rattle.std.specs.Option.{unwrap_or}
 use Rattle.lw_stamp.specs.declared.stamp.Stamp.{Stamp}
@@ -8,14 +8,14 @@ use Rattle.lw_reg.specs.declared.addr.Addr.{Addr}
 use Rattle.lw_reg.specs.declared.path.Path.{Path}
 use Rattle.lw_reg.specs.Addr.{addr_text, IsAddr}
 use Rattle.lw_path.specs.PathText.{IsPath}
-use Rattle.lw_target.specs.declared.method.Method.{Method}
-use Rattle.lw_target.specs.declared.method.Method.TheVariants.{Get}
 use Rattle.lw_target.specs.declared.refused.Refused.{Refused}
 use Rattle.lw_target.specs.declared.refused.Refused.TheVariants as refused
 use Rattle.lw_target.specs.declared.resource.Resource.{Resource}
-use Rattle.lw_target.specs.declared.resource.Resource.TheVariants.{Page, Health, Node, Metrics, Registrations, Registration, Observations, ById, ByAddress, ByToken, Changes}
+use Rattle.lw_target.specs.declared.resource.Resource.TheVariants.{Page, Health, Node, Metrics, Registrations, Registration, Observations, ById, ByAddress, ByToken, Changes, Notifications}
 use Rattle.lw_target.specs.declared.asked.Asked.{Asked}
 use Rattle.lw_target.specs.declared.asked.Asked.TheVariants as asked
+use Rattle.lw_target.specs.declared.parameters.Form.{Form}
+use Rattle.lw_target.specs.declared.parameters.Form.TheVariants as forms
 use Rattle.lw_target.specs.declared.parameters.Parameters.{Parameters}
 use Rattle.lw_target.specs.Answers.{Reads, Then}
 use Rattle.lw_target.specs.Decoding.{IsDecoded, IsShort}
@@ -40,6 +40,7 @@ place_of ById = Below (codes "/v1/ids")
 place_of ByAddress = Below (codes "/v1/addresses")
 place_of ByToken = Below (codes "/v1/tokens")
 place_of Changes = At (codes "/v1/changes")
+place_of Notifications = At (codes "/v1/notifications")
 
 abbrev pub slash : ℕ
 slash = 47
@@ -72,7 +73,7 @@ pub record IsAddress (address : Addr) (segment : List ℕ) : Type 0 where
   pub decoded : IsDecoded (addr_text address) segment
 
 -- ---- requests
--- a request for the resource may have a text that takes memory to decode: a segment, or the value of `after`
+-- a request for the resource may have a text that takes memory to decode: a segment, or the value of `after` or `path`
 abbrev pub takes_text : Resource → Bool
 takes_text Registrations = true
 takes_text Registration = true
@@ -89,9 +90,9 @@ pub record HasText (path : List ℕ) : Type 0 where
   pub path_is : IsPathOf (place_of resource) segment path
   pub text : takes_text resource ≡ true
 
--- what the parameters of the query ask for
-abbrev pub Given : Resource → Option (List ℕ) → (Parameters → Asked) → Result Asked Refused → Type 0
-Given resource query ask = Then (AreParameters resource query) (λ parameters answer. answer ≡ Ok (ask parameters))
+-- what the parameters of the query stand for, which is of the form
+abbrev pub Given : {V : Type 0} → Form → Option (List ℕ) → (Parameters → V) → Result V Refused → Type 0
+Given form query value = Then (AreParameters form query) (λ parameters answer. answer ≡ Ok (value parameters))
 
 -- the path that the text of `after` spells, if that is given
 abbrev pub AfterPath : Option (List ℕ) → Result (Option Path) Refused → Type 0
@@ -101,37 +102,30 @@ AfterPath (Some text) answer =
 
 -- the observations of the endpoint that the parameters of the query ask for
 abbrev pub AreObservationsOf : List ℕ → Option (List ℕ) → Result Asked Refused → Type 0
-AreObservationsOf endpoint query = Then (AreParameters Observations query) (λ parameters. Then (AfterPath parameters.after)
+AreObservationsOf endpoint query = Then (AreParameters forms.Observations query)
+    (λ parameters. Then (AfterPath parameters.after)
     (λ after answer. answer ≡ Ok (asked.Observations endpoint after (unwrap_or parameters.limit 64))))
 
 -- What is asked for at the resource with the segment: first the segment is read, and then the query. The name of an
 -- endpoint has a byte or more, as its segment does.
 abbrev pub IsAskedAt : Resource → List ℕ → Option (List ℕ) → Result Asked Refused → Type 0
-IsAskedAt Page segment query = Given Page query (λ parameters. asked.Page)
-IsAskedAt Health segment query = Given Health query (λ parameters. asked.Health)
-IsAskedAt Node segment query = Given Node query (λ parameters. asked.Node)
-IsAskedAt Metrics segment query = Given Metrics query (λ parameters. asked.Metrics)
+IsAskedAt Page segment query = Given forms.Nothing query (λ parameters. asked.Page)
+IsAskedAt Health segment query = Given forms.Nothing query (λ parameters. asked.Health)
+IsAskedAt Node segment query = Given forms.Nothing query (λ parameters. asked.Node)
+IsAskedAt Metrics segment query = Given forms.Nothing query (λ parameters. asked.Metrics)
 IsAskedAt Registrations segment query =
-    Given Registrations query (λ parameters. asked.Registrations parameters.after (unwrap_or parameters.limit 64))
+    Given forms.Registrations query (λ parameters. asked.Registrations parameters.after (unwrap_or parameters.limit 64))
 IsAskedAt Registration segment query = Then (Reads IsShort refused.Endpoint segment)
-    (λ endpoint. Given Registration query (λ parameters. asked.Registration endpoint))
+    (λ endpoint. Given forms.Nothing query (λ parameters. asked.Registration endpoint))
 IsAskedAt Observations segment query = Then (Reads IsShort refused.Endpoint segment)
     (λ endpoint. AreObservationsOf endpoint query)
 IsAskedAt ById segment query = Then (Reads IsId refused.Id segment)
-    (λ id. Given ById query (λ parameters. asked.ById id))
+    (λ id. Given forms.Nothing query (λ parameters. asked.ById id))
 IsAskedAt ByAddress segment query = Then (Reads IsAddress refused.Address segment)
-    (λ address. Given ByAddress query (λ parameters. asked.ByAddress address))
+    (λ address. Given forms.Nothing query (λ parameters. asked.ByAddress address))
 IsAskedAt ByToken segment query = Then (Reads IsId refused.Token segment)
-    (λ token. Given ByToken query (λ parameters. asked.ByToken token))
-IsAskedAt Changes segment query = Given Changes query
+    (λ token. Given forms.Nothing query (λ parameters. asked.ByToken token))
+IsAskedAt Changes segment query = Given forms.Changes query
     (λ parameters. asked.Changes (unwrap_or parameters.since 0) parameters.start (unwrap_or parameters.limit 64))
-
--- What a request comes to. Each path is of one resource at most.
-pub record IsAsked (method : Method) (path : List ℕ) (query : Option (List ℕ)) (answer : Result Asked Refused)
-    : Type 0 where
-  pub no_resource : ((resource : Resource) (segment : List ℕ) → ¬ IsPathOf (place_of resource) segment path)
-      → answer ≡ Err refused.NoResource
-  pub not_allowed : (resource : Resource) (segment : List ℕ) → IsPathOf (place_of resource) segment path
-      → method ≢ Get → answer ≡ Err refused.MethodNotAllowed
-  pub asked_at : (resource : Resource) (segment : List ℕ) → IsPathOf (place_of resource) segment path
-      → method ≡ Get → IsAskedAt resource segment query answer
+IsAskedAt Notifications segment query = Given forms.Notifications query
+    (λ parameters. asked.Notifications (unwrap_or parameters.from 0) parameters.start (unwrap_or parameters.limit 64))

@@ -3,12 +3,14 @@
 ghost use Rattle.std.specs.Prelude.{◌≡◌, ◌↔◌, IsTrue, IfOk, slice_index};
 ghost use Rattle.std.specs.Char.{IsAsciiHexdigit};
 ghost use Rattle.lw_target.specs.Answers.{Reads};
-ghost use Rattle.lw_target.specs.Decoding.{IsPercentEncoded, IsDecoded, IsShort};
+ghost use Rattle.lw_target.specs.Decoding.{IsPercentEncoded, IsDecoded, IsPathEncoded, IsShort};
+ghost use Rattle.lw_target.specs.declared.refused.Refused.TheVariants as refused;
 ghost use Rattle.lw_target.specs.inner.Faults.{IsAnswered};
 
 use crate::Refused;
 use crate::fault::Fault;
-use lw_reg::Endpoint;
+use lw_path::read_path;
+use lw_reg::{Endpoint, Path};
 use lw_stamp::Text;
 use percent_encoding::{DecodeError, percent_decode_str};
 use std::alloc::Global;
@@ -38,6 +40,17 @@ pub(crate) fn short(alloc: Global, text: &str, refused: Refused) -> Result<Text,
         return Err(Fault::Refused(refused));
     }
     Ok(name)
+}
+
+/// The path whose text the text stands for.
+pub(crate) fn path(alloc: Global, text: &str) -> Result<Path, Fault>
+    ensures { IsAnswered (Reads IsPathEncoded refused.Path text.now) result }
+{
+    let name = decoded(alloc, text, Refused::Path)?;
+    match read_path(name.as_str()) {
+        Some(path) => Ok(path),
+        None => Err(Fault::Refused(Refused::Path)),
+    }
 }
 
 /// Whether two hex digits follow each `%`.

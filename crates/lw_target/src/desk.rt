@@ -1,12 +1,14 @@
 //! Who is asked, and what is told.
 
-use crate::Asked;
+use crate::{Asked, Command};
 use lw_stamp::NoMemory;
 
 /// How a response begins (RFC 9110, section 15).
 #[derive(Clone, Copy, Debug, PartialEq, Eq)]
 pub enum Status {
     Ok,
+    Created,
+    NoContent,
     BadRequest,
     NotFound,
     Gone,
@@ -22,9 +24,11 @@ pub enum Media {
     Html,
     /// Measures, in the text format that Prometheus reads.
     Metrics,
+    /// There is no body, and it has no type.
+    Nothing,
 }
 
-/// What is told to a request that asks for something.
+/// What is told to a request that is for something.
 #[derive(Drop)]
 pub struct Answer {
     pub status: Status,
@@ -32,16 +36,29 @@ pub struct Answer {
     pub body: String,
 }
 
-/// Who is asked. A question changes nothing.
+/// Who is asked, and carries out commands. A question changes nothing.
 pub trait Desk {
+    ghost use Rattle.std.specs.Prelude.{Option};
     ghost use Rattle.lw_target.specs.declared.asked.Asked.{Asked as Question};
+    ghost use Rattle.lw_target.specs.declared.command.Command.{Command as Order};
     ghost use Rattle.lw_target.specs.declared.desk.Answer.{Answer as Content};
 
     /// What may be told to what is asked.
     ghost tells: { Self → Question → Content → Type 0 };
 
+    /// What may come of a command: the desk before it, what is told where there is memory to tell it, and the desk
+    /// after it.
+    ghost does: { Self → Order → Option Content → Self → Type 0 };
+
     ghost use Rattle.std.specs.Prelude.{IfOk};
 
     fn answer(&self, asked: &Asked) -> Result<Answer, NoMemory>
         ensures { IfOk result (tells self.now asked.now) };
+
+    /// Carries the command out, and tells what came of it, where there is memory for that.
+    fn carry_out(&mut self, command: &Command) -> Option<Answer>
+        ensures { does self.old command.now result self.new };
+
+    /// Whether it has something to send.
+    fn wants_to_send(&self) -> bool;
 }

@@ -5,7 +5,7 @@ ghost use Rattle.std.specs.Int.{w64, to_be_bytes};
 ghost use Rattle.hex.specs.Hex.{encode_lower};
 ghost use Rattle.lw_reg.specs.inner.Addr.Reading.{IsPlain};
 ghost use Rattle.lw_target.specs.Answers.{Reads};
-ghost use Rattle.lw_target.specs.Numbers.{IsNumber, IsSince, IsLimit, IsTag};
+ghost use Rattle.lw_target.specs.Numbers.{IsNumber, IsSince, IsFrom, IsAccept, IsLimit, IsTag};
 ghost use Rattle.lw_target.specs.declared.refused.Refused.TheVariants as refused;
 
 use crate::Refused;
@@ -16,6 +16,26 @@ pub(crate) fn since(text: &str) -> Result<u64, Refused>
     ensures { Reads IsSince refused.Since text.now result }
 {
     decimal(text).ok_or(Refused::Since)
+}
+
+/// The number of the first notification, in decimal, without leading zeros.
+pub(crate) fn from(text: &str) -> Result<u64, Refused>
+    ensures { Reads IsFrom refused.From text.now result }
+{
+    decimal(text).ok_or(Refused::From)
+}
+
+/// The number of a content format, in decimal, without leading zeros.
+pub(crate) fn accept(text: &str) -> Result<u16, Refused>
+    ensures { Reads IsAccept refused.Accept text.now result }
+{
+    let Some(number) = decimal(text) else {
+        return Err(Refused::Accept);
+    };
+    match u16::try_from(number) {
+        Ok(accept) => Ok(accept),
+        Err(_) => Err(Refused::Accept),
+    }
 }
 
 /// The number of entries, from 1 to 256.

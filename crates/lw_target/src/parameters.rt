@@ -2,6 +2,7 @@
 
 ghost use Rattle.std.specs.Prelude.{◌≡◌, ◌≢◌, ◌↔◌, Some, Err, true, option_copied};
 ghost use Rattle.std.specs.List.{slice_split};
+ghost use Rattle.lw_target.specs.inner.Texts.{is_text, gives_text};
 ghost use Rattle.lw_target.specs.Parameters.{takes, name_text, IsGiven, IsPart, AreParts, AreParameters, is_ampersand, no_parameters};
 ghost use Rattle.lw_target.specs.declared.parameters.Name.TheVariants as Names;
 ghost use Rattle.lw_target.specs.declared.fault.Fault.TheVariants as Faults;
@@ -9,10 +10,27 @@ ghost use Rattle.lw_target.specs.inner.Faults.{IsAnswered};
 
 use crate::decoding::short;
 use crate::fault::Fault;
-use crate::resource::Resource;
-use crate::{Refused, numbers};
+use crate::{Refused, decoding, numbers};
+use lw_reg::Path;
 use lw_stamp::Text;
 use std::alloc::Global;
+
+/// Which parameters a query takes.
+#[derive(Clone, Copy)]
+pub(crate) enum Form {
+    /// None.
+    Nothing,
+    /// Those of a page of registrations.
+    Registrations,
+    /// Those of a page of observations.
+    Observations,
+    /// Those of a page of changes.
+    Changes,
+    /// Those of a page of notifications.
+    Notifications,
+    /// Those of an observation that is to begin.
+    Observing,
+}
 
 /// The name of a parameter.
 #[derive(Clone, Copy)]
@@ -21,6 +39,9 @@ pub(crate) enum Name {
     Limit,
     Since,
     Start,
+    From,
+    Path,
+    Accept,
 }
 
 /// The parameters that were given so far.
@@ -30,24 +51,32 @@ pub(crate) struct Parameters {
     pub limit: Option<usize>,
     pub since: Option<u64>,
     pub start: Option<u64>,
+    pub from: Option<u64>,
+    pub path: Option<Path>,
+    pub accept: Option<u16>,
 }
 
 impl Name {
     ghost use Rattle.lw_target.specs.declared.parameters.Name.{Name as TheName};
 
-    /// The parameter of the name that the resource takes.
-    fn read(resource: Resource, text: &str) -> Option<Name>
+    /// The parameter of the name that the form takes.
+    fn read(form: Form, text: &str) -> Option<Name>
         ensures { (name : TheName)
-            → (result ≡ Some name) ↔ ((takes resource name ≡ true) × (text.now ≡ name_text name)) }
+            → (result ≡ Some name) ↔ ((takes form name ≡ true) × (text.now ≡ name_text name)) }
     {
-        match (resource, text) {
-            (Resource::Registrations, "after") => Some(Name::After),
-            (Resource::Registrations, "limit") => Some(Name::Limit),
-            (Resource::Observations, "after") => Some(Name::After),
-            (Resource::Observations, "limit") => Some(Name::Limit),
-            (Resource::Changes, "since") => Some(Name::Since),
-            (Resource::Changes, "start") => Some(Name::Start),
-            (Resource::Changes, "limit") => Some(Name::Limit),
+        match (form, text) {
+            (Form::Registrations, "after") => Some(Name::After),
+            (Form::Registrations, "limit") => Some(Name::Limit),
+            (Form::Observations, "after") => Some(Name::After),
+            (Form::Observations, "limit") => Some(Name::Limit),
+            (Form::Changes, "since") => Some(Name::Since),
+            (Form::Changes, "start") => Some(Name::Start),
+            (Form::Changes, "limit") => Some(Name::Limit),
+            (Form::Notifications, "from") => Some(Name::From),
+            (Form::Notifications, "start") => Some(Name::Start),
+            (Form::Notifications, "limit") => Some(Name::Limit),
+            (Form::Observing, "path") => Some(Name::Path),
+            (Form::Observing, "accept") => Some(Name::Accept),
             _ => None,
         }
     }
@@ -55,17 +84,13 @@ impl Name {
 
 impl Parameters {
     /// The parameters of the query, from left to right.
-    pub(crate) fn read(
-        alloc: Global,
-        resource: Resource,
-        query: Option<&str>,
-    ) -> Result<Parameters, Fault>
-        ensures given { IsAnswered (AreParameters resource (option_copied query.entry)) result }
-        ensures memory { result ≡ Err Faults.NoMemory → takes resource Names.After ≡ true }
+    pub(crate) fn read(alloc: Global, form: Form, query: Option<&str>) -> Result<Parameters, Fault>
+        ensures given { IsAnswered (AreParameters form (option_copied query.entry)) result }
+        ensures memory { result ≡ Err Faults.NoMemory → gives_text form ≡ true }
     {
         match query {
             None | Some("") => Ok(Parameters::none()),
-            Some(parts) => Parameters::read_parts(alloc, resource, parts),
+            Some(parts) => Parameters::read_parts(alloc, form, parts),
         }
     }
 
@@ -77,29 +102,32 @@ impl Parameters {
             limit: None,
             since: None,
             start: None,
+            from: None,
+            path: None,
+            accept: None,
         }
     }
 
-    fn read_parts(alloc: Global, resource: Resource, parts: &str) -> Result<Parameters, Fault>
-        ensures given { IsAnswered (AreParts resource no_parameters (slice_split is_ampersand parts.now)) result }
-        ensures memory { result ≡ Err Faults.NoMemory → takes resource Names.After ≡ true }
+    fn read_parts(alloc: Global, form: Form, parts: &str) -> Result<Parameters, Fault>
+        ensures given { IsAnswered (AreParts form no_parameters (slice_split is_ampersand parts.now)) result }
+        ensures memory { result ≡ Err Faults.NoMemory → gives_text form ≡ true }
     {
         let mut parameters = Parameters::none();
         for part in parts.split('&') {
-            parameters = parameters.with(alloc, resource, part)?;
+            parameters = parameters.with(alloc, form, part)?;
         }
         Ok(parameters)
     }
 
     /// The parameters with one part more.
-    fn with(self, alloc: Global, resource: Resource, part: &str) -> Result<Parameters, Fault>
-        ensures given { IsAnswered (IsPart resource self part.now) result }
-        ensures memory { result ≡ Err Faults.NoMemory → takes resource Names.After ≡ true }
+    fn with(self, alloc: Global, form: Form, part: &str) -> Result<Parameters, Fault>
+        ensures given { IsAnswered (IsPart form self part.now) result }
+        ensures memory { result ≡ Err Faults.NoMemory → gives_text form ≡ true }
     {
         let Some((name, value)) = part.split_once('=') else {
             return Err(Fault::Refused(Refused::NoValue));
         };
-        match Name::read(resource, name) {
+        match Name::read(form, name) {
             Some(name) => self.with_value(alloc, name, value),
             None => Err(Fault::Refused(Refused::NoParameter)),
         }
@@ -107,13 +135,16 @@ impl Parameters {
 
     fn with_value(self, alloc: Global, name: Name, value: &str) -> Result<Parameters, Fault>
         ensures given { IsAnswered (IsGiven name self value.now) result }
-        ensures memory { result ≡ Err Faults.NoMemory → name ≡ Names.After }
+        ensures memory { result ≡ Err Faults.NoMemory → is_text name ≡ true }
     {
         match name {
             Name::After => self.with_after(alloc, value),
             Name::Limit => self.with_limit(value),
             Name::Since => self.with_since(value),
             Name::Start => self.with_start(value),
+            Name::From => self.with_from(value),
+            Name::Path => self.with_path(alloc, value),
+            Name::Accept => self.with_accept(value),
         }
     }
 
@@ -158,5 +189,37 @@ impl Parameters {
         }
         let start = Some(numbers::tag(value)?);
         Ok(Parameters { start, ..self })
+    }
+
+    fn with_from(self, value: &str) -> Result<Parameters, Fault>
+        ensures given { IsAnswered (IsGiven Names.From self value.now) result }
+        ensures memory { result ≢ Err Faults.NoMemory }
+    {
+        if self.from.is_some() {
+            return Err(Fault::Refused(Refused::Twice));
+        }
+        let from = Some(numbers::from(value)?);
+        Ok(Parameters { from, ..self })
+    }
+
+    fn with_path(self, alloc: Global, value: &str) -> Result<Parameters, Fault>
+        ensures { IsAnswered (IsGiven Names.Path self value.now) result }
+    {
+        if self.path.is_some() {
+            return Err(Fault::Refused(Refused::Twice));
+        }
+        let path = Some(decoding::path(alloc, value)?);
+        Ok(Parameters { path, ..self })
+    }
+
+    fn with_accept(self, value: &str) -> Result<Parameters, Fault>
+        ensures given { IsAnswered (IsGiven Names.Accept self value.now) result }
+        ensures memory { result ≢ Err Faults.NoMemory }
+    {
+        if self.accept.is_some() {
+            return Err(Fault::Refused(Refused::Twice));
+        }
+        let accept = Some(numbers::accept(value)?);
+        Ok(Parameters { accept, ..self })
     }
 }

@@ -1,13 +1,15 @@
 ghost use Rattle.std.specs.Prelude.{◌≡◌};
 ghost use Rattle.lw_target.specs.Refusals.{status_of, text_of};
 
+use crate::Allowed;
+
 /// Why a request asks for nothing, in the order in which the causes are looked for.
 #[derive(Clone, Copy, Debug, PartialEq, Eq)]
 pub enum Refused {
     /// No resource has the path.
     NoResource,
-    /// The resource has another method.
-    MethodNotAllowed,
+    /// The resource has other methods, which are these.
+    MethodNotAllowed(Allowed),
     /// The last segment of the path is no name of an endpoint.
     Endpoint,
     /// It is no identifier of a registration.
@@ -30,6 +32,12 @@ pub enum Refused {
     Since,
     /// The value of `start` is none.
     Start,
+    /// The value of `from` is none.
+    From,
+    /// The value of `path` is none, or it is not given.
+    Path,
+    /// The value of `accept` is none.
+    Accept,
 }
 
 impl Refused {
@@ -39,7 +47,7 @@ impl Refused {
     {
         match self {
             Refused::NoResource => 404,
-            Refused::MethodNotAllowed => 405,
+            Refused::MethodNotAllowed(_) => 405,
             _ => 400,
         }
     }
@@ -50,7 +58,7 @@ impl Refused {
     {
         match self {
             Refused::NoResource => "no such resource",
-            Refused::MethodNotAllowed => "method not allowed",
+            Refused::MethodNotAllowed(_) => "method not allowed",
             Refused::Endpoint => "endpoint",
             Refused::Id => "id",
             Refused::Address => "address",
@@ -62,6 +70,9 @@ impl Refused {
             Refused::After => "after",
             Refused::Since => "since",
             Refused::Start => "start",
+            Refused::From => "from",
+            Refused::Path => "path",
+            Refused::Accept => "accept",
         }
     }
 }

@@ -1,6 +1,9 @@
 ghost use Rattle.std.specs.Prelude.{◌≡◌, ◌↔◌, ℕ, List, Some, IfSome, IsSomeAnd};
+ghost use Rattle.lw_target.specs.Methods.{allowed as methods_at};
 ghost use Rattle.lw_target.specs.Targets.{place_of, IsPathOf, IsBelow, IsWithin};
 ghost use Rattle.lw_target.specs.Targets.Place.{At, Below, Within};
+
+use crate::{Allowed, Commands};
 
 /// What a path of the table is of.
 #[derive(Clone, Copy)]
@@ -16,10 +19,22 @@ pub(crate) enum Resource {
     ByAddress,
     ByToken,
     Changes,
+    Notifications,
 }
 
 impl Resource {
     ghost use Rattle.lw_target.specs.declared.resource.Resource.{Resource as Resources};
+
+    /// The methods that the resource has.
+    pub(crate) fn allowed(self, commands: Commands) -> Allowed
+        ensures { result ≡ methods_at commands self }
+    {
+        match (commands, self) {
+            (Commands::On, Resource::Observations) => Allowed::GetAndPost,
+            (Commands::On, Resource::ByToken) => Allowed::GetAndDelete,
+            _ => Allowed::Get,
+        }
+    }
 
     /// The resource of a path, and the segment that names one of its kind, or an empty text.
     pub(crate) fn of_path(path: &str) -> Option<(Resource, &str)>
@@ -43,6 +58,7 @@ impl Resource {
             "/metrics" => Some(Resource::Metrics),
             "/v1/registrations" => Some(Resource::Registrations),
             "/v1/changes" => Some(Resource::Changes),
+            "/v1/notifications" => Some(Resource::Notifications),
             _ => None,
         }
     }

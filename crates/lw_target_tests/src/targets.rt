@@ -1,5 +1,5 @@
 use crate::told::told;
-use lw_target::Method;
+use lw_target::{Commands, Method};
 use std::alloc::Global;
 use std::test::Fail;
 
@@ -7,7 +7,17 @@ use std::test::Fail;
 type Row = (&'static str, &'static str);
 
 fn check(alloc: Global, method: Method, target: &str, want: &str) -> Result<(), Fail> {
-    let got = told(alloc, method, target)?;
+    check_with(alloc, Commands::On, method, target, want)
+}
+
+fn check_with(
+    alloc: Global,
+    commands: Commands,
+    method: Method,
+    target: &str,
+    want: &str,
+) -> Result<(), Fail> {
+    let got = told(alloc, commands, method, target)?;
     if got.as_str() == want {
         return Ok(());
     }
@@ -21,7 +31,7 @@ fn check_rows(alloc: Global, rows: &[Row]) -> Result<(), Fail> {
     Ok(())
 }
 
-const TABLE: [Row; 14] = [
+const TABLE: [Row; 15] = [
     ("/", "page"),
     ("/?", "page"),
     ("/v1/health", "health"),
@@ -39,9 +49,10 @@ const TABLE: [Row; 14] = [
     ),
     ("/v1/tokens/0000000000090001", "token 9 1"),
     ("/v1/changes", "64 since 0"),
+    ("/v1/notifications", "64 from 0"),
 ];
 
-/// Tries: lw_target::asked_of
+/// Tries: lw_target::purpose_of
 #[test]
 fn each_target_is_known(rt: HostRuntime) -> Result<(), Fail> {
     check_rows(rt.alloc(), &TABLE)
@@ -66,7 +77,7 @@ const NO_TARGETS: [Row; 16] = [
     ("/v1/nothing/lamp?limit=0", "404 no such resource"),
 ];
 
-/// Tries: lw_target::asked_of
+/// Tries: lw_target::purpose_of
 #[test]
 fn no_other_path_is_of_a_resource(rt: HostRuntime) -> Result<(), Fail> {
     check_rows(rt.alloc(), &NO_TARGETS)
@@ -87,7 +98,7 @@ const NO_OBSERVATIONS: [Row; 9] = [
     ("/observations", "404 no such resource"),
 ];
 
-/// Tries: lw_target::asked_of
+/// Tries: lw_target::purpose_of
 #[test]
 fn observations_stand_below_one_endpoint(rt: HostRuntime) -> Result<(), Fail> {
     check_rows(rt.alloc(), &NO_OBSERVATIONS)
@@ -147,30 +158,97 @@ const OBSERVATIONS: [Row; 24] = [
     ),
 ];
 
-/// Tries: lw_target::asked_of, lw_path::read_path
+/// Tries: lw_target::purpose_of, lw_path::read_path
 #[test]
 fn observations_begin_behind_a_path(rt: HostRuntime) -> Result<(), Fail> {
     check_rows(rt.alloc(), &OBSERVATIONS)
 }
 
-const OTHER_METHODS: [(Method, &str, &str); 6] = [
-    (Method::Post, "/", "405 method not allowed"),
-    (Method::Delete, "/v1/ids/none", "405 method not allowed"),
-    (Method::Other, "/v1/health?x=1", "405 method not allowed"),
+/// Whether commands are taken, a method and a target, and what they come to.
+type MethodRow = (Commands, Method, &'static str, &'static str);
+
+const ONLY_GET: &str = "405 method not allowed: GET, HEAD";
+
+const WITH_POST: &str = "405 method not allowed: GET, HEAD, POST";
+
+const WITH_DELETE: &str = "405 method not allowed: GET, HEAD, DELETE";
+
+const OTHER_METHODS: [MethodRow; 18] = [
+    (Commands::On, Method::Post, "/", ONLY_GET),
+    (Commands::On, Method::Delete, "/v1/ids/none", ONLY_GET),
+    (Commands::On, Method::Other, "/v1/health?x=1", ONLY_GET),
+    (Commands::On, Method::Post, "/v1/registrations/%", ONLY_GET),
+    (Commands::On, Method::Post, "/v1/registrations", ONLY_GET),
+    (Commands::On, Method::Delete, "/v1/notifications", ONLY_GET),
     (
-        Method::Post,
-        "/v1/registrations/%",
-        "405 method not allowed",
+        Commands::On,
+        Method::Delete,
+        "/v1/nothing",
+        "404 no such resource",
     ),
-    (Method::Delete, "/v1/nothing", "404 no such resource"),
-    (Method::Other, "/v1/registrations/", "404 no such resource"),
+    (
+        Commands::On,
+        Method::Other,
+        "/v1/registrations/",
+        "404 no such resource",
+    ),
+    (
+        Commands::On,
+        Method::Delete,
+        "/v1/registrations/a/observations",
+        WITH_POST,
+    ),
+    (
+        Commands::On,
+        Method::Other,
+        "/v1/registrations/%/observations?path",
+        WITH_POST,
+    ),
+    (
+        Commands::On,
+        Method::Post,
+        "/v1/tokens/0000000000090001",
+        WITH_DELETE,
+    ),
+    (Commands::On, Method::Other, "/v1/tokens/%?x", WITH_DELETE),
+    (
+        Commands::Off,
+        Method::Post,
+        "/v1/registrations/a/observations?path=/3/0",
+        ONLY_GET,
+    ),
+    (
+        Commands::Off,
+        Method::Delete,
+        "/v1/tokens/0000000000090001",
+        ONLY_GET,
+    ),
+    (Commands::Off, Method::Delete, "/v1/tokens/%?x", ONLY_GET),
+    (
+        Commands::Off,
+        Method::Delete,
+        "/v1/registrations/a/observations",
+        ONLY_GET,
+    ),
+    (
+        Commands::Off,
+        Method::Get,
+        "/v1/registrations/a/observations",
+        "64 of a",
+    ),
+    (
+        Commands::Off,
+        Method::Get,
+        "/v1/tokens/0000000000090001",
+        "token 9 1",
+    ),
 ];
 
-/// Tries: lw_target::asked_of
+/// Tries: lw_target::purpose_of, lw_target::Allowed::text
 #[test]
-fn only_get_is_allowed(rt: HostRuntime) -> Result<(), Fail> {
-    for (method, target, want) in OTHER_METHODS {
-        check(rt.alloc(), method, target, want)?;
+fn a_resource_has_the_methods_that_are_told(rt: HostRuntime) -> Result<(), Fail> {
+    for (commands, method, target, want) in OTHER_METHODS {
+        check_with(rt.alloc(), commands, method, target, want)?;
     }
     Ok(())
 }
@@ -197,7 +275,7 @@ const SEGMENTS: [Row; 19] = [
     ("/v1/tokens/000000000009000A", "400 token"),
 ];
 
-/// Tries: lw_target::asked_of
+/// Tries: lw_target::purpose_of
 #[test]
 fn a_segment_is_decoded_after_the_path_was_split(rt: HostRuntime) -> Result<(), Fail> {
     check_rows(rt.alloc(), &SEGMENTS)
@@ -215,7 +293,7 @@ const NO_SEGMENTS: [Row; 9] = [
     ("/v1/addresses/[::1]:1", "400 address"),
 ];
 
-/// Tries: lw_target::asked_of
+/// Tries: lw_target::purpose_of
 #[test]
 fn a_segment_that_names_nothing_is_refused(rt: HostRuntime) -> Result<(), Fail> {
     check_rows(rt.alloc(), &NO_SEGMENTS)
@@ -236,7 +314,7 @@ const LIMITS: [Row; 12] = [
     ("/v1/changes?limit=257", "400 limit"),
 ];
 
-/// Tries: lw_target::asked_of
+/// Tries: lw_target::purpose_of
 #[test]
 fn a_limit_is_from_1_to_256(rt: HostRuntime) -> Result<(), Fail> {
     check_rows(rt.alloc(), &LIMITS)
@@ -254,7 +332,7 @@ const AFTERS: [Row; 9] = [
     ("/v1/registrations?after=%ff", "400 after"),
 ];
 
-/// Tries: lw_target::asked_of
+/// Tries: lw_target::purpose_of
 #[test]
 fn a_text_to_begin_behind_is_decoded(rt: HostRuntime) -> Result<(), Fail> {
     check_rows(rt.alloc(), &AFTERS)
@@ -264,7 +342,7 @@ fn a_text_to_begin_behind_is_decoded(rt: HostRuntime) -> Result<(), Fail> {
 fn takes(alloc: Global, front: &str, letter: &str, count: usize) -> Result<bool, Fail> {
     let name = letter.repeat(alloc, count)?;
     let target = format!(in alloc; "{front}{name}")?;
-    let got = told(alloc, Method::Get, target.as_str())?;
+    let got = told(alloc, Commands::Off, Method::Get, target.as_str())?;
     Ok(!got.as_str().starts_with("400 "))
 }
 
@@ -274,7 +352,7 @@ fn has_252_bytes_at_most(alloc: Global, front: &str) -> Result<bool, Fail> {
     Ok(plain && encoded)
 }
 
-/// Tries: lw_target::asked_of
+/// Tries: lw_target::purpose_of
 #[test]
 fn names_have_252_bytes_at_most(rt: HostRuntime) -> Result<(), Fail> {
     for front in ["/v1/registrations/", "/v1/registrations?after="] {
@@ -306,10 +384,36 @@ const CHANGES: [Row; 12] = [
     ("/v1/changes?start=", "400 start"),
 ];
 
-/// Tries: lw_target::asked_of
+/// Tries: lw_target::purpose_of
 #[test]
 fn changes_are_asked_for_since_a_number(rt: HostRuntime) -> Result<(), Fail> {
     check_rows(rt.alloc(), &CHANGES)
+}
+
+const NOTIFICATIONS: [Row; 11] = [
+    ("/v1/notifications?from=0", "64 from 0"),
+    (
+        "/v1/notifications?from=18446744073709551615",
+        "64 from 18446744073709551615",
+    ),
+    (
+        "/v1/notifications?limit=3&start=ffffffffffffffff&from=7",
+        "3 from 7 of 18446744073709551615",
+    ),
+    ("/v1/notifications?from=18446744073709551616", "400 from"),
+    ("/v1/notifications?from=01", "400 from"),
+    ("/v1/notifications?from=", "400 from"),
+    ("/v1/notifications?from=%30", "400 from"),
+    ("/v1/notifications?start=00", "400 start"),
+    ("/v1/notifications?limit=257", "400 limit"),
+    ("/v1/notifications?since=1", "400 no such parameter"),
+    ("/v1/notifications?from=1&from=1", "400 a parameter twice"),
+];
+
+/// Tries: lw_target::purpose_of
+#[test]
+fn notifications_are_asked_for_from_a_number(rt: HostRuntime) -> Result<(), Fail> {
+    check_rows(rt.alloc(), &NOTIFICATIONS)
 }
 
 const NO_PARAMETERS: [Row; 16] = [
@@ -337,7 +441,7 @@ const NO_PARAMETERS: [Row; 16] = [
     ("/v1/changes?after=a", "400 no such parameter"),
 ];
 
-/// Tries: lw_target::asked_of
+/// Tries: lw_target::purpose_of
 #[test]
 fn other_parameters_are_refused(rt: HostRuntime) -> Result<(), Fail> {
     check_rows(rt.alloc(), &NO_PARAMETERS)
@@ -355,7 +459,7 @@ const SEVERAL: [Row; 6] = [
     ("/v1/registrations?after=%&x", "400 after"),
 ];
 
-/// Tries: lw_target::asked_of, lw_target::Refused::status, lw_target::Refused::text
+/// Tries: lw_target::purpose_of, lw_target::Refused::status, lw_target::Refused::text
 #[test]
 fn the_first_fault_decides(rt: HostRuntime) -> Result<(), Fail> {
     check_rows(rt.alloc(), &SEVERAL)

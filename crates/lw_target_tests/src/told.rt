@@ -1,7 +1,7 @@
 //! What is asked for in words.
 
 use lw_reg::Path;
-use lw_target::{Asked, Method, asked_of};
+use lw_target::{Asked, Command, Commands, Method, Purpose, Refused, purpose_of};
 use std::alloc::Global;
 use std::fmt::Write;
 use std::test::Fail;
@@ -14,13 +14,55 @@ fn parts(target: &str) -> (&str, Option<&str>) {
     }
 }
 
-/// What the request asks for, or the status code and the text of why it asks for nothing.
-pub(crate) fn told(alloc: Global, method: Method, target: &str) -> Result<String, Fail> {
+/// What the request is for, or the status code and the text of why it is for nothing.
+pub(crate) fn told(
+    alloc: Global,
+    commands: Commands,
+    method: Method,
+    target: &str,
+) -> Result<String, Fail> {
     let (path, query) = parts(target);
-    match asked_of(alloc, method, path, query)? {
-        Ok(asked) => in_words(alloc, &asked),
-        Err(refused) => Ok(format!(in alloc; "{} {}", refused.status(), refused.text())?),
+    match purpose_of(alloc, commands, method, path, query)? {
+        Ok(Purpose::Question(asked)) => in_words(alloc, &asked),
+        Ok(Purpose::Command(command)) => command_in_words(alloc, &command),
+        Err(refused) => refusal_in_words(alloc, refused),
     }
+}
+
+fn refusal_in_words(alloc: Global, refused: Refused) -> Result<String, Fail> {
+    let mut text = format!(in alloc; "{} {}", refused.status(), refused.text())?;
+    if let Refused::MethodNotAllowed(allowed) = refused {
+        write!(text, ": {}", allowed.text())?;
+    }
+    Ok(text)
+}
+
+fn command_in_words(alloc: Global, command: &Command) -> Result<String, Fail> {
+    match command {
+        Command::Observe {
+            endpoint,
+            path,
+            accept,
+        } => {
+            let mut text = format!(in alloc; "observe {}", endpoint.as_str())?;
+            write_numbers(&mut text, path)?;
+            if let Some(accept) = accept {
+                write!(text, " in {accept}")?;
+            }
+            Ok(text)
+        }
+        Command::Cancel { token } => Ok(format!(in alloc;
+            "cancel {} {}",
+            token.counter, token.node
+        )?),
+    }
+}
+
+fn write_numbers(text: &mut String, path: &Path) -> Result<(), Fail> {
+    for number in path.numbers() {
+        write!(text, " {number}")?;
+    }
+    Ok(())
 }
 
 fn in_words(alloc: Global, asked: &Asked) -> Result<String, Fail> {
@@ -40,6 +82,10 @@ fn in_words(alloc: Global, asked: &Asked) -> Result<String, Fail> {
         } => match start {
             Some(start) => Ok(format!(in alloc; "{limit} since {since} of {start}")?),
             None => Ok(format!(in alloc; "{limit} since {since}")?),
+        },
+        Asked::Notifications { from, start, limit } => match start {
+            Some(start) => Ok(format!(in alloc; "{limit} from {from} of {start}")?),
+            None => Ok(format!(in alloc; "{limit} from {from}")?),
         },
         Asked::Observations {
             endpoint,
@@ -61,9 +107,7 @@ fn observed_in_words(
         return Ok(text);
     };
     text.push_str(" behind")?;
-    for number in path.numbers() {
-        write!(text, " {number}")?;
-    }
+    write_numbers(&mut text, path)?;
     Ok(text)
 }
 

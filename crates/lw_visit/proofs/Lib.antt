@@ -1,3 +1,4 @@
 pub mod TokenLemmas
-pub mod Verdicts
 pub mod Told
+pub mod SiteLemmas
+pub mod ResultLemmas

@@ -1,17 +1,21 @@
--- The calls of a service that stays as it is.
-use Rattle.std.proofs.Common.{◌≡◌, List, [], ◌∷◌, subst, sym}
-use Rattle.std.specs.Prelude.{ℕ, ◌++◌, All}
-use Rattle.std.proofs.lemmas.List.Elements.{All-nil, All-cons}
-use Rattle.http.specs.declared.request.Request.{Request}
-use Rattle.http_server.specs.declared.response.Response.{Response}
+-- The calls of a service, as calls of the desk in it.
+use Rattle.std.proofs.Common.{◌≡◌, List, [], ◌∷◌, ap, subst, sym}
+use Rattle.std.specs.Prelude.{◌++◌, Option}
 use Rattle.http_server.specs.Exchange.{Call, Chain}
+use Rattle.lw_target.specs.declared.asked.Asked.{Asked}
+use Rattle.lw_target.specs.declared.command.Command.{Command}
+use Rattle.lw_target.specs.declared.desk.Answer.{Answer}
+use Rattle.lw_visit.specs.declared.asking.Asking.{Asking}
+use Rattle.lw_visit.specs.Verdicts.{IsTold}
 
-pub told_all : {S : Type 0} (IsRight : S → Request (List ℕ) → Response → Type 0) (calls : List Call) (old new : S)
-    → Chain (λ before request response after. (after ≡ before) × IsRight before request response) old calls new
-    → All (λ call. IsRight old call.0 call.1) calls
-told_all {S} IsRight [] old new x = All-nil (λ (call : Call). IsRight old call.0 call.1)
-told_all {S} IsRight (c ∷ calls) old new x = All-cons (λ (call : Call). IsRight old call.0 call.1) c calls x.1.1
-    (subst (λ s. All (λ (call : Call). IsRight s call.0 call.1) calls) x.1.0 (told_all IsRight calls x.0 new x.2))
+-- where each call keeps the guard and tells what it is to tell, the desks do so one after another
+pub told_all : {S : Type 0} (Tells : S → Asked → Answer → Type 0) (Does : S → Command → Option Answer → S → Type 0)
+    (calls : List Call) (old new : Asking S)
+    → Chain (λ before request response after. (after.guard ≡ before.guard) × IsTold before.guard.now Tells Does before.desk request response after.desk) old calls new
+    → Chain (IsTold old.guard.now Tells Does) old.desk calls new.desk
+told_all Tells Does [] old new x = ap (λ asking. asking.desk) x
+told_all Tells Does (c ∷ calls) old new x =
+    (x.0.desk, x.1.1, subst (λ guard. Chain (IsTold guard.now Tells Does) x.0.desk calls new.desk) x.1.0 (told_all Tells Does calls x.0 new x.2))
 
 -- what stands behind nothing is all
 pub begun : {X : Type 0} (P : List X → Type 0) (before after more : List X) → after ≡ before ++ more → before ≡ [] → P more

@@ -1,5 +1,6 @@
--- Who may ask: for which hosts (RFC 9110, section 7.2), and with which token (RFC 6750, section 2.1).
-use Rattle.std.specs.Prelude.{◌≡◌, ◌⊎◌, ℕ, ◌==◌, not, List, [], ◌∷◌, take, drop, codes, string_bytes, IsTrue, Option, Some, None, IfSome, IsSomeAnd, option_map}
+-- Who may ask: for which hosts (RFC 9110, section 7.2), with which token (RFC 6750, section 2.1), and from which site
+-- (RFC 6454, section 7).
+use Rattle.std.specs.Prelude.{◌≡◌, ◌⊎◌, ℕ, ◌==◌, not, List, [], ◌∷◌, ◌++◌, take, drop, codes, string_bytes, IsTrue, Option, Some, None, IfSome, IsSomeAnd, option_map}
 use Rattle.std.specs.List.{prefix_len}
 use Rattle.std.specs.Net.Grammar.{IsIpv4Text}
 use Rattle.std.specs.declared.net.ipv4_addr.Ipv4Addr.{Ipv4Addr}
@@ -85,3 +86,18 @@ tokens_in request = get_all (head_of request).headers (codes "authorization")
 abbrev pub MayAsk : Guard → Request (List ℕ) → Type 0
 MayAsk guard request = IsOpen (uri_path (head_of request).uri)
     ⊎ HasToken (token_of guard) (tokens_in request)
+
+-- ---- sites
+-- the site is the host, by either scheme; another port is another site
+abbrev pub IsSiteOf : List ℕ → List ℕ → Type 0
+IsSiteOf host origin = (origin ≡ codes "http://" ++ host) ⊎ (origin ≡ codes "https://" ++ host)
+
+-- the one value of `Origin` is the site that the field `Host` names
+abbrev pub IsOurSite : List FieldValue → Option FieldValue → Type 0
+IsOurSite origins host =
+    IsSomeAnd (only_of origins) (λ origin. IsSomeAnd host (λ value. IsSiteOf value.bytes origin.bytes))
+
+-- no page of another site made the request, as far as its browser tells: without the field `Origin` none did
+abbrev pub IsFromHere : Request (List ℕ) → Type 0
+IsFromHere request = (get (head_of request).headers (codes "origin") ≡ None)
+    ⊎ IsOurSite (get_all (head_of request).headers (codes "origin")) (get (head_of request).headers (codes "host"))

@@ -1,21 +1,18 @@
 //! A desk as a service of HTTP.
 
-ghost use Rattle.std.specs.Prelude.{◌≡◌, ◌++◌, [], IfOk, OnOk, string_bytes};
-ghost use Rattle.http.specs.Request.{head_of};
+ghost use Rattle.std.specs.Prelude.{◌≡◌, ◌++◌, [], OnOk, Some, Option};
 ghost use Rattle.http_server.specs.Response.{fields_of, IsBlank, IsResponse};
-ghost use Rattle.http_server.specs.declared.response.Response.{Response as Responses};
-ghost use Rattle.lw_visit.specs.Responses.{code_of, error_body, fields_for, media_fields, media_type as type_of, Asks, Gives, IsAllowed, IsJudged, IsMethod, IsTold, IsToldHere, Refuses};
-ghost use Rattle.lw_visit.specs.inner.Verdicts.{code_in, more_in, text_in, IsShown};
-ghost use Rattle.lw_target.specs.declared.desk.Media.TheVariants.{Json};
+ghost use Rattle.lw_target.specs.declared.desk.Answer.{Answer as Content};
+ghost use Rattle.lw_target.specs.declared.desk.Media.TheVariants.{Html};
+ghost use Rattle.lw_visit.specs.Responses.{body_in, code_of, error_body, fields_for, media_fields, Gives, IsRefusal, IsToldOf};
 
 use crate::Guard;
 use crate::refusal::{Refusal, add_field};
 use bytes::{BufMut, Bytes};
-use http::{Method as HttpMethod, Request, StatusCode, header};
-use http_header::HeaderValue;
+use http::{Request, StatusCode, header};
 use http_server::{Response, Service};
 use lw_stamp::NoMemory;
-use lw_target::{Answer, Asked, Desk, Media, Method, Refused, Status, asked_of};
+use lw_target::{Answer, Asked, Command, Desk, Media, Purpose, Status};
 use std::alloc::{AllocError, Global};
 
 /// What a page may do: run what stands in it, and ask the server that it came from.
@@ -23,98 +20,63 @@ const PAGE_POLICY: &str =
     "default-src 'none'; script-src 'unsafe-inline'; style-src 'unsafe-inline'; connect-src 'self'; \
     frame-ancestors 'none'";
 
-/// A desk that is asked over HTTP. Where there is no memory for an answer, the connection ends.
+/// A desk that is asked over HTTP. Where there is no memory to answer a question or to refuse, the connection ends.
 #[derive(Drop)]
-pub struct Asking<'a, D: Desk> {
+pub struct Asking<'a, D: Desk + Drop> {
     pub alloc: Global,
-    pub desk: &'a D,
+    pub desk: D,
     pub guard: &'a Guard,
 }
 
-impl<D: Desk> Service for Asking<'_, D> {
+impl<D: Desk + Drop> Service for Asking<'_, D> {
     ghost use Rattle.std.specs.Prelude.{◌≡◌};
-    ghost use Rattle.lw_visit.specs.Responses.{IsTold};
+    ghost use Rattle.lw_visit.specs.Verdicts.{IsTold};
 
-    ghost answers = { λ old request response new. (new ≡ old)
-        × IsTold old.guard.now (D.tells old.desk.now) request response };
+    ghost answers = { λ old request response new. (new.guard ≡ old.guard)
+        × IsTold old.guard.now D.tells D.does old.desk request response new.desk };
 
     fn call(
         &mut self,
         request: &Request<Bytes>,
         response: &mut Response,
     ) -> Result<(), AllocError> {
-        match self.judge(request) {
-            Ok(Ok(answer)) => put_answer(response, &answer),
+        match self.guard.judge(self.alloc, request) {
+            Ok(Ok(Purpose::Question(asked))) => self.tell(&asked, response),
+            Ok(Ok(Purpose::Command(command))) => {
+                self.carry_out(&command, response);
+                Ok(())
+            }
             Ok(Err(refusal)) => put_refusal(response, refusal),
             Err(NoMemory) => Err(AllocError),
         }
     }
 }
 
-impl<D: Desk> Asking<'_, D> {
-    /// What is told to the request.
-    fn judge(&self, request: &Request<Bytes>) -> Result<Result<Answer, Refusal>, NoMemory>
-        ensures { IfOk result (λ verdict. (response : Responses) → IsShown verdict response
-            → IsTold self.now.guard.now (D.tells self.now.desk.now) request.now response) }
+impl<D: Desk + Drop> Asking<'_, D> {
+    /// Answers a question.
+    fn tell(&self, asked: &Asked, response: &mut Response) -> Result<(), AllocError>
+        requires { IsBlank response.old }
+        ensures { OnOk result ((answer : Content) × D.tells self.now.desk asked.now answer
+            × Gives answer response.new) }
     {
-        if !self.guard.is_for_us(request) {
-            return Ok(Err(Refusal::Misdirected));
-        }
-        self.judge_here(request)
-    }
-
-    /// What is told to a request that is for us.
-    fn judge_here(&self, request: &Request<Bytes>) -> Result<Result<Answer, Refusal>, NoMemory>
-        ensures { IfOk result (λ verdict. (response : Responses) → IsShown verdict response
-            → IsToldHere self.now.guard.now (D.tells self.now.desk.now) request.now response) }
-    {
-        let asked = asked_by(self.alloc, request)?;
-        self.allow(request, &asked)
-    }
-
-    /// What is told to a request that asks for this.
-    fn allow(
-        &self,
-        request: &Request<Bytes>,
-        asked: &Result<Asked, Refused>,
-    ) -> Result<Result<Answer, Refusal>, NoMemory>
-        ensures { IfOk result (λ verdict. (response : Responses) → IsShown verdict response
-            → IsJudged self.now.guard.now (D.tells self.now.desk.now) request.now asked.now response) }
-    {
-        if !self.guard.may_be_told(request, asked) {
-            return Ok(Err(Refusal::Unauthorized));
-        }
-        self.told(asked)
-    }
-
-    /// What is told to whoever may ask.
-    fn told(&self, asked: &Result<Asked, Refused>) -> Result<Result<Answer, Refusal>, NoMemory>
-        ensures { IfOk result (λ verdict. (response : Responses) → IsShown verdict response
-            → IsAllowed (D.tells self.now.desk.now) asked.now response) }
-    {
-        match asked {
-            Ok(asked) => Ok(Ok(self.desk.answer(asked)?)),
-            Err(refused) => Ok(Err(Refusal::Target(*refused))),
+        match self.desk.answer(asked) {
+            Ok(answer) => put_answer(response, &answer),
+            Err(NoMemory) => Err(AllocError),
         }
     }
-}
 
-/// What the request asks for.
-fn asked_by(alloc: Global, request: &Request<Bytes>) -> Result<Result<Asked, Refused>, NoMemory>
-    ensures { IfOk result (Asks request.now) }
-{
-    let (path, query) = (request.uri().path(), request.uri().query());
-    asked_of(alloc, method_of(request), path, query)
-}
-
-fn method_of(request: &Request<Bytes>) -> Method
-    ensures { IsMethod (head_of request.now).method result }
-{
-    let method = request.method();
-    if *method == HttpMethod::GET || *method == HttpMethod::HEAD {
-        return Method::Get;
+    /// Carries a command out, and tells what came of it.
+    fn carry_out(&mut self, command: &Command, response: &mut Response)
+        requires { IsBlank response.old }
+        ensures done { (answer : Option Content) × D.does self.old.desk command.now answer self.new.desk
+            × IsToldOf answer response.new }
+        ensures guard { self.new.guard ≡ self.old.guard }
+    {
+        match self.desk.carry_out(command) {
+            Some(answer) => put_outcome(response, &answer),
+            None => put_no_memory(response),
+        }
     }
-    Method::Other
 }
 
 fn status_code_of(status: Status) -> StatusCode
@@ -122,6 +84,8 @@ fn status_code_of(status: Status) -> StatusCode
 {
     match status {
         Status::Ok => StatusCode::OK,
+        Status::Created => StatusCode::CREATED,
+        Status::NoContent => StatusCode::NO_CONTENT,
         Status::BadRequest => StatusCode::BAD_REQUEST,
         Status::NotFound => StatusCode::NOT_FOUND,
         Status::Gone => StatusCode::GONE,
@@ -129,14 +93,22 @@ fn status_code_of(status: Status) -> StatusCode
     }
 }
 
-fn media_type(media: Media) -> HeaderValue
-    ensures { result.bytes ≡ type_of media }
+/// What came of a command, or where there is no memory to tell it, that there is none.
+fn put_outcome(response: &mut Response, answer: &Answer)
+    requires { IsBlank response.old }
+    ensures { IsToldOf (Some answer.now) response.new }
 {
-    match media {
-        Media::Json => HeaderValue::from_static("application/json"),
-        Media::Html => HeaderValue::from_static("text/html; charset=utf-8"),
-        Media::Metrics => HeaderValue::from_static("text/plain; version=0.0.4"),
+    if put_answer(response, answer).is_err() {
+        response.clear();
+        put_no_memory(response);
     }
+}
+
+fn put_no_memory(response: &mut Response)
+    requires { IsBlank response.old }
+    ensures { IsResponse 503 [] [] response.new }
+{
+    response.status = StatusCode::SERVICE_UNAVAILABLE;
 }
 
 /// Begins a response: its status, and the fields that each has.
@@ -148,20 +120,31 @@ fn put_head(response: &mut Response, status: StatusCode, media: Media) -> Result
     add_field(response, header::CONNECTION, "close")?;
     add_field(response, header::CACHE_CONTROL, "no-store")?;
     add_field(response, header::X_CONTENT_TYPE_OPTIONS, "nosniff")?;
-    response.add_header(header::CONTENT_TYPE, media_type(media))?;
-    add_policy(response, media)
+    add_media(response, media)
 }
 
-/// What a page may do, said to the browser that shows it.
-fn add_policy(response: &mut Response, media: Media) -> Result<(), AllocError>
+/// The type of a body, where there is one, and what a page may do.
+fn add_media(response: &mut Response, media: Media) -> Result<(), AllocError>
     ensures headers { OnOk result (fields_of response.new ≡ fields_of response.old ++ media_fields media) }
     ensures status { OnOk result (response.new.status ≡ response.old.status) }
     ensures body { OnOk result (response.new.body ≡ response.old.body) }
 {
     match media {
-        Media::Html => add_field(response, header::CONTENT_SECURITY_POLICY, PAGE_POLICY),
-        Media::Json | Media::Metrics => Ok(()),
+        Media::Json => add_field(response, header::CONTENT_TYPE, "application/json"),
+        Media::Html => add_page(response),
+        Media::Metrics => add_field(response, header::CONTENT_TYPE, "text/plain; version=0.0.4"),
+        Media::Nothing => Ok(()),
     }
+}
+
+/// The type of a page, and what it may do, said to the browser that shows it.
+fn add_page(response: &mut Response) -> Result<(), AllocError>
+    ensures headers { OnOk result (fields_of response.new ≡ fields_of response.old ++ media_fields Html) }
+    ensures status { OnOk result (response.new.status ≡ response.old.status) }
+    ensures body { OnOk result (response.new.body ≡ response.old.body) }
+{
+    add_field(response, header::CONTENT_TYPE, "text/html; charset=utf-8")?;
+    add_field(response, header::CONTENT_SECURITY_POLICY, PAGE_POLICY)
 }
 
 fn put_answer(response: &mut Response, answer: &Answer) -> Result<(), AllocError>
@@ -169,12 +152,24 @@ fn put_answer(response: &mut Response, answer: &Answer) -> Result<(), AllocError
     ensures { OnOk result (Gives answer.now response.new) }
 {
     put_head(response, status_code_of(answer.status), answer.media)?;
-    response.body.put_slice(answer.body.as_bytes())
+    put_body(response, answer.media, answer.body.as_bytes())
+}
+
+/// The body, behind which there is none yet.
+fn put_body(response: &mut Response, media: Media, body: &[u8]) -> Result<(), AllocError>
+    ensures headers { OnOk result (response.new.headers ≡ response.old.headers) }
+    ensures status { OnOk result (response.new.status ≡ response.old.status) }
+    ensures body { OnOk result (response.old.body.items ≡ [] → response.new.body.items ≡ body_in media body.now) }
+{
+    match media {
+        Media::Nothing => Ok(()),
+        Media::Json | Media::Html | Media::Metrics => response.body.put_slice(body),
+    }
 }
 
 fn put_refusal(response: &mut Response, refusal: Refusal) -> Result<(), AllocError>
     requires { IsBlank response.old }
-    ensures { OnOk result (Refuses (code_in refusal) (more_in refusal) (text_in refusal) response.new) }
+    ensures { OnOk result (IsRefusal refusal response.new) }
 {
     put_head(response, refusal.status(), Media::Json)?;
     refusal.add_fields(response)?;

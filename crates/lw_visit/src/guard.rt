@@ -1,15 +1,16 @@
 //! Who may ask.
 
-ghost use Rattle.std.specs.Prelude.{◌≡◌, ◌≤◌, ◌==◌, ◌↔◌, not, length, IsTrue, Some, option_copied};
+ghost use Rattle.std.specs.Prelude.{◌≡◌, ◌≤◌, ◌==◌, ◌++◌, ◌↔◌, not, length, IsTrue, Some, codes, option_copied};
 ghost use Rattle.std.specs.List.{prefix_len};
 ghost use Rattle.http_server.specs.Host.{is_bracketed as bracketed};
-ghost use Rattle.lw_visit.specs.Guard.{before_port as text_before_port, host_of as named, host_name, only_of, token_of, tokens_in, HasToken, IsForUs, IsHostServed, IsIpv4, IsNameServed, IsOpen, IsOurs, MayAsk, Presents};
-ghost use Rattle.lw_visit.specs.Responses.{needs_token as is_token_needed, MayBeTold};
+ghost use Rattle.lw_visit.specs.Guard.{before_port as text_before_port, host_of as named, host_name, only_of, token_of, tokens_in, HasToken, IsForUs, IsFromHere, IsHostServed, IsIpv4, IsNameServed, IsOpen, IsOurs, IsOurSite, IsSiteOf, MayAsk, Presents};
+ghost use Rattle.http.specs.Request.{head_of};
+ghost use Rattle.http_header.specs.HeaderMap.{get as value_of, get_all as values_of};
 
 use bytes::Bytes;
 use http::Request;
 use http_header::{HeaderValue, ValueIter};
-use lw_target::{Asked, Refused};
+use lw_target::Commands;
 use std::net::Ipv4Addr;
 
 /// What stands before a token in its field.
@@ -22,6 +23,8 @@ pub struct Guard {
     pub token: Option<Vec<u8>>,
     /// The name that a request may be for, beside IP addresses and `localhost`.
     pub host: Option<String>,
+    /// Whether requests are taken that change something.
+    pub commands: Commands,
 }
 
 impl Guard {
@@ -71,24 +74,6 @@ impl Guard {
             None => true,
         }
     }
-
-    /// Whether a request that asks for this is told of it, or why not.
-    pub(crate) fn may_be_told(
-        &self,
-        request: &Request<Bytes>,
-        asked: &Result<Asked, Refused>,
-    ) -> bool
-        ensures { IsTrue result ↔ MayBeTold self.now request.now asked.now }
-    {
-        !needs_token(asked) || self.may_ask(request)
-    }
-}
-
-/// Whether a token is asked for.
-fn needs_token(asked: &Result<Asked, Refused>) -> bool
-    ensures { result ≡ is_token_needed asked.now }
-{
-    !matches!(asked, Err(Refused::NoResource | Refused::MethodNotAllowed))
 }
 
 #[tactic(auto, using(crate::proofs::TokenLemmas::brought, crate::proofs::TokenLemmas::not_brought))]
@@ -190,4 +175,39 @@ fn is_same(one: &[u8], other: &[u8]) -> bool
         same &= one[place] == other[place];
     }
     same
+}
+
+/// Whether no other site made the request, as far as is told.
+pub(crate) fn is_from_here(request: &Request<Bytes>) -> bool
+    ensures { IsTrue result ↔ IsFromHere request.now }
+{
+    request.headers().get("origin").is_none() || is_from_our_site(request)
+}
+
+fn is_from_our_site(request: &Request<Bytes>) -> bool
+    ensures { IsTrue result ↔ IsOurSite (values_of (head_of request.now).headers (codes "origin"))
+        (value_of (head_of request.now).headers (codes "host")) }
+{
+    let headers = request.headers();
+    match (only(headers.get_all("origin").iter()), headers.get("host")) {
+        (Some(origin), Some(host)) => is_site_of(host.as_bytes(), origin.as_bytes()),
+        _ => false,
+    }
+}
+
+/// Whether the host is the site, by either scheme.
+fn is_site_of(host: &[u8], origin: &[u8]) -> bool
+    ensures { IsTrue result ↔ IsSiteOf host.now origin.now }
+{
+    is_joined(origin, b"http://", host) || is_joined(origin, b"https://", host)
+}
+
+/// Whether the text is the front with the back behind it.
+fn is_joined(text: &[u8], front: &[u8], back: &[u8]) -> bool
+    ensures { IsTrue result ↔ (text.now ≡ front.now ++ back.now) }
+{
+    match text.strip_prefix(front) {
+        Some(behind) => behind == back,
+        None => false,
+    }
 }

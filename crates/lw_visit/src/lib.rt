@@ -3,6 +3,7 @@
 
 mod asking;
 mod guard;
+mod judging;
 mod refusal;
 mod token;
 mod visiting;

@@ -3,8 +3,7 @@
 ghost use Rattle.std.specs.Prelude.{◌≡◌, [], ◌∷◌, ◌++◌, OnOk, IsTrue};
 ghost use Rattle.http_header.specs.FieldValue.{is_visible_text};
 ghost use Rattle.http_server.specs.Response.{fields_of};
-ghost use Rattle.lw_visit.specs.Responses.{more_for};
-ghost use Rattle.lw_visit.specs.inner.Verdicts.{code_in, more_in, text_in};
+ghost use Rattle.lw_visit.specs.Responses.{more_for, refusal_code, refusal_fields, refusal_text};
 
 use http::{StatusCode, header};
 use http_header::{HeaderName, HeaderValue};
@@ -19,41 +18,45 @@ pub(crate) enum Refusal {
     Misdirected,
     /// It does not bring the token.
     Unauthorized,
-    /// It asks for nothing.
+    /// It would change something, and a page of another site made it.
+    FromAnotherSite,
+    /// It is for nothing.
     Target(Refused),
 }
 
 impl Refusal {
     pub(crate) fn status(self) -> StatusCode
-        ensures { result ≡ code_in self }
+        ensures { result ≡ refusal_code self }
     {
         match self {
             Refusal::Misdirected => StatusCode::MISDIRECTED_REQUEST,
             Refusal::Unauthorized => StatusCode::UNAUTHORIZED,
+            Refusal::FromAnotherSite => StatusCode::FORBIDDEN,
             Refusal::Target(Refused::NoResource) => StatusCode::NOT_FOUND,
-            Refusal::Target(Refused::MethodNotAllowed) => StatusCode::METHOD_NOT_ALLOWED,
+            Refusal::Target(Refused::MethodNotAllowed(_)) => StatusCode::METHOD_NOT_ALLOWED,
             Refusal::Target(_) => StatusCode::BAD_REQUEST,
         }
     }
 
     pub(crate) fn text(self) -> &'static str
-        ensures { result.now ≡ text_in self }
+        ensures { result.now ≡ refusal_text self }
     {
         match self {
             Refusal::Misdirected => "not for this host",
             Refusal::Unauthorized => "a token is needed",
+            Refusal::FromAnotherSite => "from another site",
             Refusal::Target(refused) => refused.text(),
         }
     }
 
     /// Adds the fields that only this refusal has.
     pub(crate) fn add_fields(self, response: &mut Response) -> Result<(), AllocError>
-        ensures headers { OnOk result (fields_of response.new ≡ fields_of response.old ++ more_in self) }
+        ensures headers { OnOk result (fields_of response.new ≡ fields_of response.old ++ refusal_fields self) }
         ensures status { OnOk result (response.new.status ≡ response.old.status) }
         ensures body { OnOk result (response.new.body ≡ response.old.body) }
     {
         match self {
-            Refusal::Misdirected => Ok(()),
+            Refusal::Misdirected | Refusal::FromAnotherSite => Ok(()),
             Refusal::Unauthorized => add_field(response, header::WWW_AUTHENTICATE, "Bearer"),
             Refusal::Target(refused) => add_allowed(response, refused),
         }
@@ -67,7 +70,7 @@ fn add_allowed(response: &mut Response, refused: Refused) -> Result<(), AllocErr
     ensures body { OnOk result (response.new.body ≡ response.old.body) }
 {
     match refused {
-        Refused::MethodNotAllowed => add_field(response, header::ALLOW, "GET, HEAD"),
+        Refused::MethodNotAllowed(allowed) => add_field(response, header::ALLOW, allowed.text()),
         _ => Ok(()),
     }
 }

@@ -27,9 +27,15 @@ pub fn new_connection(alloc: Global, keys: RandomState) -> Connection
     Connection::new(alloc, keys, config)
 }
 
-/// Answers the requests that have come whole.
-pub fn advance<D: Desk>(alloc: Global, connection: &mut Connection, desk: &D, guard: &Guard)
-    ensures answered { AreAnswered guard.now (D.tells desk.now) (history connection.old) (history connection.new) }
+/// Answers the requests that have come whole, and gives the desk back.
+pub fn advance<D: Desk + Drop>(
+    alloc: Global,
+    connection: &mut Connection,
+    desk: D,
+    guard: &Guard,
+) -> D
+    ensures answered { AreAnswered guard.now D.tells D.does desk (history connection.old) (history connection.new)
+        result }
     ensures served { ∥ IsServed (config_of connection.new) (history connection.new) ∥₁ }
     ensures rests { Rests (config_of connection.new) (history connection.new) }
     ensures quiet { IsQuiet (history connection.old) (history connection.new) }
@@ -37,23 +43,25 @@ pub fn advance<D: Desk>(alloc: Global, connection: &mut Connection, desk: &D, gu
 {
     let mut asking = Asking { alloc, desk, guard };
     connection.advance(&mut asking);
+    asking.desk
 }
 
-/// Answers a reader's requests by what it writes, until the connection is done.
-pub fn visit<D: Desk, R: Read, W: Write>(
+/// Answers a reader's requests by what it writes, until the connection is done, and gives the desk back.
+pub fn visit<D: Desk + Drop, R: Read, W: Write>(
     alloc: Global,
     keys: RandomState,
-    desk: &D,
+    desk: D,
     guard: &Guard,
     reader: &mut R,
     writer: &mut W,
-) -> io::Result<()>
-    ensures visited { (all : History) × IsVisited guard.now (D.tells desk.now) all
+) -> (D, io::Result<()>)
+    ensures visited { (all : History) × IsVisited guard.now D.tells D.does desk all result.0
         × Consumes (R.remaining reader.old) (R.remaining reader.new) all.received
         × Appends (W.contents writer.old) (W.contents writer.new) all.sent
-        × OnOk result (IsDone all) }
+        × OnOk result.1 (IsDone all) }
 {
     let mut connection = new_connection(alloc, keys);
     let mut asking = Asking { alloc, desk, guard };
-    serve(&mut connection, &mut asking, reader, writer)
+    let ended = serve(&mut connection, &mut asking, reader, writer);
+    (asking.desk, ended)
 }

@@ -2,7 +2,11 @@
 #![tactic(auto)]
 
 #[cfg(test)]
+mod commands;
+#[cfg(test)]
 mod hold;
+#[cfg(test)]
+mod stage;
 #[cfg(test)]
 mod tokens;
 #[cfg(test)]

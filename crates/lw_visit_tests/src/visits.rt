@@ -1,51 +1,9 @@
 //! Visits over a reader and a writer in memory.
 
-use crate::hold::same;
-use lw_stamp::NoMemory;
-use lw_target::{Answer, Asked, Desk, Media, Status};
-use lw_visit::{Guard, visit};
-use std::alloc::Global;
-use std::hash::RandomState;
-use std::str;
+use crate::stage::{Row, TOKEN, are_sent, guard_of, is_sent};
+use lw_target::Commands;
+use lw_visit::Guard;
 use std::test::Fail;
-
-/// A desk that tells by what is asked for alone.
-#[derive(Drop)]
-struct ByKind(Global);
-
-impl ByKind {
-    fn told(&self, status: Status, media: Media, body: &str) -> Result<Answer, NoMemory> {
-        Ok(Answer {
-            status,
-            media,
-            body: String::from_str(self.0, body)?,
-        })
-    }
-}
-
-impl Desk for ByKind {
-    ghost tells = { λ desk asked answer. Unit {0} };
-
-    fn answer(&self, asked: &Asked) -> Result<Answer, NoMemory> {
-        match asked {
-            Asked::Health => self.told(Status::Ok, Media::Json, "{}"),
-            Asked::Page => self.told(Status::Ok, Media::Html, "<p>"),
-            Asked::Metrics => self.told(Status::Ok, Media::Metrics, "one 1\n"),
-            Asked::Node => self.told(Status::ServiceUnavailable, Media::Json, "[]"),
-            Asked::Changes { .. } => self.told(Status::Gone, Media::Json, "1"),
-            Asked::ById { .. } => self.told(Status::BadRequest, Media::Json, "2"),
-            _ => self.told(Status::NotFound, Media::Json, "3"),
-        }
-    }
-}
-
-/// What every response has behind its status.
-const ALWAYS: &str =
-    "connection: close\r\ncache-control: no-store\r\nx-content-type-options: nosniff\r\n";
-
-/// The line and the fields of a request; the status of its response, the fields that come behind those that each has, and
-/// the body.
-type Row<'a> = (&'a str, &'a str, &'a str, &'a str);
 
 const TOLD: [Row<'static>; 8] = [
     (
@@ -201,65 +159,24 @@ const WITHOUT_TOKEN: [&str; 9] = [
     "authorization: Bearer 0123456789abcdef\r\nauthorization: Bearer 0123456789abcdef\r\n",
 ];
 
-/// What is sent back to the bytes.
-fn sent(rt: &HostRuntime, guard: &Guard, request: &str) -> Result<Vec<u8>, Fail> {
-    let desk = ByKind(rt.alloc());
-    let mut sent = Vec::new(rt.alloc());
-    let keys = RandomState::new(rt)?;
-    visit(
-        rt.alloc(),
-        keys,
-        &desk,
-        guard,
-        &mut request.as_bytes(),
-        &mut sent,
-    )?;
-    Ok(sent)
-}
-
-fn is_sent(rt: &HostRuntime, guard: &Guard, row: Row<'_>) -> Result<(), Fail> {
-    let (request, status, fields, body) = row;
-    let sent = sent(rt, guard, request)?;
-    let wanted = format!(in rt.alloc(); "HTTP/1.1 {status}\r\n{ALWAYS}{fields}\r\n{body}")?;
-    same(str::from_utf8(&sent)?, wanted.as_str())
-}
-
-fn are_sent(rt: &HostRuntime, guard: &Guard, rows: &[Row<'_>]) -> Result<(), Fail> {
-    for row in rows {
-        is_sent(rt, guard, *row)?;
-    }
-    Ok(())
-}
-
-fn guard_of(alloc: Global, token: Option<&str>) -> Result<Guard, Fail> {
-    let token = match token {
-        None => None,
-        Some(token) => Some(String::from_str(alloc, token)?.into_bytes()),
-    };
-    Ok(Guard {
-        token,
-        host: Some(String::from_str(alloc, "fleet.example")?),
-    })
-}
-
 /// Tries: visit
 #[test]
 fn what_a_desk_tells(rt: HostRuntime) -> Result<(), Fail> {
-    let guard = guard_of(rt.alloc(), None)?;
+    let guard = guard_of(rt.alloc(), None, Commands::Off)?;
     are_sent(&rt, &guard, &TOLD)
 }
 
 /// Tries: visit
 #[test]
 fn what_asks_for_nothing(rt: HostRuntime) -> Result<(), Fail> {
-    let guard = guard_of(rt.alloc(), None)?;
+    let guard = guard_of(rt.alloc(), None, Commands::Off)?;
     are_sent(&rt, &guard, &REFUSED)
 }
 
 /// Tries: visit
 #[test]
 fn what_brings_the_token_or_needs_none(rt: HostRuntime) -> Result<(), Fail> {
-    let guard = guard_of(rt.alloc(), Some("0123456789abcdef"))?;
+    let guard = guard_of(rt.alloc(), Some(TOKEN), Commands::Off)?;
     are_sent(&rt, &guard, &WITH_TOKEN)
 }
 
@@ -279,7 +196,7 @@ fn is_unauthorized(rt: &HostRuntime, guard: &Guard, fields: &str) -> Result<(), 
 /// Tries: visit
 #[test]
 fn what_does_not_bring_the_token(rt: HostRuntime) -> Result<(), Fail> {
-    let guard = guard_of(rt.alloc(), Some("0123456789abcdef"))?;
+    let guard = guard_of(rt.alloc(), Some(TOKEN), Commands::Off)?;
     for fields in &WITHOUT_TOKEN {
         is_unauthorized(&rt, &guard, fields)?;
     }
@@ -290,7 +207,7 @@ fn what_does_not_bring_the_token(rt: HostRuntime) -> Result<(), Fail> {
 /// Tries: visit
 #[test]
 fn one_request_a_visit(rt: HostRuntime) -> Result<(), Fail> {
-    let guard = guard_of(rt.alloc(), None)?;
+    let guard = guard_of(rt.alloc(), None, Commands::Off)?;
     let two =
         "GET /v1/health HTTP/1.1\r\nhost: localhost\r\n\r\nGET /metrics HTTP/1.1\r\nhost: localhost\r\n\r\n";
     let fields = "content-type: application/json\r\ncontent-length: 2\r\n";

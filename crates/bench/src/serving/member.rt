@@ -1,5 +1,8 @@
 //! A member that answers, as that of `fleet run` does, until it has answered so many datagrams.
 
+ghost use Rattle.std.specs.Prelude.{length, IfOk};
+ghost use Rattle.lw_run.specs.Front.{IsWithin};
+
 use crate::fault::BenchFault;
 use log::sink::Discard;
 use lw_front::SystemStopwatch;
@@ -37,18 +40,26 @@ struct CountedFront {
     left: u32,
 }
 
-impl Front for CountedFront {
-    fn attend<D: Desk>(
-        &mut self,
-        _desk: &D,
-        buffer: &mut [u8],
-        _time: Duration,
-    ) -> Result<Heard, WireFault> {
+impl CountedFront {
+    fn hear(&mut self, buffer: &mut [u8]) -> Result<Heard, WireFault>
+        ensures { IfOk result (IsWithin (length buffer.new)) }
+    {
         if self.left == 0 {
             return Ok(Heard::End);
         }
         let (count, from) = self.wire.wait(buffer)?;
         Ok(Heard::Datagram(count, from))
+    }
+}
+
+impl Front for CountedFront {
+    fn attend<D: Desk + Drop>(
+        &mut self,
+        desk: D,
+        buffer: &mut [u8],
+        _time: Duration,
+    ) -> (D, Result<Heard, WireFault>) {
+        (desk, self.hear(buffer))
     }
 
     fn more(&mut self, buffer: &mut [u8]) -> Result<Option<(usize, Addr)>, WireFault> {

@@ -228,32 +228,34 @@ fn http_given<'a>(alloc: Global, words: &'a [&'a str]) -> Result<Option<HttpOpti
     Ok(given_to_run(alloc, words)?.http)
 }
 
-/// The bytes of an IPv4 address, the port, the path of the token's file, the name, and the path of the page's file.
+/// The bytes of an IPv4 address, the port, the path of the token's file, the name, whether commands are taken, and the
+/// path of the page's file.
 type ServedV4 = (
     [u8; 4],
     u16,
     Option<&'static str>,
     Option<&'static str>,
+    bool,
     Option<&'static str>,
 );
 
 /// Words, and what they have served over HTTP at an IPv4 address.
-const SERVED: [(&[&str], ServedV4); 10] = [
+const SERVED: [(&[&str], ServedV4); 14] = [
     (
         &["fleet", "run", "--http", "127.0.0.1:8080"],
-        ([127, 0, 0, 1], 8080, None, None, None),
+        ([127, 0, 0, 1], 8080, None, None, false, None),
     ),
     (
         &["fleet", "run", "--http=127.0.0.0:0"],
-        ([127, 0, 0, 0], 0, None, None, None),
+        ([127, 0, 0, 0], 0, None, None, false, None),
     ),
     (
         &["fleet", "run", "--http=127.255.255.255:65535"],
-        ([127, 255, 255, 255], 65535, None, None, None),
+        ([127, 255, 255, 255], 65535, None, None, false, None),
     ),
     (
         &["fleet", "run", "--memory", "--http=127.0.0.1:0080"],
-        ([127, 0, 0, 1], 80, None, None, None),
+        ([127, 0, 0, 1], 80, None, None, false, None),
     ),
     (
         &[
@@ -263,7 +265,7 @@ const SERVED: [(&[&str], ServedV4); 10] = [
             "t",
             "--http=127.0.0.1:1",
         ],
-        ([127, 0, 0, 1], 1, Some("t"), None, None),
+        ([127, 0, 0, 1], 1, Some("t"), None, false, None),
     ),
     (
         &[
@@ -273,19 +275,38 @@ const SERVED: [(&[&str], ServedV4); 10] = [
             "--http-host",
             "example",
         ],
-        ([127, 0, 0, 1], 1, None, Some("example"), None),
+        ([127, 0, 0, 1], 1, None, Some("example"), false, None),
     ),
     (
         &["fleet", "run", "--page", "p", "--http=127.0.0.1:1"],
-        ([127, 0, 0, 1], 1, None, None, Some("p")),
+        ([127, 0, 0, 1], 1, None, None, false, Some("p")),
     ),
     (
         &["fleet", "run", "--http=127.0.0.1:1", "--page= "],
-        ([127, 0, 0, 1], 1, None, None, Some(" ")),
+        ([127, 0, 0, 1], 1, None, None, false, Some(" ")),
     ),
     (
         &["fleet", "run", "--http=0.0.0.0:80", "--http-token-file= "],
-        ([0, 0, 0, 0], 80, Some(" "), None, None),
+        ([0, 0, 0, 0], 80, Some(" "), None, false, None),
+    ),
+    (
+        &["fleet", "run", "--http=127.0.0.1:1", "--http-commands"],
+        ([127, 0, 0, 1], 1, None, None, true, None),
+    ),
+    (
+        &["fleet", "run", "--http-commands", "--http=127.0.0.1:1"],
+        ([127, 0, 0, 1], 1, None, None, true, None),
+    ),
+    (
+        &[
+            "fleet",
+            "run",
+            "--page=p",
+            "--http-commands",
+            "--memory",
+            "--http=127.0.0.1:1",
+        ],
+        ([127, 0, 0, 1], 1, None, None, true, Some("p")),
     ),
     (
         &[
@@ -301,6 +322,26 @@ const SERVED: [(&[&str], ServedV4); 10] = [
             443,
             Some("/etc/fleet/token"),
             Some("fleet.example.org"),
+            false,
+            Some("/usr/share/fleet/index.html"),
+        ),
+    ),
+    (
+        &[
+            "fleet",
+            "run",
+            "--http-commands",
+            "--http=192.0.2.7:443",
+            "--http-token-file=/etc/fleet/token",
+            "--http-host=fleet.example.org",
+            "--page=/usr/share/fleet/index.html",
+        ],
+        (
+            [192, 0, 2, 7],
+            443,
+            Some("/etc/fleet/token"),
+            Some("fleet.example.org"),
+            true,
             Some("/usr/share/fleet/index.html"),
         ),
     ),
@@ -309,12 +350,13 @@ const SERVED: [(&[&str], ServedV4); 10] = [
 /// Tries: read_request
 #[test]
 fn http_to_run(rt: HostRuntime) -> Result<(), Fail> {
-    for &(words, (bytes, port, token_file, host, page_file)) in &SERVED {
+    for &(words, (bytes, port, token_file, host, commands, page_file)) in &SERVED {
         let [a, b, c, d] = bytes;
         let served = HttpOptions {
             address: SocketAddr::new(IpAddr::V4(Ipv4Addr::new(a, b, c, d)), port),
             token_file,
             host,
+            commands,
             page_file,
         };
         holds_for(&words, http_given(rt.alloc(), words)? == Some(served))?;
@@ -362,6 +404,7 @@ fn the_loopback_of_ipv6_without_a_token(rt: HostRuntime) -> Result<(), Fail> {
         ),
         token_file: None,
         host: None,
+        commands: false,
         page_file: None,
     };
     let words = ["fleet", "run", "--http", "[::1]:8080"];
@@ -386,6 +429,7 @@ Options:
       --http <ADDR>             Address and port that HTTP is served on, as 127.0.0.1:8080 or [::1]:8080 [default: none]
       --http-token-file <FILE>  File whose first line is the token that HTTP requests have to bring
       --http-host <NAME>        Name that HTTP requests may be for, beside IP addresses and localhost
+      --http-commands           Takes POST and DELETE: observations are made and ended
       --page <FILE>             File that is served as the page at /
   -h, --help                    Print help
 |";
@@ -432,6 +476,8 @@ const BAD_HTTP: &str =
 const TOKEN_ALONE: &str = "'--http-token-file <FILE>' needs '--http <ADDR>'";
 
 const HOST_ALONE: &str = "'--http-host <NAME>' needs '--http <ADDR>'";
+
+const COMMANDS_ALONE: &str = "'--http-commands' needs '--http <ADDR>'";
 
 const PAGE_ALONE: &str = "'--page <FILE>' needs '--http <ADDR>'";
 
@@ -700,7 +746,7 @@ fn addresses_of_http_that_need_a_token(rt: HostRuntime) -> Result<(), Fail> {
 }
 
 /// Words that are refused for what goes with `--http`, behind `fleet run`, and the line.
-const REFUSED_FOR_HTTP: [(&[&str], &str); 20] = [
+const REFUSED_FOR_HTTP: [(&[&str], &str); 32] = [
     (&["fleet", "run", "--http-token-file", "t"], TOKEN_ALONE),
     (&["fleet", "run", "--http-token-file="], TOKEN_ALONE),
     (&["fleet", "run", "--http-host", "h"], HOST_ALONE),
@@ -709,6 +755,34 @@ const REFUSED_FOR_HTTP: [(&[&str], &str); 20] = [
         &["fleet", "run", "--http-host=h", "--http-token-file=t"],
         TOKEN_ALONE,
     ),
+    (&["fleet", "run", "--http-commands"], COMMANDS_ALONE),
+    (
+        &["fleet", "run", "--memory", "--http-commands"],
+        COMMANDS_ALONE,
+    ),
+    (
+        &["fleet", "run", "--redis=r:1", "--http-commands"],
+        COMMANDS_ALONE,
+    ),
+    (
+        &["fleet", "run", "--http-commands", "--http-token-file=t"],
+        TOKEN_ALONE,
+    ),
+    (
+        &["fleet", "run", "--http-commands", "--http-host=h"],
+        HOST_ALONE,
+    ),
+    (
+        &["fleet", "run", "--page=p", "--http-commands"],
+        COMMANDS_ALONE,
+    ),
+    (
+        &["fleet", "run", "--page=", "--http-commands"],
+        COMMANDS_ALONE,
+    ),
+    (&["fleet", "run", "--http-commands", "--skew=1"], SKEW_ALONE),
+    (&["fleet", "run", "--http-commands", "--data="], BAD_FOLDER),
+    (&["fleet", "run", "--http-commands", "--http="], BAD_HTTP),
     (&["fleet", "run", "--page", "p"], PAGE_ALONE),
     (&["fleet", "run", "--page="], PAGE_ALONE),
     (&["fleet", "run", "--page=p", "--http-host=h"], HOST_ALONE),
@@ -753,6 +827,20 @@ const REFUSED_FOR_HTTP: [(&[&str], &str); 20] = [
         NO_TOKEN,
     ),
     (
+        &["fleet", "run", "--http=192.0.2.7:1", "--http-commands"],
+        NO_TOKEN,
+    ),
+    (
+        &[
+            "fleet",
+            "run",
+            "--http=127.0.0.1:1",
+            "--http-commands",
+            "--page=",
+        ],
+        BAD_PAGE,
+    ),
+    (
         &["fleet", "run", "--http=", "--http-host=", "--data="],
         BAD_FOLDER,
     ),
@@ -772,7 +860,7 @@ fn refused_words_of_http(rt: HostRuntime) -> Result<(), Fail> {
 }
 
 /// Words that no option takes, the line, and the usage where there is one.
-const STRAY: [(&[&str], &str, &str); 16] = [
+const STRAY: [(&[&str], &str, &str); 20] = [
     (
         &["fleet", "run", "here"],
         "unexpected argument 'here' found",
@@ -837,6 +925,32 @@ const STRAY: [(&[&str], &str, &str); 16] = [
         &["fleet", "run", "--http-host=a", "--http-host=b"],
         "the argument '--http-host <NAME>' cannot be used multiple times",
         RUN,
+    ),
+    (
+        &["fleet", "run", "--http-commands", "--http-commands"],
+        "the argument '--http-commands' cannot be used multiple times",
+        RUN,
+    ),
+    (
+        &[
+            "fleet",
+            "run",
+            "--http-commands",
+            "--http=127.0.0.1:1",
+            "--http-commands",
+        ],
+        "the argument '--http-commands' cannot be used multiple times",
+        RUN,
+    ),
+    (
+        &["fleet", "run", "--http=127.0.0.1:1", "--http-commands=true"],
+        "unexpected value 'true' for '--http-commands' found; no more were expected",
+        "Usage: fleet run --http <ADDR> --http-commands\n\n",
+    ),
+    (
+        &["fleet", "run", "--http-commands="],
+        "unexpected value '' for '--http-commands' found; no more were expected",
+        "Usage: fleet run --http-commands\n\n",
     ),
     (
         &["fleet", "run", "--http-token-file=a", "--http-token-file"],

@@ -4,9 +4,9 @@ use super::*;
 use std::alloc::{AllocError, Global};
 
 /// The endpoints are the numbers below it, of three digits each: so they rise as the numbers do.
-const COUNT: usize = 1_000;
+pub(super) const COUNT: usize = 1_000;
 
-fn name_of(alloc: Global, number: usize) -> Result<String, AllocError> {
+pub(super) fn name_of(alloc: Global, number: usize) -> Result<String, AllocError> {
     format!(in alloc; "{number:03}")
 }
 
@@ -20,8 +20,8 @@ fn put_all(alloc: Global, moments: &mut DueMoments, step: usize) -> Result<(), N
     for place in 0..COUNT {
         let number = place.wrapping_mul(step) % COUNT;
         let name = name_of(alloc, number)?;
-        moments.add(name.as_str(), 100)?;
-        moments.add(name.as_str(), due_of(number))?;
+        moments.add(name.as_str(), false, 100)?;
+        moments.add(name.as_str(), false, due_of(number))?;
     }
     Ok(())
 }

@@ -1,9 +1,12 @@
 //! A front and a clock in memory.
 
 ghost use Rattle.std.specs.Prelude.{◌≤◌, length, IfOk};
+ghost use Rattle.lw_run.specs.Front.{IsWithin};
 
 use super::*;
-use lw_target::{Asked, Desk};
+use lw_path::read_path;
+use lw_stamp::{Stamp, Text};
+use lw_target::{Answer, Asked, Command, Desk};
 use std::time::Duration;
 
 /// What a front gives.
@@ -17,6 +20,12 @@ pub(super) enum Coming<'a> {
     Nothing,
     /// A fault.
     Fault,
+    /// A visitor has the path of `a` observed.
+    Observe(&'a str),
+    /// A visitor has the observation end whose token is made by node 1 and has the counter.
+    Cancel(u8),
+    /// A visitor asks for all that devices told.
+    Notifications,
 }
 
 /// A front in memory. Where all has come it is over.
@@ -77,6 +86,54 @@ impl<'a> MemoryFront<'a> {
         Ok((count, from_port(port)))
     }
 
+    /// What comes next.
+    fn hear<D: Desk>(&mut self, desk: &mut D, buffer: &mut [u8]) -> Result<Heard, WireFault>
+        ensures { IfOk result (IsWithin (length buffer.new)) }
+    {
+        let Some(coming) = self.comings.get(self.taken) else {
+            self.ask(desk)?;
+            return Ok(Heard::End);
+        };
+        self.taken = self.taken.wrapping_add(1);
+        match *coming {
+            Coming::Datagram(port, datagram) | Coming::AtOnce(port, datagram) => {
+                let (count, from) = self.put(buffer, port, datagram)?;
+                Ok(Heard::Datagram(count, from))
+            }
+            Coming::Nothing => Ok(Heard::Nothing),
+            Coming::Fault => Err(WireFault),
+            Coming::Observe(path) => self.command(desk, observe(self.alloc, path)),
+            Coming::Cancel(counter) => self.command(desk, cancel(counter)),
+            Coming::Notifications => self.ask_notifications(desk),
+        }
+    }
+
+    /// Has a command carried out, and adds what is told of it.
+    fn command<D: Desk>(
+        &mut self,
+        desk: &mut D,
+        command: Option<Command>,
+    ) -> Result<Heard, WireFault> {
+        let answer = desk.carry_out(&command.ok_or(WireFault)?).ok_or(WireFault)?;
+        self.put_answer(&answer)
+    }
+
+    fn ask_notifications<D: Desk>(&mut self, desk: &D) -> Result<Heard, WireFault> {
+        let asked = Asked::Notifications {
+            from: 0,
+            start: None,
+            limit: 64,
+        };
+        let answer = desk.answer(&asked).map_err(|_| WireFault)?;
+        self.put_answer(&answer)
+    }
+
+    fn put_answer(&mut self, answer: &Answer) -> Result<Heard, WireFault> {
+        let (status, body) = (answer.status, answer.body.as_str());
+        writeln!(self.sent, "{status:?} {body}").map_err(|_| WireFault)?;
+        Ok(Heard::Nothing)
+    }
+
     /// Asks for measures, if they are to be told.
     fn ask<D: Desk>(&mut self, desk: &D) -> Result<(), WireFault> {
         if self.visited {
@@ -94,6 +151,20 @@ impl<'a> MemoryFront<'a> {
     }
 }
 
+/// The command that has the path of `a` observed.
+fn observe(alloc: Global, path: &str) -> Option<Command> {
+    Some(Command::Observe {
+        endpoint: Text::copy_of(alloc, "a").ok()?,
+        path: read_path(path)?,
+        accept: None,
+    })
+}
+
+fn cancel(counter: u8) -> Option<Command> {
+    let token = Stamp::from_bytes([0, 0, 0, 0, 0, counter, 0, 1])?;
+    Some(Command::Cancel { token })
+}
+
 fn from_port(port: u16) -> Addr {
     Addr::V4 {
         address: [127, 0, 0, 1],
@@ -102,25 +173,15 @@ fn from_port(port: u16) -> Addr {
 }
 
 impl Front for MemoryFront<'_> {
-    fn attend<D: Desk>(
+    fn attend<D: Desk + Drop>(
         &mut self,
-        desk: &D,
+        desk: D,
         buffer: &mut [u8],
         _time: Duration,
-    ) -> Result<Heard, WireFault> {
-        let Some(coming) = self.comings.get(self.taken) else {
-            self.ask(desk)?;
-            return Ok(Heard::End);
-        };
-        self.taken = self.taken.wrapping_add(1);
-        match *coming {
-            Coming::Datagram(port, datagram) | Coming::AtOnce(port, datagram) => {
-                let (count, from) = self.put(buffer, port, datagram)?;
-                Ok(Heard::Datagram(count, from))
-            }
-            Coming::Nothing => Ok(Heard::Nothing),
-            Coming::Fault => Err(WireFault),
-        }
+    ) -> (D, Result<Heard, WireFault>) {
+        let mut desk = desk;
+        let heard = self.hear(&mut desk, buffer);
+        (desk, heard)
     }
 
     fn more(&mut self, buffer: &mut [u8]) -> Result<Option<(usize, Addr)>, WireFault> {

@@ -5,7 +5,7 @@ use log::sink::{Discard, Memory};
 use log::{Level, Log, Logged};
 use lw_front::Sockets;
 use lw_stamp::NoMemory;
-use lw_target::{Answer, Asked, Desk, Media, Status};
+use lw_target::{Answer, Asked, Command, Commands, Desk, Media, Status};
 use lw_visit::Guard;
 use lw_wire::address_of;
 use std::hash::RandomState;
@@ -20,12 +20,22 @@ struct OneAnswer(Global);
 impl Desk for OneAnswer {
     ghost tells = { λ desk asked answer. Unit {0} };
 
+    ghost does = { λ old command answer new. Unit {0} };
+
     fn answer(&self, _asked: &Asked) -> Result<Answer, NoMemory> {
         Ok(Answer {
             status: Status::Ok,
             media: Media::Json,
             body: String::from_str(self.0, "{}")?,
         })
+    }
+
+    fn carry_out(&mut self, _command: &Command) -> Option<Answer> {
+        None
+    }
+
+    fn wants_to_send(&self) -> bool {
+        false
     }
 }
 
@@ -48,7 +58,7 @@ fn bound<'a, N: Net + Clock, L: Log>(
 /// Two datagrams that were sent come in their order, where they were sent from, and what the front sends arrives there.
 fn is_served<C: Clock, L: Log>(
     sockets: &mut Sockets<'_, C, L>,
-    desk: &OneAnswer,
+    desk: OneAnswer,
     client: &UdpSocket,
     at: SocketAddr,
 ) -> Result<(), Fail> {
@@ -56,7 +66,7 @@ fn is_served<C: Clock, L: Log>(
     let mut buffer = [0; 4];
     client.send_to(b"one", at)?;
     client.send_to(b"second", at)?;
-    let heard = sockets.attend(desk, &mut buffer, Duration::from_secs(1));
+    let (_desk, heard) = sockets.attend(desk, &mut buffer, Duration::from_secs(1));
     holds("the first", heard == Ok(Heard::Datagram(3, from)))?;
     holds("its bytes", &buffer[..3] == b"one".as_slice())?;
     let there = sockets.more(&mut buffer);
@@ -77,8 +87,8 @@ fn is_served<C: Clock, L: Log>(
 #[test]
 fn datagrams_come_and_go_over_ipv4(rt: HostRuntime) -> Result<(), Fail> {
     let (mut sockets, client, at) = bound(&rt, &Discard, rt.alloc(), "127.0.0.1:0")?;
-    is_served(&mut sockets, &OneAnswer(rt.alloc()), &client, at)?;
-    is_served(&mut sockets, &OneAnswer(rt.alloc()), &client, at)
+    is_served(&mut sockets, OneAnswer(rt.alloc()), &client, at)?;
+    is_served(&mut sockets, OneAnswer(rt.alloc()), &client, at)
 }
 
 /// Tries: lw_front::Sockets::bind
@@ -87,7 +97,7 @@ fn datagrams_come_and_go_over_ipv6(rt: HostRuntime) -> Result<(), Fail> {
     match bound(&rt, &Discard, rt.alloc(), "[::1]:0") {
         Ok((mut sockets, client, at)) => is_served(
             &mut sockets,
-            &OneAnswer(rt.alloc()),
+            OneAnswer(rt.alloc()),
             &client,
             at,
         ),
@@ -101,8 +111,8 @@ fn datagrams_come_and_go_over_ipv6(rt: HostRuntime) -> Result<(), Fail> {
 fn a_wait_ends_when_its_time_is_over(rt: HostRuntime) -> Result<(), Fail> {
     let (mut sockets, _client, _at) = bound(&rt, &Discard, rt.alloc(), "127.0.0.1:0")?;
     let began = Instant::now(&rt)?;
-    let heard = sockets.attend(
-        &OneAnswer(rt.alloc()),
+    let (_desk, heard) = sockets.attend(
+        OneAnswer(rt.alloc()),
         &mut [0; 4],
         Duration::from_millis(300),
     );
@@ -144,7 +154,9 @@ fn visited<N: Net, C: Clock, L: Log>(
     let mut visitor = TcpStream::connect(net, at)?;
     let from = visitor.local_addr()?;
     visitor.write_all(says)?;
-    sockets.attend(&OneAnswer(alloc), &mut [0; 4], Duration::from_millis(300))?;
+    sockets
+        .attend(OneAnswer(alloc), &mut [0; 4], Duration::from_millis(300))
+        .1?;
     Ok((io::read_to_string(alloc, visitor)?, from))
 }
 
@@ -157,6 +169,7 @@ fn let_in<C: Clock, L: Log>(
     let guard = Guard {
         token: None,
         host: None,
+        commands: Commands::Off,
     };
     let keys = RandomState::new(rt)?;
     Ok(sockets.receive(rt, keys, guard, SocketAddr::new(at.ip(), 0))?)
@@ -261,7 +274,7 @@ fn what_is_logged_of_a_request_is_cut(rt: HostRuntime) -> Result<(), Fail> {
 #[test]
 fn responses_are_counted_by_status(rt: HostRuntime) -> Result<(), Fail> {
     let (mut sockets, _client, at) = bound(&rt, &Discard, rt.alloc(), "127.0.0.1:0")?;
-    holds("nobody yet", sockets.responses().counts == [0; 13])?;
+    holds("nobody yet", sockets.responses().counts == [0; 16])?;
     let at = let_in(&rt, &mut sockets, at)?;
     for says in [
         ASKED,
@@ -271,6 +284,6 @@ fn responses_are_counted_by_status(rt: HostRuntime) -> Result<(), Fail> {
     ] {
         visited(&rt, rt.alloc(), &mut sockets, at, says)?;
     }
-    let want = [2, 1, 0, 1, 0, 0, 0, 0, 0, 0, 0, 0, 0];
+    let want = [2, 0, 0, 1, 0, 0, 1, 0, 0, 0, 0, 0, 0, 0, 0, 0];
     holds_for(&sockets.responses(), sockets.responses().counts == want)
 }

@@ -1,7 +1,7 @@
 -- What is filed of one endpoint, beside its row.
-use Rattle.std.specs.Prelude.{◌≡◌, ◌≢◌, ◌↔◌, ◌⊎◌, ℕ, Bool, true, List, Contains, Option, Some, None}
+use Rattle.std.specs.Prelude.{◌≡◌, ◌≢◌, ◌↔◌, ◌⊎◌, ℕ, true, List, Contains, Option, Some, None}
 use Rattle.std.specs.declared.cmp.Ordering.{Ordering}
-use Rattle.lw_due.specs.Due.{due_of}
+use Rattle.lw_due.specs.Due.{kept_of, note_of}
 use Rattle.lw_index.specs.Index.{Has}
 use Rattle.lw_recent.specs.Recent.{IsUnder}
 use Rattle.lw_reg.specs.declared.slot.Slot.{Slot}
@@ -24,16 +24,16 @@ number_of (Some row) = Some row.number
 abbrev pub HasNumber : List (ℕ × List ℕ) → List ℕ → Option ℕ → Type 0
 HasNumber numbers e number = (n : ℕ) → IsUnder numbers n e ↔ (number ≡ Some n)
 
--- the endpoint is filed under what its row has, and nothing else, and is due by its deadline
+-- the endpoint is filed under what its row has, and nothing else, is due by its deadline, and kept where that is
 pub record IsFiled (filed : Filed) (e : List ℕ) (row : Option Row) : Type 0 where
-  pub name : Contains filed.names e ↔ IsKept (slot_of row)
+  pub kept : (kept_of e filed.due ≡ Some true) ↔ IsKept (slot_of row)
   pub keys : (k : Key) → Has key_cmp filed.keys k e ↔ OptionHasKey (slot_of row) k
   pub numbers : (n : ℕ) → IsUnder filed.numbers n e ↔ (number_of row ≡ Some n)
   pub due : OptionHasDue filed.due e (slot_of row)
 
--- the endpoint is filed under what its row has, and maybe under more of the keys
+-- the endpoint is filed under what its row has, and maybe under more of the keys, and may be kept
 pub record IsOver (filed : Filed) (e : List ℕ) (row : Option Row) (keys : List Key) : Type 0 where
-  pub name : IsKept (slot_of row) → Contains filed.names e
+  pub kept : IsKept (slot_of row) → kept_of e filed.due ≡ Some true
   pub keys_has : (k : Key) → OptionHasKey (slot_of row) k → Has key_cmp filed.keys k e
   pub keys_from : (k : Key) → Has key_cmp filed.keys k e → OptionHasKey (slot_of row) k ⊎ Contains keys k
   pub numbers : (n : ℕ) → IsUnder filed.numbers n e ↔ (number_of row ≡ Some n)
@@ -41,10 +41,9 @@ pub record IsOver (filed : Filed) (e : List ℕ) (row : Option Row) (keys : List
 
 -- what is filed of the endpoint is the same
 pub record IsSame (old new : Filed) (e : List ℕ) : Type 0 where
-  pub name : Contains new.names e ↔ Contains old.names e
   pub keys : (k : Key) → Has key_cmp new.keys k e ↔ Has key_cmp old.keys k e
   pub numbers : (n : ℕ) → IsUnder new.numbers n e ↔ IsUnder old.numbers n e
-  pub due : due_of e new.due ≡ due_of e old.due
+  pub due : note_of e new.due ≡ note_of e old.due
 
 -- of all other endpoints it is
 pub record OthersSame (old new : Filed) (endpoint : List ℕ) : Type 0 where
@@ -58,20 +57,13 @@ pub record OtherKeys {K : Type 0} (cmp : K → K → Ordering) (endpoint : List 
 pub record OtherNumbers (endpoint : List ℕ) (old new : List (ℕ × List ℕ)) : Type 0 where
   pub same : (n : ℕ) (e : List ℕ) → e ≢ endpoint → IsUnder new n e ↔ IsUnder old n e
 
--- of each name but one it is the same whether it is there
-pub record OtherNames (endpoint : List ℕ) (old new : List (List ℕ)) : Type 0 where
-  pub same : (e : List ℕ) → e ≢ endpoint → Contains new e ↔ Contains old e
-
--- the endpoint keeps what it was filed under, and has come to no more than the keys and maybe its name
-pub record IsBetween (old new : Filed) (e : List ℕ) (kept : Bool) (keys : List Key) : Type 0 where
-  pub name_stays : Contains old.names e → Contains new.names e
-  pub name_from : Contains new.names e → Contains old.names e ⊎ (kept ≡ true)
+-- the endpoint keeps what it was filed under, and has come to no more than the keys
+pub record IsBetween (old new : Filed) (e : List ℕ) (keys : List Key) : Type 0 where
   pub keys_stay : (k : Key) → Has key_cmp old.keys k e → Has key_cmp new.keys k e
   pub keys_from : (k : Key) → Has key_cmp new.keys k e → Has key_cmp old.keys k e ⊎ Contains keys k
   pub numbers : new.numbers ≡ old.numbers
   pub due : new.due ≡ old.due
 
 -- the endpoint is filed under all of these
-pub record HasAll (filed : Filed) (e : List ℕ) (kept : Bool) (keys : List Key) : Type 0 where
-  pub has_name : kept ≡ true → Contains filed.names e
-  pub has_keys : (k : Key) → Contains keys k → Has key_cmp filed.keys k e
+abbrev pub HasAll : Filed → List ℕ → List Key → Type 0
+HasAll filed e keys = (k : Key) → Contains keys k → Has key_cmp filed.keys k e

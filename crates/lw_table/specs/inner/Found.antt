@@ -2,6 +2,7 @@
 use Rattle.std.specs.Prelude.{ℕ, Bool, if◌then◌else◌, List, [], ◌∷◌, Option, Some, None}
 use Rattle.std.specs.FinMap.{get}
 use Rattle.std.specs.Ordering.{is_gt}
+use Rattle.lw_due.specs.Due.{is_after}
 use Rattle.lw_stamp.specs.declared.stamp.Stamp.{Stamp}
 use Rattle.lw_stamp.specs.StampOrder.{stamp_cmp}
 use Rattle.lw_reg.specs.declared.addr.Addr.{Addr}
@@ -10,7 +11,6 @@ use Rattle.lw_reg.specs.declared.watch.Watch.{Watch}
 use Rattle.lw_reg.specs.Reading.{view_in, registered_in, is_late, stamp_of, address_of, live_watch}
 use Rattle.lw_reg.specs.Registration.{Registration}
 use Rattle.lw_reg.specs.State.{State}
-use Rattle.lw_table.specs.inner.Names.{is_after}
 
 -- ---- one endpoint, with this slot or with none
 abbrev pub view_with : ℕ → List ℕ → Option Slot → Option Registration

@@ -9,7 +9,7 @@ loop-endpoint-init c =
       tt,
       tt,
       c.new-rows.ensures.rows,
-      nothing_copied c.new-filed.result c.new-rows.result c.new-rows.ensures.rows c.new-filed.ensures.names c.new-filed.ensures.keys c.new-filed.ensures.numbers c.new-rows.ensures.none,
+      nothing_copied c.new-filed.result c.new-rows.result c.new-rows.ensures.rows c.new-filed.ensures.keys c.new-filed.ensures.numbers c.new-filed.ensures.due c.new-rows.ensures.none,
       none_copied c.args.original.now c.args.numbers.now c.new-rows.result _ c.requires.numbers c.new-rows.ensures.none since,
     )
 

@@ -1,5 +1,6 @@
-use Rattle.std.proofs.Common.{◌<◌, List, ℕ, Option, sym, subst, rules}
-use Rattle.lw_due.specs.Due.{raised}
+use Rattle.std.proofs.Common.{◌<◌, ◌∙◌, List, ℕ, Option, ap, refl, sym, subst, rules}
+use Rattle.lw_due.specs.Due.{kept_of, raised}
+use Rattle.lw_due.proofs.NoteLemmas.{kept_of-raised}
 use Rattle.lw_reg.specs.declared.slot.Slot.{Slot}
 use Rattle.lw_table.specs.Due.{OptionHasDue}
 use Rattle.lw_table.specs.inner.Filed.{slot_of}
@@ -15,9 +16,15 @@ loop-endpoint-smaller c =
     subst (λ xs. due_count c.args.now xs < due_count c.args.now due) (sym c.raise_first.ensures.raised) (fewer_due c.args.now deadline c.in-Some.endpoint.now due later (sym c.in-Some.ensures.first))
 
 pub loop-endpoint-preserved : goal.loop-endpoint-preserved
-loop-endpoint-preserved c = λ e was.
+loop-endpoint-preserved c =
     let due = c.loop-endpoint.due in
-    let slots : List ℕ → Option Slot = λ k. slot_of (row_at c.args.rows.now k) in
-    subst (λ xs. OptionHasDue xs e (slots e)) (sym c.raise_first.ensures.raised)
-    (subst (λ d. OptionHasDue (raised c.args.now d due) e (slots e)) (sym c.deadline_at-deadline.ensures)
-    (raised_below slots c.in-Some.endpoint.now c.args.now due c.first.ensures.rising (sym c.in-Some.ensures.first) e (c.loop-endpoint.invariant e was)))
+    let slots : List ℕ → Option Slot = λ k. slot_of (row_at c.args.rows.now k) in (
+      λ e was.
+          subst (λ xs. OptionHasDue xs e (slots e)) (sym c.raise_first.ensures.raised)
+          (subst (λ d. OptionHasDue (raised c.args.now d due) e (slots e)) (sym c.deadline_at-deadline.ensures)
+          (raised_below slots c.in-Some.endpoint.now c.args.now due c.first.ensures.rising (sym c.in-Some.ensures.first) e (c.loop-endpoint.invariant.0 e was))),
+      λ e. ap (kept_of e) c.raise_first.ensures.raised ∙ kept_of-raised e c.args.now c.deadline_at-deadline.result due ∙ c.loop-endpoint.invariant.1 e,
+    )
+
+pub loop-endpoint-init : goal.loop-endpoint-init
+loop-endpoint-init c = (λ e was. was, λ e. refl)

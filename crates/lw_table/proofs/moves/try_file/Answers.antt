@@ -2,14 +2,14 @@ use Rattle.std.proofs.Common.{None, refl, subst}
 use Rattle.lw_recent.specs.Recent.{IsUnder}
 use Rattle.lw_table.specs.declared.filed.Filed.{Filed}
 use Rattle.lw_table.proofs.FiledLemmas.{numbered, on_err, on_ok, put_due}
-use Rattle.lw_table.proofs.MoveLemmas.{err_not, err_then, kept_is, over_old, over_numbered, filed_first, others_then}
+use Rattle.lw_table.proofs.MoveLemmas.{err_not, err_then, over_old, over_numbered, filed_first, others_then}
 use Rattle.lw_table.proofs.moves.try_file.Goals as goal
 
 pub returns-in_err-add : goal.returns-in_err-add
 returns-in_err-add c = record {
   others = c.add.ensures.others;
   filed = err_not _ c.from_residual.result c.from_residual.ensures.0;
-  unchanged = err_then _ c.from_residual.result (over_old c.args.filed.now c.add.new.self c.args.endpoint.now _ c.args.keys.now c.add.ensures.between None c.requires.filed);
+  unchanged = err_then _ c.from_residual.result (over_old c.args.filed.now c.add.new.self c.args.endpoint.now c.args.keys.now c.add.ensures.between None c.requires.filed);
 }
 
 pub returns-in_err-add_due : goal.returns-in_err-add_due
@@ -18,10 +18,10 @@ returns-in_err-add_due c =
     let entered = c.add.new.self in
     let due = c.add_due.new.due in
     record {
-      others = others_then e c.args.filed.now entered (record { names = entered.names; keys = entered.keys; numbers = entered.numbers; due = due }) c.add.ensures.others (put_due entered e due c.add_due.ensures.others);
+      others = others_then e c.args.filed.now entered (record { keys = entered.keys; numbers = entered.numbers; due = due }) c.add.ensures.others (put_due entered e due c.add_due.ensures.others);
       filed = err_not _ c.from_residual-in_err-add_due.result c.from_residual-in_err-add_due.ensures.0;
       unchanged = err_then _ c.from_residual-in_err-add_due.result
-          (over_numbered entered e c.args.keys.now (over_old c.args.filed.now entered e _ c.args.keys.now c.add.ensures.between None c.requires.filed) entered.numbers refl due);
+          (over_numbered entered e c.args.keys.now (over_old c.args.filed.now entered e c.args.keys.now c.add.ensures.between None c.requires.filed) entered.numbers refl due);
     }
 
 pub add_number-requires : goal.add_number-requires
@@ -32,8 +32,8 @@ returns-clause-others c =
     let e = c.args.endpoint.now in
     let entered = c.add.new.self in
     let due = c.add_due.new.due in
-    let dued : Filed = record { names = entered.names; keys = entered.keys; numbers = entered.numbers; due = due } in
-    others_then e c.args.filed.now dued (record { names = entered.names; keys = entered.keys; numbers = c.add_number.new.numbers; due = due })
+    let dued : Filed = record { keys = entered.keys; numbers = entered.numbers; due = due } in
+    others_then e c.args.filed.now dued (record { keys = entered.keys; numbers = c.add_number.new.numbers; due = due })
     (others_then e c.args.filed.now entered dued c.add.ensures.others (put_due entered e due c.add_due.ensures.others))
     (numbered dued e c.add_number.new.numbers c.add_number.ensures.others)
 
@@ -41,8 +41,8 @@ pub returns-clause-filed : goal.returns-clause-filed
 returns-clause-filed c =
     let row = c.args.row.now in
     on_ok _ _ c.add_number.result
-    (λ number. filed_first c.args.filed.now c.add.new.self c.args.endpoint.now _ c.args.keys.now c.add.ensures.between c.in_ok-add.ensures.all row.slot row.number c.add_number.new.numbers number c.add_due.new.due
-    (kept_is row.slot c.is_removed.result c.is_removed.ensures) c.requires.filed c.requires.keys c.in_ok-add_due.ensures.due)
+    (λ number. filed_first c.args.filed.now c.add.new.self c.args.endpoint.now c.args.keys.now c.add.ensures.between c.in_ok-add.ensures.all row.slot row.number c.add_number.new.numbers number c.add_due.new.due
+    c.in_ok-add_due.ensures.kept c.requires.filed c.requires.keys c.in_ok-add_due.ensures.due)
     c.add_number.ensures.number
 
 pub returns-clause-unchanged : goal.returns-clause-unchanged
@@ -50,5 +50,5 @@ returns-clause-unchanged c =
     let e = c.args.endpoint.now in
     let entered = c.add.new.self in
     on_err _ _ c.add_number.result
-    (λ same. over_numbered entered e c.args.keys.now (over_old c.args.filed.now entered e _ c.args.keys.now c.add.ensures.between None c.requires.filed) c.add_number.new.numbers same c.add_due.new.due)
+    (λ same. over_numbered entered e c.args.keys.now (over_old c.args.filed.now entered e c.args.keys.now c.add.ensures.between None c.requires.filed) c.add_number.new.numbers same c.add_due.new.due)
     c.add_number.ensures.unchanged

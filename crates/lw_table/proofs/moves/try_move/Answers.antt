@@ -1,4 +1,6 @@
-use Rattle.std.proofs.Common.{◌≡◌, ◌↔◌, Some, refl, sym, ap, ◌∙◌, subst}
+use Rattle.std.proofs.Common.{◌≡◌, ◌↔◌, Bool, true, false, Option, Some, refl, sym, ap, ◌∙◌, subst}
+use Rattle.std.specs.Prelude.{IsTrue}
+use Rattle.lw_due.specs.Due.{due_of, kept_of}
 use Rattle.lw_recent.specs.Recent.{IsUnder}
 use Rattle.lw_table.specs.Due.{HasDue}
 use Rattle.lw_table.specs.inner.Due.{IsDueBy}
@@ -7,7 +9,9 @@ use Rattle.lw_table.specs.inner.Moves.{moved_row}
 use Rattle.lw_table.specs.declared.filed.Filed.{Filed}
 use Rattle.lw_table.specs.declared.row.Row.{Row}
 use Rattle.lw_reg.specs.declared.slot.Slot.{Slot}
-use Rattle.lw_table.proofs.FiledLemmas.{numbered, put_due}
+use Rattle.lw_reg.specs.Reading.{IsRemoved}
+use Rattle.lw_table.proofs.DueLemmas.{has_note}
+use Rattle.lw_table.proofs.FiledLemmas.{due_then, numbered, put_due}
 use Rattle.lw_table.proofs.MoveLemmas.{err_not, err_then, over_old, over_moved, others_then}
 use Rattle.lw_table.proofs.moves.try_move.Goals as goal
 
@@ -15,7 +19,7 @@ pub returns-in_err-add : goal.returns-in_err-add
 returns-in_err-add c = record {
   others = c.add.ensures.others;
   moved = err_not _ c.from_residual.result c.from_residual.ensures.0;
-  unchanged = err_then _ c.from_residual.result (refl, over_old c.args.filed.now c.add.new.self c.args.endpoint.now c.may_revive.result c.args.keys.now c.add.ensures.between (Some c.args.row.now) c.requires.filed);
+  unchanged = err_then _ c.from_residual.result (refl, over_old c.args.filed.now c.add.new.self c.args.endpoint.now c.args.keys.now c.add.ensures.between (Some c.args.row.now) c.requires.filed);
 }
 
 pub returns-in_err-join_with : goal.returns-in_err-join_with
@@ -29,7 +33,7 @@ returns-in_err-join_with c =
       unchanged = err_then _ c.from_residual-in_err-join_with.result (
         same,
         subst (λ r. IsOver c.add.new.self c.args.endpoint.now (Some r) c.args.keys.now) (sym same)
-            (over_old c.args.filed.now c.add.new.self c.args.endpoint.now c.may_revive.result c.args.keys.now c.add.ensures.between (Some row) c.requires.filed),
+            (over_old c.args.filed.now c.add.new.self c.args.endpoint.now c.args.keys.now c.add.ensures.between (Some row) c.requires.filed),
       );
     }
 
@@ -42,6 +46,21 @@ lower_due-requires c =
     subst (λ l. IsDueBy l c.args.endpoint.now c.deadline-before.result) (sym c.add.ensures.between.due)
     (record { at = was.at; is = was.is; by = λ d h. was.by d (sym c.deadline-before.ensures.value ∙ h) })
 
+-- what was not removed was kept
+was_kept : (o : Option Bool) (r : Bool) (slot : Slot) → (IsTrue r ↔ IsRemoved slot) → (o ≡ Some true) ↔ (IsRemoved slot → ⊥) → r ≡ false → o ≡ Some true
+was_kept o r slot removed kept is = kept.1 (λ gone. (let bad : false ≡ true = sym is ∙ removed.1 gone in cc))
+
+pub keep_revived-requires : goal.keep_revived-requires
+keep_revived-requires c =
+    let e = c.args.endpoint.now in
+    let low = c.lower_due.ensures.due in
+    record {
+      there = has_note c.lower_due.new.due e c.join_with.new.self low;
+      kept = λ is.
+          c.lower_due.ensures.kept ∙ ap (kept_of e) c.add.ensures.between.due
+          ∙ was_kept (kept_of e c.args.filed.now.due) c.is_removed-was_removed.result c.args.row.now.slot c.is_removed-was_removed.ensures c.requires.filed.kept is;
+    }
+
 pub returns : goal.returns
 returns c =
     let row = c.args.row.now in
@@ -50,16 +69,20 @@ returns c =
     let moved : with_slot c.join_with.new.self ≡ moved_row row c.args.slot c.args.number = ap with_slot c.in_ok-join_with.ensures.ok in
     let entered = c.add.new.self in
     let numbers = c.move_number.new.numbers in
-    let due = c.lower_due.new.due in
-    let numbered_so : Filed = record { names = entered.names; keys = entered.keys; numbers = numbers; due = entered.due } in
-    let after : Filed = record { names = entered.names; keys = entered.keys; numbers = numbers; due = due } in
+    let due = c.keep_revived.new.due in
+    let lowered = c.lower_due.new.due in
+    let stays : due_of e due ≡ due_of e lowered = c.keep_revived.ensures.due in
+    let is_due = subst (HasDue lowered e) c.in_ok-join_with.ensures.ok c.lower_due.ensures.due in
+    let numbered_so : Filed = record { keys = entered.keys; numbers = numbers; due = entered.due } in
+    let after : Filed = record { keys = entered.keys; numbers = numbers; due = due } in
     record {
-      others = others_then e c.args.filed.now entered after c.add.ensures.others (others_then e entered numbered_so after (numbered entered e numbers c.move_number.ensures.others) (put_due numbered_so e due c.lower_due.ensures.others));
+      others = others_then e c.args.filed.now entered after c.add.ensures.others (others_then e entered numbered_so after (numbered entered e numbers c.move_number.ensures.others) (put_due numbered_so e due (due_then e entered.due lowered due c.lower_due.ensures.others c.keep_revived.ensures.others)));
       moved = (
         moved,
         subst (λ r. IsOver after e (Some r) c.args.keys.now) (sym moved)
-            (over_moved c.args.filed.now entered e c.may_revive.result c.args.keys.now c.add.ensures.between c.in_ok-add.ensures.all c.args.slot c.args.number numbers c.move_number.ensures.number due
-            row c.requires.filed (λ gone here. c.may_revive.ensures.1 (gone, here)) c.requires.keys (subst (HasDue due e) c.in_ok-join_with.ensures.ok c.lower_due.ensures.due)),
+            (over_moved c.args.filed.now entered e c.args.keys.now c.add.ensures.between c.in_ok-add.ensures.all c.args.slot c.args.number numbers c.move_number.ensures.number due
+            row c.requires.filed c.requires.keys (record { at = is_due.at; is = stays ∙ is_due.is; by = is_due.by })
+            (subst (λ s. (IsRemoved s → ⊥) → kept_of e due ≡ Some true) c.in_ok-join_with.ensures.ok c.keep_revived.ensures.kept)),
       );
       unchanged = tt;
     }

@@ -28,8 +28,11 @@ pub returns-in_err-handled-clause-bodies : goal.returns-in_err-handled-clause-bo
 returns-in_err-handled-clause-bodies g c =
     on_err _ (goes_on_by c.in-Some.now _ _ c.args.batch.items _ _ c.self.view_is c.in_ok-fresh.ensures.fresh (goes_all _ _ _ _ _ c.in_ok-sorted.ensures.sorted))
 
+pub returns-in_err-handled-clause-stays : goal.returns-in_err-handled-clause-stays
+returns-in_err-handled-clause-stays g c = stays_from _ _ _ c.self.view_is refl refl refl refl refl refl refl refl refl refl refl
+
 pub returns-clause-stays : goal.returns-clause-stays
-returns-clause-stays g c = stays_from _ _ _ c.self.view_is refl refl refl refl refl refl
+returns-clause-stays g c = stays_from _ _ _ c.self.view_is refl refl refl refl refl refl refl refl refl refl refl
 
 pub returns-clause-turn : goal.returns-clause-turn
 returns-clause-turn g c =

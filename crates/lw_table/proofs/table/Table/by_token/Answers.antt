@@ -6,10 +6,10 @@ use Rattle.lw_table.proofs.table.Table.by_token.Goals as goal
 
 pub returns-clause-read : goal.returns-clause-read
 returns-clause-read c =
-    let table = subst (IsTable c.self.inside.filed.names c.self.inside.filed.keys c.self.inside.filed.numbers c.self.inside.filed.due) c.self.view_is c.self.invariant.1 in
-    answering.read_by_token c.self.inside.filed.names c.self.inside.filed.keys c.self.inside.filed.numbers c.self.inside.filed.due c.args.self.now table (ms_of c.args.now) c.args.token c.first_watched.ensures.rise c.first_watched.result c.first_watched.ensures.found
+    let table = subst (IsTable c.self.inside.filed.keys c.self.inside.filed.numbers c.self.inside.filed.due) c.self.view_is c.self.invariant.1 in
+    answering.read_by_token c.self.inside.filed.keys c.self.inside.filed.numbers c.self.inside.filed.due c.args.self.now table (ms_of c.args.now) c.args.token c.first_watched.ensures.rise c.first_watched.result c.first_watched.ensures.found
 
 pub returns-clause-marks : goal.returns-clause-marks
 returns-clause-marks c =
-    let table = subst (IsTable c.self.inside.filed.names c.self.inside.filed.keys c.self.inside.filed.numbers c.self.inside.filed.due) c.self.view_is c.self.invariant.1 in
-    answering.marks_by_token c.self.inside.filed.names c.self.inside.filed.keys c.self.inside.filed.numbers c.self.inside.filed.due c.args.self.now table (ms_of c.args.now) c.args.token c.first_watched.ensures.rise c.first_watched.result c.first_watched.ensures.found
+    let table = subst (IsTable c.self.inside.filed.keys c.self.inside.filed.numbers c.self.inside.filed.due) c.self.view_is c.self.invariant.1 in
+    answering.marks_by_token c.self.inside.filed.keys c.self.inside.filed.numbers c.self.inside.filed.due c.args.self.now table (ms_of c.args.now) c.args.token c.first_watched.ensures.rise c.first_watched.result c.first_watched.ensures.found

@@ -14,7 +14,7 @@ returns c =
     let now = c.args.self.now in
     let filed = c.self.inside.filed in
     let names = map (λ e. e.now) c.in_order.result.items in
-    let table = subst (IsTable filed.names filed.keys filed.numbers filed.due) c.self.view_is c.self.invariant.1 in
+    let table = subst (IsTable filed.keys filed.numbers filed.due) c.self.view_is c.self.invariant.1 in
     let same = ap (λ (t : TableContent). t.count.change) c.self.view_is in
     let are : AreSince c.if-all.since filed.numbers names = λ e. (
       λ h. (c.in_ok-endpoints.ensures e).0 ((c.in_order.ensures.members e).0 h),

@@ -14,7 +14,7 @@ pub returns-clause-some : goal.returns-clause-some
 returns-clause-some c =
     let now = c.args.self.now in
     let filed = c.self.inside.filed in
-    let table = subst (IsTable filed.names filed.keys filed.numbers filed.due) c.self.view_is c.self.invariant.1 in
+    let table = subst (IsTable filed.keys filed.numbers filed.due) c.self.view_is c.self.invariant.1 in
     let same = ap (λ (t : TableContent). t.count.change) c.self.view_is in
     let below : now.count.change < LAST = elim (cases_lt now.count.change LAST) [
       | inl less ↦ less

@@ -1,12 +1,16 @@
-use Rattle.std.proofs.Common.{◌≡◌}
-use Rattle.std.specs.Prelude.{map, string_bytes}
+use Rattle.std.proofs.Common.{◌≡◌, length}
+use Rattle.std.specs.Prelude.{filter}
 use Rattle.lw_stamp.specs.Moment.{ms_of}
+use Rattle.lw_due.specs.Due.{is_after}
 use Rattle.lw_table.specs.Answers.{after_text}
+use Rattle.lw_table.specs.inner.Due.{due_in}
 use Rattle.lw_table.specs.inner.Found.{expired_at, if_after, first_of}
 use Rattle.lw_table.proofs.table.Table.first_expired.Given as goal
 
 -- the first of those that are left is the first of all
 abbrev pub invariant-loop-endpoint : goal.invariant-loop-endpoint
 invariant-loop-endpoint l =
-    (goal.iterator-loop-endpoint).can_next l.endpoint-iterator × (goal.iterator-loop-endpoint).is_finite l.endpoint-iterator
-    × (first_of (if_after (after_text l.after) (expired_at (ms_of l.now) l.self.state)) (map string_bytes l.endpoint-iterator) ≡ first_of (if_after (after_text l.after) (expired_at (ms_of l.now) l.self.state)) l.names)
+    first_of (if_after (after_text l.upto) (expired_at (ms_of l.now) l.self.state)) (due_in (ms_of l.now) l.due) ≡ first_of (if_after (after_text l.after) (expired_at (ms_of l.now) l.self.state)) (due_in (ms_of l.now) l.due)
+
+abbrev pub decreases-loop-endpoint : goal.decreases-loop-endpoint
+decreases-loop-endpoint l = length (filter (is_after (after_text l.upto)) (due_in (ms_of l.now) l.due))

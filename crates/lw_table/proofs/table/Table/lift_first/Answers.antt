@@ -23,7 +23,7 @@ use Rattle.lw_table.proofs.table.Table.lift_first.Goals as goal
 pub invariant_of-self : goal.invariant_of-self
 invariant_of-self c = (
   c.self.invariant.0,
-  raised_table c.self.inside.filed c.self.inside.rows c.self.invariant.0 c.self.inside.change c.raise_due.new.due c.self.invariant.1 c.raise_due.ensures.below,
+  raised_table c.self.inside.filed c.self.inside.rows c.self.invariant.0 c.self.inside.change c.raise_due.new.due c.self.invariant.1 c.raise_due.ensures.below c.raise_due.ensures.kept,
 )
 
 pub returns-in_err-endpoint : goal.returns-in_err-endpoint
@@ -33,10 +33,10 @@ returns-in_err-endpoint c =
     let filed = c.self.inside.filed in
     let due = c.raise_due.new.due in
     let new = table_in c.self.inside.rows c.self.inside.change in
-    let table = subst (IsTable filed.names filed.keys filed.numbers due) c.self.view_is
-    (raised_table filed c.self.inside.rows c.self.invariant.0 c.self.inside.change due c.self.invariant.1 c.raise_due.ensures.below) in
+    let table = subst (IsTable filed.keys filed.numbers due) c.self.view_is
+    (raised_table filed c.self.inside.rows c.self.invariant.0 c.self.inside.change due c.self.invariant.1 c.raise_due.ensures.below c.raise_due.ensures.kept) in
     let none = subst (λ k. first_due k due ≡ None) c.ms-2.ensures.value (sym c.in_err-endpoint.ensures.first) in
-    let nothing : LiftsFound now t None new = (none_found filed.names filed.keys filed.numbers due t table now none, c.self.view_is) in
+    let nothing : LiftsFound now t None new = (none_found filed.keys filed.numbers due t table now none, c.self.view_is) in
     let is = sym c.from_residual.ensures in
     let read = subst (λ o. LiftsFirst (shown_in t.state) now t o new) is (read_lifts now t None new nothing) in
     record {
@@ -78,11 +78,11 @@ invariant_of-self-2 c =
     let due = c.raise_due.new.due in
     let e = c.in_ok-endpoint.endpoint.now in
     let passed = passed_at now c.ms.result c.ms-2.result due e (λ k. slot_of (row_at m k)) c.ms.ensures.value c.ms-2.ensures.value c.ms.ensures.in_range c.raise_due.ensures.first c.in_ok-endpoint.ensures.first in
-    let old : Filed = record { names = filed.names; keys = filed.keys; numbers = filed.numbers; due = due } in
-    let was = raised_table filed m c.self.invariant.0 change due c.self.invariant.1 c.raise_due.ensures.below in
+    let old : Filed = record { keys = filed.keys; numbers = filed.numbers; due = due } in
+    let was = raised_table filed m c.self.invariant.0 change due c.self.invariant.1 c.raise_due.ensures.below c.raise_due.ensures.kept in
     let lifted = c.lift-id.ensures.lifted in (
       lifted.put.rows,
-      subst (λ xs. IsTable filed.names filed.keys c.lift-id.new.numbers xs (table_in n number)) (sym (c.raise_first.ensures.raised ∙ ap (λ k. raised k (2 ^ 64 - 1) due) c.ms-3.ensures.value))
+      subst (λ xs. IsTable filed.keys c.lift-id.new.numbers xs (table_in n number)) (sym (c.raise_first.ensures.raised ∙ ap (λ k. raised k (2 ^ 64 - 1) due) c.ms-3.ensures.value))
           (lifted_table old m n c.self.invariant.0 change was e number c.lift-id.result lifted now passed.0 passed.1 (saturated change number c.saturating_add-number.ensures was.last)
           c.lift-id.new.numbers c.lift-id.ensures.others c.lift-id.ensures.number c.raise_first.ensures.rising),
     )
@@ -100,8 +100,8 @@ returns c =
     let e = c.in_ok-endpoint.endpoint.now in
     let id = c.lift-id.result in
     let passed = passed_at now c.ms.result c.ms-2.result due e (λ k. slot_of (row_at m k)) c.ms.ensures.value c.ms-2.ensures.value c.ms.ensures.in_range c.raise_due.ensures.first c.in_ok-endpoint.ensures.first in
-    let old : Filed = record { names = filed.names; keys = filed.keys; numbers = filed.numbers; due = due } in
-    let was = raised_table filed m c.self.invariant.0 change due c.self.invariant.1 c.raise_due.ensures.below in
+    let old : Filed = record { keys = filed.keys; numbers = filed.numbers; due = due } in
+    let was = raised_table filed m c.self.invariant.0 change due c.self.invariant.1 c.raise_due.ensures.below c.raise_due.ensures.kept in
     let new = table_in n number in
     let least : LiftsFound now t (Some id) new = subst (λ (x : TableContent). LiftsFound now x (Some id) new) c.self.view_is
     (found old m n c.self.invariant.0 change was e number id c.lift-id.ensures.lifted now passed.0 passed.1 (saturated change number c.saturating_add-number.ensures was.last)) in

@@ -7,4 +7,4 @@ use Rattle.lw_target.proofs.parameters.Parameters.read_parts.Given as goal
 abbrev pub invariant-loop-part : goal.invariant-loop-part
 invariant-loop-part l = (goal.iterator-loop-part).can_next l.part-iterator
     × (goal.iterator-loop-part).is_finite l.part-iterator
-    × GoesOn l.resource (slice_split is_ampersand l.parts) (length l.yielded) l.parameters
+    × GoesOn l.form (slice_split is_ampersand l.parts) (length l.yielded) l.parameters

@@ -1,0 +1,38 @@
+-- What is under way with devices: requests that wait for an answer (RFC 7252, section 4.2), notifications that come in
+-- blocks (RFC 7959, section 2.6), and what is left to do of both (RFC 7641, section 3.6).
+use Rattle.std.specs.Prelude.{ℕ, ◌%◌, ◌^◌, Bool, List, [], Option}
+use Rattle.lw_stamp.specs.declared.moment.Moment.{Moment}
+use Rattle.lw_stamp.specs.declared.stamp.Stamp.{Stamp}
+use Rattle.lw_stamp.specs.Moment.{ms_of}
+use Rattle.lw_reg.specs.declared.path.Path.{Path}
+use Rattle.lw_exchange.specs.Fetches.{FetchesContent}
+use Rattle.lw_exchange.specs.Waiting.{WaitingContent}
+use Rattle.lw_run.specs.declared.devices.RequestCounts.{RequestCounts}
+
+-- ---- what is left to do
+pub data TaskContent : Type 0 where
+  -- the observation with the token is to end: its request came to nothing, as the code says
+  End : Stamp → ℕ → TaskContent
+  -- what came of the fetch with the number is to be told: its request came to nothing
+  Cut : ℕ → TaskContent
+  -- a notification is to be told that came in blocks, and whether all came
+  Tell : List ℕ → Bool → TaskContent
+  -- what is observed on a path of a registration is to end, if it is not what was there before
+  Undo : Stamp → Path → Option Stamp → TaskContent
+
+pub record DevicesContent : Type 0 where
+  pub requests : List WaitingContent
+  pub fetches : FetchesContent
+  pub tasks : List TaskContent
+  pub counts : RequestCounts
+
+abbrev pub new_counts : RequestCounts
+new_counts = record { sent = 0; sent_again = 0; reset = 0; unanswered = 0; blocks = 0 }
+
+abbrev pub new_devices : Moment → DevicesContent
+new_devices start = record {
+  requests = [];
+  fetches = record { next = ms_of start % 2 ^ 32; fetches = [] };
+  tasks = [];
+  counts = new_counts;
+}

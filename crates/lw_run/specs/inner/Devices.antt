@@ -1,0 +1,10 @@
+-- What is left to do with devices, as the code has it.
+use Rattle.lw_run.specs.declared.devices.Task.{Task}
+use Rattle.lw_run.specs.declared.devices.Task.TheVariants as tasks
+use Rattle.lw_run.specs.Devices.{TaskContent, End, Cut, Tell, Undo}
+
+abbrev pub task_of : Task → TaskContent
+task_of (tasks.End token code) = End token code
+task_of (tasks.Cut fetch) = Cut fetch
+task_of (tasks.Tell message is_complete) = Tell message.items is_complete
+task_of (tasks.Undo id path before) = Undo id path before

@@ -1,0 +1,131 @@
+//! What operators have done: observations are made and ended.
+
+ghost use Rattle.lw_exchange.specs.Waiting.{HasRoom};
+
+use crate::devices::Task;
+use crate::one_call::call_once;
+use crate::stepping::token_on;
+use crate::{Server, TurnFault};
+use lw_call::{Call, ObserveFault, Outgoing, Reply};
+use lw_exchange::{About, Requests};
+use lw_log::DeltaLog;
+use lw_reg::Path;
+use lw_stamp::{Moment, Stamp, Text};
+use lw_target::Command;
+use lw_wire::HostClock;
+
+/// How many requests to devices may wait where a command is to be carried out, at most.
+const MOST_WAITING: usize = 1_024;
+
+/// What has come of a command.
+#[derive(Clone, Copy, Debug, PartialEq, Eq)]
+pub enum Done {
+    /// The observation with the token was made.
+    Observed(Stamp),
+    /// The observation has ended.
+    Ended,
+    /// No registration of the endpoint is shown, or no observation with the token lives.
+    NotFound,
+    /// As many requests to devices wait as can.
+    TooMany,
+    /// The clock of the node is at its end.
+    ClockEnd,
+    /// The server is away.
+    Away,
+    /// The node had no memory for it.
+    NoMemory,
+}
+
+impl<G: DeltaLog, C: HostClock + Drop> Server<G, C> {
+    /// Carries out a command at the moment that it is.
+    pub(crate) fn execute(&mut self, command: &Command) -> Result<Done, TurnFault> {
+        let Some(now) = self.clock.now() else {
+            return Err(TurnFault::ClockRefused);
+        };
+        self.latest = now;
+        if self.devices.requests.count() >= MOST_WAITING {
+            return Ok(Done::TooMany);
+        }
+        match command {
+            Command::Observe {
+                endpoint,
+                path,
+                accept,
+            } => self.observe(now, endpoint, *path, *accept),
+            Command::Cancel { token } => {
+                let call = Call::Cancel {
+                    now,
+                    token: *token,
+                    mid: 0,
+                };
+                self.request(now, call)
+            }
+        }
+    }
+
+    /// Has a path of the endpoint's registration observed.
+    fn observe(
+        &mut self,
+        now: Moment,
+        endpoint: &Text,
+        path: Path,
+        accept: Option<u16>,
+    ) -> Result<Done, TurnFault> {
+        let Some(node) = self.node() else {
+            return Ok(Done::Away);
+        };
+        let Some(shown) = node.by_endpoint(now, endpoint.as_str()) else {
+            return Ok(Done::NotFound);
+        };
+        let (id, before) = (shown.id, token_on(node, now, shown.id, path));
+        let call = Call::Observe {
+            now,
+            id,
+            path,
+            accept,
+            mid: 0,
+        };
+        let made = self.request(now, call);
+        if made.is_err() {
+            // What the failed round has left is written with the next one, and then it is ended.
+            let _left = self.devices.tasks.push(Task::Undo { id, path, before });
+        }
+        made
+    }
+
+    /// A round with the call. The request that it gives waits to be sent.
+    fn request(&mut self, now: Moment, call: Call) -> Result<Done, TurnFault> {
+        self.devices.requests.reserve()?;
+        let reply = call_once(self.alloc, &mut self.member, &mut self.tally, call)?;
+        Ok(requested(&mut self.devices.requests, now, reply))
+    }
+}
+
+/// Puts the request that a call gave behind those that wait. There is room for it.
+fn requested(requests: &mut Requests, now: Moment, reply: Reply) -> Done
+    requires { HasRoom requests.old }
+{
+    match reply {
+        Reply::Observe(Ok(outgoing)) => {
+            let Outgoing { to, token, bytes } = outgoing;
+            requests.add(now, to, About::Observation(token), bytes);
+            Done::Observed(token)
+        }
+        Reply::Cancel(Ok(outgoing)) => {
+            let Outgoing { to, token, bytes } = outgoing;
+            requests.add(now, to, About::Cancellation(token), bytes);
+            requests.forget(About::Observation(token));
+            Done::Ended
+        }
+        Reply::Observe(Err(fault)) | Reply::Cancel(Err(fault)) => done_of(fault),
+        _ => Done::NotFound,
+    }
+}
+
+fn done_of(fault: ObserveFault) -> Done {
+    match fault {
+        ObserveFault::NotFound => Done::NotFound,
+        ObserveFault::ClockEnd => Done::ClockEnd,
+        ObserveFault::NoMemory => Done::NoMemory,
+    }
+}

@@ -1,0 +1,319 @@
+//! What is under way with devices: requests that wait for an answer, notifications that come in blocks, and what is left
+//! to do of both.
+
+ghost use Rattle.std.specs.Prelude.{◌≡◌, ◌<◌, ◌≤◌, ◌+◌, vec_capacity, vec_len};
+ghost use Rattle.lw_run.specs.Devices.{new_counts, new_devices};
+
+use crate::hearing::Passage;
+use bytes::Bytes;
+use lw_exchange::{About, Fetches, Heard, MessageIds, Parcel, Requests, Step};
+use lw_reg::{Addr, Path, Watch};
+use lw_stamp::{Moment, NoMemory, Stamp};
+use std::alloc::Global;
+use std::marker::Model;
+
+/// The code of an empty message, which a Reset is (RFC 7252, section 4.1).
+const EMPTY: u8 = 0x00;
+
+/// 5.04 Gateway Timeout: nobody has answered (RFC 7252, section 5.9.3.5).
+const GATEWAY_TIMEOUT: u8 = 0xa4;
+
+/// What is left to do, in a round of its own.
+#[derive(Drop)]
+pub(crate) enum Task {
+    /// The observation with the token is to end, since its request came to nothing. The code says how.
+    End {
+        token: Stamp,
+        code: u8,
+    },
+    /// What came of the fetch with the number is to be told, since its request came to nothing.
+    Cut(u32),
+    /// A notification is to be told that came in blocks, of which perhaps some did not come.
+    Tell {
+        message: Vec<u8>,
+        is_complete: bool,
+    },
+    /// The round of an Observe failed: what is observed on the path of the registration is to end, if it is not the
+    /// observation that was there before.
+    Undo {
+        id: Stamp,
+        path: Path,
+        before: Option<Stamp>,
+    },
+}
+
+/// The first thing that is left to do.
+#[derive(Drop)]
+pub(crate) enum First {
+    End {
+        token: Stamp,
+        code: u8,
+    },
+    Cut(u32),
+    Tell {
+        bytes: Bytes,
+        is_complete: bool,
+    },
+    Undo {
+        id: Stamp,
+        path: Path,
+        before: Option<Stamp>,
+    },
+}
+
+/// How many requests were sent to devices, and what became of them.
+#[derive(Clone, Copy, Debug, PartialEq, Eq)]
+pub struct RequestCounts {
+    pub sent: u64,
+    pub sent_again: u64,
+    pub reset: u64,
+    pub unanswered: u64,
+    /// How many datagrams were blocks of notifications.
+    pub blocks: u64,
+}
+
+impl RequestCounts {
+    fn new() -> RequestCounts
+        ensures { result ≡ new_counts }
+    {
+        RequestCounts {
+            sent: 0,
+            sent_again: 0,
+            reset: 0,
+            unanswered: 0,
+            blocks: 0,
+        }
+    }
+
+    /// Counts a datagram that was a block.
+    fn count_block(&mut self, parcel: &Parcel) {
+        match parcel {
+            Parcel::Through => {}
+            Parcel::Taken { .. } | Parcel::Whole { .. } => {
+                self.blocks = self.blocks.saturating_add(1);
+            }
+        }
+    }
+
+    /// Counts a request that is sent, for the first time or again.
+    fn count(&mut self, again: bool) {
+        if again {
+            self.sent_again = self.sent_again.saturating_add(1);
+        } else {
+            self.sent = self.sent.saturating_add(1);
+        }
+    }
+}
+
+/// What a step with devices has come to.
+#[derive(Drop)]
+pub enum Progress {
+    /// There was nothing to do.
+    Idle,
+    /// Something was done.
+    Moved,
+    /// The bytes are to be sent to the address.
+    Sends(Addr, Vec<u8>),
+}
+
+#[derive(Drop)]
+pub(crate) struct Devices {
+    pub(crate) requests: Requests,
+    pub(crate) fetches: Fetches,
+    pub(crate) tasks: Vec<Task>,
+    pub(crate) counts: RequestCounts,
+}
+
+impl Model for Devices {
+    ghost use Rattle.std.specs.Prelude.{map};
+    ghost use Rattle.lw_run.specs.Devices.{DevicesContent};
+    ghost use Rattle.lw_run.specs.inner.Devices.{task_of};
+
+    ghost Value = { DevicesContent };
+
+    ghost view = { λ d. record {
+      requests = d.requests.list;
+      fetches = d.fetches;
+      tasks = map task_of d.tasks.items;
+      counts = d.counts;
+    } };
+}
+
+impl Devices {
+    /// Nothing yet.
+    pub(crate) fn new(alloc: Global, start: Moment) -> Devices
+        ensures { result ≡ new_devices start }
+    {
+        Devices {
+            requests: Requests::new(alloc),
+            fetches: Fetches::new(alloc, start),
+            tasks: Vec::new(alloc),
+            counts: RequestCounts::new(),
+        }
+    }
+
+    /// Hears a datagram, with the watch that its token names where it is a block.
+    pub(crate) fn hear(
+        &mut self,
+        now: Moment,
+        from: Addr,
+        watch: Option<Watch>,
+        bytes: &[u8],
+    ) -> Result<Passage, NoMemory> {
+        self.tasks.reserve(2)?;
+        let parcel = self.fetches.take(now, from, watch, bytes)?;
+        let heard = self.requests.hear(from, bytes);
+        if let Heard::Reset(about) = heard {
+            self.counts.reset = self.counts.reset.saturating_add(1);
+            put_left(&mut self.tasks, about, EMPTY);
+        }
+        self.counts.count_block(&parcel);
+        Ok(pass(&mut self.requests, &mut self.tasks, now, from, parcel))
+    }
+
+    /// The first thing that is left to do.
+    pub(crate) fn first(&self, alloc: Global) -> Result<Option<First>, NoMemory> {
+        let Some(task) = self.tasks.first() else {
+            return Ok(None);
+        };
+        Ok(Some(match task {
+            Task::End { token, code } => First::End {
+                token: *token,
+                code: *code,
+            },
+            Task::Cut(fetch) => First::Cut(*fetch),
+            Task::Undo { id, path, before } => First::Undo {
+                id: *id,
+                path: *path,
+                before: *before,
+            },
+            Task::Tell {
+                message,
+                is_complete,
+            } => First::Tell {
+                bytes: Bytes::copy_from_slice(alloc, message)?,
+                is_complete: *is_complete,
+            },
+        }))
+    }
+
+    /// It is done.
+    pub(crate) fn drop_first(&mut self) {
+        if !self.tasks.is_empty() {
+            self.tasks.remove(0);
+        }
+    }
+
+    /// What came of the fetch is to be told, in place of the first thing that is left to do.
+    pub(crate) fn cut_first(&mut self, fetch: u32) -> Result<(), NoMemory> {
+        let cut = self.fetches.cut(fetch)?;
+        match (cut, self.tasks.first_mut()) {
+            (Some(message), Some(first)) => {
+                *first = Task::Tell {
+                    message,
+                    is_complete: false,
+                };
+            }
+            _ => self.drop_first(),
+        }
+        Ok(())
+    }
+
+    /// Does what is to be done with the first request that is due.
+    pub(crate) fn step(&mut self, now: Moment, ids: &mut MessageIds) -> Result<Progress, NoMemory> {
+        self.tasks.reserve(1)?;
+        let Some(step) = self.requests.step(now, ids)? else {
+            return Ok(Progress::Idle);
+        };
+        match step {
+            Step::Send { to, bytes, again } => {
+                self.counts.count(again);
+                Ok(Progress::Sends(to, bytes))
+            }
+            Step::Unanswered(about) => {
+                self.counts.unanswered = self.counts.unanswered.saturating_add(1);
+                put_left(&mut self.tasks, about, GATEWAY_TIMEOUT);
+                Ok(Progress::Moved)
+            }
+            Step::Postponed => Ok(Progress::Moved),
+        }
+    }
+}
+
+/// What becomes of a datagram that was one of these. There is room for a task.
+fn pass(
+    requests: &mut Requests,
+    tasks: &mut Vec<Task>,
+    now: Moment,
+    from: Addr,
+    parcel: Parcel,
+) -> Passage
+    requires { vec_len tasks.old < vec_capacity tasks.old }
+{
+    match parcel {
+        Parcel::Through => Passage::Through,
+        Parcel::Taken {
+            acknowledgement,
+            request,
+            fetch,
+        } => {
+            ask_rest(requests, tasks, now, from, fetch, request);
+            Passage::Held(acknowledgement)
+        }
+        Parcel::Whole {
+            acknowledgement,
+            message,
+            is_complete,
+        } => {
+            if is_confirmable(&message) {
+                return Passage::Whole(message);
+            }
+            tasks.push_reserved(Task::Tell {
+                message,
+                is_complete,
+            });
+            Passage::Held(acknowledgement)
+        }
+    }
+}
+
+/// Asks for the rest of a notification. Where as many requests wait as can, what has come of it is told. There is room for
+/// a task.
+fn ask_rest(
+    requests: &mut Requests,
+    tasks: &mut Vec<Task>,
+    now: Moment,
+    to: Addr,
+    fetch: u32,
+    request: Vec<u8>,
+)
+    requires { vec_len tasks.old < vec_capacity tasks.old }
+{
+    let about = About::Rest(fetch);
+    requests.forget(about);
+    match requests.reserve() {
+        Ok(()) => requests.add(now, to, about, request),
+        Err(NoMemory) => tasks.push_reserved(Task::Cut(fetch)),
+    }
+}
+
+/// Whether a message is confirmable.
+fn is_confirmable(bytes: &[u8]) -> bool {
+    match bytes.first() {
+        Some(first) => first / 16 % 4 == 0,
+        None => false,
+    }
+}
+
+/// Puts what is left to do where a request came to nothing. There is room for it.
+fn put_left(tasks: &mut Vec<Task>, about: About, code: u8)
+    requires { vec_len tasks.old < vec_capacity tasks.old }
+    ensures len { vec_len tasks.new ≤ vec_len tasks.old + 1 }
+    ensures capacity { vec_capacity tasks.new ≡ vec_capacity tasks.old }
+{
+    match about {
+        About::Observation(token) => tasks.push_reserved(Task::End { token, code }),
+        About::Rest(fetch) => tasks.push_reserved(Task::Cut(fetch)),
+        About::Cancellation(_) => {}
+    }
+}

@@ -1,0 +1,92 @@
+//! What devices told of what is observed.
+
+ghost use Rattle.std.specs.Prelude.{◌≡◌, OnOk};
+ghost use Rattle.lw_api.specs.Notices.{HasRoom};
+ghost use Rattle.lw_run.specs.Telling.{new_told};
+
+use lw_api::{Noted, Notices};
+use lw_call::Notice;
+use lw_exchange::Sequences;
+use lw_stamp::{Moment, NoMemory};
+use std::alloc::Global;
+use std::marker::Model;
+
+/// The last notices, and what tells which of them are newer.
+#[derive(Drop)]
+pub(crate) struct Told {
+    pub(crate) notices: Notices,
+    sequences: Sequences,
+    /// How many notifications were older than one before, and were not told.
+    pub(crate) stale: u64,
+}
+
+impl Model for Told {
+    ghost use Rattle.lw_run.specs.Telling.{ToldContent};
+
+    ghost Value = { ToldContent };
+
+    ghost view = { λ t. record { notices = t.notices; sequences = t.sequences; stale = t.stale } };
+}
+
+impl Told {
+    pub(crate) fn new(alloc: Global) -> Told
+        ensures { result ≡ new_told }
+    {
+        Told {
+            notices: Notices::new(alloc),
+            sequences: Sequences::new(alloc),
+            stale: 0,
+        }
+    }
+
+    /// Makes room for so many notices more.
+    pub(crate) fn reserve(&mut self, more: usize) -> Result<(), NoMemory>
+        ensures { OnOk result (HasRoom self.new.notices more) }
+    {
+        self.notices.reserve(more)
+    }
+
+    /// Tells a notice, if it is not older than one before. There is room for it.
+    pub(crate) fn tell(&mut self, now: Moment, notice: Notice, is_complete: bool)
+        requires { HasRoom self.old.notices 1 }
+    {
+        if !self.is_newer(now, &notice) {
+            self.stale = self.stale.saturating_add(1);
+            return;
+        }
+        self.note_number(now, &notice);
+        self.notices.note(Noted {
+            notice,
+            is_complete,
+        });
+    }
+
+    /// Tells a notice, if there is one. There is room for it.
+    pub(crate) fn tell_one(&mut self, now: Moment, notice: Option<Notice>, is_complete: bool)
+        requires { HasRoom self.old.notices 1 }
+    {
+        if let Some(notice) = notice {
+            self.tell(now, notice, is_complete);
+        }
+    }
+
+    /// Whether a notice is newer than what was told of its observation. What ends an observation always is.
+    fn is_newer(&self, now: Moment, notice: &Notice) -> bool {
+        match notice.observe {
+            Some(number) if !notice.ended => self.sequences.is_newer(now, notice.token, number),
+            _ => true,
+        }
+    }
+
+    /// Notes the number of a notice. Where there is no memory for that, it is not noted.
+    fn note_number(&mut self, now: Moment, notice: &Notice)
+        ensures { self.new.notices ≡ self.old.notices }
+    {
+        match notice.observe {
+            Some(number) if !notice.ended => {
+                let _noted = self.sequences.note(now, notice.token, number);
+            }
+            _ => self.sequences.forget(notice.token),
+        }
+    }
+}
