@@ -3,8 +3,12 @@ pub mod Faults
 pub mod Server
 pub mod Blocks
 pub mod Exchanges
+pub mod Numbering
 pub mod Telling
 pub mod Devices
+pub mod Hearing
+pub mod Stepping
+pub mod Commands
 pub mod Turns
 pub mod Desk
 pub mod inner

@@ -1,0 +1,1 @@
+-- What comes of what operators have done (RFC 7641, sections 3.1 and 3.6).

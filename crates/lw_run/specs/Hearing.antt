@@ -1,0 +1,1 @@
+-- What becomes of a datagram before the store takes it (RFC 7252, sections 4.2 and 5.3.2; RFC 7959, section 2.6).

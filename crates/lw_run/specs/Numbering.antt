@@ -1,0 +1,1 @@
+-- The message IDs of replies that are not confirmable: the server's own (RFC 7252, section 4.4).
