@@ -1,8 +1,9 @@
 //! What is under way with devices: requests that wait for an answer, notifications that come in blocks, and what is left
 //! to do of both.
 
-ghost use Rattle.std.specs.Prelude.{◌≡◌, ◌<◌, ◌≤◌, ◌+◌, vec_capacity, vec_len};
-ghost use Rattle.lw_run.specs.Devices.{new_counts, new_devices};
+ghost use Rattle.std.specs.Prelude.{◌≡◌, ◌<◌, ◌≤◌, ◌+◌, ◌++◌, map, vec_capacity, vec_len};
+ghost use Rattle.lw_run.specs.Devices.{left_of, new_counts, new_devices};
+ghost use Rattle.lw_run.specs.inner.Devices.{task_of};
 
 use crate::hearing::Passage;
 use bytes::Bytes;
@@ -308,6 +309,7 @@ fn is_confirmable(bytes: &[u8]) -> bool {
 /// Puts what is left to do where a request came to nothing. There is room for it.
 fn put_left(tasks: &mut Vec<Task>, about: About, code: u8)
     requires { vec_len tasks.old < vec_capacity tasks.old }
+    ensures left { map task_of tasks.new.items ≡ map task_of tasks.old.items ++ left_of about code }
     ensures len { vec_len tasks.new ≤ vec_len tasks.old + 1 }
     ensures capacity { vec_capacity tasks.new ≡ vec_capacity tasks.old }
 {
