@@ -1,4 +1,5 @@
 mod Handling
 mod Keeping
 mod Sorting
+mod Steps
 mod Turns

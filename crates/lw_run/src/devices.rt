@@ -1,9 +1,10 @@
 //! What is under way with devices: requests that wait for an answer, notifications that come in blocks, and what is left
 //! to do of both.
 
-ghost use Rattle.std.specs.Prelude.{◌≡◌, ◌<◌, ◌≤◌, ◌+◌, ◌++◌, map, vec_capacity, vec_len};
+ghost use Rattle.std.specs.Prelude.{◌≡◌, ◌<◌, ◌≤◌, ◌+◌, ◌++◌, map, option_map, vec_capacity, vec_len, IfOk, OnErr, OnOk};
 ghost use Rattle.lw_run.specs.Devices.{left_of, new_counts, new_devices};
-ghost use Rattle.lw_run.specs.inner.Devices.{task_of};
+ghost use Rattle.lw_run.specs.Stepping.{first_of, with_sent, without_first, IsFirstCut, StepsRequests};
+ghost use Rattle.lw_run.specs.inner.Devices.{task_in, task_of};
 
 use crate::hearing::Passage;
 use bytes::Bytes;
@@ -97,7 +98,9 @@ impl RequestCounts {
     }
 
     /// Counts a request that is sent, for the first time or again.
-    fn count(&mut self, again: bool) {
+    fn count(&mut self, again: bool)
+        ensures { self.new ≡ with_sent self.old again }
+    {
         if again {
             self.sent_again = self.sent_again.saturating_add(1);
         } else {
@@ -173,7 +176,9 @@ impl Devices {
     }
 
     /// The first thing that is left to do.
-    pub(crate) fn first(&self, alloc: Global) -> Result<Option<First>, NoMemory> {
+    pub(crate) fn first(&self, alloc: Global) -> Result<Option<First>, NoMemory>
+        ensures { IfOk result (λ first. option_map task_in first ≡ first_of self.now.tasks) }
+    {
         let Some(task) = self.tasks.first() else {
             return Ok(None);
         };
@@ -199,14 +204,19 @@ impl Devices {
     }
 
     /// It is done.
-    pub(crate) fn drop_first(&mut self) {
+    pub(crate) fn drop_first(&mut self)
+        ensures { self.new ≡ record (self.old) { tasks = without_first self.old.tasks } }
+    {
         if !self.tasks.is_empty() {
             self.tasks.remove(0);
         }
     }
 
     /// What came of the fetch is to be told, in place of the first thing that is left to do.
-    pub(crate) fn cut_first(&mut self, fetch: u32) -> Result<(), NoMemory> {
+    pub(crate) fn cut_first(&mut self, fetch: u32) -> Result<(), NoMemory>
+        ensures cut { OnOk result (IsFirstCut fetch self.old self.new) }
+        ensures unchanged { OnErr result (self.new ≡ self.old) }
+    {
         let cut = self.fetches.cut(fetch)?;
         match (cut, self.tasks.first_mut()) {
             (Some(message), Some(first)) => {
@@ -221,7 +231,10 @@ impl Devices {
     }
 
     /// Does what is to be done with the first request that is due.
-    pub(crate) fn step(&mut self, now: Moment, ids: &mut MessageIds) -> Result<Progress, NoMemory> {
+    pub(crate) fn step(&mut self, now: Moment, ids: &mut MessageIds) -> Result<Progress, NoMemory>
+        ensures stepped { IfOk result (λ progress. StepsRequests now self.old ids.old progress self.new ids.new) }
+        ensures unchanged { OnErr result ((self.new ≡ self.old) × (ids.new ≡ ids.old)) }
+    {
         self.tasks.reserve(1)?;
         let Some(step) = self.requests.step(now, ids)? else {
             return Ok(Progress::Idle);

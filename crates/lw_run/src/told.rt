@@ -2,7 +2,7 @@
 
 ghost use Rattle.std.specs.Prelude.{◌≡◌, OnOk};
 ghost use Rattle.lw_api.specs.Notices.{HasRoom};
-ghost use Rattle.lw_run.specs.Telling.{new_told};
+ghost use Rattle.lw_run.specs.Telling.{is_newer_notice, new_told, number_of, with_capacity, IsNumberNoted, IsTold, IsToldIf};
 
 use lw_api::{Noted, Notices};
 use lw_call::Notice;
@@ -41,7 +41,8 @@ impl Told {
 
     /// Makes room for so many notices more.
     pub(crate) fn reserve(&mut self, more: usize) -> Result<(), NoMemory>
-        ensures { OnOk result (HasRoom self.new.notices more) }
+        ensures room { OnOk result (HasRoom self.new.notices more) }
+        ensures same { self.new ≡ with_capacity self.old self.new.notices.capacity }
     {
         self.notices.reserve(more)
     }
@@ -49,6 +50,7 @@ impl Told {
     /// Tells a notice, if it is not older than one before. There is room for it.
     pub(crate) fn tell(&mut self, now: Moment, notice: Notice, is_complete: bool)
         requires { HasRoom self.old.notices 1 }
+        ensures { IsTold now notice is_complete self.old self.new }
     {
         if !self.is_newer(now, &notice) {
             self.stale = self.stale.saturating_add(1);
@@ -64,6 +66,7 @@ impl Told {
     /// Tells a notice, if there is one. There is room for it.
     pub(crate) fn tell_one(&mut self, now: Moment, notice: Option<Notice>, is_complete: bool)
         requires { HasRoom self.old.notices 1 }
+        ensures { IsToldIf now notice is_complete self.old self.new }
     {
         if let Some(notice) = notice {
             self.tell(now, notice, is_complete);
@@ -71,7 +74,9 @@ impl Told {
     }
 
     /// Whether a notice is newer than what was told of its observation. What ends an observation always is.
-    fn is_newer(&self, now: Moment, notice: &Notice) -> bool {
+    fn is_newer(&self, now: Moment, notice: &Notice) -> bool
+        ensures { result ≡ is_newer_notice self.now.sequences now notice.now }
+    {
         match notice.observe {
             Some(number) if !notice.ended => self.sequences.is_newer(now, notice.token, number),
             _ => true,
@@ -80,7 +85,8 @@ impl Told {
 
     /// Notes the number of a notice. Where there is no memory for that, it is not noted.
     fn note_number(&mut self, now: Moment, notice: &Notice)
-        ensures { self.new.notices ≡ self.old.notices }
+        ensures noted { IsNumberNoted self.old.sequences now notice.now.token (number_of notice.now) self.new.sequences }
+        ensures same { self.new ≡ record (self.old) { sequences = self.new.sequences } }
     {
         match notice.observe {
             Some(number) if !notice.ended => {
