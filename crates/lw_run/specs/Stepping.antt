@@ -1,5 +1,6 @@
 -- What a step with devices does (RFC 7252, section 4.2; RFC 7641, sections 3.4 and 3.6; RFC 7959, section 2.6).
-use Rattle.std.specs.Prelude.{◌≡◌, ◌≢◌, ℕ, Bool, true, false, List, [], ◌∷◌, ◌++◌, Option, Some, None, Ok, Err, option_map}
+use Rattle.std.specs.Prelude.{◌≡◌, ◌≢◌, ℕ, Bool, true, false, List, [], ◌∷◌, ◌++◌}
+use Rattle.std.specs.Prelude.{Option, Some, None, Ok, Err, option_map}
 use Rattle.std.specs.declared.alloc.Global.{Global}
 use Rattle.std.specs.declared.vec.Vec.{Vec}
 use Rattle.lw_stamp.specs.declared.moment.Moment.{Moment}
@@ -23,7 +24,6 @@ use Rattle.lw_call.specs.declared.observe_fault.ObserveFault.TheVariants as obse
 use Rattle.lw_call.specs.declared.reply.Reply.{Reply}
 use Rattle.lw_call.specs.declared.reply.Reply.TheVariants as replies
 use Rattle.lw_call.specs.Contents.{NoticeContent, TakenContent}
-use Rattle.lw_metrics.specs.declared.tally.Tally.{Tally}
 use Rattle.lw_metrics.specs.Counting.{counted, one_more}
 use Rattle.lw_member.specs.Rounds.{IsRound}
 use Rattle.lw_run.specs.declared.devices.Progress.{Progress}
@@ -110,8 +110,8 @@ pub record MakesCall (call : Call) (reply : Reply) (old new : ServerContent) : T
   pub round : IsRound old.member (call ∷ []) (reply ∷ []) new.member
   pub counts : new.tally ≡ counted old.tally (call ∷ []) (reply ∷ [])
 
--- The round fails, or what comes of it is not told: nothing else is another than before, but for the memory for notices.
--- What was left to do is left to do.
+-- Where it fails, or what came of it is not told, only the member, its count and the memory for notices are not as they
+-- were. What was left to do is left to do.
 abbrev pub IsLeft : ServerContent → ServerContent → Type 0
 IsLeft old new =
     new ≡ record old { member = new.member; tally = new.tally; told = with_capacity old.told new.told.notices.capacity }

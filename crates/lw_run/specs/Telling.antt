@@ -56,7 +56,8 @@ IsPutIf true now notice is_complete old new = IsPut now notice is_complete old n
 IsPutIf false now notice is_complete old new = new ≡ record old { stale = one_more old.stale }
 
 abbrev pub IsTold : Moment → NoticeContent → Bool → ToldContent → ToldContent → Type 0
-IsTold now notice is_complete old new = IsPutIf (is_newer_notice old.sequences now notice) now notice is_complete old new
+IsTold now notice is_complete old new =
+    IsPutIf (is_newer_notice old.sequences now notice) now notice is_complete old new
 
 -- a notice is told, if there is one
 abbrev pub IsToldIf : Moment → Option NoticeContent → Bool → ToldContent → ToldContent → Type 0

@@ -2,7 +2,8 @@
 
 ghost use Rattle.std.specs.Prelude.{◌≡◌, OnOk};
 ghost use Rattle.lw_api.specs.Notices.{HasRoom};
-ghost use Rattle.lw_run.specs.Telling.{is_newer_notice, new_told, number_of, with_capacity, IsNumberNoted, IsTold, IsToldIf};
+ghost use Rattle.lw_run.specs.Telling.{is_newer_notice, new_told, number_of, with_capacity};
+ghost use Rattle.lw_run.specs.Telling.{IsNumberNoted, IsTold, IsToldIf};
 
 use lw_api::{Noted, Notices};
 use lw_call::Notice;
@@ -85,7 +86,8 @@ impl Told {
 
     /// Notes the number of a notice. Where there is no memory for that, it is not noted.
     fn note_number(&mut self, now: Moment, notice: &Notice)
-        ensures noted { IsNumberNoted self.old.sequences now notice.now.token (number_of notice.now) self.new.sequences }
+        ensures noted { IsNumberNoted self.old.sequences now notice.now.token (number_of notice.now)
+            self.new.sequences }
         ensures same { self.new ≡ record (self.old) { sequences = self.new.sequences } }
     {
         match notice.observe {

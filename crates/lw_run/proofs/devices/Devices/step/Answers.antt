@@ -9,8 +9,8 @@ counted_as counts n = record counts { unanswered = n }
 
 pub returns-in-Send-clause-stepped : goal.returns-in-Send-clause-stepped
 returns-in-Send-clause-stepped c =
-    steps_by _ _ _ _ _ _ _ _ _ _ c.self.view_is c.in-Some.is c.in-Send.is c.in_ok-step.ensures.stepped (refl, refl) c.count.ensures
-    (no_more _ _ c.in_ok-reserve.ensures.items) refl
+    steps_by _ _ _ _ _ _ _ _ _ _ c.self.view_is c.in-Some.is c.in-Send.is c.in_ok-step.ensures.stepped
+    (refl, refl) c.count.ensures (no_more _ _ c.in_ok-reserve.ensures.items) refl
 
 pub returns-in-Unanswered-clause-stepped : goal.returns-in-Unanswered-clause-stepped
 returns-in-Unanswered-clause-stepped c =

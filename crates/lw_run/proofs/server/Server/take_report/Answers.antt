@@ -1,0 +1,8 @@
+use Rattle.std.proofs.Common.{refl}
+use Rattle.lw_run.proofs.Steps.{is_report}
+use Rattle.lw_run.proofs.server.Server.take_report.Goals as goal
+
+pub returns-clause-report : goal.returns-clause-report
+returns-clause-report g c =
+    is_report _ _ _ _ _ _ _ _ _ _ _ c.self.view_is c.in_ok-reply.ensures.round c.in_ok-reply.ensures.counts
+    c.in_ok-reply-2.ensures c.reply.view_is c.reserve.ensures.same c.tell_one.ensures refl refl
