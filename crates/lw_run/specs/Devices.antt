@@ -1,12 +1,14 @@
 -- What is under way with devices: requests that wait for an answer (RFC 7252, section 4.2), notifications that come in
 -- blocks (RFC 7959, section 2.6), and what is left to do of both (RFC 7641, section 3.6).
-use Rattle.std.specs.Prelude.{ℕ, ◌%◌, ◌^◌, Bool, List, [], Option}
+use Rattle.std.specs.Prelude.{ℕ, ◌%◌, ◌^◌, Bool, List, [], ◌∷◌, Option}
 use Rattle.lw_stamp.specs.declared.moment.Moment.{Moment}
 use Rattle.lw_stamp.specs.declared.stamp.Stamp.{Stamp}
 use Rattle.lw_stamp.specs.Moment.{ms_of}
 use Rattle.lw_reg.specs.declared.path.Path.{Path}
 use Rattle.lw_exchange.specs.Fetches.{FetchesContent}
 use Rattle.lw_exchange.specs.Waiting.{WaitingContent}
+use Rattle.lw_exchange.specs.declared.waiting.About.{About}
+use Rattle.lw_exchange.specs.declared.waiting.About.TheVariants.{Observation, Cancellation, Rest}
 use Rattle.lw_run.specs.declared.devices.RequestCounts.{RequestCounts}
 
 -- ---- what is left to do
@@ -36,3 +38,9 @@ new_devices start = record {
   tasks = [];
   counts = new_counts;
 }
+
+-- ---- what is left to do where a request came to nothing, as the code says
+abbrev pub left_of : About → ℕ → List TaskContent
+left_of (Observation token) code = End token code ∷ []
+left_of (Rest fetch) code = Cut fetch ∷ []
+left_of (Cancellation token) code = []
