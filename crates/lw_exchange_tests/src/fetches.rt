@@ -237,15 +237,19 @@ fn is_given(
                 is_complete: true,
             },
             Given::Made,
-        ) => {
-            let whole = Came {
-                block: None,
-                ..*came
-            };
-            Ok(*message == datagram(alloc, &whole)?)
-        }
+        ) => is_without_block(alloc, came, message),
         _ => Ok(false),
     }
+}
+
+/// Whether a message is the datagram that came, without its block.
+fn is_without_block(alloc: Global, came: &Came<'_>, message: &[u8]) -> Result<bool, AllocError> {
+    let whole = Came {
+        block: None,
+        ..*came
+    };
+    let wanted = datagram(alloc, &whole)?;
+    Ok(message == wanted.as_slice())
 }
 
 /// What comes, when in milliseconds and from where, and what it is given. A message with the token of the observation

@@ -10,6 +10,7 @@ mod derived_texts;
 mod program;
 mod replay;
 mod run_command;
+mod run_refused;
 mod running_server;
 mod serving;
 

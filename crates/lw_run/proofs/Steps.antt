@@ -22,7 +22,8 @@ use Rattle.lw_run.specs.declared.devices.Progress.{Progress}
 use Rattle.lw_run.specs.declared.devices.Task.{Task}
 use Rattle.lw_run.specs.Devices.{DevicesContent, TaskContent}
 use Rattle.lw_run.specs.Server.{ServerContent}
-use Rattle.lw_run.specs.Stepping.{counts_behind, left_by, Ends, EndsWith, IsEnding, IsGiven, IsProgress, IsReport, IsTokenOn, StepsRequests}
+use Rattle.lw_run.specs.Stepping.{counts_behind, left_by, Ends, EndsWith, IsEnding, IsGiven, IsProgress, IsReport}
+use Rattle.lw_run.specs.Stepping.{IsTokenOn, StepsRequests}
 use Rattle.lw_run.specs.Telling.{is_newer_notice, with_capacity, IsPutIf, IsToldIf, ToldContent}
 use Rattle.lw_run.specs.inner.Devices.{task_of}
 
@@ -37,7 +38,8 @@ steps_by now old mid new lanes after it made some step same is one stepped it_is
     subst (λ (devices : DevicesContent). StepsRequests now devices lanes it new after) same
     (record {
       step = Some (step_content step);
-      stepped = subst (λ (s : Option Step). IsStepped now mid.requests lanes (option_map step_content s) new.requests after)
+      stepped = subst
+          (λ (s : Option Step). IsStepped now mid.requests lanes (option_map step_content s) new.requests after)
           (is ∙ ap Some one) stepped;
       progress_is = it_is;
       counts = counts;
@@ -54,8 +56,9 @@ pub some_more : (old mid : List Task) (new more : List TaskContent) → mid ≡ 
 some_more old mid new more same is = is ∙ ap (λ (ts : List Task). map task_of ts ++ more) same
 
 -- ---- notices
-put_keeps_capacity : (is_newer : Bool) (now : Moment) (notice : NoticeContent) (is_complete : Bool) (old new : ToldContent)
-    → IsPutIf is_newer now notice is_complete old new → new.notices.capacity ≡ old.notices.capacity
+put_keeps_capacity : (is_newer : Bool) (now : Moment) (notice : NoticeContent) (is_complete : Bool)
+    (old new : ToldContent) → IsPutIf is_newer now notice is_complete old new
+    → new.notices.capacity ≡ old.notices.capacity
 put_keeps_capacity true now notice is_complete old new put = ap (λ notices. notices.capacity) put.notices
 put_keeps_capacity false now notice is_complete old new put = ap (λ told. told.notices.capacity) put
 
@@ -114,7 +117,5 @@ pub token_in : (old mid : ServerContent) (node : NodeContent) (id : Stamp) (path
     → node ≡ mid.member.node → IsTokenOn (shown_in node.table.state) (ms_of mid.latest) id path token
     → IsTokenOn (shown_in old.member.node.table.state) (ms_of old.latest) id path token
 token_in old mid node id path token same is on =
-    subst
-    (λ (server : ServerContent). IsTokenOn (shown_in server.member.node.table.state) (ms_of server.latest) id path token)
-    same
+    subst (λ (it : ServerContent). IsTokenOn (shown_in it.member.node.table.state) (ms_of it.latest) id path token) same
     (subst (λ (it : NodeContent). IsTokenOn (shown_in it.table.state) (ms_of mid.latest) id path token) is on)

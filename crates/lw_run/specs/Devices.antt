@@ -5,10 +5,10 @@ use Rattle.lw_stamp.specs.declared.moment.Moment.{Moment}
 use Rattle.lw_stamp.specs.declared.stamp.Stamp.{Stamp}
 use Rattle.lw_stamp.specs.Moment.{ms_of}
 use Rattle.lw_reg.specs.declared.path.Path.{Path}
-use Rattle.lw_exchange.specs.declared.waiting.About.{About}
-use Rattle.lw_exchange.specs.declared.waiting.About.TheVariants.{Observation, Cancellation, Rest}
 use Rattle.lw_exchange.specs.Fetches.{FetchesContent}
 use Rattle.lw_exchange.specs.Waiting.{WaitingContent}
+use Rattle.lw_exchange.specs.declared.waiting.About.{About}
+use Rattle.lw_exchange.specs.declared.waiting.About.TheVariants.{Observation, Cancellation, Rest}
 use Rattle.lw_run.specs.declared.devices.RequestCounts.{RequestCounts}
 
 -- ---- what is left to do
@@ -21,12 +21,6 @@ pub data TaskContent : Type 0 where
   Tell : List ℕ → Bool → TaskContent
   -- what is observed on a path of a registration is to end, if it is not what was there before
   Undo : Stamp → Path → Option Stamp → TaskContent
-
--- What is left to do where a request came to nothing, as the code says. An observation that was to be ended has ended.
-abbrev pub left_of : About → ℕ → List TaskContent
-left_of (Observation token) code = End token code ∷ []
-left_of (Rest fetch) code = Cut fetch ∷ []
-left_of (Cancellation token) code = []
 
 pub record DevicesContent : Type 0 where
   pub requests : List WaitingContent
@@ -44,3 +38,9 @@ new_devices start = record {
   tasks = [];
   counts = new_counts;
 }
+
+-- ---- what is left to do where a request came to nothing, as the code says
+abbrev pub left_of : About → ℕ → List TaskContent
+left_of (Observation token) code = End token code ∷ []
+left_of (Rest fetch) code = Cut fetch ∷ []
+left_of (Cancellation token) code = []

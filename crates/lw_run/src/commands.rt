@@ -1,6 +1,11 @@
 //! What operators have done: observations are made and ended.
 
+ghost use Rattle.std.specs.Prelude.{◌≡◌, ◌∷◌, [], option_map, IfOk, OnErr};
+ghost use Rattle.lw_call.specs.declared.call.Call.TheVariants as calls;
 ghost use Rattle.lw_exchange.specs.Waiting.{HasRoom};
+ghost use Rattle.lw_member.specs.Own.{WritesOwn};
+ghost use Rattle.lw_run.specs.Commands.{done_by, done_of as done_in, waiting_after, Executes, IsFailed, IsObserved, IsOrdered, IsRequested};
+ghost use Rattle.lw_run.specs.Desk.{serves};
 
 use crate::devices::Task;
 use crate::one_call::call_once;
@@ -38,7 +43,9 @@ pub enum Done {
 
 impl<G: DeltaLog, C: HostClock + Drop> Server<G, C> {
     /// Carries out a command at the moment that it is.
-    pub(crate) fn execute(&mut self, command: &Command) -> Result<Done, TurnFault> {
+    pub(crate) fn execute(&mut self, command: &Command) -> Result<Done, TurnFault>
+        ensures { Executes command.now self.old result self.new }
+    {
         let Some(now) = self.clock.now() else {
             return Err(TurnFault::ClockRefused);
         };
@@ -46,6 +53,13 @@ impl<G: DeltaLog, C: HostClock + Drop> Server<G, C> {
         if self.devices.requests.count() >= MOST_WAITING {
             return Ok(Done::TooMany);
         }
+        self.order(now, command)
+    }
+
+    fn order(&mut self, now: Moment, command: &Command) -> Result<Done, TurnFault>
+        ensures ordered { IfOk result (λ done. IsOrdered command.now now self.old done self.new) }
+        ensures failed { OnErr result (IsFailed self.old self.new) }
+    {
         match command {
             Command::Observe {
                 endpoint,
@@ -53,12 +67,8 @@ impl<G: DeltaLog, C: HostClock + Drop> Server<G, C> {
                 accept,
             } => self.observe(now, endpoint, *path, *accept),
             Command::Cancel { token } => {
-                let call = Call::Cancel {
-                    now,
-                    token: *token,
-                    mid: 0,
-                };
-                self.request(now, call)
+                let token = *token;
+                self.request(now, Call::Cancel { now, token, mid: 0 })
             }
         }
     }
@@ -70,7 +80,11 @@ impl<G: DeltaLog, C: HostClock + Drop> Server<G, C> {
         endpoint: &Text,
         path: Path,
         accept: Option<u16>,
-    ) -> Result<Done, TurnFault> {
+    ) -> Result<Done, TurnFault>
+        ensures observed { IfOk result (λ done.
+            IsObserved (serves self.old) endpoint.now path accept now self.old done self.new) }
+        ensures failed { OnErr result (IsFailed self.old self.new) }
+    {
         let Some(node) = self.node() else {
             return Ok(Done::Away);
         };
@@ -78,6 +92,22 @@ impl<G: DeltaLog, C: HostClock + Drop> Server<G, C> {
             return Ok(Done::NotFound);
         };
         let (id, before) = (shown.id, token_on(node, now, shown.id, path));
+        self.observe_shown(now, id, path, accept, before)
+    }
+
+    /// Has a path of the registration observed, on which there was this observation before.
+    fn observe_shown(
+        &mut self,
+        now: Moment,
+        id: Stamp,
+        path: Path,
+        accept: Option<u16>,
+        before: Option<Stamp>,
+    ) -> Result<Done, TurnFault>
+        ensures observed { IfOk result (λ done.
+            IsRequested (calls.Observe now id path accept 0) now self.old done self.new) }
+        ensures failed { OnErr result (IsFailed self.old self.new) }
+    {
         let call = Call::Observe {
             now,
             id,
@@ -94,7 +124,11 @@ impl<G: DeltaLog, C: HostClock + Drop> Server<G, C> {
     }
 
     /// A round with the call. The request that it gives waits to be sent.
-    fn request(&mut self, now: Moment, call: Call) -> Result<Done, TurnFault> {
+    fn request(&mut self, now: Moment, call: Call) -> Result<Done, TurnFault>
+        ensures requested { IfOk result (λ done. IsRequested call now self.old done self.new) }
+        ensures own { WritesOwn self.old.member self.new.member }
+        ensures unchanged { OnErr result (self.new ≡ record (self.old) { member = self.new.member }) }
+    {
         self.devices.requests.reserve()?;
         let reply = call_once(self.alloc, &mut self.member, &mut self.tally, call)?;
         Ok(requested(&mut self.devices.requests, now, reply))
@@ -104,6 +138,8 @@ impl<G: DeltaLog, C: HostClock + Drop> Server<G, C> {
 /// Puts the request that a call gave behind those that wait. There is room for it.
 fn requested(requests: &mut Requests, now: Moment, reply: Reply) -> Done
     requires { HasRoom requests.old }
+    ensures done { result ≡ done_in reply }
+    ensures waiting { requests.new.list ≡ waiting_after requests.old.list now reply }
 {
     match reply {
         Reply::Observe(Ok(outgoing)) => {
@@ -122,7 +158,9 @@ fn requested(requests: &mut Requests, now: Moment, reply: Reply) -> Done
     }
 }
 
-fn done_of(fault: ObserveFault) -> Done {
+fn done_of(fault: ObserveFault) -> Done
+    ensures { result ≡ done_by fault }
+{
     match fault {
         ObserveFault::NotFound => Done::NotFound,
         ObserveFault::ClockEnd => Done::ClockEnd,

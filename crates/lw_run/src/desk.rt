@@ -1,8 +1,9 @@
 //! What a server tells over HTTP.
 
 ghost use Rattle.std.specs.Prelude.{◌≡◌, ◌↔◌, IfOk, IfSome, IsNone, false};
-ghost use Rattle.lw_api.specs.Answers.{IsJson};
+ghost use Rattle.lw_api.specs.Answers.{IsJson, IsNoContent};
 ghost use Rattle.lw_target.specs.declared.desk.Status.TheVariants as statuses;
+ghost use Rattle.lw_run.specs.Commands.{reason_of as reason_in, TellsDone, TellsObserved, TellsOutcome};
 ghost use Rattle.lw_run.specs.Desk.{about_of, health_status, serves, version, AreMeasures, AreRequestMeasures, IsMeasuredBy, TellsHealth, TellsMetrics, TellsNotifications, TellsOfNode, TellsPage};
 
 use crate::{Done, Server, TurnFault};
@@ -25,11 +26,12 @@ const AWAY: &str = r#"{"error":"away"}"#;
 const NO_MEMORY: &str = r#"{"error":"no memory"}"#;
 
 impl<G: DeltaLog, C: HostClock + Drop> Desk for Server<G, C> {
+    ghost use Rattle.lw_run.specs.Commands.{IsCarriedOut};
     ghost use Rattle.lw_run.specs.Desk.{TellsOf};
 
     ghost tells = { λ server asked answer. TellsOf server asked answer };
 
-    ghost does = { λ old command answer new. Unit {0} };
+    ghost does = { λ old command answer new. IsCarriedOut old command answer new };
 
     fn answer(&self, asked: &Asked) -> Result<Answer, NoMemory> {
         match asked {
@@ -109,14 +111,18 @@ impl<G: DeltaLog, C: HostClock + Drop> Server<G, C> {
     }
 
     /// What is told of a command, of which this has come.
-    fn tell_outcome(&self, outcome: Result<Done, TurnFault>) -> Result<Answer, NoMemory> {
+    fn tell_outcome(&self, outcome: Result<Done, TurnFault>) -> Result<Answer, NoMemory>
+        ensures { IfOk result (TellsOutcome self.now outcome) }
+    {
         match outcome {
             Ok(done) => self.tell_done(done),
             Err(fault) => self.unavailable(reason_of(fault)),
         }
     }
 
-    fn tell_done(&self, done: Done) -> Result<Answer, NoMemory> {
+    fn tell_done(&self, done: Done) -> Result<Answer, NoMemory>
+        ensures { IfOk result (TellsDone self.now done) }
+    {
         match done {
             Done::Observed(token) => self.observed(token),
             Done::Ended => self.ended(),
@@ -128,12 +134,16 @@ impl<G: DeltaLog, C: HostClock + Drop> Server<G, C> {
         }
     }
 
-    fn ended(&self) -> Result<Answer, NoMemory> {
+    fn ended(&self) -> Result<Answer, NoMemory>
+        ensures { IfOk result IsNoContent }
+    {
         Ok(no_content(self.alloc))
     }
 
     /// That an observation was made.
-    fn observed(&self, token: Stamp) -> Result<Answer, NoMemory> {
+    fn observed(&self, token: Stamp) -> Result<Answer, NoMemory>
+        ensures { IfOk result (TellsObserved self.now.member.led self.now token) }
+    {
         match self.member.node() {
             Some(node) => created(self.alloc, node, self.latest, token),
             None => self.unavailable(AWAY),
@@ -228,7 +238,9 @@ impl<G: DeltaLog, C: HostClock + Drop> Server<G, C> {
 }
 
 /// Why a command was not carried out.
-fn reason_of(fault: TurnFault) -> &'static str {
+fn reason_of(fault: TurnFault) -> &'static str
+    ensures { result.now ≡ reason_in fault }
+{
     match fault {
         TurnFault::NoMemory => NO_MEMORY,
         TurnFault::ClockRefused => r#"{"error":"clock refused"}"#,

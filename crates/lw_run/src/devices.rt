@@ -1,8 +1,11 @@
 //! What is under way with devices: requests that wait for an answer, notifications that come in blocks, and what is left
 //! to do of both.
 
-ghost use Rattle.std.specs.Prelude.{◌≡◌, ◌<◌, ◌≤◌, ◌+◌, ◌++◌, map, option_map, vec_capacity, vec_len, IfOk, OnErr, OnOk};
+ghost use Rattle.std.specs.Prelude.{◌≡◌, ◌<◌, ◌≤◌, ◌+◌, ◌++◌, map, option_map, vec_capacity, vec_len};
+ghost use Rattle.std.specs.Prelude.{IfOk, OnErr, OnOk};
+ghost use Rattle.lw_exchange.specs.Waiting.{HasRoom};
 ghost use Rattle.lw_run.specs.Devices.{left_of, new_counts, new_devices};
+ghost use Rattle.lw_run.specs.Hearing.{counts_block, counts_heard, is_confirmable as is_confirmable_in, left_by, AsksRest, IsPassed, Passes, WholePasses};
 ghost use Rattle.lw_run.specs.Stepping.{first_of, with_sent, without_first, IsFirstCut, StepsRequests};
 ghost use Rattle.lw_run.specs.inner.Devices.{task_in, task_of};
 
@@ -88,7 +91,9 @@ impl RequestCounts {
     }
 
     /// Counts a datagram that was a block.
-    fn count_block(&mut self, parcel: &Parcel) {
+    fn count_block(&mut self, parcel: &Parcel)
+        ensures { self.new ≡ counts_block parcel.now self.old }
+    {
         match parcel {
             Parcel::Through => {}
             Parcel::Taken { .. } | Parcel::Whole { .. } => {
@@ -163,14 +168,14 @@ impl Devices {
         from: Addr,
         watch: Option<Watch>,
         bytes: &[u8],
-    ) -> Result<Passage, NoMemory> {
+    ) -> Result<Passage, NoMemory>
+        ensures passed { IfOk result (λ passage. IsPassed now from watch bytes.now self.old passage self.new) }
+        ensures unchanged { OnErr result (self.new ≡ self.old) }
+    {
         self.tasks.reserve(2)?;
         let parcel = self.fetches.take(now, from, watch, bytes)?;
         let heard = self.requests.hear(from, bytes);
-        if let Heard::Reset(about) = heard {
-            self.counts.reset = self.counts.reset.saturating_add(1);
-            put_left(&mut self.tasks, about, EMPTY);
-        }
+        note_heard(&mut self.counts, &mut self.tasks, heard);
         self.counts.count_block(&parcel);
         Ok(pass(&mut self.requests, &mut self.tasks, now, from, parcel))
     }
@@ -254,6 +259,23 @@ impl Devices {
     }
 }
 
+/// Counts a request that was rejected, and puts what is left to do of it. There is room for it.
+fn note_heard(counts: &mut RequestCounts, tasks: &mut Vec<Task>, heard: Heard)
+    requires { vec_len tasks.old < vec_capacity tasks.old }
+    ensures counts { counts.new ≡ counts_heard heard counts.old }
+    ensures left { map task_of tasks.new.items ≡ map task_of tasks.old.items ++ left_by heard }
+    ensures len { vec_len tasks.new ≤ vec_len tasks.old + 1 }
+    ensures capacity { vec_capacity tasks.new ≡ vec_capacity tasks.old }
+{
+    match heard {
+        Heard::Reset(about) => {
+            counts.reset = counts.reset.saturating_add(1);
+            put_left(tasks, about, EMPTY);
+        }
+        Heard::Acknowledged(_) | Heard::Nothing => {}
+    }
+}
+
 /// What becomes of a datagram that was one of these. There is room for a task.
 fn pass(
     requests: &mut Requests,
@@ -263,6 +285,8 @@ fn pass(
     parcel: Parcel,
 ) -> Passage
     requires { vec_len tasks.old < vec_capacity tasks.old }
+    ensures { Passes now from parcel requests.old.list (map task_of tasks.old.items) result requests.new.list
+        (map task_of tasks.new.items) }
 {
     match parcel {
         Parcel::Through => Passage::Through,
@@ -278,16 +302,7 @@ fn pass(
             acknowledgement,
             message,
             is_complete,
-        } => {
-            if is_confirmable(&message) {
-                return Passage::Whole(message);
-            }
-            tasks.push_reserved(Task::Tell {
-                message,
-                is_complete,
-            });
-            Passage::Held(acknowledgement)
-        }
+        } => pass_whole(tasks, acknowledgement, message, is_complete),
     }
 }
 
@@ -302,6 +317,8 @@ fn ask_rest(
     request: Vec<u8>,
 )
     requires { vec_len tasks.old < vec_capacity tasks.old }
+    ensures { AsksRest now to fetch request.items requests.old.list (map task_of tasks.old.items) requests.new.list
+        (map task_of tasks.new.items) }
 {
     let about = About::Rest(fetch);
     requests.forget(about);
@@ -311,8 +328,31 @@ fn ask_rest(
     }
 }
 
+/// What becomes of a whole message. There is room for a task.
+fn pass_whole(
+    tasks: &mut Vec<Task>,
+    acknowledgement: Option<Vec<u8>>,
+    message: Vec<u8>,
+    is_complete: bool,
+) -> Passage
+    requires { vec_len tasks.old < vec_capacity tasks.old }
+    ensures { WholePasses (is_confirmable_in message.items) acknowledgement message is_complete
+        (map task_of tasks.old.items) result (map task_of tasks.new.items) }
+{
+    if is_confirmable(&message) {
+        return Passage::Whole(message);
+    }
+    tasks.push_reserved(Task::Tell {
+        message,
+        is_complete,
+    });
+    Passage::Held(acknowledgement)
+}
+
 /// Whether a message is confirmable.
-fn is_confirmable(bytes: &[u8]) -> bool {
+fn is_confirmable(bytes: &[u8]) -> bool
+    ensures { result ≡ is_confirmable_in bytes.now }
+{
     match bytes.first() {
         Some(first) => first / 16 % 4 == 0,
         None => false,

@@ -103,14 +103,14 @@ fn is_kept(number: usize, later: bool) -> bool {
 /// Goes from one that is kept to the next, beside the numbers.
 fn walks_all(alloc: Global, moments: &DueMoments, later: bool) -> Result<(), Fail> {
     let mut upto = None;
-    let mut count = 0;
+    let mut count = 0usize;
     for number in 0..many::COUNT {
         if is_kept(number, later) {
             let name = many::name_of(alloc, number)?;
             let found = moments.first_kept(upto);
             holds_for(&number, found == Some(name.as_str()))?;
             upto = found;
-            count += 1;
+            count = count.saturating_add(1);
         }
     }
     holds("none behind", moments.first_kept(upto).is_none())?;

@@ -102,9 +102,18 @@ impl<'a> MemoryFront<'a> {
             }
             Coming::Nothing => Ok(Heard::Nothing),
             Coming::Fault => Err(WireFault),
-            Coming::Observe(path) => self.command(desk, observe(self.alloc, path)),
-            Coming::Cancel(counter) => self.command(desk, cancel(counter)),
-            Coming::Notifications => self.ask_notifications(desk),
+            Coming::Observe(path) => {
+                self.command(desk, observe(self.alloc, path))?;
+                Ok(Heard::Nothing)
+            }
+            Coming::Cancel(counter) => {
+                self.command(desk, cancel(counter))?;
+                Ok(Heard::Nothing)
+            }
+            Coming::Notifications => {
+                self.ask_notifications(desk)?;
+                Ok(Heard::Nothing)
+            }
         }
     }
 
@@ -113,12 +122,12 @@ impl<'a> MemoryFront<'a> {
         &mut self,
         desk: &mut D,
         command: Option<Command>,
-    ) -> Result<Heard, WireFault> {
+    ) -> Result<(), WireFault> {
         let answer = desk.carry_out(&command.ok_or(WireFault)?).ok_or(WireFault)?;
         self.put_answer(&answer)
     }
 
-    fn ask_notifications<D: Desk>(&mut self, desk: &D) -> Result<Heard, WireFault> {
+    fn ask_notifications<D: Desk>(&mut self, desk: &D) -> Result<(), WireFault> {
         let asked = Asked::Notifications {
             from: 0,
             start: None,
@@ -128,10 +137,9 @@ impl<'a> MemoryFront<'a> {
         self.put_answer(&answer)
     }
 
-    fn put_answer(&mut self, answer: &Answer) -> Result<Heard, WireFault> {
+    fn put_answer(&mut self, answer: &Answer) -> Result<(), WireFault> {
         let (status, body) = (answer.status, answer.body.as_str());
-        writeln!(self.sent, "{status:?} {body}").map_err(|_| WireFault)?;
-        Ok(Heard::Nothing)
+        writeln!(self.sent, "{status:?} {body}").map_err(|_| WireFault)
     }
 
     /// Asks for measures, if they are to be told.

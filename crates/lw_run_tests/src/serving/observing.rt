@@ -26,6 +26,9 @@ const HAS_SIXTH: &str = "60000031";
 
 const HAS_SECOND: &str = "60000032";
 
+/// A notification of more than 16 bytes, confirmable: Block2 0/1/16, Observe 5.
+const BLOCK: &str = "4845003100000000000200016105d10408ff30313233343536373839616263646566";
+
 /// The device rejects the first GET.
 const RESET: &str = "70000000";
 
@@ -251,20 +254,18 @@ fn replies_that_are_not_confirmable_have_ids_of_their_own(rt: HostRuntime) -> Re
     plays(rt.alloc(), &Stage::new(&comings), &want)
 }
 
-/// A notification of 17 bytes in blocks of 16, Block2 0/1/16, Observe 5: it is acknowledged, and the second block is asked
-/// for, by the second message of the server's own and with the token of the first fetch. The acknowledgement of that brings
-/// the last byte.
+/// A notification of 17 bytes in blocks of 16: it is acknowledged, and the second block is asked for, by the second message
+/// of the server's own and with the token of the first fetch. The acknowledgement of that brings the last byte.
 /// Tries: lw_run::run_on, lw_run::Server::hear, lw_run::Server::next_step
 #[test]
 fn a_notification_in_blocks_is_told_whole(rt: HostRuntime) -> Result<(), Fail> {
-    let block = "4845003100000000000200016105d10408ff30313233343536373839616263646566";
     let asks_rest = "4401000100000000b1330130c110";
     let rest = "6445000100000000d10a10ff78";
     let comings = [
         Coming::Datagram(3, REGISTER),
         Coming::Observe("/3/0"),
         Coming::Datagram(3, FIRST),
-        Coming::Datagram(3, block),
+        Coming::Datagram(3, BLOCK),
         Coming::Datagram(3, rest),
         Coming::Notifications,
     ];
@@ -290,11 +291,10 @@ fn a_notification_in_blocks_is_told_whole(rt: HostRuntime) -> Result<(), Fail> {
 /// Tries: lw_run::run_on, lw_run::Server::hear, lw_run::Server::next_step
 #[test]
 fn a_notification_that_breaks_off_is_told_so(rt: HostRuntime) -> Result<(), Fail> {
-    let block = "4845003100000000000200016105d10408ff30313233343536373839616263646566";
     let comings = [
         Coming::Datagram(3, REGISTER),
         Coming::Observe("/3/0"),
-        Coming::Datagram(3, block),
+        Coming::Datagram(3, BLOCK),
         Coming::Datagram(3, "6484000100000000"),
         Coming::Notifications,
     ];
