@@ -1,14 +1,18 @@
 -- Steps with devices.
-use Rattle.std.specs.Prelude.{◌≡◌, ◌++◌, ℕ, Bool, true, false, List, [], ◌∷◌, Option, Some, None, option_map, map}
+use Rattle.std.specs.Prelude.{◌≡◌, ◌≢◌, ◌++◌, ℕ, ◌+◌, Bool, true, false, List, [], ◌∷◌, length, Option, Some, None, option_map, map}
 use Rattle.std.specs.declared.alloc.Global.{Global}
 use Rattle.std.specs.declared.vec.Vec.{Vec}
-use Rattle.std.proofs.Common.{sym, ap, ◌∙◌, subst, append-nil}
+use Rattle.std.proofs.Common.{refl, sym, ap, ◌∙◌, subst, inl, inr, add-one, append-nil}
 use Rattle.lw_stamp.specs.declared.moment.Moment.{Moment}
 use Rattle.lw_stamp.specs.declared.stamp.Stamp.{Stamp}
 use Rattle.lw_stamp.specs.Moment.{ms_of}
 use Rattle.lw_reg.specs.declared.addr.Addr.{Addr}
 use Rattle.lw_reg.specs.declared.path.Path.{Path}
+use Rattle.lw_reg.specs.declared.watch.Watch.{Watch}
+use Rattle.lw_reg.specs.Marks.{Marks}
 use Rattle.lw_reg.specs.Reading.{shown_in}
+use Rattle.lw_reg.specs.Registration.{Registration}
+use Rattle.lw_table.specs.LookUps.{WatchOfIdAfter}
 use Rattle.lw_node.specs.Node.{NodeContent}
 use Rattle.lw_call.specs.declared.call.Call.TheVariants as calls
 use Rattle.lw_call.specs.declared.reply.Reply.{Reply}
@@ -23,7 +27,7 @@ use Rattle.lw_run.specs.declared.devices.Task.{Task}
 use Rattle.lw_run.specs.Devices.{DevicesContent, TaskContent}
 use Rattle.lw_run.specs.Server.{ServerContent}
 use Rattle.lw_run.specs.Stepping.{counts_behind, left_by, Ends, EndsWith, IsEnding, IsGiven, IsProgress, IsReport}
-use Rattle.lw_run.specs.Stepping.{IsTokenOn, StepsRequests}
+use Rattle.lw_run.specs.Stepping.{IsNoneOn, IsTokenOn, LookedAt, StepsRequests}
 use Rattle.lw_run.specs.Telling.{is_newer_notice, with_capacity, IsPutIf, IsToldIf, ToldContent}
 use Rattle.lw_run.specs.inner.Devices.{task_of}
 
@@ -111,6 +115,39 @@ ends_by token code old new made notice is ending ends = record {
 }
 
 -- ---- what is observed
+pub looked_at_none : (M : Marks) (now : ℕ) (id : Stamp) (path : Path) → LookedAt M now id path None 0
+looked_at_none M now id path = record { watches = []; are = tt; elsewhere = tt; last = refl; count_is = refl }
+
+-- the next one that is looked at is elsewhere too
+pub looked_at_next : (M : Marks) (now : ℕ) (id : Stamp) (path : Path) (after asked : Option Path) (count : ℕ)
+    (x : Registration × Watch) → LookedAt M now id path after count → asked ≡ after
+    → WatchOfIdAfter M now id asked (Some x) → x.1.path ≢ path → LookedAt M now id path (Some x.1.path) (count + 1)
+looked_at_next M now id path after asked count x looked is found other = record {
+  watches = x ∷ looked.watches;
+  are = (subst (λ (a : Option Path). WatchOfIdAfter M now id a (Some x)) (is ∙ looked.last) found, looked.are);
+  elsewhere = (other, looked.elsewhere);
+  last = refl;
+  count_is = sym (add-one (length looked.watches)) ∙ ap (λ (n : ℕ). n + 1) looked.count_is;
+}
+
+pub none_behind : (M : Marks) (now : ℕ) (id : Stamp) (path : Path) (after asked : Option Path) (count : ℕ)
+    → LookedAt M now id path after count → asked ≡ after → WatchOfIdAfter M now id asked None → IsNoneOn M now id path
+none_behind M now id path after asked count looked is none = record {
+  after = after;
+  count = count;
+  looked = looked;
+  over = inl (subst (λ (a : Option Path). WatchOfIdAfter M now id a None) is none);
+}
+
+pub none_of_many : (M : Marks) (now : ℕ) (id : Stamp) (path : Path) (after : Option Path) (count : ℕ)
+    → LookedAt M now id path after count → count ≡ 65536 → IsNoneOn M now id path
+none_of_many M now id path after count looked many = record {
+  after = after;
+  count = count;
+  looked = looked;
+  over = inr many;
+}
+
 -- by the node of the server, at the moment of its last turn
 pub token_in : (old mid : ServerContent) (node : NodeContent) (id : Stamp) (path : Path) (token : Option Stamp)
     → mid ≡ old

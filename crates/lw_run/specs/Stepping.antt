@@ -1,5 +1,5 @@
 -- What a step with devices does (RFC 7252, section 4.2; RFC 7641, sections 3.4 and 3.6; RFC 7959, section 2.6).
-use Rattle.std.specs.Prelude.{◌≡◌, ◌≢◌, ℕ, Bool, true, false, List, [], ◌∷◌, ◌++◌}
+use Rattle.std.specs.Prelude.{◌≡◌, ◌≢◌, ℕ, Bool, true, false, List, [], ◌∷◌, ◌++◌, ◌⊎◌, length}
 use Rattle.std.specs.Prelude.{Option, Some, None, Ok, Err, option_map}
 use Rattle.std.specs.declared.alloc.Global.{Global}
 use Rattle.std.specs.declared.vec.Vec.{Vec}
@@ -14,7 +14,7 @@ use Rattle.lw_reg.specs.Marks.{Marks}
 use Rattle.lw_reg.specs.Reading.{shown_in}
 use Rattle.lw_reg.specs.Registration.{Registration}
 use Rattle.lw_reg.specs.Showing.{LivesOf}
-use Rattle.lw_table.specs.LookUps.{ById, ByToken}
+use Rattle.lw_table.specs.LookUps.{ById, ByToken, WatchOfIdAfter}
 use Rattle.lw_exchange.specs.declared.message_ids.Lane.{Lane}
 use Rattle.lw_exchange.specs.Fetches.{IsCut}
 use Rattle.lw_exchange.specs.Waiting.{IsStepped, StepContent, Sends, Unanswered, Postponed}
@@ -190,9 +190,37 @@ pub record IsWatchOn (M : Marks) (now : ℕ) (id : Stamp) (path : Path) (watch :
   pub lives : LivesOf M now registration.endpoint watch
   pub on : watch.path ≡ path
 
--- the token of what is observed on the path, where one was found
+-- the watches of the registration one after another, from the first on; the last of them stands in front
+abbrev pub path_of_last : List (Registration × Watch) → Option Path
+path_of_last [] = None
+path_of_last (x ∷ before) = Some x.1.path
+
+abbrev pub AreWatches : Marks → ℕ → Stamp → List (Registration × Watch) → Type 0
+AreWatches M now id [] = Unit {0}
+AreWatches M now id (x ∷ before) = WatchOfIdAfter M now id (path_of_last before) (Some x) × AreWatches M now id before
+
+abbrev pub AreElsewhere : Path → List (Registration × Watch) → Type 0
+AreElsewhere path [] = Unit {0}
+AreElsewhere path (x ∷ before) = (x.1.path ≢ path) × AreElsewhere path before
+
+-- so many were looked at, from the first on, and none of them is on the path
+pub record LookedAt (M : Marks) (now : ℕ) (id : Stamp) (path : Path) (after : Option Path) (count : ℕ) : Type 0 where
+  pub watches : List (Registration × Watch)
+  pub are : AreWatches M now id watches
+  pub elsewhere : AreElsewhere path watches
+  pub last : after ≡ path_of_last watches
+  pub count_is : length watches ≡ count
+
+-- None is on the path: there is none behind those that were looked at, or they are 65,536.
+pub record IsNoneOn (M : Marks) (now : ℕ) (id : Stamp) (path : Path) : Type 0 where
+  pub after : Option Path
+  pub count : ℕ
+  pub looked : LookedAt M now id path after count
+  pub over : WatchOfIdAfter M now id after None ⊎ (count ≡ 65536)
+
+-- the token of what is observed on the path, if something is
 abbrev pub IsTokenOn : Marks → ℕ → Stamp → Path → Option Stamp → Type 0
-IsTokenOn M now id path None = Unit {0}
+IsTokenOn M now id path None = IsNoneOn M now id path
 IsTokenOn M now id path (Some token) = (watch : Watch) × IsWatchOn M now id path watch × (watch.token ≡ token)
 
 pub record Cancels (token : Stamp) (old new : ServerContent) : Type 0 where
