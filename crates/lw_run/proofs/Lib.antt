@@ -1,4 +1,5 @@
 mod Handling
 mod Keeping
+mod Reached
 mod Sorting
 mod Turns
