@@ -1,7 +1,8 @@
 -- What the message layer and commands come to, from what their parts are.
-use Rattle.std.specs.Prelude.{◌≡◌, ℕ, Bool, true, false, List, Option, Some, Result, Ok, Err, IfOk, refl}
+use Rattle.std.specs.Prelude.{◌≡◌, ℕ, ◌<◌, ◌≤◌, Bool, true, false, List, length, Option, Some, Result, Ok, Err, IfOk, OnErr, refl}
 use Rattle.std.proofs.Common.{ap, ◌∙◌, subst, sym}
 use Rattle.std.proofs.Math.Logic.{inr}
+use Rattle.std.proofs.lemmas.Bool.{le-leb, lt-leb}
 use Rattle.lw_stamp.specs.declared.moment.Moment.{Moment}
 use Rattle.lw_stamp.specs.declared.stamp.Stamp.{Stamp}
 use Rattle.lw_stamp.specs.Moment.{ms_of}
@@ -16,10 +17,12 @@ use Rattle.lw_call.specs.declared.call.Call.{Call}
 use Rattle.lw_call.specs.declared.call.Call.TheVariants.{Observe}
 use Rattle.lw_member.specs.Member.{MemberContent}
 use Rattle.lw_member.specs.Own.{WritesOwn}
+use Rattle.lw_target.specs.declared.command.Command.{Command}
 use Rattle.lw_run.specs.declared.commands.Done.{Done}
-use Rattle.lw_run.specs.declared.commands.Done.TheVariants.{Away}
+use Rattle.lw_run.specs.declared.commands.Done.TheVariants.{Away, TooMany}
+use Rattle.lw_run.specs.declared.fault.TurnFault.{TurnFault}
 use Rattle.lw_run.specs.declared.hearing.Passage.{Passage}
-use Rattle.lw_run.specs.Commands.{IsFailed, IsObserved, IsObservedOf, IsRequested, LeavesUndo, Requests}
+use Rattle.lw_run.specs.Commands.{at_moment, Executes, IsFailed, IsObserved, IsObservedOf, IsOrdered, IsOrderedWhere, IsRequested, LeavesUndo, Requests}
 use Rattle.lw_run.specs.Desk.{serves}
 use Rattle.lw_run.specs.Hearing.{IsHeardFrom, IsPassed, IsWatchIn}
 use Rattle.lw_run.specs.Server.{ServerContent}
@@ -93,3 +96,27 @@ pub observed_shown : (endpoint text : List ℕ) (path : Path) (accept : Option �
 observed_shown endpoint text path accept now old new node shown id here same named found its done requested =
     observed_where endpoint text path accept now old new node (Some shown) here same named found done
     (subst (λ (i : Stamp). IsRequested (Observe now i path accept 0) now old done new) its requested)
+
+-- ---- a command
+pub too_many : (command : Command) (old mid : ServerContent) (now : Moment) (count : ℕ) → mid ≡ old → count ≡ length mid.devices.requests
+    → 1024 ≤ count → Executes command old (Ok TooMany) (at_moment now mid)
+too_many command old mid now count same counted full =
+    subst (λ (server : ServerContent). Executes command server (Ok TooMany) (at_moment now mid)) same
+    (now, subst (λ (b : Bool). IsOrderedWhere b command now (at_moment now mid) TooMany (at_moment now mid))
+        (sym (le-leb 1024 (length mid.devices.requests) (subst (λ (n : ℕ). 1024 ≤ n) counted full))) (refl, refl))
+
+executed_of : (command : Command) (mid new : ServerContent) (now : Moment) (result : Result Done TurnFault)
+    → length mid.devices.requests < 1024 → IfOk result (λ done. IsOrdered command now (at_moment now mid) done new)
+    → OnErr result (IsFailed (at_moment now mid) new) → Executes command mid result new
+executed_of command mid new now (Ok done) fewer ordered failed =
+    (now, subst (λ (b : Bool). IsOrderedWhere b command now (at_moment now mid) done new)
+        (sym (lt-leb 1024 (length mid.devices.requests) fewer)) ordered)
+executed_of command mid new now (Err fault) fewer ordered failed =
+    record { own = failed.own; devices = failed.devices; rest = failed.rest }
+
+pub executed : (command : Command) (old mid new : ServerContent) (now : Moment) (count : ℕ) (result : Result Done TurnFault) → mid ≡ old
+    → count ≡ length mid.devices.requests → count < 1024 → IfOk result (λ done. IsOrdered command now (at_moment now mid) done new)
+    → OnErr result (IsFailed (at_moment now mid) new) → Executes command old result new
+executed command old mid new now count result same counted fewer ordered failed =
+    subst (λ (server : ServerContent). Executes command server result new) same
+    (executed_of command mid new now result (subst (λ (n : ℕ). n < 1024) counted fewer) ordered failed)
