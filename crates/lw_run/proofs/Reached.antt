@@ -1,8 +1,9 @@
 -- What the message layer and commands come to, from what their parts are.
-use Rattle.std.specs.Prelude.{◌≡◌, ℕ, ◌<◌, ◌≤◌, Bool, true, false, List, length, Option, Some, Result, Ok, Err, IfOk, OnErr, refl}
+use Rattle.std.specs.Prelude.{◌≡◌, ℕ, ◌<◌, ◌≤◌, Bool, true, false, List, length, Option, Some, Result, Ok, Err, IfOk, IfSome, OnErr, refl}
 use Rattle.std.proofs.Common.{ap, ◌∙◌, subst, sym}
 use Rattle.std.proofs.Math.Logic.{inr}
 use Rattle.std.proofs.lemmas.Bool.{le-leb, lt-leb}
+use Rattle.std.specs.Result.{result_ok}
 use Rattle.lw_stamp.specs.declared.moment.Moment.{Moment}
 use Rattle.lw_stamp.specs.declared.stamp.Stamp.{Stamp}
 use Rattle.lw_stamp.specs.Moment.{ms_of}
@@ -120,3 +121,11 @@ pub executed : (command : Command) (old mid new : ServerContent) (now : Moment) 
 executed command old mid new now count result same counted fewer ordered failed =
     subst (λ (server : ServerContent). Executes command server result new) same
     (executed_of command mid new now result (subst (λ (n : ℕ). n < 1024) counted fewer) ordered failed)
+
+-- ---- what is told of a result that is no error
+some_where_ok : {T E : Type 0} (P : T → Type 0) (r : Result T E) → IfOk r P → IfSome (result_ok r) P
+some_where_ok P (Ok x) holds = holds
+some_where_ok P (Err e) holds = tt
+
+pub told_where_ok : {T E : Type 0} (P : T → Type 0) (r : Result T E) (told : Option T) → told ≡ result_ok r → IfOk r P → IfSome told P
+told_where_ok P r told is holds = subst (λ o. IfSome o P) (sym is) (some_where_ok P r holds)
