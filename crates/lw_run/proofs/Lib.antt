@@ -1,4 +1,5 @@
 mod Handling
 mod Keeping
+mod Numbers
 mod Sorting
 mod Turns
