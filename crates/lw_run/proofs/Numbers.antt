@@ -1,5 +1,5 @@
 -- Replies that have their message IDs, one after another.
-use Rattle.std.specs.Prelude.{◌≡◌, ℕ, suc, ◌+◌, ◌<◌, ◌≤◌, List, [], ◌∷◌, ◌++◌, length, get_or, set, take, drop, refl}
+use Rattle.std.specs.Prelude.{◌≡◌, ℕ, ◌+◌, ◌<◌, ◌≤◌, List, [], ◌∷◌, ◌++◌, length, get_or, set, take, drop, refl}
 use Rattle.std.proofs.Common.{sym, ap, ◌∙◌, append_assoc, subst, arith, length-append}
 use Rattle.std.proofs.Math.Seq.{get_or-append_seam, set-append_seam}
 use Rattle.std.proofs.lemmas.List.{append-nil, drop_all, take_all}
@@ -68,7 +68,7 @@ numbering_ends now first lanes all current place past way =
     let olds = way.all_are ∙ ap (λ (hs : List Handled). way.olds ++ hs) none ∙ append-nil way.olds in
     let news = way.current_are ∙ ap (λ (hs : List Handled). way.news ++ hs) none ∙ append-nil way.news in
     subst (λ (hs : List Handled). AreNumbered now first all hs lanes) (sym news)
-        (subst (λ (hs : List Handled). AreNumbered now first hs way.news lanes) (sym olds) way.numbered)
+    (subst (λ (hs : List Handled). AreNumbered now first hs way.news lanes) (sym olds) way.numbered)
 
 -- what a list is once it was lent and written over, with as many elements
 given_back : {X : Type 0} (count : ℕ) (old new : List X) → count ≡ length old → length new ≡ length old
@@ -80,7 +80,7 @@ pub numbered_in : (now : Moment) (first last : List Lane) (count : ℕ) (lent ol
     → AreNumbered now first lent new last → AreNumbered now first old (take count (new ++ drop (length new) old)) last
 numbered_in now first last count lent old new same all long are =
     subst (λ (hs : List Handled). AreNumbered now first old hs last) (sym (given_back count old new all (long ∙ ap length same)))
-        (subst (λ (hs : List Handled). AreNumbered now first hs new last) same are)
+    (subst (λ (hs : List Handled). AreNumbered now first hs new last) same are)
 
 pub unnumbered_in : (before after count : ℕ) (lent old new : List Handled) → lent ≡ old → count ≡ length old → length new ≡ length lent
     → after ≡ with_unnumbered before lent new → after ≡ with_unnumbered before old (take count (new ++ drop (length new) old))

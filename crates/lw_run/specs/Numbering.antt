@@ -1,5 +1,6 @@
 -- The message IDs of replies that are not confirmable: the server's own (RFC 7252, section 4.4).
-use Rattle.std.specs.Prelude.{◌≡◌, ℕ, ◌+◌, ◌-◌, ◌/◌, ◌%◌, ◌^◌, ◌==◌, min, Bool, false, if◌then◌else◌, List, [], ◌∷◌, Option, None, Some, option_map}
+use Rattle.std.specs.Prelude.{◌≡◌, ℕ, ◌+◌, ◌-◌, ◌/◌, ◌%◌, ◌^◌, ◌==◌, min, Bool, false, if◌then◌else◌, List, [], ◌∷◌}
+use Rattle.std.specs.Prelude.{Option, None, Some, option_map}
 use Rattle.std.specs.List.{count_by}
 use Rattle.std.specs.Option.{is_some}
 use Rattle.lw_stamp.specs.declared.moment.Moment.{Moment}
@@ -14,24 +15,25 @@ abbrev pub is_non_confirmable : List ℕ → Bool
 is_non_confirmable [] = false
 is_non_confirmable (first ∷ rest) = first / 16 % 4 == 1
 
--- What goes out in place of a message. The sender of a non-confirmable one gives it a message ID, which must not be used
--- again within EXCHANGE_LIFETIME: where none is free it does not go out. Any other message has the message ID of what it
--- answers (RFC 7252, section 4.4).
+-- What goes out in place of a message. The sender of a non-confirmable one gives it a message ID that is not used again
+-- within EXCHANGE_LIFETIME; where none is free the message does not go out. Any other reply has the message ID of what
+-- it answers (RFC 7252, section 4.4).
 abbrev pub numbered : Moment → List Lane → Addr → List ℕ → Option (List ℕ)
 numbered now lanes to message =
-    if is_non_confirmable message then option_map (λ id. with_message_id id message) (allotted_to lanes now to) else Some message
+    if is_non_confirmable message then option_map (λ id. with_message_id id message) (allotted_to lanes now to)
+    else Some message
 
 abbrev pub numbered_reply : Moment → List Lane → Addr → Option (List ℕ) → Option (List ℕ)
 numbered_reply now lanes to None = None
 numbered_reply now lanes to (Some reply) = numbered now lanes to reply
 
--- which message IDs are next behind it: those of the address go on where the message is non-confirmable (RFC 7252, section
--- 4.4)
+-- which message IDs are next behind it: those of the address go on where the reply is non-confirmable (RFC 7252,
+-- section 4.4)
 abbrev pub lanes_behind : Moment → List Lane → Addr → Option (List ℕ) → List Lane
 lanes_behind now lanes to None = lanes
 lanes_behind now lanes to (Some reply) = if is_non_confirmable reply then lanes_after lanes now to else lanes
 
--- a datagram that is answered, and the same with the reply that goes out
+-- a datagram that is answered, and the same with the reply that goes out (RFC 7252, section 4.4)
 pub record IsNumbered (now : Moment) (lanes : List Lane) (old new : Handled) : Type 0 where
   pub from : new.from ≡ old.from
   pub bytes : new.bytes ≡ old.bytes
@@ -52,4 +54,5 @@ has_reply handled = is_some handled.reply
 
 -- how many replies did not go out since no message ID was free, after a turn
 abbrev pub with_unnumbered : ℕ → List Handled → List Handled → ℕ
-with_unnumbered count handled numbered = min (count + (count_by has_reply handled - count_by has_reply numbered)) (2 ^ 64 - 1)
+with_unnumbered count handled numbered =
+    min (count + (count_by has_reply handled - count_by has_reply numbered)) (2 ^ 64 - 1)

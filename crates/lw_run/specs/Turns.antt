@@ -39,10 +39,10 @@ send_of handled = option_map (λ reply. (handled.from, reply)) (reply_of handled
 abbrev pub sends_of : List Handled → List (Addr × List ℕ)
 sends_of handled = filter_map send_of handled
 
--- One round of the member, which is counted, with what the store takes of the datagrams that are fresh. What is sent are
--- the replies to those that were answered before, those to blocks that are answered without the store, and those of the
--- round. Of the last two each has its message ID before it is kept, so that what is sent again has it too (RFC 7252,
--- section 4.5). The Sweeps are at the moment less the seconds that clocks may differ.
+-- One round of the member, which is counted, with what the store takes of the datagrams that are fresh. What is sent
+-- are the replies to those that were answered before, those to blocks that are answered without the store, and those of
+-- the round. The last two have their message IDs before they are kept, so a request that comes again gets the same
+-- reply (RFC 7252, sections 4.4 and 4.5). The Sweeps are at the moment less the seconds that clocks may differ.
 pub record IsTurn (now : Moment) (old : ServerContent) (batch : List Datagram) (sends : List (Addr × List ℕ)) (new : ServerContent) : Type 0 where
   pub before : Moment
   pub arrivals : List Arrival

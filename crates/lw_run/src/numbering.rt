@@ -40,12 +40,7 @@ fn number_each(ids: &mut MessageIds, now: Moment, handled: &mut [Handled])
 }
 
 /// The reply under a message ID of the server's own, where it is not confirmable.
-fn numbered(
-    ids: &mut MessageIds,
-    now: Moment,
-    to: Addr,
-    reply: Option<Vec<u8>>,
-) -> Option<Vec<u8>>
+fn numbered(ids: &mut MessageIds, now: Moment, to: Addr, reply: Option<Vec<u8>>) -> Option<Vec<u8>>
     ensures reply { option_map (λ r. r.items) result
         ≡ numbered_reply now ids.old to (option_map (λ r. r.items) reply) }
     ensures ids { ids.new ≡ lanes_behind now ids.old to (option_map (λ r. r.items) reply) }
