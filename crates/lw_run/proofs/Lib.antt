@@ -1,5 +1,6 @@
 mod Handling
 mod Keeping
+mod Numbers
 mod Reached
 mod Sorting
 mod Turns
