@@ -10,6 +10,7 @@ use Rattle.lw_wire.specs.declared.datagram.Datagram.{Datagram}
 use Rattle.lw_call.specs.declared.call.Call.{Call}
 use Rattle.lw_call.specs.declared.reply.Reply.{Reply}
 use Rattle.lw_exchange.specs.declared.exchange.Exchange.{Exchange}
+use Rattle.lw_exchange.specs.declared.message_ids.Lane.{Lane}
 use Rattle.lw_exchange.specs.Kept.{BodyContent}
 use Rattle.lw_log.specs.Calls.{LogCall, Calls}
 use Rattle.lw_member.specs.Member.{MemberContent}
@@ -22,6 +23,7 @@ use Rattle.lw_run.specs.declared.blocks.Origin.{Origin}
 use Rattle.lw_run.specs.declared.blocks.Sorted.{Sorted}
 use Rattle.lw_run.specs.Blocks.{Arrival, answered_of, datagram_of, origin_of, lacks_block, with_blocks, AreHandled, AreTaken, GoOn}
 use Rattle.lw_run.specs.Exchanges.{fresh_of, sent_again, exchanges_of, with_duplicates, with_unkept, Keeps}
+use Rattle.lw_run.specs.Numbering.{with_unnumbered, AreNumbered}
 use Rattle.lw_run.specs.Server.{ServerContent, Stays}
 use Rattle.lw_run.specs.Turns.{sends_of, IsTurn, GoesOn}
 use Rattle.lw_run.specs.inner.Settling.{all_calls, Settles}
@@ -48,11 +50,10 @@ more_duplicates old new again count left batch fresh is less all some =
     is ∙ ap (λ (n : ℕ). min (old + n) (2 ^ 64 - 1)) (less ∙ (λ k. all k - some k))
 
 pub stays_from : (old mid new : ServerContent) → mid ≡ old → new.skew ≡ mid.skew → new.started ≡ mid.started → new.passed_over ≡ mid.passed_over
-    → new.page ≡ mid.page → new.edge ≡ mid.edge → new.away ≡ mid.away → new.ids ≡ mid.ids → new.unnumbered ≡ mid.unnumbered → new.told ≡ mid.told
-    → new.devices ≡ mid.devices → new.fault ≡ mid.fault → Stays old new
-stays_from old mid new same skew started passed_over page edge away ids unnumbered told devices fault =
+    → new.page ≡ mid.page → new.edge ≡ mid.edge → new.away ≡ mid.away → new.told ≡ mid.told → new.devices ≡ mid.devices → new.fault ≡ mid.fault → Stays old new
+stays_from old mid new same skew started passed_over page edge away told devices fault =
     subst (λ (server : ServerContent). Stays server new) same
-    (record { skew = skew; started = started; passed_over = passed_over; page = page; edge = edge; away = away; ids = ids; unnumbered = unnumbered; told = told; devices = devices; fault = fault })
+    (record { skew = skew; started = started; passed_over = passed_over; page = page; edge = edge; away = away; told = told; devices = devices; fault = fault })
 
 -- a server whose member is still as it was has put nothing into its log
 pub writes_none_from : (old mid : ServerContent) → mid ≡ old → WritesOwn old.member mid.member
@@ -107,15 +108,16 @@ goes_on_by now old mid batch fresh bodies same some goes = (
 )
 
 -- what the code does comes to a turn
-pub is_turn : (now before : Moment) (old mid new : ServerContent) (batch fresh : List Datagram) (sorted : Sorted) (handled : List Handled) (sends : List (Addr × List ℕ)) (is_all lacks : Bool)
+pub is_turn : (now before : Moment) (old mid new : ServerContent) (batch fresh : List Datagram) (sorted : Sorted) (handled numbered : List Handled) (sends : List (Addr × List ℕ)) (is_all lacks : Bool)
     → mid ≡ old → ms_of before ≡ ms_of now - 1000 * mid.skew
     → fresh ≡ fresh_of now mid.kept batch → AreSorted now mid.bodies fresh sorted new.bodies
     → Settles before mid.member mid.tally sorted handled new.member new.tally
-    → sends ≡ sent_again now mid.kept batch ++ sends_of handled → Keeps mid.kept (exchanges_of now handled) new.kept is_all
-    → lacks ≡ list_any lacks_block handled → new.unkept ≡ with_unkept mid.unkept (is_all && not lacks)
+    → AreNumbered now mid.ids handled numbered new.ids → new.unnumbered ≡ with_unnumbered mid.unnumbered handled numbered
+    → sends ≡ sent_again now mid.kept batch ++ sends_of numbered → Keeps mid.kept (exchanges_of now numbered) new.kept is_all
+    → lacks ≡ list_any lacks_block numbered → new.unkept ≡ with_unkept mid.unkept (is_all && not lacks)
     → new.duplicates ≡ with_duplicates mid.duplicates batch fresh → new.blocks ≡ with_blocks mid.blocks sorted.handled.items sorted.origins.items
     → new.latest ≡ now → IsTurn now old batch sends new
-is_turn now before old mid new batch fresh sorted handled sends is_all lacks same back some sorts settles sent keeps lack short more blocks latest =
+is_turn now before old mid new batch fresh sorted handled numbered sends is_all lacks same back some sorts settles numbers without sent keeps lack short more blocks latest =
     let all = settles.handled_are ∙ ap (λ (hs : List Handled). hs ++ settles.more) sorts.sorted_are.handled in
     let calls = ap (all_calls before mid.member.claimed) sorts.sorted_are.calls in
     subst (λ (server : ServerContent). IsTurn now server batch sends new) same
@@ -124,16 +126,19 @@ is_turn now before old mid new batch fresh sorted handled sends is_all lacks sam
       arrivals = sorts.arrivals;
       replies = settles.replies;
       handled = settles.more;
+      numbered = numbered;
       is_all_kept = is_all;
       before_is = back;
       fresh = sorts.are ∙ some;
       bodies = sorts.taken;
       round = subst (λ (cs : List Call). IsRound mid.member cs settles.replies new.member) calls settles.round;
       answers = subst (λ (os : List Origin). AreHandled os settles.replies settles.more) sorts.sorted_are.origins settles.answers;
-      sent = sent ∙ ap (λ (hs : List Handled). sent_again now mid.kept batch ++ sends_of hs) all;
+      numbers = subst (λ (hs : List Handled). AreNumbered now mid.ids hs numbered new.ids) all numbers;
+      unnumbered = without ∙ ap (λ (hs : List Handled). with_unnumbered mid.unnumbered hs numbered) all;
+      sent = sent;
       counts = settles.counted_are ∙ ap (λ (cs : List Call). counted mid.tally cs settles.replies) calls;
-      kept = subst (λ (hs : List Handled). Keeps mid.kept (exchanges_of now hs) new.kept is_all) all keeps;
-      unkept = short ∙ ap (λ (l : Bool). with_unkept mid.unkept (is_all && not l)) (lack ∙ ap (list_any lacks_block) all);
+      kept = keeps;
+      unkept = short ∙ ap (λ (l : Bool). with_unkept mid.unkept (is_all && not l)) lack;
       duplicates = more ∙ ap (with_duplicates mid.duplicates batch) some;
       blocks = blocks ∙ ap (λ (hs : List Handled). with_blocks mid.blocks hs sorted.origins.items) sorts.sorted_are.handled
           ∙ ap (with_blocks mid.blocks (filter_map answered_of sorts.arrivals)) sorts.sorted_are.origins;
@@ -151,23 +156,33 @@ nothing_handled [] replies [] none are = refl
 nothing_handled [] replies (h ∷ handled) none are = absurd are
 nothing_handled (a ∷ arrivals) replies handled none are = absurd (cc)
 
+none_numbered : (now : Moment) (first last : List Lane) (handled numbered : List Handled) → handled ≡ []
+    → AreNumbered now first handled numbered last → numbered ≡ []
+none_numbered now first last [] [] none are = refl
+none_numbered now first last [] (n ∷ numbered) none are = absurd are
+none_numbered now first last (h ∷ handled) numbered none are = absurd (cc)
+
 pub is_tick : (now : Moment) (old new : ServerContent) (batch : List Datagram) (sends : List (Addr × List ℕ)) → batch ≡ []
     → IsTurn now old batch sends new → IsTurn now old [] [] new
 is_tick now old new batch sends none turn =
     let empty = subst (λ (b : List Datagram). IsTurn now old b sends new) none turn in
     let nothing = nothing_handled empty.arrivals empty.replies empty.handled (no_arrivals empty.arrivals empty.fresh) empty.answers in
+    let none_sent = none_numbered now old.ids new.ids _ empty.numbered nothing empty.numbers in
     record {
       before = empty.before;
       arrivals = empty.arrivals;
       replies = empty.replies;
       handled = empty.handled;
+      numbered = empty.numbered;
       is_all_kept = empty.is_all_kept;
       before_is = empty.before_is;
       fresh = empty.fresh;
       bodies = empty.bodies;
       round = empty.round;
       answers = empty.answers;
-      sent = sym (ap sends_of nothing);
+      numbers = empty.numbers;
+      unnumbered = empty.unnumbered;
+      sent = sym (ap sends_of none_sent);
       counts = empty.counts;
       kept = empty.kept;
       unkept = empty.unkept;

@@ -19,6 +19,7 @@ use Rattle.lw_call.specs.declared.reply.Reply.TheVariants as replies
 use Rattle.lw_member.specs.Member.{MemberContent}
 use Rattle.lw_member.specs.Own.{WritesOwn}
 use Rattle.lw_member.specs.Rounds.{IsRound}
+use Rattle.lw_metrics.specs.declared.tally.Tally.{Tally}
 use Rattle.lw_metrics.specs.Counting.{counted}
 use Rattle.lw_exchange.specs.declared.waiting.About.TheVariants.{Observation, Cancellation}
 use Rattle.lw_exchange.specs.Waiting.{with_request, without_about, WaitingContent}
@@ -28,25 +29,25 @@ use Rattle.lw_target.specs.declared.desk.Answer.{Answer}
 use Rattle.lw_target.specs.declared.desk.Status.TheVariants as status
 use Rattle.lw_api.specs.Answers.{IsCreated, IsJson, IsNoContent, IsNotFound, TellsWatch}
 use Rattle.lw_run.specs.declared.commands.Done.{Done}
-use Rattle.lw_run.specs.declared.commands.Done.TheVariants as done
+use Rattle.lw_run.specs.declared.commands.Done.TheVariants as outcomes
 use Rattle.lw_run.specs.declared.fault.TurnFault.{TurnFault}
 use Rattle.lw_run.specs.declared.fault.TurnFault.TheVariants as turns
 use Rattle.lw_run.specs.Desk.{serves}
-use Rattle.lw_run.specs.Devices.{TaskContent, Undo}
+use Rattle.lw_run.specs.Devices.{DevicesContent, Undo}
 use Rattle.lw_run.specs.Server.{ServerContent}
 
 -- ---- what the node gave
 abbrev pub done_by : ObserveFault → Done
-done_by faults.NotFound = done.NotFound
-done_by faults.ClockEnd = done.ClockEnd
-done_by faults.NoMemory = done.NoMemory
+done_by faults.NotFound = outcomes.NotFound
+done_by faults.ClockEnd = outcomes.ClockEnd
+done_by faults.NoMemory = outcomes.NoMemory
 
 abbrev pub done_of : Reply → Done
-done_of (replies.Observe (Ok outgoing)) = done.Observed outgoing.token
-done_of (replies.Cancel (Ok outgoing)) = done.Ended
+done_of (replies.Observe (Ok outgoing)) = outcomes.Observed outgoing.token
+done_of (replies.Cancel (Ok outgoing)) = outcomes.Ended
 done_of (replies.Observe (Err fault)) = done_by fault
 done_of (replies.Cancel (Err fault)) = done_by fault
-done_of _ = done.NotFound
+done_of _ = outcomes.NotFound
 
 -- The request that it gave waits behind the others. Where an observation ends, the request that asks for it does not wait
 -- any more.
@@ -59,22 +60,23 @@ waiting_after waiting now (replies.Cancel (Ok outgoing)) =
 waiting_after waiting now _ = waiting
 
 -- ---- a round with one call, which is counted; so its request leaves only after what it has changed was written
+pub record Requests (call : Call) (now : Moment) (old : MemberContent) (tally : Tally) (devices : DevicesContent)
+    (done : Done) (new : MemberContent) (counts : Tally) (left : DevicesContent) : Type 0 where
+  pub reply : Reply
+  pub round : IsRound old (call ∷ []) (reply ∷ []) new
+  pub counts_are : counts ≡ counted tally (call ∷ []) (reply ∷ [])
+  pub done_is : done ≡ done_of reply
+  pub waiting : left ≡ record devices { requests = waiting_after devices.requests now reply }
+
+-- nothing else of a server has changed
 pub record IsRequested (call : Call) (now : Moment) (old : ServerContent) (done : Done) (new : ServerContent)
     : Type 0 where
-  pub reply : Reply
-  pub round : IsRound old.member (call ∷ []) (reply ∷ []) new.member
-  pub counts : new.tally ≡ counted old.tally (call ∷ []) (reply ∷ [])
-  pub done_is : done ≡ done_of reply
-  pub waiting : new.devices.requests ≡ waiting_after old.devices.requests now reply
-  pub rest : new ≡ record old {
-    member = new.member;
-    tally = new.tally;
-    devices = record (old.devices) { requests = new.devices.requests };
-  }
+  pub requests : Requests call now old.member old.tally old.devices done new.member new.tally new.devices
+  pub rest : new ≡ record old { member = new.member; tally = new.tally; devices = new.devices }
 
 -- ---- a path of an endpoint is to be observed: of what is shown of it, while the server serves
 abbrev pub IsObservedOf : Option Registration → Moment → Path → Option ℕ → ServerContent → Done → ServerContent → Type 0
-IsObservedOf None now path accept old done new = (done ≡ done.NotFound) × (new ≡ old)
+IsObservedOf None now path accept old done new = (done ≡ outcomes.NotFound) × (new ≡ old)
 IsObservedOf (Some shown) now path accept old done new =
     IsRequested (calls.Observe now shown.id path accept 0) now old done new
 
@@ -86,7 +88,7 @@ pub record IsObservedWhere (endpoint : List ℕ) (path : Path) (accept : Option 
 
 abbrev pub IsObserved : Bool → List ℕ → Path → Option ℕ → Moment → ServerContent → Done → ServerContent → Type 0
 IsObserved true endpoint path accept now old done new = IsObservedWhere endpoint path accept now old done new
-IsObserved false endpoint path accept now old done new = (done ≡ done.Away) × (new ≡ old)
+IsObserved false endpoint path accept now old done new = (done ≡ outcomes.Away) × (new ≡ old)
 
 -- ---- a command, at a moment
 abbrev pub IsOrdered : Command → Moment → ServerContent → Done → ServerContent → Type 0
@@ -96,7 +98,7 @@ IsOrdered (commands.Cancel token) now old done new = IsRequested (calls.Cancel n
 
 -- where 1,024 requests wait no command is carried out
 abbrev pub IsOrderedWhere : Bool → Command → Moment → ServerContent → Done → ServerContent → Type 0
-IsOrderedWhere true command now old done new = (done ≡ done.TooMany) × (new ≡ old)
+IsOrderedWhere true command now old done new = (done ≡ outcomes.TooMany) × (new ≡ old)
 IsOrderedWhere false command now old done new = IsOrdered command now old done new
 
 abbrev pub is_full : ServerContent → Bool
@@ -110,20 +112,20 @@ IsExecuted command old done new =
     (now : Moment) × IsOrderedWhere (is_full old) command now (at_moment now old) done new
 
 -- ---- a command that failed
--- What a failed round of an Observe has left on its path may be left to undo.
-abbrev pub LeavesUndo : List TaskContent → List TaskContent → Type 0
-LeavesUndo old new =
-    (new ≡ old) ⊎ ((id : Stamp) × (path : Path) × (before : Option Stamp) × (new ≡ old ++ Undo id path before ∷ []))
+-- What a failed round has left on the path of the registration is left to undo, where there is memory for that.
+abbrev pub LeavesUndo : Stamp → Path → Option Stamp → DevicesContent → DevicesContent → Type 0
+LeavesUndo id path before old new =
+    (new ≡ old) ⊎ (new ≡ record old { tasks = old.tasks ++ Undo id path before ∷ [] })
+
+abbrev pub MayLeaveUndo : DevicesContent → DevicesContent → Type 0
+MayLeaveUndo old new =
+    (new ≡ old) ⊎ ((id : Stamp) × (path : Path) × (before : Option Stamp) × LeavesUndo id path before old new)
 
 -- No request waits more, and nothing else has changed but what the member has done.
 pub record IsFailed (old new : ServerContent) : Type 0 where
   pub own : WritesOwn old.member new.member
-  pub left : LeavesUndo old.devices.tasks new.devices.tasks
-  pub rest : new ≡ record old {
-    member = new.member;
-    latest = new.latest;
-    devices = record (old.devices) { tasks = new.devices.tasks };
-  }
+  pub devices : MayLeaveUndo old.devices new.devices
+  pub rest : new ≡ record old { member = new.member; latest = new.latest; devices = new.devices }
 
 -- ---- what is told of it
 abbrev pub away_text : List ℕ
@@ -141,14 +143,14 @@ TellsObserved true server token answer =
     × IsCreated text answer
 
 abbrev pub TellsDone : ServerContent → Done → Answer → Type 0
-TellsDone server (done.Observed token) answer = TellsObserved server.member.led server token answer
-TellsDone server done.Ended answer = IsNoContent answer
-TellsDone server done.NotFound answer = IsNotFound answer
-TellsDone server done.TooMany answer =
+TellsDone server (outcomes.Observed token) answer = TellsObserved server.member.led server token answer
+TellsDone server outcomes.Ended answer = IsNoContent answer
+TellsDone server outcomes.NotFound answer = IsNotFound answer
+TellsDone server outcomes.TooMany answer =
     IsJson status.ServiceUnavailable (codes "{\"error\":\"too many requests wait\"}") answer
-TellsDone server done.ClockEnd answer = IsJson status.ServiceUnavailable (codes "{\"error\":\"end of the clock\"}") answer
-TellsDone server done.NoMemory answer = IsJson status.ServiceUnavailable no_memory_text answer
-TellsDone server done.Away answer = IsJson status.ServiceUnavailable away_text answer
+TellsDone server outcomes.ClockEnd answer = IsJson status.ServiceUnavailable (codes "{\"error\":\"end of the clock\"}") answer
+TellsDone server outcomes.NoMemory answer = IsJson status.ServiceUnavailable no_memory_text answer
+TellsDone server outcomes.Away answer = IsJson status.ServiceUnavailable away_text answer
 
 abbrev pub reason_of : TurnFault → List ℕ
 reason_of turns.NoMemory = no_memory_text

@@ -67,15 +67,15 @@ pub record Stays (old new : ServerContent) : Type 0 where
   pub page : new.page ≡ old.page
   pub edge : new.edge ≡ old.edge
   pub away : new.away ≡ old.away
-  pub ids : new.ids ≡ old.ids
-  pub unnumbered : new.unnumbered ≡ old.unnumbered
   pub told : new.told ≡ old.told
   pub devices : new.devices ≡ old.devices
   pub fault : new.fault ≡ old.fault
 
--- no request that was answered is kept more, and none less
+-- no request that was answered is kept more, and none less, and no message ID is taken
 pub record KeepsStill (old new : ServerContent) : Type 0 where
   pub kept : new.kept ≡ old.kept
   pub duplicates : new.duplicates ≡ old.duplicates
   pub unkept : new.unkept ≡ old.unkept
   pub blocks : new.blocks ≡ old.blocks
+  pub ids : new.ids ≡ old.ids
+  pub unnumbered : new.unnumbered ≡ old.unnumbered

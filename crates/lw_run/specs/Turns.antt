@@ -15,6 +15,7 @@ use Rattle.lw_metrics.specs.Counting.{counted}
 use Rattle.lw_run.specs.declared.blocks.Handled.{Handled}
 use Rattle.lw_run.specs.Blocks.{Arrival, datagram_of, AreTaken, call_of, origin_of, answered_of, reply_of, lacks_block, with_blocks, AreHandled, GoOn}
 use Rattle.lw_run.specs.Exchanges.{fresh_of, sent_again, exchanges_of, with_duplicates, with_unkept, Keeps}
+use Rattle.lw_run.specs.Numbering.{with_unnumbered, AreNumbered}
 use Rattle.lw_run.specs.Server.{ServerContent}
 
 -- how many registrations that have expired end in a turn at most
@@ -38,24 +39,28 @@ send_of handled = option_map (λ reply. (handled.from, reply)) (reply_of handled
 abbrev pub sends_of : List Handled → List (Addr × List ℕ)
 sends_of handled = filter_map send_of handled
 
--- One round of the member, which is counted, with what the store takes of the datagrams that are fresh. What is sent are
--- the replies to those that were answered before, those to blocks that are answered without the store, and those of the
--- round. The Sweeps are at the moment less the seconds that clocks may differ.
+-- One round of the member, which is counted, with what the store takes of the datagrams that are fresh. What is sent
+-- are the replies to those that were answered before, those to blocks that are answered without the store, and those of
+-- the round. The last two have their message IDs before they are kept, so a request that comes again gets the same
+-- reply (RFC 7252, sections 4.4 and 4.5). The Sweeps are at the moment less the seconds that clocks may differ.
 pub record IsTurn (now : Moment) (old : ServerContent) (batch : List Datagram) (sends : List (Addr × List ℕ)) (new : ServerContent) : Type 0 where
   pub before : Moment
   pub arrivals : List Arrival
   pub replies : List Reply
   pub handled : List Handled
+  pub numbered : List Handled
   pub is_all_kept : Bool
   pub before_is : ms_of before ≡ ms_of now - 1000 * old.skew
   pub fresh : map datagram_of arrivals ≡ fresh_of now old.kept batch
   pub bodies : AreTaken now old.bodies arrivals new.bodies
   pub round : IsRound old.member (calls_of now before old.member.claimed arrivals) replies new.member
   pub answers : AreHandled (filter_map origin_of arrivals) replies handled
-  pub sent : sends ≡ sent_again now old.kept batch ++ sends_of (filter_map answered_of arrivals ++ handled)
+  pub numbers : AreNumbered now old.ids (filter_map answered_of arrivals ++ handled) numbered new.ids
+  pub unnumbered : new.unnumbered ≡ with_unnumbered old.unnumbered (filter_map answered_of arrivals ++ handled) numbered
+  pub sent : sends ≡ sent_again now old.kept batch ++ sends_of numbered
   pub counts : new.tally ≡ counted old.tally (calls_of now before old.member.claimed arrivals) replies
-  pub kept : Keeps old.kept (exchanges_of now (filter_map answered_of arrivals ++ handled)) new.kept is_all_kept
-  pub unkept : new.unkept ≡ with_unkept old.unkept (is_all_kept && not (list_any lacks_block (filter_map answered_of arrivals ++ handled)))
+  pub kept : Keeps old.kept (exchanges_of now numbered) new.kept is_all_kept
+  pub unkept : new.unkept ≡ with_unkept old.unkept (is_all_kept && not (list_any lacks_block numbered))
   pub duplicates : new.duplicates ≡ with_duplicates old.duplicates batch (fresh_of now old.kept batch)
   pub blocks : new.blocks ≡ with_blocks old.blocks (filter_map answered_of arrivals) (filter_map origin_of arrivals)
   pub latest : new.latest ≡ now

@@ -4,18 +4,21 @@ ghost use Rattle.std.specs.Prelude.{◌≡◌, ◌∷◌, [], option_map, IfOk, 
 ghost use Rattle.lw_call.specs.declared.call.Call.TheVariants as calls;
 ghost use Rattle.lw_exchange.specs.Waiting.{HasRoom};
 ghost use Rattle.lw_member.specs.Own.{WritesOwn};
-ghost use Rattle.lw_run.specs.Commands.{done_by, done_of as done_in, waiting_after, Executes, IsFailed, IsObserved, IsOrdered, IsRequested};
+ghost use Rattle.lw_run.specs.Commands.{done_by, done_of as done_in, waiting_after, Executes, IsFailed, IsObserved, IsOrdered, IsRequested, Requests as RequestsOnce};
 ghost use Rattle.lw_run.specs.Desk.{serves};
 
-use crate::devices::Task;
+use crate::devices::Devices;
 use crate::one_call::call_once;
 use crate::stepping::token_on;
 use crate::{Server, TurnFault};
 use lw_call::{Call, ObserveFault, Outgoing, Reply};
 use lw_exchange::{About, Requests};
 use lw_log::DeltaLog;
+use lw_member::Member;
+use lw_metrics::Tally;
 use lw_reg::Path;
 use lw_stamp::{Moment, Stamp, Text};
+use std::alloc::Global;
 use lw_target::Command;
 use lw_wire::HostClock;
 
@@ -50,7 +53,7 @@ impl<G: DeltaLog, C: HostClock + Drop> Server<G, C> {
             return Err(TurnFault::ClockRefused);
         };
         self.latest = now;
-        if self.devices.requests.count() >= MOST_WAITING {
+        if self.devices.waiting() >= MOST_WAITING {
             return Ok(Done::TooMany);
         }
         self.order(now, command)
@@ -118,7 +121,7 @@ impl<G: DeltaLog, C: HostClock + Drop> Server<G, C> {
         let made = self.request(now, call);
         if made.is_err() {
             // What the failed round has left is written with the next one, and then it is ended.
-            let _left = self.devices.tasks.push(Task::Undo { id, path, before });
+            self.devices.leave_undo(id, path, before);
         }
         made
     }
@@ -129,10 +132,29 @@ impl<G: DeltaLog, C: HostClock + Drop> Server<G, C> {
         ensures own { WritesOwn self.old.member self.new.member }
         ensures unchanged { OnErr result (self.new ≡ record (self.old) { member = self.new.member }) }
     {
-        self.devices.requests.reserve()?;
-        let reply = call_once(self.alloc, &mut self.member, &mut self.tally, call)?;
-        Ok(requested(&mut self.devices.requests, now, reply))
+        let (member, tally) = (&mut self.member, &mut self.tally);
+        request_once(self.alloc, member, tally, &mut self.devices, now, call)
     }
+}
+
+/// A round with the call. The request that it gives waits to be sent.
+fn request_once<G: DeltaLog>(
+    alloc: Global,
+    member: &mut Member<G>,
+    tally: &mut Tally,
+    devices: &mut Devices,
+    now: Moment,
+    call: Call,
+) -> Result<Done, TurnFault>
+    ensures requested { IfOk result (λ done.
+        RequestsOnce call now member.old tally.old devices.old done member.new tally.new devices.new) }
+    ensures own { WritesOwn member.old member.new }
+    ensures uncounted { OnErr result (tally.new ≡ tally.old) }
+    ensures unchanged { OnErr result (devices.new ≡ devices.old) }
+{
+    devices.requests.reserve()?;
+    let reply = call_once(alloc, member, tally, call)?;
+    Ok(requested(&mut devices.requests, now, reply))
 }
 
 /// Puts the request that a call gave behind those that wait. There is room for it.

@@ -212,12 +212,8 @@ impl<G: DeltaLog + Metered, C: HostClock + Drop> Course<G, C> {
         edge.dropped = edge.dropped.saturating_add(count);
     }
 
-    /// Sends a reply, with a message ID of the server's own where it is not confirmable.
-    fn send<F: Front, L: Log>(&mut self, front: &mut F, log: &L, to: Addr, reply: Vec<u8>) {
-        let Some(bytes) = self.server.number(to, reply) else {
-            warn!(log; "no message ID");
-            return;
-        };
+    /// Sends a reply.
+    fn send<F: Front, L: Log>(&mut self, front: &mut F, log: &L, to: Addr, bytes: Vec<u8>) {
         self.refusals
             .tell(log, self.server.latest().ms() / 1_000, to, &bytes);
         self.put_out(front, log, to, &bytes);

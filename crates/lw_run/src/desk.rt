@@ -3,7 +3,7 @@
 ghost use Rattle.std.specs.Prelude.{◌≡◌, ◌↔◌, IfOk, IfSome, IsNone, false};
 ghost use Rattle.lw_api.specs.Answers.{IsJson, IsNoContent};
 ghost use Rattle.lw_target.specs.declared.desk.Status.TheVariants as statuses;
-ghost use Rattle.lw_run.specs.Commands.{reason_of as reason_in, TellsDone, TellsObserved, TellsOutcome};
+ghost use Rattle.lw_run.specs.Commands.{noting, reason_of as reason_in, TellsDone, TellsObserved, TellsOutcome};
 ghost use Rattle.lw_run.specs.Desk.{about_of, health_status, serves, version, AreMeasures, AreRequestMeasures, IsMeasuredBy, TellsHealth, TellsMetrics, TellsNotifications, TellsOfNode, TellsPage};
 
 use crate::{Done, Server, TurnFault};
@@ -47,9 +47,7 @@ impl<G: DeltaLog, C: HostClock + Drop> Desk for Server<G, C> {
 
     fn carry_out(&mut self, command: &Command) -> Option<Answer> {
         let outcome = self.execute(command);
-        if let Err(fault) = outcome {
-            self.fault = Some(fault);
-        }
+        self.note_fault(outcome);
         self.tell_outcome(outcome).ok()
     }
 
@@ -108,6 +106,15 @@ impl<G: DeltaLog, C: HostClock + Drop> Server<G, C> {
             start,
             limit,
         )
+    }
+
+    /// Notes what a command failed by, if it did.
+    fn note_fault(&mut self, outcome: Result<Done, TurnFault>)
+        ensures { self.new ≡ noting outcome self.old }
+    {
+        if let Err(fault) = outcome {
+            self.fault = Some(fault);
+        }
     }
 
     /// What is told of a command, of which this has come.

@@ -1,9 +1,10 @@
 //! What is under way with devices: requests that wait for an answer, notifications that come in blocks, and what is left
 //! to do of both.
 
-ghost use Rattle.std.specs.Prelude.{◌≡◌, ◌<◌, ◌≤◌, ◌+◌, ◌++◌, map, option_map, vec_capacity, vec_len};
+ghost use Rattle.std.specs.Prelude.{◌≡◌, ◌<◌, ◌≤◌, ◌+◌, ◌++◌, length, map, option_map, vec_capacity, vec_len};
 ghost use Rattle.std.specs.Prelude.{IfOk, OnErr, OnOk};
 ghost use Rattle.lw_exchange.specs.Waiting.{HasRoom};
+ghost use Rattle.lw_run.specs.Commands.{LeavesUndo};
 ghost use Rattle.lw_run.specs.Devices.{left_of, new_counts, new_devices};
 ghost use Rattle.lw_run.specs.Hearing.{counts_block, counts_heard, is_confirmable as is_confirmable_in, left_by, AsksRest, IsPassed, Passes, WholePasses};
 ghost use Rattle.lw_run.specs.Stepping.{first_of, with_sent, without_first, IsFirstCut, StepsRequests};
@@ -178,6 +179,23 @@ impl Devices {
         note_heard(&mut self.counts, &mut self.tasks, heard);
         self.counts.count_block(&parcel);
         Ok(pass(&mut self.requests, &mut self.tasks, now, from, parcel))
+    }
+
+    /// How many requests wait.
+    pub(crate) fn waiting(&self) -> usize
+        ensures { result ≡ length self.now.requests }
+    {
+        self.requests.count()
+    }
+
+    /// Leaves to undo what a failed round may have left on the path of the registration, where there is memory for that.
+    pub(crate) fn leave_undo(&mut self, id: Stamp, path: Path, before: Option<Stamp>)
+        ensures { LeavesUndo id path before self.old self.new }
+    {
+        match self.tasks.reserve(1) {
+            Ok(()) => self.tasks.push_reserved(Task::Undo { id, path, before }),
+            Err(_) => {}
+        }
     }
 
     /// The first thing that is left to do.

@@ -1,32 +1,75 @@
 //! Message IDs of the server's own, for what answers non-confirmable requests.
 
-use crate::Server;
-use lw_exchange::put_message_id;
-use lw_log::DeltaLog;
-use lw_reg::Addr;
-use lw_wire::HostClock;
+ghost use Rattle.std.specs.Prelude.{◌≡◌, option_map};
+ghost use Rattle.std.specs.List.{count_by};
+ghost use Rattle.lw_run.specs.Numbering.{has_reply, is_non_confirmable as is_non_confirmable_in, lanes_behind, numbered_reply, with_unnumbered, AreNumbered};
 
-impl<G: DeltaLog, C: HostClock + Drop> Server<G, C> {
-    /// What goes out to the address in place of the message: one that is not confirmable has a message ID of the server's
-    /// own, and does not go out where none is free.
-    pub fn number(&mut self, to: Addr, message: Vec<u8>) -> Option<Vec<u8>> {
-        let mut message = message;
-        if !is_non_confirmable(&message) {
-            return Some(message);
-        }
-        let Some(id) = self.ids.next(self.latest, to) else {
-            self.unnumbered = self.unnumbered.saturating_add(1);
-            return None;
-        };
-        put_message_id(&mut message, id);
-        Some(message)
+use crate::blocks::Handled;
+use lw_exchange::{MessageIds, put_message_id};
+use lw_reg::Addr;
+use lw_stamp::Moment;
+
+/// The type of a non-confirmable message.
+const NON_CONFIRMABLE: u8 = 1;
+
+/// Puts message IDs of the server's own into the replies that are not confirmable. Where none is free there is no reply:
+/// how many replies were not sent so, counted on.
+pub(crate) fn number_replies(
+    ids: &mut MessageIds,
+    unnumbered: u64,
+    now: Moment,
+    handled: &mut [Handled],
+) -> u64
+    ensures numbered { AreNumbered now ids.old handled.old handled.new ids.new }
+    ensures count { result ≡ with_unnumbered unnumbered handled.old handled.new }
+{
+    let count = count_of_replies(handled);
+    number_each(ids, now, handled);
+    let lost = count.saturating_sub(count_of_replies(handled));
+    unnumbered.saturating_add(lost as u64)
+}
+
+/// Puts message IDs of the server's own into the replies that are not confirmable, one after another.
+fn number_each(ids: &mut MessageIds, now: Moment, handled: &mut [Handled])
+    ensures { AreNumbered now ids.old handled.old handled.new ids.new }
+{
+    for datagram in handled.iter_mut() {
+        let reply = datagram.reply.take();
+        datagram.reply = numbered(ids, now, datagram.from, reply);
     }
 }
 
-/// Whether a message is non-confirmable.
-fn is_non_confirmable(bytes: &[u8]) -> bool {
-    match bytes.first() {
-        Some(first) => first / 16 % 4 == 1,
-        None => false,
+/// The reply under a message ID of the server's own, where it is not confirmable.
+fn numbered(ids: &mut MessageIds, now: Moment, to: Addr, reply: Option<Vec<u8>>) -> Option<Vec<u8>>
+    ensures reply { option_map (λ r. r.items) result
+        ≡ numbered_reply now ids.old to (option_map (λ r. r.items) reply) }
+    ensures ids { ids.new ≡ lanes_behind now ids.old to (option_map (λ r. r.items) reply) }
+{
+    let mut message = reply?;
+    if !is_non_confirmable(&message) {
+        return Some(message);
     }
+    let id = ids.next(now, to)?;
+    put_message_id(&mut message, id);
+    Some(message)
+}
+
+/// Whether a message is non-confirmable.
+fn is_non_confirmable(bytes: &[u8]) -> bool
+    ensures { result ≡ is_non_confirmable_in bytes.now }
+{
+    let [first, ..] = bytes else {
+        return false;
+    };
+    first / 16 % 4 == NON_CONFIRMABLE
+}
+
+/// How many of the datagrams have a reply.
+fn count_of_replies(handled: &[Handled]) -> usize
+    ensures { result ≡ count_by has_reply handled.now }
+{
+    handled
+        .iter()
+        .filter(|handled| handled.reply.is_some())
+        .count()
 }

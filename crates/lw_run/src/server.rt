@@ -12,6 +12,7 @@ use crate::blocks::{any_lacks_block, sort};
 use crate::calling::moment_before;
 use crate::devices::Devices;
 use crate::exchanges::{fresh_of, keep_exchanges, with_unkept};
+use crate::numbering::number_replies;
 use crate::sending::put_sends;
 use crate::settling::settle;
 use crate::told::Told;
@@ -163,7 +164,7 @@ impl<G: DeltaLog, C: HostClock + Drop> Server<G, C> {
         let sorted = sort(self.alloc, &mut self.bodies, now, fresh)?;
         let blocks = sorted.with_blocks(self.blocks);
         let before = moment_before(now, self.skew);
-        let handled = settle(
+        let mut handled = settle(
             self.alloc,
             &mut self.member,
             &mut self.tally,
@@ -173,6 +174,7 @@ impl<G: DeltaLog, C: HostClock + Drop> Server<G, C> {
         )?;
         self.duplicates = self.duplicates.saturating_add(again);
         self.blocks = blocks;
+        self.unnumbered = number_replies(&mut self.ids, self.unnumbered, now, &mut handled);
         let is_all_kept = keep_exchanges(self.alloc, &mut self.kept, now, &handled);
         let lacks_block = any_lacks_block(&handled);
         self.unkept = with_unkept(self.unkept, is_all_kept, lacks_block);

@@ -234,13 +234,12 @@ fn an_older_notification_is_not_told(rt: HostRuntime) -> Result<(), Fail> {
 }
 
 /// A Register that is not confirmable, message ID 11, which comes twice; then a GET, message ID 12. Their replies have
-/// message IDs of the server's own, each its own.
-/// Tries: lw_run::run_on, lw_run::Server::number
+/// message IDs of the server's own, each its own, and what comes again gets the same reply.
+/// Tries: lw_run::run_on, lw_run::Server::take
 #[test]
 fn replies_that_are_not_confirmable_have_ids_of_their_own(rt: HostRuntime) -> Result<(), Fail> {
     let register = "5002000bb272644465703d61ff3c2f3e";
     let created = "504100008272640d0330303030303030303030303130303031";
-    let again = "504100018272640d0330303030303030303030303130303031";
     let get = "5001000cb27264";
     let comings = [
         Coming::Datagram(3, register),
@@ -249,7 +248,7 @@ fn replies_that_are_not_confirmable_have_ids_of_their_own(rt: HostRuntime) -> Re
     ];
     let told = "[INFO  lw_run::telling] refused from=127.0.0.1:3 code=4.05";
     let want = format!(in rt.alloc();
-        "Ok(()) WrWrr\n3 {created}\n3 {again}\n3 50850002\n{told}\n"
+        "Ok(()) WrWrr\n3 {created}\n3 {created}\n3 50850001\n{told}\n"
     )?;
     plays(rt.alloc(), &Stage::new(&comings), &want)
 }
