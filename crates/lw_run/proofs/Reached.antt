@@ -56,7 +56,7 @@ pub fails_with : (old asked mid new : ServerContent) (id : Stamp) (path : Path) 
     → new ≡ record mid { devices = new.devices } → LeavesUndo id path before mid.devices new.devices → IsFailed old new
 fails_with old asked mid new id path before same changed own rest left =
     let is : new ≡ record old { member = asked.member; devices = new.devices } =
-        rest ∙ ap (λ (server : ServerContent). record server { devices = new.devices }) (same ∙ changed) in
+    rest ∙ ap (λ (server : ServerContent). record server { devices = new.devices }) (same ∙ changed) in
     record {
       own = subst (λ (member : MemberContent). WritesOwn old.member member) (sym (ap (λ (server : ServerContent). server.member) is)) own;
       devices = inr (id, path, before, subst (λ (server : ServerContent). LeavesUndo id path before server.devices new.devices) (same ∙ changed) left);
@@ -102,16 +102,20 @@ observed_shown endpoint text path accept now old new node shown id here same nam
 pub too_many : (command : Command) (old mid : ServerContent) (now : Moment) (count : ℕ) → mid ≡ old → count ≡ length mid.devices.requests
     → 1024 ≤ count → Executes command old (Ok TooMany) (at_moment now mid)
 too_many command old mid now count same counted full =
-    subst (λ (server : ServerContent). Executes command server (Ok TooMany) (at_moment now mid)) same
-    (now, subst (λ (b : Bool). IsOrderedWhere b command now (at_moment now mid) TooMany (at_moment now mid))
-        (sym (le-leb 1024 (length mid.devices.requests) (subst (λ (n : ℕ). 1024 ≤ n) counted full))) (refl, refl))
+    subst (λ (server : ServerContent). Executes command server (Ok TooMany) (at_moment now mid)) same (
+      now,
+      subst (λ (b : Bool). IsOrderedWhere b command now (at_moment now mid) TooMany (at_moment now mid))
+          (sym (le-leb 1024 (length mid.devices.requests) (subst (λ (n : ℕ). 1024 ≤ n) counted full))) (refl, refl),
+    )
 
 executed_of : (command : Command) (mid new : ServerContent) (now : Moment) (result : Result Done TurnFault)
     → length mid.devices.requests < 1024 → IfOk result (λ done. IsOrdered command now (at_moment now mid) done new)
     → OnErr result (IsFailed (at_moment now mid) new) → Executes command mid result new
-executed_of command mid new now (Ok done) fewer ordered failed =
-    (now, subst (λ (b : Bool). IsOrderedWhere b command now (at_moment now mid) done new)
-        (sym (lt-leb 1024 (length mid.devices.requests) fewer)) ordered)
+executed_of command mid new now (Ok done) fewer ordered failed = (
+  now,
+  subst (λ (b : Bool). IsOrderedWhere b command now (at_moment now mid) done new)
+      (sym (lt-leb 1024 (length mid.devices.requests) fewer)) ordered,
+)
 executed_of command mid new now (Err fault) fewer ordered failed =
     record { own = failed.own; devices = failed.devices; rest = failed.rest }
 

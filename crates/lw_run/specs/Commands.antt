@@ -56,7 +56,7 @@ waiting_after waiting now (replies.Observe (Ok outgoing)) =
     with_request waiting now outgoing.to (Observation outgoing.token) outgoing.bytes
 waiting_after waiting now (replies.Cancel (Ok outgoing)) =
     without_about (with_request waiting now outgoing.to (Cancellation outgoing.token) outgoing.bytes)
-        (Observation outgoing.token)
+    (Observation outgoing.token)
 waiting_after waiting now _ = waiting
 
 -- ---- a round with one call, which is counted; so its request leaves only after what it has changed was written

@@ -18,9 +18,9 @@ use lw_member::Member;
 use lw_metrics::Tally;
 use lw_reg::Path;
 use lw_stamp::{Moment, Stamp, Text};
-use std::alloc::Global;
 use lw_target::Command;
 use lw_wire::HostClock;
+use std::alloc::Global;
 
 /// How many requests to devices may wait where a command is to be carried out, at most.
 const MOST_WAITING: usize = 1_024;

@@ -8,4 +8,4 @@ returns-then-waiting-ge-MOST_WAITING g c =
 pub returns : goal.returns
 returns g c =
     executed c.args.command.now _ _ _ c.in-Some.now _ _ c.self.view_is c.waiting.ensures c.if-waiting-ge-MOST_WAITING.false
-        c.order.ensures.ordered c.order.ensures.failed
+    c.order.ensures.ordered c.order.ensures.failed

@@ -10,10 +10,10 @@ returns-in_default-clause-observed g c =
 pub returns-in_default-by_endpoint-clause-observed : goal.returns-in_default-by_endpoint-clause-observed
 returns-in_default-by_endpoint-clause-observed g c =
     observed_where c.args.endpoint.now _ c.args.path c.args.accept c.args.now c.args.self.now _ _ None c.in-Some.ensures.none.1
-        c.in-Some.ensures.node c.as_str.ensures c.in_default-by_endpoint.ensures.read _ (refl, refl)
+    c.in-Some.ensures.node c.as_str.ensures c.in_default-by_endpoint.ensures.read _ (refl, refl)
 
 pub returns-clause-observed : goal.returns-clause-observed
 returns-clause-observed g c =
     if_ok _ (observed_shown c.args.endpoint.now _ c.args.path c.args.accept c.args.now c.args.self.now _ _ c.in-Some-by_endpoint.shown _
-        c.in-Some.ensures.none.1 c.in-Some.ensures.node c.as_str.ensures c.in-Some-by_endpoint.ensures.read
-        (ap (λ (r : Registration). r.id) c.shown.view_is)) c.observe_shown.ensures.observed
+    c.in-Some.ensures.none.1 c.in-Some.ensures.node c.as_str.ensures c.in-Some-by_endpoint.ensures.read
+    (ap (λ (r : Registration). r.id) c.shown.view_is)) c.observe_shown.ensures.observed

@@ -8,4 +8,4 @@ pub returns-then-is_err-clause-failed : goal.returns-then-is_err-clause-failed
 returns-then-is_err-clause-failed g c =
     let fails = sym c.is_err.ensures.value ∙ c.if-is_err.true in
     on_err _ (fails_with _ _ _ _ _ _ _ c.self.view_is (of_err _ fails c.request-made.ensures.unchanged) c.request-made.ensures.own refl
-        c.leave_undo.ensures)
+    c.leave_undo.ensures)
