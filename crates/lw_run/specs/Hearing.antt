@@ -1,6 +1,6 @@
 -- What becomes of a datagram before the store takes it: what answers a request of the server's own (RFC 7252, sections
 -- 4.2 and 5.3.2), and blocks of notifications (RFC 7959, section 2.6), go no further.
-use Rattle.std.specs.Prelude.{◌≡◌, ℕ, ◌/◌, ◌%◌, ◌==◌, ◌⊎◌, Bool, true, false, nat_le, nat_lt, ◌&&◌, List, [], ◌∷◌, ◌++◌, Option, None, Some}
+use Rattle.std.specs.Prelude.{◌≡◌, ℕ, ◌/◌, ◌%◌, ◌==◌, ◌⊎◌, Bool, true, false, List, [], ◌∷◌, ◌++◌, Option, None, Some}
 use Rattle.std.specs.declared.alloc.Global.{Global}
 use Rattle.std.specs.declared.vec.Vec.{Vec}
 use Rattle.lw_stamp.specs.declared.moment.Moment.{Moment}
@@ -122,8 +122,3 @@ IsHeardAs false datagram old passage new = IsHeardFrom datagram.from datagram.by
 
 abbrev pub IsHeard : Datagram → ServerContent → Passage → ServerContent → Type 0
 IsHeard datagram old passage new = IsHeardAs (is_request datagram.bytes) datagram old passage new
-
--- ---- a report: the class of its code is from 2 to 5, as a response has it (RFC 7252, section 3)
-abbrev pub is_report : List ℕ → Bool
-is_report (first ∷ code ∷ high ∷ low ∷ rest) = nat_le 64 code && nat_lt code 192
-is_report _ = false

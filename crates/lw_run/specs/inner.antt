@@ -2,3 +2,4 @@ pub mod Batches
 pub mod Settling
 pub mod Sorting
 pub mod Devices
+pub mod Reports

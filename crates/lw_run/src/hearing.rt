@@ -2,7 +2,8 @@
 //! notifications.
 
 ghost use Rattle.std.specs.Prelude.{◌≡◌, IfOk, OnErr};
-ghost use Rattle.lw_run.specs.Hearing.{IsHeard, IsHeardFrom, IsWatchAt, IsWatchIn, IsWatchOf, is_report as is_report_in};
+ghost use Rattle.lw_run.specs.Hearing.{IsHeard, IsHeardFrom, IsWatchAt, IsWatchIn, IsWatchOf};
+ghost use Rattle.lw_run.specs.inner.Reports.{is_report as is_report_in};
 
 use crate::Server;
 use lw_exchange::{is_request, token_in_blocks};
