@@ -12,7 +12,7 @@ use Rattle.lw_crew.specs.contracts.job.Job as Job
 use Rattle.lw_held.specs.contracts.shelf.Shelf as Shelf
 use Rattle.lw_held.proofs.Crossing.{shelf_sync, pass_whole}
 use Rattle.lw_crew.proofs.Crossing.{job_whole, board_whole}
-use Rattle.lw_crew.proofs.work.start.Lts.{name-25, of-24, arg-1-2}
+use Rattle.lw_crew.proofs.work.start.Lts.{name-24, of-20, arg-1-2}
 use Rattle.lw_crew.proofs.work.start.Goals as goal
 
 pub spawn_with-requires-send-F : goal.spawn_with-requires-send-F
@@ -23,7 +23,7 @@ spawn_with-requires-send-F g c κs within =
     let jobs : IsSend (shr_slice_field (record { mir = named 9; lft = κs.1.1.1.1.1.1.1.1.1.0 }) Job.the_row tt).row = search (job_whole, sendable) depth 20 in
     let board : IsSend (shr_ref_field (record { mir = named 10; lft = κs.1.1.1.1.1.1.1.1.1.1.0 }) Board.the_row tt).row = search (board_whole, sendable) depth 20 in
     let worker : IsSend (u32-field).row = search sendable depth 20 in
-    let captured = type_at (name-25 g.row.E g.row.R g.row.G g.E.laws g.R.laws g.G.laws g.R.Threads-dict g.R.Wait-dict g.G.Gate-dict) (of-24 g.row.E g.row.R g.row.G g.E.laws g.R.laws g.G.laws g.R.Threads-dict g.R.Wait-dict g.G.Gate-dict
+    let captured = type_at (name-24 g.row.E g.row.R g.row.G g.E.laws g.R.laws g.G.laws g.R.Threads-dict g.R.Wait-dict g.G.Gate-dict) (of-20 g.row.E g.row.R g.row.G g.E.laws g.R.laws g.G.laws g.R.Threads-dict g.R.Wait-dict g.G.Gate-dict
     (record { mir = named 6; lft = κs.1.1.1.1.1.1.0 })
     (record { mir = named 7; lft = κs.1.1.1.1.1.1.1.0 })
     (record { mir = named 8; lft = κs.1.1.1.1.1.1.1.1.0 })
