@@ -77,10 +77,19 @@ fn keeps_four(moments: &mut DueMoments) -> Result<(), Fail> {
     moments.keep("b", false);
     holds("c is not", moments.first_kept(Some("a")) == Some("d"))?;
     holds("three are kept", moments.kept_count() == 3)?;
-    holds("c is due still", moments.first_due_after(30, Some("b")) == Some("c"))?;
+    holds(
+        "c is due still",
+        moments.first_due_after(30, Some("b")) == Some("c"),
+    )?;
     moments.add("c", true, u64::MAX)?;
-    holds("c is kept again", moments.first_kept(Some("a")) == Some("c"))?;
-    holds("c is due as it was", moments.first_due_after(30, Some("b")) == Some("c"))?;
+    holds(
+        "c is kept again",
+        moments.first_kept(Some("a")) == Some("c"),
+    )?;
+    holds(
+        "c is due as it was",
+        moments.first_due_after(30, Some("b")) == Some("c"),
+    )?;
     holds("four again", moments.kept_count() == 4)
 }
 
@@ -124,11 +133,18 @@ fn a_thousand_of_which_some_are_kept(rt: HostRuntime) -> Result<(), Fail> {
     let mut moments = DueMoments::new(alloc);
     for place in 0..many::COUNT {
         let number = place.wrapping_mul(377) % many::COUNT;
-        moments.add(many::name_of(alloc, number)?.as_str(), is_kept(number, false), 7)?;
+        moments.add(
+            many::name_of(alloc, number)?.as_str(),
+            is_kept(number, false),
+            7,
+        )?;
     }
     walks_all(alloc, &moments, false)?;
     for number in 0..many::COUNT {
-        moments.keep(many::name_of(alloc, number)?.as_str(), is_kept(number, true));
+        moments.keep(
+            many::name_of(alloc, number)?.as_str(),
+            is_kept(number, true),
+        );
     }
     walks_all(alloc, &moments, true)
 }
