@@ -1,35 +1,28 @@
 -- What the rows hold, endpoint by endpoint, and how that changes.
-use Rattle.std.proofs.Common.{◌≡◌, ◌≢◌, ℕ, zero, suc, ◌<◌, Bool, true, false, cond, List, [], ◌∷◌, ◌++◌, Option, None, Some, refl, sym, ap, ◌∙◌, subst, arith, slice_get}
-use Rattle.std.specs.Prelude.{String, string_bytes, bytes_eq, is_some}
+use Rattle.std.proofs.Common.{◌≡◌, ◌≢◌, ℕ, zero, suc, ◌<◌, ◌⊎◌, inl, inr, Bool, true, false, cond, List, [], ◌∷◌, ◌++◌, length, Option, None, Some, refl, sym, ap, ◌∙◌, subst, arith, slice_get, get_or, set}
+use Rattle.std.specs.Prelude.{String, bytes_eq, map}
 use Rattle.std.specs.Option.{IfSome, IsSomeAnd, option_map}
-use Rattle.std.specs.BTreeMap.{BTreeMap, IsOrdered, get_by_text, is_at}
+use Rattle.std.specs.BTreeMap.{BTreeMap, IsOrdered, get_by_text}
 use Rattle.std.specs.BTreeMap as tree
-use Rattle.std.specs.Cmp.{nat_cmp_total}
-use Rattle.std.specs.Cmp.Lexicographic.{slice_cmp, bytes_decides}
+use Rattle.std.specs.Cmp.Lexicographic.{bytes_decides}
 use Rattle.std.specs.FinMap.{get, get-from_entries, find}
-use Rattle.std.specs.List.{AllByRecursion}
-use Rattle.std.specs.List.Sorted.{IsStrictlySortedBy}
-use Rattle.std.specs.Map.{keys_of, lookup}
 use Rattle.std.specs.Ordering.{is_eq, eq_by_cmp, nat_cmp}
-use Rattle.std.specs.declared.cmp.Ordering.TheVariants.{Less}
 use Rattle.std.specs.String.{string_cmp}
 use Rattle.std.proofs.lemmas.Bool.Decides.{nat_tests}
 use Rattle.std.proofs.lemmas.Cmp.{eq_by_cmp_equiv}
-use Rattle.std.proofs.lemmas.Map.Entries.{btree_map_get_place}
+use Rattle.std.proofs.lemmas.List.{length-append}
 use Rattle.std.proofs.lemmas.Map.Views.{tells_apart}
+use Rattle.std.proofs.lemmas.Option.{slice_get_read, slice_get_within}
 use Rattle.lw_stamp.specs.TextOrder.{text_cmp}
 use Rattle.lw_reg.specs.OrderLaws.{text_order}
-use Rattle.lw_table.specs.inner.Moves.{PutsRow, SameRows, IsTaken}
-use Rattle.lw_table.specs.Rows.{IsRows, each_in, firsts_in, others_in, end_of}
-use Rattle.lw_table.specs.inner.Rows.{first_or, has_end, row_at}
+use Rattle.lw_table.specs.inner.Moves.{FilesEither, FilesFirst, FilesOther, PutsRow, SameRows}
+use Rattle.lw_table.specs.Rows.{IsRows, each_in, end_of, first_or, is_named, name_of, place_of}
+use Rattle.lw_table.specs.inner.Rows.{row_at, row_from}
 use Rattle.lw_table.specs.declared.row.Row.{Row}
-use Rattle.lw_table.specs.declared.rows.First.{First}
+use Rattle.lw_table.specs.declared.rows.NamedRow.{NamedRow}
 use Rattle.lw_table.specs.declared.rows.Rows.{Rows}
 
 -- ---- texts and numbers that are one, or are not
-abbrev pub name_of : First → List ℕ
-name_of first = string_bytes first.endpoint
-
 pub same_or_not : {G : Type 0} (a b : List ℕ) → ((bytes_eq a b ≡ true) → a ≡ b → G) → ((bytes_eq a b ≡ false) → a ≢ b → G) → G
 same_or_not {G} a b same other = go (bytes_eq a b) refl
   where
@@ -37,27 +30,11 @@ same_or_not {G} a b same other = go (bytes_eq a b) refl
     go true h = same h ((bytes_decides a b).0 h)
     go false h = other h (λ e. let t : bytes_eq a b ≡ true = (bytes_decides a b).1 e in cc)
 
--- the two tests of a text tell the same
-tests_alike : (e name : List ℕ) → eq_by_cmp text_cmp e name ≡ bytes_eq name e
-tests_alike e name = same_or_not name e
-    (λ t same. subst (λ k. eq_by_cmp text_cmp k name ≡ true) same ((eq_by_cmp_equiv text_order.total).refl name) ∙ sym t)
-    (λ f other. go (eq_by_cmp text_cmp e name) refl other ∙ sym f)
-  where
-    go : (b : Bool) → eq_by_cmp text_cmp e name ≡ b → name ≢ e → eq_by_cmp text_cmp e name ≡ false
-    go true h other = absurd (other (sym (tells_apart text_order.exact e name h)))
-    go false h other = h
-
 number_tied : (a b : ℕ) → is_eq (nat_cmp a b) ≡ true → a ≡ b
 number_tied a b h = grind (arith, nat_tests)
 
 number_itself : (a : ℕ) → is_eq (nat_cmp a a) ≡ true
 number_itself a = grind (arith, nat_tests)
-
-less_than : (a b : ℕ) → nat_cmp a b ≡ Less → a < b
-less_than a b h = grind (arith, nat_tests)
-
-not_below_itself : {G : Type 0} (a : ℕ) → a < a → G
-not_below_itself a h = absurd (omega arith)
 
 number_or_not : {G : Type 0} (a b : ℕ) → (is_eq (nat_cmp a b) ≡ true → a ≡ b → G) → (is_eq (nat_cmp a b) ≡ false → a ≢ b → G) → G
 number_or_not {G} a b same other = go (is_eq (nat_cmp a b)) refl
@@ -66,217 +43,360 @@ number_or_not {G} a b same other = go (is_eq (nat_cmp a b)) refl
     go true h = same h (number_tied a b h)
     go false h = other h (λ e. let t : is_eq (nat_cmp a b) ≡ true = subst (λ k. is_eq (nat_cmp a k) ≡ true) e (number_itself a) in cc)
 
--- ---- what is found among the entries
-abbrev has_bytes : {Z : Type 0} → List ℕ → String Z → Bool
-has_bytes e k = is_eq (slice_cmp nat_cmp e (string_bytes k))
+-- ---- places of a list
+module _ {X : Type 0} where
+  pub some_same : (x y : X) → Some x ≡ Some y → x ≡ y
+  some_same x y h = ap of h
+    where
+      of : Option X → X
+      of None = x
+      of (Some z) = z
 
-abbrev or_else : {X : Type 0} → Option X → Option X → Option X
-or_else None other = other
-or_else (Some x) other = Some x
+  below_end : (xs ys : List X) (i : ℕ) → i < length xs → slice_get (xs ++ ys) i ≡ slice_get xs i
+  below_end [] ys i h = absurd (omega arith)
+  below_end (x ∷ xs) ys zero h = refl
+  below_end (x ∷ xs) ys (suc i) h = below_end xs ys i (omega arith)
 
-found_either : {X : Type 0} (e : List ℕ) (xs ys : List (List ℕ × X)) → find text_cmp e (xs ++ ys) ≡ or_else (find text_cmp e xs) (find text_cmp e ys)
-found_either e [] ys = refl
-found_either {X} e (x ∷ xs) ys = go (eq_by_cmp text_cmp e x.0) (found_either e xs ys)
+  at_end : (xs : List X) (x : X) → slice_get (xs ++ x ∷ []) (length xs) ≡ Some x
+  at_end [] x = refl
+  at_end (y ∷ xs) x = at_end xs x
+
+  -- what stands in a longer list stood there, or is the last
+  old_or_last : (xs : List X) (x : X) (i : ℕ) (y : X) → slice_get (xs ++ x ∷ []) i ≡ Some y → (slice_get xs i ≡ Some y) ⊎ ((i ≡ length xs) × (x ≡ y))
+  old_or_last [] x zero y h = inr (refl, some_same x y h)
+  old_or_last [] x (suc i) y h = absurd (let bad : None ≡ Some y = h in cc)
+  old_or_last (z ∷ xs) x zero y h = inl h
+  old_or_last (z ∷ xs) x (suc i) y h = elim (old_or_last xs x i y h) [
+    | inl there ↦ inl there
+    | inr last ↦ inr (ap suc last.0, last.1)
+  ]
+
+  written : (xs : List X) (i : ℕ) (y : X) → i < length xs → slice_get (set xs i y) i ≡ Some y
+  written [] i y h = absurd (omega arith)
+  written (x ∷ xs) zero y h = refl
+  written (x ∷ xs) (suc i) y h = written xs i y (omega arith)
+
+  not_written : (xs : List X) (i k : ℕ) (y : X) → k ≢ i → slice_get (set xs i y) k ≡ slice_get xs k
+  not_written [] i k y other = refl
+  not_written (x ∷ xs) zero zero y other = absurd (other refl)
+  not_written (x ∷ xs) zero (suc k) y other = refl
+  not_written (x ∷ xs) (suc i) zero y other = refl
+  not_written (x ∷ xs) (suc i) (suc k) y other = not_written xs i k y (λ same. other (ap suc same))
+
+  same_length : (xs : List X) (i : ℕ) (y : X) → length (set xs i y) ≡ length xs
+  same_length [] i y = refl
+  same_length (x ∷ xs) zero y = refl
+  same_length (x ∷ xs) (suc i) y = ap suc (same_length xs i y)
+
+  some_there : (P : X → Type 0) (o : Option X) → IsSomeAnd o P → (x : X) × (o ≡ Some x) × P x
+  some_there P None h = absurd h
+  some_there P (Some x) h = (x, refl, h)
+
+  there_some : (P : X → Type 0) (o : Option X) (x : X) → o ≡ Some x → P x → IsSomeAnd o P
+  there_some P o x is h = subst (λ o. IsSomeAnd o P) (sym is) h
+
+-- ---- the row at the place of an endpoint
+-- it has that endpoint
+pub there_of : (m : Rows) → IsRows m → (e : List ℕ) (place : ℕ) → place_of m e ≡ Some place → (named : NamedRow) × (slice_get m.rows.items place ≡ Some named) × (name_of named ≡ e)
+there_of m rows e place is = of_first (tree.get nat_cmp m.firsts (end_of e)) is
   where
-    go : (b : Bool) → find text_cmp e (xs ++ ys) ≡ or_else (find text_cmp e xs) (find text_cmp e ys)
-        → cond b (Some x.1) (find text_cmp e (xs ++ ys)) ≡ or_else (cond b (Some x.1) (find text_cmp e xs)) (find text_cmp e ys)
-    go true rest = refl
-    go false rest = rest
+    Found : Type 0
+    Found = (named : NamedRow) × (slice_get m.rows.items place ≡ Some named) × (name_of named ≡ e)
 
-found_other : {Z X : Type 0} (f : Row → X) (entries : List (String Z × Row)) (e : List ℕ) → find text_cmp e (others_in f entries) ≡ option_map f (lookup (has_bytes e) entries)
-found_other f [] e = refl
-found_other f (p ∷ ps) e = go (has_bytes e p.0) (found_other f ps e)
+    of_other : get_by_text m.others e ≡ Some place → Found
+    of_other h = some_there (λ (named : NamedRow). name_of named ≡ e) (slice_get m.rows.items place) (rows.others_named e place h)
+
+    of_own : (q : ℕ) (named : NamedRow) → slice_get m.rows.items q ≡ Some named → (b : Bool) → bytes_eq (name_of named) e ≡ b → cond b (Some q) (get_by_text m.others e) ≡ Some place → Found
+    of_own q named there true same h = (named, ap (slice_get m.rows.items) (sym (some_same q place h)) ∙ there, (bytes_decides (name_of named) e).0 same)
+    of_own q named there false same h = of_other h
+
+    of_row : (q : ℕ) (o : Option NamedRow) → slice_get m.rows.items q ≡ o → cond (is_named o e) (Some q) (get_by_text m.others e) ≡ Some place → Found
+    of_row q None there h = of_other h
+    of_row q (Some named) there h = of_own q named there (bytes_eq (name_of named) e) refl h
+
+    of_first : (o : Option ℕ) → first_or m.rows.items e o (get_by_text m.others e) ≡ Some place → Found
+    of_first None h = of_other h
+    of_first (Some q) h = of_row q (slice_get m.rows.items q) refl h
+
+pub place_within : (m : Rows) → IsRows m → (e : List ℕ) (place : ℕ) → place_of m e ≡ Some place → place < length m.rows.items
+place_within m rows e place is = let there = there_of m rows e place is in slice_get_within m.rows.items place there.0 there.1
+
+pub others_within : (m : Rows) → IsRows m → (e : List ℕ) → IfSome (get_by_text m.others e) (λ place. place < length m.rows.items)
+others_within m rows e = go (get_by_text m.others e) refl
   where
-    go : (b : Bool) → find text_cmp e (others_in f ps) ≡ option_map f (lookup (has_bytes e) ps) → cond b (Some (f p.1)) (find text_cmp e (others_in f ps)) ≡ option_map f (cond b (Some p.1) (lookup (has_bytes e) ps))
-    go true rest = refl
-    go false rest = rest
+    go : (o : Option ℕ) → get_by_text m.others e ≡ o → IfSome o (λ place. place < length m.rows.items)
+    go None is = tt
+    go (Some place) is =
+        let there = some_there (λ (named : NamedRow). name_of named ≡ e) (slice_get m.rows.items place) (rows.others_named e place is) in
+        slice_get_within m.rows.items place there.0 there.1
 
--- each of the entries is under the end of its endpoint
-abbrev UnderEnds : List (ℕ × First) → Type 0
-UnderEnds entries = (i : ℕ) (x : ℕ × First) → slice_get entries i ≡ Some x → end_of (name_of x.1) ≡ x.0
+pub at_place : (m : Rows) → IsRows m → (e : List ℕ) (place : ℕ) (named : NamedRow) → place_of m e ≡ Some place → named ≡ get_or m.rows.items place named → slice_get m.rows.items place ≡ Some named
+at_place m rows e place named is at = slice_get_read m.rows.items (length m.rows.items) place named refl (place_within m rows e place is) at
 
+pub row_there : (m : Rows) (e : List ℕ) (place : ℕ) (named : NamedRow) → place_of m e ≡ Some place → slice_get m.rows.items place ≡ Some named → row_at m e ≡ Some named.row
+row_there m e place named is there = ap (row_from m.rows.items) is ∙ ap (option_map (λ (x : NamedRow). x.row)) there
+
+-- no row, no place
+pub no_place : (m : Rows) → IsRows m → (e : List ℕ) → row_at m e ≡ None → place_of m e ≡ None
+no_place m rows e none = go (place_of m e) refl
+  where
+    go : (o : Option ℕ) → place_of m e ≡ o → o ≡ None
+    go None is = refl
+    go (Some place) is =
+        let there = there_of m rows e place is in
+        absurd (let bad : Some there.0.row ≡ None = sym (row_there m e place there.0 is there.1) ∙ none in cc)
+
+-- ---- what is found among the rows
 module _ {X : Type 0} (f : Row → X) (e : List ℕ) where
-  -- what a first gives, if it is the endpoint's
-  abbrev own : Option First → Option X
-  own None = None
-  own (Some first) = cond (bytes_eq (name_of first) e) (Some (f first.row)) None
+  abbrev entries : List NamedRow → List (List ℕ × X)
+  entries rows = map (λ named. (name_of named, f named.row)) rows
 
-  none_later : (n : ℕ) (entries : List (ℕ × First)) → AllByRecursion (λ k. nat_cmp n k ≡ Less) (keys_of entries) → UnderEnds entries → end_of e ≡ n → find text_cmp e (firsts_in f entries) ≡ None
-  none_later n [] below under is = refl
-  none_later n (x ∷ xs) below under is = go (eq_by_cmp text_cmp e (name_of x.1)) refl (none_later n xs below.1 (λ i y h. under (suc i) y h) is)
+  -- the first with the name, or none
+  abbrev Finds : List NamedRow → Type 0
+  Finds rows =
+      ((place : ℕ) × (named : NamedRow) × (slice_get rows place ≡ Some named) × (name_of named ≡ e) × (find text_cmp e (entries rows) ≡ Some (f named.row)))
+      ⊎ (((place : ℕ) (named : NamedRow) → slice_get rows place ≡ Some named → name_of named ≢ e) × (find text_cmp e (entries rows) ≡ None))
+
+  finds : (rows : List NamedRow) → Finds rows
+  finds [] = inr (λ place named h. absurd (let bad : None ≡ Some named = h in cc), refl)
+  finds (x ∷ xs) = go (eq_by_cmp text_cmp e (name_of x)) refl (finds xs)
     where
-      go : (b : Bool) → eq_by_cmp text_cmp e (name_of x.1) ≡ b → find text_cmp e (firsts_in f xs) ≡ None → cond b (Some (f x.1.row)) (find text_cmp e (firsts_in f xs)) ≡ None
-      go true h rest =
-          let same : e ≡ name_of x.1 = tells_apart text_order.exact e (name_of x.1) h in
-          let here : n ≡ x.0 = sym is ∙ ap end_of same ∙ under zero x refl in
-          not_below_itself n (subst (λ k. n < k) (sym here) (less_than n x.0 below.0))
-      go false h rest = rest
+      passed : (b : Bool) → eq_by_cmp text_cmp e (name_of x) ≡ b → find text_cmp e (entries (x ∷ xs)) ≡ cond b (Some (f x.row)) (find text_cmp e (entries xs))
+      passed b h = ap (λ t. cond t (Some (f x.row)) (find text_cmp e (entries xs))) h
 
-  found_first : (entries : List (ℕ × First)) → IsStrictlySortedBy nat_cmp (keys_of entries) → UnderEnds entries → find text_cmp e (firsts_in f entries) ≡ own (lookup (λ k. is_eq (nat_cmp (end_of e) k)) entries)
-  unfolding IsStrictlySortedBy
-  found_first [] sorted under = refl
-  found_first (x ∷ xs) sorted under = number_or_not (end_of e) x.0
-      (λ t tied.
-      ap (λ b. cond b (Some (f x.1.row)) (find text_cmp e (firsts_in f xs))) (tests_alike e (name_of x.1))
-      ∙ ap (λ (o : Option X). cond (bytes_eq (name_of x.1) e) (Some (f x.1.row)) o) (none_later x.0 xs sorted.0 (λ i y h. under (suc i) y h) tied)
-      ∙ ap (λ b. own (cond b (Some x.1) (lookup (λ k. is_eq (nat_cmp (end_of e) k)) xs))) (sym t))
-      (λ apart other.
-      ap (λ b. cond b (Some (f x.1.row)) (find text_cmp e (firsts_in f xs))) (another other)
-      ∙ found_first xs sorted.1 (λ i y h. under (suc i) y h)
-      ∙ ap (λ b. own (cond b (Some x.1) (lookup (λ k. is_eq (nat_cmp (end_of e) k)) xs))) (sym apart))
-    where
-      another : end_of e ≢ x.0 → eq_by_cmp text_cmp e (name_of x.1) ≡ false
-      another other = go (eq_by_cmp text_cmp e (name_of x.1)) refl
-        where
-          go : (b : Bool) → eq_by_cmp text_cmp e (name_of x.1) ≡ b → b ≡ false
-          go true h = absurd (other (ap end_of (tells_apart text_order.exact e (name_of x.1) h) ∙ under zero x refl))
-          go false h = refl
+      another : eq_by_cmp text_cmp e (name_of x) ≡ false → name_of x ≢ e
+      another h same = let t : eq_by_cmp text_cmp e (name_of x) ≡ true = subst (λ k. eq_by_cmp text_cmp e k ≡ true) (sym same) ((eq_by_cmp_equiv text_order.total).refl e) in absurd cc
 
-  own_or : (first : Option First) (other : Option Row) → or_else (own first) (option_map f other) ≡ option_map f (first_or e first other)
-  own_or None other = refl
-  own_or (Some first) other = go (bytes_eq (name_of first) e)
-    where
-      go : (b : Bool) → or_else (cond b (Some (f first.row)) None) (option_map f other) ≡ option_map f (cond b (Some first.row) other)
-      go true = refl
-      go false = refl
+      none_here : eq_by_cmp text_cmp e (name_of x) ≡ false → ((place : ℕ) (named : NamedRow) → slice_get xs place ≡ Some named → name_of named ≢ e)
+          → (place : ℕ) (named : NamedRow) → slice_get (x ∷ xs) place ≡ Some named → name_of named ≢ e
+      none_here h none zero named there = subst (λ (y : NamedRow). name_of y ≢ e) (some_same x named there) (another h)
+      none_here h none (suc place) named there = none place named there
 
-under_of : (m : Rows) → IsRows m → UnderEnds m.firsts.entries
-under_of m rows i x h = rows.under_ends x.0 x.1 (btree_map_get_place nat_cmp_total m.firsts i x.0 x.1 rows.firsts_rise h)
+      go : (b : Bool) → eq_by_cmp text_cmp e (name_of x) ≡ b → Finds xs → Finds (x ∷ xs)
+      go true h rest = inl (zero, x, refl, sym (tells_apart text_order.exact e (name_of x) h), passed true h)
+      go false h rest = elim rest [
+        | inl r ↦ inl (suc r.0, r.1, r.2, r.3, passed false h ∙ r.4)
+        | inr r ↦ inr (none_here h r.0, passed false h ∙ r.1)
+      ]
 
 -- what the rows have at an endpoint
 pub get-each_in : {X : Type 0} (f : Row → X) (m : Rows) → IsRows m → (e : List ℕ) → get (each_in f m) e ≡ option_map f (row_at m e)
-get-each_in f m rows e =
-    get-from_entries text_order.total (firsts_in f m.firsts.entries ++ others_in f m.others.entries) e
-    ∙ found_either e (firsts_in f m.firsts.entries) (others_in f m.others.entries)
-    ∙ (λ i. or_else (found_first f e m.firsts.entries rows.firsts_rise (under_of m rows) i) (found_other f m.others.entries e i))
-    ∙ own_or f e (tree.get nat_cmp m.firsts (end_of e)) (get_by_text m.others e)
-
--- no row has the endpoint where none has its end
-pub no_first : (m : Rows) → IsRows m → (e : List ℕ) → None ≡ tree.get nat_cmp m.firsts (end_of e) → row_at m e ≡ None
-no_first m rows e none = ap (λ (o : Option First). first_or e o (get_by_text m.others e)) (sym none) ∙ rows.came_first e (sym none)
-
--- the row of the first with its end, where that is the endpoint's
-pub own_first : (m : Rows) (e : List ℕ) (first : First) → Some first ≡ tree.get nat_cmp m.firsts (end_of e) → name_of first ≡ e → Some first.row ≡ row_at m e
-own_first m e first is named =
-    sym (ap (λ b. cond b (Some first.row) (get_by_text m.others e)) ((bytes_decides (name_of first) e).1 named)) ∙ ap (λ (o : Option First). first_or e o (get_by_text m.others e)) is
-
--- where there is one with its end, and no row has the endpoint
-pub taken_of : (m : Rows) (e : List ℕ) → is_some (tree.get nat_cmp m.firsts (end_of e)) ≡ true → row_at m e ≡ None → IsTaken m e
-taken_of m e there absent = go (tree.get nat_cmp m.firsts (end_of e)) there absent
+get-each_in f m rows e = get-from_entries text_order.total (entries f e m.rows.items) e ∙ elim (finds f e m.rows.items) [
+  | inl r ↦ r.4 ∙ sym (ap (option_map f) (row_there m e r.0 r.1 (ap (place_of m) (sym r.3) ∙ rows.found r.0 r.1 r.2) r.2))
+  | inr r ↦ r.1 ∙ sym (ap (option_map f) (ap (row_from m.rows.items) (none r.0)))
+]
   where
-    another : (first : First) (b : Bool) → bytes_eq (name_of first) e ≡ b → cond b (Some first.row) (get_by_text m.others e) ≡ None → bytes_eq (name_of first) e ≡ false
-    another first true h none = absurd cc
-    another first false h none = h
+    none : ((place : ℕ) (named : NamedRow) → slice_get m.rows.items place ≡ Some named → name_of named ≢ e) → place_of m e ≡ None
+    none passed = go (place_of m e) refl
+      where
+        go : (o : Option ℕ) → place_of m e ≡ o → o ≡ None
+        go None is = refl
+        go (Some place) is = let there = there_of m rows e place is in absurd (passed place there.0 there.1 there.2)
 
-    go : (o : Option First) → is_some o ≡ true → first_or e o (get_by_text m.others e) ≡ None → IsSomeAnd o (λ first. bytes_eq (name_of first) e ≡ false)
-    go None h none = absurd (let bad : false ≡ true = h in cc)
-    go (Some first) h none = another first (bytes_eq (name_of first) e) refl none
+-- ---- a row that is put behind the others
+module _ (m n : Rows) (e0 : List ℕ) (w : NamedRow) (rows : IsRows m) (named : name_of w ≡ e0) (absent : place_of m e0 ≡ None)
+    (items : n.rows.items ≡ m.rows.items ++ w ∷ []) (firsts_rise : IsOrdered nat_cmp n.firsts) (others_rise : IsOrdered string_cmp n.others) (files : FilesEither e0 (length m.rows.items) m n) where
+  abbrev last : ℕ
+  last = length m.rows.items
 
--- one that is taken has a row with its end
-pub taken_has : (m : Rows) (e : List ℕ) → IsTaken m e → true ≡ has_end m e
-taken_has m e taken = go (tree.get nat_cmp m.firsts (end_of e)) taken
-  where
-    go : (o : Option First) → IsSomeAnd o (λ first. bytes_eq (name_of first) e ≡ false) → true ≡ is_some o
-    go None h = absurd h
-    go (Some first) h = refl
+  abbrev longer : List NamedRow
+  longer = m.rows.items ++ w ∷ []
 
-pub taken_others : (m : Rows) (e : List ℕ) → IsTaken m e → get_by_text m.others e ≡ row_at m e
-taken_others m e taken = go (tree.get nat_cmp m.firsts (end_of e)) taken
-  where
-    go : (o : Option First) → IsSomeAnd o (λ first. bytes_eq (name_of first) e ≡ false) → get_by_text m.others e ≡ first_or e o (get_by_text m.others e)
-    go None h = absurd h
-    go (Some first) h = sym (ap (λ b. cond b (Some first.row) (get_by_text m.others e)) h)
+  longer_by_one : length n.rows.items ≡ suc last
+  longer_by_one = ap length items ∙ omega (arith, length-append m.rows.items (w ∷ []))
 
--- ---- a row that is put
--- of those at the end, the first changes or comes, and it is the endpoint's
-module _ (m n : Rows) (e0 : List ℕ) (w : First) (rows : IsRows m) (named : name_of w ≡ e0) (others : n.others ≡ m.others) (rise : IsOrdered nat_cmp n.firsts)
-    (at : (k : ℕ) → tree.get nat_cmp n.firsts k ≡ cond (is_at (nat_cmp (end_of e0)) k) (Some w) (tree.get nat_cmp m.firsts k))
-    (own_or_none : IfSome (tree.get nat_cmp m.firsts (end_of e0)) (λ first. name_of first ≡ e0)) where
-  first_row : (e : List ℕ) → row_at n e ≡ cond (bytes_eq e0 e) (Some w.row) (row_at m e)
-  first_row e = number_or_not (end_of e0) (end_of e)
-      (λ t tied. ap (λ (o : Option First). first_or e o (get_by_text n.others e)) (at (end_of e) ∙ ap (λ b. cond b (Some w) (tree.get nat_cmp m.firsts (end_of e))) t)
-      ∙ ap (λ (ms : BTreeMap (String _) Row). first_or e (Some w) (get_by_text ms e)) others
-      ∙ ap (λ k. cond (bytes_eq k e) (Some w.row) (get_by_text m.others e)) named
-      ∙ tied_row tied)
-      (λ apart other. ap (λ (o : Option First). first_or e o (get_by_text n.others e)) (at (end_of e) ∙ ap (λ b. cond b (Some w) (tree.get nat_cmp m.firsts (end_of e))) apart)
-      ∙ ap (λ (ms : BTreeMap (String _) Row). first_or e (tree.get nat_cmp m.firsts (end_of e)) (get_by_text ms e)) others
-      ∙ ap (λ b. cond b (Some w.row) (row_at m e)) (sym (not_own other)))
+  -- of a first that is filed, the row stands where it stood
+  old_first : (e : List ℕ) (other o : Option ℕ) → IfSome o (λ place. place < last) → first_or longer e o other ≡ first_or m.rows.items e o other
+  old_first e other None within = refl
+  old_first e other (Some place) within = ap (λ r. cond (is_named r e) (Some place) other) (below_end m.rows.items (w ∷ []) place within)
+
+  first_within : (end : ℕ) → IfSome (tree.get nat_cmp m.firsts end) (λ place. place < last)
+  first_within end = go (tree.get nat_cmp m.firsts end) refl
+    where
+      go : (o : Option ℕ) → tree.get nat_cmp m.firsts end ≡ o → IfSome o (λ place. place < last)
+      go None is = tt
+      go (Some place) is = rows.firsts_within end place is
+
+  own_first : (e : List ℕ) (other : Option ℕ) → first_or longer e (Some last) other ≡ cond (bytes_eq e0 e) (Some last) other
+  own_first e other = ap (λ r. cond (is_named r e) (Some last) other) (at_end m.rows.items w) ∙ ap (λ k. cond (bytes_eq k e) (Some last) other) named
+
+  place_first : FilesFirst e0 last m.firsts n.firsts × (n.others ≡ m.others) → (e : List ℕ) → place_of n e ≡ cond (bytes_eq e0 e) (Some last) (place_of m e)
+  place_first filed e =
+      (λ i. first_or (items i) e (filed.0.at (end_of e) i) (get_by_text (filed.1 i) e))
+      ∙ number_or_not (end_of e0) (end_of e)
+      (λ t tied. ap (λ b. first_or longer e (cond b (Some last) (tree.get nat_cmp m.firsts (end_of e))) (get_by_text m.others e)) t
+      ∙ own_first e (get_by_text m.others e)
+      ∙ ap (λ (o : Option ℕ). cond (bytes_eq e0 e) (Some last) (first_or m.rows.items e o (get_by_text m.others e))) (sym (ap (tree.get nat_cmp m.firsts) (sym tied) ∙ filed.0.free)))
+      (λ t apart. ap (λ b. first_or longer e (cond b (Some last) (tree.get nat_cmp m.firsts (end_of e))) (get_by_text m.others e)) t
+      ∙ old_first e (get_by_text m.others e) (tree.get nat_cmp m.firsts (end_of e)) (first_within (end_of e))
+      ∙ ap (λ b. cond b (Some last) (place_of m e)) (sym (not_own apart)))
     where
       not_own : end_of e0 ≢ end_of e → bytes_eq e0 e ≡ false
-      not_own other = same_or_not e0 e (λ t same. absurd (other (ap end_of same))) (λ f apart. f)
+      not_own apart = same_or_not e0 e (λ t same. absurd (apart (ap end_of same))) (λ t other. t)
 
-      -- of an endpoint with this end that is another, the others tell
-      passes : (o : Option First) → IfSome o (λ first. name_of first ≡ e0) → bytes_eq e0 e ≡ false → first_or e o (get_by_text m.others e) ≡ get_by_text m.others e
-      passes None own f = refl
-      passes (Some first) own f = ap (λ b. cond b (Some first.row) (get_by_text m.others e)) (ap (λ k. bytes_eq k e) own ∙ f)
-
-      tied_row : end_of e0 ≡ end_of e → cond (bytes_eq e0 e) (Some w.row) (get_by_text m.others e) ≡ cond (bytes_eq e0 e) (Some w.row) (row_at m e)
-      tied_row tied = same_or_not e0 e
-          (λ t same. ap (λ b. cond b (Some w.row) (get_by_text m.others e)) t ∙ ap (λ b. cond b (Some w.row) (row_at m e)) (sym t))
-          (λ f apart. ap (λ b. cond b (Some w.row) (get_by_text m.others e)) f
-          ∙ sym (passes (tree.get nat_cmp m.firsts (end_of e)) (subst (λ k. IfSome (tree.get nat_cmp m.firsts k) (λ first. name_of first ≡ e0)) tied own_or_none) f)
-          ∙ ap (λ b. cond b (Some w.row) (row_at m e)) (sym f))
-
-  pub first_put : PutsRow e0 w.row m n
-  first_put = record {
-    at = first_row;
-    rows = record {
-      firsts_rise = rise;
-      others_rise = subst (λ (ms : BTreeMap (String _) Row). IsOrdered string_cmp ms) (sym others) rows.others_rise;
-      under_ends = λ k first h. number_or_not (end_of e0) k
-          (λ t tied.
-          let is : Some w ≡ Some first = sym (at k ∙ ap (λ b. cond b (Some w) (tree.get nat_cmp m.firsts k)) t) ∙ h in
-          let one : w ≡ first = one_first w first is in
-          ap end_of (sym (ap name_of one) ∙ named) ∙ tied)
-          (λ apart other. rows.under_ends k first (sym (at k ∙ ap (λ b. cond b (Some w) (tree.get nat_cmp m.firsts k)) apart) ∙ h));
-      came_first = λ e h. number_or_not (end_of e0) (end_of e)
-          (λ t tied. absurd (let bad : Some w ≡ None = sym (at (end_of e) ∙ ap (λ b. cond b (Some w) (tree.get nat_cmp m.firsts (end_of e))) t) ∙ h in cc))
-          (λ apart other. ap (λ (ms : BTreeMap (String _) Row). get_by_text ms e) others ∙ rows.came_first e (sym (at (end_of e) ∙ ap (λ b. cond b (Some w) (tree.get nat_cmp m.firsts (end_of e))) apart) ∙ h));
-    };
-  }
-    where
-      one_first : (a b : First) → ◌≡◌ {A = Option First} (Some a) (Some b) → a ≡ b
-      one_first a b h = ap of h
-        where
-          of : Option First → First
-          of None = a
-          of (Some x) = x
-
--- the row is put among the others
-module _ (m n : Rows) (e0 : List ℕ) (row : Row) (rows : IsRows m) (firsts : n.firsts ≡ m.firsts) (rise : IsOrdered string_cmp n.others)
-    (at : (e : List ℕ) → get_by_text n.others e ≡ cond (bytes_eq e0 e) (Some row) (get_by_text m.others e)) (taken : IsTaken m e0) where
-  other_row : (e : List ℕ) → row_at n e ≡ cond (bytes_eq e0 e) (Some row) (row_at m e)
-  other_row e =
-      ap (λ (ms : BTreeMap ℕ First). first_or e (tree.get nat_cmp ms (end_of e)) (get_by_text n.others e)) firsts
-      ∙ ap (λ (o : Option Row). first_or e (tree.get nat_cmp m.firsts (end_of e)) o) (at e)
+  place_other : FilesOther e0 last m.others n.others × (n.firsts ≡ m.firsts) → (e : List ℕ) → place_of n e ≡ cond (bytes_eq e0 e) (Some last) (place_of m e)
+  place_other filed e =
+      (λ i. first_or (items i) e (tree.get nat_cmp (filed.1 i) (end_of e)) (filed.0.at e i))
+      ∙ old_first e (cond (bytes_eq e0 e) (Some last) (get_by_text m.others e)) (tree.get nat_cmp m.firsts (end_of e)) (first_within (end_of e))
       ∙ same_or_not e0 e
-      (λ t same. ap (λ b. first_or e (tree.get nat_cmp m.firsts (end_of e)) (cond b (Some row) (get_by_text m.others e))) t
-      ∙ passed (tree.get nat_cmp m.firsts (end_of e)) (subst (λ k. IsTaken m k) same taken)
-      ∙ ap (λ b. cond b (Some row) (row_at m e)) (sym t))
-      (λ f apart. ap (λ b. first_or e (tree.get nat_cmp m.firsts (end_of e)) (cond b (Some row) (get_by_text m.others e))) f ∙ ap (λ b. cond b (Some row) (row_at m e)) (sym f))
+      (λ t same. ap (λ b. first_or m.rows.items e (tree.get nat_cmp m.firsts (end_of e)) (cond b (Some last) (get_by_text m.others e))) t
+      ∙ passed (tree.get nat_cmp m.firsts (end_of e)) (subst (λ k. place_of m k ≡ None) same absent)
+      ∙ ap (λ b. cond b (Some last) (place_of m e)) (sym t))
+      (λ t other. ap (λ b. first_or m.rows.items e (tree.get nat_cmp m.firsts (end_of e)) (cond b (Some last) (get_by_text m.others e))) t
+      ∙ ap (λ b. cond b (Some last) (place_of m e)) (sym t))
     where
-      passed : (o : Option First) → IsSomeAnd o (λ first. bytes_eq (name_of first) e ≡ false) → first_or e o (Some row) ≡ Some row
-      passed None h = absurd h
-      passed (Some first) h = ap (λ b. cond b (Some first.row) (Some row)) h
+      not_this : (b : Bool) (place : ℕ) → cond b (Some place) (get_by_text m.others e) ≡ None → cond b (Some place) (Some last) ≡ Some last
+      not_this true place h = absurd (let bad : Some place ≡ None = h in cc)
+      not_this false place h = refl
 
-  pub other_put : PutsRow e0 row m n
-  other_put = record {
-    at = other_row;
+      passed : (o : Option ℕ) → first_or m.rows.items e o (get_by_text m.others e) ≡ None → first_or m.rows.items e o (Some last) ≡ Some last
+      passed None h = refl
+      passed (Some place) h = not_this (is_named (slice_get m.rows.items place) e) place h
+
+  place_put : (e : List ℕ) → place_of n e ≡ cond (bytes_eq e0 e) (Some last) (place_of m e)
+  place_put e = elim files [
+    | inl filed ↦ place_first filed e
+    | inr filed ↦ place_other filed e
+  ]
+
+  row_put : (e : List ℕ) → row_at n e ≡ cond (bytes_eq e0 e) (Some w.row) (row_at m e)
+  row_put e =
+      (λ i. row_from (items i) (place_put e i))
+      ∙ same_or_not e0 e
+      (λ t same. ap (λ b. row_from longer (cond b (Some last) (place_of m e))) t
+      ∙ ap (option_map (λ (x : NamedRow). x.row)) (at_end m.rows.items w)
+      ∙ ap (λ b. cond b (Some w.row) (row_at m e)) (sym t))
+      (λ t other. ap (λ b. row_from longer (cond b (Some last) (place_of m e))) t
+      ∙ stays (place_of m e) refl
+      ∙ ap (λ b. cond b (Some w.row) (row_at m e)) (sym t))
+    where
+      stays : (o : Option ℕ) → place_of m e ≡ o → row_from longer o ≡ row_from m.rows.items o
+      stays None is = refl
+      stays (Some place) is = ap (option_map (λ (x : NamedRow). x.row)) (below_end m.rows.items (w ∷ []) place (place_within m rows e place is))
+
+  within_put : (end place : ℕ) → tree.get nat_cmp n.firsts end ≡ Some place → place < length n.rows.items
+  within_put end place h = subst (λ k. place < k) (sym longer_by_one) (elim files [
+    | inl filed ↦ number_or_not (end_of e0) end
+        (λ t tied. let is : last ≡ place = some_same last place (sym (filed.0.at end ∙ ap (λ b. cond b (Some last) (tree.get nat_cmp m.firsts end)) t) ∙ h) in omega arith)
+        (λ t apart. let below : place < last = rows.firsts_within end place (sym (filed.0.at end ∙ ap (λ b. cond b (Some last) (tree.get nat_cmp m.firsts end)) t) ∙ h) in omega arith)
+    | inr filed ↦ let below : place < last = rows.firsts_within end place (ap (λ (firsts : BTreeMap ℕ ℕ). tree.get nat_cmp firsts end) (sym filed.1) ∙ h) in omega arith
+  ])
+
+  abbrev Named : List NamedRow → List ℕ → ℕ → Type 0
+  Named xs e place = IsSomeAnd (slice_get xs place) (λ (x : NamedRow). name_of x ≡ e)
+
+  still_named : (e : List ℕ) (place : ℕ) → get_by_text m.others e ≡ Some place → Named longer e place
+  still_named e place h =
+      let there = some_there (λ (x : NamedRow). name_of x ≡ e) (slice_get m.rows.items place) (rows.others_named e place h) in
+      there_some (λ (x : NamedRow). name_of x ≡ e) (slice_get longer place) there.0
+      (below_end m.rows.items (w ∷ []) place (slice_get_within m.rows.items place there.0 there.1) ∙ there.1) there.2
+
+  named_put : (e : List ℕ) (place : ℕ) → get_by_text n.others e ≡ Some place → Named n.rows.items e place
+  named_put e place h = subst (λ xs. Named xs e place) (sym items) (elim files [
+    | inl filed ↦ still_named e place (ap (λ (others : BTreeMap (String _) ℕ). get_by_text others e) (sym filed.1) ∙ h)
+    | inr filed ↦ same_or_not e0 e
+        (λ t same. let is : last ≡ place = some_same last place (sym (filed.0.at e ∙ ap (λ b. cond b (Some last) (get_by_text m.others e)) t) ∙ h) in
+        there_some (λ (x : NamedRow). name_of x ≡ e) (slice_get longer place) w (ap (slice_get longer) (sym is) ∙ at_end m.rows.items w) (named ∙ same))
+        (λ t other. still_named e place (sym (filed.0.at e ∙ ap (λ b. cond b (Some last) (get_by_text m.others e)) t) ∙ h))
+  ])
+
+  found_put : (place : ℕ) (x : NamedRow) → slice_get n.rows.items place ≡ Some x → place_of n (name_of x) ≡ Some place
+  found_put place x h = place_put (name_of x) ∙ elim (old_or_last m.rows.items w place x (ap (λ xs. slice_get xs place) (sym items) ∙ h)) [
+    | inl there ↦ same_or_not e0 (name_of x)
+        (λ t same. absurd (let bad : Some place ≡ None = sym (rows.found place x there) ∙ ap (place_of m) (sym same) ∙ absent in cc))
+        (λ t other. ap (λ b. cond b (Some last) (place_of m (name_of x))) t ∙ rows.found place x there)
+    | inr new ↦ ap (λ b. cond b (Some last) (place_of m (name_of x))) ((bytes_decides e0 (name_of x)).1 (sym named ∙ ap name_of new.1)) ∙ ap Some (sym new.0)
+  ]
+
+  pub row_is_put : PutsRow e0 w.row m n
+  row_is_put = record {
+    at = row_put;
     rows = record {
-      firsts_rise = subst (λ (ms : BTreeMap ℕ First). IsOrdered nat_cmp ms) (sym firsts) rows.firsts_rise;
-      others_rise = rise;
-      under_ends = λ k first h. rows.under_ends k first (ap (λ (ms : BTreeMap ℕ First). tree.get nat_cmp ms k) (sym firsts) ∙ h);
-      came_first = λ e h.
-          let none : tree.get nat_cmp m.firsts (end_of e) ≡ None = ap (λ (ms : BTreeMap ℕ First). tree.get nat_cmp ms (end_of e)) (sym firsts) ∙ h in
-          at e ∙ same_or_not e0 e
-          (λ t same. absurd (not_taken (tree.get nat_cmp m.firsts (end_of e0)) (ap (λ k. tree.get nat_cmp m.firsts (end_of k)) same ∙ none) taken))
-          (λ f apart. ap (λ b. cond b (Some row) (get_by_text m.others e)) f ∙ rows.came_first e none);
+      firsts_rise = firsts_rise;
+      others_rise = others_rise;
+      firsts_within = within_put;
+      others_named = named_put;
+      found = found_put;
     };
   }
+
+-- ---- a row that is written where it stands
+module _ (m n : Rows) (e0 : List ℕ) (at : ℕ) (v : NamedRow) (r : Row) (rows : IsRows m) (is : place_of m e0 ≡ Some at) (there : slice_get m.rows.items at ≡ Some v)
+    (items : n.rows.items ≡ set m.rows.items at (record v { row = r })) (firsts : n.firsts ≡ m.firsts) (others : n.others ≡ m.others) where
+  abbrev new : NamedRow
+  new = record v { row = r }
+
+  within : at < length m.rows.items
+  within = place_within m rows e0 at is
+
+  own_name : name_of v ≡ e0
+  own_name = let own = there_of m rows e0 at is in ap name_of (some_same v own.0 (sym there ∙ own.1)) ∙ own.2
+
+  name_stays : (place : ℕ) (e : List ℕ) → is_named (slice_get (set m.rows.items at new) place) e ≡ is_named (slice_get m.rows.items place) e
+  name_stays place e = number_or_not at place
+      (λ t tied. ap (λ k. is_named (slice_get (set m.rows.items at new) k) e) (sym tied)
+      ∙ ap (λ o. is_named o e) (written m.rows.items at new within)
+      ∙ ap (λ o. is_named o e) (sym there)
+      ∙ ap (λ k. is_named (slice_get m.rows.items k) e) tied)
+      (λ t apart. ap (λ o. is_named o e) (not_written m.rows.items at place new (λ same. apart (sym same))))
+
+  place_stays : (e : List ℕ) → place_of n e ≡ place_of m e
+  place_stays e = (λ i. first_or (items i) e (tree.get nat_cmp (firsts i) (end_of e)) (get_by_text (others i) e)) ∙ go (tree.get nat_cmp m.firsts (end_of e))
     where
-      not_taken : (o : Option First) → o ≡ None → IsSomeAnd o (λ first. bytes_eq (name_of first) e0 ≡ false) → ⊥
-      not_taken None is h = h
-      not_taken (Some first) is h = absurd cc
+      go : (o : Option ℕ) → first_or (set m.rows.items at new) e o (get_by_text m.others e) ≡ first_or m.rows.items e o (get_by_text m.others e)
+      go None = refl
+      go (Some place) = ap (λ b. cond b (Some place) (get_by_text m.others e)) (name_stays place e)
+
+  row_written : (e : List ℕ) → row_at n e ≡ cond (bytes_eq e0 e) (Some r) (row_at m e)
+  row_written e =
+      (λ i. row_from (items i) (place_stays e i))
+      ∙ same_or_not e0 e
+      (λ t same. ap (row_from (set m.rows.items at new)) (ap (place_of m) (sym same) ∙ is)
+      ∙ ap (option_map (λ (x : NamedRow). x.row)) (written m.rows.items at new within)
+      ∙ ap (λ b. cond b (Some r) (row_at m e)) (sym t))
+      (λ t other. stays other (place_of m e) refl ∙ ap (λ b. cond b (Some r) (row_at m e)) (sym t))
+    where
+      elsewhere : e0 ≢ e → (place : ℕ) → place_of m e ≡ Some place → place ≢ at
+      elsewhere other place is_there same =
+          let own = there_of m rows e place is_there in
+          other (sym own_name ∙ ap name_of (some_same v own.0 (sym there ∙ ap (slice_get m.rows.items) (sym same) ∙ own.1)) ∙ own.2)
+
+      stays : e0 ≢ e → (o : Option ℕ) → place_of m e ≡ o → row_from (set m.rows.items at new) o ≡ row_from m.rows.items o
+      stays other None is_there = refl
+      stays other (Some place) is_there = ap (option_map (λ (x : NamedRow). x.row)) (not_written m.rows.items at place new (elsewhere other place is_there))
+
+  named_written : (e : List ℕ) (place : ℕ) → get_by_text m.others e ≡ Some place → IsSomeAnd (slice_get (set m.rows.items at new) place) (λ (x : NamedRow). name_of x ≡ e)
+  named_written e place h =
+      let old = some_there (λ (x : NamedRow). name_of x ≡ e) (slice_get m.rows.items place) (rows.others_named e place h) in
+      number_or_not at place
+      (λ t tied. there_some (λ (x : NamedRow). name_of x ≡ e) (slice_get (set m.rows.items at new) place) new
+      (ap (slice_get (set m.rows.items at new)) (sym tied) ∙ written m.rows.items at new within)
+      (ap name_of (some_same v old.0 (sym there ∙ ap (slice_get m.rows.items) tied ∙ old.1)) ∙ old.2))
+      (λ t apart. there_some (λ (x : NamedRow). name_of x ≡ e) (slice_get (set m.rows.items at new) place) old.0
+      (not_written m.rows.items at place new (λ same. apart (sym same)) ∙ old.1) old.2)
+
+  found_written : (place : ℕ) (x : NamedRow) → slice_get (set m.rows.items at new) place ≡ Some x → place_of m (name_of x) ≡ Some place
+  found_written place x h = number_or_not at place
+      (λ t tied.
+      let one : new ≡ x = some_same new x (sym (written m.rows.items at new within) ∙ ap (slice_get (set m.rows.items at new)) tied ∙ h) in
+      ap (place_of m) (sym (ap name_of one)) ∙ rows.found at v there ∙ ap Some tied)
+      (λ t apart. rows.found place x (sym (not_written m.rows.items at place new (λ same. apart (sym same))) ∙ h))
+
+  pub row_is_written : PutsRow e0 r m n
+  row_is_written = record {
+    at = row_written;
+    rows = record {
+      firsts_rise = subst (λ (trees : BTreeMap ℕ ℕ). IsOrdered nat_cmp trees) (sym firsts) rows.firsts_rise;
+      others_rise = subst (λ (trees : BTreeMap (String _) ℕ). IsOrdered string_cmp trees) (sym others) rows.others_rise;
+      firsts_within = λ end place h.
+          let old : place < length m.rows.items = rows.firsts_within end place (ap (λ (trees : BTreeMap ℕ ℕ). tree.get nat_cmp trees end) (sym firsts) ∙ h) in
+          let same : length n.rows.items ≡ length m.rows.items = ap length items ∙ same_length m.rows.items at new in
+          omega arith;
+      others_named = λ e place h. subst (λ xs. IsSomeAnd (slice_get xs place) (λ (x : NamedRow). name_of x ≡ e)) (sym items)
+          (named_written e place (ap (λ (trees : BTreeMap (String _) ℕ). get_by_text trees e) (sym others) ∙ h));
+      found = λ place x h. place_stays (name_of x) ∙ found_written place x (ap (λ xs. slice_get xs place) (sym items) ∙ h);
+    };
+  }
 
 -- the row that is there is put again
 pub put_again : (m n : Rows) (e0 : List ℕ) (row : Row) → PutsRow e0 row m n → Some row ≡ row_at m e0 → SameRows m n
@@ -286,35 +406,6 @@ put_again m n e0 row put is = record {
       (λ f other. ap (λ b. cond b (Some row) (row_at m e)) f);
   rows = put.rows;
 }
-
--- maps of the same
-pub same_maps : (m n : Rows) → IsRows m → ((k : ℕ) → tree.get nat_cmp n.firsts k ≡ tree.get nat_cmp m.firsts k) → ((e : List ℕ) → get_by_text n.others e ≡ get_by_text m.others e)
-    → IsOrdered nat_cmp n.firsts → IsOrdered string_cmp n.others → SameRows m n
-same_maps m n rows firsts others firsts_rise others_rise = record {
-  same = λ e. (λ i. first_or e (firsts (end_of e) i) (others e i));
-  rows = record {
-    firsts_rise = firsts_rise;
-    others_rise = others_rise;
-    under_ends = λ k first h. rows.under_ends k first (sym (firsts k) ∙ h);
-    came_first = λ e h. others e ∙ rows.came_first e (sym (firsts (end_of e)) ∙ h);
-  };
-}
-
--- a first that is written as it was
-pub written_again : (m n : BTreeMap ℕ First) (k0 : ℕ) (w : First) → ((k : ℕ) → tree.get nat_cmp n k ≡ cond (is_at (nat_cmp k0) k) (Some w) (tree.get nat_cmp m k)) → Some w ≡ tree.get nat_cmp m k0 → (k : ℕ) → tree.get nat_cmp n k ≡ tree.get nat_cmp m k
-written_again m n k0 w at is k = at k ∙ number_or_not k0 k
-    (λ t tied. ap (λ b. cond b (Some w) (tree.get nat_cmp m k)) t ∙ is ∙ ap (tree.get nat_cmp m) tied)
-    (λ apart other. ap (λ b. cond b (Some w) (tree.get nat_cmp m k)) apart)
-
--- a first that is another's is passed over
-pub passed_over : (m : Rows) (firsts : BTreeMap ℕ First) (e : List ℕ) (first : First) → IsRows m → Some first ≡ tree.get nat_cmp m.firsts (end_of e) → bytes_eq (name_of first) e ≡ false
-    → ((k : ℕ) → tree.get nat_cmp firsts k ≡ cond (is_at (nat_cmp (end_of e)) k) (Some first) (tree.get nat_cmp m.firsts k)) → IsOrdered nat_cmp firsts
-    → SameRows m (record m { firsts = firsts }) × IsTaken (record m { firsts = firsts }) e
-passed_over m firsts e first rows there apart at rise =
-    let again = written_again m.firsts firsts (end_of e) first at there in (
-      same_maps m (record m { firsts = firsts }) rows again (λ k. refl) rise rows.others_rise,
-      subst (λ o. IsSomeAnd o (λ (x : First). bytes_eq (name_of x) e ≡ false)) (there ∙ sym (again (end_of e))) apart,
-    )
 
 pub same_then_put : (m n x : Rows) (e : List ℕ) (row : Row) → SameRows m n → PutsRow e row n x → PutsRow e row m x
 same_then_put m n x e row same put = record { at = λ k. put.at k ∙ ap (cond (bytes_eq e k) (Some row)) (same.same k); rows = put.rows }

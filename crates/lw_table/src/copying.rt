@@ -80,9 +80,8 @@ fn copy_row(
         Some((_, row)) => {
             let slot = row.slot.copy(alloc)?;
             let number = row.number;
-            let taken = rows.has_end(endpoint);
             let name = String::from_str(alloc, endpoint)?;
-            add_row(alloc, filed, rows, name, Row { slot, number }, taken)
+            add_row(alloc, filed, rows, name, Row { slot, number })
         }
     }
 }

@@ -10,13 +10,13 @@ ghost use Rattle.lw_table.specs.inner.Due.{KeepsDue, KeepsKept, deadline_at};
 ghost use Rattle.lw_table.specs.inner.Filed.{HasNumber, OtherNumbers, slot_of, number_of};
 ghost use Rattle.lw_table.specs.Lifts.{LiftsFirst};
 ghost use Rattle.lw_table.specs.LookUps.{ExpiredAfter};
-ghost use Rattle.lw_table.specs.inner.Moves.{LiftsRow, LiftsRowAt, WasSeen, IsTaken};
+ghost use Rattle.lw_table.specs.inner.Moves.{LiftsRow, LiftsRowAt, WasSeen};
 ghost use Rattle.lw_table.specs.Rows.{IsRows};
 ghost use Rattle.lw_table.specs.inner.Rows.{row_at};
 
 use crate::filed::move_number;
 use crate::row::Row;
-use crate::rows::{Rows, end_of};
+use crate::rows::Rows;
 use crate::table::Table;
 use lw_due::DueMoments;
 use lw_recent::Recent;
@@ -79,32 +79,11 @@ fn lift(numbers: &mut Recent, rows: &mut Rows, endpoint: &str, number: u64) -> S
     ensures number { HasNumber numbers.new endpoint.now (Some number) }
     ensures lifted { LiftsRowAt endpoint.now number result rows.old rows.new }
 {
-    match rows.firsts.get_mut(&end_of(endpoint)) {
-        None => unreachable!(),
-        Some(first) => {
-            if first.endpoint.as_str() == endpoint {
-                lift_row(numbers, &mut first.row, endpoint, number)
-            } else {
-                lift_other(numbers, rows, endpoint, number)
-            }
-        }
-    }
-}
-
-// The same for an endpoint that ends as that of an earlier row.
-fn lift_other(numbers: &mut Recent, rows: &mut Rows, endpoint: &str, number: u64) -> Stamp
-    requires numbers { HasNumber numbers.old endpoint.now (number_of (row_at rows.old endpoint.now)) }
-    requires rows { IsRows rows.old }
-    requires seen { WasSeen (row_at rows.old endpoint.now) }
-    requires taken { IsTaken rows.old endpoint.now }
-    ensures others { OtherNumbers endpoint.now numbers.old numbers.new }
-    ensures number { HasNumber numbers.new endpoint.now (Some number) }
-    ensures lifted { LiftsRowAt endpoint.now number result rows.old rows.new }
-{
-    match rows.others.get_mut(endpoint) {
-        None => unreachable!(),
-        Some(row) => lift_row(numbers, row, endpoint, number),
-    }
+    let Some(place) = rows.place(endpoint) else {
+        unreachable!()
+    };
+    let named = &mut rows.rows[place as usize];
+    lift_row(numbers, &mut named.row, endpoint, number)
 }
 
 // Ends the registration of the row.

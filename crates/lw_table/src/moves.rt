@@ -3,16 +3,16 @@
 ghost use Rattle.std.specs.Prelude.{◌≡◌, ◌≢◌, ◌↔◌, ℕ, List, Some, None, IfOk, OnOk, OnErr, IsOk, string_bytes};
 ghost use Rattle.lw_reg.specs.Slot.{slot_below};
 ghost use Rattle.lw_table.specs.inner.Filed.{IsFiled, IsOver, OthersSame};
-ghost use Rattle.lw_table.specs.inner.Moves.{moved_row, IsFirstFiled, IsKnown, IsTaken, JoinsRow, JoinsRowAt, PutsRow, SameRows};
+ghost use Rattle.lw_table.specs.inner.Moves.{moved_row, IsFirstFiled, IsKnown, JoinsRow, JoinsRowAt, PutsRow, SameRows};
 ghost use Rattle.lw_table.specs.Rows.{IsRows};
-ghost use Rattle.lw_table.specs.inner.Rows.{has_end, row_at};
+ghost use Rattle.lw_table.specs.inner.Rows.{row_at};
 ghost use Rattle.lw_table.specs.inner.KeyChanges.{HasKeyChanges};
 
 use crate::filed::{Filed, add_due, add_number, drop_number, keep_revived, lower_due, move_number};
 use crate::key::Key;
 use crate::key_changes::key_changes;
 use crate::row::Row;
-use crate::rows::{Rows, end_of};
+use crate::rows::Rows;
 use lw_join::Join;
 use lw_reg::Slot;
 use lw_stamp::NoMemory;
@@ -37,45 +37,14 @@ pub(crate) fn join_first(
         × IsFiled filed.new (string_bytes endpoint) (row_at rows.old (string_bytes endpoint))) }
 {
     let name = endpoint.as_str();
-    match rows.firsts.get_mut(&end_of(name)) {
+    match rows.place(name) {
         None => {
-            add_row(alloc, filed, rows, endpoint, Row { slot, number }, false)?;
+            add_row(alloc, filed, rows, endpoint, Row { slot, number })?;
             Ok(true)
         }
-        Some(first) => {
-            if first.endpoint.as_str() == name {
-                join_row(alloc, filed, &mut first.row, name, slot, number)
-            } else {
-                join_behind(alloc, filed, rows, endpoint, slot, number)
-            }
-        }
-    }
-}
-
-// The same for an endpoint that ends as that of an earlier row.
-fn join_behind(
-    alloc: Global,
-    filed: &mut Filed,
-    rows: &mut Rows,
-    endpoint: String,
-    slot: Slot,
-    number: u64,
-) -> Result<bool, NoMemory>
-    requires filed { IsFiled filed.old (string_bytes endpoint) (row_at rows.old (string_bytes endpoint)) }
-    requires rows { IsRows rows.old }
-    requires taken { IsTaken rows.old (string_bytes endpoint) }
-    ensures others { OthersSame filed.old filed.new (string_bytes endpoint) }
-    ensures joined { IfOk result (λ moved. JoinsRowAt moved (string_bytes endpoint) slot number rows.old rows.new filed.new) }
-    ensures known { IsKnown (row_at rows.old (string_bytes endpoint)) slot → IsOk result }
-    ensures unchanged { OnErr result (SameRows rows.old rows.new
-        × IsFiled filed.new (string_bytes endpoint) (row_at rows.old (string_bytes endpoint))) }
-{
-    let name = endpoint.as_str();
-    match rows.others.get_mut(name) {
-        Some(row) => join_row(alloc, filed, row, name, slot, number),
-        None => {
-            add_row(alloc, filed, rows, endpoint, Row { slot, number }, true)?;
-            Ok(true)
+        Some(place) => {
+            let named = &mut rows.rows[place as usize];
+            join_row(alloc, filed, &mut named.row, name, slot, number)
         }
     }
 }
@@ -151,19 +120,17 @@ fn try_move(
     Ok(())
 }
 
-/// Puts the first row of an endpoint, whose end is taken where another row has it.
+/// Puts the first row of an endpoint.
 pub(crate) fn add_row(
     alloc: Global,
     filed: &mut Filed,
     rows: &mut Rows,
     endpoint: String,
     row: Row,
-    taken: bool,
 ) -> Result<(), NoMemory>
     requires filed { IsFiled filed.old (string_bytes endpoint) None }
     requires rows { IsRows rows.old }
     requires absent { row_at rows.old (string_bytes endpoint) ≡ None }
-    requires taken { taken ≡ has_end rows.old (string_bytes endpoint) }
     ensures others { OthersSame filed.old filed.new (string_bytes endpoint) }
     ensures added { OnOk result (PutsRow (string_bytes endpoint) row rows.old rows.new
         × IsFiled filed.new (string_bytes endpoint) (Some row)) }
@@ -172,7 +139,7 @@ pub(crate) fn add_row(
     let keys = key_changes(alloc, None, &row.slot)?;
     let number = row.number;
     file_first(filed, endpoint.as_str(), &row, &keys)?;
-    match rows.insert(endpoint, row, taken) {
+    match rows.insert(alloc, endpoint, row) {
         Ok(()) => Ok(()),
         Err(endpoint) => {
             unfile_first(filed, endpoint.as_str(), number, &keys);

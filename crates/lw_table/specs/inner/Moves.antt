@@ -1,8 +1,9 @@
 -- Rows that are put into a table.
-use Rattle.std.specs.Prelude.{◌≡◌, ℕ, Bool, true, false, List, Option, Some, None, string_bytes, bytes_eq, cond, IsSome}
+use Rattle.std.specs.Prelude.{◌≡◌, ◌⊎◌, ℕ, Bool, true, false, List, Option, Some, None, String, bytes_eq, cond, IsSome}
 use Rattle.std.specs.Option.{IsSomeAnd}
-use Rattle.std.specs.BTreeMap.{get}
+use Rattle.std.specs.BTreeMap.{BTreeMap, IsOrdered, get, get_by_text, is_at}
 use Rattle.std.specs.Ordering.{nat_cmp}
+use Rattle.std.specs.String.{string_cmp}
 use Rattle.lw_stamp.specs.declared.moment.Moment.{Moment}
 use Rattle.lw_stamp.specs.declared.stamp.Stamp.{Stamp}
 use Rattle.lw_reg.specs.declared.slot.Slot.{Slot}
@@ -54,9 +55,23 @@ abbrev pub JoinsRowAt : Bool → List ℕ → Slot → ℕ → Rows → Rows →
 JoinsRowAt true e slot number old new filed = (¬ IsKnown (row_at old e) slot) × PutsRow e (next_row (row_at old e) slot number) old new × IsFiled filed e (Some (next_row (row_at old e) slot number))
 JoinsRowAt false e slot number old new filed = IsKnown (row_at old e) slot × SameRows old new × IsFiled filed e (row_at old e)
 
--- the first row with the end of the endpoint is that of another
-abbrev pub IsTaken : Rows → List ℕ → Type 0
-IsTaken rows endpoint = IsSomeAnd (get nat_cmp rows.firsts (end_of endpoint)) (λ first. bytes_eq (string_bytes first.endpoint) endpoint ≡ false)
+-- the place is filed under the end of the endpoint, where none was
+pub record FilesFirst (endpoint : List ℕ) (place : ℕ) (old new : BTreeMap ℕ ℕ) : Type 0 where
+  pub free : get nat_cmp old (end_of endpoint) ≡ None
+  pub at : (end : ℕ) → get nat_cmp new end ≡ cond (is_at (nat_cmp (end_of endpoint)) end) (Some place) (get nat_cmp old end)
+
+-- the place is filed under the endpoint
+pub record FilesOther {Z : Type 0} (endpoint : List ℕ) (place : ℕ) (old new : BTreeMap (String Z) ℕ) : Type 0 where
+  pub at : (e : List ℕ) → get_by_text new e ≡ cond (bytes_eq endpoint e) (Some place) (get_by_text old e)
+
+-- the place is filed in one of both ways
+abbrev pub FilesEither : List ℕ → ℕ → Rows → Rows → Type 0
+FilesEither endpoint place old new = (FilesFirst endpoint place old.firsts new.firsts × (new.others ≡ old.others)) ⊎ (FilesOther endpoint place old.others new.others × (new.firsts ≡ old.firsts))
+
+pub record FilesPlace (endpoint : List ℕ) (place : ℕ) (old new : Rows) : Type 0 where
+  pub firsts_rise : IsOrdered nat_cmp new.firsts
+  pub others_rise : IsOrdered string_cmp new.others
+  pub filed : FilesEither endpoint place old new
 
 -- the row as its registration ends, as it was last seen
 pub record LiftsRow (number : ℕ) (id : Stamp) (old new : Row) : Type 0 where
