@@ -1,6 +1,6 @@
 -- A slot that is joined to that of an endpoint's row, or tells nothing new.
-use Rattle.std.proofs.Common.{◌≡◌, ◌↔◌, ℕ, Bool, true, false, List, Some, None, Result, Ok, Err, refl, sym, ap, ◌∙◌, subst}
-use Rattle.std.specs.Prelude.{IfOk, IsErr}
+use Rattle.std.proofs.Common.{◌≡◌, ◌↔◌, ℕ, Bool, true, false, List, Some, Result, Ok, Err, refl, sym, ap, ◌∙◌, subst}
+use Rattle.std.specs.Prelude.{IfOk}
 use Rattle.std.specs.Option.{IsSomeAnd}
 use Rattle.std.specs.FinMap.{get}
 use Rattle.lw_join.specs.Maps.{one_key}
@@ -9,7 +9,7 @@ use Rattle.lw_reg.specs.State.{state_join}
 use Rattle.lw_reg.specs.declared.slot.Slot.{Slot}
 use Rattle.lw_table.specs.Changes.{Recounts, counted}
 use Rattle.lw_table.specs.inner.Filed.{IsFiled, slot_of}
-use Rattle.lw_table.specs.inner.Moves.{next_row, IsKnown, JoinsRow, JoinsRowAt, PutsRow, SameRows}
+use Rattle.lw_table.specs.inner.Moves.{next_row, IsKnown, JoinsRow, JoinsRowAt, PutsRow}
 use Rattle.lw_table.specs.Rows.{IsRows, numbers_in, state_in, table_in}
 use Rattle.lw_table.specs.inner.Rows.{row_at}
 use Rattle.lw_table.specs.Table.{TableContent}
@@ -17,26 +17,14 @@ use Rattle.lw_table.specs.declared.filed.Filed.{Filed}
 use Rattle.lw_table.specs.declared.row.Row.{Row}
 use Rattle.lw_table.specs.declared.rows.Rows.{Rows}
 use Rattle.lw_table.proofs.CountLemmas.{known_state, recount_none, recount_one}
-use Rattle.lw_table.proofs.RowLemmas.{put_again, same_then_put, same_then_same}
+use Rattle.lw_table.proofs.RowLemmas.{put_again}
 use Rattle.lw_table.proofs.TableLemmas.{get-state, joined_state, same_table}
 
 pub if_ok : {T E : Type 0} (P Q : T → Type 0) (r : Result T E) → ((x : T) → P x → Q x) → IfOk r P → IfOk r Q
 if_ok P Q (Ok x) then h = then x h
 if_ok P Q (Err e) then h = tt
 
-pub if_not : {T E : Type 0} (P : T → Type 0) (r : Result T E) → IsErr r → IfOk r P
-if_not P (Ok x) h = absurd cc
-if_not P (Err e) h = tt
-
 module _ (e : List ℕ) (slot : Slot) (number : ℕ) (filed : Filed) where
-  -- the first row of the endpoint
-  pub added_at : (m n : Rows) → row_at m e ≡ None → PutsRow e (next_row None slot number) m n → IsFiled filed e (Some (next_row None slot number)) → JoinsRowAt true e slot number m n filed
-  added_at m n none put is_filed = (
-    λ known. subst (λ o. IsKnown o slot) none known,
-    subst (λ (r : Row). PutsRow e r m n) (ap (λ o. next_row o slot number) (sym none)) put,
-    subst (λ o. IsFiled filed e (Some (next_row o slot number))) (sym none) is_filed,
-  )
-
   -- a row that is there
   pub joined_at : (m n : Rows) (old new : Row) → Some old ≡ row_at m e → PutsRow e new m n → IsFiled filed e (Some new)
       → (moved : Bool) → JoinsRow moved slot number old new → JoinsRowAt moved e slot number m n filed
@@ -52,19 +40,6 @@ module _ (e : List ℕ) (slot : Slot) (number : ℕ) (filed : Filed) where
         put_again m n e new put stays,
         subst (IsFiled filed e) stays is_filed,
       )
-
-  -- after rows that are the same
-  pub same_then_joins : (m n x : Rows) → SameRows m n → (moved : Bool) → JoinsRowAt moved e slot number n x filed → JoinsRowAt moved e slot number m x filed
-  same_then_joins m n x same true joins = (
-    λ known. joins.0 (subst (λ o. IsKnown o slot) (sym (same.same e)) known),
-    subst (λ (r : Row). PutsRow e r m x) (ap (λ o. next_row o slot number) (same.same e)) (same_then_put m n x e _ same joins.1),
-    subst (λ o. IsFiled filed e (Some (next_row o slot number))) (same.same e) joins.2,
-  )
-  same_then_joins m n x same false joins = (
-    subst (λ o. IsKnown o slot) (same.same e) joins.0,
-    same_then_same m n x same joins.1,
-    subst (IsFiled filed e) (same.same e) joins.2,
-  )
 
 -- what the table knows of the endpoint its row knows
 pub known_row : (m : Rows) → IsRows m → (change : ℕ) (t : TableContent) → table_in m change ≡ t → (e e0 : List ℕ) → e ≡ e0 → (slot : Slot) → IsSomeAnd (get t.state e0) (slot_below slot) ↔ IsKnown (row_at m e) slot

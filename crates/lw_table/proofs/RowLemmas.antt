@@ -406,9 +406,3 @@ put_again m n e0 row put is = record {
       (λ f other. ap (λ b. cond b (Some row) (row_at m e)) f);
   rows = put.rows;
 }
-
-pub same_then_put : (m n x : Rows) (e : List ℕ) (row : Row) → SameRows m n → PutsRow e row n x → PutsRow e row m x
-same_then_put m n x e row same put = record { at = λ k. put.at k ∙ ap (cond (bytes_eq e k) (Some row)) (same.same k); rows = put.rows }
-
-pub same_then_same : (m n x : Rows) → SameRows m n → SameRows n x → SameRows m x
-same_then_same m n x one other = record { same = λ k. other.same k ∙ one.same k; rows = other.rows }

@@ -122,7 +122,8 @@ impl Rows {
     {
         let end = end_of(endpoint);
         if self.firsts.contains_key(&end) {
-            self.others.insert(String::from_str(alloc, endpoint)?, place)?;
+            self.others
+                .insert(String::from_str(alloc, endpoint)?, place)?;
         } else {
             self.firsts.insert(end, place)?;
         }

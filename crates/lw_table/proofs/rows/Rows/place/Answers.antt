@@ -1,4 +1,4 @@
-use Rattle.std.proofs.Common.{◌≡◌, ◌<◌, ℕ, length, sym, subst, rules}
+use Rattle.std.proofs.Common.{◌≡◌, ◌<◌, length, sym, subst, rules}
 use Rattle.std.specs.Prelude.{IfSome, vec_len}
 use Rattle.std.specs.BTreeMap.{get_by_text}
 use Rattle.lw_table.proofs.RowLemmas.{others_within}
