@@ -1,6 +1,7 @@
 ghost use Rattle.std.specs.Prelude.{◌≡◌, ◌<◌, ◌↔◌, IsTrue};
 
 use crate::limits::{HEADER_LENGTH, MAX_TOKEN};
+use crate::options::Options;
 use crate::size::bytes_of_message;
 use std::marker::Model;
 
@@ -96,6 +97,20 @@ impl Message {
         let _mid = self.mid;
         self.code != 0 || len == HEADER_LENGTH
     }
+
+    /// The message, lent. It takes no memory.
+    pub fn lend(&self) -> LentMessage<'_>
+        ensures { result ≡ self.now }
+    {
+        LentMessage {
+            kind: self.kind,
+            code: self.code,
+            mid: self.mid,
+            token: self.token.as_slice(),
+            options: Options::owned(self.options.as_slice()),
+            payload: self.payload.as_slice(),
+        }
+    }
 }
 
 /// An option that is lent.
@@ -121,7 +136,7 @@ pub struct LentMessage<'a> {
     pub mid: u16,
     pub token: &'a [u8],
     /// In the order of their numbers.
-    pub options: &'a [LentOption<'a>],
+    pub options: Options<'a>,
     pub payload: &'a [u8],
 }
 
@@ -135,7 +150,50 @@ impl<'a> Model for LentMessage<'a> {
       code = a.code;
       mid = a.mid;
       token = a.token.now;
-      options = a.options.now;
+      options = a.options;
       payload = a.payload.now;
     } };
+}
+
+/// A message that lies in a datagram: of its parts the list of options alone takes memory.
+#[derive(Drop)]
+pub struct DecodedMessage<'a> {
+    pub kind: Kind,
+    pub code: u8,
+    pub mid: u16,
+    pub token: &'a [u8],
+    /// In the order of their numbers.
+    pub options: Vec<LentOption<'a>>,
+    pub payload: &'a [u8],
+}
+
+impl<'a> Model for DecodedMessage<'a> {
+    ghost use Rattle.lw_coap.specs.Message.{MessageContent};
+
+    ghost Value = { MessageContent };
+
+    ghost view = { λ a. record {
+      kind = a.kind;
+      code = a.code;
+      mid = a.mid;
+      token = a.token.now;
+      options = a.options.items;
+      payload = a.payload.now;
+    } };
+}
+
+impl<'a> DecodedMessage<'a> {
+    /// The message, lent. It takes no memory.
+    pub fn lend(&self) -> LentMessage<'_>
+        ensures { result ≡ self.now }
+    {
+        LentMessage {
+            kind: self.kind,
+            code: self.code,
+            mid: self.mid,
+            token: self.token,
+            options: Options::lent(self.options.as_slice()),
+            payload: self.payload,
+        }
+    }
 }

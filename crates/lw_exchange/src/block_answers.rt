@@ -18,7 +18,7 @@ use crate::block::Block;
 use crate::block_options::{BLOCK1, SIZE1, block_in, body_options};
 use crate::reading::read;
 use lw_coap::codes::{BAD_REQUEST, POST, REQUEST_ENTITY_TOO_LARGE};
-use lw_coap::{CoapOption, Kind, LentMessage, LentOption, Message, encode, encode_lent};
+use lw_coap::{CoapOption, Kind, LentMessage, LentOption, Message, Options, encode, encode_lent};
 use lw_stamp::NoMemory;
 use std::alloc::Global;
 
@@ -90,7 +90,7 @@ fn answer(
         code,
         mid: request.mid,
         token: &request.token,
-        options,
+        options: Options::lent(options),
         payload: &[],
     };
     encode_lent(alloc, &message)

@@ -23,4 +23,4 @@ pub use asked::Asked;
 pub use refusal::Refusal;
 pub use reply::{ack, answer, reset};
 pub use report::Report;
-pub use understanding::understand;
+pub use understanding::{understand, understand_lent};

@@ -7,7 +7,7 @@ ghost use Rattle.lw_request.specs.Reply.{answer_kind, answer_of, reset_of, ack_o
 ghost use Rattle.lw_request.specs.inner.Reply.{answer_with};
 
 use lw_coap::option_numbers::LOCATION_PATH;
-use lw_coap::{Kind, LentMessage, LentOption, encode_lent};
+use lw_coap::{Kind, LentMessage, LentOption, Options, encode_lent};
 use lw_stamp::{NoMemory, Stamp};
 use std::alloc::Global;
 
@@ -37,7 +37,7 @@ fn written(
         code,
         mid,
         token,
-        options,
+        options: Options::lent(options),
         payload: &[],
     };
     encode_lent(alloc, &message)
