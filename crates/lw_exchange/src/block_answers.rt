@@ -73,11 +73,11 @@ fn kind_of_answer(kind: Kind) -> Kind
     }
 }
 
-fn answer(
+fn answer<'a>(
     alloc: Global,
-    request: &Message,
+    request: &'a Message,
     code: u8,
-    options: &[LentOption<'_>],
+    options: &'a [LentOption<'a>],
 ) -> Result<Vec<u8>, NoMemory>
     requires request { IsReady request.now }
     requires code { 0 < code }

@@ -21,13 +21,13 @@ fn kind_of_answer(kind: Kind) -> Kind
 }
 
 /// The message with these parts and no payload.
-fn written(
+fn written<'a>(
     alloc: Global,
     kind: Kind,
     mid: u16,
-    token: &[u8],
+    token: &'a [u8],
     code: u8,
-    options: &[LentOption<'_>],
+    options: &'a [LentOption<'a>],
 ) -> Result<Vec<u8>, NoMemory>
     requires { Fits (answer_with kind mid token.now code options.now) }
     ensures { IfOk result (λ bytes. IsSpelling bytes.items (answer_with kind mid token.now code options.now)) }
