@@ -1,8 +1,10 @@
-ghost use Rattle.std.specs.Prelude.{◌≡◌, ◌<◌, ◌↔◌, IsTrue};
+ghost use Rattle.std.specs.Prelude.{◌≡◌, ◌<◌, ◌↔◌, IsTrue, IfOk};
 
 use crate::limits::{HEADER_LENGTH, MAX_TOKEN};
 use crate::options::Options;
 use crate::size::bytes_of_message;
+use lw_stamp::NoMemory;
+use std::alloc::Global;
 use std::marker::Model;
 
 /// The type of a message (RFC 7252, section 3).
@@ -196,4 +198,32 @@ impl<'a> DecodedMessage<'a> {
             payload: self.payload,
         }
     }
+
+    /// The message with parts of its own.
+    pub fn own(&self, alloc: Global) -> Result<Message, NoMemory>
+        ensures { IfOk result (λ own. own ≡ self.now) }
+    {
+        Ok(Message {
+            kind: self.kind,
+            code: self.code,
+            mid: self.mid,
+            token: Vec::from_slice(alloc, self.token)?,
+            options: own_options(alloc, &self.options)?,
+            payload: Vec::from_slice(alloc, self.payload)?,
+        })
+    }
+}
+
+/// The options with values of their own.
+fn own_options(alloc: Global, options: &[LentOption<'_>]) -> Result<Vec<CoapOption>, NoMemory>
+    ensures { IfOk result (λ own. own.items ≡ options.now) }
+{
+    let mut own = Vec::with_capacity(alloc, options.len())?;
+    for option in options {
+        own.push(CoapOption {
+            number: option.number,
+            value: Vec::from_slice(alloc, option.value)?,
+        })?;
+    }
+    Ok(own)
 }

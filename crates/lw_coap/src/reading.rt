@@ -8,9 +8,8 @@ ghost use Rattle.lw_coap.specs.inner.Body.{IsBodyEnd, IsBody, IsFrame, Reads};
 use crate::fault::Fault;
 use crate::header::read_header;
 use crate::limits::PAYLOAD_MARKER;
-use crate::message::{CoapOption, DecodedMessage, Kind, LentOption, Message};
+use crate::message::{DecodedMessage, Kind, LentOption, Message};
 use crate::option::next_option;
-use lw_stamp::NoMemory;
 use std::alloc::Global;
 
 /// Header and token of a datagram, and the bytes behind them.
@@ -144,39 +143,11 @@ pub fn decode_lent(alloc: Global, bytes: &[u8]) -> Result<DecodedMessage<'_>, Fa
     read_lent(alloc, bytes)
 }
 
-/// The options with values of their own.
-fn own_options(alloc: Global, options: &[LentOption<'_>]) -> Result<Vec<CoapOption>, NoMemory>
-    ensures { IfOk result (λ own. own.items ≡ options.now) }
-{
-    let mut own = Vec::with_capacity(alloc, options.len())?;
-    for option in options {
-        own.push(CoapOption {
-            number: option.number,
-            value: Vec::from_slice(alloc, option.value)?,
-        })?;
-    }
-    Ok(own)
-}
-
-/// The message with parts of its own.
-fn own(alloc: Global, message: &DecodedMessage<'_>) -> Result<Message, NoMemory>
-    ensures { IfOk result (λ own. own ≡ message.now) }
-{
-    Ok(Message {
-        kind: message.kind,
-        code: message.code,
-        mid: message.mid,
-        token: Vec::from_slice(alloc, message.token)?,
-        options: own_options(alloc, &message.options)?,
-        payload: Vec::from_slice(alloc, message.payload)?,
-    })
-}
-
 fn read(alloc: Global, bytes: &[u8]) -> Result<Message, Fault>
     ensures { Reads bytes.now result }
 {
     match read_lent(alloc, bytes) {
-        Ok(message) => match own(alloc, &message) {
+        Ok(message) => match message.own(alloc) {
             Ok(own) => Ok(own),
             Err(_) => Err(Fault::NoMemory),
         },

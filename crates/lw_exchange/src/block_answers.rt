@@ -41,7 +41,7 @@ fn asks(kind: Kind) -> bool
 }
 
 /// The block of a Register or an Update that has one.
-pub(crate) fn block_of(message: &Message) -> Option<Block>
+pub(crate) fn block_of(message: &LentMessage<'_>) -> Option<Block>
     ensures { option_map value_of result ≡ block_of message.now }
 {
     if asks(message.kind) && message.code == POST {

@@ -1,4 +1,4 @@
-use Rattle.std.proofs.Common.{refl, inl, inr}
+use Rattle.std.proofs.Common.{inl, inr}
 use Rattle.lw_coap.specs.Message.{MessageContent}
 use Rattle.lw_coap.proofs.Messages.{whole_message, body_fault}
 use Rattle.lw_coap.proofs.reading.read_lent.Goals as goal
