@@ -123,7 +123,7 @@ fn is_written_and_fits(alloc: Global, message: &mut Message) -> Result<(), Fail>
     holds("code 0.00 with more does not fit", !message.fits())
 }
 
-/// Tries: decode, Message::fits
+/// Tries: decode, Message::fits, Message::lend, Options::owned, Options::walk
 #[test]
 fn a_register_is_read_and_written(rt: HostRuntime) -> Result<(), Fail> {
     let mut message = decode(rt.alloc(), &REGISTER)?;
@@ -131,11 +131,13 @@ fn a_register_is_read_and_written(rt: HostRuntime) -> Result<(), Fail> {
     is_written_and_fits(rt.alloc(), &mut message)
 }
 
-/// Tries: decode_lent
+/// Tries: decode_lent, DecodedMessage::lend, DecodedMessage::own, Options::lent, Options::next
 #[test]
 fn a_register_is_read_where_it_lies(rt: HostRuntime) -> Result<(), Fail> {
     let message = decode_lent(rt.alloc(), &REGISTER)?;
-    holds("its parts", is_register(&message.lend()))
+    holds("its parts", is_register(&message.lend()))?;
+    let own = message.own(rt.alloc())?;
+    holds("its own parts", is_register(&own.lend()))
 }
 
 /// Tries: decode, decode_lent
