@@ -1,7 +1,10 @@
-ghost use Rattle.std.specs.Prelude.{◌≡◌, ◌<◌, ◌↔◌, IsTrue};
+ghost use Rattle.std.specs.Prelude.{◌≡◌, ◌<◌, ◌↔◌, IsTrue, IfOk};
 
 use crate::limits::{HEADER_LENGTH, MAX_TOKEN};
+use crate::options::Options;
 use crate::size::bytes_of_message;
+use lw_stamp::NoMemory;
+use std::alloc::Global;
 use std::marker::Model;
 
 /// The type of a message (RFC 7252, section 3).
@@ -96,6 +99,20 @@ impl Message {
         let _mid = self.mid;
         self.code != 0 || len == HEADER_LENGTH
     }
+
+    /// The message, lent. It takes no memory.
+    pub fn lend(&self) -> LentMessage<'_>
+        ensures { result ≡ self.now }
+    {
+        LentMessage {
+            kind: self.kind,
+            code: self.code,
+            mid: self.mid,
+            token: self.token.as_slice(),
+            options: Options::owned(self.options.as_slice()),
+            payload: self.payload.as_slice(),
+        }
+    }
 }
 
 /// An option that is lent.
@@ -121,7 +138,7 @@ pub struct LentMessage<'a> {
     pub mid: u16,
     pub token: &'a [u8],
     /// In the order of their numbers.
-    pub options: &'a [LentOption<'a>],
+    pub options: Options<'a>,
     pub payload: &'a [u8],
 }
 
@@ -135,7 +152,78 @@ impl<'a> Model for LentMessage<'a> {
       code = a.code;
       mid = a.mid;
       token = a.token.now;
-      options = a.options.now;
+      options = a.options;
       payload = a.payload.now;
     } };
+}
+
+/// A message that lies in a datagram: of its parts the list of options alone takes memory.
+#[derive(Drop)]
+pub struct DecodedMessage<'a> {
+    pub kind: Kind,
+    pub code: u8,
+    pub mid: u16,
+    pub token: &'a [u8],
+    /// In the order of their numbers.
+    pub options: Vec<LentOption<'a>>,
+    pub payload: &'a [u8],
+}
+
+impl<'a> Model for DecodedMessage<'a> {
+    ghost use Rattle.lw_coap.specs.Message.{MessageContent};
+
+    ghost Value = { MessageContent };
+
+    ghost view = { λ a. record {
+      kind = a.kind;
+      code = a.code;
+      mid = a.mid;
+      token = a.token.now;
+      options = a.options.items;
+      payload = a.payload.now;
+    } };
+}
+
+impl<'a> DecodedMessage<'a> {
+    /// The message, lent. It takes no memory.
+    pub fn lend(&self) -> LentMessage<'_>
+        ensures { result ≡ self.now }
+    {
+        LentMessage {
+            kind: self.kind,
+            code: self.code,
+            mid: self.mid,
+            token: self.token,
+            options: Options::lent(self.options.as_slice()),
+            payload: self.payload,
+        }
+    }
+
+    /// The message with parts of its own.
+    pub fn own(&self, alloc: Global) -> Result<Message, NoMemory>
+        ensures { IfOk result (λ own. own ≡ self.now) }
+    {
+        Ok(Message {
+            kind: self.kind,
+            code: self.code,
+            mid: self.mid,
+            token: Vec::from_slice(alloc, self.token)?,
+            options: own_options(alloc, &self.options)?,
+            payload: Vec::from_slice(alloc, self.payload)?,
+        })
+    }
+}
+
+/// The options with values of their own.
+fn own_options(alloc: Global, options: &[LentOption<'_>]) -> Result<Vec<CoapOption>, NoMemory>
+    ensures { IfOk result (λ own. own.items ≡ options.now) }
+{
+    let mut own = Vec::with_capacity(alloc, options.len())?;
+    for option in options {
+        own.push(CoapOption {
+            number: option.number,
+            value: Vec::from_slice(alloc, option.value)?,
+        })?;
+    }
+    Ok(own)
 }

@@ -8,7 +8,7 @@ ghost use Rattle.lw_coap.specs.inner.Body.{IsBodyEnd, IsBody, IsFrame, Reads};
 use crate::fault::Fault;
 use crate::header::read_header;
 use crate::limits::PAYLOAD_MARKER;
-use crate::message::{CoapOption, Kind, Message};
+use crate::message::{DecodedMessage, Kind, LentOption, Message};
 use crate::option::next_option;
 use std::alloc::Global;
 
@@ -20,6 +20,13 @@ struct Frame<'a> {
     mid: u16,
     token: &'a [u8],
     body: &'a [u8],
+}
+
+/// Options and payload.
+#[derive(Drop)]
+struct Body<'a> {
+    options: Vec<LentOption<'a>>,
+    payload: &'a [u8],
 }
 
 fn is_body_end(bytes: &[u8]) -> bool
@@ -63,8 +70,8 @@ fn check_body(body: &[u8]) -> Result<usize, Fault>
 }
 
 /// Options and payload, with room for this many options from the start.
-fn read_body(alloc: Global, body: &[u8], count: usize) -> Result<(Vec<CoapOption>, Vec<u8>), Fault>
-    ensures found { IfOk result (λ x. IsBody body.now x.0.items x.1.items) }
+fn read_body(alloc: Global, body: &[u8], count: usize) -> Result<Body<'_>, Fault>
+    ensures found { IfOk result (λ x. IsBody body.now x.options.items x.payload.now) }
     ensures fault { IfErr result (λ fault. (fault ≡ Fault.NoMemory) ⊎ IsOptionsFault body.now fault) }
 {
     let mut options = Vec::with_capacity(alloc, count)?;
@@ -72,16 +79,15 @@ fn read_body(alloc: Global, body: &[u8], count: usize) -> Result<(Vec<CoapOption
     let mut rest = body;
     while !is_body_end(rest) {
         let option = next_option(number, rest)?;
-        let value = Vec::from_slice(alloc, option.value)?;
-        options.push(CoapOption {
+        options.push(LentOption {
             number: option.number,
-            value,
+            value: option.value,
         })?;
         number = option.number;
         rest = option.rest;
     }
-    let payload = Vec::from_slice(alloc, payload_in(rest)?)?;
-    Ok((options, payload))
+    let payload = payload_in(rest)?;
+    Ok(Body { options, payload })
 }
 
 /// Header and token.
@@ -103,22 +109,50 @@ fn read_frame(bytes: &[u8]) -> Result<Frame<'_>, Fault>
     })
 }
 
-/// The message, once the walk has found no fault.
-fn read(alloc: Global, bytes: &[u8]) -> Result<Message, Fault>
+/// The message where it lies, once the walk has found no fault.
+fn read_lent(alloc: Global, bytes: &[u8]) -> Result<DecodedMessage<'_>, Fault>
     ensures { Reads bytes.now result }
 {
     let frame = read_frame(bytes)?;
     let count = check_body(frame.body)?;
-    let token = Vec::from_slice(alloc, frame.token)?;
-    let (options, payload) = read_body(alloc, frame.body, count)?;
-    Ok(Message {
-        kind: frame.kind,
-        code: frame.code,
-        mid: frame.mid,
-        token,
-        options,
-        payload,
-    })
+    match read_body(alloc, frame.body, count) {
+        Ok(body) => Ok(DecodedMessage {
+            kind: frame.kind,
+            code: frame.code,
+            mid: frame.mid,
+            token: frame.token,
+            options: body.options,
+            payload: body.payload,
+        }),
+        Err(fault) => Err(fault),
+    }
+}
+
+/// The message that the bytes spell, all of them: token, values and payload are left where they lie. Each fault but
+/// `NoMemory` is found before any memory is taken.
+pub fn decode_lent(alloc: Global, bytes: &[u8]) -> Result<DecodedMessage<'_>, Fault>
+    // What is read is spelled so.
+    ensures found { IfOk result (λ message. IsSpelling bytes.now message) }
+    // What is spelled so is read, unless a growth is refused.
+    ensures only { (message : MessageContent) → IsSpelling bytes.now message → (result ≡ Ok message) ⊎ (result ≡ Err Fault.NoMemory) }
+    // Each other fault is answered exactly where it is the first.
+    ensures faults { (fault : Fault) → fault ≢ Fault.NoMemory → ((result ≡ Err fault) ↔ IsFault bytes.now fault) }
+    // Want of memory comes only in place of a message.
+    ensures memory { result ≡ Err Fault.NoMemory → (message : MessageContent) × IsSpelling bytes.now message }
+{
+    read_lent(alloc, bytes)
+}
+
+fn read(alloc: Global, bytes: &[u8]) -> Result<Message, Fault>
+    ensures { Reads bytes.now result }
+{
+    match read_lent(alloc, bytes) {
+        Ok(message) => match message.own(alloc) {
+            Ok(own) => Ok(own),
+            Err(_) => Err(Fault::NoMemory),
+        },
+        Err(fault) => Err(fault),
+    }
 }
 
 /// The message that the bytes spell, all of them. Each fault but `NoMemory` is found before any memory is

@@ -83,7 +83,8 @@ pub(crate) fn bytes_of_message(message: &Message) -> Option<usize>
 pub(crate) fn room_of(message: &LentMessage<'_>) -> usize {
     let mut before = 0;
     let mut room = HEADER_LENGTH + usize::from(!message.payload.is_empty());
-    for option in message.options {
+    let mut rest = message.options.walk();
+    while let Some(option) = rest.next() {
         let delta = usize::from(option.number.saturating_sub(before));
         let size = option.value.len();
         room = room

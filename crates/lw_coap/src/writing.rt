@@ -4,7 +4,8 @@ ghost use Rattle.lw_coap.specs.Fits.{AreRising, options_length, Fits};
 ghost use Rattle.lw_coap.specs.inner.Writing.{nibble_of, extension_of, option_bytes, options_bytes, payload_bytes, header_bytes, message_bytes};
 
 use crate::limits::PAYLOAD_MARKER;
-use crate::message::{CoapOption, LentMessage, LentOption, Message};
+use crate::message::{LentMessage, LentOption, Message};
+use crate::options::Options;
 use crate::size::room_of;
 use lw_stamp::NoMemory;
 use std::alloc::Global;
@@ -66,14 +67,15 @@ fn put_payload(out: &mut Vec<u8>, payload: &[u8]) -> Result<(), NoMemory>
 }
 
 /// Options, one after another.
-fn put_options(out: &mut Vec<u8>, options: &[LentOption<'_>]) -> Result<(), NoMemory>
+fn put_options(out: &mut Vec<u8>, options: &Options<'_>) -> Result<(), NoMemory>
     requires rising { AreRising 0 options.now }
     requires small { options_length 0 options.now ≤ 8192 }
     ensures { OnOk result (out.new.items ≡ out.old.items ++ options_bytes 0 options.now) }
 {
     let mut before = 0;
-    for option in options {
-        put_option(out, before, option)?;
+    let mut rest = options.walk();
+    while let Some(option) = rest.next() {
+        put_option(out, before, &option)?;
         before = option.number;
     }
     Ok(())
@@ -97,7 +99,7 @@ fn write(alloc: Global, message: &LentMessage<'_>) -> Result<Vec<u8>, NoMemory>
     let mut out = Vec::with_capacity(alloc, room_of(message))?;
     put_header(&mut out, message)?;
     out.extend_from_slice(message.token)?;
-    put_options(&mut out, message.options)?;
+    put_options(&mut out, &message.options)?;
     put_payload(&mut out, message.payload)?;
     Ok(out)
 }
@@ -110,35 +112,10 @@ pub fn encode_lent(alloc: Global, message: &LentMessage<'_>) -> Result<Vec<u8>, 
     write(alloc, message)
 }
 
-/// The options, lent.
-fn lend_options(alloc: Global, options: &[CoapOption]) -> Result<Vec<LentOption<'_>>, NoMemory>
-    ensures { IfOk result (λ lent. lent.items ≡ options.now) }
-{
-    let mut lent = Vec::with_capacity(alloc, options.len())?;
-    for option in options {
-        lent.push(LentOption {
-            number: option.number,
-            value: &option.value,
-        })?;
-    }
-    Ok(lent)
-}
-
 /// The one spelling of the message. `Message::fits` tells whether there is one.
 pub fn encode(alloc: Global, message: &Message) -> Result<Vec<u8>, NoMemory>
     requires { Fits message.now }
     ensures { IfOk result (λ bytes. IsSpelling bytes.items message.now) }
 {
-    let options = lend_options(alloc, &message.options)?;
-    encode_lent(
-        alloc,
-        &LentMessage {
-            kind: message.kind,
-            code: message.code,
-            mid: message.mid,
-            token: &message.token,
-            options: &options,
-            payload: &message.payload,
-        },
-    )
+    encode_lent(alloc, &message.lend())
 }

@@ -18,7 +18,7 @@ use crate::block::Block;
 use crate::block_options::{BLOCK1, SIZE1, block_in, body_options};
 use crate::reading::read;
 use lw_coap::codes::{BAD_REQUEST, POST, REQUEST_ENTITY_TOO_LARGE};
-use lw_coap::{CoapOption, Kind, LentMessage, LentOption, Message, encode, encode_lent};
+use lw_coap::{CoapOption, Kind, LentMessage, LentOption, Message, Options, encode, encode_lent};
 use lw_stamp::NoMemory;
 use std::alloc::Global;
 
@@ -41,7 +41,7 @@ fn asks(kind: Kind) -> bool
 }
 
 /// The block of a Register or an Update that has one.
-pub(crate) fn block_of(message: &Message) -> Option<Block>
+pub(crate) fn block_of(message: &LentMessage<'_>) -> Option<Block>
     ensures { option_map value_of result ≡ block_of message.now }
 {
     if asks(message.kind) && message.code == POST {
@@ -73,11 +73,11 @@ fn kind_of_answer(kind: Kind) -> Kind
     }
 }
 
-fn answer(
+fn answer<'a>(
     alloc: Global,
-    request: &Message,
+    request: &'a Message,
     code: u8,
-    options: &[LentOption<'_>],
+    options: &'a [LentOption<'a>],
 ) -> Result<Vec<u8>, NoMemory>
     requires request { IsReady request.now }
     requires code { 0 < code }
@@ -90,7 +90,7 @@ fn answer(
         code,
         mid: request.mid,
         token: &request.token,
-        options,
+        options: Options::lent(options),
         payload: &[],
     };
     encode_lent(alloc, &message)

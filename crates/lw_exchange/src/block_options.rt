@@ -5,7 +5,7 @@ ghost use Rattle.lw_exchange.specs.Blocks.{value_of, values_of, block_in, is_of_
 ghost use Rattle.lw_exchange.specs.Blocks.{shortest_bytes};
 
 use crate::block::Block;
-use lw_coap::CoapOption;
+use lw_coap::{CoapOption, Options};
 
 /// The number of the option Block1.
 pub(crate) const BLOCK1: u16 = 27;
@@ -14,14 +14,15 @@ pub(crate) const BLOCK1: u16 = 27;
 pub(crate) const SIZE1: u16 = 60;
 
 /// The value of the option of the number that has this many of that number before it.
-pub(crate) fn value_at(options: &[CoapOption], number: u16, place: usize) -> Option<&[u8]>
+pub(crate) fn value_at<'a>(options: &Options<'a>, number: u16, place: usize) -> Option<&'a [u8]>
     ensures { option_copied result ≡ slice_get (values_of number options.now) place }
 {
     let mut left = place;
-    for option in options {
+    let mut rest = options.walk();
+    while let Some(option) = rest.next() {
         if option.number == number {
             if left == 0 {
-                return Some(option.value.as_slice());
+                return Some(option.value);
             }
             left -= 1;
         }
@@ -30,7 +31,7 @@ pub(crate) fn value_at(options: &[CoapOption], number: u16, place: usize) -> Opt
 }
 
 /// The block of a message. There is none where no option is a Block1, or two are, or it has more than three bytes.
-pub(crate) fn block_in(options: &[CoapOption]) -> Option<Block>
+pub(crate) fn block_in(options: &Options<'_>) -> Option<Block>
     ensures { option_map value_of result ≡ block_in options.now }
 {
     let value = value_at(options, BLOCK1, 0)?;

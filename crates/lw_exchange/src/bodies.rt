@@ -3,7 +3,7 @@ ghost use Rattle.lw_stamp.specs.Moment.{ms_of};
 
 use crate::body::{Arrival, Body};
 use crate::piece::Piece;
-use crate::reading::read;
+use crate::reading::read_lent;
 use crate::taking::take_message;
 use lw_reg::Addr;
 use lw_stamp::{Moment, NoMemory};
@@ -61,11 +61,11 @@ impl Bodies {
         ensures memory { OnErr result (self.new ≡ self.old) }
         ensures bounded { AreBounded self.new }
     {
-        match read(self.alloc, bytes)? {
+        match read_lent(self.alloc, bytes)? {
             None => Ok(Piece::Through),
             Some(message) => {
                 let arrival = Arrival { now, from };
-                take_message(self.alloc, &mut self.bodies, arrival, message)
+                take_message(self.alloc, &mut self.bodies, arrival, &message)
             }
         }
     }

@@ -13,7 +13,7 @@ use crate::fetch_options::BLOCK2;
 use crate::shortest::shortest_bytes;
 use lw_coap::codes::{EMPTY, GET};
 use lw_coap::option_numbers::{ACCEPT, URI_PATH};
-use lw_coap::{CoapOption, Kind, LentMessage, Message, encode, encode_lent};
+use lw_coap::{CoapOption, Kind, LentMessage, Message, Options, encode, encode_lent};
 use lw_reg::Path;
 use lw_stamp::NoMemory;
 use std::alloc::Global;
@@ -27,7 +27,7 @@ fn empty_acknowledgement(alloc: Global, mid: u16) -> Result<Vec<u8>, NoMemory>
         code: EMPTY,
         mid,
         token: &[],
-        options: &[],
+        options: Options::lent(&[]),
         payload: &[],
     };
     encode_lent(alloc, &message)

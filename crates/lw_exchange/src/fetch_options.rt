@@ -10,7 +10,7 @@ ghost use Rattle.lw_exchange.specs.FetchMessages.{is_of_notification as is_kept,
 use crate::block::Block;
 use crate::block_options::value_at;
 use lw_coap::codes::CONTENT;
-use lw_coap::{CoapOption, Kind, Message};
+use lw_coap::{CoapOption, Kind, Message, Options};
 
 /// The number of the option ETag.
 const ETAG: u16 = 4;
@@ -25,8 +25,9 @@ const SIZE2: u16 = 28;
 pub(crate) fn block2_in(options: &[CoapOption]) -> Option<Block>
     ensures { option_map value_of result ≡ value_in options.now }
 {
-    let value = value_at(options, BLOCK2, 0)?;
-    if value_at(options, BLOCK2, 1).is_some() {
+    let options = Options::owned(options);
+    let value = value_at(&options, BLOCK2, 0)?;
+    if value_at(&options, BLOCK2, 1).is_some() {
         return None;
     }
     Block::read(value)
@@ -35,13 +36,13 @@ pub(crate) fn block2_in(options: &[CoapOption]) -> Option<Block>
 pub(crate) fn has_no_block2(options: &[CoapOption]) -> bool
     ensures { result ≡ has_none options.now }
 {
-    value_at(options, BLOCK2, 0).is_none()
+    value_at(&Options::owned(options), BLOCK2, 0).is_none()
 }
 
 pub(crate) fn etag_of(options: &[CoapOption]) -> Option<&[u8]>
     ensures { option_copied result ≡ etag_in options.now }
 {
-    value_at(options, ETAG, 0)
+    value_at(&Options::owned(options), ETAG, 0)
 }
 
 pub(crate) fn same_etag(left: Option<&[u8]>, right: Option<&[u8]>) -> bool

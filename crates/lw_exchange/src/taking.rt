@@ -17,27 +17,28 @@ use crate::block_answers::{
 use crate::body::{Arrival, Body};
 use crate::kept::{begun, forget, keep};
 use crate::piece::Piece;
-use lw_coap::{Message, encode};
+use lw_coap::{DecodedMessage, Message, encode};
 use lw_stamp::NoMemory;
 use std::alloc::Global;
 
-/// Takes a message.
+/// Takes a message. One without a block is not copied.
 pub(crate) fn take_message(
     alloc: Global,
     bodies: &mut Vec<Body>,
     arrival: Arrival,
-    message: Message,
+    message: &DecodedMessage<'_>,
 ) -> Result<Piece, NoMemory>
-    requires fits { Fits message }
+    requires fits { Fits message.now }
     requires bounded { AreBounded bodies.old.items }
     ensures done { IfOk result (λ piece. IsDone bodies.old.items (ms_of arrival.now) arrival.from
-        (outcome bodies.old.items (ms_of arrival.now) arrival.from message) piece bodies.new.items) }
+        (outcome bodies.old.items (ms_of arrival.now) arrival.from message.now) piece bodies.new.items) }
     ensures memory { OnErr result (bodies.new.items ≡ bodies.old.items) }
 {
-    match block_of(&message) {
-        None => Ok(Piece::Through),
-        Some(block) => take_block(alloc, bodies, arrival, without_block(message), block),
-    }
+    let Some(block) = block_of(&message.lend()) else {
+        return Ok(Piece::Through);
+    };
+    let message = without_block(message.own(alloc)?);
+    take_block(alloc, bodies, arrival, message, block)
 }
 
 /// Takes a block, of a message without Block1 and Size1.

@@ -95,21 +95,26 @@ static NUMBERED: [(u16, &[u8]); 7] = [
     (65535, b""),
 ];
 
-fn have_values(options: &[CoapOption], wanted: &[(u16, &[u8])]) -> bool {
-    for (option, (number, value)) in options.iter().zip(wanted) {
-        if option.number != *number || option.value.as_slice() != *value {
+fn have_values(options: &Options<'_>, wanted: &[(u16, &[u8])]) -> bool {
+    let mut rest = options.walk();
+    for (number, value) in wanted {
+        let Some(option) = rest.next() else {
+            return false;
+        };
+        if option.number != *number || option.value != *value {
             return false;
         }
     }
-    options.len() == wanted.len()
+    rest.next().is_none()
 }
 
-fn is_register(message: &Message) -> bool {
+fn is_register(message: &LentMessage<'_>) -> bool {
     message.kind == Kind::Con
         && message.code == 2
         && message.mid == 1
-        && message.token.as_slice() == b"\x01\x02\x03\x04".as_slice()
-        && message.payload.as_slice() == b"</3/0>".as_slice()
+        && message.token == b"\x01\x02\x03\x04".as_slice()
+        && message.payload == b"</3/0>".as_slice()
+        && have_values(&message.options, &REGISTER_OPTIONS)
 }
 
 fn is_written_and_fits(alloc: Global, message: &mut Message) -> Result<(), Fail> {
@@ -118,20 +123,30 @@ fn is_written_and_fits(alloc: Global, message: &mut Message) -> Result<(), Fail>
     holds("code 0.00 with more does not fit", !message.fits())
 }
 
-/// Tries: decode, Message::fits
+/// Tries: decode, Message::fits, Message::lend, Options::owned, Options::walk
 #[test]
 fn a_register_is_read_and_written(rt: HostRuntime) -> Result<(), Fail> {
     let mut message = decode(rt.alloc(), &REGISTER)?;
-    let is_read = is_register(&message) && have_values(&message.options, &REGISTER_OPTIONS);
-    holds("its parts", is_read)?;
+    holds("its parts", is_register(&message.lend()))?;
     is_written_and_fits(rt.alloc(), &mut message)
 }
 
-/// Tries: decode, encode
+/// Tries: decode_lent, DecodedMessage::lend, DecodedMessage::own, Options::lent, Options::next
+#[test]
+fn a_register_is_read_where_it_lies(rt: HostRuntime) -> Result<(), Fail> {
+    let message = decode_lent(rt.alloc(), &REGISTER)?;
+    holds("its parts", is_register(&message.lend()))?;
+    let own = message.own(rt.alloc())?;
+    holds("its own parts", is_register(&own.lend()))
+}
+
+/// Tries: decode, decode_lent
 #[test]
 fn numbers_add_up(rt: HostRuntime) -> Result<(), Fail> {
     let message = decode(rt.alloc(), HEADS)?;
-    holds("each", have_values(&message.options, &NUMBERED))
+    holds("each", have_values(&message.lend().options, &NUMBERED))?;
+    let lent = decode_lent(rt.alloc(), HEADS)?;
+    holds("each lent", have_values(&lent.lend().options, &NUMBERED))
 }
 
 /// The fault of so many bytes of `REGISTER`, or none.
@@ -194,13 +209,13 @@ static FAULTS: [(&[u8], Fault); 24] = [
 ];
 
 fn refuses(alloc: Global, bytes: &[u8], fault: Option<Fault>) -> Result<(), Fail> {
-    if decode(alloc, bytes).err() == fault {
+    if decode(alloc, bytes).err() == fault && decode_lent(alloc, bytes).err() == fault {
         return Ok(());
     }
     Err(Fail::new(format_args!("{bytes:?}: not {fault:?}")))
 }
 
-/// Tries: decode
+/// Tries: decode, decode_lent
 #[test]
 fn faults(rt: HostRuntime) -> Result<(), Fail> {
     for (bytes, fault) in &FAULTS {

@@ -1,5 +1,5 @@
 use crate::hold::{holds, text_of};
-use lw_coap::{Kind, Message, codes, decode};
+use lw_coap::{Kind, Message, codes, decode, decode_lent};
 use lw_request::*;
 use lw_stamp::Stamp;
 use shown::shown;
@@ -39,6 +39,14 @@ fn told(alloc: Global, message: &Message) -> Result<String, Fail> {
     meaning(alloc, message, &asked)
 }
 
+/// What the message means where it lies in the datagram.
+fn told_lent(alloc: Global, datagram: &str, message: &Message) -> Result<String, Fail> {
+    let bytes = hex::decode(alloc, datagram)?;
+    let lent = decode_lent(alloc, &bytes)?;
+    let asked = understand_lent(alloc, &lent.lend())?;
+    meaning(alloc, message, &asked)
+}
+
 fn message_of(alloc: Global, datagram: &str) -> Result<Message, Fail> {
     let bytes = hex::decode(alloc, datagram)?;
     Ok(decode(alloc, &bytes)?)
@@ -54,7 +62,9 @@ fn same(case: &str, text: &str, want: &str) -> Result<(), Fail> {
 fn check_meaning(alloc: Global, datagram: &str, want: &str) -> Result<(), Fail> {
     let message = message_of(alloc, datagram)?;
     let meant = told(alloc, &message)?;
-    same(datagram, meant.as_str(), want)
+    same(datagram, meant.as_str(), want)?;
+    let lent = told_lent(alloc, datagram, &message)?;
+    same(datagram, lent.as_str(), want)
 }
 
 /// The datagram of a case, and what it means.
@@ -72,7 +82,7 @@ fn check(alloc: Global, cases: &str) -> Result<(), Fail> {
     Ok(())
 }
 
-/// Tries: understand
+/// Tries: understand, understand_lent
 #[test]
 fn requests_have_meanings(rt: HostRuntime) -> Result<(), Fail> {
     check(rt.alloc(), cases::REGISTERS)?;

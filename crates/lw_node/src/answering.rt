@@ -6,7 +6,7 @@ ghost use Rattle.lw_node.specs.Calls.{IsReply};
 ghost use Rattle.lw_node.specs.inner.Calls.{RepliesMalformed};
 ghost use Rattle.lw_node.specs.Effects.{answers, rejected, acknowledged, unwanted, HasNoConfirmable};
 
-use lw_coap::{Kind, Message, peek_header};
+use lw_coap::{Kind, LentMessage, peek_header};
 use lw_request::{ack, answer, reset};
 use lw_stamp::{NoMemory, Stamp};
 use std::alloc::Global;
@@ -14,7 +14,7 @@ use std::alloc::Global;
 /// The answer to a request.
 pub(crate) fn answered(
     alloc: Global,
-    request: &Message,
+    request: &LentMessage<'_>,
     code: u8,
     location: Option<Stamp>,
 ) -> Result<Option<Vec<u8>>, NoMemory>
@@ -28,7 +28,7 @@ pub(crate) fn answered(
         alloc,
         request.kind,
         request.mid,
-        &request.token,
+        request.token,
         code,
         location,
     )?;

@@ -12,9 +12,9 @@ use crate::answering::{answered, malformed, rejected, reset_to};
 use crate::decision::Decision;
 use crate::node::Node;
 use lw_coap::codes::{CHANGED, CREATED, DELETED, NOT_FOUND, SERVICE_UNAVAILABLE};
-use lw_coap::{Fault, Kind, Message, decode};
+use lw_coap::{Fault, Kind, LentMessage, decode_lent};
 use lw_reg::{Addr, Endpoint, Op, View, What};
-use lw_request::{Asked, understand};
+use lw_request::{Asked, understand_lent};
 use lw_stamp::{Moment, NoMemory, Stamp};
 use std::alloc::Global;
 
@@ -25,8 +25,8 @@ impl Node {
             DatagramMeans (issuer_at self.now (ms_of now)) M from bytes.now)) }
         ensures silent { IsSilent bytes.now → result ≡ Ok silence }
     {
-        match decode(self.alloc, bytes) {
-            Ok(message) => self.decide_message(now, from, &message),
+        match decode_lent(self.alloc, bytes) {
+            Ok(message) => self.decide_message(now, from, &message.lend()),
             Err(fault) => match fault {
                 Fault::NoMemory => Err(NoMemory),
                 _ => Ok(Decision::reply(malformed(self.alloc, bytes)?)),
@@ -38,14 +38,14 @@ impl Node {
         &self,
         now: Moment,
         from: Addr,
-        message: &Message,
+        message: &LentMessage<'_>,
     ) -> Result<Decision, NoMemory>
         requires { length message.now.token ≤ 8 }
         ensures { IfOk result (Decided self.now.table.state (λ M.
             MessageMeans (issuer_at self.now (ms_of now)) M from message.now)) }
     {
         let alloc = self.alloc;
-        match understand(alloc, message)? {
+        match understand_lent(alloc, message)? {
             Asked::Register {
                 endpoint,
                 version,
@@ -81,7 +81,7 @@ impl Node {
     /// A Register is answered with its location.
     fn decide_register(
         &self,
-        request: &Message,
+        request: &LentMessage<'_>,
         endpoint: Endpoint,
         what: What,
     ) -> Result<Decision, NoMemory>
@@ -106,7 +106,7 @@ impl Node {
     fn decide_named(
         &self,
         now: Moment,
-        request: &Message,
+        request: &LentMessage<'_>,
         id: Option<Stamp>,
         what: What,
         code: u8,
@@ -127,7 +127,7 @@ impl Node {
     fn decide_about(
         &self,
         view: &View<'_>,
-        request: &Message,
+        request: &LentMessage<'_>,
         what: What,
         code: u8,
     ) -> Result<Decision, NoMemory>
@@ -161,7 +161,7 @@ impl Node {
 }
 
 /// A request that changes nothing is answered with the code.
-fn refused(alloc: Global, request: &Message, code: u8) -> Result<Decision, NoMemory>
+fn refused(alloc: Global, request: &LentMessage<'_>, code: u8) -> Result<Decision, NoMemory>
     requires kind { (request.now.kind ≡ Kind.Con) ⊎ (request.now.kind ≡ Kind.Non) }
     requires token { length request.now.token ≤ 8 }
     requires code { 0 < code }
@@ -174,7 +174,7 @@ fn refused(alloc: Global, request: &Message, code: u8) -> Result<Decision, NoMem
 /// A request that is an operation is answered with the code.
 fn operates(
     alloc: Global,
-    request: &Message,
+    request: &LentMessage<'_>,
     code: u8,
     location: Option<Stamp>,
     operation: Op,

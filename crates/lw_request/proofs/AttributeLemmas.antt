@@ -184,12 +184,8 @@ values_by true value rest = refl
 values_by false value rest = refl
 
 -- the queries that are left, with those of the next option
-pub queries_next : (options : List OptionContent) (i : ℕ) (option : OptionContent) → i < length options → option ≡ get_or options i option
-    → values_of 15 (drop i options) ≡ values_of 15 (option ∷ []) ++ values_of 15 (drop (i + 1) options)
-queries_next options i option lt is =
-    at_drop_more (values_of 15) options i option lt
-    ∙ ap (λ (o : OptionContent). values_of 15 (o ∷ drop (i + 1) options)) (sym is)
-    ∙ values_by (option.number == 15) option.value (values_of 15 (drop (i + 1) options))
+pub queries_next : (option : OptionContent) (rest : List OptionContent) → values_of 15 (option ∷ rest) ≡ values_of 15 (option ∷ []) ++ values_of 15 rest
+queries_next option rest = values_by (option.number == 15) option.value (values_of 15 rest)
 
 pub front_texts : (front rest : List (List ℕ)) → AreTexts (front ++ rest) → AreTexts front
 front_texts [] rest h = tt

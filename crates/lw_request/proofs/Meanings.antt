@@ -109,13 +109,13 @@ pub record IsReadRegister (m : MessageContent) (endpoint : List ℕ) (queue : Bo
   pub format : Cause WrongFormat m → ⊥
   pub queries : HasQueries (queries_of m) endpoint queue lifetime binding sms
 
-pub register_read : (m view : MessageContent) (options : List OptionContent) (other : Bool) (e : List ℕ) (q : Bool) (l : ℕ) (b : Binding) (s : Option (List ℕ)) → options ≡ view.options → view ≡ m
-    → IsRegister m → HasOtherFormat options other → other ≡ false → HasQueries (values_of 15 options) e q l b s → IsReadRegister m e q l b s
-register_read m view options other e q l b s is same form iff right has =
-    let are = is ∙ ap (λ (m : MessageContent). m.options) same in
+pub register_read : (m view : MessageContent) (other : Bool) (e : List ℕ) (q : Bool) (l : ℕ) (b : Binding) (s : Option (List ℕ)) → view ≡ m
+    → IsRegister m → HasOtherFormat view.options other → other ≡ false → HasQueries (values_of 15 view.options) e q l b s → IsReadRegister m e q l b s
+register_read m view other e q l b s same form iff right has =
+    let are = ap (λ (m : MessageContent). m.options) same in
     record {
       form = form;
-      format = right_format m options other are iff right;
+      format = right_format m view.options other are iff right;
       queries = subst (λ (os : List OptionContent). HasQueries (values_of 15 os) e q l b s) are has;
     }
 
@@ -210,14 +210,14 @@ pub record IsReadUpdate (m : MessageContent) (segment : List ℕ) (id : Option S
   pub settings : AreSettings (queries_of m) lifetime binding sms
   pub id_is : Names segment id
 
-pub update_read : (m view : MessageContent) (segment : List ℕ) (options : List OptionContent) (other : Bool) (id : Option Stamp) (l : Option ℕ) (b : Option Binding) (s : Option (List ℕ))
-    → options ≡ view.options → view ≡ m → IsUpdate m segment → HasOtherFormat options other → other ≡ false
-    → AreTexts (values_of 15 options) → AreSettings (values_of 15 options) l b s → Names segment id → IsReadUpdate m segment id l b s
-update_read m view segment options other id l b s is same form iff right texts settings names =
-    let are = is ∙ ap (λ (m : MessageContent). m.options) same in
+pub update_read : (m view : MessageContent) (segment : List ℕ) (other : Bool) (id : Option Stamp) (l : Option ℕ) (b : Option Binding) (s : Option (List ℕ))
+    → view ≡ m → IsUpdate m segment → HasOtherFormat view.options other → other ≡ false
+    → AreTexts (values_of 15 view.options) → AreSettings (values_of 15 view.options) l b s → Names segment id → IsReadUpdate m segment id l b s
+update_read m view segment other id l b s same form iff right texts settings names =
+    let are = ap (λ (m : MessageContent). m.options) same in
     record {
       form = form;
-      format = right_format m options other are iff right;
+      format = right_format m view.options other are iff right;
       texts = subst (λ (os : List OptionContent). AreTexts (values_of 15 os)) are texts;
       settings = subst (λ (os : List OptionContent). AreSettings (values_of 15 os) l b s) are settings;
       id_is = names;

@@ -8,8 +8,8 @@ ghost use Rattle.lw_request.specs.Queries.{later_or, attribute_given, AreTexts, 
 ghost use Rattle.lw_request.specs.inner.Queries.{GivesAttribute};
 
 use crate::queries::split_query;
-use lw_coap::CoapOption;
 use lw_coap::option_numbers::URI_QUERY;
+use lw_coap::{LentOption, Options};
 use lw_reg::{Attributes, Text, is_attribute_name};
 use lw_stamp::NoMemory;
 use std::alloc::Global;
@@ -18,7 +18,7 @@ use std::str;
 
 /// The attributes that the queries give, which are UTF-8, in options that are recognised. Without any it takes no
 /// memory.
-pub(crate) fn attributes_of(alloc: Global, options: &[CoapOption]) -> Result<Attributes, NoMemory>
+pub(crate) fn attributes_of(alloc: Global, options: &Options<'_>) -> Result<Attributes, NoMemory>
     requires texts { AreTexts (values_of 15 options.now) }
     requires recognised { IsTrue (has_unrecognised options.now) → ⊥ }
     ensures ok { IfOk result (GiveAttributes (values_of 15 options.now)) }
@@ -32,14 +32,15 @@ pub(crate) fn attributes_of(alloc: Global, options: &[CoapOption]) -> Result<Att
 }
 
 /// Of each attribute the last value.
-fn gather(alloc: Global, options: &[CoapOption]) -> Result<BTreeMap<Text, Text>, NoMemory>
+fn gather(alloc: Global, options: &Options<'_>) -> Result<BTreeMap<Text, Text>, NoMemory>
     requires { AreTexts (values_of 15 options.now) }
     ensures ok { IfOk result (λ gathered. GiveAttributes (values_of 15 options.now) gathered.entries) }
     ensures err { OnErr result (GivesAttribute (values_of 15 options.now)) }
 {
     let mut gathered = BTreeMap::new(alloc);
-    for option in options {
-        if let Some(query) = query_in(option) {
+    let mut rest = options.walk();
+    while let Some(option) = rest.next() {
+        if let Some(query) = query_in(&option) {
             put_query(alloc, &mut gathered, query)?;
         }
     }
@@ -47,7 +48,7 @@ fn gather(alloc: Global, options: &[CoapOption]) -> Result<BTreeMap<Text, Text>,
 }
 
 /// The query that the option is, if it is one.
-fn query_in(option: &CoapOption) -> Option<&str>
+fn query_in<'a>(option: &LentOption<'a>) -> Option<&'a str>
     requires { AreTexts (values_of 15 (option.now ∷ [])) }
     ensures some { IfSome result (λ query. values_of 15 (option.now ∷ []) ≡ query.now ∷ []) }
     ensures none { IfNone result (values_of 15 (option.now ∷ []) ≡ []) }
@@ -55,7 +56,7 @@ fn query_in(option: &CoapOption) -> Option<&str>
     if option.number != URI_QUERY {
         return None;
     }
-    match str::from_utf8(option.value.as_slice()) {
+    match str::from_utf8(option.value) {
         Ok(query) => Some(query),
         Err(_) => unreachable!(),
     }

@@ -9,8 +9,8 @@ ghost use Rattle.lw_request.specs.inner.Queries.{IsNotAccepted, IsWithin};
 ghost use Rattle.lw_request.specs.Queries.Parameter.{Lt, B, Sms};
 ghost use Rattle.lw_request.specs.inner.Parameters.{value_in};
 
-use lw_coap::CoapOption;
 use lw_coap::option_numbers::URI_QUERY;
+use lw_coap::{LentOption, Options};
 use lw_reg::{Binding, SmsNumber};
 use lw_stamp::NoMemory;
 use std::alloc::Global;
@@ -32,7 +32,7 @@ pub(crate) struct Parameters<'a> {
 }
 
 /// The parameters of the queries, of which each has to be UTF-8.
-pub(crate) fn parameters_of(options: &[CoapOption]) -> Result<Parameters<'_>, BadQuery>
+pub(crate) fn parameters_of<'a>(options: &Options<'a>) -> Result<Parameters<'a>, BadQuery>
     ensures texts { OnOk result (AreTexts (values_of 15 options.now)) }
     ensures given { IfOk result (λ found. (parameter : Parameter)
         → value_in found parameter ≡ given parameter (values_of 15 options.now)) }
@@ -46,15 +46,16 @@ pub(crate) fn parameters_of(options: &[CoapOption]) -> Result<Parameters<'_>, Ba
         queue: None,
         sms: None,
     };
-    for option in options {
-        parameters = parameters.with(option)?;
+    let mut rest = options.walk();
+    while let Some(option) = rest.next() {
+        parameters = parameters.with(&option)?;
     }
     Ok(parameters)
 }
 
 impl<'a> Parameters<'a> {
     /// The parameters with what a further option gives.
-    fn with(self, option: &'a CoapOption) -> Result<Parameters<'a>, BadQuery>
+    fn with(self, option: &LentOption<'a>) -> Result<Parameters<'a>, BadQuery>
         ensures texts { OnOk result (AreTexts (values_of 15 (option.now ∷ []))) }
         ensures given { IfOk result (λ found. (parameter : Parameter)
             → value_in found parameter ≡ later_or (given parameter (values_of 15 (option.now ∷ []))) (value_in self.entry parameter)) }
@@ -63,7 +64,7 @@ impl<'a> Parameters<'a> {
         if option.number != URI_QUERY {
             return Ok(self);
         }
-        match str::from_utf8(option.value.as_slice()) {
+        match str::from_utf8(option.value) {
             Ok(query) => Ok(self.with_query(query)),
             Err(_) => Err(BadQuery),
         }

@@ -18,7 +18,7 @@ use crate::objects::read_objects;
 use crate::options::has_other_format;
 use crate::queries::{BadQuery, parameters_of, settings_of, sms_number};
 use crate::{Asked, Refusal};
-use lw_coap::{CoapOption, Message};
+use lw_coap::{LentMessage, Options};
 use lw_link::LinkText;
 use lw_reg::{Binding, Endpoint, Settings, Version};
 use lw_stamp::NoMemory;
@@ -40,7 +40,7 @@ struct Queries<'a> {
     sms: Option<&'a str>,
 }
 
-fn queries_of(options: &[CoapOption]) -> Result<Queries<'_>, BadQuery>
+fn queries_of<'a>(options: &Options<'a>) -> Result<Queries<'a>, BadQuery>
     ensures texts { OnOk result (AreTexts (values_of 15 options.now)) }
     ensures endpoint { IfOk result (λ q. (given Ep (values_of 15 options.now) ≡ Some q.endpoint.now)
         × (1 ≤ length q.endpoint.now)) }
@@ -90,12 +90,12 @@ fn version_in(given: Option<&str>) -> Option<Version>
 }
 
 /// What a POST on `rd` asks for, whose options are recognised.
-pub(crate) fn register(alloc: Global, request: &Message) -> Result<Asked, NoMemory>
+pub(crate) fn register(alloc: Global, request: &LentMessage<'_>) -> Result<Asked, NoMemory>
     requires form { IsRegister request.now }
     requires recognised { IsTrue (has_unrecognised request.now.options) → ⊥ }
     ensures { Understands (MeansBy post_steps request.now) result }
 {
-    let options = request.options.as_slice();
+    let options = &request.options;
     if has_other_format(options) {
         return Ok(Asked::Refuse(Refusal::UnsupportedContentFormat));
     }
@@ -105,7 +105,7 @@ pub(crate) fn register(alloc: Global, request: &Message) -> Result<Asked, NoMemo
     let Some(version) = version_in(queries.version) else {
         return Ok(Asked::Refuse(Refusal::PreconditionFailed));
     };
-    match read_objects(alloc, &request.payload) {
+    match read_objects(alloc, request.payload) {
         Ok(objects) => make(alloc, &queries, version, objects, options),
         Err(unread) => unread.asked(),
     }
@@ -116,7 +116,7 @@ fn make(
     queries: &Queries<'_>,
     version: Version,
     objects: LinkText,
-    options: &[CoapOption],
+    options: &Options<'_>,
 ) -> Result<Asked, NoMemory>
     requires endpoint { IsEndpoint queries.now.endpoint.now }
     requires sms { IsWithin 251 (option_copied queries.now.sms) }

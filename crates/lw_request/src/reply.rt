@@ -7,7 +7,7 @@ ghost use Rattle.lw_request.specs.Reply.{answer_kind, answer_of, reset_of, ack_o
 ghost use Rattle.lw_request.specs.inner.Reply.{answer_with};
 
 use lw_coap::option_numbers::LOCATION_PATH;
-use lw_coap::{Kind, LentMessage, LentOption, encode_lent};
+use lw_coap::{Kind, LentMessage, LentOption, Options, encode_lent};
 use lw_stamp::{NoMemory, Stamp};
 use std::alloc::Global;
 
@@ -21,13 +21,13 @@ fn kind_of_answer(kind: Kind) -> Kind
 }
 
 /// The message with these parts and no payload.
-fn written(
+fn written<'a>(
     alloc: Global,
     kind: Kind,
     mid: u16,
-    token: &[u8],
+    token: &'a [u8],
     code: u8,
-    options: &[LentOption<'_>],
+    options: &'a [LentOption<'a>],
 ) -> Result<Vec<u8>, NoMemory>
     requires { Fits (answer_with kind mid token.now code options.now) }
     ensures { IfOk result (λ bytes. IsSpelling bytes.items (answer_with kind mid token.now code options.now)) }
@@ -37,7 +37,7 @@ fn written(
         code,
         mid,
         token,
-        options,
+        options: Options::lent(options),
         payload: &[],
     };
     encode_lent(alloc, &message)

@@ -2,7 +2,7 @@ ghost use Rattle.std.specs.Prelude.{◌≡◌, IfOk};
 ghost use Rattle.lw_request.specs.Report.{report_of};
 
 use crate::options::{content_format, observe_number};
-use lw_coap::{Kind, Message};
+use lw_coap::{Kind, LentMessage};
 use lw_stamp::NoMemory;
 use std::alloc::Global;
 use std::marker::Model;
@@ -41,18 +41,17 @@ impl Model for Report {
 
 impl Report {
     /// What a response says.
-    pub(crate) fn of(alloc: Global, message: &Message) -> Result<Report, NoMemory>
+    pub(crate) fn of(alloc: Global, message: &LentMessage<'_>) -> Result<Report, NoMemory>
         ensures { IfOk result (λ report. report ≡ report_of message.now) }
     {
-        let options = message.options.as_slice();
         Ok(Report {
             kind: message.kind,
             mid: message.mid,
-            token: Vec::from_slice(alloc, &message.token)?,
+            token: Vec::from_slice(alloc, message.token)?,
             code: message.code,
-            observe: observe_number(options),
-            format: content_format(options),
-            payload: Vec::from_slice(alloc, &message.payload)?,
+            observe: observe_number(&message.options),
+            format: content_format(&message.options),
+            payload: Vec::from_slice(alloc, message.payload)?,
         })
     }
 }

@@ -12,13 +12,13 @@ use crate::role::Role;
 use crate::update::update;
 use crate::{Asked, Refusal, Report};
 use lw_coap::codes::{DELETE, POST};
-use lw_coap::{Kind, Message};
+use lw_coap::{Kind, LentMessage, Message};
 use lw_stamp::{NoMemory, Stamp};
 use std::alloc::Global;
 
 /// What the message means by itself (LwM2M 1.1 Core, section 6.2; RFC 7252, sections 4.2, 5.2 and 5.4): a request
 /// is refused by the first step whose cause holds, in the order of the definitions.
-pub fn understand(alloc: Global, message: &Message) -> Result<Asked, NoMemory>
+pub fn understand_lent(alloc: Global, message: &LentMessage<'_>) -> Result<Asked, NoMemory>
     ensures meaning { IfOk result (Means message.now) }
     // Want of memory comes only in place of what owns a text or bytes.
     ensures memory { OnErr result (MeansOwned message.now) }
@@ -32,7 +32,16 @@ pub fn understand(alloc: Global, message: &Message) -> Result<Asked, NoMemory>
     }
 }
 
-fn understand_response(alloc: Global, message: &Message) -> Result<Asked, NoMemory>
+/// What the message means by itself, as `understand_lent` says it.
+pub fn understand(alloc: Global, message: &Message) -> Result<Asked, NoMemory>
+    ensures meaning { IfOk result (Means message.now) }
+    // Want of memory comes only in place of what owns a text or bytes.
+    ensures memory { OnErr result (MeansOwned message.now) }
+{
+    understand_lent(alloc, &message.lend())
+}
+
+fn understand_response(alloc: Global, message: &LentMessage<'_>) -> Result<Asked, NoMemory>
     ensures { Understands (ResponseMeans message.now) result }
 {
     if has_critical(&message.options) {
@@ -41,7 +50,7 @@ fn understand_response(alloc: Global, message: &Message) -> Result<Asked, NoMemo
     Ok(Asked::Report(Report::of(alloc, message)?))
 }
 
-fn understand_request(alloc: Global, request: &Message) -> Result<Asked, NoMemory>
+fn understand_request(alloc: Global, request: &LentMessage<'_>) -> Result<Asked, NoMemory>
     ensures { Understands (MeansBy steps request.now) result }
 {
     if has_proxy(&request.options) {
@@ -64,11 +73,11 @@ fn unrecognised(kind: Kind) -> Asked
 }
 
 /// A request whose options are recognised, by its path and its method.
-fn understand_recognised(alloc: Global, request: &Message) -> Result<Asked, NoMemory>
+fn understand_recognised(alloc: Global, request: &LentMessage<'_>) -> Result<Asked, NoMemory>
     requires { IsTrue (has_unrecognised request.now.options) → ⊥ }
     ensures { Understands (MeansBy path_steps request.now) result }
 {
-    let options = request.options.as_slice();
+    let options = &request.options;
     if is_directory(options) {
         return match request.code {
             POST => register(alloc, request),

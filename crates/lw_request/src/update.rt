@@ -14,7 +14,7 @@ use crate::objects::{Unread, read_objects};
 use crate::options::has_other_format;
 use crate::queries::{BadQuery, LentSettings, parameters_of, settings_of, sms_number};
 use crate::{Asked, Refusal};
-use lw_coap::{CoapOption, Message};
+use lw_coap::{LentMessage, Options};
 use lw_link::LinkText;
 use lw_reg::GivenSettings;
 use lw_stamp::{NoMemory, Stamp};
@@ -31,7 +31,7 @@ fn read_replacement(alloc: Global, payload: &[u8]) -> Result<Option<LinkText>, U
     Ok(Some(read_objects(alloc, payload)?))
 }
 
-fn settings_in(options: &[CoapOption]) -> Result<LentSettings<'_>, BadQuery>
+fn settings_in<'a>(options: &Options<'a>) -> Result<LentSettings<'a>, BadQuery>
     ensures texts { OnOk result (AreTexts (values_of 15 options.now)) }
     ensures ok { IfOk result (λ s. AreSettings (values_of 15 options.now) s.lifetime s.binding (option_copied s.sms)) }
     ensures err { OnErr result (HasBadQuery IsOfUpdate (values_of 15 options.now)) }
@@ -40,12 +40,16 @@ fn settings_in(options: &[CoapOption]) -> Result<LentSettings<'_>, BadQuery>
 }
 
 /// What a POST on a registration asks for, whose options are recognised.
-pub(crate) fn update(alloc: Global, request: &Message, segment: &[u8]) -> Result<Asked, NoMemory>
+pub(crate) fn update(
+    alloc: Global,
+    request: &LentMessage<'_>,
+    segment: &[u8],
+) -> Result<Asked, NoMemory>
     requires form { IsUpdate request.now segment.now }
     requires recognised { IsTrue (has_unrecognised request.now.options) → ⊥ }
     ensures { Understands (MeansBy post_steps request.now) result }
 {
-    let options = request.options.as_slice();
+    let options = &request.options;
     if has_other_format(options) {
         return Ok(Asked::Refuse(Refusal::UnsupportedContentFormat));
     }
@@ -53,7 +57,7 @@ pub(crate) fn update(alloc: Global, request: &Message, segment: &[u8]) -> Result
         return Ok(Asked::Refuse(Refusal::BadRequest));
     };
     let id = Stamp::read_id(segment);
-    match read_replacement(alloc, &request.payload) {
+    match read_replacement(alloc, request.payload) {
         Ok(objects) => make(alloc, id, &settings, objects, options),
         Err(unread) => unread.asked(),
     }
@@ -64,7 +68,7 @@ fn make(
     id: Option<Stamp>,
     settings: &LentSettings<'_>,
     objects: Option<LinkText>,
-    options: &[CoapOption],
+    options: &Options<'_>,
 ) -> Result<Asked, NoMemory>
     requires sms { IsWithin 251 (option_copied settings.now.sms) }
     requires texts { AreTexts (values_of 15 options.now) }

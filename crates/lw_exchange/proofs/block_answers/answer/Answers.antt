@@ -1,5 +1,6 @@
-use Rattle.std.proofs.Common.{◌≡◌, ◌<◌, ◌≤◌, length, ap, sym, subst, arith}
-use Rattle.lw_coap.specs.Message.{MessageContent}
+use Rattle.std.proofs.Common.{◌≡◌, ◌<◌, ◌≤◌, List, length, ap, sym, subst, arith}
+use Rattle.lw_coap.specs.Fits.{AreRising, options_length}
+use Rattle.lw_coap.specs.Message.{OptionContent, MessageContent}
 use Rattle.lw_exchange.proofs.AnswerLemmas.{parts_fit}
 use Rattle.lw_exchange.proofs.block_answers.answer.Goals as goal
 
@@ -10,5 +11,6 @@ encode_lent-requires c =
     let mid : c.request.inside.mid < 65536 = subst (λ (m : MessageContent). m.mid < 65536) (sym c.request.view_is)
     c.requires.request.mid in
     let lent : length c.deref.result.now ≡ length c.request.inside.token.items = ap length c.deref.ensures.value in
-    parts_fit _ _ _ _ _ (omega (arith, token, lent)) mid c.requires.code (omega arith) c.requires.rising
-    c.requires.short
+    parts_fit _ _ _ _ _ (omega (arith, token, lent)) mid c.requires.code (omega arith)
+    (subst (AreRising 0) (sym c.lent.ensures) c.requires.rising)
+    (subst (λ (options : List OptionContent). options_length 0 options ≤ 64) (sym c.lent.ensures) c.requires.short)

@@ -18,14 +18,14 @@ use Rattle.lw_request.proofs.register.register.Goals as goal
 
 pub returns-then-has_other_format : goal.returns-then-has_other_format
 returns-then-has_other_format c =
-    let same = c.as_slice-options.ensures.value ∙ ap (λ (m : MessageContent). m.options) c.request.view_is in
-    wrong_format c.args.request.now c.as_slice-options.result.now c.has_other_format.result same c.has_other_format.ensures c.if-has_other_format.true c.requires.form.1
+    let same = ap (λ (m : MessageContent). m.options) c.request.view_is in
+    wrong_format c.args.request.now c.request.inside.options c.has_other_format.result same c.has_other_format.ensures c.if-has_other_format.true c.requires.form.1
 
 pub returns-in_default : goal.returns-in_default
 returns-in_default c =
     let m = c.args.request.now in
-    let same = c.as_slice-options.ensures.value ∙ ap (λ (m : MessageContent). m.options) c.request.view_is in
-    register_bad m c.requires.form (right_format m c.as_slice-options.result.now c.has_other_format.result same c.has_other_format.ensures c.if-has_other_format.false)
+    let same = ap (λ (m : MessageContent). m.options) c.request.view_is in
+    register_bad m c.requires.form (right_format m c.request.inside.options c.has_other_format.result same c.has_other_format.ensures c.if-has_other_format.false)
     (subst (HasBadQuery EachIsLookedAt) (ap (values_of 15) same) c.in_default.ensures.err)
 
 pub returns-in_default-version_in : goal.returns-in_default-version_in
@@ -33,8 +33,8 @@ returns-in_default-version_in c =
     let m = c.args.request.now in
     let q = c.in-Ok.queries in
     let e = c.in-Ok.ensures in
-    let same = c.as_slice-options.ensures.value ∙ ap (λ (m : MessageContent). m.options) c.request.view_is in
-    let read = register_read m _ c.as_slice-options.result.now c.has_other_format.result q.endpoint.now q.queue q.lifetime q.binding (option_copied q.sms) c.as_slice-options.ensures.value c.request.view_is c.requires.form c.has_other_format.ensures c.if-has_other_format.false
+    let same = ap (λ (m : MessageContent). m.options) c.request.view_is in
+    let read = register_read m _ c.has_other_format.result q.endpoint.now q.queue q.lifetime q.binding (option_copied q.sms) c.request.view_is c.requires.form c.has_other_format.ensures c.if-has_other_format.false
     (record { texts = e.texts; endpoint_is = e.endpoint.0; named = e.endpoint.1; queue_is = e.queue; lifetime_is = e.lifetime; binding_is = e.binding; sms_is = e.sms }) in
     register_other m read.form read.format (good_queries m q.endpoint.now q.queue q.lifetime q.binding (option_copied q.sms) read.queries)
     (subst (λ (o : Option (List ℕ)). (text : List ℕ) × (o ≡ Some text) × ((version : Version) → text ≢ version_text version)) (e.version ∙ ap (λ (os : List OptionContent). given_to Lwm2m (values_of 15 os)) same) c.in_default-version_in.ensures.none)
@@ -42,25 +42,25 @@ returns-in_default-version_in c =
 pub make-requires-clause-endpoint : goal.make-requires-clause-endpoint
 make-requires-clause-endpoint c =
     let e = c.in-Ok.ensures in
-    let same = c.as_slice-options.ensures.value ∙ ap (λ (m : MessageContent). m.options) c.request.view_is in
+    let same = ap (λ (m : MessageContent). m.options) c.request.view_is in
     let is = sym (ap (λ (os : List OptionContent). given_to Ep (values_of 15 os)) same) ∙ e.endpoint.0 in
     record { some = e.endpoint.1; most = endpoint_short c.args.request.now.options c.requires.recognised c.in-Ok.queries.endpoint.now is }
 
 pub make-requires-clause-sms : goal.make-requires-clause-sms
 make-requires-clause-sms c =
-    let same = c.as_slice-options.ensures.value ∙ ap (λ (m : MessageContent). m.options) c.request.view_is in
+    let same = ap (λ (m : MessageContent). m.options) c.request.view_is in
     subst (IsWithin 251) (sym (c.in-Ok.ensures.sms ∙ ap (λ (os : List OptionContent). given_to Sms (values_of 15 os)) same)) (sms_short c.args.request.now.options c.requires.recognised)
 
 pub returns-in-Ok-read_objects : goal.returns-in-Ok-read_objects
 returns-in-Ok-read_objects c =
     let q = c.in-Ok.queries in
     let e = c.in-Ok.ensures in
-    let read = register_read c.args.request.now _ c.as_slice-options.result.now c.has_other_format.result q.endpoint.now q.queue q.lifetime q.binding (option_copied q.sms) c.as_slice-options.ensures.value c.request.view_is c.requires.form c.has_other_format.ensures c.if-has_other_format.false
+    let read = register_read c.args.request.now _ c.has_other_format.result q.endpoint.now q.queue q.lifetime q.binding (option_copied q.sms) c.request.view_is c.requires.form c.has_other_format.ensures c.if-has_other_format.false
     (record { texts = e.texts; endpoint_is = e.endpoint.0; named = e.endpoint.1; queue_is = e.queue; lifetime_is = e.lifetime; binding_is = e.binding; sms_is = e.sms }) in
-    let spoken = subst (IsSpoken c.in-Some.version) (c.as_slice-options.ensures.value ∙ ap (λ (m : MessageContent). m.options) c.request.view_is) (c.in-Some.ensures.some ∙ ap (λ (o : Option (List ℕ)). unwrap_or o (codes "1.0")) e.version) in
-    let objects = subst (λ (bytes : List ℕ). IsObjectList bytes c.in-Ok-read_objects.objects) (c.deref.ensures.value ∙ ap (λ (m : MessageContent). m.payload) c.request.view_is) c.in-Ok-read_objects.ensures.found in
-    let same = c.as_slice-options.ensures.value ∙ ap (λ (m : MessageContent). m.options) c.request.view_is in
-    understands_given (MeansBy post_steps c.args.request.now) c.make.result (values_of 15 c.as_slice-options.result.now)
+    let spoken = subst (IsSpoken c.in-Some.version) (ap (λ (m : MessageContent). m.options) c.request.view_is) (c.in-Some.ensures.some ∙ ap (λ (o : Option (List ℕ)). unwrap_or o (codes "1.0")) e.version) in
+    let objects = subst (λ (bytes : List ℕ). IsObjectList bytes c.in-Ok-read_objects.objects) (ap (λ (m : MessageContent). m.payload) c.request.view_is) c.in-Ok-read_objects.ensures.found in
+    let same = ap (λ (m : MessageContent). m.options) c.request.view_is in
+    understands_given (MeansBy post_steps c.args.request.now) c.make.result (values_of 15 c.request.inside.options)
     (λ a. Register q.endpoint.now c.in-Some.version q.queue (settings_of q.lifetime q.binding (option_copied q.sms) c.in-Ok-read_objects.objects a)) (Unit {0})
     (λ a given. read_register_asks c.args.request.now q.endpoint.now c.in-Some.version q.queue q.lifetime q.binding (option_copied q.sms) c.in-Ok-read_objects.objects a read spoken objects
     (subst (λ (os : List OptionContent). GiveAttributes (values_of 15 os) a) same given))
@@ -71,15 +71,15 @@ make-requires-clause-texts c = c.in-Ok.ensures.texts
 
 pub make-requires-clause-recognised : goal.make-requires-clause-recognised
 make-requires-clause-recognised c =
-    let same = c.as_slice-options.ensures.value ∙ ap (λ (m : MessageContent). m.options) c.request.view_is in
+    let same = ap (λ (m : MessageContent). m.options) c.request.view_is in
     subst (λ (os : List OptionContent). IsTrue (has_unrecognised os) → ⊥) (sym same) c.requires.recognised
 
 pub returns-in-Err : goal.returns-in-Err
 returns-in-Err c =
     let q = c.in-Ok.queries in
     let e = c.in-Ok.ensures in
-    let read = register_read c.args.request.now _ c.as_slice-options.result.now c.has_other_format.result q.endpoint.now q.queue q.lifetime q.binding (option_copied q.sms) c.as_slice-options.ensures.value c.request.view_is c.requires.form c.has_other_format.ensures c.if-has_other_format.false
+    let read = register_read c.args.request.now _ c.has_other_format.result q.endpoint.now q.queue q.lifetime q.binding (option_copied q.sms) c.request.view_is c.requires.form c.has_other_format.ensures c.if-has_other_format.false
     (record { texts = e.texts; endpoint_is = e.endpoint.0; named = e.endpoint.1; queue_is = e.queue; lifetime_is = e.lifetime; binding_is = e.binding; sms_is = e.sms }) in
-    let spoken = subst (IsSpoken c.in-Some.version) (c.as_slice-options.ensures.value ∙ ap (λ (m : MessageContent). m.options) c.request.view_is) (c.in-Some.ensures.some ∙ ap (λ (o : Option (List ℕ)). unwrap_or o (codes "1.0")) e.version) in
-    let unread = subst (λ (bytes : List ℕ). IsUnread bytes c.in-Err.unread) (c.deref.ensures.value ∙ ap (λ (m : MessageContent). m.payload) c.request.view_is) c.in-Err.ensures.unread in
+    let spoken = subst (IsSpoken c.in-Some.version) (ap (λ (m : MessageContent). m.options) c.request.view_is) (c.in-Some.ensures.some ∙ ap (λ (o : Option (List ℕ)). unwrap_or o (codes "1.0")) e.version) in
+    let unread = subst (λ (bytes : List ℕ). IsUnread bytes c.in-Err.unread) (ap (λ (m : MessageContent). m.payload) c.request.view_is) c.in-Err.ensures.unread in
     register_unread c.args.request.now q.endpoint.now c.in-Some.version q.queue q.lifetime q.binding (option_copied q.sms) c.in-Err.unread c.asked.result read spoken unread c.asked.ensures

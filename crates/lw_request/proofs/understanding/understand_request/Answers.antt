@@ -10,7 +10,7 @@ use Rattle.lw_request.proofs.understanding.understand_request.Goals as goal
 pub returns : goal.returns
 returns c =
     let m = c.args.request.now in
-    let proxy : has_proxy m.options ≡ false = sym (ap has_proxy (c.deref.ensures.value ∙ ap (λ (m : MessageContent). m.options) c.request.view_is)) ∙ sym c.has_proxy.ensures ∙ c.if-has_proxy.false in
-    let recognised : has_unrecognised m.options ≡ false = sym (ap has_unrecognised (c.deref-2.ensures.value ∙ ap (λ (m : MessageContent). m.options) c.request.view_is)) ∙ sym c.has_unrecognised.ensures ∙ c.if-has_unrecognised.false in
+    let proxy : has_proxy m.options ≡ false = sym (ap has_proxy (ap (λ (m : MessageContent). m.options) c.request.view_is)) ∙ sym c.has_proxy.ensures ∙ c.if-has_proxy.false in
+    let recognised : has_unrecognised m.options ≡ false = sym (ap has_unrecognised (ap (λ (m : MessageContent). m.options) c.request.view_is)) ∙ sym c.has_unrecognised.ensures ∙ c.if-has_unrecognised.false in
     understands_as (MeansBy path_steps m) (MeansBy steps m) c.understand_recognised.result
     (λ asked h. inr (both_ways (has_proxy m.options) proxy, inr (both_ways (has_unrecognised m.options) recognised, h))) c.understand_recognised.ensures

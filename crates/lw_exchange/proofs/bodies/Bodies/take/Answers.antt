@@ -14,12 +14,12 @@ use Rattle.lw_exchange.proofs.bodies.Bodies.take.Goals as goal
 pub returns-in-None-clause-taken : goal.returns-in-None-clause-taken
 returns-in-None-clause-taken c =
     taken_nothing c.args.self.now (ms_of c.args.now) c.args.from c.args.bytes.now
-    (subst (λ (o : Option MessageContent). Spells c.args.bytes.now o) c.in-None.is c.in_ok-read.ensures)
+    (subst (λ (o : Option MessageContent). Spells c.args.bytes.now o) c.in-None.is c.in_ok-read_lent.ensures)
 
 pub take_message-requires-clause-fits : goal.take_message-requires-clause-fits
 take_message-requires-clause-fits c =
     spelled_fits c.args.bytes.now c.in-Some.message
-    (subst (λ (o : Option MessageContent). Spells c.args.bytes.now o) c.in-Some.is c.in_ok-read.ensures)
+    (subst (λ (o : Option MessageContent). Spells c.args.bytes.now o) c.in-Some.is c.in_ok-read_lent.ensures)
 
 pub invariant_of-self : goal.invariant_of-self
 invariant_of-self c =
@@ -31,7 +31,7 @@ invariant_of-self c =
 pub returns-in-Some-clause-taken : goal.returns-in-Some-clause-taken
 returns-in-Some-clause-taken c =
     let spelled : IsSpelling c.args.bytes.now c.in-Some.message =
-    subst (λ (o : Option MessageContent). Spells c.args.bytes.now o) c.in-Some.is c.in_ok-read.ensures in
+    subst (λ (o : Option MessageContent). Spells c.args.bytes.now o) c.in-Some.is c.in_ok-read_lent.ensures in
     subst (λ (l : List BodyContent). IfOk c.take_message.result
     (λ piece. IsTaken l (ms_of c.args.now) c.args.from c.args.bytes.now piece c.take_message.new.bodies.items))
     c.self.view_is

@@ -3,7 +3,7 @@ use Rattle.lw_coap.specs.Message.{MessageContent}
 use Rattle.lw_request.specs.Steps.{steps}
 use Rattle.lw_request.specs.Meaning.{MeansBy, Means, role_of}
 use Rattle.lw_request.proofs.Meanings.{understands_as, if_not_understood, request_means}
-use Rattle.lw_request.proofs.understanding.understand.Goals as goal
+use Rattle.lw_request.proofs.understanding.understand_lent.Goals as goal
 
 pub returns-in-Request-clause-memory : goal.returns-in-Request-clause-memory
 returns-in-Request-clause-memory c =

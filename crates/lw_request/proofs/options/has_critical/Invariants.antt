@@ -1,0 +1,9 @@
+use Rattle.std.proofs.Common.{◌≡◌, length}
+use Rattle.lw_request.specs.Options.{has_critical}
+use Rattle.lw_request.proofs.options.has_critical.Given as goal
+
+abbrev pub invariant-loop-option : goal.invariant-loop-option
+invariant-loop-option l = has_critical l.options ≡ has_critical l.rest
+
+abbrev pub decreases-loop-option : goal.decreases-loop-option
+decreases-loop-option l = length l.rest
