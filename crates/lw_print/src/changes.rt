@@ -60,18 +60,19 @@ fn put_page(out: &mut Writer, alloc: Global, page: &ChangePage<'_>) -> Result<()
         page.now.more page.now.next page.now.start)) }
 {
     out.begin_object()?;
-    put_changes(out, alloc, &page.changes)?;
+    put_changes(out, alloc, page)?;
     put_truth(out, "more", page.more)?;
     put_number(out, "next", page.next)?;
     put_tag(out, alloc, "start", page.start)?;
     Ok(out.end_object()?)
 }
 
-fn put_changes(out: &mut Writer, alloc: Global, changes: &[Change<'_>]) -> Result<(), NoMemory>
+/// Adds the member with the changes.
+fn put_changes(out: &mut Writer, alloc: Global, page: &ChangePage<'_>) -> Result<(), NoMemory>
     ensures { Adds result out.old out.new (key (codes "changes")
-        ∷ data_tokens (array (items_of (mapped change_json (mapped change_of changes.now))))) }
+        ∷ data_tokens (array (items_of (mapped change_json (mapped change_of page.now.changes.items))))) }
 {
-    put_all(out, alloc, "changes", changes)
+    put_all(out, alloc, "changes", &page.changes)
 }
 
 impl Print for Change<'_> {

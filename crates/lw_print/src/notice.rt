@@ -3,7 +3,9 @@ ghost use Rattle.serde_json.specs.Written.{compact_text};
 ghost use Rattle.lw_print.specs.Json.{notice_json};
 ghost use Rattle.lw_print.specs.inner.Tokens.{Adds, data_tokens};
 
-use crate::members::{put_id, put_number, put_number_or_null, put_path, put_short_or_null, put_text, put_truth};
+use crate::members::{
+    put_id, put_number, put_number_or_null, put_path, put_short_or_null, put_text, put_truth,
+};
 use crate::values::{Print, json_text};
 use json::Writer;
 use lw_node::Notice;
