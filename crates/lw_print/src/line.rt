@@ -92,6 +92,7 @@ fn put_words(
     }
 }
 
+#[tactic(auto, using(crate::proofs::WordLemmas::kept_then))]
 fn put_taken(line: &mut Vec<u8>, alloc: Global, taken: &Taken) -> Result<(), NoMemory>
     ensures { Puts result line.old.items line.new.items (join_with_byte 32 (taken_words taken.now)) }
 {
@@ -126,6 +127,7 @@ fn put_command(
     }
 }
 
+#[tactic(auto, using(crate::proofs::WordLemmas::kept_then))]
 fn put_sent(line: &mut Vec<u8>, alloc: Global, outgoing: &Outgoing) -> Result<(), NoMemory>
     ensures { Puts result line.old.items line.new.items (join_with_byte 32 (sent_words outgoing.now)) }
 {
@@ -139,6 +141,7 @@ fn put_sent(line: &mut Vec<u8>, alloc: Global, outgoing: &Outgoing) -> Result<()
 }
 
 /// Adds the words of a message that is sent, with its bytes.
+#[tactic(auto, using(crate::proofs::WordLemmas::kept_then))]
 fn put_sending(
     line: &mut Vec<u8>,
     alloc: Global,

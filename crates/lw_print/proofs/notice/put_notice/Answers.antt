@@ -10,7 +10,7 @@ returns c = seen_as notice_json c.notice.view_is (done
     ⨾ number_as c.from.ensures c.in_ok-put_number.ensures
     ⨾ c.in_ok-put_short_or_null.ensures
     ⨾ c.in_ok-put_truth.ensures
-    ⨾ text_as c.as_str.ensures.value c.in_ok-put_text.ensures
+    ⨾ text_as c.as_str.ensures c.in_ok-put_text.ensures
     ⨾ c.in_ok-put_id.ensures
     ⨾ c.in_ok-put_number_or_null.ensures
     ⨾ c.in_ok-put_path.ensures
