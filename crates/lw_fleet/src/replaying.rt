@@ -9,7 +9,7 @@ ghost use Rattle.lw_fleet.specs.Replay.{line_text, lines_text, message_of, IsRep
 use crate::fault::Fault;
 use crate::input::read_all;
 use crate::output::{flush, write_all};
-use lw_print::outcome_line;
+use lw_print::put_outcome;
 use lw_script::{Script, ScriptFault, read_script};
 use lw_world::{Outcome, World, run};
 use std::alloc::Global;
@@ -56,13 +56,16 @@ fn write_lines<W: Write>(
         (lines_text world.now.messages outcomes.now)) }
     ensures faults { IfErr result (λ e. (e ≡ Fault.WriteFailed) ⊎ (e ≡ Fault.NoMemory)) }
 {
+    let mut line = Vec::new(alloc);
     for outcome in outcomes {
-        write_line(alloc, world, outcome, writer)?;
+        write_line(&mut line, alloc, world, outcome, writer)?;
     }
     flush(writer)
 }
 
+/// Writes the line of an outcome, which is made in place of the line before.
 fn write_line<W: Write>(
+    line: &mut Vec<u8>,
     alloc: Global,
     world: &World,
     outcome: &Outcome,
@@ -74,8 +77,9 @@ fn write_line<W: Write>(
         (line_text world.now.messages outcome.now)) }
     ensures faults { IfErr result (λ e. (e ≡ Fault.WriteFailed) ⊎ (e ≡ Fault.NoMemory)) }
 {
-    let line = outcome_line(alloc, outcome, sent_message(world, outcome))?;
-    write_all(writer, &line)
+    line.clear();
+    put_outcome(line, alloc, outcome, sent_message(world, outcome))?;
+    write_all(writer, line)
 }
 
 /// The bytes of the message, where the outcome is one that was sent.

@@ -1,18 +1,19 @@
 //! What has changed.
 
-ghost use Rattle.std.specs.Prelude.{◌≡◌, [], IfOk, OnOk, map as mapped, string_bytes};
-ghost use Rattle.serde_json.specs.Data.{object};
-ghost use Rattle.serde_json.specs.View.{members_view, view};
+ghost use Rattle.std.specs.Prelude.{◌≡◌, ◌∷◌, IfOk, codes, map as mapped, string_bytes};
+ghost use Rattle.json.specs.Token.{key};
+ghost use Rattle.serde_json.specs.Data.{array};
+ghost use Rattle.serde_json.specs.View.{items_of};
 ghost use Rattle.serde_json.specs.Written.{compact_text};
 ghost use Rattle.lw_print.specs.Changes.{change_of, change_json, changes_json, registration_or_null};
+ghost use Rattle.lw_print.specs.inner.Tokens.{Adds, data_tokens};
 
-use crate::node::tag_text;
-use crate::registration::registration_value;
-use crate::value::{put_text, value_text};
-use crate::values::{Print, values};
+use crate::members::{put_number, put_tag, put_text, put_truth};
+use crate::registration::put_registration;
+use crate::values::{Print, json_text, put_all};
+use json::Writer;
 use lw_reg::View;
 use lw_stamp::NoMemory;
-use serde_json::{Map, Value, put};
 use std::alloc::Global;
 
 /// The last change of an endpoint, and what is shown of it.
@@ -40,41 +41,38 @@ pub fn changes_text(alloc: Global, page: &ChangePage<'_>) -> Result<String, NoMe
     ensures { IfOk result (λ text. string_bytes text
         ≡ compact_text (changes_json (mapped change_of page.now.changes.items) page.now.more page.now.next page.now.start)) }
 {
-    let value = changes_value(alloc, page)?;
-    value_text(alloc, &value)
+    json_text(alloc, page)
 }
 
-fn changes_value(alloc: Global, page: &ChangePage<'_>) -> Result<Value, NoMemory>
-    ensures { IfOk result (λ value. view value ≡ changes_json (mapped change_of page.now.changes.items)
-        page.now.more page.now.next page.now.start) }
-{
-    let mut map = Map::new(alloc);
-    put_page(&mut map, alloc, page)?;
-    Ok(Value::Object(map))
+impl Print for ChangePage<'_> {
+    ghost use Rattle.std.specs.Prelude.{map as mapped};
+    ghost use Rattle.lw_print.specs.Changes.{change_of, changes_json};
+
+    ghost json = { λ page. changes_json (mapped change_of page.changes.items) page.more page.next page.start };
+
+    fn put(&self, out: &mut Writer, alloc: Global) -> Result<(), NoMemory> {
+        put_page(out, alloc, self)
+    }
 }
 
-fn put_page(
-    map: &mut Map<String, Value>,
-    alloc: Global,
-    page: &ChangePage<'_>,
-) -> Result<(), NoMemory>
-    requires { map.old.entries ≡ [] }
-    ensures { OnOk result (object (members_view map.new.entries)
-        ≡ changes_json (mapped change_of page.now.changes.items) page.now.more page.now.next page.now.start) }
+fn put_page(out: &mut Writer, alloc: Global, page: &ChangePage<'_>) -> Result<(), NoMemory>
+    ensures { Adds result out.old out.new (data_tokens (changes_json (mapped change_of page.now.changes.items)
+        page.now.more page.now.next page.now.start)) }
 {
-    let changes = change_values(alloc, &page.changes)?;
-    put(map, alloc, "changes", Value::Array(changes))?;
-    put(map, alloc, "more", Value::from(page.more))?;
-    put(map, alloc, "next", Value::from(page.next))?;
-    let start = tag_text(alloc, page.start)?;
-    Ok(put(map, alloc, "start", Value::from(start))?)
+    out.begin_object()?;
+    put_changes(out, alloc, page)?;
+    put_truth(out, "more", page.more)?;
+    put_number(out, "next", page.next)?;
+    put_tag(out, alloc, "start", page.start)?;
+    Ok(out.end_object()?)
 }
 
-fn change_values(alloc: Global, changes: &[Change<'_>]) -> Result<Vec<Value>, NoMemory>
-    ensures { IfOk result (λ values. mapped view values.items ≡ mapped change_json (mapped change_of changes.now)) }
+/// Adds the member with the changes.
+fn put_changes(out: &mut Writer, alloc: Global, page: &ChangePage<'_>) -> Result<(), NoMemory>
+    ensures { Adds result out.old out.new (key (codes "changes")
+        ∷ data_tokens (array (items_of (mapped change_json (mapped change_of page.now.changes.items))))) }
 {
-    let values = values(alloc, changes)?;
-    Ok(values)
+    put_all(out, alloc, "changes", &page.changes)
 }
 
 impl Print for Change<'_> {
@@ -82,34 +80,29 @@ impl Print for Change<'_> {
 
     ghost json = { λ change. change_json (change_of change) };
 
-    fn value(&self, alloc: Global) -> Result<Value, NoMemory> {
-        let registration = shown_value(alloc, &self.registration)?;
-        let mut map = Map::new(alloc);
-        put_change(&mut map, alloc, self, registration)?;
-        Ok(Value::Object(map))
+    fn put(&self, out: &mut Writer, alloc: Global) -> Result<(), NoMemory> {
+        put_change(out, alloc, self)
     }
 }
 
-fn shown_value(alloc: Global, shown: &Option<View<'_>>) -> Result<Value, NoMemory>
-    ensures { IfOk result (λ value. view value ≡ registration_or_null shown.now) }
+fn put_change(out: &mut Writer, alloc: Global, change: &Change<'_>) -> Result<(), NoMemory>
+    ensures { Adds result out.old out.new (data_tokens (change_json (change_of change.now))) }
 {
+    out.begin_object()?;
+    put_number(out, "change", change.number)?;
+    put_text(out, "endpoint", change.endpoint)?;
+    put_shown(out, alloc, &change.registration)?;
+    Ok(out.end_object()?)
+}
+
+/// Adds the member with the registration, or with null where none is shown.
+fn put_shown(out: &mut Writer, alloc: Global, shown: &Option<View<'_>>) -> Result<(), NoMemory>
+    ensures { Adds result out.old out.new
+        (key (codes "registration") ∷ data_tokens (registration_or_null shown.now)) }
+{
+    out.key("registration")?;
     match shown {
-        Some(shown) => registration_value(alloc, shown),
-        None => Ok(Value::Null),
+        Some(shown) => put_registration(out, alloc, shown),
+        None => Ok(out.null()?),
     }
-}
-
-fn put_change(
-    map: &mut Map<String, Value>,
-    alloc: Global,
-    change: &Change<'_>,
-    registration: Value,
-) -> Result<(), NoMemory>
-    requires { map.old.entries ≡ [] }
-    ensures { OnOk result (view registration ≡ registration_or_null change.now.registration
-        → object (members_view map.new.entries) ≡ change_json (change_of change.now)) }
-{
-    put(map, alloc, "change", Value::from(change.number))?;
-    put_text(map, alloc, "endpoint", change.endpoint)?;
-    Ok(put(map, alloc, "registration", registration)?)
 }

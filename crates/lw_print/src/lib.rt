@@ -2,7 +2,9 @@
 #![tactic(auto)]
 
 mod changes;
+mod hexadecimal;
 mod line;
+mod members;
 mod node;
 mod notice;
 mod notifications;
@@ -11,12 +13,12 @@ mod one;
 mod page;
 mod path;
 mod registration;
-mod value;
 mod values;
 mod watch;
+mod words;
 
 pub use changes::{Change, ChangePage, changes_text};
-pub use line::outcome_line;
+pub use line::{outcome_line, put_outcome};
 pub use node::{NodeNumbers, health_text, node_text};
 pub use notice::notice_text;
 pub use notifications::{Notification, NotificationPage, notifications_text};

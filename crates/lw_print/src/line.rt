@@ -1,18 +1,20 @@
 //! The line of what comes of an event.
 
-ghost use Rattle.std.specs.Prelude.{◌≡◌, IfOk, [], option_map, string_bytes};
+ghost use Rattle.std.specs.Prelude.{◌≡◌, ◌∷◌, ◌++◌, IfOk, OnErr, OnOk, [], codes, decimal, option_map};
 ghost use Rattle.std.specs.Option.{unwrap_or};
 ghost use Rattle.std.specs.List.{join_with_byte};
+ghost use Rattle.hex.specs.Hex.{encode_lower};
 ghost use Rattle.lw_print.specs.Lines.{outcome_text, outcome_words, taken_words, command_words, sent_words, swept_words, found_text, fault_number, delivery_words, notice_text};
+ghost use Rattle.lw_print.specs.inner.Words.{Puts};
 
-use crate::notice::notice_text;
-use crate::one::{line_of, reply_text};
-use crate::registration::registration_text;
-use crate::value::id_text;
-use crate::watch::{stale_text, watch_text};
+use crate::one::put_reply;
+use crate::values::put_json;
+use crate::watch::{Stale, Watched};
+use crate::words::{put_decimal, put_hex, put_id, put_word};
 use lw_stamp::{NoMemory, Stamp};
 use lw_world::{
-    Answer, ClockEnd, DeltaFault, MergeFault, Notice, ObserveFault, Outcome, Outgoing, Taken,
+    Answer, ClockEnd, DeltaFault, MergeFault, Notice, ObserveFault, Outcome, Outgoing, Sending,
+    Taken,
 };
 use std::alloc::Global;
 
@@ -26,110 +28,193 @@ pub fn outcome_line(
     ensures { IfOk result (λ line.
         line.items ≡ outcome_text outcome.now (unwrap_or (option_map (λ bytes. bytes.now) message.entry) [])) }
 {
-    line_of(outcome_words(alloc, outcome, message.unwrap_or(&[]))?)
+    let mut line = Vec::new(alloc);
+    put_outcome(&mut line, alloc, outcome, message)?;
+    Ok(line)
 }
 
-fn outcome_words(alloc: Global, outcome: &Outcome, message: &[u8]) -> Result<String, NoMemory>
-    ensures { IfOk result (λ text. string_bytes text ≡ join_with_byte 32 (outcome_words outcome.now message.now)) }
+/// Adds the line of what comes of an event, with its line feed. The bytes are those of the message, where the outcome
+/// is one that was sent. On a refusal the lines are as they were.
+pub fn put_outcome(
+    lines: &mut Vec<u8>,
+    alloc: Global,
+    outcome: &Outcome,
+    message: Option<&[u8]>,
+) -> Result<(), NoMemory>
+    ensures added { OnOk result (lines.new.items ≡ lines.old.items
+        ++ outcome_text outcome.now (unwrap_or (option_map (λ bytes. bytes.now) message.entry) [])) }
+    ensures refused { OnErr result (lines.new.items ≡ lines.old.items) }
 {
-    match outcome {
-        Outcome::Taken(Ok(taken)) => taken_words(alloc, taken),
-        Outcome::Observed(outcome) | Outcome::Cancelled(outcome) => command_words(alloc, outcome),
-        Outcome::Swept(outcome) => swept_words(alloc, outcome),
-        Outcome::Answered(Ok(answer)) => found_text(alloc, answer),
-        Outcome::Sent(Ok(sending)) => {
-            let (number, change) = (sending.message, sending.change);
-            let bytes = hex::encode(alloc, message)?;
-            Ok(format!(in alloc; "message {number} {change} {bytes}")?)
-        }
-        Outcome::Delivered(outcome) => delivery_words(alloc, outcome),
-        Outcome::NoSuchNode => Ok(String::from_str(alloc, "no node")?),
-        Outcome::NoSuchMessage => Ok(String::from_str(alloc, "no message")?),
-        Outcome::Taken(Err(_)) | Outcome::Answered(Err(_)) | Outcome::Sent(Err(_)) => {
-            Ok(String::from_str(alloc, "no memory")?)
+    let length = lines.len();
+    match put_line(lines, alloc, outcome, message.unwrap_or(&[])) {
+        Ok(()) => Ok(()),
+        Err(refused) => {
+            lines.truncate(length);
+            Err(refused)
         }
     }
 }
 
-fn taken_words(alloc: Global, taken: &Taken) -> Result<String, NoMemory>
-    ensures { IfOk result (λ text. string_bytes text ≡ join_with_byte 32 (taken_words taken.now)) }
+fn put_line(
+    line: &mut Vec<u8>,
+    alloc: Global,
+    outcome: &Outcome,
+    message: &[u8],
+) -> Result<(), NoMemory>
+    ensures { Puts result line.old.items line.new.items (outcome_text outcome.now message.now) }
 {
-    let reply = reply_text(alloc, taken.reply.as_deref())?;
-    let notice = notice_or_hyphen(alloc, taken.notice.as_ref())?;
-    Ok(format!(in alloc; "taken {reply} {notice}")?)
+    put_words(line, alloc, outcome, message)?;
+    put_word(line, "\n")
 }
 
-fn notice_or_hyphen(alloc: Global, notice: Option<&Notice>) -> Result<String, NoMemory>
-    ensures { IfOk result (λ text. string_bytes text ≡ notice_text (option_map (λ n. n.now) notice.entry)) }
+fn put_words(
+    line: &mut Vec<u8>,
+    alloc: Global,
+    outcome: &Outcome,
+    message: &[u8],
+) -> Result<(), NoMemory>
+    ensures { Puts result line.old.items line.new.items (join_with_byte 32 (outcome_words outcome.now message.now)) }
+{
+    match outcome {
+        Outcome::Taken(Ok(taken)) => put_taken(line, alloc, taken),
+        Outcome::Observed(outcome) | Outcome::Cancelled(outcome) => {
+            put_command(line, alloc, outcome)
+        }
+        Outcome::Swept(outcome) => put_swept(line, outcome),
+        Outcome::Answered(Ok(answer)) => put_found(line, alloc, answer),
+        Outcome::Sent(Ok(sending)) => { put_sending(line, alloc, sending, message) }
+        Outcome::Delivered(outcome) => put_delivery(line, outcome),
+        Outcome::NoSuchNode => put_word(line, "no node"),
+        Outcome::NoSuchMessage => put_word(line, "no message"),
+        Outcome::Taken(Err(_)) | Outcome::Answered(Err(_)) | Outcome::Sent(Err(_)) => {
+            put_word(line, "no memory")
+        }
+    }
+}
+
+#[tactic(auto, using(crate::proofs::WordLemmas::kept_then))]
+fn put_taken(line: &mut Vec<u8>, alloc: Global, taken: &Taken) -> Result<(), NoMemory>
+    ensures { Puts result line.old.items line.new.items (join_with_byte 32 (taken_words taken.now)) }
+{
+    put_word(line, "taken ")?;
+    put_reply(line, alloc, taken.reply.as_deref())?;
+    put_word(line, " ")?;
+    put_notice(line, alloc, taken.notice.as_ref())
+}
+
+/// Adds the notice, or a hyphen.
+fn put_notice(line: &mut Vec<u8>, alloc: Global, notice: Option<&Notice>) -> Result<(), NoMemory>
+    ensures { Puts result line.old.items line.new.items (notice_text (option_map (λ n. n.now) notice.entry)) }
 {
     match notice {
-        Some(notice) => notice_text(alloc, notice),
-        None => Ok(String::from_str(alloc, "-")?),
+        Some(notice) => put_json(line, alloc, notice),
+        None => put_word(line, "-"),
     }
 }
 
-fn command_words(
+fn put_command(
+    line: &mut Vec<u8>,
     alloc: Global,
     outcome: &Result<Outgoing, ObserveFault>,
-) -> Result<String, NoMemory>
-    ensures { IfOk result (λ text. string_bytes text ≡ join_with_byte 32 (command_words outcome.now)) }
+) -> Result<(), NoMemory>
+    ensures { Puts result line.old.items line.new.items (join_with_byte 32 (command_words outcome.now)) }
 {
     match outcome {
-        Ok(outgoing) => sent_words(alloc, outgoing),
-        Err(ObserveFault::NotFound) => Ok(String::from_str(alloc, "refused 1")?),
-        Err(ObserveFault::ClockEnd) => Ok(String::from_str(alloc, "refused 2")?),
-        Err(ObserveFault::NoMemory) => Ok(String::from_str(alloc, "no memory")?),
+        Ok(outgoing) => put_sent(line, alloc, outgoing),
+        Err(ObserveFault::NotFound) => put_word(line, "refused 1"),
+        Err(ObserveFault::ClockEnd) => put_word(line, "refused 2"),
+        Err(ObserveFault::NoMemory) => put_word(line, "no memory"),
     }
 }
 
-fn sent_words(alloc: Global, outgoing: &Outgoing) -> Result<String, NoMemory>
-    ensures { IfOk result (λ text. string_bytes text ≡ join_with_byte 32 (sent_words outgoing.now)) }
+#[tactic(auto, using(crate::proofs::WordLemmas::kept_then))]
+fn put_sent(line: &mut Vec<u8>, alloc: Global, outgoing: &Outgoing) -> Result<(), NoMemory>
+    ensures { Puts result line.old.items line.new.items (join_with_byte 32 (sent_words outgoing.now)) }
 {
-    let token = id_text(alloc, outgoing.token)?;
     let address = outgoing.to.print(alloc)?;
-    let bytes = hex::encode(alloc, outgoing.bytes.as_slice())?;
-    Ok(format!(in alloc; "sent {token} {address} {bytes}")?)
+    put_word(line, "sent ")?;
+    put_id(line, outgoing.token)?;
+    put_word(line, " ")?;
+    put_word(line, address.as_str())?;
+    put_word(line, " ")?;
+    put_hex(line, alloc, outgoing.bytes.as_slice())
 }
 
-/// The registration that has ended, or none, or why none ends.
-fn swept_words(alloc: Global, outcome: &Result<Option<Stamp>, ClockEnd>) -> Result<String, NoMemory>
-    ensures { IfOk result (λ text. string_bytes text ≡ join_with_byte 32 (swept_words outcome.now)) }
+/// Adds the words of a message that is sent, with its bytes.
+#[tactic(auto, using(crate::proofs::WordLemmas::kept_then))]
+fn put_sending(
+    line: &mut Vec<u8>,
+    alloc: Global,
+    sending: &Sending,
+    message: &[u8],
+) -> Result<(), NoMemory>
+    ensures { Puts result line.old.items line.new.items
+        (join_with_byte 32 (codes "message" ∷ decimal sending.now.message ∷ decimal sending.now.change
+        ∷ encode_lower message.now ∷ [])) }
+{
+    put_word(line, "message ")?;
+    put_decimal(line, sending.message)?;
+    put_word(line, " ")?;
+    put_decimal(line, sending.change)?;
+    put_word(line, " ")?;
+    put_hex(line, alloc, message)
+}
+
+/// Adds the registration that has ended, or none, or why none ends.
+fn put_swept(line: &mut Vec<u8>, outcome: &Result<Option<Stamp>, ClockEnd>) -> Result<(), NoMemory>
+    ensures { Puts result line.old.items line.new.items (join_with_byte 32 (swept_words outcome.now)) }
 {
     match outcome {
         Ok(Some(id)) => {
-            let id = id_text(alloc, *id)?;
-            Ok(format!(in alloc; "swept {id}")?)
+            put_word(line, "swept ")?;
+            put_id(line, *id)
         }
-        Ok(None) => Ok(String::from_str(alloc, "none")?),
-        Err(ClockEnd) => Ok(String::from_str(alloc, "refused 1")?),
+        Ok(None) => put_word(line, "none"),
+        Err(ClockEnd) => put_word(line, "refused 1"),
     }
 }
 
-/// What is found, or `none`.
-fn found_text(alloc: Global, answer: &Answer) -> Result<String, NoMemory>
-    ensures { IfOk result (λ text. string_bytes text ≡ found_text answer.now) }
+/// Adds what is found, or `none`.
+fn put_found(line: &mut Vec<u8>, alloc: Global, answer: &Answer) -> Result<(), NoMemory>
+    ensures { Puts result line.old.items line.new.items (found_text answer.now) }
 {
     match answer {
-        Answer::Registration(Some(seen)) => registration_text(alloc, &seen.as_view()),
-        Answer::Watched(Some((seen, watch))) => watch_text(alloc, &seen.as_view(), watch),
-        Answer::Expired(Some((endpoint, id))) => stale_text(alloc, endpoint.as_str(), *id),
-        Answer::Changed(number) => Ok(format!(in alloc; "{number}")?),
+        Answer::Registration(Some(seen)) => put_json(line, alloc, &seen.as_view()),
+        Answer::Watched(Some((seen, watch))) => {
+            let shown = seen.as_view();
+            put_json(
+                line,
+                alloc,
+                &Watched {
+                    shown: &shown,
+                    watch,
+                },
+            )
+        }
+        Answer::Expired(Some((endpoint, id))) => {
+            let endpoint = endpoint.as_str();
+            put_json(line, alloc, &Stale { endpoint, id: *id })
+        }
+        Answer::Changed(number) => put_decimal(line, *number),
         Answer::Registration(None) | Answer::Watched(None) | Answer::Expired(None) => {
-            Ok(String::from_str(alloc, "none")?)
+            put_word(line, "none")
         }
     }
 }
 
-fn delivery_words(alloc: Global, outcome: &Result<usize, MergeFault>) -> Result<String, NoMemory>
-    ensures { IfOk result (λ text. string_bytes text ≡ join_with_byte 32 (delivery_words outcome.now)) }
+fn put_delivery(line: &mut Vec<u8>, outcome: &Result<usize, MergeFault>) -> Result<(), NoMemory>
+    ensures { Puts result line.old.items line.new.items (join_with_byte 32 (delivery_words outcome.now)) }
 {
     match outcome {
-        Ok(joined) => Ok(format!(in alloc; "joined {joined}")?),
-        Err(MergeFault::Malformed(fault)) => {
-            let number = fault_number(*fault);
-            Ok(format!(in alloc; "malformed {number}")?)
+        Ok(joined) => {
+            put_word(line, "joined ")?;
+            put_decimal(line, *joined)
         }
-        Err(MergeFault::NoMemory { .. }) => Ok(String::from_str(alloc, "no memory")?),
+        Err(MergeFault::Malformed(fault)) => {
+            put_word(line, "malformed ")?;
+            put_decimal(line, fault_number(*fault))
+        }
+        Err(MergeFault::NoMemory { .. }) => put_word(line, "no memory"),
     }
 }
 

@@ -1,14 +1,14 @@
 //! What a node knows, in numbers, and whether a server serves.
 
-ghost use Rattle.std.specs.Prelude.{◌≡◌, [], IfOk, OnOk, string_bytes};
-ghost use Rattle.serde_json.specs.Data.{object};
-ghost use Rattle.serde_json.specs.View.{members_view};
+ghost use Rattle.std.specs.Prelude.{◌≡◌, IfOk, string_bytes};
 ghost use Rattle.serde_json.specs.Written.{compact_text};
-ghost use Rattle.lw_print.specs.Json.{health_json, node_json, status_text, tag_text as digits_of};
+ghost use Rattle.lw_print.specs.Json.{health_json, node_json, status_text};
+ghost use Rattle.lw_print.specs.inner.Tokens.{Adds, data_tokens};
 
-use crate::value::{put_text, short_value, value_text};
+use crate::members::{put_number, put_short_or_null, put_tag, put_text};
+use crate::values::{Print, json_text};
+use json::Writer;
 use lw_stamp::{Moment, NoMemory};
-use serde_json::{Map, Value, put};
 use std::alloc::Global;
 
 /// A node in numbers.
@@ -26,45 +26,43 @@ pub struct NodeNumbers {
 }
 
 /// The JSON object of a node in numbers.
-#[tactic(auto, using(crate::proofs::MemberLemmas::node_plain))]
 pub fn node_text(alloc: Global, numbers: &NodeNumbers) -> Result<String, NoMemory>
     ensures { IfOk result (λ text. string_bytes text ≡ compact_text (node_json numbers.now)) }
 {
-    let mut map = Map::new(alloc);
-    put_node(&mut map, alloc, numbers)?;
-    value_text(alloc, &Value::Object(map))
+    json_text(alloc, numbers)
 }
 
-fn put_node(
-    map: &mut Map<String, Value>,
-    alloc: Global,
-    numbers: &NodeNumbers,
-) -> Result<(), NoMemory>
-    requires { map.old.entries ≡ [] }
-    ensures { OnOk result (object (members_view map.new.entries) ≡ node_json numbers.now) }
-{
-    put(map, alloc, "change", Value::from(numbers.change))?;
-    put(map, alloc, "counter", Value::from(numbers.counter))?;
-    put(map, alloc, "number", short_value(numbers.number))?;
-    put(
-        map,
-        alloc,
-        "registrations",
-        Value::from(numbers.registrations),
-    )?;
-    let start = tag_text(alloc, numbers.start)?;
-    Ok(put(map, alloc, "start", Value::from(start))?)
+impl Print for NodeNumbers {
+    ghost use Rattle.lw_print.specs.Json.{node_json};
+
+    ghost json = { node_json };
+
+    fn put(&self, out: &mut Writer, alloc: Global) -> Result<(), NoMemory> {
+        put_node(out, alloc, self)
+    }
 }
 
-/// The 16 hex digits of a start's tag.
-pub(crate) fn tag_text(alloc: Global, tag: u64) -> Result<String, NoMemory>
-    ensures { IfOk result (λ text. string_bytes text ≡ digits_of tag) }
+fn put_node(out: &mut Writer, alloc: Global, numbers: &NodeNumbers) -> Result<(), NoMemory>
+    ensures { Adds result out.old out.new (data_tokens (node_json numbers.now)) }
 {
-    Ok(hex::encode(alloc, tag.to_be_bytes())?)
+    out.begin_object()?;
+    put_number(out, "change", numbers.change)?;
+    put_number(out, "counter", numbers.counter)?;
+    put_short_or_null(out, "number", numbers.number)?;
+    put_number(out, "registrations", numbers.registrations)?;
+    put_tag(out, alloc, "start", numbers.start)?;
+    Ok(out.end_object()?)
+}
+
+/// Whether a server serves, at a moment, and its version.
+#[derive(Drop)]
+struct Health<'a> {
+    now: Moment,
+    serves: bool,
+    version: &'a str,
 }
 
 /// The JSON object of whether a server serves, or its log is away.
-#[tactic(auto, using(crate::proofs::MemberLemmas::health_plain))]
 pub fn health_text(
     alloc: Global,
     now: Moment,
@@ -73,24 +71,32 @@ pub fn health_text(
 ) -> Result<String, NoMemory>
     ensures { IfOk result (λ text. string_bytes text ≡ compact_text (health_json now serves version.now)) }
 {
-    let mut map = Map::new(alloc);
-    put_health(&mut map, alloc, now, serves, version)?;
-    value_text(alloc, &Value::Object(map))
+    let health = Health {
+        now,
+        serves,
+        version,
+    };
+    json_text(alloc, &health)
 }
 
-fn put_health(
-    map: &mut Map<String, Value>,
-    alloc: Global,
-    now: Moment,
-    serves: bool,
-    version: &str,
-) -> Result<(), NoMemory>
-    requires { map.old.entries ≡ [] }
-    ensures { OnOk result (object (members_view map.new.entries) ≡ health_json now serves version.now) }
+impl Print for Health<'_> {
+    ghost use Rattle.lw_print.specs.Json.{health_json};
+
+    ghost json = { λ health. health_json health.now health.serves health.version.now };
+
+    fn put(&self, out: &mut Writer, _alloc: Global) -> Result<(), NoMemory> {
+        put_health(out, self.now, self.serves, self.version)
+    }
+}
+
+fn put_health(out: &mut Writer, now: Moment, serves: bool, version: &str) -> Result<(), NoMemory>
+    ensures { Adds result out.old out.new (data_tokens (health_json now serves version.now)) }
 {
-    put(map, alloc, "now", Value::from(now.ms()))?;
-    put_text(map, alloc, "status", status(serves))?;
-    put_text(map, alloc, "version", version)
+    out.begin_object()?;
+    put_number(out, "now", now.ms())?;
+    put_text(out, "status", status(serves))?;
+    put_text(out, "version", version)?;
+    Ok(out.end_object()?)
 }
 
 fn status(serves: bool) -> &'static str

@@ -1,19 +1,18 @@
 //! What devices told.
 
-ghost use Rattle.std.specs.Prelude.{◌≡◌, [], IfOk, OnOk, string_bytes};
-ghost use Rattle.serde_json.specs.Data.{object};
-ghost use Rattle.serde_json.specs.View.{members_view, view};
+ghost use Rattle.std.specs.Prelude.{◌≡◌, ◌∷◌, IfOk, codes, string_bytes};
+ghost use Rattle.json.specs.Token.{key};
 ghost use Rattle.serde_json.specs.Written.{compact_text};
 ghost use Rattle.lw_print.specs.Json.{notice_json};
 ghost use Rattle.lw_print.specs.Notifications.{notification_json, notifications_json};
+ghost use Rattle.lw_print.specs.inner.Tokens.{Adds, data_tokens};
 
-use crate::node::tag_text;
-use crate::notice::notice_value;
-use crate::value::value_text;
-use crate::values::{Print, values};
+use crate::members::{put_number, put_tag, put_truth};
+use crate::notice::put_notice;
+use crate::values::{Print, json_text, put_all};
+use json::Writer;
 use lw_node::Notice;
 use lw_stamp::NoMemory;
-use serde_json::{Map, Value, put};
 use std::alloc::Global;
 use std::marker::Model;
 
@@ -44,69 +43,63 @@ pub struct NotificationPage<'a> {
     pub start: u64,
 }
 
-impl Print for Notification<'_> {
-    ghost use Rattle.lw_print.specs.Notifications.{notification_json};
-
-    ghost json = { notification_json };
-
-    fn value(&self, alloc: Global) -> Result<Value, NoMemory> {
-        let notice = notice_value(alloc, self.notice)?;
-        let mut map = Map::new(alloc);
-        put_notification(&mut map, alloc, self, notice)?;
-        Ok(Value::Object(map))
-    }
-}
-
 /// The JSON object of a page of notifications.
 pub fn notifications_text(alloc: Global, page: &NotificationPage<'_>) -> Result<String, NoMemory>
     ensures { IfOk result (λ text. string_bytes text ≡ compact_text
         (notifications_json page.now.notifications.items page.now.next page.now.start)) }
 {
-    let value = notifications_value(alloc, page)?;
-    value_text(alloc, &value)
+    json_text(alloc, page)
 }
 
-fn notifications_value(alloc: Global, page: &NotificationPage<'_>) -> Result<Value, NoMemory>
-    ensures { IfOk result (λ value. view value
-        ≡ notifications_json page.now.notifications.items page.now.next page.now.start) }
-{
-    let mut map = Map::new(alloc);
-    put_page(&mut map, alloc, page)?;
-    Ok(Value::Object(map))
+impl Print for NotificationPage<'_> {
+    ghost use Rattle.lw_print.specs.Notifications.{notifications_json};
+
+    ghost json = { λ page. notifications_json page.notifications.items page.next page.start };
+
+    fn put(&self, out: &mut Writer, alloc: Global) -> Result<(), NoMemory> {
+        put_page(out, alloc, self)
+    }
 }
 
-fn put_page(
-    map: &mut Map<String, Value>,
-    alloc: Global,
-    page: &NotificationPage<'_>,
-) -> Result<(), NoMemory>
-    requires { map.old.entries ≡ [] }
-    ensures { OnOk result (object (members_view map.new.entries)
-        ≡ notifications_json page.now.notifications.items page.now.next page.now.start) }
+fn put_page(out: &mut Writer, alloc: Global, page: &NotificationPage<'_>) -> Result<(), NoMemory>
+    ensures { Adds result out.old out.new
+        (data_tokens (notifications_json page.now.notifications.items page.now.next page.now.start)) }
 {
-    let notifications = values(alloc, &page.notifications)?;
-    put(map, alloc, "next", Value::from(page.next))?;
-    put(map, alloc, "notifications", Value::Array(notifications))?;
-    let start = tag_text(alloc, page.start)?;
-    Ok(put(map, alloc, "start", Value::from(start))?)
+    out.begin_object()?;
+    put_number(out, "next", page.next)?;
+    put_all(out, alloc, "notifications", &page.notifications)?;
+    put_tag(out, alloc, "start", page.start)?;
+    Ok(out.end_object()?)
+}
+
+impl Print for Notification<'_> {
+    ghost use Rattle.lw_print.specs.Notifications.{notification_json};
+
+    ghost json = { notification_json };
+
+    fn put(&self, out: &mut Writer, alloc: Global) -> Result<(), NoMemory> {
+        put_notification(out, alloc, self)
+    }
 }
 
 fn put_notification(
-    map: &mut Map<String, Value>,
+    out: &mut Writer,
     alloc: Global,
     notification: &Notification<'_>,
-    notice: Value,
 ) -> Result<(), NoMemory>
-    requires { map.old.entries ≡ [] }
-    ensures { OnOk result (view notice ≡ notice_json notification.now.notice
-        → object (members_view map.new.entries) ≡ notification_json notification.now) }
+    ensures { Adds result out.old out.new (data_tokens (notification_json notification.now)) }
 {
-    put(
-        map,
-        alloc,
-        "complete",
-        Value::from(notification.is_complete),
-    )?;
-    put(map, alloc, "notice", notice)?;
-    Ok(put(map, alloc, "number", Value::from(notification.number))?)
+    out.begin_object()?;
+    put_truth(out, "complete", notification.is_complete)?;
+    put_told(out, alloc, notification.notice)?;
+    put_number(out, "number", notification.number)?;
+    Ok(out.end_object()?)
+}
+
+/// Adds the member with what the device told.
+fn put_told(out: &mut Writer, alloc: Global, notice: &Notice) -> Result<(), NoMemory>
+    ensures { Adds result out.old out.new (key (codes "notice") ∷ data_tokens (notice_json notice.now)) }
+{
+    out.key("notice")?;
+    put_notice(out, alloc, notice)
 }

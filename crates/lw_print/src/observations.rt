@@ -1,22 +1,27 @@
 //! Observations of a registration.
 
-ghost use Rattle.std.specs.Prelude.{◌≡◌, [], IfOk, OnOk, codes, string_bytes};
-ghost use Rattle.serde_json.specs.Data.{object as json_object, member, no_members};
-ghost use Rattle.serde_json.specs.View.{view, members_view};
+ghost use Rattle.std.specs.Prelude.{◌≡◌, ◌∷◌, IfOk, string_bytes};
+ghost use Rattle.json.specs.Token.{key};
 ghost use Rattle.serde_json.specs.Written.{compact_text};
 ghost use Rattle.lw_print.specs.Json.{observations_json, path_or_null};
+ghost use Rattle.lw_print.specs.inner.Tokens.{Adds, data_tokens};
 
-use crate::path::path_text;
-use crate::value::value_text;
-use crate::values::{Print, values};
-use crate::watch::watch_value;
+use crate::members::{put_path, put_text_or_null};
+use crate::values::{Print, json_text, put_all};
+use crate::watch::put_watch;
+use json::Writer;
 use lw_reg::{Path, View, Watch};
 use lw_stamp::NoMemory;
-use serde_json::{Map, Value, put};
 use std::alloc::Global;
 
+/// Observations, and the path that the page behind goes on from.
+#[derive(Drop)]
+struct Observations<'a, 'b> {
+    watches: &'a [(View<'b>, Watch)],
+    next: Option<Path>,
+}
+
 /// The JSON object of observations, and of the path that the page behind goes on from, or null.
-#[tactic(auto, using(crate::proofs::MemberLemmas::observations_plain))]
 pub fn observations_text(
     alloc: Global,
     watches: &[(View<'_>, Watch)],
@@ -24,20 +29,17 @@ pub fn observations_text(
 ) -> Result<String, NoMemory>
     ensures { IfOk result (λ text. string_bytes text ≡ compact_text (observations_json watches.now next)) }
 {
-    let value = page_value(alloc, watches, next)?;
-    value_text(alloc, &value)
+    json_text(alloc, &Observations { watches, next })
 }
 
-fn page_value(
-    alloc: Global,
-    watches: &[(View<'_>, Watch)],
-    next: Option<Path>,
-) -> Result<Value, NoMemory>
-    ensures { IfOk result (λ value. view value ≡ observations_json watches.now next) }
-{
-    let observations = values(alloc, watches)?;
-    let next = path_value(alloc, next)?;
-    page_object(alloc, next, Value::Array(observations))
+impl Print for Observations<'_, '_> {
+    ghost use Rattle.lw_print.specs.Json.{observations_json};
+
+    ghost json = { λ page. observations_json page.watches.now page.next };
+
+    fn put(&self, out: &mut Writer, alloc: Global) -> Result<(), NoMemory> {
+        put_page(out, alloc, self.watches, self.next)
+    }
 }
 
 impl Print for (View<'_>, Watch) {
@@ -45,40 +47,36 @@ impl Print for (View<'_>, Watch) {
 
     ghost json = { observation_json };
 
-    fn value(&self, alloc: Global) -> Result<Value, NoMemory> {
-        watch_value(alloc, &self.0, &self.1)
+    fn put(&self, out: &mut Writer, alloc: Global) -> Result<(), NoMemory> {
+        put_watch(out, alloc, &self.0, &self.1)
     }
-}
-
-fn path_value(alloc: Global, path: Option<Path>) -> Result<Value, NoMemory>
-    ensures { IfOk result (λ value. view value ≡ path_or_null path) }
-{
-    match path {
-        Some(path) => Ok(Value::from(path_text(alloc, &path)?)),
-        None => Ok(Value::Null),
-    }
-}
-
-fn page_object(alloc: Global, next: Value, observations: Value) -> Result<Value, NoMemory>
-    ensures { IfOk result (λ value. view value ≡ json_object (member (codes "next") (view next)
-        (member (codes "observations") (view observations) no_members))) }
-{
-    let mut map = Map::new(alloc);
-    put_page(&mut map, alloc, next, observations)?;
-    Ok(Value::Object(map))
 }
 
 fn put_page(
-    map: &mut Map<String, Value>,
+    out: &mut Writer,
     alloc: Global,
-    next: Value,
-    observations: Value,
+    watches: &[(View<'_>, Watch)],
+    next: Option<Path>,
 ) -> Result<(), NoMemory>
-    requires { map.old.entries ≡ [] }
-    ensures { OnOk result (json_object (members_view map.new.entries)
-        ≡ json_object (member (codes "next") (view next)
-        (member (codes "observations") (view observations) no_members))) }
+    ensures { Adds result out.old out.new (data_tokens (observations_json watches.now next)) }
 {
-    put(map, alloc, "next", next)?;
-    Ok(put(map, alloc, "observations", observations)?)
+    out.begin_object()?;
+    put_path_or_null(out, alloc, "next", next)?;
+    put_all(out, alloc, "observations", watches)?;
+    Ok(out.end_object()?)
+}
+
+/// Adds a member with the path, or with null where there is none.
+fn put_path_or_null(
+    out: &mut Writer,
+    alloc: Global,
+    name: &str,
+    path: Option<Path>,
+) -> Result<(), NoMemory>
+    ensures { Adds result out.old out.new (key name.now ∷ data_tokens (path_or_null path)) }
+{
+    match path {
+        Some(path) => put_path(out, alloc, name, &path),
+        None => put_text_or_null(out, name, None),
+    }
 }

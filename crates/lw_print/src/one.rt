@@ -1,7 +1,9 @@
-ghost use Rattle.std.specs.Prelude.{◌≡◌, ◌++◌, ◌∷◌, [], IfOk, OnOk, Some, option_map, string_bytes};
+ghost use Rattle.std.specs.Prelude.{◌≡◌, IfOk, Some, option_map};
 ghost use Rattle.lw_print.specs.Answer.{answer_text, reply_text, shown_lines};
+ghost use Rattle.lw_print.specs.inner.Words.{Puts};
 
-use crate::registration::registration_text;
+use crate::values::put_json;
+use crate::words::{put_hex, put_word};
 use lw_reg::View;
 use lw_stamp::NoMemory;
 use std::alloc::Global;
@@ -16,37 +18,33 @@ pub fn answer_text(
     ensures { IfOk result (λ text.
         text.items ≡ answer_text (option_map (λ bytes. bytes.now) reply.entry) (option_map (λ s. s.now) shown.entry)) }
 {
-    let mut text = line_of(reply_text(alloc, reply)?)?;
+    let mut text = Vec::new(alloc);
+    put_reply(&mut text, alloc, reply)?;
+    put_word(&mut text, "\n")?;
     if let Some(shown) = shown {
-        put_registration(&mut text, alloc, shown)?;
+        put_shown(&mut text, alloc, shown)?;
     }
     Ok(text)
 }
 
-/// The text, with a line feed.
-pub(crate) fn line_of(text: String) -> Result<Vec<u8>, NoMemory>
-    ensures { IfOk result (λ line. line.items ≡ string_bytes text ++ 10 ∷ []) }
-{
-    let mut line = text.into_bytes();
-    line.push(b'\n')?;
-    Ok(line)
-}
-
 /// Adds the line of the registration.
-fn put_registration(text: &mut Vec<u8>, alloc: Global, shown: &View<'_>) -> Result<(), NoMemory>
-    ensures { OnOk result (text.new.items ≡ text.old.items ++ shown_lines (Some shown.now)) }
+fn put_shown(text: &mut Vec<u8>, alloc: Global, shown: &View<'_>) -> Result<(), NoMemory>
+    ensures { Puts result text.old.items text.new.items (shown_lines (Some shown.now)) }
 {
-    text.extend_from_slice(registration_text(alloc, shown)?.as_bytes())?;
-    text.push(b'\n')?;
-    Ok(())
+    put_json(text, alloc, shown)?;
+    put_word(text, "\n")
 }
 
-/// The reply in lower-case hex, or a hyphen.
-pub(crate) fn reply_text(alloc: Global, reply: Option<&[u8]>) -> Result<String, NoMemory>
-    ensures { IfOk result (λ text. string_bytes text ≡ reply_text (option_map (λ bytes. bytes.now) reply.entry)) }
+/// Adds the reply in lower-case hex, or a hyphen.
+pub(crate) fn put_reply(
+    line: &mut Vec<u8>,
+    alloc: Global,
+    reply: Option<&[u8]>,
+) -> Result<(), NoMemory>
+    ensures { Puts result line.old.items line.new.items (reply_text (option_map (λ bytes. bytes.now) reply.entry)) }
 {
     match reply {
-        Some(bytes) => Ok(hex::encode(alloc, bytes)?),
-        None => Ok(String::from_str(alloc, "-")?),
+        Some(bytes) => put_hex(line, alloc, bytes),
+        None => put_word(line, "-"),
     }
 }

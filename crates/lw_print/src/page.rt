@@ -1,56 +1,54 @@
 //! A page of registrations.
 
-ghost use Rattle.std.specs.Prelude.{◌≡◌, [], IfOk, OnOk, codes, option_map, string_bytes};
-ghost use Rattle.serde_json.specs.Data.{object as json_object, member, no_members};
-ghost use Rattle.serde_json.specs.View.{view, members_view};
+ghost use Rattle.std.specs.Prelude.{◌≡◌, IfOk, option_map, string_bytes};
 ghost use Rattle.serde_json.specs.Written.{compact_text};
 ghost use Rattle.lw_print.specs.Json.{page_json};
+ghost use Rattle.lw_print.specs.inner.Tokens.{Adds, data_tokens};
 
-use crate::value::{text_value, value_text};
-use crate::values::values;
+use crate::members::put_text_or_null;
+use crate::values::{Print, json_text, put_all};
+use json::Writer;
 use lw_reg::View;
 use lw_stamp::NoMemory;
-use serde_json::{Map, Value, put};
 use std::alloc::Global;
 
+/// Registrations, and the endpoint that the page behind goes on from.
+#[derive(Drop)]
+struct Page<'a, 'b> {
+    shown: &'a [View<'b>],
+    next: Option<&'a str>,
+}
+
 /// The JSON object of a page: registrations, and the endpoint that the page behind goes on from, or null.
-#[tactic(auto, using(crate::proofs::MemberLemmas::page_plain))]
 pub fn page_text(alloc: Global, shown: &[View<'_>], next: Option<&str>) -> Result<String, NoMemory>
     ensures { IfOk result (λ text. string_bytes text
         ≡ compact_text (page_json shown.now (option_map (λ t. t.now) next.entry))) }
 {
-    let value = page_value(alloc, shown, next)?;
-    value_text(alloc, &value)
+    json_text(alloc, &Page { shown, next })
 }
 
-fn page_value(alloc: Global, shown: &[View<'_>], next: Option<&str>) -> Result<Value, NoMemory>
-    ensures { IfOk result (λ value. view value ≡ page_json shown.now (option_map (λ t. t.now) next.entry)) }
-{
-    let registrations = values(alloc, shown)?;
-    let next = text_value(alloc, next)?;
-    page_object(alloc, next, Value::Array(registrations))
-}
+impl Print for Page<'_, '_> {
+    ghost use Rattle.std.specs.Prelude.{option_map};
+    ghost use Rattle.lw_print.specs.Json.{page_json};
 
-fn page_object(alloc: Global, next: Value, registrations: Value) -> Result<Value, NoMemory>
-    ensures { IfOk result (λ value. view value ≡ json_object (member (codes "next") (view next)
-        (member (codes "registrations") (view registrations) no_members))) }
-{
-    let mut map = Map::new(alloc);
-    put_page(&mut map, alloc, next, registrations)?;
-    Ok(Value::Object(map))
+    ghost json = { λ page. page_json page.shown.now (option_map (λ t. t.now) page.next) };
+
+    fn put(&self, out: &mut Writer, alloc: Global) -> Result<(), NoMemory> {
+        put_page(out, alloc, self.shown, self.next)
+    }
 }
 
 fn put_page(
-    map: &mut Map<String, Value>,
+    out: &mut Writer,
     alloc: Global,
-    next: Value,
-    registrations: Value,
+    shown: &[View<'_>],
+    next: Option<&str>,
 ) -> Result<(), NoMemory>
-    requires { map.old.entries ≡ [] }
-    ensures { OnOk result (json_object (members_view map.new.entries)
-        ≡ json_object (member (codes "next") (view next)
-        (member (codes "registrations") (view registrations) no_members))) }
+    ensures { Adds result out.old out.new
+        (data_tokens (page_json shown.now (option_map (λ t. t.now) next.entry))) }
 {
-    put(map, alloc, "next", next)?;
-    Ok(put(map, alloc, "registrations", registrations)?)
+    out.begin_object()?;
+    put_text_or_null(out, "next", next)?;
+    put_all(out, alloc, "registrations", shown)?;
+    Ok(out.end_object()?)
 }

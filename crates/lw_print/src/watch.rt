@@ -1,108 +1,86 @@
-ghost use Rattle.std.specs.Prelude.{◌≡◌, [], IfOk, OnOk, string_bytes};
-ghost use Rattle.serde_json.specs.Data.{object};
-ghost use Rattle.serde_json.specs.View.{view, members_view};
+ghost use Rattle.std.specs.Prelude.{◌≡◌, IfOk, string_bytes};
 ghost use Rattle.serde_json.specs.Written.{compact_text};
-ghost use Rattle.lw_print.specs.Json.{watch_json, stale_json};
-ghost use Rattle.lw_print.specs.inner.Members.{watch_members_json, TellsOfWatch};
+ghost use Rattle.lw_print.specs.Json.{stale_json, watch_json};
+ghost use Rattle.lw_print.specs.inner.Tokens.{Adds, data_tokens};
 
-use crate::path::path_text;
-use crate::value::{id_text, put_text, short_value, value_text};
+use crate::members::{put_id, put_path, put_short_or_null, put_text};
+use crate::values::{Print, json_text};
+use json::Writer;
 use lw_reg::{View, Watch};
 use lw_stamp::{NoMemory, Stamp};
-use serde_json::{Map, Value, put};
 use std::alloc::Global;
 
-/// The values of a watch's JSON object.
+/// A watch, and its registration.
 #[derive(Drop)]
-struct WatchMembers<'a> {
-    accept: Value,
-    endpoint: &'a str,
-    id: String,
-    path: String,
-    token: String,
+pub(crate) struct Watched<'a, 'b> {
+    pub(crate) shown: &'a View<'b>,
+    pub(crate) watch: &'a Watch,
+}
+
+/// A registration that has expired: its endpoint and its identifier.
+#[derive(Drop)]
+pub(crate) struct Stale<'a> {
+    pub(crate) endpoint: &'a str,
+    pub(crate) id: Stamp,
 }
 
 /// The JSON object of a watch of the registration.
 pub fn watch_text(alloc: Global, shown: &View<'_>, watch: &Watch) -> Result<String, NoMemory>
     ensures { IfOk result (λ text. string_bytes text ≡ compact_text (watch_json shown.now watch.now)) }
 {
-    let value = watch_value(alloc, shown, watch)?;
-    value_text(alloc, &value)
+    json_text(alloc, &Watched { shown, watch })
 }
 
-#[tactic(auto, using(crate::proofs::MemberLemmas::json_of_watch))]
-pub(crate) fn watch_value(alloc: Global, shown: &View<'_>, watch: &Watch) -> Result<Value, NoMemory>
-    ensures { IfOk result (λ value. view value ≡ watch_json shown.now watch.now) }
-{
-    let members = watch_members(alloc, shown, watch)?;
-    watch_object(alloc, members)
+impl Print for Watched<'_, '_> {
+    ghost use Rattle.lw_print.specs.Json.{watch_json};
+
+    ghost json = { λ watched. watch_json watched.shown.now watched.watch.now };
+
+    fn put(&self, out: &mut Writer, alloc: Global) -> Result<(), NoMemory> {
+        put_watch(out, alloc, self.shown, self.watch)
+    }
 }
 
-fn watch_members<'a>(
+/// Adds the JSON object of a watch of the registration.
+pub(crate) fn put_watch(
+    out: &mut Writer,
     alloc: Global,
-    shown: &'a View<'_>,
+    shown: &View<'_>,
     watch: &Watch,
-) -> Result<WatchMembers<'a>, NoMemory>
-    ensures { IfOk result (λ members. TellsOfWatch members shown.now watch.now) }
-{
-    Ok(WatchMembers {
-        id: id_text(alloc, shown.id)?,
-        path: path_text(alloc, &watch.path)?,
-        token: id_text(alloc, watch.token)?,
-        accept: short_value(watch.accept),
-        endpoint: shown.endpoint,
-    })
-}
-
-fn watch_object(alloc: Global, members: WatchMembers<'_>) -> Result<Value, NoMemory>
-    ensures { IfOk result (λ value. view value ≡ watch_members_json members.entry) }
-{
-    let mut map = Map::new(alloc);
-    put_members(&mut map, alloc, members)?;
-    Ok(Value::Object(map))
-}
-
-fn put_members(
-    map: &mut Map<String, Value>,
-    alloc: Global,
-    members: WatchMembers<'_>,
 ) -> Result<(), NoMemory>
-    requires { map.old.entries ≡ [] }
-    ensures { OnOk result (object (members_view map.new.entries) ≡ watch_members_json members.entry) }
+    ensures { Adds result out.old out.new (data_tokens (watch_json shown.now watch.now)) }
 {
-    put(map, alloc, "accept", members.accept)?;
-    put_text(map, alloc, "endpoint", members.endpoint)?;
-    put(map, alloc, "id", Value::from(members.id))?;
-    put(map, alloc, "path", Value::from(members.path))?;
-    Ok(put(map, alloc, "token", Value::from(members.token))?)
+    out.begin_object()?;
+    put_short_or_null(out, "accept", watch.accept)?;
+    put_text(out, "endpoint", shown.endpoint)?;
+    put_id(out, alloc, "id", shown.id)?;
+    put_path(out, alloc, "path", &watch.path)?;
+    put_id(out, alloc, "token", watch.token)?;
+    Ok(out.end_object()?)
 }
 
 /// The JSON object of a registration that has expired, of the endpoint and with the identifier.
 pub fn stale_text(alloc: Global, endpoint: &str, id: Stamp) -> Result<String, NoMemory>
     ensures { IfOk result (λ text. string_bytes text ≡ compact_text (stale_json endpoint.now id)) }
 {
-    let value = stale_value(alloc, endpoint, id)?;
-    value_text(alloc, &value)
+    json_text(alloc, &Stale { endpoint, id })
 }
 
-fn stale_value(alloc: Global, endpoint: &str, id: Stamp) -> Result<Value, NoMemory>
-    ensures { IfOk result (λ value. view value ≡ stale_json endpoint.now id) }
-{
-    let mut map = Map::new(alloc);
-    put_stale(&mut map, alloc, endpoint, id)?;
-    Ok(Value::Object(map))
+impl Print for Stale<'_> {
+    ghost use Rattle.lw_print.specs.Json.{stale_json};
+
+    ghost json = { λ stale. stale_json stale.endpoint.now stale.id };
+
+    fn put(&self, out: &mut Writer, alloc: Global) -> Result<(), NoMemory> {
+        put_stale(out, alloc, self.endpoint, self.id)
+    }
 }
 
-fn put_stale(
-    map: &mut Map<String, Value>,
-    alloc: Global,
-    endpoint: &str,
-    id: Stamp,
-) -> Result<(), NoMemory>
-    requires { map.old.entries ≡ [] }
-    ensures { OnOk result (object (members_view map.new.entries) ≡ stale_json endpoint.now id) }
+fn put_stale(out: &mut Writer, alloc: Global, endpoint: &str, id: Stamp) -> Result<(), NoMemory>
+    ensures { Adds result out.old out.new (data_tokens (stale_json endpoint.now id)) }
 {
-    put_text(map, alloc, "endpoint", endpoint)?;
-    let id = Value::from(id_text(alloc, id)?);
-    Ok(put(map, alloc, "id", id)?)
+    out.begin_object()?;
+    put_text(out, "endpoint", endpoint)?;
+    put_id(out, alloc, "id", id)?;
+    Ok(out.end_object()?)
 }

@@ -164,6 +164,41 @@ fn is_stale(alloc: Global, endpoint: &str, escaped: &str) -> Result<(), Fail> {
     same(stale_text(alloc, endpoint, THIRD)?.as_str(), want.as_str())
 }
 
+/// Texts, and how they stand in JSON (RFC 8259, section 7).
+const TEXTS: [(&str, &str); 10] = [
+    ("\"", r#"\""#),
+    ("\\", r"\\"),
+    ("\u{8}\u{c}\n\r\t", r"\b\f\n\r\t"),
+    ("\0\u{1}\u{7}", r"\u0000\u0001\u0007"),
+    ("\u{b}\u{e}\u{1f}", r"\u000b\u000e\u001f"),
+    // not escaped
+    (" /'\u{7f}", " /'\u{7f}"),
+    ("é門\u{2028}\u{10ffff}", "é門\u{2028}\u{10ffff}"),
+    // within a long text
+    (
+        "0123456789abcdef0123456789abcdef\n",
+        r"0123456789abcdef0123456789abcdef\n",
+    ),
+    (
+        "\t0123456789abcdef0123456789abcdef",
+        r"\t0123456789abcdef0123456789abcdef",
+    ),
+    ("", ""),
+];
+
+/// Tries: stale_text, registration_text
+#[test]
+fn texts_with_each_escape(rt: HostRuntime) -> Result<(), Fail> {
+    let objects = LinkText::read(rt.alloc(), b"</3/0>")?;
+    let (before, behind) = SHOWN.split_once(r#""a""#).ok_or("an endpoint")?;
+    for (text, written) in TEXTS {
+        is_stale(rt.alloc(), text, written)?;
+        let want = format!(in rt.alloc(); "{before}\"{written}\"{behind}")?;
+        is_shown(rt.alloc(), &registration(text, &objects), want.as_str())?;
+    }
+    Ok(())
+}
+
 /// Tries: stale_text
 #[test]
 fn endpoints_that_have_expired(rt: HostRuntime) -> Result<(), Fail> {

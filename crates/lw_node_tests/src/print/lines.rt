@@ -133,6 +133,19 @@ fn answers_without_text(rt: HostRuntime) -> Result<(), Fail> {
     have_lines(rt.alloc(), &NOT_FOUND)
 }
 
+/// Tries: put_outcome
+#[test]
+fn lines_one_behind_another(rt: HostRuntime) -> Result<(), Fail> {
+    let mut lines = Vec::new(rt.alloc());
+    for (outcome, _) in &NOT_FOUND {
+        put_outcome(&mut lines, rt.alloc(), outcome, None)?;
+    }
+    same(
+        str::from_utf8(&lines)?,
+        "none\nnone\nnone\n0\n18446744073709551615\n",
+    )
+}
+
 /// A message that was sent, with this number and change number, of these bytes, has the line.
 fn is_sent(
     alloc: Global,
