@@ -3,20 +3,20 @@
 use crate::cost::Cost;
 use crate::fault::BenchFault;
 use crate::messages::{ENDPOINT, MORE_LINKS, attribute_queries, empty_queries, put_register};
-use lw_coap::{Message, decode};
+use lw_coap::{LentMessage, Message, decode, decode_lent};
 use lw_link::LinkText;
-use lw_request::{Asked, understand};
+use lw_request::{Asked, understand_lent};
 use std::alloc::{AllocError, Global};
 use std::time::CpuClock;
 
 /// A call on a message.
 #[derive(Clone, Copy)]
 pub(crate) enum RequestCall {
-    /// `decode` and `understand` of a Register.
+    /// `decode_lent` and `understand_lent` of a Register.
     Understand,
-    /// `understand` of 8,000 empty queries.
+    /// `understand_lent` of 8,000 empty queries.
     UnderstandQueries,
-    /// `understand` of 2,604 attributes.
+    /// `understand_lent` of 2,604 attributes.
     UnderstandAttributes,
     /// `LinkText::read` of a printing of 256 links.
     ReadLinks,
@@ -79,9 +79,12 @@ impl RequestCall {
 
     fn make(self, alloc: Global, datagram: &[u8], message: &Message) -> Result<(), BenchFault> {
         match self {
-            RequestCall::Understand => understand_register(alloc, &decode(alloc, datagram)?),
+            RequestCall::Understand => {
+                let message = decode_lent(alloc, datagram)?;
+                understand_register(alloc, &message.lend())
+            }
             RequestCall::UnderstandQueries | RequestCall::UnderstandAttributes => {
-                understand_register(alloc, message)
+                understand_register(alloc, &message.lend())
             }
             RequestCall::ReadLinks => read_links(alloc, &message.payload),
         }
@@ -95,8 +98,8 @@ fn see_register(asked: &Asked) -> Result<(), BenchFault> {
     }
 }
 
-fn understand_register(alloc: Global, message: &Message) -> Result<(), BenchFault> {
-    see_register(&understand(alloc, message)?)
+fn understand_register(alloc: Global, message: &LentMessage<'_>) -> Result<(), BenchFault> {
+    see_register(&understand_lent(alloc, message)?)
 }
 
 fn read_links(alloc: Global, text: &[u8]) -> Result<(), BenchFault> {
