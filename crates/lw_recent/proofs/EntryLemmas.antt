@@ -5,7 +5,7 @@ use Rattle.std.specs.List.{cons_option}
 use Rattle.std.specs.List.Sorted.{IsNonDecreasingBy}
 use Rattle.std.proofs.lemmas.List.Elements.{Contains-append_left, Contains-append_right, Contains-append_cases, Contains-push, Contains-push_cases, filter_map-append}
 use Rattle.std.proofs.lemmas.Bool.{cases_lt}
-use Rattle.std.proofs.lemmas.Option.{slice_get_read}
+use Rattle.std.proofs.lemmas.Option.{slice_get-get_or}
 use Rattle.lw_recent.specs.declared.entry.Entry.{Entry}
 use Rattle.lw_recent.specs.Entries.{number_of, shown, pairs_in, places_in}
 use Rattle.lw_recent.specs.inner.Entries.{shown_at, HasHole, with_hole}
@@ -183,8 +183,8 @@ shown_number [] i n e d h = absurd cc
 shown_number (x ∷ xs) zero n e d h = option_number x.place x.number n e h
 shown_number (x ∷ xs) (suc i) n e d h = shown_number xs i n e d h
 
-pub shown_read : (xs : List Entry) (i : ℕ) (x : Entry) → i < length xs → x ≡ get_or xs i x → shown_at xs i ≡ shown x
-shown_read xs i x l is = ap (option_and_then shown) (slice_get_read xs (length xs) i x refl l is)
+pub shown_there : (xs : List Entry) (i : ℕ) (d : Entry) → i < length xs → shown_at xs i ≡ shown (get_or xs i d)
+shown_there xs i d l = ap (option_and_then shown) (slice_get-get_or xs i d l)
 
 -- ---- places alone
 pub named_from : (ps : List (ℕ × ℕ)) (e : ℕ) → Contains (map (λ p. p.1) ps) e → (n : ℕ) × Contains ps (n, e)

@@ -1,4 +1,4 @@
-use Rattle.std.proofs.Common.{◌≡◌, ◌≤◌, ◌<◌, inl, inr, ℕ, rules, arith, leb, leb-true, leb-false, true, false, None, Some, sym, subst, ap, ◌∙◌}
+use Rattle.std.proofs.Common.{◌≡◌, ◌≤◌, ◌<◌, inl, inr, ℕ, rules, arith, leb, leb-true, leb-false, true, false, None, Some, get_or, sym, subst, ap, ◌∙◌}
 use Rattle.std.specs.Option.{option_map}
 use Rattle.std.specs.List.Sorted.{IsPartitionPoint}
 use Rattle.std.proofs.lemmas.Bool.{cases_lt}
@@ -6,13 +6,17 @@ use Rattle.std.proofs.lemmas.List.Sorted.{IsPartitionPoint-from_clause, IsPartit
 use Rattle.lw_recent.specs.declared.entry.Entry.{Entry}
 use Rattle.lw_recent.specs.Entries.{number_of, shown}
 use Rattle.lw_recent.specs.inner.Entries.{shown_at}
-use Rattle.lw_recent.proofs.EntryLemmas.{at_pairs, pairs_at, shown_number, shown_read}
+use Rattle.lw_recent.proofs.EntryLemmas.{at_pairs, pairs_at, shown_number, shown_there}
 use Rattle.lw_recent.proofs.entry.first_above.Goals as goal
+
+-- what stands where nothing is
+abbrev hole : Entry
+hole = record { number = 0; place = None }
 
 pub loop-index-init : goal.loop-index-init
 loop-index-init c =
     let xs = c.args.entries.now in
-    let d : Entry = record { number = 0; place = None } in
+    let d = hole in
     let point : IsPartitionPoint (λ (y : Entry). leb y.number c.args.number ≡ true) (λ y. leb y.number c.args.number ≡ false) xs c.partition_point-start.result =
     IsPartitionPoint-from_clause (λ p. leb p.number c.args.number) _ _ c.partition_point-start.ensures.partitioned (IsPartitionedBy-leb number_of xs c.args.number c.requires) (λ a r q k. search rules) in
     record {
@@ -28,8 +32,8 @@ loop-index-preserved c = record {
     | inl before ↦ c.loop-index.invariant.before k n e before h
     | inr after ↦
         let here : k ≡ c.loop-index.index = omega (arith, lt, after) in
-        let x = c.index-entries-index.result in
-        let read = shown_read c.args.entries.now c.loop-index.index x c.loop-index-test.true c.index-entries-index.is in
+        let x = get_or c.args.entries.now c.loop-index.index hole in
+        let read = shown_there c.args.entries.now c.loop-index.index hole c.loop-index-test.true in
         let none : shown x ≡ None = ap (option_map (λ (p : ℕ). (x.number, p))) c.in_default.is in
         let some = subst (λ i. shown_at c.args.entries.now i ≡ Some (n, e)) here h in absurd (let bad : None ≡ Some (n, e) = sym none ∙ sym read ∙ some in cc)
   ];
@@ -39,20 +43,19 @@ loop-index-preserved c = record {
 pub returns-in-Some : goal.returns-in-Some
 returns-in-Some c =
     let xs = c.args.entries.now in
-    let place = c.loop-index.index in
-    let x = c.index-entries-index.result in
-    let here : shown_at xs place ≡ Some (x.number, c.in-Some.place) =
-    shown_read xs place x c.loop-index-test.true c.index-entries-index.is ∙ ap (option_map (λ (p : ℕ). (x.number, p))) c.in-Some.is in (
-      pairs_at xs place (x.number, c.in-Some.place) here,
-      subst (λ y. c.args.number < number_of y) (sym c.index-entries-index.is) (c.loop-index.invariant.rest place x (omega arith) c.loop-index-test.true),
+    let index = c.loop-index.index in
+    let x = get_or xs index hole in
+    let here : shown_at xs index ≡ Some (x.number, c.in-Some.place) =
+    shown_there xs index hole c.loop-index-test.true ∙ ap (option_map (λ (p : ℕ). (x.number, p))) c.in-Some.is in (
+      pairs_at xs index (x.number, c.in-Some.place) here,
+      c.loop-index.invariant.rest index hole (omega arith) c.loop-index-test.true,
       λ n e h less.
           let w = at_pairs xs (n, e) h in
-          elim (cases_lt w.0 place) [
+          elim (cases_lt w.0 index) [
             | inl before ↦ absurd (let low = c.loop-index.invariant.before w.0 n e before w.2 in omega (arith, low, less))
             | inr after ↦
-                let up = c.requires place w.0 x after w.1 in
-                let is = shown_number xs w.0 n e x w.2 in
-                subst (λ y. number_of y ≤ n) (sym c.index-entries-index.is) (omega (arith, up, is))
+                let up = c.requires index w.0 hole after w.1 in
+                let is = shown_number xs w.0 n e hole w.2 in omega (arith, up, is)
           ],
     )
 
