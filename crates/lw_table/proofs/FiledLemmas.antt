@@ -10,8 +10,9 @@ use Rattle.lw_index.specs.Index.{Has, IsPair}
 use Rattle.lw_reg.specs.declared.slot.Slot.{Slot}
 use Rattle.lw_reg.proofs.Members.{none_there, there_or_first}
 use Rattle.lw_table.specs.inner.Due.{OtherDue}
-use Rattle.lw_table.specs.inner.Filed.{OtherKeys, OtherNumbers, OthersSame}
+use Rattle.lw_table.specs.inner.Filed.{HasNumber, NumbersRow, OtherKeys, OtherNumbers, OthersSame, number_of}
 use Rattle.lw_table.specs.declared.filed.Filed.{Filed}
+use Rattle.lw_table.specs.declared.row.Row.{Row}
 use Rattle.lw_table.specs.Keys.{key_cmp, OptionHasKey}
 use Rattle.lw_table.specs.declared.key.Key.{Key}
 use Rattle.lw_table.proofs.KeyLemmas.{key_exact, key_itself}
@@ -134,19 +135,26 @@ pub either : {T E : Type 0} (P Q G : Type 0) (r : Result T E) → OnOk r P → O
 either P Q G (Ok x) h k f g = f h
 either P Q G (Err e) h k f g = g k
 
-pub same_numbers : (endpoint : List ℕ) (now : List (ℕ × List ℕ)) → OtherNumbers endpoint now now
-same_numbers endpoint now = record { same = λ n e other. (λ h. h, λ h. h) }
+pub same_numbers : (place : ℕ) (now : List (ℕ × ℕ)) → OtherNumbers place now now
+same_numbers place now = record { same = λ n p other. (λ h. h, λ h. h) }
+
+-- a place that has its number has it still
+pub numbers_stay : (place : ℕ) (row : Option Row) (old new : List (ℕ × ℕ)) → new ≡ old → HasNumber old place (number_of row) → NumbersRow place row old new
+numbers_stay place row old new same has = record {
+  here = subst (λ l. HasNumber l place (number_of row)) (sym same) has;
+  others = subst (OtherNumbers place old) (sym same) (same_numbers place old);
+}
 
 pub one_number : (a b : ℕ) → ◌≡◌ {A = Option ℕ} (Some a) (Some b) → a ≡ b
 one_number a b h = cc
 
 -- other endpoints see nothing of a number
-pub numbered : (old : Filed) (e : List ℕ) (numbers : List (ℕ × List ℕ)) → OtherNumbers e old.numbers numbers → OthersSame old (record { keys = old.keys; numbers = numbers; due = old.due }) e
-numbered old e numbers h = record { same = λ o other. record { keys = λ k. (λ w. w, λ w. w); numbers = λ n. h.same n o other; due = refl } }
+pub numbered : (old : Filed) (e : List ℕ) (numbers : List (ℕ × ℕ)) → OthersSame old (record { keys = old.keys; numbers = numbers; due = old.due }) e
+numbered old e numbers = record { same = λ o other. record { keys = λ k. (λ w. w, λ w. w); due = refl } }
 
 -- or of a due moment
 pub put_due : (old : Filed) (e : List ℕ) (due : List Entry) → OtherDue e old.due due → OthersSame old (record { keys = old.keys; numbers = old.numbers; due = due }) e
-put_due old e due h = record { same = λ o other. record { keys = λ k. (λ w. w, λ w. w); numbers = λ n. (λ w. w, λ w. w); due = h.same o other } }
+put_due old e due h = record { same = λ o other. record { keys = λ k. (λ w. w, λ w. w); due = h.same o other } }
 
 pub same_due : (endpoint : List ℕ) (now : List Entry) → OtherDue endpoint now now
 same_due endpoint now = record { same = λ e other. refl }
@@ -159,7 +167,7 @@ on_ok P Q (Ok x) f h = f h
 on_ok P Q (Err e) f h = h
 
 pub keyed : (old : Filed) (e : List ℕ) (keys : List (Key × List (List ℕ))) → OtherKeys key_cmp e old.keys keys → OthersSame old (record { keys = keys; numbers = old.numbers; due = old.due }) e
-keyed old e keys h = record { same = λ o other. record { keys = λ k. h.same k o other; numbers = λ n. (λ w. w, λ w. w); due = refl } }
+keyed old e keys h = record { same = λ o other. record { keys = λ k. h.same k o other; due = refl } }
 
 pub on_err : {T E : Type 0} (P Q : Type 0) (r : Result T E) → (P → Q) → OnErr r P → OnErr r Q
 on_err P Q (Ok x) f h = h

@@ -3,13 +3,12 @@ use Rattle.std.proofs.Common.{◌≡◌, ◌↔◌, ◌∙◌, inl, inr, ℕ, tr
 use Rattle.std.specs.Prelude.{OnOk, OnErr, IsErr}
 use Rattle.lw_due.specs.Due.{Entry, kept_of}
 use Rattle.lw_index.specs.Index.{Has}
-use Rattle.lw_recent.specs.Recent.{IsUnder}
 use Rattle.lw_table.specs.Keys.{key_cmp}
 use Rattle.lw_reg.specs.declared.slot.Slot.{Slot}
 use Rattle.lw_reg.specs.Reading.{IsRemoved}
 use Rattle.lw_reg.specs.Slot.{slot_join}
 use Rattle.lw_table.specs.Due.{HasDue, OptionHasDue}
-use Rattle.lw_table.specs.inner.Filed.{IsFiled, IsOver, OthersSame, IsBetween, HasAll, number_of, slot_of}
+use Rattle.lw_table.specs.inner.Filed.{IsFiled, IsOver, NumbersRow, OthersSame, IsBetween, HasAll, slot_of}
 use Rattle.lw_table.specs.inner.Moves.{moved_row}
 use Rattle.lw_table.specs.inner.KeyChanges.{HasKeyChanges}
 use Rattle.lw_table.specs.declared.filed.Filed.{Filed}
@@ -31,11 +30,10 @@ module _ (old new : Filed) (e : List ℕ) (keys : List Key) (between : IsBetween
     kept = λ h. ap (kept_of e) between.due ∙ filed.kept.1 h;
     keys_has = λ k h. between.keys_stay k ((filed.keys k).1 h);
     keys_from = λ k h. elim (between.keys_from k h) [ inl was ↦ inl ((filed.keys k).0 was) | inr listed ↦ inr listed ];
-    numbers = λ n. subst (λ l. IsUnder l n e ↔ (number_of row ≡ Some n)) (sym between.numbers) (filed.numbers n);
     due = subst (λ l. OptionHasDue l e (slot_of row)) (sym between.due) filed.due;
   }
 
-  module _ (all : HasAll new e keys) (slot : Slot) (number : ℕ) (numbers : List (ℕ × List ℕ)) (numbers_are : (n : ℕ) → IsUnder numbers n e ↔ (Some number ≡ Some n)) (due : List Entry) where
+  module _ (all : HasAll new e keys) (slot : Slot) (number : ℕ) (numbers : List (ℕ × ℕ)) (due : List Entry) where
     abbrev after : Filed
     after = record { keys = new.keys; numbers = numbers; due = due }
 
@@ -45,7 +43,6 @@ module _ (old new : Filed) (e : List ℕ) (keys : List Key) (between : IsBetween
       kept = is_kept;
       keys_has = λ k h. elim (key_changes.gained k h) [ inl was ↦ between.keys_stay k ((filed.keys k).1 was) | inr listed ↦ all k listed ];
       keys_from = λ k h. elim (between.keys_from k h) [ inl was ↦ key_changes.lost k ((filed.keys k).0 was) | inr listed ↦ inr listed ];
-      numbers = numbers_are;
       due = is_due;
     }
 
@@ -57,31 +54,35 @@ module _ (old new : Filed) (e : List ℕ) (keys : List Key) (between : IsBetween
         λ h. elim (between.keys_from k h) [ inl was ↦ absurd ((filed.keys k).0 was) | inr listed ↦ key_changes.first refl k listed ],
         λ h. elim (key_changes.gained k h) [ inl was ↦ absurd was | inr listed ↦ all k listed ],
       );
-      numbers = numbers_are;
       due = is_due;
     }
 
--- under no more than keys of its slot, once its number was taken
-pub over_none : (old new : Filed) (e : List ℕ) (slot : Slot) (number : ℕ) (keys : List Key) → new.keys ≡ old.keys → IsFiled old e (Some (record { slot = slot; number = number })) → HasKeyChanges None slot keys
-    → ((n : ℕ) → IsUnder new.numbers n e → ⊥) → IsOver new e None keys
-over_none old new e slot number keys same filed key_changes none = record {
+-- under no more than keys of its row
+pub over_none : (old new : Filed) (e : List ℕ) (row : Row) (keys : List Key) → new.keys ≡ old.keys → IsFiled old e (Some row) → HasKeyChanges None row.slot keys → IsOver new e None keys
+over_none old new e row keys same filed key_changes = record {
   kept = λ h. absurd h;
   keys_has = λ k h. absurd h;
   keys_from = λ k h. key_changes.gained k ((filed.keys k).0 (subst (λ (l : List (Key × List (List ℕ))). Has key_cmp l k e) same h));
-  numbers = λ n. (λ h. absurd (none n h), λ h. absurd cc);
   due = tt;
 }
 
 -- where there is no row a due moment does not matter
-pub over_numbered : (filed : Filed) (e : List ℕ) (keys : List Key) → IsOver filed e None keys → (numbers : List (ℕ × List ℕ)) → numbers ≡ filed.numbers → (due : List Entry)
+pub over_numbered : (filed : Filed) (e : List ℕ) (keys : List Key) → IsOver filed e None keys → (numbers : List (ℕ × ℕ)) (due : List Entry)
     → IsOver (record { keys = filed.keys; numbers = numbers; due = due }) e None keys
-over_numbered filed e keys over numbers same due = record {
+over_numbered filed e keys over numbers due = record {
   kept = λ h. absurd h;
   keys_has = over.keys_has;
   keys_from = over.keys_from;
-  numbers = λ n. subst (λ l. IsUnder l n e ↔ (number_of None ≡ Some n)) (sym same) (over.numbers n);
   due = tt;
 }
+
+-- numbers that stay, and then are the row's
+pub numbers_then : (place : ℕ) (row : Option Row) (a b c : List (ℕ × ℕ)) → b ≡ a → NumbersRow place row b c → NumbersRow place row a c
+numbers_then place row a b c same h = subst (λ l. NumbersRow place row l c) same h
+
+-- or the row's that stay
+pub numbers_still : (place : ℕ) (row : Option Row) (a b c : List (ℕ × ℕ)) → NumbersRow place row a b → c ≡ b → NumbersRow place row a c
+numbers_still place row a b c h same = subst (λ l. NumbersRow place row a l) (sym same) h
 
 pub others_then : (e : List ℕ) (a b c : Filed) → OthersSame a b e → OthersSame b c e → OthersSame a c e
 others_then e a b c h g = record {
@@ -90,10 +91,9 @@ others_then e a b c h g = record {
       let y = g.same o other in
       record {
         keys = λ k. (λ w. (x.keys k).0 ((y.keys k).0 w), λ w. (y.keys k).1 ((x.keys k).1 w));
-        numbers = λ n. (λ w. (x.numbers n).0 ((y.numbers n).0 w), λ w. (y.numbers n).1 ((x.numbers n).1 w));
         due = y.due ∙ x.due;
       };
 }
 
 pub others_itself : (e : List ℕ) (a : Filed) → OthersSame a a e
-others_itself e a = record { same = λ o other. record { keys = λ k. (λ w. w, λ w. w); numbers = λ n. (λ w. w, λ w. w); due = refl } }
+others_itself e a = record { same = λ o other. record { keys = λ k. (λ w. w, λ w. w); due = refl } }

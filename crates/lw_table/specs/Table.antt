@@ -1,5 +1,5 @@
 -- What contracts see of a table: the state of all that is known, and the change numbers.
-use Rattle.std.specs.Prelude.{◌≡◌, ◌<◌, ◌≤◌, ◌↔◌, ℕ, List, true, Option, Some, None, IsSome, refl}
+use Rattle.std.specs.Prelude.{◌≡◌, ◌<◌, ◌≤◌, ◌↔◌, ℕ, List, true, Option, Some, None, IsSome, refl, slice_get}
 use Rattle.std.specs.Coded.{Coded, coded×, coded_ℕ, coded_list, code_by}
 use Rattle.std.specs.FinMap.{empty, get, code}
 use Rattle.lw_due.specs.Due.{Entry, kept_of}
@@ -46,12 +46,12 @@ IsKept None = ⊥
 IsKept (Some slot) = ¬ IsRemoved slot
 
 -- What is filed beside the slots. The endpoints whose registration was not removed are kept among the due moments; the
--- keys are the inverse of their slots; each endpoint is filed under its change number, alone below the last, and has
--- one where it has a slot, and a due moment that is not after the deadline of that.
-pub record IsTable (keys : List (Key × List (List ℕ))) (numbers : List (ℕ × List ℕ)) (due : List Entry) (t : TableContent) : Type 0 where
+-- keys are the inverse of their slots; each place is filed under the number that its row holds; each endpoint has a
+-- change number where it has a slot, alone below the last, and a due moment that is not after the deadline of that.
+pub record IsTable (keys : List (Key × List (List ℕ))) (numbers : List (ℕ × ℕ)) (due : List Entry) (held : List ℕ) (t : TableContent) : Type 0 where
   pub kept_are : (e : List ℕ) → (kept_of e due ≡ Some true) ↔ IsKept (get t.state e)
   pub keys_are : (k : Key) (e : List ℕ) → Has key_cmp keys k e ↔ OptionHasKey (get t.state e) k
-  pub numbers_are : (n : ℕ) (e : List ℕ) → IsUnder numbers n e ↔ (get t.count.numbers e ≡ Some n)
+  pub numbers_are : (n place : ℕ) → IsUnder numbers n place ↔ (slice_get held place ≡ Some n)
   pub due_below : (e : List ℕ) → OptionHasDue due e (get t.state e)
   pub numbered : (e : List ℕ) → IsSome (get t.state e) ↔ IsSome (get t.count.numbers e)
   pub within : (n : ℕ) (e : List ℕ) → get t.count.numbers e ≡ Some n → n ≤ t.count.change

@@ -1,15 +1,14 @@
-//! What is filed beside the rows: the keys, the change number and the due moment of each endpoint.
+//! What is filed beside the rows: the keys and the due moment of each endpoint, and the change number of each place.
 
-ghost use Rattle.std.specs.Prelude.{◌≡◌, ◌↔◌, ◌⊎◌, ◌≤◌, ℕ, true, false, List, [], Some, Contains, IsSome, OnOk, OnErr, IsTrue};
+ghost use Rattle.std.specs.Prelude.{◌≡◌, ◌↔◌, ◌⊎◌, ◌≤◌, ℕ, true, false, List, [], None, Some, Contains, IsSome, OnOk, OnErr, IsTrue};
 ghost use Rattle.std.specs.Option.{option_copied};
 ghost use Rattle.lw_due.specs.Due.{note_of, kept_of, due_of};
 ghost use Rattle.lw_index.specs.Index.{Has};
-ghost use Rattle.lw_recent.specs.Recent.{IsUnder};
 ghost use Rattle.lw_table.specs.declared.key.Key.{Key as Keys};
 ghost use Rattle.lw_reg.specs.Reading.{IsRemoved};
 ghost use Rattle.lw_table.specs.Due.{HasDue};
 ghost use Rattle.lw_table.specs.inner.Due.{IsDueBy, OtherDue};
-ghost use Rattle.lw_table.specs.inner.Filed.{IsFiled, IsOver, OthersSame, OtherKeys, OtherNumbers, IsBetween, HasAll, slot_of};
+ghost use Rattle.lw_table.specs.inner.Filed.{HasNumber, IsFiled, IsOver, OthersSame, OtherKeys, OtherNumbers, IsBetween, HasAll, slot_of};
 ghost use Rattle.lw_table.specs.Keys.{key_cmp, HasKey, OptionHasKey};
 ghost use Rattle.lw_table.specs.Table.{IsKept};
 
@@ -27,7 +26,7 @@ use std::alloc::Global;
 pub(crate) struct Filed {
     /// The keys of the endpoints whose registration was not removed.
     pub(crate) keys: Index<Key>,
-    /// The change number of each endpoint.
+    /// The change number of each place.
     pub(crate) numbers: Recent,
     /// A moment of each endpoint before which it has not expired: it is at most the deadline of the slot. Those whose
     /// registration was not removed are kept.
@@ -52,6 +51,7 @@ impl Filed {
         ensures others { OthersSame self.old self.new endpoint.now }
         ensures between { IsBetween self.old self.new endpoint.now keys.now }
         ensures all { OnOk result (HasAll self.new endpoint.now keys.now) }
+        ensures numbers { self.new.numbers ≡ self.old.numbers }
     {
         add_all(&mut self.keys, endpoint, keys)
     }
@@ -61,6 +61,7 @@ impl Filed {
         requires { IsOver self.old endpoint.now (option_copied row) keys.now }
         ensures others { OthersSame self.old self.new endpoint.now }
         ensures settled { IsFiled self.new endpoint.now (option_copied row.entry) }
+        ensures numbers { self.new.numbers ≡ self.old.numbers }
     {
         keep_no_more(&mut self.due, endpoint, row);
         remove_lacking(&mut self.keys, endpoint, row, keys);
@@ -127,32 +128,32 @@ fn keep_no_more(due: &mut DueMoments, endpoint: &str, row: Option<&Row>)
     due.keep(endpoint, false);
 }
 
-/// Files the endpoint, which has no number, under its first.
-pub(crate) fn add_number(numbers: &mut Recent, endpoint: &str, number: u64) -> Result<(), NoMemory>
-    requires { (n : ℕ) → IsUnder numbers.old n endpoint.now → ⊥ }
-    ensures others { OtherNumbers endpoint.now numbers.old numbers.new }
-    ensures number { OnOk result ((n : ℕ) → IsUnder numbers.new n endpoint.now ↔ (Some number ≡ Some n)) }
+/// Files the place, which has no number, under its first.
+pub(crate) fn add_number(numbers: &mut Recent, place: u32, number: u64) -> Result<(), NoMemory>
+    requires { HasNumber numbers.old place None }
+    ensures others { OtherNumbers place numbers.old numbers.new }
+    ensures number { OnOk result (HasNumber numbers.new place (Some number)) }
     ensures unchanged { OnErr result (numbers.new ≡ numbers.old) }
 {
-    numbers.add(number, endpoint)
+    numbers.add(number, place)
 }
 
-/// Files the endpoint under another number than its last. It takes no memory.
-pub(crate) fn move_number(numbers: &mut Recent, endpoint: &str, last: u64, number: u64)
-    requires { (n : ℕ) → IsUnder numbers.old n endpoint.now ↔ (Some last ≡ Some n) }
-    ensures others { OtherNumbers endpoint.now numbers.old numbers.new }
-    ensures number { (n : ℕ) → IsUnder numbers.new n endpoint.now ↔ (Some number ≡ Some n) }
+/// Files the place under another number than its last. It takes no memory.
+pub(crate) fn move_number(numbers: &mut Recent, place: u32, last: u64, number: u64)
+    requires { HasNumber numbers.old place (Some last) }
+    ensures others { OtherNumbers place numbers.old numbers.new }
+    ensures number { HasNumber numbers.new place (Some number) }
 {
-    numbers.move_to(last, number, endpoint);
+    numbers.move_to(last, number, place);
 }
 
-/// Takes its number from the endpoint.
-pub(crate) fn drop_number(numbers: &mut Recent, endpoint: &str, number: u64)
-    requires { (n : ℕ) → IsUnder numbers.old n endpoint.now ↔ (Some number ≡ Some n) }
-    ensures others { OtherNumbers endpoint.now numbers.old numbers.new }
-    ensures none { (n : ℕ) → IsUnder numbers.new n endpoint.now → ⊥ }
+/// Takes its number from the place.
+pub(crate) fn drop_number(numbers: &mut Recent, place: u32, number: u64)
+    requires { HasNumber numbers.old place (Some number) }
+    ensures others { OtherNumbers place numbers.old numbers.new }
+    ensures none { HasNumber numbers.new place None }
 {
-    numbers.drop_one(number, endpoint);
+    numbers.drop_one(number, place);
 }
 
 /// Gives the endpoint a due moment for the slot. One that it has may only be lowered.

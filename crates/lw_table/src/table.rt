@@ -29,7 +29,7 @@ pub struct Table {
 }
 
 impl Model for Table {
-    ghost use Rattle.lw_table.specs.Rows.{IsRows, table_in};
+    ghost use Rattle.lw_table.specs.Rows.{IsRows, held_in, table_in};
     ghost use Rattle.lw_table.specs.Table.{TableContent, table_code, IsTable};
 
     ghost Value = { TableContent };
@@ -39,7 +39,7 @@ impl Model for Table {
     ghost view = { λ t. table_in t.rows t.change };
 
     ghost invariant = { λ t. IsRows t.rows
-        × IsTable t.filed.keys t.filed.numbers t.filed.due (table_in t.rows t.change) };
+        × IsTable t.filed.keys t.filed.numbers t.filed.due (held_in t.rows) (table_in t.rows t.change) };
 }
 
 impl Table {

@@ -1,5 +1,5 @@
 -- The row of an endpoint.
-use Rattle.std.specs.Prelude.{ℕ, List, slice_get, Option, None, Some}
+use Rattle.std.specs.Prelude.{ℕ, List, length, slice_get, Option, None, Some, unwrap_or}
 use Rattle.std.specs.Option.{option_map}
 use Rattle.lw_table.specs.Rows.{place_of}
 use Rattle.lw_table.specs.declared.row.Row.{Row}
@@ -10,6 +10,10 @@ use Rattle.lw_table.specs.declared.rows.Rows.{Rows}
 abbrev pub row_from : List NamedRow → Option ℕ → Option Row
 row_from rows None = None
 row_from rows (Some place) = option_map (λ (named : NamedRow). named.row) (slice_get rows place)
+
+-- the place of the endpoint's row, or that of the next one
+abbrev pub spot_of : Rows → List ℕ → ℕ
+spot_of rows e = unwrap_or (place_of rows e) (length rows.rows.items)
 
 -- the row of the endpoint
 abbrev pub row_at : Rows → List ℕ → Option Row

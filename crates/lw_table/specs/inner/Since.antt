@@ -1,5 +1,9 @@
--- The slots of endpoints.
-use Rattle.std.specs.Prelude.{ℕ, List, [], ◌∷◌, Option, Some, None}
+-- The slots of endpoints, and the endpoints of places.
+use Rattle.std.specs.Prelude.{◌≡◌, ◌↔◌, ℕ, List, [], ◌∷◌, Contains, Option, Some, None, slice_get}
+use Rattle.std.specs.Option.{IsSomeAnd}
+use Rattle.lw_recent.specs.Recent.{IsAbove, IsUnder}
+use Rattle.lw_table.specs.Rows.{name_of}
+use Rattle.lw_table.specs.declared.rows.NamedRow.{NamedRow}
 use Rattle.std.specs.FinMap.{get}
 use Rattle.lw_reg.specs.declared.slot.Slot.{Slot}
 use Rattle.lw_reg.specs.State.{State}
@@ -12,3 +16,15 @@ slot_or e (Some slot) rest = (e, slot) ∷ rest
 abbrev pub slots_at : State → List (List ℕ) → List (List ℕ × Slot)
 slots_at state [] = []
 slots_at state (e ∷ es) = slot_or e (get state e) (slots_at state es)
+
+-- the row at the place has the endpoint
+abbrev pub IsNamed : List NamedRow → ℕ → List ℕ → Type 0
+IsNamed rows place e = IsSomeAnd (slice_get rows place) (λ named. name_of named ≡ e)
+
+-- the place of a row with the endpoint is filed under a number above the given one, or under any
+abbrev pub IsNamedSince : Option ℕ → List (ℕ × ℕ) → List NamedRow → List ℕ → Type 0
+IsNamedSince since numbers rows e = (n : ℕ) × (place : ℕ) × IsUnder numbers n place × IsAbove since n × IsNamed rows place e
+
+-- these are the endpoints of which that is so
+abbrev pub AreNamedSince : Option ℕ → List (ℕ × ℕ) → List NamedRow → List (List ℕ) → Type 0
+AreNamedSince since numbers rows endpoints = (e : List ℕ) → Contains endpoints e ↔ IsNamedSince since numbers rows e

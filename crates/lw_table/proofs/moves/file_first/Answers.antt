@@ -3,3 +3,6 @@ use Rattle.lw_table.proofs.moves.file_first.Goals as goal
 
 pub returns-in-Err-clause-others : goal.returns-in-Err-clause-others
 returns-in-Err-clause-others c = others_then c.args.endpoint.now c.args.filed.now c.try_file.new.filed c.remove_stale.new.self c.try_file.ensures.others c.remove_stale.ensures.others
+
+pub returns-in-Err-clause-unchanged : goal.returns-in-Err-clause-unchanged
+returns-in-Err-clause-unchanged c = ?

@@ -1,23 +1,23 @@
 use Rattle.std.proofs.Common.{◌≡◌, ◌↔◌, Bool, true, false, Option, Some, refl, sym, ap, ◌∙◌, subst}
 use Rattle.std.specs.Prelude.{IsTrue}
 use Rattle.lw_due.specs.Due.{due_of, kept_of}
-use Rattle.lw_recent.specs.Recent.{IsUnder}
 use Rattle.lw_table.specs.Due.{HasDue}
 use Rattle.lw_table.specs.inner.Due.{IsDueBy}
-use Rattle.lw_table.specs.inner.Filed.{IsOver}
+use Rattle.lw_table.specs.inner.Filed.{HasNumber, IsOver, NumbersRow}
 use Rattle.lw_table.specs.inner.Moves.{moved_row}
 use Rattle.lw_table.specs.declared.filed.Filed.{Filed}
 use Rattle.lw_table.specs.declared.row.Row.{Row}
 use Rattle.lw_reg.specs.declared.slot.Slot.{Slot}
 use Rattle.lw_reg.specs.Reading.{IsRemoved}
 use Rattle.lw_table.proofs.DueLemmas.{has_note}
-use Rattle.lw_table.proofs.FiledLemmas.{due_then, numbered, put_due}
-use Rattle.lw_table.proofs.MoveLemmas.{err_not, err_then, over_old, over_moved, others_then}
+use Rattle.lw_table.proofs.FiledLemmas.{due_then, numbered, numbers_stay, put_due}
+use Rattle.lw_table.proofs.MoveLemmas.{err_not, err_then, over_old, over_moved, numbers_then, others_then}
 use Rattle.lw_table.proofs.moves.try_move.Goals as goal
 
 pub returns-in_err-add : goal.returns-in_err-add
 returns-in_err-add c = record {
   others = c.add.ensures.others;
+  numbers = numbers_stay c.args.place (Some c.args.row.now) c.args.filed.now.numbers c.add.new.self.numbers c.add.ensures.numbers c.requires.numbers;
   moved = err_not _ c.from_residual.result c.from_residual.ensures.0;
   unchanged = err_then _ c.from_residual.result (refl, over_old c.args.filed.now c.add.new.self c.args.endpoint.now c.args.keys.now c.add.ensures.between (Some c.args.row.now) c.requires.filed);
 }
@@ -29,6 +29,8 @@ returns-in_err-join_with c =
     let same : with_slot c.join_with.new.self ≡ row = ap with_slot c.in_err-join_with.ensures.err in
     record {
       others = c.add.ensures.others;
+      numbers = subst (λ r. NumbersRow c.args.place (Some r) c.args.filed.now.numbers c.add.new.self.numbers) (sym same)
+          (numbers_stay c.args.place (Some row) c.args.filed.now.numbers c.add.new.self.numbers c.add.ensures.numbers c.requires.numbers);
       moved = err_not _ c.from_residual-in_err-join_with.result c.from_residual-in_err-join_with.ensures.0;
       unchanged = err_then _ c.from_residual-in_err-join_with.result (
         same,
@@ -38,7 +40,7 @@ returns-in_err-join_with c =
     }
 
 pub move_number-requires : goal.move_number-requires
-move_number-requires c = λ n. subst (λ l. IsUnder l n c.args.endpoint.now ↔ (Some c.args.row.now.number ≡ Some n)) (sym c.add.ensures.between.numbers) (c.requires.filed.numbers n)
+move_number-requires c = subst (λ l. HasNumber l c.args.place (Some c.args.row.now.number)) (sym c.add.ensures.numbers) c.requires.numbers
 
 pub lower_due-requires : goal.lower_due-requires
 lower_due-requires c =
@@ -76,11 +78,13 @@ returns c =
     let numbered_so : Filed = record { keys = entered.keys; numbers = numbers; due = entered.due } in
     let after : Filed = record { keys = entered.keys; numbers = numbers; due = due } in
     record {
-      others = others_then e c.args.filed.now entered after c.add.ensures.others (others_then e entered numbered_so after (numbered entered e numbers c.move_number.ensures.others) (put_due numbered_so e due (due_then e entered.due lowered due c.lower_due.ensures.others c.keep_revived.ensures.others)));
+      others = others_then e c.args.filed.now entered after c.add.ensures.others (others_then e entered numbered_so after (numbered entered e numbers) (put_due numbered_so e due (due_then e entered.due lowered due c.lower_due.ensures.others c.keep_revived.ensures.others)));
+      numbers = numbers_then c.args.place (Some (with_slot c.join_with.new.self)) c.args.filed.now.numbers entered.numbers numbers c.add.ensures.numbers
+          (record { here = c.move_number.ensures.number; others = c.move_number.ensures.others });
       moved = (
         moved,
         subst (λ r. IsOver after e (Some r) c.args.keys.now) (sym moved)
-            (over_moved c.args.filed.now entered e c.args.keys.now c.add.ensures.between c.in_ok-add.ensures.all c.args.slot c.args.number numbers c.move_number.ensures.number due
+            (over_moved c.args.filed.now entered e c.args.keys.now c.add.ensures.between c.in_ok-add.ensures.all c.args.slot c.args.number numbers due
             row c.requires.filed c.requires.keys (record { at = is_due.at; is = stays ∙ is_due.is; by = is_due.by })
             (subst (λ s. (IsRemoved s → ⊥) → kept_of e due ≡ Some true) c.in_ok-join_with.ensures.ok c.keep_revived.ensures.kept)),
       );
