@@ -38,7 +38,7 @@ module _ (state : State) (now : ℕ) where
   pub marks_by_endpoint : (e : List ℕ) (o : Option Registration) → o ≡ view_at now state e → (ms : List Mark) → NamesAll (among ms) → IsStateOf ms state → ShownOf (among ms) now e o
   marks_by_endpoint e o h ms p s = answers.by_endpoint (among ms) p state (answers.marks_tell ms p state s) now e o h
 
-module _ (keys : List (Key × List (List ℕ))) (numbers : List (ℕ × List ℕ)) (due : List Entry) (t : TableContent) (table : IsTable keys numbers due t) (now : ℕ) where
+module _ (keys : List (Key × List (List ℕ))) (numbers : List (ℕ × ℕ)) (due : List Entry) {held : List ℕ} (t : TableContent) (table : IsTable keys numbers due held t) (now : ℕ) where
   -- a set that the state tells of has the answer
   module _ (after : Option (List ℕ)) (rising : IsRising due) where
     kept_are : (e : List ℕ) → Contains (kept_in due) e ↔ IsKept (get t.state e)

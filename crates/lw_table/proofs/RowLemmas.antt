@@ -37,7 +37,7 @@ number_tied a b h = grind (arith, nat_tests)
 number_itself : (a : ℕ) → is_eq (nat_cmp a a) ≡ true
 number_itself a = grind (arith, nat_tests)
 
-number_or_not : {G : Type 0} (a b : ℕ) → (is_eq (nat_cmp a b) ≡ true → a ≡ b → G) → (is_eq (nat_cmp a b) ≡ false → a ≢ b → G) → G
+pub number_or_not : {G : Type 0} (a b : ℕ) → (is_eq (nat_cmp a b) ≡ true → a ≡ b → G) → (is_eq (nat_cmp a b) ≡ false → a ≢ b → G) → G
 number_or_not {G} a b same other = go (is_eq (nat_cmp a b)) refl
   where
     go : (r : Bool) → is_eq (nat_cmp a b) ≡ r → G
@@ -421,17 +421,17 @@ module _ (m n : Rows) (e0 : List ℕ) (at : ℕ) (v : NamedRow) (r : Row) (rows 
       ap (place_of m) (sym (ap name_of one)) ∙ rows.found at v there ∙ ap Some tied)
       (λ t apart. rows.found place x (sym (not_written m.rows.items at place new (λ same. apart (sym same))) ∙ h))
 
-  spot_is : spot_of m e0 ≡ at
-  spot_is = ap (λ o. unwrap_or o (length m.rows.items)) is
+  own_spot : spot_of m e0 ≡ at
+  own_spot = ap (λ o. unwrap_or o (length m.rows.items)) is
 
   pub row_is_written : PutsRow e0 r m n
   row_is_written = record {
     at = row_written;
-    held_here = (λ i. slice_get (map number_in (items i)) (spot_is i)) ∙ slice_get-map number_in (set m.rows.items at new) at
+    held_here = (λ i. slice_get (map number_in (items i)) (own_spot i)) ∙ slice_get-map number_in (set m.rows.items at new) at
         ∙ ap (option_map number_in) (written m.rows.items at new within);
     held_apart = λ place other.
         ap (λ xs. slice_get (map number_in xs) place) items ∙ slice_get-map number_in (set m.rows.items at new) place
-        ∙ ap (option_map number_in) (not_written m.rows.items at place new (λ same. other (same ∙ sym spot_is)))
+        ∙ ap (option_map number_in) (not_written m.rows.items at place new (λ same. other (same ∙ sym own_spot)))
         ∙ sym (slice_get-map number_in m.rows.items place);
     rows = record {
       firsts_rise = subst (λ (trees : BTreeMap ℕ ℕ). IsOrdered nat_cmp trees) (sym firsts) rows.firsts_rise;

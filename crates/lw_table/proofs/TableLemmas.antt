@@ -1,5 +1,5 @@
 -- A table row by row: its state, its numbers, and what is filed beside.
-use Rattle.std.proofs.Common.{◌≡◌, ◌≢◌, ◌↔◌, ℕ, ◌<◌, ◌≤◌, Bool, true, false, cond, List, [], Option, Some, None, refl, sym, ap, ◌∙◌, subst, arith}
+use Rattle.std.proofs.Common.{◌≡◌, ◌≢◌, ◌↔◌, ℕ, ◌<◌, ◌≤◌, Bool, true, false, cond, List, [], Option, Some, None, refl, sym, ap, ◌∙◌, subst, slice_get, arith}
 use Rattle.std.specs.Prelude.{bytes_eq, IsSome}
 use Rattle.std.specs.Option.{option_map}
 use Rattle.std.specs.FinMap.{get, get-empty}
@@ -17,7 +17,8 @@ use Rattle.lw_reg.specs.Slot.{slot_join}
 use Rattle.lw_reg.specs.State.{state_join}
 use Rattle.lw_table.specs.Changes.{LAST}
 use Rattle.lw_table.specs.Due.{OptionHasDue}
-use Rattle.lw_table.specs.inner.Filed.{IsFiled, OthersSame, slot_of, number_of}
+use Rattle.lw_table.specs.inner.Copying.{NumbersAll}
+use Rattle.lw_table.specs.inner.Filed.{HasNumber, IsFiled, NumbersRow, OthersSame, slot_of, number_of}
 use Rattle.std.specs.declared.cmp.Ordering.{Ordering}
 use Rattle.lw_due.specs.Due.{Entry, kept_of, note_of}
 use Rattle.lw_index.specs.Index.{Has}
@@ -26,15 +27,15 @@ use Rattle.lw_reg.proofs.Members.{none_there}
 use Rattle.lw_table.specs.declared.key.Key.{Key}
 use Rattle.lw_table.specs.Keys.{key_cmp, OptionHasKey}
 use Rattle.lw_table.specs.inner.Moves.{next_row}
-use Rattle.lw_table.specs.Rows.{IsRows, state_in, numbers_in, table_in}
-use Rattle.lw_table.specs.inner.Rows.{row_at}
+use Rattle.lw_table.specs.Rows.{IsRows, held_in, name_of, state_in, numbers_in, table_in}
+use Rattle.lw_table.specs.inner.Rows.{row_at, spot_of}
 use Rattle.lw_table.specs.Table.{IsTable, IsKept, empty_table}
 use Rattle.lw_table.specs.inner.KeyChanges.{joined_with}
 use Rattle.lw_table.specs.declared.filed.Filed.{Filed}
 use Rattle.lw_table.specs.declared.row.Row.{Row}
 use Rattle.lw_table.specs.declared.rows.Rows.{Rows}
 use Rattle.lw_table.proofs.DueLemmas.{still_due}
-use Rattle.lw_table.proofs.RowLemmas.{get-each_in, same_or_not}
+use Rattle.lw_table.proofs.RowLemmas.{get-each_in, held_at, held_row, number_or_not, row_there, same_or_not}
 
 -- ---- the rows, endpoint by endpoint
 pub slot_is : (o : Option Row) → option_map (λ (row : Row). row.slot) o ≡ slot_of o
@@ -56,13 +57,16 @@ slot_some : (o : Option Row) → IsSome (slot_of o) ↔ IsSome (number_of o)
 slot_some None = (λ h. h, λ h. h)
 slot_some (Some row) = (λ h. h, λ h. h)
 
-pub filed_at : (filed : Filed) (m : Rows) → IsRows m → (change : ℕ) → IsTable filed.keys filed.numbers filed.due (table_in m change) → (e : List ℕ) → IsFiled filed e (row_at m e)
+pub filed_at : (filed : Filed) (m : Rows) → IsRows m → (change : ℕ) → IsTable filed.keys filed.numbers filed.due (held_in m) (table_in m change) → (e : List ℕ) → IsFiled filed e (row_at m e)
 filed_at filed m rows_m change is e = record {
   kept = subst (λ o. (kept_of e filed.due ≡ Some true) ↔ IsKept o) (get-state m rows_m e) (is.kept_are e);
   keys = λ k. subst (λ o. Has key_cmp filed.keys k e ↔ OptionHasKey o k) (get-state m rows_m e) (is.keys_are k e);
-  numbers = λ n. subst (λ o. IsUnder filed.numbers n e ↔ (o ≡ Some n)) (get-number m rows_m e) (is.numbers_are n e);
   due = subst (OptionHasDue filed.due e) (get-state m rows_m e) (is.due_below e);
 }
+
+-- the place of an endpoint is filed under the number of its row
+pub numbers_at : (filed : Filed) (m : Rows) (change : ℕ) → IsTable filed.keys filed.numbers filed.due (held_in m) (table_in m change) → (e : List ℕ) → HasNumber filed.numbers (spot_of m e) (number_of (row_at m e))
+numbers_at filed m change is e n = subst (λ o. IsUnder filed.numbers n (spot_of m e) ↔ (o ≡ Some n)) (held_at m e) (is.numbers_are n (spot_of m e))
 
 -- rows of endpoints, under numbers that were given
 pub record AreRows (m : Rows) (change : ℕ) : Type 0 where
@@ -71,7 +75,7 @@ pub record AreRows (m : Rows) (change : ℕ) : Type 0 where
   pub last : change ≤ LAST
   pub endpoints : (e : List ℕ) → IsSome (slot_of (row_at m e)) → IsEndpoint e
 
-pub rows_of : (filed : Filed) (m : Rows) → IsRows m → (change : ℕ) → IsTable filed.keys filed.numbers filed.due (table_in m change) → AreRows m change
+pub rows_of : (filed : Filed) (m : Rows) → IsRows m → (change : ℕ) → IsTable filed.keys filed.numbers filed.due (held_in m) (table_in m change) → AreRows m change
 rows_of filed m rows_m change is = record {
   within = λ e n h. is.within n e (get-number m rows_m e ∙ h);
   alone = λ d e n below h k. is.alone n d e below (get-number m rows_m d ∙ h) (get-number m rows_m e ∙ k);
@@ -79,11 +83,11 @@ rows_of filed m rows_m change is = record {
   endpoints = λ e h. is.endpoints e (subst IsSome (sym (get-state m rows_m e)) h);
 }
 
-pub table_of : (filed : Filed) (m : Rows) → IsRows m → (change : ℕ) → ((e : List ℕ) → IsFiled filed e (row_at m e)) → AreRows m change → IsTable filed.keys filed.numbers filed.due (table_in m change)
-table_of filed m rows_m change each rows = record {
+pub table_of : (filed : Filed) (m : Rows) → IsRows m → (change : ℕ) → ((e : List ℕ) → IsFiled filed e (row_at m e)) → NumbersAll filed.numbers m → AreRows m change → IsTable filed.keys filed.numbers filed.due (held_in m) (table_in m change)
+table_of filed m rows_m change each numbers rows = record {
   kept_are = λ e. subst (λ o. (kept_of e filed.due ≡ Some true) ↔ IsKept o) (sym (get-state m rows_m e)) (each e).kept;
   keys_are = λ k e. subst (λ o. Has key_cmp filed.keys k e ↔ OptionHasKey o k) (sym (get-state m rows_m e)) ((each e).keys k);
-  numbers_are = λ n e. subst (λ o. IsUnder filed.numbers n e ↔ (o ≡ Some n)) (sym (get-number m rows_m e)) ((each e).numbers n);
+  numbers_are = numbers;
   due_below = λ e. subst (OptionHasDue filed.due e) (sym (get-state m rows_m e)) (each e).due;
   numbered = λ e. (
     λ h. subst IsSome (sym (get-number m rows_m e)) ((slot_some (row_at m e)).0 (subst IsSome (get-state m rows_m e) h)),
@@ -104,13 +108,33 @@ same_filed old new e0 others e row other filed =
     record {
       kept = kept_so old.due new.due e (slot_of row) same.due filed.kept;
       keys = λ k. (λ h. (filed.keys k).0 ((same.keys k).0 h), λ h. (same.keys k).1 ((filed.keys k).1 h));
-      numbers = λ n. (λ h. (filed.numbers n).0 ((same.numbers n).0 h), λ h. (same.numbers n).1 ((filed.numbers n).1 h));
       due = still_due old.due new.due e (slot_of row) same.due filed.due;
     }
 
+-- ---- the numbers of all places
+module _ (old new : List (ℕ × ℕ)) (m n : Rows) (e : List ℕ) (all : NumbersAll old m) where
+  -- where a row is put
+  pub numbers_put : (row : Row) → slice_get (held_in n) (spot_of m e) ≡ Some row.number → ((place : ℕ) → place ≢ spot_of m e → slice_get (held_in n) place ≡ slice_get (held_in m) place)
+      → NumbersRow (spot_of m e) (Some row) old new → NumbersAll new n
+  numbers_put row held_here held_apart numbers k place = number_or_not (spot_of m e) place
+      (λ t tied. subst (λ p. IsUnder new k p ↔ (slice_get (held_in n) p ≡ Some k)) tied (subst (λ (o : Option ℕ). IsUnder new k (spot_of m e) ↔ (o ≡ Some k)) (sym held_here) (numbers.here k)))
+      (λ t apart.
+      let other : place ≢ spot_of m e = λ same. apart (sym same) in
+      let same = numbers.others.same k place other in
+      subst (λ (o : Option ℕ). IsUnder new k place ↔ (o ≡ Some k)) (sym (held_apart place other))
+      (λ h. (all k place).0 (same.0 h), λ h. same.1 ((all k place).1 h)))
+
+  -- where none changes
+  pub numbers_kept : ((place : ℕ) → slice_get (held_in n) place ≡ slice_get (held_in m) place) → NumbersRow (spot_of m e) (row_at m e) old new → NumbersAll new n
+  numbers_kept held numbers k place = subst (λ (o : Option ℕ). IsUnder new k place ↔ (o ≡ Some k)) (sym (held place)) (number_or_not (spot_of m e) place
+      (λ t tied. subst (λ p. IsUnder new k p ↔ (slice_get (held_in m) p ≡ Some k)) tied (subst (λ (o : Option ℕ). IsUnder new k (spot_of m e) ↔ (o ≡ Some k)) (sym (held_at m e)) (numbers.here k)))
+      (λ t apart.
+      let same = numbers.others.same k place (λ same. apart (sym same)) in
+      (λ h. (all k place).0 (same.0 h), λ h. same.1 ((all k place).1 h))))
+
 -- ---- one row is put
-module _ (old new : Filed) (m n : Rows) (rows_m : IsRows m) (rows_n : IsRows n) (change : ℕ) (e0 : List ℕ) (others : OthersSame old new e0) (was : IsTable old.keys old.numbers old.due (table_in m change)) where
-  module _ (row : Row) (next : ℕ) (at : (e : List ℕ) → row_at n e ≡ cond (bytes_eq e0 e) (Some row) (row_at m e)) (filed : IsFiled new e0 (Some row)) where
+module _ (old new : Filed) (m n : Rows) (rows_m : IsRows m) (rows_n : IsRows n) (change : ℕ) (e0 : List ℕ) (others : OthersSame old new e0) (was : IsTable old.keys old.numbers old.due (held_in m) (table_in m change)) where
+  module _ (row : Row) (next : ℕ) (at : (e : List ℕ) → row_at n e ≡ cond (bytes_eq e0 e) (Some row) (row_at m e)) (filed : IsFiled new e0 (Some row)) (numbers : NumbersAll new.numbers n) where
     here : (e : List ℕ) → bytes_eq e0 e ≡ true → row_at n e ≡ Some row
     here e h = at e ∙ ap (λ b. cond b (Some row) (row_at m e)) h
 
@@ -130,10 +154,10 @@ module _ (old new : Filed) (m n : Rows) (rows_m : IsRows m) (rows_n : IsRows n) 
     not_taken : (row.number < LAST → change < row.number) → (e : List ℕ) (k : ℕ) → k < LAST → row.number ≡ k → k ≤ change → ⊥
     not_taken fresh e k below is taken = (let above = fresh (omega (arith, below, is)) in omega (arith, above, is, taken))
 
-    pub put_table : row.number ≤ next → change ≤ next → next ≤ LAST → (row.number < LAST → change < row.number) → IsEndpoint e0 → IsTable new.keys new.numbers new.due (table_in n next)
+    pub put_table : row.number ≤ next → change ≤ next → next ≤ LAST → (row.number < LAST → change < row.number) → IsEndpoint e0 → IsTable new.keys new.numbers new.due (held_in n) (table_in n next)
     put_table given more last fresh endpoint =
         let rows = rows_of old m rows_m change was in
-        table_of new n rows_n next put_each (record {
+        table_of new n rows_n next put_each numbers (record {
           within = λ e k h. same_or_not e0 e
               (λ t same. let is : row.number ≡ k = some_number row.number k (ap number_of (sym (here e t)) ∙ h) in omega arith)
               (λ f other. let below : k ≤ change = rows.within e k (ap number_of (sym (apart e f)) ∙ h) in omega arith);
@@ -151,13 +175,14 @@ module _ (old new : Filed) (m n : Rows) (rows_m : IsRows m) (rows_n : IsRows n) 
         })
 
   -- no row changed
-  pub kept_table : ((e : List ℕ) → row_at n e ≡ row_at m e) → IsFiled new e0 (row_at m e0) → IsTable new.keys new.numbers new.due (table_in n change)
-  kept_table same filed =
+  pub kept_table : ((e : List ℕ) → row_at n e ≡ row_at m e) → IsFiled new e0 (row_at m e0) → NumbersAll new.numbers n → IsTable new.keys new.numbers new.due (held_in n) (table_in n change)
+  kept_table same filed numbers =
       let rows = rows_of old m rows_m change was in
       table_of new n rows_n change
       (λ e. subst (IsFiled new e) (sym (same e)) (same_or_not e0 e
       (λ t alike. subst (λ x. IsFiled new x (row_at m x)) alike filed)
       (λ f other. same_filed old new e0 others e (row_at m e) (λ alike. other (sym alike)) (filed_at old m rows_m change was e))))
+      numbers
       (record {
         within = λ e k h. rows.within e k (ap number_of (sym (same e)) ∙ h);
         alone = λ d e k below h j. rows.alone d e k below (ap number_of (sym (same d)) ∙ h) (ap number_of (sym (same e)) ∙ j);
@@ -221,16 +246,22 @@ joined_state m n rows_m rows_n e0 slot number at = maps_alike text_order _ _ (λ
 no_pair : {K G : Type 0} (cmp : K → K → Ordering) (k : K) (e : List ℕ) → Has cmp [] k e → G
 no_pair cmp k e h = none_there e h
 
-pub nothing_filed : (keys : List (Key × List (List ℕ))) (numbers : List (ℕ × List ℕ)) (due : List Entry) (m : Rows) → IsRows m
-    → keys ≡ [] → numbers ≡ [] → due ≡ [] → ((e : List ℕ) → row_at m e ≡ None) → IsTable keys numbers due (table_in m 0)
+pub nothing_filed : (keys : List (Key × List (List ℕ))) (numbers : List (ℕ × ℕ)) (due : List Entry) (m : Rows) → IsRows m
+    → keys ≡ [] → numbers ≡ [] → due ≡ [] → ((e : List ℕ) → row_at m e ≡ None) → IsTable keys numbers due (held_in m) (table_in m 0)
 nothing_filed keys numbers due m rows_m no_keys no_numbers no_due none =
     table_of (record { keys = keys; numbers = numbers; due = due }) m rows_m 0
     (λ e. subst (IsFiled (record { keys = keys; numbers = numbers; due = due }) e) (sym (none e)) (record {
       kept = (λ h. absurd (let bad : ◌≡◌ {A = Option Bool} None (Some true) = subst (λ l. kept_of e l ≡ Some true) no_due h in cc), λ h. absurd h);
       keys = λ k. (λ h. no_pair key_cmp k e (subst (λ l. Has key_cmp l k e) no_keys h), λ h. absurd h);
-      numbers = λ n. (λ h. none_there (n, e) (subst (λ l. IsUnder l n e) no_numbers h), λ h. absurd cc);
       due = tt;
     }))
+    (λ n place. (
+      λ h. none_there (n, place) (subst (λ l. IsUnder l n place) no_numbers h),
+      λ h.
+          let row = held_row m place n h in
+          let there = row_there m (name_of row.0) place row.0 (rows_m.found place row.0 row.1) row.1 in
+          absurd (let bad : None ≡ Some row.0.row = sym (none (name_of row.0)) ∙ there in cc),
+    ))
     (record {
       within = λ e n h. absurd (let bad : None ≡ Some n = ap number_of (sym (none e)) ∙ h in cc);
       alone = λ d e n below h k. absurd (let bad : None ≡ Some n = ap number_of (sym (none d)) ∙ h in cc);

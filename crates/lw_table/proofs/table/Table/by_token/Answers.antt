@@ -1,15 +1,16 @@
 use Rattle.std.proofs.Common.{subst}
 use Rattle.lw_stamp.specs.Moment.{ms_of}
 use Rattle.lw_table.specs.Table.{IsTable}
+use Rattle.lw_table.specs.Rows.{held_in}
 use Rattle.lw_table.proofs.Answering as answering
 use Rattle.lw_table.proofs.table.Table.by_token.Goals as goal
 
 pub returns-clause-read : goal.returns-clause-read
 returns-clause-read c =
-    let table = subst (IsTable c.self.inside.filed.keys c.self.inside.filed.numbers c.self.inside.filed.due) c.self.view_is c.self.invariant.1 in
+    let table = subst (IsTable c.self.inside.filed.keys c.self.inside.filed.numbers c.self.inside.filed.due (held_in c.self.inside.rows)) c.self.view_is c.self.invariant.1 in
     answering.read_by_token c.self.inside.filed.keys c.self.inside.filed.numbers c.self.inside.filed.due c.args.self.now table (ms_of c.args.now) c.args.token c.first_watched.ensures.rise c.first_watched.result c.first_watched.ensures.found
 
 pub returns-clause-marks : goal.returns-clause-marks
 returns-clause-marks c =
-    let table = subst (IsTable c.self.inside.filed.keys c.self.inside.filed.numbers c.self.inside.filed.due) c.self.view_is c.self.invariant.1 in
+    let table = subst (IsTable c.self.inside.filed.keys c.self.inside.filed.numbers c.self.inside.filed.due (held_in c.self.inside.rows)) c.self.view_is c.self.invariant.1 in
     answering.marks_by_token c.self.inside.filed.keys c.self.inside.filed.numbers c.self.inside.filed.due c.args.self.now table (ms_of c.args.now) c.args.token c.first_watched.ensures.rise c.first_watched.result c.first_watched.ensures.found
