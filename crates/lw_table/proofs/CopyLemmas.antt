@@ -1,10 +1,14 @@
 -- Tables that are copied and compared, row by row.
-use Rattle.std.proofs.Common.{◌≡◌, ◌⊎◌, inl, inr, ℕ, zero, suc, true, false, cond, map, slice_get, List, [], ◌∷◌, Option, Some, None, refl, sym, ap, ◌∙◌, subst}
-use Rattle.std.specs.Prelude.{Contains, bytes_eq, IsSome, option_map}
+use Rattle.std.proofs.Common.{◌≡◌, ◌⊎◌, ◌↔◌, inl, inr, ℕ, zero, suc, ◌+◌, ◌<◌, ◌≤◌, arith, drop, length, get_or, true, false, cond, map, slice_get, List, [], ◌∷◌, Option, Some, None, refl, sym, ap, ◌∙◌, subst}
+use Rattle.std.specs.Prelude.{Contains, bytes_eq, IsSome, option_map, unwrap_or}
+use Rattle.std.proofs.lemmas.List.{at_drop_all, at_drop_more, length-map}
+use Rattle.std.proofs.lemmas.Option.{slice_get_past}
+use Rattle.lw_recent.specs.Recent.{IsUnder}
 use Rattle.std.specs.FinMap.{get}
 use Rattle.lw_reg.proofs.Members.{first_there, more_there, none_there, there_or_first}
-use Rattle.lw_table.specs.inner.Copying.{Copies, MayBeCopied, CopiesRow}
-use Rattle.lw_table.specs.inner.Filed.{IsFiled, OthersSame, slot_of, number_of}
+use Rattle.lw_table.specs.inner.Copying.{Copies, MayBeCopied, CopiesRow, NumbersAll}
+use Rattle.lw_table.specs.inner.Filed.{HasNumber, IsFiled, NumbersRow, OthersSame, slot_of, number_of}
+use Rattle.lw_table.specs.inner.Moves.{PutsRow}
 use Rattle.lw_table.specs.Rows.{IsRows, held_in, name_of, place_of, table_in}
 use Rattle.lw_table.specs.inner.Rows.{row_at, row_from}
 use Rattle.lw_table.specs.Table.{TableContent, IsTable}
@@ -12,8 +16,8 @@ use Rattle.lw_table.specs.declared.filed.Filed.{Filed}
 use Rattle.lw_table.specs.declared.row.Row.{Row}
 use Rattle.lw_table.specs.declared.rows.NamedRow.{NamedRow}
 use Rattle.lw_table.specs.declared.rows.Rows.{Rows}
-use Rattle.lw_table.proofs.RowLemmas.{same_or_not, some_same, there_of}
-use Rattle.lw_table.proofs.TableLemmas.{AreRows, filed_at, get-state, get-number, nothing_filed, rows_of, same_filed, same_table, table_of}
+use Rattle.lw_table.proofs.RowLemmas.{no_place, same_or_not, some_same, there_of}
+use Rattle.lw_table.proofs.TableLemmas.{AreRows, numbers_put, filed_at, get-state, get-number, nothing_filed, rows_of, same_filed, same_table, table_of}
 
 -- ---- a copy that is made row by row
 -- the row of each endpoint is copied, but for those that are left
@@ -32,6 +36,22 @@ pub named_there : (rows : List NamedRow) (place : ℕ) (named : NamedRow) (e : L
 named_there [] place named e h is = absurd (let bad : None ≡ Some named = h in cc)
 named_there (x ∷ xs) zero named e h is = first_there (name_of x) (names_in xs) e (sym (ap name_of (some_same x named h) ∙ is))
 named_there (x ∷ xs) (suc place) named e h is = more_there (name_of x) (names_in xs) e (named_there xs place named e h is)
+
+-- those that are left
+pub names_step : (rows : List NamedRow) (i : ℕ) (x : NamedRow) → i < length rows → x ≡ get_or rows i x → names_in (drop i rows) ≡ name_of x ∷ names_in (drop (i + 1) rows)
+names_step rows i x within is = ap names_in (at_drop_more (λ l. l) rows i x within ∙ ap (λ y. y ∷ drop (i + 1) rows) (sym is))
+
+pub names_none : (rows : List NamedRow) (i : ℕ) → length rows ≤ i → names_in (drop i rows) ≡ []
+names_none rows i past = ap names_in (at_drop_all (λ l. l) rows i past)
+
+-- ---- the numbers of a copy
+pub numbers_past : (numbers : List (ℕ × ℕ)) (m : Rows) → NumbersAll numbers m → HasNumber numbers (length m.rows.items) None
+numbers_past numbers m all n = subst (λ (o : Option ℕ). IsUnder numbers n (length m.rows.items) ↔ (o ≡ Some n)) (slice_get_past (held_in m) (length m.rows.items) (omega (arith, length-map m.rows.items (λ (named : NamedRow). named.row.number)))) (all n (length m.rows.items))
+
+pub numbers_copied : (old new : List (ℕ × ℕ)) (m n : Rows) (e : List ℕ) (row : Row) → IsRows m → row_at m e ≡ None → PutsRow e row m n → NumbersAll old m → NumbersRow (length m.rows.items) (Some row) old new → NumbersAll new n
+numbers_copied old new m n e row rows none put all numbers =
+    numbers_put old new m n e all row put.held_here put.held_apart
+    (subst (λ p. NumbersRow p (Some row) old new) (sym (ap (λ o. unwrap_or o (length m.rows.items)) (no_place m rows e none))) numbers)
 
 module _ (original : Rows) where
   -- at first no row is copied, and each endpoint that has one is left

@@ -138,6 +138,13 @@ either P Q G (Err e) h k f g = g k
 pub same_numbers : (place : ℕ) (now : List (ℕ × ℕ)) → OtherNumbers place now now
 same_numbers place now = record { same = λ n p other. (λ h. h, λ h. h) }
 
+-- a place whose number is written twice has the second
+pub numbers_after : (place : ℕ) (first second : Option Row) (a b c : List (ℕ × ℕ)) → NumbersRow place first a b → NumbersRow place second b c → NumbersRow place second a c
+numbers_after place first second a b c h g = record {
+  here = g.here;
+  others = record { same = λ n p other. (λ w. (h.others.same n p other).0 ((g.others.same n p other).0 w), λ w. (g.others.same n p other).1 ((h.others.same n p other).1 w)) };
+}
+
 -- a place that has its number has it still
 pub numbers_stay : (place : ℕ) (row : Option Row) (old new : List (ℕ × ℕ)) → new ≡ old → HasNumber old place (number_of row) → NumbersRow place row old new
 numbers_stay place row old new same has = record {

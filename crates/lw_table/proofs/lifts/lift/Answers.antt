@@ -1,7 +1,7 @@
-use Rattle.std.proofs.Common.{◌≡◌, Some, length, refl, ap, subst, rules}
+use Rattle.std.proofs.Common.{◌≡◌, Some, length, refl, sym, ap, subst, rules}
 use Rattle.std.specs.Prelude.{unwrap_or}
 use Rattle.std.specs.Vec.{with_item}
-use Rattle.lw_table.specs.inner.Filed.{HasNumber, number_of}
+use Rattle.lw_table.specs.inner.Filed.{HasNumber, OtherNumbers, number_of}
 use Rattle.lw_table.specs.inner.Moves.{WasSeen}
 use Rattle.lw_table.specs.Rows.{place_of}
 use Rattle.lw_table.specs.inner.Rows.{spot_of}
@@ -44,3 +44,15 @@ returns-clause-lifted c =
       lifted = c.lift_row.ensures.lifted;
       put = row_is_written m n e place named row c.requires.rows is there refl refl refl;
     }
+
+pub returns-clause-others : goal.returns-clause-others
+returns-clause-others c =
+    let m = c.args.rows.now in
+    let is : place_of m c.args.endpoint.now ≡ Some c.in-Some.place = search rules in
+    subst (λ p. OtherNumbers p c.args.numbers.now c.lift_row.new.numbers) (sym (ap (λ o. unwrap_or o (length m.rows.items)) is)) c.lift_row.ensures.others
+
+pub returns-clause-number : goal.returns-clause-number
+returns-clause-number c =
+    let m = c.args.rows.now in
+    let is : place_of m c.args.endpoint.now ≡ Some c.in-Some.place = search rules in
+    subst (λ p. HasNumber c.lift_row.new.numbers p (Some c.args.number)) (sym (ap (λ o. unwrap_or o (length m.rows.items)) is)) c.lift_row.ensures.number

@@ -3,6 +3,7 @@ use Rattle.std.specs.Prelude.{string_bytes}
 use Rattle.lw_table.specs.inner.Filed.{HasNumber, IsFiled, NumbersRow, OthersSame}
 use Rattle.lw_table.specs.inner.KeyChanges.{HasKeyChanges}
 use Rattle.lw_table.specs.inner.Moves.{FilesRow}
+use Rattle.lw_table.proofs.FiledLemmas.{numbers_after}
 use Rattle.lw_table.proofs.MoveLemmas.{err_then, others_then}
 use Rattle.lw_table.proofs.moves.add_row.Goals as goal
 
@@ -48,4 +49,13 @@ returns-clause-others c =
     (subst (OthersSame c.file_first.new.filed c.unfile_first.new.filed) back c.unfile_first.ensures.others)
 
 pub returns-clause-unchanged : goal.returns-clause-unchanged
-returns-clause-unchanged c = ?
+returns-clause-unchanged c =
+    let at : c.in-Ok.place ≡ length c.args.rows.now.rows.items = search rules in
+    let back : c.as_str-in-Err.result.now ≡ string_bytes c.args.endpoint = c.as_str-in-Err.ensures.value ∙ c.in-Err.ensures.returned in (
+      c.in-Err.ensures.unchanged,
+      (
+        subst (λ e. IsFiled c.unfile_first.new.filed e None) back c.unfile_first.ensures.none,
+        subst (λ p. NumbersRow p None c.args.filed.now.numbers c.unfile_first.new.filed.numbers) at
+            (numbers_after c.in-Ok.place (Some c.args.row) None c.args.filed.now.numbers c.file_first.new.filed.numbers c.unfile_first.new.filed.numbers c.in_ok-file_first.ensures.filed.1 c.unfile_first.ensures.numbers),
+      ),
+    )

@@ -5,7 +5,8 @@ use Rattle.lw_table.specs.inner.Since.{AreNamedSince}
 use Rattle.lw_reg.specs.declared.slot.Slot.{Slot}
 use Rattle.lw_table.specs.Changes.{IsSince, IsSinceIn}
 use Rattle.lw_table.specs.Table.{TableContent, IsTable}
-use Rattle.lw_table.specs.Rows.{held_in}
+use Rattle.lw_table.specs.Rows.{held_in, numbers_in}
+use Rattle.lw_table.specs.declared.rows.NamedRow.{NamedRow}
 use Rattle.lw_table.proofs.SinceLemmas.{IsFiledUnder, all_since, filed_under, if_slots, since_is, some_since}
 use Rattle.lw_table.proofs.table.Table.changed_since.Goals.{then-all, else-all}
 use Rattle.lw_table.proofs.table.Table.changed_since.Goals as goal
@@ -16,10 +17,11 @@ returns c =
     let filed = c.self.inside.filed in
     let names = map (λ e. e.now) c.in_order.result.items in
     let table = subst (IsTable filed.keys filed.numbers filed.due (held_in c.self.inside.rows)) c.self.view_is c.self.invariant.1 in
-    let rows = c.self.inside.rows.rows.items in
+    let rows = c.deref.result.now in
     let under : (n : ℕ) (e : List ℕ) → IsFiledUnder filed.numbers rows n e ↔ (get now.count.numbers e ≡ Some n) = λ n e.
     subst (λ (t : TableContent). IsFiledUnder filed.numbers rows n e ↔ (get t.count.numbers e ≡ Some n)) c.self.view_is
-    (filed_under filed.numbers c.self.inside.rows c.self.invariant.0 c.self.invariant.1.numbers_are n e) in
+    (subst (λ (xs : List NamedRow). IsFiledUnder filed.numbers xs n e ↔ (get (numbers_in c.self.inside.rows) e ≡ Some n)) (sym c.deref.ensures.value)
+    (filed_under filed.numbers c.self.inside.rows c.self.invariant.0 c.self.invariant.1.numbers_are n e)) in
     let same = ap (λ (t : TableContent). t.count.change) c.self.view_is in
     let are : AreNamedSince c.if-all.since filed.numbers rows names = λ e. (
       λ h. (c.in_ok-endpoints.ensures e).0 ((c.in_order.ensures.members e).0 h),
