@@ -1,5 +1,5 @@
-use Rattle.std.proofs.Common.{◌≡◌, ◌∷◌, ◌+◌, ◌<◌, ◌∙◌, drop, length, get_or, sym, ap, subst}
-use Rattle.lw_table.proofs.CopyLemmas.{CopiedBut, copy_filed, first_left, names_in, names_step, none_copied, nothing_copied, row_copied}
+use Rattle.std.proofs.Common.{◌≡◌, ◌∷◌, ◌+◌, ◌<◌, ◌≤◌, ◌∙◌, drop, length, get_or, sym, ap, subst}
+use Rattle.lw_table.proofs.CopyLemmas.{CopiedBut, all_copied, copy_filed, first_left, names_in, names_none, names_step, none_copied, nothing_copied, row_copied}
 use Rattle.lw_table.proofs.TableLemmas.{nothing_filed}
 use Rattle.lw_table.proofs.copying.copies.Goals as goal
 
@@ -42,4 +42,13 @@ loop-named-preserved c =
     )
 
 pub returns : goal.returns
-returns c = ?
+returns c =
+    let items = c.args.original.now.rows.items in
+    let index = c.loop-named.named-index in
+    let past : length items ≤ index = subst (λ xs. length xs ≤ index) c.deref-named-items.ensures.value c.loop-named-test.false in
+    record {
+      same = all_copied c.args.original.now c.loop-named.rows (names_in (drop index items)) (names_none items index past) c.loop-named.invariant.3;
+      are_rows = c.loop-named.invariant.0;
+      each_filed = c.loop-named.invariant.1;
+      numbered = c.loop-named.invariant.2;
+    }

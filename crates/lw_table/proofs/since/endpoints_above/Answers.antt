@@ -1,6 +1,8 @@
-use Rattle.std.proofs.Common.{inl, inr, ◌≡◌, Some, None, map, slice_get, ap, sym, subst}
-use Rattle.std.specs.Prelude.{Contains}
+use Rattle.std.proofs.Common.{inl, inr, ◌≡◌, ◌⊎◌, ℕ, List, refl, length, get_or, rules, ltb-true, Some, None, map, slice_get, ltb-false, ap, sym, subst}
+use Rattle.std.proofs.lemmas.Option.{slice_get_past, slice_get_read}
+use Rattle.std.specs.Prelude.{◌↔◌, Contains}
 use Rattle.lw_reg.proofs.Members.{none_there}
+use Rattle.lw_table.specs.Rows.{name_of}
 use Rattle.lw_table.specs.inner.Since.{IsNamedSince}
 use Rattle.lw_table.proofs.OrderLemmas.{one_more}
 use Rattle.lw_table.proofs.SinceLemmas.{Gathers, all_gathered, endpoint_gathered, nothing_gathered}
@@ -22,7 +24,32 @@ loop-place-init c =
     )
 
 pub loop-place-preserved : goal.loop-place-preserved
-loop-place-preserved c = ?
+loop-place-preserved c =
+    let rows = c.args.rows.now in
+    let All = IsNamedSince c.args.since c.args.numbers.now rows in
+    let names = map (λ t. t.now) c.loop-place.endpoints.items in (
+      tt,
+      tt,
+      nothing_gathered rows All names c.in-Some.place c.next.new.self (subst (λ left. Gathers rows names left All) c.in-Some.ensures.steps c.loop-place.invariant.2)
+          (slice_get_past rows c.in-Some.place (ltb-false _ _ (sym c.in_default.ensures.lookup.0))),
+    )
+
+pub loop-place-preserved-in-Continue-1 : goal.loop-place-preserved-in-Continue-1
+loop-place-preserved-in-Continue-1 c =
+    let rows = c.args.rows.now in
+    let place = c.in-Some.place in
+    let named = c.in-Some-get.named.now in
+    let All = IsNamedSince c.args.since c.args.numbers.now rows in
+    let names = map (λ t. t.now) c.loop-place.endpoints.items in
+    let more = map (λ t. t.now) c.push.new.self.items in
+    let at : named ≡ get_or rows place named = search rules in
+    let is : slice_get rows place ≡ Some named = slice_get_read rows (length rows) place named refl (ltb-true _ _ (sym c.in-Some-get.ensures.lookup.0)) at in
+    let added : (e : List ℕ) → Contains more e ↔ (Contains names e ⊎ (e ≡ name_of named)) = λ e.
+    subst (λ x. Contains more e ↔ (Contains names e ⊎ (e ≡ x))) c.as_str.ensures.value (one_more (λ t. t.now) c.loop-place.endpoints.items c.push.new.self.items c.as_str.result c.in_ok-push.ensures.items e) in (
+      tt,
+      tt,
+      endpoint_gathered rows All names place c.next.new.self (subst (λ left. Gathers rows names left All) c.in-Some.ensures.steps c.loop-place.invariant.2) more named is added,
+    )
 
 pub returns : goal.returns
 returns c =
