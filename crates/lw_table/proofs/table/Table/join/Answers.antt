@@ -11,7 +11,7 @@ use Rattle.lw_table.proofs.table.Table.join.Goals as goal
 pub join_first-requires : goal.join_first-requires
 join_first-requires c = record {
   filed = filed_at c.self.inside.filed c.self.inside.rows c.self.invariant.0 c.self.inside.change c.self.invariant.1 _;
-  numbers = numbers_at c.self.inside.filed c.self.inside.rows c.self.inside.change c.self.invariant.1 _;
+  numbers = numbers_at c.self.inside.filed c.self.inside.rows c.self.inside.change c.self.invariant.1 (string_bytes c.into_string.result);
   rows = c.self.invariant.0;
 }
 
