@@ -7,7 +7,7 @@ use crate::names::{Order, names};
 use crate::nodes::{NodeCall, make_all};
 use crate::slots::FIRST;
 use lw_held::set_up;
-use lw_index::Index;
+use lw_index::Places;
 use lw_node::Node;
 use lw_reg::{Addr, Slot};
 use std::alloc::Global;
@@ -25,7 +25,7 @@ pub(crate) struct Sizes {
     pub copied: u64,
     /// In a map as a node's.
     pub removed: u64,
-    /// With one endpoint.
+    /// With one place.
     pub index_key: u64,
     /// In the journal of a node and the transcript of a pass.
     pub update: u64,
@@ -44,7 +44,7 @@ pub(crate) fn measure_sizes<R: Files + Wait>(
     let names = names(alloc, Order::Rising, count)?;
     let mut node = Node::new(alloc, 1);
     let mut slots = BTreeMap::new(alloc);
-    let mut index = Index::new(alloc);
+    let mut index = Places::new(alloc);
     fill_all(rt, alloc, &names, &mut node, &mut slots, &mut index)
 }
 
@@ -54,9 +54,10 @@ fn fill_all<R: Files + Wait>(
     names: &[String],
     node: &mut Node,
     slots: &mut BTreeMap<String, Slot>,
-    index: &mut Index<Addr>,
+    index: &mut Places<Addr>,
 ) -> Result<Sizes, BenchFault> {
-    let count = names.len() as u64;
+    let keys = u32::try_from(names.len()).unwrap_or(u32::MAX);
+    let count = u64::from(keys);
     let empty = resident(rt, alloc);
     make_all(alloc, node, NodeCall::Take, names)?;
     let with_node = resident(rt, alloc);
@@ -64,7 +65,7 @@ fn fill_all<R: Files + Wait>(
     let with_copy = resident(rt, alloc);
     put_removals(alloc, slots, names)?;
     let with_slots = resident(rt, alloc);
-    add_all(index, names)?;
+    add_all(index, keys)?;
     let with_index = resident(rt, alloc);
     let with_journal = resident_with_journal(rt, alloc, count)?;
     Ok(Sizes {

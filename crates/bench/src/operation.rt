@@ -168,9 +168,9 @@ pub(crate) static ROWS: [(&str, Operation); 33] = [
         Operation::Delta(DeltaCall::Check),
     ),
     ("delta read, each slot", Operation::Delta(DeltaCall::Read)),
-    ("Index::add", Operation::Index(IndexCall::Add)),
-    ("Index::of", Operation::Index(IndexCall::Of)),
-    ("Index::drop_one", Operation::Index(IndexCall::DropOne)),
+    ("Places::add", Operation::Index(IndexCall::Add)),
+    ("Places::of", Operation::Index(IndexCall::Of)),
+    ("Places::drop_one", Operation::Index(IndexCall::DropOne)),
     (
         "decode and understand, a Register",
         Operation::Request(RequestCall::Understand),

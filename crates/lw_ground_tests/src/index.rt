@@ -4,6 +4,8 @@ use lw_stamp::NoMemory;
 use std::alloc::Global;
 use std::test::Fail;
 
+mod places;
+
 /// Whether the key has these endpoints and no other.
 fn has_only(index: &Index<u32>, key: u32, wanted: &[&str]) -> bool {
     let mut endpoints = index.of(&key);

@@ -61,19 +61,14 @@ enum By {
 type Filed = (By, &'static [&'static str]);
 
 /// Whether these are the endpoints with the key.
-fn has_only(table: &Table, (by, wanted): Filed) -> bool {
+fn has_only(table: &Table, (by, wanted): Filed) -> Result<bool, NoMemory> {
     let key = match by {
         Id(mark) => Key::Id(mark.stamp()),
         Address(address) => Key::Address(address),
         Token(mark) => Key::Token(mark.stamp()),
     };
-    let mut endpoints = table.keys().of(&key);
-    for endpoint in wanted {
-        if endpoints.next() != Some(*endpoint) {
-            return false;
-        }
-    }
-    endpoints.next().is_none()
+    let endpoints = table.endpoints_with(key)?;
+    Ok(endpoints.as_slice() == wanted)
 }
 
 /// What a table is to have: its change number, the endpoints of keys, and the first that is shown.
@@ -84,13 +79,13 @@ struct State {
     first: Option<(&'static str, Mark)>,
 }
 
-fn has(table: &Table, state: State) -> bool {
+fn has(table: &Table, state: State) -> Result<bool, NoMemory> {
     for filed in state.filed {
-        if !has_only(table, *filed) {
-            return false;
+        if !has_only(table, *filed)? {
+            return Ok(false);
         }
     }
-    table.change() == state.change && is_named(table.first_after(at(0), None), state.first)
+    Ok(table.change() == state.change && is_named(table.first_after(at(0), None), state.first))
 }
 
 /// Whether it is shown with this endpoint and identifier, or none is.

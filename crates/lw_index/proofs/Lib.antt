@@ -2,3 +2,4 @@ pub mod TextLemmas
 pub mod IndexLemmas
 pub mod IndexCalls
 pub mod EntryLemmas
+pub mod PlaceLemmas

@@ -1,14 +1,13 @@
--- What a hole, a new entry and a closing up leave of the endpoints under numbers.
+-- What a hole, a new entry and a closing up leave of the places under numbers.
 use Rattle.std.proofs.Common.{◌≡◌, ◌⊎◌, inl, inr, ℕ, zero, suc, ◌+◌, ◌-◌, ◌<◌, ◌≤◌, List, [], ◌∷◌, ◌++◌, length, Option, Some, None, Bool, true, false, cond, is_some, IfSome, IfNone, Contains, insert, filter, take, drop, map, length-drop, Global, get_or, refl, sym, ap, subst, ◌∙◌, take-append-drop, arith}
-use Rattle.std.specs.Prelude.{String, string_bytes}
 use Rattle.std.specs.Option.{option_and_then, option_map}
 use Rattle.std.specs.List.{cons_option}
 use Rattle.std.specs.List.Sorted.{IsNonDecreasingBy}
 use Rattle.std.proofs.lemmas.List.Elements.{Contains-append_left, Contains-append_right, Contains-append_cases, Contains-push, Contains-push_cases, filter_map-append}
 use Rattle.std.proofs.lemmas.Bool.{cases_lt}
-use Rattle.std.proofs.lemmas.Option.{slice_get_read}
+use Rattle.std.proofs.lemmas.Option.{slice_get-get_or}
 use Rattle.lw_recent.specs.declared.entry.Entry.{Entry}
-use Rattle.lw_recent.specs.Entries.{number_of, shown, pairs_in, endpoints_in}
+use Rattle.lw_recent.specs.Entries.{number_of, shown, pairs_in, places_in}
 use Rattle.lw_recent.specs.inner.Entries.{shown_at, HasHole, with_hole}
 
 -- ---- one element more at the head
@@ -28,12 +27,12 @@ module _ {X : Type 0} where
   head_more (Some x) xs y h = Contains-append_right (x ∷ []) xs y h
 
 -- ---- what is shown, and where
-pub pairs_at : (xs : List Entry) (i : ℕ) (p : ℕ × List ℕ) → shown_at xs i ≡ Some p → Contains (pairs_in xs) p
+pub pairs_at : (xs : List Entry) (i : ℕ) (p : ℕ × ℕ) → shown_at xs i ≡ Some p → Contains (pairs_in xs) p
 pairs_at [] i p h = absurd cc
 pairs_at (x ∷ xs) zero p h = head_here (shown x) (pairs_in xs) p h
 pairs_at (x ∷ xs) (suc i) p h = head_more (shown x) (pairs_in xs) p (pairs_at xs i p h)
 
-pub at_pairs : (xs : List Entry) (p : ℕ × List ℕ) → Contains (pairs_in xs) p → (i : ℕ) × (i < length xs) × (shown_at xs i ≡ Some p)
+pub at_pairs : (xs : List Entry) (p : ℕ × ℕ) → Contains (pairs_in xs) p → (i : ℕ) × (i < length xs) × (shown_at xs i ≡ Some p)
 at_pairs [] p h = absurd (omega (arith, h.1))
 at_pairs (x ∷ xs) p h = elim (head_cases (shown x) (pairs_in xs) p h) [ inl is ↦ (zero, omega arith, is) | inr more ↦ let r = at_pairs xs p more in (suc r.0, omega (arith, r.1), r.2) ]
 
@@ -69,20 +68,20 @@ head_less : {X : Type 0} (o : Option X) (p : X) (xs : List X) → o ≡ Some p �
 head_less None p xs h = absurd cc
 head_less (Some x) p xs h = omega arith
 
--- where an endpoint stood there is one less
-pub hole_less : (xs : List Entry) (i : ℕ) (p : ℕ × List ℕ) → shown_at xs i ≡ Some p → length (pairs_in (with_hole xs i)) + 1 ≡ length (pairs_in xs)
+-- where a place stood there is one less
+pub hole_less : (xs : List Entry) (i : ℕ) (p : ℕ × ℕ) → shown_at xs i ≡ Some p → length (pairs_in (with_hole xs i)) + 1 ≡ length (pairs_in xs)
 hole_less [] i p h = absurd cc
 hole_less (x ∷ xs) zero p h = head_less (shown x) p (pairs_in xs) h
 hole_less (x ∷ xs) (suc i) p h = cons_less (shown x) (pairs_in (with_hole xs i)) (pairs_in xs) (hole_less xs i p h)
 
-pub hole_old : (xs : List Entry) (i : ℕ) (q : ℕ × List ℕ) → Contains (pairs_in (with_hole xs i)) q → Contains (pairs_in xs) q
+pub hole_old : (xs : List Entry) (i : ℕ) (q : ℕ × ℕ) → Contains (pairs_in (with_hole xs i)) q → Contains (pairs_in xs) q
 hole_old [] i q h = h
 hole_old (x ∷ xs) zero q h = head_more (shown x) (pairs_in xs) q h
 hole_old (x ∷ xs) (suc i) q h =
     elim (head_cases (shown x) (pairs_in (with_hole xs i)) q h)
     [ inl is ↦ head_here (shown x) (pairs_in xs) q is | inr more ↦ head_more (shown x) (pairs_in xs) q (hole_old xs i q more) ]
 
-pub hole_new : (xs : List Entry) (i : ℕ) (q : ℕ × List ℕ) → Contains (pairs_in xs) q → Contains (pairs_in (with_hole xs i)) q ⊎ (shown_at xs i ≡ Some q)
+pub hole_new : (xs : List Entry) (i : ℕ) (q : ℕ × ℕ) → Contains (pairs_in xs) q → Contains (pairs_in (with_hole xs i)) q ⊎ (shown_at xs i ≡ Some q)
 hole_new [] i q h = inl h
 hole_new (x ∷ xs) zero q h = elim (head_cases (shown x) (pairs_in xs) q h) [ inl is ↦ inr is | inr more ↦ inl more ]
 hole_new (x ∷ xs) (suc i) q h =
@@ -98,7 +97,7 @@ pairs_insert xs i y = filter_map-append shown (take i xs) (y ∷ drop i xs)
 pairs_parts : (xs : List Entry) (i : ℕ) → pairs_in (take i xs) ++ pairs_in (drop i xs) ≡ pairs_in xs
 pairs_parts xs i = sym (filter_map-append shown (take i xs) (drop i xs)) ∙ ap pairs_in (take-append-drop i xs)
 
-pub insert_from : (xs : List Entry) (i : ℕ) (y : Entry) (q : ℕ × List ℕ) → Contains (pairs_in (insert xs i y)) q → Contains (pairs_in xs) q ⊎ (shown y ≡ Some q)
+pub insert_from : (xs : List Entry) (i : ℕ) (y : Entry) (q : ℕ × ℕ) → Contains (pairs_in (insert xs i y)) q → Contains (pairs_in xs) q ⊎ (shown y ≡ Some q)
 insert_from xs i y q h =
     elim (Contains-append_cases (pairs_in (take i xs)) (cons_option (shown y) (pairs_in (drop i xs))) q (subst (λ l. Contains l q) (pairs_insert xs i y) h)) [
       | inl before ↦ inl (subst (λ l. Contains l q) (pairs_parts xs i) (Contains-append_left (pairs_in (take i xs)) (pairs_in (drop i xs)) q before))
@@ -108,7 +107,7 @@ insert_from xs i y q h =
       ]
     ]
 
-pub insert_old : (xs : List Entry) (i : ℕ) (y : Entry) (q : ℕ × List ℕ) → Contains (pairs_in xs) q → Contains (pairs_in (insert xs i y)) q
+pub insert_old : (xs : List Entry) (i : ℕ) (y : Entry) (q : ℕ × ℕ) → Contains (pairs_in xs) q → Contains (pairs_in (insert xs i y)) q
 insert_old xs i y q h =
     subst (λ l. Contains l q) (sym (pairs_insert xs i y))
     (elim (Contains-append_cases (pairs_in (take i xs)) (pairs_in (drop i xs)) q (subst (λ l. Contains l q) (sym (pairs_parts xs i)) h)) [
@@ -116,14 +115,14 @@ insert_old xs i y q h =
       | inr after ↦ Contains-append_right (pairs_in (take i xs)) (cons_option (shown y) (pairs_in (drop i xs))) q (head_more (shown y) (pairs_in (drop i xs)) q after)
     ])
 
-pub insert_new : (xs : List Entry) (i : ℕ) (y : Entry) (q : ℕ × List ℕ) → shown y ≡ Some q → Contains (pairs_in (insert xs i y)) q
+pub insert_new : (xs : List Entry) (i : ℕ) (y : Entry) (q : ℕ × ℕ) → shown y ≡ Some q → Contains (pairs_in (insert xs i y)) q
 insert_new xs i y q h =
     subst (λ l. Contains l q) (sym (pairs_insert xs i y))
     (Contains-append_right (pairs_in (take i xs)) (cons_option (shown y) (pairs_in (drop i xs))) q (head_here (shown y) (pairs_in (drop i xs)) q h))
 
 -- ---- closing up
 abbrev pub filled : Entry → Bool
-filled x = is_some x.endpoint
+filled x = is_some x.place
 
 none_shown : {A B : Type 0} (f : A → B) (o : Option A) → is_some o ≡ false → option_map f o ≡ None
 none_shown f None h = refl
@@ -135,7 +134,7 @@ some_shown f (Some a) h = absurd cc
 
 pairs_more : (b : Bool) (x : Entry) (zs xs : List Entry) → filled x ≡ b → pairs_in zs ≡ pairs_in xs → pairs_in (cond b (x ∷ zs) zs) ≡ cons_option (shown x) (pairs_in xs)
 pairs_more true x zs xs is h = ap (cons_option (shown x)) h
-pairs_more false x zs xs is h = h ∙ ap (λ o. cons_option o (pairs_in xs)) (sym (none_shown (λ text. (x.number, string_bytes text)) x.endpoint is))
+pairs_more false x zs xs is h = h ∙ ap (λ o. cons_option o (pairs_in xs)) (sym (none_shown (λ (p : ℕ). (x.number, p)) x.place is))
 
 pub pairs_filled : (xs : List Entry) → pairs_in (filter filled xs) ≡ pairs_in xs
 pairs_filled [] = refl
@@ -153,11 +152,11 @@ filled_step : {X : Type 0} (b : Bool) (x : X) (zs : List X) (n : ℕ) → length
 filled_step true x zs n h = omega (arith, h)
 filled_step false x zs n h = omega (arith, h)
 
--- a list with a hole is longer than its entries with an endpoint
+-- a list with a hole is longer than its entries with a place
 pub filled_less : (xs : List Entry) (i : ℕ) → i < length xs → shown_at xs i ≡ None → length (filter filled xs) + 1 ≤ length xs
 filled_less [] i l h = absurd (omega (arith, l))
 filled_less (x ∷ xs) zero l h =
-    let no = some_shown (λ text. (x.number, string_bytes text)) x.endpoint h in
+    let no = some_shown (λ (p : ℕ). (x.number, p)) x.place h in
     let same = ap (λ b. length (cond b (x ∷ filter filled xs) (filter filled xs))) no in omega (arith, same, filled_upto xs)
 filled_less (x ∷ xs) (suc i) l h =
     let less = filled_less xs i (omega (arith, l)) h in
@@ -165,53 +164,40 @@ filled_less (x ∷ xs) (suc i) l h =
 
 -- ---- entries by their numbers
 -- two pairs that an option is are one
-pub pair_of : (q : Option (ℕ × List ℕ)) (a n : ℕ) (b e : List ℕ) → q ≡ Some (a, b) → q ≡ Some (n, e) → (n ≡ a) × (e ≡ b)
+pub pair_of : (q : Option (ℕ × ℕ)) (a n b e : ℕ) → q ≡ Some (a, b) → q ≡ Some (n, e) → (n ≡ a) × (e ≡ b)
 pair_of None a n b e h k = absurd cc
 pair_of (Some x) a n b e h k =
     let left : x ≡ (a, b) = cc in
     let right : x ≡ (n, e) = cc in
-    (sym (ap (λ (p : ℕ × List ℕ). p.0) right) ∙ ap (λ (p : ℕ × List ℕ). p.0) left, sym (ap (λ (p : ℕ × List ℕ). p.1) right) ∙ ap (λ (p : ℕ × List ℕ). p.1) left)
+    (sym (ap (λ (p : ℕ × ℕ). p.0) right) ∙ ap (λ (p : ℕ × ℕ). p.0) left, sym (ap (λ (p : ℕ × ℕ). p.1) right) ∙ ap (λ (p : ℕ × ℕ). p.1) left)
 
-abbrev numbered : {Z : Type 0} → ℕ → String Z → ℕ × List ℕ
-numbered a text = (a, string_bytes text)
+abbrev numbered : ℕ → ℕ → ℕ × ℕ
+numbered a place = (a, place)
 
-option_number : {Z : Type 0} (o : Option (String Z)) (a n : ℕ) (e : List ℕ) → option_map (numbered a) o ≡ Some (n, e) → a ≡ n
+option_number : (o : Option ℕ) (a n e : ℕ) → option_map (numbered a) o ≡ Some (n, e) → a ≡ n
 option_number None a n e h = absurd cc
-option_number (Some text) a n e h = (pair_of (Some (a, string_bytes text)) n a e (string_bytes text) h refl).0
+option_number (Some place) a n e h = (pair_of (Some (a, place)) n a e place h refl).0
 
-pub shown_number : (xs : List Entry) (i : ℕ) (n : ℕ) (e : List ℕ) (d : Entry) → shown_at xs i ≡ Some (n, e) → number_of (get_or xs i d) ≡ n
+pub shown_number : (xs : List Entry) (i n e : ℕ) (d : Entry) → shown_at xs i ≡ Some (n, e) → number_of (get_or xs i d) ≡ n
 shown_number [] i n e d h = absurd cc
-shown_number (x ∷ xs) zero n e d h = option_number x.endpoint x.number n e h
+shown_number (x ∷ xs) zero n e d h = option_number x.place x.number n e h
 shown_number (x ∷ xs) (suc i) n e d h = shown_number xs i n e d h
 
-pub shown_read : (xs : List Entry) (i : ℕ) (x : Entry) → i < length xs → x ≡ get_or xs i x → shown_at xs i ≡ shown x
-shown_read xs i x l is = ap (option_and_then shown) (slice_get_read xs (length xs) i x refl l is)
+pub shown_there : (xs : List Entry) (i : ℕ) (d : Entry) → i < length xs → shown_at xs i ≡ shown (get_or xs i d)
+shown_there xs i d l = ap (option_and_then shown) (slice_get-get_or xs i d l)
 
--- ---- what is taken
-pub text_is : {Z : Type 0} (o : Option (String Z)) (e : List ℕ) (P : Type 0) → option_map string_bytes o ≡ Some e → P → IfSome o (λ text. (string_bytes text ≡ e) × P)
-text_is None e P h p = tt
-text_is (Some text) e P h p = (cc, p)
-
-pub none_not : {A B : Type 0} (f : A → B) (o : Option A) (b : B) (P : Type 0) → option_map f o ≡ Some b → IfNone o P
-none_not f None b P h = absurd cc
-none_not f (Some a) b P h = tt
-
-pub none_then : {A : Type 0} (o : Option A) (P Q : Type 0) → IfNone o P → (P → Q) → IfNone o Q
-none_then None P Q h f = f h
-none_then (Some a) P Q h f = tt
-
--- ---- endpoints alone
-pub named_from : (ps : List (ℕ × List ℕ)) (e : List ℕ) → Contains (map (λ p. p.1) ps) e → (n : ℕ) × Contains ps (n, e)
+-- ---- places alone
+pub named_from : (ps : List (ℕ × ℕ)) (e : ℕ) → Contains (map (λ p. p.1) ps) e → (n : ℕ) × Contains ps (n, e)
 named_from [] e h = absurd (omega (arith, h.1))
 named_from (p ∷ ps) e h =
     elim (head_cases (Some p.1) (map (λ p. p.1) ps) e h) [
       | inl is ↦
           let same : p.1 ≡ e = cc in
-          let pair : List ℕ → Option (ℕ × List ℕ) = λ d. Some (p.0, d) in (p.0, head_here (Some p) ps (p.0, e) (ap pair same))
+          let pair : ℕ → Option (ℕ × ℕ) = λ d. Some (p.0, d) in (p.0, head_here (Some p) ps (p.0, e) (ap pair same))
       | inr more ↦ let r = named_from ps e more in (r.0, head_more (Some p) ps (r.0, e) r.1)
     ]
 
-pub named_to : (ps : List (ℕ × List ℕ)) (n : ℕ) (e : List ℕ) → Contains ps (n, e) → Contains (map (λ p. p.1) ps) e
+pub named_to : (ps : List (ℕ × ℕ)) (n e : ℕ) → Contains ps (n, e) → Contains (map (λ p. p.1) ps) e
 named_to [] n e h = absurd (omega (arith, h.1))
 named_to (p ∷ ps) n e h =
     elim (head_cases (Some p) ps (n, e) h) [
@@ -228,9 +214,9 @@ shown_drop (x ∷ xs) (suc i) j (suc k) h = shown_drop xs i j k (omega (arith, h
 -- the entries from the place on where numbers come above a given one
 module _ (xs : List Entry) (number i : ℕ) (low : (k : ℕ) (d : Entry) → k < i → number_of (get_or xs k d) ≤ number) (high : (k : ℕ) (d : Entry) → i ≤ k → k < length xs → number < number_of (get_or xs k d)) where
   any : Entry
-  any = record { number = 0; endpoint = None }
+  any = record { number = 0; place = None }
 
-  pub above_from : (n : ℕ) (e : List ℕ) → Contains (pairs_in (drop i xs)) (n, e) → Contains (pairs_in xs) (n, e) × (number < n)
+  pub above_from : (n e : ℕ) → Contains (pairs_in (drop i xs)) (n, e) → Contains (pairs_in xs) (n, e) × (number < n)
   above_from n e h =
       let w = at_pairs (drop i xs) (n, e) h in
       let long = length-drop i xs in
@@ -239,7 +225,7 @@ module _ (xs : List Entry) (number i : ℕ) (low : (k : ℕ) (d : Entry) → k <
       let is = shown_number xs (i + w.0) n e any there in
       (pairs_at xs (i + w.0) (n, e) there, omega (arith, up, is))
 
-  pub above_to : (n : ℕ) (e : List ℕ) → Contains (pairs_in xs) (n, e) → number < n → Contains (pairs_in (drop i xs)) (n, e)
+  pub above_to : (n e : ℕ) → Contains (pairs_in xs) (n, e) → number < n → Contains (pairs_in (drop i xs)) (n, e)
   above_to n e h above =
       let w = at_pairs xs (n, e) h in
       let is = shown_number xs w.0 n e any w.2 in
@@ -248,8 +234,8 @@ module _ (xs : List Entry) (number i : ℕ) (low : (k : ℕ) (d : Entry) → k <
         | inr after ↦ pairs_at (drop i xs) (w.0 - i) (n, e) (shown_drop xs i (w.0 - i) w.0 (omega (arith, after)) ∙ w.2)
       ]
 
-pub first_hidden : (x : Entry) (xs : List Entry) → x.endpoint ≡ None → endpoints_in (x ∷ xs) ≡ endpoints_in xs
+pub first_hidden : (x : Entry) (xs : List Entry) → x.place ≡ None → places_in (x ∷ xs) ≡ places_in xs
 first_hidden x xs h = ap (λ o. map (λ p. p.1) (cons_option (option_map (numbered x.number) o) (pairs_in xs))) h
 
-pub first_shown : (x : Entry) (xs : List Entry) (text : String Global) → x.endpoint ≡ Some text → endpoints_in (x ∷ xs) ≡ string_bytes text ∷ endpoints_in xs
-first_shown x xs text h = ap (λ o. map (λ p. p.1) (cons_option (option_map (numbered x.number) o) (pairs_in xs))) h
+pub first_shown : (x : Entry) (xs : List Entry) (place : ℕ) → x.place ≡ Some place → places_in (x ∷ xs) ≡ place ∷ places_in xs
+first_shown x xs place h = ap (λ o. map (λ p. p.1) (cons_option (option_map (numbered x.number) o) (pairs_in xs))) h

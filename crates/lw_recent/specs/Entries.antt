@@ -1,19 +1,19 @@
--- Endpoints under numbers, and what is left of entries of which some have none.
-use Rattle.std.specs.Prelude.{ℕ, List, Option, string_bytes, filter_map, map}
+-- Places under numbers, and what is left of entries of which some have none.
+use Rattle.std.specs.Prelude.{ℕ, List, Option, filter_map, map}
 use Rattle.std.specs.Option.{option_map}
 use Rattle.lw_recent.specs.declared.entry.Entry.{Entry}
 
 abbrev pub number_of : Entry → ℕ
 number_of x = x.number
 
--- the number and the endpoint, where there is one
-abbrev pub shown : Entry → Option (ℕ × List ℕ)
-shown x = option_map (λ text. (x.number, string_bytes text)) x.endpoint
+-- the number and the place, where there is one
+abbrev pub shown : Entry → Option (ℕ × ℕ)
+shown x = option_map (λ place. (x.number, place)) x.place
 
--- what the entries that have an endpoint show
-abbrev pub pairs_in : List Entry → List (ℕ × List ℕ)
+-- what the entries that have a place show
+abbrev pub pairs_in : List Entry → List (ℕ × ℕ)
 pairs_in xs = filter_map shown xs
 
--- the endpoints alone
-abbrev pub endpoints_in : List Entry → List (List ℕ)
-endpoints_in xs = map (λ p. p.1) (pairs_in xs)
+-- the places alone
+abbrev pub places_in : List Entry → List ℕ
+places_in xs = map (λ p. p.1) (pairs_in xs)

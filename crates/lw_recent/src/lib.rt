@@ -1,6 +1,6 @@
-//! Endpoints, each under the number that it took when it moved last.
+//! Places, each under the number that it took when it moved last.
 //!
-//! An endpoint takes another number without memory.
+//! A place takes another number without memory.
 #![tactic(auto)]
 
 mod entry;

@@ -1,9 +1,9 @@
-ghost use Rattle.std.specs.Iterator.{YieldsFirstRef, item_count};
+ghost use Rattle.std.specs.Iterator.{YieldsFirst, item_count};
 
 use crate::entry::Entry;
 use std::marker::Model;
 
-/// The endpoints under the numbers above one, as `Recent::since` says.
+/// The places under the numbers above one, as `Recent::since` says.
 #[derive(Drop)]
 pub struct Since<'a> {
     pub(crate) entries: &'a [Entry],
@@ -11,25 +11,25 @@ pub struct Since<'a> {
 
 impl<'a> Model for Since<'a> {
     ghost use Rattle.std.specs.Prelude.{ℕ, List};
-    ghost use Rattle.lw_recent.specs.Entries.{endpoints_in};
+    ghost use Rattle.lw_recent.specs.Entries.{places_in};
 
-    ghost Value = { List (List ℕ) };
+    ghost Value = { List ℕ };
 
-    ghost view = { λ since. endpoints_in since.entries.now };
+    ghost view = { λ since. places_in since.entries.now };
 }
 
 impl<'a> Iterator for Since<'a> {
-    type Item = &'a str;
+    type Item = u32;
 
-    ghost next_gives = { YieldsFirstRef (λ since. since) };
+    ghost next_gives = { YieldsFirst (λ since. since) };
 
     ghost remaining = { item_count (λ since. since) };
 
-    fn next(&mut self) -> Option<&'a str> {
+    fn next(&mut self) -> Option<u32> {
         while let Some((first, rest)) = self.entries.split_first() {
             self.entries = rest;
-            if let Some(endpoint) = &first.endpoint {
-                return Some(endpoint.as_str());
+            if let Some(place) = first.place {
+                return Some(place);
             }
         }
         None

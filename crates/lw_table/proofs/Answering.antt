@@ -3,11 +3,8 @@
 use Rattle.std.proofs.Common.{◌≡◌, ◌↔◌, ℕ, List, Option, Some, None}
 use Rattle.std.specs.Prelude.{Contains, filter}
 use Rattle.std.specs.FinMap.{get}
-use Rattle.std.specs.List.Sorted.{IsStrictlySortedBy}
 use Rattle.lw_stamp.specs.declared.stamp.Stamp.{Stamp}
-use Rattle.lw_stamp.specs.TextOrder.{text_cmp}
 use Rattle.lw_due.specs.Due.{Entry, IsRising, is_after, kept_in}
-use Rattle.lw_index.specs.Index.{endpoints_of}
 use Rattle.lw_reg.specs.declared.addr.Addr.{Addr}
 use Rattle.lw_reg.specs.declared.path.Path.{Path}
 use Rattle.lw_reg.specs.declared.slot.Slot.{Slot}
@@ -19,9 +16,10 @@ use Rattle.lw_reg.specs.Showing.{ShownOf}
 use Rattle.lw_reg.specs.State.{State, IsStateOf}
 use Rattle.lw_table.specs.declared.key.Key.{Key}
 use Rattle.lw_table.specs.declared.key.Key.TheVariants.{Id, Address, Token}
+use Rattle.lw_table.specs.declared.row.Row.{Row}
 use Rattle.lw_table.specs.Answers.{FirstAfter}
-use Rattle.lw_table.specs.inner.Found.{view_at, watch_at, holder_at, expired_at, if_after, first_of, last_of, holder_of, with_watch}
-use Rattle.lw_table.specs.Keys.{key_cmp}
+use Rattle.lw_table.specs.inner.Found.{view_at, watch_at, holder_at, expired_at, if_after, first_of, LeastFound, view_cmp, watch_cmp, holder_cmp, holder_of, with_watch}
+use Rattle.lw_table.specs.Keys.{OptionHasKey}
 use Rattle.lw_table.specs.LookUps.{ById, ByAddress, ByToken, WatchOfIdAfter, ExpiredAfter}
 use Rattle.lw_table.specs.Pages.{IsPage}
 use Rattle.lw_table.specs.Table.{TableContent, IsKept, IsTable}
@@ -38,7 +36,7 @@ module _ (state : State) (now : ℕ) where
   pub marks_by_endpoint : (e : List ℕ) (o : Option Registration) → o ≡ view_at now state e → (ms : List Mark) → NamesAll (among ms) → IsStateOf ms state → ShownOf (among ms) now e o
   marks_by_endpoint e o h ms p s = answers.by_endpoint (among ms) p state (answers.marks_tell ms p state s) now e o h
 
-module _ (keys : List (Key × List (List ℕ))) (numbers : List (ℕ × List ℕ)) (due : List Entry) (t : TableContent) (table : IsTable keys numbers due t) (now : ℕ) where
+module _ (keys : List (Key × ℕ)) (numbers : List (ℕ × ℕ)) (due : List Entry) {held : List Row} (t : TableContent) (table : IsTable keys numbers due held t) (now : ℕ) where
   -- a set that the state tells of has the answer
   module _ (after : Option (List ℕ)) (rising : IsRising due) where
     kept_are : (e : List ℕ) → Contains (kept_in due) e ↔ IsKept (get t.state e)
@@ -69,26 +67,25 @@ module _ (keys : List (Key × List (List ℕ))) (numbers : List (ℕ × List ℕ
       pub marks_kept_page : (ms : List Mark) → NamesAll (among ms) → IsStateOf ms t.state → IsPage (among ms) now after next page
       marks_kept_page = marks_page t.state now (kept_in due) (kept_rise due rising) kept_are after next page is
 
-  abbrev Filed : Key → List (List ℕ)
-  Filed = endpoints_of key_cmp keys
+-- ---- by key, where D says which endpoints have it
+module _ (state : State) (now : ℕ) (D : Key → List ℕ → Type 0) (keys_are : (k : Key) (e : List ℕ) → D k e ↔ OptionHasKey (get state e) k) where
+  pub read_by_id : (id : Stamp) (o : Option Registration) → LeastFound view_cmp (view_at now state) (D (Id id)) o → ById (shown_in state) now id o
+  read_by_id = answers.by_id (shown_in state) (answers.read_names state) state (answers.read_tells state) now D keys_are
 
-  pub read_by_id : (id : Stamp) → IsStrictlySortedBy text_cmp (Filed (Id id)) → (o : Option Registration) → o ≡ first_of (view_at now t.state) (Filed (Id id)) → ById (shown_in t.state) now id o
-  read_by_id = answers.by_id (shown_in t.state) (answers.read_names t.state) t.state (answers.read_tells t.state) now keys table.keys_are
+  pub marks_by_id : (id : Stamp) (o : Option Registration) → LeastFound view_cmp (view_at now state) (D (Id id)) o → (ms : List Mark) → NamesAll (among ms) → IsStateOf ms state → ById (among ms) now id o
+  marks_by_id id o h ms p s = answers.by_id (among ms) p state (answers.marks_tell ms p state s) now D keys_are id o h
 
-  pub marks_by_id : (id : Stamp) → IsStrictlySortedBy text_cmp (Filed (Id id)) → (o : Option Registration) → o ≡ first_of (view_at now t.state) (Filed (Id id)) → (ms : List Mark) → NamesAll (among ms) → IsStateOf ms t.state → ById (among ms) now id o
-  marks_by_id id rise o h ms p s = answers.by_id (among ms) p t.state (answers.marks_tell ms p t.state s) now keys table.keys_are id rise o h
+  pub read_by_token : (token : Stamp) (o : Option (Registration × Watch)) → LeastFound watch_cmp (watch_at (has_token token) now state) (D (Token token)) o → ByToken (shown_in state) now token o
+  read_by_token = answers.by_token (shown_in state) (answers.read_names state) state (answers.read_tells state) now D keys_are
 
-  pub read_by_token : (token : Stamp) → IsStrictlySortedBy text_cmp (Filed (Token token)) → (o : Option (Registration × Watch)) → o ≡ first_of (watch_at (has_token token) now t.state) (Filed (Token token)) → ByToken (shown_in t.state) now token o
-  read_by_token = answers.by_token (shown_in t.state) (answers.read_names t.state) t.state (answers.read_tells t.state) now keys table.keys_are
+  pub marks_by_token : (token : Stamp) (o : Option (Registration × Watch)) → LeastFound watch_cmp (watch_at (has_token token) now state) (D (Token token)) o → (ms : List Mark) → NamesAll (among ms) → IsStateOf ms state → ByToken (among ms) now token o
+  marks_by_token token o h ms p s = answers.by_token (among ms) p state (answers.marks_tell ms p state s) now D keys_are token o h
 
-  pub marks_by_token : (token : Stamp) → IsStrictlySortedBy text_cmp (Filed (Token token)) → (o : Option (Registration × Watch)) → o ≡ first_of (watch_at (has_token token) now t.state) (Filed (Token token)) → (ms : List Mark) → NamesAll (among ms) → IsStateOf ms t.state → ByToken (among ms) now token o
-  marks_by_token token rise o h ms p s = answers.by_token (among ms) p t.state (answers.marks_tell ms p t.state s) now keys table.keys_are token rise o h
+  pub read_by_address : (address : Addr) (o : Option (Stamp × Registration)) → LeastFound holder_cmp (holder_at now state) (D (Address address)) o → ByAddress (shown_in state) now address (holder_of o)
+  read_by_address = answers.by_address (shown_in state) (answers.read_names state) state (answers.read_tells state) now D keys_are
 
-  pub read_by_address : (address : Addr) → IsStrictlySortedBy text_cmp (Filed (Address address)) → (o : Option (Stamp × Registration)) → o ≡ last_of (holder_at now t.state) None (Filed (Address address)) → ByAddress (shown_in t.state) now address (holder_of o)
-  read_by_address = answers.by_address (shown_in t.state) (answers.read_names t.state) t.state (answers.read_tells t.state) now keys table.keys_are
-
-  pub marks_by_address : (address : Addr) → IsStrictlySortedBy text_cmp (Filed (Address address)) → (o : Option (Stamp × Registration)) → o ≡ last_of (holder_at now t.state) None (Filed (Address address)) → (ms : List Mark) → NamesAll (among ms) → IsStateOf ms t.state → ByAddress (among ms) now address (holder_of o)
-  marks_by_address address rise o h ms p s = answers.by_address (among ms) p t.state (answers.marks_tell ms p t.state s) now keys table.keys_are address rise o h
+  pub marks_by_address : (address : Addr) (o : Option (Stamp × Registration)) → LeastFound holder_cmp (holder_at now state) (D (Address address)) o → (ms : List Mark) → NamesAll (among ms) → IsStateOf ms state → ByAddress (among ms) now address (holder_of o)
+  marks_by_address address o h ms p s = answers.by_address (among ms) p state (answers.marks_tell ms p state s) now D keys_are address o h
 
 module _ (state : State) (now : ℕ) (id : Stamp) (after : Option Path) where
   abbrev WatchesOf : Registration → Option (Registration × Watch) → Type 0

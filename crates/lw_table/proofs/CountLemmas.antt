@@ -18,7 +18,7 @@ use Rattle.lw_reg.specs.SlotLaws.{slot_laws}
 use Rattle.lw_reg.specs.State.{State, state_join}
 use Rattle.lw_reg.proofs.Members.{none_there, first_there, there_or_first}
 use Rattle.lw_table.specs.Changes.{Count, LAST, Recounts, counted}
-use Rattle.lw_table.specs.inner.Filed.{slot_of, number_of}
+use Rattle.lw_table.specs.Table.{slot_of, number_of}
 use Rattle.lw_table.specs.inner.Moves.{next_row}
 use Rattle.lw_table.specs.Rows.{IsRows, state_in, numbers_in}
 use Rattle.lw_table.specs.inner.Rows.{row_at}

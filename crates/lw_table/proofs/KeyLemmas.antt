@@ -4,16 +4,13 @@ use Rattle.std.specs.Prelude.{Contains, nat_eq, bytes_eq}
 use Rattle.std.specs.Option.{option_eq}
 use Rattle.std.proofs.lemmas.List.{at_drop_more, at_drop_all}
 use Rattle.std.proofs.lemmas.Slice.Eq.{bytes_eq-Decides}
-use Rattle.std.specs.declared.cmp.Ordering.TheVariants.{Equal}
-use Rattle.std.specs.Cmp.{tied_itself}
 use Rattle.std.proofs.lemmas.Bool.{eqb-true, eq-eqb}
 use Rattle.lw_stamp.specs.declared.stamp.Stamp.{Stamp}
 use Rattle.lw_stamp.specs.contracts.stamp.StampPartialEq.TheImpl as stamps
-use Rattle.lw_stamp.proofs.StampLemmas.{same_stamp, stamp_order}
+use Rattle.lw_stamp.proofs.StampLemmas.{same_stamp}
 use Rattle.lw_reg.specs.contracts.addr.AddrPartialEq.TheImpl as addrs
 use Rattle.lw_reg.specs.declared.addr.Addr.{Addr}
 use Rattle.lw_reg.specs.declared.addr.Addr.TheVariants.{V4, V6}
-use Rattle.lw_reg.specs.OrderLaws.{addr_order}
 use Rattle.lw_reg.specs.declared.path.Path.{Path}
 use Rattle.lw_reg.specs.Body.{Watching}
 use Rattle.lw_reg.specs.Reading.{tokens_in}
@@ -21,10 +18,7 @@ use Rattle.lw_reg.proofs.Members.{none_there, first_there, more_there, there_or_
 use Rattle.lw_join.specs.declared.once.Once.{Once}
 use Rattle.lw_join.specs.declared.or_gone.OrGone.{OrGone}
 use Rattle.lw_join.specs.declared.or_gone.OrGone.TheVariants.{Here, Gone}
-use Rattle.lw_table.specs.Keys.{key_cmp}
 use Rattle.lw_table.specs.inner.Keys.{token_in}
-use Rattle.lw_table.specs.declared.key.Key.{Key}
-use Rattle.lw_table.specs.declared.key.Key.TheVariants.{Id, Address, Token}
 
 both : (a b : Bool) → (a && b) ≡ true → (a ≡ true) × (b ≡ true)
 both true true h = (refl, refl)
@@ -36,22 +30,6 @@ stamp_same a b h = let p = both (nat_eq a.counter b.counter) (nat_eq a.node b.no
 
 pub stamp_itself : (a : Stamp) → (stamps.ghosts).eq a a ≡ true
 stamp_itself a = (λ i. eq-eqb a.counter a.counter refl i && eq-eqb a.node a.node refl i)
-
-pub key_exact : (a b : Key) → key_cmp a b ≡ Equal → a ≡ b
-key_exact (Id a) (Id b) h = ap Id (stamp_order.exact a b h)
-key_exact (Id a) (Address b) h = absurd cc
-key_exact (Id a) (Token b) h = absurd cc
-key_exact (Address a) (Id b) h = absurd cc
-key_exact (Address a) (Address b) h = ap Address (addr_order.exact a b h)
-key_exact (Address a) (Token b) h = absurd cc
-key_exact (Token a) (Id b) h = absurd cc
-key_exact (Token a) (Address b) h = absurd cc
-key_exact (Token a) (Token b) h = ap Token (stamp_order.exact a b h)
-
-pub key_itself : (a : Key) → key_cmp a a ≡ Equal
-key_itself (Id a) = tied_itself stamp_order.total a
-key_itself (Address a) = tied_itself addr_order.total a
-key_itself (Token a) = tied_itself stamp_order.total a
 
 -- ---- tokens
 abbrev pub then_token : Option Stamp → List Stamp → List Stamp

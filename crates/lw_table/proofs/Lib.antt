@@ -10,6 +10,7 @@ pub mod CountLemmas
 pub mod KeptLemmas
 pub mod TableLemmas
 pub mod FirstLemmas
+pub mod PlaceLemmas
 pub mod LookUpLemmas
 pub mod Answering
 pub mod PageLemmas

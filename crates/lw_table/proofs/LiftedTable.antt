@@ -7,7 +7,6 @@ use Rattle.lw_stamp.specs.declared.moment.Moment.{Moment}
 use Rattle.lw_stamp.specs.declared.stamp.Stamp.{Stamp}
 use Rattle.lw_due.specs.Due.{Entry, IsRising, first_due, raised}
 use Rattle.lw_due.proofs.NoteLemmas.{due_of-before_first, due_of-none_due, due_of-raised, kept_of-raised}
-use Rattle.lw_recent.specs.Recent.{IsUnder}
 use Rattle.lw_reg.specs.declared.slot.Slot.{Slot}
 use Rattle.lw_reg.specs.Endpoint.{IsEndpoint}
 use Rattle.lw_reg.specs.Reading.{is_late, registered_in, seen_of}
@@ -20,13 +19,13 @@ use Rattle.lw_table.specs.declared.rows.Rows.{Rows}
 use Rattle.lw_table.specs.Changes.{counted}
 use Rattle.lw_table.specs.Due.{OptionHasDue}
 use Rattle.lw_table.specs.inner.Due.{KeepsKept}
-use Rattle.lw_table.specs.inner.Filed.{IsFiled, OthersSame, OtherNumbers, slot_of}
+use Rattle.lw_table.specs.inner.Filed.{HasNumber, IsFiled, OthersSame, OtherNumbers}
+use Rattle.lw_table.specs.Table.{slot_of, IsKept, IsTable, TableContent}
 use Rattle.lw_table.specs.inner.Found.{expired_at}
 use Rattle.lw_table.specs.Lifts.{Lifts}
-use Rattle.lw_table.specs.inner.Moves.{LiftsRowAt, WasSeen, moved_row, next_row}
-use Rattle.lw_table.specs.Rows.{IsRows, state_in, table_in}
-use Rattle.lw_table.specs.inner.Rows.{row_at}
-use Rattle.lw_table.specs.Table.{IsKept, IsTable, TableContent}
+use Rattle.lw_table.specs.inner.Moves.{LiftsRowAt, PutsRow, WasSeen, moved_row, next_row}
+use Rattle.lw_table.specs.Rows.{IsRows, held_in, state_in, table_in}
+use Rattle.lw_table.specs.inner.Rows.{row_at, spot_of}
 use Rattle.lw_table.proofs.CountLemmas.{next_after, recount_one}
 use Rattle.lw_table.proofs.DueLemmas.{HasPassed, not_expired, others_raised}
 use Rattle.lw_table.proofs.FiledLemmas.{numbered, put_due}
@@ -42,10 +41,10 @@ one_slot a b h = ap of h
     of (Some x) = x
 
 -- due moments that were raised no further than the deadlines
-pub raised_table : (filed : Filed) (m : Rows) → IsRows m → (change : ℕ) (due : List Entry) → IsTable filed.keys filed.numbers filed.due (table_in m change)
+pub raised_table : (filed : Filed) (m : Rows) → IsRows m → (change : ℕ) (due : List Entry) → IsTable filed.keys filed.numbers filed.due (held_in m) (table_in m change)
     → ((e : List ℕ) → OptionHasDue filed.due e (slot_of (row_at m e)) → OptionHasDue due e (slot_of (row_at m e)))
     → KeepsKept filed.due due
-    → IsTable filed.keys filed.numbers due (table_in m change)
+    → IsTable filed.keys filed.numbers due (held_in m) (table_in m change)
 raised_table filed m rows_m change due is below kept = record {
   kept_are = λ e. subst (λ (o : Option Bool). (o ≡ Some true) ↔ IsKept (get (state_in m) e)) (sym (kept e)) (is.kept_are e);
   keys_are = is.keys_are;
@@ -59,7 +58,7 @@ raised_table filed m rows_m change due is below kept = record {
 }
 
 -- where none is due none has expired
-pub none_found : (keys : List (Key × List (List ℕ))) (numbers : List (ℕ × List ℕ)) (due : List Entry) (t : TableContent) → IsTable keys numbers due t
+pub none_found : (keys : List (Key × ℕ)) (numbers : List (ℕ × ℕ)) (due : List Entry) {held : List Row} (t : TableContent) → IsTable keys numbers due held t
     → (now : ℕ) → first_due now due ≡ None → (e : List ℕ) → expired_at now t.state e ≡ None
 none_found keys numbers due t is now none e = not_expired_here now t.state e (not_expired now due e (get t.state e) (λ k h. due_of-none_due e now k due none h) (is.due_below e))
 
@@ -70,7 +69,7 @@ passed_seen now (Some row) passed =
     let lasts = late_lasts now passed.slot passed.late in
     subst (λ s. IsSome (seen_of s)) (sym (one_slot row.slot passed.slot passed.is)) (lasting_seen passed.slot lasts.0 lasts.1)
 
-module _ (old : Filed) (m n : Rows) (rows_m : IsRows m) (change : ℕ) (was : IsTable old.keys old.numbers old.due (table_in m change)) (e0 : List ℕ) (number : ℕ) (id : Stamp)
+module _ (old : Filed) (m n : Rows) (rows_m : IsRows m) (change : ℕ) (was : IsTable old.keys old.numbers old.due (held_in m) (table_in m change)) (e0 : List ℕ) (number : ℕ) (id : Stamp)
     (lifted : LiftsRowAt e0 number id m n) (now : ℕ) (passed : HasPassed now (slot_of (row_at m e0))) (first : first_due now old.due ≡ Some e0) (is_next : number ≡ counted change 1) where
   abbrev slot : Slot
   slot = lifted.was.slot
@@ -96,11 +95,11 @@ module _ (old : Filed) (m n : Rows) (rows_m : IsRows m) (change : ℕ) (was : Is
   keeps : KeepsKeys slot (slot_join slot over)
   keeps = subst (λ r. KeepsKeys slot (slot_join slot (ending r seen.0))) lifted.lifted.id_is (ended_keeps slot seen lasts)
 
-  put_at : (e : List ℕ) → row_at n e ≡ cond (bytes_eq e0 e) (Some row) (row_at m e)
-  put_at e = lifted.put.at e ∙ ap (λ (r : Row). cond (bytes_eq e0 e) (Some r) (row_at m e)) lifted.lifted.moved
+  put_row : PutsRow e0 row m n
+  put_row = subst (λ (r : Row). PutsRow e0 r m n) lifted.lifted.moved lifted.put
 
   next_at : (e : List ℕ) → row_at n e ≡ cond (bytes_eq e0 e) (Some (next_row (row_at m e0) over number)) (row_at m e)
-  next_at e = put_at e ∙ ap (λ (o : Option Row). cond (bytes_eq e0 e) (Some (next_row o over number)) (row_at m e)) (sym lifted.is)
+  next_at e = put_row.at e ∙ ap (λ (o : Option Row). cond (bytes_eq e0 e) (Some (next_row o over number)) (row_at m e)) (sym lifted.is)
 
   named : IsEndpoint e0
   named = (rows_of old m rows_m change was).endpoints e0 (subst IsSome (sym slot_is) refl)
@@ -131,7 +130,7 @@ module _ (old : Filed) (m n : Rows) (rows_m : IsRows m) (change : ℕ) (was : Is
   )
 
   -- ---- what is filed
-  module _ (numbers : List (ℕ × List ℕ)) (other_numbers : OtherNumbers e0 old.numbers numbers) (numbers_are : (k : ℕ) → IsUnder numbers k e0 ↔ (Some number ≡ Some k)) (rising : IsRising old.due) where
+  module _ (numbers : List (ℕ × ℕ)) (other_numbers : OtherNumbers (spot_of m e0) old.numbers numbers) (numbers_are : HasNumber numbers (spot_of m e0) (Some number)) (rising : IsRising old.due) where
     abbrev due : List Entry
     due = raised now (2 ^ 64 - 1) old.due
 
@@ -141,17 +140,19 @@ module _ (old : Filed) (m n : Rows) (rows_m : IsRows m) (change : ℕ) (was : Is
     abbrev after : Filed
     after = record { keys = old.keys; numbers = numbers; due = due }
 
-    others : OthersSame old after e0
-    others = others_then e0 old numbered_so after (numbered old e0 numbers other_numbers) (put_due numbered_so e0 due (others_raised e0 now (2 ^ 64 - 1) old.due first))
+    abbrev place : ℕ
+    place = spot_of m e0
 
-    filed_was : IsFiled old e0 (Some lifted.was)
-    filed_was = subst (IsFiled old e0) lifted.is (filed_at old m rows_m change was e0)
+    others : OthersSame old after e0 place
+    others = others_then e0 place old numbered_so after (numbered old e0 place numbers) (put_due numbered_so e0 place due (others_raised e0 now (2 ^ 64 - 1) old.due first))
 
-    filed : IsFiled after e0 (Some row)
+    filed_was : IsFiled old e0 place (Some lifted.was)
+    filed_was = subst (IsFiled old e0 place) lifted.is (filed_at old m rows_m change was e0)
+
+    filed : IsFiled after e0 place (Some row)
     filed = record {
       kept = (λ h. keeps.is, λ h. kept_of-raised e0 now (2 ^ 64 - 1) old.due ∙ filed_was.kept.1 keeps.was);
       keys = λ k. (λ h. (keeps.keys k).1 ((filed_was.keys k).0 h), λ h. (filed_was.keys k).1 ((keeps.keys k).0 h));
-      numbers = numbers_are;
       due = record {
         at = 2 ^ 64 - 1;
         is = due_of-raised e0 now (2 ^ 64 - 1) old.due rising first;
@@ -159,7 +160,7 @@ module _ (old : Filed) (m n : Rows) (rows_m : IsRows m) (change : ℕ) (was : Is
       };
     }
 
-    pub lifted_table : IsTable old.keys numbers due (table_in n number)
+    pub lifted_table : IsTable old.keys numbers due (held_in n) (table_in n number)
     lifted_table =
         let next = next_after change number is_next was.last in
-        put_table old after m n rows_m lifted.put.rows change e0 others was row number put_at filed next.0 next.1 next.2 next.3 named
+        put_table old after m n rows_m change e0 others was row number put_row (filed, record { here = numbers_are; others = other_numbers }) next.0 next.1 next.2 next.3 named

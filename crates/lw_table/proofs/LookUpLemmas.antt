@@ -3,14 +3,15 @@ use Rattle.std.proofs.Common.{◌≡◌, ℕ, Bool, true, false, cond, List, [],
 use Rattle.std.specs.Prelude.{◌↔◌, Contains}
 use Rattle.std.specs.FinMap.{get}
 use Rattle.std.specs.List.Sorted.{IsStrictlySortedBy}
-use Rattle.std.specs.Ordering.{is_eq, is_gt, is_lt, ordering_reverse}
+use Rattle.std.specs.Cmp.{tied_itself}
+use Rattle.std.specs.Ordering.{is_eq, is_gt, is_lt, ordering_reverse, ordering_then}
 use Rattle.std.specs.declared.cmp.Ordering.{Ordering}
 use Rattle.std.specs.declared.cmp.Ordering.TheVariants.{Less, Equal, Greater}
 use Rattle.lw_stamp.specs.declared.stamp.Stamp.{Stamp}
 use Rattle.lw_stamp.specs.Order.{AtMost, IsGreatest}
 use Rattle.lw_stamp.specs.StampOrder.{stamp_cmp}
 use Rattle.lw_stamp.specs.TextOrder.{text_cmp}
-use Rattle.lw_index.specs.Index.{Has, endpoints_of}
+use Rattle.lw_stamp.proofs.StampLemmas.{stamp_order}
 use Rattle.lw_join.specs.Entries.{get as entry_of}
 use Rattle.lw_join.specs.inner.Facets.{OptionTells}
 use Rattle.lw_join.specs.GreaterLaws.{at_most_antisymm}
@@ -51,12 +52,12 @@ use Rattle.lw_reg.proofs.Tells.{SlotTells, Tells, Holds, ToldTells, state_tells}
 use Rattle.lw_table.specs.declared.key.Key.{Key}
 use Rattle.lw_table.specs.declared.key.Key.TheVariants.{Id, Address, Token}
 use Rattle.lw_table.specs.Answers.{IsAfter, IsFirstAnswer, IsShownAfter, FirstAfter}
-use Rattle.lw_table.specs.inner.Found.{view_with, both_of, stamp_of_write, view_at, watch_at, watch_with, holder_at, holder_with, expired_at, expired_with, named, if_after, first_of, last_of, holder_of, with_watch}
-use Rattle.lw_table.specs.Keys.{key_cmp, OptionHasKey}
+use Rattle.lw_table.specs.inner.Found.{view_with, both_of, stamp_of_write, view_at, watch_at, watch_with, holder_at, holder_with, expired_at, expired_with, named, if_after, first_of, LeastFound, view_cmp, watch_cmp, holder_cmp, holder_of, with_watch}
+use Rattle.lw_table.specs.Keys.{OptionHasKey}
 use Rattle.lw_table.specs.LookUps.{ById, IsHolder, ByAddress, HasToken, ByToken, WatchOfIdAfter, IsExpiredAfter, named_by, ExpiredAfter}
 use Rattle.lw_due.specs.Due.{is_after}
 use Rattle.lw_table.specs.Table.{IsKept}
-use Rattle.lw_table.proofs.FirstLemmas.{IsFirstFit, first_fits, LastFound, last_found}
+use Rattle.lw_table.proofs.FirstLemmas.{IsFirstFit, first_fits, least_fits}
 
 some_is : {A : Type 0} (v w : A) → Some v ≡ Some w → v ≡ w
 some_is v w e = cc
@@ -279,22 +280,19 @@ module _ (M : Marks) (names : NamesAll M) (state : State) (tells : Tells (Holds 
         go (Some x) h = (h.0.0, record { fits = h.0.1; first = λ other fits. subst (λ k. AtMost text_cmp k other.endpoint) (ap (λ w. w.0) h.0.2) (h.1 (named_by other) (other, fits, refl)) }, h.0.2)
 
   -- ---- by key
-  module _ (keys : List (Key × List (List ℕ))) (keys_are : (k : Key) (e : List ℕ) → Has key_cmp keys k e ↔ OptionHasKey (get state e) k) where
-    abbrev Filed : Key → List (List ℕ)
-    Filed = endpoints_of key_cmp keys
-
-    pub by_id : (id : Stamp) → IsStrictlySortedBy text_cmp (Filed (Id id)) → (o : Option Registration) → o ≡ first_of (view_at now state) (Filed (Id id)) → ById M now id o
-    by_id id rise o is = go o (first_fits At Fits Fits (view_at now state) (Filed (Id id)) rise sound whole o is)
+  module _ (D : Key → List ℕ → Type 0) (keys_are : (k : Key) (e : List ℕ) → D k e ↔ OptionHasKey (get state e) k) where
+    pub by_id : (id : Stamp) (o : Option Registration) → LeastFound view_cmp (view_at now state) (D (Id id)) o → ById M now id o
+    by_id id o is = go o (least_fits At Fits Fits (view_at now state) (D (Id id)) sound whole o is)
       where
         Fits : Registration → Type 0
         Fits r = IsShown M now r × (r.id ≡ id)
 
-        sound : (e : List ℕ) (r : Registration) → Contains (Filed (Id id)) e → view_at now state e ≡ Some r → (r.endpoint ≡ e) × Fits r
+        sound : (e : List ℕ) (r : Registration) → D (Id id) e → view_at now state e ≡ Some r → (r.endpoint ≡ e) × Fits r
         sound e r c found =
             let s = (view_reads e r).0 found in
             (s.0, (s.1, one_id (get state e) r.id id (shown_id now e (get state e) r found) ((keys_are (Id id) e).0 c)))
 
-        whole : (r : Registration) → Fits r → Contains (Filed (Id id)) r.endpoint × ((b : Registration) × (view_at now state r.endpoint ≡ Some b))
+        whole : (r : Registration) → Fits r → D (Id id) r.endpoint × ((b : Registration) × (view_at now state r.endpoint ≡ Some b))
         whole r fits =
             let found = (view_reads r.endpoint r).1 (refl, fits.0) in
             ((keys_are (Id id) r.endpoint).1 (subst (λ k. OptionHasKey (get state r.endpoint) (Id k)) fits.1 (shown_id now r.endpoint (get state r.endpoint) r found)), (r, found))
@@ -332,7 +330,7 @@ module _ (M : Marks) (names : NamesAll M) (state : State) (tells : Tells (Holds 
                 ),
               )
 
-      seen_whole : (y : Registration × Watch) → HasToken M now token y → Contains (Filed (Token token)) y.0.endpoint × ((b : Registration × Watch) × (Seen y.0.endpoint ≡ Some b))
+      seen_whole : (y : Registration × Watch) → HasToken M now token y → D (Token token) y.0.endpoint × ((b : Registration × Watch) × (Seen y.0.endpoint ≡ Some b))
       seen_whole y has = go (get state y.0.endpoint) refl
         where
           e : List ℕ
@@ -348,7 +346,7 @@ module _ (M : Marks) (names : NamesAll M) (state : State) (tells : Tells (Holds 
           watch slot h None none is = absurd (none y.1 lives has.token_is)
           watch slot h (Some w) first is = ((y.0, w), (λ i. both_of ((sym (ap (view_with now e) h) ∙ shown) i) (is i)))
 
-          go : (o : Option Slot) → get state e ≡ o → Contains (Filed (Token token)) e × ((b : Registration × Watch) × (Seen e ≡ Some b))
+          go : (o : Option Slot) → get state e ≡ o → D (Token token) e × ((b : Registration × Watch) × (Seen e ≡ Some b))
           go None h = absurd (unnamed e h y.0.id has.lives.shown.registered.complete.current.member)
           go (Some slot) h =
               let there = ((lives_reads M e (names e) slot (slot_told e slot h) now y.1).0 lives).1 in
@@ -356,8 +354,8 @@ module _ (M : Marks) (names : NamesAll M) (state : State) (tells : Tells (Holds 
               let found = watch slot h (live_watch (has_token token) now slot) (live_at e slot h) refl in
               ((keys_are (Token token) e).1 key, (found.0, ap (watch_with (has_token token) now e) h ∙ found.1))
 
-      pub by_token : IsStrictlySortedBy text_cmp (Filed (Token token)) → (o : Option (Registration × Watch)) → o ≡ first_of Seen (Filed (Token token)) → ByToken M now token o
-      by_token rise o is = go o (first_fits (λ x. x.0.endpoint) (HasToken M now token) Best Seen (Filed (Token token)) rise (λ e x c found. seen_sound e x found) seen_whole o is)
+      pub by_token : (o : Option (Registration × Watch)) → LeastFound watch_cmp Seen (D (Token token)) o → ByToken M now token o
+      by_token o is = go o (least_fits (λ x. x.0.endpoint) (HasToken M now token) Best Seen (D (Token token)) (λ e x d found. seen_sound e x found) seen_whole o is)
         where
           go : (o : Option (Registration × Watch)) → IsFirstFit (λ x. x.0.endpoint) (HasToken M now token) Best o → ByToken M now token o
           go None h = h
@@ -380,7 +378,7 @@ module _ (M : Marks) (names : NamesAll M) (state : State) (tells : Tells (Holds 
       write_is e slot h r same id w is =
           subst (λ (x : List ℕ × Stamp). IsWrite addr_cmp AddressAt M x.0 x.1 w) (λ i. (sym same i, id i)) (address_told (λ y. HasMark M e y.0 y.1) slot (slot_told e slot h) w is)
 
-      holder_sound : (e : List ℕ) (x : Stamp × Registration) → Contains (Filed (Address address)) e → Holder e ≡ Some x → (x.1.endpoint ≡ e) × IsHolder M now address x.0 x.1
+      holder_sound : (e : List ℕ) (x : Stamp × Registration) → D (Address address) e → Holder e ≡ Some x → (x.1.endpoint ≡ e) × IsHolder M now address x.0 x.1
       holder_sound e x c = go (get state e) refl ((keys_are (Address address) e).0 c)
         where
           go : (o : Option Slot) → get state e ≡ o → OptionHasKey o (Address address) → holder_with now e o ≡ Some x → (x.1.endpoint ≡ e) × IsHolder M now address x.0 x.1
@@ -400,7 +398,7 @@ module _ (M : Marks) (names : NamesAll M) (state : State) (tells : Tells (Holds 
                 },
               )
 
-      holder_whole : (s : Stamp) (r : Registration) → IsHolder M now address s r → Contains (Filed (Address address)) r.endpoint × (Holder r.endpoint ≡ Some (s, r))
+      holder_whole : (s : Stamp) (r : Registration) → IsHolder M now address s r → D (Address address) r.endpoint × (Holder r.endpoint ≡ Some (s, r))
       holder_whole s r holds = go (get state r.endpoint) refl
         where
           e : List ℕ
@@ -409,7 +407,7 @@ module _ (M : Marks) (names : NamesAll M) (state : State) (tells : Tells (Holds 
           shown : view_at now state e ≡ Some r
           shown = (view_reads e r).1 (refl, holds.shown)
 
-          go : (o : Option Slot) → get state e ≡ o → Contains (Filed (Address address)) e × (Holder e ≡ Some (s, r))
+          go : (o : Option Slot) → get state e ≡ o → D (Address address) e × (Holder e ≡ Some (s, r))
           go None h = absurd (unnamed e h r.id holds.shown.registered.complete.current.member)
           go (Some slot) h =
               let view : view_in now e slot ≡ Some r = sym (ap (view_with now e) h) ∙ shown in
@@ -421,19 +419,27 @@ module _ (M : Marks) (names : NamesAll M) (state : State) (tells : Tells (Holds 
                 ap (holder_with now e) h ∙ (λ i. both_of (stamp_of_write (is i)) (view i)) ∙ ap (λ w. Some (w.0, r)) same,
               )
 
-      pub by_address : IsStrictlySortedBy text_cmp (Filed (Address address)) → (o : Option (Stamp × Registration)) → o ≡ last_of Holder None (Filed (Address address)) → ByAddress M now address (holder_of o)
-      by_address rise o is = go o (subst (LastFound Holder (Contains (Filed (Address address)))) (sym is) (last_found Holder (Filed (Address address)) rise))
+      -- what is at most was not written later
+      written_before : (x y : Stamp × Registration) → AtMost holder_cmp x y → AtMost stamp_cmp y.0 x.0
+      written_before x y = go (stamp_cmp y.0 x.0)
         where
-          go : (o : Option (Stamp × Registration)) → LastFound Holder (Contains (Filed (Address address))) o → ByAddress M now address (holder_of o)
-          go None h = λ s r holds. let w = holder_whole s r holds in h r.endpoint (s, r) w.0 w.1
-          go (Some x) h =
-              let s = holder_sound h.at x h.there h.found in
-              record {
-                at = x.0;
-                holds = s.1;
-                latest = λ t other holds. let w = holder_whole t other holds in h.latest other.endpoint (t, other) w.0 w.1;
-                first = λ other holds. let w = holder_whole x.0 other holds in subst (λ k. AtMost text_cmp k other.endpoint) (sym s.0) (h.first other.endpoint (x.0, other) w.0 w.1 refl);
-              }
+          go : (r : Ordering) → is_gt (ordering_then r (view_cmp x.1 y.1)) ≡ false → is_gt r ≡ false
+          go Less h = refl
+          go Equal h = refl
+          go Greater h = h
+
+      -- and where both were written at once, it is at most by its endpoint
+      written_at_once : (x y : Stamp × Registration) → AtMost holder_cmp x y → y.0 ≡ x.0 → AtMost view_cmp x.1 y.1
+      written_at_once x y h same = subst (λ r. is_gt (ordering_then r (view_cmp x.1 y.1)) ≡ false) (subst (λ s. stamp_cmp s x.0 ≡ Equal) (sym same) (tied_itself stamp_order.total x.0)) h
+
+      pub by_address : (o : Option (Stamp × Registration)) → LeastFound holder_cmp Holder (D (Address address)) o → ByAddress M now address (holder_of o)
+      by_address None h = λ s r holds. let w = holder_whole s r holds in h r.endpoint (s, r) w.0 w.1
+      by_address (Some x) h = record {
+        at = x.0;
+        holds = (holder_sound h.at x h.there h.found).1;
+        latest = λ t other holds. let w = holder_whole t other holds in written_before x (t, other) (h.least other.endpoint (t, other) w.0 w.1);
+        first = λ other holds. let w = holder_whole x.0 other holds in written_at_once x (x.0, other) (h.least other.endpoint (x.0, other) w.0 w.1) refl;
+      }
 
   -- ---- the watches of a registration
   module _ (id : Stamp) (after : Option Path) where

@@ -1,20 +1,20 @@
--- What an endpoint is filed under while its row comes or moves.
-use Rattle.std.proofs.Common.{◌≡◌, ◌↔◌, ◌∙◌, inl, inr, ℕ, true, List, Option, Some, None, Result, Ok, Err, refl, sym, ap, subst}
+-- What an endpoint and its place are filed under while its row comes or moves.
+use Rattle.std.proofs.Common.{◌≡◌, ◌↔◌, inl, inr, ℕ, true, List, Option, Some, None, Result, Ok, Err, refl, sym, subst}
 use Rattle.std.specs.Prelude.{OnOk, OnErr, IsErr}
 use Rattle.lw_due.specs.Due.{Entry, kept_of}
-use Rattle.lw_index.specs.Index.{Has}
-use Rattle.lw_recent.specs.Recent.{IsUnder}
-use Rattle.lw_table.specs.Keys.{key_cmp}
+use Rattle.lw_index.specs.Places.{IsPlaceOf}
 use Rattle.lw_reg.specs.declared.slot.Slot.{Slot}
 use Rattle.lw_reg.specs.Reading.{IsRemoved}
 use Rattle.lw_reg.specs.Slot.{slot_join}
-use Rattle.lw_table.specs.Due.{HasDue, OptionHasDue}
-use Rattle.lw_table.specs.inner.Filed.{IsFiled, IsOver, OthersSame, IsBetween, HasAll, number_of, slot_of}
+use Rattle.lw_table.specs.Due.{HasDue}
+use Rattle.lw_table.specs.inner.Filed.{IsFiled, IsOver, NumbersRow, OthersSame, IsBetween, HasAll}
 use Rattle.lw_table.specs.inner.Moves.{moved_row}
 use Rattle.lw_table.specs.inner.KeyChanges.{HasKeyChanges}
 use Rattle.lw_table.specs.declared.filed.Filed.{Filed}
 use Rattle.lw_table.specs.declared.key.Key.{Key}
 use Rattle.lw_table.specs.declared.row.Row.{Row}
+use Rattle.lw_table.proofs.FiledLemmas.{due_then}
+use Rattle.lw_table.proofs.FiledLemmas as filing
 
 pub err_then : {T E : Type 0} (P : Type 0) (r : Result T E) → P → OnErr r P
 err_then P (Ok x) p = tt
@@ -24,76 +24,63 @@ pub err_not : {T E : Type 0} (P : Type 0) (r : Result T E) → IsErr r → OnOk 
 err_not P (Ok x) h = absurd cc
 err_not P (Err e) h = tt
 
-module _ (old new : Filed) (e : List ℕ) (keys : List Key) (between : IsBetween old new e keys) where
+abbrev pub with_keys : List (Key × ℕ) → List (ℕ × ℕ) → List Entry → Filed
+with_keys keys numbers due = record { keys = keys; numbers = numbers; due = due }
+
+module _ (old : Filed) (new : List (Key × ℕ)) (e : List ℕ) (place : ℕ) (keys : List Key) (between : IsBetween old.keys new place keys) where
   -- with the row as it was
-  pub over_old : (row : Option Row) → IsFiled old e row → IsOver new e row keys
+  pub over_old : (row : Option Row) → IsFiled old e place row → IsOver (with_keys new old.numbers old.due) e place row keys
   over_old row filed = record {
-    kept = λ h. ap (kept_of e) between.due ∙ filed.kept.1 h;
-    keys_has = λ k h. between.keys_stay k ((filed.keys k).1 h);
-    keys_from = λ k h. elim (between.keys_from k h) [ inl was ↦ inl ((filed.keys k).0 was) | inr listed ↦ inr listed ];
-    numbers = λ n. subst (λ l. IsUnder l n e ↔ (number_of row ≡ Some n)) (sym between.numbers) (filed.numbers n);
-    due = subst (λ l. OptionHasDue l e (slot_of row)) (sym between.due) filed.due;
+    kept = λ h. filed.kept.1 h;
+    keys_has = λ k h. between.stay k ((filed.keys k).1 h);
+    keys_from = λ k h. elim (between.from k h) [ inl was ↦ inl ((filed.keys k).0 was) | inr listed ↦ inr listed ];
+    due = filed.due;
   }
 
-  module _ (all : HasAll new e keys) (slot : Slot) (number : ℕ) (numbers : List (ℕ × List ℕ)) (numbers_are : (n : ℕ) → IsUnder numbers n e ↔ (Some number ≡ Some n)) (due : List Entry) where
-    abbrev after : Filed
-    after = record { keys = new.keys; numbers = numbers; due = due }
-
+  module _ (all : HasAll new place keys) (slot : Slot) (number : ℕ) (numbers : List (ℕ × ℕ)) (due : List Entry) where
     -- with the row that moved
-    pub over_moved : (row : Row) → IsFiled old e (Some row) → HasKeyChanges (Some row.slot) slot keys → HasDue due e (slot_join row.slot slot) → ((IsRemoved (slot_join row.slot slot) → ⊥) → kept_of e due ≡ Some true) → IsOver after e (Some (moved_row row slot number)) keys
+    pub over_moved : (row : Row) → IsFiled old e place (Some row) → HasKeyChanges (Some row.slot) slot keys → HasDue due e (slot_join row.slot slot) → ((IsRemoved (slot_join row.slot slot) → ⊥) → kept_of e due ≡ Some true)
+        → IsOver (with_keys new numbers due) e place (Some (moved_row row slot number)) keys
     over_moved row filed key_changes is_due is_kept = record {
       kept = is_kept;
-      keys_has = λ k h. elim (key_changes.gained k h) [ inl was ↦ between.keys_stay k ((filed.keys k).1 was) | inr listed ↦ all k listed ];
-      keys_from = λ k h. elim (between.keys_from k h) [ inl was ↦ key_changes.lost k ((filed.keys k).0 was) | inr listed ↦ inr listed ];
-      numbers = numbers_are;
+      keys_has = λ k h. elim (key_changes.gained k h) [ inl was ↦ between.stay k ((filed.keys k).1 was) | inr listed ↦ all k listed ];
+      keys_from = λ k h. elim (between.from k h) [ inl was ↦ key_changes.lost k ((filed.keys k).0 was) | inr listed ↦ inr listed ];
       due = is_due;
     }
 
     -- with the first row
-    pub filed_first : ((kept_of e due ≡ Some true) ↔ (IsRemoved slot → ⊥)) → IsFiled old e None → HasKeyChanges None slot keys → HasDue due e slot → IsFiled after e (Some (record { slot = slot; number = number }))
+    pub filed_first : ((kept_of e due ≡ Some true) ↔ (IsRemoved slot → ⊥)) → IsFiled old e place None → HasKeyChanges None slot keys → HasDue due e slot → IsFiled (with_keys new numbers due) e place (Some (record { slot = slot; number = number }))
     filed_first is_kept filed key_changes is_due = record {
       kept = is_kept;
       keys = λ k. (
-        λ h. elim (between.keys_from k h) [ inl was ↦ absurd ((filed.keys k).0 was) | inr listed ↦ key_changes.first refl k listed ],
+        λ h. elim (between.from k h) [ inl was ↦ absurd ((filed.keys k).0 was) | inr listed ↦ key_changes.first refl k listed ],
         λ h. elim (key_changes.gained k h) [ inl was ↦ absurd was | inr listed ↦ all k listed ],
       );
-      numbers = numbers_are;
       due = is_due;
     }
 
--- under no more than keys of its slot, once its number was taken
-pub over_none : (old new : Filed) (e : List ℕ) (slot : Slot) (number : ℕ) (keys : List Key) → new.keys ≡ old.keys → IsFiled old e (Some (record { slot = slot; number = number })) → HasKeyChanges None slot keys
-    → ((n : ℕ) → IsUnder new.numbers n e → ⊥) → IsOver new e None keys
-over_none old new e slot number keys same filed key_changes none = record {
+-- under no more than keys of its row
+pub over_none : (old new : Filed) (e : List ℕ) (place : ℕ) (row : Row) (keys : List Key) → new.keys ≡ old.keys → IsFiled old e place (Some row) → HasKeyChanges None row.slot keys → IsOver new e place None keys
+over_none old new e place row keys same filed key_changes = record {
   kept = λ h. absurd h;
   keys_has = λ k h. absurd h;
-  keys_from = λ k h. key_changes.gained k ((filed.keys k).0 (subst (λ (l : List (Key × List (List ℕ))). Has key_cmp l k e) same h));
-  numbers = λ n. (λ h. absurd (none n h), λ h. absurd cc);
+  keys_from = λ k h. key_changes.gained k ((filed.keys k).0 (subst (λ (l : List (Key × ℕ)). IsPlaceOf l k place) same h));
   due = tt;
 }
 
 -- where there is no row a due moment does not matter
-pub over_numbered : (filed : Filed) (e : List ℕ) (keys : List Key) → IsOver filed e None keys → (numbers : List (ℕ × List ℕ)) → numbers ≡ filed.numbers → (due : List Entry)
-    → IsOver (record { keys = filed.keys; numbers = numbers; due = due }) e None keys
-over_numbered filed e keys over numbers same due = record {
+pub over_numbered : (filed : Filed) (e : List ℕ) (place : ℕ) (keys : List Key) → IsOver filed e place None keys → (numbers : List (ℕ × ℕ)) (due : List Entry)
+    → IsOver (record { keys = filed.keys; numbers = numbers; due = due }) e place None keys
+over_numbered filed e place keys over numbers due = record {
   kept = λ h. absurd h;
   keys_has = over.keys_has;
   keys_from = over.keys_from;
-  numbers = λ n. subst (λ l. IsUnder l n e ↔ (number_of None ≡ Some n)) (sym same) (over.numbers n);
   due = tt;
 }
 
-pub others_then : (e : List ℕ) (a b c : Filed) → OthersSame a b e → OthersSame b c e → OthersSame a c e
-others_then e a b c h g = record {
-  same = λ o other.
-      let x = h.same o other in
-      let y = g.same o other in
-      record {
-        keys = λ k. (λ w. (x.keys k).0 ((y.keys k).0 w), λ w. (y.keys k).1 ((x.keys k).1 w));
-        numbers = λ n. (λ w. (x.numbers n).0 ((y.numbers n).0 w), λ w. (y.numbers n).1 ((x.numbers n).1 w));
-        due = y.due ∙ x.due;
-      };
-}
+-- numbers of the row that stay
+pub numbers_still : (place : ℕ) (row : Option Row) (a b c : List (ℕ × ℕ)) → NumbersRow place row a b → c ≡ b → NumbersRow place row a c
+numbers_still place row a b c h same = subst (λ l. NumbersRow place row a l) (sym same) h
 
-pub others_itself : (e : List ℕ) (a : Filed) → OthersSame a a e
-others_itself e a = record { same = λ o other. record { keys = λ k. (λ w. w, λ w. w); numbers = λ n. (λ w. w, λ w. w); due = refl } }
+pub others_then : (e : List ℕ) (place : ℕ) (a b c : Filed) → OthersSame a b e place → OthersSame b c e place → OthersSame a c e place
+others_then e place a b c h g = record { due = due_then e a.due b.due c.due h.due g.due; keys = filing.others_then place a.keys b.keys c.keys h.keys g.keys }

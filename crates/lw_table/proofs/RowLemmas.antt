@@ -1,6 +1,6 @@
 -- What the rows hold, endpoint by endpoint, and how that changes.
 use Rattle.std.proofs.Common.{◌≡◌, ◌≢◌, ℕ, zero, suc, ◌<◌, ◌⊎◌, inl, inr, Bool, true, false, cond, List, [], ◌∷◌, ◌++◌, length, Option, None, Some, refl, sym, ap, ◌∙◌, subst, arith, slice_get, get_or, set}
-use Rattle.std.specs.Prelude.{String, bytes_eq, map}
+use Rattle.std.specs.Prelude.{String, bytes_eq, map, unwrap_or}
 use Rattle.std.specs.Option.{IfSome, IsSomeAnd, option_map}
 use Rattle.std.specs.BTreeMap.{BTreeMap, IsOrdered, get_by_text}
 use Rattle.std.specs.BTreeMap as tree
@@ -12,12 +12,13 @@ use Rattle.std.proofs.lemmas.Bool.Decides.{nat_tests}
 use Rattle.std.proofs.lemmas.Cmp.{eq_by_cmp_equiv}
 use Rattle.std.proofs.lemmas.List.{length-append}
 use Rattle.std.proofs.lemmas.Map.Views.{tells_apart}
-use Rattle.std.proofs.lemmas.Option.{slice_get_read, slice_get_within}
+use Rattle.std.proofs.lemmas.Option.{slice_get_past, slice_get-map, slice_get_read, slice_get_within}
 use Rattle.lw_stamp.specs.TextOrder.{text_cmp}
 use Rattle.lw_reg.specs.OrderLaws.{text_order}
+use Rattle.lw_table.specs.Table.{number_of}
 use Rattle.lw_table.specs.inner.Moves.{FilesEither, FilesFirst, FilesOther, PutsRow, SameRows}
-use Rattle.lw_table.specs.Rows.{IsRows, each_in, end_of, first_or, is_named, name_of, place_of}
-use Rattle.lw_table.specs.inner.Rows.{row_at, row_from}
+use Rattle.lw_table.specs.Rows.{IsRows, each_in, end_of, first_or, held_in, is_named, name_of, place_of}
+use Rattle.lw_table.specs.inner.Rows.{row_at, row_from, spot_of}
 use Rattle.lw_table.specs.declared.row.Row.{Row}
 use Rattle.lw_table.specs.declared.rows.NamedRow.{NamedRow}
 use Rattle.lw_table.specs.declared.rows.Rows.{Rows}
@@ -36,7 +37,7 @@ number_tied a b h = grind (arith, nat_tests)
 number_itself : (a : ℕ) → is_eq (nat_cmp a a) ≡ true
 number_itself a = grind (arith, nat_tests)
 
-number_or_not : {G : Type 0} (a b : ℕ) → (is_eq (nat_cmp a b) ≡ true → a ≡ b → G) → (is_eq (nat_cmp a b) ≡ false → a ≢ b → G) → G
+pub number_or_not : {G : Type 0} (a b : ℕ) → (is_eq (nat_cmp a b) ≡ true → a ≡ b → G) → (is_eq (nat_cmp a b) ≡ false → a ≢ b → G) → G
 number_or_not {G} a b same other = go (is_eq (nat_cmp a b)) refl
   where
     go : (r : Bool) → is_eq (nat_cmp a b) ≡ r → G
@@ -70,6 +71,12 @@ module _ {X : Type 0} where
     | inl there ↦ inl there
     | inr last ↦ inr (ap suc last.0, last.1)
   ]
+
+  not_at_end : (xs : List X) (x : X) (i : ℕ) → i ≢ length xs → slice_get (xs ++ x ∷ []) i ≡ slice_get xs i
+  not_at_end [] x zero other = absurd (other refl)
+  not_at_end [] x (suc i) other = refl
+  not_at_end (y ∷ xs) x zero other = refl
+  not_at_end (y ∷ xs) x (suc i) other = not_at_end xs x i (λ same. other (ap suc same))
 
   written : (xs : List X) (i : ℕ) (y : X) → i < length xs → slice_get (set xs i y) i ≡ Some y
   written [] i y h = absurd (omega arith)
@@ -135,6 +142,30 @@ at_place m rows e place named is at = slice_get_read m.rows.items (length m.rows
 
 pub row_there : (m : Rows) (e : List ℕ) (place : ℕ) (named : NamedRow) → place_of m e ≡ Some place → slice_get m.rows.items place ≡ Some named → row_at m e ≡ Some named.row
 row_there m e place named is there = ap (row_from m.rows.items) is ∙ ap (option_map (λ (x : NamedRow). x.row)) there
+
+-- ---- the rows at their places
+abbrev row_in : NamedRow → Row
+row_in named = named.row
+
+-- at the place of an endpoint its row, and none where the next row is to come
+pub held_at : (m : Rows) → (e : List ℕ) → slice_get (held_in m) (spot_of m e) ≡ row_at m e
+held_at m e = go (place_of m e)
+  where
+    go : (o : Option ℕ) → slice_get (held_in m) (unwrap_or o (length m.rows.items)) ≡ row_from m.rows.items o
+    go None = slice_get-map row_in m.rows.items (length m.rows.items) ∙ ap (option_map row_in) (slice_get_past m.rows.items (length m.rows.items) (omega arith))
+    go (Some place) = slice_get-map row_in m.rows.items place
+
+-- what is held at a place is the row there
+pub held_there : (m : Rows) (place : ℕ) (named : NamedRow) → slice_get m.rows.items place ≡ Some named → slice_get (held_in m) place ≡ Some named.row
+held_there m place named there = slice_get-map row_in m.rows.items place ∙ ap (option_map row_in) there
+
+-- a number that is held is that of a row
+pub held_row : (m : Rows) (place n : ℕ) → number_of (slice_get (held_in m) place) ≡ Some n → (named : NamedRow) × (slice_get m.rows.items place ≡ Some named) × (named.row.number ≡ n)
+held_row m place n h = go (slice_get m.rows.items place) refl (ap number_of (sym (slice_get-map row_in m.rows.items place)) ∙ h)
+  where
+    go : (o : Option NamedRow) → slice_get m.rows.items place ≡ o → number_of (option_map row_in o) ≡ Some n → (named : NamedRow) × (slice_get m.rows.items place ≡ Some named) × (named.row.number ≡ n)
+    go None is h = absurd (let bad : None ≡ Some n = h in cc)
+    go (Some named) is h = (named, is, some_same named.row.number n h)
 
 -- no row, no place
 pub no_place : (m : Rows) → IsRows m → (e : List ℕ) → row_at m e ≡ None → place_of m e ≡ None
@@ -308,9 +339,17 @@ module _ (m n : Rows) (e0 : List ℕ) (w : NamedRow) (rows : IsRows m) (named : 
     | inr new ↦ ap (λ b. cond b (Some last) (place_of m (name_of x))) ((bytes_decides e0 (name_of x)).1 (sym named ∙ ap name_of new.1)) ∙ ap Some (sym new.0)
   ]
 
+  spot_is : spot_of m e0 ≡ last
+  spot_is = ap (λ o. unwrap_or o last) absent
+
   pub row_is_put : PutsRow e0 w.row m n
   row_is_put = record {
     at = row_put;
+    held_here = (λ i. slice_get (map row_in (items i)) (spot_is i)) ∙ slice_get-map row_in longer last ∙ ap (option_map row_in) (at_end m.rows.items w);
+    held_apart = λ place other.
+        ap (λ xs. slice_get (map row_in xs) place) items ∙ slice_get-map row_in longer place
+        ∙ ap (option_map row_in) (not_at_end m.rows.items w place (λ same. other (same ∙ sym spot_is)))
+        ∙ sym (slice_get-map row_in m.rows.items place);
     rows = record {
       firsts_rise = firsts_rise;
       others_rise = others_rise;
@@ -382,9 +421,18 @@ module _ (m n : Rows) (e0 : List ℕ) (at : ℕ) (v : NamedRow) (r : Row) (rows 
       ap (place_of m) (sym (ap name_of one)) ∙ rows.found at v there ∙ ap Some tied)
       (λ t apart. rows.found place x (sym (not_written m.rows.items at place new (λ same. apart (sym same))) ∙ h))
 
+  own_spot : spot_of m e0 ≡ at
+  own_spot = ap (λ o. unwrap_or o (length m.rows.items)) is
+
   pub row_is_written : PutsRow e0 r m n
   row_is_written = record {
     at = row_written;
+    held_here = (λ i. slice_get (map row_in (items i)) (own_spot i)) ∙ slice_get-map row_in (set m.rows.items at new) at
+        ∙ ap (option_map row_in) (written m.rows.items at new within);
+    held_apart = λ place other.
+        ap (λ xs. slice_get (map row_in xs) place) items ∙ slice_get-map row_in (set m.rows.items at new) place
+        ∙ ap (option_map row_in) (not_written m.rows.items at place new (λ same. other (same ∙ sym own_spot)))
+        ∙ sym (slice_get-map row_in m.rows.items place);
     rows = record {
       firsts_rise = subst (λ (trees : BTreeMap ℕ ℕ). IsOrdered nat_cmp trees) (sym firsts) rows.firsts_rise;
       others_rise = subst (λ (trees : BTreeMap (String _) ℕ). IsOrdered string_cmp trees) (sym others) rows.others_rise;
@@ -404,5 +452,8 @@ put_again m n e0 row put is = record {
   same = λ e. put.at e ∙ same_or_not e0 e
       (λ t same. ap (λ b. cond b (Some row) (row_at m e)) t ∙ is ∙ ap (row_at m) same)
       (λ f other. ap (λ b. cond b (Some row) (row_at m e)) f);
+  held = λ place. number_or_not (spot_of m e0) place
+      (λ t tied. ap (slice_get (held_in n)) (sym tied) ∙ put.held_here ∙ is ∙ sym (held_at m e0) ∙ ap (slice_get (held_in m)) tied)
+      (λ t apart. put.held_apart place (λ same. apart (sym same)));
   rows = put.rows;
 }

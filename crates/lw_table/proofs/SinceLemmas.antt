@@ -1,55 +1,72 @@
 -- What is gathered of numbers and of endpoints.
 use Rattle.std.proofs.Common.{◌≡◌, ◌⊎◌, inl, inr, ℕ, true, false, List, [], ◌∷◌, Option, Some, None, refl, sym, ap, subst, ◌∙◌}
-use Rattle.std.specs.Prelude.{◌↔◌, Contains, IsSome, Result, Ok, Err, IfOk}
+use Rattle.std.specs.Prelude.{◌↔◌, Contains, IsSome, Result, Ok, Err, IfOk, slice_get}
+use Rattle.std.specs.Option.{IsSomeAnd}
 use Rattle.std.specs.FinMap.{get}
 use Rattle.std.specs.List.{AllByRecursion}
 use Rattle.std.specs.List.Sorted.{IsStrictlySortedBy}
 use Rattle.std.specs.declared.cmp.Ordering.{Ordering}
 use Rattle.std.specs.declared.cmp.Ordering.TheVariants.{Less}
 use Rattle.lw_stamp.specs.TextOrder.{text_cmp}
-use Rattle.lw_recent.specs.Recent.{IsUnder, AreSince}
 use Rattle.lw_reg.specs.declared.slot.Slot.{Slot}
 use Rattle.lw_reg.specs.State.{State}
 use Rattle.lw_reg.proofs.Members.{none_there, first_there, more_there, there_or_first}
-use Rattle.lw_table.specs.inner.Since.{slot_or, slots_at}
+use Rattle.lw_table.specs.Table.{TableContent}
+use Rattle.lw_table.specs.inner.Rows.{IsFiledUnder, IsNamed}
+use Rattle.lw_table.specs.inner.Since.{AreNamedSince, slot_or, slots_at}
+use Rattle.lw_table.specs.Rows.{name_of}
 use Rattle.lw_table.specs.Changes.{Count, LAST, IsSince, IsSinceIn}
-use Rattle.lw_table.specs.Table.{TableContent, IsTable}
-use Rattle.lw_table.specs.declared.filed.Filed.{Filed}
+use Rattle.lw_table.specs.declared.rows.NamedRow.{NamedRow}
 
--- ---- a walk that gathers what it passes
--- what is gathered, and what is left, are all
-abbrev pub Gathers : {A B : Type 0} → (A → List ℕ → Type 0) → List (List ℕ) → A → (B → List ℕ → Type 0) → B → Type 0
-Gathers Left names left All all = (e : List ℕ) → (Contains names e ⊎ Left left e) ↔ All all e
+-- ---- a walk that gathers the endpoints of places
+-- the names that were taken, and those of the places that are left, are all
+abbrev pub Gathers : List NamedRow → List (List ℕ) → List ℕ → (List ℕ → Type 0) → Type 0
+Gathers rows names left All = (e : List ℕ) → (Contains names e ⊎ ((place : ℕ) × Contains left place × IsNamed rows place e)) ↔ All e
 
-module _ {B : Type 0} (All : B → List ℕ → Type 0) (all : B) where
-  pub endpoint_gathered : (names more : List (List ℕ)) (x : List ℕ) (rest : List (List ℕ)) → ((e : List ℕ) → Contains more e ↔ (Contains names e ⊎ (e ≡ x)))
-      → Gathers Contains names (x ∷ rest) All all → Gathers Contains more rest All all
-  endpoint_gathered names more x rest added h e = (there, back)
+module _ (rows : List NamedRow) (All : List ℕ → Type 0) (names : List (List ℕ)) (place : ℕ) (rest : List ℕ) (h : Gathers rows names (place ∷ rest) All) where
+  -- the place has a row, whose endpoint is taken
+  pub endpoint_gathered : (more : List (List ℕ)) (named : NamedRow) → slice_get rows place ≡ Some named → ((e : List ℕ) → Contains more e ↔ (Contains names e ⊎ (e ≡ name_of named))) → Gathers rows more rest All
+  endpoint_gathered more named is added e = (there, back)
     where
-      one : Contains names e ⊎ (e ≡ x) → All all e
+      here : e ≡ name_of named → IsNamed rows place e
+      here same = subst (λ o. IsSomeAnd o (λ (x : NamedRow). name_of x ≡ e)) (sym is) (sym same)
+
+      one : Contains names e ⊎ (e ≡ name_of named) → All e
       one (inl old) = (h e).0 (inl old)
-      one (inr same) = (h e).0 (inr (first_there x rest e same))
+      one (inr same) = (h e).0 (inr (place, first_there place rest place refl, here same))
 
-      there : Contains more e ⊎ Contains rest e → All all e
+      there : Contains more e ⊎ ((p : ℕ) × Contains rest p × IsNamed rows p e) → All e
       there (inl m) = one ((added e).0 m)
-      there (inr r) = (h e).0 (inr (more_there x rest e r))
+      there (inr r) = (h e).0 (inr (r.0, more_there place rest r.0 r.1, r.2))
 
-      split : (e ≡ x) ⊎ Contains rest e → Contains more e ⊎ Contains rest e
-      split (inl same) = inl ((added e).1 (inr same))
-      split (inr r) = inr r
+      named_is : (p : ℕ) → p ≡ place → IsNamed rows p e → e ≡ name_of named
+      named_is p same n = sym (subst (λ o. IsSomeAnd o (λ (x : NamedRow). name_of x ≡ e)) (ap (slice_get rows) same ∙ is) n)
 
-      back : All all e → Contains more e ⊎ Contains rest e
-      back a = elim ((h e).1 a) [ inl old ↦ inl ((added e).1 (inl old)) | inr c ↦ split (there_or_first x rest e c) ]
+      back : All e → Contains more e ⊎ ((p : ℕ) × Contains rest p × IsNamed rows p e)
+      back a = elim ((h e).1 a) [
+        | inl old ↦ inl ((added e).1 (inl old))
+        | inr r ↦ elim (there_or_first place rest r.0 r.1) [ inl same ↦ inl ((added e).1 (inr (named_is r.0 same r.2))) | inr more ↦ inr (r.0, more, r.2) ]
+      ]
 
-  -- where nothing is left, all are gathered
-  pub all_gathered : (names left : List (List ℕ)) → left ≡ [] → Gathers Contains names left All all → (e : List ℕ) → Contains names e ↔ All all e
-  all_gathered names left none h e = (there, back)
-    where
-      there : Contains names e → All all e
-      there c = (h e).0 (inl c)
+  -- it has none
+  pub nothing_gathered : slice_get rows place ≡ None → Gathers rows names rest All
+  nothing_gathered none e = (
+    λ w. (h e).0 (elim w [ inl old ↦ inl old | inr r ↦ inr (r.0, more_there place rest r.0 r.1, r.2) ]),
+    λ a. elim ((h e).1 a) [
+      | inl old ↦ inl old
+      | inr r ↦ elim (there_or_first place rest r.0 r.1) [
+        | inl same ↦ absurd (subst (λ o. IsSomeAnd o (λ (x : NamedRow). name_of x ≡ e)) (ap (slice_get rows) same ∙ none) r.2)
+        | inr more ↦ inr (r.0, more, r.2)
+      ]
+    ],
+  )
 
-      back : All all e → Contains names e
-      back a = elim ((h e).1 a) [ inl c ↦ c | inr c ↦ none_there e (subst (λ (l : List (List ℕ)). Contains l e) none c) ]
+-- where nothing is left, all are gathered
+pub all_gathered : (rows : List NamedRow) (All : List ℕ → Type 0) (names : List (List ℕ)) (left : List ℕ) → left ≡ [] → Gathers rows names left All → (e : List ℕ) → Contains names e ↔ All e
+all_gathered rows All names left none h e = (
+  λ c. (h e).0 (inl c),
+  λ a. elim ((h e).1 a) [ inl c ↦ c | inr r ↦ none_there r.0 (subst (λ (l : List ℕ). Contains l r.0) none r.1) ],
+)
 
 -- ---- the slots of endpoints
 module _ (state : State) where
@@ -123,27 +140,30 @@ some_there : (o : Option ℕ) → IsSome o → (n : ℕ) × (o ≡ Some n)
 some_there None h = absurd (let bad : false ≡ true = h in cc)
 some_there (Some n) h = (n, refl)
 
+-- ---- all that moved, by what is filed under numbers
 -- all have moved, at the last number
-pub all_since : (filed : Filed) (table : TableContent) (since : ℕ) (names : List (List ℕ)) → IsTable filed.keys filed.numbers filed.due table → table.count.change ≡ LAST
-    → AreSince None filed.numbers names → (e : List ℕ) (slot : Slot) → get table.state e ≡ Some slot → Contains names e ↔ IsSince table.count since e
-all_since filed table since names is last are e slot h = (
+pub all_since : (numbers : List (ℕ × ℕ)) (rows : List NamedRow) (table : TableContent) (since : ℕ) (names : List (List ℕ)) → ((e : List ℕ) → IsSome (get table.state e) ↔ IsSome (get table.count.numbers e)) → table.count.change ≡ LAST
+    → ((n : ℕ) (e : List ℕ) → IsFiledUnder rows numbers n e ↔ (get table.count.numbers e ≡ Some n)) → AreNamedSince None numbers rows names
+    → (e : List ℕ) (slot : Slot) → get table.state e ≡ Some slot → Contains names e ↔ IsSince table.count since e
+all_since numbers rows table since names numbered last filed are e slot h = (
   λ c. inl last,
   λ s.
-      let number = some_there (get table.count.numbers e) ((is.numbered e).0 (subst IsSome (sym h) refl)) in
-      (are e).1 (number.0, (is.numbers_are number.0 e).1 number.1, tt),
+      let number = some_there (get table.count.numbers e) ((numbered e).0 (subst IsSome (sym h) refl)) in
+      let under = (filed number.0 e).1 number.1 in
+      (are e).1 (number.0, under.0, under.1, tt, under.2),
 )
 
 -- those that are filed above the number
-pub some_since : (numbers : List (ℕ × List ℕ)) (count : Count) (since : ℕ) (names : List (List ℕ)) → (count.change ≡ LAST → ⊥)
-    → ((n : ℕ) (e : List ℕ) → IsUnder numbers n e ↔ (get count.numbers e ≡ Some n)) → AreSince (Some since) numbers names → (e : List ℕ) → Contains names e ↔ IsSince count since e
-some_since numbers count since names not_last filed are e = (there, back)
+pub some_since : (numbers : List (ℕ × ℕ)) (rows : List NamedRow) (count : Count) (since : ℕ) (names : List (List ℕ)) → (count.change ≡ LAST → ⊥)
+    → ((n : ℕ) (e : List ℕ) → IsFiledUnder rows numbers n e ↔ (get count.numbers e ≡ Some n)) → AreNamedSince (Some since) numbers rows names → (e : List ℕ) → Contains names e ↔ IsSince count since e
+some_since numbers rows count since names not_last filed are e = (there, back)
   where
     there : Contains names e → IsSince count since e
-    there c = let f = (are e).0 c in inr (f.0, (filed f.0 e).0 f.1, f.2)
+    there c = let f = (are e).0 c in inr (f.0, (filed f.0 e).0 (f.1, f.2, f.4), f.3)
 
     back : IsSince count since e → Contains names e
     back (inl last) = absurd (not_last last)
-    back (inr f) = (are e).1 (f.0, (filed f.0 e).1 f.1, f.2)
+    back (inr f) = let under = (filed f.0 e).1 f.1 in (are e).1 (f.0, under.0, under.1, f.2, under.2)
 
 -- a result that is another list's is what that is
 pub if_slots : {T E : Type 0} (P Q : T → Type 0) → ((t : T) → P t → Q t) → (r : Result T E) → IfOk r P → IfOk r Q

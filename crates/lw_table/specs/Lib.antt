@@ -3,6 +3,7 @@ pub mod LookUps
 pub mod Pages
 pub mod Changes
 pub mod Keys
+pub mod KeyOrder
 pub mod Due
 pub mod Table
 pub mod Rows

@@ -49,6 +49,10 @@ pub record IsRows (rows : Rows) : Type 0 where
   pub found : (place : ℕ) (named : NamedRow) → slice_get rows.rows.items place ≡ Some named → place_of rows (name_of named) ≡ Some place
 
 -- ---- what they hold
+-- each row, by its place
+abbrev pub held_in : Rows → List Row
+held_in rows = map (λ named. named.row) rows.rows.items
+
 -- under each endpoint what f gives of its row
 abbrev pub each_in : {X : Type 0} → (Row → X) → Rows → FinMap text_cmp X
 each_in f rows = from_entries (map (λ named. (name_of named, f named.row)) rows.rows.items)

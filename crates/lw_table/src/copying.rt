@@ -1,10 +1,11 @@
 //! A table that is copied, and tables that are compared.
 
-ghost use Rattle.std.specs.Prelude.{◌≡◌, ◌↔◌, ℕ, List, IfOk, OnOk, IsTrue};
-ghost use Rattle.lw_recent.specs.Recent.{IsUnder};
-ghost use Rattle.lw_table.specs.inner.Copying.{Copies, CopiesRow, MayBeCopied};
-ghost use Rattle.lw_table.specs.inner.Filed.{HasNumber, IsFiled, OthersSame, number_of};
-ghost use Rattle.lw_table.specs.Rows.{IsRows};
+ghost use Rattle.std.specs.Prelude.{◌≡◌, ◌↔◌, ℕ, Some, IfOk, OnOk, IsTrue, slice_get};
+ghost use Rattle.lw_table.specs.declared.rows.NamedRow.{NamedRow as Named};
+ghost use Rattle.lw_table.specs.inner.Copying.{Copies, CopiesRow, KeysAll, MayBeCopied, NumbersAll};
+ghost use Rattle.lw_table.specs.inner.Due.{OtherDue};
+ghost use Rattle.lw_table.specs.inner.Filed.{IsDueAs};
+ghost use Rattle.lw_table.specs.Rows.{IsRows, name_of};
 ghost use Rattle.lw_table.specs.inner.Rows.{row_at};
 
 use crate::filed::Filed;
@@ -13,7 +14,6 @@ use crate::row::Row;
 use crate::rows::Rows;
 use crate::table::Table;
 use lw_join::Copied;
-use lw_recent::Recent;
 use lw_stamp::NoMemory;
 use std::alloc::Global;
 
@@ -22,7 +22,7 @@ impl Table {
     pub fn copy(&self) -> Result<Table, NoMemory>
         ensures { IfOk result (λ copy. copy ≡ self.now) }
     {
-        let (filed, rows) = copies(self.alloc, &self.filed.numbers, &self.rows)?;
+        let (filed, rows) = copies(self.alloc, &self.rows)?;
         Ok(Table {
             alloc: self.alloc,
             rows,
@@ -37,21 +37,26 @@ impl Table {
         ensures { IsTrue result ↔ (self.now ≡ other.now) }
     {
         self.change == other.change
-            && are_same(&self.filed.numbers, &self.rows, &other.rows)
-            && are_same(&other.filed.numbers, &self.rows, &other.rows)
+            && are_same(&self.rows, &other.rows)
+            && are_same(&other.rows, &self.rows)
     }
 }
 
-/// A copy of each row, and what is filed of them. The rows are put in the order of their numbers.
-fn copies(alloc: Global, numbers: &Recent, original: &Rows) -> Result<(Filed, Rows), NoMemory>
-    requires rows { IsRows original.now }
-    requires numbers { (e : List ℕ) → HasNumber numbers.now e (number_of (row_at original.now e)) }
+/// A copy of each row, and what is filed of them. The rows keep their places.
+fn copies(alloc: Global, original: &Rows) -> Result<(Filed, Rows), NoMemory>
+    requires { IsRows original.now }
     ensures { IfOk result (λ r. Copies original.now r.0 r.1) }
 {
     let mut filed = Filed::new(alloc);
     let mut rows = Rows::new(alloc);
-    for endpoint in numbers.since(None) {
-        copy_row(alloc, original, endpoint, &mut filed, &mut rows)?;
+    for named in &original.rows {
+        copy_row(
+            alloc,
+            original,
+            named.endpoint.as_str(),
+            &mut filed,
+            &mut rows,
+        )?;
     }
     Ok((filed, rows))
 }
@@ -66,11 +71,14 @@ fn copy_row(
 ) -> Result<(), NoMemory>
     requires original { IsRows original.now }
     requires rows { IsRows rows.old }
-    requires filed { IsFiled filed.old endpoint.now (row_at rows.old endpoint.now) }
+    requires due { IsDueAs filed.old endpoint.now (row_at rows.old endpoint.now) }
+    requires keys { KeysAll filed.old.keys rows.old }
+    requires numbers { NumbersAll filed.old.numbers rows.old }
     requires begun { MayBeCopied endpoint.now original.now rows.old }
-    ensures others { OthersSame filed.old filed.new endpoint.now }
+    ensures others { OtherDue endpoint.now filed.old.due filed.new.due }
     ensures copied { OnOk result (CopiesRow endpoint.now original.now rows.old rows.new
-        × IsFiled filed.new endpoint.now (row_at original.now endpoint.now)) }
+        × IsDueAs filed.new endpoint.now (row_at original.now endpoint.now) × KeysAll filed.new.keys rows.new
+        × NumbersAll filed.new.numbers rows.new) }
 {
     if rows.get(endpoint).is_some() {
         return Ok(());
@@ -86,14 +94,15 @@ fn copy_row(
     }
 }
 
-/// Whether each endpoint that is filed under a number has the same row in both, or in neither one.
-fn are_same(filed: &Recent, rows: &Rows, others: &Rows) -> bool
+/// Whether the endpoint of each row has the same row among the others.
+fn are_same(rows: &Rows, others: &Rows) -> bool
     requires rows { IsRows rows.now }
     requires others { IsRows others.now }
-    ensures { IsTrue result ↔ ((n : ℕ) (e : List ℕ) → IsUnder filed.now n e → row_at rows.now e ≡ row_at others.now e) }
+    ensures { IsTrue result ↔ ((place : ℕ) (named : Named) → slice_get rows.now.rows.items place ≡ Some named
+        → row_at rows.now (name_of named) ≡ row_at others.now (name_of named)) }
 {
-    for endpoint in filed.since(None) {
-        if !has_same(rows, others, endpoint) {
+    for named in &rows.rows {
+        if !has_same(rows, others, named.endpoint.as_str()) {
             return false;
         }
     }

@@ -1,22 +1,21 @@
-//! What is filed beside the rows: the keys, the change number and the due moment of each endpoint.
+//! What is filed beside the rows: the due moment of each endpoint, and the keys and the change number of each place.
 
-ghost use Rattle.std.specs.Prelude.{◌≡◌, ◌↔◌, ◌⊎◌, ◌≤◌, ℕ, true, false, List, [], Some, Contains, IsSome, OnOk, OnErr, IsTrue};
+ghost use Rattle.std.specs.Prelude.{◌≡◌, ◌↔◌, ◌⊎◌, ◌≤◌, ℕ, true, false, [], None, Some, Contains, IsSome, OnOk, OnErr, IsTrue};
 ghost use Rattle.std.specs.Option.{option_copied};
 ghost use Rattle.lw_due.specs.Due.{note_of, kept_of, due_of};
-ghost use Rattle.lw_index.specs.Index.{Has};
-ghost use Rattle.lw_recent.specs.Recent.{IsUnder};
+ghost use Rattle.lw_index.specs.Places.{IsPlaceOf};
 ghost use Rattle.lw_table.specs.declared.key.Key.{Key as Keys};
 ghost use Rattle.lw_reg.specs.Reading.{IsRemoved};
 ghost use Rattle.lw_table.specs.Due.{HasDue};
 ghost use Rattle.lw_table.specs.inner.Due.{IsDueBy, OtherDue};
-ghost use Rattle.lw_table.specs.inner.Filed.{IsFiled, IsOver, OthersSame, OtherKeys, OtherNumbers, IsBetween, HasAll, slot_of};
-ghost use Rattle.lw_table.specs.Keys.{key_cmp, HasKey, OptionHasKey};
-ghost use Rattle.lw_table.specs.Table.{IsKept};
+ghost use Rattle.lw_table.specs.inner.Filed.{HasKeys, HasNumber, IsFiled, IsOver, OthersSame, OtherKeys, OtherNumbers, IsBetween, HasAll};
+ghost use Rattle.lw_table.specs.Keys.{OptionHasKey};
+ghost use Rattle.lw_table.specs.Table.{IsKept, slot_of};
 
 use crate::key::{Key, has};
 use crate::row::Row;
 use lw_due::DueMoments;
-use lw_index::Index;
+use lw_index::Places;
 use lw_recent::Recent;
 use lw_reg::Slot;
 use lw_stamp::NoMemory;
@@ -25,9 +24,9 @@ use std::alloc::Global;
 /// What is filed of the endpoints.
 #[derive(Drop)]
 pub(crate) struct Filed {
-    /// The keys of the endpoints whose registration was not removed.
-    pub(crate) keys: Index<Key>,
-    /// The change number of each endpoint.
+    /// The keys of the places whose registration was not removed.
+    pub(crate) keys: Places<Key>,
+    /// The change number of each place.
     pub(crate) numbers: Recent,
     /// A moment of each endpoint before which it has not expired: it is at most the deadline of the slot. Those whose
     /// registration was not removed are kept.
@@ -41,29 +40,27 @@ impl Filed {
         ensures due { result.due ≡ [] }
     {
         Filed {
-            keys: Index::new(alloc),
+            keys: Places::new(alloc),
             numbers: Recent::new(alloc),
             due: DueMoments::new(alloc),
         }
     }
 
-    /// Files the endpoint under the keys. What was filed before a refusal stays.
-    pub(crate) fn add(&mut self, endpoint: &str, keys: &[Key]) -> Result<(), NoMemory>
-        ensures others { OthersSame self.old self.new endpoint.now }
-        ensures between { IsBetween self.old self.new endpoint.now keys.now }
-        ensures all { OnOk result (HasAll self.new endpoint.now keys.now) }
-    {
-        add_all(&mut self.keys, endpoint, keys)
-    }
-
-    /// Files the endpoint under no more than what its row has, where the keys may be more.
-    pub(crate) fn remove_stale(&mut self, endpoint: &str, row: Option<&Row>, keys: &[Key])
-        requires { IsOver self.old endpoint.now (option_copied row) keys.now }
-        ensures others { OthersSame self.old self.new endpoint.now }
-        ensures settled { IsFiled self.new endpoint.now (option_copied row.entry) }
+    /// Files the endpoint as its row is, and the place under no more keys than it has, where these may be more.
+    pub(crate) fn remove_stale(
+        &mut self,
+        endpoint: &str,
+        place: u32,
+        row: Option<&Row>,
+        keys: &[Key],
+    )
+        requires { IsOver self.old endpoint.now place (option_copied row) keys.now }
+        ensures others { OthersSame self.old self.new endpoint.now place }
+        ensures settled { IsFiled self.new endpoint.now place (option_copied row.entry) }
+        ensures numbers { self.new.numbers ≡ self.old.numbers }
     {
         keep_no_more(&mut self.due, endpoint, row);
-        remove_lacking(&mut self.keys, endpoint, row, keys);
+        remove_lacking(&mut self.keys, place, row, keys);
     }
 }
 
@@ -85,31 +82,29 @@ fn has_key(row: Option<&Row>, key: &Key) -> bool
     }
 }
 
-fn add_all(index: &mut Index<Key>, endpoint: &str, keys: &[Key]) -> Result<(), NoMemory>
-    ensures others { OtherKeys key_cmp endpoint.now index.old index.new }
-    ensures stay { (k : Keys) → Has key_cmp index.old k endpoint.now → Has key_cmp index.new k endpoint.now }
-    ensures from { (k : Keys) → Has key_cmp index.new k endpoint.now → Has key_cmp index.old k endpoint.now
-        ⊎ Contains keys.now k }
-    ensures all { OnOk result ((k : Keys) → Contains keys.now k → Has key_cmp index.new k endpoint.now) }
+/// Files the place under the keys. What was filed before a refusal stays.
+pub(crate) fn add_keys(filed: &mut Places<Key>, place: u32, keys: &[Key]) -> Result<(), NoMemory>
+    ensures others { OtherKeys place filed.old filed.new }
+    ensures between { IsBetween filed.old filed.new place keys.now }
+    ensures all { OnOk result (HasAll filed.new place keys.now) }
 {
     for key in keys {
-        index.add(*key, endpoint)?;
+        filed.add(*key, place)?;
     }
     Ok(())
 }
 
 // Drops those of the keys that the row lacks.
-fn remove_lacking(index: &mut Index<Key>, endpoint: &str, row: Option<&Row>, keys: &[Key])
-    requires has { (k : Keys) → OptionHasKey (slot_of (option_copied row)) k → Has key_cmp index.old k endpoint.now }
-    requires from { (k : Keys) → Has key_cmp index.old k endpoint.now → OptionHasKey (slot_of (option_copied row)) k
+fn remove_lacking(filed: &mut Places<Key>, place: u32, row: Option<&Row>, keys: &[Key])
+    requires has { (k : Keys) → OptionHasKey (slot_of (option_copied row)) k → IsPlaceOf filed.old k place }
+    requires from { (k : Keys) → IsPlaceOf filed.old k place → OptionHasKey (slot_of (option_copied row)) k
         ⊎ Contains keys.now k }
-    ensures others { OtherKeys key_cmp endpoint.now index.old index.new }
-    ensures keys { (k : Keys) → Has key_cmp index.new k endpoint.now
-        ↔ OptionHasKey (slot_of (option_copied row.entry)) k }
+    ensures others { OtherKeys place filed.old filed.new }
+    ensures keys { HasKeys filed.new place (slot_of (option_copied row.entry)) }
 {
     for key in keys {
         if !has_key(row, key) {
-            index.drop_one(key, endpoint);
+            filed.drop_one(*key, place);
         }
     }
 }
@@ -127,32 +122,32 @@ fn keep_no_more(due: &mut DueMoments, endpoint: &str, row: Option<&Row>)
     due.keep(endpoint, false);
 }
 
-/// Files the endpoint, which has no number, under its first.
-pub(crate) fn add_number(numbers: &mut Recent, endpoint: &str, number: u64) -> Result<(), NoMemory>
-    requires { (n : ℕ) → IsUnder numbers.old n endpoint.now → ⊥ }
-    ensures others { OtherNumbers endpoint.now numbers.old numbers.new }
-    ensures number { OnOk result ((n : ℕ) → IsUnder numbers.new n endpoint.now ↔ (Some number ≡ Some n)) }
+/// Files the place, which has no number, under its first.
+pub(crate) fn add_number(numbers: &mut Recent, place: u32, number: u64) -> Result<(), NoMemory>
+    requires { HasNumber numbers.old place None }
+    ensures others { OtherNumbers place numbers.old numbers.new }
+    ensures number { OnOk result (HasNumber numbers.new place (Some number)) }
     ensures unchanged { OnErr result (numbers.new ≡ numbers.old) }
 {
-    numbers.add(number, endpoint)
+    numbers.add(number, place)
 }
 
-/// Files the endpoint under another number than its last. It takes no memory.
-pub(crate) fn move_number(numbers: &mut Recent, endpoint: &str, last: u64, number: u64)
-    requires { (n : ℕ) → IsUnder numbers.old n endpoint.now ↔ (Some last ≡ Some n) }
-    ensures others { OtherNumbers endpoint.now numbers.old numbers.new }
-    ensures number { (n : ℕ) → IsUnder numbers.new n endpoint.now ↔ (Some number ≡ Some n) }
+/// Files the place under another number than its last. It takes no memory.
+pub(crate) fn move_number(numbers: &mut Recent, place: u32, last: u64, number: u64)
+    requires { HasNumber numbers.old place (Some last) }
+    ensures others { OtherNumbers place numbers.old numbers.new }
+    ensures number { HasNumber numbers.new place (Some number) }
 {
-    numbers.move_to(last, number, endpoint);
+    numbers.move_to(last, number, place);
 }
 
-/// Takes its number from the endpoint.
-pub(crate) fn drop_number(numbers: &mut Recent, endpoint: &str, number: u64)
-    requires { (n : ℕ) → IsUnder numbers.old n endpoint.now ↔ (Some number ≡ Some n) }
-    ensures others { OtherNumbers endpoint.now numbers.old numbers.new }
-    ensures none { (n : ℕ) → IsUnder numbers.new n endpoint.now → ⊥ }
+/// Takes its number from the place.
+pub(crate) fn drop_number(numbers: &mut Recent, place: u32, number: u64)
+    requires { HasNumber numbers.old place (Some number) }
+    ensures others { OtherNumbers place numbers.old numbers.new }
+    ensures none { HasNumber numbers.new place None }
 {
-    numbers.drop_one(number, endpoint);
+    numbers.drop_one(number, place);
 }
 
 /// Gives the endpoint a due moment for the slot. One that it has may only be lowered.

@@ -1,10 +1,11 @@
 ghost use Rattle.std.specs.Prelude.{◌≡◌, ◌↔◌, IsTrue, Contains};
 ghost use Rattle.lw_reg.specs.Reading.{tokens_in};
 ghost use Rattle.lw_table.specs.Keys.{HasKey};
+ghost use Rattle.lw_table.specs.KeyOrder.{key_exact};
 ghost use Rattle.lw_table.specs.inner.Keys.{token_in};
 ghost use Rattle.lw_table.specs.declared.key.Key.TheVariants.{Address as TheAddress};
 
-use lw_join::OrGone;
+use lw_join::{Exact, OrGone};
 use lw_reg::{Addr, Path, Slot, Watching};
 use lw_stamp::Stamp;
 
@@ -17,6 +18,10 @@ pub enum Key {
     Address(Addr),
     /// The token of a watch of it that was not cancelled.
     Token(Stamp),
+}
+
+impl Exact for Key {
+    ghost exact = { key_exact };
 }
 
 /// Whether the slot has the key. For a token it is a walk over the watches.

@@ -7,12 +7,13 @@ ghost use Rattle.lw_reg.specs.Reading.{seen_of, shown_in};
 ghost use Rattle.lw_reg.specs.State.{IsStateOf};
 ghost use Rattle.lw_stamp.specs.Moment.{ms_of};
 ghost use Rattle.lw_table.specs.inner.Due.{KeepsDue, KeepsKept, deadline_at};
-ghost use Rattle.lw_table.specs.inner.Filed.{HasNumber, OtherNumbers, slot_of, number_of};
+ghost use Rattle.lw_table.specs.inner.Filed.{HasNumber, OtherNumbers};
+ghost use Rattle.lw_table.specs.Table.{slot_of, number_of};
 ghost use Rattle.lw_table.specs.Lifts.{LiftsFirst};
 ghost use Rattle.lw_table.specs.LookUps.{ExpiredAfter};
 ghost use Rattle.lw_table.specs.inner.Moves.{LiftsRow, LiftsRowAt, WasSeen};
 ghost use Rattle.lw_table.specs.Rows.{IsRows};
-ghost use Rattle.lw_table.specs.inner.Rows.{row_at};
+ghost use Rattle.lw_table.specs.inner.Rows.{row_at, spot_of};
 
 use crate::filed::move_number;
 use crate::row::Row;
@@ -72,32 +73,32 @@ fn deadline_at(rows: &Rows, endpoint: &str) -> u64
 
 /// Ends the registration of the endpoint as it was last seen, and gives its row the number: its identifier.
 fn lift(numbers: &mut Recent, rows: &mut Rows, endpoint: &str, number: u64) -> Stamp
-    requires numbers { HasNumber numbers.old endpoint.now (number_of (row_at rows.old endpoint.now)) }
+    requires numbers { HasNumber numbers.old (spot_of rows.old endpoint.now) (number_of (row_at rows.old endpoint.now)) }
     requires rows { IsRows rows.old }
     requires seen { WasSeen (row_at rows.old endpoint.now) }
-    ensures others { OtherNumbers endpoint.now numbers.old numbers.new }
-    ensures number { HasNumber numbers.new endpoint.now (Some number) }
+    ensures others { OtherNumbers (spot_of rows.old endpoint.now) numbers.old numbers.new }
+    ensures number { HasNumber numbers.new (spot_of rows.old endpoint.now) (Some number) }
     ensures lifted { LiftsRowAt endpoint.now number result rows.old rows.new }
 {
     let Some(place) = rows.place(endpoint) else {
         unreachable!()
     };
     let named = &mut rows.rows[place as usize];
-    lift_row(numbers, &mut named.row, endpoint, number)
+    lift_row(numbers, &mut named.row, place, number)
 }
 
 // Ends the registration of the row.
-fn lift_row(numbers: &mut Recent, row: &mut Row, endpoint: &str, number: u64) -> Stamp
-    requires numbers { HasNumber numbers.old endpoint.now (Some row.old.number) }
+fn lift_row(numbers: &mut Recent, row: &mut Row, place: u32, number: u64) -> Stamp
+    requires numbers { HasNumber numbers.old place (Some row.old.number) }
     requires seen { IsSome (seen_of row.old.slot) }
-    ensures others { OtherNumbers endpoint.now numbers.old numbers.new }
-    ensures number { HasNumber numbers.new endpoint.now (Some number) }
+    ensures others { OtherNumbers place numbers.old numbers.new }
+    ensures number { HasNumber numbers.new place (Some number) }
     ensures lifted { LiftsRow number result row.old row.new }
 {
     let id = row.slot.stamp();
     let last = row.number;
     row.slot.lift();
-    move_number(numbers, endpoint, last, number);
+    move_number(numbers, place, last, number);
     row.number = number;
     id
 }

@@ -92,9 +92,16 @@ impl Rows {
     }
 
     /// Puts the first row of an endpoint behind the others. Refused, the endpoint comes back.
-    pub(crate) fn insert(&mut self, alloc: Global, endpoint: String, row: Row) -> Result<(), String>
+    pub(crate) fn insert(
+        &mut self,
+        alloc: Global,
+        endpoint: String,
+        place: u32,
+        row: Row,
+    ) -> Result<(), String>
         requires rows { IsRows self.old }
         requires absent { row_at self.old (string_bytes endpoint) ≡ None }
+        requires place { place ≡ length self.old.rows.items }
         ensures put { OnOk result (PutsRow (string_bytes endpoint) row self.old self.new) }
         ensures returned { IfErr result (λ back. string_bytes back ≡ string_bytes endpoint) }
         ensures unchanged { OnErr result (SameRows self.old self.new) }
@@ -102,9 +109,6 @@ impl Rows {
         if self.rows.reserve(1).is_err() {
             return Err(endpoint);
         }
-        let Ok(place) = u32::try_from(self.rows.len()) else {
-            return Err(endpoint);
-        };
         if self.file(alloc, endpoint.as_str(), place).is_err() {
             return Err(endpoint);
         }

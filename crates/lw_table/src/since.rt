@@ -2,12 +2,12 @@
 
 ghost use Rattle.std.specs.Prelude.{◌≡◌, ◌↔◌, ◌<◌, ◌≤◌, ℕ, List, Contains, None, IfOk, IfSome, IsNone, length, map, option_map};
 ghost use Rattle.std.specs.List.Sorted.{IsStrictlySortedBy};
-ghost use Rattle.lw_recent.specs.Recent.{AreSince};
 ghost use Rattle.lw_stamp.specs.TextOrder.{text_cmp};
 ghost use Rattle.lw_table.specs.Changes.{LAST, upto_of, IsSinceIn, IsChangePage};
 ghost use Rattle.lw_table.specs.inner.Changes.{AreNext, IsNextChange};
-ghost use Rattle.lw_table.specs.inner.Since.{slots_at};
+ghost use Rattle.lw_table.specs.inner.Since.{AreNamedSince, slots_at};
 
+use crate::rows::NamedRow;
 use crate::table::Table;
 use lw_recent::Recent;
 use lw_reg::Slot;
@@ -31,7 +31,7 @@ impl Table {
     {
         let all = self.change == u64::MAX;
         let since = if all { None } else { Some(since) };
-        let endpoints = endpoints_above(self.alloc, &self.filed.numbers, since)?;
+        let endpoints = endpoints_above(self.alloc, &self.rows.rows, &self.filed.numbers, since)?;
         self.slots(in_order(endpoints))
     }
 
@@ -76,12 +76,12 @@ impl Table {
         ensures { IsNextChange self.now.state self.now.count since
             (option_map (λ x. (x.number, (x.endpoint.now, x.slot.now))) result) }
     {
-        let (number, endpoint) = self.filed.numbers.next_above(since)?;
-        let (endpoint, slot) = self.slot(endpoint)?;
+        let (number, place) = self.filed.numbers.next_above(since)?;
+        let named = self.rows.rows.get(place as usize)?;
         Some(Moved {
             number,
-            endpoint,
-            slot,
+            endpoint: named.endpoint.as_str(),
+            slot: &named.row.slot,
         })
     }
 
@@ -100,23 +100,26 @@ impl Table {
     }
 }
 
-/// The endpoints that are filed under a number above this one, or under any, as they come.
-fn endpoints_above(
+/// The endpoints of the rows whose places are filed under a number above this one, or under any, as they come.
+fn endpoints_above<'a>(
     alloc: Global,
+    rows: &'a [NamedRow],
     numbers: &Recent,
     since: Option<u64>,
-) -> Result<Vec<&str>, NoMemory>
-    ensures { IfOk result (λ endpoints. AreSince since numbers.now (map (λ e. e.now) endpoints.items)) }
+) -> Result<Vec<&'a str>, NoMemory>
+    ensures { IfOk result (λ endpoints. AreNamedSince since numbers.now rows.now (map (λ e. e.now) endpoints.items)) }
 {
     let mut endpoints = Vec::new(alloc);
-    for endpoint in numbers.since(since) {
-        endpoints.push(endpoint)?;
+    for place in numbers.since(since) {
+        if let Some(named) = rows.get(place as usize) {
+            endpoints.push(named.endpoint.as_str())?;
+        }
     }
     Ok(endpoints)
 }
 
 /// These endpoints, each once, and rising.
-fn in_order(mut endpoints: Vec<&str>) -> Vec<&str>
+pub(crate) fn in_order(mut endpoints: Vec<&str>) -> Vec<&str>
     ensures members { (e : List ℕ) → Contains (map (λ e. e.now) result.items) e
         ↔ Contains (map (λ e. e.now) endpoints.entry.items) e }
     ensures rise { IsStrictlySortedBy text_cmp (map (λ e. e.now) result.items) }

@@ -1,19 +1,14 @@
-ghost use Rattle.std.specs.Prelude.{◌≡◌, ◌↔◌, ℕ, List, OnOk, OnErr, IsOk, IsSomeAnd};
+ghost use Rattle.std.specs.Prelude.{◌≡◌, OnOk, OnErr, IsOk, IsSomeAnd};
 ghost use Rattle.std.specs.FinMap.{get};
-ghost use Rattle.lw_index.specs.Index.{Has};
 ghost use Rattle.lw_join.specs.Maps.{one_key};
 ghost use Rattle.lw_reg.specs.Slot.{slot_below};
 ghost use Rattle.lw_reg.specs.State.{state_join};
-ghost use Rattle.lw_table.specs.declared.key.Key.{Key as Keys};
 ghost use Rattle.lw_table.specs.Changes.{Recounts};
-ghost use Rattle.lw_table.specs.Keys.{key_cmp, OptionHasKey};
 ghost use Rattle.lw_table.specs.Table.{empty_table};
 
 use crate::filed::Filed;
-use crate::key::Key;
 use crate::moves::join_first;
 use crate::rows::Rows;
-use lw_index::Index;
 use lw_reg::{Endpoint, Slot};
 use lw_stamp::NoMemory;
 use std::alloc::Global;
@@ -29,7 +24,7 @@ pub struct Table {
 }
 
 impl Model for Table {
-    ghost use Rattle.lw_table.specs.Rows.{IsRows, table_in};
+    ghost use Rattle.lw_table.specs.Rows.{IsRows, held_in, table_in};
     ghost use Rattle.lw_table.specs.Table.{TableContent, table_code, IsTable};
 
     ghost Value = { TableContent };
@@ -39,7 +34,7 @@ impl Model for Table {
     ghost view = { λ t. table_in t.rows t.change };
 
     ghost invariant = { λ t. IsRows t.rows
-        × IsTable t.filed.keys t.filed.numbers t.filed.due (table_in t.rows t.change) };
+        × IsTable t.filed.keys t.filed.numbers t.filed.due (held_in t.rows) (table_in t.rows t.change) };
 }
 
 impl Table {
@@ -84,12 +79,5 @@ impl Table {
         ensures { result ≡ self.now.count.change }
     {
         self.change
-    }
-
-    /// The keys of the slots that were not removed: their index is the inverse of the slots.
-    pub fn keys(&self) -> &Index<Key>
-        ensures { (k : Keys) (e : List ℕ) → Has key_cmp result.now k e ↔ OptionHasKey (get self.now.state e) k }
-    {
-        &self.filed.keys
     }
 }

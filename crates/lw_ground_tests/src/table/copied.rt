@@ -64,10 +64,10 @@ static COPIED: [(&[Of<'static>], State); 4] = [
 /// The copy has what the table has, and takes the same change alike.
 fn are_alike(alloc: Global, table: &mut Table, copy: &mut Table, state: State) -> Result<(), Fail> {
     holds("the same", are_same(table, copy))?;
-    holds("what the copy has", has(copy, state))?;
+    holds("what the copy has", has(copy, state)?)?;
     let change = ("c", (Above(20), Above(20), Register(HOST_B, 0, 60)));
     join(alloc, copy, change)?;
-    holds("what the table has", has(table, state))?;
+    holds("what the table has", has(table, state)?)?;
     holds("another", are_different(table, copy))?;
     join(alloc, table, change)?;
     holds("the same once more", are_same(table, copy))

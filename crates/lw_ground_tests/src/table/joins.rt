@@ -131,10 +131,10 @@ static JOINS: [(&[Of<'static>], State); 8] = [
 
 fn check_joins(alloc: Global, changes: &[Of<'_>], state: State) -> Result<(), Fail> {
     let table = table_of(alloc, changes)?;
-    holds("its keys", has(&table, state))
+    holds("its keys", has(&table, state)?)
 }
 
-/// Tries: Table::new, Table::join, Table::keys, lw_reg::Endpoint::into_text
+/// Tries: Table::new, Table::join, Table::endpoints_with, lw_reg::Endpoint::into_text
 #[test]
 fn slots_are_filed_under_their_keys(rt: HostRuntime) -> Result<(), Fail> {
     for (changes, state) in &JOINS {

@@ -70,7 +70,7 @@ fn what_is_lifted_has_moved_once(rt: HostRuntime) -> Result<(), Fail> {
             filed: &[(Id(First), &["a"]), (Address(HOST_A), &["a", "b"])],
             first: Some(("b", Second)),
         },
-    );
+    )?;
     holds("it keeps its keys, and is not shown", ended)?;
     let expired = table.expired_after(at(60_000), None);
     holds("it has not expired either", expired.is_none())

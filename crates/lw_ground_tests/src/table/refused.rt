@@ -12,10 +12,10 @@ fn joins(
     after: State,
 ) -> Result<(), Fail> {
     if try_join(alloc, table, change)?.is_err() {
-        holds("as before", has(table, before))?;
+        holds("as before", has(table, before)?)?;
         join(alloc, table, change)?;
     }
-    holds("joined", has(table, after))
+    holds("joined", has(table, after)?)
 }
 
 const EMPTY: State = State {

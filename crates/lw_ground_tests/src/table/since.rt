@@ -109,14 +109,15 @@ fn count(table: &Table, since: u64) -> Result<usize, NoMemory> {
 
 /// Whether the endpoints at host A are the numbers from 900 to 999.
 pub(super) fn has_hundred(alloc: Global, table: &Table) -> Result<bool, Fail> {
-    let mut endpoints = table.keys().of(&Key::Address(HOST_A));
+    let endpoints = table.endpoints_with(Key::Address(HOST_A))?;
+    let mut given = endpoints.iter();
     for number in 900..1000u32 {
         let wanted = format!(in alloc; "{number}")?;
-        if endpoints.next() != Some(wanted.as_str()) {
+        if given.next() != Some(&wanted.as_str()) {
             return Ok(false);
         }
     }
-    Ok(endpoints.next().is_none())
+    Ok(given.next().is_none())
 }
 
 /// Joins a hundred endpoints, `999` to `900`, at one address.
@@ -124,7 +125,7 @@ pub(super) fn join_hundred(alloc: Global, table: &mut Table) -> Result<(), Fail>
     for number in 0..100u16 {
         join_numbered(alloc, table, number)?;
     }
-    let is_one = has_only(table, (Id(Fourth), &["996"]));
+    let is_one = has_only(table, (Id(Fourth), &["996"]))?;
     let have_moved = table.change() == 100 && count(table, 0)? == 100 && count(table, 40)? == 60;
     holds(
         "a hundred",
@@ -133,7 +134,7 @@ pub(super) fn join_hundred(alloc: Global, table: &mut Table) -> Result<(), Fail>
     tells(alloc, table, &[(97, "900+100 901+99 902+98 ")])
 }
 
-/// Tries: Table::keys, Table::changed_since
+/// Tries: Table::endpoints_with, Table::changed_since
 #[test]
 fn a_hundred_at_one_address_have_moved(rt: HostRuntime) -> Result<(), Fail> {
     let mut table = Table::new(rt.alloc());

@@ -1,16 +1,21 @@
--- What is found at an endpoint in a state, as functions of its slot.
-use Rattle.std.specs.Prelude.{ℕ, Bool, if◌then◌else◌, List, [], ◌∷◌, Option, Some, None}
+-- What is found at an endpoint in a state, as functions of its slot, and the least of what is found at several.
+use Rattle.std.specs.Prelude.{◌≡◌, ℕ, Bool, if◌then◌else◌, List, [], ◌∷◌, Option, Some, None}
 use Rattle.std.specs.FinMap.{get}
-use Rattle.std.specs.Ordering.{is_gt}
+use Rattle.std.specs.Ordering.{is_lt, ordering_then}
+use Rattle.std.specs.declared.cmp.Ordering.{Ordering}
 use Rattle.lw_due.specs.Due.{is_after}
 use Rattle.lw_stamp.specs.declared.stamp.Stamp.{Stamp}
+use Rattle.lw_stamp.specs.Order.{AtMost}
 use Rattle.lw_stamp.specs.StampOrder.{stamp_cmp}
+use Rattle.lw_stamp.specs.TextOrder.{text_cmp}
 use Rattle.lw_reg.specs.declared.addr.Addr.{Addr}
 use Rattle.lw_reg.specs.declared.slot.Slot.{Slot}
 use Rattle.lw_reg.specs.declared.watch.Watch.{Watch}
 use Rattle.lw_reg.specs.Reading.{view_in, registered_in, is_late, stamp_of, address_of, live_watch}
 use Rattle.lw_reg.specs.Registration.{Registration}
 use Rattle.lw_reg.specs.State.{State}
+use Rattle.lw_table.specs.Rows.{name_of}
+use Rattle.lw_table.specs.declared.rows.NamedRow.{NamedRow}
 
 -- ---- one endpoint, with this slot or with none
 abbrev pub view_with : ℕ → List ℕ → Option Slot → Option Registration
@@ -72,16 +77,40 @@ abbrev pub first_of : {A : Type 0} → (List ℕ → Option A) → List (List �
 first_of f [] = None
 first_of f (e ∷ es) = found_or (f e) (first_of f es)
 
--- the later of two, by the stamp; of two at one stamp the first
-abbrev pub later_of : Option (Stamp × Registration) → Option (Stamp × Registration) → Option (Stamp × Registration)
-later_of a None = a
-later_of None (Some b) = Some b
-later_of (Some a) (Some b) = if is_gt (stamp_cmp b.0 a.0) then Some b else Some a
+-- the lesser of two, and of two that compare equal the first
+abbrev pub lesser_of : {A : Type 0} → (A → A → Ordering) → Option A → Option A → Option A
+lesser_of cmp a None = a
+lesser_of cmp None (Some b) = Some b
+lesser_of cmp (Some a) (Some b) = if is_lt (cmp b a) then Some b else Some a
 
--- the latest that f finds, or the one before
-abbrev pub last_of : (List ℕ → Option (Stamp × Registration)) → Option (Stamp × Registration) → List (List ℕ) → Option (Stamp × Registration)
-last_of f a [] = a
-last_of f a (e ∷ es) = last_of f (later_of a (f e)) es
+-- f gives it at one of these endpoints, and at none of them what is less
+pub record IsLeastOf {A : Type 0} (cmp : A → A → Ordering) (f : List ℕ → Option A) (D : List ℕ → Type 0) (a : A) : Type 0 where
+  pub at : List ℕ
+  pub there : D at
+  pub found : f at ≡ Some a
+  pub least : (e : List ℕ) (b : A) → D e → f e ≡ Some b → AtMost cmp a b
+
+-- the least that f gives at these endpoints, or none where it gives nothing
+abbrev pub LeastFound : {A : Type 0} → (A → A → Ordering) → (List ℕ → Option A) → (List ℕ → Type 0) → Option A → Type 0
+LeastFound {A} cmp f D None = (e : List ℕ) (b : A) → D e → f e ≡ Some b → ⊥
+LeastFound cmp f D (Some a) = IsLeastOf cmp f D a
+
+-- by the endpoint
+abbrev pub view_cmp : Registration → Registration → Ordering
+view_cmp a b = text_cmp a.endpoint b.endpoint
+
+abbrev pub watch_cmp : Registration × Watch → Registration × Watch → Ordering
+watch_cmp a b = view_cmp a.0 b.0
+
+-- the later write first, and of those with one stamp by the endpoint
+abbrev pub holder_cmp : Stamp × Registration → Stamp × Registration → Ordering
+holder_cmp a b = ordering_then (stamp_cmp b.0 a.0) (view_cmp a.1 b.1)
+
+-- ---- among rows
+-- what f gives of the row's slot, where there is a row
+abbrev pub there_with : {A : Type 0} → (List ℕ → Option Slot → Option A) → Option NamedRow → Option A
+there_with f None = None
+there_with f (Some row) = f (name_of row) (Some row.row.slot)
 
 -- ---- parts of what is found
 abbrev pub holder_of : Option (Stamp × Registration) → Option Registration

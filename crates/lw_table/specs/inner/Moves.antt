@@ -1,5 +1,5 @@
 -- Rows that are put into a table.
-use Rattle.std.specs.Prelude.{◌≡◌, ◌⊎◌, ℕ, Bool, true, false, List, Option, Some, None, String, bytes_eq, cond, IsSome}
+use Rattle.std.specs.Prelude.{◌≡◌, ◌≢◌, ◌⊎◌, ℕ, slice_get, Bool, true, false, List, Option, Some, None, String, bytes_eq, cond, IsSome}
 use Rattle.std.specs.Option.{IsSomeAnd}
 use Rattle.std.specs.BTreeMap.{BTreeMap, IsOrdered, get, get_by_text, is_at}
 use Rattle.std.specs.Ordering.{nat_cmp}
@@ -9,9 +9,10 @@ use Rattle.lw_stamp.specs.declared.stamp.Stamp.{Stamp}
 use Rattle.lw_reg.specs.declared.slot.Slot.{Slot}
 use Rattle.lw_reg.specs.Reading.{seen_of, stamp_of}
 use Rattle.lw_reg.specs.Slot.{slot_below, slot_join, ending}
-use Rattle.lw_table.specs.inner.Filed.{IsFiled, slot_of}
-use Rattle.lw_table.specs.Rows.{IsRows, end_of}
-use Rattle.lw_table.specs.inner.Rows.{row_at}
+use Rattle.lw_table.specs.inner.Filed.{IsFiled, NumbersRow}
+use Rattle.lw_table.specs.Table.{slot_of}
+use Rattle.lw_table.specs.Rows.{IsRows, end_of, held_in}
+use Rattle.lw_table.specs.inner.Rows.{row_at, spot_of}
 use Rattle.lw_table.specs.inner.KeyChanges.{HasKeyChanges, joined_with}
 use Rattle.lw_table.specs.declared.filed.Filed.{Filed}
 use Rattle.lw_table.specs.declared.key.Key.{Key}
@@ -25,20 +26,23 @@ moved_row row slot number = record { slot = slot_join row.slot slot; number = nu
 abbrev pub next_row : Option Row → Slot → ℕ → Row
 next_row row slot number = record { slot = joined_with (slot_of row) slot; number = number }
 
--- the endpoint is filed under what a first row with this number has, and the keys are those of its slot
-pub record IsFirstFiled (filed : Filed) (e : List ℕ) (number : ℕ) (keys : List Key) : Type 0 where
-  pub slot : Slot
-  pub is : IsFiled filed e (Some (record { slot = slot; number = number }))
-  pub keys_are : HasKeyChanges None slot keys
+-- the place is filed under the keys of a first row, which are these
+pub record IsFirstFiled (filed : Filed) (e : List ℕ) (place : ℕ) (keys : List Key) : Type 0 where
+  pub row : Row
+  pub is : IsFiled filed e place (Some row)
+  pub keys_are : HasKeyChanges None row.slot keys
 
--- the row is put under the endpoint, and nothing else changes
+-- the row is put under the endpoint, at its place or behind the others, and nothing else changes
 pub record PutsRow (endpoint : List ℕ) (row : Row) (old new : Rows) : Type 0 where
   pub at : (e : List ℕ) → row_at new e ≡ cond (bytes_eq endpoint e) (Some row) (row_at old e)
+  pub held_here : slice_get (held_in new) (spot_of old endpoint) ≡ Some row
+  pub held_apart : (place : ℕ) → place ≢ spot_of old endpoint → slice_get (held_in new) place ≡ slice_get (held_in old) place
   pub rows : IsRows new
 
 -- each endpoint has the row that it had
 pub record SameRows (old new : Rows) : Type 0 where
   pub same : (e : List ℕ) → row_at new e ≡ row_at old e
+  pub held : (place : ℕ) → slice_get (held_in new) place ≡ slice_get (held_in old) place
   pub rows : IsRows new
 
 -- the slot tells nothing new beside the row
@@ -50,10 +54,14 @@ abbrev pub JoinsRow : Bool → Slot → ℕ → Row → Row → Type 0
 JoinsRow true slot number old new = (¬ slot_below slot old.slot) × (new ≡ moved_row old slot number)
 JoinsRow false slot number old new = slot_below slot old.slot × (new ≡ old)
 
+-- the endpoint is filed as the row is, and its place under the keys and the number
+abbrev pub FilesRow : List ℕ → ℕ → Option Row → Filed → Filed → Type 0
+FilesRow e place row old new = IsFiled new e place row × NumbersRow place row old.numbers new.numbers
+
 -- the slot moves the endpoint's row, or makes its first; or it tells nothing new, and each row stays
-abbrev pub JoinsRowAt : Bool → List ℕ → Slot → ℕ → Rows → Rows → Filed → Type 0
-JoinsRowAt true e slot number old new filed = (¬ IsKnown (row_at old e) slot) × PutsRow e (next_row (row_at old e) slot number) old new × IsFiled filed e (Some (next_row (row_at old e) slot number))
-JoinsRowAt false e slot number old new filed = IsKnown (row_at old e) slot × SameRows old new × IsFiled filed e (row_at old e)
+abbrev pub JoinsRowAt : Bool → List ℕ → Slot → ℕ → Rows → Rows → Filed → Filed → Type 0
+JoinsRowAt true e slot number old new was filed = (¬ IsKnown (row_at old e) slot) × PutsRow e (next_row (row_at old e) slot number) old new × FilesRow e (spot_of old e) (Some (next_row (row_at old e) slot number)) was filed
+JoinsRowAt false e slot number old new was filed = IsKnown (row_at old e) slot × SameRows old new × FilesRow e (spot_of old e) (row_at old e) was filed
 
 -- the place is filed under the end of the endpoint, where none was
 pub record FilesFirst (endpoint : List ℕ) (place : ℕ) (old new : BTreeMap ℕ ℕ) : Type 0 where

@@ -4,8 +4,8 @@ use Rattle.lw_recent.specs.Entries.{number_of}
 use Rattle.lw_recent.specs.inner.Entries.{shown_at}
 use Rattle.lw_recent.proofs.entry.find.Given as goal
 
-abbrev pub invariant-loop-place : goal.invariant-loop-place
-invariant-loop-place l = record {
-  before : (k : ℕ) → k < l.place → shown_at l.entries k ≢ Some (l.number, l.endpoint);
-  rest : (k : ℕ) (d : Entry) → l.place ≤ k → k < length l.entries → l.number ≤ number_of (get_or l.entries k d);
+abbrev pub invariant-loop-index : goal.invariant-loop-index
+invariant-loop-index l = record {
+  before : (k : ℕ) → k < l.index → shown_at l.entries k ≢ Some (l.number, l.place);
+  rest : (k : ℕ) (d : Entry) → l.index ≤ k → k < length l.entries → l.number ≤ number_of (get_or l.entries k d);
 }

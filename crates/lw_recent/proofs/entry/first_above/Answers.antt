@@ -1,5 +1,4 @@
-use Rattle.std.proofs.Common.{◌≡◌, ◌≤◌, ◌<◌, inl, inr, ℕ, rules, arith, leb, leb-true, leb-false, true, false, None, Some, sym, subst, ap, ◌∙◌}
-use Rattle.std.specs.Prelude.{string_bytes}
+use Rattle.std.proofs.Common.{◌≡◌, ◌≤◌, ◌<◌, inl, inr, ℕ, rules, arith, leb, leb-true, leb-false, true, false, None, Some, get_or, sym, subst, ap, ◌∙◌}
 use Rattle.std.specs.Option.{option_map}
 use Rattle.std.specs.List.Sorted.{IsPartitionPoint}
 use Rattle.std.proofs.lemmas.Bool.{cases_lt}
@@ -7,13 +6,17 @@ use Rattle.std.proofs.lemmas.List.Sorted.{IsPartitionPoint-from_clause, IsPartit
 use Rattle.lw_recent.specs.declared.entry.Entry.{Entry}
 use Rattle.lw_recent.specs.Entries.{number_of, shown}
 use Rattle.lw_recent.specs.inner.Entries.{shown_at}
-use Rattle.lw_recent.proofs.EntryLemmas.{at_pairs, pairs_at, shown_number, shown_read}
+use Rattle.lw_recent.proofs.EntryLemmas.{at_pairs, pairs_at, shown_number, shown_there}
 use Rattle.lw_recent.proofs.entry.first_above.Goals as goal
 
-pub loop-place-init : goal.loop-place-init
-loop-place-init c =
+-- what stands where nothing is
+abbrev hole : Entry
+hole = record { number = 0; place = None }
+
+pub loop-index-init : goal.loop-index-init
+loop-index-init c =
     let xs = c.args.entries.now in
-    let d : Entry = record { number = 0; endpoint = None } in
+    let d = hole in
     let point : IsPartitionPoint (λ (y : Entry). leb y.number c.args.number ≡ true) (λ y. leb y.number c.args.number ≡ false) xs c.partition_point-start.result =
     IsPartitionPoint-from_clause (λ p. leb p.number c.args.number) _ _ c.partition_point-start.ensures.partitioned (IsPartitionedBy-leb number_of xs c.args.number c.requires) (λ a r q k. search rules) in
     record {
@@ -23,42 +26,40 @@ loop-place-init c =
       rest = λ k d le lt. leb-false _ _ (point.1 k d le lt);
     }
 
-pub loop-place-preserved : goal.loop-place-preserved
-loop-place-preserved c = record {
-  before = λ k n e lt h. elim (cases_lt k c.loop-place.place) [
-    | inl before ↦ c.loop-place.invariant.before k n e before h
+pub loop-index-preserved : goal.loop-index-preserved
+loop-index-preserved c = record {
+  before = λ k n e lt h. elim (cases_lt k c.loop-index.index) [
+    | inl before ↦ c.loop-index.invariant.before k n e before h
     | inr after ↦
-        let here : k ≡ c.loop-place.place = omega (arith, lt, after) in
-        let x = c.index-entries-place.result in
-        let read = shown_read c.args.entries.now c.loop-place.place x c.loop-place-test.true c.index-entries-place.is in
-        let none : shown x ≡ None = ap (option_map (λ text. (x.number, string_bytes text))) c.in_default.is in
+        let here : k ≡ c.loop-index.index = omega (arith, lt, after) in
+        let x = get_or c.args.entries.now c.loop-index.index hole in
+        let read = shown_there c.args.entries.now c.loop-index.index hole c.loop-index-test.true in
+        let none : shown x ≡ None = ap (option_map (λ (p : ℕ). (x.number, p))) c.in_default.is in
         let some = subst (λ i. shown_at c.args.entries.now i ≡ Some (n, e)) here h in absurd (let bad : None ≡ Some (n, e) = sym none ∙ sym read ∙ some in cc)
   ];
-  rest = λ k d le lt. c.loop-place.invariant.rest k d (omega (arith, le)) lt;
+  rest = λ k d le lt. c.loop-index.invariant.rest k d (omega (arith, le)) lt;
 }
 
 pub returns-in-Some : goal.returns-in-Some
 returns-in-Some c =
     let xs = c.args.entries.now in
-    let place = c.loop-place.place in
-    let x = c.index-entries-place.result in
-    let text = c.as_str.result.now in
-    let here : shown_at xs place ≡ Some (x.number, text) =
-    shown_read xs place x c.loop-place-test.true c.index-entries-place.is ∙ ap (option_map (λ t. (x.number, string_bytes t))) c.in-Some.is ∙ ap (λ b. Some (x.number, b)) (sym c.as_str.ensures.value) in (
-      pairs_at xs place (x.number, text) here,
-      subst (λ y. c.args.number < number_of y) (sym c.index-entries-place.is) (c.loop-place.invariant.rest place x (omega arith) c.loop-place-test.true),
+    let index = c.loop-index.index in
+    let x = get_or xs index hole in
+    let here : shown_at xs index ≡ Some (x.number, c.in-Some.place) =
+    shown_there xs index hole c.loop-index-test.true ∙ ap (option_map (λ (p : ℕ). (x.number, p))) c.in-Some.is in (
+      pairs_at xs index (x.number, c.in-Some.place) here,
+      c.loop-index.invariant.rest index hole (omega arith) c.loop-index-test.true,
       λ n e h less.
           let w = at_pairs xs (n, e) h in
-          elim (cases_lt w.0 place) [
-            | inl before ↦ absurd (let low = c.loop-place.invariant.before w.0 n e before w.2 in omega (arith, low, less))
+          elim (cases_lt w.0 index) [
+            | inl before ↦ absurd (let low = c.loop-index.invariant.before w.0 n e before w.2 in omega (arith, low, less))
             | inr after ↦
-                let up = c.requires place w.0 x after w.1 in
-                let is = shown_number xs w.0 n e x w.2 in
-                subst (λ y. number_of y ≤ n) (sym c.index-entries-place.is) (omega (arith, up, is))
+                let up = c.requires index w.0 hole after w.1 in
+                let is = shown_number xs w.0 n e hole w.2 in omega (arith, up, is)
           ],
     )
 
 pub returns : goal.returns
 returns c = λ n e h.
     let w = at_pairs c.args.entries.now (n, e) h in
-    c.loop-place.invariant.before w.0 n e (omega (arith, w.1, c.loop-place-test.false)) w.2
+    c.loop-index.invariant.before w.0 n e (omega (arith, w.1, c.loop-index-test.false)) w.2

@@ -1,37 +1,22 @@
-use Rattle.std.proofs.Common.{◌≡◌, None, false, true, refl, sym, subst}
-use Rattle.lw_recent.specs.Recent.{AreSince}
-use Rattle.lw_reg.proofs.Members.{first_there, more_there}
-use Rattle.lw_table.proofs.CopyLemmas.{AllUnder, SameBut, all_passed, all_under, none_passed, one_passed}
+use Rattle.std.proofs.Common.{◌≡◌, ◌<◌, inl, inr, length, get_or, slice_get, refl, sym, ap, ◌∙◌, subst, arith}
+use Rattle.std.proofs.lemmas.Bool.{cases_lt}
+use Rattle.std.proofs.lemmas.Option.{slice_get_read}
+use Rattle.lw_table.specs.Rows.{name_of}
+use Rattle.lw_table.specs.inner.Rows.{row_at}
+use Rattle.lw_table.proofs.RowLemmas.{some_same}
 use Rattle.lw_table.proofs.copying.are_same.Goals as goal
 
-pub loop-endpoint-init : goal.loop-endpoint-init
-loop-endpoint-init c =
-    let since = subst (AreSince None c.args.filed.now) (sym c.into_iter-endpoint-iterator.ensures.into_iter_gives) c.since-endpoint-items.ensures in (
-      tt,
-      tt,
-      none_passed c.args.rows.now c.args.others.now c.args.filed.now _ since,
-      all_under c.args.filed.now _ since,
-    )
-
-pub loop-endpoint-preserved : goal.loop-endpoint-preserved
-loop-endpoint-preserved c =
-    let under = subst (AllUnder c.args.filed.now) c.in-Some.ensures.steps c.loop-endpoint.invariant.3 in (
-      tt,
-      tt,
-      one_passed c.args.rows.now c.args.others.now c.args.filed.now c.in-Some.endpoint.now _ (c.if-not-has_same.ensures.0 refl) (subst (SameBut c.args.rows.now c.args.others.now c.args.filed.now) c.in-Some.ensures.steps c.loop-endpoint.invariant.2),
-      λ e there. under e (more_there c.in-Some.endpoint.now _ e there),
-    )
-
-pub returns-then-not-has_same : goal.returns-then-not-has_same
-returns-then-not-has_same c =
-    let all = subst (AllUnder c.args.filed.now) c.in-Some.ensures.steps c.loop-endpoint.invariant.3 in
-    let under = all c.in-Some.endpoint.now (first_there c.in-Some.endpoint.now _ c.in-Some.endpoint.now refl) in (
-      λ h. absurd (let bad : false ≡ true = h in cc),
-      λ same. c.if-not-has_same.ensures.1 (same under.0 c.in-Some.endpoint.now under.1),
-    )
-
-pub returns : goal.returns
-returns c = (
-  λ yes. all_passed c.args.rows.now c.args.others.now c.args.filed.now c.loop-endpoint.endpoint-iterator c.in-None.ensures.steps.0 c.loop-endpoint.invariant.2,
-  λ all. refl,
-)
+pub loop-named-preserved : goal.loop-named-preserved
+loop-named-preserved c =
+    let m = c.args.rows.now in
+    let index = c.loop-named.named-index in
+    let item = c.named-item.result in
+    let within : index < length m.rows.items = subst (λ xs. index < length xs) c.deref-named-items.ensures.value c.loop-named-test.true in
+    let is : item ≡ get_or m.rows.items index item = subst (λ xs. item ≡ get_or xs index item) c.deref-named-items.ensures.value c.named-item.is in
+    λ place named there below. elim (cases_lt place index) [
+      | inl before ↦ c.loop-named.invariant place named there before
+      | inr after ↦
+          let here : place ≡ index = omega (arith, below, after) in
+          let same : item ≡ named = some_same item named (sym (slice_get_read m.rows.items (length m.rows.items) index item refl within is) ∙ ap (slice_get m.rows.items) (sym here) ∙ there) in
+          subst (λ e. row_at m e ≡ row_at c.args.others.now e) (c.as_str.ensures.value ∙ ap name_of same) (c.if-not-has_same.ensures.0 refl)
+    ]

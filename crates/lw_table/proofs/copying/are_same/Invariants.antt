@@ -1,8 +1,10 @@
-use Rattle.lw_table.proofs.CopyLemmas.{AllUnder, SameBut}
+use Rattle.std.proofs.Common.{◌≡◌, ℕ, ◌<◌, Some, slice_get}
+use Rattle.lw_table.specs.Rows.{name_of}
+use Rattle.lw_table.specs.declared.rows.NamedRow.{NamedRow}
+use Rattle.lw_table.specs.inner.Rows.{row_at}
 use Rattle.lw_table.proofs.copying.are_same.Given as goal
 
--- each endpoint that was passed has the same row in both
-abbrev pub invariant-loop-endpoint : goal.invariant-loop-endpoint
-invariant-loop-endpoint l =
-    (goal.iterator-loop-endpoint).can_next l.endpoint-iterator × (goal.iterator-loop-endpoint).is_finite l.endpoint-iterator
-    × SameBut l.rows l.others l.filed l.endpoint-iterator × AllUnder l.filed l.endpoint-iterator
+-- the endpoint of each row that was passed has the same row in both
+abbrev pub invariant-loop-named : goal.invariant-loop-named
+invariant-loop-named l =
+    (place : ℕ) (named : NamedRow) → slice_get l.rows.rows.items place ≡ Some named → place < l.named-index → row_at l.rows (name_of named) ≡ row_at l.others (name_of named)

@@ -7,7 +7,7 @@ move_to-requires c = (c.requires c.args.last).1 refl
 
 pub returns : goal.returns
 returns c =
-    let e = c.args.endpoint.now in
+    let p = c.args.place in
     record {
       others = record {
         same = λ n d other. (
@@ -16,7 +16,7 @@ returns c =
         );
       };
       number = λ n. (
-        λ h. elim ((c.move_to.ensures n e).0 h) [ inl was ↦ absurd (was.1 (sym (one_number c.args.last n ((c.requires n).0 was.0)), refl)) | inr pair ↦ ap Some (sym pair.0) ],
-        λ h. (c.move_to.ensures n e).1 (inr (sym (one_number c.args.number n h), refl)),
+        λ h. elim ((c.move_to.ensures n p).0 h) [ inl was ↦ absurd (was.1 (sym (one_number c.args.last n ((c.requires n).0 was.0)), refl)) | inr pair ↦ ap Some (sym pair.0) ],
+        λ h. (c.move_to.ensures n p).1 (inr (sym (one_number c.args.number n h), refl)),
       );
     }

@@ -3,7 +3,7 @@ use Rattle.lw_due.specs.Due.{kept_of, raised}
 use Rattle.lw_due.proofs.NoteLemmas.{kept_of-raised}
 use Rattle.lw_reg.specs.declared.slot.Slot.{Slot}
 use Rattle.lw_table.specs.Due.{OptionHasDue}
-use Rattle.lw_table.specs.inner.Filed.{slot_of}
+use Rattle.lw_table.specs.Table.{slot_of}
 use Rattle.lw_table.specs.inner.Rows.{row_at}
 use Rattle.lw_table.proofs.DueLemmas.{due_count, fewer_due, raised_below}
 use Rattle.lw_table.proofs.lifts.raise_due.Goals as goal

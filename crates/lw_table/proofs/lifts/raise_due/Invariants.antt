@@ -1,7 +1,7 @@
 use Rattle.std.proofs.Common.{List, ℕ}
 use Rattle.lw_table.specs.Due.{OptionHasDue}
 use Rattle.lw_table.specs.inner.Due.{KeepsKept}
-use Rattle.lw_table.specs.inner.Filed.{slot_of}
+use Rattle.lw_table.specs.Table.{slot_of}
 use Rattle.lw_table.specs.inner.Rows.{row_at}
 use Rattle.lw_table.proofs.DueLemmas.{due_count}
 use Rattle.lw_table.proofs.lifts.raise_due.Given as goal

@@ -1,11 +1,10 @@
-use Rattle.std.proofs.Common.{List, ℕ, map}
-use Rattle.lw_recent.specs.Recent.{IsUnder, IsAbove}
+use Rattle.std.proofs.Common.{map}
+use Rattle.lw_table.specs.inner.Since.{IsNamedSince}
 use Rattle.lw_table.proofs.SinceLemmas.{Gathers}
-use Rattle.std.specs.Prelude.{Contains}
 use Rattle.lw_table.proofs.since.endpoints_above.Given as goal
 
--- the endpoints that were taken, and those that are left, are all
-abbrev pub invariant-loop-endpoint : goal.invariant-loop-endpoint
-invariant-loop-endpoint l =
-    (goal.iterator-loop-endpoint).can_next l.endpoint-iterator × (goal.iterator-loop-endpoint).is_finite l.endpoint-iterator
-    × Gathers Contains (map (λ e. e.now) l.endpoints.items) l.endpoint-iterator (λ (all : List (ℕ × List ℕ)) e. (n : ℕ) × IsUnder all n e × IsAbove l.fn.since n) l.numbers
+-- the endpoints that were taken, and those of the places that are left, are all
+abbrev pub invariant-loop-place : goal.invariant-loop-place
+invariant-loop-place l =
+    (goal.iterator-loop-place).can_next l.place-iterator × (goal.iterator-loop-place).is_finite l.place-iterator
+    × Gathers l.rows (map (λ e. e.now) l.endpoints.items) l.place-iterator (IsNamedSince l.fn.since l.numbers l.rows)

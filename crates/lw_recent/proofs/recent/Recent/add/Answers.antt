@@ -4,9 +4,9 @@ use Rattle.lw_recent.specs.Recent.{IsUnder}
 use Rattle.lw_recent.proofs.recent.Recent.add.Goals as goal
 
 pub returns-clause-added : goal.returns-clause-added
-returns-clause-added c = λ n e.
+returns-clause-added c = λ n p.
     let was : pairs_in c.make_room.new.entries.items ≡ c.args.self.now = c.make_room.ensures.pairs ∙ c.self.view_is in
-    let adds = c.put.ensures.adds n e in (
-      λ h. elim (adds.0 h) [ inl there ↦ inl (subst (λ l. IsUnder l n e) was there) | inr pair ↦ inr (pair.0, pair.1 ∙ c.in_ok-text.ensures.ok) ],
-      λ h. adds.1 (elim h [ inl there ↦ inl (subst (λ l. IsUnder l n e) (sym was) there) | inr pair ↦ inr (pair.0, pair.1 ∙ sym c.in_ok-text.ensures.ok) ]),
+    let adds = c.put.ensures.adds n p in (
+      λ h. elim (adds.0 h) [ inl there ↦ inl (subst (λ l. IsUnder l n p) was there) | inr pair ↦ inr pair ],
+      λ h. adds.1 (elim h [ inl there ↦ inl (subst (λ l. IsUnder l n p) (sym was) there) | inr pair ↦ inr pair ]),
     )

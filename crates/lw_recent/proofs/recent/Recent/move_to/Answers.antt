@@ -11,15 +11,14 @@ returns c = λ n e.
       | then-len-capacity w ↦ ap (λ (i : Inside). pairs_in i.entries.items) w.self-inside-is ∙ w.close_up.ensures.pairs
       | else-len-capacity w ↦ ap (λ (i : Inside). pairs_in i.entries.items) w.self-inside-is
     ] in
-    let text = c.in-Some.ensures.text.0 in
     let drops = c.take_out.ensures.drops n e in
     let adds = c.put.ensures.adds n e in (
       λ h. elim (adds.0 h) [
         | inl there ↦ let left = drops.0 (subst (λ l. IsUnder l n e) closed there) in inl (subst (λ l. IsUnder l n e) c.self.view_is left.0, left.1)
-        | inr pair ↦ inr (pair.0, pair.1 ∙ text)
+        | inr pair ↦ inr pair
       ],
       λ h. adds.1 (elim h [
         | inl left ↦ inl (subst (λ l. IsUnder l n e) (sym closed) (drops.1 (subst (λ l. IsUnder l n e) (sym c.self.view_is) left.0, left.1)))
-        | inr pair ↦ inr (pair.0, pair.1 ∙ sym text)
+        | inr pair ↦ inr pair
       ]),
     )

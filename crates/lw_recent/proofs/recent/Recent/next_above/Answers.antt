@@ -1,8 +1,7 @@
 use Rattle.std.proofs.Common.{ap, subst, ◌∙◌}
-use Rattle.std.specs.Prelude.{option_map}
 use Rattle.lw_recent.specs.Entries.{pairs_in}
 use Rattle.lw_recent.specs.Recent.{IsNextAbove}
 use Rattle.lw_recent.proofs.recent.Recent.next_above.Goals as goal
 
 pub returns : goal.returns
-returns c = subst (λ l. IsNextAbove c.args.number l (option_map (λ x. (x.0, x.1.now)) c.first_above.result)) (ap pairs_in c.deref.ensures.value ∙ c.self.view_is) c.first_above.ensures
+returns c = subst (λ l. IsNextAbove c.args.number l c.first_above.result) (ap pairs_in c.deref.ensures.value ∙ c.self.view_is) c.first_above.ensures

@@ -1,4 +1,4 @@
-use Rattle.std.proofs.Common.{◌≡◌, Option, Some, None, List, ℕ, ◌∙◌}
+use Rattle.std.proofs.Common.{◌≡◌, Option, Some, None, List, ℕ, refl, ◌∙◌}
 use Rattle.lw_due.specs.Due.{Entry, due_of}
 use Rattle.lw_reg.specs.declared.slot.Slot.{Slot}
 use Rattle.lw_table.specs.Due.{OptionHasDue}
@@ -10,17 +10,11 @@ due_stays old new e (Some slot) same h = record { at = h.at; is = same ∙ h.is;
 
 pub returns : goal.returns
 returns c = record {
-  others = record {
-    same = λ e other. record {
-      keys = λ k. c.remove_lacking.ensures.others.same k e other;
-      numbers = λ n. (λ h. h, λ h. h);
-      due = c.keep_no_more.ensures.others.same e other;
-    };
-  };
+  others = record { due = c.keep_no_more.ensures.others; keys = c.remove_lacking.ensures.others };
   settled = record {
     kept = c.keep_no_more.ensures.kept;
     keys = c.remove_lacking.ensures.keys;
-    numbers = c.requires.numbers;
     due = due_stays c.args.self.now.due c.keep_no_more.new.due c.args.endpoint.now _ c.keep_no_more.ensures.due c.requires.due;
   };
+  numbers = refl;
 }

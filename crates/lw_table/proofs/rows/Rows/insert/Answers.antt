@@ -1,4 +1,4 @@
-use Rattle.std.proofs.Common.{◌≡◌, ◌∷◌, ◌++◌, [], refl, ap, ◌∙◌, subst, length, rules}
+use Rattle.std.proofs.Common.{◌≡◌, ◌∷◌, ◌++◌, [], refl, ap, ◌∙◌, subst, rules}
 use Rattle.std.specs.Prelude.{string_bytes}
 use Rattle.std.specs.BTreeMap.{get_by_text}
 use Rattle.std.specs.BTreeMap as tree
@@ -26,8 +26,7 @@ returns-clause-put c =
     let begun : Rows = record m { rows = c.reserve.new.self } in
     let n : Rows = record c.file.new.self { rows = c.push_reserved.new.self } in
     let w : NamedRow = record { endpoint = c.args.endpoint; row = c.args.row } in
-    let files : FilesPlace c.as_str.result.now c.in-Ok.place begun c.file.new.self = search rules in
-    let place : c.in-Ok.place ≡ length m.rows.items = search rules in
+    let files : FilesPlace c.as_str.result.now c.args.place begun c.file.new.self = search rules in
     let items : n.rows.items ≡ m.rows.items ++ w ∷ [] = search rules in
     row_is_put m n e w c.requires.rows refl (no_place m c.requires.rows e c.requires.absent) items files.firsts_rise files.others_rise
-    (subst (λ k. FilesEither e k m n) place (subst (λ k. FilesEither k c.in-Ok.place m n) q files.filed))
+    (subst (λ k. FilesEither e k m n) c.requires.place (subst (λ k. FilesEither k c.args.place m n) q files.filed))

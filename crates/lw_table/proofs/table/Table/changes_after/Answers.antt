@@ -4,6 +4,7 @@ use Rattle.std.proofs.lemmas.List.{length-map}
 use Rattle.lw_table.specs.Changes.{Moved, LAST}
 use Rattle.lw_table.specs.declared.since.Moved.{Moved as Given}
 use Rattle.lw_table.specs.Table.{TableContent, IsTable}
+use Rattle.lw_table.specs.Rows.{held_in}
 use Rattle.lw_table.proofs.ChangeLemmas.{change_page}
 use Rattle.lw_table.proofs.table.Table.changes_after.Goals as goal
 
@@ -14,7 +15,7 @@ pub returns-clause-some : goal.returns-clause-some
 returns-clause-some c =
     let now = c.args.self.now in
     let filed = c.self.inside.filed in
-    let table = subst (IsTable filed.keys filed.numbers filed.due) c.self.view_is c.self.invariant.1 in
+    let table = subst (IsTable filed.keys filed.numbers filed.due (held_in c.self.inside.rows)) c.self.view_is c.self.invariant.1 in
     let same = ap (λ (t : TableContent). t.count.change) c.self.view_is in
     let below : now.count.change < LAST = elim (cases_lt now.count.change LAST) [
       | inl less ↦ less

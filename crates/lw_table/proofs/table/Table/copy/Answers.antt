@@ -1,13 +1,9 @@
 use Rattle.std.proofs.Common.{◌∙◌}
 use Rattle.lw_table.proofs.CopyLemmas.{copied_content, copied_table}
-use Rattle.lw_table.proofs.TableLemmas.{filed_at}
 use Rattle.lw_table.proofs.table.Table.copy.Goals as goal
 
 pub copies-requires : goal.copies-requires
-copies-requires c = record {
-  rows = c.self.invariant.0;
-  numbers = λ e. (filed_at c.self.inside.filed c.self.inside.rows c.self.invariant.0 c.self.inside.change c.self.invariant.1 e).numbers;
-}
+copies-requires c = c.self.invariant.0
 
 pub invariant_of-result : goal.invariant_of-result
 invariant_of-result c =

@@ -6,17 +6,16 @@ use Rattle.lw_reg.specs.declared.slot.Slot.{Slot}
 use Rattle.lw_reg.specs.Marks.{among}
 use Rattle.lw_reg.specs.Reading.{shown_in}
 use Rattle.lw_table.specs.inner.Due.{deadline_at}
-use Rattle.lw_table.specs.inner.Filed.{slot_of}
+use Rattle.lw_table.specs.Table.{slot_of, IsTable, TableContent}
 use Rattle.lw_table.specs.Lifts.{LiftsFirst}
-use Rattle.lw_table.specs.Rows.{table_in}
+use Rattle.lw_table.specs.Rows.{held_in, table_in}
 use Rattle.lw_table.specs.inner.Rows.{row_at}
-use Rattle.lw_table.specs.Table.{IsTable, TableContent}
 use Rattle.lw_table.specs.declared.filed.Filed.{Filed}
 use Rattle.lw_table.proofs.CountLemmas.{saturated}
 use Rattle.lw_table.proofs.DueLemmas.{HasPassed, has_passed}
 use Rattle.lw_table.proofs.LiftLemmas.{LiftsFound, read_lifts, marks_lifts, none_lifts}
 use Rattle.lw_table.proofs.LiftedTable.{raised_table, none_found, passed_seen, found, lifted_table}
-use Rattle.lw_table.proofs.TableLemmas.{filed_at}
+use Rattle.lw_table.proofs.TableLemmas.{numbers_at}
 use Rattle.lw_table.proofs.table.Table.lift_first.Goals as goal
 
 -- ---- none is due
@@ -33,7 +32,7 @@ returns-in_err-endpoint c =
     let filed = c.self.inside.filed in
     let due = c.raise_due.new.due in
     let new = table_in c.self.inside.rows c.self.inside.change in
-    let table = subst (IsTable filed.keys filed.numbers due) c.self.view_is
+    let table = subst (IsTable filed.keys filed.numbers due (held_in c.self.inside.rows)) c.self.view_is
     (raised_table filed c.self.inside.rows c.self.invariant.0 c.self.inside.change due c.self.invariant.1 c.raise_due.ensures.below c.raise_due.ensures.kept) in
     let none = subst (λ k. first_due k due ≡ None) c.ms-2.ensures.value (sym c.in_err-endpoint.ensures.first) in
     let nothing : LiftsFound now t None new = (none_found filed.keys filed.numbers due t table now none, c.self.view_is) in
@@ -62,7 +61,7 @@ lift-id-requires c =
     let e = c.in_ok-endpoint.endpoint.now in
     let passed = passed_at (ms_of c.args.now) c.ms.result c.ms-2.result c.raise_due.new.due e (λ k. slot_of (row_at m k)) c.ms.ensures.value c.ms-2.ensures.value c.ms.ensures.in_range c.raise_due.ensures.first c.in_ok-endpoint.ensures.first in
     record {
-      numbers = (filed_at c.self.inside.filed m c.self.invariant.0 c.self.inside.change c.self.invariant.1 e).numbers;
+      numbers = numbers_at c.self.inside.filed m c.self.inside.change c.self.invariant.1 e;
       rows = c.self.invariant.0;
       seen = passed_seen (ms_of c.args.now) (row_at m e) passed.0;
     }
@@ -82,7 +81,7 @@ invariant_of-self-2 c =
     let was = raised_table filed m c.self.invariant.0 change due c.self.invariant.1 c.raise_due.ensures.below c.raise_due.ensures.kept in
     let lifted = c.lift-id.ensures.lifted in (
       lifted.put.rows,
-      subst (λ xs. IsTable filed.keys c.lift-id.new.numbers xs (table_in n number)) (sym (c.raise_first.ensures.raised ∙ ap (λ k. raised k (2 ^ 64 - 1) due) c.ms-3.ensures.value))
+      subst (λ xs. IsTable filed.keys c.lift-id.new.numbers xs (held_in n) (table_in n number)) (sym (c.raise_first.ensures.raised ∙ ap (λ k. raised k (2 ^ 64 - 1) due) c.ms-3.ensures.value))
           (lifted_table old m n c.self.invariant.0 change was e number c.lift-id.result lifted now passed.0 passed.1 (saturated change number c.saturating_add-number.ensures was.last)
           c.lift-id.new.numbers c.lift-id.ensures.others c.lift-id.ensures.number c.raise_first.ensures.rising),
     )
