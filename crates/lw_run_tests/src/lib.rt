@@ -1,4 +1,4 @@
-//! Tests of `lw_run` and `lw_front`, over their public calls.
+//! Tests of `lw_run`, over its public calls.
 #![tactic(auto)]
 
 #[cfg(test)]

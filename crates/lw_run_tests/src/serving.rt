@@ -9,7 +9,6 @@ mod observing;
 mod refused;
 mod replies;
 mod runs;
-mod sockets;
 mod stage;
 mod timed;
 mod twice;

@@ -1,16 +1,19 @@
 //! Sockets of the loopback as a front.
 
-use super::*;
+use crate::hold::{holds, holds_for};
 use log::sink::{Discard, Memory};
 use log::{Level, Log, Logged};
 use lw_front::Sockets;
+use lw_run::{Addr, Front, Heard, WireFault};
 use lw_stamp::NoMemory;
 use lw_target::{Answer, Asked, Command, Commands, Desk, Media, Status};
 use lw_visit::Guard;
 use lw_wire::address_of;
+use std::alloc::Global;
 use std::hash::RandomState;
 use std::io::{self, Read, Write};
 use std::net::{Net, OpenStream, SocketAddr, TcpStream, ToSocketAddrs, UdpSocket};
+use std::test::Fail;
 use std::time::{Clock, Duration, Instant};
 
 /// A desk that tells the same to all that is asked.

@@ -1,0 +1,7 @@
+//! Tests of `lw_front`, over its public calls.
+#![tactic(auto)]
+
+#[cfg(test)]
+mod hold;
+#[cfg(test)]
+mod sockets;
