@@ -8,6 +8,7 @@ mod kept;
 pub(crate) mod many;
 
 /// What is done, or asked and answered.
+#[derive(Drop)]
 enum Step<'a> {
     /// Adds the endpoint, kept or not, with the due moment.
     Adds(&'a str, bool, u64),

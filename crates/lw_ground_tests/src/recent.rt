@@ -8,6 +8,7 @@ use std::test::Fail;
 const LAST_PLACE: u32 = u32::MAX;
 
 /// What is done, or asked and answered.
+#[derive(Drop)]
 enum Step {
     /// Files the place under the number.
     Files(u64, u32),
