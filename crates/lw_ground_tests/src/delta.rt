@@ -524,7 +524,10 @@ fn deltas_are_read_and_written(rt: HostRuntime) {
     for (text, clock, count, again) in &ACCEPTED {
         let bytes = bytes_of(&rt, rt.alloc(), text);
         let again = bytes_of(&rt, rt.alloc(), again);
-        assert!(rt; is_counted(&rt, rt.alloc(), &bytes, *clock, *count), "{text}");
+        assert!(rt;
+            is_counted(&rt, rt.alloc(), &bytes, *clock, *count),
+            "{text}"
+        );
         assert!(rt; is_written_as(&rt, rt.alloc(), &bytes, &again), "{text}");
     }
 }

@@ -19,7 +19,10 @@ fn answered(
     location: Option<Stamp>,
 ) -> String {
     let token = message.token.as_slice();
-    assert!(rt; message.kind == Kind::Con || message.kind == Kind::Non, "a request");
+    assert!(rt;
+        message.kind == Kind::Con || message.kind == Kind::Non,
+        "a request"
+    );
     assert!(rt; token.len() <= 8 && code != 0, "an answer");
     let bytes = answer(alloc, message.kind, message.mid, token, code, location);
     hex::encode(alloc, &bytes.expect(rt, "memory")).expect(rt, "memory")
@@ -219,7 +222,13 @@ fn answers_have_the_token_and_the_location(rt: HostRuntime) {
     let made = Stamp::read_id(b"0000000000010001");
     for (datagram, code, is_made, want) in &ANSWERS {
         let location = if *is_made { made } else { None };
-        assert!(rt; is_answered(&rt, rt.alloc(), datagram, *code, location, want), "{datagram}");
+        assert!(rt;
+            is_answered(&rt, rt.alloc(), datagram, *code, location, want),
+            "{datagram}"
+        );
     }
-    assert!(rt; empty_answers_have_the_number(), "Resets and acknowledgements");
+    assert!(rt;
+        empty_answers_have_the_number(),
+        "Resets and acknowledgements"
+    );
 }

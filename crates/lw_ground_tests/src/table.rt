@@ -86,8 +86,8 @@ enum Step {
     Registrations(usize),
 }
 
-/// Lifts the first, which counts one, or nothing.
-fn lifts(table: &mut Table, now: u64, wanted: Option<Mark>) -> bool {
+/// Lifts the first, and tells whether it is the one that is wanted. It counts one, or nothing.
+fn lifts_first(table: &mut Table, now: u64, wanted: Option<Mark>) -> bool {
     let before = table.change();
     let lifted = table.lift_first(at(now));
     match wanted {
@@ -145,7 +145,7 @@ fn is_taken(
             join(rt, alloc, table, *change);
             true
         }
-        Lifts(now, wanted) => lifts(table, *now, *wanted),
+        Lifts(now, wanted) => lifts_first(table, *now, *wanted),
         Counts(number) => table.change() == *number,
         Filed(by, wanted) => return has_only(table, *by, wanted),
         Shows(now, way, wanted) => is_named(view(table, *now, way), *wanted),
@@ -153,7 +153,9 @@ fn is_taken(
         Watched(now, is_one) => table.by_token(at(*now), Second.stamp()).is_some() == *is_one,
         Tells(since, wanted) => since::tells(rt, alloc, table, *since, wanted),
         Changes(since, limit, wanted) => since::changes(rt, alloc, table, *since, *limit, wanted),
-        Pages(now, after, most, wanted) => pages::is_page(rt, alloc, table, *now, *after, *most, wanted),
+        Pages(now, after, most, wanted) => pages::is_page(
+            rt, alloc, table, *now, *after, *most, wanted,
+        ),
         Registrations(count) => table.registrations() == *count,
     };
     Ok(is_right)

@@ -140,7 +140,10 @@ static FULL: [([u8; 6], &[u8], u64, usize, &str); 2] = [
 fn the_longest_fields_are_read_and_written_again(rt: HostRuntime) {
     for (counter, host, clock, length, text) in &FULL {
         let bytes = full(rt.alloc(), counter, host).expect(&rt, "memory");
-        assert!(rt; holds(&rt, rt.alloc(), &bytes, *clock, *length), "clock {clock}");
+        assert!(rt;
+            holds(&rt, rt.alloc(), &bytes, *clock, *length),
+            "clock {clock}"
+        );
         assert!(rt; is_read_as(&rt, rt.alloc(), &bytes, text), "clock {clock}");
     }
 }
@@ -155,7 +158,10 @@ fn many(alloc: Global) -> Result<Vec<u8>, NoMemory> {
             b'0' + (n / 10 % 10) as u8,
             b'0' + (n % 10) as u8,
         ];
-        put(&mut bytes, &[&[1, 3], &name, &[0, 0, 0, 0, 0, 1, 0, 1, 0x80, 0, 0, 0]])?;
+        put(
+            &mut bytes,
+            &[&[1, 3], &name, &[0, 0, 0, 0, 0, 1, 0, 1, 0x80, 0, 0, 0]],
+        )?;
     }
     put(&mut bytes, &[&[0]])?;
     Ok(bytes)
@@ -225,11 +231,20 @@ fn the_longest_attributes_are_read_and_written_again(rt: HostRuntime) {
     for (name, value) in &ROOMY {
         let bytes = attributed(rt.alloc(), *name, *value).expect(&rt, "memory");
         let length = 37 + usize::from(*name) + usize::from(*value);
-        assert!(rt; holds(&rt, rt.alloc(), &bytes, 1, length), "{name} and {value}");
-        assert!(rt; reads_attribute(&rt, rt.alloc(), &bytes, *name, *value), "{name} and {value}");
+        assert!(rt;
+            holds(&rt, rt.alloc(), &bytes, 1, length),
+            "{name} and {value}"
+        );
+        assert!(rt;
+            reads_attribute(&rt, rt.alloc(), &bytes, *name, *value),
+            "{name} and {value}"
+        );
     }
     for (name, value) in &TIGHT {
         let bytes = attributed(rt.alloc(), *name, *value).expect(&rt, "memory");
-        assert!(rt; check(&bytes) == Err(DeltaFault::Range), "{name} and {value}");
+        assert!(rt;
+            check(&bytes) == Err(DeltaFault::Range),
+            "{name} and {value}"
+        );
     }
 }

@@ -179,7 +179,7 @@ struct Side {
     is_odd: bool,
 }
 
-static FIRST_SIDE: Side = Side {
+const FIRST_SIDE: Side = Side {
     stamp: FIRST,
     version: Version::V10,
     host: FIRST_HOST,
@@ -191,7 +191,7 @@ static FIRST_SIDE: Side = Side {
     is_odd: false,
 };
 
-static LAST_SIDE: Side = Side {
+const LAST_SIDE: Side = Side {
     stamp: LAST,
     version: Version::V11,
     host: LAST_HOST,
@@ -210,7 +210,7 @@ fn sms(alloc: Global, side: &Side) -> Result<Option<SmsNumber>, NoMemory> {
     }
 }
 
-fn writes(alloc: Global, side: &Side) -> Result<FieldWrites, LinkFault> {
+fn writes(alloc: Global, side: &Side) -> Result<FieldWrites<SmsNumber, LinkText>, LinkFault> {
     let stamp = side.stamp;
     let sms = sms(alloc, side)?;
     let objects = link(alloc, side.letter)?;
@@ -377,7 +377,10 @@ fn a_whole_slot_is_shown_and_copied(rt: HostRuntime) {
     let slot = whole(rt.alloc(), false).expect(&rt, "a slot");
     let endpoint = letters(rt.alloc(), "e", 252).expect(&rt, "memory");
     let view = slot.view(endpoint.as_str(), Moment::START);
-    let seen = view.expect(&rt, "a view").to_seen(rt.alloc()).expect(&rt, "memory");
+    let seen = view
+        .expect(&rt, "a view")
+        .to_seen(rt.alloc())
+        .expect(&rt, "memory");
     assert!(rt; shows_the_last(&seen));
     assert!(rt; has_the_longest_texts(&seen.as_view()));
 }
@@ -415,9 +418,17 @@ fn join(rt: &impl Abort, slot: &mut Slot, other: Slot) {
 fn a_slot_without_fields_takes_the_others(rt: HostRuntime) {
     let mut slot = without_fields(rt.alloc()).expect(&rt, "memory");
     assert!(rt; !slot.is_removed() && slot.base().is_none(), "no fields");
-    join(&rt, &mut slot, whole(rt.alloc(), false).expect(&rt, "a slot"));
+    join(
+        &rt,
+        &mut slot,
+        whole(rt.alloc(), false).expect(&rt, "a slot"),
+    );
     assert!(rt; is_whole(&slot), "the others");
-    join(&rt, &mut slot, without_fields(rt.alloc()).expect(&rt, "memory"));
+    join(
+        &rt,
+        &mut slot,
+        without_fields(rt.alloc()).expect(&rt, "memory"),
+    );
     assert!(rt; is_whole(&slot), "nothing more");
     let removed = Slot::from_parts(rt.alloc(), FIRST, None).expect(&rt, "memory");
     join(&rt, &mut slot, removed);

@@ -16,7 +16,9 @@ fn push_options(
 ) {
     for text in texts.split(between) {
         let value = Vec::from_slice(alloc, text.as_bytes()).expect(rt, "memory");
-        options.push(CoapOption { number, value }).expect(rt, "memory");
+        options
+            .push(CoapOption { number, value })
+            .expect(rt, "memory");
     }
 }
 

@@ -28,7 +28,10 @@ fn id(rt: &impl Abort, alloc: Global, id: Option<Stamp>) -> String {
 
 fn told(rt: &impl Abort, alloc: Global, report: &Report) -> String {
     let Report {
-        kind, mid, code, ..
+        kind,
+        mid,
+        code,
+        ..
     } = report;
     let token = hex::encode(alloc, &report.token).expect(rt, "memory");
     let payload = hex::encode(alloc, &report.payload).expect(rt, "memory");
@@ -37,8 +40,9 @@ fn told(rt: &impl Abort, alloc: Global, report: &Report) -> String {
         Some(format) => number(rt, alloc, Some(u32::from(format))),
         None => number(rt, alloc, None),
     };
-    let text =
-        format!(in alloc; "report {kind:?} {mid} [{token}] {code} {observe} {format} [{payload}]");
+    let text = format!(in alloc;
+        "report {kind:?} {mid} [{token}] {code} {observe} {format} [{payload}]"
+    );
     text.expect(rt, "memory")
 }
 
@@ -99,9 +103,7 @@ fn updated(rt: &impl Abort, alloc: Global, of: Option<Stamp>, settings: &GivenSe
     let sms = sms_of(&settings.sms);
     let objects = objects_of(&settings.objects);
     let attributes = attributes_of(rt, alloc, &settings.attributes);
-    let text = format!(in alloc;
-        "update {of} {lifetime} {binding} {sms} {objects}{attributes}"
-    );
+    let text = format!(in alloc; "update {of} {lifetime} {binding} {sms} {objects}{attributes}");
     text.expect(rt, "memory")
 }
 

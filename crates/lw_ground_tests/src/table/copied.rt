@@ -16,7 +16,12 @@ fn are_different(one: &Table, other: &Table) -> bool {
 
 /// What a scene is about, what is joined to a table before it is copied, what both have, and what the one has to which
 /// `CHANGE` is joined then.
-type Copying = (&'static str, &'static [Step], &'static [Step], &'static [Step]);
+type Copying = (
+    &'static str,
+    &'static [Step],
+    &'static [Step],
+    &'static [Step],
+);
 
 const CHANGE: [Step; 1] = [Joins(("c", (Above(20), Above(20), Register(HOST_B, 0, 60))))];
 

@@ -16,7 +16,9 @@ pub(super) fn is_page(
     wanted: &str,
 ) -> bool {
     let mut text = String::new(alloc);
-    let page = table.shown_after(at(now), after, limit, names).expect(rt, "memory");
+    let page = table
+        .shown_after(at(now), after, limit, names)
+        .expect(rt, "memory");
     for view in page.registrations.iter() {
         write!(text, "{} ", view.endpoint).expect(rt, "memory");
     }
@@ -56,7 +58,11 @@ static SCENES: [Scene; 6] = [
         &[Pages(0, Some(""), (64, 64), "a b c .")],
     ),
     ("no registrations", &[], &[Registrations(0)]),
-    ("all registrations but the removed one", &FIVE, &[Registrations(4)]),
+    (
+        "all registrations but the removed one",
+        &FIVE,
+        &[Registrations(4)],
+    ),
 ];
 
 /// Tries: Table::shown_after, Table::registrations
@@ -70,5 +76,15 @@ fn pages_have_what_is_shown(rt: HostRuntime) {
 fn a_page_goes_on_from_a_text_that_is_no_endpoint(rt: HostRuntime) {
     let table = played(&rt, rt.alloc(), "five", &FIVE);
     let long = text_of(rt.alloc(), &[("b", 300)]).expect(&rt, "memory");
-    assert!(rt; is_page(&rt, rt.alloc(), &table, 0, Some(long.as_str()), (64, 64), "c ."));
+    assert!(rt;
+        is_page(
+            &rt,
+            rt.alloc(),
+            &table,
+            0,
+            Some(long.as_str()),
+            (64, 64),
+            "c ."
+        )
+    );
 }

@@ -83,7 +83,19 @@ const OBSERVES_AGAIN: Of<'static> = ("a", (Third, First, Observe(&[3], None)));
 #[test]
 fn a_refused_join_leaves_the_tokens(rt: HostRuntime) -> Result<(), Fail> {
     let mut table = Table::new(rt.alloc());
-    joins(&rt, rt.alloc(), &mut table, OBSERVES, (&WITHOUT, &WITH_SECOND))?;
-    joins(&rt, rt.alloc(), &mut table, OBSERVES_AGAIN, (&WITH_SECOND, &WITH_THIRD))?;
+    joins(
+        &rt,
+        rt.alloc(),
+        &mut table,
+        OBSERVES,
+        (&WITHOUT, &WITH_SECOND),
+    )?;
+    joins(
+        &rt,
+        rt.alloc(),
+        &mut table,
+        OBSERVES_AGAIN,
+        (&WITH_SECOND, &WITH_THIRD),
+    )?;
     Ok(())
 }

@@ -105,7 +105,11 @@ pub(super) fn join_many(
     is_falling: bool,
 ) {
     for number in 0..count {
-        let name = if is_falling { 999u16.saturating_sub(number) } else { number };
+        let name = if is_falling {
+            999u16.saturating_sub(number)
+        } else {
+            number
+        };
         let name = format!(in alloc; "{name}").expect(rt, "memory");
         let id = Above(number);
         let change = (id, id, Register(HOST_A, 0, 60));
@@ -120,7 +124,9 @@ pub(super) fn count(rt: &impl Abort, table: &Table, since: u64) -> usize {
 
 /// Whether the endpoints at host A are the numbers from 900 to 999.
 pub(super) fn has_hundred(rt: &impl Abort, alloc: Global, table: &Table) -> bool {
-    let endpoints = table.endpoints_with(Key::Address(HOST_A)).expect(rt, "memory");
+    let endpoints = table
+        .endpoints_with(Key::Address(HOST_A))
+        .expect(rt, "memory");
     let mut given = endpoints.iter();
     for number in 900..1000u32 {
         let wanted = format!(in alloc; "{number}").expect(rt, "memory");
