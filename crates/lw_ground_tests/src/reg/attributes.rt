@@ -86,11 +86,11 @@ fn names_and_values_have_room_in_a_query(rt: HostRuntime) {
 }
 
 /// Two pairs, and whether their names rise.
-static PAIRS: [([(Part, Part); 2], bool); 4] = [
-    ([(("a", 1), ("1", 1)), (("c", 1), ("2", 1))], true),
-    ([(("a", 1), ("1", 1)), (("ab", 1), ("2", 1))], true),
-    ([(("c", 1), ("1", 1)), (("a", 1), ("2", 1))], false),
-    ([(("a", 1), ("1", 1)), (("a", 1), ("2", 1))], false),
+static PAIRS: [(&[(Part, Part)], bool); 4] = [
+    (&[(("a", 1), ("1", 1)), (("c", 1), ("2", 1))], true),
+    (&[(("a", 1), ("1", 1)), (("ab", 1), ("2", 1))], true),
+    (&[(("c", 1), ("1", 1)), (("a", 1), ("2", 1))], false),
+    (&[(("a", 1), ("1", 1)), (("a", 1), ("2", 1))], false),
 ];
 
 /// Tries: Attributes::from_pairs

@@ -80,11 +80,11 @@ fn attributes_of(rt: &impl Abort, alloc: Global, attributes: &Attributes) -> Str
 fn registered(
     rt: &impl Abort,
     alloc: Global,
-    front: [&str; 2],
+    endpoint: &str,
+    version: &str,
     queue: bool,
     settings: &Settings,
 ) -> String {
-    let [endpoint, version] = front;
     let lifetime = settings.lifetime;
     let binding = settings.binding.as_str();
     let sms = sms_of(&settings.sms);
@@ -121,8 +121,8 @@ pub(super) fn shown(rt: &impl Abort, alloc: Global, asked: &Asked) -> String {
             queue,
             settings,
         } => {
-            let front = [endpoint.as_str(), version.as_str()];
-            return registered(rt, alloc, front, *queue, settings);
+            let (endpoint, version) = (endpoint.as_str(), version.as_str());
+            return registered(rt, alloc, endpoint, version, *queue, settings);
         }
         Asked::Update { id, settings } => return updated(rt, alloc, *id, settings),
         Asked::Deregister { id } => return deregistered(rt, alloc, *id),

@@ -5,7 +5,7 @@ use super::since::FIVE;
 use super::*;
 use crate::hold::text_of;
 
-/// Whether such a page has these endpoints, each with a space behind it, and then its next, or a dot where there is none.
+/// Whether a page has these endpoints, each with a space behind it, and then its next, or a dot where there is none.
 pub(super) fn is_page(
     rt: &impl Abort,
     alloc: Global,
