@@ -76,23 +76,18 @@ fn check(rt: &impl Abort, alloc: Global, cases: &str) {
     }
 }
 
-static CASES: [&str; 10] = [
-    cases::REGISTERS,
-    cases::LIFETIMES,
-    cases::QUERIES,
-    cases::UPDATES,
-    cases::UNRECOGNISED,
-    cases::REFUSALS,
-    cases::STEPS,
-    cases::PATHS,
-    cases::ROLES,
-    cases::REPORTS,
-];
-
-/// Tries: understand, understand_lent, Refusal::code
+/// Tries: understand, understand_lent
 #[test]
-fn messages_have_meanings(rt: HostRuntime) {
-    for cases in &CASES {
+fn requests_have_meanings(rt: HostRuntime) {
+    for cases in &cases::MEANINGS {
+        check(&rt, rt.alloc(), cases);
+    }
+}
+
+/// Tries: understand, Refusal::code
+#[test]
+fn the_first_cause_refuses(rt: HostRuntime) {
+    for cases in &cases::CAUSES {
         check(&rt, rt.alloc(), cases);
     }
 }

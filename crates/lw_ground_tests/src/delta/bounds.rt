@@ -225,7 +225,7 @@ static ROOMY: [(u8, u8); 6] = [(1, 0), (1, 253), (127, 127), (253, 1), (254, 0),
 /// Lengths that have none.
 static TIGHT: [(u8, u8); 5] = [(1, 254), (127, 128), (253, 2), (254, 1), (255, 1)];
 
-/// Tries: read, check, Writer::slot, Writer::end
+/// Tries: read, Writer::slot, Writer::end
 #[test]
 fn the_longest_attributes_are_read_and_written_again(rt: HostRuntime) {
     for (name, value) in &ROOMY {
@@ -240,6 +240,11 @@ fn the_longest_attributes_are_read_and_written_again(rt: HostRuntime) {
             "{name} and {value}"
         );
     }
+}
+
+/// Tries: check
+#[test]
+fn a_name_and_its_value_have_room_in_a_query(rt: HostRuntime) {
     for (name, value) in &TIGHT {
         let bytes = attributed(rt.alloc(), *name, *value).expect(&rt, "memory");
         assert!(rt;

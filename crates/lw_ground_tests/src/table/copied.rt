@@ -26,7 +26,7 @@ type Copying = (
 const CHANGE: [Step; 1] = [Joins(("c", (Above(20), Above(20), Register(HOST_B, 0, 60))))];
 
 /// Observations are copied too.
-static COPIED: [Copying; 5] = [
+static COPIED: [Copying; 4] = [
     (
         "nothing",
         &[],
@@ -88,17 +88,18 @@ static COPIED: [Copying; 5] = [
         ],
         &[Counts(2), Tells(1, "c+21 ")],
     ),
-    (
-        "endpoints that end alike",
-        &ALIKE,
-        &[
-            Counts(9),
-            Tells(0, ALL),
-            Tells(8, "urn:dev:eui:0123456789ab+3 "),
-        ],
-        &[Counts(10), Tells(9, "c+21 ")],
-    ),
 ];
+
+static NUMBERED: [Copying; 1] = [(
+    "endpoints that end alike",
+    &ALIKE,
+    &[
+        Counts(9),
+        Tells(0, ALL),
+        Tells(8, "urn:dev:eui:0123456789ab+3 "),
+    ],
+    &[Counts(10), Tells(9, "c+21 ")],
+)];
 
 /// The copy has what the table has, and takes the same change alike.
 fn are_alike(
@@ -118,14 +119,24 @@ fn are_alike(
     assert!(rt; are_same(table, copy), "{name}: the same once more");
 }
 
+fn copy_all(rt: &impl Abort, alloc: Global, copyings: &[Copying]) {
+    for copying in copyings {
+        let mut table = played(rt, alloc, copying.0, copying.1);
+        let mut copy = table.copy().expect(rt, "memory");
+        are_alike(rt, alloc, &mut table, &mut copy, copying);
+    }
+}
+
 /// Tries: lw_reg::Slot::copy, Table::copy, Table::same
 #[test]
 fn a_table_and_its_copy_are_the_same(rt: HostRuntime) {
-    for copying in &COPIED {
-        let mut table = played(&rt, rt.alloc(), copying.0, copying.1);
-        let mut copy = table.copy().expect(&rt, "memory");
-        are_alike(&rt, rt.alloc(), &mut table, &mut copy, copying);
-    }
+    copy_all(&rt, rt.alloc(), &COPIED);
+}
+
+/// Tries: Table::copy
+#[test]
+fn a_copy_keeps_the_change_numbers(rt: HostRuntime) {
+    copy_all(&rt, rt.alloc(), &NUMBERED);
 }
 
 /// A hundred endpoints that came in falling order.

@@ -103,12 +103,10 @@ const ALIKE: [Step; 9] = [
     Tells(4, "urn:a:12345678+3 urn:c:12345678+1 "),
 ];
 
-static SCENES: [Scene; 6] = [
+static SCENES: [Scene; 4] = [
     ("what is lifted has moved once", &ONE, &[]),
     ("the least of several is lifted first", &SEVERAL, &[]),
     ("an Update revives what was lifted", &REVIVED, &[]),
-    ("what is prolonged is not lifted", &CHANGED, &[]),
-    ("a moment may go back", &BACK, &[]),
     ("endpoints that end alike are lifted", &ALIKE, &[]),
 ];
 
@@ -147,4 +145,20 @@ fn a_thousand_are_lifted(rt: HostRuntime) {
     play(&rt, rt.alloc(), &mut table, "lifted", &LIFTED).expect(&rt, "memory");
     assert_eq!(rt; count(&rt, &table, 1000), 1000);
     assert_eq!(rt; count(&rt, &table, 1999), 1);
+}
+
+static PROLONGED: [Scene; 1] = [("what is prolonged is not lifted", &CHANGED, &[])];
+
+/// Tries: Table::lift_first
+#[test]
+fn what_is_prolonged_is_not_lifted(rt: HostRuntime) {
+    play_all(&rt, rt.alloc(), &PROLONGED);
+}
+
+static GOING_BACK: [Scene; 1] = [("a moment may go back", &BACK, &[])];
+
+/// Tries: Table::lift_first
+#[test]
+fn a_moment_may_go_back(rt: HostRuntime) {
+    play_all(&rt, rt.alloc(), &GOING_BACK);
 }

@@ -85,10 +85,7 @@ const OF_AGAIN: [Step; 5] = [
     Tells(3, ""),
 ];
 
-static SCENES: [Scene; 2] = [
-    ("five endpoints", &FIVE, &OF_FIVE),
-    ("what has moved again", &AGAIN, &OF_AGAIN),
-];
+static SCENES: [Scene; 1] = [("five endpoints", &FIVE, &OF_FIVE)];
 
 /// Tries: Table::join, Table::changed_since, Table::changes_after, Table::change
 #[test]
@@ -153,4 +150,12 @@ fn a_hundred_at_one_address_have_moved(rt: HostRuntime) {
     assert_eq!(rt; count(&rt, &table, 0), 100);
     assert_eq!(rt; count(&rt, &table, 40), 60);
     assert!(rt; has_hundred(&rt, rt.alloc(), &table));
+}
+
+static MOVED_AGAIN: [Scene; 1] = [("what has moved again", &AGAIN, &OF_AGAIN)];
+
+/// Tries: Table::join, Table::changed_since
+#[test]
+fn what_has_moved_again(rt: HostRuntime) {
+    play_all(&rt, rt.alloc(), &MOVED_AGAIN);
 }
