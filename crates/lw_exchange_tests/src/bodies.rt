@@ -151,10 +151,12 @@ fn is_given(alloc: Global, post: &Post, piece: &Piece, given: Given) -> Result<b
 /// A block that comes, when in milliseconds and from where, and what it is given.
 type Row = (u64, Addr, Post, Given);
 
+/// What becomes of a datagram.
 fn take(rt: &impl Abort, bodies: &mut Bodies, ms: u64, from: Addr, bytes: &[u8]) -> Piece {
     bodies.take(at(ms), from, bytes).expect(rt, "memory")
 }
 
+/// Takes a block of a course with this name, which has to be given what its row says.
 fn gives(rt: &impl Abort, alloc: Global, bodies: &mut Bodies, name: &str, row: &Row) {
     let (ms, from, post, given) = row;
     let bytes = datagram(alloc, post).expect(rt, "memory");

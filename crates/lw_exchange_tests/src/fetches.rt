@@ -308,6 +308,7 @@ fn is_without_block(alloc: Global, came: &Came, message: &[u8]) -> Result<bool, 
 /// comes with its watch.
 type Row<'a> = (u64, Addr, Came, Given<'a>);
 
+/// What becomes of a datagram that comes at a moment from an address.
 fn take(
     rt: &impl Abort,
     fetches: &mut Fetches,
@@ -320,6 +321,7 @@ fn take(
     taken.expect(rt, "memory")
 }
 
+/// Takes a message of a course with this name, which has to be given what its row says.
 fn gives(rt: &impl Abort, alloc: Global, fetches: &mut Fetches, name: &str, row: &Row<'_>) {
     let (ms, from, came, given) = row;
     let watch = watch_for(came.token);

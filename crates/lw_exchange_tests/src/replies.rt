@@ -59,6 +59,7 @@ const WAS_CREATED: Replied = Some(Some(CREATED));
 
 const WAS_REFUSED: Replied = Some(Some(REFUSED));
 
+/// A copy of the bytes.
 fn copied(rt: &impl Abort, alloc: Global, bytes: &[u8]) -> Bytes {
     Bytes::copy_from_slice(alloc, bytes).expect(rt, "memory")
 }
@@ -111,6 +112,7 @@ const REGISTERED: Done = Done::Keep(ANSWERED, (DEVICE, REGISTER), Some(CREATED))
 /// A name, and what is done one after another.
 type Course = (&'static str, &'static [Done]);
 
+/// What is replied, kept and forgotten.
 static COURSES: [Course; 6] = [
     (
         "nothing is known at first",

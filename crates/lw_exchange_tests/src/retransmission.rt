@@ -41,6 +41,7 @@ const START: u64 = 3_000;
 /// The request with that message ID.
 const SENT: &[u8] = b"\x42\x01\x02\xee\xa1\xb2\xb13";
 
+/// Puts the request behind the others, as one about this.
 fn add(rt: &impl Abort, alloc: Global, requests: &mut Requests, about: About) {
     let bytes = Vec::from_slice(alloc, REQUEST).expect(rt, "memory");
     requests.reserve().expect(rt, "memory");
@@ -54,6 +55,7 @@ fn one(rt: &impl Abort, alloc: Global) -> Requests {
     requests
 }
 
+/// What is done at the moment.
 fn step(rt: &impl Abort, requests: &mut Requests, ids: &mut MessageIds, ms: u64) -> Option<Step> {
     requests.step(at(ms), ids).expect(rt, "memory")
 }
@@ -81,6 +83,7 @@ fn sends(
     assert!(rt; is_sent(&step, bytes, is_again), "at {ms} ms, {bytes:?}");
 }
 
+/// Whether the request about this is given up.
 fn is_unanswered(step: &Option<Step>, want: About) -> bool {
     match step {
         Some(Step::Unanswered(about)) => *about == want,
@@ -201,6 +204,7 @@ static UNHEARD: [(Addr, &[u8]); 19] = [
     (DEVICE, b"\x42\xc1\x77\x77\xa1\xb2"),
 ];
 
+/// What a datagram answers.
 fn hear(requests: &mut Requests, from: Addr, bytes: &[u8]) -> Heard {
     requests.hear(from, bytes)
 }

@@ -21,10 +21,12 @@ const KNOWN_AT: u64 = 1_000;
 /// How many tokens are kept.
 const MAX_TOKENS: u64 = 65_536;
 
+/// Notes the number of a notification.
 fn note(rt: &impl Abort, sequences: &mut Sequences, ms: u64, token: Stamp, observe: u32) {
     sequences.note(at(ms), token, observe).expect(rt, "memory");
 }
 
+/// Whether a notification with the number is newer.
 fn is_newer(sequences: &Sequences, ms: u64, token: Stamp, observe: u32) -> bool {
     sequences.is_newer(at(ms), token, observe)
 }

@@ -6,14 +6,17 @@ use std::fmt::Display;
 use std::process::Abort;
 use std::str;
 
+/// The text that the bytes are.
 fn text(bytes: &[u8]) -> &str {
     str::from_utf8(bytes).unwrap_or("no text")
 }
 
+/// What is shown, as a text.
 fn told<D: Display + Drop>(rt: &impl Abort, alloc: Global, shown: D) -> String {
     String::format(alloc, shown).expect(rt, "memory")
 }
 
+/// A word by its kind and content.
 fn word_text(rt: &impl Abort, alloc: Global, word: &Word<'_>) -> String {
     match *word {
         Word::Status(said) => told(rt, alloc, format_args!("status {}", text(said))),
@@ -38,6 +41,7 @@ pub fn word_told(rt: &impl Abort, alloc: Global, bytes: &[u8]) -> String {
     }
 }
 
+/// Each entry by its identifier, and by its value if it has the one field of a log.
 fn entries_text(rt: &impl Abort, alloc: Global, entries: &[Entry<'_>]) -> String {
     let mut shown = told(rt, alloc, "entries");
     for entry in entries {
@@ -51,6 +55,7 @@ fn entries_text(rt: &impl Abort, alloc: Global, entries: &[Entry<'_>]) -> String
     shown
 }
 
+/// A reply, which is a word or entries.
 fn reply_text(rt: &impl Abort, alloc: Global, reply: &Reply<'_>) -> String {
     match reply {
         Reply::Word(word) => word_text(rt, alloc, word),

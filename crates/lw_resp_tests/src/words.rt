@@ -5,6 +5,7 @@ use std::process::Abort;
 /// Bytes, and what is read of them.
 type Row = (&'static str, &'static str);
 
+/// What is read of the bytes has to be this.
 fn check(rt: &impl Abort, alloc: Global, bytes: &[u8], want: &str) {
     let got = word_told(rt, alloc, bytes);
     assert!(rt; got.as_str() == want, "{want}: {got}");

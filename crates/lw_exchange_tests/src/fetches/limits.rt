@@ -51,6 +51,7 @@ const OTHER: Came = Came {
 /// Messages, and how many fetches there are behind each.
 type Counted = &'static [(Row<'static>, usize)];
 
+/// Fetches that end, and such as take the place of others.
 static COUNTED: [(&str, Counted); 2] = [
     (
         "one that has ended stays until another begins",
@@ -210,6 +211,7 @@ fn is_cut(
     cut == Some(want)
 }
 
+/// Whether there is nothing to cut of the fetch.
 fn is_none(rt: &impl Abort, fetches: &mut Fetches, number: u32) -> bool {
     fetches.cut(number).expect(rt, "memory").is_none()
 }
