@@ -1,16 +1,35 @@
 //! Bodies in blocks, as RFC 7959 has them (sections 2.2, 2.3, 2.5, 2.9 and 3.2).
 
-mod refused;
+/// A confirmable block of the Register: its message ID, the value of its Block1, and how many bytes of payload it has.
+macro_rules! con {
+    ($mid:expr, $block:expr, $len:expr) => {
+        Post {
+            first: CON,
+            mid: $mid,
+            options: REGISTER,
+            block: $block,
+            len: $len,
+        }
+    };
+}
 
-use crate::hold::holds_for;
+mod refused;
+mod walks;
+
+use crate::moments::at;
 use lw_exchange::{Block, Bodies, Piece, with_block};
 use lw_reg::Addr;
-use lw_stamp::Moment;
 use std::alloc::{AllocError, Global};
-use std::test::Fail;
+use std::process::Abort;
 
 const HOST_A: Addr = Addr::V4 {
     address: [192, 0, 2, 1],
+    port: 5683,
+};
+
+/// The host A as an IPv6 address.
+const HOST_A6: Addr = Addr::V6 {
+    address: [0, 0, 0, 0, 0, 0, 0, 0, 0, 0, 255, 255, 192, 0, 2, 1],
     port: 5683,
 };
 
@@ -29,11 +48,11 @@ const REGISTER: &[u8] = b"\xb2rd\x11\x28\x34ep=a";
 const OTHER_REGISTER: &[u8] = b"\xb2rd\x11\x28\x34ep=b";
 
 /// A POST as it comes: the first byte, the message ID, the options, then a Block1 of one byte, and so many bytes.
-#[derive(Clone, Copy, Debug)]
-struct Post<'a> {
+#[derive(Clone, Copy)]
+struct Post {
     first: u8,
     mid: u8,
-    options: &'a [u8],
+    options: &'static [u8],
     block: u8,
     len: usize,
 }
@@ -47,14 +66,14 @@ fn put_payload(bytes: &mut Vec<u8>, mid: u8, len: usize) -> Result<(), AllocErro
 }
 
 /// The bytes up to the options that come last.
-fn head(alloc: Global, post: &Post<'_>) -> Result<Vec<u8>, AllocError> {
+fn head(alloc: Global, post: &Post) -> Result<Vec<u8>, AllocError> {
     let mut bytes = Vec::from_slice(alloc, &[post.first, 0x02, 0x10, post.mid, 0xa1, 0xb2])?;
     bytes.extend_from_slice(post.options)?;
     Ok(bytes)
 }
 
 /// The datagram: Block1 is 12 above Uri-Query, and has one byte.
-fn datagram(alloc: Global, post: &Post<'_>) -> Result<Vec<u8>, AllocError> {
+fn datagram(alloc: Global, post: &Post) -> Result<Vec<u8>, AllocError> {
     let mut bytes = head(alloc, post)?;
     bytes.extend_from_slice(&[0xc1, post.block])?;
     if post.len > 0 {
@@ -65,7 +84,7 @@ fn datagram(alloc: Global, post: &Post<'_>) -> Result<Vec<u8>, AllocError> {
 }
 
 /// What comes of a datagram.
-#[derive(Clone, Copy, Debug, PartialEq, Eq)]
+#[derive(Clone, Copy)]
 enum Given {
     /// It passes.
     Through,
@@ -92,7 +111,7 @@ fn code_of(given: Given) -> u8 {
 }
 
 /// The answer in bytes: with a Block1 27 above 0 (13 and 14), or a Size1 60 above 0 (13 and 47).
-fn answer(alloc: Global, post: &Post<'_>, given: Given) -> Result<Vec<u8>, AllocError> {
+fn answer(alloc: Global, post: &Post, given: Given) -> Result<Vec<u8>, AllocError> {
     let first = if post.first == CON { ACK } else { NON };
     let code = code_of(given);
     let mut bytes = Vec::from_slice(alloc, &[first, code, 0x10, post.mid, 0xa1, 0xb2])?;
@@ -105,12 +124,7 @@ fn answer(alloc: Global, post: &Post<'_>, given: Given) -> Result<Vec<u8>, Alloc
 }
 
 /// Whether the message is that of the block without its Block1, with so many bytes of payload.
-fn is_whole(
-    alloc: Global,
-    post: &Post<'_>,
-    message: &[u8],
-    len: usize,
-) -> Result<bool, AllocError> {
+fn is_whole(alloc: Global, post: &Post, message: &[u8], len: usize) -> Result<bool, AllocError> {
     let mut front = head(alloc, post)?;
     if len > 0 {
         front.push(0xff)?;
@@ -121,12 +135,7 @@ fn is_whole(
     Ok(is_long && message.starts_with(&front) && message.ends_with(&last))
 }
 
-fn is_given(
-    alloc: Global,
-    post: &Post<'_>,
-    piece: &Piece,
-    given: Given,
-) -> Result<bool, AllocError> {
+fn is_given(alloc: Global, post: &Post, piece: &Piece, given: Given) -> Result<bool, AllocError> {
     match (piece, given) {
         (Piece::Through, Given::Through) => Ok(true),
         (Piece::Whole { message, block }, Given::Whole(len)) => {
@@ -140,378 +149,134 @@ fn is_given(
 }
 
 /// A block that comes, when in milliseconds and from where, and what it is given.
-type Row<'a> = (u64, Addr, Post<'a>, Given);
+type Row = (u64, Addr, Post, Given);
 
-fn at(ms: u64) -> Moment {
-    Moment::new(ms).unwrap_or(Moment::START)
+/// What becomes of a datagram.
+fn take(rt: &impl Abort, bodies: &mut Bodies, ms: u64, from: Addr, bytes: &[u8]) -> Piece {
+    bodies.take(at(ms), from, bytes).expect(rt, "memory")
 }
 
-fn walk(alloc: Global, rows: &[Row<'_>]) -> Result<(), Fail> {
-    let mut bodies = Bodies::new(alloc);
-    for row in rows {
-        let (ms, from, post, given) = row;
-        let bytes = datagram(alloc, post)?;
-        let piece = bodies.take(at(*ms), *from, &bytes)?;
-        holds_for(row, is_given(alloc, post, &piece, *given)?)?;
-    }
-    Ok(())
+/// Takes a block of a course with this name, which has to be given what its row says.
+fn gives(rt: &impl Abort, alloc: Global, bodies: &mut Bodies, name: &str, row: &Row) {
+    let (ms, from, post, given) = row;
+    let bytes = datagram(alloc, post).expect(rt, "memory");
+    let piece = take(rt, bodies, *ms, *from, &bytes);
+    let is_so = is_given(alloc, post, &piece, *given).expect(rt, "memory");
+    assert!(rt; is_so, "{name}: {}", post.mid);
 }
 
-fn con(mid: u8, block: u8, len: usize) -> Post<'static> {
-    Post {
-        first: CON,
-        mid,
-        options: REGISTER,
-        block,
-        len,
-    }
-}
+/// Blocks, and how many bodies are kept behind each: one of each of two sources, of which the first is then whole.
+static COUNTED: [(Row, usize); 3] = [
+    ((0, HOST_A, con!(1, 0x08, 16), Given::Continue), 1),
+    ((0, HOST_A6, con!(1, 0x08, 16), Given::Continue), 2),
+    ((0, HOST_A, con!(2, 0x10, 3), Given::Whole(19)), 1),
+];
 
-/// 1:0/1/128, 1:1/1/128 and 1:2/0/128, as in the first example of section 3.2.
-/// Tries: Bodies::new, Bodies::take
-#[test]
-fn three_blocks_make_one_message(rt: HostRuntime) -> Result<(), Fail> {
-    let rows = [
-        (0, HOST_A, con(1, 0x0b, 128), Given::Continue),
-        (1, HOST_A, con(2, 0x1b, 128), Given::Continue),
-        (2, HOST_A, con(3, 0x23, 20), Given::Whole(276)),
-        (3, HOST_A, con(4, 0x33, 20), Given::Incomplete),
-    ];
-    walk(rt.alloc(), &rows)
-}
-
-/// 1:0/1/128, and from 1:4/1/32 on smaller blocks, as in the last example of section 3.2.
-/// Tries: Bodies::take
-#[test]
-fn blocks_may_become_smaller(rt: HostRuntime) -> Result<(), Fail> {
-    let rows = [
-        (0, HOST_A, con(1, 0x0b, 128), Given::Continue),
-        (0, HOST_A, con(2, 0x19, 32), Given::Incomplete),
-        (0, HOST_A, con(3, 0x49, 32), Given::Continue),
-        (0, HOST_A, con(4, 0x59, 32), Given::Continue),
-        (0, HOST_A, con(5, 0x61, 10), Given::Whole(202)),
-    ];
-    walk(rt.alloc(), &rows)
-}
-
-/// A body of each of two sources, of which the first is then whole.
 /// Tries: Bodies::new, Bodies::count
 #[test]
-fn bodies_are_counted(rt: HostRuntime) -> Result<(), Fail> {
-    let alloc = rt.alloc();
-    let mut bodies = Bodies::new(alloc);
-    holds_for(&0, bodies.count() == 0)?;
-    for (post, from, count) in [
-        (con(1, 0x08, 16), HOST_A, 1),
-        (con(1, 0x08, 16), HOST_A6, 2),
-        (con(2, 0x10, 3), HOST_A, 1),
-    ] {
-        let bytes = datagram(alloc, &post)?;
-        bodies.take(at(0), from, &bytes)?;
-        holds_for(&count, bodies.count() == count)?;
+fn bodies_are_counted(rt: HostRuntime) {
+    let mut bodies = Bodies::new(rt.alloc());
+    assert!(rt; bodies.count() == 0);
+    for (row, count) in &COUNTED {
+        gives(&rt, rt.alloc(), &mut bodies, "counted", row);
+        assert!(rt; bodies.count() == *count, "{count}");
     }
-    Ok(())
-}
-
-/// Tries: Bodies::take
-#[test]
-fn block_0_begins_anew(rt: HostRuntime) -> Result<(), Fail> {
-    let rows = [
-        (0, HOST_A, con(1, 0x08, 16), Given::Continue),
-        (0, HOST_A, con(2, 0x18, 16), Given::Continue),
-        (0, HOST_A, con(3, 0x08, 16), Given::Continue),
-        (0, HOST_A, con(4, 0x28, 16), Given::Incomplete),
-        (0, HOST_A, con(5, 0x10, 3), Given::Whole(19)),
-        (0, HOST_A, con(6, 0x08, 16), Given::Continue),
-        (0, HOST_A, con(7, 0x00, 5), Given::Whole(5)),
-        (0, HOST_A, con(8, 0x10, 5), Given::Incomplete),
-    ];
-    walk(rt.alloc(), &rows)
-}
-
-/// Tries: Bodies::take
-#[test]
-fn a_block_follows_the_one_before_it(rt: HostRuntime) -> Result<(), Fail> {
-    let rows = [
-        (0, HOST_A, con(1, 0x18, 16), Given::Incomplete),
-        (0, HOST_A, con(2, 0x10, 3), Given::Incomplete),
-        (0, HOST_A, con(3, 0x08, 16), Given::Continue),
-        (0, HOST_A, con(4, 0x28, 16), Given::Incomplete),
-        (0, HOST_A, con(5, 0x18, 16), Given::Continue),
-        (0, HOST_A, con(6, 0x18, 16), Given::Incomplete),
-        (0, HOST_A, con(7, 0x20, 0), Given::Whole(32)),
-        (0, HOST_A, con(8, 0x00, 16), Given::Whole(16)),
-        (0, HOST_A, con(9, 0x00, 0), Given::Whole(0)),
-    ];
-    walk(rt.alloc(), &rows)
-}
-
-/// Each exponent, with a block that others follow of its size, of a byte more and of one less, and a last one.
-/// Tries: Bodies::take
-#[test]
-fn a_block_is_as_long_as_it_says(rt: HostRuntime) -> Result<(), Fail> {
-    for exponent in 0..7u8 {
-        let size = 16usize << u32::from(exponent);
-        let rows = [
-            (0, HOST_A, con(1, 8 + exponent, size), Given::Continue),
-            (0, HOST_A, con(2, 8 + exponent, size + 1), Given::BadRequest),
-            (0, HOST_A, con(3, 8 + exponent, size - 1), Given::BadRequest),
-            (0, HOST_A, con(4, 8 + exponent, 0), Given::BadRequest),
-            (
-                0,
-                HOST_A,
-                con(5, 16 + exponent, size + 1),
-                Given::BadRequest,
-            ),
-            (
-                0,
-                HOST_A,
-                con(6, 16 + exponent, size),
-                Given::Whole(2 * size),
-            ),
-        ];
-        walk(rt.alloc(), &rows)?;
-    }
-    let rows = [
-        (0, HOST_A, con(1, 0x0f, 2048), Given::BadRequest),
-        (0, HOST_A, con(2, 0x07, 5), Given::BadRequest),
-    ];
-    walk(rt.alloc(), &rows)
-}
-
-fn v4(last: u8, port: u16) -> Addr {
-    Addr::V4 {
-        address: [192, 0, 2, last],
-        port,
-    }
-}
-
-/// The host A as an IPv6 address.
-const HOST_A6: Addr = Addr::V6 {
-    address: [0, 0, 0, 0, 0, 0, 0, 0, 0, 0, 255, 255, 192, 0, 2, 1],
-    port: 5683,
-};
-
-/// Tries: Bodies::take
-#[test]
-fn blocks_of_one_source_are_put_together(rt: HostRuntime) -> Result<(), Fail> {
-    let rows = [
-        (0, HOST_A, con(1, 0x08, 16), Given::Continue),
-        (0, v4(2, 5683), con(2, 0x10, 3), Given::Incomplete),
-        (0, v4(1, 5684), con(3, 0x10, 3), Given::Incomplete),
-        (0, HOST_A6, con(4, 0x10, 3), Given::Incomplete),
-        (0, v4(2, 5683), con(5, 0x08, 16), Given::Continue),
-        (0, HOST_A, con(6, 0x10, 3), Given::Whole(19)),
-        (0, v4(2, 5683), con(7, 0x10, 4), Given::Whole(20)),
-    ];
-    walk(rt.alloc(), &rows)
-}
-
-/// With another Uri-Query, and with a Uri-Query more.
-/// Tries: Bodies::take
-#[test]
-fn blocks_of_the_same_options_are_put_together(rt: HostRuntime) -> Result<(), Fail> {
-    let other = Post {
-        options: OTHER_REGISTER,
-        ..con(2, 0x10, 3)
-    };
-    let longer = Post {
-        options: b"\xb2rd\x11\x28\x34ep=a\x01b",
-        ..con(3, 0x10, 3)
-    };
-    let begins = Post {
-        block: 0x08,
-        len: 16,
-        ..other
-    };
-    let rows = [
-        (0, HOST_A, con(1, 0x08, 16), Given::Continue),
-        (0, HOST_A, other, Given::Incomplete),
-        (0, HOST_A, longer, Given::Incomplete),
-        (0, HOST_A, begins, Given::Continue),
-        (0, HOST_A, con(4, 0x10, 3), Given::Whole(19)),
-        (0, HOST_A, other, Given::Whole(19)),
-    ];
-    walk(rt.alloc(), &rows)
-}
-
-/// Tries: Bodies::take
-#[test]
-fn a_non_confirmable_block_is_answered_so(rt: HostRuntime) -> Result<(), Fail> {
-    let begins = Post {
-        first: NON,
-        ..con(1, 0x08, 16)
-    };
-    let ends = Post {
-        first: NON,
-        ..con(2, 0x10, 3)
-    };
-    let rows = [
-        (0, HOST_A, ends, Given::Incomplete),
-        (0, HOST_A, begins, Given::Continue),
-        (0, HOST_A, ends, Given::Whole(19)),
-    ];
-    walk(rt.alloc(), &rows)
-}
-
-/// 247 seconds, and a millisecond more; each block begins the time anew.
-/// Tries: Bodies::take
-#[test]
-fn a_body_ends_247_seconds_after_its_last_block(rt: HostRuntime) -> Result<(), Fail> {
-    let rows = [
-        (1000, HOST_A, con(1, 0x08, 16), Given::Continue),
-        (248_000, HOST_A, con(2, 0x18, 16), Given::Continue),
-        (495_000, HOST_A, con(3, 0x20, 3), Given::Whole(35)),
-        (1000, HOST_A, con(4, 0x08, 16), Given::Continue),
-        (248_001, HOST_A, con(5, 0x18, 16), Given::Incomplete),
-        (249_000, HOST_A, con(6, 0x18, 16), Given::Incomplete),
-    ];
-    walk(rt.alloc(), &rows)
-}
-
-/// So many blocks of 1,024 bytes, from block 0 on.
-fn put_blocks(alloc: Global, bodies: &mut Bodies, from: Addr, count: u8) -> Result<(), Fail> {
-    for number in 0..count {
-        let post = con(number, 16 * (number % 16) + 0x0e, 1024);
-        let piece = bodies.take(Moment::START, from, &datagram(alloc, &post)?)?;
-        holds_for(&post, is_given(alloc, &post, &piece, Given::Continue)?)?;
-    }
-    Ok(())
-}
-
-/// A block behind seven of 1,024 bytes. A header, a token and options have 16 bytes, and a payload has one before it:
-/// so 8,175 bytes of payload make 8,192.
-fn is_eighth(alloc: Global, block: u8, len: usize, given: Given) -> Result<bool, Fail> {
-    let mut bodies = Bodies::new(alloc);
-    put_blocks(alloc, &mut bodies, HOST_A, 7)?;
-    let post = con(9, block, len);
-    let piece = bodies.take(Moment::START, HOST_A, &datagram(alloc, &post)?)?;
-    Ok(is_given(alloc, &post, &piece, given)?)
-}
-
-/// Tries: Bodies::take
-#[test]
-fn a_message_has_at_most_8192_bytes(rt: HostRuntime) -> Result<(), Fail> {
-    let rows = [
-        (0x76, 1007, Given::Whole(8175)),
-        (0x76, 1008, Given::TooLarge),
-        (0x7e, 1024, Given::TooLarge),
-    ];
-    for row in rows {
-        let (block, len, given) = row;
-        holds_for(&row, is_eighth(rt.alloc(), block, len, given)?)?;
-    }
-    Ok(())
 }
 
 /// A host by its number.
 fn host(number: u16) -> Addr {
-    v4((number % 256) as u8, number.saturating_add(1000))
+    Addr::V4 {
+        address: [192, 0, 2, (number % 256) as u8],
+        port: number.saturating_add(1000),
+    }
 }
 
-fn gives(
-    alloc: Global,
-    bodies: &mut Bodies,
-    from: Addr,
-    post: &Post<'_>,
-    given: Given,
-) -> Result<(), Fail> {
-    let piece = bodies.take(Moment::START, from, &datagram(alloc, post)?)?;
-    holds_for(&(from, *post, given), is_given(alloc, post, &piece, given)?)
-}
+/// What comes behind 1,024 bodies: the number of a host, a block, and what it is given.
+static BEHIND_1024: [(u16, Post, Given); 6] = [
+    (0, con!(2, 0x18, 16), Given::Continue),
+    (1024, con!(3, 0x08, 16), Given::Continue),
+    (1, con!(4, 0x10, 3), Given::Incomplete),
+    (0, con!(5, 0x20, 3), Given::Whole(35)),
+    (2, con!(6, 0x10, 3), Given::Whole(19)),
+    (1024, con!(7, 0x10, 3), Given::Whole(19)),
+];
 
 /// 1,024 bodies begin, the first goes on, and one more begins: then the second has gone.
 /// Tries: Bodies::take
 #[test]
-fn the_oldest_of_1025_bodies_goes(rt: HostRuntime) -> Result<(), Fail> {
-    let alloc = rt.alloc();
-    let mut bodies = Bodies::new(alloc);
+fn the_oldest_of_1025_bodies_goes(rt: HostRuntime) {
+    let mut bodies = Bodies::new(rt.alloc());
     for number in 0..1024u16 {
-        gives(
-            alloc,
-            &mut bodies,
-            host(number),
-            &con(1, 0x08, 16),
-            Given::Continue,
-        )?;
+        let begins = (0, host(number), con!(1, 0x08, 16), Given::Continue);
+        gives(&rt, rt.alloc(), &mut bodies, "of 1,024", &begins);
     }
-    let rows = [
-        (0, 2, 0x18, 16, Given::Continue),
-        (1024, 3, 0x08, 16, Given::Continue),
-        (1, 4, 0x10, 3, Given::Incomplete),
-        (0, 5, 0x20, 3, Given::Whole(35)),
-        (2, 6, 0x10, 3, Given::Whole(19)),
-        (1024, 7, 0x10, 3, Given::Whole(19)),
-    ];
-    for (number, mid, block, len, given) in rows {
-        gives(
-            alloc,
-            &mut bodies,
-            host(number),
-            &con(mid, block, len),
-            given,
-        )?;
+    for (number, post, given) in &BEHIND_1024 {
+        let row = (0, host(*number), *post, *given);
+        gives(&rt, rt.alloc(), &mut bodies, "behind 1,024", &row);
     }
-    Ok(())
 }
 
 /// A block of 16 bytes, or a last one of three, of a message with a Uri-Path `rd`, then this option, then so many empty
 /// ones.
-fn heavy(alloc: Global, option: &[u8], count: usize, block: u8) -> Result<Vec<u8>, AllocError> {
-    let mut bytes = Vec::from_slice(alloc, b"\x42\x02\x10\x01\xa1\xb2\xb2rd")?;
-    bytes.extend_from_slice(option)?;
+fn heavy(rt: &impl Abort, alloc: Global, option: &[u8], count: usize, block: u8) -> Vec<u8> {
+    let mut bytes = Vec::from_slice(alloc, b"\x42\x02\x10\x01\xa1\xb2\xb2rd").expect(rt, "memory");
+    bytes.extend_from_slice(option).expect(rt, "memory");
     for _ in 0..count {
-        bytes.push(0x00)?;
+        bytes.push(0x00).expect(rt, "memory");
     }
-    bytes.extend_from_slice(&[0xd1, 0x03, block, 0xff])?;
-    put_payload(&mut bytes, 1, if block == 0x08 { 16 } else { 3 })?;
-    Ok(bytes)
+    let last = [0xd1, 0x03, block, 0xff];
+    bytes.extend_from_slice(&last).expect(rt, "memory");
+    let len = if block == 0x08 { 16 } else { 3 };
+    put_payload(&mut bytes, 1, len).expect(rt, "memory");
+    bytes
 }
 
-/// Whether the first of 16 bodies of 8,000 options is still there behind one more, with a Uri-Path of 14 bytes and so
-/// many empty ones.
-fn stays(alloc: Global, count: usize) -> Result<bool, Fail> {
-    let mut bodies = Bodies::new(alloc);
-    for number in 0..16u16 {
-        bodies.take(Moment::START, host(number), &heavy(alloc, &[], 8000, 0x08)?)?;
-    }
-    let last = heavy(alloc, b"\x0d\x010123456789abcd", count, 0x08)?;
-    let begun = bodies.take(Moment::START, host(16), &last)?;
-    holds_for(&"2.31", matches!(begun, Piece::Answered(_)))?;
-    let piece = bodies.take(Moment::START, host(0), &heavy(alloc, &[], 8000, 0x10)?)?;
-    Ok(matches!(piece, Piece::Whole { .. }))
-}
-
+/// How many empty options the last body has behind a Uri-Path of 14 bytes, and whether the first of 16 bodies of 8,000
+/// options is still there behind it.
+///
 /// An option counts for 32 bytes more than its value: a body of 8,000 empty options, `rd` and 16 bytes for 256,050, and
 /// 16 of them for 4,096,800. The 97,504 that are left are 34 and 46 for `rd` and a Uri-Path of 14 bytes, 16 for the
 /// payload, and 32 for each of 3,044 empty options.
+static HEAVY: [(usize, bool); 2] = [(3044, true), (3045, false)];
+
 /// Tries: Bodies::take
 #[test]
-fn the_oldest_goes_past_4194304_bytes(rt: HostRuntime) -> Result<(), Fail> {
-    for row in [(3044, true), (3045, false)] {
-        let (count, wanted) = row;
-        holds_for(&row, stays(rt.alloc(), count)? == wanted)?;
+fn the_oldest_goes_past_4194304_bytes(rt: HostRuntime) {
+    let alloc = rt.alloc();
+    let first = heavy(&rt, alloc, &[], 8000, 0x08);
+    let first_ends = heavy(&rt, alloc, &[], 8000, 0x10);
+    for row in &HEAVY {
+        let (count, stays) = *row;
+        let mut bodies = Bodies::new(alloc);
+        for number in 0..16u16 {
+            take(&rt, &mut bodies, 0, host(number), &first);
+        }
+        let last = heavy(&rt, alloc, b"\x0d\x010123456789abcd", count, 0x08);
+        let begun = take(&rt, &mut bodies, 0, host(16), &last);
+        assert!(rt; matches!(begun, Piece::Answered(_)), "{count}");
+        let piece = take(&rt, &mut bodies, 0, host(0), &first_ends);
+        assert!(rt; matches!(piece, Piece::Whole { .. }) == stays, "{count}");
     }
-    Ok(())
 }
 
-/// A Size1 of 19, 33 above Block1, in the first block: the whole message has none.
+/// Two blocks and their message. A Size1 of 19, 33 above Block1, is in the first block: the whole message has none.
+const BEGINS: &[u8] = b"\x42\x02\x10\x01\xa1\xb2\xb2rd\xd1\x03\x08\xd1\x14\x13\xff0123456789abcdef";
+
+const ENDS: &[u8] = b"\x42\x02\x10\x02\xa1\xb2\xb2rd\xd1\x03\x10\xffxyz";
+
+const WHOLE: &[u8] = b"\x42\x02\x10\x02\xa1\xb2\xb2rd\xff0123456789abcdefxyz";
+
 /// Tries: Bodies::take
 #[test]
-fn size1_is_none_of_the_body(rt: HostRuntime) -> Result<(), Fail> {
-    let alloc = rt.alloc();
-    let mut bodies = Bodies::new(alloc);
-    let begins = b"\x42\x02\x10\x01\xa1\xb2\xb2rd\xd1\x03\x08\xd1\x14\x13\xff0123456789abcdef";
-    let first = bodies.take(Moment::START, HOST_A, begins)?;
-    let ends = b"\x42\x02\x10\x02\xa1\xb2\xb2rd\xd1\x03\x10\xffxyz";
-    holds_for(&"2.31", matches!(first, Piece::Answered(_)))?;
-    let piece = bodies.take(Moment::START, HOST_A, ends)?;
-    let whole = b"\x42\x02\x10\x02\xa1\xb2\xb2rd\xff0123456789abcdefxyz";
-    let is_whole = match &piece {
-        Piece::Whole { message, .. } => message.as_slice() == whole.as_slice(),
+fn size1_is_none_of_the_body(rt: HostRuntime) {
+    let mut bodies = Bodies::new(rt.alloc());
+    let first = take(&rt, &mut bodies, 0, HOST_A, BEGINS);
+    assert!(rt; matches!(first, Piece::Answered(_)));
+    let is_whole = match take(&rt, &mut bodies, 0, HOST_A, ENDS) {
+        Piece::Whole { message, .. } => message.as_slice() == WHOLE,
         _ => false,
     };
-    holds_for(&"the whole", is_whole)
+    assert!(rt; is_whole);
 }
 
 /// What has no block of a Register or an Update: no Block1; two; one of four bytes; a GET, a PUT and a DELETE; an
@@ -533,13 +298,12 @@ static PASSING: [&[u8]; 12] = [
 
 /// Tries: Bodies::take
 #[test]
-fn what_has_no_block_passes(rt: HostRuntime) -> Result<(), Fail> {
+fn what_has_no_block_passes(rt: HostRuntime) {
     let mut bodies = Bodies::new(rt.alloc());
-    for bytes in PASSING {
-        let piece = bodies.take(Moment::START, HOST_A, bytes)?;
-        holds_for(&bytes, matches!(piece, Piece::Through))?;
+    for bytes in &PASSING {
+        let piece = take(&rt, &mut bodies, 0, HOST_A, bytes);
+        assert!(rt; matches!(piece, Piece::Through), "{bytes:?}");
     }
-    Ok(())
 }
 
 /// A reply, the bytes of a Block1's value, and the reply with it: 2.04 without options; 2.01 with two Location-Path (8)
@@ -578,35 +342,26 @@ static REPLIES: [(&[u8], &[u8], &[u8]); 8] = [
 
 /// Tries: with_block, Block::read
 #[test]
-fn a_reply_gets_the_block(rt: HostRuntime) -> Result<(), Fail> {
+fn a_reply_gets_the_block(rt: HostRuntime) {
     for row in &REPLIES {
-        let (reply, value, wanted) = row;
-        let bytes = match Block::read(value) {
-            Some(block) => with_block(rt.alloc(), reply, block)?,
-            None => Vec::new(rt.alloc()),
-        };
-        holds_for(row, bytes.as_slice() == *wanted)?;
+        let (reply, value, wanted) = *row;
+        let block = Block::read(value).expect(&rt, "a block");
+        let bytes = with_block(rt.alloc(), reply, block).expect(&rt, "memory");
+        assert!(rt; bytes.as_slice() == wanted, "{wanted:?}");
     }
-    Ok(())
 }
 
 /// A reply of 8,188 bytes has room for a Block1 of four, and one of 8,189 has not.
 /// Tries: with_block
 #[test]
-fn a_long_reply_has_no_room(rt: HostRuntime) -> Result<(), Fail> {
-    let alloc = rt.alloc();
-    let Some(block) = Block::read(&[0x01, 0x00]) else {
-        return Err(Fail::new("a block"));
-    };
+fn a_long_reply_has_no_room(rt: HostRuntime) {
+    let block = Block::read(&[0x01, 0x00]).expect(&rt, "a block");
     for (len, more) in [(8188, 4), (8189, 0)] {
-        let mut reply = Vec::from_slice(alloc, b"\x60\x45\x10\x01\xff")?;
-        for _ in reply.len()..len {
-            reply.push(0)?;
-        }
-        let bytes = with_block(alloc, &reply, block)?;
-        holds_for(&len, bytes.len() == len + more)?;
+        let mut reply = Vec::from_slice(rt.alloc(), b"\x60\x45\x10\x01\xff").expect(&rt, "memory");
+        reply.resize(len, 0).expect(&rt, "memory");
+        let bytes = with_block(rt.alloc(), &reply, block).expect(&rt, "memory");
+        assert!(rt; bytes.len() == len + more, "{len}");
     }
-    Ok(())
 }
 
 /// The values of Block1, and what they say: number, whether more follow, exponent (section 2.2).
@@ -621,13 +376,13 @@ static VALUES: [(&[u8], u32, bool, u32); 6] = [
 
 /// Tries: Block::read, Block::number, Block::has_more, Block::exponent
 #[test]
-fn a_value_says_number_more_and_size(_rt: HostRuntime) -> Result<(), Fail> {
+fn a_value_says_number_more_and_size(rt: HostRuntime) {
     for row in &VALUES {
-        let (value, number, more, exponent) = row;
-        let is_read = Block::read(value).is_some_and(|block| {
-            block.number() == *number && block.has_more() == *more && block.exponent() == *exponent
-        });
-        holds_for(row, is_read)?;
+        let (value, number, more, exponent) = *row;
+        let block = Block::read(value).expect(&rt, "a block");
+        assert!(rt; block.number() == number, "{value:?}");
+        assert!(rt; block.has_more() == more, "{value:?}");
+        assert!(rt; block.exponent() == exponent, "{value:?}");
     }
-    holds_for(&"four bytes", Block::read(&[0, 0, 0, 1]).is_none())
+    assert!(rt; Block::read(&[0, 0, 0, 1]).is_none());
 }

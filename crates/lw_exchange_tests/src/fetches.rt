@@ -1,16 +1,41 @@
 //! Notifications in blocks, of which the rest is fetched (RFC 7959, sections 2.4, 2.6, 2.7 and 3.4).
 
+/// A confirmable notification: its message ID, the value of its Block2, and how many bytes of payload it has.
+macro_rules! told_of {
+    ($mid:expr, $block:expr, $len:expr) => {
+        Came {
+            mid: $mid,
+            block: Some($block),
+            len: $len,
+            ..TOLD_OF
+        }
+    };
+}
+
+/// An answer in the acknowledgement of a request, in the same way.
+macro_rules! answer {
+    ($mid:expr, $block:expr, $len:expr) => {
+        Came {
+            mid: $mid,
+            block: Some($block),
+            len: $len,
+            ..ANSWER
+        }
+    };
+}
+
+mod courses;
 mod example;
 mod limits;
 mod refused;
 mod tokens;
 
-use crate::hold::holds_for;
+use crate::moments::at;
 use lw_exchange::{Fetches, Parcel};
 use lw_reg::{Addr, Path, Watch};
-use lw_stamp::{Moment, Stamp};
+use lw_stamp::Stamp;
 use std::alloc::{AllocError, Global};
-use std::test::Fail;
+use std::process::Abort;
 
 const HOST_A: Addr = Addr::V4 {
     address: [192, 0, 2, 1],
@@ -46,36 +71,63 @@ const FIFTH: [u8; 4] = [0, 0, 0, 5];
 
 const SIXTH: [u8; 4] = [0, 0, 0, 6];
 
-fn at(ms: u64) -> Moment {
-    Moment::new(ms).unwrap_or(Moment::START)
-}
-
 /// The fetches begin with number 5.
 fn fetches(alloc: Global) -> Fetches {
     Fetches::new(alloc, at(5))
 }
 
-/// What is observed under the token: `/3/0`, with Accept 110.
-fn watch_of(token: &[u8; 8]) -> Result<Watch, Fail> {
-    Ok(Watch {
-        token: Stamp::from_bytes(*token).ok_or("no stamp")?,
-        path: Path::new(&[3, 0]).ok_or("no path")?,
+/// What is observed under a token of eight bytes: `/3/0`, with Accept 110.
+fn watch_of(token: [u8; 8]) -> Option<Watch> {
+    let token = Stamp::from_bytes(token)?;
+    let path = Path::new(&[3, 0])?;
+    Some(Watch {
+        token,
+        path,
         accept: Some(110),
     })
 }
 
+/// The watch that a message with the token comes with.
+fn watch_for(token: &[u8]) -> Option<Watch> {
+    if token == TOKEN.as_slice() {
+        watch_of(TOKEN)
+    } else if token == OTHER_TOKEN.as_slice() {
+        watch_of(OTHER_TOKEN)
+    } else {
+        None
+    }
+}
+
 /// A response as it comes: its type, code, message ID and token, an ETag if it has bytes, an Observe of one byte in a
 /// notification, a Block2 if there is one, and so many bytes of payload, which begin with the message ID's.
-#[derive(Clone, Copy, Debug)]
-struct Came<'a> {
+#[derive(Clone, Copy)]
+struct Came {
     kind: u8,
     code: u8,
     mid: u8,
-    token: &'a [u8],
-    etag: &'a [u8],
+    token: &'static [u8],
+    etag: &'static [u8],
     block: Option<u16>,
     len: usize,
 }
+
+/// A confirmable notification without a block.
+const TOLD_OF: Came = Came {
+    kind: CON,
+    code: CONTENT,
+    mid: 0,
+    token: &TOKEN,
+    etag: b"e",
+    block: None,
+    len: 0,
+};
+
+/// An answer in the acknowledgement of a request, without a block.
+const ANSWER: Came = Came {
+    kind: ACK,
+    token: &FIFTH,
+    ..TOLD_OF
+};
 
 /// The number of the last option in bytes.
 type Last = u8;
@@ -140,7 +192,7 @@ fn put_options(bytes: &mut Vec<u8>, token: &[u8], etag: &[u8]) -> Result<Last, A
     Ok(last)
 }
 
-fn datagram(alloc: Global, came: &Came<'_>) -> Result<Vec<u8>, AllocError> {
+fn datagram(alloc: Global, came: &Came) -> Result<Vec<u8>, AllocError> {
     let mut bytes = head(alloc, came.kind, came.code, came.mid, came.token)?;
     let last = put_options(&mut bytes, came.token, came.etag)?;
     if let Some(value) = came.block {
@@ -157,7 +209,7 @@ fn datagram(alloc: Global, came: &Came<'_>) -> Result<Vec<u8>, AllocError> {
 type Part = (u8, usize);
 
 /// What comes of a datagram.
-#[derive(Clone, Copy, Debug)]
+#[derive(Clone, Copy)]
 enum Given<'a> {
     /// It passes.
     Through,
@@ -191,7 +243,7 @@ fn told(alloc: Global, token: &[u8], parts: &[Part]) -> Result<Vec<u8>, AllocErr
 }
 
 /// The acknowledgement of a confirmable message is an empty one with its message ID.
-fn is_acknowledged(came: &Came<'_>, acknowledgement: Option<&Vec<u8>>) -> bool {
+fn is_acknowledged(came: &Came, acknowledgement: Option<&Vec<u8>>) -> bool {
     match acknowledgement {
         Some(bytes) => came.kind == CON && bytes.as_slice() == [0x60, 0, 0, came.mid].as_slice(),
         None => came.kind != CON,
@@ -200,7 +252,7 @@ fn is_acknowledged(came: &Came<'_>, acknowledgement: Option<&Vec<u8>>) -> bool {
 
 fn is_given(
     alloc: Global,
-    came: &Came<'_>,
+    came: &Came,
     parcel: &Parcel,
     given: Given<'_>,
 ) -> Result<bool, AllocError> {
@@ -243,7 +295,7 @@ fn is_given(
 }
 
 /// Whether a message is the datagram that came, without its block.
-fn is_without_block(alloc: Global, came: &Came<'_>, message: &[u8]) -> Result<bool, AllocError> {
+fn is_without_block(alloc: Global, came: &Came, message: &[u8]) -> Result<bool, AllocError> {
     let whole = Came {
         block: None,
         ..*came
@@ -252,288 +304,29 @@ fn is_without_block(alloc: Global, came: &Came<'_>, message: &[u8]) -> Result<bo
     Ok(message == wanted.as_slice())
 }
 
-/// What comes, when in milliseconds and from where, and what it is given. A message with the token of the observation
+/// What comes, when in milliseconds and from where, and what it is given. A message with the token of an observation
 /// comes with its watch.
-type Row<'a> = (u64, Addr, Came<'a>, Given<'a>);
+type Row<'a> = (u64, Addr, Came, Given<'a>);
 
-fn gives(alloc: Global, fetches: &mut Fetches, row: &Row<'_>) -> Result<(), Fail> {
+/// What becomes of a datagram that comes at a moment from an address.
+fn take(
+    rt: &impl Abort,
+    fetches: &mut Fetches,
+    when: (u64, Addr),
+    watch: Option<Watch>,
+    bytes: &[u8],
+) -> Parcel {
+    let (ms, from) = when;
+    let taken = fetches.take(at(ms), from, watch, bytes);
+    taken.expect(rt, "memory")
+}
+
+/// Takes a message of a course with this name, which has to be given what its row says.
+fn gives(rt: &impl Abort, alloc: Global, fetches: &mut Fetches, name: &str, row: &Row<'_>) {
     let (ms, from, came, given) = row;
-    let watch = if came.token == TOKEN.as_slice() {
-        Some(watch_of(&TOKEN)?)
-    } else {
-        None
-    };
-    let bytes = datagram(alloc, came)?;
-    let parcel = fetches.take(at(*ms), *from, watch, &bytes)?;
-    holds_for(row, is_given(alloc, came, &parcel, *given)?)
-}
-
-fn walk(alloc: Global, rows: &[Row<'_>]) -> Result<(), Fail> {
-    let mut fetches = fetches(alloc);
-    for row in rows {
-        gives(alloc, &mut fetches, row)?;
-    }
-    Ok(())
-}
-
-/// A confirmable notification.
-fn told_of(mid: u8, block: u16, len: usize) -> Came<'static> {
-    Came {
-        kind: CON,
-        code: CONTENT,
-        mid,
-        token: &TOKEN,
-        etag: b"e",
-        block: Some(block),
-        len,
-    }
-}
-
-/// An answer in the acknowledgement of a request.
-fn answer(mid: u8, block: u16, len: usize) -> Came<'static> {
-    Came {
-        kind: ACK,
-        token: &FIFTH,
-        ..told_of(mid, block, len)
-    }
-}
-
-/// Blocks of 16 bytes, and of 1,024, of which the last is not full.
-/// Tries: Fetches::take, Fetches::new
-#[test]
-fn blocks_are_put_together(rt: HostRuntime) -> Result<(), Fail> {
-    let rows = [
-        (0, HOST_A, told_of(1, 0x08, 16), Given::Asks(0x10, 5)),
-        (1, HOST_A, answer(2, 0x18, 16), Given::Asks(0x20, 5)),
-        (
-            2,
-            HOST_A,
-            answer(3, 0x20, 3),
-            Given::Whole(&[(1, 16), (2, 16), (3, 3)], true),
-        ),
-        (3, HOST_A, answer(3, 0x20, 3), Given::Through),
-    ];
-    walk(rt.alloc(), &rows)?;
-    let rows = [
-        (0, HOST_A, told_of(1, 0x0e, 1024), Given::Asks(0x16, 5)),
-        (
-            1,
-            HOST_A,
-            answer(2, 0x16, 1024),
-            Given::Whole(&[(1, 1024), (2, 1024)], true),
-        ),
-    ];
-    walk(rt.alloc(), &rows)
-}
-
-/// From 0/1/64 on the server has smaller blocks: 2/1/32 follows, and then 3/0/32 is asked for.
-/// Tries: Fetches::take
-#[test]
-fn blocks_may_become_smaller(rt: HostRuntime) -> Result<(), Fail> {
-    let rows = [
-        (0, HOST_A, told_of(1, 0x0a, 64), Given::Asks(0x12, 5)),
-        (1, HOST_A, answer(2, 0x29, 32), Given::Asks(0x31, 5)),
-        (
-            2,
-            HOST_A,
-            answer(3, 0x31, 0),
-            Given::Whole(&[(1, 64), (2, 32)], true),
-        ),
-    ];
-    walk(rt.alloc(), &rows)
-}
-
-/// A notification is whole in block 0 where no more follows. Another block, a reserved size and a payload of another
-/// length than the value says are left to the store, and so is what has no Block2, or no 2.05.
-/// Tries: Fetches::take
-#[test]
-fn a_notification_begins_with_block_0(rt: HostRuntime) -> Result<(), Fail> {
-    let plain = Came {
-        block: None,
-        ..told_of(7, 0, 16)
-    };
-    let error = Came {
-        code: NOT_FOUND,
-        ..told_of(8, 0x08, 16)
-    };
-    let reset = Came {
-        kind: RST,
-        ..told_of(9, 0x08, 16)
-    };
-    let rows = [
-        (0, HOST_A, told_of(1, 0x00, 9), Given::Made),
-        (0, HOST_A, told_of(2, 0x06, 0), Given::Made),
-        (0, HOST_A, told_of(3, 0x18, 16), Given::Through),
-        (0, HOST_A, told_of(4, 0x10, 9), Given::Through),
-        (0, HOST_A, told_of(5, 0x0f, 2048), Given::Through),
-        (0, HOST_A, told_of(6, 0x08, 15), Given::Through),
-        (0, HOST_A, plain, Given::Through),
-        (0, HOST_A, error, Given::Through),
-        (0, HOST_A, reset, Given::Through),
-        (0, HOST_A, told_of(10, 0x08, 16), Given::Asks(0x10, 5)),
-    ];
-    walk(rt.alloc(), &rows)
-}
-
-/// What is confirmable is acknowledged, whichever of the two it is.
-/// Tries: Fetches::take
-#[test]
-fn each_type_of_message_carries_blocks(rt: HostRuntime) -> Result<(), Fail> {
-    for first in [CON, NON, ACK] {
-        for second in [CON, NON, ACK] {
-            let begins = Came {
-                kind: first,
-                ..told_of(1, 0x08, 16)
-            };
-            let ends = Came {
-                kind: second,
-                ..answer(2, 0x10, 5)
-            };
-            let rows = [
-                (0, HOST_A, begins, Given::Asks(0x10, 5)),
-                (1, HOST_A, ends, Given::Whole(&[(1, 16), (2, 5)], true)),
-            ];
-            walk(rt.alloc(), &rows)?;
-        }
-    }
-    Ok(())
-}
-
-/// With the token of the fetch from its address alone.
-/// Tries: Fetches::take
-#[test]
-fn a_response_answers_its_request(rt: HostRuntime) -> Result<(), Fail> {
-    let other = Came {
-        token: &SIXTH,
-        ..answer(2, 0x10, 5)
-    };
-    let short = Came {
-        token: &FIFTH[1..],
-        ..answer(2, 0x10, 5)
-    };
-    let request = Came {
-        code: 0x01,
-        ..answer(2, 0x10, 5)
-    };
-    let reset = Came {
-        kind: RST,
-        ..answer(2, 0x10, 5)
-    };
-    let rows = [
-        (0, HOST_A, told_of(1, 0x08, 16), Given::Asks(0x10, 5)),
-        (1, HOST_B, answer(2, 0x10, 5), Given::Through),
-        (1, HOST_A, other, Given::Through),
-        (1, HOST_A, short, Given::Through),
-        (1, HOST_A, request, Given::Through),
-        (1, HOST_A, reset, Given::Through),
-        (
-            1,
-            HOST_A,
-            answer(2, 0x10, 5),
-            Given::Whole(&[(1, 16), (2, 5)], true),
-        ),
-    ];
-    walk(rt.alloc(), &rows)
-}
-
-/// What had come is told where the next response is no block that follows: one too early or too late, one of a reserved
-/// size or of another length than its value says, and errors.
-/// Tries: Fetches::take
-#[test]
-fn what_had_come_is_told_where_no_block_follows(rt: HostRuntime) -> Result<(), Fail> {
-    let not_found = Came {
-        code: NOT_FOUND,
-        ..answer(2, 0x18, 16)
-    };
-    let unavailable = Came {
-        code: 0xa3,
-        ..answer(2, 0x18, 16)
-    };
-    let valid = Came {
-        code: 0x43,
-        ..answer(2, 0x18, 16)
-    };
-    for came in [
-        answer(2, 0x08, 16),
-        answer(2, 0x28, 16),
-        answer(2, 0x09, 32),
-        answer(2, 0x17, 16),
-        answer(2, 0x18, 15),
-        answer(2, 0x10, 17),
-        not_found,
-        unavailable,
-        valid,
-    ] {
-        let rows = [
-            (0, HOST_A, told_of(1, 0x08, 16), Given::Asks(0x10, 5)),
-            (1, HOST_A, came, Given::Whole(&[(1, 16)], false)),
-            (2, HOST_A, answer(3, 0x10, 5), Given::Through),
-        ];
-        walk(rt.alloc(), &rows)?;
-    }
-    Ok(())
-}
-
-/// A response without Block2 has it all.
-/// Tries: Fetches::take
-#[test]
-fn a_response_without_block2_is_the_whole(rt: HostRuntime) -> Result<(), Fail> {
-    for len in [0, 40] {
-        let all = Came {
-            block: None,
-            etag: &[],
-            ..answer(2, 0, len)
-        };
-        let rows = [
-            (0, HOST_A, told_of(1, 0x08, 16), Given::Asks(0x10, 5)),
-            (1, HOST_A, all, Given::Whole(&[(2, len)], true)),
-        ];
-        walk(rt.alloc(), &rows)?;
-    }
-    Ok(())
-}
-
-/// A block with another ETag, with one more byte of it, or without one, begins the fetch anew at block 0.
-/// Tries: Fetches::take
-#[test]
-fn another_etag_begins_anew(rt: HostRuntime) -> Result<(), Fail> {
-    for etag in [b"f".as_slice(), b"ef".as_slice(), b"".as_slice()] {
-        let with = |mid: u8, block: u16, len: usize| Came {
-            etag,
-            ..answer(mid, block, len)
-        };
-        let rows = [
-            (0, HOST_A, told_of(1, 0x08, 16), Given::Asks(0x10, 5)),
-            (1, HOST_A, answer(2, 0x18, 16), Given::Asks(0x20, 5)),
-            (2, HOST_A, with(3, 0x28, 16), Given::Asks(0x00, 5)),
-            (3, HOST_A, with(4, 0x08, 16), Given::Asks(0x10, 5)),
-            (
-                4,
-                HOST_A,
-                with(5, 0x10, 2),
-                Given::Whole(&[(4, 16), (5, 2)], true),
-            ),
-        ];
-        walk(rt.alloc(), &rows)?;
-    }
-    Ok(())
-}
-
-/// Without an ETag in each block they belong together.
-/// Tries: Fetches::take
-#[test]
-fn no_etag_is_the_same(rt: HostRuntime) -> Result<(), Fail> {
-    let begins = Came {
-        etag: &[],
-        ..told_of(1, 0x08, 16)
-    };
-    let ends = Came {
-        etag: &[],
-        ..answer(2, 0x10, 1)
-    };
-    let rows = [
-        (0, HOST_A, begins, Given::Asks(0x10, 5)),
-        (1, HOST_A, ends, Given::Whole(&[(1, 16), (2, 1)], true)),
-    ];
-    walk(rt.alloc(), &rows)
+    let watch = watch_for(came.token);
+    let bytes = datagram(alloc, came).expect(rt, "memory");
+    let parcel = take(rt, fetches, (*ms, *from), watch, &bytes);
+    let is_so = is_given(alloc, came, &parcel, *given).expect(rt, "memory");
+    assert!(rt; is_so, "{name}: {}", came.mid);
 }

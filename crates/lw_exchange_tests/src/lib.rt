@@ -6,9 +6,9 @@ mod bodies;
 #[cfg(test)]
 mod fetches;
 #[cfg(test)]
-mod hold;
-#[cfg(test)]
 mod message_ids;
+#[cfg(test)]
+mod moments;
 #[cfg(test)]
 mod replies;
 #[cfg(test)]

@@ -1,10 +1,9 @@
 //! Which message IDs are given (RFC 7252, sections 3, 4.4 and 4.8.2).
 
-use crate::hold::holds_for;
+use crate::moments::at;
 use lw_exchange::{MessageIds, put_message_id};
 use lw_reg::Addr;
 use lw_stamp::Moment;
-use std::test::Fail;
 
 /// The last byte and the port make 5,684, so its lane is 4.
 const DEVICE: Addr = Addr::V4 {
@@ -33,61 +32,45 @@ const OTHER_LANE: Addr = Addr::V4 {
 /// Half of all message IDs.
 const HALF: u32 = 32_768;
 
-fn at(ms: u64) -> Result<Moment, Fail> {
-    Ok(Moment::new(ms).ok_or("no moment")?)
-}
+/// A start in milliseconds, and the message IDs that are given then to addresses, one after another.
+type Start = (u64, &'static [(Addr, u16)]);
 
-/// A start in milliseconds, and the first message ID after it.
-const STARTS: [(u64, u16); 7] = [
-    (0, 0),
-    (3, 0),
-    (4, 1),
-    (4_000, 1_000),
-    (262_143, 65_535),
-    (262_144, 0),
-    (262_148, 1),
+/// Starts and the first message ID after each; one before the last message ID, behind which they begin again; and
+/// addresses of a lane, which share a count.
+static STARTS: [Start; 9] = [
+    (0, &[(DEVICE, 0)]),
+    (3, &[(DEVICE, 0)]),
+    (4, &[(DEVICE, 1)]),
+    (4_000, &[(DEVICE, 1_000)]),
+    (262_143, &[(DEVICE, 65_535)]),
+    (262_144, &[(DEVICE, 0)]),
+    (262_148, &[(DEVICE, 1)]),
+    (262_140, &[(DEVICE, 65_535), (DEVICE, 0), (DEVICE, 1)]),
+    (
+        0,
+        &[
+            (DEVICE, 0),
+            (SAME_LANE, 1),
+            (OTHER_LANE, 0),
+            (SAME_LANE_6, 2),
+            (OTHER_LANE, 1),
+            (DEVICE, 3),
+        ],
+    ),
 ];
 
 /// Tries: lw_exchange::MessageIds::new, lw_exchange::MessageIds::next
 #[test]
-fn a_start_gives_the_first(_rt: HostRuntime) -> Result<(), Fail> {
-    for row in &STARTS {
-        let (start, first) = *row;
-        let mut ids = MessageIds::new(at(start)?);
-        holds_for(row, ids.next(at(start)?, DEVICE) == Some(first))?;
+fn each_lane_counts_on_from_the_start(rt: HostRuntime) {
+    for (start, given) in &STARTS {
+        let mut ids = MessageIds::new(at(*start));
+        for (to, want) in *given {
+            assert!(rt;
+                ids.next(at(*start), *to) == Some(*want),
+                "{start} ms, {want}"
+            );
+        }
     }
-    Ok(())
-}
-
-/// Tries: lw_exchange::MessageIds::next
-#[test]
-fn they_begin_again_past_the_last(_rt: HostRuntime) -> Result<(), Fail> {
-    let start = at(262_140)?;
-    let mut ids = MessageIds::new(start);
-    for want in [65_535, 0, 1] {
-        holds_for(&want, ids.next(start, DEVICE) == Some(want))?;
-    }
-    Ok(())
-}
-
-/// Tries: lw_exchange::MessageIds::next
-#[test]
-fn addresses_of_a_lane_share_a_count(_rt: HostRuntime) -> Result<(), Fail> {
-    let start = Moment::START;
-    let mut ids = MessageIds::new(start);
-    let rows = [
-        (DEVICE, 0),
-        (SAME_LANE, 1),
-        (OTHER_LANE, 0),
-        (SAME_LANE_6, 2),
-        (OTHER_LANE, 1),
-        (DEVICE, 3),
-    ];
-    for row in &rows {
-        let (to, want) = *row;
-        holds_for(row, ids.next(start, to) == Some(want))?;
-    }
-    Ok(())
 }
 
 /// Whether a whole run is given, from this message ID on.
@@ -104,24 +87,23 @@ fn gives_a_run(ids: &mut MessageIds, now: Moment, first: u16) -> bool {
 
 /// Tries: lw_exchange::MessageIds::next
 #[test]
-fn half_of_all_is_given_within_247_seconds(rt: HostRuntime) -> Result<(), Fail> {
+fn half_of_all_is_given_within_247_seconds(rt: HostRuntime) {
     let mut ids = MessageIds::new(Moment::START);
     assert!(rt; gives_a_run(&mut ids, Moment::START, 0));
     for ms in [0, 1, 246_001, 247_000] {
-        holds_for(&ms, ids.next(at(ms)?, DEVICE).is_none())?;
+        assert!(rt; ids.next(at(ms), DEVICE).is_none(), "{ms}");
     }
-    assert!(rt; ids.next(at(247_000)?, OTHER_LANE) == Some(0));
+    assert!(rt; ids.next(at(247_000), OTHER_LANE) == Some(0));
     // The other half begins more than 247 s after the first one did.
-    assert!(rt; gives_a_run(&mut ids, at(247_001)?, 32_768));
+    assert!(rt; gives_a_run(&mut ids, at(247_001), 32_768));
     for ms in [247_001, 248_000, 494_001] {
-        holds_for(&ms, ids.next(at(ms)?, DEVICE).is_none())?;
+        assert!(rt; ids.next(at(ms), DEVICE).is_none(), "{ms}");
     }
-    assert!(rt; ids.next(at(494_002)?, DEVICE) == Some(0));
-    Ok(())
+    assert!(rt; ids.next(at(494_002), DEVICE) == Some(0));
 }
 
 /// Bytes, and what they are with the message ID 0x1234.
-const MESSAGES: [(&[u8], &[u8]); 5] = [
+static MESSAGES: [(&[u8], &[u8]); 5] = [
     (b"\x41\x01\x00\x00\xaa\xb1a", b"\x41\x01\x12\x34\xaa\xb1a"),
     (b"\x40\x00\xff\xff", b"\x40\x00\x12\x34"),
     (b"\x40\x00\xff", b"\x40\x00\xff"),
@@ -131,12 +113,11 @@ const MESSAGES: [(&[u8], &[u8]); 5] = [
 
 /// Tries: lw_exchange::put_message_id
 #[test]
-fn a_message_gets_a_message_id(rt: HostRuntime) -> Result<(), Fail> {
+fn a_message_gets_a_message_id(rt: HostRuntime) {
     for row in &MESSAGES {
         let (bytes, want) = *row;
-        let mut message = Vec::from_slice(rt.alloc(), bytes)?;
+        let mut message = Vec::from_slice(rt.alloc(), bytes).expect(&rt, "memory");
         put_message_id(&mut message, 0x1234);
-        holds_for(row, message.as_slice() == want)?;
+        assert!(rt; message.as_slice() == want, "{want:?}");
     }
-    Ok(())
 }

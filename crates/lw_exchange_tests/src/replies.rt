@@ -1,9 +1,11 @@
 //! Which replies are sent again, and for how long they are kept (RFC 7252, sections 4.2, 4.5 and 4.8.2).
 
-use lw_exchange::{Bytes, Exchange, Replies};
+use crate::moments::at;
+use lw_exchange::{Bytes, Exchange, Replies, put_message_id};
 use lw_reg::Addr;
 use lw_stamp::{Moment, NoMemory};
 use std::alloc::Global;
+use std::process::Abort;
 use std::test::Fail;
 
 /// A Register of `ep=a`: confirmable, POST, message ID 7, token 01020304, `rd`.
@@ -46,187 +48,160 @@ const MAPPED: Addr = Addr::V6 {
 /// When the request was answered, in milliseconds.
 const ANSWERED: u64 = 1_000_000;
 
-const FORGOTTEN: Option<Option<&[u8]>> = None;
+/// What was replied to a request: it is not known, it was owed no reply, or there was one.
+type Replied = Option<Option<&'static [u8]>>;
 
-fn at(ms: u64) -> Result<Moment, Fail> {
-    Ok(Moment::new(ms).ok_or("no moment")?)
+const FORGOTTEN: Replied = None;
+
+const UNANSWERED: Replied = Some(None);
+
+const WAS_CREATED: Replied = Some(Some(CREATED));
+
+const WAS_REFUSED: Replied = Some(Some(REFUSED));
+
+/// A copy of the bytes.
+fn copied(rt: &impl Abort, alloc: Global, bytes: &[u8]) -> Bytes {
+    Bytes::copy_from_slice(alloc, bytes).expect(rt, "memory")
 }
 
+/// Where a request comes from, and its bytes.
+type Request<'a> = (Addr, &'a [u8]);
+
+/// Keeps an exchange of a moment.
 fn keep(
+    rt: &impl Abort,
     alloc: Global,
     replies: &mut Replies,
     ms: u64,
-    from: Addr,
-    bytes: &[u8],
+    request: Request<'_>,
     reply: Option<&[u8]>,
-) -> Result<(), Fail> {
+) {
+    let (from, bytes) = request;
+    let bytes = copied(rt, alloc, bytes);
     let reply = match reply {
-        Some(reply) => Some(Bytes::copy_from_slice(alloc, reply)?),
+        Some(reply) => Some(copied(rt, alloc, reply)),
         None => None,
     };
     let exchange = Exchange {
-        moment: at(ms)?,
+        moment: at(ms),
         from,
-        bytes: Bytes::copy_from_slice(alloc, bytes)?,
+        bytes,
         reply,
     };
-    replies.keep(exchange)?;
-    Ok(())
+    replies.keep(exchange).expect(rt, "memory");
 }
 
-/// The Register of the device, which was answered by a 2.01.
-fn registered(alloc: Global) -> Result<Replies, Fail> {
-    let mut replies = Replies::new(alloc);
-    keep(
-        alloc,
-        &mut replies,
-        ANSWERED,
-        DEVICE,
-        REGISTER,
-        Some(CREATED),
-    )?;
-    Ok(replies)
+/// Whether that is what was replied to a request, if it comes again at a moment.
+fn is_replied(replies: &Replies, ms: u64, request: Request<'_>, want: Replied) -> bool {
+    let (from, bytes) = request;
+    replies.again(at(ms), from, bytes) == want
 }
 
-/// Tries: lw_exchange::Replies::new, lw_exchange::Replies::again
-#[test]
-fn nothing_is_known_at_first(rt: HostRuntime) -> Result<(), Fail> {
-    let replies = Replies::new(rt.alloc());
-    let again = replies.again(at(ANSWERED)?, DEVICE, REGISTER);
-    assert!(rt; again == FORGOTTEN);
-    Ok(())
+/// What is done with a request, at a moment in milliseconds.
+#[derive(Clone, Copy)]
+enum Done {
+    /// It is kept with the reply, if it was owed one.
+    Keep(u64, Request<'static>, Option<&'static [u8]>),
+    /// It comes again, and this was replied to it.
+    Again(u64, Request<'static>, Replied),
 }
 
-/// How many milliseconds after the answer the request comes again, and whether it is known.
-const TIMES: [(u64, bool); 6] = [
-    (0, true),
-    (1, true),
-    (246_000, true),
-    (247_000, true),
-    (247_001, false),
-    (248_000, false),
+/// The Register of the device is answered by a 2.01.
+const REGISTERED: Done = Done::Keep(ANSWERED, (DEVICE, REGISTER), Some(CREATED));
+
+/// A name, and what is done one after another.
+type Course = (&'static str, &'static [Done]);
+
+/// What is replied, kept and forgotten.
+static COURSES: [Course; 6] = [
+    (
+        "nothing is known at first",
+        &[Done::Again(ANSWERED, (DEVICE, REGISTER), FORGOTTEN)],
+    ),
+    (
+        "a reply is sent again for 247 seconds, and where the clock went back",
+        &[
+            REGISTERED,
+            Done::Again(ANSWERED, (DEVICE, REGISTER), WAS_CREATED),
+            Done::Again(ANSWERED + 1, (DEVICE, REGISTER), WAS_CREATED),
+            Done::Again(ANSWERED - 1, (DEVICE, REGISTER), WAS_CREATED),
+            Done::Again(ANSWERED + 246_000, (DEVICE, REGISTER), WAS_CREATED),
+            Done::Again(ANSWERED - 246_000, (DEVICE, REGISTER), WAS_CREATED),
+            Done::Again(ANSWERED + 247_000, (DEVICE, REGISTER), WAS_CREATED),
+            Done::Again(ANSWERED - 247_000, (DEVICE, REGISTER), WAS_CREATED),
+            Done::Again(ANSWERED + 247_001, (DEVICE, REGISTER), FORGOTTEN),
+            Done::Again(ANSWERED - 247_001, (DEVICE, REGISTER), FORGOTTEN),
+            Done::Again(ANSWERED + 248_000, (DEVICE, REGISTER), FORGOTTEN),
+            Done::Again(ANSWERED - 248_000, (DEVICE, REGISTER), FORGOTTEN),
+        ],
+    ),
+    (
+        "other requests are not known",
+        &[
+            REGISTERED,
+            Done::Again(ANSWERED, (DEVICE, REGISTER_8), FORGOTTEN),
+            Done::Again(ANSWERED, (DEVICE, REGISTER_B), FORGOTTEN),
+            Done::Again(ANSWERED, (DEVICE, REGISTER_NON), FORGOTTEN),
+            Done::Again(ANSWERED, (DEVICE, REGISTER_CUT), FORGOTTEN),
+            Done::Again(ANSWERED, (DEVICE, TOO_SHORT), FORGOTTEN),
+            Done::Again(ANSWERED, (OTHER_PORT, REGISTER), FORGOTTEN),
+            Done::Again(ANSWERED, (OTHER_ADDRESS, REGISTER), FORGOTTEN),
+            Done::Again(ANSWERED, (MAPPED, REGISTER), FORGOTTEN),
+        ],
+    ),
+    (
+        "each source has its own reply",
+        &[
+            REGISTERED,
+            Done::Keep(ANSWERED, (MAPPED, REGISTER), Some(REFUSED)),
+            Done::Keep(ANSWERED, (OTHER_PORT, REGISTER_NON), None),
+            Done::Again(ANSWERED + 1, (DEVICE, REGISTER), WAS_CREATED),
+            Done::Again(ANSWERED + 1, (MAPPED, REGISTER), WAS_REFUSED),
+            Done::Again(ANSWERED + 1, (OTHER_PORT, REGISTER_NON), UNANSWERED),
+        ],
+    ),
+    (
+        "other bytes under a message ID take its place",
+        &[
+            REGISTERED,
+            Done::Keep(ANSWERED + 1, (DEVICE, REGISTER_B), Some(REFUSED)),
+            Done::Again(ANSWERED + 2, (DEVICE, REGISTER), FORGOTTEN),
+            Done::Again(ANSWERED + 2, (DEVICE, REGISTER_B), WAS_REFUSED),
+            Done::Keep(ANSWERED + 3, (DEVICE, REGISTER), Some(CREATED)),
+            Done::Again(ANSWERED + 2, (DEVICE, REGISTER), WAS_CREATED),
+            Done::Again(ANSWERED + 2, (DEVICE, REGISTER_B), FORGOTTEN),
+        ],
+    ),
+    (
+        "the old go where another is kept",
+        &[
+            REGISTERED,
+            Done::Keep(ANSWERED + 247_000, (OTHER_PORT, REGISTER), None),
+            Done::Again(ANSWERED, (DEVICE, REGISTER), WAS_CREATED),
+            Done::Keep(ANSWERED + 247_001, (OTHER_ADDRESS, REGISTER), None),
+            Done::Again(ANSWERED, (DEVICE, REGISTER), FORGOTTEN),
+            Done::Again(ANSWERED + 247_001, (OTHER_PORT, REGISTER), UNANSWERED),
+        ],
+    ),
 ];
 
-/// Tries: lw_exchange::Replies::again, lw_exchange::Replies::keep
+/// Tries: lw_exchange::Replies::new, lw_exchange::Replies::again, lw_exchange::Replies::keep
 #[test]
-fn a_reply_is_sent_again_for_247_seconds(rt: HostRuntime) -> Result<(), Fail> {
-    let replies = registered(rt.alloc())?;
-    for (later, known) in TIMES {
-        let want = known.then_some(Some(CREATED));
-        let again = replies.again(at(ANSWERED.saturating_add(later))?, DEVICE, REGISTER);
-        assert!(rt; again == want, "{later} ms later");
-        let before = replies.again(at(ANSWERED.saturating_sub(later))?, DEVICE, REGISTER);
-        assert!(rt; before == want, "the clock went {later} ms back");
+fn a_reply_is_sent_again_while_it_is_kept(rt: HostRuntime) {
+    for (name, course) in &COURSES {
+        let mut replies = Replies::new(rt.alloc());
+        for (place, done) in course.iter().enumerate() {
+            match *done {
+                Done::Keep(ms, request, reply) => {
+                    keep(&rt, rt.alloc(), &mut replies, ms, request, reply);
+                }
+                Done::Again(ms, request, want) => {
+                    let is_so = is_replied(&replies, ms, request, want);
+                    assert!(rt; is_so, "{name}: {place}");
+                }
+            }
+        }
     }
-    Ok(())
-}
-
-/// Tries: lw_exchange::Replies::again
-#[test]
-fn other_requests_are_not_known(rt: HostRuntime) -> Result<(), Fail> {
-    let replies = registered(rt.alloc())?;
-    let now = at(ANSWERED)?;
-    let others = [
-        (DEVICE, REGISTER_8),
-        (DEVICE, REGISTER_B),
-        (DEVICE, REGISTER_NON),
-        (DEVICE, REGISTER_CUT),
-        (DEVICE, TOO_SHORT),
-        (OTHER_PORT, REGISTER),
-        (OTHER_ADDRESS, REGISTER),
-        (MAPPED, REGISTER),
-    ];
-    for (from, bytes) in others {
-        assert!(rt;
-            replies.again(now, from, bytes) == FORGOTTEN,
-            "{from:?} {bytes:?}"
-        );
-    }
-    Ok(())
-}
-
-/// Tries: lw_exchange::Replies::again, lw_exchange::Replies::keep
-#[test]
-fn each_source_has_its_own_reply(rt: HostRuntime) -> Result<(), Fail> {
-    let alloc = rt.alloc();
-    let mut replies = registered(alloc)?;
-    keep(
-        alloc,
-        &mut replies,
-        ANSWERED,
-        MAPPED,
-        REGISTER,
-        Some(REFUSED),
-    )?;
-    keep(
-        alloc,
-        &mut replies,
-        ANSWERED,
-        OTHER_PORT,
-        REGISTER_NON,
-        None,
-    )?;
-    let now = at(ANSWERED + 1)?;
-    assert!(rt; replies.again(now, DEVICE, REGISTER) == Some(Some(CREATED)));
-    assert!(rt; replies.again(now, MAPPED, REGISTER) == Some(Some(REFUSED)));
-    assert!(rt; replies.again(now, OTHER_PORT, REGISTER_NON) == Some(None));
-    Ok(())
-}
-
-/// Tries: lw_exchange::Replies::again, lw_exchange::Replies::keep
-#[test]
-fn other_bytes_under_a_message_id_take_its_place(rt: HostRuntime) -> Result<(), Fail> {
-    let alloc = rt.alloc();
-    let mut replies = registered(alloc)?;
-    keep(
-        alloc,
-        &mut replies,
-        ANSWERED + 1,
-        DEVICE,
-        REGISTER_B,
-        Some(REFUSED),
-    )?;
-    let now = at(ANSWERED + 2)?;
-    assert!(rt; replies.again(now, DEVICE, REGISTER) == FORGOTTEN);
-    assert!(rt; replies.again(now, DEVICE, REGISTER_B) == Some(Some(REFUSED)));
-    keep(
-        alloc,
-        &mut replies,
-        ANSWERED + 3,
-        DEVICE,
-        REGISTER,
-        Some(CREATED),
-    )?;
-    assert!(rt; replies.again(now, DEVICE, REGISTER) == Some(Some(CREATED)));
-    assert!(rt; replies.again(now, DEVICE, REGISTER_B) == FORGOTTEN);
-    Ok(())
-}
-
-/// Tries: lw_exchange::Replies::again, lw_exchange::Replies::keep
-#[test]
-fn the_old_go_where_another_is_kept(rt: HostRuntime) -> Result<(), Fail> {
-    let alloc = rt.alloc();
-    let mut replies = registered(alloc)?;
-    keep(
-        alloc,
-        &mut replies,
-        ANSWERED + 247_000,
-        OTHER_PORT,
-        REGISTER,
-        None,
-    )?;
-    assert!(rt; replies.again(at(ANSWERED)?, DEVICE, REGISTER) == Some(Some(CREATED)));
-    keep(
-        alloc,
-        &mut replies,
-        ANSWERED + 247_001,
-        OTHER_ADDRESS,
-        REGISTER,
-        None,
-    )?;
-    assert!(rt; replies.again(at(ANSWERED)?, DEVICE, REGISTER) == FORGOTTEN);
-    assert!(rt; replies.again(at(ANSWERED + 247_001)?, OTHER_PORT, REGISTER) == Some(None));
-    Ok(())
 }
 
 /// A request with a message ID.
@@ -237,81 +212,87 @@ fn request(id: u16) -> [u8; 4] {
 
 /// Tries: lw_exchange::Replies::again, lw_exchange::Replies::keep
 #[test]
-fn no_more_than_65536_are_kept(rt: HostRuntime) -> Result<(), Fail> {
+fn no_more_than_65536_are_kept(rt: HostRuntime) {
     let alloc = rt.alloc();
-    let mut replies = registered(alloc)?;
+    let mut replies = Replies::new(alloc);
+    let first = (DEVICE, REGISTER);
+    keep(&rt, alloc, &mut replies, ANSWERED, first, Some(CREATED));
     for id in 0..65_535 {
+        let another = request(id);
         keep(
+            &rt,
             alloc,
             &mut replies,
             ANSWERED,
-            OTHER_PORT,
-            &request(id),
+            (OTHER_PORT, &another),
             None,
-        )?;
+        );
     }
-    let now = at(ANSWERED)?;
-    assert!(rt; replies.again(now, DEVICE, REGISTER) == Some(Some(CREATED)));
+    assert!(rt; is_replied(&replies, ANSWERED, first, WAS_CREATED));
+    let last = request(65_535);
     keep(
+        &rt,
         alloc,
         &mut replies,
         ANSWERED,
-        OTHER_PORT,
-        &request(65_535),
+        (OTHER_PORT, &last),
         None,
-    )?;
-    assert!(rt; replies.again(now, DEVICE, REGISTER) == FORGOTTEN);
-    assert!(rt; replies.again(now, OTHER_PORT, &request(0)) == Some(None));
-    assert!(rt; replies.again(now, OTHER_PORT, &request(65_535)) == Some(None));
-    Ok(())
-}
-
-/// A datagram of 8,192 bytes with a message ID. 2,048 of them have 16 MiB.
-fn long_request(alloc: Global, id: u16) -> Result<Vec<u8>, Fail> {
-    let mut bytes = Vec::from_slice(alloc, &request(id))?;
-    bytes.resize(8_192, 0)?;
-    Ok(bytes)
+    );
+    assert!(rt; is_replied(&replies, ANSWERED, first, FORGOTTEN));
+    for id in [0, 65_535] {
+        let another = request(id);
+        let is_so = is_replied(&replies, ANSWERED, (OTHER_PORT, &another), UNANSWERED);
+        assert!(rt; is_so, "{id}");
+    }
 }
 
 /// Tries: lw_exchange::Replies::again, lw_exchange::Replies::keep
 #[test]
-fn no_more_than_16_mebibytes_are_kept(rt: HostRuntime) -> Result<(), Fail> {
+fn no_more_than_16_mebibytes_are_kept(rt: HostRuntime) {
     let alloc = rt.alloc();
     let mut replies = Replies::new(alloc);
+    // 2,048 requests of 8,192 bytes have 16 MiB.
+    let mut long = Vec::from_slice(alloc, &request(0)).expect(&rt, "memory");
+    long.resize(8_192, 0).expect(&rt, "memory");
     for id in 0..2_048 {
-        let bytes = long_request(alloc, id)?;
-        keep(alloc, &mut replies, ANSWERED, DEVICE, &bytes, None)?;
+        put_message_id(&mut long, id);
+        keep(&rt, alloc, &mut replies, ANSWERED, (DEVICE, &long), None);
     }
-    let now = at(ANSWERED)?;
-    let first = long_request(alloc, 0)?;
-    let second = long_request(alloc, 1)?;
-    assert!(rt; replies.again(now, DEVICE, &first) == Some(None));
-    keep(alloc, &mut replies, ANSWERED, OTHER_PORT, &[], Some(&[0]))?;
-    assert!(rt; replies.again(now, DEVICE, &first) == FORGOTTEN);
-    assert!(rt; replies.again(now, DEVICE, &second) == Some(None));
-    Ok(())
+    put_message_id(&mut long, 0);
+    assert!(rt; is_replied(&replies, ANSWERED, (DEVICE, &long), UNANSWERED));
+    keep(
+        &rt,
+        alloc,
+        &mut replies,
+        ANSWERED,
+        (OTHER_PORT, &[]),
+        Some(&[0]),
+    );
+    assert!(rt; is_replied(&replies, ANSWERED, (DEVICE, &long), FORGOTTEN));
+    put_message_id(&mut long, 1);
+    assert!(rt; is_replied(&replies, ANSWERED, (DEVICE, &long), UNANSWERED));
 }
 
 /// Tries: lw_exchange::Replies::again, lw_exchange::Replies::keep
 #[test]
-fn what_is_too_long_for_all_is_not_kept(rt: HostRuntime) -> Result<(), Fail> {
+fn what_is_too_long_for_all_is_not_kept(rt: HostRuntime) {
     let alloc = rt.alloc();
-    let mut replies = registered(alloc)?;
-    let long = vec![in alloc; 0x40; 16_777_217]?;
-    keep(alloc, &mut replies, ANSWERED, OTHER_PORT, &long, None)?;
-    let now = at(ANSWERED)?;
-    assert!(rt; replies.again(now, OTHER_PORT, &long) == FORGOTTEN);
-    assert!(rt; replies.again(now, DEVICE, REGISTER) == FORGOTTEN);
+    let mut replies = Replies::new(alloc);
+    let first = (DEVICE, REGISTER);
+    keep(&rt, alloc, &mut replies, ANSWERED, first, Some(CREATED));
+    let long = vec![in alloc; 0x40; 16_777_217].expect(&rt, "memory");
     keep(
+        &rt,
         alloc,
         &mut replies,
         ANSWERED,
-        DEVICE,
-        REGISTER,
-        Some(CREATED),
-    )?;
-    assert!(rt; replies.again(now, DEVICE, REGISTER) == Some(Some(CREATED)));
-    Ok(())
+        (OTHER_PORT, &long),
+        None,
+    );
+    assert!(rt; is_replied(&replies, ANSWERED, (OTHER_PORT, &long), FORGOTTEN));
+    assert!(rt; is_replied(&replies, ANSWERED, first, FORGOTTEN));
+    keep(&rt, alloc, &mut replies, ANSWERED, first, Some(CREATED));
+    assert!(rt; is_replied(&replies, ANSWERED, first, WAS_CREATED));
 }
 
 /// How many requests are kept one after another.
@@ -352,12 +333,9 @@ fn keeps(alloc: Global, replies: &mut Replies, now: Moment, id: u16) -> Result<b
 #[test]
 fn a_refused_keep_leaves_what_is_kept(rt: HostRuntime) -> Result<(), Fail> {
     let mut replies = Replies::new(rt.alloc());
-    let now = at(ANSWERED)?;
     for id in 0..REQUESTS {
-        let kept = keeps(rt.alloc(), &mut replies, now, id)?;
-        if !kept {
-            return Err(Fail::new(format_args!("request {id}")));
-        }
+        let kept = keeps(rt.alloc(), &mut replies, at(ANSWERED), id)?;
+        assert!(rt; kept, "request {id}");
     }
     Ok(())
 }

@@ -1,12 +1,11 @@
 //! Which datagrams are requests that are answered once (RFC 7252, section 3).
 
 use lw_exchange::is_request;
-use std::test::Fail;
 
 /// The first four bytes of a datagram, and whether it is such a request.
 type Row = (&'static [u8], bool);
 
-const TABLE: [Row; 18] = [
+static TABLE: [Row; 18] = [
     (&[0x40, 0x01, 0x00, 0x07], true),
     (&[0x44, 0x02, 0x00, 0x07], true),
     (&[0x4f, 0x1f, 0xff, 0xff], true),
@@ -33,9 +32,8 @@ const TABLE: [Row; 18] = [
 
 /// Tries: lw_exchange::is_request
 #[test]
-fn requests_are_known(rt: HostRuntime) -> Result<(), Fail> {
-    for (bytes, want) in TABLE {
-        assert_eq!(rt; is_request(bytes), want, "{bytes:?}");
+fn requests_are_known(rt: HostRuntime) {
+    for (bytes, want) in &TABLE {
+        assert!(rt; is_request(bytes) == *want, "{bytes:?}");
     }
-    Ok(())
 }

@@ -1,11 +1,11 @@
 //! When requests are sent, and what answers them (RFC 7252, sections 4.2, 4.8 and 5.2.2).
 
-use crate::hold::holds_for;
+use crate::moments::at;
 use lw_exchange::{About, Heard, MAX_REQUESTS, MessageIds, Requests, Step};
 use lw_reg::Addr;
-use lw_stamp::{Moment, Stamp};
+use lw_stamp::Stamp;
 use std::alloc::Global;
-use std::test::Fail;
+use std::process::Abort;
 
 const DEVICE: Addr = Addr::V4 {
     address: [192, 0, 2, 1],
@@ -41,22 +41,23 @@ const START: u64 = 3_000;
 /// The request with that message ID.
 const SENT: &[u8] = b"\x42\x01\x02\xee\xa1\xb2\xb13";
 
-fn at(ms: u64) -> Result<Moment, Fail> {
-    Ok(Moment::new(ms).ok_or("no moment")?)
-}
-
-fn add(alloc: Global, requests: &mut Requests, ms: u64, about: About) -> Result<(), Fail> {
-    let bytes = Vec::from_slice(alloc, REQUEST)?;
-    requests.reserve()?;
-    requests.add(at(ms)?, DEVICE, about, bytes);
-    Ok(())
+/// Puts the request behind the others, as one about this.
+fn add(rt: &impl Abort, alloc: Global, requests: &mut Requests, about: About) {
+    let bytes = Vec::from_slice(alloc, REQUEST).expect(rt, "memory");
+    requests.reserve().expect(rt, "memory");
+    requests.add(at(START), DEVICE, about, bytes);
 }
 
 /// The request, which begins an observation.
-fn one(alloc: Global) -> Result<Requests, Fail> {
+fn one(rt: &impl Abort, alloc: Global) -> Requests {
     let mut requests = Requests::new(alloc);
-    add(alloc, &mut requests, START, About::Observation(TOKEN))?;
-    Ok(requests)
+    add(rt, alloc, &mut requests, About::Observation(TOKEN));
+    requests
+}
+
+/// What is done at the moment.
+fn step(rt: &impl Abort, requests: &mut Requests, ids: &mut MessageIds, ms: u64) -> Option<Step> {
+    requests.step(at(ms), ids).expect(rt, "memory")
 }
 
 /// Whether the bytes are sent to the device.
@@ -69,6 +70,20 @@ fn is_sent(step: &Option<Step>, want: &[u8], is_again: bool) -> bool {
     }
 }
 
+/// Sends the bytes to the device, for the first time or again.
+fn sends(
+    rt: &impl Abort,
+    requests: &mut Requests,
+    ids: &mut MessageIds,
+    ms: u64,
+    want: (&[u8], bool),
+) {
+    let (bytes, is_again) = want;
+    let step = step(rt, requests, ids, ms);
+    assert!(rt; is_sent(&step, bytes, is_again), "at {ms} ms, {bytes:?}");
+}
+
+/// Whether the request about this is given up.
 fn is_unanswered(step: &Option<Step>, want: About) -> bool {
     match step {
         Some(Step::Unanswered(about)) => *about == want,
@@ -77,7 +92,7 @@ fn is_unanswered(step: &Option<Step>, want: About) -> bool {
 }
 
 /// When it is sent, and whether again: after 2,750 ms, and then twice as long each time.
-const MOMENTS: [(u64, bool); 5] = [
+static MOMENTS: [(u64, bool); 5] = [
     (3_000, false),
     (5_750, true),
     (11_250, true),
@@ -91,174 +106,195 @@ const GIVEN_UP: u64 = 88_250;
 /// Tries: lw_exchange::Requests::new, lw_exchange::Requests::add, lw_exchange::Requests::is_due,
 /// lw_exchange::Requests::step
 #[test]
-fn a_request_is_sent_five_times(rt: HostRuntime) -> Result<(), Fail> {
-    let mut requests = one(rt.alloc())?;
-    let mut ids = MessageIds::new(at(START)?);
+fn a_request_is_sent_five_times(rt: HostRuntime) {
+    let mut requests = one(&rt, rt.alloc());
+    let mut ids = MessageIds::new(at(START));
     for row in &MOMENTS {
         let (ms, again) = *row;
-        let before = at(ms.saturating_sub(1))?;
-        holds_for(row, !requests.is_due(before))?;
-        holds_for(row, requests.step(before, &mut ids)?.is_none())?;
-        holds_for(row, requests.is_due(at(ms)?))?;
-        let step = requests.step(at(ms)?, &mut ids)?;
-        holds_for(row, is_sent(&step, SENT, again))?;
+        let before = ms.saturating_sub(1);
+        assert!(rt; !requests.is_due(at(before)), "{before}");
+        assert!(rt;
+            step(&rt, &mut requests, &mut ids, before).is_none(),
+            "{before}"
+        );
+        assert!(rt; requests.is_due(at(ms)), "{ms}");
+        sends(&rt, &mut requests, &mut ids, ms, (SENT, again));
     }
-    assert!(rt; !requests.is_due(at(GIVEN_UP - 1)?));
-    let step = requests.step(at(GIVEN_UP)?, &mut ids)?;
-    assert!(rt; is_unanswered(&step, About::Observation(TOKEN)));
+    assert!(rt; !requests.is_due(at(GIVEN_UP - 1)));
+    let last = step(&rt, &mut requests, &mut ids, GIVEN_UP);
+    assert!(rt; is_unanswered(&last, About::Observation(TOKEN)));
     assert!(rt; requests.count() == 0);
     // Of the message IDs one was taken.
-    assert!(rt; ids.next(at(GIVEN_UP)?, DEVICE) == Some(751));
-    Ok(())
+    assert!(rt; ids.next(at(GIVEN_UP), DEVICE) == Some(751));
 }
 
 /// Tries: lw_exchange::Requests::step
 #[test]
-fn the_first_that_is_due_is_sent_first(rt: HostRuntime) -> Result<(), Fail> {
-    let alloc = rt.alloc();
-    let mut requests = one(alloc)?;
-    let mut ids = MessageIds::new(at(START)?);
-    let now = at(START)?;
-    add(alloc, &mut requests, START, About::Rest(4))?;
-    let first = requests.step(now, &mut ids)?;
-    assert!(rt; is_sent(&first, SENT, false));
-    let second = requests.step(now, &mut ids)?;
-    assert!(rt; is_sent(&second, b"\x42\x01\x02\xef\xa1\xb2\xb13", false));
-    assert!(rt; requests.step(now, &mut ids)?.is_none());
-    Ok(())
-}
-
-/// Tries: lw_exchange::Requests::step
-#[test]
-fn a_request_waits_for_a_message_id(rt: HostRuntime) -> Result<(), Fail> {
-    let mut requests = one(rt.alloc())?;
-    let mut ids = MessageIds::new(at(START)?);
-    for _ in 0..32_768 {
-        let _ = ids.next(at(START)?, DEVICE);
+fn the_first_that_is_due_is_sent_first(rt: HostRuntime) {
+    let mut requests = one(&rt, rt.alloc());
+    let mut ids = MessageIds::new(at(START));
+    add(&rt, rt.alloc(), &mut requests, About::Rest(4));
+    for sent in [SENT, b"\x42\x01\x02\xef\xa1\xb2\xb13"] {
+        sends(&rt, &mut requests, &mut ids, START, (sent, false));
     }
-    let step = requests.step(at(START)?, &mut ids)?;
-    assert!(rt; matches!(&step, Some(Step::Postponed)));
-    assert!(rt; !requests.is_due(at(3_999)?));
-    assert!(rt; requests.is_due(at(4_000)?));
-    // 250,001 is more than 247 s after the start, and 750 + 32,768 is 33,518, 0x82ee.
-    let step = requests.step(at(250_001)?, &mut ids)?;
-    assert!(rt; is_sent(&step, b"\x42\x01\x82\xee\xa1\xb2\xb13", false));
-    Ok(())
+    assert!(rt; step(&rt, &mut requests, &mut ids, START).is_none());
 }
 
-/// Where a datagram comes from, its bytes, and what it says of the request.
-type Row = (Addr, &'static [u8], Heard);
+/// Tries: lw_exchange::Requests::step
+#[test]
+fn a_request_waits_for_a_message_id(rt: HostRuntime) {
+    let mut requests = one(&rt, rt.alloc());
+    let mut ids = MessageIds::new(at(START));
+    for _ in 0..32_768 {
+        let _ = ids.next(at(START), DEVICE);
+    }
+    let first = step(&rt, &mut requests, &mut ids, START);
+    assert!(rt; matches!(&first, Some(Step::Postponed)));
+    assert!(rt; !requests.is_due(at(3_999)));
+    assert!(rt; requests.is_due(at(4_000)));
+    // 250,001 is more than 247 s after the start, and 750 + 32,768 is 33,518, 0x82ee.
+    let sent = b"\x42\x01\x82\xee\xa1\xb2\xb13";
+    sends(&rt, &mut requests, &mut ids, 250_001, (sent, false));
+}
 
 const ACKNOWLEDGED: Heard = Heard::Acknowledged(About::Observation(TOKEN));
 
 const RESET: Heard = Heard::Reset(About::Observation(TOKEN));
 
-const HEARD: [Row; 26] = [
+/// What the device acknowledges its request by.
+static ACKNOWLEDGING: [&[u8]; 6] = [
     // An empty acknowledgement, and one with a response.
-    (DEVICE, b"\x60\x00\x02\xee", ACKNOWLEDGED),
-    (DEVICE, b"\x62\x45\x02\xee\xa1\xb2\xff5", ACKNOWLEDGED),
-    // Another source, another message ID, another version, and less than a header.
-    (OTHER_PORT, b"\x60\x00\x02\xee", Heard::Nothing),
-    (OTHER_ADDRESS, b"\x60\x00\x02\xee", Heard::Nothing),
-    (DEVICE, b"\x60\x00\x02\xef", Heard::Nothing),
-    (DEVICE, b"\xa0\x00\x02\xee", Heard::Nothing),
-    (DEVICE, b"\x60\x00\x02", Heard::Nothing),
-    (DEVICE, b"", Heard::Nothing),
-    // A Reset is a header alone.
-    (DEVICE, b"\x70\x00\x02\xee", RESET),
-    (OTHER_ADDRESS, b"\x70\x00\x02\xee", Heard::Nothing),
-    (DEVICE, b"\x70\x00\x02\xef", Heard::Nothing),
-    (DEVICE, b"\x70\x00\x02\xee\xff", Heard::Nothing),
-    // A confirmable or non-confirmable message has the message ID by chance.
-    (DEVICE, b"\x40\x00\x02\xee", Heard::Nothing),
-    (DEVICE, b"\x50\x00\x02\xee", Heard::Nothing),
+    b"\x60\x00\x02\xee",
+    b"\x62\x45\x02\xee\xa1\xb2\xff5",
     // A response of its own, whose acknowledgement was lost: 2.05, 4.04, 5.00, confirmable or not.
-    (DEVICE, b"\x42\x45\x77\x77\xa1\xb2\xff5", ACKNOWLEDGED),
-    (DEVICE, b"\x52\x45\x77\x77\xa1\xb2\xff5", ACKNOWLEDGED),
-    (DEVICE, b"\x42\x84\x77\x77\xa1\xb2", ACKNOWLEDGED),
-    (DEVICE, b"\x52\xa0\x77\x77\xa1\xb2", ACKNOWLEDGED),
-    // Another source, other tokens, and a token that is cut.
-    (OTHER_PORT, b"\x42\x45\x77\x77\xa1\xb2\xff5", Heard::Nothing),
-    (DEVICE, b"\x42\x45\x77\x77\xa1\xb3\xff5", Heard::Nothing),
-    (DEVICE, b"\x41\x45\x77\x77\xa1\xb2\xff5", Heard::Nothing),
-    (DEVICE, b"\x40\x45\x77\x77", Heard::Nothing),
-    (DEVICE, b"\x42\x45\x77\x77\xa1", Heard::Nothing),
-    // Requests, and codes of the classes 1 and 6.
-    (DEVICE, b"\x42\x01\x77\x77\xa1\xb2", Heard::Nothing),
-    (DEVICE, b"\x42\x3f\x77\x77\xa1\xb2", Heard::Nothing),
-    (DEVICE, b"\x42\xc1\x77\x77\xa1\xb2", Heard::Nothing),
+    b"\x42\x45\x77\x77\xa1\xb2\xff5",
+    b"\x52\x45\x77\x77\xa1\xb2\xff5",
+    b"\x42\x84\x77\x77\xa1\xb2",
+    b"\x52\xa0\x77\x77\xa1\xb2",
 ];
 
-/// Tries: lw_exchange::Requests::hear
-#[test]
-fn a_device_answers_its_request(rt: HostRuntime) -> Result<(), Fail> {
-    for row in &HEARD {
-        let (from, bytes, want) = *row;
-        let mut requests = one(rt.alloc())?;
-        let mut ids = MessageIds::new(at(START)?);
-        // What was not sent yet cannot be answered.
-        holds_for(row, requests.hear(from, bytes) == Heard::Nothing)?;
-        let step = requests.step(at(START)?, &mut ids)?;
-        holds_for(row, is_sent(&step, SENT, false))?;
-        holds_for(row, requests.hear(from, bytes) == want)?;
-        let left = if want == Heard::Nothing { 1 } else { 0 };
-        holds_for(row, requests.count() == left)?;
-    }
-    Ok(())
+/// A Reset is a header alone.
+static RESETTING: [&[u8]; 1] = [b"\x70\x00\x02\xee"];
+
+/// Where a datagram comes from, and its bytes, which say nothing of the request.
+static UNHEARD: [(Addr, &[u8]); 19] = [
+    // Another source, another message ID, another version, and less than a header.
+    (OTHER_PORT, b"\x60\x00\x02\xee"),
+    (OTHER_ADDRESS, b"\x60\x00\x02\xee"),
+    (DEVICE, b"\x60\x00\x02\xef"),
+    (DEVICE, b"\xa0\x00\x02\xee"),
+    (DEVICE, b"\x60\x00\x02"),
+    (DEVICE, b""),
+    // A Reset from another source, of another message ID, and with a byte more.
+    (OTHER_ADDRESS, b"\x70\x00\x02\xee"),
+    (DEVICE, b"\x70\x00\x02\xef"),
+    (DEVICE, b"\x70\x00\x02\xee\xff"),
+    // A confirmable or non-confirmable message has the message ID by chance.
+    (DEVICE, b"\x40\x00\x02\xee"),
+    (DEVICE, b"\x50\x00\x02\xee"),
+    // Responses from another source, with other tokens, and with a token that is cut.
+    (OTHER_PORT, b"\x42\x45\x77\x77\xa1\xb2\xff5"),
+    (DEVICE, b"\x42\x45\x77\x77\xa1\xb3\xff5"),
+    (DEVICE, b"\x41\x45\x77\x77\xa1\xb2\xff5"),
+    (DEVICE, b"\x40\x45\x77\x77"),
+    (DEVICE, b"\x42\x45\x77\x77\xa1"),
+    // Requests, and codes of the classes 1 and 6.
+    (DEVICE, b"\x42\x01\x77\x77\xa1\xb2"),
+    (DEVICE, b"\x42\x3f\x77\x77\xa1\xb2"),
+    (DEVICE, b"\x42\xc1\x77\x77\xa1\xb2"),
+];
+
+/// What a datagram answers.
+fn hear(requests: &mut Requests, from: Addr, bytes: &[u8]) -> Heard {
+    requests.hear(from, bytes)
+}
+
+/// Whether a datagram says that of the request, once it is sent. It waits on where that is nothing.
+fn hears(rt: &impl Abort, alloc: Global, from: Addr, bytes: &[u8], want: Heard) {
+    let mut requests = one(rt, alloc);
+    let mut ids = MessageIds::new(at(START));
+    // What was not sent yet cannot be answered.
+    assert!(rt;
+        hear(&mut requests, from, bytes) == Heard::Nothing,
+        "{bytes:?}"
+    );
+    sends(rt, &mut requests, &mut ids, START, (SENT, false));
+    assert!(rt; hear(&mut requests, from, bytes) == want, "{bytes:?}");
+    let left = if want == Heard::Nothing { 1 } else { 0 };
+    assert!(rt; requests.count() == left, "{bytes:?}");
 }
 
 /// Tries: lw_exchange::Requests::hear
 #[test]
-fn a_datagram_answers_one_request(rt: HostRuntime) -> Result<(), Fail> {
-    let alloc = rt.alloc();
-    let mut requests = one(alloc)?;
-    add(alloc, &mut requests, START, About::Rest(4))?;
-    let mut ids = MessageIds::new(at(START)?);
-    let _ = requests.step(at(START)?, &mut ids)?;
-    let _ = requests.step(at(START)?, &mut ids)?;
-    // Both have the token: the first is answered first.
-    let response = b"\x42\x45\x77\x77\xa1\xb2\xff5";
-    assert!(rt; requests.hear(DEVICE, response) == ACKNOWLEDGED);
-    assert!(rt; requests.hear(DEVICE, response) == Heard::Acknowledged(About::Rest(4)));
-    assert!(rt; requests.hear(DEVICE, response) == Heard::Nothing);
-    Ok(())
+fn a_device_answers_its_request(rt: HostRuntime) {
+    for bytes in &ACKNOWLEDGING {
+        hears(&rt, rt.alloc(), DEVICE, bytes, ACKNOWLEDGED);
+    }
+    for bytes in &RESETTING {
+        hears(&rt, rt.alloc(), DEVICE, bytes, RESET);
+    }
+    for (from, bytes) in &UNHEARD {
+        hears(&rt, rt.alloc(), *from, bytes, Heard::Nothing);
+    }
 }
+
+/// Tries: lw_exchange::Requests::hear
+#[test]
+fn a_datagram_answers_one_request(rt: HostRuntime) {
+    let mut requests = one(&rt, rt.alloc());
+    add(&rt, rt.alloc(), &mut requests, About::Rest(4));
+    let mut ids = MessageIds::new(at(START));
+    let _ = step(&rt, &mut requests, &mut ids, START);
+    let _ = step(&rt, &mut requests, &mut ids, START);
+    // Both have the token: the first is answered first.
+    for want in [
+        ACKNOWLEDGED,
+        Heard::Acknowledged(About::Rest(4)),
+        Heard::Nothing,
+    ] {
+        let response = b"\x42\x45\x77\x77\xa1\xb2\xff5";
+        assert!(rt; hear(&mut requests, DEVICE, response) == want, "{want:?}");
+    }
+}
+
+/// What is forgotten, one after another, and how many are left of `KNOWN`.
+const FORGOTTEN: [(About, usize); 5] = [
+    (About::Observation(TOKEN), 3),
+    (About::Observation(TOKEN), 3),
+    (About::Observation(OTHER_TOKEN), 2),
+    (About::Rest(2), 2),
+    (About::Rest(1), 1),
+];
+
+/// What the requests behind the first are about.
+const KNOWN: [About; 4] = [
+    About::Observation(OTHER_TOKEN),
+    About::Cancellation(TOKEN),
+    About::Rest(1),
+    About::Observation(TOKEN),
+];
 
 /// Tries: lw_exchange::Requests::forget
 #[test]
-fn what_is_about_the_same_is_forgotten(rt: HostRuntime) -> Result<(), Fail> {
-    let alloc = rt.alloc();
-    let mut requests = one(alloc)?;
-    for about in [
-        About::Observation(OTHER_TOKEN),
-        About::Cancellation(TOKEN),
-        About::Rest(1),
-        About::Observation(TOKEN),
-    ] {
-        add(alloc, &mut requests, START, about)?;
+fn what_is_about_the_same_is_forgotten(rt: HostRuntime) {
+    let mut requests = one(&rt, rt.alloc());
+    for about in &KNOWN {
+        add(&rt, rt.alloc(), &mut requests, *about);
     }
-    requests.forget(About::Observation(TOKEN));
-    assert!(rt; requests.count() == 3);
-    requests.forget(About::Observation(TOKEN));
-    assert!(rt; requests.count() == 3);
-    requests.forget(About::Observation(OTHER_TOKEN));
-    assert!(rt; requests.count() == 2);
-    requests.forget(About::Rest(2));
-    assert!(rt; requests.count() == 2);
-    requests.forget(About::Rest(1));
-    assert!(rt; requests.count() == 1);
-    Ok(())
+    for row in &FORGOTTEN {
+        let (about, left) = *row;
+        requests.forget(about);
+        assert!(rt; requests.count() == left, "{about:?}");
+    }
 }
 
 /// Tries: lw_exchange::Requests::reserve, lw_exchange::Requests::count
 #[test]
-fn so_many_wait_at_most(rt: HostRuntime) -> Result<(), Fail> {
-    let alloc = rt.alloc();
-    let mut requests = Requests::new(alloc);
+fn so_many_wait_at_most(rt: HostRuntime) {
+    let mut requests = Requests::new(rt.alloc());
     for _ in 0..MAX_REQUESTS {
-        add(alloc, &mut requests, START, About::Rest(1))?;
+        add(&rt, rt.alloc(), &mut requests, About::Rest(1));
     }
     assert!(rt; requests.reserve().is_err());
     assert!(rt; requests.count() == 1_536);
-    Ok(())
 }

@@ -1,9 +1,9 @@
 //! Which notifications are newer (RFC 7641, section 3.4).
 
-use crate::hold::holds_for;
+use crate::moments::at;
 use lw_exchange::Sequences;
-use lw_stamp::{Moment, Stamp};
-use std::test::Fail;
+use lw_stamp::Stamp;
+use std::process::Abort;
 
 const TOKEN: Stamp = Stamp {
     counter: 1,
@@ -21,13 +21,19 @@ const KNOWN_AT: u64 = 1_000;
 /// How many tokens are kept.
 const MAX_TOKENS: u64 = 65_536;
 
-fn at(ms: u64) -> Result<Moment, Fail> {
-    Ok(Moment::new(ms).ok_or("no moment")?)
+/// Notes the number of a notification.
+fn note(rt: &impl Abort, sequences: &mut Sequences, ms: u64, token: Stamp, observe: u32) {
+    sequences.note(at(ms), token, observe).expect(rt, "memory");
+}
+
+/// Whether a notification with the number is newer.
+fn is_newer(sequences: &Sequences, ms: u64, token: Stamp, observe: u32) -> bool {
+    sequences.is_newer(at(ms), token, observe)
 }
 
 /// The known number, the one that comes at once, and whether that is newer. 2^23 is 8,388,608, and the last number is
 /// 16,777,215.
-const NUMBERS: [(u32, u32, bool); 14] = [
+static NUMBERS: [(u32, u32, bool); 14] = [
     (0, 0, false),
     (0, 1, true),
     (1, 0, false),
@@ -46,22 +52,19 @@ const NUMBERS: [(u32, u32, bool); 14] = [
 
 /// Tries: lw_exchange::Sequences::new, lw_exchange::Sequences::is_newer, lw_exchange::Sequences::note
 #[test]
-fn a_number_less_than_half_a_round_ahead_is_newer(rt: HostRuntime) -> Result<(), Fail> {
+fn a_number_less_than_half_a_round_ahead_is_newer(rt: HostRuntime) {
     for row in &NUMBERS {
         let (known, observe, want) = *row;
         let mut sequences = Sequences::new(rt.alloc());
-        sequences.note(at(KNOWN_AT)?, TOKEN, known)?;
-        holds_for(
-            row,
-            sequences.is_newer(at(KNOWN_AT)?, TOKEN, observe) == want,
-        )?;
-        holds_for(row, sequences.is_newer(at(KNOWN_AT)?, OTHER, observe))?;
+        note(&rt, &mut sequences, KNOWN_AT, TOKEN, known);
+        let is_ahead = is_newer(&sequences, KNOWN_AT, TOKEN, observe);
+        assert!(rt; is_ahead == want, "{observe} behind {known}");
+        assert!(rt; is_newer(&sequences, KNOWN_AT, OTHER, observe), "{observe}");
     }
-    Ok(())
 }
 
 /// How much later the same number comes, in milliseconds, and whether it is newer.
-const TIMES: [(u64, bool); 5] = [
+static TIMES: [(u64, bool); 5] = [
     (0, false),
     (127_999, false),
     (128_000, false),
@@ -71,62 +74,60 @@ const TIMES: [(u64, bool); 5] = [
 
 /// Tries: lw_exchange::Sequences::is_newer
 #[test]
-fn any_number_is_newer_after_128_seconds(rt: HostRuntime) -> Result<(), Fail> {
+fn any_number_is_newer_after_128_seconds(rt: HostRuntime) {
     let mut sequences = Sequences::new(rt.alloc());
-    sequences.note(at(KNOWN_AT)?, TOKEN, 9)?;
+    note(&rt, &mut sequences, KNOWN_AT, TOKEN, 9);
     for row in &TIMES {
         let (later, want) = *row;
-        let now = at(KNOWN_AT.saturating_add(later))?;
-        holds_for(row, sequences.is_newer(now, TOKEN, 9) == want)?;
+        let ms = KNOWN_AT.saturating_add(later);
+        assert!(rt;
+            is_newer(&sequences, ms, TOKEN, 9) == want,
+            "{later} ms later"
+        );
     }
-    Ok(())
 }
 
 /// Tries: lw_exchange::Sequences::note, lw_exchange::Sequences::forget, lw_exchange::Sequences::count
 #[test]
-fn the_last_note_counts_until_it_is_forgotten(rt: HostRuntime) -> Result<(), Fail> {
+fn the_last_note_counts_until_it_is_forgotten(rt: HostRuntime) {
     let mut sequences = Sequences::new(rt.alloc());
-    let now = at(KNOWN_AT)?;
-    sequences.note(now, TOKEN, 9)?;
-    sequences.note(now, TOKEN, 12)?;
-    sequences.note(now, OTHER, 1)?;
+    for (token, observe) in [(TOKEN, 9), (TOKEN, 12), (OTHER, 1)] {
+        note(&rt, &mut sequences, KNOWN_AT, token, observe);
+    }
     assert!(rt; sequences.count() == 2);
-    assert!(rt; !sequences.is_newer(now, TOKEN, 11));
+    assert!(rt; !is_newer(&sequences, KNOWN_AT, TOKEN, 11));
     sequences.forget(TOKEN);
     assert!(rt; sequences.count() == 1);
-    assert!(rt; sequences.is_newer(now, TOKEN, 11));
-    assert!(rt; !sequences.is_newer(now, OTHER, 1));
-    Ok(())
+    assert!(rt; is_newer(&sequences, KNOWN_AT, TOKEN, 11));
+    assert!(rt; !is_newer(&sequences, KNOWN_AT, OTHER, 1));
 }
 
-/// As many tokens as are kept, each with the number 9.
-fn fill(sequences: &mut Sequences, now: Moment) -> Result<(), Fail> {
-    for counter in 1..=MAX_TOKENS {
-        sequences.note(now, Stamp { counter, node: 7 }, 9)?;
-    }
-    Ok(())
-}
+/// When the kept ones are not old yet, and when they are.
+const YOUNG: u64 = KNOWN_AT + 128_000;
+
+const OLD: u64 = KNOWN_AT + 128_001;
+
+/// A token more than are kept.
+const LATE: Stamp = Stamp {
+    counter: MAX_TOKENS + 1,
+    node: 7,
+};
 
 /// Tries: lw_exchange::Sequences::note
 #[test]
-fn old_tokens_go_where_there_is_no_room(rt: HostRuntime) -> Result<(), Fail> {
+fn old_tokens_go_where_there_is_no_room(rt: HostRuntime) {
     let mut sequences = Sequences::new(rt.alloc());
-    fill(&mut sequences, at(KNOWN_AT)?)?;
-    let late = Stamp {
-        counter: MAX_TOKENS + 1,
-        node: 7,
-    };
-    let young = at(KNOWN_AT + 128_000)?;
-    sequences.note(young, late, 9)?;
+    for counter in 1..=MAX_TOKENS {
+        note(&rt, &mut sequences, KNOWN_AT, Stamp { counter, node: 7 }, 9);
+    }
+    note(&rt, &mut sequences, YOUNG, LATE, 9);
     assert!(rt; sequences.count() == 65_536);
-    assert!(rt; sequences.is_newer(young, late, 9));
+    assert!(rt; is_newer(&sequences, YOUNG, LATE, 9));
     // One that is kept is noted all the same.
-    sequences.note(young, TOKEN, 10)?;
-    assert!(rt; !sequences.is_newer(young, TOKEN, 10));
-    let old = at(KNOWN_AT + 128_001)?;
-    sequences.note(old, late, 9)?;
+    note(&rt, &mut sequences, YOUNG, TOKEN, 10);
+    assert!(rt; !is_newer(&sequences, YOUNG, TOKEN, 10));
+    note(&rt, &mut sequences, OLD, LATE, 9);
     assert!(rt; sequences.count() == 2);
-    assert!(rt; !sequences.is_newer(old, late, 9));
-    assert!(rt; !sequences.is_newer(old, TOKEN, 10));
-    Ok(())
+    assert!(rt; !is_newer(&sequences, OLD, LATE, 9));
+    assert!(rt; !is_newer(&sequences, OLD, TOKEN, 10));
 }

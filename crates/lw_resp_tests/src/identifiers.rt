@@ -1,11 +1,9 @@
 use lw_resp::StreamId;
-use std::alloc::Global;
-use std::test::Fail;
 
 const MAX: u64 = 18_446_744_073_709_551_615;
 
 /// Identifiers and their texts.
-const TEXTS: [(&str, StreamId); 6] = [
+static TEXTS: [(&str, StreamId); 6] = [
     ("0-0", StreamId { major: 0, minor: 0 }),
     ("0-1", StreamId { major: 0, minor: 1 }),
     (
@@ -38,31 +36,20 @@ const TEXTS: [(&str, StreamId); 6] = [
     ),
 ];
 
-/// Tries: lw_resp::StreamId::read
+/// Tries: lw_resp::StreamId::read, lw_resp::StreamId::put
 #[test]
-fn texts_are_read(rt: HostRuntime) -> Result<(), Fail> {
-    for (text, id) in &TEXTS {
-        if StreamId::read(text.as_bytes()) != Some(*id) {
-            return Err(Fail::new(format_args!("{text}")));
-        }
+fn texts_are_read_and_put_behind_what_is_there(rt: HostRuntime) {
+    for row in &TEXTS {
+        let (text, id) = *row;
+        assert!(rt; StreamId::read(text.as_bytes()) == Some(id), "{text}");
+        let mut bytes = Vec::from_slice(rt.alloc(), b"(").expect(&rt, "memory");
+        id.put(&mut bytes).expect(&rt, "memory");
+        let put = bytes.as_slice().strip_prefix(b"(");
+        assert!(rt; put == Some(text.as_bytes()), "{text}");
     }
-    Ok(())
 }
 
-/// Tries: lw_resp::StreamId::put
-#[test]
-fn texts_are_put_behind_what_is_there(rt: HostRuntime) -> Result<(), Fail> {
-    for (text, id) in &TEXTS {
-        let mut bytes = Vec::from_slice(rt.alloc(), b"(")?;
-        id.put(&mut bytes)?;
-        if bytes.as_slice().strip_prefix(b"(") != Some(text.as_bytes()) {
-            return Err(Fail::new(format_args!("{text}")));
-        }
-    }
-    Ok(())
-}
-
-const NO_TEXTS: [&str; 17] = [
+static NO_TEXTS: [&str; 17] = [
     "",
     "-",
     "1",
@@ -84,31 +71,30 @@ const NO_TEXTS: [&str; 17] = [
 
 /// Tries: lw_resp::StreamId::read
 #[test]
-fn other_texts_are_none(rt: HostRuntime) -> Result<(), Fail> {
+fn other_texts_are_none(rt: HostRuntime) {
     for text in &NO_TEXTS {
-        if StreamId::read(text.as_bytes()).is_some() {
-            return Err(Fail::new(format_args!("{text}")));
-        }
+        assert!(rt; StreamId::read(text.as_bytes()).is_none(), "{text}");
     }
-    Ok(())
 }
 
-fn check_next(id: (u64, u64), want: Option<(u64, u64)>) -> Result<(), Fail> {
-    let (major, minor) = id;
-    let next = StreamId { major, minor }.next();
-    let got = next.map(|id| (id.major, id.minor));
-    if got == want {
-        return Ok(());
-    }
-    Err(Fail::new(format_args!("{major}-{minor}: {got:?}")))
-}
+/// An identifier, and the next one.
+type Next = ((u64, u64), Option<(u64, u64)>);
+
+static NEXT: [Next; 5] = [
+    ((0, 0), Some((0, 1))),
+    ((7, 41), Some((7, 42))),
+    ((7, MAX), Some((8, 0))),
+    ((MAX, 0), Some((MAX, 1))),
+    ((MAX, MAX), None),
+];
 
 /// Tries: lw_resp::StreamId::next
 #[test]
-fn the_next_one_is_the_least_above(rt: HostRuntime) -> Result<(), Fail> {
-    check_next((0, 0), Some((0, 1)))?;
-    check_next((7, 41), Some((7, 42)))?;
-    check_next((7, MAX), Some((8, 0)))?;
-    check_next((MAX, 0), Some((MAX, 1)))?;
-    check_next((MAX, MAX), None)
+fn the_next_one_is_the_least_above(rt: HostRuntime) {
+    for row in &NEXT {
+        let ((major, minor), want) = *row;
+        let next = StreamId { major, minor }.next();
+        let got = next.map(|id| (id.major, id.minor));
+        assert!(rt; got == want, "{major}-{minor}");
+    }
 }

@@ -1,37 +1,18 @@
 use crate::told::reply_told;
 use std::alloc::Global;
-use std::test::Fail;
+use std::process::Abort;
 
 /// Bytes, and what is read of them.
 type Row = (&'static str, &'static str);
 
-fn check(alloc: Global, bytes: &[u8], want: &str) -> Result<(), Fail> {
-    let got = reply_told(alloc, bytes)?;
-    if got.as_str() == want {
-        return Ok(());
-    }
-    Err(Fail::new(format_args!("{want}: {got}")))
-}
-
-fn check_rows(alloc: Global, rows: &[Row]) -> Result<(), Fail> {
-    for (bytes, want) in rows {
-        check(alloc, bytes.as_bytes(), want)?;
-    }
-    Ok(())
-}
-
-/// The bytes up to each place before their end are not whole.
-fn check_cuts(alloc: Global, rows: &[Row]) -> Result<(), Fail> {
-    for (bytes, _) in rows {
-        for end in 0..bytes.len() {
-            check(alloc, &bytes.as_bytes()[..end], "not whole")?;
-        }
-    }
-    Ok(())
+/// What is read of the bytes has to be this.
+fn check(rt: &impl Abort, alloc: Global, bytes: &[u8], want: &str) {
+    let got = reply_told(rt, alloc, bytes);
+    assert!(rt; got.as_str() == want, "{want}: {got}");
 }
 
 /// What the commands of a log are answered with.
-const SINGLE: [Row; 8] = [
+const SINGLE: &[Row] = &[
     ("+PONG\r\n", "status PONG|"),
     ("+OK\r\n", "status OK|"),
     ("$15\r\n1526985054069-0\r\n", "bulk 1526985054069-0|"),
@@ -48,15 +29,8 @@ const SINGLE: [Row; 8] = [
     ),
 ];
 
-/// Tries: lw_resp::first_reply
-#[test]
-fn words_are_replies(rt: HostRuntime) -> Result<(), Fail> {
-    check_rows(rt.alloc(), &SINGLE)?;
-    check_cuts(rt.alloc(), &SINGLE)
-}
-
 /// Entries with the one field of a log; the fifth has the fields of the page on XRANGE.
-const ENTRIES: [Row; 6] = [
+const ENTRIES: &[Row] = &[
     ("*0\r\n", "entries|"),
     (
         "*1\r\n*2\r\n$3\r\n7-1\r\n*2\r\n$1\r\ne\r\n$2\r\nab\r\n",
@@ -85,19 +59,8 @@ const ENTRIES: [Row; 6] = [
     ),
 ];
 
-/// Tries: lw_resp::first_reply
-#[test]
-fn entries_are_read(rt: HostRuntime) -> Result<(), Fail> {
-    check_rows(rt.alloc(), &ENTRIES)
-}
-
-/// Tries: lw_resp::first_reply
-#[test]
-fn entries_that_are_cut_are_not_whole(rt: HostRuntime) -> Result<(), Fail> {
-    check_cuts(rt.alloc(), &ENTRIES)
-}
-
-const FOLLOWED: [Row; 3] = [
+/// Replies with what follows them.
+const FOLLOWED: &[Row] = &[
     ("*0\r\n*0\r\n", "entries|*0\r\n"),
     (
         "*1\r\n*2\r\n$3\r\n7-1\r\n*2\r\n$1\r\ne\r\n$2\r\nab\r\n:1\r\n",
@@ -106,14 +69,37 @@ const FOLLOWED: [Row; 3] = [
     ("+OK\r\n?", "status OK|?"),
 ];
 
+/// What is read whole.
+static READ: [&[Row]; 3] = [SINGLE, ENTRIES, FOLLOWED];
+
+/// What is read up to each place before its end.
+static CUT: [&[Row]; 2] = [SINGLE, ENTRIES];
+
 /// Tries: lw_resp::first_reply
 #[test]
-fn what_follows_is_left(rt: HostRuntime) -> Result<(), Fail> {
-    check_rows(rt.alloc(), &FOLLOWED)
+fn replies_are_read(rt: HostRuntime) {
+    for rows in &READ {
+        for (bytes, want) in *rows {
+            check(&rt, rt.alloc(), bytes.as_bytes(), want);
+        }
+    }
+}
+
+/// The bytes up to each place before their end are not whole.
+/// Tries: lw_resp::first_reply
+#[test]
+fn what_is_cut_is_not_whole(rt: HostRuntime) {
+    for rows in &CUT {
+        for (bytes, _) in *rows {
+            for end in 0..bytes.len() {
+                check(&rt, rt.alloc(), &bytes.as_bytes()[..end], "not whole");
+            }
+        }
+    }
 }
 
 /// Arrays of other things than entries, and parts that are cut and can be no part of an entry.
-const MALFORMED: [&str; 14] = [
+static MALFORMED: [&str; 14] = [
     "*2\r\n$5\r\nhello\r\n$5\r\nworld\r\n",
     "*2\r\n$4\r\nLLEN\r\n$6\r\nmylist\r\n",
     "*1\r\n:1\r\n",
@@ -132,20 +118,22 @@ const MALFORMED: [&str; 14] = [
 
 /// Tries: lw_resp::first_reply
 #[test]
-fn what_no_reply_begins_with_is_malformed(rt: HostRuntime) -> Result<(), Fail> {
+fn what_no_reply_begins_with_is_malformed(rt: HostRuntime) {
     for bytes in &MALFORMED {
-        check(rt.alloc(), bytes.as_bytes(), "malformed")?;
+        check(&rt, rt.alloc(), bytes.as_bytes(), "malformed");
     }
-    Ok(())
 }
+
+/// As many entries and fields as a number can announce.
+static ANNOUNCED: [&str; 2] = [
+    "*9223372036854775807\r\n",
+    "*1\r\n*2\r\n$3\r\n7-1\r\n*9223372036854775807\r\n",
+];
 
 /// Tries: lw_resp::first_reply
 #[test]
-fn entries_that_are_announced_take_no_memory(rt: HostRuntime) -> Result<(), Fail> {
-    check(rt.alloc(), b"*9223372036854775807\r\n", "not whole")?;
-    check(
-        rt.alloc(),
-        b"*1\r\n*2\r\n$3\r\n7-1\r\n*9223372036854775807\r\n",
-        "not whole",
-    )
+fn entries_that_are_announced_take_no_memory(rt: HostRuntime) {
+    for bytes in &ANNOUNCED {
+        check(&rt, rt.alloc(), bytes.as_bytes(), "not whole");
+    }
 }

@@ -2,70 +2,76 @@
 
 use lw_resp::{Entry, Malformed, Reply, ReplyFault, Word, first_reply, first_word};
 use std::alloc::Global;
+use std::fmt::Display;
+use std::process::Abort;
 use std::str;
-use std::test::Fail;
 
+/// The text that the bytes are.
 fn text(bytes: &[u8]) -> &str {
     str::from_utf8(bytes).unwrap_or("no text")
 }
 
-fn word_text(alloc: Global, word: &Word<'_>) -> Result<String, Fail> {
-    Ok(match *word {
-        Word::Status(said) => format!(in alloc; "status {}", text(said))?,
-        Word::Error(said) => format!(in alloc; "error {}", text(said))?,
-        Word::Number(number) => format!(in alloc; "number {number}")?,
-        Word::Bulk(content) => format!(in alloc; "bulk {}", text(content))?,
-        Word::Array(number) => format!(in alloc; "array {number}")?,
-        Word::Null => format!(in alloc; "null")?,
-        Word::NullArray => format!(in alloc; "null array")?,
-    })
+/// What is shown, as a text.
+fn told<D: Display + Drop>(rt: &impl Abort, alloc: Global, shown: D) -> String {
+    String::format(alloc, shown).expect(rt, "memory")
+}
+
+/// A word by its kind and content.
+fn word_text(rt: &impl Abort, alloc: Global, word: &Word<'_>) -> String {
+    match *word {
+        Word::Status(said) => told(rt, alloc, format_args!("status {}", text(said))),
+        Word::Error(said) => told(rt, alloc, format_args!("error {}", text(said))),
+        Word::Number(number) => told(rt, alloc, format_args!("number {number}")),
+        Word::Bulk(content) => told(rt, alloc, format_args!("bulk {}", text(content))),
+        Word::Array(number) => told(rt, alloc, format_args!("array {number}")),
+        Word::Null => told(rt, alloc, "null"),
+        Word::NullArray => told(rt, alloc, "null array"),
+    }
 }
 
 /// The word at the front and what stands behind it, or `not whole` or `malformed`.
-pub fn word_told(alloc: Global, bytes: &[u8]) -> Result<String, Fail> {
+pub fn word_told(rt: &impl Abort, alloc: Global, bytes: &[u8]) -> String {
     match first_word(bytes) {
         Ok(Some((word, rest))) => {
-            let shown = word_text(alloc, &word)?;
-            Ok(format!(in alloc; "{shown}|{}", text(rest))?)
+            let shown = word_text(rt, alloc, &word);
+            told(rt, alloc, format_args!("{shown}|{}", text(rest)))
         }
-        Ok(None) => Ok(format!(in alloc; "not whole")?),
-        Err(Malformed) => Ok(format!(in alloc; "malformed")?),
+        Ok(None) => told(rt, alloc, "not whole"),
+        Err(Malformed) => told(rt, alloc, "malformed"),
     }
 }
 
-fn entry_text(alloc: Global, entry: &Entry<'_>) -> Result<String, Fail> {
-    Ok(match entry.value {
-        Some(value) => format!(in alloc; "{}={}", text(entry.id), text(value))?,
-        None => format!(in alloc; "{} is foreign", text(entry.id))?,
-    })
-}
-
-fn entries_text(alloc: Global, entries: &[Entry<'_>]) -> Result<String, Fail> {
-    let mut shown = String::new(alloc);
-    shown.push_str("entries")?;
+/// Each entry by its identifier, and by its value if it has the one field of a log.
+fn entries_text(rt: &impl Abort, alloc: Global, entries: &[Entry<'_>]) -> String {
+    let mut shown = told(rt, alloc, "entries");
     for entry in entries {
-        shown.push(' ')?;
-        shown.push_str(entry_text(alloc, entry)?.as_str())?;
+        let id = text(entry.id);
+        let one = match entry.value {
+            Some(value) => told(rt, alloc, format_args!(" {id}={}", text(value))),
+            None => told(rt, alloc, format_args!(" {id} is foreign")),
+        };
+        shown.push_str(one.as_str()).expect(rt, "memory");
     }
-    Ok(shown)
+    shown
 }
 
-fn reply_text(alloc: Global, reply: &Reply<'_>) -> Result<String, Fail> {
+/// A reply, which is a word or entries.
+fn reply_text(rt: &impl Abort, alloc: Global, reply: &Reply<'_>) -> String {
     match reply {
-        Reply::Word(word) => word_text(alloc, word),
-        Reply::Entries(entries) => entries_text(alloc, entries),
+        Reply::Word(word) => word_text(rt, alloc, word),
+        Reply::Entries(entries) => entries_text(rt, alloc, entries),
     }
 }
 
 /// The reply at the front and what stands behind it, or `not whole` or `malformed`.
-pub fn reply_told(alloc: Global, bytes: &[u8]) -> Result<String, Fail> {
+pub fn reply_told(rt: &impl Abort, alloc: Global, bytes: &[u8]) -> String {
     match first_reply(alloc, bytes) {
         Ok(Some((reply, rest))) => {
-            let shown = reply_text(alloc, &reply)?;
-            Ok(format!(in alloc; "{shown}|{}", text(rest))?)
+            let shown = reply_text(rt, alloc, &reply);
+            told(rt, alloc, format_args!("{shown}|{}", text(rest)))
         }
-        Ok(None) => Ok(format!(in alloc; "not whole")?),
-        Err(ReplyFault::Malformed) => Ok(format!(in alloc; "malformed")?),
-        Err(ReplyFault::NoMemory) => Err(Fail::new(format_args!("no memory"))),
+        Ok(None) => told(rt, alloc, "not whole"),
+        Err(ReplyFault::Malformed) => told(rt, alloc, "malformed"),
+        Err(ReplyFault::NoMemory) => told(rt, alloc, "no memory"),
     }
 }

@@ -1,27 +1,18 @@
 use crate::told::word_told;
 use std::alloc::Global;
-use std::test::Fail;
+use std::process::Abort;
 
 /// Bytes, and what is read of them.
 type Row = (&'static str, &'static str);
 
-fn check(alloc: Global, bytes: &[u8], want: &str) -> Result<(), Fail> {
-    let got = word_told(alloc, bytes)?;
-    if got.as_str() == want {
-        return Ok(());
-    }
-    Err(Fail::new(format_args!("{want}: {got}")))
-}
-
-fn check_all(alloc: Global, all: &[&str], want: &str) -> Result<(), Fail> {
-    for bytes in all {
-        check(alloc, bytes.as_bytes(), want)?;
-    }
-    Ok(())
+/// What is read of the bytes has to be this.
+fn check(rt: &impl Abort, alloc: Global, bytes: &[u8], want: &str) {
+    let got = word_told(rt, alloc, bytes);
+    assert!(rt; got.as_str() == want, "{want}: {got}");
 }
 
 /// Examples of the page on the protocol, with texts and numbers of its own and at its bounds.
-const EXAMPLES: [Row; 16] = [
+static EXAMPLES: [Row; 16] = [
     ("+OK\r\n", "status OK|"),
     ("-Error message\r\n", "error Error message|"),
     (
@@ -46,28 +37,8 @@ const EXAMPLES: [Row; 16] = [
     ("*9223372036854775807\r\n", "array 9223372036854775807|"),
 ];
 
-/// Tries: lw_resp::first_word
-#[test]
-fn examples_are_read(rt: HostRuntime) -> Result<(), Fail> {
-    for (bytes, want) in &EXAMPLES {
-        check(rt.alloc(), bytes.as_bytes(), want)?;
-    }
-    Ok(())
-}
-
-/// Tries: lw_resp::first_word
-#[test]
-fn what_is_cut_is_not_whole(rt: HostRuntime) -> Result<(), Fail> {
-    for (bytes, _) in &EXAMPLES {
-        for end in 0..bytes.len() {
-            check(rt.alloc(), &bytes.as_bytes()[..end], "not whole")?;
-        }
-    }
-    Ok(())
-}
-
 /// Arrays of the page on the protocol, and words that follow one another.
-const FOLLOWED: [Row; 5] = [
+static FOLLOWED: [Row; 5] = [
     (
         "*2\r\n$5\r\nhello\r\n$5\r\nworld\r\n",
         "array 2|$5\r\nhello\r\n$5\r\nworld\r\n",
@@ -83,20 +54,25 @@ const FOLLOWED: [Row; 5] = [
 
 /// Tries: lw_resp::first_word
 #[test]
-fn what_follows_is_left(rt: HostRuntime) -> Result<(), Fail> {
-    for (bytes, want) in &FOLLOWED {
-        check(rt.alloc(), bytes.as_bytes(), want)?;
+fn examples_are_read(rt: HostRuntime) {
+    for (bytes, want) in &EXAMPLES {
+        check(&rt, rt.alloc(), bytes.as_bytes(), want);
+        for end in 0..bytes.len() {
+            check(&rt, rt.alloc(), &bytes.as_bytes()[..end], "not whole");
+        }
     }
-    Ok(())
+    for (bytes, want) in &FOLLOWED {
+        check(&rt, rt.alloc(), bytes.as_bytes(), want);
+    }
 }
 
 /// No kind of the protocol's second version.
-const NO_KINDS: [&str; 8] = [
+const NO_KINDS: &[&str] = &[
     "OK\r\n", " ", "\r\n", "%1\r\n", "_\r\n", "#t\r\n", "(1\r\n", "5\r\n",
 ];
 
 /// A line that ends with one byte of two.
-const BAD_ENDS: [&str; 8] = [
+const BAD_ENDS: &[&str] = &[
     "+O\nK\r\n",
     "+O\rK\r\n",
     "-\n",
@@ -108,25 +84,16 @@ const BAD_ENDS: [&str; 8] = [
 ];
 
 /// A content that is longer or shorter than its length.
-const BAD_LENGTHS: [&str; 3] = ["$4\r\nhello\r\n", "$6\r\nhello\r\nx", "$0\r\nx"];
+const BAD_LENGTHS: &[&str] = &["$4\r\nhello\r\n", "$6\r\nhello\r\nx", "$0\r\nx"];
 
 /// Numbers with a sign, a leading zero, no digit or another byte.
-const BAD_NUMBERS: [&str; 14] = [
+const BAD_NUMBERS: &[&str] = &[
     ":-1\r\n", ":+1\r\n", ":01\r\n", ":00", ":\r\n", ":1a", ":1 ", "$a", "$05", "$-2", "$-1x",
     "*-0", "*-2\r\n", "*1a\r\n",
 ];
 
-/// Tries: lw_resp::first_word
-#[test]
-fn what_no_word_begins_with_is_malformed(rt: HostRuntime) -> Result<(), Fail> {
-    check_all(rt.alloc(), &NO_KINDS, "malformed")?;
-    check_all(rt.alloc(), &BAD_ENDS, "malformed")?;
-    check_all(rt.alloc(), &BAD_LENGTHS, "malformed")?;
-    check_all(rt.alloc(), &BAD_NUMBERS, "malformed")
-}
-
 /// Numbers that pass their bound: 63 bits, and 512 megabytes for a bulk string.
-const TOO_GREAT: [&str; 7] = [
+const TOO_GREAT: &[&str] = &[
     ":9223372036854775808\r\n",
     ":9223372036854775808",
     ":10000000000000000000",
@@ -137,7 +104,7 @@ const TOO_GREAT: [&str; 7] = [
 ];
 
 /// Numbers at their bound, or below it as far as they have come.
-const NOT_TOO_GREAT: [&str; 5] = [
+const NOT_TOO_GREAT: &[&str] = &[
     ":922337203685477580",
     "$536870912\r\n",
     "$536870912",
@@ -145,41 +112,50 @@ const NOT_TOO_GREAT: [&str; 5] = [
     "*9223372036854775807\r",
 ];
 
-/// Tries: lw_resp::first_word
-#[test]
-fn numbers_are_bounded(rt: HostRuntime) -> Result<(), Fail> {
-    check_all(rt.alloc(), &TOO_GREAT, "malformed")?;
-    check_all(rt.alloc(), &NOT_TOO_GREAT, "not whole")
-}
-
-/// A line of so many bytes after its kind, and what stands behind them.
-fn line(alloc: Global, kind: &str, count: usize, end: &str) -> Result<Vec<u8>, Fail> {
-    let mut bytes = Vec::from_slice(alloc, kind.as_bytes())?;
-    for _ in 0..count {
-        bytes.push(b'a')?;
-    }
-    bytes.extend_from_slice(end.as_bytes())?;
-    Ok(bytes)
-}
-
-fn check_line(alloc: Global, kind: &str, count: usize, end: &str, want: &str) -> Result<(), Fail> {
-    let bytes = line(alloc, kind, count, end)?;
-    let told = word_told(alloc, bytes.as_slice())?;
-    if told.as_str().starts_with(want) {
-        return Ok(());
-    }
-    Err(Fail::new(format_args!("{want} of {count}")))
-}
+/// Texts, and what is read of each.
+static UNREAD: [(&[&str], &str); 6] = [
+    (NO_KINDS, "malformed"),
+    (BAD_ENDS, "malformed"),
+    (BAD_LENGTHS, "malformed"),
+    (BAD_NUMBERS, "malformed"),
+    (TOO_GREAT, "malformed"),
+    (NOT_TOO_GREAT, "not whole"),
+];
 
 /// Tries: lw_resp::first_word
 #[test]
-fn texts_are_bounded(rt: HostRuntime) -> Result<(), Fail> {
-    let alloc = rt.alloc();
-    check_line(alloc, "+", 65_536, "\r\n", "status a")?;
-    check_line(alloc, "-", 65_536, "\r\n", "error a")?;
-    check_line(alloc, "+", 65_536, "\r", "not whole")?;
-    check_line(alloc, "-", 65_536, "", "not whole")?;
-    check_line(alloc, "+", 65_537, "\r\n", "malformed")?;
-    check_line(alloc, "-", 65_537, "\r", "malformed")?;
-    check_line(alloc, "-", 65_537, "", "malformed")
+fn what_no_word_begins_with_is_malformed(rt: HostRuntime) {
+    for (texts, want) in &UNREAD {
+        for bytes in *texts {
+            check(&rt, rt.alloc(), bytes.as_bytes(), want);
+        }
+    }
+}
+
+/// The kind of a line, how many bytes stand behind it, what ends it, and how what is read of it begins.
+static LINES: [(&str, usize, &str, &str); 7] = [
+    ("+", 65_536, "\r\n", "status a"),
+    ("-", 65_536, "\r\n", "error a"),
+    ("+", 65_536, "\r", "not whole"),
+    ("-", 65_536, "", "not whole"),
+    ("+", 65_537, "\r\n", "malformed"),
+    ("-", 65_537, "\r", "malformed"),
+    ("-", 65_537, "", "malformed"),
+];
+
+/// Tries: lw_resp::first_word
+#[test]
+fn texts_are_bounded(rt: HostRuntime) {
+    for row in &LINES {
+        let (kind, count, end, want) = *row;
+        let mut bytes = Vec::from_slice(rt.alloc(), kind.as_bytes()).expect(&rt, "memory");
+        for _ in 0..count {
+            bytes.push(b'a').expect(&rt, "memory");
+        }
+        bytes
+            .extend_from_slice(end.as_bytes())
+            .expect(&rt, "memory");
+        let told = word_told(&rt, rt.alloc(), &bytes);
+        assert!(rt; told.as_str().starts_with(want), "{want} of {count}");
+    }
 }

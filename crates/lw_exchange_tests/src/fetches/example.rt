@@ -19,12 +19,13 @@ const GET_THIRD: &[u8] = b"\x44\x01\x00\x00\x00\x00\x00\x05\xb13\x010\x61\x6e\x6
 /// What the store is told: Observe alone is left of the options.
 const TOLD: &[u8] = b"\x58\x45\x00\x00\x00\x00\x00\x00\x00\x07\x00\x01\x62\xf3\x92\xff";
 
-fn with_payload(alloc: Global, front: &[u8], parts: &[Part]) -> Result<Vec<u8>, AllocError> {
-    let mut bytes = Vec::from_slice(alloc, front)?;
+/// The bytes, with payloads behind them.
+fn with_payload(rt: &impl Abort, alloc: Global, front: &[u8], parts: &[Part]) -> Vec<u8> {
+    let mut bytes = Vec::from_slice(alloc, front).expect(rt, "memory");
     for (mid, len) in parts {
-        put_payload(&mut bytes, *mid, *len)?;
+        put_payload(&mut bytes, *mid, *len).expect(rt, "memory");
     }
-    Ok(bytes)
+    bytes
 }
 
 fn is_taken(parcel: &Parcel, acknowledged: Option<&[u8]>, asked: &[u8]) -> bool {
@@ -42,31 +43,33 @@ fn is_taken(parcel: &Parcel, acknowledged: Option<&[u8]>, asked: &[u8]) -> bool 
     }
 }
 
-/// Tries: Fetches::take, Fetches::count
-#[test]
-fn a_status_icon_is_fetched(rt: HostRuntime) -> Result<(), Fail> {
-    let alloc = rt.alloc();
-    let mut fetches = fetches(alloc);
-    let watch = watch_of(&TOKEN)?;
-    let first = with_payload(alloc, NOTIFICATION, &[(1, 128)])?;
-    let parcel = fetches.take(at(0), HOST_A, Some(watch), &first)?;
-    let acknowledged = Some(b"\x60\x00\xaf\x9c".as_slice());
-    holds_for(&"1/0/128", is_taken(&parcel, acknowledged, GET_SECOND))?;
-    holds_for(&"one", fetches.count() == 1)?;
-    let second = with_payload(alloc, SECOND, &[(2, 128)])?;
-    let parcel = fetches.take(at(1), HOST_A, None, &second)?;
-    holds_for(&"2/0/128", is_taken(&parcel, None, GET_THIRD))?;
-    let third = with_payload(alloc, THIRD, &[(3, 53)])?;
-    let parcel = fetches.take(at(2), HOST_A, None, &third)?;
-    let whole = with_payload(alloc, TOLD, &[(1, 128), (2, 128), (3, 53)])?;
-    let is_whole = match &parcel {
+fn is_whole(parcel: &Parcel, whole: &[u8]) -> bool {
+    match parcel {
         Parcel::Whole {
             acknowledgement: None,
             message,
             is_complete: true,
-        } => *message == whole,
+        } => message.as_slice() == whole,
         _ => false,
-    };
-    holds_for(&"the whole", is_whole)?;
-    holds_for(&"none", fetches.count() == 0)
+    }
+}
+
+/// Tries: Fetches::take, Fetches::count
+#[test]
+fn a_status_icon_is_fetched(rt: HostRuntime) {
+    let alloc = rt.alloc();
+    let mut fetches = fetches(alloc);
+    let first = with_payload(&rt, alloc, NOTIFICATION, &[(1, 128)]);
+    let parcel = take(&rt, &mut fetches, (0, HOST_A), watch_of(TOKEN), &first);
+    let acknowledged = Some(b"\x60\x00\xaf\x9c".as_slice());
+    assert!(rt; is_taken(&parcel, acknowledged, GET_SECOND));
+    assert!(rt; fetches.count() == 1);
+    let second = with_payload(&rt, alloc, SECOND, &[(2, 128)]);
+    let parcel = take(&rt, &mut fetches, (1, HOST_A), None, &second);
+    assert!(rt; is_taken(&parcel, None, GET_THIRD));
+    let third = with_payload(&rt, alloc, THIRD, &[(3, 53)]);
+    let parcel = take(&rt, &mut fetches, (2, HOST_A), None, &third);
+    let whole = with_payload(&rt, alloc, TOLD, &[(1, 128), (2, 128), (3, 53)]);
+    assert!(rt; is_whole(&parcel, &whole));
+    assert!(rt; fetches.count() == 0);
 }

@@ -2,6 +2,7 @@
 
 use super::*;
 use lw_stamp::NoMemory;
+use std::test::Fail;
 
 /// What comes of the datagram. Where that is refused, it comes again.
 fn take_in_two_tries(
@@ -15,23 +16,25 @@ fn take_in_two_tries(
     }
 }
 
+/// Three messages, and what they are given.
+static BLOCKS: [(Came, Given<'static>); 3] = [
+    (told_of!(1, 0x08, 16), Given::Asks(0x10, 5)),
+    (answer!(2, 0x18, 16), Given::Asks(0x20, 5)),
+    (
+        answer!(3, 0x20, 3),
+        Given::Whole(&[(1, 16), (2, 16), (3, 3)], true),
+    ),
+];
+
 /// Tries: Fetches::take
 #[test]
 fn a_refused_block_is_taken_when_it_comes_again(rt: HostRuntime) -> Result<(), Fail> {
     let alloc = rt.alloc();
     let mut fetches = fetches(alloc);
-    let watch = watch_of(&TOKEN)?;
-    let whole = [(1, 16), (2, 16), (3, 3)];
-    let rows = [
-        (told_of(1, 0x08, 16), Given::Asks(0x10, 5)),
-        (answer(2, 0x18, 16), Given::Asks(0x20, 5)),
-        (answer(3, 0x20, 3), Given::Whole(&whole, true)),
-    ];
-    for row in &rows {
-        let (came, given) = row;
-        let watch = (came.mid == 1).then_some(watch);
+    for (came, given) in &BLOCKS {
+        let watch = watch_for(came.token);
         let parcel = take_in_two_tries(&mut fetches, watch, &datagram(alloc, came)?)?;
-        holds_for(row, is_given(alloc, came, &parcel, *given)?)?;
+        assert!(rt; is_given(alloc, came, &parcel, *given)?, "{}", came.mid);
     }
     Ok(())
 }
@@ -41,14 +44,12 @@ fn a_refused_block_is_taken_when_it_comes_again(rt: HostRuntime) -> Result<(), F
 fn a_fetch_whose_end_is_refused_can_be_cut_again(rt: HostRuntime) -> Result<(), Fail> {
     let alloc = rt.alloc();
     let mut fetches = fetches(alloc);
-    gives(
-        alloc,
-        &mut fetches,
-        &(0, HOST_A, told_of(1, 0x08, 16), Given::Asks(0x10, 5)),
-    )?;
+    let begins = (0, HOST_A, told_of!(1, 0x08, 16), Given::Asks(0x10, 5));
+    gives(&rt, alloc, &mut fetches, "begins", &begins);
     let cut = match fetches.cut(5) {
         Err(NoMemory) => fetches.cut(5)?,
         Ok(cut) => cut,
     };
-    holds_for(&5, cut == Some(told(alloc, &TOKEN, &[(1, 16)])?))
+    assert!(rt; cut == Some(told(alloc, &TOKEN, &[(1, 16)])?));
+    Ok(())
 }

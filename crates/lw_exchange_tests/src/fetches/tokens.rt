@@ -3,21 +3,26 @@
 use super::*;
 use lw_exchange::token_in_blocks;
 
+/// Whether that is the token of a notification in blocks.
+fn is_token(rt: &impl Abort, alloc: Global, bytes: &[u8], want: Option<Stamp>) -> bool {
+    token_in_blocks(alloc, bytes).expect(rt, "memory") == want
+}
+
 /// Tries: token_in_blocks
 #[test]
-fn the_token_of_a_notification_in_blocks_is_found(rt: HostRuntime) -> Result<(), Fail> {
+fn the_token_of_a_notification_in_blocks_is_found(rt: HostRuntime) {
     let alloc = rt.alloc();
     for kind in [CON, NON, ACK] {
         for block in [0x08, 0x10, 0x0f] {
             let came = Came {
                 kind,
-                ..told_of(1, block, 3)
+                ..told_of!(1, block, 3)
             };
-            let token = token_in_blocks(alloc, &datagram(alloc, &came)?)?;
-            holds_for(&came, token == Stamp::from_bytes(TOKEN))?;
+            let bytes = datagram(alloc, &came).expect(&rt, "memory");
+            let is_so = is_token(&rt, alloc, &bytes, Stamp::from_bytes(TOKEN));
+            assert!(rt; is_so, "{kind} {block}");
         }
     }
-    Ok(())
 }
 
 /// No Block2; two, and one of four bytes; a token of four bytes, of none, and one whose counter is 0; a 2.04, a GET and
@@ -38,10 +43,8 @@ static WITHOUT: [&[u8]; 11] = [
 
 /// Tries: token_in_blocks
 #[test]
-fn other_datagrams_have_none(rt: HostRuntime) -> Result<(), Fail> {
-    for bytes in WITHOUT {
-        let token = token_in_blocks(rt.alloc(), bytes)?;
-        holds_for(&bytes, token.is_none())?;
+fn other_datagrams_have_none(rt: HostRuntime) {
+    for bytes in &WITHOUT {
+        assert!(rt; is_token(&rt, rt.alloc(), bytes, None), "{bytes:?}");
     }
-    Ok(())
 }
