@@ -55,7 +55,8 @@ static SWEEPS: [Step<'static>; 3] = [
     Line("sweep 1 30000"),
 ];
 
-/// Two Registers of `a`, one of `b` and one of `bb`, four observations, one of which replaces another, and the end of one.
+/// Two Registers of `a`, one of `b` and one of `bb`, four observations, one of which replaces another, and the end of
+/// one.
 const AFTER_CALLS: [Row<'static>; 6] = [
     (
         Line("endpoint 1 0 a"),

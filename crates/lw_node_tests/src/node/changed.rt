@@ -29,8 +29,8 @@ fn shortest<'a>(bytes: &'a [u8], removal: &'a [u8]) -> &'a [u8] {
     }
 }
 
-/// Whether a new node refuses the bytes with the fault that they have, and stays as it was, or else merges them and sends
-/// the same again; or the removal, where they are its fuller spelling.
+/// Whether a new node refuses the bytes with the fault that they have, and stays as it was, or else merges them and
+/// sends the same again; or the removal, where they are its fuller spelling.
 fn is_merged(alloc: Global, bytes: &[u8], removal: &[u8]) -> Result<bool, NoMemory> {
     let mut node = Node::new(alloc, 1);
     let merged = node.merge(bytes);

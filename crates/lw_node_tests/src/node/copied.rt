@@ -253,7 +253,7 @@ static REQUESTS: [(&[Row<'static>], bool); 14] = [
 ];
 
 /// A copy that has had the request is another node or not, and is the same once both have had it.
-fn differs(rt: &impl Abort, alloc: Global, request: &[Row<'_>], changes: bool) {
+fn differs(rt: &impl Abort, alloc: Global, request: &'static [Row<'static>], changes: bool) {
     let mut node = Node::new(alloc, 1);
     play(rt, alloc, &mut node, ("before a request", &REGISTERED));
     let mut copy = node.copy().expect(rt, "memory");
