@@ -72,6 +72,7 @@ fn is(rt: &impl Abort, text: Result<String, NoMemory>, want: &str) {
 }
 
 fn links(rt: &impl Abort, alloc: Global, list: &[u8]) -> LinkText {
+    assert!(rt; list.len() <= 8_192);
     LinkText::read(alloc, list).expect(rt, "a list of links")
 }
 
