@@ -70,6 +70,35 @@ def many_attributes():
     return run
 
 
+def largest():
+    """A Register of 8,192 bytes with each parameter at its longest, and one with a hundred observations: the deltas of
+    both come to another node, which ends the last observation."""
+    run = Run(2)
+    name, objects = "e" * 252, "</" + "o" * 7_629 + ">"
+    run.register(From(1), name, 4294967295, True, "ABCDEFGH", "1" * 251, True, objects)
+    assert len(bytes.fromhex(run.script[-1].split()[-1])) == 8_192
+    run.ask_endpoint(1, 0, name)
+    run.ask_next(1, 0)
+    run.send(1, 0)
+    for _ in range(2):
+        run.deliver(2, 0)
+        run.ask_endpoint(2, 0, name)
+        run.send(2, 0)
+        run.ask_change(2)
+    run.register(From(1), "a")
+    for number in range(100):
+        run.observe(1, 0, (2, 1), (65534, 65534, 65534, number), 65535, 32)
+    run.send(1, 1)
+    run.deliver(2, 3)
+    run.send(2, 1)
+    run.ask_watch(2, 0, (2, 1))
+    run.ask_token(2, 0, (102, 1))
+    run.cancel(2, 0, (102, 1), 32)
+    run.ask_token(2, 0, (102, 1))
+    run.send(2, 2)
+    return run
+
+
 def most_registers():
     """Nine thousand endpoints of one node come to another, about as many as a script can have."""
     run = Run(2)
@@ -240,4 +269,4 @@ def gossip():
     return run
 
 
-ALL = (three_hundred_slots, many_attributes, most_registers, most_events, five_thousand_events, gossip)
+ALL = (three_hundred_slots, many_attributes, largest, most_registers, most_events, five_thousand_events, gossip)
