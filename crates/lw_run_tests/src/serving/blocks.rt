@@ -159,7 +159,7 @@ static BLOCKS: [Run; 6] = [
             ..STAGE
         },
         want: &[
-            Piece::Line("Ok(()) rrr"),
+            Piece::Line("Ok(()) rrWr"),
             Piece::Sent(3, CONTINUE_FIRST),
             Piece::Sent(3, CONTINUE_SECOND),
             Piece::Sent(3, INCOMPLETE_THIRD),
@@ -234,7 +234,7 @@ static SHOWN: [Turn; 6] = [
 ];
 
 /// Seven blocks of 1,024 bytes go on, and with the eighth the message has more than 8,192 bytes: 4.13 with Size1 8,192,
-/// 13 and 47 above 0.
+/// 13 and 47 above 0. What has come is kept.
 static TOO_LARGE: [Turn; 8] = [
     Turn {
         datagram: "40020000b272644465703d61c10eff",
@@ -297,7 +297,7 @@ static TOO_LARGE: [Turn; 8] = [
         letters: 1_024,
         sent: &["608d0007d22f2000"],
         blocks: 8,
-        bodies: "fleet_bodies 0",
+        bodies: "fleet_bodies 1",
         ..TURN
     },
 ];

@@ -45,7 +45,7 @@ static TOLD: [Run; 5] = [
             ..STAGE
         },
         want: &[
-            Piece::Line("Ok(()) Wrtr"),
+            Piece::Line("Ok(()) WrtrW"),
             Piece::Line(
                 r#"ServiceUnavailable Json {"now":1000,"status":"away","version":"0.1.0"}"#,
             ),
@@ -68,7 +68,7 @@ static TOLD: [Run; 5] = [
             ..STAGE
         },
         want: &[
-            Piece::Line("Ok(()) rWrtr"),
+            Piece::Line("Ok(()) rWrtrW"),
             Piece::Line("Ok Html <p>é"),
             Piece::Line("Ok Html <p>é"),
             Piece::Line("[WARN  lw_run::course] log away"),

@@ -9,9 +9,9 @@ const OBSERVED: &str =
 
 /// What is told of a second one of the same path, and the GET that asks for it: the third message of the server's own.
 const OBSERVED_AGAIN: &str =
-    r#"Created Json {"accept":null,"endpoint":"a","id":"0000000000010001","path":"/3/0","token":"0000000000030001"}"#;
+    r#"Created Json {"accept":null,"endpoint":"a","id":"0000000000010001","path":"/3/0","token":"0000000000040001"}"#;
 
-const ASKS_AGAIN: &str = "4801000200000000000300016051330130";
+const ASKS_AGAIN: &str = "4801000200000000000400016051330130";
 
 /// The GET that asks for it: confirmable, the first message of the server's own, with Observe 0.
 const ASKS: &str = "4801000000000000000200016051330130";
@@ -160,7 +160,7 @@ static MADE: [Run; 6] = [
             ..STAGE
         },
         want: &[
-            Piece::Line("Ok(()) ?"),
+            Piece::Line("Ok(()) WrWrWrrWrrrrWr"),
             Piece::Sent(3, CREATED),
             Piece::Line(OBSERVED),
             Piece::Sent(3, ASKS),
@@ -289,7 +289,7 @@ static TOLD: [Run; 4] = [
             ..STAGE
         },
         want: &[
-            Piece::Line("Ok(()) ?"),
+            Piece::Line("Ok(()) WrWrWrrr"),
             Piece::Sent(3, CREATED),
             Piece::Line(OBSERVED),
             Piece::Sent(3, ASKS),

@@ -4,12 +4,13 @@ use super::*;
 use lw_target::{Asked, Desk};
 use std::process::Abort;
 
-/// A datagram that comes as often as it is answered, all at once, and what is counted and told behind that.
+/// A datagram that comes so many times at once, and what is counted and told behind that.
 #[derive(Drop)]
 pub(super) struct Turn {
     /// The datagram in hex, and how many letters `a` stand behind that.
     pub(super) datagram: &'static str,
     pub(super) letters: usize,
+    pub(super) times: u32,
     /// Each reply, in hex.
     pub(super) sent: &'static [&'static str],
     pub(super) duplicates: u64,
@@ -24,6 +25,7 @@ pub(super) struct Turn {
 pub(super) const TURN: Turn = Turn {
     datagram: "",
     letters: 0,
+    times: 1,
     sent: &[],
     duplicates: 0,
     blocks: 0,
@@ -51,8 +53,8 @@ pub(super) fn takes(rt: &impl Abort, alloc: Global, turns: &[Turn]) {
     for turn in turns {
         turn.sends(rt, alloc, &mut server);
         turn.counts(rt, &server);
-        tells(rt, &server, &Asked::Metrics, turn.bodies);
-        tells(rt, &server, &EVERYONE, turn.links);
+        turn.tells(rt, &server, &Asked::Metrics, turn.bodies);
+        turn.tells(rt, &server, &EVERYONE, turn.links);
     }
 }
 
@@ -66,7 +68,7 @@ impl Turn {
         }
     }
 
-    /// The datagram as often as it is answered.
+    /// The datagram, so many times.
     fn batch(&self, rt: &impl Abort, alloc: Global) -> Vec<Datagram> {
         let address = [127, 0, 0, 1];
         let from = Addr::V4 {
@@ -75,7 +77,7 @@ impl Turn {
         };
         let bytes = self.bytes(rt, alloc);
         let mut batch = Vec::new(alloc);
-        for _reply in self.sent {
+        for _time in 0..self.times {
             let datagram = Datagram::new(alloc, from, &bytes).expect(rt, "memory");
             batch.push(datagram).expect(rt, "memory");
         }
@@ -95,10 +97,16 @@ impl Turn {
         assert_eq!(rt; server.blocks(), self.blocks, "{}", self.datagram);
         assert_eq!(rt; server.unkept(), 0, "{}", self.datagram);
     }
-}
 
-/// Fails where what is told does not have the text.
-fn tells(rt: &impl Abort, desk: &Server<MemoryLog, Ticks>, asked: &Asked, text: &str) {
-    let answer = desk.answer(asked).expect(rt, "an answer");
-    assert!(rt; answer.body.as_str().contains(text), "{text}");
+    /// Fails where what is told does not have the text.
+    fn tells(
+        &self,
+        rt: &impl Abort,
+        server: &Server<MemoryLog, Ticks>,
+        asked: &Asked,
+        text: &str,
+    ) {
+        let answer = server.answer(asked).expect(rt, self.datagram);
+        assert!(rt; answer.body.as_str().contains(text), "{}: {text}", self.datagram);
+    }
 }

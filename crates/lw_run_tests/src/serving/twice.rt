@@ -64,7 +64,7 @@ static AGAIN: [Run; 4] = [
             ..STAGE
         },
         want: &[
-            Piece::Line("Ok(()) WrWr"),
+            Piece::Line("Ok(()) WWrWr"),
             Piece::Sent(3, CREATED),
             Piece::Sent(3, CREATED),
             Piece::Line("[WARN  lw_run::course] no memory for a turn"),
@@ -88,6 +88,7 @@ static DUPLICATES: [Turn; 4] = [
     },
     Turn {
         datagram: REGISTER,
+        times: 3,
         sent: &[CREATED, CREATED, CREATED],
         duplicates: 3,
         links: "</>",
@@ -95,6 +96,7 @@ static DUPLICATES: [Turn; 4] = [
     },
     Turn {
         datagram: PING,
+        times: 2,
         sent: &[PONG, PONG],
         duplicates: 3,
         links: "</>",
@@ -102,7 +104,8 @@ static DUPLICATES: [Turn; 4] = [
     },
     Turn {
         datagram: UPDATE,
-        sent: &[CHANGED, CHANGED],
+        times: 2,
+        sent: &[CHANGED],
         duplicates: 4,
         links: "</>",
         ..TURN
