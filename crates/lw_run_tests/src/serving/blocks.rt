@@ -233,8 +233,8 @@ static SHOWN: [Turn; 6] = [
     },
 ];
 
-/// Seven blocks of 1,024 bytes go on, and with the eighth the message has more than 8,192 bytes: 4.13 with Size1 8,192,
-/// 13 and 47 above 0. What has come is kept.
+/// Seven blocks of 1,024 bytes go on, and with the eighth the message has more than 8,192 bytes: 4.13 with Size1
+/// 8,192, 13 and 47 above 0. What has come is kept.
 static TOO_LARGE: [Turn; 8] = [
     Turn {
         datagram: "40020000b272644465703d61c10eff",

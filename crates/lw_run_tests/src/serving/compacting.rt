@@ -143,10 +143,7 @@ static FAULTS: [Run; 4] = [
             }),
             ..STAGE
         },
-        want: &[
-            Piece::Line("Err(LogRefused) Wr"),
-            Piece::Sent(1, PONG),
-        ],
+        want: &[Piece::Line("Err(LogRefused) Wr"), Piece::Sent(1, PONG)],
     },
 ];
 

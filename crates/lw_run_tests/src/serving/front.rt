@@ -155,7 +155,9 @@ impl MemoryFront {
             media,
             body,
         } = answer.ok_or(WireFault)?;
-        writeln!(self.sent, "{status:?} {media:?} {body}").ok().ok_or(WireFault)
+        writeln!(self.sent, "{status:?} {media:?} {body}")
+            .ok()
+            .ok_or(WireFault)
     }
 
     /// Adds a line, if there is memory for it.

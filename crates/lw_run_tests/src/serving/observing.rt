@@ -38,22 +38,28 @@ const BLOCK: &str = "4845003100000000000200016105d10408ff30313233343536373839616
 const RESET: &str = "70000000";
 
 /// The first notification as the page of notifications has it: 2.05, Observe 1 and `1`.
-const TOLD_FIRST: &str = r#"{"complete":true,"notice":{"code":69,"content_format":null,"ended":false,"endpoint":"a","id":"0000000000010001","observe":1,"path":"/3/0","payload":"31","token":"0000000000020001"},"number":0}"#;
+const TOLD_FIRST: &str =
+    r#"{"complete":true,"notice":{"code":69,"content_format":null,"ended":false,"endpoint":"a","id":"0000000000010001","observe":1,"path":"/3/0","payload":"31","token":"0000000000020001"},"number":0}"#;
 
 /// The one with Observe 6 and `2`, as the second.
-const TOLD_SIXTH: &str = r#"{"complete":true,"notice":{"code":69,"content_format":null,"ended":false,"endpoint":"a","id":"0000000000010001","observe":6,"path":"/3/0","payload":"32","token":"0000000000020001"},"number":1}"#;
+const TOLD_SIXTH: &str =
+    r#"{"complete":true,"notice":{"code":69,"content_format":null,"ended":false,"endpoint":"a","id":"0000000000010001","observe":6,"path":"/3/0","payload":"32","token":"0000000000020001"},"number":1}"#;
 
 /// The one in blocks, whole, as the second.
-const TOLD_BLOCKS: &str = r#"{"complete":true,"notice":{"code":69,"content_format":null,"ended":false,"endpoint":"a","id":"0000000000010001","observe":5,"path":"/3/0","payload":"3031323334353637383961626364656678","token":"0000000000020001"},"number":1}"#;
+const TOLD_BLOCKS: &str =
+    r#"{"complete":true,"notice":{"code":69,"content_format":null,"ended":false,"endpoint":"a","id":"0000000000010001","observe":5,"path":"/3/0","payload":"3031323334353637383961626364656678","token":"0000000000020001"},"number":1}"#;
 
 /// The first block of it, as the first, which is not all.
-const TOLD_FIRST_BLOCK: &str = r#"{"complete":false,"notice":{"code":69,"content_format":null,"ended":false,"endpoint":"a","id":"0000000000010001","observe":5,"path":"/3/0","payload":"30313233343536373839616263646566","token":"0000000000020001"},"number":0}"#;
+const TOLD_FIRST_BLOCK: &str =
+    r#"{"complete":false,"notice":{"code":69,"content_format":null,"ended":false,"endpoint":"a","id":"0000000000010001","observe":5,"path":"/3/0","payload":"30313233343536373839616263646566","token":"0000000000020001"},"number":0}"#;
 
 /// The end of an observation whose request was given up: 5.04.
-const TOLD_NO_ANSWER: &str = r#"{"complete":true,"notice":{"code":164,"content_format":null,"ended":true,"endpoint":"a","id":"0000000000010001","observe":null,"path":"/3/0","payload":"","token":"0000000000020001"},"number":0}"#;
+const TOLD_NO_ANSWER: &str =
+    r#"{"complete":true,"notice":{"code":164,"content_format":null,"ended":true,"endpoint":"a","id":"0000000000010001","observe":null,"path":"/3/0","payload":"","token":"0000000000020001"},"number":0}"#;
 
 /// The end of one that the device has reset.
-const TOLD_RESET: &str = r#"{"complete":true,"notice":{"code":0,"content_format":null,"ended":true,"endpoint":"a","id":"0000000000010001","observe":null,"path":"/3/0","payload":"","token":"0000000000020001"},"number":0}"#;
+const TOLD_RESET: &str =
+    r#"{"complete":true,"notice":{"code":0,"content_format":null,"ended":true,"endpoint":"a","id":"0000000000010001","observe":null,"path":"/3/0","payload":"","token":"0000000000020001"},"number":0}"#;
 
 /// Before and behind the notifications of a page that has one, and of one that has two.
 const PAGE_OF_ONE: Piece = Piece::Text(r#"Ok Json {"next":1,"notifications":["#);
@@ -174,15 +180,10 @@ static MADE: [Run; 6] = [
     Run {
         name: "what is not registered is not observed",
         stage: Stage {
-            comings: &[
-                Coming::Observe("/3/0"),
-            ],
+            comings: &[Coming::Observe("/3/0")],
             ..STAGE
         },
-        want: &[
-            Piece::Line("Ok(()) r"),
-            NO_SUCH,
-        ],
+        want: &[Piece::Line("Ok(()) r"), NO_SUCH],
     },
     Run {
         // While the log is away a command is refused, and no request is sent, then or later.
@@ -301,8 +302,8 @@ static TOLD: [Run; 4] = [
         ],
     },
     Run {
-        // A Register that is not confirmable, message ID 11, which comes twice; then a GET, message ID 12. Their replies have
-        // message IDs of the server's own, each its own, and what comes again gets the same reply.
+        // A Register that is not confirmable, message ID 11, which comes twice; then a GET, message ID 12. Their replies
+        // have message IDs of the server's own, each its own, and what comes again gets the same reply.
         name: "replies that are not confirmable have IDs of their own",
         stage: Stage {
             comings: &[

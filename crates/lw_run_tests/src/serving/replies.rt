@@ -37,13 +37,17 @@ static MANY_AT_ONCE: [Run; 4] = [
             comings: &[Coming::Datagram(1, PING), Coming::Times(512, MORE)],
             ..STAGE
         },
-        want: &[Piece::Line("Ok(()) Wrrr"), Piece::Times(513, "1 70000007\n")],
+        want: &[
+            Piece::Line("Ok(()) Wrrr"),
+            Piece::Times(513, "1 70000007\n"),
+        ],
     },
 ];
 
 static REPLIES: [Run; 3] = [
     Run {
-        // A Register, bytes that are no message and are owed no reply, and a ping, which are there at once; then an Update.
+        // A Register, bytes that are no message and are owed no reply, and a ping, which are there at once; then an
+        // Update.
         name: "replies go to whom they are owed",
         stage: Stage {
             comings: &[

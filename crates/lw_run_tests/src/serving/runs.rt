@@ -131,10 +131,7 @@ static TROUBLES: [Run; 7] = [
             }),
             ..STAGE
         },
-        want: &[
-            Piece::Line("Err(LogRefused) Wr"),
-            Piece::Sent(1, PONG),
-        ],
+        want: &[Piece::Line("Err(LogRefused) Wr"), Piece::Sent(1, PONG)],
     },
     Run {
         name: "one reading has no memory",

@@ -142,7 +142,11 @@ impl Call {
                 let found = log.log_use();
                 assert_eq!(rt; found.appends.counts, counts, "{name}");
                 assert_eq!(rt; found.appends.microseconds, microseconds, "{name}");
-                assert_eq!(rt; [found.entries_written, found.entries_read], entries, "{name}");
+                assert_eq!(rt;
+                    [found.entries_written, found.entries_read],
+                    entries,
+                    "{name}"
+                );
             }
         }
     }

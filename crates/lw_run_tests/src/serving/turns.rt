@@ -99,14 +99,12 @@ impl Turn {
     }
 
     /// Fails where what is told does not have the text.
-    fn tells(
-        &self,
-        rt: &impl Abort,
-        server: &Server<MemoryLog, Ticks>,
-        asked: &Asked,
-        text: &str,
-    ) {
+    fn tells(&self, rt: &impl Abort, server: &Server<MemoryLog, Ticks>, asked: &Asked, text: &str) {
         let answer = server.answer(asked).expect(rt, self.datagram);
-        assert!(rt; answer.body.as_str().contains(text), "{}: {text}", self.datagram);
+        assert!(rt;
+            answer.body.as_str().contains(text),
+            "{}: {text}",
+            self.datagram
+        );
     }
 }
