@@ -8,20 +8,24 @@ mod measured;
 mod observing;
 mod refused;
 mod replies;
+mod run;
 mod runs;
+mod shared_log;
 mod stage;
 mod timed;
+mod turns;
 mod twice;
 
-use crate::hold::{holds, holds_for};
-use front::{Coming, MemoryFront, Ticks};
+use front::{Coming, MemoryFront, Question, Ticks};
 use lw_log::{DeltaLog, FleetId, LogFault, MemoryCall, MemoryLog, Position};
 use lw_member::{Chance, Member};
 use lw_run::*;
-use stage::{Stage, Trouble};
+use run::{Piece, Run, plays};
+use shared_log::Trouble;
+use stage::{STAGE, Stage};
 use std::alloc::Global;
-use std::test::Fail;
 use timed::Readings;
+use turns::{TURN, Turn, takes};
 
 /// An empty message, message ID 7, and its reply.
 const PING: &str = "40000007";

@@ -9,146 +9,155 @@ use lw_stamp::{Stamp, Text};
 use lw_target::{Answer, Asked, Command, Desk};
 use std::time::Duration;
 
+/// What a visitor asks for.
+pub(super) enum Question {
+    Page,
+    Health,
+    Node,
+    Metrics,
+    /// All that devices told.
+    Notifications,
+}
+
 /// What a front gives.
-#[derive(Clone, Copy)]
-pub(super) enum Coming<'a> {
+pub(super) enum Coming {
     /// A datagram from the port of 127.0.0.1, in hex, when it is waited for.
-    Datagram(u16, &'a str),
+    Datagram(u16, &'static str),
     /// One that is there with what came before.
-    AtOnce(u16, &'a str),
+    AtOnce(u16, &'static str),
     /// The time is over.
     Nothing,
     /// A fault.
     Fault,
     /// A visitor has the path of `a` observed.
-    Observe(&'a str),
+    Observe(&'static str),
     /// A visitor has the observation end whose token is made by node 1 and has the counter.
     Cancel(u8),
-    /// A visitor asks for all that devices told.
-    Notifications,
+    /// A visitor asks for these in turn.
+    Asks(&'static [Question]),
+    /// The same, so many times.
+    Times(u32, &'static Coming),
 }
 
-/// A front in memory. Where all has come it is over.
+/// A front in memory. Where all has come it is over. Two visitors have asked for what is not there.
 #[derive(Drop)]
-pub(super) struct MemoryFront<'a> {
+pub(super) struct MemoryFront {
     alloc: Global,
-    comings: &'a [Coming<'a>],
+    comings: &'static [Coming],
     /// How many have come.
     taken: usize,
+    /// How often the next one has come that is to come several times.
+    again: u32,
     /// Whether each send fails.
     send_fails: bool,
-    /// What was sent, to which ports, a line each.
+    /// What was sent, to which ports, and what visitors were told, a line each.
     sent: String,
-    /// Whether two visitors have asked for what is not there, and the desk is asked for its measures at the end.
-    visited: bool,
-    measures: String,
 }
 
-impl<'a> MemoryFront<'a> {
-    pub(super) fn new(
-        alloc: Global,
-        comings: &'a [Coming<'a>],
-        send_fails: bool,
-    ) -> MemoryFront<'a> {
+impl MemoryFront {
+    pub(super) fn new(alloc: Global, stage: &Stage) -> MemoryFront {
         MemoryFront {
             alloc,
-            comings,
+            comings: stage.comings,
             taken: 0,
-            send_fails,
+            again: 0,
+            send_fails: stage.send_fails,
             sent: String::new(alloc),
-            visited: false,
-            measures: String::new(alloc),
         }
-    }
-
-    /// With visitors, and measures at the end.
-    pub(super) fn visited(self) -> MemoryFront<'a> {
-        MemoryFront {
-            visited: true,
-            ..self
-        }
-    }
-
-    pub(super) fn into_measures(self) -> String {
-        self.measures
     }
 
     pub(super) fn into_sent(self) -> String {
         self.sent
     }
 
+    /// What comes next.
+    fn next(&self) -> Option<&'static Coming> {
+        match self.comings.get(self.taken)? {
+            Coming::Times(_, coming) => Some(*coming),
+            coming => Some(coming),
+        }
+    }
+
+    /// Goes on behind what came.
+    fn go_on(&mut self) {
+        self.again = self.again.wrapping_add(1);
+        if let Some(Coming::Times(times, _)) = self.comings.get(self.taken)
+            && self.again < *times
+        {
+            return;
+        }
+        self.again = 0;
+        self.taken = self.taken.wrapping_add(1);
+    }
+
     fn put(&self, buffer: &mut [u8], port: u16, datagram: &str) -> Result<(usize, Addr), WireFault>
         ensures { IfOk result (λ taken. taken.0 ≤ length buffer.new) }
     {
-        let bytes = hex::decode(self.alloc, datagram).map_err(|_| WireFault)?;
+        let bytes = hex::decode(self.alloc, datagram).ok().ok_or(WireFault)?;
         let count = bytes.len().min(buffer.len());
         buffer[..count].copy_from_slice(&bytes[..count]);
-        Ok((count, from_port(port)))
+        let address = [127, 0, 0, 1];
+        Ok((count, Addr::V4 { address, port }))
     }
 
-    /// What comes next.
+    /// Hears what comes next.
     fn hear<D: Desk>(&mut self, desk: &mut D, buffer: &mut [u8]) -> Result<Heard, WireFault>
         ensures { IfOk result (IsWithin (length buffer.new)) }
     {
-        let Some(coming) = self.comings.get(self.taken) else {
-            self.ask(desk)?;
+        let Some(coming) = self.next() else {
             return Ok(Heard::End);
         };
-        self.taken = self.taken.wrapping_add(1);
+        self.go_on();
         match *coming {
             Coming::Datagram(port, datagram) | Coming::AtOnce(port, datagram) => {
                 let (count, from) = self.put(buffer, port, datagram)?;
                 Ok(Heard::Datagram(count, from))
             }
-            Coming::Nothing => Ok(Heard::Nothing),
             Coming::Fault => Err(WireFault),
-            Coming::Observe(path) => {
-                self.command(desk, observe(self.alloc, path))?;
-                Ok(Heard::Nothing)
-            }
-            Coming::Cancel(counter) => {
-                self.command(desk, cancel(counter))?;
-                Ok(Heard::Nothing)
-            }
-            Coming::Notifications => {
-                self.ask_notifications(desk)?;
+            _ => {
+                self.visit(desk, coming)?;
                 Ok(Heard::Nothing)
             }
         }
     }
 
-    /// Has a command carried out, and adds what is told of it.
+    /// Adds what a visitor is told, if one comes.
+    fn visit<D: Desk>(&mut self, desk: &mut D, coming: &Coming) -> Result<(), WireFault> {
+        match *coming {
+            Coming::Observe(path) => self.command(desk, observe(self.alloc, path)),
+            Coming::Cancel(counter) => self.command(desk, cancel(counter)),
+            Coming::Asks(asked) => self.ask(desk, asked),
+            _ => Ok(()),
+        }
+    }
+
+    /// Has a command carried out.
     fn command<D: Desk>(
         &mut self,
         desk: &mut D,
         command: Option<Command>,
     ) -> Result<(), WireFault> {
-        let answer = desk.carry_out(&command.ok_or(WireFault)?).ok_or(WireFault)?;
-        self.put_answer(&answer)
+        let command = command.ok_or(WireFault)?;
+        self.put_answer(desk.carry_out(&command))
     }
 
-    fn ask_notifications<D: Desk>(&mut self, desk: &D) -> Result<(), WireFault> {
-        let asked = Asked::Notifications {
-            from: 0,
-            start: None,
-            limit: 64,
-        };
-        let answer = desk.answer(&asked).map_err(|_| WireFault)?;
-        self.put_answer(&answer)
-    }
-
-    fn put_answer(&mut self, answer: &Answer) -> Result<(), WireFault> {
-        let (status, body) = (answer.status, answer.body.as_str());
-        writeln!(self.sent, "{status:?} {body}").map_err(|_| WireFault)
-    }
-
-    /// Asks for measures, if they are to be told.
-    fn ask<D: Desk>(&mut self, desk: &D) -> Result<(), WireFault> {
-        if self.visited {
-            let answer = desk.answer(&Asked::Metrics).map_err(|_| WireFault)?;
-            self.measures = answer.body;
+    fn ask<D: Desk>(&mut self, desk: &D, questions: &[Question]) -> Result<(), WireFault> {
+        for question in questions {
+            let answer = desk.answer(&asked_by(question)).ok();
+            self.put_answer(answer)?;
         }
         Ok(())
+    }
+
+    fn put_answer(&mut self, answer: Option<Answer>) -> Result<(), WireFault> {
+        let Answer {
+            status,
+            media,
+            body,
+        } = answer.ok_or(WireFault)?;
+        writeln!(self.sent, "{status:?} {media:?} {body}")
+            .ok()
+            .ok_or(WireFault)
     }
 
     /// Adds a line, if there is memory for it.
@@ -162,10 +171,24 @@ impl<'a> MemoryFront<'a> {
 /// The command that has the path of `a` observed.
 fn observe(alloc: Global, path: &str) -> Option<Command> {
     Some(Command::Observe {
-        endpoint: Text::copy_of(alloc, "a").ok()?,
         path: read_path(path)?,
+        endpoint: Text::copy_of(alloc, "a").ok()?,
         accept: None,
     })
+}
+
+fn asked_by(question: &Question) -> Asked {
+    match question {
+        Question::Page => Asked::Page,
+        Question::Health => Asked::Health,
+        Question::Node => Asked::Node,
+        Question::Metrics => Asked::Metrics,
+        Question::Notifications => Asked::Notifications {
+            from: 0,
+            start: None,
+            limit: 64,
+        },
+    }
 }
 
 fn cancel(counter: u8) -> Option<Command> {
@@ -173,14 +196,7 @@ fn cancel(counter: u8) -> Option<Command> {
     Some(Command::Cancel { token })
 }
 
-fn from_port(port: u16) -> Addr {
-    Addr::V4 {
-        address: [127, 0, 0, 1],
-        port,
-    }
-}
-
-impl Front for MemoryFront<'_> {
+impl Front for MemoryFront {
     fn attend<D: Desk + Drop>(
         &mut self,
         desk: D,
@@ -193,10 +209,10 @@ impl Front for MemoryFront<'_> {
     }
 
     fn more(&mut self, buffer: &mut [u8]) -> Result<Option<(usize, Addr)>, WireFault> {
-        let Some(Coming::AtOnce(port, datagram)) = self.comings.get(self.taken) else {
+        let Some(Coming::AtOnce(port, datagram)) = self.next() else {
             return Ok(None);
         };
-        self.taken = self.taken.wrapping_add(1);
+        self.go_on();
         Ok(Some(self.put(buffer, *port, datagram)?))
     }
 
@@ -209,23 +225,21 @@ impl Front for MemoryFront<'_> {
 
     fn responses(&self) -> Responses {
         let mut responses = Responses::new();
-        if self.visited {
-            responses.count(404);
-            responses.count(404);
-        }
+        responses.count(404);
+        responses.count(404);
         responses
     }
 }
 
 /// A clock in memory. It gives the moments in turn, in milliseconds, and the last of them from then on.
 #[derive(Drop)]
-pub(super) struct Ticks<'a> {
-    moments: &'a [u64],
+pub(super) struct Ticks {
+    moments: &'static [u64],
     readings: usize,
 }
 
-impl<'a> Ticks<'a> {
-    pub(super) fn new(moments: &'a [u64]) -> Ticks<'a> {
+impl Ticks {
+    pub(super) fn new(moments: &'static [u64]) -> Ticks {
         Ticks {
             moments,
             readings: 0,
@@ -233,7 +247,7 @@ impl<'a> Ticks<'a> {
     }
 }
 
-impl HostClock for Ticks<'_> {
+impl HostClock for Ticks {
     fn now(&mut self) -> Option<Moment> {
         let ms = self.moments.get(self.readings).or(self.moments.last())?;
         self.readings = self.readings.wrapping_add(1);

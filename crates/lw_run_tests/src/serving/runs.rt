@@ -2,172 +2,336 @@
 
 use super::*;
 
-/// Fails where what came of the stage is another text.
-pub(super) fn plays(alloc: Global, stage: &Stage<'_>, want: &str) -> Result<(), Fail> {
-    let text = stage.play(alloc)?;
-    holds(text.as_str(), text.as_str() == want)
-}
-
-/// Tries: lw_run::run_on, lw_run::Server::new, lw_run::Server::tick
-#[test]
-fn a_server_that_hears_nothing_reads_its_log(rt: HostRuntime) -> Result<(), Fail> {
-    plays(rt.alloc(), &Stage::new(&[]), "Ok(()) \n")?;
-    let nothing = [Coming::Nothing; 3];
-    plays(rt.alloc(), &Stage::new(&nothing), "Ok(()) rrr\n")
-}
-
-/// So many comings of one kind, a Nothing, and as many again.
-fn twice<'a>(alloc: Global, coming: Coming<'a>, count: usize) -> Result<Vec<Coming<'a>>, Fail> {
-    let mut comings = vec![in alloc; coming; count]?;
-    comings.push(Coming::Nothing)?;
-    for _more in 0..count {
-        comings.push(coming)?;
-    }
-    Ok(comings)
-}
-
-/// The text, and behind it so many times the line.
-fn with_lines(alloc: Global, text: &str, line: &str, count: u32) -> Result<String, Fail> {
-    let mut told = String::from_str(alloc, text)?;
-    for _line in 0..count {
-        writeln!(told, "{line}")?;
-    }
-    Ok(told)
-}
-
-const PASSED_OVER: &str = "[WARN  lw_run::course] receive passed over";
-
-/// Tries: lw_run::run_on
-#[test]
-fn a_thousand_faults_in_a_row_end_the_run(rt: HostRuntime) -> Result<(), Fail> {
-    let comings = twice(rt.alloc(), Coming::Fault, 999)?;
-    let want = with_lines(rt.alloc(), "Ok(()) r\n", PASSED_OVER, 1998)?;
-    plays(rt.alloc(), &Stage::new(&comings), &want)?;
-    let comings = vec![in rt.alloc(); Coming::Fault; 1000]?;
-    let want = with_lines(rt.alloc(), "Err(ReceiveFailed) \n", PASSED_OVER, 999)?;
-    plays(rt.alloc(), &Stage::new(&comings), &want)
-}
+/// Runs in which nothing comes, or nothing but faults.
+static QUIET: [Run; 4] = [
+    Run {
+        name: "a front that is over",
+        stage: STAGE,
+        want: &[Piece::Line("Ok(()) ")],
+    },
+    Run {
+        name: "a server that hears nothing reads its log",
+        stage: Stage {
+            comings: &[Coming::Times(3, &Coming::Nothing)],
+            ..STAGE
+        },
+        want: &[Piece::Line("Ok(()) rrr")],
+    },
+    Run {
+        name: "999 faults in a row, twice",
+        stage: Stage {
+            comings: &[
+                Coming::Times(999, &Coming::Fault),
+                Coming::Nothing,
+                Coming::Times(999, &Coming::Fault),
+            ],
+            ..STAGE
+        },
+        want: &[
+            Piece::Line("Ok(()) r"),
+            Piece::Times(1_998, "[WARN  lw_run::course] receive passed over\n"),
+        ],
+    },
+    Run {
+        name: "a thousand faults in a row",
+        stage: Stage {
+            comings: &[Coming::Times(1_000, &Coming::Fault)],
+            ..STAGE
+        },
+        want: &[
+            Piece::Line("Err(ReceiveFailed) "),
+            Piece::Times(999, "[WARN  lw_run::course] receive passed over\n"),
+        ],
+    },
+];
 
 /// A clock that gives no moment, with a datagram and with none.
-/// Tries: lw_run::run_on, lw_run::Server::take, lw_run::Server::tick
-#[test]
-fn a_clock_without_a_moment_ends_the_run(rt: HostRuntime) -> Result<(), Fail> {
-    for coming in [Coming::Datagram(5683, PING), Coming::Nothing] {
-        let comings = [coming];
-        let mut stage = Stage::new(&comings);
-        stage.moments = &[u64::MAX];
-        plays(rt.alloc(), &stage, "Err(ClockRefused) \n")?;
-    }
-    Ok(())
-}
+static WITHOUT_A_MOMENT: [Run; 2] = [
+    Run {
+        name: "a datagram at no moment",
+        stage: Stage {
+            comings: &[Coming::Datagram(5683, PING)],
+            moments: &[u64::MAX],
+            ..STAGE
+        },
+        want: &[Piece::Line("Err(ClockRefused) ")],
+    },
+    Run {
+        name: "nothing at no moment",
+        stage: Stage {
+            comings: &[Coming::Nothing],
+            moments: &[u64::MAX],
+            ..STAGE
+        },
+        want: &[Piece::Line("Err(ClockRefused) ")],
+    },
+];
+
+const PINGS: [Coming; 6] = [
+    Coming::Datagram(1, PING),
+    Coming::Datagram(2, PING),
+    Coming::Datagram(3, PING),
+    Coming::Datagram(4, PING),
+    Coming::Datagram(5, PING),
+    Coming::Datagram(6, PING),
+];
 
 /// What the log answers to how many readings, after the first round; and what comes of a ping to each of these ports.
-const TROUBLES: [(LogFault, u32, &str); 7] = [
-    (
-        LogFault::Away,
-        3,
-        "Ok(()) Wrrr\n1 70000007\n6 70000007\n[WARN  lw_run::course] log away\n[INFO  lw_run::course] log back\n",
-    ),
-    (
-        LogFault::Lost,
-        1,
-        "Ok(()) WrrrWxrrr\n1 70000007\n4 70000007\n5 70000007\n6 70000007\n\
-         [WARN  lw_run::course] log lost\n[WARN  lw_run::course] log away\n\
-         [INFO  lw_run::course] log back\n[INFO  lw_run::course] compacted\n",
-    ),
-    (LogFault::Refused, 1, "Err(LogRefused) Wr\n1 70000007\n"),
-    (
-        LogFault::NoMemory,
-        1,
-        "Ok(()) Wrrrrr\n1 70000007\n3 70000007\n4 70000007\n5 70000007\n6 70000007\n\
-         [WARN  lw_run::course] no memory for a turn\n",
-    ),
-    (
-        LogFault::NoMemory,
-        2,
-        "Ok(()) Wrrrr\n1 70000007\n4 70000007\n5 70000007\n6 70000007\n\
-         [WARN  lw_run::course] no memory for a turn\n",
-    ),
-    (
-        LogFault::Away,
-        9,
-        "Ok(()) Wr\n1 70000007\n[WARN  lw_run::course] log away\n",
-    ),
-    (
-        LogFault::Away,
-        0,
-        "Ok(()) Wrrrrrr\n1 70000007\n2 70000007\n3 70000007\n4 70000007\n5 70000007\n6 70000007\n",
-    ),
+static TROUBLES: [Run; 7] = [
+    Run {
+        name: "the log is away for three readings",
+        stage: Stage {
+            comings: &PINGS,
+            trouble: Some(Trouble {
+                fault: LogFault::Away,
+                after: 1,
+                times: 3,
+            }),
+            ..STAGE
+        },
+        want: &[
+            Piece::Line("Ok(()) Wrrr"),
+            Piece::Sent(1, PONG),
+            Piece::Sent(6, PONG),
+            Piece::Line("[WARN  lw_run::course] log away"),
+            Piece::Line("[INFO  lw_run::course] log back"),
+        ],
+    },
+    Run {
+        name: "the log is lost",
+        stage: Stage {
+            comings: &PINGS,
+            trouble: Some(Trouble {
+                fault: LogFault::Lost,
+                after: 1,
+                times: 1,
+            }),
+            ..STAGE
+        },
+        want: &[
+            Piece::Line("Ok(()) WrrrWxrrr"),
+            Piece::Sent(1, PONG),
+            Piece::Sent(4, PONG),
+            Piece::Sent(5, PONG),
+            Piece::Sent(6, PONG),
+            Piece::Line("[WARN  lw_run::course] log lost"),
+            Piece::Line("[WARN  lw_run::course] log away"),
+            Piece::Line("[INFO  lw_run::course] log back"),
+            Piece::Line("[INFO  lw_run::course] compacted"),
+        ],
+    },
+    Run {
+        name: "the log refuses",
+        stage: Stage {
+            comings: &PINGS,
+            trouble: Some(Trouble {
+                fault: LogFault::Refused,
+                after: 1,
+                times: 1,
+            }),
+            ..STAGE
+        },
+        want: &[Piece::Line("Err(LogRefused) Wr"), Piece::Sent(1, PONG)],
+    },
+    Run {
+        name: "one reading has no memory",
+        stage: Stage {
+            comings: &PINGS,
+            trouble: Some(Trouble {
+                fault: LogFault::NoMemory,
+                after: 1,
+                times: 1,
+            }),
+            ..STAGE
+        },
+        want: &[
+            Piece::Line("Ok(()) Wrrrrr"),
+            Piece::Sent(1, PONG),
+            Piece::Sent(3, PONG),
+            Piece::Sent(4, PONG),
+            Piece::Sent(5, PONG),
+            Piece::Sent(6, PONG),
+            Piece::Line("[WARN  lw_run::course] no memory for a turn"),
+        ],
+    },
+    Run {
+        name: "two readings have no memory",
+        stage: Stage {
+            comings: &PINGS,
+            trouble: Some(Trouble {
+                fault: LogFault::NoMemory,
+                after: 1,
+                times: 2,
+            }),
+            ..STAGE
+        },
+        want: &[
+            Piece::Line("Ok(()) Wrrrr"),
+            Piece::Sent(1, PONG),
+            Piece::Sent(4, PONG),
+            Piece::Sent(5, PONG),
+            Piece::Sent(6, PONG),
+            Piece::Line("[WARN  lw_run::course] no memory for a turn"),
+        ],
+    },
+    Run {
+        name: "the log is away to the end",
+        stage: Stage {
+            comings: &PINGS,
+            trouble: Some(Trouble {
+                fault: LogFault::Away,
+                after: 1,
+                times: 9,
+            }),
+            ..STAGE
+        },
+        want: &[
+            Piece::Line("Ok(()) Wr"),
+            Piece::Sent(1, PONG),
+            Piece::Line("[WARN  lw_run::course] log away"),
+        ],
+    },
+    Run {
+        name: "nothing ails the log",
+        stage: Stage {
+            comings: &PINGS,
+            trouble: Some(Trouble {
+                fault: LogFault::Away,
+                after: 1,
+                times: 0,
+            }),
+            ..STAGE
+        },
+        want: &[
+            Piece::Line("Ok(()) Wrrrrrr"),
+            Piece::Sent(1, PONG),
+            Piece::Sent(2, PONG),
+            Piece::Sent(3, PONG),
+            Piece::Sent(4, PONG),
+            Piece::Sent(5, PONG),
+            Piece::Sent(6, PONG),
+        ],
+    },
 ];
+
+/// So many turns, none of which has memory but the last, if there is one.
+static WITHOUT_MEMORY: [Run; 2] = [
+    Run {
+        name: "999 turns without memory",
+        stage: Stage {
+            comings: &[Coming::Times(1_001, &Coming::Nothing)],
+            trouble: Some(Trouble {
+                fault: LogFault::NoMemory,
+                after: 0,
+                times: 999,
+            }),
+            ..STAGE
+        },
+        want: &[
+            Piece::Line("Ok(()) rr"),
+            Piece::Line("[WARN  lw_run::course] no memory for a turn"),
+        ],
+    },
+    Run {
+        name: "a thousand turns without memory",
+        stage: Stage {
+            comings: &[Coming::Times(1_001, &Coming::Nothing)],
+            trouble: Some(Trouble {
+                fault: LogFault::NoMemory,
+                after: 0,
+                times: 1_000,
+            }),
+            ..STAGE
+        },
+        want: &[
+            Piece::Line("Err(NoMemory) "),
+            Piece::Line("[WARN  lw_run::course] no memory for a turn"),
+        ],
+    },
+];
+
+const EXPIRING: [Coming; 3] = [
+    Coming::Datagram(1, REGISTER_FOR_A_SECOND),
+    Coming::Nothing,
+    Coming::Datagram(2, UPDATE),
+];
+
+/// What is told of an Update that is refused.
+const GONE: &str = "[INFO  lw_run::telling] refused from=127.0.0.1:2 code=4.04";
+
+/// A turn without datagrams is made after a Register for a second at moment 0, and an Update comes behind it: what has
+/// expired is ended at the moment less the seconds by which clocks may differ, and is then written.
+static EXPIRIES: [Run; 4] = [
+    Run {
+        name: "what lasts yet",
+        stage: Stage {
+            comings: &EXPIRING,
+            moments: &[0, 999, 999],
+            ..STAGE
+        },
+        want: &[
+            Piece::Line("Ok(()) WrWrrW"),
+            Piece::Sent(1, CREATED),
+            Piece::Sent(2, CHANGED),
+        ],
+    },
+    Run {
+        name: "what has expired is swept",
+        stage: Stage {
+            comings: &EXPIRING,
+            moments: &[0, 1_000, 1_000],
+            ..STAGE
+        },
+        want: &[
+            Piece::Line("Ok(()) WrWrWr"),
+            Piece::Sent(1, CREATED),
+            Piece::Sent(2, NOT_FOUND),
+            Piece::Line(GONE),
+        ],
+    },
+    Run {
+        name: "what may last yet by another clock",
+        stage: Stage {
+            comings: &EXPIRING,
+            moments: &[0, 10_999, 10_999],
+            skew: 10,
+            ..STAGE
+        },
+        want: &[
+            Piece::Line("Ok(()) WrWrr"),
+            Piece::Sent(1, CREATED),
+            Piece::Sent(2, NOT_FOUND),
+            Piece::Line(GONE),
+        ],
+    },
+    Run {
+        name: "what has expired by every clock is swept",
+        stage: Stage {
+            comings: &EXPIRING,
+            moments: &[0, 11_000, 11_000],
+            skew: 10,
+            ..STAGE
+        },
+        want: &[
+            Piece::Line("Ok(()) WrWrWr"),
+            Piece::Sent(1, CREATED),
+            Piece::Sent(2, NOT_FOUND),
+            Piece::Line(GONE),
+        ],
+    },
+];
+
+/// Tries: lw_run::run_on, lw_run::Server::new, lw_run::Server::take, lw_run::Server::tick
+#[test]
+fn runs_go_on_and_end(rt: HostRuntime) {
+    plays(&rt, rt.alloc(), &QUIET);
+    plays(&rt, rt.alloc(), &WITHOUT_A_MOMENT);
+    plays(&rt, rt.alloc(), &WITHOUT_MEMORY);
+    plays(&rt, rt.alloc(), &EXPIRIES);
+}
 
 /// Tries: lw_run::run_on, lw_run::Server::take, lw_run::Server::tick
 #[test]
-fn while_the_log_is_away_nothing_is_answered(rt: HostRuntime) -> Result<(), Fail> {
-    let pings = [1, 2, 3, 4, 5, 6].map(|port| Coming::Datagram(port, PING));
-    for (fault, times, want) in TROUBLES {
-        let mut stage = Stage::new(&pings);
-        stage.trouble = Some(Trouble {
-            fault,
-            after: 1,
-            times,
-        });
-        plays(rt.alloc(), &stage, want)?;
-    }
-    Ok(())
-}
-
-/// Tries: lw_run::run_on
-#[test]
-fn a_thousand_turns_without_memory_end_the_run(rt: HostRuntime) -> Result<(), Fail> {
-    let comings = vec![in rt.alloc(); Coming::Nothing; 1001]?;
-    for (times, want) in [
-        (
-            999,
-            "Ok(()) rr\n[WARN  lw_run::course] no memory for a turn\n",
-        ),
-        (
-            1000,
-            "Err(NoMemory) \n[WARN  lw_run::course] no memory for a turn\n",
-        ),
-    ] {
-        let mut stage = Stage::new(&comings);
-        stage.trouble = Some(Trouble {
-            fault: LogFault::NoMemory,
-            after: 0,
-            times,
-        });
-        plays(rt.alloc(), &stage, want)?;
-    }
-    Ok(())
-}
-
-/// An Update that is refused, and what is told of it.
-const GONE: &str = "2 60840010\n[INFO  lw_run::telling] refused from=127.0.0.1:2 code=4.04\n";
-
-/// When a turn without datagrams is made after a Register for a second at moment 0, by how many seconds clocks may differ,
-/// and what comes of an Update behind it: what has expired is ended at the moment less these seconds, and is then written.
-const EXPIRIES: [(u64, u32, &str, &str); 4] = [
-    (999, 0, "WrWrrW", "2 60440010\n"),
-    (1_000, 0, "WrWrWr", GONE),
-    (10_999, 10, "WrWrr", GONE),
-    (11_000, 10, "WrWrWr", GONE),
-];
-
-/// Tries: lw_run::run_on, lw_run::Server::tick
-#[test]
-fn what_has_expired_is_swept(rt: HostRuntime) -> Result<(), Fail> {
-    let comings = [
-        Coming::Datagram(1, REGISTER_FOR_A_SECOND),
-        Coming::Nothing,
-        Coming::Datagram(2, UPDATE),
-    ];
-    for (ms, skew, asked, reply) in EXPIRIES {
-        let moments = [0, ms, ms];
-        let mut stage = Stage::new(&comings);
-        stage.moments = &moments;
-        stage.skew = skew;
-        let want = format!(in rt.alloc(); "Ok(()) {asked}\n1 {CREATED}\n{reply}")?;
-        plays(rt.alloc(), &stage, &want)?;
-    }
-    Ok(())
+fn while_the_log_is_away_nothing_is_answered(rt: HostRuntime) {
+    plays(&rt, rt.alloc(), &TROUBLES);
 }

@@ -1,18 +1,18 @@
 //! What a log was asked, and how long its appends took.
 
 use super::*;
-use lw_metrics::AppendTimes;
 use std::cell::Cell;
+use std::process::Abort;
 
 /// A stopwatch in memory. It tells these in turn, and from then on the last of them.
 #[derive(Drop)]
-pub(super) struct Readings<'a> {
-    readings: &'a [Option<u64>],
+pub(super) struct Readings {
+    readings: &'static [Option<u64>],
     read: Cell<usize>,
 }
 
-impl<'a> Readings<'a> {
-    pub(super) fn new(readings: &'a [Option<u64>]) -> Readings<'a> {
+impl Readings {
+    pub(super) fn new(readings: &'static [Option<u64>]) -> Readings {
         Readings {
             readings,
             read: Cell::new(0),
@@ -20,7 +20,7 @@ impl<'a> Readings<'a> {
     }
 }
 
-impl Stopwatch for Readings<'_> {
+impl Stopwatch for Readings {
     fn microseconds(&self) -> Option<u64> {
         let read = self.read.get();
         self.read.set(read.saturating_add(1));
@@ -28,24 +28,25 @@ impl Stopwatch for Readings<'_> {
     }
 }
 
-/// Fails where what was asked is something else.
-fn holds_use(
-    log_use: LogUse,
-    counts: [u64; 14],
-    microseconds: u64,
-    entries: [u64; 2],
-) -> Result<(), Fail> {
-    let AppendTimes {
-        counts: found,
-        microseconds: together,
-    } = log_use.appends;
-    holds("the buckets", found == counts)?;
-    holds("the times together", together == microseconds)?;
-    holds(
-        "entries that were written",
-        log_use.entries_written == entries[0],
-    )?;
-    holds("entries that were read", log_use.entries_read == entries[1])
+/// What is asked of a log.
+enum Call {
+    /// An append, which is made.
+    Append(&'static [u8]),
+    /// An append, which fails.
+    Fails(&'static [u8]),
+    /// A reading above the position, and how many entries it gives.
+    Read(Option<Position>, usize),
+    Trim(Position),
+    /// How long appends took: how many by the bounds, and all together. And how many entries were written and read.
+    Use([u64; 14], u64, [u64; 2]),
+}
+
+/// A log over one whose first append may fail, and what is asked of it.
+struct Timing {
+    name: &'static str,
+    readings: &'static [Option<u64>],
+    fails: bool,
+    calls: &'static [Call],
 }
 
 const NONE: [u64; 14] = [0; 14];
@@ -56,83 +57,109 @@ const ONE: [u64; 14] = [1, 0, 0, 0, 0, 0, 0, 0, 0, 0, 0, 0, 0, 0];
 /// An append of 400 microseconds, one of 3 milliseconds, and one of 6 seconds.
 const COUNTS: [u64; 14] = [1, 0, 0, 1, 0, 0, 0, 0, 0, 0, 0, 0, 0, 1];
 
-/// Three entries are appended: where the first stands.
-fn three_are_timed<G: DeltaLog + Metered>(log: &mut G) -> Result<Position, Fail> {
-    holds_use(log.log_use(), NONE, 0, [0, 0])?;
-    let first = log.append(b"one")?;
-    log.append(b"two")?;
-    log.append(b"three")?;
-    holds_use(log.log_use(), COUNTS, 6_003_400, [3, 0])?;
-    Ok(first)
-}
+/// Where the first entry stands.
+const FIRST: Position = Position { major: 1, minor: 0 };
 
-/// Fails where a reading above the position gives another count.
-fn reads<G: DeltaLog>(log: &mut G, after: Option<Position>, count: usize) -> Result<(), Fail> {
-    let page = log.read(after)?;
-    holds_for(&count, page.len() == count)
-}
-
-/// What is read is counted, also behind a trim.
-fn three_are_counted<G: DeltaLog + Metered>(log: &mut G, first: Position) -> Result<(), Fail> {
-    reads(log, None, 3)?;
-    reads(log, Some(first), 2)?;
-    holds_use(log.log_use(), COUNTS, 6_003_400, [3, 5])?;
-    log.trim(first)?;
-    reads(log, None, 2)?;
-    holds_use(log.log_use(), COUNTS, 6_003_400, [3, 7])
-}
+static TIMINGS: [Timing; 3] = [
+    Timing {
+        name: "appends are timed, and what is read is counted, also behind a trim",
+        readings: &[
+            Some(100),
+            Some(500),
+            Some(1_000),
+            Some(4_000),
+            Some(10_000),
+            Some(6_010_000),
+        ],
+        fails: false,
+        calls: &[
+            Call::Use(NONE, 0, [0, 0]),
+            Call::Append(b"one"),
+            Call::Append(b"two"),
+            Call::Append(b"three"),
+            Call::Use(COUNTS, 6_003_400, [3, 0]),
+            Call::Read(None, 3),
+            Call::Read(Some(FIRST), 2),
+            Call::Use(COUNTS, 6_003_400, [3, 5]),
+            Call::Trim(FIRST),
+            Call::Read(None, 2),
+            Call::Use(COUNTS, 6_003_400, [3, 7]),
+        ],
+    },
+    Timing {
+        name: "an append that fails is timed and not counted as written",
+        readings: &[Some(0), Some(7)],
+        fails: true,
+        calls: &[Call::Fails(b"one"), Call::Use(ONE, 7, [0, 0])],
+    },
+    Timing {
+        name: "a stopwatch that tells nothing, and then one that goes back",
+        readings: &[None, Some(5), Some(5), None, Some(9), Some(8)],
+        fails: false,
+        calls: &[
+            Call::Append(b"one"),
+            Call::Append(b"two"),
+            Call::Use(NONE, 0, [2, 0]),
+            Call::Append(b"three"),
+            Call::Use(ONE, 0, [3, 0]),
+        ],
+    },
+];
 
 /// Tries: lw_run::Timed::new, lw_log::DeltaLog::append, lw_log::DeltaLog::read, lw_run::Metered::log_use
 #[test]
-fn appends_are_timed_and_entries_counted(rt: HostRuntime) -> Result<(), Fail> {
-    let readings = [100, 500, 1_000, 4_000, 10_000, 6_010_000].map(Some);
-    let mut log = Timed::new(MemoryLog::new(rt.alloc()), Readings::new(&readings));
-    let first = three_are_timed(&mut log)?;
-    three_are_counted(&mut log, first)
+fn appends_are_timed_and_entries_counted(rt: HostRuntime) {
+    for timing in &TIMINGS {
+        timing.holds(&rt, rt.alloc());
+    }
 }
 
-/// Tries: lw_log::DeltaLog::append, lw_run::Metered::log_use
-#[test]
-fn an_append_that_fails_is_timed_and_not_counted_as_written(rt: HostRuntime) -> Result<(), Fail> {
-    let readings = [0, 7].map(Some);
-    let mut inner = MemoryLog::new(rt.alloc());
-    inner.fail_after(0, false);
-    let mut log = Timed::new(inner, Readings::new(&readings));
-    fails_timed(&mut log)
+impl Timing {
+    fn holds(&self, rt: &impl Abort, alloc: Global) {
+        let mut inner = MemoryLog::new(alloc);
+        if self.fails {
+            inner.fail_after(0, false);
+        }
+        let mut log = Timed::new(inner, Readings::new(self.readings));
+        for call in self.calls {
+            call.holds(rt, &mut log, self.name);
+        }
+    }
 }
 
-fn fails_timed<G: DeltaLog + Metered>(log: &mut G) -> Result<(), Fail> {
-    holds("it fails", log.append(b"one").is_err())?;
-    holds_use(log.log_use(), ONE, 7, [0, 0])
-}
-
-/// A clock that tells nothing, and one that goes back.
-/// Tries: lw_log::DeltaLog::append, lw_run::Metered::log_use
-#[test]
-fn a_time_that_is_not_told_is_not_counted(rt: HostRuntime) -> Result<(), Fail> {
-    let mut log = Timed::new(
-        MemoryLog::new(rt.alloc()),
-        Readings::new(&[None, Some(5), Some(5), None, Some(9), Some(8)]),
-    );
-    only_the_third_is_timed(&mut log)
-}
-
-fn only_the_third_is_timed<G: DeltaLog + Metered>(log: &mut G) -> Result<(), Fail> {
-    log.append(b"one")?;
-    log.append(b"two")?;
-    holds_use(log.log_use(), NONE, 0, [2, 0])?;
-    log.append(b"three")?;
-    holds_use(log.log_use(), ONE, 0, [3, 0])
+impl Call {
+    /// Makes the call, and fails where something else comes of it.
+    fn holds(&self, rt: &impl Abort, log: &mut Timed<MemoryLog, Readings>, name: &str) {
+        match *self {
+            Call::Append(entry) => assert!(rt; log.append(entry).is_ok(), "{name}"),
+            Call::Fails(entry) => assert!(rt; log.append(entry).is_err(), "{name}"),
+            Call::Read(after, count) => {
+                let page = log.read(after).expect(rt, name);
+                assert_eq!(rt; page.len(), count, "{name}");
+            }
+            Call::Trim(upto) => log.trim(upto).expect(rt, name),
+            Call::Use(counts, microseconds, entries) => {
+                let found = log.log_use();
+                assert_eq!(rt; found.appends.counts, counts, "{name}");
+                assert_eq!(rt; found.appends.microseconds, microseconds, "{name}");
+                assert_eq!(rt;
+                    [found.entries_written, found.entries_read],
+                    entries,
+                    "{name}"
+                );
+            }
+        }
+    }
 }
 
 /// Whether nobody else appends is what the log under it tells.
 /// Tries: lw_log::DeltaLog::is_alone
 #[test]
-fn whoever_else_appends_is_told_as_before(rt: HostRuntime) -> Result<(), Fail> {
+fn whoever_else_appends_is_told_as_before(rt: HostRuntime) {
     let shared = MemoryLog::new(rt.alloc());
     let alone = shared.is_alone();
     let log = Timed::new(shared, Readings::new(&[]));
-    holds("a log in memory", log.is_alone() == alone)?;
+    assert_eq!(rt; log.is_alone(), alone, "a log in memory");
     let log = Timed::new(lw_log::Nowhere::new(rt.alloc()), Readings::new(&[]));
-    holds("a log of its own", log.is_alone())
+    assert!(rt; log.is_alone(), "a log of its own");
 }

@@ -1,0 +1,110 @@
+//! Turns of a server that is asked behind each of them.
+
+use super::*;
+use lw_target::{Asked, Desk};
+use std::process::Abort;
+
+/// A datagram that comes so many times at once, and what is counted and told behind that.
+#[derive(Drop)]
+pub(super) struct Turn {
+    /// The datagram in hex, and how many letters `a` stand behind that.
+    pub(super) datagram: &'static str,
+    pub(super) letters: usize,
+    pub(super) times: u32,
+    /// Each reply, in hex.
+    pub(super) sent: &'static [&'static str],
+    pub(super) duplicates: u64,
+    pub(super) blocks: u64,
+    /// A text of the measures.
+    pub(super) bodies: &'static str,
+    /// A text of the page of those that are registered.
+    pub(super) links: &'static str,
+}
+
+/// Nothing is counted, kept and registered.
+pub(super) const TURN: Turn = Turn {
+    datagram: "",
+    letters: 0,
+    times: 1,
+    sent: &[],
+    duplicates: 0,
+    blocks: 0,
+    bodies: "fleet_bodies 0",
+    links: "[]",
+};
+
+/// Turns are at a second.
+static AT_A_SECOND: Stage = Stage {
+    moments: &[1_000],
+    ..STAGE
+};
+
+/// All that are registered.
+const EVERYONE: Asked = Asked::Registrations {
+    after: None,
+    limit: 10,
+};
+
+/// Fails where a new server, whose turns are at a second, takes the turns in another way.
+pub(super) fn takes(rt: &impl Abort, alloc: Global, turns: &[Turn]) {
+    let log = MemoryLog::new(alloc);
+    let mut server = AT_A_SECOND.server(alloc, log).expect(rt, "a server");
+    assert_eq!(rt; server.duplicates(), 0);
+    for turn in turns {
+        turn.sends(rt, alloc, &mut server);
+        turn.counts(rt, &server);
+        turn.tells(rt, &server, &Asked::Metrics, turn.bodies);
+        turn.tells(rt, &server, &EVERYONE, turn.links);
+    }
+}
+
+impl Turn {
+    fn sends(&self, rt: &impl Abort, alloc: Global, server: &mut Server<MemoryLog, Ticks>) {
+        let sends = server.take(self.batch(rt, alloc)).expect(rt, self.datagram);
+        assert_eq!(rt; sends.len(), self.sent.len(), "{}", self.datagram);
+        for (send, want) in sends.iter().zip(self.sent) {
+            let bytes = hex::encode(alloc, &send.1).expect(rt, "memory");
+            assert_eq!(rt; bytes.as_str(), *want, "{}", self.datagram);
+        }
+    }
+
+    /// The datagram, so many times.
+    fn batch(&self, rt: &impl Abort, alloc: Global) -> Vec<Datagram> {
+        let address = [127, 0, 0, 1];
+        let from = Addr::V4 {
+            address,
+            port: 5683,
+        };
+        let bytes = self.bytes(rt, alloc);
+        let mut batch = Vec::new(alloc);
+        for _time in 0..self.times {
+            let datagram = Datagram::new(alloc, from, &bytes).expect(rt, "memory");
+            batch.push(datagram).expect(rt, "memory");
+        }
+        batch
+    }
+
+    fn bytes(&self, rt: &impl Abort, alloc: Global) -> Vec<u8> {
+        let mut bytes = hex::decode(alloc, self.datagram).expect(rt, "a datagram");
+        for _letter in 0..self.letters {
+            bytes.push(b'a').expect(rt, "memory");
+        }
+        bytes
+    }
+
+    fn counts(&self, rt: &impl Abort, server: &Server<MemoryLog, Ticks>) {
+        assert_eq!(rt; server.duplicates(), self.duplicates, "{}", self.datagram);
+        assert_eq!(rt; server.blocks(), self.blocks, "{}", self.datagram);
+        assert_eq!(rt; server.unkept(), 0, "{}", self.datagram);
+    }
+
+    /// Fails where what is told does not have the text.
+    fn tells(&self, rt: &impl Abort, server: &Server<MemoryLog, Ticks>, asked: &Asked, text: &str) {
+        let answer = server.answer(asked).expect(rt, self.datagram);
+        assert!(rt;
+            answer.body.as_str().contains(text),
+            "{}: {text}",
+            self.datagram
+        );
+    }
+}
