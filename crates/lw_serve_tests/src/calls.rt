@@ -14,8 +14,8 @@ pub(super) const REGISTER: &str = "40020004b272644465703d61ff3c2f3e";
 /// The reply to the first Register with message ID 4 at node 1.
 pub(super) const CREATED: &str = "604100048272640d0330303030303030303030303130303031";
 
-/// What is asked of a node. Datagrams and deltas are in hex, addresses are 127.0.0.1:5683, and moments are 0 but for those
-/// of sweeps, in milliseconds.
+/// What is asked of a node. Datagrams and deltas are in hex, addresses are 127.0.0.1:5683, and moments are 0 but for
+/// those of sweeps, in milliseconds.
 #[derive(Clone, Copy)]
 pub(super) enum What<'a> {
     Takes(&'a str),

@@ -27,8 +27,8 @@ fn jobs_of<R: Abort>(rt: &R, alloc: Global, (nodes, what): List<'_>) -> Vec<Job>
     jobs
 }
 
-/// Has a crew do the lists of jobs at new nodes, one after the other. Gives a line for each job, or for the fault, and a
-/// last line of the passes; and the results of the last list.
+/// Has a crew do the lists of jobs at new nodes, one after the other. Gives a line for each job, or for the fault, and
+/// a last line of the passes; and the results of the last list.
 fn played<R: Threads + Wait + Sync + Abort, G: Gate>(
     rt: &R,
     alloc: Global,
@@ -59,13 +59,7 @@ fn played<R: Threads + Wait + Sync + Abort, G: Gate>(
 }
 
 /// Adds what became of each job: the node, the place and the reply of its part, or why there is none.
-fn add_dones<R: Abort>(
-    rt: &R,
-    alloc: Global,
-    text: &mut String,
-    passes: &[Pass],
-    dones: &[Done],
-) {
+fn add_dones<R: Abort>(rt: &R, alloc: Global, text: &mut String, passes: &[Pass], dones: &[Done]) {
     for Done { job, result } in dones {
         let JobOutcome::At { pass, number } = result else {
             writeln!(text, "{job}: {result:?}").expect(rt, "memory");

@@ -19,7 +19,10 @@ fn a_device_registers_and_is_found(rt: HostRuntime) {
     let (taken, seen) = found.expect(&rt, "memory");
     let seen = seen.expect(&rt, "the registration");
     assert!(rt; seen.id == FIRST && seen.address == HOME);
-    assert!(rt; taken.reply.as_deref() == Some(CREATED), "2.01 with the identifier");
+    assert!(rt;
+        taken.reply.as_deref() == Some(CREATED),
+        "2.01 with the identifier"
+    );
 }
 
 /// The node shows these names at the start.

@@ -41,8 +41,8 @@ fn two_threads_ask(rt: HostRuntime) {
     assert_eq!(rt; (one.len(), other.len()), (1, 1), "a part each");
 }
 
-/// A node is cut behind a Register that is made with one pass, and then asked with another. The call of the one is in the
-/// volume, and that of the other is not, which has found what registered.
+/// A node is cut behind a Register that is made with one pass, and then asked with another. The call of the one is in
+/// the volume, and that of the other is not, which has found what registered.
 /// Tries: call_and_cut, clocks, stands_in
 #[test]
 fn a_volume_is_read(rt: HostRuntime) {
@@ -60,5 +60,10 @@ fn a_volume_is_read(rt: HostRuntime) {
     assert!(rt; stands_in(&volume, part), "the call is in it");
     let later = other.part(0).expect(&rt, "a part");
     assert!(rt; !stands_in(&volume, later), "the later one is not");
-    assert!(rt; matches!(&later.entry.reply, Reply::Ask(Ok(Answer::Registration(Some(_))))));
+    assert!(rt;
+        matches!(
+            &later.entry.reply,
+            Reply::Ask(Ok(Answer::Registration(Some(_))))
+        )
+    );
 }

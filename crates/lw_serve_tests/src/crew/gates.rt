@@ -21,8 +21,8 @@ fn wait_for<R: Clock + Abort>(rt: &R, count: &AtomicU64, want: u64) {
     panic!(rt; "a wait for {want} in vain");
 }
 
-/// Watches which jobs start, lets no worker do one of them, holds each worker until so many have started a job, and stays
-/// inside for a while.
+/// Watches which jobs start, lets no worker do one of them, holds each worker until so many have started a job, and
+/// stays inside for a while.
 #[derive(Drop)]
 pub(super) struct Watch<'a, R: Clock + Abort + Sync> {
     pub(super) rt: &'a R,
@@ -91,9 +91,9 @@ fn add(notes: &Notes, job: u64, number: u32) {
     }
 }
 
-/// Holds workers with nine jobs or fewer, of which each few in a row are at nodes 1, 2 and so on. Each worker is held until
-/// as many have started a job, and each call until as many are inside. So the jobs are done in rounds. Of each job are
-/// noted the worker that started it and the pass that was told inside and when it was answered, counted from 1.
+/// Holds workers with nine jobs or fewer, of which each few in a row are at nodes 1, 2 and so on. Each worker is held
+/// until as many have started a job, and each call until as many are inside. So the jobs are done in rounds. Of each
+/// job are noted the worker that started it and the pass that was told inside and when it was answered, counted from 1.
 #[derive(Drop)]
 struct Rounds<'a, R: Clock + Abort + Sync> {
     rt: &'a R,
@@ -136,8 +136,10 @@ impl<R: Clock + Abort + Sync> Rounds<'_, R> {
     fn of_pass(&self, notes: &Notes, dones: &[Done]) -> u64 {
         let mut count = 0_u64;
         for done in dones {
-            if let (Some(note), JobOutcome::At { pass, number }) =
-                (notes.get(done.job as usize), done.result)
+            if let (Some(note), JobOutcome::At { pass, number }) = (
+                notes.get(done.job as usize),
+                done.result,
+            )
                 && done.job.checked_div(self.width) == Some(number)
                 && note.load(Ordering::SeqCst) == u64::from(pass).wrapping_add(1)
             {
@@ -268,5 +270,8 @@ fn a_call_is_alone_inside_and_answered_after_the_lock(rt: HostRuntime) {
     // A third job, at another node, is what the second worker has its thread for.
     let list: List<'_> = (&[1, 1, 2], Takes(REGISTER));
     let (text, _dones) = played(&rt, rt.alloc(), (2, 2, Sharing::ByNode), &[list], &gate);
-    assert!(rt; text.ends_with("\n2 passes, 3 parts, Ok(Settled)"), "{text}");
+    assert!(rt;
+        text.ends_with("\n2 passes, 3 parts, Ok(Settled)"),
+        "{text}"
+    );
 }

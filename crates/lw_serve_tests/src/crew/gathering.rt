@@ -27,11 +27,7 @@ fn are_gathered<R: Abort>(rt: &R, alloc: Global, jobs: &[u64], numbers: &[u64]) 
 }
 
 /// Jobs that results came of, and the numbers of their parts in the order of the jobs.
-static ORDERS: [(&[u64], &[u64]); 3] = [
-    (&[], &[]),
-    (&[1, 0], &[1, 0]),
-    (&[2, 0, 1], &[1, 2, 0]),
-];
+static ORDERS: [(&[u64], &[u64]); 3] = [(&[], &[]), (&[1, 0], &[1, 0]), (&[2, 0, 1], &[1, 2, 0])];
 
 /// A thousand jobs come last, the last of them first. The numbers of their parts fall as well.
 /// Tries: gather

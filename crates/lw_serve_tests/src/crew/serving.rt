@@ -6,9 +6,9 @@ use super::*;
 /// A job that no list has.
 const NONE: u64 = u64::MAX;
 
-/// How many nodes and workers there are; at which nodes the jobs of each list are; the job that no worker is to do while
-/// fewer than so many have started; how many start, and how many of them not as the next one of the first worker; and
-/// what comes of the lists.
+/// How many nodes and workers there are; at which nodes the jobs of each list are; the job that no worker is to do
+/// while fewer than so many have started; how many start, and how many of them not as the next one of the first worker;
+/// and what comes of the lists.
 type Run = (
     u16,
     u32,
@@ -110,8 +110,9 @@ fn jobs_are_done_in_order_or_told(rt: HostRuntime) {
     }
 }
 
-/// How many nodes and workers there are and how these share jobs, at which nodes the jobs are, whether they are long, and
-/// whether another worker than the first does some; and how many passes and parts there are then. Each job takes a while.
+/// How many nodes and workers there are and how these share jobs, at which nodes the jobs are, whether they are long,
+/// and whether another worker than the first does some; and how many passes and parts there are then. Each job takes a
+/// while.
 type Shared = (Sizes, &'static [u16], bool, bool, &'static str);
 
 static SHARED: [Shared; 4] = [
@@ -185,7 +186,9 @@ fn are_of_nodes<R: Abort>(rt: &R, alloc: Global, text: &str, nodes: &[u16], last
 fn many_jobs_are_done_by_all_workers(rt: HostRuntime) {
     let mut nodes = Vec::new(rt.alloc());
     for turn in 0_u16..320 {
-        nodes.push((turn % 16).wrapping_add(1)).expect(&rt, "memory");
+        nodes
+            .push((turn % 16).wrapping_add(1))
+            .expect(&rt, "memory");
     }
     let gate = Watch::new(&rt, (NONE, 0), 8, 0);
     let list: List<'_> = (&nodes, Takes(REGISTER));
@@ -199,9 +202,20 @@ fn many_jobs_are_done_by_all_workers(rt: HostRuntime) {
 #[test]
 fn a_crew_does_a_longer_list_after_a_short_one(rt: HostRuntime) {
     let gate = Watch::new(&rt, (NONE, 0), 0, 0);
-    let (few, many): (List<'_>, List<'_>) =
-        ((&[1, 2, 1], Takes(REGISTER)), (&[2; 200], Takes(REGISTER)));
-    let (text, dones) = played(&rt, rt.alloc(), (2, 2, Sharing::ByNode), &[few, many], &gate);
+    let (few, many): (List<'_>, List<'_>) = (
+        (&[1, 2, 1], Takes(REGISTER)),
+        (&[2; 200], Takes(REGISTER)),
+    );
+    let (text, dones) = played(
+        &rt,
+        rt.alloc(),
+        (2, 2, Sharing::ByNode),
+        &[few, many],
+        &gate,
+    );
     assert_eq!(rt; (text.lines().count(), dones.len()), (204, 200));
-    assert!(rt; text.ends_with("\n2 passes, 203 parts, Ok(Settled)"), "{text}");
+    assert!(rt;
+        text.ends_with("\n2 passes, 203 parts, Ok(Settled)"),
+        "{text}"
+    );
 }

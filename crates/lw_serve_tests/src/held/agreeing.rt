@@ -64,7 +64,9 @@ fn do_with<R: Abort>(
             assert_eq!(rt; alone(rt, alloc, held, (pass, number), what), Ok(want));
         }
         Reads(pass, want) => part_is(rt, alloc, passes.get(pass).expect(rt, "a pass"), want),
-        Keeps => volumes.push(cut(rt, held).expect(rt, "memory")).expect(rt, "memory"),
+        Keeps => volumes
+            .push(cut(rt, held).expect(rt, "memory"))
+            .expect(rt, "memory"),
         Loses => drop(cut(rt, held)),
     }
 }
@@ -114,7 +116,15 @@ fn is_said<R: Abort>(rt: &R, alloc: Global, case: &Case, name: &str) {
     let (mut held, mut other) = (Held::new(alloc, 1), Held::new(alloc, number));
     let (_shelves, mut passes) = set_up(alloc, 1, 2).expect(rt, "memory");
     let mut volumes = Vec::new(alloc);
-    do_all(rt, alloc, &mut held, &mut other, &mut passes, &mut volumes, rows);
+    do_all(
+        rt,
+        alloc,
+        &mut held,
+        &mut other,
+        &mut passes,
+        &mut volumes,
+        rows,
+    );
     let said = agrees_some(rt, &held, &volumes, &passes, first, end, node);
     assert_eq!(rt; said, want, "{name}");
 }
@@ -127,7 +137,10 @@ const REGISTERED: [Row<'static>; 5] = [
     (Anothers, Calls(1, ByEndpoint("a"), 1)),
     (
         Anothers,
-        Reads(1, "1 1 a 0000000000010001 127.0.0.1:5683 0 86400 U false </>"),
+        Reads(
+            1,
+            "1 1 a 0000000000010001 127.0.0.1:5683 0 86400 U false </>",
+        ),
     ),
     (Its, Alone(0, 0, Takes(REGISTER), 0)),
     (Its, Alone(1, 0, ByEndpoint("a"), 1)),
@@ -435,7 +448,10 @@ static CASES: [(&str, &[Case]); 8] = [
     ("an overlap is told at its first place", &OVERLAPS),
     ("a broken link is told where it begins", &LINKS),
     ("a gap is told at its first place", &GAPS),
-    ("a volume after the beginning of the journal is told", &AFTER),
+    (
+        "a volume after the beginning of the journal is told",
+        &AFTER,
+    ),
 ];
 
 /// Tries: Pass::step, Held::agrees

@@ -1,8 +1,7 @@
 //! The largest that a node with its journal takes, sends and merges, and a long journal.
 
 use super::entries::enters_all;
-use super::settling::Does::Calls;
-use super::settling::{BY_MANY, take_turns};
+use super::settling::calls;
 use super::volumes::{alone, cut};
 use super::*;
 
@@ -68,15 +67,44 @@ fn the_longest_register_is_sent_and_merged(rt: HostRuntime) {
     let (register, name) = (whole(&rt, alloc, &LONGEST), whole(&rt, alloc, &NAME));
     let (shows, delta) = (whole(&rt, alloc, &SHOWS), whole(&rt, alloc, &DELTA));
     let sent = whole(&rt, alloc, &SENT);
-    let rows = [
-        Calls(0, 63, Takes(&register), "1 0 604100048272640d0330303030303030303030303130303031"),
-        Calls(0, 63, ByEndpoint(&name), &shows),
-        Calls(0, 63, Sends(0), &sent),
-        Calls(1, 0, Merges(&delta), "2 0 joined 1"),
-        Calls(0, 63, Sweeps(86_400_000), "1 3 swept 0000000000010001"),
-        Calls(1, 0, Sweeps(86_400_000), "2 1 swept 0000000000010001"),
-    ];
-    take_turns(&rt, alloc, (2, 64), &[(&rows, &BY_MANY)]);
+    let (shelves, mut passes) = set_up(alloc, 2, 64).expect(&rt, "memory");
+    let created = "1 0 604100048272640d0330303030303030303030303130303031";
+    calls(
+        &rt,
+        alloc,
+        &shelves,
+        &mut passes,
+        0,
+        63,
+        Takes(&register),
+        created,
+    );
+    calls(
+        &rt,
+        alloc,
+        &shelves,
+        &mut passes,
+        0,
+        63,
+        ByEndpoint(&name),
+        &shows,
+    );
+    calls(&rt, alloc, &shelves, &mut passes, 0, 63, Sends(0), &sent);
+    calls(
+        &rt,
+        alloc,
+        &shelves,
+        &mut passes,
+        1,
+        0,
+        Merges(&delta),
+        "2 0 joined 1",
+    );
+    let (end, swept) = (Sweeps(86_400_000), "1 3 swept 0000000000010001");
+    calls(&rt, alloc, &shelves, &mut passes, 0, 63, end, swept);
+    let swept = "2 1 swept 0000000000010001";
+    calls(&rt, alloc, &shelves, &mut passes, 1, 0, end, swept);
+    assert_eq!(rt; settle_with(&rt, &shelves, &[], &passes), Ok(Settled));
 }
 
 /// Asks the node so many times, the first of them at the place. What is cut off begins there and has as many entries.

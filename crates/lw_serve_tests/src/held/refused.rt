@@ -72,8 +72,8 @@ fn entries_of_a_refusal(made: &Made) -> Option<u64> {
     }
 }
 
-/// Makes the call, which is an entry at the place, with the reply. Where it is refused, gives how many entries there are
-/// of it.
+/// Makes the call, which is an entry at the place, with the reply. Where it is refused, gives how many entries there
+/// are of it.
 fn tries<R: Abort>(
     rt: &R,
     alloc: Global,

@@ -10,7 +10,7 @@ use super::*;
 
 /// What is done with a shelf, which stands at the first place.
 #[derive(Clone, Copy)]
-pub(super) enum Does<'a> {
+enum Does<'a> {
     /// The node is called, with the pass at the second place. The part that it leaves is this: node, place and reply.
     Calls(usize, usize, What<'a>, &'a str),
     /// The journal is cut, which gives such a volume. It is kept.
@@ -183,7 +183,7 @@ const CUT: [Does<'static>; 5] = [
 ];
 
 /// From which pass up to which and from which volume up to which the nodes are to settle, and what comes of it.
-pub(super) type Case = (usize, usize, usize, usize, Result<Settled, Unsettled>);
+type Case = (usize, usize, usize, usize, Result<Settled, Unsettled>);
 
 const BY_BOTH: [Case; 1] = [(0, 2, 0, 0, Ok(Settled))];
 
@@ -211,8 +211,6 @@ const BY_ONE_OF_EACH: [Case; 3] = [
 
 const BY_THE_ONLY_ONE: [Case; 1] = [(0, 1, 0, 0, Ok(Settled))];
 
-pub(super) const BY_MANY: [Case; 1] = [(0, 64, 0, 0, Ok(Settled))];
-
 /// By both volumes, by the first alone, by the second alone, and by none.
 const BY_VOLUMES: [Case; 4] = [
     (0, 2, 0, 2, Ok(Settled)),
@@ -224,7 +222,7 @@ const BY_VOLUMES: [Case; 4] = [
 const BY_BOTH_VOLUMES: [Case; 1] = [(0, 2, 0, 2, Ok(Settled))];
 
 /// What is done, and how the nodes settle then.
-pub(super) type Turn<'a> = (&'a [Does<'a>], &'a [Case]);
+type Turn<'a> = (&'a [Does<'a>], &'a [Case]);
 
 /// How many nodes and passes there are, and their turns.
 type Set = (u16, u32, &'static [Turn<'static>]);
@@ -263,6 +261,25 @@ fn cuts<R: Wait + Abort>(
     volumes.push(volume).expect(rt, "memory");
 }
 
+/// The node of the shelf at the place is called, with the pass at the place, and the part that it leaves is this.
+pub(super) fn calls<R: Wait + Abort>(
+    rt: &R,
+    alloc: Global,
+    shelves: &[Shelf],
+    passes: &mut [Pass],
+    shelf: usize,
+    pass: usize,
+    what: What<'_>,
+    want: &str,
+)
+    requires { AreDistinct passes.old }
+    ensures { AreDistinct passes.new }
+{
+    let shelf = shelves.get(shelf).expect(rt, "a shelf");
+    let _place = call(rt, alloc, shelf, passes, pass, what).expect(rt, "memory");
+    part_is(rt, alloc, passes.get(pass).expect(rt, "a pass"), want);
+}
+
 /// Does it with the shelf.
 fn do_with<R: Wait + Abort>(
     rt: &R,
@@ -277,9 +294,7 @@ fn do_with<R: Wait + Abort>(
 {
     match does {
         Calls(shelf, pass, what, want) => {
-            let shelf = shelves.get(shelf).expect(rt, "a shelf");
-            let _place = call(rt, alloc, shelf, passes, pass, what).expect(rt, "memory");
-            part_is(rt, alloc, passes.get(pass).expect(rt, "a pass"), want);
+            calls(rt, alloc, shelves, passes, shelf, pass, what, want);
         }
         Cuts(shelf, wanted) => {
             let shelf = shelves.get(shelf).expect(rt, "a shelf");
@@ -346,7 +361,7 @@ fn settle_each<R: Wait + Abort>(
 }
 
 /// New nodes take turns with new passes.
-pub(super) fn take_turns<R: Wait + Abort>(
+fn take_turns<R: Wait + Abort>(
     rt: &R,
     alloc: Global,
     (nodes, count): (u16, u32),
@@ -393,14 +408,23 @@ fn a_volume_of_another_node_is_told_by_settle(rt: HostRuntime) {
         enters(&rt, rt.alloc(), &mut held, 0, &FIRST_CALL).expect(&rt, "memory");
         let volumes = [cut(&rt, &mut held).expect(&rt, "memory")];
         let told = settle_with(&rt, &shelves, &volumes, &passes);
-        assert_eq!(rt; told, Err(Unsettled { node: number, place: 0 }));
+        assert_eq!(rt;
+            told,
+            Err(Unsettled {
+                node: number,
+                place: 0
+            })
+        );
     }
 }
 
 /// There are so many shelves and passes. Nodes are numbered from 1 and passes, which have no calls, from 0.
 fn are_set_up<R: Abort>(rt: &R, shelves: &[Shelf], passes: &[Pass], counts: (u16, u32)) {
     let (nodes, count) = counts;
-    assert_eq!(rt; (shelves.len(), passes.len()), (usize::from(nodes), count as usize));
+    assert_eq!(rt;
+        (shelves.len(), passes.len()),
+        (usize::from(nodes), count as usize)
+    );
     for (place, shelf) in shelves.iter().enumerate() {
         assert_eq!(rt; usize::from(shelf.number()), place.wrapping_add(1));
     }

@@ -51,7 +51,10 @@ pub(super) fn step<R: Abort>(
 pub(super) fn part_is<R: Abort>(rt: &R, alloc: Global, pass: &Pass, want: &str) {
     let number = pass.len().checked_sub(1).expect(rt, "a call");
     let part = pass.part(number).expect(rt, "a part");
-    assert_eq!(rt; (part.entry.pass, part.entry.number), (pass.number(), number));
+    assert_eq!(rt;
+        (part.entry.pass, part.entry.number),
+        (pass.number(), number)
+    );
     let reply = reply_text(alloc, &part.entry.reply).expect(rt, "memory");
     let (node, place) = (part.node, part.place);
     let text = format!(in alloc; "{node} {place} {reply}").expect(rt, "memory");

@@ -52,12 +52,7 @@ pub(super) fn enters<R: Abort>(
 }
 
 /// The call is made of the node.
-fn acts<R: Abort>(
-    rt: &R,
-    alloc: Global,
-    node: &mut Node,
-    what: What<'_>,
-) -> Result<(), NoMemory> {
+fn acts<R: Abort>(rt: &R, alloc: Global, node: &mut Node, what: What<'_>) -> Result<(), NoMemory> {
     let call = what.made(rt, alloc)?;
     let reply = node.act(&call);
     if wants_memory(&reply) {
@@ -144,7 +139,12 @@ const FIRST: Row<'static> = (&FIRST_CALL, (0, &[], &FIRST_CALL, &[CREATED]));
 
 const SECOND: Row<'static> = (
     &[ByEndpoint("a"), Sweeps(86_400_000)],
-    (1, &FIRST_CALL, &THREE_CALLS, &[SHOWN, "swept 0000000000010001"]),
+    (
+        1,
+        &FIRST_CALL,
+        &THREE_CALLS,
+        &[SHOWN, "swept 0000000000010001"],
+    ),
 );
 
 const THIRD: Row<'static> = (

@@ -58,7 +58,11 @@ static KEPT: [(Option<u32>, u32, &str); 8] = [
 ];
 
 /// A ping in each of three rounds.
-static PINGS: [Arrival<'static>; 3] = [(5683, PING, Alone), (5683, PING, Alone), (5683, PING, Alone)];
+static PINGS: [Arrival<'static>; 3] = [
+    (5683, PING, Alone),
+    (5683, PING, Alone),
+    (5683, PING, Alone),
+];
 
 /// Serves three pings at node 2, a round for each, by one worker at two nodes: how the run ended, and the volumes.
 fn kept_of<R: Threads + Wait + Sync + Abort>(

@@ -37,8 +37,8 @@ fn register(number: u16) -> [u8; 18] {
     let (hundreds, tens) = (number / 100 % 10, number / 10 % 10);
     let [hundreds, tens, ones] = [digit(hundreds), digit(tens), digit(number % 10)];
     [
-        0x40, 0x02, high, low, 0xb2, b'r', b'd', 0x46, b'e', b'p', b'=', hundreds, tens, ones, 0xff,
-        b'<', b'/', b'>',
+        0x40, 0x02, high, low, 0xb2, b'r', b'd', 0x46, b'e', b'p', b'=', hundreds, tens, ones,
+        0xff, b'<', b'/', b'>',
     ]
 }
 
@@ -71,8 +71,8 @@ fn are_replies<R: Abort>(rt: &R, sent: &[(u16, Vec<u8>)]) {
     }
 }
 
-/// So many Registers, from ports of their own, are served at four nodes by four workers, with the journals cut after so many
-/// rounds or never. Each has its reply.
+/// So many Registers, from ports of their own, are served at four nodes by four workers, with the journals cut after so
+/// many rounds or never. Each has its reply.
 fn are_all_replied_to<R: Threads + Wait + Sync + Abort>(
     rt: &R,
     alloc: Global,
@@ -85,13 +85,20 @@ fn are_all_replied_to<R: Threads + Wait + Sync + Abort>(
     }
     let mut arrivals = Vec::new(alloc);
     for (place, datagram) in (0_u16..=u16::MAX).zip(&datagrams) {
-        let arrival = (place.wrapping_add(40_000), datagram.as_slice(), coming(place));
+        let arrival = (
+            place.wrapping_add(40_000),
+            datagram.as_slice(),
+            coming(place),
+        );
         arrivals.push(arrival).expect(rt, "memory");
     }
     let mut wire = MemoryWire::new(alloc, &arrivals);
     let sizes = (u32::from(count), 4, 4, cut);
     let text = run(rt, &mut wire, sizes, &[0], AMPLE);
-    assert!(rt; text.starts_with("Ok(()) ") && text.ends_with("\nsettled\n"), "{text}");
+    assert!(rt;
+        text.starts_with("Ok(()) ") && text.ends_with("\nsettled\n"),
+        "{text}"
+    );
     assert_eq!(rt; wire.sent.len(), datagrams.len());
     are_replies(rt, &wire.sent);
 }

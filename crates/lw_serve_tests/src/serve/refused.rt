@@ -4,8 +4,8 @@ use super::*;
 use lw_serve::CrewFault;
 use std::test::Fail;
 
-/// A Register at node 1, a ping in the next round, in which node 2 merges what node 1 has sent, and then an Update of the
-/// registration at node 2.
+/// A Register at node 1, a ping in the next round, in which node 2 merges what node 1 has sent, and then an Update of
+/// the registration at node 2.
 static ARRIVALS: [Arrival<'static>; 3] = [
     (56832, REGISTER, Alone),
     (56832, PING, Alone),

@@ -10,11 +10,12 @@ pub(super) type Room = (usize, bool, bool);
 /// A writer that takes all.
 pub(super) const AMPLE: Room = (1_000, false, false);
 
-/// How many datagrams, nodes and workers there are, and after how many rounds journals are cut, again and again, or never.
+/// How many datagrams, nodes and workers there are, and after how many rounds journals are cut, again and again, or
+/// never.
 pub(super) type Sizes = (u32, u16, u32, Option<u32>);
 
-/// Serves over the wire, at the moments of the rounds, in milliseconds. Gives how the run ended, how often the clock was
-/// read, how many records were logged and how many of them warn of receiving and of sending, and what was written.
+/// Serves over the wire, at the moments of the rounds, in milliseconds. Gives how the run ended, how often the clock
+/// was read, how many records were logged and how many of them warn of receiving and of sending, and what was written.
 pub(super) fn run<R: Threads + Wait + Sync + Abort>(
     rt: &R,
     wire: &mut MemoryWire<'_>,
@@ -53,7 +54,8 @@ fn warnings(logged: &[String], message: &str) -> u32 {
     count
 }
 
-/// Serves over the wire. What came of the run stands before a line for each datagram that was sent: the port and the bytes.
+/// Serves over the wire. What came of the run stands before a line for each datagram that was sent: the port and the
+/// bytes.
 fn is_served<R: Threads + Wait + Sync + Abort>(
     rt: &R,
     mut wire: MemoryWire<'_>,
@@ -158,13 +160,11 @@ settled
 56833 60440010
 ";
 
-/// A datagram at each of two nodes, of which the second comes in one way or another; and a ping in each of three rounds.
+/// A datagram at each of two nodes, of which the second comes in one way or another; and a ping in each of three
+/// rounds.
 static ROUNDS: [Row; 5] = [
     (
-        &[
-            (56832, REGISTER, Alone),
-            (56833, OTHER_REGISTER, Alone),
-        ],
+        &[(56832, REGISTER, Alone), (56833, OTHER_REGISTER, Alone)],
         2,
         1,
         &[0],
@@ -181,10 +181,7 @@ static ROUNDS: [Row; 5] = [
         TOLD,
     ),
     (
-        &[
-            (56832, REGISTER, Alone),
-            (56833, OTHER_REGISTER, AtOnce),
-        ],
+        &[(56832, REGISTER, Alone), (56833, OTHER_REGISTER, AtOnce)],
         2,
         1,
         &[0],
@@ -198,7 +195,11 @@ static ROUNDS: [Row; 5] = [
         UPDATED,
     ),
     (
-        &[(5683, PING, Alone), (5683, PING, Alone), (5683, PING, Alone)],
+        &[
+            (5683, PING, Alone),
+            (5683, PING, Alone),
+            (5683, PING, Alone),
+        ],
         16,
         2,
         &[0],
@@ -221,8 +222,8 @@ const LIFE: [Arrival<'static>; 3] = [
     (5683, OTHER_UPDATE, Alone),
 ];
 
-/// The replies to the Updates are 2.04 before 60,000 milliseconds have passed since it was seen last, and 4.04 from then
-/// on.
+/// The replies to the Updates are 2.04 before 60,000 milliseconds have passed since it was seen last, and 4.04 from
+/// then on.
 static LIVES: [Row; 4] = [
     (
         &LIFE,

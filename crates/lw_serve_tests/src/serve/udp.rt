@@ -1,10 +1,9 @@
 //! Runs over sockets of the loopback.
 
 use super::*;
-use std::io;
 use std::net::{Net, SocketAddr, UdpSocket};
-use std::thread;
 use std::time::{Clock, Duration};
+use std::{io, thread};
 
 /// A socket at the address, which waits for 20 seconds.
 fn bound<R: Net>(rt: &R, address: &str) -> io::Result<UdpSocket> {
@@ -59,7 +58,9 @@ fn two_clients_at_two_nodes(rt: HostRuntime) {
     for (address, datagram, want) in &CLIENTS {
         let client = bound(&rt, address).expect(&rt, "a port");
         let mut buffer = [0; 100];
-        client.send_to(datagram, "127.0.0.1:56831").expect(&rt, "sent");
+        client
+            .send_to(datagram, "127.0.0.1:56831")
+            .expect(&rt, "sent");
         let (length, _from) = client.recv_from(&mut buffer).expect(&rt, "a reply");
         let reply = hex::encode(rt.alloc(), &buffer[..length]).expect(&rt, "memory");
         assert_eq!(rt; reply.as_str(), *want);
@@ -146,7 +147,12 @@ fn a_wire_waits_and_sends_in_any_order(rt: HostRuntime) {
         let port = client.local_addr().expect(&rt, "an address").port();
         let address = [127, 0, 0, 2];
         for does in turns {
-            do_it(&rt, (&mut wire, at), (&client, Addr::V4 { address, port }), *does);
+            do_it(
+                &rt,
+                (&mut wire, at),
+                (&client, Addr::V4 { address, port }),
+                *does,
+            );
         }
     }
 }
@@ -168,7 +174,12 @@ fn a_datagram_is_sent_back_over_ipv6(rt: HostRuntime) {
         let address = [0, 0, 0, 0, 0, 0, 0, 0, 0, 0, 0, 0, 0, 0, 0, 1];
         let port = client.local_addr().expect(&rt, "an address").port();
         for does in [Waits, Arrives] {
-            do_it(&rt, (&mut wire, at), (&client, Addr::V6 { address, port }), does);
+            do_it(
+                &rt,
+                (&mut wire, at),
+                (&client, Addr::V6 { address, port }),
+                does,
+            );
         }
     }
 }

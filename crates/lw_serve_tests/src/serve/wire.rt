@@ -94,8 +94,8 @@ impl Wire for MemoryWire<'_> {
     }
 }
 
-/// A clock in memory, which counts its readings. It gives the moments of these milliseconds in turn, and the last of them
-/// from then on.
+/// A clock in memory, which counts its readings. It gives the moments of these milliseconds in turn, and the last of
+/// them from then on.
 #[derive(Drop)]
 pub(super) struct Ticks<'a> {
     pub(super) moments: &'a [u64],
