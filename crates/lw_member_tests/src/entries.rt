@@ -1,9 +1,10 @@
 //! Entries as bytes, which are written out by hand.
 
-use crate::hold::{holds, holds_for};
+use hex::FromHexError;
 use lw_delta::DeltaFault;
 use lw_log::*;
 use std::alloc::{AllocError, Global};
+use std::process::Abort;
 use std::test::Fail;
 
 /// A start: magic, fleet, number 258, tag, sequence 1, kind 0.
@@ -34,135 +35,63 @@ const FLEET: [u8; 16] = [0, 1, 2, 3, 4, 5, 6, 7, 8, 9, 10, 11, 12, 13, 14, 15];
 
 const TAG: u64 = 0xa1a2_a3a4_a5a6_a7a8;
 
-/// What the bytes are no entry for, or none where they are one.
-fn fault_of(bytes: &[u8]) -> Option<EntryFault> {
-    read_entry(bytes).err()
-}
-
-/// The entry that the bytes are, where they are one.
-fn entry_of(bytes: &[u8]) -> Option<Entry<'_>> {
-    read_entry(bytes).ok()
-}
-
 /// The bytes of a head, so many numbers that each have bits 0, and what stands behind them.
-fn whole(alloc: Global, count: usize, behind: &str) -> Result<Vec<u8>, Fail> {
+fn whole(alloc: Global, count: usize, behind: &str) -> Result<Vec<u8>, FromHexError> {
     let mut bytes = hex::decode(alloc, WHOLE_HEAD)?;
-    put_zeros(&mut bytes, count)?;
-    put_text(alloc, &mut bytes, behind)?;
+    let zeros = vec![in alloc; 0u8; count]?;
+    bytes.extend_from_slice(&zeros)?;
+    bytes.extend_from_slice(&hex::decode(alloc, behind)?)?;
     Ok(bytes)
 }
 
-fn put_zeros(bytes: &mut Vec<u8>, count: usize) -> Result<(), Fail> {
-    for _ in 0..count {
-        bytes.push(0)?;
-    }
-    Ok(())
-}
-
-/// Adds what the text spells in hex.
-fn put_text(alloc: Global, bytes: &mut Vec<u8>, text: &str) -> Result<(), Fail> {
-    let behind = hex::decode(alloc, text)?;
-    bytes.extend_from_slice(&behind)?;
-    Ok(())
-}
-
-/// A byte 7, and the entry that the bytes are behind it.
-fn written(alloc: Global, bytes: &[u8]) -> Result<Vec<u8>, Fail> {
-    let Some(entry) = entry_of(bytes) else {
-        return Err(Fail::new("the bytes are an entry"));
-    };
+/// Compares what the entry that the bytes are is written as with them. What is there before it stays.
+fn is_written_again(rt: &impl Abort, alloc: Global, bytes: &[u8]) {
+    let entry = read_entry(bytes).expect(rt, "an entry");
     let mut out = Vec::new(alloc);
-    out.push(7)?;
-    put_entry(&mut out, &entry)?;
-    Ok(out)
+    out.push(7).expect(rt, "memory");
+    put_entry(&mut out, &entry).expect(rt, "memory");
+    let (first, rest) = out.split_first().expect(rt, "something is written");
+    assert_eq!(rt; *first, 7);
+    assert!(rt; rest == bytes, "what is read is written again: {rest:?}");
 }
 
-/// Fails where the entry that the bytes are is written as others.
-fn is_written_again(alloc: Global, bytes: &[u8]) -> Result<(), Fail> {
-    let out = written(alloc, bytes)?;
-    is_behind_seven(&out, bytes)
+/// The body of the entry that the bytes are, whose fleet, start and sequence are compared.
+fn body_of<'a>(rt: &impl Abort, bytes: &'a [u8], sequence: u64) -> Body<'a> {
+    let entry = read_entry(bytes).expect(rt, "an entry");
+    assert_eq!(rt; entry.fleet.bytes, FLEET);
+    assert_eq!(rt; entry.start.number, 258);
+    assert_eq!(rt; entry.start.tag, TAG);
+    assert_eq!(rt; entry.sequence, sequence);
+    entry.body
 }
 
-fn is_behind_seven(out: &[u8], bytes: &[u8]) -> Result<(), Fail> {
-    let Some((first, rest)) = out.split_first() else {
-        return Err(Fail::new("something is written"));
-    };
-    holds("what is there stays", *first == 7)?;
-    holds("what is read is written again", rest == bytes)
-}
-
-/// Fails where the entry is not of the start and the fleet that the rows have.
-fn is_of_the_start(entry: &Entry<'_>, sequence: u64) -> Result<(), Fail> {
-    holds("its fleet", entry.fleet.bytes == FLEET)?;
-    holds("its number", entry.start.number == 258)?;
-    holds("its tag", entry.start.tag == TAG)?;
-    holds("its sequence", entry.sequence == sequence)
-}
-
-/// Fails where the bytes are not a start with sequence 1.
-fn is_start(bytes: &[u8]) -> Result<(), Fail> {
-    let Some(entry) = entry_of(bytes) else {
-        return Err(Fail::new("a start is read"));
-    };
-    is_of_the_start(&entry, 1)?;
-    holds("its body", matches!(entry.body, Body::Start))
-}
-
-/// Tries: lw_log::read_entry, lw_log::put_entry
+/// Tries: lw_log::read_entry
 #[test]
-fn a_start_is_read_and_written(rt: HostRuntime) -> Result<(), Fail> {
-    let bytes = hex::decode(rt.alloc(), START)?;
-    is_start(&bytes)?;
-    is_written_again(rt.alloc(), &bytes)
-}
-
-/// Fails where the bytes are not a delta with sequence 2.
-fn is_delta(bytes: &[u8], delta: &[u8]) -> Result<(), Fail> {
-    let Some(entry) = entry_of(bytes) else {
-        return Err(Fail::new("a delta is read"));
+fn the_parts_of_an_entry_are_read(rt: HostRuntime) {
+    let alloc = rt.alloc();
+    let start = hex::decode(alloc, START).expect(&rt, "a start");
+    assert!(rt; matches!(body_of(&rt, &start, 1), Body::Start));
+    let empty = hex::decode(alloc, EMPTY_DELTA).expect(&rt, "a delta");
+    let delta = hex::decode(alloc, DELTA).expect(&rt, "an entry");
+    let Body::Delta(own) = body_of(&rt, &delta, 2) else {
+        panic!(rt; "a delta");
     };
-    is_of_the_start(&entry, 2)?;
-    let Body::Delta(own) = entry.body else {
-        return Err(Fail::new("its body"));
-    };
-    holds("its delta", own == delta)
-}
-
-/// Tries: lw_log::read_entry, lw_log::put_entry
-#[test]
-fn a_delta_is_read_and_written(rt: HostRuntime) -> Result<(), Fail> {
-    let bytes = hex::decode(rt.alloc(), DELTA)?;
-    is_delta(&bytes, &hex::decode(rt.alloc(), EMPTY_DELTA)?)?;
-    is_written_again(rt.alloc(), &bytes)
-}
-
-/// Fails where the bytes are not a whole one with sequence 3, whose numbers are all 0.
-fn is_whole(bytes: &[u8], delta: &[u8]) -> Result<(), Fail> {
-    let Some(entry) = entry_of(bytes) else {
-        return Err(Fail::new("a whole one is read"));
-    };
-    is_of_the_start(&entry, 3)?;
+    assert!(rt; own == empty.as_slice(), "its delta");
+    let all = whole(alloc, 8192, EMPTY_DELTA).expect(&rt, "an entry");
     let Body::Whole {
         numbers,
         delta: own,
-    } = entry.body
+    } = body_of(&rt, &all, 3)
     else {
-        return Err(Fail::new("its body"));
+        panic!(rt; "a whole one");
     };
-    holds("its numbers", numbers.iter().all(|byte| *byte == 0))?;
-    holds("its delta", own == delta)
+    assert!(rt; numbers.iter().all(|byte| *byte == 0), "its numbers");
+    assert!(rt; own == empty.as_slice(), "its delta");
 }
 
-/// Tries: lw_log::read_entry, lw_log::put_entry
-#[test]
-fn a_whole_one_is_read_and_written(rt: HostRuntime) -> Result<(), Fail> {
-    let bytes = whole(rt.alloc(), 8192, EMPTY_DELTA)?;
-    is_whole(&bytes, &hex::decode(rt.alloc(), EMPTY_DELTA)?)?;
-    is_written_again(rt.alloc(), &bytes)
-}
-
-/// Each format of a delta, and each end of the numbers.
-static READ: [&str; 8] = [
+/// A start, each format of a delta, and each end of the numbers.
+static READ: [&str; 9] = [
+    START,
     DELTA,
     DELTA_AT_SECOND,
     DELTA_AT_FIRST,
@@ -178,20 +107,15 @@ static READ: [&str; 8] = [
     "4c574531ffffffffffffffffffffffffffffffff0102ffffffffffffffff000000000000000100",
 ];
 
-/// Fails where the text spells no entry in hex, or one that is written as another.
-fn is_read_and_written(alloc: Global, text: &str) -> Result<(), Fail> {
-    let bytes = hex::decode(alloc, text)?;
-    holds_for(&text, entry_of(&bytes).is_some())?;
-    is_written_again(alloc, &bytes)
-}
-
 /// Tries: lw_log::read_entry, lw_log::put_entry
 #[test]
-fn what_is_read_is_written_again(rt: HostRuntime) -> Result<(), Fail> {
+fn what_is_read_is_written_again(rt: HostRuntime) {
     for text in &READ {
-        is_read_and_written(rt.alloc(), text)?;
+        let bytes = hex::decode(rt.alloc(), text).expect(&rt, "hex");
+        is_written_again(&rt, rt.alloc(), &bytes);
     }
-    Ok(())
+    let all = whole(rt.alloc(), 8192, EMPTY_DELTA).expect(&rt, "an entry");
+    is_written_again(&rt, rt.alloc(), &all);
 }
 
 /// Each fault, where it is the first: a later one may stand behind it.
@@ -289,45 +213,7 @@ static REFUSED: [(&str, EntryFault); 24] = [
     ),
 ];
 
-/// Tries: lw_log::read_entry
-#[test]
-fn each_fault_is_told_where_it_is_the_first(rt: HostRuntime) -> Result<(), Fail> {
-    for row in &REFUSED {
-        let (text, fault) = row;
-        let bytes = hex::decode(rt.alloc(), text)?;
-        holds_for(row, fault_of(&bytes) == Some(*fault))?;
-    }
-    Ok(())
-}
-
-/// Fails where a beginning of the bytes has another fault. From the length on, it is one of the delta.
-fn is_truncated(bytes: &[u8], delta_at: usize) -> Result<(), Fail> {
-    for (count, _) in bytes.iter().enumerate() {
-        let want = if count < delta_at {
-            EntryFault::Truncated
-        } else {
-            EntryFault::Delta(DeltaFault::Truncated)
-        };
-        holds_for(&count, fault_of(&bytes[..count]) == Some(want))?;
-    }
-    Ok(())
-}
-
-/// The same of bytes in hex whose head has 39.
-fn text_is_truncated(alloc: Global, text: &str) -> Result<(), Fail> {
-    let bytes = hex::decode(alloc, text)?;
-    is_truncated(&bytes, 39)
-}
-
-/// Tries: lw_log::read_entry
-#[test]
-fn no_beginning_of_an_entry_is_one(rt: HostRuntime) -> Result<(), Fail> {
-    text_is_truncated(rt.alloc(), START)?;
-    text_is_truncated(rt.alloc(), DELTA)?;
-    is_truncated(&whole(rt.alloc(), 8192, EMPTY_DELTA)?, 8231)
-}
-
-/// How many bytes of numbers there are, what stands behind them, and the fault.
+/// A whole one has 8192 bytes of numbers. How many there are, what stands behind them, and the fault.
 static LENGTHS: [(usize, &str, EntryFault); 4] = [
     (8191, "", EntryFault::Truncated),
     (8191, EMPTY_DELTA, EntryFault::Delta(DeltaFault::Magic)),
@@ -336,15 +222,50 @@ static LENGTHS: [(usize, &str, EntryFault); 4] = [
     (8192, "4c57443400", EntryFault::Newer),
 ];
 
+/// Compares the fault of bytes that are no entry.
+fn is_refused(rt: &impl Abort, bytes: &[u8], want: EntryFault) {
+    assert_eq!(rt;
+        read_entry(bytes).err(),
+        Some(want),
+        "{} bytes: {bytes:?}",
+        bytes.len()
+    );
+}
+
 /// Tries: lw_log::read_entry
 #[test]
-fn a_whole_one_has_8192_bytes_of_numbers(rt: HostRuntime) -> Result<(), Fail> {
-    for row in &LENGTHS {
-        let (count, behind, fault) = row;
-        let bytes = whole(rt.alloc(), *count, behind)?;
-        holds_for(row, fault_of(&bytes) == Some(*fault))?;
+fn each_fault_is_told_where_it_is_the_first(rt: HostRuntime) {
+    for (text, fault) in &REFUSED {
+        let bytes = hex::decode(rt.alloc(), text).expect(&rt, "hex");
+        is_refused(&rt, &bytes, *fault);
     }
-    Ok(())
+    for (count, behind, fault) in &LENGTHS {
+        let bytes = whole(rt.alloc(), *count, behind).expect(&rt, "bytes");
+        is_refused(&rt, &bytes, *fault);
+    }
+}
+
+/// Compares the fault of each beginning of the bytes. From the length on, it is one of the delta.
+fn is_truncated(rt: &impl Abort, bytes: &[u8], delta_at: usize) {
+    for (count, _) in bytes.iter().enumerate() {
+        let want = if count < delta_at {
+            EntryFault::Truncated
+        } else {
+            EntryFault::Delta(DeltaFault::Truncated)
+        };
+        is_refused(rt, &bytes[..count], want);
+    }
+}
+
+/// Tries: lw_log::read_entry
+#[test]
+fn no_beginning_of_an_entry_is_one(rt: HostRuntime) {
+    for text in [START, DELTA] {
+        let bytes = hex::decode(rt.alloc(), text).expect(&rt, "hex");
+        is_truncated(&rt, &bytes, 39);
+    }
+    let all = whole(rt.alloc(), 8192, EMPTY_DELTA).expect(&rt, "an entry");
+    is_truncated(&rt, &all, 8231);
 }
 
 /// A second try where the first is refused memory.
@@ -364,9 +285,8 @@ fn put_in_two_tries(alloc: Global, entry: &Entry<'_>) -> Result<Vec<u8>, AllocEr
 #[test]
 fn a_refused_put_entry_writes_it_when_it_is_made_again(rt: HostRuntime) -> Result<(), Fail> {
     let bytes = whole(rt.alloc(), 8192, EMPTY_DELTA)?;
-    let Some(entry) = entry_of(&bytes) else {
-        return Err(Fail::new("a whole one is read"));
-    };
+    let entry = read_entry(&bytes).expect(&rt, "a whole one");
     let written = put_in_two_tries(rt.alloc(), &entry)?;
-    holds("its bytes", written.as_slice() == bytes.as_slice())
+    assert!(rt; written.as_slice() == bytes.as_slice(), "its bytes");
+    Ok(())
 }

@@ -4,14 +4,10 @@
 #[cfg(test)]
 mod entries;
 #[cfg(test)]
-mod hold;
-#[cfg(test)]
 mod large;
 #[cfg(test)]
 mod logs;
 #[cfg(test)]
 mod member;
-#[cfg(test)]
-mod place;
 #[cfg(test)]
 mod shared;

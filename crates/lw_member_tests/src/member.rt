@@ -12,23 +12,19 @@ mod restarts;
 mod several;
 mod stage;
 
-use crate::hold::{holds, holds_for};
-use crate::place::Place;
 use crate::shared::*;
 use acts::Act::*;
 use acts::Look::*;
-use acts::{Act, Look, ask_all};
-use bytes::Bytes;
-use lw_call::{Call, Reply, Taken};
+use acts::{answers, begin};
 use lw_log::{DeltaLog, FleetId, LogFault, MemoryLog};
 use lw_member::{Chance, Member, MemberFault, Moment};
 use lw_reg::Addr;
 use stage::Entry::*;
 use stage::Fate::*;
 use stage::Step::*;
-use stage::{FIRST, SECOND, Step, THIRD, play, play_both, play_row};
+use stage::{ALONE, BESIDE, BOTH_WAYS, FIRST, SECOND, Step, Story, THIRD, play_all};
 use std::alloc::Global;
-use std::test::Fail;
+use std::process::Abort;
 
 const FLEET: FleetId = FleetId {
     bytes: [0, 1, 2, 3, 4, 5, 6, 7, 8, 9, 10, 11, 12, 13, 14, 15],
@@ -92,10 +88,7 @@ const CHANGED: &str = "60440011";
 
 const NOT_FOUND: &str = "60840011";
 
-/// Its identifier.
-const FIRST_ID: &[u8; 16] = b"0000000000010001";
-
-/// The same of the registration with counter 2.
+/// An Update of the registration with counter 2.
 const UPDATE_OF_SECOND: &str = "40020011b272640d0330303030303030303030303230303031";
 
 /// Where the devices are.
@@ -107,73 +100,13 @@ const HOME: Addr = Addr::V4 {
 /// What a member answers while its log is away.
 const AWAY: MemberFault = MemberFault::Log(LogFault::Away);
 
-/// A member that begins at moment 0 over entries to which others may append.
-fn begin<'a>(
-    alloc: Global,
-    entries: &'a Entries,
-    chance: &Chance,
-) -> Result<Member<Shared<'a>>, MemberFault> {
-    begin_at(alloc, entries, false, chance, Moment::START)
-}
+/// A failure of the next call, which finds the log away.
+const NEXT_AWAY: Failure = (0, LogFault::Away, false);
 
-/// A member that begins at the moment over entries to which others may append, or none.
-fn begin_at<'a>(
-    alloc: Global,
-    entries: &'a Entries,
-    alone: bool,
-    chance: &Chance,
-    moment: Moment,
-) -> Result<Member<Shared<'a>>, MemberFault> {
-    let log = Shared::new(alloc, entries, alone);
-    Member::begin(alloc, log, chance, moment)
-}
+/// The entries of the first member behind its first Register.
+const WRITTEN: &[&str] = &[START, DELTA];
 
-/// A member that begins at moment 0 over a log that tells what it was asked.
-fn begin_in_memory(
-    alloc: Global,
-    log: MemoryLog,
-    chance: &Chance,
-) -> Result<Member<MemoryLog>, MemberFault> {
-    Member::begin(alloc, log, chance, Moment::START)
-}
+/// What the device of the first registration tells of its observation, whose payload is `1`, and the reply.
+const TOLD: &str = "4845003100000000000200016101ff31";
 
-/// A datagram of the device comes at moment 0.
-fn taking(datagram: Vec<u8>) -> Result<Call, Fail> {
-    Ok(Call::Take {
-        now: Moment::START,
-        from: HOME,
-        bytes: Bytes::from_vec(datagram)?,
-    })
-}
-
-/// The same of a datagram in hex.
-fn take(alloc: Global, datagram: &str) -> Result<Call, Fail> {
-    taking(hex::decode(alloc, datagram)?)
-}
-
-/// What the node took, where this is the reply to one datagram.
-fn taken_in(replies: &[Reply]) -> Result<&Taken, Fail> {
-    let [Reply::Take(taken)] = replies else {
-        return Err("one datagram is taken".into());
-    };
-    match taken {
-        Ok(taken) => Ok(taken),
-        Err(error) => Err((*error).into()),
-    }
-}
-
-/// The datagram that is sent back in hex, or `-`.
-fn reply_text(alloc: Global, replies: &[Reply]) -> Result<String, Fail> {
-    match &taken_in(replies)?.reply {
-        Some(bytes) => Ok(hex::encode(alloc, bytes)?),
-        None => Ok(String::from_str(alloc, "-")?),
-    }
-}
-
-/// The identifier at the end of the reply to a Register.
-fn id_in(replies: &[Reply]) -> Result<&[u8], Fail> {
-    let Some(reply) = &taken_in(replies)?.reply else {
-        return Err("a reply".into());
-    };
-    Ok(reply.as_slice().last_chunk::<16>().ok_or("an identifier")?)
-}
+const TOLD_REPLY: &str = "60000031, and 2.1 tells [49]";

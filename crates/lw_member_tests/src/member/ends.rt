@@ -1,6 +1,7 @@
 //! Clocks, where they end and where they begin.
 
 use super::acts::is_seen;
+use super::stage::At;
 use super::*;
 use lw_log::Nowhere;
 
@@ -12,7 +13,7 @@ const LAST_CLOCK: &str =
 /// The reply to a Register of `a` with the clock at its end: 5.03.
 const UNAVAILABLE: &str = "60a30004";
 
-static AT_END: [Step; 6] = [
+const AT_END: &[Step] = &[
     Begins(SECOND_CHANCE),
     Shows(FIRST, Shown(true)),
     Does(FIRST, Answers(REGISTER, UNAVAILABLE)),
@@ -21,82 +22,124 @@ static AT_END: [Step; 6] = [
     Log(Has(&[START, LAST_CLOCK, SECOND_START])),
 ];
 
-/// Tries: lw_member::Member::round, lw_member::Member::node
-#[test]
-fn nothing_is_registered_at_the_end_of_the_clock(rt: HostRuntime) -> Result<(), Fail> {
-    play(rt.alloc(), &[START, LAST_CLOCK], &AT_END)
-}
-
-/// A moment in milliseconds, and the reply to the first Register of `a` at a member that begins then: its counter is
+/// The moment in milliseconds at which a member begins, and the reply to the first Register of `a`: its counter is
 /// above 64 for each millisecond, and no clock goes on from 2^48 - 1.
-static FLOORS: [(u64, &str); 6] = [
-    (0, CREATED),
-    // 65
-    (1, "604100048272640d0330303030303030303030343130303031"),
-    // 64,001
-    (1_000, "604100048272640d0330303030303030306661303130303031"),
-    // 64 * 2^40 + 1
+static FLOORS: [Story; 6] = [
     (
-        1_099_511_627_776,
-        "604100048272640d0334303030303030303030303130303031",
+        "counter 1",
+        BESIDE,
+        &[],
+        &[&[
+            BeginsAt(0, FIRST_CHANCE),
+            Does(FIRST, Answers(REGISTER, CREATED)),
+            Shows(FIRST, Shown(true)),
+        ]],
     ),
-    // the last moment before 2109-05-15
     (
-        4_398_046_511_103,
-        "604100048272640d0366666666666666666666633130303031",
+        "counter 65",
+        BESIDE,
+        &[],
+        &[&[
+            BeginsAt(1, FIRST_CHANCE),
+            Does(
+                FIRST,
+                Answers(
+                    REGISTER,
+                    "604100048272640d0330303030303030303030343130303031",
+                ),
+            ),
+            Shows(FIRST, Shown(true)),
+        ]],
     ),
-    (4_398_046_511_104, UNAVAILABLE),
+    (
+        "counter 64,001",
+        BESIDE,
+        &[],
+        &[&[
+            BeginsAt(1_000, FIRST_CHANCE),
+            Does(
+                FIRST,
+                Answers(
+                    REGISTER,
+                    "604100048272640d0330303030303030306661303130303031",
+                ),
+            ),
+            Shows(FIRST, Shown(true)),
+        ]],
+    ),
+    (
+        "counter 64 * 2^40 + 1",
+        BESIDE,
+        &[],
+        &[&[
+            BeginsAt(1_099_511_627_776, FIRST_CHANCE),
+            Does(
+                FIRST,
+                Answers(
+                    REGISTER,
+                    "604100048272640d0334303030303030303030303130303031",
+                ),
+            ),
+            Shows(FIRST, Shown(true)),
+        ]],
+    ),
+    (
+        "the last moment before 2109-05-15",
+        BESIDE,
+        &[],
+        &[&[
+            BeginsAt(4_398_046_511_103, FIRST_CHANCE),
+            Does(
+                FIRST,
+                Answers(
+                    REGISTER,
+                    "604100048272640d0366666666666666666666633130303031",
+                ),
+            ),
+            Shows(FIRST, Shown(true)),
+        ]],
+    ),
+    (
+        "none from 2109-05-15 on",
+        BESIDE,
+        &[],
+        &[&[
+            BeginsAt(4_398_046_511_104, FIRST_CHANCE),
+            Does(FIRST, Answers(REGISTER, UNAVAILABLE)),
+            Shows(FIRST, Shown(true)),
+        ]],
+    ),
 ];
 
-/// Fails where a member that begins at the moment gives another reply.
-fn begins_above(alloc: Global, row: usize, (ms, want): (u64, &'static str)) -> Result<(), Fail> {
-    let steps = [
-        BeginsAt(ms, FIRST_CHANCE),
-        Does(FIRST, Answers(REGISTER, want)),
-        Shows(FIRST, Shown(true)),
-    ];
-    play_row(alloc, row, false, &[], &steps)
-}
+const NOWHERE: At = ("a member that keeps nothing", 0, 0);
 
-/// Tries: lw_member::Member::begin, lw_member::Member::round
-#[test]
-fn a_first_counter_is_above_the_floor(rt: HostRuntime) -> Result<(), Fail> {
-    for (row, floor) in FLOORS.iter().enumerate() {
-        begins_above(rt.alloc(), row, *floor)?;
+/// Compares the replies of a member that keeps nothing and begins at a moment. Then number 1 is its own, and nothing is
+/// unwritten.
+fn ask_nowhere(rt: &impl Abort, alloc: Global, ms: u64, rows: &[(&str, &str)]) {
+    let moment = Moment::new(ms).expect(rt, "a moment");
+    let begun = begin(alloc, Nowhere::new(alloc), &FIRST_CHANCE, moment);
+    let mut member = begun.expect(rt, "a member");
+    for row in rows {
+        answers(rt, alloc, NOWHERE, &mut member, *row);
     }
-    Ok(())
-}
-
-/// A member that keeps nothing, with number 1, which begins at a moment.
-fn begin_nowhere(alloc: Global, ms: u64) -> Result<Member<Nowhere>, Fail> {
-    let moment = Moment::new(ms).ok_or("a moment")?;
-    let log = Nowhere::new(alloc);
-    Ok(Member::begin(alloc, log, &FIRST_CHANCE, moment)?)
-}
-
-/// Asks it of a member that keeps nothing and begins at a moment. Then number 1 is its own, and nothing is unwritten.
-fn ask_nowhere(alloc: Global, ms: u64, acts: &[Act]) -> Result<(), Fail> {
-    let mut member = begin_nowhere(alloc, ms)?;
-    ask_all(alloc, &mut member, acts)?;
-    let is_so = is_seen(&member, Number(1)) && is_seen(&member, Shown(true));
-    holds("number 1, and nothing is unwritten", is_so)
+    assert!(rt; is_seen(&member, &Number(1)) && is_seen(&member, &Shown(true)));
 }
 
 /// An Update of the registration with counter 64,001.
 const UPDATE_OF_BEFORE: &str = "40020011b272640d0330303030303030306661303130303031";
 
-static BEFORE: [Act; 2] = [
-    Answers(
+static BEFORE: [(&str, &str); 2] = [
+    (
         REGISTER,
         "604100048272640d0330303030303030306661303130303031",
     ),
-    Answers(UPDATE_OF_BEFORE, CHANGED),
+    (UPDATE_OF_BEFORE, CHANGED),
 ];
 
 /// The Register then has counter 64,065.
-static AFTER: [Act; 2] = [
-    Answers(UPDATE_OF_BEFORE, NOT_FOUND),
-    Answers(
+static AFTER: [(&str, &str); 2] = [
+    (UPDATE_OF_BEFORE, NOT_FOUND),
+    (
         REGISTER,
         "604100048272640d0330303030303030306661343130303031",
     ),
@@ -104,9 +147,9 @@ static AFTER: [Act; 2] = [
 
 /// Tries: lw_member::Member::begin, lw_member::Member::round
 #[test]
-fn a_start_that_knows_nothing_gives_no_identifier_of_before(rt: HostRuntime) -> Result<(), Fail> {
-    ask_nowhere(rt.alloc(), 1_000, &BEFORE)?;
-    ask_nowhere(rt.alloc(), 1_001, &AFTER)
+fn a_start_that_knows_nothing_gives_no_identifier_of_before(rt: HostRuntime) {
+    ask_nowhere(&rt, rt.alloc(), 1_000, &BEFORE);
+    ask_nowhere(&rt, rt.alloc(), 1_001, &AFTER);
 }
 
 /// The first delta of the second start, sequence 2: no slot, and a clock of 64,000.
@@ -114,9 +157,10 @@ const CLOCK_ALONE: &str =
     "4c574531000102030405060708090a0b0c0d0e0f0002b1b2b3b4b5b6b7b8000000000000000201\
 4c57443300000000fa0000";
 
-static CLOCKS: [Step; 7] = [
+/// Without calls the clock stays below the floor. It is raised with the claim, and written also where nothing else is.
+const CLOCKS: &[Step] = &[
     BeginsAt(1_000, SECOND_CHANCE),
-    Does(FIRST, Rests),
+    Does(FIRST, Rests(None)),
     Shows(FIRST, Clock(1)),
     Log(Has(&[START, DELTA])),
     Does(FIRST, Answers("40000007", "70000007")),
@@ -124,9 +168,24 @@ static CLOCKS: [Step; 7] = [
     Log(Has(&[START, DELTA, SECOND_START, CLOCK_ALONE])),
 ];
 
-/// Without calls the clock stays below the floor. It is raised with the claim, and written also where nothing else is.
-/// Tries: lw_member::Member::round
+static CLOCKED: [Story; 2] = [
+    (
+        "nothing is registered at the end of the clock",
+        BESIDE,
+        &[START, LAST_CLOCK],
+        &[AT_END],
+    ),
+    (
+        "a clock that alone has moved is written",
+        BESIDE,
+        WRITTEN,
+        &[CLOCKS],
+    ),
+];
+
+/// Tries: lw_member::Member::round, lw_member::Member::node, lw_member::Member::begin
 #[test]
-fn a_clock_that_alone_has_moved_is_written(rt: HostRuntime) -> Result<(), Fail> {
-    play(rt.alloc(), &[START, DELTA], &CLOCKS)
+fn a_clock_begins_above_its_floor_and_ends(rt: HostRuntime) {
+    play_all(&rt, rt.alloc(), &FLOORS);
+    play_all(&rt, rt.alloc(), &CLOCKED);
 }

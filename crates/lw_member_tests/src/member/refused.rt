@@ -1,15 +1,43 @@
 //! Members that are refused memory.
 
-use super::acts::{compact, knows, round};
+use super::acts::{answer, compact, reply_text, round, take, update_of};
 use super::*;
+use lw_call::{Call, Reply};
+use std::test::Fail;
+
+/// A member at moment 0 over entries to which others may append.
+fn begin_over<'a>(
+    alloc: Global,
+    entries: &'a Entries,
+    chance: &Chance,
+) -> Result<Member<Shared<'a>>, MemberFault> {
+    begin(
+        alloc,
+        Shared::new(alloc, entries, false),
+        chance,
+        Moment::START,
+    )
+}
+
+/// Compares the reply to the datagram.
+fn replies(
+    rt: &impl Abort,
+    alloc: Global,
+    member: &mut Member<Shared<'_>>,
+    (datagram, want): (&str, &str),
+) -> Result<(), Fail> {
+    let text = answer(alloc, member, datagram)?;
+    assert_eq!(rt; text.as_str(), want, "the reply to {datagram}");
+    Ok(())
+}
 
 /// A member over the entries, which begins again where it is refused memory.
 fn begin_in_two_tries<'a>(
     alloc: Global,
     entries: &'a Entries,
 ) -> Result<Member<Shared<'a>>, MemberFault> {
-    match begin(alloc, entries, &SECOND_CHANCE) {
-        Err(MemberFault::NoMemory) => begin(alloc, entries, &SECOND_CHANCE),
+    match begin_over(alloc, entries, &SECOND_CHANCE) {
+        Err(MemberFault::NoMemory) => begin_over(alloc, entries, &SECOND_CHANCE),
         begun => begun,
     }
 }
@@ -17,62 +45,52 @@ fn begin_in_two_tries<'a>(
 /// Tries: lw_member::Member::begin
 #[test]
 fn a_refused_begin_is_made_again(rt: HostRuntime) -> Result<(), Fail> {
-    let entries = entries_of(rt.alloc(), &[START, DELTA])?;
+    let entries = entries_of(rt.alloc(), WRITTEN)?;
     let mut member = begin_in_two_tries(rt.alloc(), &entries)?;
-    ask_all(rt.alloc(), &mut member, &[Answers(UPDATE, CHANGED)])
+    replies(&rt, rt.alloc(), &mut member, (UPDATE, CHANGED))
 }
 
-/// Whether the one datagram of a round was refused memory.
-fn is_refused(replies: &[Reply]) -> bool {
-    let [Reply::Take(taken)] = replies else {
-        return false;
-    };
-    taken.is_err()
+/// Whether the round, or the one datagram that it takes, was refused memory.
+fn is_refused(outcome: &Result<Vec<Reply>, MemberFault>) -> bool {
+    match outcome {
+        Ok(replies) => matches!(replies.as_slice(), [Reply::Take(Err(_))]),
+        Err(fault) => *fault == MemberFault::NoMemory,
+    }
 }
 
-/// The replies of a round that is made again where it, or what it takes, is refused memory.
-fn round_in_two_tries<G: DeltaLog>(
-    member: &mut Member<G>,
+/// The replies of a round, which is made again where it is refused memory.
+fn round_in_two_tries(
+    member: &mut Member<Shared<'_>>,
     calls: &[Call],
 ) -> Result<Vec<Reply>, MemberFault> {
     let first = round(member, calls);
-    let is_again = match &first {
-        Ok(replies) => is_refused(replies),
-        Err(fault) => *fault == MemberFault::NoMemory,
-    };
-    if is_again {
+    if is_refused(&first) {
         return round(member, calls);
     }
     first
 }
 
-/// The replies to a Register, for which a round is made again.
-fn register_in_two_tries(
-    alloc: Global,
-    member: &mut Member<Shared<'_>>,
-) -> Result<Vec<Reply>, Fail> {
+/// An Update of what the member registers in a round that may be made again.
+fn registered(alloc: Global, member: &mut Member<Shared<'_>>) -> Result<String, MemberFault> {
     let calls = [take(alloc, REGISTER)?];
-    Ok(round_in_two_tries(member, &calls)?)
-}
-
-/// Fails where a start over the entries does not know the registration.
-fn next_knows(alloc: Global, entries: &Entries, id: &[u8]) -> Result<(), Fail> {
-    let mut next = begin(alloc, entries, &SECOND_CHANCE)?;
-    knows(alloc, Place { row: 0, step: 0 }, &mut next, id)
+    let replies = round_in_two_tries(member, &calls)?;
+    let reply = reply_text(alloc, &replies)?;
+    Ok(update_of(alloc, reply.as_str())?)
 }
 
 /// Fails where a start over the entries does not know what a member then registers.
-fn is_registered(alloc: Global, entries: &Entries) -> Result<(), Fail> {
-    let mut member = begin(alloc, entries, &FIRST_CHANCE)?;
-    let replies = register_in_two_tries(alloc, &mut member)?;
-    next_knows(alloc, entries, id_in(&replies)?)
+fn is_registered(rt: &impl Abort, alloc: Global, entries: &Entries) -> Result<(), Fail> {
+    let mut member = begin_over(alloc, entries, &FIRST_CHANCE)?;
+    let update = registered(alloc, &mut member)?;
+    let mut next = begin_over(alloc, entries, &SECOND_CHANCE)?;
+    replies(rt, alloc, &mut next, (update.as_str(), CHANGED))
 }
 
 /// Tries: lw_member::Member::round
 #[test]
 fn a_refused_round_is_made_again(rt: HostRuntime) -> Result<(), Fail> {
     let entries = entries_of(rt.alloc(), &[])?;
-    is_registered(rt.alloc(), &entries)
+    is_registered(&rt, rt.alloc(), &entries)
 }
 
 /// A compaction, which is made again where it is refused memory.
@@ -85,34 +103,33 @@ fn compact_in_two_tries(member: &mut Member<Shared<'_>>) -> Result<(), MemberFau
 
 /// Registers `a`, compacts, and registers `b`.
 fn compact_between(
+    rt: &impl Abort,
     alloc: Global,
     entries: &Entries,
     member: &mut Member<Shared<'_>>,
 ) -> Result<(), Fail> {
-    ask_all(alloc, member, &[Answers(REGISTER, CREATED)])?;
+    replies(rt, alloc, member, (REGISTER, CREATED))?;
     compact_in_two_tries(member)?;
-    has_count(Place { row: 0, step: 0 }, entries, 1)?;
-    ask_all(alloc, member, &[Answers(REGISTER_B, CREATED_B)])
+    let left = entries
+        .try_borrow()
+        .expect(rt, "the entries are free")
+        .len();
+    assert_eq!(rt; left, 1);
+    replies(rt, alloc, member, (REGISTER_B, CREATED_B))
 }
 
-/// The same by a member that begins over the entries.
-fn serve_and_compact(alloc: Global, entries: &Entries) -> Result<(), Fail> {
-    let mut member = begin(alloc, entries, &FIRST_CHANCE)?;
-    compact_between(alloc, entries, &mut member)
-}
-
-static BOTH: [Act; 1] = [Knows(&[FIRST_ID, b"0000000000020001"])];
-
-/// Fails where a start over the entries does not know both registrations.
-fn next_knows_both(alloc: Global, entries: &Entries) -> Result<(), Fail> {
-    let mut next = begin(alloc, entries, &SECOND_CHANCE)?;
-    ask_all(alloc, &mut next, &BOTH)
+/// The same by a member that begins over the entries. A later start knows both registrations.
+fn serve_and_compact(rt: &impl Abort, alloc: Global, entries: &Entries) -> Result<(), Fail> {
+    let mut member = begin_over(alloc, entries, &FIRST_CHANCE)?;
+    compact_between(rt, alloc, entries, &mut member)?;
+    let mut next = begin_over(alloc, entries, &SECOND_CHANCE)?;
+    replies(rt, alloc, &mut next, (UPDATE, CHANGED))?;
+    replies(rt, alloc, &mut next, (UPDATE_OF_SECOND, CHANGED))
 }
 
 /// Tries: lw_member::Member::compact
 #[test]
 fn a_refused_compaction_is_made_again(rt: HostRuntime) -> Result<(), Fail> {
     let entries = entries_of(rt.alloc(), &[])?;
-    serve_and_compact(rt.alloc(), &entries)?;
-    next_knows_both(rt.alloc(), &entries)
+    serve_and_compact(&rt, rt.alloc(), &entries)
 }

@@ -2,39 +2,27 @@
 
 use super::*;
 
-static EMPTY: [Step; 8] = [
+const EMPTY: &[Step] = &[
     Begins(FIRST_CHANCE),
     Shows(FIRST, Number(1)),
     Shows(FIRST, Tag(FIRST_CHANCE.tag)),
     Shows(FIRST, Fleet(None)),
     Shows(FIRST, Shown(true)),
-    Does(FIRST, Rests),
+    Does(FIRST, Rests(None)),
     Shows(FIRST, Claimed(false)),
     Log(Has(&[])),
 ];
 
-/// Tries: lw_member::Member::begin, lw_member::Member::fleet, lw_member::Member::start, lw_member::Member::is_claimed
-#[test]
-fn a_member_begins_over_an_empty_log(rt: HostRuntime) -> Result<(), Fail> {
-    play(rt.alloc(), &[], &EMPTY)
-}
-
-static REGISTERED: [Step; 8] = [
+const REGISTERED: &[Step] = &[
     Begins(FIRST_CHANCE),
     Does(FIRST, Answers(REGISTER, CREATED)),
     Log(Has(&[START, DELTA])),
     Shows(FIRST, Claimed(true)),
     Shows(FIRST, Fleet(Some(FLEET))),
     Shows(FIRST, Shown(true)),
-    Does(FIRST, Rests),
+    Does(FIRST, Rests(None)),
     Log(Has(&[START, DELTA])),
 ];
-
-/// Tries: lw_member::Member::round, lw_member::Member::fleet, lw_member::Member::is_claimed, lw_member::Member::node
-#[test]
-fn a_first_register_writes_a_start_and_a_delta(rt: HostRuntime) -> Result<(), Fail> {
-    play_both(rt.alloc(), &REGISTERED)
-}
 
 /// The first member's delta with the Register of `b` alone, sequence 3.
 const DELTA_B: &str =
@@ -50,19 +38,13 @@ const DELTA_UPDATED: &str =
 000000000003000100000000000000000000000100010001518000000000000100010155\
 000000000001000100000000000001000100033c2f3e00000000";
 
-static CHANGES: [Step; 5] = [
+const CHANGES: &[Step] = &[
     Begins(FIRST_CHANCE),
     Does(FIRST, Answers(REGISTER, CREATED)),
     Does(FIRST, Answers(REGISTER_B, CREATED_B)),
     Does(FIRST, Answers(UPDATE, CHANGED)),
     Log(Has(&[START, DELTA, DELTA_B, DELTA_UPDATED])),
 ];
-
-/// Tries: lw_member::Member::round
-#[test]
-fn a_round_writes_what_it_has_changed(rt: HostRuntime) -> Result<(), Fail> {
-    play_both(rt.alloc(), &CHANGES)
-}
 
 /// What the second draws where it draws the number of the first.
 const NEXT_CHANCE: Chance = Chance {
@@ -72,7 +54,7 @@ const NEXT_CHANCE: Chance = Chance {
 };
 
 /// A member registers the device and observes it, and ends.
-static NEXT: [Step; 9] = [
+const NEXT: &[Step] = &[
     Begins(FIRST_CHANCE),
     Does(FIRST, Answers(REGISTER, CREATED)),
     Does(FIRST, Observes),
@@ -80,17 +62,11 @@ static NEXT: [Step; 9] = [
     Begins(NEXT_CHANCE),
     Shows(FIRST, Number(2)),
     Shows(FIRST, Fleet(Some(FLEET))),
-    Does(FIRST, Tells),
+    Does(FIRST, Answers(TOLD, TOLD_REPLY)),
     Does(FIRST, Answers(UPDATE, CHANGED)),
 ];
 
-/// Tries: lw_member::Member::begin, lw_member::Member::round, lw_member::Member::start
-#[test]
-fn what_a_member_answered_the_next_start_knows(rt: HostRuntime) -> Result<(), Fail> {
-    play_both(rt.alloc(), &NEXT)
-}
-
-static IN_ORDER: [Step; 2] = [
+const IN_ORDER: &[Step] = &[
     Begins(FIRST_CHANCE),
     Does(
         FIRST,
@@ -98,8 +74,32 @@ static IN_ORDER: [Step; 2] = [
     ),
 ];
 
-/// Tries: lw_member::Member::round
+static STORIES: [Story; 5] = [
+    ("a member begins over an empty log", BESIDE, &[], &[EMPTY]),
+    (
+        "a first register writes a start and a delta",
+        BOTH_WAYS,
+        &[],
+        &[REGISTERED],
+    ),
+    (
+        "a round writes what it has changed",
+        BOTH_WAYS,
+        &[],
+        &[CHANGES],
+    ),
+    (
+        "what a member answered the next start knows",
+        BOTH_WAYS,
+        &[],
+        &[NEXT],
+    ),
+    ("a round makes its calls in order", BESIDE, &[], &[IN_ORDER]),
+];
+
+/// Tries: lw_member::Member::begin, lw_member::Member::fleet, lw_member::Member::start, lw_member::Member::is_claimed
+/// Tries: lw_member::Member::round, lw_member::Member::node
 #[test]
-fn a_round_makes_its_calls_in_order(rt: HostRuntime) -> Result<(), Fail> {
-    play(rt.alloc(), &[], &IN_ORDER)
+fn what_a_member_answered_it_has_written(rt: HostRuntime) {
+    play_all(&rt, rt.alloc(), &STORIES);
 }

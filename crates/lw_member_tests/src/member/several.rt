@@ -4,11 +4,11 @@ use super::*;
 
 /// Without calls the second reads the fleet. Counter 1 is taken, 2 is the Update's, and 3 that of the Register of `b`
 /// at node 2.
-static KNOWN: [Step; 8] = [
+const KNOWN: &[Step] = &[
     Begins(FIRST_CHANCE),
     Begins(SECOND_CHANCE),
     Does(FIRST, Answers(REGISTER, CREATED)),
-    Does(SECOND, Rests),
+    Does(SECOND, Rests(None)),
     Shows(SECOND, Fleet(Some(FLEET))),
     Does(SECOND, Answers(UPDATE, CHANGED)),
     Does(
@@ -27,28 +27,15 @@ static KNOWN: [Step; 8] = [
     ),
 ];
 
-/// Tries: lw_member::Member::round, lw_member::Member::fleet
-#[test]
-fn what_one_member_answers_the_other_knows(rt: HostRuntime) -> Result<(), Fail> {
-    play(rt.alloc(), &[], &KNOWN)
-}
-
 /// A Register without a name is refused, and changes nothing.
-static READ: [Step; 6] = [
+const READ: &[Step] = &[
     Begins(SECOND_CHANCE),
     Log(Puts(DELTA)),
-    Does(FIRST, Rests),
+    Does(FIRST, Rests(None)),
     Log(Has(&[START, DELTA])),
     Does(FIRST, Answers("40020006b27264ff3c2f3e", "60800006")),
     Log(Has(&[START, DELTA, SECOND_START])),
 ];
-
-/// What a round of one member leaves unchanged is written by no other.
-/// Tries: lw_member::Member::round
-#[test]
-fn what_was_read_is_not_written_again(rt: HostRuntime) -> Result<(), Fail> {
-    play(rt.alloc(), &[START], &READ)
-}
 
 /// What the second draws where it draws the number and the fleet of the first.
 const SAME_CHANCE: Chance = Chance {
@@ -58,19 +45,19 @@ const SAME_CHANCE: Chance = Chance {
 };
 
 /// The second has a round without calls before it has one with calls.
-static IDLE: [Step; 9] = [
+const IDLE: &[Step] = &[
     Begins(FIRST_CHANCE),
     Begins(SAME_CHANCE),
     Shows(FIRST, Number(1)),
     Shows(SECOND, Number(1)),
     Does(FIRST, Answers(REGISTER, CREATED)),
-    Does(SECOND, RestsNot(MemberFault::NumberTaken)),
+    Does(SECOND, Rests(Some(MemberFault::NumberTaken))),
     Does(SECOND, Refuses(REGISTER_B, MemberFault::NumberTaken)),
     Shows(SECOND, Claimed(false)),
     Does(FIRST, Answers(UPDATE, CHANGED)),
 ];
 
-static NOT_IDLE: [Step; 8] = [
+const NOT_IDLE: &[Step] = &[
     Begins(FIRST_CHANCE),
     Begins(SAME_CHANCE),
     Shows(FIRST, Number(1)),
@@ -80,20 +67,13 @@ static NOT_IDLE: [Step; 8] = [
     Shows(SECOND, Claimed(false)),
     Does(FIRST, Answers(UPDATE, CHANGED)),
 ];
-
-/// Tries: lw_member::Member::round, lw_member::Member::is_claimed
-#[test]
-fn two_starts_with_one_number_are_not_both_served(rt: HostRuntime) -> Result<(), Fail> {
-    play_row(rt.alloc(), 0, false, &[], &IDLE)?;
-    play_row(rt.alloc(), 1, false, &[], &NOT_IDLE)
-}
 
 /// The start entry of a start with number 1 and another tag.
 const SAME_NUMBER: &str =
     "4c574531000102030405060708090a0b0c0d0e0f0001b1b2b3b4b5b6b7b8000000000000000100";
 
 /// Its start comes behind the other one.
-static BEHIND: [Step; 4] = [
+const BEHIND: &[Step] = &[
     Begins(FIRST_CHANCE),
     Log(Puts(SAME_NUMBER)),
     Does(FIRST, Refuses(REGISTER, MemberFault::NumberTaken)),
@@ -101,20 +81,13 @@ static BEHIND: [Step; 4] = [
 ];
 
 /// Its start is written, and not read before the other one is there.
-static BEFORE: [Step; 5] = [
+const BEFORE: &[Step] = &[
     Begins(FIRST_CHANCE),
-    LogOf(FIRST, FailsReading(LogFault::Away)),
+    LogOf(FIRST, FailsReading(NEXT_AWAY)),
     Does(FIRST, Refuses(REGISTER, AWAY)),
     Log(Puts(SAME_NUMBER)),
     Does(FIRST, Answers(REGISTER, CREATED)),
 ];
-
-/// Tries: lw_member::Member::round
-#[test]
-fn a_number_is_of_the_start_that_is_first_in_the_log(rt: HostRuntime) -> Result<(), Fail> {
-    play_row(rt.alloc(), 0, false, &[], &BEHIND)?;
-    play_row(rt.alloc(), 1, false, &[], &BEFORE)
-}
 
 /// The start of the second in the fleet that it has drawn.
 const OTHER_START: &str =
@@ -128,10 +101,10 @@ const THIRD_CHANCE: Chance = Chance {
 };
 
 /// The start of the first is written, and not read before the other's is there. Number 2 was taken.
-static TWO_FLEETS: [Step; 11] = [
+const TWO_FLEETS: &[Step] = &[
     Begins(FIRST_CHANCE),
     Begins(SECOND_CHANCE),
-    LogOf(FIRST, FailsReading(LogFault::Away)),
+    LogOf(FIRST, FailsReading(NEXT_AWAY)),
     Does(FIRST, Refuses(REGISTER, AWAY)),
     Does(SECOND, Refuses(REGISTER_B, MemberFault::NumberTaken)),
     Log(Has(&[START, OTHER_START])),
@@ -142,8 +115,54 @@ static TWO_FLEETS: [Step; 11] = [
     Does(THIRD, Answers(UPDATE, CHANGED)),
 ];
 
-/// Tries: lw_member::Member::round, lw_member::Member::begin
+static STORIES: [Story; 7] = [
+    (
+        "what one member answers the other knows",
+        BESIDE,
+        &[],
+        &[KNOWN],
+    ),
+    // What a round of one member leaves unchanged is written by no other.
+    (
+        "what was read is not written again",
+        BESIDE,
+        &[START],
+        &[READ],
+    ),
+    (
+        "a start with the same number is idle first",
+        BESIDE,
+        &[],
+        &[IDLE],
+    ),
+    (
+        "a start with the same number is not idle",
+        BESIDE,
+        &[],
+        &[NOT_IDLE],
+    ),
+    (
+        "a number is of the other, which is first in the log",
+        BESIDE,
+        &[],
+        &[BEHIND],
+    ),
+    (
+        "a number is of the start that is first in the log",
+        BESIDE,
+        &[],
+        &[BEFORE],
+    ),
+    (
+        "of two fleets the first in the log is served",
+        BESIDE,
+        &[],
+        &[TWO_FLEETS],
+    ),
+];
+
+/// Tries: lw_member::Member::round, lw_member::Member::fleet, lw_member::Member::is_claimed, lw_member::Member::begin
 #[test]
-fn of_two_fleets_the_first_in_the_log_is_served(rt: HostRuntime) -> Result<(), Fail> {
-    play(rt.alloc(), &[], &TWO_FLEETS)
+fn several_members_share_a_log(rt: HostRuntime) {
+    play_all(&rt, rt.alloc(), &STORIES);
 }
