@@ -14,6 +14,7 @@ struct Measured {
 /// Measures are asked for.
 const MEASURES: Coming = Coming::Asks(&[Question::Metrics]);
 
+/// Runs of which each kind of measure is told.
 static MEASURED: [Measured; 6] = [
     Measured {
         name: "turns are counted",
