@@ -32,6 +32,7 @@ const CONTINUE_UPDATE: &str = "605f0021d10e08";
 
 const CHANGED_BY_SECOND: &str = "60440022d10e10";
 
+/// Messages in blocks, and what is answered to each block.
 static BLOCKS: [Run; 6] = [
     Run {
         name: "a Register in three blocks is one",

@@ -20,6 +20,7 @@ const BACK: Piece = Piece::Line("[INFO  lw_run::course] log back");
 
 const COMPACTED: Piece = Piece::Line("[INFO  lw_run::course] compacted");
 
+/// A turn that only reads, the one that enters the start, and two behind it.
 const BEFORE_DUE: [Coming; 4] = [
     Coming::Nothing,
     Coming::Datagram(1, PING),
@@ -68,6 +69,7 @@ fn a_run_compacts_after_the_turn_that_makes_it_due(rt: HostRuntime) {
     plays(&rt, rt.alloc(), &DUE);
 }
 
+/// A ping from each of two ports.
 const PINGS: [Coming; 2] = [Coming::Datagram(1, PING), Coming::Datagram(2, PING)];
 
 /// What comes of a ping at which a compaction fails by a fault, and of one behind it.

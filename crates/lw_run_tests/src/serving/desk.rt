@@ -5,6 +5,7 @@ use super::*;
 /// Its health, and its node.
 const OF_ITSELF: Coming = Coming::Asks(&[Question::Health, Question::Node]);
 
+/// Servers that are asked what they tell of themselves, and for their page.
 static TOLD: [Run; 5] = [
     Run {
         name: "a new server is asked",

@@ -14,6 +14,7 @@ struct Measured {
 /// Measures are asked for.
 const MEASURES: Coming = Coming::Asks(&[Question::Metrics]);
 
+/// Runs of which each kind of measure is told.
 static MEASURED: [Measured; 6] = [
     Measured {
         name: "turns are counted",
@@ -35,7 +36,15 @@ static MEASURED: [Measured; 6] = [
         // answers the first and the last: the four between are passed over. It is away from the second to the fifth.
         name: "what is passed over while the log is away is counted",
         stage: Stage {
-            comings: &[Coming::Times(6, &Coming::Datagram(1, PING)), MEASURES],
+            comings: &[
+                Coming::Datagram(1, PING),
+                Coming::Datagram(2, PING),
+                Coming::Datagram(3, PING),
+                Coming::Datagram(4, PING),
+                Coming::Datagram(5, PING),
+                Coming::Datagram(6, PING),
+                MEASURES,
+            ],
             moments: &[0, 1_000, 2_000, 3_000, 4_000, 5_000],
             trouble: Some(Trouble {
                 fault: LogFault::Away,

@@ -44,6 +44,7 @@ static MANY_AT_ONCE: [Run; 4] = [
     },
 ];
 
+/// What is sent to whom, and what is told of it.
 static REPLIES: [Run; 3] = [
     Run {
         // A Register, bytes that are no message and are owed no reply, and a ping, which are there at once; then an

@@ -6,7 +6,9 @@ use std::process::Abort;
 
 /// A piece of a text.
 pub(super) enum Piece {
+    /// A text as it stands.
     Text(&'static str),
+    /// A text that ends its line.
     Line(&'static str),
     /// The line of a datagram that is sent: to which port, and in hex.
     Sent(u16, &'static str),

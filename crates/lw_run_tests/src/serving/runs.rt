@@ -67,6 +67,7 @@ static WITHOUT_A_MOMENT: [Run; 2] = [
     },
 ];
 
+/// A ping from each of six ports.
 const PINGS: [Coming; 6] = [
     Coming::Datagram(1, PING),
     Coming::Datagram(2, PING),
@@ -250,6 +251,7 @@ static WITHOUT_MEMORY: [Run; 2] = [
     },
 ];
 
+/// What is registered for a second, a turn behind that, and an Update.
 const EXPIRING: [Coming; 3] = [
     Coming::Datagram(1, REGISTER_FOR_A_SECOND),
     Coming::Nothing,

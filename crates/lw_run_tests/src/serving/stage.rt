@@ -1,7 +1,7 @@
 //! What a run is made of, and what came of it as a text.
 
+use super::shared_log::{SharedLog, asked_of, log_of, put_letters};
 use super::*;
-use crate::serving::shared_log::{SharedLog, asked_of, log_of, put_letters};
 use log::sink::Memory;
 use log::{Level, Logged};
 use lw_member::MemberFault;

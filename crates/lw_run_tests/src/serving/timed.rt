@@ -60,6 +60,7 @@ const COUNTS: [u64; 14] = [1, 0, 0, 1, 0, 0, 0, 0, 0, 0, 0, 0, 0, 1];
 /// Where the first entry stands.
 const FIRST: Position = Position { major: 1, minor: 0 };
 
+/// Logs whose appends are made, fail, and are not told the time.
 static TIMINGS: [Timing; 3] = [
     Timing {
         name: "appends are timed, and what is read is counted, also behind a trim",

@@ -5,6 +5,7 @@ use super::*;
 /// The reply to the same Register where it makes a second registration.
 const CREATED_ANEW: &str = "604100048272640d0330303030303030303030303230303031";
 
+/// Requests of which some come again.
 static AGAIN: [Run; 4] = [
     Run {
         name: "a Register that comes twice at once, and once more, makes one registration, which lasts",
