@@ -1,4 +1,6 @@
 use lw_resp::StreamId;
+use std::alloc::Global;
+use std::process::Abort;
 
 const MAX: u64 = 18_446_744_073_709_551_615;
 
@@ -36,16 +38,20 @@ static TEXTS: [(&str, StreamId); 6] = [
     ),
 ];
 
+/// Whether the identifier is put behind a `(` as this text.
+fn is_put(rt: &impl Abort, alloc: Global, id: StreamId, text: &str) -> bool {
+    let mut bytes = Vec::from_slice(alloc, b"(").expect(rt, "memory");
+    id.put(&mut bytes).expect(rt, "memory");
+    bytes.as_slice().strip_prefix(b"(") == Some(text.as_bytes())
+}
+
 /// Tries: lw_resp::StreamId::read, lw_resp::StreamId::put
 #[test]
 fn texts_are_read_and_put_behind_what_is_there(rt: HostRuntime) {
     for row in &TEXTS {
         let (text, id) = *row;
         assert!(rt; StreamId::read(text.as_bytes()) == Some(id), "{text}");
-        let mut bytes = Vec::from_slice(rt.alloc(), b"(").expect(&rt, "memory");
-        id.put(&mut bytes).expect(&rt, "memory");
-        let put = bytes.as_slice().strip_prefix(b"(");
-        assert!(rt; put == Some(text.as_bytes()), "{text}");
+        assert!(rt; is_put(&rt, rt.alloc(), id, text), "{text}");
     }
 }
 
