@@ -181,8 +181,8 @@ const LINKS: &str = "</1/0>,</3/0>,</4/0>,</5/0>,</6/0>,</7>";
 
 const CHANGED_LINKS: &str = "</1/0>,</3/0>,</5>";
 
-/// What is shown is the body whole, of the Register and then of the Update. The blocks are counted, and the body that is
-/// kept between them.
+/// What is shown is the body whole, of the Register and then of the Update. The blocks are counted, and the body that
+/// is kept between them.
 static SHOWN: [Turn; 6] = [
     Turn {
         datagram: FIRST,

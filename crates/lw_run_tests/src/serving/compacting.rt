@@ -28,8 +28,9 @@ const BEFORE_DUE: [Coming; 4] = [
     Coming::Datagram(3, UPDATE_BEHIND),
 ];
 
-/// The first turn with a datagram enters the start: an entry and a reading. Where that makes the compaction due it follows: a
-/// reading, an entry and a trim. The turns behind it go on. Where a byte less is there, it follows the turn that reads more.
+/// The first turn with a datagram enters the start: an entry and a reading. Where that makes the compaction due it
+/// follows: a reading, an entry and a trim. The turns behind it go on. Where a byte less is there, it follows the turn
+/// that reads more.
 static DUE: [Run; 2] = [
     Run {
         name: "a byte more than 16 MiB",

@@ -302,8 +302,8 @@ static TOLD: [Run; 4] = [
         ],
     },
     Run {
-        // A Register that is not confirmable, message ID 11, which comes twice; then a GET, message ID 12. Their replies
-        // have message IDs of the server's own, each its own, and what comes again gets the same reply.
+        // A Register that is not confirmable, message ID 11, which comes twice; then a GET, message ID 12. Their
+        // replies have message IDs of the server's own, each its own, and what comes again gets the same reply.
         name: "replies that are not confirmable have IDs of their own",
         stage: Stage {
             comings: &[

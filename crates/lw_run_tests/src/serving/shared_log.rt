@@ -72,8 +72,8 @@ impl DeltaLog for SharedLog<'_> {
 const OTHER_START: &str =
     "4c5745310707070707070707070707070707070700020000000000000008000000000000000100";
 
-/// A delta of it, sequence 2, up to the object list of its one registration: counter 65,536, the name `0000`, and twice the
-/// stamp with counter 1 of node 1.
+/// A delta of it, sequence 2, up to the object list of its one registration: counter 65,536, the name `0000`, and twice
+/// the stamp with counter 1 of node 1.
 const BEFORE_LIST: &str =
     "4c5745310707070707070707070707070707070700020000000000000008000000000000000201\
 4c5744330000000100000104303030300000000000010001400000000000010001";

@@ -10,9 +10,9 @@ use std::cell::{Cell, RefCell};
 use std::process::Abort;
 use std::time::Duration;
 
-/// What comes, the moments in milliseconds, by how many seconds clocks may differ, how many bytes another start has left
-/// in the log, what ails its readings, after how many appends one fails, whether each send fails, whether the log is
-/// compacted, and the page that is told.
+/// What comes, the moments in milliseconds, by how many seconds clocks may differ, how many bytes another start has
+/// left in the log, what ails its readings, after how many appends one fails, whether each send fails, whether the log
+/// is compacted, and the page that is told.
 #[derive(Drop)]
 pub(super) struct Stage {
     pub(super) comings: &'static [Coming],
@@ -59,20 +59,15 @@ impl Stage {
             log,
             trouble: &trouble,
         };
-        // Each append takes no time.
-        let timed = Timed::new(shared, Readings::new(&[Some(0)]));
-        let server = self.server(alloc, timed)?;
+        let server = self.server(alloc, shared)?;
         trouble.set(self.trouble);
         self.run(alloc, server, log)
     }
 
-    /// The server of a new member over the log.
-    pub(super) fn server<G: DeltaLog>(
-        &self,
-        alloc: Global,
-        log: G,
-    ) -> Result<Server<G, Ticks>, MemberFault> {
+    /// The server of a new member over the log, of which each append takes no time.
+    fn server<'b>(&self, alloc: Global, shared: SharedLog<'b>) -> Result<Played<'b>, MemberFault> {
         let page = page_of(alloc, self.page)?;
+        let log = Timed::new(shared, Readings::new(&[Some(0)]));
         let member = Member::begin(alloc, log, &CHANCE, Moment::START)?;
         let clock = Ticks::new(self.moments);
         Ok(Server::new(alloc, member, clock, self.skew, Moment::START, page))
@@ -128,7 +123,7 @@ fn page_of(alloc: Global, page: Option<&str>) -> Result<Option<String>, AllocErr
 }
 
 /// What a start draws: number 1 is free.
-const CHANCE: Chance = Chance {
+pub(super) const CHANCE: Chance = Chance {
     fleet: FleetId { bytes: [7; 16] },
     tag: 9,
     number: 1,

@@ -1,5 +1,6 @@
 //! Turns of a server that is asked behind each of them.
 
+use super::stage::CHANCE;
 use super::*;
 use lw_target::{Asked, Desk};
 use std::process::Abort;
@@ -33,12 +34,6 @@ pub(super) const TURN: Turn = Turn {
     links: "[]",
 };
 
-/// Turns are at a second.
-static AT_A_SECOND: Stage = Stage {
-    moments: &[1_000],
-    ..STAGE
-};
-
 /// All that are registered.
 const EVERYONE: Asked = Asked::Registrations {
     after: None,
@@ -47,8 +42,7 @@ const EVERYONE: Asked = Asked::Registrations {
 
 /// Fails where a new server, whose turns are at a second, takes the turns in another way.
 pub(super) fn takes(rt: &impl Abort, alloc: Global, turns: &[Turn]) {
-    let log = MemoryLog::new(alloc);
-    let mut server = AT_A_SECOND.server(alloc, log).expect(rt, "a server");
+    let mut server = new_server(rt, alloc);
     assert_eq!(rt; server.duplicates(), 0);
     for turn in turns {
         turn.sends(rt, alloc, &mut server);
@@ -56,6 +50,14 @@ pub(super) fn takes(rt: &impl Abort, alloc: Global, turns: &[Turn]) {
         turn.tells(rt, &server, &Asked::Metrics, turn.bodies);
         turn.tells(rt, &server, &EVERYONE, turn.links);
     }
+}
+
+/// A server of a new member over a log in memory, whose turns are at a second.
+fn new_server(rt: &impl Abort, alloc: Global) -> Server<MemoryLog, Ticks> {
+    let log = MemoryLog::new(alloc);
+    let member = Member::begin(alloc, log, &CHANCE, Moment::START).expect(rt, "a member");
+    let clock = Ticks::new(&[1_000]);
+    Server::new(alloc, member, clock, 0, Moment::START, None)
 }
 
 impl Turn {
