@@ -160,7 +160,6 @@ static BLOCKS: [Run; 6] = [
             ..STAGE
         },
         want: &[
-            Piece::Line("Ok(()) rrWr"),
             Piece::Sent(3, CONTINUE_FIRST),
             Piece::Sent(3, CONTINUE_SECOND),
             Piece::Sent(3, INCOMPLETE_THIRD),

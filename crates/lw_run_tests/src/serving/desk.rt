@@ -15,7 +15,6 @@ static TOLD: [Run; 5] = [
             ..STAGE
         },
         want: &[
-            Piece::Line("Ok(()) r"),
             Piece::Line(r#"Ok Json {"now":0,"status":"serving","version":"0.1.0"}"#),
             Piece::Text(r#"Ok Json {"change":0,"counter":0,"number":null,"registrations":0,"#),
             Piece::Line(r#""start":"0000000000000009"}"#),
@@ -29,7 +28,6 @@ static TOLD: [Run; 5] = [
             ..STAGE
         },
         want: &[
-            Piece::Line("Ok(()) WrWr"),
             Piece::Sent(5683, CREATED),
             Piece::Line(r#"Ok Json {"now":1000,"status":"serving","version":"0.1.0"}"#),
             Piece::Text(r#"Ok Json {"change":1,"counter":1,"number":1,"registrations":1,"#),
@@ -46,7 +44,6 @@ static TOLD: [Run; 5] = [
             ..STAGE
         },
         want: &[
-            Piece::Line("Ok(()) WrtrW"),
             Piece::Line(
                 r#"ServiceUnavailable Json {"now":1000,"status":"away","version":"0.1.0"}"#,
             ),
@@ -69,7 +66,6 @@ static TOLD: [Run; 5] = [
             ..STAGE
         },
         want: &[
-            Piece::Line("Ok(()) rWrtrW"),
             Piece::Line("Ok Html <p>é"),
             Piece::Line("Ok Html <p>é"),
             Piece::Line("[WARN  lw_run::course] log away"),
@@ -82,10 +78,7 @@ static TOLD: [Run; 5] = [
             comings: &[Coming::Asks(&[Question::Page])],
             ..STAGE
         },
-        want: &[
-            Piece::Line("Ok(()) r"),
-            Piece::Line(r#"NotFound Json {"error":"not found"}"#),
-        ],
+        want: &[Piece::Line(r#"NotFound Json {"error":"not found"}"#)],
     },
 ];
 

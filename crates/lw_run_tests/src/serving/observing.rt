@@ -166,7 +166,6 @@ static MADE: [Run; 6] = [
             ..STAGE
         },
         want: &[
-            Piece::Line("Ok(()) WrWrWrrWrrrrWr"),
             Piece::Sent(3, CREATED),
             Piece::Line(OBSERVED),
             Piece::Sent(3, ASKS),
@@ -290,7 +289,6 @@ static TOLD: [Run; 4] = [
             ..STAGE
         },
         want: &[
-            Piece::Line("Ok(()) WrWrWrrr"),
             Piece::Sent(3, CREATED),
             Piece::Line(OBSERVED),
             Piece::Sent(3, ASKS),
