@@ -48,7 +48,7 @@ fn list_in(left: usize) -> usize {
 fn put_slot(rt: &impl Abort, bytes: &mut Vec<u8>, number: u16, list: usize) {
     let [high, low] = number.to_be_bytes();
     let [first, second] = number.wrapping_add(1).to_be_bytes();
-    let [list_high, list_low] = (list as u16).to_be_bytes();
+    let [list_high, list_low] = u16::try_from(list).expect(rt, "a length").to_be_bytes();
     let name = [high / 16, high % 16, low / 16, low % 16];
     bytes.extend_from_slice(&[1, 4]).expect(rt, "memory");
     for half in name {

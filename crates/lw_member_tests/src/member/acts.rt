@@ -185,20 +185,24 @@ fn answers_all(
 const OBSERVATION: &str = "4801002000000000000200016051330130";
 
 /// Compares the request to the device of an observation of `/3/0` at the first registration, message ID 32.
-fn observes(rt: &impl Abort, alloc: Global, member: &mut Member<Shared<'_>>) {
-    let calls = [Call::Observe {
+fn observes(rt: &impl Abort, alloc: Global, member: &mut Member<Shared<'_>>, want: &str) {
+    let path = Path::new(&[3, 0]).expect(rt, "a path");
+    let id = Stamp {
+        counter: 1,
+        node: 1,
+    };
+    let call = Call::Observe {
         now: Moment::START,
-        id: Stamp {
-            counter: 1,
-            node: 1,
-        },
-        path: Path::new(&[3, 0]).expect(rt, "a path"),
+        id,
+        path,
         accept: None,
         mid: 32,
-    }];
+    };
+    let mut calls = Vec::new(alloc);
+    calls.push(call).expect(rt, "memory");
     let replies = round(member, &calls).expect(rt, "a round");
     let text = reply_text(alloc, &replies).expect(rt, "a request");
-    assert_eq!(rt; text.as_str(), OBSERVATION);
+    assert_eq!(rt; text.as_str(), want);
 }
 
 /// Asks it of the member, and compares what it tells.
@@ -218,7 +222,7 @@ pub(super) fn ask(
         }
         Act::Rests(want) => assert_eq!(rt; round(member, &[]).err(), *want, "at {at:?}"),
         Act::Compacts(want) => assert_eq!(rt; compact(member).err(), *want, "at {at:?}"),
-        Act::Observes => observes(rt, alloc, member),
+        Act::Observes => observes(rt, alloc, member, OBSERVATION),
         Act::Knows(updates) => {
             for update in *updates {
                 answers(rt, alloc, at, member, (update, CHANGED));

@@ -19,7 +19,7 @@ const NEWER_DELTA: &str =
 4c57443400000000000100";
 
 /// Entries over which no member begins, which are left as they are.
-const REFUSED: &[Story] = &[
+static REFUSED: &[Story] = &[
     (
         "a delta alone",
         BESIDE,
@@ -113,7 +113,7 @@ const REFUSED: &[Story] = &[
 ];
 
 /// Entries that come later. Each round is refused from then on.
-const LATER: &[Story] = &[
+static LATER: &[Story] = &[
     (
         "another fleet later",
         BESIDE,
@@ -160,7 +160,7 @@ const GOES_ON: &[Step] = &[
 ];
 
 /// Entries over which a member begins that knows the registration.
-const GOOD: &[Story] = &[
+static GOOD: &[Story] = &[
     ("good entries", BESIDE, WRITTEN, &[GOES_ON]),
     (
         // nothing, a byte, a number 0, a byte behind a start, and a delta cut short
@@ -216,7 +216,7 @@ const GOOD_AGAIN: &[Step] = &[
 ];
 
 /// What others wrote while a whole entry was made stands before it.
-const CUT: &[Story] = &[
+static CUT: &[Story] = &[
     (
         "a delta before a whole entry",
         BESIDE,
@@ -238,7 +238,7 @@ const CUT: &[Story] = &[
 ];
 
 /// Each number has had a start. The bit of number 0 says nothing.
-const ENDED: &[Story] = &[
+static ENDED: &[Story] = &[
     (
         "all numbers",
         BESIDE,
@@ -263,7 +263,7 @@ const ENDED: &[Story] = &[
 const TAG: u64 = 0xb1b2_b3b4_b5b6_b7b8;
 
 /// A byte of the numbers and what it is, the number that is drawn, and the one that the member takes.
-const NUMBERS: &[Story] = &[
+static NUMBERS: &[Story] = &[
     (
         "byte 0 is 00, and 2 is drawn",
         BESIDE,
@@ -408,17 +408,31 @@ const BEHIND: &[Step] = &[
 ];
 
 /// A number is lost where a whole entry that comes before its start has its bit.
-const NUMBERED: &[Story] = &[
+static NUMBERED: &[Story] = &[
     ("a whole entry before the start", BESIDE, WRITTEN, &[BEFORE]),
     ("a whole entry behind the start", BESIDE, WRITTEN, &[BEHIND]),
 ];
 
-static ALL: [&[Story]; 7] = [REFUSED, LATER, GOOD, CUT, ENDED, NUMBERS, NUMBERED];
-
 /// Tries: lw_member::Member::begin, lw_member::Member::round, lw_member::Member::fleet, lw_member::Member::start
 #[test]
 fn a_member_goes_on_over_what_is_good_of_a_log(rt: HostRuntime) {
-    for stories in &ALL {
+    for stories in [LATER, GOOD, NUMBERED] {
+        play_all(&rt, rt.alloc(), stories);
+    }
+}
+
+/// Tries: lw_member::Member::begin, lw_member::Member::round
+#[test]
+fn what_is_no_entry_is_refused_or_passed_over(rt: HostRuntime) {
+    for stories in [REFUSED, CUT] {
+        play_all(&rt, rt.alloc(), stories);
+    }
+}
+
+/// Tries: lw_member::Member::begin, lw_member::Member::start
+#[test]
+fn a_member_takes_a_number_that_is_free(rt: HostRuntime) {
+    for stories in [ENDED, NUMBERS] {
         play_all(&rt, rt.alloc(), stories);
     }
 }
