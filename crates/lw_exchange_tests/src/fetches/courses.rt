@@ -163,7 +163,10 @@ macro_rules! eighth {
 }
 
 /// A name, and what comes.
-static COURSES: [(&str, &[Row<'static>]); 35] = [
+type Course = (&'static str, &'static [Row<'static>]);
+
+/// Blocks that follow one another, and what is none of them.
+static FOLLOWED: [Course; 4] = [
     (
         "blocks of 16 bytes, of which the last is not full",
         &[
@@ -244,7 +247,10 @@ static COURSES: [(&str, &[Row<'static>]); 35] = [
             (0, HOST_A, told_of!(10, 0x08, 16), Given::Asks(0x10, 5)),
         ],
     ),
-    // Each type of message carries blocks. What is confirmable is acknowledged, whichever of the two it is.
+];
+
+/// Each type of message carries blocks. What is confirmable is acknowledged, whichever of the two it is.
+static TYPES: [Course; 9] = [
     ("CON and CON", types!(CON, CON)),
     ("CON and NON", types!(CON, NON)),
     ("CON and ACK", types!(CON, ACK)),
@@ -254,6 +260,11 @@ static COURSES: [(&str, &[Row<'static>]); 35] = [
     ("ACK and CON", types!(ACK, CON)),
     ("ACK and NON", types!(ACK, NON)),
     ("ACK and ACK", types!(ACK, ACK)),
+];
+
+/// Responses with the token of a fetch. One without Block2 has it all: 8,177 bytes have room, and where it has a byte
+/// more, what had come is told.
+static RESPONSES: [Course; 5] = [
     (
         "a response answers its request with the token of the fetch, from its address alone",
         &[
@@ -271,19 +282,6 @@ static COURSES: [(&str, &[Row<'static>]); 35] = [
             ),
         ],
     ),
-    // What had come is told where the next response is no block that follows: one too early or too late, one of a
-    // reserved size or of another length than its value says, and errors.
-    ("block 0 again", ends!(answer!(2, 0x08, 16))),
-    ("block 2 behind 0", ends!(answer!(2, 0x28, 16))),
-    ("a larger block 0", ends!(answer!(2, 0x09, 32))),
-    ("a reserved size", ends!(answer!(2, 0x17, 16))),
-    ("a byte too few", ends!(answer!(2, 0x18, 15))),
-    ("a byte too many", ends!(answer!(2, 0x10, 17))),
-    ("4.04", ends!(coded!(NOT_FOUND))),
-    ("5.03", ends!(coded!(0xa3))),
-    ("2.03", ends!(coded!(0x43))),
-    // A response without Block2 has it all. One of 8,177 bytes has room, and where one has a byte more, what had come
-    // is told.
     (
         "a response of no byte",
         behind_a_block!(all!(0), Given::Whole(&[(2, 0)], true)),
@@ -300,7 +298,24 @@ static COURSES: [(&str, &[Row<'static>]); 35] = [
         "a response of 8,178 bytes",
         behind_a_block!(all!(8178), Given::Whole(&[(1, 16)], false)),
     ),
-    // A block with another ETag, with one more byte of it, or without one, begins the fetch anew at block 0.
+];
+
+/// What had come is told where the next response is no block that follows: one too early or too late, one of a
+/// reserved size or of another length than its value says, and errors.
+static ENDED: [Course; 9] = [
+    ("block 0 again", ends!(answer!(2, 0x08, 16))),
+    ("block 2 behind 0", ends!(answer!(2, 0x28, 16))),
+    ("a larger block 0", ends!(answer!(2, 0x09, 32))),
+    ("a reserved size", ends!(answer!(2, 0x17, 16))),
+    ("a byte too few", ends!(answer!(2, 0x18, 15))),
+    ("a byte too many", ends!(answer!(2, 0x10, 17))),
+    ("4.04", ends!(coded!(NOT_FOUND))),
+    ("5.03", ends!(coded!(0xa3))),
+    ("2.03", ends!(coded!(0x43))),
+];
+
+/// A block with another ETag, with one more byte of it, or without one, begins the fetch anew at block 0.
+static TAGGED: [Course; 4] = [
     ("another ETag", anew!(b"f")),
     ("a longer ETag", anew!(b"ef")),
     ("no ETag any more", anew!(b"")),
@@ -324,6 +339,10 @@ static COURSES: [(&str, &[Row<'static>]); 35] = [
             ),
         ],
     ),
+];
+
+/// The longest message, and how long a fetch waits for its next block.
+static BOUNDS: [Course; 4] = [
     (
         "8,192 bytes",
         eighth!(0x76, 1009, Given::Whole(&EIGHT, true)),
@@ -352,13 +371,28 @@ static COURSES: [(&str, &[Row<'static>]); 35] = [
     ),
 ];
 
+/// Plays each of the courses.
+fn play(rt: &impl Abort, alloc: Global, courses: &[Course]) {
+    for (name, rows) in courses {
+        let mut fetches = fetches(alloc);
+        for row in *rows {
+            gives(rt, alloc, &mut fetches, name, row);
+        }
+    }
+}
+
 /// Tries: Fetches::take, Fetches::new
 #[test]
 fn blocks_are_put_together(rt: HostRuntime) {
-    for (name, rows) in &COURSES {
-        let mut fetches = fetches(rt.alloc());
-        for row in *rows {
-            gives(&rt, rt.alloc(), &mut fetches, name, row);
-        }
-    }
+    play(&rt, rt.alloc(), &FOLLOWED);
+    play(&rt, rt.alloc(), &TYPES);
+    play(&rt, rt.alloc(), &BOUNDS);
+}
+
+/// Tries: Fetches::take, Fetches::new
+#[test]
+fn what_is_no_block_that_follows_ends_a_fetch(rt: HostRuntime) {
+    play(&rt, rt.alloc(), &RESPONSES);
+    play(&rt, rt.alloc(), &ENDED);
+    play(&rt, rt.alloc(), &TAGGED);
 }
