@@ -8,4 +8,6 @@ mod crew;
 #[cfg(test)]
 mod held;
 #[cfg(test)]
+mod hold;
+#[cfg(test)]
 mod serve;
