@@ -1,6 +1,9 @@
 mod scripts;
 
+use crate::hold::holds;
 use lw_script::*;
+use std::alloc::Global;
+use std::test::Fail;
 
 /// Lines of each kind, and bounds of each field just inside.
 static LINES: [&str; 39] = [
@@ -112,17 +115,30 @@ static REFUSED: [&str; 63] = [
     "changes 1",
 ];
 
+fn is_read(alloc: Global, line: &str) -> bool {
+    read_line(alloc, line).is_ok()
+}
+
 /// Tries: read_line
 #[test]
-fn lines_of_scripts_alone_are_read(rt: HostRuntime) {
+fn lines_are_read(rt: HostRuntime) -> Result<(), Fail> {
     for line in &LINES {
-        let read = read_line(rt.alloc(), line);
-        assert!(rt; read.is_ok(), "{line}");
+        holds(line, is_read(rt.alloc(), line))?;
     }
+    Ok(())
+}
+
+fn is_refused(alloc: Global, line: &str) -> bool {
+    matches!(read_line(alloc, line), Err(LineFault::Refused))
+}
+
+/// Tries: read_line
+#[test]
+fn other_lines_are_refused(rt: HostRuntime) -> Result<(), Fail> {
     for line in &REFUSED {
-        let read = read_line(rt.alloc(), line);
-        assert!(rt; matches!(read, Err(LineFault::Refused)), "{line}");
+        holds(line, is_refused(rt.alloc(), line))?;
     }
+    Ok(())
 }
 
 /// Texts, and whether they are the digits of whole bytes.
@@ -139,8 +155,9 @@ const DIGITS: [(&[u8], bool); 8] = [
 
 /// Tries: is_hex
 #[test]
-fn digits_of_whole_bytes(rt: HostRuntime) {
+fn digits_of_whole_bytes() -> Result<(), Fail> {
     for (text, are_digits) in DIGITS {
-        assert_eq!(rt; is_hex(text), are_digits, "{text:?}");
+        holds("digits", is_hex(text) == are_digits)?;
     }
+    Ok(())
 }

@@ -15,53 +15,65 @@ const REVIVED: &str =
     "4c57443300000000000201016100000000000100017f000000000000020002047f0000011633000000000002000200000000000000000000000100010001518000000000000100010155000000000001000100000000000001000100033c2f3e000100000000000100010000";
 
 /// What is over is neither shown nor expired, until it is seen once more.
-pub(super) const IS_OVER: [Row<'static>; 18] = [
-    (Merges(ENDED), "joined 1"),
-    (Line("endpoint 1 0 a"), "none"),
-    (Line("id 1 0 0000000000010001"), "none"),
-    (Line("address 1 0 127.0.0.1:5683"), "none"),
-    (Line("next 1 0"), "none"),
-    (Line("expired 1 86400000"), "none"),
+const IS_OVER: [Row<'static>; 18] = [
+    (Merges(ENDED), "Ok(1)"),
+    (ByEndpoint(0, "a"), "-"),
+    (ById(ID), "-"),
+    (ByAddress(5683), "-"),
+    (FirstAfter(None), "-"),
+    (ExpiredAfter(86_400_000, None), "-"),
     (
-        Line("take 1 0 127.0.0.1:5683 40020010b272640d0330303030303030303030303130303031"),
-        "taken 60840010 -",
+        Takes("40020010b272640d0330303030303030303030303130303031"),
+        "60840010",
     ),
-    (Line("observe 1 0 0000000000010001 /3/0 - 32"), "refused 1"),
-    (Line("send 1 0"), ENDED),
+    (Observes(ID), "NotFound"),
+    (DeltaSince(0), ENDED),
     // what was known before
-    (Merges(DELTA), "joined 1"),
-    (Merges(ENDED), "joined 1"),
+    (Merges(DELTA), "Ok(1)"),
+    (Merges(ENDED), "Ok(1)"),
     (Numbers, "1 1"),
-    (Merges(UPDATED), "joined 1"),
-    (Line("endpoint 1 0 a"), SHOWN),
+    (Merges(UPDATED), "Ok(1)"),
+    (ByEndpoint(0, "a"), SHOWN),
     (
-        Line("expired 1 86400000"),
+        ExpiredAfter(86_400_000, None),
         r#"{"endpoint":"a","id":"0000000000010001"}"#,
     ),
-    (Line("send 1 0"), REVIVED),
+    (DeltaSince(0), REVIVED),
     // once more the end that is known
-    (Merges(ENDED), "joined 1"),
+    (Merges(ENDED), "Ok(1)"),
     (Numbers, "2 2"),
 ];
 
+/// Tries: Node::merge, Node::delta_since
+#[test]
+fn an_end_is_merged_and_sent(rt: HostRuntime) -> Result<(), Fail> {
+    play_new(rt.alloc(), &IS_OVER)
+}
+
 /// It is the end of that registration, and of no later one.
-pub(super) const OTHERS: [Row<'static>; 9] = [
-    (Line(REGISTER), CREATED),
-    (Merges(ENDED), "joined 1"),
+const OTHERS: [Row<'static>; 9] = [
+    (Takes(REGISTER), CREATED),
+    (Merges(ENDED), "Ok(1)"),
     (Numbers, "1 2"),
-    (Line("endpoint 1 0 a"), "none"),
+    (ByEndpoint(0, "a"), "-"),
     (
-        Line(REGISTER),
-        "taken 604100048272640d0330303030303030303030303230303031 -",
+        Takes(REGISTER),
+        "604100048272640d0330303030303030303030303230303031",
     ),
     (
-        Line("endpoint 1 0 a"),
+        ByEndpoint(0, "a"),
         r#"{"address":"127.0.0.1:5683","attributes":{},"binding":"U","endpoint":"a","id":"0000000000020001","lifetime":86400,"lwm2m":"1.0","objects":"</>","queue":false,"seen":0,"sms":null}"#,
     ),
-    (Merges(ENDED), "joined 1"),
-    (Merges(REMOVED), "joined 1"),
+    (Merges(ENDED), "Ok(1)"),
+    (Merges(REMOVED), "Ok(1)"),
     (Numbers, "2 3"),
 ];
+
+/// Tries: Node::merge, Node::take
+#[test]
+fn a_later_register_has_no_end(rt: HostRuntime) -> Result<(), Fail> {
+    play_new(rt.alloc(), &OTHERS)
+}
 
 /// An observation of `/3/0` of the registration, its end, and an Update that is later.
 const WATCHED: &str =
@@ -74,23 +86,26 @@ const WATCH: &str =
     r#"{"accept":null,"endpoint":"a","id":"0000000000010001","path":"/3/0","token":"0000000000020001"}"#;
 
 /// The observations of what is over are kept, and come back with it; a removal wins.
-pub(super) const OBSERVED: [Row<'static>; 15] = [
-    (Line(REGISTER), CREATED),
-    (
-        Line("observe 1 0 0000000000010001 /3/0 - 32"),
-        "sent 0000000000020001 127.0.0.1:5683 4801002000000000000200016051330130",
-    ),
-    (Merges(ENDED), "joined 1"),
-    (Line("token 1 0 0000000000020001"), "none"),
-    (Line("watch 1 0 0000000000010001"), "none"),
-    (Line("cancel 1 0 0000000000020001 32"), "refused 1"),
-    (Line("send 1 2"), WATCHED),
+const OBSERVED: [Row<'static>; 15] = [
+    (Takes(REGISTER), CREATED),
+    (Observes(ID), "4801002000000000000200016051330130"),
+    (Merges(ENDED), "Ok(1)"),
+    (ByToken("0000000000020001"), "-"),
+    (WatchAfter(ID, false), "-"),
+    (Cancels("0000000000020001"), "NotFound"),
+    (DeltaSince(2), WATCHED),
     (Numbers, "2 3"),
-    (Merges(SEEN_AGAIN), "joined 1"),
-    (Line("token 1 0 0000000000020001"), WATCH),
-    (Line("watch 1 0 0000000000010001"), WATCH),
-    (Merges(REMOVED), "joined 1"),
-    (Merges(ENDED), "joined 1"),
-    (Line("endpoint 1 0 a"), "none"),
+    (Merges(SEEN_AGAIN), "Ok(1)"),
+    (ByToken("0000000000020001"), WATCH),
+    (WatchAfter(ID, false), WATCH),
+    (Merges(REMOVED), "Ok(1)"),
+    (Merges(ENDED), "Ok(1)"),
+    (ByEndpoint(0, "a"), "-"),
     (Numbers, "3 5"),
 ];
+
+/// Tries: Node::merge, Node::take
+#[test]
+fn observations_come_back_with_a_registration(rt: HostRuntime) -> Result<(), Fail> {
+    play_new(rt.alloc(), &OBSERVED)
+}
