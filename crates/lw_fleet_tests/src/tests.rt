@@ -1,9 +1,9 @@
-use crate::hold::{holds, holds_for, same};
 use lw_fleet::{Fault, OneOptions, bytes_of_hex, one, read_line, write_text};
 use lw_stamp::Moment;
-use std::alloc::Global;
+use std::alloc::{AllocError, Global};
 use std::io::{self, ErrorKind, Read, Write};
-use std::test::Fail;
+use std::process::Abort;
+use telling::{AnyFault, tells, tells_in_part};
 
 mod command_line;
 mod derived_texts;
@@ -13,6 +13,7 @@ mod run_command;
 mod run_refused;
 mod running_server;
 mod serving;
+mod telling;
 
 /// Gives its bytes a few at a time, and then ends or fails. Every other read is interrupted.
 #[derive(Drop)]
@@ -51,6 +52,12 @@ impl Read for FewBytes<'_> {
     }
 }
 
+/// How many bytes a writer takes at a time and in all, whether it then fails or takes none, and whether a flush fails.
+type Room = (usize, usize, bool, bool);
+
+/// A writer that takes all.
+const AMPLE: Room = (4, usize::MAX, false, false);
+
 /// Takes a few bytes at a time while there is room, and then takes none or fails. Every other write is interrupted.
 /// What it holds is handed on by a flush, which may fail.
 #[derive(Drop)]
@@ -65,16 +72,22 @@ struct FewWrites {
 }
 
 impl FewWrites {
-    fn new(alloc: Global, most: usize, room: usize, fails: bool) -> FewWrites {
+    fn new(alloc: Global, room: Room) -> FewWrites {
+        let (most, room, fails, flush_fails) = room;
         FewWrites {
             taken: Vec::new(alloc),
             most,
             room,
             fails,
             interrupts: false,
-            flush_fails: false,
+            flush_fails,
             flushed: 0,
         }
+    }
+
+    /// Whether it has taken these bytes.
+    fn has(&self, bytes: &[u8]) -> bool {
+        self.taken.as_slice() == bytes
     }
 
     /// Whether it has taken so many bytes, the first of the text.
@@ -107,14 +120,32 @@ impl Write for FewWrites {
     }
 }
 
-/// Whether this line is read of the input, of which so many bytes come at a time.
-fn is_read(alloc: Global, input: &[u8], most: usize, line: &[u8]) -> Result<bool, Fault> {
-    let read = read_line(alloc, &mut FewBytes::new(input, most, false))?;
-    Ok(read.as_slice() == line)
+/// Whether these bytes come, or this fault.
+fn is_wanted(given: &Result<Vec<u8>, Fault>, want: Result<&[u8], Fault>) -> bool {
+    match given {
+        Ok(bytes) => want == Ok(bytes.as_slice()),
+        Err(fault) => want == Err(*fault),
+    }
+}
+
+/// Fails where another line is read of the input, of which so many bytes come at a time and behind which a read may
+/// fail.
+fn reads(
+    rt: &impl Abort,
+    alloc: Global,
+    (input, most, fails): (&[u8], usize, bool),
+    want: Result<&[u8], Fault>,
+) {
+    let read = read_line(alloc, &mut FewBytes::new(input, most, fails));
+    assert!(rt;
+        is_wanted(&read, want),
+        "{} bytes, {most} at a time",
+        input.len()
+    );
 }
 
 /// Inputs and their first lines.
-const LINES: [(&[u8], &[u8]); 5] = [
+static LINES: [(&[u8], &[u8]); 5] = [
     (b"", b""),
     (b"\n40", b""),
     (b"4000", b"4000"),
@@ -124,249 +155,238 @@ const LINES: [(&[u8], &[u8]); 5] = [
 
 /// Tries: read_line
 #[test]
-fn lines_end_at_the_first_line_feed(rt: HostRuntime) -> Result<(), Fail> {
-    for &(input, line) in &LINES {
+fn lines_end_at_the_first_line_feed(rt: HostRuntime) {
+    for (input, line) in &LINES {
         for most in [1, 3, 9999] {
-            holds(
-                "lines end at the first line feed",
-                is_read(rt.alloc(), input, most, line) == Ok(true),
-            )?;
+            reads(&rt, rt.alloc(), (input, most, false), Ok(line));
         }
     }
-    Ok(())
-}
-
-/// How long a line is that comes byte by byte from a reader that fails behind its input.
-fn length_before_a_fault(alloc: Global, input: &[u8]) -> Result<usize, Fault> {
-    Ok(read_line(alloc, &mut FewBytes::new(input, 1, true))?.len())
 }
 
 /// Tries: read_line
 #[test]
-fn a_read_may_fail_behind_the_line_alone(rt: HostRuntime) -> Result<(), Fail> {
-    holds(
-        "a read may fail behind the line alone",
-        length_before_a_fault(rt.alloc(), b"4000") == Err(Fault::ReadFailed),
-    )?;
-    holds(
-        "a read may fail behind the line alone",
-        length_before_a_fault(rt.alloc(), b"4000\n") == Ok(4),
-    )
+fn a_read_may_fail_behind_the_line_alone(rt: HostRuntime) {
+    let alloc = rt.alloc();
+    reads(&rt, alloc, (b"4000", 1, true), Err(Fault::ReadFailed));
+    reads(&rt, alloc, (b"4000\n", 1, true), Ok(b"4000"));
 }
 
-/// How many bytes are read of a line of so many, and of one with a line feed behind it.
-fn lengths_read(alloc: Global, length: usize) -> Result<(usize, usize), Fault> {
-    let mut input = vec![in alloc; b'a'; length].map_err(|_| Fault::NoMemory)?;
-    let open = read_line(alloc, &mut input.as_slice())?.len();
-    input.push(b'\n').map_err(|_| Fault::NoMemory)?;
-    let ended = read_line(alloc, &mut input.as_slice())?.len();
-    Ok((open, ended))
+/// So many `a`.
+fn many(rt: &impl Abort, alloc: Global, count: usize) -> Vec<u8> {
+    vec![in alloc; b'a'; count].expect(rt, "memory")
 }
+
+/// Fails where a line of so many bytes, alone and with a line feed behind it, is read in another way than told.
+fn reads_long(rt: &impl Abort, alloc: Global, length: usize, is_too_long: bool) {
+    let line = many(rt, alloc, length);
+    let mut ended = many(rt, alloc, length);
+    ended.push(b'\n').expect(rt, "memory");
+    let want = match is_too_long {
+        true => Err(Fault::TooLong),
+        false => Ok(line.as_slice()),
+    };
+    reads(rt, alloc, (&line, usize::MAX, false), want);
+    reads(rt, alloc, (&ended, usize::MAX, false), want);
+}
+
+/// How many bytes a line has.
+static LENGTHS: [usize; 9] = [0, 1, 4095, 4096, 4097, 8192, 100_000, 1_048_575, 1_048_576];
 
 /// Tries: read_line
 #[test]
-fn lines_up_to_the_longest(rt: HostRuntime) -> Result<(), Fail> {
-    for &length in &[0, 1, 4095, 4096, 4097, 8192, 100_000, 1_048_575, 1_048_576] {
-        holds(
-            "lines up to the longest",
-            lengths_read(rt.alloc(), length) == Ok((length, length)),
-        )?;
+fn lines_up_to_the_longest(rt: HostRuntime) {
+    for length in &LENGTHS {
+        reads_long(&rt, rt.alloc(), *length, false);
     }
-    holds(
-        "lines up to the longest",
-        lengths_read(rt.alloc(), 1_048_577) == Err(Fault::TooLong),
-    )
+    reads_long(&rt, rt.alloc(), 1_048_577, true);
 }
 
-/// What comes of writing a text, and whether the writer, which has so much room, is full with its front.
-fn fills(alloc: Global, most: usize, room: usize, fails: bool) -> (Result<(), Fault>, bool) {
-    let mut writer = FewWrites::new(alloc, most, room, fails);
-    let result = write_text(&mut writer, b"fleet\n");
-    (result, writer.has_front(b"fleet\n", room))
+/// What is written.
+const TEXT: &[u8] = b"fleet\n";
+
+/// Fails where the text is written to such a writer in another way: with another outcome, with other bytes than its
+/// first, or with other than so many that are flushed.
+fn writes(rt: &impl Abort, alloc: Global, room: Room, want: Result<(), Fault>, flushed: usize) {
+    let mut writer = FewWrites::new(alloc, room);
+    let result = write_text(&mut writer, TEXT);
+    assert!(rt; result == want, "{room:?}: {result:?}");
+    assert!(rt; writer.has_front(TEXT, room.1.min(6)), "{room:?}");
+    assert_eq!(rt; writer.flushed, flushed, "{room:?}");
 }
+
+/// How much room there is and whether writes then fail, what comes of it, and how many bytes are flushed.
+static ROOMS: [(usize, bool, Result<(), Fault>, usize); 3] = [
+    (6, false, Ok(()), 6),
+    (3, false, Err(Fault::WriteFailed), 0),
+    (3, true, Err(Fault::WriteFailed), 0),
+];
 
 /// Tries: write_text, write_all, flush
 #[test]
-fn writes_go_on_until_one_takes_nothing(rt: HostRuntime) -> Result<(), Fail> {
-    for &(room, fails, result) in &[
-        (6, false, Ok(())),
-        (3, false, Err(Fault::WriteFailed)),
-        (3, true, Err(Fault::WriteFailed)),
-    ] {
-        for &most in &[1, 2, 99] {
-            holds(
-                "writes go on until one takes nothing",
-                fills(rt.alloc(), most, room, fails) == (result, true),
-            )?;
+fn writes_go_on_until_one_takes_nothing(rt: HostRuntime) {
+    for (room, fails, want, flushed) in &ROOMS {
+        for most in [1, 2, 99] {
+            writes(
+                &rt,
+                rt.alloc(),
+                (most, *room, *fails, false),
+                *want,
+                *flushed,
+            );
         }
     }
-    Ok(())
-}
-
-/// What comes of writing a text, how many bytes are flushed, and whether the writer has all of them.
-fn flushed(alloc: Global, flush_fails: bool) -> (Result<(), Fault>, usize, bool) {
-    let mut writer = FewWrites::new(alloc, 4, 99, false);
-    writer.flush_fails = flush_fails;
-    let result = write_text(&mut writer, b"fleet\n");
-    (result, writer.flushed, writer.has_front(b"fleet\n", 6))
 }
 
 /// Tries: write_text, flush
 #[test]
-fn a_written_text_is_flushed(rt: HostRuntime) -> Result<(), Fail> {
-    holds(
-        "a written text is flushed",
-        flushed(rt.alloc(), false) == (Ok(()), 6, true),
-    )?;
-    holds(
-        "a written text is flushed",
-        flushed(rt.alloc(), true) == (Err(Fault::WriteFailed), 0, true),
-    )
+fn a_written_text_is_flushed(rt: HostRuntime) {
+    let failed = Err(Fault::WriteFailed);
+    writes(&rt, rt.alloc(), (4, 99, false, false), Ok(()), 6);
+    writes(&rt, rt.alloc(), (4, 99, false, true), failed, 0);
 }
 
-/// Whether a line of hex spells these bytes.
-fn spells(alloc: Global, line: &[u8], bytes: &[u8]) -> Result<bool, Fault> {
-    Ok(bytes_of_hex(alloc, line)?.as_slice() == bytes)
-}
+/// A line of hex, and the bytes that it spells.
+type Hex = (&'static [u8], Result<&'static [u8], Fault>);
 
-/// Whether a line of so many `a` spells so many bytes 0xaa.
-fn spells_long(alloc: Global, digits: usize, count: usize) -> Result<bool, Fail> {
-    let line = vec![in alloc; b'a'; digits]?;
-    let bytes = vec![in alloc; 0xaa; count]?;
-    Ok(spells(alloc, &line, &bytes)?)
+static HEX_LINES: [Hex; 6] = [
+    (b"", Ok(&[])),
+    (b"00fFA9", Ok(&[0, 255, 169])),
+    (b"0", Err(Fault::HexRefused)),
+    (b"00\r", Err(Fault::HexRefused)),
+    (b"0 0 ", Err(Fault::HexRefused)),
+    (b"0g", Err(Fault::HexRefused)),
+];
+
+/// Fails where a line of hex spells other bytes.
+fn spells(rt: &impl Abort, alloc: Global, line: &[u8], want: Result<&[u8], Fault>) {
+    let bytes = bytes_of_hex(alloc, line);
+    assert!(rt; is_wanted(&bytes, want), "{} digits: {want:?}", line.len());
 }
 
 /// Tries: bytes_of_hex
 #[test]
-fn hex_lines(rt: HostRuntime) -> Result<(), Fail> {
-    let rows: [(&[u8], &[u8], Result<bool, Fault>); 6] = [
-        (b"", &[], Ok(true)),
-        (b"00fFA9", &[0, 255, 169], Ok(true)),
-        (b"0", &[], Err(Fault::HexRefused)),
-        (b"00\r", &[], Err(Fault::HexRefused)),
-        (b"0 0 ", &[], Err(Fault::HexRefused)),
-        (b"0g", &[], Err(Fault::HexRefused)),
-    ];
-    for &(line, bytes, result) in &rows {
-        holds_for(&line, spells(rt.alloc(), line, bytes) == result)?;
+fn hex_lines(rt: HostRuntime) {
+    for (line, want) in &HEX_LINES {
+        spells(&rt, rt.alloc(), line, *want);
     }
-    holds("hex lines", spells_long(rt.alloc(), 1_048_576, 524_288)?)
+    let line = many(&rt, rt.alloc(), 1_048_576);
+    let bytes = vec![in rt.alloc(); 0xaa; 524_288].expect(&rt, "memory");
+    spells(&rt, rt.alloc(), &line, Ok(&bytes));
 }
 
-/// Whether a fault is told by this line.
-fn is_told(alloc: Global, fault: Fault, line: &str) -> bool {
-    let mut errors = Vec::new(alloc);
-    fault.tell(&mut errors) && errors.as_slice() == line.as_bytes()
+/// Each fault of `one` and of `replay`, and its line.
+static FAULTS: [(Fault, &str); 10] = [
+    (Fault::AddressRefused, "address refused\n"),
+    (Fault::ReadFailed, "read failed\n"),
+    (Fault::TooLong, "script too long\n"),
+    (Fault::HexRefused, "hex refused\n"),
+    (Fault::LineRefused { line: 1 }, "line 1 refused\n"),
+    (Fault::LineRefused { line: 12 }, "line 12 refused\n"),
+    (Fault::LineRefused { line: 1024 }, "line 1024 refused\n"),
+    (
+        Fault::LineRefused { line: 1_048_577 },
+        "line 1048577 refused\n",
+    ),
+    (Fault::WriteFailed, "write failed\n"),
+    (Fault::NoMemory, "no memory\n"),
+];
+
+/// Tries: Fault::tell
+#[test]
+fn fault_lines(rt: HostRuntime) {
+    for (fault, line) in &FAULTS {
+        tells(&rt, rt.alloc(), AnyFault::Common(*fault), line);
+    }
 }
 
 /// Tries: Fault::tell
 #[test]
-fn fault_lines(rt: HostRuntime) -> Result<(), Fail> {
-    for &(fault, line) in &[
-        (Fault::AddressRefused, "address refused\n"),
-        (Fault::ReadFailed, "read failed\n"),
-        (Fault::TooLong, "script too long\n"),
-        (Fault::HexRefused, "hex refused\n"),
-        (Fault::LineRefused { line: 1 }, "line 1 refused\n"),
-        (
-            Fault::LineRefused { line: 1_048_577 },
-            "line 1048577 refused\n",
-        ),
-        (Fault::WriteFailed, "write failed\n"),
-        (Fault::NoMemory, "no memory\n"),
-    ] {
-        holds(line, is_told(rt.alloc(), fault, line))?;
+fn a_fault_line_in_part(rt: HostRuntime) {
+    for (fault, line) in &FAULTS {
+        tells_in_part(&rt, rt.alloc(), AnyFault::Common(*fault), line);
     }
-    Ok(())
-}
-
-/// Whether a fault is told in part, by the front of its line for which there is room.
-fn is_told_in_part(alloc: Global, fault: Fault, line: &str, room: usize) -> bool {
-    let mut errors = FewWrites::new(alloc, 3, room, false);
-    !fault.tell(&mut errors) && errors.has_front(line.as_bytes(), room)
-}
-
-/// Tries: Fault::tell
-#[test]
-fn a_fault_line_in_part(rt: HostRuntime) -> Result<(), Fail> {
-    let fault = Fault::LineRefused { line: 1024 };
-    for room in 0..18 {
-        holds_for(
-            &room,
-            is_told_in_part(rt.alloc(), fault, "line 1024 refused\n", room),
-        )?;
-    }
-    Ok(())
 }
 
 /// A Register of `a` and what a new node answers to it.
 const REGISTER: &[u8] =
     b"4402000101020304b2726411283465703d61056c743d3630096c776d326d3d312e31ff3c2f332f303e\n";
 
+/// Its first 20 bytes.
+const REGISTER_FRONT: &[u8] = b"4402000101020304b272";
+
+/// The same in upper case, without the line feed.
+const REGISTER_UPPER: &[u8] =
+    b"4402000101020304B2726411283465703D61056C743D3630096C776D326D3D312E31FF3C2F332F303E";
+
 const ANSWER: &str = "64410001010203048272640d0330303030303030303030303130303031
 {\"address\":\"127.0.0.1:5683\",\"attributes\":{},\"binding\":\"U\",\"endpoint\":\"a\",\"id\":\"0000000000010001\",\"lifetime\":60,\"lwm2m\":\"1.1\",\"objects\":\"</3/0>\",\"queue\":false,\"seen\":0,\"sms\":null}
 ";
 
-const OPTIONS: OneOptions<'static> = OneOptions {
-    node: 1,
-    now: Moment::START,
-    from: "127.0.0.1:5683",
-};
+/// Where a datagram comes from.
+const FROM: &str = "127.0.0.1:5683";
 
-/// What is printed for an input, and behind it the fault, if any.
-fn told(alloc: Global, input: &[u8]) -> Result<String, Fail> {
-    let mut writer = Vec::new(alloc);
-    let result = one(
-        alloc,
-        &OPTIONS,
-        &mut FewBytes::new(input, 7, false),
-        &mut writer,
-    );
-    if let Err(fault) = result {
-        fault.tell(&mut writer);
+/// What comes of `one`: the outcome, how many bytes of the input are left, and what is printed.
+type Answer<'a> = (Result<(), Fault>, usize, &'a str);
+
+/// Fails where another answer comes of `one` at node 1 and moment 0, with this input of an address and such a writer.
+fn answers(
+    rt: &impl Abort,
+    alloc: Global,
+    from: &str,
+    mut reader: FewBytes<'_>,
+    room: Room,
+    (want, unread, text): Answer<'_>,
+) {
+    let options = OneOptions {
+        node: 1,
+        now: Moment::START,
+        from,
+    };
+    let mut writer = FewWrites::new(alloc, room);
+    let result = one(alloc, &options, &mut reader, &mut writer);
+    assert!(rt; result == want, "{result:?} in place of {text}");
+    assert_eq!(rt; reader.rest.len(), unread, "unread of {text}");
+    assert!(rt; writer.has(text.as_bytes()), "{text}");
+}
+
+/// Inputs, of which seven bytes come at a time, and what comes of them.
+static ANSWERS: [(&[u8], Answer<'static>); 9] = [
+    (REGISTER, (Ok(()), 0, ANSWER)),
+    (REGISTER_UPPER, (Ok(()), 0, ANSWER)),
+    (b"40000007", (Ok(()), 0, "70000007\n")),
+    (b"40010001\n", (Ok(()), 0, "60840001\n")),
+    (b"", (Ok(()), 0, "-\n")),
+    (b"\n40000007", (Ok(()), 2, "-\n")),
+    (b"4000000", (Err(Fault::HexRefused), 0, "")),
+    (b"40000007\r\n", (Err(Fault::HexRefused), 0, "")),
+    (b"40 000007\n", (Err(Fault::HexRefused), 0, "")),
+];
+
+/// Tries: one
+#[test]
+fn a_line_is_answered(rt: HostRuntime) {
+    for (input, answer) in &ANSWERS {
+        let reader = FewBytes::new(input, 7, false);
+        answers(&rt, rt.alloc(), FROM, reader, AMPLE, *answer);
     }
-    Ok(String::from_utf8(writer)?)
 }
 
 /// Tries: one
 #[test]
-fn a_line_is_answered(rt: HostRuntime) -> Result<(), Fail> {
-    let upper =
-        b"4402000101020304B2726411283465703D61056C743D3630096C776D326D3D312E31FF3C2F332F303E";
-    let rows: [(&[u8], &str); 9] = [
-        (REGISTER, ANSWER),
-        (upper, ANSWER),
-        (b"40000007", "70000007\n"),
-        (b"40010001\n", "60840001\n"),
-        (b"", "-\n"),
-        (b"\n40000007", "-\n"),
-        (b"4000000", "hex refused\n"),
-        (b"40000007\r\n", "hex refused\n"),
-        (b"40 000007\n", "hex refused\n"),
-    ];
-    for &(input, text) in &rows {
-        same(told(rt.alloc(), input)?.as_str(), text)?;
-    }
-    Ok(())
+fn the_longest_line_is_answered(rt: HostRuntime) {
+    let alloc = rt.alloc();
+    let line = many(&rt, alloc, 1_048_576);
+    let reader = FewBytes::new(&line, 7, false);
+    answers(&rt, alloc, FROM, reader, AMPLE, (Ok(()), 0, "-\n"));
+    let line = many(&rt, alloc, 1_048_577);
+    let reader = FewBytes::new(&line, 7, false);
+    let too_long = (Err(Fault::TooLong), 0, "");
+    answers(&rt, alloc, FROM, reader, AMPLE, too_long);
 }
 
-/// What is printed for a line of so many `a`.
-fn told_long(alloc: Global, length: usize) -> Result<String, Fail> {
-    told(alloc, &vec![in alloc; b'a'; length]?)
-}
-
-/// Tries: one
-#[test]
-fn the_longest_line_is_answered(rt: HostRuntime) -> Result<(), Fail> {
-    same(told_long(rt.alloc(), 1_048_576)?.as_str(), "-\n")?;
-    same(
-        told_long(rt.alloc(), 1_048_577)?.as_str(),
-        "script too long\n",
-    )
-}
-
-/// A Register of `a` of 8,192 bytes: a payload of one link, `</` and a number of `1` and `>`.
-fn longest_register(alloc: Global, ones: usize) -> Result<Vec<u8>, Fail> {
+/// A Register of `a` whose payload is one link, `</` and a number of `1` and `>`. With 8,176 of them it has 8,192
+/// bytes.
+fn long_register(alloc: Global, ones: usize) -> Result<Vec<u8>, AllocError> {
     let mut line = b"40020004b272644465703d61ff3c2f".to_vec(alloc)?;
     for _one in 0..ones {
         line.extend_from_slice(b"31")?;
@@ -376,105 +396,66 @@ fn longest_register(alloc: Global, ones: usize) -> Result<Vec<u8>, Fail> {
 }
 
 /// What a new node answers to a Register whose link has so many `1`.
-fn longest_answer(alloc: Global, ones: usize) -> Result<String, Fail> {
+fn long_answer(alloc: Global, ones: usize) -> Result<String, AllocError> {
     let ones = "1".repeat(alloc, ones)?;
-    Ok(format!(in alloc;
+    format!(in alloc;
         r#"604100048272640d0330303030303030303030303130303031
 {{"address":"127.0.0.1:5683","attributes":{{}},"binding":"U","endpoint":"a","id":"0000000000010001","lifetime":86400,"lwm2m":"1.0","objects":"</{ones}>","queue":false,"seen":0,"sms":null}}
 "#
-    )?)
-}
-
-/// What is printed for a Register whose link has so many `1`.
-fn told_of_register(alloc: Global, ones: usize) -> Result<String, Fail> {
-    told(alloc, &longest_register(alloc, ones)?)
-}
-
-/// Whether a Register whose link has so many `1` has its answer.
-fn is_register_answered(alloc: Global, ones: usize) -> Result<bool, Fail> {
-    let text = told_of_register(alloc, ones)?;
-    Ok(longest_answer(alloc, ones)?.as_str() == text.as_str())
-}
-
-/// Tries: one
-#[test]
-fn the_longest_register_is_answered(rt: HostRuntime) -> Result<(), Fail> {
-    holds(
-        "the longest register is answered",
-        longest_register(rt.alloc(), 8_176)?.len() == 2 * 8_192 + 1,
-    )?;
-    holds(
-        "the longest register is answered",
-        is_register_answered(rt.alloc(), 8_176)?,
-    )?;
-    same(told_of_register(rt.alloc(), 8_177)?.as_str(), "70000004\n")
-}
-
-/// What comes of an input from an address where each read behind the input fails, how many bytes of it are left, and
-/// how many are printed.
-fn failed(
-    alloc: Global,
-    from: &str,
-    input: &[u8],
-    most: usize,
-) -> (Result<(), Fault>, usize, usize) {
-    let options = OneOptions { from, ..OPTIONS };
-    let mut reader = FewBytes::new(input, most, true);
-    let mut writer = Vec::new(alloc);
-    let result = one(alloc, &options, &mut reader, &mut writer);
-    (result, reader.rest.len(), writer.len())
-}
-
-/// Tries: one
-#[test]
-fn a_refused_address_reads_nothing(rt: HostRuntime) -> Result<(), Fail> {
-    for &from in &["x", "127.0.0.1", "[::1]:5683", ""] {
-        holds_for(
-            &from,
-            failed(rt.alloc(), from, b"4", 1) == (Err(Fault::AddressRefused), 1, 0),
-        )?;
-    }
-    Ok(())
-}
-
-/// Tries: one
-#[test]
-fn a_reader_that_fails_is_told(rt: HostRuntime) -> Result<(), Fail> {
-    holds(
-        "a reader that fails is told",
-        failed(rt.alloc(), OPTIONS.from, &REGISTER[..20], 3) == (Err(Fault::ReadFailed), 0, 0),
     )
 }
 
-/// What comes of a Register, and whether its answer fills the writer as far as there is room.
-fn answered(
-    alloc: Global,
-    most: usize,
-    room: usize,
-    fails: bool,
-    flush_fails: bool,
-) -> (Result<(), Fault>, bool) {
-    let mut writer = FewWrites::new(alloc, most, room, fails);
-    writer.flush_fails = flush_fails;
-    let result = one(alloc, &OPTIONS, &mut &*REGISTER, &mut writer);
-    let is_front = writer.has_front(ANSWER.as_bytes(), room.min(ANSWER.len()));
-    (result, is_front)
+/// Fails where another text is printed for a Register whose link has so many `1`.
+fn answers_register(rt: &impl Abort, alloc: Global, ones: usize, text: &str) {
+    let line = long_register(alloc, ones).expect(rt, "memory");
+    assert_eq!(rt; line.len(), 2 * ones + 32 + 1);
+    let reader = FewBytes::new(&line, 7, false);
+    answers(rt, alloc, FROM, reader, AMPLE, (Ok(()), 0, text));
 }
 
 /// Tries: one
 #[test]
-fn a_writer_that_fails_is_told(rt: HostRuntime) -> Result<(), Fail> {
-    for &(most, room, fails, flush_fails, result) in &[
-        (1, 9999, false, false, Ok(())),
-        (1, 70, true, false, Err(Fault::WriteFailed)),
-        (50, 70, false, false, Err(Fault::WriteFailed)),
-        (50, 0, false, false, Err(Fault::WriteFailed)),
-        (50, 9999, false, true, Err(Fault::WriteFailed)),
-    ] {
-        holds(
-            "a writer that fails is told",
-            answered(rt.alloc(), most, room, fails, flush_fails) == (result, true),
-        )?;
+fn the_longest_register_is_answered(rt: HostRuntime) {
+    let answer = long_answer(rt.alloc(), 8_176).expect(&rt, "memory");
+    answers_register(&rt, rt.alloc(), 8_176, answer.as_str());
+    answers_register(&rt, rt.alloc(), 8_177, "70000004\n");
+}
+
+/// Tries: one
+#[test]
+fn a_refused_address_reads_nothing(rt: HostRuntime) {
+    for from in ["x", "127.0.0.1", "[::1]:5683", ""] {
+        let reader = FewBytes::new(b"4", 1, true);
+        let refused = (Err(Fault::AddressRefused), 1, "");
+        answers(&rt, rt.alloc(), from, reader, AMPLE, refused);
     }
-    Ok(())
+}
+
+/// Tries: one
+#[test]
+fn a_reader_that_fails_is_told(rt: HostRuntime) {
+    let reader = FewBytes::new(REGISTER_FRONT, 3, true);
+    let failed = (Err(Fault::ReadFailed), 0, "");
+    answers(&rt, rt.alloc(), FROM, reader, AMPLE, failed);
+}
+
+/// Writers, and what comes of the Register.
+static WRITERS: [(Room, Result<(), Fault>); 5] = [
+    ((1, 9999, false, false), Ok(())),
+    ((1, 70, true, false), Err(Fault::WriteFailed)),
+    ((50, 70, false, false), Err(Fault::WriteFailed)),
+    ((50, 0, false, false), Err(Fault::WriteFailed)),
+    ((50, 9999, false, true), Err(Fault::WriteFailed)),
+];
+
+/// Tries: one
+#[test]
+fn a_writer_that_fails_is_told(rt: HostRuntime) {
+    for (room, want) in &WRITERS {
+        let front = ANSWER
+            .get(..room.1.min(ANSWER.len()))
+            .expect(&rt, "a front");
+        let reader = FewBytes::new(REGISTER, 7, false);
+        answers(&rt, rt.alloc(), FROM, reader, *room, (*want, 0, front));
+    }
 }

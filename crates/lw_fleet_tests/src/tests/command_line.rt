@@ -1,38 +1,26 @@
 //! What the command line gives, and the texts that are printed where it gives nothing.
 
-use super::program::run_with;
-use crate::hold::{holds, holds_for, same};
-use lw_fleet::{Request, ServeOptions, read_request};
+use super::program::{STAGE, Want, ends};
+use lw_fleet::{Ending, Request, ServeOptions, read_request};
 use std::alloc::Global;
-use std::str;
+use std::process::Abort;
 use std::sync::Wait;
-use std::test::Fail;
 use std::thread::Threads;
 
 /// What the words ask for.
-pub(super) fn asked<'a>(alloc: Global, words: &'a [&'a str]) -> Result<Request<'a>, Fail> {
-    Ok(read_request(alloc, words)?)
+pub(super) fn asked<'a>(rt: &impl Abort, alloc: Global, words: &'a [&'a str]) -> Request<'a> {
+    read_request(alloc, words).expect(rt, "a request")
 }
 
 /// Tries: read_request
 #[test]
-fn a_replay(rt: HostRuntime) -> Result<(), Fail> {
-    holds(
-        "a replay",
-        asked(rt.alloc(), &["fleet", "replay"])? == Request::Replay,
-    )
-}
-
-/// The node, the moment and the address that the words give to `one`.
-fn given_to_one<'a>(alloc: Global, words: &'a [&'a str]) -> Result<(u16, u64, &'a str), Fail> {
-    match asked(alloc, words)? {
-        Request::One(options) => Ok((options.node, options.now.ms(), options.from)),
-        _ => Err(Fail::from("it is another command")),
-    }
+fn a_replay(rt: HostRuntime) {
+    let request = asked(&rt, rt.alloc(), &["fleet", "replay"]);
+    assert!(rt; request == Request::Replay);
 }
 
 /// Words, and what they give to `one`.
-const GIVEN_TO_ONE: [(&[&str], (u16, u64, &str)); 5] = [
+static GIVEN_TO_ONE: [(&[&str], (u16, u64, &str)); 5] = [
     (&["fleet"], (1, 0, "127.0.0.1:5683")),
     (&["fleet", "one"], (1, 0, "127.0.0.1:5683")),
     (
@@ -53,32 +41,35 @@ const GIVEN_TO_ONE: [(&[&str], (u16, u64, &str)); 5] = [
 
 /// Tries: read_request
 #[test]
-fn options(rt: HostRuntime) -> Result<(), Fail> {
-    for &(words, given) in &GIVEN_TO_ONE {
-        holds("options", given_to_one(rt.alloc(), words)? == given)?;
+fn options(rt: HostRuntime) {
+    for (words, given) in &GIVEN_TO_ONE {
+        let request = asked(&rt, rt.alloc(), words);
+        let is_so = match request {
+            Request::One(options) => (options.node, options.now.ms(), options.from) == *given,
+            _ => false,
+        };
+        assert!(rt; is_so, "{request:?}");
     }
-    Ok(())
 }
 
-/// The status of a command line that gives no options, and what it prints, errors behind a bar.
-pub(super) fn printed<R: Threads + Wait + Sync>(
+/// Fails where the words do not have this text printed, and nothing else done.
+pub(super) fn shows<R: Threads + Wait + Sync + Abort>(
     rt: &R,
     alloc: Global,
     words: &[&str],
-) -> Result<String, Fail> {
-    let ended = run_with(rt, alloc, words, b"4")?;
-    if ended.unread != 1 {
-        return Err(Fail::from("the input was read"));
-    }
-    ended_text(alloc, ended.ending.status(), &ended.output, &ended.errors)
+    text: &str,
+) {
+    let want = Want {
+        ending: Ending::Done,
+        status: 0,
+        output: text,
+        errors: "",
+        unread: 1,
+    };
+    let _server = ends(rt, alloc, words, &STAGE, &want);
 }
 
-fn ended_text(alloc: Global, status: u8, output: &[u8], errors: &[u8]) -> Result<String, Fail> {
-    let (output, errors) = (str::from_utf8(output)?, str::from_utf8(errors)?);
-    Ok(format!(in alloc; "{status} {output}|{errors}")?)
-}
-
-const FLEET_HELP: &str = "0 \
+pub(super) const FLEET_HELP: &str = "\
 The registration store behind LwM2M servers; without a command, `fleet one`
 
 Usage: fleet [COMMAND]
@@ -93,19 +84,17 @@ Commands:
 Options:
   -h, --help     Print help
   -V, --version  Print version
-|";
+";
 
 /// Tries: read_request, program
 #[test]
-fn help_of_the_program(rt: HostRuntime) -> Result<(), Fail> {
-    for &word in &["--help", "-h", "help"] {
-        let text = printed(&rt, rt.alloc(), &["fleet", word])?;
-        same(text.as_str(), FLEET_HELP)?;
+fn help_of_the_program(rt: HostRuntime) {
+    for word in ["--help", "-h", "help"] {
+        shows(&rt, rt.alloc(), &["fleet", word], FLEET_HELP);
     }
-    Ok(())
 }
 
-const ONE_HELP: &str = "0 \
+const ONE_HELP: &str = "\
 Takes one datagram, a line of hex on standard input, and prints the reply and the registration
 
 Usage: fleet one [OPTIONS]
@@ -115,42 +104,32 @@ Options:
       --now <MS>     Moment in milliseconds, 0 to 281474976710655 [default: 0]
       --from <ADDR>  Address and port of the client, IPv6 as [eight groups of four digits] [default: 127.0.0.1:5683]
   -h, --help         Print help
-|";
+";
 
 /// Tries: read_request, program
 #[test]
-fn help_of_one(rt: HostRuntime) -> Result<(), Fail> {
+fn help_of_one(rt: HostRuntime) {
     for words in [["fleet", "one", "--help"], ["fleet", "help", "one"]] {
-        let text = printed(&rt, rt.alloc(), &words)?;
-        same(text.as_str(), ONE_HELP)?;
+        shows(&rt, rt.alloc(), &words, ONE_HELP);
     }
-    Ok(())
 }
 
-/// Tries: read_request
-#[test]
-fn help_of_replay(rt: HostRuntime) -> Result<(), Fail> {
-    let text = printed(&rt, rt.alloc(), &["fleet", "replay", "--help"])?;
-    same(
-        text.as_str(),
-        "0 \
+const REPLAY_HELP: &str = "\
 Runs a script of several nodes, read from standard input, and prints a line for each event
 
 Usage: fleet replay
 
 Options:
   -h, --help  Print help
-|",
-    )
-}
+";
 
 /// Tries: read_request
 #[test]
-fn help_of_serve(rt: HostRuntime) -> Result<(), Fail> {
-    let text = printed(&rt, rt.alloc(), &["fleet", "serve", "--help"])?;
-    same(
-        text.as_str(),
-        "0 \
+fn help_of_replay(rt: HostRuntime) {
+    shows(&rt, rt.alloc(), &["fleet", "replay", "--help"], REPLAY_HELP);
+}
+
+const SERVE_HELP: &str = "\
 Serves datagrams that come to a UDP port of 127.0.0.1, and prints `settled` when the journals are checked
 
 Usage: fleet serve [OPTIONS] --count <K>
@@ -162,25 +141,25 @@ Options:
       --workers <W>  Worker threads at most, 1 to 8 [default: 2]
       --cut <C>      Rounds after which the journals are cut, 1 to 1000000 [default: never]
   -h, --help         Print help
-|",
-    )
+";
+
+/// Tries: read_request
+#[test]
+fn help_of_serve(rt: HostRuntime) {
+    shows(&rt, rt.alloc(), &["fleet", "serve", "--help"], SERVE_HELP);
 }
 
 /// The count, the port, the nodes, the workers and the rounds before a cut.
 type Given = (u32, u16, u16, u32, Option<u32>);
 
-/// What the words give to `serve`.
-fn given_to_serve(alloc: Global, words: &[&str]) -> Result<Given, Fail> {
-    match asked(alloc, words)? {
-        Request::Serve(ServeOptions { plan, port }) => {
-            Ok((plan.count, port, plan.nodes, plan.workers, plan.cut))
-        }
-        _ => Err(Fail::from("it is another command")),
-    }
+/// What is given to `serve`.
+fn given_to_serve(options: ServeOptions) -> Given {
+    let ServeOptions { plan, port } = options;
+    (plan.count, port, plan.nodes, plan.workers, plan.cut)
 }
 
 /// Words, and what they give to `serve`.
-const GIVEN_TO_SERVE: [(&[&str], Given); 4] = [
+static GIVEN_TO_SERVE: [(&[&str], Given); 4] = [
     (&["fleet", "serve", "--count", "1"], (1, 5683, 2, 2, None)),
     (
         &["fleet", "serve", "--count", "1", "--cut", "1"],
@@ -214,14 +193,15 @@ const GIVEN_TO_SERVE: [(&[&str], Given); 4] = [
 
 /// Tries: read_request
 #[test]
-fn options_to_serve(rt: HostRuntime) -> Result<(), Fail> {
-    for &(words, given) in &GIVEN_TO_SERVE {
-        holds(
-            "options to serve",
-            given_to_serve(rt.alloc(), words)? == given,
-        )?;
+fn options_to_serve(rt: HostRuntime) {
+    for (words, given) in &GIVEN_TO_SERVE {
+        let request = asked(&rt, rt.alloc(), words);
+        let is_so = match request {
+            Request::Serve(options) => given_to_serve(options) == *given,
+            _ => false,
+        };
+        assert!(rt; is_so, "{request:?}");
     }
-    Ok(())
 }
 
 const BAD_COUNT: &str = "'--count <K>' takes a number from 1 to 1000000, in digits alone";
@@ -234,8 +214,28 @@ const BAD_WORKERS: &str = "'--workers <W>' takes a number from 1 to 8, in digits
 
 const BAD_CUT: &str = "'--cut <C>' takes a number from 1 to 1000000, in digits alone";
 
+/// Fails where the words are not refused with these lines.
+pub(super) fn refuses<R: Threads + Wait + Sync + Abort>(
+    rt: &R,
+    alloc: Global,
+    words: &[&str],
+    line: &str,
+    usage: &str,
+) {
+    let errors = format!(in alloc; "error: {line}\n\n{usage}For more information, try '--help'.\n");
+    let errors = errors.expect(rt, "memory");
+    let want = Want {
+        ending: Ending::Refused,
+        status: 2,
+        output: "",
+        errors: errors.as_str(),
+        unread: 1,
+    };
+    let _server = ends(rt, alloc, words, &STAGE, &want);
+}
+
 /// A count and another option, and the line that refuses one of them.
-const REFUSED_BY_SERVE: [(&str, &str, &str, &str); 14] = [
+static REFUSED_BY_SERVE: [(&str, &str, &str, &str); 14] = [
     ("0", "--port", "1", BAD_COUNT),
     ("1000001", "--port", "1", BAD_COUNT),
     ("1", "--port", "65536", BAD_PORT),
@@ -254,50 +254,27 @@ const REFUSED_BY_SERVE: [(&str, &str, &str, &str); 14] = [
 
 /// Tries: read_request
 #[test]
-fn refused_words_of_serve(rt: HostRuntime) -> Result<(), Fail> {
-    for &(count, option, number, line) in &REFUSED_BY_SERVE {
-        let words = ["fleet", "serve", "--count", count, option, number];
-        holds_for(
-            &(count, option, number),
-            is_refused(&rt, rt.alloc(), &words, line, SERVE)?,
-        )?;
+fn refused_words_of_serve(rt: HostRuntime) {
+    for (count, option, number, line) in &REFUSED_BY_SERVE {
+        let words = ["fleet", "serve", "--count", *count, *option, *number];
+        refuses(&rt, rt.alloc(), &words, line, SERVE);
     }
-    Ok(())
 }
 
 /// Tries: read_request
 #[test]
-fn a_count_has_to_be_given(rt: HostRuntime) -> Result<(), Fail> {
+fn a_count_has_to_be_given(rt: HostRuntime) {
     let line = "the following required arguments were not provided:\n  --count <K>";
     let usage = "Usage: fleet serve --count <K>\n\n";
-    holds(
-        "a count has to be given",
-        is_refused(&rt, rt.alloc(), &["fleet", "serve"], line, usage)?,
-    )
+    refuses(&rt, rt.alloc(), &["fleet", "serve"], line, usage);
 }
 
 /// Tries: read_request, program
 #[test]
-fn the_version(rt: HostRuntime) -> Result<(), Fail> {
-    for &flag in &["--version", "-V"] {
-        let text = printed(&rt, rt.alloc(), &["fleet", flag])?;
-        same(text.as_str(), "0 fleet 0.1.0\n|")?;
+fn the_version(rt: HostRuntime) {
+    for flag in ["--version", "-V"] {
+        shows(&rt, rt.alloc(), &["fleet", flag], "fleet 0.1.0\n");
     }
-    Ok(())
-}
-
-/// Whether the command line is refused with these lines.
-pub(super) fn is_refused<R: Threads + Wait + Sync>(
-    rt: &R,
-    alloc: Global,
-    words: &[&str],
-    line: &str,
-    usage: &str,
-) -> Result<bool, Fail> {
-    let errors = format!(in alloc;
-        "error: {line}\n\n{usage}For more information, try '--help'.\n"
-    )?;
-    Ok(run_with(rt, alloc, words, b"4")?.shows(2, "", errors.as_str(), 1))
 }
 
 const FLEET: &str = "Usage: fleet [COMMAND]\n\n";
@@ -309,7 +286,7 @@ const REPLAY: &str = "Usage: fleet replay\n\n";
 const SERVE: &str = "Usage: fleet serve [OPTIONS] --count <K>\n\n";
 
 /// Words that are refused, with the lines.
-const REFUSED_WORDS: [(&[&str], &str, &str); 14] = [
+static REFUSED_WORDS: [(&[&str], &str, &str); 14] = [
     (
         &["fleet", "replay", "two"],
         "unexpected argument 'two' found",
@@ -380,11 +357,10 @@ const REFUSED_WORDS: [(&[&str], &str, &str); 14] = [
 
 /// Tries: read_request, program
 #[test]
-fn refused_words(rt: HostRuntime) -> Result<(), Fail> {
-    for &(words, line, usage) in &REFUSED_WORDS {
-        holds_for(&words, is_refused(&rt, rt.alloc(), words, line, usage)?)?;
+fn refused_words(rt: HostRuntime) {
+    for (words, line, usage) in &REFUSED_WORDS {
+        refuses(&rt, rt.alloc(), words, line, usage);
     }
-    Ok(())
 }
 
 const BAD_NODE: &str = "'--node <N>' takes a number from 0 to 65535, in digits alone";
@@ -392,7 +368,7 @@ const BAD_NODE: &str = "'--node <N>' takes a number from 0 to 65535, in digits a
 const BAD_NOW: &str = "'--now <MS>' takes a number from 0 to 281474976710655, in digits alone";
 
 /// An option of `one` with no number of it, and the line that refuses it.
-const REFUSED_BY_ONE: [(&str, &str, &str); 7] = [
+static REFUSED_BY_ONE: [(&str, &str, &str); 7] = [
     ("--node", "65536", BAD_NODE),
     ("--node", "99999999999999999999", BAD_NODE),
     ("--node", "+1", BAD_NODE),
@@ -404,22 +380,16 @@ const REFUSED_BY_ONE: [(&str, &str, &str); 7] = [
 
 /// Tries: read_request
 #[test]
-fn refused_numbers(rt: HostRuntime) -> Result<(), Fail> {
-    for &(option, number, line) in &REFUSED_BY_ONE {
-        let words = ["fleet", "one", option, number];
-        holds_for(
-            &(option, number),
-            is_refused(&rt, rt.alloc(), &words, line, ONE)?,
-        )?;
+fn refused_numbers(rt: HostRuntime) {
+    for (option, number, line) in &REFUSED_BY_ONE {
+        let words = ["fleet", "one", *option, *number];
+        refuses(&rt, rt.alloc(), &words, line, ONE);
     }
-    holds(
-        "refused numbers",
-        is_refused(
-            &rt,
-            rt.alloc(),
-            &["fleet", "one", "--node=-1"],
-            BAD_NODE,
-            ONE,
-        )?,
-    )
+    refuses(
+        &rt,
+        rt.alloc(),
+        &["fleet", "one", "--node=-1"],
+        BAD_NODE,
+        ONE,
+    );
 }

@@ -1,10 +1,9 @@
 //! A script that is replayed, refused ones, and devices that fail. More scripts are played on the built program.
 
-use super::{FewBytes, FewWrites};
-use crate::hold::{holds, holds_for, same};
+use super::{AMPLE, FewBytes, FewWrites, Room};
 use lw_fleet::{Fault, replay};
 use std::alloc::Global;
-use std::test::Fail;
+use std::process::Abort;
 
 /// A delta reaches another node, which then shows what the first does.
 const SCRIPT: &str = r#"nodes 2
@@ -25,23 +24,32 @@ no node
 no message
 "#;
 
-/// What is printed for a script.
-fn replayed(alloc: Global, script: &[u8]) -> Result<String, Fail> {
-    let mut writer = Vec::new(alloc);
-    replay(alloc, &mut &*script, &mut writer)?;
-    Ok(String::from_utf8(writer)?)
+/// Fails where other than this comes of a script, or other bytes are printed.
+fn replays(
+    rt: &impl Abort,
+    alloc: Global,
+    mut script: FewBytes<'_>,
+    room: Room,
+    (want, printed): (Result<(), Fault>, &str),
+) {
+    let mut writer = FewWrites::new(alloc, room);
+    let result = replay(alloc, &mut script, &mut writer);
+    assert!(rt; result == want, "{result:?} in place of {want:?}");
+    assert!(rt; writer.has(printed.as_bytes()), "{printed}");
+}
+
+/// Fails where other lines are printed for the script.
+fn prints(rt: &impl Abort, alloc: Global, script: &str, lines: &str) {
+    let script = FewBytes::new(script.as_bytes(), 64, false);
+    replays(rt, alloc, script, AMPLE, (Ok(()), lines));
 }
 
 /// Tries: lw_print::outcome_line, replay
 #[test]
-fn a_script_prints_its_lines(rt: HostRuntime) -> Result<(), Fail> {
-    let Some(front) = SCRIPT.strip_suffix('\n') else {
-        return Err(Fail::from("no line feed"));
-    };
-    for script in [SCRIPT, front] {
-        same(replayed(rt.alloc(), script.as_bytes())?.as_str(), LINES)?;
-    }
-    Ok(())
+fn a_script_prints_its_lines(rt: HostRuntime) {
+    let front = SCRIPT.strip_suffix('\n').expect(&rt, "a line feed");
+    prints(&rt, rt.alloc(), SCRIPT, LINES);
+    prints(&rt, rt.alloc(), front, LINES);
 }
 
 /// A Register with the attribute `x`, and Updates of it at two nodes, which then show the same.
@@ -75,9 +83,8 @@ joined 1
 
 /// Tries: replay
 #[test]
-fn attributes_of_two_nodes(rt: HostRuntime) -> Result<(), Fail> {
-    let lines = replayed(rt.alloc(), ATTRIBUTES.as_bytes())?;
-    same(lines.as_str(), ATTRIBUTES_LINES)
+fn attributes_of_two_nodes(rt: HostRuntime) {
+    prints(&rt, rt.alloc(), ATTRIBUTES, ATTRIBUTES_LINES);
 }
 
 /// What has expired at one node is swept, and an Update at the other, which came before that, brings it back until it
@@ -132,20 +139,18 @@ no node
 
 /// Tries: lw_print::outcome_line
 #[test]
-fn what_is_swept_at_one_node_is_updated_at_another(rt: HostRuntime) -> Result<(), Fail> {
-    let lines = replayed(rt.alloc(), SWEPT.as_bytes())?;
-    same(lines.as_str(), SWEPT_LINES)
+fn what_is_swept_at_one_node_is_updated_at_another(rt: HostRuntime) {
+    prints(&rt, rt.alloc(), SWEPT, SWEPT_LINES);
 }
 
-/// What comes of a script, and how many bytes are printed.
-fn outcome(alloc: Global, mut script: FewBytes<'_>) -> (Result<(), Fault>, usize) {
-    let mut writer = Vec::new(alloc);
-    let result = replay(alloc, &mut script, &mut writer);
-    (result, writer.len())
+/// Fails where the script, of which five bytes come at a time, does not end so, with nothing printed.
+fn stops(rt: &impl Abort, alloc: Global, script: &[u8], fault: Fault) {
+    let script = FewBytes::new(script, 5, false);
+    replays(rt, alloc, script, AMPLE, (Err(fault), ""));
 }
 
 /// Scripts, and the line that is refused.
-const REFUSED: [(&[u8], usize); 11] = [
+static REFUSED: [(&[u8], usize); 11] = [
     (b"", 1),
     (b"\n", 1),
     (b"nodes 17\n", 1),
@@ -161,116 +166,70 @@ const REFUSED: [(&[u8], usize); 11] = [
 
 /// Tries: replay
 #[test]
-fn refused_scripts(rt: HostRuntime) -> Result<(), Fail> {
-    for &(script, line) in &REFUSED {
-        holds_for(
-            &script,
-            outcome(rt.alloc(), FewBytes::new(script, 5, false))
-                == (Err(Fault::LineRefused { line }), 0),
-        )?;
+fn refused_scripts(rt: HostRuntime) {
+    for (script, line) in &REFUSED {
+        let line = *line;
+        stops(&rt, rt.alloc(), script, Fault::LineRefused { line });
     }
-    Ok(())
 }
 
 /// A script of so many bytes, with one event, whose endpoint is long.
-fn long_script(alloc: Global, length: usize) -> Result<Vec<u8>, Fail> {
-    let mut script = b"nodes 1\nendpoint 1 0 ".to_vec(alloc)?;
+fn long_script(rt: &impl Abort, alloc: Global, length: usize) -> Vec<u8> {
+    let mut script = b"nodes 1\nendpoint 1 0 ".to_vec(alloc).expect(rt, "memory");
     for _byte in script.len()..length {
-        script.push(b'a')?;
+        script.push(b'a').expect(rt, "memory");
     }
-    Ok(script)
-}
-
-/// What is printed for a script of so many bytes.
-fn replayed_long(alloc: Global, length: usize) -> Result<String, Fail> {
-    let script = long_script(alloc, length)?;
-    replayed(alloc, &script)
-}
-
-/// What comes of a script of so many bytes, and how many bytes are printed.
-fn outcome_of_long(alloc: Global, length: usize) -> Result<(Result<(), Fault>, usize), Fail> {
-    let script = long_script(alloc, length)?;
-    Ok(outcome(alloc, FewBytes::new(&script, 5, false)))
-}
-
-/// What comes of so many empty lines, and how many bytes are printed.
-fn outcome_of_blanks(alloc: Global, count: usize) -> Result<(Result<(), Fault>, usize), Fail> {
-    let blanks = vec![in alloc; b'\n'; count]?;
-    Ok(outcome(alloc, FewBytes::new(&blanks, 5, false)))
+    script
 }
 
 /// Tries: replay, read_all
 #[test]
-fn the_longest_script(rt: HostRuntime) -> Result<(), Fail> {
-    let (too_long, refused) = (Err(Fault::TooLong), Err(Fault::LineRefused { line: 1 }));
-    same(replayed_long(rt.alloc(), 1_048_576)?.as_str(), "none\n")?;
-    holds(
-        "the longest script",
-        outcome_of_long(rt.alloc(), 1_048_577)? == (too_long, 0),
-    )?;
-    holds(
-        "the longest script",
-        outcome_of_blanks(rt.alloc(), 1_048_577)? == (too_long, 0),
-    )?;
-    holds(
-        "the longest script",
-        outcome_of_blanks(rt.alloc(), 1_048_576)? == (refused, 0),
-    )
+fn the_longest_script(rt: HostRuntime) {
+    let alloc = rt.alloc();
+    let long = long_script(&rt, alloc, 1_048_576);
+    let script = FewBytes::new(&long, 4096, false);
+    replays(&rt, alloc, script, AMPLE, (Ok(()), "none\n"));
+    let longer = long_script(&rt, alloc, 1_048_577);
+    stops(&rt, alloc, &longer, Fault::TooLong);
+    let blanks = vec![in alloc; b'\n'; 1_048_577].expect(&rt, "memory");
+    stops(&rt, alloc, &blanks, Fault::TooLong);
+    let fewer = blanks.get(1..).expect(&rt, "blanks");
+    stops(&rt, alloc, fewer, Fault::LineRefused { line: 1 });
 }
 
 /// Tries: replay
 #[test]
-fn a_reader_that_fails_after_any_byte(rt: HostRuntime) -> Result<(), Fail> {
+fn a_reader_that_fails_after_any_byte(rt: HostRuntime) {
     let script = SCRIPT.as_bytes();
     for count in 0..=script.len() {
-        let reader = FewBytes::new(&script[..count], 7, true);
-        holds(
-            "a reader that fails after any byte",
-            outcome(rt.alloc(), reader) == (Err(Fault::ReadFailed), 0),
-        )?;
+        let front = script.get(..count).expect(&rt, "a front");
+        let reader = FewBytes::new(front, 7, true);
+        let failed = (Err(Fault::ReadFailed), "");
+        replays(&rt, rt.alloc(), reader, AMPLE, failed);
     }
-    Ok(())
 }
 
-/// What comes of a script, and whether a writer of so much room, which takes a few bytes at a time, has the front of
-/// what is printed.
-fn written(
-    alloc: Global,
-    most: usize,
-    room: usize,
-    fails: bool,
-    flush_fails: bool,
-) -> (Result<(), Fault>, bool) {
-    let mut writer = FewWrites::new(alloc, most, room, fails);
-    writer.flush_fails = flush_fails;
-    let result = replay(alloc, &mut SCRIPT.as_bytes(), &mut writer);
-    (
-        result,
-        writer.has_front(LINES.as_bytes(), room.min(LINES.len())),
-    )
+/// Fails where the script ends in another way with such a writer, which takes the front for which there is room.
+fn writes(rt: &impl Abort, alloc: Global, room: Room, want: Result<(), Fault>) {
+    let front = LINES.get(..room.1.min(LINES.len())).expect(rt, "a front");
+    let script = FewBytes::new(SCRIPT.as_bytes(), 64, false);
+    replays(rt, alloc, script, room, (want, front));
 }
 
 /// Tries: replay
 #[test]
-fn a_writer_that_fails_after_any_byte(rt: HostRuntime) -> Result<(), Fail> {
-    let failed = (Err(Fault::WriteFailed), true);
-    for room in 0..LINES.len() {
-        holds_for(&room, written(rt.alloc(), 1, room, false, false) == failed)?;
-        holds_for(&room, written(rt.alloc(), 64, room, true, false) == failed)?;
-    }
-    Ok(())
-}
-
-/// Tries: replay
-#[test]
-fn a_writer_that_takes_a_byte_at_a_time(rt: HostRuntime) -> Result<(), Fail> {
+fn a_writer_that_fails_after_any_byte(rt: HostRuntime) {
     let failed = Err(Fault::WriteFailed);
-    holds(
-        "a writer that takes a byte at a time",
-        written(rt.alloc(), 1, 9999, false, false) == (Ok(()), true),
-    )?;
-    holds(
-        "a writer that takes a byte at a time",
-        written(rt.alloc(), 1, 9999, false, true) == (failed, true),
-    )
+    for room in 0..LINES.len() {
+        writes(&rt, rt.alloc(), (1, room, false, false), failed);
+        writes(&rt, rt.alloc(), (64, room, true, false), failed);
+    }
+}
+
+/// Tries: replay
+#[test]
+fn a_writer_that_takes_a_byte_at_a_time(rt: HostRuntime) {
+    let failed = Err(Fault::WriteFailed);
+    writes(&rt, rt.alloc(), (1, 9999, false, false), Ok(()));
+    writes(&rt, rt.alloc(), (1, 9999, false, true), failed);
 }

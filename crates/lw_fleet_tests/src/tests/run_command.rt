@@ -1,174 +1,350 @@
 //! What the command line gives to `run`.
 
-use super::command_line::{asked, printed};
-use crate::hold::{holds_for, same};
+use super::command_line::{asked, shows};
 use lw_fleet::{HttpOptions, Keeps, LogLevel, RedisOptions, Request, RunOptions};
 use std::alloc::Global;
 use std::net::{IpAddr, Ipv4Addr, Ipv6Addr, SocketAddr, SocketAddrV6};
-use std::test::Fail;
+use std::process::Abort;
 
-/// What the words give to `run`.
-fn given_to_run<'a>(alloc: Global, words: &'a [&'a str]) -> Result<RunOptions<'a>, Fail> {
-    match asked(alloc, words)? {
-        Request::Run(options) => Ok(options),
-        _ => Err(Fail::from("it is another command")),
+/// An IP address, by its bytes or its groups.
+#[derive(Clone, Copy)]
+enum Host {
+    V4([u8; 4]),
+    V6([u16; 8]),
+}
+
+/// What is served over HTTP: the address, the port and the scope, the path of the token's file, the name, whether
+/// commands are taken, and the path of the page's file.
+#[derive(Clone, Copy)]
+struct Http {
+    host: Host,
+    port: u16,
+    scope: u32,
+    token_file: Option<&'static str>,
+    name: Option<&'static str>,
+    commands: bool,
+    page_file: Option<&'static str>,
+}
+
+/// Words, and what they give to `run`.
+#[derive(Clone, Copy)]
+struct Given {
+    words: &'static [&'static str],
+    bind: Host,
+    port: u16,
+    level: LogLevel,
+    keeps: Keeps<'static>,
+    http: Option<Http>,
+}
+
+/// What is given where nothing is said.
+const GIVEN: Given = Given {
+    words: &["fleet", "run"],
+    bind: Host::V4([127, 0, 0, 1]),
+    port: 5683,
+    level: LogLevel::Info,
+    keeps: Keeps::Folder("fleet-data"),
+    http: None,
+};
+
+const REDIS: RedisOptions<'static> = RedisOptions {
+    host: "127.0.0.1",
+    port: 6379,
+    login_file: None,
+    stream: "fleet",
+    skew: 10,
+};
+
+const HTTP: Http = Http {
+    host: Host::V4([127, 0, 0, 1]),
+    port: 8080,
+    scope: 0,
+    token_file: None,
+    name: None,
+    commands: false,
+    page_file: None,
+};
+
+fn address_of(host: Host) -> IpAddr {
+    match host {
+        Host::V4([a, b, c, d]) => IpAddr::V4(Ipv4Addr::new(a, b, c, d)),
+        Host::V6(groups) => IpAddr::V6(Ipv6Addr::from_segments(groups)),
     }
 }
 
-/// The port, the level, and where what is registered is kept.
-type Given = (u16, LogLevel, Keeps<'static>);
+impl Http {
+    fn address(&self) -> SocketAddr {
+        match address_of(self.host) {
+            IpAddr::V6(host) => {
+                SocketAddr::V6(SocketAddrV6::new(host, self.port, 0, self.scope))
+            }
+            host => SocketAddr::new(host, self.port),
+        }
+    }
 
-const FOLDER: Keeps<'static> = Keeps::Folder("fleet-data");
+    fn options(&self) -> HttpOptions<'static> {
+        HttpOptions {
+            address: self.address(),
+            token_file: self.token_file,
+            host: self.name,
+            commands: self.commands,
+            page_file: self.page_file,
+        }
+    }
+}
 
-/// Words, and what they give to `run` beside the address 127.0.0.1.
-const GIVEN: [(&[&str], Given); 10] = [
-    (&["fleet", "run"], (5683, LogLevel::Info, FOLDER)),
-    (
-        &["fleet", "run", "--port", "0"],
-        (0, LogLevel::Info, FOLDER),
-    ),
-    (
-        &["fleet", "run", "--port=65535"],
-        (65535, LogLevel::Info, FOLDER),
-    ),
-    (
-        &["fleet", "run", "--log", "off"],
-        (5683, LogLevel::Off, FOLDER),
-    ),
-    (
-        &["fleet", "run", "--log", "error"],
-        (5683, LogLevel::Error, FOLDER),
-    ),
-    (
-        &["fleet", "run", "--log=warn"],
-        (5683, LogLevel::Warn, FOLDER),
-    ),
-    (
-        &["fleet", "run", "--log=info"],
-        (5683, LogLevel::Info, FOLDER),
-    ),
-    (
-        &["fleet", "run", "--memory"],
-        (5683, LogLevel::Info, Keeps::Nothing),
-    ),
-    (
-        &["fleet", "run", "--data", "/var/lib/fleet"],
-        (5683, LogLevel::Info, Keeps::Folder("/var/lib/fleet")),
-    ),
-    (
-        &["fleet", "run", "--memory", "--log=debug", "--port=007"],
-        (7, LogLevel::Debug, Keeps::Nothing),
-    ),
+/// Fails where the words give something else to `run`.
+fn gives(rt: &impl Abort, alloc: Global, given: &Given) {
+    let want = RunOptions {
+        bind: address_of(given.bind),
+        port: given.port,
+        level: given.level,
+        keeps: given.keeps,
+        http: match &given.http {
+            Some(http) => Some(http.options()),
+            None => None,
+        },
+    };
+    let request = asked(rt, alloc, given.words);
+    assert!(rt; request == Request::Run(want), "{request:?}");
+}
+
+/// Words that give something to `run` beside the address 127.0.0.1.
+static RUN: [Given; 10] = [
+    Given {
+        words: &["fleet", "run"],
+        ..GIVEN
+    },
+    Given {
+        words: &["fleet", "run", "--port", "0"],
+        port: 0,
+        ..GIVEN
+    },
+    Given {
+        words: &["fleet", "run", "--port=65535"],
+        port: 65535,
+        ..GIVEN
+    },
+    Given {
+        words: &["fleet", "run", "--log", "off"],
+        level: LogLevel::Off,
+        ..GIVEN
+    },
+    Given {
+        words: &["fleet", "run", "--log", "error"],
+        level: LogLevel::Error,
+        ..GIVEN
+    },
+    Given {
+        words: &["fleet", "run", "--log=warn"],
+        level: LogLevel::Warn,
+        ..GIVEN
+    },
+    Given {
+        words: &["fleet", "run", "--log=info"],
+        ..GIVEN
+    },
+    Given {
+        words: &["fleet", "run", "--memory"],
+        keeps: Keeps::Nothing,
+        ..GIVEN
+    },
+    Given {
+        words: &["fleet", "run", "--data", "/var/lib/fleet"],
+        keeps: Keeps::Folder("/var/lib/fleet"),
+        ..GIVEN
+    },
+    Given {
+        words: &["fleet", "run", "--memory", "--log=debug", "--port=007"],
+        port: 7,
+        level: LogLevel::Debug,
+        keeps: Keeps::Nothing,
+        ..GIVEN
+    },
 ];
 
 /// Tries: read_request
 #[test]
-fn options_to_run(rt: HostRuntime) -> Result<(), Fail> {
-    let bind = IpAddr::V4(Ipv4Addr::new(127, 0, 0, 1));
-    for &(words, (port, level, keeps)) in &GIVEN {
-        let given = RunOptions {
-            bind,
-            port,
-            level,
-            keeps,
-            http: None,
-        };
-        holds_for(&words, given_to_run(rt.alloc(), words)? == given)?;
+fn options_to_run(rt: HostRuntime) {
+    for given in &RUN {
+        gives(&rt, rt.alloc(), given);
     }
-    Ok(())
 }
 
-/// The address that a text gives to `run`.
-fn address_given(alloc: Global, text: &str) -> Result<IpAddr, Fail> {
-    Ok(given_to_run(alloc, &["fleet", "run", "--bind", text])?.bind)
-}
+/// Words that give an address to `run`.
+static BOUND: [Given; 7] = [
+    Given {
+        words: &["fleet", "run", "--bind", "192.0.2.7"],
+        bind: Host::V4([192, 0, 2, 7]),
+        ..GIVEN
+    },
+    Given {
+        words: &["fleet", "run", "--bind", "0.0.0.0"],
+        bind: Host::V4([0, 0, 0, 0]),
+        ..GIVEN
+    },
+    Given {
+        words: &["fleet", "run", "--bind", "255.255.255.255"],
+        bind: Host::V4([255, 255, 255, 255]),
+        ..GIVEN
+    },
+    Given {
+        words: &["fleet", "run", "--bind", "::"],
+        bind: Host::V6([0, 0, 0, 0, 0, 0, 0, 0]),
+        ..GIVEN
+    },
+    Given {
+        words: &["fleet", "run", "--bind", "::1"],
+        bind: Host::V6([0, 0, 0, 0, 0, 0, 0, 1]),
+        ..GIVEN
+    },
+    Given {
+        words: &["fleet", "run", "--bind", "2001:DB8::ff00:42:8329"],
+        bind: Host::V6([0x2001, 0xdb8, 0, 0, 0, 0xff00, 0x42, 0x8329]),
+        ..GIVEN
+    },
+    Given {
+        words: &["fleet", "run", "--bind", "::ffff:192.0.2.7"],
+        bind: Host::V6([0, 0, 0, 0, 0, 0xffff, 0xc000, 0x0207]),
+        ..GIVEN
+    },
+];
 
 /// Tries: read_request
 #[test]
-fn addresses_to_run(rt: HostRuntime) -> Result<(), Fail> {
-    for &(text, bytes) in &[
-        ("192.0.2.7", [192, 0, 2, 7]),
-        ("0.0.0.0", [0, 0, 0, 0]),
-        ("255.255.255.255", [255, 255, 255, 255]),
-    ] {
-        let [a, b, c, d] = bytes;
-        let address = IpAddr::V4(Ipv4Addr::new(a, b, c, d));
-        holds_for(&text, address_given(rt.alloc(), text)? == address)?;
+fn addresses_to_run(rt: HostRuntime) {
+    for given in &BOUND {
+        gives(&rt, rt.alloc(), given);
     }
-    for &(text, groups) in &[
-        ("::", [0, 0, 0, 0, 0, 0, 0, 0]),
-        ("::1", [0, 0, 0, 0, 0, 0, 0, 1]),
-        (
-            "2001:DB8::ff00:42:8329",
-            [0x2001, 0xdb8, 0, 0, 0, 0xff00, 0x42, 0x8329],
-        ),
-        ("::ffff:192.0.2.7", [0, 0, 0, 0, 0, 0xffff, 0xc000, 0x0207]),
-    ] {
-        let address = IpAddr::V6(Ipv6Addr::from_segments(groups));
-        holds_for(&text, address_given(rt.alloc(), text)? == address)?;
-    }
-    Ok(())
 }
 
-/// The host, the port, the path of the login's file, the key of the stream, and the seconds that clocks may differ.
-type Shared = (&'static str, u16, Option<&'static str>, &'static str, u32);
-
-/// Words, and the stream of Redis that they give.
-const SHARED: [(&[&str], Shared); 14] = [
-    (
-        &["fleet", "run", "--redis", "127.0.0.1:6379"],
-        ("127.0.0.1", 6379, None, "fleet", 10),
-    ),
-    (
-        &["fleet", "run", "--redis=[::1]:6379"],
-        ("::1", 6379, None, "fleet", 10),
-    ),
-    (
-        &["fleet", "run", "--redis=redis.example.org:1"],
-        ("redis.example.org", 1, None, "fleet", 10),
-    ),
-    (
-        &["fleet", "run", "--redis=r:65535"],
-        ("r", 65535, None, "fleet", 10),
-    ),
-    (
-        &["fleet", "run", "--redis=r:0006379"],
-        ("r", 6379, None, "fleet", 10),
-    ),
-    (
-        &["fleet", "run", "--redis=[fe80::2%3]:80"],
-        ("fe80::2%3", 80, None, "fleet", 10),
-    ),
-    (
-        &["fleet", "run", "--redis=[redis]:80"],
-        ("redis", 80, None, "fleet", 10),
-    ),
-    (
-        &["fleet", "run", "--redis-login", "l", "--redis=r:1"],
-        ("r", 1, Some("l"), "fleet", 10),
-    ),
-    (
-        &["fleet", "run", "--redis=r:1", "--redis-login= "],
-        ("r", 1, Some(" "), "fleet", 10),
-    ),
-    (
-        &["fleet", "run", "--stream", "{a}:b", "--redis=r:1"],
-        ("r", 1, None, "{a}:b", 10),
-    ),
-    (
-        &["fleet", "run", "--redis=r:1", "--skew", "0"],
-        ("r", 1, None, "fleet", 0),
-    ),
-    (
-        &["fleet", "run", "--skew=3600", "--redis=r:1"],
-        ("r", 1, None, "fleet", 3600),
-    ),
-    (
-        &["fleet", "run", "--redis=r:1", "--skew=0000060"],
-        ("r", 1, None, "fleet", 60),
-    ),
-    (
-        &[
+/// Words that give a stream of Redis.
+static SHARED: [Given; 14] = [
+    Given {
+        words: &["fleet", "run", "--redis", "127.0.0.1:6379"],
+        keeps: Keeps::Redis(RedisOptions {
+            host: "127.0.0.1",
+            port: 6379,
+            ..REDIS
+        }),
+        ..GIVEN
+    },
+    Given {
+        words: &["fleet", "run", "--redis=[::1]:6379"],
+        keeps: Keeps::Redis(RedisOptions {
+            host: "::1",
+            port: 6379,
+            ..REDIS
+        }),
+        ..GIVEN
+    },
+    Given {
+        words: &["fleet", "run", "--redis=redis.example.org:1"],
+        keeps: Keeps::Redis(RedisOptions {
+            host: "redis.example.org",
+            port: 1,
+            ..REDIS
+        }),
+        ..GIVEN
+    },
+    Given {
+        words: &["fleet", "run", "--redis=r:65535"],
+        keeps: Keeps::Redis(RedisOptions {
+            host: "r",
+            port: 65535,
+            ..REDIS
+        }),
+        ..GIVEN
+    },
+    Given {
+        words: &["fleet", "run", "--redis=r:0006379"],
+        keeps: Keeps::Redis(RedisOptions {
+            host: "r",
+            port: 6379,
+            ..REDIS
+        }),
+        ..GIVEN
+    },
+    Given {
+        words: &["fleet", "run", "--redis=[fe80::2%3]:80"],
+        keeps: Keeps::Redis(RedisOptions {
+            host: "fe80::2%3",
+            port: 80,
+            ..REDIS
+        }),
+        ..GIVEN
+    },
+    Given {
+        words: &["fleet", "run", "--redis=[redis]:80"],
+        keeps: Keeps::Redis(RedisOptions {
+            host: "redis",
+            port: 80,
+            ..REDIS
+        }),
+        ..GIVEN
+    },
+    Given {
+        words: &["fleet", "run", "--redis-login", "l", "--redis=r:1"],
+        keeps: Keeps::Redis(RedisOptions {
+            host: "r",
+            port: 1,
+            login_file: Some("l"),
+            ..REDIS
+        }),
+        ..GIVEN
+    },
+    Given {
+        words: &["fleet", "run", "--redis=r:1", "--redis-login= "],
+        keeps: Keeps::Redis(RedisOptions {
+            host: "r",
+            port: 1,
+            login_file: Some(" "),
+            ..REDIS
+        }),
+        ..GIVEN
+    },
+    Given {
+        words: &["fleet", "run", "--stream", "{a}:b", "--redis=r:1"],
+        keeps: Keeps::Redis(RedisOptions {
+            host: "r",
+            port: 1,
+            stream: "{a}:b",
+            ..REDIS
+        }),
+        ..GIVEN
+    },
+    Given {
+        words: &["fleet", "run", "--redis=r:1", "--skew", "0"],
+        keeps: Keeps::Redis(RedisOptions {
+            host: "r",
+            port: 1,
+            skew: 0,
+            ..REDIS
+        }),
+        ..GIVEN
+    },
+    Given {
+        words: &["fleet", "run", "--skew=3600", "--redis=r:1"],
+        keeps: Keeps::Redis(RedisOptions {
+            host: "r",
+            port: 1,
+            skew: 3600,
+            ..REDIS
+        }),
+        ..GIVEN
+    },
+    Given {
+        words: &["fleet", "run", "--redis=r:1", "--skew=0000060"],
+        keeps: Keeps::Redis(RedisOptions {
+            host: "r",
+            port: 1,
+            skew: 60,
+            ..REDIS
+        }),
+        ..GIVEN
+    },
+    Given {
+        words: &[
             "fleet",
             "run",
             "--redis=[2001:db8::7]:6380",
@@ -176,129 +352,154 @@ const SHARED: [(&[&str], Shared); 14] = [
             "--stream=devices",
             "--skew=2",
         ],
-        ("2001:db8::7", 6380, Some("/etc/fleet/login"), "devices", 2),
-    ),
+        keeps: Keeps::Redis(RedisOptions {
+            host: "2001:db8::7",
+            port: 6380,
+            login_file: Some("/etc/fleet/login"),
+            stream: "devices",
+            skew: 2,
+            ..REDIS
+        }),
+        ..GIVEN
+    },
 ];
 
 /// Tries: read_request
 #[test]
-fn redis_to_run(rt: HostRuntime) -> Result<(), Fail> {
-    for &(words, (host, port, login_file, stream, skew)) in &SHARED {
-        let given = RunOptions {
-            bind: IpAddr::V4(Ipv4Addr::new(127, 0, 0, 1)),
-            port: 5683,
-            level: LogLevel::Info,
-            keeps: Keeps::Redis(RedisOptions {
-                host,
-                port,
-                login_file,
-                stream,
-                skew,
-            }),
-            http: None,
-        };
-        holds_for(&words, given_to_run(rt.alloc(), words)? == given)?;
+fn redis_to_run(rt: HostRuntime) {
+    for given in &SHARED {
+        gives(&rt, rt.alloc(), given);
     }
-    Ok(())
 }
 
-/// Tries: read_request
-#[test]
-fn redis_beside_http(rt: HostRuntime) -> Result<(), Fail> {
-    let words = [
+/// Words that give a stream of Redis and an address for HTTP.
+static SHARED_AND_SERVED: Given = Given {
+    words: &[
         "fleet",
         "run",
         "--http=127.0.0.1:8080",
         "--redis=127.0.0.1:6379",
-    ];
-    let given = given_to_run(rt.alloc(), &words)?;
-    let shares = Keeps::Redis(RedisOptions {
-        host: "127.0.0.1",
-        port: 6379,
-        login_file: None,
-        stream: "fleet",
-        skew: 10,
-    });
-    let is_served = given.http.map(|http| http.address.port()) == Some(8080);
-    holds_for(&words, is_served && given.keeps == shares)
+    ],
+    keeps: Keeps::Redis(REDIS),
+    http: Some(HTTP),
+    ..GIVEN
+};
+
+/// Tries: read_request
+#[test]
+fn redis_beside_http(rt: HostRuntime) {
+    gives(&rt, rt.alloc(), &SHARED_AND_SERVED);
 }
 
-/// What the words give to `run` for HTTP.
-fn http_given<'a>(alloc: Global, words: &'a [&'a str]) -> Result<Option<HttpOptions<'a>>, Fail> {
-    Ok(given_to_run(alloc, words)?.http)
-}
-
-/// The bytes of an IPv4 address, the port, the path of the token's file, the name, whether commands are taken, and the
-/// path of the page's file.
-type ServedV4 = (
-    [u8; 4],
-    u16,
-    Option<&'static str>,
-    Option<&'static str>,
-    bool,
-    Option<&'static str>,
-);
-
-/// Words, and what they have served over HTTP at an IPv4 address.
-const SERVED: [(&[&str], ServedV4); 14] = [
-    (
-        &["fleet", "run", "--http", "127.0.0.1:8080"],
-        ([127, 0, 0, 1], 8080, None, None, false, None),
-    ),
-    (
-        &["fleet", "run", "--http=127.0.0.0:0"],
-        ([127, 0, 0, 0], 0, None, None, false, None),
-    ),
-    (
-        &["fleet", "run", "--http=127.255.255.255:65535"],
-        ([127, 255, 255, 255], 65535, None, None, false, None),
-    ),
-    (
-        &["fleet", "run", "--memory", "--http=127.0.0.1:0080"],
-        ([127, 0, 0, 1], 80, None, None, false, None),
-    ),
-    (
-        &[
+/// Words that have something served over HTTP at an IPv4 address.
+static SERVED: [Given; 14] = [
+    Given {
+        words: &["fleet", "run", "--http", "127.0.0.1:8080"],
+        http: Some(Http { port: 8080, ..HTTP }),
+        ..GIVEN
+    },
+    Given {
+        words: &["fleet", "run", "--http=127.0.0.0:0"],
+        http: Some(Http {
+            host: Host::V4([127, 0, 0, 0]),
+            port: 0,
+            ..HTTP
+        }),
+        ..GIVEN
+    },
+    Given {
+        words: &["fleet", "run", "--http=127.255.255.255:65535"],
+        http: Some(Http {
+            host: Host::V4([127, 255, 255, 255]),
+            port: 65535,
+            ..HTTP
+        }),
+        ..GIVEN
+    },
+    Given {
+        words: &["fleet", "run", "--memory", "--http=127.0.0.1:0080"],
+        keeps: Keeps::Nothing,
+        http: Some(Http { port: 80, ..HTTP }),
+        ..GIVEN
+    },
+    Given {
+        words: &[
             "fleet",
             "run",
             "--http-token-file",
             "t",
             "--http=127.0.0.1:1",
         ],
-        ([127, 0, 0, 1], 1, Some("t"), None, false, None),
-    ),
-    (
-        &[
+        http: Some(Http {
+            port: 1,
+            token_file: Some("t"),
+            ..HTTP
+        }),
+        ..GIVEN
+    },
+    Given {
+        words: &[
             "fleet",
             "run",
             "--http=127.0.0.1:1",
             "--http-host",
             "example",
         ],
-        ([127, 0, 0, 1], 1, None, Some("example"), false, None),
-    ),
-    (
-        &["fleet", "run", "--page", "p", "--http=127.0.0.1:1"],
-        ([127, 0, 0, 1], 1, None, None, false, Some("p")),
-    ),
-    (
-        &["fleet", "run", "--http=127.0.0.1:1", "--page= "],
-        ([127, 0, 0, 1], 1, None, None, false, Some(" ")),
-    ),
-    (
-        &["fleet", "run", "--http=0.0.0.0:80", "--http-token-file= "],
-        ([0, 0, 0, 0], 80, Some(" "), None, false, None),
-    ),
-    (
-        &["fleet", "run", "--http=127.0.0.1:1", "--http-commands"],
-        ([127, 0, 0, 1], 1, None, None, true, None),
-    ),
-    (
-        &["fleet", "run", "--http-commands", "--http=127.0.0.1:1"],
-        ([127, 0, 0, 1], 1, None, None, true, None),
-    ),
-    (
-        &[
+        http: Some(Http {
+            port: 1,
+            name: Some("example"),
+            ..HTTP
+        }),
+        ..GIVEN
+    },
+    Given {
+        words: &["fleet", "run", "--page", "p", "--http=127.0.0.1:1"],
+        http: Some(Http {
+            port: 1,
+            page_file: Some("p"),
+            ..HTTP
+        }),
+        ..GIVEN
+    },
+    Given {
+        words: &["fleet", "run", "--http=127.0.0.1:1", "--page= "],
+        http: Some(Http {
+            port: 1,
+            page_file: Some(" "),
+            ..HTTP
+        }),
+        ..GIVEN
+    },
+    Given {
+        words: &["fleet", "run", "--http=0.0.0.0:80", "--http-token-file= "],
+        http: Some(Http {
+            host: Host::V4([0, 0, 0, 0]),
+            port: 80,
+            token_file: Some(" "),
+            ..HTTP
+        }),
+        ..GIVEN
+    },
+    Given {
+        words: &["fleet", "run", "--http=127.0.0.1:1", "--http-commands"],
+        http: Some(Http {
+            port: 1,
+            commands: true,
+            ..HTTP
+        }),
+        ..GIVEN
+    },
+    Given {
+        words: &["fleet", "run", "--http-commands", "--http=127.0.0.1:1"],
+        http: Some(Http {
+            port: 1,
+            commands: true,
+            ..HTTP
+        }),
+        ..GIVEN
+    },
+    Given {
+        words: &[
             "fleet",
             "run",
             "--page=p",
@@ -306,10 +507,17 @@ const SERVED: [(&[&str], ServedV4); 14] = [
             "--memory",
             "--http=127.0.0.1:1",
         ],
-        ([127, 0, 0, 1], 1, None, None, true, Some("p")),
-    ),
-    (
-        &[
+        keeps: Keeps::Nothing,
+        http: Some(Http {
+            port: 1,
+            commands: true,
+            page_file: Some("p"),
+            ..HTTP
+        }),
+        ..GIVEN
+    },
+    Given {
+        words: &[
             "fleet",
             "run",
             "--http=192.0.2.7:443",
@@ -317,17 +525,18 @@ const SERVED: [(&[&str], ServedV4); 14] = [
             "--http-host=fleet.example.org",
             "--page=/usr/share/fleet/index.html",
         ],
-        (
-            [192, 0, 2, 7],
-            443,
-            Some("/etc/fleet/token"),
-            Some("fleet.example.org"),
-            false,
-            Some("/usr/share/fleet/index.html"),
-        ),
-    ),
-    (
-        &[
+        http: Some(Http {
+            host: Host::V4([192, 0, 2, 7]),
+            port: 443,
+            token_file: Some("/etc/fleet/token"),
+            name: Some("fleet.example.org"),
+            page_file: Some("/usr/share/fleet/index.html"),
+            ..HTTP
+        }),
+        ..GIVEN
+    },
+    Given {
+        words: &[
             "fleet",
             "run",
             "--http-commands",
@@ -336,82 +545,115 @@ const SERVED: [(&[&str], ServedV4); 14] = [
             "--http-host=fleet.example.org",
             "--page=/usr/share/fleet/index.html",
         ],
-        (
-            [192, 0, 2, 7],
-            443,
-            Some("/etc/fleet/token"),
-            Some("fleet.example.org"),
-            true,
-            Some("/usr/share/fleet/index.html"),
-        ),
-    ),
+        http: Some(Http {
+            host: Host::V4([192, 0, 2, 7]),
+            port: 443,
+            token_file: Some("/etc/fleet/token"),
+            name: Some("fleet.example.org"),
+            commands: true,
+            page_file: Some("/usr/share/fleet/index.html"),
+            ..HTTP
+        }),
+        ..GIVEN
+    },
 ];
 
 /// Tries: read_request
 #[test]
-fn http_to_run(rt: HostRuntime) -> Result<(), Fail> {
-    for &(words, (bytes, port, token_file, host, commands, page_file)) in &SERVED {
-        let [a, b, c, d] = bytes;
-        let served = HttpOptions {
-            address: SocketAddr::new(IpAddr::V4(Ipv4Addr::new(a, b, c, d)), port),
-            token_file,
-            host,
-            commands,
-            page_file,
-        };
-        holds_for(&words, http_given(rt.alloc(), words)? == Some(served))?;
+fn http_to_run(rt: HostRuntime) {
+    for given in &SERVED {
+        gives(&rt, rt.alloc(), given);
     }
-    Ok(())
 }
 
-/// The address that a text gives to `run` for HTTP, beside a token.
-fn http_address_given(alloc: Global, text: &str) -> Result<Option<SocketAddr>, Fail> {
-    let words = ["fleet", "run", "--http-token-file=t", "--http", text];
-    Ok(http_given(alloc, &words)?.map(|served| served.address))
-}
-
-/// Tries: read_request
-#[test]
-fn ipv6_addresses_of_http(rt: HostRuntime) -> Result<(), Fail> {
-    for &(text, groups, port, scope) in &[
-        ("[::1]:8080", [0, 0, 0, 0, 0, 0, 0, 1], 8080, 0),
-        ("[::]:1", [0, 0, 0, 0, 0, 0, 0, 0], 1, 0),
-        (
+/// Words that have something served over HTTP at an IPv6 address, beside a token.
+static SERVED_V6: [Given; 4] = [
+    Given {
+        words: &[
+            "fleet",
+            "run",
+            "--http-token-file=t",
+            "--http",
+            "[::1]:8080",
+        ],
+        http: Some(Http {
+            host: Host::V6([0, 0, 0, 0, 0, 0, 0, 1]),
+            port: 8080,
+            token_file: Some("t"),
+            ..HTTP
+        }),
+        ..GIVEN
+    },
+    Given {
+        words: &["fleet", "run", "--http-token-file=t", "--http", "[::]:1"],
+        http: Some(Http {
+            host: Host::V6([0, 0, 0, 0, 0, 0, 0, 0]),
+            port: 1,
+            token_file: Some("t"),
+            ..HTTP
+        }),
+        ..GIVEN
+    },
+    Given {
+        words: &[
+            "fleet",
+            "run",
+            "--http-token-file=t",
+            "--http",
             "[2001:DB8::7]:443",
-            [0x2001, 0xdb8, 0, 0, 0, 0, 0, 7],
-            443,
-            0,
-        ),
-        ("[fe80::2%3]:80", [0xfe80, 0, 0, 0, 0, 0, 0, 2], 80, 3),
-    ] {
-        let host = Ipv6Addr::from_segments(groups);
-        let address = SocketAddr::V6(SocketAddrV6::new(host, port, 0, scope));
-        holds_for(
-            &text,
-            http_address_given(rt.alloc(), text)? == Some(address),
-        )?;
-    }
-    Ok(())
-}
+        ],
+        http: Some(Http {
+            host: Host::V6([0x2001, 0xdb8, 0, 0, 0, 0, 0, 7]),
+            port: 443,
+            token_file: Some("t"),
+            ..HTTP
+        }),
+        ..GIVEN
+    },
+    Given {
+        words: &[
+            "fleet",
+            "run",
+            "--http-token-file=t",
+            "--http",
+            "[fe80::2%3]:80",
+        ],
+        http: Some(Http {
+            host: Host::V6([0xfe80, 0, 0, 0, 0, 0, 0, 2]),
+            port: 80,
+            scope: 3,
+            token_file: Some("t"),
+            ..HTTP
+        }),
+        ..GIVEN
+    },
+];
 
 /// Tries: read_request
 #[test]
-fn the_loopback_of_ipv6_without_a_token(rt: HostRuntime) -> Result<(), Fail> {
-    let served = HttpOptions {
-        address: SocketAddr::new(
-            IpAddr::V6(Ipv6Addr::from_segments([0, 0, 0, 0, 0, 0, 0, 1])),
-            8080,
-        ),
-        token_file: None,
-        host: None,
-        commands: false,
-        page_file: None,
-    };
-    let words = ["fleet", "run", "--http", "[::1]:8080"];
-    holds_for(&words, http_given(rt.alloc(), &words)? == Some(served))
+fn ipv6_addresses_of_http(rt: HostRuntime) {
+    for given in &SERVED_V6 {
+        gives(&rt, rt.alloc(), given);
+    }
 }
 
-const RUN_HELP: &str = "0 \
+/// Words that have something served over HTTP at the loopback of IPv6.
+static LOOPBACK_V6: Given = Given {
+    words: &["fleet", "run", "--http", "[::1]:8080"],
+    http: Some(Http {
+        host: Host::V6([0, 0, 0, 0, 0, 0, 0, 1]),
+        ..HTTP
+    }),
+    ..GIVEN
+};
+
+/// Tries: read_request
+#[test]
+fn the_loopback_of_ipv6_without_a_token(rt: HostRuntime) {
+    gives(&rt, rt.alloc(), &LOOPBACK_V6);
+}
+
+const RUN_HELP: &str = "\
 Serves devices over UDP until it is killed, and keeps what is registered
 
 Usage: fleet run [OPTIONS]
@@ -432,14 +674,12 @@ Options:
       --http-commands           Takes POST and DELETE: observations are made and ended
       --page <FILE>             File that is served as the page at /
   -h, --help                    Print help
-|";
+";
 
 /// Tries: read_request, program
 #[test]
-fn help_of_run(rt: HostRuntime) -> Result<(), Fail> {
+fn help_of_run(rt: HostRuntime) {
     for words in [["fleet", "run", "--help"], ["fleet", "help", "run"]] {
-        let text = printed(&rt, rt.alloc(), &words)?;
-        same(text.as_str(), RUN_HELP)?;
+        shows(&rt, rt.alloc(), &words, RUN_HELP);
     }
-    Ok(())
 }

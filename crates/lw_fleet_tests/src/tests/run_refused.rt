@@ -1,8 +1,6 @@
 //! The words of `run` that the command line refuses.
 
-use super::command_line::{BAD_PORT, is_refused};
-use crate::hold::{holds, holds_for};
-use std::test::Fail;
+use super::command_line::{BAD_PORT, refuses};
 
 const RUN: &str = "Usage: fleet run [OPTIONS]\n\n";
 
@@ -51,7 +49,7 @@ const BAD_PAGE: &str = "'--page <FILE>' takes the path of a file, and not an emp
 const NO_TOKEN: &str = "'--http <ADDR>' off the loopback needs '--http-token-file <FILE>'";
 
 /// Words that are refused, and the line. Of several rules the first that fails is told.
-const REFUSED: [(&[&str], &str); 20] = [
+static REFUSED: [(&[&str], &str); 20] = [
     (&["fleet", "run", "--bind", "localhost"], BAD_BIND),
     (&["fleet", "run", "--bind", "127.0.0.1:5683"], BAD_BIND),
     (&["fleet", "run", "--bind", "[::1]"], BAD_BIND),
@@ -95,15 +93,14 @@ const REFUSED: [(&[&str], &str); 20] = [
 
 /// Tries: read_request, program
 #[test]
-fn refused_words_of_run(rt: HostRuntime) -> Result<(), Fail> {
-    for &(words, line) in &REFUSED {
-        holds_for(&words, is_refused(&rt, rt.alloc(), words, line, RUN)?)?;
+fn refused_words_of_run(rt: HostRuntime) {
+    for (words, line) in &REFUSED {
+        refuses(&rt, rt.alloc(), words, line, RUN);
     }
-    Ok(())
 }
 
 /// Texts of `--redis` that are no host with a port.
-const NO_HOSTS: [&str; 28] = [
+static NO_HOSTS: [&str; 28] = [
     "",
     ":",
     "6379",
@@ -136,16 +133,15 @@ const NO_HOSTS: [&str; 28] = [
 
 /// Tries: read_request, program
 #[test]
-fn refused_hosts_of_redis(rt: HostRuntime) -> Result<(), Fail> {
-    for &text in &NO_HOSTS {
-        let words = ["fleet", "run", "--redis", text];
-        holds(text, is_refused(&rt, rt.alloc(), &words, BAD_REDIS, RUN)?)?;
+fn refused_hosts_of_redis(rt: HostRuntime) {
+    for text in &NO_HOSTS {
+        let words = ["fleet", "run", "--redis", *text];
+        refuses(&rt, rt.alloc(), &words, BAD_REDIS, RUN);
     }
-    Ok(())
 }
 
 /// Texts of `--skew` that are no seconds.
-const NO_SECONDS: [&str; 9] = [
+static NO_SECONDS: [&str; 9] = [
     "",
     "3601",
     "4294967296",
@@ -159,17 +155,16 @@ const NO_SECONDS: [&str; 9] = [
 
 /// Tries: read_request, program
 #[test]
-fn refused_seconds_of_redis(rt: HostRuntime) -> Result<(), Fail> {
-    for &text in &NO_SECONDS {
-        let option = format!(in rt.alloc(); "--skew={text}")?;
+fn refused_seconds_of_redis(rt: HostRuntime) {
+    for text in &NO_SECONDS {
+        let option = format!(in rt.alloc(); "--skew={text}").expect(&rt, "memory");
         let words = ["fleet", "run", "--redis=r:1", option.as_str()];
-        holds(text, is_refused(&rt, rt.alloc(), &words, BAD_SKEW, RUN)?)?;
+        refuses(&rt, rt.alloc(), &words, BAD_SKEW, RUN);
     }
-    Ok(())
 }
 
 /// Words that are refused for what goes with `--redis` or against it, and the line.
-const REFUSED_FOR_REDIS: [(&[&str], &str); 29] = [
+static REFUSED_FOR_REDIS: [(&[&str], &str); 29] = [
     (&["fleet", "run", "--redis=r:1", "--memory"], KEPT_TWICE),
     (&["fleet", "run", "--data=a", "--redis=r:1"], KEPT_TWICE),
     (
@@ -250,15 +245,14 @@ const REFUSED_FOR_REDIS: [(&[&str], &str); 29] = [
 
 /// Tries: read_request, program
 #[test]
-fn refused_words_of_redis(rt: HostRuntime) -> Result<(), Fail> {
-    for &(words, line) in &REFUSED_FOR_REDIS {
-        holds_for(&words, is_refused(&rt, rt.alloc(), words, line, RUN)?)?;
+fn refused_words_of_redis(rt: HostRuntime) {
+    for (words, line) in &REFUSED_FOR_REDIS {
+        refuses(&rt, rt.alloc(), words, line, RUN);
     }
-    Ok(())
 }
 
 /// Texts of `--http` that are no address with a port.
-const NO_ADDRESSES: [&str; 12] = [
+static NO_ADDRESSES: [&str; 12] = [
     "",
     "8080",
     ":8080",
@@ -275,16 +269,15 @@ const NO_ADDRESSES: [&str; 12] = [
 
 /// Tries: read_request, program
 #[test]
-fn refused_addresses_of_http(rt: HostRuntime) -> Result<(), Fail> {
-    for &text in &NO_ADDRESSES {
-        let words = ["fleet", "run", "--http-token-file=t", "--http", text];
-        holds(text, is_refused(&rt, rt.alloc(), &words, BAD_HTTP, RUN)?)?;
+fn refused_addresses_of_http(rt: HostRuntime) {
+    for text in &NO_ADDRESSES {
+        let words = ["fleet", "run", "--http-token-file=t", "--http", *text];
+        refuses(&rt, rt.alloc(), &words, BAD_HTTP, RUN);
     }
-    Ok(())
 }
 
 /// Addresses that are off the loopback.
-const OFF_THE_LOOPBACK: [&str; 8] = [
+static OFF_THE_LOOPBACK: [&str; 8] = [
     "192.0.2.7:80",
     "0.0.0.0:80",
     "126.255.255.255:80",
@@ -297,16 +290,15 @@ const OFF_THE_LOOPBACK: [&str; 8] = [
 
 /// Tries: read_request, program
 #[test]
-fn addresses_of_http_that_need_a_token(rt: HostRuntime) -> Result<(), Fail> {
-    for &text in &OFF_THE_LOOPBACK {
-        let words = ["fleet", "run", "--http-host=h", "--http", text];
-        holds(text, is_refused(&rt, rt.alloc(), &words, NO_TOKEN, RUN)?)?;
+fn addresses_of_http_that_need_a_token(rt: HostRuntime) {
+    for text in &OFF_THE_LOOPBACK {
+        let words = ["fleet", "run", "--http-host=h", "--http", *text];
+        refuses(&rt, rt.alloc(), &words, NO_TOKEN, RUN);
     }
-    Ok(())
 }
 
 /// Words that are refused for what goes with `--http`, behind `fleet run`, and the line.
-const REFUSED_FOR_HTTP: [(&[&str], &str); 32] = [
+static REFUSED_FOR_HTTP: [(&[&str], &str); 32] = [
     (&["fleet", "run", "--http-token-file", "t"], TOKEN_ALONE),
     (&["fleet", "run", "--http-token-file="], TOKEN_ALONE),
     (&["fleet", "run", "--http-host", "h"], HOST_ALONE),
@@ -412,15 +404,14 @@ const REFUSED_FOR_HTTP: [(&[&str], &str); 32] = [
 
 /// Tries: read_request, program
 #[test]
-fn refused_words_of_http(rt: HostRuntime) -> Result<(), Fail> {
-    for &(words, line) in &REFUSED_FOR_HTTP {
-        holds_for(&words, is_refused(&rt, rt.alloc(), words, line, RUN)?)?;
+fn refused_words_of_http(rt: HostRuntime) {
+    for (words, line) in &REFUSED_FOR_HTTP {
+        refuses(&rt, rt.alloc(), words, line, RUN);
     }
-    Ok(())
 }
 
 /// Words that no option takes, the line, and the usage where there is one.
-const STRAY: [(&[&str], &str, &str); 20] = [
+static STRAY: [(&[&str], &str, &str); 20] = [
     (
         &["fleet", "run", "here"],
         "unexpected argument 'here' found",
@@ -531,9 +522,8 @@ const STRAY: [(&[&str], &str, &str); 20] = [
 
 /// Tries: read_request, program
 #[test]
-fn stray_words_of_run(rt: HostRuntime) -> Result<(), Fail> {
-    for &(words, line, usage) in &STRAY {
-        holds_for(&words, is_refused(&rt, rt.alloc(), words, line, usage)?)?;
+fn stray_words_of_run(rt: HostRuntime) {
+    for (words, line, usage) in &STRAY {
+        refuses(&rt, rt.alloc(), words, line, usage);
     }
-    Ok(())
 }

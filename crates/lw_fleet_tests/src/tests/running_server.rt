@@ -1,55 +1,14 @@
 //! What the program does with what its server ends with that runs until it is killed.
 
-use super::program::{Ended, run_on};
-use super::{FewBytes, FewWrites};
-use crate::hold::{holds, holds_for};
-use lw_fleet::{
-    Ending, Keeps, LogLevel, RunOptions, RunningFault, Runs, ServeOptions, Serves, ServingFault,
-};
-use std::alloc::Global;
-use std::io::Write;
+use super::program::{STAGE, Stage, Want, ends};
+use super::telling::{AnyFault, tells_in_part};
+use lw_fleet::{Ending, LogLevel, RunningFault};
 use std::net::{IpAddr, Ipv4Addr};
-use std::sync::Wait;
-use std::test::Fail;
-use std::thread::Threads;
 
 /// What a server was asked to run by: the address, the port, the level, whether it keeps nothing, and the port of HTTP.
-type Asked = (IpAddr, u16, LogLevel, bool, Option<u16>);
+pub(super) type Asked = (IpAddr, u16, LogLevel, bool, Option<u16>);
 
-/// Ends as it is told to.
-#[derive(Drop)]
-struct Server {
-    end: Result<(), RunningFault>,
-    asked: Option<Asked>,
-}
-
-impl Serves for Server {
-    fn serve<R: Threads + Wait + Sync, W: Write>(
-        &mut self,
-        _rt: &R,
-        _options: &ServeOptions,
-        _writer: &mut W,
-    ) -> Result<(), ServingFault> {
-        Err(ServingFault::BindFailed)
-    }
-}
-
-impl Runs for Server {
-    fn run<R: Wait>(&mut self, _rt: &R, options: &RunOptions<'_>) -> Result<(), RunningFault> {
-        let keeps_nothing = options.keeps == Keeps::Nothing;
-        let http_port = options.http.map(|http| http.address.port());
-        self.asked = Some((
-            options.bind,
-            options.port,
-            options.level,
-            keeps_nothing,
-            http_port,
-        ));
-        self.end
-    }
-}
-
-const WORDS: [&str; 7] = [
+static WORDS: [&str; 7] = [
     "fleet",
     "run",
     "--bind=192.0.2.7",
@@ -59,36 +18,32 @@ const WORDS: [&str; 7] = [
     "--http=127.0.0.1:8080",
 ];
 
-/// Runs `fleet run` with a server that ends so, and tells what it was asked.
-fn run_to<R: Threads + Wait + Sync>(
-    rt: &R,
-    alloc: Global,
-    end: Result<(), RunningFault>,
-) -> Result<(Ended, Option<Asked>), Fail> {
-    let words = Ok(WORDS.to_vec(alloc)?);
-    let reader = FewBytes::new(b"4", 1, false);
-    let mut server = Server { end, asked: None };
-    let ended = run_on(rt, alloc, &words, reader, &mut server);
-    Ok((ended, server.asked))
-}
+/// A server that is over, and how the program then ends.
+static OVER: (Stage<'static>, Want<'static>) = (
+    Stage {
+        running: Ok(()),
+        ..STAGE
+    },
+    Want {
+        ending: Ending::Done,
+        status: 0,
+        output: "",
+        errors: "",
+        unread: 1,
+    },
+);
 
 /// Tries: program, Runs::run
 #[test]
-fn a_server_that_is_over(rt: HostRuntime) -> Result<(), Fail> {
-    let (ended, asked) = run_to(&rt, rt.alloc(), Ok(()))?;
-    holds(
-        "a server that is over",
-        ended.ending == Ending::Done && ended.shows(0, "", "", 1),
-    )?;
+fn a_server_that_is_over(rt: HostRuntime) {
+    let server = ends(&rt, rt.alloc(), &WORDS, &OVER.0, &OVER.1);
     let bind = IpAddr::V4(Ipv4Addr::new(192, 0, 2, 7));
-    holds(
-        "a server that is over",
-        asked == Some((bind, 1, LogLevel::Warn, true, Some(8080))),
-    )
+    let want = Some((bind, 1, LogLevel::Warn, true, Some(8080)));
+    assert!(rt; server.asked_to_run == want);
 }
 
 /// Each fault, and its line.
-pub(super) const LINES: [(RunningFault, &str); 19] = [
+pub(super) static LINES: [(RunningFault, &str); 19] = [
     (RunningFault::DataFailed, "data failed\n"),
     (RunningFault::DataInUse, "data in use\n"),
     (RunningFault::DataDamaged, "data damaged\n"),
@@ -110,42 +65,32 @@ pub(super) const LINES: [(RunningFault, &str); 19] = [
     (RunningFault::NoMemory, "no memory\n"),
 ];
 
-/// Whether a server that stops so ends the run with this line alone, as an error, and the input unread.
-fn is_stopped<R: Threads + Wait + Sync>(
-    rt: &R,
-    alloc: Global,
-    fault: RunningFault,
-    line: &str,
-) -> Result<bool, Fail> {
-    let (ended, _asked) = run_to(rt, alloc, Err(fault))?;
-    Ok(ended.ending == Ending::Stopped { fault, told: true } && ended.shows(1, "", line, 1))
-}
-
 /// Tries: program, Runs::run, RunningFault::tell
 #[test]
-fn a_server_that_stops(rt: HostRuntime) -> Result<(), Fail> {
-    for &(fault, line) in &LINES {
-        holds(line, is_stopped(&rt, rt.alloc(), fault, line)?)?;
+fn a_server_that_stops(rt: HostRuntime) {
+    for (fault, line) in &LINES {
+        let stage = Stage {
+            running: Err(*fault),
+            ..STAGE
+        };
+        let want = Want {
+            ending: Ending::Stopped {
+                fault: *fault,
+                told: true,
+            },
+            status: 1,
+            output: "",
+            errors: line,
+            unread: 1,
+        };
+        let _server = ends(&rt, rt.alloc(), &WORDS, &stage, &want);
     }
-    Ok(())
-}
-
-/// Whether a fault is told in part, by the front of its line for which there is room.
-fn is_told_in_part(alloc: Global, fault: RunningFault, line: &str, room: usize) -> bool {
-    let mut errors = FewWrites::new(alloc, 3, room, false);
-    !fault.tell(&mut errors) && errors.has_front(line.as_bytes(), room)
 }
 
 /// Tries: RunningFault::tell
 #[test]
-fn a_running_fault_in_part(rt: HostRuntime) -> Result<(), Fail> {
-    for &(fault, line) in &LINES {
-        for room in 0..line.len() {
-            holds_for(
-                &(line, room),
-                is_told_in_part(rt.alloc(), fault, line, room),
-            )?;
-        }
+fn a_running_fault_in_part(rt: HostRuntime) {
+    for (fault, line) in &LINES {
+        tells_in_part(&rt, rt.alloc(), AnyFault::Running(*fault), line);
     }
-    Ok(())
 }

@@ -1,44 +1,44 @@
-//! What the program does with what its server ends with.
+//! A server that serves and runs as it is told to, and what the program does with what `serve` ends with.
 
-use super::program::{Ended, run_on};
-use super::{FewBytes, FewWrites};
-use crate::hold::{holds, holds_for};
+use super::program::{STAGE, Stage, Want, ends};
+use super::running_server::Asked;
+use super::telling::{AnyFault, tells, tells_in_part};
 use lw_fleet::{
-    Ending, RunOptions, RunningFault, Runs, ServeOptions, Serves, ServingFault, write_text,
+    Ending, Keeps, RunOptions, RunningFault, Runs, ServeOptions, Serves, ServingFault, write_text,
 };
 use lw_serve::{CrewFault, ServeFault};
-use std::alloc::Global;
 use std::io::Write;
 use std::sync::Wait;
-use std::test::Fail;
 use std::thread::Threads;
 
-/// Finds no port.
-#[derive(Drop)]
-pub struct NoServer;
-
-impl Serves for NoServer {
-    fn serve<R: Threads + Wait + Sync, W: Write>(
-        &mut self,
-        _rt: &R,
-        _options: &ServeOptions,
-        _writer: &mut W,
-    ) -> Result<(), ServingFault> {
-        Err(ServingFault::BindFailed)
-    }
+/// How `serve` ends.
+#[derive(Clone, Copy)]
+pub(super) enum Serving {
+    Settles,
+    /// The journals are not what the transcripts say.
+    Unsettled,
+    /// There is no port.
+    Unbound,
 }
 
-impl Runs for NoServer {
-    fn run<R: Wait>(&mut self, _rt: &R, _options: &RunOptions<'_>) -> Result<(), RunningFault> {
-        Err(RunningFault::BindFailed)
-    }
+/// Serves and runs as it is told to, and keeps what it was asked.
+#[derive(Drop)]
+pub(super) struct Server {
+    serving: Serving,
+    running: Result<(), RunningFault>,
+    pub(super) asked_to_serve: Option<ServeOptions>,
+    pub(super) asked_to_run: Option<Asked>,
 }
 
-/// Has served, or finds that the journals are not what the transcripts say.
-#[derive(Drop)]
-struct Server {
-    settles: bool,
-    asked: Option<ServeOptions>,
+impl Server {
+    pub(super) fn new(serving: Serving, running: Result<(), RunningFault>) -> Server {
+        Server {
+            serving,
+            running,
+            asked_to_serve: None,
+            asked_to_run: None,
+        }
+    }
 }
 
 impl Serves for Server {
@@ -48,21 +48,33 @@ impl Serves for Server {
         options: &ServeOptions,
         writer: &mut W,
     ) -> Result<(), ServingFault> {
-        self.asked = Some(*options);
-        if !self.settles {
-            return Err(ServingFault::Run(ServeFault::Unsettled { node: 2, place: 7 }));
+        self.asked_to_serve = Some(*options);
+        match self.serving {
+            Serving::Settles => write_text(writer, b"settled\n").map_err(|_| ServingFault::Run(
+                ServeFault::WriteFailed,
+            )),
+            Serving::Unsettled => {
+                Err(ServingFault::Run(ServeFault::Unsettled { node: 2, place: 7 }))
+            }
+            Serving::Unbound => Err(ServingFault::BindFailed),
         }
-        write_text(writer, b"settled\n").map_err(|_| ServingFault::Run(ServeFault::WriteFailed))
     }
 }
 
 impl Runs for Server {
-    fn run<R: Wait>(&mut self, _rt: &R, _options: &RunOptions<'_>) -> Result<(), RunningFault> {
-        Err(RunningFault::BindFailed)
+    fn run<R: Wait>(&mut self, _rt: &R, options: &RunOptions<'_>) -> Result<(), RunningFault> {
+        self.asked_to_run = Some((
+            options.bind,
+            options.port,
+            options.level,
+            options.keeps == Keeps::Nothing,
+            options.http.map(|http| http.address.port()),
+        ));
+        self.running
     }
 }
 
-const WORDS: [&str; 7] = [
+static WORDS: [&str; 7] = [
     "fleet",
     "serve",
     "--count=9",
@@ -72,70 +84,76 @@ const WORDS: [&str; 7] = [
     "--cut=5",
 ];
 
-/// Runs `fleet serve` with a server.
-fn served<R: Threads + Wait + Sync, V: Serves + Runs>(
-    rt: &R,
-    alloc: Global,
-    server: &mut V,
-) -> Result<Ended, Fail> {
-    let words = Ok(WORDS.to_vec(alloc)?);
-    let reader = FewBytes::new(b"4", 1, false);
-    Ok(run_on(rt, alloc, &words, reader, server))
-}
+/// A server that settles, and how the program then ends.
+static SETTLED: (Stage<'static>, Want<'static>) = (
+    Stage {
+        serving: Serving::Settles,
+        ..STAGE
+    },
+    Want {
+        ending: Ending::Done,
+        status: 0,
+        output: "settled\n",
+        errors: "",
+        unread: 1,
+    },
+);
 
 /// Tries: program, Serves::serve
 #[test]
-fn a_server_that_settles(rt: HostRuntime) -> Result<(), Fail> {
-    let mut server = Server {
-        settles: true,
-        asked: None,
-    };
-    let ended = served(&rt, rt.alloc(), &mut server)?;
-    holds(
-        "a server that settles",
-        ended.ending == Ending::Done && ended.shows(0, "settled\n", "", 1),
-    )?;
-    let ServeOptions { plan, port } = server.asked.ok_or("it was not asked")?;
-    holds(
-        "a server that settles",
-        (plan.count, port, plan.nodes, plan.workers, plan.cut) == (9, 1, 3, 4, Some(5)),
-    )
+fn a_server_that_settles(rt: HostRuntime) {
+    let server = ends(&rt, rt.alloc(), &WORDS, &SETTLED.0, &SETTLED.1);
+    let ServeOptions { plan, port } = server.asked_to_serve.expect(&rt, "it was asked");
+    let asked = (plan.count, port, plan.nodes, plan.workers, plan.cut);
+    assert!(rt; asked == (9, 1, 3, 4, Some(5)), "{asked:?}");
 }
 
-/// How `fleet serve` ends with a server, and whether this line alone is written, as an error.
-fn stopped<R: Threads + Wait + Sync, V: Serves + Runs>(
-    rt: &R,
-    alloc: Global,
-    server: &mut V,
-    line: &str,
-) -> Result<(Ending, bool), Fail> {
-    let ended = served(rt, alloc, server)?;
-    Ok((ended.ending, ended.shows(1, "", line, 1)))
-}
+/// Servers that stop, and how the program then ends.
+static STOPPED: [(Stage<'static>, Want<'static>); 2] = [
+    (
+        Stage {
+            serving: Serving::Unsettled,
+            ..STAGE
+        },
+        Want {
+            ending: Ending::Unserved {
+                fault: ServingFault::Run(ServeFault::Unsettled { node: 2, place: 7 }),
+                told: true,
+            },
+            status: 1,
+            output: "",
+            errors: "unsettled 2 7\n",
+            unread: 1,
+        },
+    ),
+    (
+        Stage {
+            serving: Serving::Unbound,
+            ..STAGE
+        },
+        Want {
+            ending: Ending::Unserved {
+                fault: ServingFault::BindFailed,
+                told: true,
+            },
+            status: 1,
+            output: "",
+            errors: "bind failed\n",
+            unread: 1,
+        },
+    ),
+];
 
 /// Tries: program, Serves::serve
 #[test]
-fn a_server_that_stops(rt: HostRuntime) -> Result<(), Fail> {
-    let mut server = Server {
-        settles: false,
-        asked: None,
-    };
-    let unsettled = Ending::Unserved {
-        fault: ServingFault::Run(ServeFault::Unsettled { node: 2, place: 7 }),
-        told: true,
-    };
-    let ended = stopped(&rt, rt.alloc(), &mut server, "unsettled 2 7\n")?;
-    holds("a server that stops", ended == (unsettled, true))?;
-    let unbound = Ending::Unserved {
-        fault: ServingFault::BindFailed,
-        told: true,
-    };
-    let ended = stopped(&rt, rt.alloc(), &mut NoServer, "bind failed\n")?;
-    holds("a server that stops", ended == (unbound, true))
+fn a_server_that_stops(rt: HostRuntime) {
+    for (stage, want) in &STOPPED {
+        let _server = ends(&rt, rt.alloc(), &WORDS, stage, want);
+    }
 }
 
 /// Each fault, and its line.
-const LINES: [(ServingFault, &str); 10] = [
+pub(super) static LINES: [(ServingFault, &str); 11] = [
     (ServingFault::BindFailed, "bind failed\n"),
     (
         ServingFault::Run(ServeFault::ReceiveFailed),
@@ -162,6 +180,10 @@ const LINES: [(ServingFault, &str); 10] = [
         "crew fault 4\n",
     ),
     (
+        ServingFault::Run(ServeFault::Unsettled { node: 2, place: 7 }),
+        "unsettled 2 7\n",
+    ),
+    (
         ServingFault::Run(ServeFault::Unsettled {
             node: 16,
             place: 18_446_744_073_709_551_615,
@@ -172,29 +194,11 @@ const LINES: [(ServingFault, &str); 10] = [
     (ServingFault::Run(ServeFault::NoMemory), "no memory\n"),
 ];
 
-/// Whether a fault is told by this line.
-fn is_told(alloc: Global, fault: ServingFault, line: &str) -> bool {
-    let mut errors = Vec::new(alloc);
-    fault.tell(&mut errors) && errors.as_slice() == line.as_bytes()
-}
-
-/// Whether a fault is told in part, by the front of its line for which there is room.
-fn is_told_in_part(alloc: Global, fault: ServingFault, line: &str, room: usize) -> bool {
-    let mut errors = FewWrites::new(alloc, 3, room, false);
-    !fault.tell(&mut errors) && errors.has_front(line.as_bytes(), room)
-}
-
 /// Tries: ServingFault::tell, program
 #[test]
-fn lines_of_serving_faults(rt: HostRuntime) -> Result<(), Fail> {
-    for &(fault, line) in &LINES {
-        holds(line, is_told(rt.alloc(), fault, line))?;
-        for room in 0..line.len() {
-            holds_for(
-                &(line, room),
-                is_told_in_part(rt.alloc(), fault, line, room),
-            )?;
-        }
+fn lines_of_serving_faults(rt: HostRuntime) {
+    for (fault, line) in &LINES {
+        tells(&rt, rt.alloc(), AnyFault::Serving(*fault), line);
+        tells_in_part(&rt, rt.alloc(), AnyFault::Serving(*fault), line);
     }
-    Ok(())
 }
