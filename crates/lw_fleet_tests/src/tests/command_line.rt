@@ -150,16 +150,16 @@ fn help_of_serve(rt: HostRuntime) {
 }
 
 /// The count, the port, the nodes, the workers and the rounds before a cut.
-type Given = (u32, u16, u16, u32, Option<u32>);
+pub(super) type GivenToServe = (u32, u16, u16, u32, Option<u32>);
 
 /// What is given to `serve`.
-fn given_to_serve(options: ServeOptions) -> Given {
+pub(super) fn given_to_serve(options: ServeOptions) -> GivenToServe {
     let ServeOptions { plan, port } = options;
     (plan.count, port, plan.nodes, plan.workers, plan.cut)
 }
 
 /// Words, and what they give to `serve`.
-static GIVEN_TO_SERVE: [(&[&str], Given); 4] = [
+static GIVEN_TO_SERVE: [(&[&str], GivenToServe); 4] = [
     (&["fleet", "serve", "--count", "1"], (1, 5683, 2, 2, None)),
     (
         &["fleet", "serve", "--count", "1", "--cut", "1"],

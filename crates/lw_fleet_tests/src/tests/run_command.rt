@@ -67,7 +67,10 @@ const HTTP: Http = Http {
 
 fn address_of(host: Host) -> IpAddr {
     match host {
-        Host::V4([a, b, c, d]) => IpAddr::V4(Ipv4Addr::new(a, b, c, d)),
+        Host::V4(bytes) => {
+            let [a, b, c, d] = bytes;
+            IpAddr::V4(Ipv4Addr::new(a, b, c, d))
+        }
         Host::V6(groups) => IpAddr::V6(Ipv6Addr::from_segments(groups)),
     }
 }

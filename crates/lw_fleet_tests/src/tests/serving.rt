@@ -1,5 +1,6 @@
 //! A server that serves and runs as it is told to, and what the program does with what `serve` ends with.
 
+use super::command_line::{GivenToServe, given_to_serve};
 use super::program::{STAGE, Stage, Want, ends};
 use super::running_server::Asked;
 use super::telling::{AnyFault, tells, tells_in_part};
@@ -26,7 +27,7 @@ pub(super) enum Serving {
 pub(super) struct Server {
     serving: Serving,
     running: Result<(), RunningFault>,
-    pub(super) asked_to_serve: Option<ServeOptions>,
+    pub(super) asked_to_serve: Option<GivenToServe>,
     pub(super) asked_to_run: Option<Asked>,
 }
 
@@ -48,7 +49,7 @@ impl Serves for Server {
         options: &ServeOptions,
         writer: &mut W,
     ) -> Result<(), ServingFault> {
-        self.asked_to_serve = Some(*options);
+        self.asked_to_serve = Some(given_to_serve(*options));
         match self.serving {
             Serving::Settles => write_text(writer, b"settled\n").map_err(|_| ServingFault::Run(
                 ServeFault::WriteFailed,
@@ -103,9 +104,8 @@ static SETTLED: (Stage<'static>, Want<'static>) = (
 #[test]
 fn a_server_that_settles(rt: HostRuntime) {
     let server = ends(&rt, rt.alloc(), &WORDS, &SETTLED.0, &SETTLED.1);
-    let ServeOptions { plan, port } = server.asked_to_serve.expect(&rt, "it was asked");
-    let asked = (plan.count, port, plan.nodes, plan.workers, plan.cut);
-    assert!(rt; asked == (9, 1, 3, 4, Some(5)), "{asked:?}");
+    let asked = server.asked_to_serve;
+    assert!(rt; asked == Some((9, 1, 3, 4, Some(5))), "{asked:?}");
 }
 
 /// Servers that stop, and how the program then ends.
