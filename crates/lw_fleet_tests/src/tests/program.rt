@@ -117,7 +117,7 @@ const OTHER_OPTIONS: &[&str] = &[
     "--from=127.0.0.1:5684",
 ];
 
-/// What a reading or a writing ends with, and is told.
+/// Faults that end a run, all of them told but the last.
 const READ_FAILED: Ending = Ending::Failed {
     fault: Fault::ReadFailed,
     told: true,
@@ -148,14 +148,14 @@ const HEX_REFUSED: Ending = Ending::Failed {
     told: true,
 };
 
-const HEX_UNTOLD: Ending = Ending::Failed {
-    fault: Fault::HexRefused,
-    told: false,
-};
-
 const LINE_REFUSED: Ending = Ending::Failed {
     fault: Fault::LineRefused { line: 1 },
     told: true,
+};
+
+const HEX_UNTOLD: Ending = Ending::Failed {
+    fault: Fault::HexRefused,
+    told: false,
 };
 
 /// Words and an input; how the run ends, its status, both outputs, and how much of the input is left.

@@ -47,6 +47,7 @@ const GIVEN: Given = Given {
     http: None,
 };
 
+/// A stream of Redis of which nothing is said.
 const REDIS: RedisOptions<'static> = RedisOptions {
     host: "127.0.0.1",
     port: 6379,
@@ -55,6 +56,7 @@ const REDIS: RedisOptions<'static> = RedisOptions {
     skew: 10,
 };
 
+/// What is served over HTTP where nothing more is said.
 const HTTP: Http = Http {
     host: Host::V4([127, 0, 0, 1]),
     port: 8080,

@@ -47,7 +47,8 @@ pub(super) fn tells(rt: &impl Abort, alloc: Global, fault: AnyFault, line: &str)
     assert!(rt; errors.has(line.as_bytes()), "{line}");
 }
 
-/// Fails where, with less room than the line has, not the front is told for which there is room, or all is told to be.
+/// Fails where, with less room than the line has, something else is told than the front for which there is room, or
+/// the line is said to be told.
 pub(super) fn tells_in_part(rt: &impl Abort, alloc: Global, fault: AnyFault, line: &str) {
     for room in 0..line.len() {
         let mut errors = FewWrites::new(alloc, (3, room, false, false));
