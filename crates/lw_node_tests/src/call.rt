@@ -63,15 +63,20 @@ fn calls(rt: &impl Abort, alloc: Global) -> Vec<Call> {
     calls
 }
 
+/// A copy of the call is the same as that at its place among the others alone.
+fn is_copied(rt: &impl Abort, alloc: Global, call: &Call, place: usize, others: &[Call]) {
+    let copy = call.copy(alloc).expect(rt, "memory");
+    for (at, other) in others.iter().enumerate() {
+        assert!(rt; copy.same(other) == (place == at), "{place} beside {at}");
+    }
+}
+
 /// Tries: Call::copy, Question::copy, Call::same, Question::same
 #[test]
 fn a_copy_is_the_same_as_its_call_alone(rt: HostRuntime) {
     let (calls, others) = (calls(&rt, rt.alloc()), calls(&rt, rt.alloc()));
     for (place, call) in calls.iter().enumerate() {
-        let copy = call.copy(rt.alloc()).expect(&rt, "memory");
-        for (at, other) in others.iter().enumerate() {
-            assert!(rt; copy.same(other) == (place == at), "{place} beside {at}");
-        }
+        is_copied(&rt, rt.alloc(), call, place, &others);
     }
 }
 
@@ -192,12 +197,21 @@ static GIVEN: [Row<'static>; 32] = [
     ),
 ];
 
+fn given() -> &'static [Row<'static>] {
+    &GIVEN
+}
+
+fn reply_to(rt: &impl Abort, alloc: Global, node: &mut Node, step: &Step<'_>) -> Reply {
+    let call = call_of(rt, alloc, step).expect(rt, "a call");
+    node.act(&call)
+}
+
 fn replies(rt: &impl Abort, alloc: Global) -> Vec<Reply> {
     let mut node = Node::new(alloc, 1);
     let mut replies = Vec::new(alloc);
-    for (step, _) in &GIVEN {
-        let call = call_of(rt, alloc, step).expect(rt, "a call");
-        replies.push(node.act(&call)).expect(rt, "memory");
+    for (step, _) in given() {
+        let reply = reply_to(rt, alloc, &mut node, step);
+        replies.push(reply).expect(rt, "memory");
     }
     replies
 }
@@ -261,14 +275,27 @@ fn replies_differ_where_their_content_does(rt: HostRuntime) {
     }
 }
 
+/// A copy of the reply is the same as that at its place among the others alone, and prints the text.
+fn is_given(
+    rt: &impl Abort,
+    alloc: Global,
+    reply: &Reply,
+    place: usize,
+    others: &[Reply],
+    want: &str,
+) {
+    let copy = copy_of(rt, alloc, reply).expect(rt, "a reply that gives something");
+    is_at_alone(rt, &copy, place, others);
+    let text = text_of(rt, alloc, copy);
+    assert_eq!(rt; text.as_str(), want);
+}
+
 /// Tries: Taken::copy, Outgoing::copy, Sent::copy, Answer::copy, Reply::same
 #[test]
 fn copies_of_what_is_given_are_the_same(rt: HostRuntime) {
     let (replies, others) = (replies(&rt, rt.alloc()), replies(&rt, rt.alloc()));
-    for ((place, reply), (_, want)) in replies.iter().enumerate().zip(&GIVEN) {
-        let copy = copy_of(&rt, rt.alloc(), reply).expect(&rt, "a reply that gives something");
-        is_at_alone(&rt, &copy, place, &others);
-        assert_eq!(rt; text_of(&rt, rt.alloc(), copy).as_str(), *want);
+    for ((place, reply), (_, want)) in replies.iter().enumerate().zip(given()) {
+        is_given(&rt, rt.alloc(), reply, place, &others, want);
     }
 }
 
@@ -282,10 +309,14 @@ const LAST: Stamp = Stamp {
 /// an endpoint.
 fn is_changed(rt: &impl Abort, alloc: Global, reply: &mut Reply) -> bool {
     match reply {
-        Reply::Take(Ok(Taken {
-            notice: Some(notice),
-            ..
-        })) => notice.ended = !notice.ended,
+        Reply::Take(
+            Ok(
+                Taken {
+                    notice: Some(notice),
+                    ..
+                },
+            ),
+        ) => notice.ended = !notice.ended,
         Reply::Observe(Ok(sent)) => sent.token = LAST,
         Reply::Cancel(Ok(sent)) => sent.token = LAST,
         Reply::Send(Ok(sent)) => sent.change = 7,
@@ -299,19 +330,18 @@ fn is_changed(rt: &impl Abort, alloc: Global, reply: &mut Reply) -> bool {
     true
 }
 
-/// What the other of the two requests would have given with the same content.
-fn turned(rt: &impl Abort, alloc: Global, reply: &Reply) -> Option<Reply> {
+/// What the other of the two requests would have given with the same content, or else what no call gave.
+fn turned(rt: &impl Abort, alloc: Global, reply: &Reply) -> Reply {
     match reply {
-        Reply::Observe(Ok(sent)) => Some(Reply::Cancel(Ok(sent.copy(alloc).expect(rt, "memory")))),
-        Reply::Cancel(Ok(sent)) => Some(Reply::Observe(Ok(sent.copy(alloc).expect(rt, "memory")))),
-        _ => None,
+        Reply::Observe(Ok(sent)) => Reply::Cancel(Ok(sent.copy(alloc).expect(rt, "memory"))),
+        Reply::Cancel(Ok(sent)) => Reply::Observe(Ok(sent.copy(alloc).expect(rt, "memory"))),
+        _ => Reply::Sweep(Ok(Some(LAST))),
     }
 }
 
 fn is_none_turned(rt: &impl Abort, alloc: Global, reply: &Reply, others: &[Reply]) {
-    if let Some(turned) = turned(rt, alloc, reply) {
-        is_at_alone(rt, &turned, usize::MAX, others);
-    }
+    let turned = turned(rt, alloc, reply);
+    is_at_alone(rt, &turned, usize::MAX, others);
 }
 
 /// Tries: Reply::same

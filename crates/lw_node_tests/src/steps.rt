@@ -106,8 +106,12 @@ fn call_to(action: Action) -> Option<Call> {
 pub(crate) fn text_of(rt: &impl Abort, alloc: Global, reply: Reply) -> String {
     match outcome_of(reply) {
         Ok(outcome) => line_of(rt, alloc, &outcome),
-        Err(sent) => hex::encode(alloc, sent.delta.as_slice()).expect(rt, "memory"),
+        Err(sent) => digits_of(rt, alloc, &sent),
     }
+}
+
+fn digits_of(rt: &impl Abort, alloc: Global, sent: &Sent) -> String {
+    hex::encode(alloc, sent.delta.as_slice()).expect(rt, "memory")
 }
 
 /// The outcome that a reply would be in a run, or what is sent.

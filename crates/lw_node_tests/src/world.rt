@@ -2,6 +2,8 @@
 
 use lw_script::read_script;
 use lw_world::{World, run};
+use std::alloc::Global;
+use std::process::Abort;
 
 /// A device registers at one node, and the other gets its delta.
 const DELIVERED: &[u8] = b"nodes 2
@@ -18,11 +20,16 @@ fn clock(world: &World, number: u16) -> Option<u64> {
     Some(world.node(number)?.clock())
 }
 
+fn ran(rt: &impl Abort, alloc: Global) -> World {
+    let script = read_script(alloc, DELIVERED).expect(rt, "a script");
+    let (world, _) = run(alloc, 2, &script.events).expect(rt, "memory");
+    world
+}
+
 /// Tries: World::node, World::message
 #[test]
 fn nodes_and_messages_are_found_by_number(rt: HostRuntime) {
-    let script = read_script(rt.alloc(), DELIVERED).expect(&rt, "a script");
-    let (world, _) = run(rt.alloc(), 2, &script.events).expect(&rt, "memory");
+    let world = ran(&rt, rt.alloc());
     for (number, want) in [(0, None), (1, Some(1)), (2, Some(1)), (3, None)] {
         assert_eq!(rt; clock(&world, number), want, "at node {number}");
     }

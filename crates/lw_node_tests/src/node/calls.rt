@@ -57,7 +57,7 @@ static SWEEPS: [Step<'static>; 3] = [
 
 /// Two Registers of `a`, one of `b` and one of `bb`, four observations, one of which replaces another, and the end of
 /// one.
-const AFTER_CALLS: [Row<'static>; 6] = [
+static AFTER_CALLS: [Row<'static>; 6] = [
     (
         Line("endpoint 1 0 a"),
         r#"{"address":"127.0.0.1:5684","attributes":{},"binding":"U","endpoint":"a","id":"0000000000020001","lifetime":86400,"lwm2m":"1.0","objects":"</>","queue":false,"seen":0,"sms":null}"#,
@@ -82,12 +82,24 @@ const AFTER_CALLS: [Row<'static>; 6] = [
 ];
 
 /// After sweeps before and at the end of the registration of `bb`.
-const AFTER_SWEEPS: [Row<'static>; 4] = [
+static AFTER_SWEEPS: [Row<'static>; 4] = [
     (Line("endpoint 1 0 bb"), "none"),
     (Line("token 1 0 0000000000090001"), "none"),
     (Line("expired 1 30000"), "none"),
     (Numbers, "11 11"),
 ];
+
+fn are_the_same(reply: &Reply, replies: &(Reply, Reply)) -> bool {
+    reply.same(&replies.0) && reply.same(&replies.1)
+}
+
+/// The call gives the reply twice, which is not for want of memory.
+fn gives_twice(rt: &impl Abort, alloc: Global, node: &mut Node, call: &Call, reply: Reply) {
+    let are_same = are_the_same(&reply, &node.act_twice(call));
+    let text = text_of(rt, alloc, reply);
+    assert!(rt; are_same, "a call that gives {text}");
+    assert_ne!(rt; text.as_str(), "no memory");
+}
 
 /// Each call gives at one node twice what it gives at the other.
 fn act_alike(
@@ -100,12 +112,16 @@ fn act_alike(
     for step in steps {
         let call = call_of(rt, alloc, step).expect(rt, "a call");
         let reply = once.act(&call);
-        let (first, second) = twice.act_twice(&call);
-        let are_same = reply.same(&first) && reply.same(&second);
-        let text = text_of(rt, alloc, reply);
-        assert!(rt; are_same, "a call that gives {text}");
-        assert_ne!(rt; text.as_str(), "no memory");
+        gives_twice(rt, alloc, twice, &call, reply);
     }
+}
+
+fn what_is_known(name: &'static str) -> Run<'static> {
+    (name, &AFTER_CALLS)
+}
+
+fn what_is_left(name: &'static str) -> Run<'static> {
+    (name, &AFTER_SWEEPS)
 }
 
 /// Tries: Node::ask, Node::act, Node::act_twice
@@ -114,29 +130,19 @@ fn a_call_made_twice_gives_what_it_gives_once(rt: HostRuntime) {
     let mut once = Node::new(rt.alloc(), 1);
     let mut twice = Node::new(rt.alloc(), 1);
     act_alike(&rt, rt.alloc(), &mut once, &mut twice, &CALLS);
-    play(
-        &rt,
-        rt.alloc(),
-        &mut once,
-        ("calls made once", &AFTER_CALLS),
-    );
+    play(&rt, rt.alloc(), &mut once, what_is_known("calls made once"));
     play(
         &rt,
         rt.alloc(),
         &mut twice,
-        ("calls made twice", &AFTER_CALLS),
+        what_is_known("calls made twice"),
     );
     act_alike(&rt, rt.alloc(), &mut once, &mut twice, &SWEEPS);
-    play(
-        &rt,
-        rt.alloc(),
-        &mut once,
-        ("sweeps made once", &AFTER_SWEEPS),
-    );
+    play(&rt, rt.alloc(), &mut once, what_is_left("sweeps made once"));
     play(
         &rt,
         rt.alloc(),
         &mut twice,
-        ("sweeps made twice", &AFTER_SWEEPS),
+        what_is_left("sweeps made twice"),
     );
 }

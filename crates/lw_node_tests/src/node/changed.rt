@@ -34,9 +34,18 @@ fn shortest<'a>(bytes: &'a [u8], removal: &'a [u8]) -> &'a [u8] {
 fn is_merged(alloc: Global, bytes: &[u8], removal: &[u8]) -> Result<bool, NoMemory> {
     let mut node = Node::new(alloc, 1);
     let merged = node.merge(bytes);
+    has_merged(&node, merged, bytes, removal)
+}
+
+fn has_merged(
+    node: &Node,
+    merged: Result<usize, MergeFault>,
+    bytes: &[u8],
+    removal: &[u8],
+) -> Result<bool, NoMemory> {
     match check(bytes) {
-        Err(fault) => Ok(merged == Err(MergeFault::Malformed(fault)) && sends(&node, NOTHING)?),
-        Ok(_) => Ok(merged == Ok(1) && sends(&node, shortest(bytes, removal))?),
+        Err(fault) => Ok(merged == Err(MergeFault::Malformed(fault)) && sends(node, NOTHING)?),
+        Ok(_) => Ok(merged == Ok(1) && sends(node, shortest(bytes, removal))?),
     }
 }
 

@@ -50,7 +50,7 @@ const IS_B: &str =
 const WATCH_OF_B: &str =
     r#"{"accept":60,"endpoint":"b","id":"0000000000020001","path":"/4/0","token":"0000000000060001"}"#;
 
-const ANSWERS: [Row<'static>; 18] = [
+static ANSWERS: [Row<'static>; 18] = [
     (Line("endpoint 1 0 a"), "none"),
     (Line("endpoint 1 0 b"), IS_B),
     (Line("endpoint 1 0 c"), "none"),
@@ -80,7 +80,7 @@ const AGAIN: &str =
 0000000000000000000a00010001518000000000000a0001015500000000000a00010000000000000a000100033c2f3e\
 00000000";
 
-const NEXT: [Row<'static>; 6] = [
+static NEXT: [Row<'static>; 6] = [
     (
         Line(REGISTER),
         "taken 604100048272640d0330303030303030303030306130303031 -",
@@ -98,15 +98,28 @@ const NEXT: [Row<'static>; 6] = [
     (Line("sweep 1 86400000"), "swept 00000000000a0001"),
 ];
 
+fn look_ups(name: &'static str) -> Run<'static> {
+    (name, &ANSWERS)
+}
+
+fn what_comes_next(name: &'static str) -> Run<'static> {
+    (name, &NEXT)
+}
+
 /// Both answer alike, and take what comes next alike.
 fn answer_alike(rt: &impl Abort, alloc: Global, node: &mut Node, copy: &mut Node) {
     assert!(rt; agree(node, copy, true), "before the look-ups");
-    play(rt, alloc, copy, ("look-ups of the copy", &ANSWERS));
-    play(rt, alloc, node, ("look-ups", &ANSWERS));
+    play(rt, alloc, copy, look_ups("look-ups of the copy"));
+    play(rt, alloc, node, look_ups("look-ups"));
     assert!(rt; agree(node, copy, true), "after the look-ups");
-    play(rt, alloc, copy, ("what comes next to the copy", &NEXT));
-    play(rt, alloc, node, ("look-ups again", &ANSWERS));
-    play(rt, alloc, node, ("what comes next", &NEXT));
+    play(
+        rt,
+        alloc,
+        copy,
+        what_comes_next("what comes next to the copy"),
+    );
+    play(rt, alloc, node, look_ups("look-ups again"));
+    play(rt, alloc, node, what_comes_next("what comes next"));
     assert!(rt; agree(node, copy, true), "after what comes next");
 }
 
@@ -126,15 +139,20 @@ fn send_alike(rt: &impl Abort, one: &Node, other: &Node, since: u64) {
     assert!(rt; sent.as_slice() == others.as_slice(), "sent since {since}");
 }
 
+/// The other is the same, and sends the same since each of some numbers.
+fn is_copy(rt: &impl Abort, node: &Node, other: &Node) {
+    assert!(rt; agree(node, other, true), "whether they are the same");
+    for since in [0, 1, 2, 150, 250, u64::MAX] {
+        send_alike(rt, node, other, since);
+    }
+}
+
 /// A copy of the node is the same, and so is a copy of that.
 fn is_copied(rt: &impl Abort, node: &Node) {
     let copy = node.copy().expect(rt, "memory");
+    is_copy(rt, node, &copy);
     let again = copy.copy().expect(rt, "memory");
-    assert!(rt; agree(node, &copy, true), "the copy");
-    assert!(rt; agree(node, &again, true), "its copy");
-    for since in [0, 1, 2, 150, 250, u64::MAX] {
-        send_alike(rt, node, &again, since);
-    }
+    is_copy(rt, node, &again);
 }
 
 /// What a node takes before it is copied: nothing, the longest name, and a clock at its end.
@@ -191,8 +209,10 @@ const REGISTERED: [Row<'static>; 2] = [
     ),
 ];
 
-/// Requests, and whether a node is then another.
-static REQUESTS: [(&[Row<'static>], bool); 14] = [
+/// A request, and whether a node is then another.
+type Request = (&'static [Row<'static>], bool);
+
+static REQUESTS: [Request; 14] = [
     (
         &[(
             Line("take 1 0 127.0.0.1:5683 40020010b272640d0330303030303030303030303130303031"),
@@ -253,21 +273,31 @@ static REQUESTS: [(&[Row<'static>], bool); 14] = [
 ];
 
 /// A copy that has had the request is another node or not, and is the same once both have had it.
-fn differs(rt: &impl Abort, alloc: Global, request: &'static [Row<'static>], changes: bool) {
+fn differs(
+    rt: &impl Abort,
+    alloc: Global,
+    node: &mut Node,
+    copy: &mut Node,
+    (request, changes): Request,
+) {
+    play(rt, alloc, copy, ("a request of the copy", request));
+    assert!(rt; agree(node, copy, !changes), "whether it is another");
+    play(rt, alloc, node, ("a request", request));
+    assert!(rt; agree(node, copy, true), "the same once more");
+}
+
+fn copy_differs(rt: &impl Abort, alloc: Global, request: Request) {
     let mut node = Node::new(alloc, 1);
     play(rt, alloc, &mut node, ("before a request", &REGISTERED));
     let mut copy = node.copy().expect(rt, "memory");
-    play(rt, alloc, &mut copy, ("a request of the copy", request));
-    assert!(rt; agree(&node, &copy, !changes), "whether it is another");
-    play(rt, alloc, &mut node, ("a request", request));
-    assert!(rt; agree(&node, &copy, true), "the same once more");
+    differs(rt, alloc, &mut node, &mut copy, request);
 }
 
 /// Tries: Node::same
 #[test]
 fn a_copy_is_no_longer_the_same_after_a_request(rt: HostRuntime) {
-    for (request, changes) in &REQUESTS {
-        differs(&rt, rt.alloc(), request, *changes);
+    for request in &REQUESTS {
+        copy_differs(&rt, rt.alloc(), *request);
     }
 }
 

@@ -105,14 +105,19 @@ fn is_copy(node: &Node, copy: &Node, both: &[u8]) -> Result<(), Fail> {
     holds("what the copy sends", sends(copy, 0, both)?)
 }
 
+/// Merges the delta, and copies the node.
+fn is_copied(node: &mut Node, both: &[u8]) -> Result<(), Fail> {
+    merges(node, both)?;
+    let copy = copy_in_two_tries(node)?;
+    is_copy(node, &copy, both)
+}
+
 /// Tries: Node::copy
 #[test]
 fn a_refused_copy_is_made_again(rt: HostRuntime) -> Result<(), Fail> {
     let both = hex::decode(rt.alloc(), TWO)?;
     let mut node = Node::new(rt.alloc(), 2);
-    merges(&mut node, &both)?;
-    let copy = copy_in_two_tries(&node)?;
-    is_copy(&node, &copy, &both)
+    is_copied(&mut node, &both)
 }
 
 /// Whether a sweep ends this registration, and another then nothing.
@@ -120,14 +125,22 @@ fn is_swept_once(node: &mut Node, id: Stamp, now: Moment) -> bool {
     node.sweep(now) == Ok(Some(id)) && node.sweep(now) == Ok(None)
 }
 
+fn takes(node: &mut Node, datagram: &[u8]) -> Result<(), Fail> {
+    let taken = node.take(Moment::START, HOST, datagram)?;
+    holds("a reply", taken.reply.is_some())
+}
+
+/// Takes the Register, and ends it.
+fn takes_and_sweeps(node: &mut Node, register: &[u8]) -> Result<(), Fail> {
+    takes(node, register)?;
+    let now = Moment::new(60_000).ok_or("a moment")?;
+    holds("a sweep", is_swept_once(node, ID, now))
+}
+
 /// Tries: Node::sweep
 #[test]
 fn a_refused_growth_is_none_of_a_sweep(rt: HostRuntime) -> Result<(), Fail> {
-    let alloc = rt.alloc();
-    let register = hex::decode(alloc, REGISTER_FOR_A_MINUTE)?;
-    let mut node = Node::new(alloc, 1);
-    let taken = node.take(Moment::START, HOST, &register)?;
-    holds("a reply", taken.reply.is_some())?;
-    let now = Moment::new(60_000).ok_or("a moment")?;
-    holds("a sweep", is_swept_once(&mut node, ID, now))
+    let register = hex::decode(rt.alloc(), REGISTER_FOR_A_MINUTE)?;
+    let mut node = Node::new(rt.alloc(), 1);
+    takes_and_sweeps(&mut node, &register)
 }

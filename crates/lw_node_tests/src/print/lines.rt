@@ -152,12 +152,17 @@ fn lines_one_behind_another(rt: HostRuntime) {
     assert!(rt; lines.as_slice() == want.as_slice(), "the lines");
 }
 
+/// The line of a message of a million bytes 0xfa.
+fn long_line(rt: &impl Abort, alloc: Global) -> String {
+    let digits = "fa".repeat(alloc, 1_000_000).expect(rt, "memory");
+    format!(in alloc; "message 7 8 {digits}\n").expect(rt, "memory")
+}
+
 /// Tries: outcome_line
 #[test]
 fn a_long_message(rt: HostRuntime) {
     let bytes = vec![in rt.alloc(); 0xfa; 1_000_000].expect(&rt, "memory");
-    let digits = "fa".repeat(rt.alloc(), 1_000_000).expect(&rt, "memory");
-    let text = format!(in rt.alloc(); "message 7 8 {digits}\n").expect(&rt, "memory");
+    let text = long_line(&rt, rt.alloc());
     let outcome = Outcome::Sent(Ok(Sending {
         message: 7,
         change: 8,

@@ -1,4 +1,5 @@
 use super::*;
+use std::process::Abort;
 
 /// A registration at one of two nodes, and what happens after it, with and without its last line feed.
 const SEVEN: &str = "nodes 2
@@ -59,16 +60,21 @@ static REFUSED: [(&[u8], usize); 24] = [
     (b"nodes 1\nendpoint 1 0 \xff\n", 2),
 ];
 
+/// The script has so many nodes, and events of these nodes.
+fn has_nodes(rt: &impl Abort, script: &Script, nodes: u16, of: &[u16]) {
+    assert_eq!(rt; script.nodes, nodes);
+    assert_eq!(rt; script.events.len(), of.len());
+    for (event, node) in script.events.iter().zip(of) {
+        assert_eq!(rt; event.node, *node);
+    }
+}
+
 /// Tries: read_script
 #[test]
 fn scripts_are_read(rt: HostRuntime) {
     for (text, nodes, of) in &GOOD {
         let script = read_script(rt.alloc(), text.as_bytes()).expect(&rt, text);
-        assert_eq!(rt; script.nodes, *nodes, "{text}");
-        assert_eq!(rt; script.events.len(), of.len(), "{text}");
-        for (event, node) in script.events.iter().zip(*of) {
-            assert_eq!(rt; event.node, *node, "{text}");
-        }
+        has_nodes(&rt, &script, *nodes, of);
     }
 }
 
