@@ -4,12 +4,12 @@
 #[cfg(test)]
 mod call;
 #[cfg(test)]
-mod hold;
-#[cfg(test)]
 mod node;
 #[cfg(test)]
 mod print;
 #[cfg(test)]
 mod script;
+#[cfg(test)]
+mod steps;
 #[cfg(test)]
 mod world;

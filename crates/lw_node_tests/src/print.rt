@@ -1,14 +1,13 @@
 mod json;
 mod lines;
 
-use crate::hold::{holds, same};
 use lw_link::LinkText;
 use lw_node::Notice;
 use lw_print::*;
 use lw_reg::{Addr, Attributes, AttributesView, Binding, Path, Text, Version, View, Watch};
-use lw_stamp::{Moment, Stamp};
+use lw_stamp::{Moment, NoMemory, Stamp};
 use std::alloc::Global;
-use std::test::Fail;
+use std::process::Abort;
 
 /// The first stamp of node 1, the identifier of its first registration.
 const FIRST: Stamp = Stamp {
@@ -66,52 +65,66 @@ fn other_registration<'a>(endpoint: &'a str, objects: &'a LinkText) -> View<'a> 
 const SHOWN: &str =
     r#"{"address":"127.0.0.1:5683","attributes":{},"binding":"U","endpoint":"a","id":"0000000000010001","lifetime":60,"lwm2m":"1.1","objects":"</3/0>","queue":false,"seen":0,"sms":null}"#;
 
+/// The text was made, and is as wanted.
+fn is(rt: &impl Abort, text: Result<String, NoMemory>, want: &str) {
+    let text = text.expect(rt, "memory");
+    assert_eq!(rt; text.as_str(), want);
+}
+
+fn links(rt: &impl Abort, alloc: Global, list: &[u8]) -> LinkText {
+    assert!(rt; list.len() <= 8_192);
+    LinkText::read(alloc, list).expect(rt, "a list of links")
+}
+
+fn text(rt: &impl Abort, alloc: Global, text: &str) -> Text {
+    Text::copy_of(alloc, text).expect(rt, "memory")
+}
+
 /// Attributes of names and values.
-fn attributes(alloc: Global, texts: &[(&str, &str)]) -> Result<Attributes, Fail> {
+fn attributes(rt: &impl Abort, alloc: Global, texts: &[(&str, &str)]) -> Attributes {
     let mut pairs = Vec::new(alloc);
     for (name, value) in texts {
-        pairs.push((Text::copy_of(alloc, name)?, Text::copy_of(alloc, value)?))?;
+        let pair = (text(rt, alloc, name), text(rt, alloc, value));
+        pairs.push(pair).expect(rt, "memory");
     }
-    Ok(Attributes::from_pairs(pairs).ok_or("attributes")?)
+    Attributes::from_pairs(pairs).expect(rt, "attributes")
 }
 
 /// A list of 256 links, of 7,909 bytes.
-fn long_list(alloc: Global) -> Result<LinkText, Fail> {
-    let mut list = String::from_str(alloc, "</0>")?;
-    list.push_str(
-        r#",</65534/65534>;ver="1.0 \"x\"""#
-            .repeat(alloc, 255)?
-            .as_str(),
-    )?;
-    let list = list.as_bytes().get(..7909).ok_or("the list")?;
-    Ok(LinkText::read(alloc, list)?)
+fn long_list(rt: &impl Abort, alloc: Global) -> LinkText {
+    let others = r#",</65534/65534>;ver="1.0 \"x\"""#.repeat(alloc, 255);
+    let mut list = String::from_str(alloc, "</0>").expect(rt, "memory");
+    list.push_str(others.expect(rt, "memory").as_str())
+        .expect(rt, "memory");
+    let list = list.as_bytes().get(..7909).expect(rt, "the list");
+    links(rt, alloc, list)
 }
 
-fn path(numbers: &[u16]) -> Result<Path, Fail> {
-    Ok(Path::new(numbers).ok_or("a path")?)
+fn path(rt: &impl Abort, numbers: &[u16]) -> Path {
+    Path::new(numbers).expect(rt, "a path")
 }
 
-fn watch(numbers: &[u16], token: Stamp, accept: Option<u16>) -> Result<Watch, Fail> {
-    Ok(Watch {
+fn watch(rt: &impl Abort, numbers: &[u16], token: Stamp, accept: Option<u16>) -> Watch {
+    Watch {
         token,
-        path: path(numbers)?,
+        path: path(rt, numbers),
         accept,
-    })
+    }
 }
 
 /// What a device tells of `/3/0`, which it sends as one byte.
-fn notice(alloc: Global) -> Result<Notice, Fail> {
-    Ok(Notice {
+fn notice(rt: &impl Abort, alloc: Global) -> Notice {
+    Notice {
         token: THIRD,
         id: FIRST,
-        endpoint: Text::copy_of(alloc, "a")?,
-        path: path(&[3, 0])?,
+        endpoint: text(rt, alloc, "a"),
+        path: path(rt, &[3, 0]),
         code: 69,
         observe: Some(1),
         format: None,
         ended: false,
-        payload: b"1".to_vec(alloc)?,
-    })
+        payload: b"1".to_vec(alloc).expect(rt, "memory"),
+    }
 }
 
 const NOTICE: &str =

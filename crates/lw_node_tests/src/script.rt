@@ -1,9 +1,6 @@
 mod scripts;
 
-use crate::hold::holds;
 use lw_script::*;
-use std::alloc::Global;
-use std::test::Fail;
 
 /// Lines of each kind, and bounds of each field just inside.
 static LINES: [&str; 39] = [
@@ -115,30 +112,17 @@ static REFUSED: [&str; 63] = [
     "changes 1",
 ];
 
-fn is_read(alloc: Global, line: &str) -> bool {
-    read_line(alloc, line).is_ok()
-}
-
 /// Tries: read_line
 #[test]
-fn lines_are_read(rt: HostRuntime) -> Result<(), Fail> {
+fn lines_of_scripts_alone_are_read(rt: HostRuntime) {
     for line in &LINES {
-        holds(line, is_read(rt.alloc(), line))?;
+        let read = read_line(rt.alloc(), line);
+        assert!(rt; read.is_ok(), "{line}");
     }
-    Ok(())
-}
-
-fn is_refused(alloc: Global, line: &str) -> bool {
-    matches!(read_line(alloc, line), Err(LineFault::Refused))
-}
-
-/// Tries: read_line
-#[test]
-fn other_lines_are_refused(rt: HostRuntime) -> Result<(), Fail> {
     for line in &REFUSED {
-        holds(line, is_refused(rt.alloc(), line))?;
+        let read = read_line(rt.alloc(), line);
+        assert!(rt; matches!(read, Err(LineFault::Refused)), "{line}");
     }
-    Ok(())
 }
 
 /// Texts, and whether they are the digits of whole bytes.
@@ -155,9 +139,8 @@ const DIGITS: [(&[u8], bool); 8] = [
 
 /// Tries: is_hex
 #[test]
-fn digits_of_whole_bytes() -> Result<(), Fail> {
+fn digits_of_whole_bytes(rt: HostRuntime) {
     for (text, are_digits) in DIGITS {
-        holds("digits", is_hex(text) == are_digits)?;
+        assert_eq!(rt; is_hex(text), are_digits, "{text:?}");
     }
-    Ok(())
 }

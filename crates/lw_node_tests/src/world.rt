@@ -1,10 +1,9 @@
 //! The nodes and the messages of a run. Runs themselves are tested as scripts.
 
-use crate::hold::holds;
 use lw_script::read_script;
 use lw_world::{World, run};
 use std::alloc::Global;
-use std::test::Fail;
+use std::process::Abort;
 
 /// A device registers at one node, and the other gets its delta.
 const DELIVERED: &[u8] = b"nodes 2
@@ -17,31 +16,24 @@ deliver 2 0
 const DELTA: &str =
     "4c57443300000000000101016100000000000100017f000000000000010001047f0000011633000000000001000100000000000000000000000100010001518000000000000100010155000000000001000100000000000001000100033c2f3e00000000";
 
-fn ran(alloc: Global) -> Result<World, Fail> {
-    let script = read_script(alloc, DELIVERED).map_err(|_| "a script")?;
-    let (world, _) = run(alloc, 2, &script.events)?;
-    Ok(world)
-}
-
 fn clock(world: &World, number: u16) -> Option<u64> {
     Some(world.node(number)?.clock())
 }
 
-/// Tries: World::node
-#[test]
-fn nodes_are_found_by_number(rt: HostRuntime) -> Result<(), Fail> {
-    let world = ran(rt.alloc())?;
-    holds("no node 0", clock(&world, 0).is_none())?;
-    holds("node 1", clock(&world, 1) == Some(1))?;
-    holds("node 2", clock(&world, 2) == Some(1))?;
-    holds("no node 3", clock(&world, 3).is_none())
+fn ran(rt: &impl Abort, alloc: Global) -> World {
+    let script = read_script(alloc, DELIVERED).expect(rt, "a script");
+    let (world, _) = run(alloc, 2, &script.events).expect(rt, "memory");
+    world
 }
 
-/// Tries: World::message
+/// Tries: World::node, World::message
 #[test]
-fn messages_are_found_by_number(rt: HostRuntime) -> Result<(), Fail> {
-    let world = ran(rt.alloc())?;
-    let sent = hex::decode(rt.alloc(), DELTA)?;
-    holds("message 0", world.message(0) == Some(sent.as_slice()))?;
-    holds("no message 1", world.message(1).is_none())
+fn nodes_and_messages_are_found_by_number(rt: HostRuntime) {
+    let world = ran(&rt, rt.alloc());
+    for (number, want) in [(0, None), (1, Some(1)), (2, Some(1)), (3, None)] {
+        assert_eq!(rt; clock(&world, number), want, "at node {number}");
+    }
+    let sent = hex::decode(rt.alloc(), DELTA).expect(&rt, "hex");
+    assert!(rt; world.message(0) == Some(sent.as_slice()), "message 0");
+    assert!(rt; world.message(1).is_none(), "message 1");
 }

@@ -1,238 +1,148 @@
-//! Calls as values.
+//! Calls as values, made once and twice.
 
 use super::*;
-use lw_stamp::NoMemory;
 
-fn bytes(alloc: Global, datagram: &str) -> Result<Bytes, Fail> {
-    Ok(Bytes::from_vec(hex::decode(alloc, datagram)?)?)
-}
-
-fn text(alloc: Global, text: &str) -> Result<Text, Fail> {
-    Ok(Text::copy_of(alloc, text).map_err(|_| "a text")?)
-}
-
-fn take_from(alloc: Global, from: Addr, datagram: &str) -> Result<Call, Fail> {
-    Ok(Call::Take {
-        now: Moment::START,
-        from,
-        bytes: bytes(alloc, datagram)?,
-    })
-}
-
-fn take(alloc: Global, port: u16, datagram: &str) -> Result<Call, Fail> {
-    take_from(alloc, steps::host(port), datagram)
-}
-
-/// An address of IPv6.
-const FAR: Addr = Addr::V6 {
-    address: [254, 128, 0, 0, 0, 0, 0, 0, 0, 0, 0, 0, 0, 0, 0, 1],
-    port: 5683,
-};
-
-/// A Register of `bb` in queue mode, for 30 seconds, and an Update of it; neither is confirmable.
-const REGISTER_BB: &str = "50020006b272644565703d6262056c743d33300151ff3c2f3e";
-
-const UPDATE_BB: &str = "50020007b272640d0330303030303030303030303830303031";
-
-fn observe(text: &str, numbers: &[u16], accept: Option<u16>, mid: u16) -> Result<Call, Fail> {
-    Ok(Call::Observe {
-        now: Moment::START,
-        id: id(text)?,
-        path: path(numbers)?,
-        accept,
-        mid,
-    })
-}
-
-fn cancel(now: u64, token: &str) -> Result<Call, Fail> {
-    Ok(Call::Cancel {
-        now: at(now)?,
-        token: id(token)?,
-        mid: 7,
-    })
-}
-
-fn merge(alloc: Global, delta: &str) -> Result<Call, Fail> {
-    Ok(Call::Merge {
-        bytes: bytes(alloc, delta)?,
-    })
-}
-
-/// Commands of each kind, of which some are refused.
-fn command_at(alloc: Global, place: usize) -> Result<Call, Fail> {
-    let second = "0000000000020001";
-    match place {
-        0 => take(alloc, 5683, REGISTER),
-        1 => take(alloc, 5684, REGISTER),
-        2 => take(alloc, 5684, REGISTER_B),
-        3 => observe(second, &[3, 0], None, 7),
-        4 => observe(second, &[3, 0, 9], None, 7),
-        5 => observe(second, &[3, 0], Some(0), 8),
-        6 => observe(ID, &[3, 0], None, 7),
-        7 => cancel(0, second),
-        8 => cancel(0, "0000000000050001"),
-        9 => cancel(1, "0000000000050001"),
-        10 => Ok(Call::Send { since: 0 }),
-        11 => Ok(Call::Send { since: 1 }),
-        12 => merge(alloc, "4c57443300000000000000"),
-        13 => merge(alloc, ""),
-        14 => take_from(alloc, FAR, REGISTER_BB),
-        15 => observe("0000000000080001", &[3, 0], None, 7),
-        _ => take_from(alloc, FAR, UPDATE_BB),
-    }
-}
-
-fn question_at(alloc: Global, place: usize) -> Result<Question, Fail> {
-    let (second, third) = (id("0000000000020001")?, id("0000000000030001")?);
-    match place {
-        0 => Ok(Question::ById(second)),
-        1 => Ok(Question::ById(third)),
-        2 => Ok(Question::ByEndpoint(text(alloc, "a")?)),
-        3 => Ok(Question::ByEndpoint(text(alloc, "b")?)),
-        4 => Ok(Question::ByAddress(steps::host(5683))),
-        5 => Ok(Question::ByAddress(steps::host(5684))),
-        6 => Ok(Question::ByToken(second)),
-        7 => Ok(Question::ByToken(third)),
-        8 => Ok(Question::WatchAfter {
-            id: second,
-            after: None,
-        }),
-        9 => Ok(Question::WatchAfter {
-            id: second,
-            after: Some(path(&[3, 0])?),
-        }),
-        10 => Ok(Question::FirstAfter(None)),
-        11 => Ok(Question::FirstAfter(Some(text(alloc, "a")?))),
-        12 => Ok(Question::ExpiredAfter(None)),
-        13 => Ok(Question::ExpiredAfter(Some(text(alloc, "a")?))),
-        14 => Ok(Question::ByAddress(FAR)),
-        15 => Ok(Question::ByToken(id("0000000000090001")?)),
-        _ => Ok(Question::Change),
-    }
-}
-
-const COMMANDS: usize = 17;
-
-const QUESTIONS: usize = 17;
-
-const CALLS: usize = COMMANDS + QUESTIONS + 2;
-
-/// Calls of each kind.
-fn call_at(alloc: Global, place: usize) -> Result<Call, Fail> {
-    if place < COMMANDS {
-        return command_at(alloc, place);
-    }
-    let place = place - COMMANDS;
-    if place < QUESTIONS {
-        return ask(0, question_at(alloc, place)?);
-    }
+/// Calls of each kind, some of which are refused. That of `bb` is a Register in queue mode, for 30 seconds, from an
+/// address of IPv6, and an Update of it; neither is confirmable.
+static CALLS: [Step<'static>; 36] = [
+    Line("take 1 0 127.0.0.1:5683 40020004b272644465703d61ff3c2f3e"),
+    Line("take 1 0 127.0.0.1:5684 40020004b272644465703d61ff3c2f3e"),
+    Line("take 1 0 127.0.0.1:5684 40020005b272644465703d62ff3c2f3e"),
+    Line("observe 1 0 0000000000020001 /3/0 - 7"),
+    Line("observe 1 0 0000000000020001 /3/0/9 - 7"),
+    Line("observe 1 0 0000000000020001 /3/0 0 8"),
+    Line("observe 1 0 0000000000010001 /3/0 - 7"),
+    Line("cancel 1 0 0000000000020001 7"),
+    Line("cancel 1 0 0000000000050001 7"),
+    Line("cancel 1 1 0000000000050001 7"),
+    Line("send 1 0"),
+    Line("send 1 1"),
+    Merges("4c57443300000000000000"),
+    Merges(""),
+    Line(
+        "take 1 0 [fe80:0000:0000:0000:0000:0000:0000:0001]:5683 50020006b272644565703d6262056c743d33300151ff3c2f3e",
+    ),
+    Line("observe 1 0 0000000000080001 /3/0 - 7"),
+    Line(
+        "take 1 0 [fe80:0000:0000:0000:0000:0000:0000:0001]:5683 50020007b272640d0330303030303030303030303830303031",
+    ),
+    Line("id 1 0 0000000000020001"),
+    Line("id 1 0 0000000000030001"),
+    Line("endpoint 1 0 a"),
+    Line("endpoint 1 0 b"),
+    Line("address 1 0 127.0.0.1:5683"),
+    Line("address 1 0 127.0.0.1:5684"),
+    Line("token 1 0 0000000000020001"),
+    Line("token 1 0 0000000000030001"),
+    Line("watch 1 0 0000000000020001"),
+    Line("watch 1 0 0000000000020001 /3/0"),
+    Line("next 1 0"),
+    Line("next 1 0 a"),
+    Line("expired 1 0"),
+    Line("expired 1 0 a"),
+    Line("address 1 0 [fe80:0000:0000:0000:0000:0000:0000:0001]:5683"),
+    Line("token 1 0 0000000000090001"),
+    Line("change 1"),
     // at the end of the registration of `bb`
-    let above = (place == QUESTIONS).then_some("b");
-    match above {
-        None => ask(30_000, Question::ExpiredAfter(None)),
-        Some(above) => ask(30_000, Question::ExpiredAfter(Some(text(alloc, above)?))),
-    }
-}
+    Line("expired 1 30000 b"),
+    Line("expired 1 30000"),
+];
 
-fn ask(now: u64, question: Question) -> Result<Call, Fail> {
-    Ok(Call::Ask {
-        now: at(now)?,
-        question,
-    })
-}
+/// Sweeps before and at the end of the registration of `bb`.
+static SWEEPS: [Step<'static>; 3] = [
+    Line("sweep 1 29999"),
+    Line("sweep 1 30000"),
+    Line("sweep 1 30000"),
+];
 
-/// Whether a reply is want of memory.
-fn wants_memory(reply: &Reply) -> bool {
-    matches!(
-        reply,
-        Reply::Take(Err(NoMemory))
-            | Reply::Observe(Err(ObserveFault::NoMemory))
-            | Reply::Cancel(Err(ObserveFault::NoMemory))
-            | Reply::Send(Err(NoMemory))
-            | Reply::Merge(Err(MergeFault::NoMemory { .. }))
-            | Reply::Ask(Err(NoMemory))
-    )
-}
-
-/// Whether a call gives at one node twice what it gives at the other.
-fn acts_alike(once: &mut Node, twice: &mut Node, call: &Call) -> bool {
-    gives_twice(twice, call, &once.act(call))
-}
-
-fn gives_twice(node: &mut Node, call: &Call, reply: &Reply) -> bool {
-    !wants_memory(reply) && are_the_same(reply, &node.act_twice(call))
-}
-
-fn are_the_same(reply: &Reply, replies: &(Reply, Reply)) -> bool {
-    reply.same(&replies.0) && reply.same(&replies.1)
-}
-
-/// Two Registers of `a`, one of `b` and one of `bb`, four observations, one of which replaces another, and the end of one.
-const AFTER_CALLS: [Row<'static>; 6] = [
+/// Two Registers of `a`, one of `b` and one of `bb`, four observations, one of which replaces another, and the end of
+/// one.
+static AFTER_CALLS: [Row<'static>; 6] = [
     (
-        ByEndpoint(0, "a"),
+        Line("endpoint 1 0 a"),
         r#"{"address":"127.0.0.1:5684","attributes":{},"binding":"U","endpoint":"a","id":"0000000000020001","lifetime":86400,"lwm2m":"1.0","objects":"</>","queue":false,"seen":0,"sms":null}"#,
     ),
     (
-        WatchAfter("0000000000020001", false),
+        Line("watch 1 0 0000000000020001"),
         r#"{"accept":0,"endpoint":"a","id":"0000000000020001","path":"/3/0","token":"0000000000060001"}"#,
     ),
     (
-        ByEndpoint(0, "bb"),
+        Line("endpoint 1 0 bb"),
         r#"{"address":"[fe80:0000:0000:0000:0000:0000:0000:0001]:5683","attributes":{},"binding":"U","endpoint":"bb","id":"0000000000080001","lifetime":30,"lwm2m":"1.0","objects":"</>","queue":true,"seen":0,"sms":null}"#,
     ),
     (
-        ByToken("0000000000090001"),
+        Line("token 1 0 0000000000090001"),
         r#"{"accept":null,"endpoint":"bb","id":"0000000000080001","path":"/3/0","token":"0000000000090001"}"#,
     ),
     (
-        ExpiredAfter(30_000, Some("b")),
+        Line("expired 1 30000 b"),
         r#"{"endpoint":"bb","id":"0000000000080001"}"#,
     ),
     (Numbers, "10 10"),
 ];
 
 /// After sweeps before and at the end of the registration of `bb`.
-const AFTER_SWEEPS: [Row<'static>; 4] = [
-    (ByEndpoint(0, "bb"), "-"),
-    (ByToken("0000000000090001"), "-"),
-    (ExpiredAfter(30_000, None), "-"),
+static AFTER_SWEEPS: [Row<'static>; 4] = [
+    (Line("endpoint 1 0 bb"), "none"),
+    (Line("token 1 0 0000000000090001"), "none"),
+    (Line("expired 1 30000"), "none"),
     (Numbers, "11 11"),
 ];
 
-/// The call at the place gives at one node twice what it gives at the other.
-fn call_acts_alike(
+fn are_the_same(reply: &Reply, replies: &(Reply, Reply)) -> bool {
+    reply.same(&replies.0) && reply.same(&replies.1)
+}
+
+/// The call gives the reply twice, which is not for want of memory.
+fn gives_twice(rt: &impl Abort, alloc: Global, node: &mut Node, call: &Call, reply: Reply) {
+    let are_same = are_the_same(&reply, &node.act_twice(call));
+    let text = text_of(rt, alloc, reply);
+    assert!(rt; are_same, "a call that gives {text}");
+    assert_ne!(rt; text.as_str(), "no memory");
+}
+
+/// Each call gives at one node twice what it gives at the other.
+fn act_alike(
+    rt: &impl Abort,
     alloc: Global,
     once: &mut Node,
     twice: &mut Node,
-    place: usize,
-) -> Result<(), Fail> {
-    let call = call_at(alloc, place)?;
-    holds("a call", acts_alike(once, twice, &call))
+    steps: &[Step<'_>],
+) {
+    for step in steps {
+        let call = call_of(rt, alloc, step).expect(rt, "a call");
+        let reply = once.act(&call);
+        gives_twice(rt, alloc, twice, &call, reply);
+    }
 }
 
-fn calls_act_alike(alloc: Global, once: &mut Node, twice: &mut Node) -> Result<(), Fail> {
-    for place in 0..CALLS {
-        call_acts_alike(alloc, once, twice, place)?;
-    }
-    play(alloc, once, &AFTER_CALLS)?;
-    play(alloc, twice, &AFTER_CALLS)
+fn what_is_known(name: &'static str) -> Run<'static> {
+    (name, &AFTER_CALLS)
 }
 
-fn sweeps_act_alike(alloc: Global, once: &mut Node, twice: &mut Node) -> Result<(), Fail> {
-    for ms in [29_999, 30_000, 30_000] {
-        let call = Call::Sweep { now: at(ms)? };
-        holds("a sweep", acts_alike(once, twice, &call))?;
-    }
-    play(alloc, once, &AFTER_SWEEPS)?;
-    play(alloc, twice, &AFTER_SWEEPS)
+fn what_is_left(name: &'static str) -> Run<'static> {
+    (name, &AFTER_SWEEPS)
 }
 
 /// Tries: Node::ask, Node::act, Node::act_twice
 #[test]
-fn a_call_made_twice_gives_what_it_gives_once(rt: HostRuntime) -> Result<(), Fail> {
+fn a_call_made_twice_gives_what_it_gives_once(rt: HostRuntime) {
     let mut once = Node::new(rt.alloc(), 1);
     let mut twice = Node::new(rt.alloc(), 1);
-    calls_act_alike(rt.alloc(), &mut once, &mut twice)?;
-    sweeps_act_alike(rt.alloc(), &mut once, &mut twice)
+    act_alike(&rt, rt.alloc(), &mut once, &mut twice, &CALLS);
+    play(&rt, rt.alloc(), &mut once, what_is_known("calls made once"));
+    play(
+        &rt,
+        rt.alloc(),
+        &mut twice,
+        what_is_known("calls made twice"),
+    );
+    act_alike(&rt, rt.alloc(), &mut once, &mut twice, &SWEEPS);
+    play(&rt, rt.alloc(), &mut once, what_is_left("sweeps made once"));
+    play(
+        &rt,
+        rt.alloc(),
+        &mut twice,
+        what_is_left("sweeps made twice"),
+    );
 }

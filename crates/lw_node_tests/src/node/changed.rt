@@ -29,55 +29,47 @@ fn shortest<'a>(bytes: &'a [u8], removal: &'a [u8]) -> &'a [u8] {
     }
 }
 
-/// Whether a new node refuses the bytes with the fault that they have, and stays as it was, or else merges them and sends
-/// the same again; or the removal, where they are its fuller spelling.
+/// Whether a new node refuses the bytes with the fault that they have, and stays as it was, or else merges them and
+/// sends the same again; or the removal, where they are its fuller spelling.
 fn is_merged(alloc: Global, bytes: &[u8], removal: &[u8]) -> Result<bool, NoMemory> {
     let mut node = Node::new(alloc, 1);
     let merged = node.merge(bytes);
+    has_merged(&node, merged, bytes, removal)
+}
+
+fn has_merged(
+    node: &Node,
+    merged: Result<usize, MergeFault>,
+    bytes: &[u8],
+    removal: &[u8],
+) -> Result<bool, NoMemory> {
     match check(bytes) {
-        Err(fault) => Ok(merged == Err(MergeFault::Malformed(fault)) && sends(&node, NOTHING)?),
-        Ok(_) => Ok(merged == Ok(1) && sends(&node, shortest(bytes, removal))?),
+        Err(fault) => Ok(merged == Err(MergeFault::Malformed(fault)) && sends(node, NOTHING)?),
+        Ok(_) => Ok(merged == Ok(1) && sends(node, shortest(bytes, removal))?),
     }
 }
 
-/// Whether that is so of each value of the byte at the place.
-fn are_merged(
-    alloc: Global,
-    bytes: &mut [u8],
-    place: usize,
-    removal: &[u8],
-) -> Result<bool, NoMemory> {
-    if bytes.len() <= place {
-        return Ok(false);
-    }
+/// That is so of each value of the byte at the place.
+fn are_merged(rt: &impl Abort, alloc: Global, bytes: &mut [u8], place: usize, removal: &[u8]) {
+    assert!(rt; place < bytes.len());
     let kept = bytes[place];
     for byte in 0..=255u8 {
         bytes[place] = byte;
-        if !is_merged(alloc, bytes, removal)? {
-            return Ok(false);
-        }
+        let is_so = is_merged(alloc, bytes, removal).expect(rt, "memory");
+        assert!(rt; is_so, "{byte} at {place}");
     }
     bytes[place] = kept;
-    Ok(true)
-}
-
-fn all_are_merged(alloc: Global, bytes: &mut [u8], removal: &[u8]) -> Result<(), Fail> {
-    for place in 0..bytes.len() {
-        if !are_merged(alloc, bytes, place, removal)? {
-            return Err(Fail::new(format_args!("a changed byte at {place}")));
-        }
-    }
-    Ok(())
 }
 
 /// Tries: lw_delta::read, lw_delta::laws::written_deltas_are_shortest, lw_delta::laws::written_deltas_read_back
 /// Tries: lw_delta::laws::deltas_can_be_written, Node::merge
 #[test]
-fn each_byte_of_a_delta_is_changed(rt: HostRuntime) -> Result<(), Fail> {
-    let removal = hex::decode(rt.alloc(), REMOVED)?;
+fn each_byte_of_a_delta_is_changed(rt: HostRuntime) {
+    let removal = hex::decode(rt.alloc(), REMOVED).expect(&rt, "hex");
     for delta in [DELTA, ENDED] {
-        let mut bytes = hex::decode(rt.alloc(), delta)?;
-        all_are_merged(rt.alloc(), &mut bytes, &removal)?;
+        let mut bytes = hex::decode(rt.alloc(), delta).expect(&rt, "hex");
+        for place in 0..bytes.len() {
+            are_merged(&rt, rt.alloc(), &mut bytes, place, &removal);
+        }
     }
-    Ok(())
 }

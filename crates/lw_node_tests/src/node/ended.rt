@@ -16,64 +16,52 @@ const REVIVED: &str =
 
 /// What is over is neither shown nor expired, until it is seen once more.
 const IS_OVER: [Row<'static>; 18] = [
-    (Merges(ENDED), "Ok(1)"),
-    (ByEndpoint(0, "a"), "-"),
-    (ById(ID), "-"),
-    (ByAddress(5683), "-"),
-    (FirstAfter(None), "-"),
-    (ExpiredAfter(86_400_000, None), "-"),
+    (Merges(ENDED), "joined 1"),
+    (Line("endpoint 1 0 a"), "none"),
+    (Line("id 1 0 0000000000010001"), "none"),
+    (Line("address 1 0 127.0.0.1:5683"), "none"),
+    (Line("next 1 0"), "none"),
+    (Line("expired 1 86400000"), "none"),
     (
-        Takes("40020010b272640d0330303030303030303030303130303031"),
-        "60840010",
+        Line("take 1 0 127.0.0.1:5683 40020010b272640d0330303030303030303030303130303031"),
+        "taken 60840010 -",
     ),
-    (Observes(ID), "NotFound"),
-    (DeltaSince(0), ENDED),
+    (Line("observe 1 0 0000000000010001 /3/0 - 32"), "refused 1"),
+    (Line("send 1 0"), ENDED),
     // what was known before
-    (Merges(DELTA), "Ok(1)"),
-    (Merges(ENDED), "Ok(1)"),
+    (Merges(DELTA), "joined 1"),
+    (Merges(ENDED), "joined 1"),
     (Numbers, "1 1"),
-    (Merges(UPDATED), "Ok(1)"),
-    (ByEndpoint(0, "a"), SHOWN),
+    (Merges(UPDATED), "joined 1"),
+    (Line("endpoint 1 0 a"), SHOWN),
     (
-        ExpiredAfter(86_400_000, None),
+        Line("expired 1 86400000"),
         r#"{"endpoint":"a","id":"0000000000010001"}"#,
     ),
-    (DeltaSince(0), REVIVED),
+    (Line("send 1 0"), REVIVED),
     // once more the end that is known
-    (Merges(ENDED), "Ok(1)"),
+    (Merges(ENDED), "joined 1"),
     (Numbers, "2 2"),
 ];
 
-/// Tries: Node::merge, Node::delta_since
-#[test]
-fn an_end_is_merged_and_sent(rt: HostRuntime) -> Result<(), Fail> {
-    play_new(rt.alloc(), &IS_OVER)
-}
-
 /// It is the end of that registration, and of no later one.
 const OTHERS: [Row<'static>; 9] = [
-    (Takes(REGISTER), CREATED),
-    (Merges(ENDED), "Ok(1)"),
+    (Line(REGISTER), CREATED),
+    (Merges(ENDED), "joined 1"),
     (Numbers, "1 2"),
-    (ByEndpoint(0, "a"), "-"),
+    (Line("endpoint 1 0 a"), "none"),
     (
-        Takes(REGISTER),
-        "604100048272640d0330303030303030303030303230303031",
+        Line(REGISTER),
+        "taken 604100048272640d0330303030303030303030303230303031 -",
     ),
     (
-        ByEndpoint(0, "a"),
+        Line("endpoint 1 0 a"),
         r#"{"address":"127.0.0.1:5683","attributes":{},"binding":"U","endpoint":"a","id":"0000000000020001","lifetime":86400,"lwm2m":"1.0","objects":"</>","queue":false,"seen":0,"sms":null}"#,
     ),
-    (Merges(ENDED), "Ok(1)"),
-    (Merges(REMOVED), "Ok(1)"),
+    (Merges(ENDED), "joined 1"),
+    (Merges(REMOVED), "joined 1"),
     (Numbers, "2 3"),
 ];
-
-/// Tries: Node::merge, Node::take
-#[test]
-fn a_later_register_has_no_end(rt: HostRuntime) -> Result<(), Fail> {
-    play_new(rt.alloc(), &OTHERS)
-}
 
 /// An observation of `/3/0` of the registration, its end, and an Update that is later.
 const WATCHED: &str =
@@ -87,25 +75,34 @@ const WATCH: &str =
 
 /// The observations of what is over are kept, and come back with it; a removal wins.
 const OBSERVED: [Row<'static>; 15] = [
-    (Takes(REGISTER), CREATED),
-    (Observes(ID), "4801002000000000000200016051330130"),
-    (Merges(ENDED), "Ok(1)"),
-    (ByToken("0000000000020001"), "-"),
-    (WatchAfter(ID, false), "-"),
-    (Cancels("0000000000020001"), "NotFound"),
-    (DeltaSince(2), WATCHED),
+    (Line(REGISTER), CREATED),
+    (
+        Line("observe 1 0 0000000000010001 /3/0 - 32"),
+        "sent 0000000000020001 127.0.0.1:5683 4801002000000000000200016051330130",
+    ),
+    (Merges(ENDED), "joined 1"),
+    (Line("token 1 0 0000000000020001"), "none"),
+    (Line("watch 1 0 0000000000010001"), "none"),
+    (Line("cancel 1 0 0000000000020001 32"), "refused 1"),
+    (Line("send 1 2"), WATCHED),
     (Numbers, "2 3"),
-    (Merges(SEEN_AGAIN), "Ok(1)"),
-    (ByToken("0000000000020001"), WATCH),
-    (WatchAfter(ID, false), WATCH),
-    (Merges(REMOVED), "Ok(1)"),
-    (Merges(ENDED), "Ok(1)"),
-    (ByEndpoint(0, "a"), "-"),
+    (Merges(SEEN_AGAIN), "joined 1"),
+    (Line("token 1 0 0000000000020001"), WATCH),
+    (Line("watch 1 0 0000000000010001"), WATCH),
+    (Merges(REMOVED), "joined 1"),
+    (Merges(ENDED), "joined 1"),
+    (Line("endpoint 1 0 a"), "none"),
     (Numbers, "3 5"),
 ];
 
-/// Tries: Node::merge, Node::take
+static RUNS: [Run<'static>; 3] = [
+    ("an end that is merged", &IS_OVER),
+    ("a later Register", &OTHERS),
+    ("observations that come back", &OBSERVED),
+];
+
+/// Tries: Node::merge, Node::delta_since, Node::take
 #[test]
-fn observations_come_back_with_a_registration(rt: HostRuntime) -> Result<(), Fail> {
-    play_new(rt.alloc(), &OBSERVED)
+fn ends_are_merged_and_sent(rt: HostRuntime) {
+    play_each(&rt, rt.alloc(), &RUNS);
 }

@@ -1,13 +1,34 @@
 //! What a node knows and sends where a merge, a delta or a copy is refused memory, and that a sweep takes none.
 
-use super::copied::are_same;
+use super::copied::agree;
 use super::deltas::{FIRST, SECOND, TWO};
-use super::swept::REGISTER_FOR_A_MINUTE;
 use super::*;
-use lw_stamp::NoMemory;
+use lw_stamp::{NoMemory, Stamp};
+use std::test::Fail;
 
 /// The delta of two slots without a slot.
 const NONE: &str = "4c57443300000000000600";
+
+/// A Register of `a` for 60 seconds, and its identifier.
+const REGISTER_FOR_A_MINUTE: &str = "40020004b272644465703d61056c743d3630ff3c2f3e";
+
+const ID: Stamp = Stamp {
+    counter: 1,
+    node: 1,
+};
+
+const HOST: Addr = Addr::V4 {
+    address: [127, 0, 0, 1],
+    port: 5683,
+};
+
+/// Fails with the text where it is not so.
+fn holds(what: &str, is_so: bool) -> Result<(), Fail> {
+    if is_so {
+        return Ok(());
+    }
+    Err(Fail::new(what))
+}
 
 /// The front of a delta with no slot, and with its first, and all of it with both and with the second alone.
 #[derive(Drop)]
@@ -79,9 +100,16 @@ fn copy_in_two_tries(node: &Node) -> Result<Node, NoMemory> {
 
 /// The copy is the same, and both send the bytes.
 fn is_copy(node: &Node, copy: &Node, both: &[u8]) -> Result<(), Fail> {
-    holds("the same", are_same(node, copy))?;
+    holds("the same", agree(node, copy, true))?;
     holds("what the node sends", sends(node, 0, both)?)?;
     holds("what the copy sends", sends(copy, 0, both)?)
+}
+
+/// Merges the delta, and copies the node.
+fn is_copied(node: &mut Node, both: &[u8]) -> Result<(), Fail> {
+    merges(node, both)?;
+    let copy = copy_in_two_tries(node)?;
+    is_copy(node, &copy, both)
 }
 
 /// Tries: Node::copy
@@ -89,9 +117,7 @@ fn is_copy(node: &Node, copy: &Node, both: &[u8]) -> Result<(), Fail> {
 fn a_refused_copy_is_made_again(rt: HostRuntime) -> Result<(), Fail> {
     let both = hex::decode(rt.alloc(), TWO)?;
     let mut node = Node::new(rt.alloc(), 2);
-    merges(&mut node, &both)?;
-    let copy = copy_in_two_tries(&node)?;
-    is_copy(&node, &copy, &both)
+    is_copied(&mut node, &both)
 }
 
 /// Whether a sweep ends this registration, and another then nothing.
@@ -99,13 +125,22 @@ fn is_swept_once(node: &mut Node, id: Stamp, now: Moment) -> bool {
     node.sweep(now) == Ok(Some(id)) && node.sweep(now) == Ok(None)
 }
 
+fn takes(node: &mut Node, datagram: &[u8]) -> Result<(), Fail> {
+    let taken = node.take(Moment::START, HOST, datagram)?;
+    holds("a reply", taken.reply.is_some())
+}
+
+/// Takes the Register, and ends it.
+fn takes_and_sweeps(node: &mut Node, register: &[u8]) -> Result<(), Fail> {
+    takes(node, register)?;
+    let now = Moment::new(60_000).ok_or("a moment")?;
+    holds("a sweep", is_swept_once(node, ID, now))
+}
+
 /// Tries: Node::sweep
 #[test]
 fn a_refused_growth_is_none_of_a_sweep(rt: HostRuntime) -> Result<(), Fail> {
-    let alloc = rt.alloc();
-    let register = hex::decode(alloc, REGISTER_FOR_A_MINUTE)?;
-    let mut node = Node::new(alloc, 1);
-    let taken = node.take(Moment::START, steps::host(5683), &register)?;
-    holds("a reply", taken.reply.is_some())?;
-    holds("a sweep", is_swept_once(&mut node, id(ID)?, at(60_000)?))
+    let register = hex::decode(rt.alloc(), REGISTER_FOR_A_MINUTE)?;
+    let mut node = Node::new(rt.alloc(), 1);
+    takes_and_sweeps(&mut node, &register)
 }

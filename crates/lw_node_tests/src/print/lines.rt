@@ -2,9 +2,7 @@
 //! tested as scripts.
 
 use super::*;
-use lw_stamp::NoMemory;
 use lw_world::{Answer, ClockEnd, DeltaFault, MergeFault, ObserveFault, Outcome, Sending};
-use std::str;
 
 /// Outcomes that hold no text, and their lines.
 const PLAIN: [(Outcome, &str); 17] = [
@@ -96,96 +94,78 @@ const NOT_FOUND: [(Outcome, &str); 5] = [
     ),
 ];
 
+/// Messages that were sent, their bytes, and the lines.
+const SENT: [(Outcome, Option<&[u8]>, &str); 2] = [
+    (
+        Outcome::Sent(Ok(Sending {
+            message: 4_294_967_295,
+            change: 18_446_744_073_709_551_615,
+        })),
+        Some(&[0, 255]),
+        "message 4294967295 18446744073709551615 00ff\n",
+    ),
+    (
+        Outcome::Sent(Ok(Sending {
+            message: 10,
+            change: 2,
+        })),
+        None,
+        "message 10 2 \n",
+    ),
+];
+
+fn has_line(rt: &impl Abort, alloc: Global, outcome: &Outcome, message: Option<&[u8]>, text: &str) {
+    let line = outcome_line(alloc, outcome, message).expect(rt, "memory");
+    assert!(rt;
+        line.as_slice() == text.as_bytes(),
+        "another line than {text}"
+    );
+}
+
 /// Each outcome has the line, whether or not bytes are lent.
-fn have_lines(alloc: Global, rows: &[(Outcome, &str)]) -> Result<(), Fail> {
+fn have_lines(rt: &impl Abort, alloc: Global, rows: &[(Outcome, &str)]) {
     for (outcome, text) in rows {
-        has_line(alloc, outcome, None, text)?;
-        has_line(alloc, outcome, Some(b"1"), text)?;
+        has_line(rt, alloc, outcome, None, text);
+        has_line(rt, alloc, outcome, Some(b"1"), text);
     }
-    Ok(())
-}
-
-fn has_line(
-    alloc: Global,
-    outcome: &Outcome,
-    message: Option<&[u8]>,
-    text: &str,
-) -> Result<(), Fail> {
-    let line = outcome_line(alloc, outcome, message)?;
-    same(str::from_utf8(&line)?, text)
 }
 
 /// Tries: outcome_line
 #[test]
-fn outcomes_without_text(rt: HostRuntime) -> Result<(), Fail> {
-    have_lines(rt.alloc(), &PLAIN)
-}
-
-/// Tries: outcome_line
-#[test]
-fn malformed_messages(rt: HostRuntime) -> Result<(), Fail> {
-    have_lines(rt.alloc(), &MALFORMED)
-}
-
-/// Tries: outcome_line
-#[test]
-fn answers_without_text(rt: HostRuntime) -> Result<(), Fail> {
-    have_lines(rt.alloc(), &NOT_FOUND)
+fn outcomes_have_lines(rt: HostRuntime) {
+    have_lines(&rt, rt.alloc(), &PLAIN);
+    have_lines(&rt, rt.alloc(), &MALFORMED);
+    have_lines(&rt, rt.alloc(), &NOT_FOUND);
+    for (outcome, bytes, text) in &SENT {
+        has_line(&rt, rt.alloc(), outcome, *bytes, text);
+    }
 }
 
 /// Tries: put_outcome
 #[test]
-fn lines_one_behind_another(rt: HostRuntime) -> Result<(), Fail> {
+fn lines_one_behind_another(rt: HostRuntime) {
     let mut lines = Vec::new(rt.alloc());
     for (outcome, _) in &NOT_FOUND {
-        put_outcome(&mut lines, rt.alloc(), outcome, None)?;
+        put_outcome(&mut lines, rt.alloc(), outcome, None).expect(&rt, "memory");
     }
-    same(
-        str::from_utf8(&lines)?,
-        "none\nnone\nnone\n0\n18446744073709551615\n",
-    )
+    let want = b"none\nnone\nnone\n0\n18446744073709551615\n";
+    assert!(rt; lines.as_slice() == want.as_slice(), "the lines");
 }
 
-/// A message that was sent, with this number and change number, of these bytes, has the line.
-fn is_sent(
-    alloc: Global,
-    message: usize,
-    change: u64,
-    bytes: Option<&[u8]>,
-    text: &str,
-) -> Result<(), Fail> {
-    let outcome = Outcome::Sent(Ok(Sending { message, change }));
-    has_line(alloc, &outcome, bytes, text)
+/// The line of a message of a million bytes 0xfa.
+fn long_line(rt: &impl Abort, alloc: Global) -> String {
+    let digits = "fa".repeat(alloc, 1_000_000).expect(rt, "memory");
+    format!(in alloc; "message 7 8 {digits}\n").expect(rt, "memory")
 }
 
 /// Tries: outcome_line
 #[test]
-fn numbers_of_a_message(rt: HostRuntime) -> Result<(), Fail> {
-    is_sent(
-        rt.alloc(),
-        4_294_967_295,
-        18_446_744_073_709_551_615,
-        Some(&[0, 255]),
-        "message 4294967295 18446744073709551615 00ff\n",
-    )?;
-    is_sent(rt.alloc(), 10, 2, None, "message 10 2 \n")
-}
-
-/// A message of so many bytes 0xfa has the line.
-fn is_sent_long(alloc: Global, count: usize, text: &str) -> Result<(), Fail> {
-    let bytes = vec![in alloc; 0xfa; count]?;
-    is_sent(alloc, 7, 8, Some(&bytes), text)
-}
-
-/// The line of a message of so many bytes 0xfa.
-fn long_line(alloc: Global, count: usize) -> Result<String, Fail> {
-    let bytes = "fa".repeat(alloc, count)?;
-    Ok(format!(in alloc; "message 7 8 {bytes}\n")?)
-}
-
-/// Tries: outcome_line
-#[test]
-fn a_long_message(rt: HostRuntime) -> Result<(), Fail> {
-    let text = long_line(rt.alloc(), 1_000_000)?;
-    is_sent_long(rt.alloc(), 1_000_000, text.as_str())
+fn a_long_message(rt: HostRuntime) {
+    let bytes = vec![in rt.alloc(); 0xfa; 1_000_000].expect(&rt, "memory");
+    let text = long_line(&rt, rt.alloc());
+    let outcome = Outcome::Sent(Ok(Sending {
+        message: 7,
+        change: 8,
+    }));
+    has_line(&rt, rt.alloc(), &outcome, Some(&bytes), text.as_str());
 }
