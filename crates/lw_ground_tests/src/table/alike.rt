@@ -6,8 +6,8 @@ const MAC: &str = "urn:dev:mac:0123456789ab";
 
 const EUI: &str = "urn:dev:eui:0123456789ab";
 
-/// Four whose last eight bytes are the same, and one of seven bytes beside one with a zero before them. One is removed, one
-/// registers again, and one moves.
+/// Four whose last eight bytes are the same, and one of seven bytes beside one with a zero before them. One is removed,
+/// one registers again, and one moves.
 pub(super) const ALIKE: [Step; 9] = [
     Joins((MAC, (First, First, Register(HOST_A, 0, 60)))),
     Joins(("456789ab", (Second, Second, Register(HOST_A, 0, 60)))),

@@ -1,5 +1,5 @@
-//! What is shown, page by page. Of the five endpoints `a` has expired after a minute, `d` was removed, and `e` is known but
-//! not shown.
+//! What is shown, page by page. Of the five endpoints `a` has expired after a minute, `d` was removed, and `e` is known
+//! but not shown.
 
 use super::since::FIVE;
 use super::*;
