@@ -8,14 +8,17 @@ use std::process::Abort;
 /// A text, and how often it is repeated.
 type Part = (&'static str, usize);
 
-/// What is read is printed, and kept and copied, as it is wanted.
-fn prints(rt: &impl Abort, alloc: Global, given: &str, want: &str) {
-    let bytes = given.as_bytes();
-    assert!(rt; is_printing(bytes) == (given == want), "{given}");
-    let links = read(alloc, bytes).expect(rt, "links");
+/// What is read is printed as it is wanted.
+fn prints_links(rt: &impl Abort, alloc: Global, given: &str, want: &str) {
+    let links = read(alloc, given.as_bytes()).expect(rt, "links");
     assert!(rt; well_formed(&links), "{given}");
     let printed = print(alloc, &links).expect(rt, "memory");
     assert!(rt; printed.as_str() == want, "{given}");
+}
+
+/// What is read is kept and copied as it is wanted.
+fn keeps(rt: &impl Abort, alloc: Global, given: &str, want: &str) {
+    let bytes = given.as_bytes();
     assert!(rt; bytes.len() <= 8_192, "{given}");
     let text = LinkText::read(alloc, bytes).expect(rt, "links");
     let copy = text.copy_of(alloc).expect(rt, "memory");
@@ -23,6 +26,13 @@ fn prints(rt: &impl Abort, alloc: Global, given: &str, want: &str) {
         text.as_str() == want && copy.as_str() == want,
         "kept: {given}"
     );
+}
+
+/// What is read is printed, and kept and copied, as it is wanted.
+fn prints(rt: &impl Abort, alloc: Global, given: &str, want: &str) {
+    assert!(rt; is_printing(given.as_bytes()) == (given == want), "{given}");
+    prints_links(rt, alloc, given, want);
+    keeps(rt, alloc, given, want);
 }
 
 /// A spelling, and its printing.

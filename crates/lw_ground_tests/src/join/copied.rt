@@ -63,12 +63,16 @@ fn copy_text(rt: &impl Abort, alloc: Global, length: usize) {
     copy_equal(rt, alloc, &(pair, (some, none)));
 }
 
-/// Values, texts and moments.
+/// Values and a stamp.
 fn copy_values(rt: &impl Abort, alloc: Global) {
     for value in &PLAIN {
         copy_equal(rt, alloc, &(LAST, *value));
     }
     copy_equal(rt, alloc, &FIRST);
+}
+
+/// Texts and moments.
+fn copy_texts(rt: &impl Abort, alloc: Global) {
     for length in &LENGTHS {
         copy_text(rt, alloc, *length);
     }
@@ -300,6 +304,7 @@ fn copy_slots(rt: &impl Abort, alloc: Global) -> Result<(), Fail> {
 #[test]
 fn each_kind_of_value_is_copied(rt: HostRuntime) -> Result<(), Fail> {
     copy_values(&rt, rt.alloc());
+    copy_texts(&rt, rt.alloc());
     copy_joins(&rt, rt.alloc());
     copy_maps(&rt, rt.alloc());
     for fields in &FIELDS {

@@ -183,13 +183,26 @@ static COMPARED: [(&[Step], &[Step], bool); 11] = [
     (&[A, C, C_UPDATED, B], &[A, C, B, C_UPDATED], false),
 ];
 
+/// Whether each table says that it is the same as the other, or each that it is not.
+fn are_compared(
+    rt: &impl Abort,
+    alloc: Global,
+    one: &[Step],
+    other: &[Step],
+    is_same: bool,
+) -> bool {
+    let one = played(rt, alloc, "one", one);
+    let other = played(rt, alloc, "other", other);
+    one.same(&other) == is_same && other.same(&one) == is_same
+}
+
 /// Tries: Table::same
 #[test]
 fn a_table_with_one_row_more_is_not_the_same(rt: HostRuntime) {
     for (place, (one, other, is_same)) in COMPARED.iter().enumerate() {
-        let one = played(&rt, rt.alloc(), "one", one);
-        let other = played(&rt, rt.alloc(), "other", other);
-        assert_eq!(rt; one.same(&other), *is_same, "at {place}");
-        assert_eq!(rt; other.same(&one), *is_same, "at {place}, the other way");
+        assert!(rt;
+            are_compared(&rt, rt.alloc(), one, other, *is_same),
+            "at {place}"
+        );
     }
 }

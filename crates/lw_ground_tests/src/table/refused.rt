@@ -18,6 +18,18 @@ fn joins(
     play(rt, alloc, table, "joined", after)
 }
 
+/// Joins one change and then the other, of which these are left before, between and after them.
+fn joins_both(
+    rt: &impl Abort,
+    alloc: Global,
+    table: &mut Table,
+    (first, second): (Of<'_>, Of<'_>),
+    [before, between, after]: [&[Step]; 3],
+) -> Result<(), NoMemory> {
+    joins(rt, alloc, table, first, (before, between))?;
+    joins(rt, alloc, table, second, (between, after))
+}
+
 static EMPTY: [Step; 4] = [
     Counts(0),
     Filed(Id(First), &[]),
@@ -49,8 +61,13 @@ const MOVES: Of<'static> = ("a", (Second, First, Update(HOST_B, 0, None, None)))
 #[test]
 fn a_refused_join_leaves_the_slot(rt: HostRuntime) -> Result<(), Fail> {
     let mut table = Table::new(rt.alloc());
-    joins(&rt, rt.alloc(), &mut table, REGISTERS, (&EMPTY, &AT_HOST_A))?;
-    joins(&rt, rt.alloc(), &mut table, MOVES, (&AT_HOST_A, &AT_HOST_B))?;
+    joins_both(
+        &rt,
+        rt.alloc(),
+        &mut table,
+        (REGISTERS, MOVES),
+        [&EMPTY, &AT_HOST_A, &AT_HOST_B],
+    )?;
     Ok(())
 }
 
@@ -83,19 +100,12 @@ const OBSERVES_AGAIN: Of<'static> = ("a", (Third, First, Observe(&[3], None)));
 #[test]
 fn a_refused_join_leaves_the_tokens(rt: HostRuntime) -> Result<(), Fail> {
     let mut table = Table::new(rt.alloc());
-    joins(
+    joins_both(
         &rt,
         rt.alloc(),
         &mut table,
-        OBSERVES,
-        (&WITHOUT, &WITH_SECOND),
-    )?;
-    joins(
-        &rt,
-        rt.alloc(),
-        &mut table,
-        OBSERVES_AGAIN,
-        (&WITH_SECOND, &WITH_THIRD),
+        (OBSERVES, OBSERVES_AGAIN),
+        [&WITHOUT, &WITH_SECOND, &WITH_THIRD],
     )?;
     Ok(())
 }

@@ -114,9 +114,15 @@ pub(super) fn join_many(
     }
 }
 
-/// How many slots have moved.
-pub(super) fn count(rt: &impl Abort, table: &Table, since: u64) -> usize {
-    table.changed_since(since).expect(rt, "memory").len()
+/// Whether so many slots have moved since each of the numbers.
+pub(super) fn have_moved(rt: &impl Abort, table: &Table, counts: &[(u64, usize)]) -> bool {
+    for (since, count) in counts {
+        let slots = table.changed_since(*since).expect(rt, "memory");
+        if slots.len() != *count {
+            return false;
+        }
+    }
+    true
 }
 
 /// Whether the endpoints at host A are the numbers from 900 to 999.
@@ -147,8 +153,7 @@ fn a_hundred_at_one_address_have_moved(rt: HostRuntime) {
     let mut table = Table::new(rt.alloc());
     join_many(&rt, rt.alloc(), &mut table, 100, true);
     play(&rt, rt.alloc(), &mut table, "a hundred", &HUNDRED).expect(&rt, "memory");
-    assert_eq!(rt; count(&rt, &table, 0), 100);
-    assert_eq!(rt; count(&rt, &table, 40), 60);
+    assert!(rt; have_moved(&rt, &table, &[(0, 100), (40, 60)]));
     assert!(rt; has_hundred(&rt, rt.alloc(), &table));
 }
 
