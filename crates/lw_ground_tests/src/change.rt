@@ -5,9 +5,8 @@ use lw_reg::{
     Addr, Attributes, Binding, Endpoint, GivenSettings, Op, Path, Settings, Slot, Text, Version,
     What, atom,
 };
-use lw_stamp::{Moment, Stamp};
+use lw_stamp::{Moment, NoMemory, Stamp};
 use std::alloc::Global;
-use std::test::Fail;
 
 pub(crate) const HOST_A: Addr = Addr::V4 {
     address: [127, 0, 0, 1],
@@ -74,15 +73,16 @@ pub(crate) fn at(ms: u64) -> Moment {
     Moment::new(ms).unwrap_or(Moment::START)
 }
 
-pub(crate) fn endpoint(alloc: Global, name: &str) -> Result<Endpoint, Fail> {
-    match Endpoint::new(Text::copy_of(alloc, name)?) {
-        Some(endpoint) => Ok(endpoint),
-        None => Err("an endpoint".into()),
-    }
+/// The endpoint of that name, if it is one.
+pub(crate) fn endpoint(alloc: Global, name: &str) -> Result<Option<Endpoint>, NoMemory> {
+    Ok(Endpoint::new(Text::copy_of(alloc, name)?))
 }
 
-fn register(alloc: Global, address: Addr, seen: u64, lifetime: u32) -> Result<What, Fail> {
-    let objects = LinkText::read(alloc, b"</>")?;
+/// The text `</>` is a list of links, so nothing but memory can be wanting.
+fn register(alloc: Global, address: Addr, seen: u64, lifetime: u32) -> Result<What, NoMemory> {
+    let Ok(objects) = LinkText::read(alloc, b"</>") else {
+        return Err(NoMemory);
+    };
     Ok(What::Register {
         version: Version::V10,
         queue: false,
@@ -122,32 +122,37 @@ fn update(
     }
 }
 
-fn path(numbers: &[u16]) -> Result<Path, Fail> {
-    Ok(Path::new(numbers).ok_or("a path")?)
+/// What is done at a path: a watch with the format that is accepted, or the end of the watch with the token. Where the
+/// numbers are no path, it is a removal.
+fn what_at(numbers: &[u16], accept: Option<u16>, cancelled: Option<Mark>) -> What {
+    let Some(path) = Path::new(numbers) else {
+        return What::Remove;
+    };
+    match cancelled {
+        None => What::Observe { path, accept },
+        Some(token) => What::Cancel {
+            path,
+            token: token.stamp(),
+        },
+    }
 }
 
-fn what(alloc: Global, act: Act<'_>) -> Result<What, Fail> {
+fn what(alloc: Global, act: Act<'_>) -> Result<What, NoMemory> {
     match act {
         Act::Register(address, seen, lifetime) => register(alloc, address, seen, lifetime),
         Act::Update(address, seen, lifetime, binding) => {
             Ok(update(alloc, address, seen, lifetime, binding))
         }
         Act::Remove => Ok(What::Remove),
-        Act::Observe(numbers, accept) => Ok(What::Observe {
-            path: path(numbers)?,
-            accept,
-        }),
-        Act::Cancel(numbers, token) => Ok(What::Cancel {
-            path: path(numbers)?,
-            token: token.stamp(),
-        }),
+        Act::Observe(numbers, accept) => Ok(what_at(numbers, accept, None)),
+        Act::Cancel(numbers, token) => Ok(what_at(numbers, None, Some(token))),
         Act::Expire(upto) => Ok(What::Expire { upto: upto.stamp() }),
     }
 }
 
 /// The slot of an operation about the endpoint `a`.
-pub(crate) fn slot_of(alloc: Global, (stamp, reg, act): Change<'_>) -> Result<Slot, Fail> {
-    let endpoint = endpoint(alloc, "a")?;
+pub(crate) fn slot_of(alloc: Global, (stamp, reg, act): Change<'_>) -> Result<Slot, NoMemory> {
+    let endpoint = Endpoint::copy_of(alloc, "a")?;
     let what = what(alloc, act)?;
     let operation = Op {
         stamp: stamp.stamp(),
@@ -155,5 +160,5 @@ pub(crate) fn slot_of(alloc: Global, (stamp, reg, act): Change<'_>) -> Result<Sl
         reg: reg.stamp(),
         what,
     };
-    Ok(atom(alloc, operation)?)
+    atom(alloc, operation)
 }

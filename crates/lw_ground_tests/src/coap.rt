@@ -1,10 +1,8 @@
 mod refused;
 
-use crate::hold::holds;
 use lw_coap::*;
-use lw_stamp::NoMemory;
-use std::alloc::{AllocError, Global};
-use std::test::Fail;
+use std::alloc::Global;
+use std::process::Abort;
 
 /// A confirmable POST to /rd with a token, queries and a payload.
 const REGISTER: [u8; 41] = [
@@ -13,13 +11,16 @@ const REGISTER: [u8; 41] = [
     0x2e, 0x31, 0xff, 0x3c, 0x2f, 0x33, 0x2f, 0x30, 0x3e,
 ];
 
-/// Whether the message is written as these bytes.
-fn is_written(alloc: Global, message: &Message, bytes: &[u8]) -> Result<bool, NoMemory> {
-    if !message.fits() {
-        return Ok(false);
-    }
-    let written = encode(alloc, message)?;
-    Ok(written.as_slice() == bytes)
+/// Writes the message as these bytes.
+fn writes(rt: &impl Abort, alloc: Global, message: &Message, bytes: &[u8]) {
+    assert!(rt; message.fits(), "{bytes:?}");
+    let written = encode(alloc, message).expect(rt, "memory");
+    assert!(rt; written.as_slice() == bytes, "{bytes:?}");
+}
+
+/// The message that the bytes are read as.
+fn read(rt: &impl Abort, alloc: Global, bytes: &[u8]) -> Message {
+    decode(alloc, bytes).expect(rt, "a message")
 }
 
 /// The length of the token, the number of options, the number of the last option and the length of its value, and the
@@ -53,23 +54,24 @@ fn is_last(message: &Message, bytes: &[u8]) -> bool {
 }
 
 /// The bytes are read as a message of the shape, and written again.
-fn spells(alloc: Global, bytes: &[u8], wanted: Shape) -> Result<(), Fail> {
-    let message = decode(alloc, bytes)?;
-    holds(
-        "the shape",
-        shape(&message) == wanted && is_last(&message, bytes),
-    )?;
-    holds("the bytes", is_written(alloc, &message, bytes)?)
+fn spells(rt: &impl Abort, alloc: Global, bytes: &[u8], wanted: Shape) {
+    let message = read(rt, alloc, bytes);
+    assert!(rt; shape(&message) == wanted, "{wanted:?}");
+    assert!(rt; is_last(&message, bytes), "{wanted:?}");
+    writes(rt, alloc, &message, bytes);
 }
 
-/// A confirmable GET with no token: behind its header these bytes, and then so many that count up.
-fn datagram(alloc: Global, front: &[u8], count: usize) -> Result<Vec<u8>, AllocError> {
-    let mut bytes = Vec::from_slice(alloc, &[0x40, 0x01, 0x12, 0x34])?;
-    bytes.extend_from_slice(front)?;
+/// A confirmable GET with no token.
+const GET: &[u8] = &[0x40, 0x01, 0x12, 0x34];
+
+/// The header, these bytes behind it, and then so many that count up.
+fn datagram(rt: &impl Abort, alloc: Global, header: &[u8], front: &[u8], count: usize) -> Vec<u8> {
+    let mut bytes = Vec::from_slice(alloc, header).expect(rt, "memory");
+    bytes.extend_from_slice(front).expect(rt, "memory");
     for i in 0..count {
-        bytes.push((i % 251) as u8)?;
+        bytes.push((i % 251) as u8).expect(rt, "memory");
     }
-    Ok(bytes)
+    bytes
 }
 
 /// The numbers and the values of the options of `REGISTER`.
@@ -117,36 +119,32 @@ fn is_register(message: &LentMessage<'_>) -> bool {
         && have_values(&message.options, &REGISTER_OPTIONS)
 }
 
-fn is_written_and_fits(alloc: Global, message: &mut Message) -> Result<(), Fail> {
-    holds("its bytes", is_written(alloc, message, &REGISTER)?)?;
-    message.code = 0;
-    holds("code 0.00 with more does not fit", !message.fits())
-}
-
 /// Tries: decode, Message::fits, Message::lend, Options::owned, Options::walk
 #[test]
-fn a_register_is_read_and_written(rt: HostRuntime) -> Result<(), Fail> {
-    let mut message = decode(rt.alloc(), &REGISTER)?;
-    holds("its parts", is_register(&message.lend()))?;
-    is_written_and_fits(rt.alloc(), &mut message)
+fn a_register_is_read_and_written(rt: HostRuntime) {
+    let mut message = read(&rt, rt.alloc(), &REGISTER);
+    assert!(rt; is_register(&message.lend()));
+    writes(&rt, rt.alloc(), &message, &REGISTER);
+    message.code = 0;
+    assert!(rt; !message.fits(), "code 0.00 with more does not fit");
 }
 
 /// Tries: decode_lent, DecodedMessage::lend, DecodedMessage::own, Options::lent, Options::next
 #[test]
-fn a_register_is_read_where_it_lies(rt: HostRuntime) -> Result<(), Fail> {
-    let message = decode_lent(rt.alloc(), &REGISTER)?;
-    holds("its parts", is_register(&message.lend()))?;
-    let own = message.own(rt.alloc())?;
-    holds("its own parts", is_register(&own.lend()))
+fn a_register_is_read_where_it_lies(rt: HostRuntime) {
+    let message = decode_lent(rt.alloc(), &REGISTER).expect(&rt, "a message");
+    assert!(rt; is_register(&message.lend()));
+    let own = message.own(rt.alloc()).expect(&rt, "memory");
+    assert!(rt; is_register(&own.lend()), "its own");
 }
 
 /// Tries: decode, decode_lent
 #[test]
-fn numbers_add_up(rt: HostRuntime) -> Result<(), Fail> {
-    let message = decode(rt.alloc(), HEADS)?;
-    holds("each", have_values(&message.lend().options, &NUMBERED))?;
-    let lent = decode_lent(rt.alloc(), HEADS)?;
-    holds("each lent", have_values(&lent.lend().options, &NUMBERED))
+fn numbers_add_up(rt: HostRuntime) {
+    let message = read(&rt, rt.alloc(), HEADS);
+    assert!(rt; have_values(&message.lend().options, &NUMBERED));
+    let lent = decode_lent(rt.alloc(), HEADS).expect(&rt, "a message");
+    assert!(rt; have_values(&lent.lend().options, &NUMBERED), "lent");
 }
 
 /// The fault of so many bytes of `REGISTER`, or none.
@@ -160,6 +158,7 @@ fn fault_of_front(len: usize) -> Option<Fault> {
     }
 }
 
+/// Datagrams of no message, and why they are none.
 static FAULTS: [(&[u8], Fault); 24] = [
     (&[], Fault::Short),
     (&[0x40, 0x01, 0x00], Fault::Short),
@@ -208,82 +207,70 @@ static FAULTS: [(&[u8], Fault); 24] = [
     (&[0x40, 0x01, 0x00, 0x01, 0xff], Fault::EmptyPayload),
 ];
 
-fn refuses(alloc: Global, bytes: &[u8], fault: Option<Fault>) -> Result<(), Fail> {
-    if decode(alloc, bytes).err() == fault && decode_lent(alloc, bytes).err() == fault {
-        return Ok(());
-    }
-    Err(Fail::new(format_args!("{bytes:?}: not {fault:?}")))
+/// Whether the bytes are no message, for this reason or, if it is none, are a message.
+fn is_fault(alloc: Global, bytes: &[u8], fault: Option<Fault>) -> bool {
+    decode(alloc, bytes).err() == fault && decode_lent(alloc, bytes).err() == fault
 }
 
 /// Tries: decode, decode_lent
 #[test]
-fn faults(rt: HostRuntime) -> Result<(), Fail> {
-    for (bytes, fault) in &FAULTS {
-        refuses(rt.alloc(), bytes, Some(*fault))?;
+fn faults(rt: HostRuntime) {
+    for row in &FAULTS {
+        assert!(rt; is_fault(rt.alloc(), row.0, Some(row.1)), "{row:?}");
     }
     for len in 0..42usize {
-        refuses(rt.alloc(), &REGISTER[..len], fault_of_front(len))?;
+        assert!(rt;
+            is_fault(rt.alloc(), &REGISTER[..len], fault_of_front(len)),
+            "at {len}"
+        );
     }
-    Ok(())
 }
 
-/// Whether the bytes are written again as they are, or are no message.
-fn is_written_again(alloc: Global, bytes: &[u8]) -> Result<bool, NoMemory> {
+/// Writes the bytes again as they are, if they are a message.
+fn writes_again(rt: &impl Abort, alloc: Global, bytes: &[u8]) {
     match decode(alloc, bytes) {
-        Ok(message) => is_written(alloc, &message, bytes),
-        Err(fault) => Ok(fault != Fault::NoMemory),
+        Ok(message) => writes(rt, alloc, &message, bytes),
+        Err(fault) => assert!(rt; fault != Fault::NoMemory, "{bytes:?}"),
     }
-}
-
-/// Whether that is so of each value of the byte at the place.
-fn are_written_again(alloc: Global, bytes: &mut [u8], place: usize) -> Result<bool, NoMemory> {
-    if bytes.len() <= place {
-        return Ok(false);
-    }
-    for byte in 0..=255u8 {
-        bytes[place] = byte;
-        if !is_written_again(alloc, bytes)? {
-            return Ok(false);
-        }
-    }
-    Ok(true)
 }
 
 /// Tries: decode
 #[test]
-fn each_byte_of_a_register_is_changed(rt: HostRuntime) -> Result<(), Fail> {
+fn each_byte_of_a_register_is_changed(rt: HostRuntime) {
     for place in 0..41usize {
         let mut bytes = REGISTER;
-        let is_so = are_written_again(rt.alloc(), &mut bytes, place)?;
-        holds("each value of a byte", is_so)?;
+        for byte in 0..=255u8 {
+            bytes[place] = byte;
+            writes_again(&rt, rt.alloc(), &bytes);
+        }
     }
-    Ok(())
 }
 
+/// What stands behind the header of a datagram that is too long.
 static TOO_LONG: [&[u8]; 3] = [&[0xff, 0], &[0xbe, 0x1e, 0xec, 0], &[0x01, 0x02, 0xff]];
 
-/// Looks at a datagram of 8,193 bytes, whose first byte is this.
-fn refuses_long(alloc: Global, head: &[u8], first: u8) -> Result<(), Fail> {
-    let mut bytes = datagram(alloc, head, 8193)?;
-    bytes.truncate(8193);
-    if let Some(byte) = bytes.first_mut() {
-        *byte = first;
-    }
-    holds("its length", bytes.len() == 8193)?;
-    refuses(alloc, &bytes, Some(Fault::TooLong))
-}
+/// Headers of versions 1 and 2.
+static VERSIONS: [&[u8]; 2] = [GET, &[0x80, 0x01, 0x12, 0x34]];
 
+/// Looks at datagrams of 8,193 bytes.
+///
 /// Tries: decode
 #[test]
-fn too_long(rt: HostRuntime) -> Result<(), Fail> {
+fn too_long(rt: HostRuntime) {
     for head in &TOO_LONG {
-        // versions 1 and 2
-        refuses_long(rt.alloc(), head, 0x40)?;
-        refuses_long(rt.alloc(), head, 0x80)?;
+        for header in &VERSIONS {
+            let mut bytes = datagram(&rt, rt.alloc(), header, head, 8193);
+            bytes.truncate(8193);
+            assert_eq!(rt; bytes.len(), 8193);
+            assert!(rt;
+                is_fault(rt.alloc(), &bytes, Some(Fault::TooLong)),
+                "{header:?}, {head:?}"
+            );
+        }
     }
-    Ok(())
 }
 
+/// Datagrams, and the shapes of their messages.
 static MESSAGES: [(&[u8], Shape); 14] = [
     (&REGISTER, [4, 5, 15, 9, 6]),
     (&[0x40, 0x01, 0x00, 0x01], [0, 0, 0, 0, 0]),
@@ -318,15 +305,6 @@ static MESSAGES: [(&[u8], Shape); 14] = [
         [8, 0, 0, 0, 0],
     ),
 ];
-
-/// Tries: decode, encode
-#[test]
-fn messages(rt: HostRuntime) -> Result<(), Fail> {
-    for (bytes, shape) in &MESSAGES {
-        spells(rt.alloc(), bytes, *shape)?;
-    }
-    Ok(())
-}
 
 /// What stands behind the header, how many bytes count up behind it, and the shape of the message.
 static BOUNDS: [(&[u8], usize, Shape); 25] = [
@@ -363,14 +341,20 @@ static BOUNDS: [(&[u8], usize, Shape); 25] = [
     (&[0xff], 8187, [0, 0, 0, 0, 8187]),
 ];
 
+/// The last message has as many options as one can have.
+///
 /// Tries: decode, encode
 #[test]
-fn options_and_payloads_at_the_bounds(rt: HostRuntime) -> Result<(), Fail> {
-    for (front, count, shape) in &BOUNDS {
-        let bytes = datagram(rt.alloc(), front, *count)?;
-        spells(rt.alloc(), &bytes, *shape)?;
+fn messages(rt: HostRuntime) {
+    for (bytes, shape) in &MESSAGES {
+        spells(&rt, rt.alloc(), bytes, *shape);
     }
-    Ok(())
+    for (front, count, shape) in &BOUNDS {
+        let bytes = datagram(&rt, rt.alloc(), GET, front, *count);
+        spells(&rt, rt.alloc(), &bytes, *shape);
+    }
+    let bytes = datagram(&rt, rt.alloc(), GET, &[0; 8188], 0);
+    spells(&rt, rt.alloc(), &bytes, [0, 8188, 0, 0, 0]);
 }
 
 /// Whether the options have values of one byte that count up, and numbers so much apart.
@@ -386,20 +370,20 @@ fn are_options(options: &[CoapOption], delta: u64, count: usize) -> bool {
     options.len() == count
 }
 
-/// So many options of one byte each, every one with this head.
-fn options(alloc: Global, head: u8, count: usize) -> Result<Vec<u8>, AllocError> {
-    let mut bytes = datagram(alloc, &[], 0)?;
+/// Options of one byte each, every one with this head, are read and written again.
+fn spells_options(rt: &impl Abort, alloc: Global, head: u8, delta: u64, count: usize) {
+    let mut bytes = Vec::from_slice(alloc, GET).expect(rt, "memory");
     for i in 0..count {
-        bytes.extend_from_slice(&[head, (i % 251) as u8])?;
+        bytes
+            .extend_from_slice(&[head, (i % 251) as u8])
+            .expect(rt, "memory");
     }
-    Ok(bytes)
-}
-
-fn spells_options(alloc: Global, head: u8, delta: u64, count: usize) -> Result<(), Fail> {
-    let bytes = options(alloc, head, count)?;
-    let message = decode(alloc, &bytes)?;
-    holds("the options", are_options(&message.options, delta, count))?;
-    holds("the bytes", is_written(alloc, &message, &bytes)?)
+    let message = read(rt, alloc, &bytes);
+    assert!(rt;
+        are_options(&message.options, delta, count),
+        "{head}, {count}"
+    );
+    writes(rt, alloc, &message, &bytes);
 }
 
 /// The head of each option, how far apart they are, and how many. The last three messages have 8,192 bytes.
@@ -414,26 +398,13 @@ static RUNS: [(u8, u64, usize); 6] = [
 
 /// Tries: decode, encode
 #[test]
-fn many_options(rt: HostRuntime) -> Result<(), Fail> {
+fn many_options(rt: HostRuntime) {
     for (head, delta, count) in &RUNS {
-        spells_options(rt.alloc(), *head, *delta, *count)?;
+        spells_options(&rt, rt.alloc(), *head, *delta, *count);
     }
-    Ok(())
 }
 
-/// As many options as a message can have: 8,188.
-fn zeros(alloc: Global) -> Result<Vec<u8>, AllocError> {
-    let zeros = vec![in alloc; 0u8; 8188]?;
-    datagram(alloc, &zeros, 0)
-}
-
-/// Tries: decode, encode
-#[test]
-fn empty_options(rt: HostRuntime) -> Result<(), Fail> {
-    let bytes = zeros(rt.alloc())?;
-    spells(rt.alloc(), &bytes, [0, 8188, 0, 0, 0])
-}
-
+/// Bytes, and the numbers that they spell.
 static NUMBERS: [(&[u8], Option<u32>); 7] = [
     (&[], Some(0)),
     (&[40], Some(40)),
@@ -444,6 +415,7 @@ static NUMBERS: [(&[u8], Option<u32>); 7] = [
     (&[0, 0, 0, 0, 1], None),
 ];
 
+/// Datagrams, and their headers.
 static HEADERS: [(&[u8], Option<(Kind, u8, u16)>); 7] = [
     (&REGISTER, Some((Kind::Con, 2, 1))),
     (&[0x5f, 0x45, 0x12, 0x34], Some((Kind::Non, 0x45, 0x1234))),

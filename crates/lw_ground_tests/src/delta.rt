@@ -3,12 +3,12 @@ ghost use Rattle.lw_delta.specs.Writable.{AllFollow};
 
 mod bounds;
 
-use crate::hold::{holds, holds_for};
 use lw_delta::*;
 use lw_reg::{Endpoint, Slot};
 use lw_stamp::{NoMemory, Stamp};
 use std::alloc::Global;
-use std::test::Fail;
+use std::fmt::Write;
+use std::process::Abort;
 
 /// One registration of the endpoint `a` with all fields: 100 bytes.
 const REGISTERED: &str =
@@ -493,53 +493,43 @@ static ACCEPTED: [(&str, u64, usize, &str); 23] = [
     (TWO_REMOVED, 1, 2, TWO_REMOVED),
 ];
 
-/// The walk of the bytes, and both ways to read them, end with this fault.
-fn refuses(alloc: Global, text: &str, fault: DeltaFault) -> Result<(), Fail> {
-    let bytes = hex::decode(alloc, text)?;
-    let is_found = check(&bytes).err() == Some(fault);
-    let is_answered = Reader::new(alloc, &bytes).err() == Some(fault);
-    holds(
-        text,
-        is_found && is_answered && read(alloc, &bytes).err() == Some(fault),
-    )
+fn bytes_of(rt: &impl Abort, alloc: Global, text: &str) -> Vec<u8> {
+    hex::decode(alloc, text).expect(rt, "bytes in hex")
+}
+
+/// Whether the walk of the bytes, and both ways to read them, end with this fault.
+fn is_refused(alloc: Global, bytes: &[u8], fault: DeltaFault) -> bool {
+    check(bytes) == Err(fault)
+        && Reader::new(alloc, bytes).err() == Some(fault)
+        && read(alloc, bytes).err() == Some(fault)
 }
 
 /// Whether the bytes are a delta that is written like this.
-fn is_written_as(alloc: Global, bytes: &[u8], again: &[u8]) -> Result<bool, NoMemory> {
-    match rewritten(alloc, bytes)? {
-        None => Ok(false),
-        Some(written) => Ok(written.as_slice() == again),
+fn is_written_as(rt: &impl Abort, alloc: Global, bytes: &[u8], again: &[u8]) -> bool {
+    match rewritten(alloc, bytes).expect(rt, "memory") {
+        None => false,
+        Some(written) => written.as_slice() == again,
     }
 }
 
-/// The clock that is read, and how many slots are.
-fn counts(alloc: Global, bytes: &[u8]) -> Result<(u64, usize), DeltaFault> {
-    let delta = read(alloc, bytes)?;
-    Ok((delta.clock, delta.slots.len()))
-}
-
-/// Whether it is a delta with the clock, and so many slots.
-fn is_counted(alloc: Global, bytes: &[u8], clock: u64, count: usize) -> Result<bool, DeltaFault> {
-    Ok(check(bytes) == Ok(clock) && counts(alloc, bytes)? == (clock, count))
-}
-
-fn accepts(
-    alloc: Global,
-    (text, clock, count, again): (&str, u64, usize, &str),
-) -> Result<(), Fail> {
-    let bytes = hex::decode(alloc, text)?;
-    holds(text, is_counted(alloc, &bytes, clock, count)?)?;
-    let again = hex::decode(alloc, again)?;
-    holds(text, is_written_as(alloc, &bytes, &again)?)
+/// Whether the bytes are a delta with the clock, and so many slots.
+fn is_counted(rt: &impl Abort, alloc: Global, bytes: &[u8], clock: u64, count: usize) -> bool {
+    let delta = read(alloc, bytes).expect(rt, "a delta");
+    check(bytes) == Ok(clock) && delta.clock == clock && delta.slots.len() == count
 }
 
 /// Tries: check, read, Writer::new, Writer::end, laws::written_deltas_are_shortest
 #[test]
-fn deltas_are_read_and_written(rt: HostRuntime) -> Result<(), Fail> {
-    for row in &ACCEPTED {
-        accepts(rt.alloc(), *row)?;
+fn deltas_are_read_and_written(rt: HostRuntime) {
+    for (text, clock, count, again) in &ACCEPTED {
+        let bytes = bytes_of(&rt, rt.alloc(), text);
+        let again = bytes_of(&rt, rt.alloc(), again);
+        assert!(rt;
+            is_counted(&rt, rt.alloc(), &bytes, *clock, *count),
+            "{text}"
+        );
+        assert!(rt; is_written_as(&rt, rt.alloc(), &bytes, &again), "{text}");
     }
-    Ok(())
 }
 
 /// Deltas, their clocks, and of each slot the endpoint, whether it was removed or is over up to stamp 1 of node 1, and
@@ -576,53 +566,53 @@ fn sign(slot: &Slot) -> &'static str {
 }
 
 /// The slots that a reader gives.
-fn told(alloc: Global, reader: &mut Reader<'_>) -> Result<String, Fail> {
+fn told(rt: &impl Abort, alloc: Global, reader: &mut Reader<'_>) -> String {
     let mut text = String::new(alloc);
-    while let Some((endpoint, slot)) = reader.next()? {
-        let sign = sign(&slot);
-        let counter = slot.stamp().counter;
-        let endpoint = endpoint.as_str();
-        let one = format!(in alloc; "{endpoint}{sign}{counter} ")?;
-        text.push_str(one.as_str())?;
+    while let Some((endpoint, slot)) = reader.next().expect(rt, "memory") {
+        let (endpoint, sign, counter) = (endpoint.as_str(), sign(&slot), slot.stamp().counter);
+        write!(text, "{endpoint}{sign}{counter} ").expect(rt, "memory");
     }
-    Ok(text)
+    text
 }
 
-/// Whether it is read so, and nothing is left after the end.
-fn reads(alloc: Global, bytes: &[u8], clock: u64, slots: &str) -> Result<bool, Fail> {
-    let mut reader = Reader::new(alloc, bytes)?;
-    let text = told(alloc, &mut reader)?;
-    Ok(reader.clock() == clock && text.as_str() == slots && reader.next()?.is_none())
+/// Whether the bytes are read so, and nothing is left after the end.
+fn reads(rt: &impl Abort, alloc: Global, bytes: &[u8], clock: u64, slots: &str) -> bool {
+    let mut reader = Reader::new(alloc, bytes).expect(rt, "a delta");
+    let text = told(rt, alloc, &mut reader);
+    let last = reader.next().expect(rt, "memory");
+    reader.clock() == clock && text.as_str() == slots && last.is_none()
 }
 
 /// Tries: Reader::new, Reader::clock, Reader::next
 #[test]
-fn slots_are_read_one_by_one(rt: HostRuntime) -> Result<(), Fail> {
+fn slots_are_read_one_by_one(rt: HostRuntime) {
     for (text, clock, slots) in &SLOTS {
-        let bytes = hex::decode(rt.alloc(), text)?;
-        holds(text, reads(rt.alloc(), &bytes, *clock, slots)?)?;
+        let bytes = bytes_of(&rt, rt.alloc(), text);
+        assert!(rt; reads(&rt, rt.alloc(), &bytes, *clock, slots), "{text}");
     }
-    Ok(())
 }
 
-fn is_truncated(bytes: &[u8], len: usize) -> bool {
-    match bytes.get(..len) {
-        None => false,
-        Some(front) => check(front) == Err(DeltaFault::Truncated),
+/// Whether each front of the bytes is cut off, as the check of it says.
+fn are_cut_off(bytes: &[u8]) -> bool {
+    for len in 0..bytes.len() {
+        if check(&bytes[..len]) != Err(DeltaFault::Truncated) {
+            return false;
+        }
     }
+    true
 }
+
+/// Deltas whose fronts are looked at.
+static WHOLE: [&str; 4] = [REGISTERED, ATTRIBUTED, ENDED, ENDED_AND_WATCHED];
 
 /// Tries: check, read, Reader::new
 #[test]
-fn the_first_fault_is_told(rt: HostRuntime) -> Result<(), Fail> {
+fn the_first_fault_is_told(rt: HostRuntime) {
     for (text, fault) in &REFUSED {
-        refuses(rt.alloc(), text, *fault)?;
+        let bytes = bytes_of(&rt, rt.alloc(), text);
+        assert!(rt; is_refused(rt.alloc(), &bytes, *fault), "{text}");
     }
-    for text in [REGISTERED, ATTRIBUTED, ENDED, ENDED_AND_WATCHED] {
-        let bytes = hex::decode(rt.alloc(), text)?;
-        for len in 0..bytes.len() {
-            holds_for(&len, is_truncated(&bytes, len))?;
-        }
+    for text in &WHOLE {
+        assert!(rt; are_cut_off(&bytes_of(&rt, rt.alloc(), text)), "{text}");
     }
-    Ok(())
 }

@@ -1,113 +1,152 @@
-use crate::hold::{holds, holds_for};
+use crate::hold::holds;
 use lw_due::*;
 use lw_stamp::NoMemory;
+use std::process::Abort;
 use std::test::Fail;
 
 mod kept;
-mod many;
+pub(crate) mod many;
+
+/// What is done, or asked and answered.
+#[derive(Drop)]
+enum Step<'a> {
+    /// Adds the endpoint, kept or not, with the due moment.
+    Adds(&'a str, bool, u64),
+    Lowers(&'a str, u64),
+    Keeps(&'a str, bool),
+    /// Gives the first that is due at a moment another due moment.
+    Raises(u64, u64),
+    /// The first that is due at the moment.
+    First(u64, Option<&'a str>),
+    /// The first that is due at the moment, above an endpoint.
+    FirstAfter(u64, Option<&'a str>, Option<&'a str>),
+    /// The first above an endpoint that is kept.
+    FirstKept(Option<&'a str>, Option<&'a str>),
+    /// So many are kept.
+    Count(usize),
+}
+
+use Step::*;
+
+/// Takes the step, or looks at the answer.
+fn take(rt: &impl Abort, moments: &mut DueMoments, row: usize, step: &Step<'_>) {
+    match step {
+        Adds(endpoint, kept, due) => moments.add(endpoint, *kept, *due).expect(rt, "memory"),
+        Lowers(endpoint, due) => moments.lower(endpoint, *due),
+        Keeps(endpoint, kept) => moments.keep(endpoint, *kept),
+        Raises(now, due) => moments.raise_first(*now, *due),
+        First(now, wanted) => assert!(rt; moments.first(*now) == *wanted, "first, at {row}"),
+        FirstAfter(now, after, wanted) => {
+            assert!(rt;
+                moments.first_due_after(*now, *after) == *wanted,
+                "due, at {row}"
+            );
+        }
+        FirstKept(after, wanted) => assert!(rt;
+            moments.first_kept(*after) == *wanted,
+            "kept, at {row}"
+        ),
+        Count(count) => assert!(rt; moments.kept_count() == *count, "count, at {row}"),
+    }
+}
+
+/// Takes each step in turn.
+fn take_all(rt: &impl Abort, moments: &mut DueMoments, steps: &[Step<'_>]) {
+    for (row, step) in steps.iter().enumerate() {
+        take(rt, moments, row, step);
+    }
+}
 
 /// Endpoints as they are put in, each with the due moment that it is given.
-static GIVEN: [(&str, u64); 5] = [("d", 40), ("b", 20), ("e", 20), ("a", 50), ("c", 30)];
-
-fn give_all(moments: &mut DueMoments) -> Result<(), NoMemory> {
-    for (endpoint, due) in &GIVEN {
-        moments.add(endpoint, false, *due)?;
-    }
-    Ok(())
-}
-
-/// A moment, and the least endpoint that is due then.
-static FIRST: [(u64, Option<&str>); 6] = [
-    (0, None),
-    (19, None),
-    (20, Some("b")),
-    (49, Some("b")),
-    (50, Some("a")),
-    (u64::MAX, Some("a")),
+static GIVEN: [Step<'static>; 5] = [
+    Adds("d", false, 40),
+    Adds("b", false, 20),
+    Adds("e", false, 20),
+    Adds("a", false, 50),
+    Adds("c", false, 30),
 ];
 
-fn is_first(moments: &DueMoments, now: u64, wanted: Option<&str>) -> bool {
-    moments.first(now) == wanted
-}
-
-/// Puts the endpoints in, and looks at the first that is due at each moment.
-fn has_first(moments: &mut DueMoments) -> Result<(), Fail> {
-    give_all(moments)?;
-    for row in &FIRST {
-        holds_for(row, is_first(moments, row.0, row.1))?;
-    }
-    Ok(())
-}
+/// The least endpoint that is due at each moment.
+static FIRST: [Step<'static>; 6] = [
+    First(0, None),
+    First(19, None),
+    First(20, Some("b")),
+    First(49, Some("b")),
+    First(50, Some("a")),
+    First(u64::MAX, Some("a")),
+];
 
 /// Tries: DueMoments::first
 #[test]
-fn the_least_endpoint_that_is_due(rt: HostRuntime) -> Result<(), Fail> {
+fn the_least_endpoint_that_is_due(rt: HostRuntime) {
     let mut moments = DueMoments::new(rt.alloc());
-    has_first(&mut moments)
+    take_all(&rt, &mut moments, &GIVEN);
+    take_all(&rt, &mut moments, &FIRST);
 }
 
-/// Raises each endpoint that is due at 40 to 41, the least first, and then none.
-fn raises_each(moments: &mut DueMoments) -> Result<(), Fail> {
-    give_all(moments)?;
-    for wanted in ["b", "c", "d", "e"] {
-        holds(wanted, moments.first(40) == Some(wanted))?;
-        moments.raise_first(40, 41);
-    }
-    holds("none at 40", moments.first(40).is_none())?;
-    moments.raise_first(40, 0);
-    holds("none was raised", moments.first(40).is_none())?;
-    holds("due at 41", moments.first(41) == Some("b"))
-}
+/// Each endpoint that is due at 40 is raised to 41, the least first, and then none.
+static RAISED: [Step<'static>; 12] = [
+    First(40, Some("b")),
+    Raises(40, 41),
+    First(40, Some("c")),
+    Raises(40, 41),
+    First(40, Some("d")),
+    Raises(40, 41),
+    First(40, Some("e")),
+    Raises(40, 41),
+    First(40, None),
+    Raises(40, 0),
+    First(40, None),
+    First(41, Some("b")),
+];
 
 /// Tries: DueMoments::raise_first
 #[test]
-fn each_is_raised_in_turn(rt: HostRuntime) -> Result<(), Fail> {
+fn each_is_raised_in_turn(rt: HostRuntime) {
     let mut moments = DueMoments::new(rt.alloc());
-    raises_each(&mut moments)
+    take_all(&rt, &mut moments, &GIVEN);
+    take_all(&rt, &mut moments, &RAISED);
 }
 
-/// Lowers to a greater due moment, lowers one that is absent, adds one again later and earlier, and lowers another.
-fn lowers_two(moments: &mut DueMoments) -> Result<(), Fail> {
-    give_all(moments)?;
-    moments.lower("b", 21);
-    holds("b is not raised", moments.first(20) == Some("b"))?;
-    moments.lower("z", 1);
-    moments.add("b", false, u64::MAX)?;
-    holds("z is absent", moments.first(19).is_none())?;
-    holds("b is as it was", moments.first(20) == Some("b"))?;
-    moments.lower("e", 10);
-    holds("e is lowered", moments.first(19) == Some("e"))?;
-    moments.add("c", false, 10)?;
-    holds("c is less than e", moments.first(19) == Some("c"))?;
-    holds("neither is due at 9", moments.first(9).is_none())
-}
+/// One is lowered to a greater due moment, one is absent, one is added again later and earlier, another is lowered.
+static LOWERED: [Step<'static>; 11] = [
+    Lowers("b", 21),
+    First(20, Some("b")),
+    Lowers("z", 1),
+    Adds("b", false, u64::MAX),
+    First(19, None),
+    First(20, Some("b")),
+    Lowers("e", 10),
+    First(19, Some("e")),
+    Adds("c", false, 10),
+    First(19, Some("c")),
+    First(9, None),
+];
 
 /// Tries: DueMoments::add, DueMoments::lower
 #[test]
-fn a_due_moment_is_only_lowered(rt: HostRuntime) -> Result<(), Fail> {
+fn a_due_moment_is_only_lowered(rt: HostRuntime) {
     let mut moments = DueMoments::new(rt.alloc());
-    lowers_two(&mut moments)
-}
-
-/// Adds one endpoint to none.
-fn is_due_last(moments: &mut DueMoments, endpoint: &str) -> Result<(), Fail> {
-    holds("none yet", moments.first(u64::MAX).is_none())?;
-    moments.add(endpoint, false, u64::MAX)?;
-    holds("not before", moments.first(u64::MAX - 1).is_none())?;
-    holds("due then", moments.first(u64::MAX) == Some(endpoint))?;
-    moments.lower(endpoint, 0);
-    holds("lowered", moments.first(0) == Some(endpoint))
+    take_all(&rt, &mut moments, &GIVEN);
+    take_all(&rt, &mut moments, &LOWERED);
 }
 
 /// Tries: DueMoments::new, DueMoments::add
 #[test]
-fn a_new_endpoint_is_due_at_the_last_moment(rt: HostRuntime) -> Result<(), Fail> {
-    let longest = "x".repeat(rt.alloc(), 252)?;
+fn a_new_endpoint_is_due_at_the_last_moment(rt: HostRuntime) {
+    let longest = "x".repeat(rt.alloc(), 252).expect(&rt, "memory");
     for endpoint in ["", "a", longest.as_str()] {
         let mut moments = DueMoments::new(rt.alloc());
-        is_due_last(&mut moments, endpoint)?;
+        let steps = [
+            First(u64::MAX, None),
+            Adds(endpoint, false, u64::MAX),
+            First(u64::MAX - 1, None),
+            First(u64::MAX, Some(endpoint)),
+            Lowers(endpoint, 0),
+            First(0, Some(endpoint)),
+        ];
+        take_all(&rt, &mut moments, &steps);
     }
-    Ok(())
 }
 
 /// Whether these endpoints and no other are due at 0, rising so. They are due at 0 again afterwards.
@@ -130,18 +169,15 @@ fn has_only(moments: &mut DueMoments, wanted: &[&str]) -> bool {
 static RISING: [&str; 8] = ["", "0", "10", "9", "Z", "a", "ö", "ぎ"];
 
 /// Adds all of them, the last first.
-fn rise_by_bytes(moments: &mut DueMoments) -> Result<(), Fail> {
-    for endpoint in RISING.iter().rev() {
-        moments.add(endpoint, false, 0)?;
-    }
-    holds("rising", has_only(moments, &RISING))
-}
-
+///
 /// Tries: DueMoments::add, DueMoments::first, DueMoments::lower, DueMoments::raise_first
 #[test]
-fn endpoints_rise_by_their_bytes(rt: HostRuntime) -> Result<(), Fail> {
+fn endpoints_rise_by_their_bytes(rt: HostRuntime) {
     let mut moments = DueMoments::new(rt.alloc());
-    rise_by_bytes(&mut moments)
+    for endpoint in RISING.iter().rev() {
+        moments.add(endpoint, false, 0).expect(&rt, "memory");
+    }
+    assert!(rt; has_only(&mut moments, &RISING));
 }
 
 static ENDPOINTS: [&str; 17] = [

@@ -1,7 +1,9 @@
+use crate::due::many::name_of;
 use crate::hold::{holds, holds_for};
 use lw_index::*;
 use lw_stamp::NoMemory;
 use std::alloc::Global;
+use std::process::Abort;
 use std::test::Fail;
 
 mod places;
@@ -17,78 +19,95 @@ fn has_only(index: &Index<u32>, key: u32, wanted: &[&str]) -> bool {
     endpoints.next().is_none()
 }
 
-/// Whether both endpoints of key 7 are there, and go and come.
-fn goes_and_comes(index: &mut Index<u32>, longest: &str) -> Result<(), Fail> {
-    for (key, endpoint) in [(7, longest), (7, "b"), (8, "c"), (7, "b")] {
-        index.add(key, endpoint)?;
-    }
-    index.drop_one(&7, "z");
-    index.drop_one(&9, "b");
-    holds("two", has_only(index, 7, &["b", longest]))?;
-    index.drop_one(&7, longest);
-    holds("the short one", has_only(index, 7, &["b"]))?;
-    index.add(7, longest)?;
-    index.drop_one(&7, "b");
-    holds("the longest", has_only(index, 7, &[longest]))?;
-    index.drop_one(&7, longest);
-    holds("none", has_only(index, 7, &[]))?;
-    holds("the other key", has_only(index, 8, &["c"]))
+/// What is done, or asked and answered.
+enum Step<'a> {
+    /// Files the endpoint under the key.
+    Files(u32, &'a str),
+    /// Takes the endpoint from the key.
+    Drops(u32, &'a str),
+    /// The key has these endpoints and no other.
+    Has(u32, &'a [&'a str]),
 }
+
+use Step::*;
+
+/// Takes each step in turn.
+fn take_all(rt: &impl Abort, index: &mut Index<u32>, steps: &[Step<'_>]) {
+    for (row, step) in steps.iter().enumerate() {
+        match step {
+            Files(key, endpoint) => index.add(*key, endpoint).expect(rt, "memory"),
+            Drops(key, endpoint) => index.drop_one(key, endpoint),
+            Has(key, endpoints) => assert!(rt; has_only(index, *key, endpoints), "at {row}"),
+        }
+    }
+}
+
+/// An endpoint of 252 bytes.
+const LONGEST: &str = concat!(
+    "xxxxxxxxxxxxxxxxxxxxxxxxxxxxxxxxxxxxxxxxxxxxxxxxxxxxxxxxxxxxxxx",
+    "xxxxxxxxxxxxxxxxxxxxxxxxxxxxxxxxxxxxxxxxxxxxxxxxxxxxxxxxxxxxxxx",
+    "xxxxxxxxxxxxxxxxxxxxxxxxxxxxxxxxxxxxxxxxxxxxxxxxxxxxxxxxxxxxxxx",
+    "xxxxxxxxxxxxxxxxxxxxxxxxxxxxxxxxxxxxxxxxxxxxxxxxxxxxxxxxxxxxxxx",
+);
+
+/// Both endpoints of key 7 are there, and go and come; then one of two is dropped, and one that the key does not have.
+static COME_AND_GO: [Step<'static>; 24] = [
+    Files(7, LONGEST),
+    Files(7, "b"),
+    Files(8, "c"),
+    Files(7, "b"),
+    Drops(7, "z"),
+    Drops(9, "b"),
+    Has(7, &["b", LONGEST]),
+    Drops(7, LONGEST),
+    Has(7, &["b"]),
+    Files(7, LONGEST),
+    Drops(7, "b"),
+    Has(7, &[LONGEST]),
+    Drops(7, LONGEST),
+    Has(7, &[]),
+    Has(8, &["c"]),
+    // the greater of two is dropped
+    Files(7, "b"),
+    Files(7, "a"),
+    Has(7, &["a", "b"]),
+    Drops(7, "b"),
+    Has(7, &["a"]),
+    Drops(7, "z"),
+    Has(7, &["a"]),
+    Drops(7, "a"),
+    Has(7, &[]),
+];
 
 /// Tries: Index::new, Index::add, Index::drop_one, Index::of
 #[test]
-fn the_endpoints_of_a_key(rt: HostRuntime) -> Result<(), Fail> {
-    let longest = "x".repeat(rt.alloc(), 252)?;
+fn the_endpoints_of_a_key(rt: HostRuntime) {
+    assert_eq!(rt; LONGEST.len(), 252);
     let mut index = Index::new(rt.alloc());
-    goes_and_comes(&mut index, longest.as_str())
+    take_all(&rt, &mut index, &COME_AND_GO);
 }
 
-/// Whether an endpoint of two is dropped, and one that the key does not have changes nothing.
-fn keeps_the_other(index: &mut Index<u32>) -> Result<(), Fail> {
-    index.add(7, "b")?;
-    index.add(7, "a")?;
-    holds("both, rising", has_only(index, 7, &["a", "b"]))?;
-    index.drop_one(&7, "b");
-    holds("the other", has_only(index, 7, &["a"]))?;
-    index.drop_one(&7, "z");
-    holds("still the other", has_only(index, 7, &["a"]))
-}
-
-/// Tries: Index::add, Index::drop_one, Index::of
-#[test]
-fn a_key_keeps_what_is_not_dropped(rt: HostRuntime) -> Result<(), Fail> {
-    let mut index = Index::new(rt.alloc());
-    keeps_the_other(&mut index)
+/// Adds the number as an endpoint of the key 7.
+fn adds_number(rt: &impl Abort, alloc: Global, index: &mut Index<u32>, number: usize) {
+    let endpoint = name_of(alloc, number).expect(rt, "memory");
+    index.add(7, endpoint.as_str()).expect(rt, "memory");
 }
 
 /// Adds the numbers from 100 to 199, each once, in no order.
-fn add_a_hundred(alloc: Global, index: &mut Index<u32>) -> Result<(), NoMemory> {
-    for place in 0..100u32 {
-        let number = 100 + (place * 37) % 100;
-        let endpoint = format!(in alloc; "{number}")?;
-        index.add(7, endpoint.as_str())?;
-    }
-    Ok(())
-}
-
-/// Whether the endpoints of the key are the numbers from 100 to 199.
-fn has_a_hundred(alloc: Global, index: &Index<u32>) -> Result<bool, NoMemory> {
-    let mut endpoints = index.of(&7);
-    for number in 100..200u32 {
-        let wanted = format!(in alloc; "{number}")?;
-        if endpoints.next() != Some(wanted.as_str()) {
-            return Ok(false);
-        }
-    }
-    Ok(endpoints.next().is_none())
-}
-
+///
 /// Tries: Index::add
 #[test]
-fn a_hundred_endpoints_of_a_key(rt: HostRuntime) -> Result<(), Fail> {
+fn a_hundred_endpoints_of_a_key(rt: HostRuntime) {
     let mut index = Index::new(rt.alloc());
-    add_a_hundred(rt.alloc(), &mut index)?;
-    holds("a hundred", has_a_hundred(rt.alloc(), &index)?)
+    for place in 0..100usize {
+        adds_number(&rt, rt.alloc(), &mut index, 100 + (place * 37) % 100);
+    }
+    let mut endpoints = index.of(&7);
+    for number in 100..200usize {
+        let wanted = name_of(rt.alloc(), number).expect(&rt, "memory");
+        assert!(rt; endpoints.next() == Some(wanted.as_str()), "at {number}");
+    }
+    assert!(rt; endpoints.next().is_none());
 }
 
 /// A node of a tree holds 15 entries: one more divides it.

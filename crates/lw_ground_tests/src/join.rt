@@ -7,23 +7,15 @@ use lw_join::{Flag, Parts};
 use lw_stamp::NoMemory;
 use std::alloc::Global;
 
+const UP: Flag = Flag { raised: true };
+
+const DOWN: Flag = Flag { raised: false };
+
 /// The entries of a map.
-type Entries = &'static [(u16, bool)];
+type Entries = &'static [(u16, Flag)];
 
 /// The map of these entries, where the keys rise.
 fn map_of(alloc: Global, rows: Entries) -> Result<Option<Parts<u16, Flag>>, NoMemory> {
-    let mut entries = Vec::new(alloc);
-    for (key, raised) in rows {
-        entries.push((*key, Flag { raised: *raised }))?;
-    }
+    let entries = Vec::from_slice(alloc, rows)?;
     Ok(Parts::from_entries(entries))
-}
-
-fn are_entries(entries: &[(u16, Flag)], wanted: Entries) -> bool {
-    for (entry, (key, raised)) in entries.iter().zip(wanted) {
-        if entry.0 != *key || entry.1.raised != *raised {
-            return false;
-        }
-    }
-    entries.len() == wanted.len()
 }

@@ -1,40 +1,38 @@
 mod refused;
 
-use crate::hold::{holds, holds_for, text_of};
+use crate::hold::text_of;
 use lw_link::{LinkFault, LinkText, is_printing, print, read, well_formed};
 use std::alloc::Global;
-use std::test::Fail;
+use std::process::Abort;
 
 /// A text, and how often it is repeated.
 type Part = (&'static str, usize);
 
-/// Whether what is read is printed so.
-fn is_printed(alloc: Global, given: &str, want: &str) -> Result<bool, LinkFault> {
-    let links = read(alloc, given.as_bytes())?;
-    if !well_formed(&links) {
-        return Ok(false);
-    }
-    let text = print(alloc, &links)?;
-    Ok(text.as_str() == want)
+/// What is read is printed as it is wanted.
+fn prints_links(rt: &impl Abort, alloc: Global, given: &str, want: &str) {
+    let links = read(alloc, given.as_bytes()).expect(rt, "links");
+    assert!(rt; well_formed(&links), "{given}");
+    let printed = print(alloc, &links).expect(rt, "memory");
+    assert!(rt; printed.as_str() == want, "{given}");
 }
 
-/// Whether the bytes are kept as this printing, and copied so.
-fn is_kept(alloc: Global, given: &str, want: &str) -> Result<bool, LinkFault> {
+/// What is read is kept and copied as it is wanted.
+fn keeps(rt: &impl Abort, alloc: Global, given: &str, want: &str) {
     let bytes = given.as_bytes();
-    if bytes.len() > 8_192 {
-        return Ok(false);
-    }
-    let text = LinkText::read(alloc, bytes)?;
-    let copy = text.copy_of(alloc)?;
-    Ok(text.as_str() == want && copy.as_str() == want)
+    assert!(rt; bytes.len() <= 8_192, "{given}");
+    let text = LinkText::read(alloc, bytes).expect(rt, "links");
+    let copy = text.copy_of(alloc).expect(rt, "memory");
+    assert!(rt;
+        text.as_str() == want && copy.as_str() == want,
+        "kept: {given}"
+    );
 }
 
-/// What is read is printed, and kept, as it is wanted.
-fn prints(alloc: Global, given: &str, want: &str) -> Result<(), Fail> {
-    let is_same = given == want;
-    holds(given, is_printing(given.as_bytes()) == is_same)?;
-    holds(given, is_printed(alloc, given, want)?)?;
-    holds(given, is_kept(alloc, given, want)?)
+/// What is read is printed, and kept and copied, as it is wanted.
+fn prints(rt: &impl Abort, alloc: Global, given: &str, want: &str) {
+    assert!(rt; is_printing(given.as_bytes()) == (given == want), "{given}");
+    prints_links(rt, alloc, given, want);
+    keeps(rt, alloc, given, want);
 }
 
 /// A spelling, and its printing.
@@ -54,15 +52,6 @@ static SPELLINGS: [(&str, &str); 11] = [
     ("<>;a=\"\\\u{e9}\\\\\"", "<>;a=\"\u{e9}\\\\\""),
     ("</3/0>;A-z.0_*=1;b", "</3/0>;A-z.0_*=1;b"),
 ];
-
-/// Tries: read, well_formed, LinkText::read, LinkText::as_str
-#[test]
-fn spellings_of_the_grammar(rt: HostRuntime) -> Result<(), Fail> {
-    for (given, printed) in &SPELLINGS {
-        prints(rt.alloc(), given, printed)?;
-    }
-    Ok(())
-}
 
 /// Texts that are no links, and where that shows.
 static NEAR_MISSES: [(&str, usize); 41] = [
@@ -123,21 +112,20 @@ fn are_no_text(alloc: Global) -> bool {
 
 /// Tries: read
 #[test]
-fn near_misses(rt: HostRuntime) -> Result<(), Fail> {
+fn near_misses(rt: HostRuntime) {
     for (text, place) in &NEAR_MISSES {
-        holds(text, is_missed(rt.alloc(), text, *place))?;
+        assert!(rt; is_missed(rt.alloc(), text, *place), "{text:?}");
     }
-    holds("half a character, and none", are_no_text(rt.alloc()))
-}
-
-/// How many links are read.
-fn count(alloc: Global, given: &str) -> Result<usize, LinkFault> {
-    Ok(read(alloc, given.as_bytes())?.len())
+    assert!(rt; are_no_text(rt.alloc()), "half a character, and none");
 }
 
 /// Whether so many links are read of it, or the fault is found.
 fn counts_to(alloc: Global, given: &str, wanted: &Result<usize, LinkFault>) -> bool {
-    count(alloc, given) == *wanted && is_printing(given.as_bytes()) == wanted.is_ok()
+    let is_counted = match read(alloc, given.as_bytes()) {
+        Ok(links) => *wanted == Ok(links.len()),
+        Err(fault) => *wanted == Err(fault),
+    };
+    is_counted && is_printing(given.as_bytes()) == wanted.is_ok()
 }
 
 /// How many links follow a first one, and what is counted then.
@@ -148,22 +136,11 @@ static COUNTS: [(usize, Result<usize, LinkFault>); 2] = [
 
 /// Tries: read
 #[test]
-fn at_most_256_links(rt: HostRuntime) -> Result<(), Fail> {
+fn at_most_256_links(rt: HostRuntime) {
     for row in &COUNTS {
-        let list = text_of(rt.alloc(), &[("<>", 1), (",<>", row.0)])?;
-        holds_for(row, counts_to(rt.alloc(), list.as_str(), &row.1))?;
+        let list = text_of(rt.alloc(), &[("<>", 1), (",<>", row.0)]).expect(&rt, "memory");
+        assert!(rt; counts_to(rt.alloc(), list.as_str(), &row.1), "{row:?}");
     }
-    Ok(())
-}
-
-/// Whether a printing of this length is kept as it is.
-fn is_kept_as_it_is(alloc: Global, given: &str, length: usize) -> Result<bool, Fail> {
-    let bytes = given.as_bytes();
-    if bytes.len() != length || bytes.len() > 8_192 || !is_printing(bytes) {
-        return Ok(false);
-    }
-    let text = LinkText::of_printing(alloc, bytes)?;
-    Ok(text.as_str() == given)
 }
 
 /// The parts of printings, and their lengths.
@@ -203,20 +180,25 @@ static PRINTINGS: [(&[Part], usize); 9] = [
     (&[("<>;ab=\"", 1), ("\\\\", 4092), ("\"", 1)], 8192),
 ];
 
-fn prints_printing(alloc: Global, parts: &[Part], length: usize) -> Result<(), Fail> {
-    let given = text_of(alloc, parts)?;
-    let is_kept = is_kept_as_it_is(alloc, given.as_str(), length)?;
-    holds(given.as_str(), is_kept)?;
-    prints(alloc, given.as_str(), given.as_str())
+/// Prints a printing of this length, which is kept as it is.
+fn prints_printing(rt: &impl Abort, alloc: Global, given: &str, length: usize) {
+    let bytes = given.as_bytes();
+    assert!(rt;
+        bytes.len() == length && bytes.len() <= 8_192 && is_printing(bytes),
+        "{given}"
+    );
+    let text = LinkText::of_printing(alloc, bytes).expect(rt, "memory");
+    assert!(rt; text.as_str() == given, "{given}");
+    prints(rt, alloc, given, given);
 }
 
 /// Tries: read, print, is_printing, LinkText::of_printing, LinkText::read, LinkText::copy_of
 #[test]
-fn printings_at_their_bounds(rt: HostRuntime) -> Result<(), Fail> {
+fn printings_at_their_bounds(rt: HostRuntime) {
     for (parts, length) in &PRINTINGS {
-        prints_printing(rt.alloc(), parts, *length)?;
+        let given = text_of(rt.alloc(), parts).expect(&rt, "memory");
+        prints_printing(&rt, rt.alloc(), given.as_str(), *length);
     }
-    Ok(())
 }
 
 /// The parts of a spelling, and of its printing.
@@ -245,17 +227,15 @@ static LONG_SPELLINGS: [(&[Part], &[Part]); 3] = [
     ),
 ];
 
-fn prints_spelling(alloc: Global, spelling: &[Part], printing: &[Part]) -> Result<(), Fail> {
-    let given = text_of(alloc, spelling)?;
-    let want = text_of(alloc, printing)?;
-    prints(alloc, given.as_str(), want.as_str())
-}
-
-/// Tries: print, is_printing, LinkText::read
+/// Tries: read, print, well_formed, is_printing, LinkText::read, LinkText::as_str
 #[test]
-fn long_spellings_are_printed(rt: HostRuntime) -> Result<(), Fail> {
-    for (spelling, printing) in &LONG_SPELLINGS {
-        prints_spelling(rt.alloc(), spelling, printing)?;
+fn spellings_are_printed(rt: HostRuntime) {
+    for (given, printed) in &SPELLINGS {
+        prints(&rt, rt.alloc(), given, printed);
     }
-    Ok(())
+    for (spelling, printing) in &LONG_SPELLINGS {
+        let given = text_of(rt.alloc(), spelling).expect(&rt, "memory");
+        let want = text_of(rt.alloc(), printing).expect(&rt, "memory");
+        prints(&rt, rt.alloc(), given.as_str(), want.as_str());
+    }
 }

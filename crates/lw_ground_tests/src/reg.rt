@@ -1,14 +1,14 @@
-use crate::hold::holds;
 use lw_reg::*;
 use std::alloc::Global;
-use std::test::Fail;
+use std::process::Abort;
 
 mod attributes;
 mod slots;
 pub(crate) mod whole;
 
-fn is_printed(alloc: Global, address: Addr, text: &str) -> Result<bool, Fail> {
-    Ok(Addr::read(text) == Some(address) && address.print(alloc)?.as_str() == text)
+fn is_printed(rt: &impl Abort, alloc: Global, address: Addr, text: &str) -> bool {
+    let printed = address.print(alloc).expect(rt, "memory");
+    Addr::read(text) == Some(address) && printed.as_str() == text
 }
 
 static ADDRESSES: [(&str, Addr); 7] = [
@@ -90,14 +90,13 @@ static NO_ADDRESSES: [&str; 22] = [
 
 /// Tries: Addr::print, Addr::read
 #[test]
-fn addresses_are_read_and_printed(rt: HostRuntime) -> Result<(), Fail> {
+fn addresses_are_read_and_printed(rt: HostRuntime) {
     for (text, address) in &ADDRESSES {
-        holds(text, is_printed(rt.alloc(), *address, text)?)?;
+        assert!(rt; is_printed(&rt, rt.alloc(), *address, text), "{text}");
     }
     for text in &NO_ADDRESSES {
-        holds(text, Addr::read(text).is_none())?;
+        assert!(rt; Addr::read(text).is_none(), "{text}");
     }
-    Ok(())
 }
 
 const LOW: Addr = Addr::V4 {
@@ -137,31 +136,32 @@ fn is_version(text: &str, version: Version) -> bool {
     Version::read(text) == Some(version) && version.as_str() == text
 }
 
+static VERSIONS: [(&str, Version); 2] = [("1.0", Version::V10), ("1.1", Version::V11)];
+
 /// Tries: Binding::read, Binding::as_str, Binding::default, Version::read, Version::as_str
 #[test]
-fn bindings_and_versions_have_texts() -> Result<(), Fail> {
+fn bindings_and_versions_have_texts(rt: HostRuntime) {
     for text in &BINDINGS {
-        holds(text, is_binding(text))?;
+        assert!(rt; is_binding(text), "{text}");
     }
     for text in &NO_BINDINGS {
-        holds(text, Binding::read(text).is_none())?;
+        assert!(rt; Binding::read(text).is_none(), "{text}");
     }
-    holds("the default", Binding::default() == Binding::U)?;
-    for (text, version) in [("1.0", Version::V10), ("1.1", Version::V11)] {
-        holds(text, is_version(text, version))?;
+    assert!(rt; Binding::default() == Binding::U);
+    for (text, version) in &VERSIONS {
+        assert!(rt; is_version(text, *version), "{text}");
     }
     for text in &NO_VERSIONS {
-        holds(text, Version::read(text).is_none())?;
+        assert!(rt; Version::read(text).is_none(), "{text}");
     }
-    Ok(())
 }
 
 /// Tries: laws::addresses_are_ordered, laws::versions_are_ordered
 #[test]
-fn addresses_and_versions_are_ordered() -> Result<(), Fail> {
-    holds("the port", LOW < OTHER_PORT)?;
-    holds("the bytes", OTHER_PORT < OTHER_BYTES)?;
-    holds("the family", OTHER_BYTES < OTHER_FAMILY)?;
-    holds("the version", Version::V10 < Version::V11)?;
-    holds("the binding", Binding::read("T") < Some(Binding::U))
+fn addresses_and_versions_are_ordered(rt: HostRuntime) {
+    assert!(rt; LOW < OTHER_PORT, "the port");
+    assert!(rt; OTHER_PORT < OTHER_BYTES, "the bytes");
+    assert!(rt; OTHER_BYTES < OTHER_FAMILY, "the family");
+    assert!(rt; Version::V10 < Version::V11, "the version");
+    assert!(rt; Binding::read("T") < Some(Binding::U), "the binding");
 }

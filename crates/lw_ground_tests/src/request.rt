@@ -1,10 +1,10 @@
-use crate::hold::{holds, text_of};
+use crate::hold::text_of;
 use lw_coap::{Kind, Message, codes, decode, decode_lent};
 use lw_request::*;
 use lw_stamp::Stamp;
 use shown::shown;
 use std::alloc::Global;
-use std::test::Fail;
+use std::process::Abort;
 
 mod bounds;
 mod cases;
@@ -12,59 +12,54 @@ mod shown;
 
 /// The bytes of an answer to a message, in hex.
 fn answered(
+    rt: &impl Abort,
     alloc: Global,
     message: &Message,
     code: u8,
     location: Option<Stamp>,
-) -> Result<String, Fail> {
-    let is_request = message.kind == Kind::Con || message.kind == Kind::Non;
-    if message.token.len() > 8 || code == 0 || !is_request {
-        return Err(Fail::from("a request and its answer"));
-    }
+) -> String {
     let token = message.token.as_slice();
-    let bytes = answer(alloc, message.kind, message.mid, token, code, location)?;
-    Ok(hex::encode(alloc, &bytes)?)
+    assert!(rt;
+        message.kind == Kind::Con || message.kind == Kind::Non,
+        "a request"
+    );
+    assert!(rt; token.len() <= 8 && code != 0, "an answer");
+    let bytes = answer(alloc, message.kind, message.mid, token, code, location);
+    hex::encode(alloc, &bytes.expect(rt, "memory")).expect(rt, "memory")
 }
 
-fn meaning(alloc: Global, message: &Message, asked: &Asked) -> Result<String, Fail> {
+/// A meaning: a refusal as the bytes of its answer, and any other in words.
+fn meaning(rt: &impl Abort, alloc: Global, message: &Message, asked: &Asked) -> String {
     match asked {
-        Asked::Refuse(refusal) => answered(alloc, message, refusal.code(), None),
-        _ => Ok(shown(alloc, asked)?),
+        Asked::Refuse(refusal) => answered(rt, alloc, message, refusal.code(), None),
+        _ => shown(rt, alloc, asked),
     }
 }
 
-/// What a message means: a refusal as the bytes of its answer, and any other meaning in words.
-fn told(alloc: Global, message: &Message) -> Result<String, Fail> {
-    let asked = understand(alloc, message)?;
-    meaning(alloc, message, &asked)
+/// What a message means.
+fn told(rt: &impl Abort, alloc: Global, message: &Message) -> String {
+    let asked = understand(alloc, message).expect(rt, "memory");
+    meaning(rt, alloc, message, &asked)
 }
 
-/// What the message means where it lies in the datagram.
-fn told_lent(alloc: Global, datagram: &str, message: &Message) -> Result<String, Fail> {
-    let bytes = hex::decode(alloc, datagram)?;
-    let lent = decode_lent(alloc, &bytes)?;
-    let asked = understand_lent(alloc, &lent.lend())?;
-    meaning(alloc, message, &asked)
+/// What the message means where it lies in its datagram.
+fn told_lent(rt: &impl Abort, alloc: Global, datagram: &[u8], message: &Message) -> String {
+    let lent = decode_lent(alloc, datagram).expect(rt, "a message");
+    let asked = understand_lent(alloc, &lent.lend()).expect(rt, "memory");
+    meaning(rt, alloc, message, &asked)
 }
 
-fn message_of(alloc: Global, datagram: &str) -> Result<Message, Fail> {
-    let bytes = hex::decode(alloc, datagram)?;
-    Ok(decode(alloc, &bytes)?)
+fn bytes_of(rt: &impl Abort, alloc: Global, datagram: &str) -> Vec<u8> {
+    hex::decode(alloc, datagram).expect(rt, "bytes in hex")
 }
 
-fn same(case: &str, text: &str, want: &str) -> Result<(), Fail> {
-    if text == want {
-        return Ok(());
-    }
-    Err(Fail::new(format_args!("{case}: {text}")))
-}
-
-fn check_meaning(alloc: Global, datagram: &str, want: &str) -> Result<(), Fail> {
-    let message = message_of(alloc, datagram)?;
-    let meant = told(alloc, &message)?;
-    same(datagram, meant.as_str(), want)?;
-    let lent = told_lent(alloc, datagram, &message)?;
-    same(datagram, lent.as_str(), want)
+fn check_meaning(rt: &impl Abort, alloc: Global, datagram: &str, want: &str) {
+    let bytes = bytes_of(rt, alloc, datagram);
+    let message = decode(alloc, &bytes).expect(rt, "a message");
+    let meant = told(rt, alloc, &message);
+    assert!(rt; meant.as_str() == want, "{datagram}: {meant}");
+    let lent = told_lent(rt, alloc, &bytes, &message);
+    assert!(rt; lent.as_str() == want, "{datagram}, lent: {lent}");
 }
 
 /// The datagram of a case, and what it means.
@@ -74,37 +69,27 @@ fn case_of(line: &str) -> Option<(&str, &str)> {
 }
 
 /// Looks at cases, a line each: what it is, its datagram in hex, and what that means.
-fn check(alloc: Global, cases: &str) -> Result<(), Fail> {
+fn check(rt: &impl Abort, alloc: Global, cases: &str) {
     for line in cases.trim().lines() {
-        let (datagram, want) = case_of(line).ok_or("a case")?;
-        check_meaning(alloc, datagram, want)?;
+        let (datagram, want) = case_of(line).expect(rt, "a case");
+        check_meaning(rt, alloc, datagram, want);
     }
-    Ok(())
 }
 
 /// Tries: understand, understand_lent
 #[test]
-fn requests_have_meanings(rt: HostRuntime) -> Result<(), Fail> {
-    check(rt.alloc(), cases::REGISTERS)?;
-    check(rt.alloc(), cases::LIFETIMES)?;
-    check(rt.alloc(), cases::QUERIES)?;
-    check(rt.alloc(), cases::UPDATES)
+fn requests_have_meanings(rt: HostRuntime) {
+    for cases in &cases::MEANINGS {
+        check(&rt, rt.alloc(), cases);
+    }
 }
 
 /// Tries: understand, Refusal::code
 #[test]
-fn the_first_cause_refuses(rt: HostRuntime) -> Result<(), Fail> {
-    check(rt.alloc(), cases::UNRECOGNISED)?;
-    check(rt.alloc(), cases::REFUSALS)?;
-    check(rt.alloc(), cases::STEPS)?;
-    check(rt.alloc(), cases::PATHS)
-}
-
-/// Tries: understand
-#[test]
-fn messages_have_roles_and_reports_no_critical_option(rt: HostRuntime) -> Result<(), Fail> {
-    check(rt.alloc(), cases::ROLES)?;
-    check(rt.alloc(), cases::REPORTS)
+fn the_first_cause_refuses(rt: HostRuntime) {
+    for cases in &cases::CAUSES {
+        check(&rt, rt.alloc(), cases);
+    }
 }
 
 /// The front of a datagram, what is repeated behind it and how often, and what that means.
@@ -165,20 +150,21 @@ static LONG: [(&str, &str, usize, &str); 9] = [
 
 /// Tries: understand
 #[test]
-fn long_queries_and_lists_are_refused(rt: HostRuntime) -> Result<(), Fail> {
+fn long_queries_and_lists_are_refused(rt: HostRuntime) {
     for (front, part, count, want) in &LONG {
-        let datagram = text_of(rt.alloc(), &[(*front, 1), (*part, *count)])?;
-        check_meaning(rt.alloc(), datagram.as_str(), want)?;
+        let datagram = text_of(rt.alloc(), &[(*front, 1), (*part, *count)]).expect(&rt, "memory");
+        check_meaning(&rt, rt.alloc(), datagram.as_str(), want);
     }
-    let links = text_of(
-        rt.alloc(),
-        &[("40020004b272644465703d61ff3c2f3e", 1), ("2c3c2f3e", 255)],
-    )?;
-    let want = text_of(
-        rt.alloc(),
-        &[("register a 1.0 false 86400 U - </>", 1), (",</>", 255)],
-    )?;
-    check_meaning(rt.alloc(), links.as_str(), want.as_str())
+}
+
+/// Tries: understand
+#[test]
+fn a_list_may_have_256_links(rt: HostRuntime) {
+    let links = [("40020004b272644465703d61ff3c2f3e", 1), ("2c3c2f3e", 255)];
+    let links = text_of(rt.alloc(), &links).expect(&rt, "memory");
+    let want = [("register a 1.0 false 86400 U - </>", 1), (",</>", 255)];
+    let want = text_of(rt.alloc(), &want).expect(&rt, "memory");
+    check_meaning(&rt, rt.alloc(), links.as_str(), want.as_str());
 }
 
 /// Datagrams, the codes of their answers, whether a registration was made, and the answers.
@@ -205,21 +191,17 @@ static ANSWERS: [(&str, u8, bool, &str); 5] = [
     ("40040012", codes::DELETED, false, "60420012"),
 ];
 
-fn check_answer(
+fn is_answered(
+    rt: &impl Abort,
     alloc: Global,
     datagram: &str,
     code: u8,
-    is_made: bool,
+    location: Option<Stamp>,
     want: &str,
-) -> Result<(), Fail> {
-    let location = if is_made {
-        Stamp::read_id(b"0000000000010001")
-    } else {
-        None
-    };
-    let message = message_of(alloc, datagram)?;
-    let bytes = answered(alloc, &message, code, location)?;
-    same(datagram, bytes.as_str(), want)
+) -> bool {
+    let bytes = bytes_of(rt, alloc, datagram);
+    let message = decode(alloc, &bytes).expect(rt, "a message");
+    answered(rt, alloc, &message, code, location).as_str() == want
 }
 
 fn empty_answers_have_the_number() -> bool {
@@ -231,12 +213,17 @@ fn empty_answers_have_the_number() -> bool {
 
 /// Tries: answer, reset, ack, lw_coap::encode_lent
 #[test]
-fn answers_have_the_token_and_the_location(rt: HostRuntime) -> Result<(), Fail> {
+fn answers_have_the_token_and_the_location(rt: HostRuntime) {
+    let made = Stamp::read_id(b"0000000000010001");
     for (datagram, code, is_made, want) in &ANSWERS {
-        check_answer(rt.alloc(), datagram, *code, *is_made, want)?;
+        let location = if *is_made { made } else { None };
+        assert!(rt;
+            is_answered(&rt, rt.alloc(), datagram, *code, location, want),
+            "{datagram}"
+        );
     }
-    holds(
-        "Resets and acknowledgements",
+    assert!(rt;
         empty_answers_have_the_number(),
-    )
+        "Resets and acknowledgements"
+    );
 }

@@ -1,7 +1,7 @@
-use crate::hold::{holds, holds_for, text_of};
+use crate::hold::text_of;
 use lw_stamp::*;
 use std::alloc::{AllocError, Global};
-use std::test::Fail;
+use std::process::Abort;
 
 const LAST: u64 = (1 << 48) - 1;
 
@@ -24,6 +24,7 @@ static STAMPS: [([u8; 8], &[u8], u64, u16); 5] = [
     ),
 ];
 
+/// Texts of no stamp.
 static NO_IDENTIFIERS: [&[u8]; 7] = [
     b"",
     b"000000000001000",
@@ -43,16 +44,18 @@ fn is_spelled(stamp: Stamp, bytes: [u8; 8], id: &[u8]) -> bool {
 
 /// Tries: Stamp::to_bytes, Stamp::from_bytes, Stamp::id_text, Stamp::read_id
 #[test]
-fn stamps_have_bytes_and_identifiers() -> Result<(), Fail> {
+fn stamps_have_bytes_and_identifiers(rt: HostRuntime) {
     for row in &STAMPS {
         let (bytes, id, counter, node) = *row;
-        holds_for(row, is_spelled(Stamp { counter, node }, bytes, id))?;
+        assert!(rt; is_spelled(Stamp { counter, node }, bytes, id), "{row:?}");
     }
     for text in &NO_IDENTIFIERS {
-        holds_for(text, Stamp::read_id(text).is_none())?;
+        assert!(rt; Stamp::read_id(text).is_none(), "{text:?}");
     }
-    let zero = Stamp::from_bytes([0, 0, 0, 0, 0, 0, 0, 1]);
-    holds("counter 0", zero.is_none())
+    assert!(rt;
+        Stamp::from_bytes([0, 0, 0, 0, 0, 0, 0, 1]).is_none(),
+        "counter 0"
+    );
 }
 
 const EARLY: Stamp = Stamp {
@@ -72,50 +75,43 @@ const LATER: Stamp = Stamp {
 
 /// Tries: laws::stamps_are_ordered
 #[test]
-fn the_counter_comes_before_the_node() -> Result<(), Fail> {
+fn the_counter_comes_before_the_node(rt: HostRuntime) {
     laws::stamps_are_ordered();
-    holds("the counter", EARLY < LATE)?;
-    holds("the node", LATE < LATER)
+    assert!(rt; EARLY < LATE, "the counter");
+    assert!(rt; LATE < LATER, "the node");
 }
 
 /// Tries: Clock::new, Clock::default, Clock::counter, Clock::next, Clock::raise, Moment::new, Moment::ms
 /// Tries: laws::moments_have_a_last
 #[test]
-fn clocks_and_moments_end_below_2_to_the_48() -> Result<(), Fail> {
+fn clocks_and_moments_end_below_2_to_the_48(rt: HostRuntime) {
     let mut clock = Clock::new();
-    let is_new = clock == Clock::default() && clock.counter() == 0;
-    let first = Stamp {
-        counter: 1,
-        node: 7,
-    };
-    holds("it begins", is_new && clock.next(7) == Some(first))?;
+    assert!(rt;
+        clock == Clock::default() && clock.counter() == 0,
+        "it begins"
+    );
+    let (counter, node) = (1, 7);
+    assert!(rt; clock.next(7) == Some(Stamp { counter, node }), "the first");
     clock.raise(5);
     clock.raise(4);
-    holds("it is raised", clock.counter() == 5)?;
+    assert_eq!(rt; clock.counter(), 5, "it is raised");
     clock.raise(LAST);
-    holds(
-        "it ends",
+    assert!(rt;
         clock.next(1).is_none() && clock.counter() == LAST,
-    )?;
-    let last = Moment::new(LAST).ok_or("the last moment")?;
-    holds("the last", last.ms() == LAST && Moment::START.ms() == 0)?;
-    holds("2^48", Moment::new(281474976710656).is_none())
+        "it ends"
+    );
+    let last = Moment::new(LAST).expect(&rt, "the last moment");
+    assert!(rt; last.ms() == LAST && Moment::START.ms() == 0, "the last");
+    assert!(rt; Moment::new(281474976710656).is_none(), "2^48");
 }
 
 /// Whether a text is copied and taken over, and has these many bytes.
-fn keeps(alloc: Global, given: String, len: usize) -> Result<bool, NoMemory> {
-    let copy = Text::copy_of(alloc, given.as_str())?;
+fn is_kept(rt: &impl Abort, alloc: Global, given: String, len: usize) -> bool {
+    let copy = Text::copy_of(alloc, given.as_str()).expect(rt, "memory");
     let is_copy = copy.as_str() == given.as_str() && copy.as_str().len() == len;
-    let is_taken = is_taken(given, copy);
-    Ok(is_copy && is_taken)
-}
-
-/// Whether a text that is taken over is the same as its copy.
-fn is_taken(given: String, copy: Text) -> bool {
     let taken = Text::from(given);
-    let is_copy = taken == copy;
-    let copy = copy.into_string();
-    is_copy && copy.as_str() == taken.as_str()
+    let is_taken = taken == copy;
+    is_copy && is_taken && copy.into_string().as_str() == taken.as_str()
 }
 
 /// A character, how many of it, and how many bytes these are.
@@ -136,27 +132,22 @@ static TEXTS: [(&str, usize, usize); 12] = [
 
 /// Tries: Text::copy_of, Text::from, Text::as_str, Text::into_string
 #[test]
-fn texts_keep_their_bytes(rt: HostRuntime) -> Result<(), Fail> {
+fn texts_keep_their_bytes(rt: HostRuntime) {
     for row in &TEXTS {
         let (part, count, len) = *row;
-        let given = text_of(rt.alloc(), &[(part, count)])?;
-        holds_for(row, keeps(rt.alloc(), given, len)?)?;
+        let given = text_of(rt.alloc(), &[(part, count)]).expect(&rt, "memory");
+        assert!(rt; is_kept(&rt, rt.alloc(), given, len), "{row:?}");
     }
-    holds("no memory", NoMemory::from(AllocError) == NoMemory)
-}
-
-fn is_below(alloc: Global, left: &str, right: &str) -> Result<bool, NoMemory> {
-    let left = Text::copy_of(alloc, left)?;
-    let right = Text::copy_of(alloc, right)?;
-    Ok(left < right && left != right)
+    assert!(rt; NoMemory::from(AllocError) == NoMemory);
 }
 
 /// Tries: laws::texts_are_ordered
 #[test]
-fn texts_compare_by_bytes(rt: HostRuntime) -> Result<(), Fail> {
+fn texts_compare_by_bytes(rt: HostRuntime) {
     laws::texts_are_ordered();
     for (left, right) in [("a", "ab"), ("ab", "b"), ("a", "b")] {
-        holds(left, is_below(rt.alloc(), left, right)?)?;
+        let less = Text::copy_of(rt.alloc(), left).expect(&rt, "memory");
+        let more = Text::copy_of(rt.alloc(), right).expect(&rt, "memory");
+        assert!(rt; less < more && less != more, "{left}, {right}");
     }
-    Ok(())
 }

@@ -1,6 +1,8 @@
 //! What a datagram is read as where the first try is refused memory.
 
 use super::*;
+use crate::hold::holds;
+use std::test::Fail;
 
 /// What the bytes are read as. Where that is refused, they are read again.
 fn read_in_two_tries(alloc: Global, bytes: &[u8]) -> Result<Message, Fault> {

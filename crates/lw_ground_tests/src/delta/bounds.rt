@@ -4,8 +4,8 @@ use super::is_written_as;
 use lw_delta::{DeltaFault, check, read};
 use lw_reg::{Endpoint, Slot};
 use lw_stamp::NoMemory;
-use std::alloc::{AllocError, Global};
-use std::test::Fail;
+use std::alloc::Global;
+use std::process::Abort;
 
 /// 127.0.0.1, port 5683.
 const V4: [u8; 7] = [4, 127, 0, 0, 1, 0x16, 0x33];
@@ -16,19 +16,24 @@ const V6: [u8; 19] = [
 ];
 
 /// Watches of 100 paths of four numbers: one half accepts Content-Format 110, the other half any.
-fn put_watches(bytes: &mut Vec<u8>, stamp: &[u8]) -> Result<(), Fail> {
+fn put_watches(bytes: &mut Vec<u8>, stamp: &[u8]) -> Result<(), NoMemory> {
     for n in 0..100u8 {
         let path = [1, 4, 0, n, 0xff, 0xfe, 0xff, 0xfe, 0xff, 0xfe];
         let accept: &[u8] = if n % 2 == 0 { &[1, 1, 0, 110] } else { &[1, 0] };
-        for part in [path.as_slice(), stamp, accept] {
-            bytes.extend_from_slice(part)?;
-        }
+        put(bytes, &[&path, stamp, accept])?;
+    }
+    Ok(())
+}
+
+fn put(bytes: &mut Vec<u8>, parts: &[&[u8]]) -> Result<(), NoMemory> {
+    for part in parts {
+        bytes.extend_from_slice(part)?;
     }
     Ok(())
 }
 
 /// A delta of one slot with every field, the longest of each text, an end, and 100 watches.
-fn full(alloc: Global, clock: &[u8; 6], host: &[u8]) -> Result<Vec<u8>, Fail> {
+fn full(alloc: Global, clock: &[u8; 6], host: &[u8]) -> Result<Vec<u8>, NoMemory> {
     let [a, b, c, d, e, f] = *clock;
     let stamp: &[u8] = &[a, b, c, d, e, f, 0, 1];
     let mut bytes = Vec::new(alloc);
@@ -58,17 +63,15 @@ fn full(alloc: Global, clock: &[u8; 6], host: &[u8]) -> Result<Vec<u8>, Fail> {
         &[0, 1],
         stamp,
     ];
-    for part in parts {
-        bytes.extend_from_slice(part)?;
-    }
+    put(&mut bytes, &parts)?;
     put_watches(&mut bytes, stamp)?;
-    bytes.extend_from_slice(&[0, 0])?;
+    put(&mut bytes, &[&[0, 0]])?;
     Ok(bytes)
 }
 
 /// What the readers of a slot give of the fields without texts.
-fn values(alloc: Global, slot: &Slot) -> Result<String, AllocError> {
-    format!(in alloc;
+fn values(rt: &impl Abort, alloc: Global, slot: &Slot) -> String {
+    let text = format!(in alloc;
         "{:?} {:?} {:?} {:?} {:?} {:?}",
         slot.base(),
         slot.address(),
@@ -76,14 +79,13 @@ fn values(alloc: Global, slot: &Slot) -> Result<String, AllocError> {
         slot.lifetime(),
         slot.binding(),
         slot.ended()
-    )
+    );
+    text.expect(rt, "memory")
 }
 
 /// Whether it is a delta that has the clock and this length, and is written as it was read.
-fn holds(alloc: Global, bytes: &[u8], clock: u64, length: usize) -> Result<bool, NoMemory> {
-    let checked = check(bytes) == Ok(clock);
-    let written = is_written_as(alloc, bytes, bytes)?;
-    Ok(checked && written && bytes.len() == length)
+fn holds(rt: &impl Abort, alloc: Global, bytes: &[u8], clock: u64, length: usize) -> bool {
+    check(bytes) == Ok(clock) && bytes.len() == length && is_written_as(rt, alloc, bytes, bytes)
 }
 
 /// Whether the slot has the longest texts and 100 watches.
@@ -100,18 +102,15 @@ fn is_full(endpoint: &Endpoint, slot: &Slot) -> bool {
         && slot.watches().len() == 100
 }
 
-/// What is read of a delta of one slot with the longest texts and 100 watches; nothing where it is another.
-fn read_alone(alloc: Global, bytes: &[u8]) -> Result<String, Fail> {
-    let delta = read(alloc, bytes)?;
+/// Whether this is read of a delta of one slot with the longest texts and 100 watches.
+fn is_read_as(rt: &impl Abort, alloc: Global, bytes: &[u8], text: &str) -> bool {
+    let delta = read(alloc, bytes).expect(rt, "a delta");
     match delta.slots.as_slice() {
-        [(endpoint, slot)] if is_full(endpoint, slot) => Ok(values(alloc, slot)?),
-        _ => Ok(String::new(alloc)),
+        [(endpoint, slot)] => {
+            is_full(endpoint, slot) && values(rt, alloc, slot).as_str() == text
+        }
+        _ => false,
     }
-}
-
-fn is_read_as(alloc: Global, bytes: &[u8], text: &str) -> Result<bool, Fail> {
-    let read = read_alone(alloc, bytes)?;
-    Ok(read.as_str() == text)
 }
 
 /// What is read of the address at stamp 1 at node 1, and of what is no text.
@@ -130,86 +129,74 @@ Some((Stamp { counter: 281474976710655, node: 1 }, 4294967295)) \
 Some((Stamp { counter: 281474976710655, node: 1 }, Binding { letters: [65, 66, 67, 68, 69, 70, 71, 72] })) \
 Some(Stamp { counter: 281474976710655, node: 1 })";
 
+/// The counter of the clock, the address, the clock, how many bytes there are, and what is read.
+static FULL: [([u8; 6], &[u8], u64, usize, &str); 2] = [
+    ([0, 0, 0, 0, 0, 1], &V4, 1, 10_907, V4_READ),
+    ([255; 6], &V6, 281_474_976_710_655, 10_919, V6_READ),
+];
+
 /// Tries: read, Writer::slot
 #[test]
-fn the_longest_fields_are_read_and_written_again(rt: HostRuntime) -> Result<(), Fail> {
-    let rows = [
-        ([0, 0, 0, 0, 0, 1], V4.as_slice(), 1, 10_907, V4_READ),
-        (
-            [255; 6],
-            V6.as_slice(),
-            281_474_976_710_655,
-            10_919,
-            V6_READ,
-        ),
-    ];
-    for (counter, host, clock, length, text) in rows {
-        let bytes = full(rt.alloc(), &counter, host)?;
-        let is_held = holds(rt.alloc(), &bytes, clock, length)?;
-        let is_read = is_read_as(rt.alloc(), &bytes, text)?;
-        assert!(rt; is_held && is_read, "clock {clock}");
+fn the_longest_fields_are_read_and_written_again(rt: HostRuntime) {
+    for (counter, host, clock, length, text) in &FULL {
+        let bytes = full(rt.alloc(), counter, host).expect(&rt, "memory");
+        assert!(rt;
+            holds(&rt, rt.alloc(), &bytes, *clock, *length),
+            "clock {clock}"
+        );
+        assert!(rt; is_read_as(&rt, rt.alloc(), &bytes, text), "clock {clock}");
     }
-    Ok(())
 }
 
 /// A delta of 300 removed registrations, of the endpoints 000 to 299.
-fn many(alloc: Global) -> Result<Vec<u8>, Fail> {
+fn many(alloc: Global) -> Result<Vec<u8>, NoMemory> {
     let mut bytes = Vec::new(alloc);
-    bytes.extend_from_slice(b"LWD3\x00\x00\x00\x00\x00\x01")?;
+    put(&mut bytes, &[b"LWD3\x00\x00\x00\x00\x00\x01"])?;
     for n in 0..300u16 {
         let name = [
             b'0' + (n / 100) as u8,
             b'0' + (n / 10 % 10) as u8,
             b'0' + (n % 10) as u8,
         ];
-        for part in [
-            &[1, 3],
-            name.as_slice(),
-            &[0, 0, 0, 0, 0, 1, 0, 1, 0x80, 0, 0, 0],
-        ] {
-            bytes.extend_from_slice(part)?;
-        }
+        put(
+            &mut bytes,
+            &[&[1, 3], &name, &[0, 0, 0, 0, 0, 1, 0, 1, 0x80, 0, 0, 0]],
+        )?;
     }
-    bytes.push(0)?;
+    put(&mut bytes, &[&[0]])?;
     Ok(bytes)
 }
 
-/// Whether 300 slots are read, and what the last is named.
-fn reads_many(alloc: Global, bytes: &[u8]) -> Result<bool, DeltaFault> {
-    let delta = read(alloc, bytes)?;
+/// Whether 300 slots are read, and the last is named `299`.
+fn reads_many(rt: &impl Abort, alloc: Global, bytes: &[u8]) -> bool {
+    let delta = read(alloc, bytes).expect(rt, "a delta");
     match delta.slots.last() {
-        None => Ok(false),
-        Some((endpoint, _)) => Ok(delta.slots.len() == 300 && endpoint.as_str() == "299"),
+        None => false,
+        Some((endpoint, _)) => delta.slots.len() == 300 && endpoint.as_str() == "299",
     }
 }
 
 /// Tries: read, Writer::slot
 #[test]
-fn three_hundred_slots_are_read_and_written_again(rt: HostRuntime) -> Result<(), Fail> {
-    let bytes = many(rt.alloc())?;
-    let is_held = holds(rt.alloc(), &bytes, 1, 5111)?;
-    let is_read = reads_many(rt.alloc(), &bytes)?;
-    assert!(rt; is_held && is_read);
-    Ok(())
+fn three_hundred_slots_are_read_and_written_again(rt: HostRuntime) {
+    let bytes = many(rt.alloc()).expect(&rt, "memory");
+    assert!(rt; holds(&rt, rt.alloc(), &bytes, 1, 5111));
+    assert!(rt; reads_many(&rt, rt.alloc(), &bytes));
 }
 
 /// A delta of one slot with an attribute alone: so long a name, and so long a value.
-fn attributed(alloc: Global, name: u8, value: u8) -> Result<Vec<u8>, Fail> {
-    let names = "n".repeat(alloc, usize::from(name))?;
-    let values = "v".repeat(alloc, usize::from(value))?;
+fn attributed(alloc: Global, name: u8, value: u8) -> Result<Vec<u8>, NoMemory> {
+    let mut bytes = Vec::new(alloc);
     let parts: [&[u8]; 7] = [
         b"LWD3\x00\x00\x00\x00\x00\x01\x01\x01a\x00\x00\x00\x00\x00\x01\x00\x01\x00",
         &[1, name],
-        names.as_bytes(),
+        &[b'n'; 255][..usize::from(name)],
         &[0, 0, 0, 0, 0, 1, 0, 1],
         &[value],
-        values.as_bytes(),
+        &[b'v'; 255][..usize::from(value)],
         &[0, 0, 0, 0],
     ];
-    let mut bytes = Vec::new(alloc);
-    for part in parts {
-        bytes.extend_from_slice(part)?;
-    }
+    put(&mut bytes, &parts)?;
     Ok(bytes)
 }
 
@@ -224,40 +211,45 @@ fn has_attribute(slot: &Slot, name: u8, value: u8) -> bool {
     }
 }
 
-fn reads_attribute(alloc: Global, bytes: &[u8], name: u8, value: u8) -> Result<bool, Fail> {
-    let delta = read(alloc, bytes)?;
+fn reads_attribute(rt: &impl Abort, alloc: Global, bytes: &[u8], name: u8, value: u8) -> bool {
+    let delta = read(alloc, bytes).expect(rt, "a delta");
     match delta.slots.as_slice() {
-        [(_, slot)] => Ok(has_attribute(slot, name, value)),
-        _ => Ok(false),
+        [(_, slot)] => has_attribute(slot, name, value),
+        _ => false,
     }
 }
 
+/// Lengths of a name and a value that have room in a query.
+static ROOMY: [(u8, u8); 6] = [(1, 0), (1, 253), (127, 127), (253, 1), (254, 0), (255, 0)];
+
+/// Lengths that have none.
+static TIGHT: [(u8, u8); 5] = [(1, 254), (127, 128), (253, 2), (254, 1), (255, 1)];
+
 /// Tries: read, Writer::slot, Writer::end
 #[test]
-fn the_longest_attributes_are_read_and_written_again(rt: HostRuntime) -> Result<(), Fail> {
-    for (name, value) in [(1, 0), (1, 253), (127, 127), (253, 1), (254, 0), (255, 0)] {
-        let bytes = attributed(rt.alloc(), name, value)?;
-        let is_held = holds(
-            rt.alloc(),
-            &bytes,
-            1,
-            37 + usize::from(name) + usize::from(value),
-        )?;
-        let is_read = reads_attribute(rt.alloc(), &bytes, name, value)?;
-        assert!(rt; is_held && is_read, "a name of {name}, a value of {value}");
+fn the_longest_attributes_are_read_and_written_again(rt: HostRuntime) {
+    for (name, value) in &ROOMY {
+        let bytes = attributed(rt.alloc(), *name, *value).expect(&rt, "memory");
+        let length = 37 + usize::from(*name) + usize::from(*value);
+        assert!(rt;
+            holds(&rt, rt.alloc(), &bytes, 1, length),
+            "{name} and {value}"
+        );
+        assert!(rt;
+            reads_attribute(&rt, rt.alloc(), &bytes, *name, *value),
+            "{name} and {value}"
+        );
     }
-    Ok(())
 }
 
 /// Tries: check
 #[test]
-fn a_name_and_its_value_have_room_in_a_query(rt: HostRuntime) -> Result<(), Fail> {
-    for (name, value) in [(1, 254), (127, 128), (253, 2), (254, 1), (255, 1)] {
-        let bytes = attributed(rt.alloc(), name, value)?;
+fn a_name_and_its_value_have_room_in_a_query(rt: HostRuntime) {
+    for (name, value) in &TIGHT {
+        let bytes = attributed(rt.alloc(), *name, *value).expect(&rt, "memory");
         assert!(rt;
             check(&bytes) == Err(DeltaFault::Range),
-            "a name of {name}, a value of {value}"
+            "{name} and {value}"
         );
     }
-    Ok(())
 }

@@ -3,101 +3,73 @@
 use super::*;
 use std::alloc::Global;
 
-/// Endpoints as they are put in, each kept or not, with its due moment.
-static KEPT: [(&str, bool, u64); 6] = [
-    ("d", true, 40),
-    ("b", false, 20),
-    ("f", true, 20),
-    ("a", false, 50),
-    ("c", true, 30),
-    ("e", false, 10),
+/// None is kept at first; then endpoints are put in, each kept or not, with its due moment.
+static KEPT: [Step<'static>; 8] = [
+    FirstKept(None, None),
+    Count(0),
+    Adds("d", true, 40),
+    Adds("b", false, 20),
+    Adds("f", true, 20),
+    Adds("a", false, 50),
+    Adds("c", true, 30),
+    Adds("e", false, 10),
 ];
 
-fn put_in(moments: &mut DueMoments) -> Result<(), NoMemory> {
-    for (endpoint, kept, due) in &KEPT {
-        moments.add(endpoint, *kept, *due)?;
-    }
-    Ok(())
-}
-
-/// An endpoint or none, and the least above it that is kept: of `c`, `d` and `f`.
-static NEXT_KEPT: [(Option<&str>, Option<&str>); 8] = [
-    (None, Some("c")),
-    (Some(""), Some("c")),
-    (Some("b"), Some("c")),
-    (Some("c"), Some("d")),
-    (Some("cc"), Some("d")),
-    (Some("d"), Some("f")),
-    (Some("f"), None),
-    (Some("z"), None),
+/// The least above an endpoint or none that is kept, of `c`, `d` and `f`; and the least above one that is due.
+static NEXT: [Step<'static>; 18] = [
+    FirstKept(None, Some("c")),
+    FirstKept(Some(""), Some("c")),
+    FirstKept(Some("b"), Some("c")),
+    FirstKept(Some("c"), Some("d")),
+    FirstKept(Some("cc"), Some("d")),
+    FirstKept(Some("d"), Some("f")),
+    FirstKept(Some("f"), None),
+    FirstKept(Some("z"), None),
+    FirstAfter(9, None, None),
+    FirstAfter(10, None, Some("e")),
+    FirstAfter(10, Some("e"), None),
+    FirstAfter(20, None, Some("b")),
+    FirstAfter(20, Some("b"), Some("e")),
+    FirstAfter(20, Some("e"), Some("f")),
+    FirstAfter(20, Some("f"), None),
+    FirstAfter(49, Some("b"), Some("c")),
+    FirstAfter(50, None, Some("a")),
+    Count(3),
 ];
-
-/// A moment, an endpoint or none, and the least above it that is due then.
-static NEXT_DUE: [(u64, Option<&str>, Option<&str>); 9] = [
-    (9, None, None),
-    (10, None, Some("e")),
-    (10, Some("e"), None),
-    (20, None, Some("b")),
-    (20, Some("b"), Some("e")),
-    (20, Some("e"), Some("f")),
-    (20, Some("f"), None),
-    (49, Some("b"), Some("c")),
-    (50, None, Some("a")),
-];
-
-fn are_next(moments: &DueMoments) -> Result<(), Fail> {
-    for row in &NEXT_KEPT {
-        holds_for(row, moments.first_kept(row.0) == row.1)?;
-    }
-    for row in &NEXT_DUE {
-        holds_for(row, moments.first_due_after(row.0, row.1) == row.2)?;
-    }
-    holds("three are kept", moments.kept_count() == 3)
-}
 
 /// Tries: DueMoments::add, DueMoments::first_kept, DueMoments::first_due_after, DueMoments::kept_count
 #[test]
-fn the_next_that_is_kept_or_due(rt: HostRuntime) -> Result<(), Fail> {
+fn the_next_that_is_kept_or_due(rt: HostRuntime) {
     let mut moments = DueMoments::new(rt.alloc());
-    holds("none is kept", moments.first_kept(None).is_none())?;
-    holds("none is counted", moments.kept_count() == 0)?;
-    put_in(&mut moments)?;
-    are_next(&moments)
+    take_all(&rt, &mut moments, &KEPT);
+    take_all(&rt, &mut moments, &NEXT);
 }
 
-/// Keeps one that was not, one that was, one that is absent; and keeps one no more, which is there still.
-fn keeps_four(moments: &mut DueMoments) -> Result<(), Fail> {
-    put_in(moments)?;
-    moments.keep("a", true);
-    moments.keep("c", true);
-    moments.keep("z", true);
-    holds("a is kept", moments.first_kept(None) == Some("a"))?;
-    holds("four are kept", moments.kept_count() == 4)?;
-    moments.keep("c", false);
-    moments.keep("b", false);
-    holds("c is not", moments.first_kept(Some("a")) == Some("d"))?;
-    holds("three are kept", moments.kept_count() == 3)?;
-    holds(
-        "c is due still",
-        moments.first_due_after(30, Some("b")) == Some("c"),
-    )?;
-    moments.add("c", true, u64::MAX)?;
-    holds(
-        "c is kept again",
-        moments.first_kept(Some("a")) == Some("c"),
-    )?;
-    holds(
-        "c is due as it was",
-        moments.first_due_after(30, Some("b")) == Some("c"),
-    )?;
-    holds("four again", moments.kept_count() == 4)
-}
+/// One is kept that was not, one that was, one that is absent; and one is kept no more, which is there still.
+static KEPT_NO_MORE: [Step<'static>; 14] = [
+    Keeps("a", true),
+    Keeps("c", true),
+    Keeps("z", true),
+    FirstKept(None, Some("a")),
+    Count(4),
+    Keeps("c", false),
+    Keeps("b", false),
+    FirstKept(Some("a"), Some("d")),
+    Count(3),
+    FirstAfter(30, Some("b"), Some("c")),
+    // kept again, and due as it was
+    Adds("c", true, u64::MAX),
+    FirstKept(Some("a"), Some("c")),
+    FirstAfter(30, Some("b"), Some("c")),
+    Count(4),
+];
 
 /// Tries: DueMoments::keep, DueMoments::add, laws::an_entry_is_kept
 #[test]
-fn one_is_kept_and_kept_no_more(rt: HostRuntime) -> Result<(), Fail> {
+fn one_is_kept_and_kept_no_more(rt: HostRuntime) {
     let mut moments = DueMoments::new(rt.alloc());
-    keeps_four(&mut moments)
+    take_all(&rt, &mut moments, &KEPT);
+    take_all(&rt, &mut moments, &KEPT_NO_MORE);
 }
 
 /// Whether the number is kept: two in five are at first, and one in three afterwards.
@@ -110,41 +82,41 @@ fn is_kept(number: usize, later: bool) -> bool {
 }
 
 /// Goes from one that is kept to the next, beside the numbers.
-fn walks_all(alloc: Global, moments: &DueMoments, later: bool) -> Result<(), Fail> {
+fn walk_all(rt: &impl Abort, alloc: Global, moments: &DueMoments, later: bool) {
     let mut upto = None;
     let mut count = 0usize;
     for number in 0..many::COUNT {
         if is_kept(number, later) {
-            let name = many::name_of(alloc, number)?;
+            let name = many::name_of(alloc, number).expect(rt, "memory");
             let found = moments.first_kept(upto);
-            holds_for(&number, found == Some(name.as_str()))?;
+            assert!(rt; found == Some(name.as_str()), "at {number}");
             upto = found;
             count = count.saturating_add(1);
         }
     }
-    holds("none behind", moments.first_kept(upto).is_none())?;
-    holds("counted", moments.kept_count() == count)
+    assert!(rt; moments.first_kept(upto).is_none());
+    assert_eq!(rt; moments.kept_count(), count);
 }
 
 /// Tries: DueMoments::first_kept, DueMoments::keep, DueMoments::kept_count, laws::the_first_is_the_next
 #[test]
-fn a_thousand_of_which_some_are_kept(rt: HostRuntime) -> Result<(), Fail> {
-    let alloc = rt.alloc();
-    let mut moments = DueMoments::new(alloc);
+fn a_thousand_of_which_some_are_kept(rt: HostRuntime) {
+    let mut moments = DueMoments::new(rt.alloc());
     for place in 0..many::COUNT {
         let number = place.wrapping_mul(377) % many::COUNT;
-        moments.add(
-            many::name_of(alloc, number)?.as_str(),
-            is_kept(number, false),
-            7,
-        )?;
+        let name = many::name_of(rt.alloc(), number).expect(&rt, "memory");
+        let step = Adds(name.as_str(), is_kept(number, false), 7);
+        take(&rt, &mut moments, place, &step);
     }
-    walks_all(alloc, &moments, false)?;
+    walk_all(&rt, rt.alloc(), &moments, false);
     for number in 0..many::COUNT {
-        moments.keep(
-            many::name_of(alloc, number)?.as_str(),
-            is_kept(number, true),
+        let name = many::name_of(rt.alloc(), number).expect(&rt, "memory");
+        take(
+            &rt,
+            &mut moments,
+            number,
+            &Keeps(name.as_str(), is_kept(number, true)),
         );
     }
-    walks_all(alloc, &moments, true)
+    walk_all(&rt, rt.alloc(), &moments, true);
 }

@@ -1,6 +1,7 @@
-use crate::hold::{holds, holds_for};
+use crate::hold::holds_for;
 use lw_index::*;
 use lw_stamp::NoMemory;
+use std::process::Abort;
 use std::test::Fail;
 
 /// The greatest place.
@@ -17,89 +18,100 @@ fn has_only(places: &Places<u64>, key: u64, wanted: &[u32]) -> bool {
     found.next().is_none()
 }
 
-/// Whether a place is filed, taken out and filed again.
-fn goes_and_comes(places: &mut Places<u64>) -> Result<(), Fail> {
-    holds("none", has_only(places, 7, &[]))?;
-    places.add(7, 3)?;
-    holds("one", has_only(places, 7, &[3]))?;
-    places.drop_one(7, 3);
-    holds("none any more", has_only(places, 7, &[]))?;
-    places.add(7, 3)?;
-    holds("one again", has_only(places, 7, &[3]))
+/// What is done, or asked and answered.
+enum Step {
+    /// Files each of the places under the key.
+    Files(u64, &'static [u32]),
+    /// Takes the place from the key.
+    Drops(u64, u32),
+    /// The key has these places and no other.
+    Has(u64, &'static [u32]),
 }
+
+use Step::*;
+
+/// Takes each step in turn.
+fn take_all(rt: &impl Abort, places: &mut Places<u64>, steps: &[Step]) {
+    for (row, step) in steps.iter().enumerate() {
+        match step {
+            Files(key, added) => {
+                for place in *added {
+                    places.add(*key, *place).expect(rt, "memory");
+                }
+            }
+            Drops(key, place) => places.drop_one(*key, *place),
+            Has(key, wanted) => assert!(rt; has_only(places, *key, wanted), "at {row}"),
+        }
+    }
+}
+
+/// A place is filed, taken out and filed again. A pair that is there is filed once, and one that is not there leaves
+/// the others.
+static ONE_KEY: [Step; 15] = [
+    Has(7, &[]),
+    Files(7, &[3]),
+    Has(7, &[3]),
+    Drops(7, 3),
+    Has(7, &[]),
+    Files(7, &[3]),
+    Has(7, &[3]),
+    Drops(7, 3),
+    Files(7, &[2, 1, 2]),
+    Has(7, &[1, 2]),
+    Drops(7, 3),
+    Drops(8, 1),
+    Has(7, &[1, 2]),
+    Drops(7, 2),
+    Has(7, &[1]),
+];
 
 /// Tries: Places::new, Places::add, Places::drop_one, Places::of
 #[test]
-fn a_place_of_a_key(rt: HostRuntime) -> Result<(), Fail> {
+fn a_place_of_a_key(rt: HostRuntime) {
     let mut places = Places::new(rt.alloc());
-    goes_and_comes(&mut places)
+    take_all(&rt, &mut places, &ONE_KEY);
 }
 
-/// Whether keys beside one another keep the least and the greatest place apart.
-fn tells_them_apart(places: &mut Places<u64>) -> Result<(), Fail> {
-    for key in [8, 0, 7, u64::MAX, 6] {
-        for place in [LAST_PLACE, 0, 5] {
-            places.add(key, place)?;
-        }
-    }
-    places.drop_one(7, 5);
-    places.drop_one(6, LAST_PLACE);
-    places.drop_one(8, 0);
-    for (key, wanted) in [
-        (0, [0, 5, LAST_PLACE].as_slice()),
-        (5, [].as_slice()),
-        (6, [0, 5].as_slice()),
-        (7, [0, LAST_PLACE].as_slice()),
-        (8, [5, LAST_PLACE].as_slice()),
-        (u64::MAX, [0, 5, LAST_PLACE].as_slice()),
-    ] {
-        holds_for(&key, has_only(places, key, wanted))?;
-    }
-    Ok(())
-}
+/// Keys beside one another keep the least and the greatest place apart.
+static SEVERAL_KEYS: [Step; 14] = [
+    Files(8, &[LAST_PLACE, 0, 5]),
+    Files(0, &[LAST_PLACE, 0, 5]),
+    Files(7, &[LAST_PLACE, 0, 5]),
+    Files(u64::MAX, &[LAST_PLACE, 0, 5]),
+    Files(6, &[LAST_PLACE, 0, 5]),
+    Drops(7, 5),
+    Drops(6, LAST_PLACE),
+    Drops(8, 0),
+    Has(0, &[0, 5, LAST_PLACE]),
+    Has(5, &[]),
+    Has(6, &[0, 5]),
+    Has(7, &[0, LAST_PLACE]),
+    Has(8, &[5, LAST_PLACE]),
+    Has(u64::MAX, &[0, 5, LAST_PLACE]),
+];
 
 /// Tries: Places::add, Places::drop_one, Places::of
 #[test]
-fn places_of_several_keys(rt: HostRuntime) -> Result<(), Fail> {
+fn places_of_several_keys(rt: HostRuntime) {
     let mut places = Places::new(rt.alloc());
-    tells_them_apart(&mut places)
-}
-
-/// Whether a pair that is there is filed once, and one that is not there leaves the others.
-fn keeps_the_others(places: &mut Places<u64>) -> Result<(), Fail> {
-    for place in [2, 1, 2] {
-        places.add(7, place)?;
-    }
-    holds("two", has_only(places, 7, &[1, 2]))?;
-    places.drop_one(7, 3);
-    places.drop_one(8, 1);
-    holds("still two", has_only(places, 7, &[1, 2]))?;
-    places.drop_one(7, 2);
-    holds("one", has_only(places, 7, &[1]))
-}
-
-/// Tries: Places::add, Places::drop_one
-#[test]
-fn a_pair_is_filed_once(rt: HostRuntime) -> Result<(), Fail> {
-    let mut places = Places::new(rt.alloc());
-    keeps_the_others(&mut places)
+    take_all(&rt, &mut places, &SEVERAL_KEYS);
 }
 
 /// Tries: Places::of
 #[test]
-fn a_loop_over_the_places_of_a_key(rt: HostRuntime) -> Result<(), Fail> {
+fn a_loop_over_the_places_of_a_key(rt: HostRuntime) {
     let mut places = Places::new(rt.alloc());
     for key in 0..3u64 {
         for place in 0..20u32 {
-            places.add(key, place)?;
+            places.add(key, place).expect(&rt, "memory");
         }
     }
     let mut seen = 0u32;
     for place in places.of(1) {
-        holds_for(&place, place == seen)?;
+        assert!(rt; place == seen, "at {seen}");
         seen = seen.saturating_add(1);
     }
-    holds("twenty", seen == 20)
+    assert_eq!(rt; seen, 20);
 }
 
 /// A node of a tree holds 15 entries: one more divides it.

@@ -1,374 +1,329 @@
-use super::{Entries, are_entries, map_of};
-use crate::change::Mark;
-use crate::hold::{holds, holds_for};
-use Mark::{Fourth, Third};
+use super::{DOWN, Entries, UP, map_of};
 use lw_join::*;
-use lw_stamp::{Moment, NoMemory, Text};
+use lw_stamp::{Moment, Stamp, Text};
 use std::alloc::Global;
-use std::test::Fail;
-
-/// Whether the left is below the right or not, and both are joined to what is wanted.
-fn joins_to<J: Join + PartialEq>(
-    mut left: J,
-    right: J,
-    below: bool,
-    wanted: &J,
-) -> Result<bool, NoMemory> {
-    let is_below = left.le(&right) == below;
-    left.join_with(right)?;
-    Ok(is_below && left == *wanted)
-}
-
-fn joins_calmly_to<J: Calm + PartialEq>(mut left: J, right: J, wanted: &J) -> bool {
-    left.join_calm(right);
-    left == *wanted
-}
+use std::process::Abort;
 
 /// What is left and right, whether the left is below the right, and what both joins give.
 type Case<T> = (T, T, bool, T);
 
-static FLAGS: [Case<bool>; 4] = [
-    (false, false, true, false),
-    (false, true, true, true),
-    (true, false, false, true),
-    (true, true, true, true),
+/// The left is below the right or not, and becomes their join.
+fn join_in<J: Join>(rt: &impl Abort, left: &mut J, right: J, below: bool) {
+    assert!(rt; left.le(&right) == below);
+    left.join_with(right).expect(rt, "memory");
+}
+
+/// Joins the left and the right of each case, in both ways.
+fn join_all<J: Calm + Copied + PartialEq>(rt: &impl Abort, alloc: Global, cases: &[Case<J>]) {
+    for (row, (left, right, below, wanted)) in cases.iter().enumerate() {
+        let mut joined = left.copy(alloc).expect(rt, "memory");
+        join_in(
+            rt,
+            &mut joined,
+            right.copy(alloc).expect(rt, "memory"),
+            *below,
+        );
+        assert!(rt; joined == *wanted, "at {row}");
+        let mut joined = left.copy(alloc).expect(rt, "memory");
+        joined.join_calm(right.copy(alloc).expect(rt, "memory"));
+        assert!(rt; joined == *wanted, "calm, at {row}");
+    }
+}
+
+static FLAGS: [Case<Flag>; 4] = [
+    (DOWN, DOWN, true, DOWN),
+    (DOWN, UP, true, UP),
+    (UP, DOWN, false, UP),
+    (UP, UP, true, UP),
 ];
 
 /// Tries: Join::le, Join::join_with, Calm::join_calm
 #[test]
-fn a_raised_flag_stays_raised() -> Result<(), Fail> {
+fn a_raised_flag_stays_raised(rt: HostRuntime) {
     laws::joins_are_semilattices::<Flag>();
     laws::joins_are_of_members::<Flag>();
     laws::maps_join_key_by_key::<u16, Flag>();
-    for case in &FLAGS {
-        let (left, right, below, wanted) = *case;
-        let (left, right) = (Flag { raised: left }, Flag { raised: right });
-        let wanted = Flag { raised: wanted };
-        holds_for(case, joins_to(left, right, below, &wanted)?)?;
-        holds_for(case, joins_calmly_to(left, right, &wanted))?;
-    }
-    Ok(())
+    join_all(&rt, rt.alloc(), &FLAGS);
 }
 
-fn once(value: Option<u32>) -> Once<u32> {
-    Once { value }
-}
+const NO_VALUE: Once<u32> = Once { value: None };
 
-static VALUES: [Case<Option<u32>>; 6] = [
-    (None, None, true, None),
-    (None, Some(3), true, Some(3)),
-    (Some(3), None, false, Some(3)),
-    (Some(3), Some(5), true, Some(5)),
-    (Some(5), Some(3), false, Some(5)),
-    (Some(5), Some(5), true, Some(5)),
+const THREE: Once<u32> = Once { value: Some(3) };
+
+const FIVE: Once<u32> = Once { value: Some(5) };
+
+static VALUES: [Case<Once<u32>>; 6] = [
+    (NO_VALUE, NO_VALUE, true, NO_VALUE),
+    (NO_VALUE, THREE, true, THREE),
+    (THREE, NO_VALUE, false, THREE),
+    (THREE, FIVE, true, FIVE),
+    (FIVE, THREE, false, FIVE),
+    (FIVE, FIVE, true, FIVE),
 ];
 
 /// Tries: Join::le, Join::join_with, Calm::join_calm
 #[test]
-fn the_greater_value_counts() -> Result<(), Fail> {
-    for case in &VALUES {
-        let (left, right, below, wanted) = *case;
-        let wanted = once(wanted);
-        holds_for(case, joins_to(once(left), once(right), below, &wanted)?)?;
-        holds_for(case, joins_calmly_to(once(left), once(right), &wanted))?;
-    }
-    Ok(())
+fn the_greater_value_counts(rt: HostRuntime) {
+    join_all(&rt, rt.alloc(), &VALUES);
 }
 
-fn written(write: Option<(Mark, u16)>) -> Lww<u16> {
-    match write {
-        None => Lww { write: None },
-        Some((mark, value)) => Lww {
-            write: Some((mark.stamp(), value)),
-        },
-    }
-}
+/// Of a greater node than the fourth.
+const THIRD: Stamp = Stamp {
+    counter: 3,
+    node: 2,
+};
 
-static WRITES: [Case<Option<(Mark, u16)>>; 6] = [
-    (None, None, true, None),
-    (None, Some((Third, 7)), true, Some((Third, 7))),
-    (Some((Third, 7)), None, false, Some((Third, 7))),
-    (Some((Third, 7)), Some((Fourth, 3)), true, Some((Fourth, 3))),
-    (
-        Some((Fourth, 3)),
-        Some((Third, 7)),
-        false,
-        Some((Fourth, 3)),
-    ),
-    (
-        Some((Fourth, 3)),
-        Some((Fourth, 4)),
-        true,
-        Some((Fourth, 4)),
-    ),
+const FOURTH: Stamp = Stamp {
+    counter: 4,
+    node: 1,
+};
+
+const NO_WRITE: Lww<u16> = Lww { write: None };
+
+const THIRD_7: Lww<u16> = Lww {
+    write: Some((THIRD, 7)),
+};
+
+const FOURTH_3: Lww<u16> = Lww {
+    write: Some((FOURTH, 3)),
+};
+
+const FOURTH_4: Lww<u16> = Lww {
+    write: Some((FOURTH, 4)),
+};
+
+const WRITES: [Case<Lww<u16>>; 6] = [
+    (NO_WRITE, NO_WRITE, true, NO_WRITE),
+    (NO_WRITE, THIRD_7, true, THIRD_7),
+    (THIRD_7, NO_WRITE, false, THIRD_7),
+    (THIRD_7, FOURTH_3, true, FOURTH_3),
+    (FOURTH_3, THIRD_7, false, FOURTH_3),
+    (FOURTH_3, FOURTH_4, true, FOURTH_4),
 ];
 
 /// Tries: Join::le, Join::join_with, Calm::join_calm
 #[test]
-fn the_last_write_wins() -> Result<(), Fail> {
-    for (row, case) in WRITES.iter().enumerate() {
-        let (left, right, below, wanted) = *case;
-        let wanted = written(wanted);
-        let is_joined = joins_to(written(left), written(right), below, &wanted)?;
-        holds_for(&row, is_joined)?;
-        holds_for(
-            &row,
-            joins_calmly_to(written(left), written(right), &wanted),
-        )?;
-    }
-    Ok(())
+fn the_last_write_wins(rt: HostRuntime) {
+    join_all(&rt, rt.alloc(), &WRITES);
 }
 
-fn last((mark, value): (Mark, u16)) -> Last<u16> {
-    Last {
-        write: (mark.stamp(), value),
-    }
-}
+const LAST_THIRD_7: Last<u16> = Last { write: (THIRD, 7) };
 
-static LAST_WRITES: [Case<(Mark, u16)>; 5] = [
-    ((Third, 7), (Third, 7), true, (Third, 7)),
-    ((Third, 7), (Fourth, 3), true, (Fourth, 3)),
-    ((Fourth, 3), (Third, 7), false, (Fourth, 3)),
-    ((Fourth, 3), (Fourth, 4), true, (Fourth, 4)),
-    ((Fourth, 4), (Fourth, 3), false, (Fourth, 4)),
+const LAST_FOURTH_3: Last<u16> = Last { write: (FOURTH, 3) };
+
+const LAST_FOURTH_4: Last<u16> = Last { write: (FOURTH, 4) };
+
+const LAST_WRITES: [Case<Last<u16>>; 5] = [
+    (LAST_THIRD_7, LAST_THIRD_7, true, LAST_THIRD_7),
+    (LAST_THIRD_7, LAST_FOURTH_3, true, LAST_FOURTH_3),
+    (LAST_FOURTH_3, LAST_THIRD_7, false, LAST_FOURTH_3),
+    (LAST_FOURTH_3, LAST_FOURTH_4, true, LAST_FOURTH_4),
+    (LAST_FOURTH_4, LAST_FOURTH_3, false, LAST_FOURTH_4),
 ];
 
 /// Tries: Join::le, Join::join_with, Calm::join_calm
 #[test]
-fn the_last_write_that_is_always_there_wins() -> Result<(), Fail> {
-    for (row, case) in LAST_WRITES.iter().enumerate() {
-        let (left, right, below, wanted) = *case;
-        let wanted = last(wanted);
-        holds_for(&row, joins_to(last(left), last(right), below, &wanted)?)?;
-        holds_for(&row, joins_calmly_to(last(left), last(right), &wanted))?;
-    }
-    Ok(())
+fn the_last_write_that_is_always_there_wins(rt: HostRuntime) {
+    join_all(&rt, rt.alloc(), &LAST_WRITES);
 }
 
-/// A stamp, a flag that may be gone, and a number.
-type Parted = (Mark, Option<bool>, u32);
+/// A stamped flag that may be gone.
+type Stamped = Lex<OrGone<Flag>>;
 
-/// Of all kinds one in another.
-fn parted((mark, raised, number): Parted) -> (Lex<OrGone<Flag>>, Once<u32>) {
-    let value = match raised {
-        None => OrGone::Gone,
-        Some(raised) => OrGone::Here(Flag { raised }),
-    };
-    let stamp = mark.stamp();
-    (Lex { stamp, value }, once(Some(number)))
-}
+const THIRD_UP: Stamped = Lex {
+    stamp: THIRD,
+    value: OrGone::Here(UP),
+};
+
+const THIRD_GONE: Stamped = Lex {
+    stamp: THIRD,
+    value: OrGone::Gone,
+};
+
+const FOURTH_UP: Stamped = Lex {
+    stamp: FOURTH,
+    value: OrGone::Here(UP),
+};
+
+const FOURTH_DOWN: Stamped = Lex {
+    stamp: FOURTH,
+    value: OrGone::Here(DOWN),
+};
 
 /// The greater stamp wins, and equal stamps join; what is gone stays gone; pairs join part by part.
-static PARTED: [Case<Parted>; 9] = [
+const PARTED: [Case<(Stamped, Once<u32>)>; 9] = [
     (
-        (Third, Some(true), 3),
-        (Fourth, Some(false), 3),
+        (THIRD_UP, THREE),
+        (FOURTH_DOWN, THREE),
         true,
-        (Fourth, Some(false), 3),
+        (FOURTH_DOWN, THREE),
     ),
     (
-        (Fourth, Some(false), 3),
-        (Third, Some(true), 3),
+        (FOURTH_DOWN, THREE),
+        (THIRD_UP, THREE),
         false,
-        (Fourth, Some(false), 3),
+        (FOURTH_DOWN, THREE),
     ),
     (
-        (Fourth, Some(false), 3),
-        (Fourth, Some(true), 3),
+        (FOURTH_DOWN, THREE),
+        (FOURTH_UP, THREE),
         true,
-        (Fourth, Some(true), 3),
+        (FOURTH_UP, THREE),
     ),
     (
-        (Fourth, Some(true), 3),
-        (Fourth, Some(false), 3),
+        (FOURTH_UP, THREE),
+        (FOURTH_DOWN, THREE),
         false,
-        (Fourth, Some(true), 3),
+        (FOURTH_UP, THREE),
     ),
     (
-        (Third, None, 3),
-        (Third, Some(true), 3),
+        (THIRD_GONE, THREE),
+        (THIRD_UP, THREE),
         false,
-        (Third, None, 3),
+        (THIRD_GONE, THREE),
     ),
     (
-        (Third, Some(true), 3),
-        (Third, None, 3),
+        (THIRD_UP, THREE),
+        (THIRD_GONE, THREE),
         true,
-        (Third, None, 3),
+        (THIRD_GONE, THREE),
     ),
     (
-        (Fourth, Some(true), 3),
-        (Fourth, Some(false), 5),
+        (FOURTH_UP, THREE),
+        (FOURTH_DOWN, FIVE),
         false,
-        (Fourth, Some(true), 5),
+        (FOURTH_UP, FIVE),
     ),
     (
-        (Fourth, Some(false), 5),
-        (Fourth, Some(true), 3),
+        (FOURTH_DOWN, FIVE),
+        (FOURTH_UP, THREE),
         false,
-        (Fourth, Some(true), 5),
+        (FOURTH_UP, FIVE),
     ),
     (
-        (Fourth, Some(false), 3),
-        (Fourth, Some(true), 5),
+        (FOURTH_DOWN, THREE),
+        (FOURTH_UP, FIVE),
         true,
-        (Fourth, Some(true), 5),
+        (FOURTH_UP, FIVE),
     ),
 ];
 
 /// Tries: Join::le, Join::join_with, Calm::join_calm
 #[test]
-fn stamped_values_that_may_be_gone_join_in_pairs() -> Result<(), Fail> {
-    for (row, case) in PARTED.iter().enumerate() {
-        let (left, right, below, wanted) = *case;
-        let wanted = parted(wanted);
-        holds_for(&row, joins_to(parted(left), parted(right), below, &wanted)?)?;
-        holds_for(&row, joins_calmly_to(parted(left), parted(right), &wanted))?;
-    }
-    Ok(())
+fn stamped_values_that_may_be_gone_join_in_pairs(rt: HostRuntime) {
+    join_all(&rt, rt.alloc(), &PARTED);
 }
 
 /// The map that joins of one entry each make.
-fn joined(alloc: Global, entries: Entries) -> Result<Parts<u16, Flag>, NoMemory> {
+fn joined(rt: &impl Abort, alloc: Global, entries: Entries) -> Parts<u16, Flag> {
     let mut map = Parts::new(alloc);
-    for (key, raised) in entries {
-        map.join_with(Parts::one(alloc, *key, Flag { raised: *raised })?)?;
+    for (key, flag) in entries {
+        let one = Parts::one(alloc, *key, *flag).expect(rt, "memory");
+        map.join_with(one).expect(rt, "memory");
     }
-    Ok(map)
+    map
 }
 
-fn maps_join(alloc: Global, case: Case<Entries>) -> Result<bool, NoMemory> {
-    let (left, right, below, wanted) = case;
-    let mut left = (joined(alloc, left)?, Flag { raised: false });
-    let right = (joined(alloc, right)?, Flag { raised: true });
-    let is_below = left.le(&right) == below;
-    left.join_with(right)?;
-    Ok(is_below && are_entries(left.0.entries(), wanted) && left.1.raised)
-}
-
+/// Maps beside a flag.
 static MAPS: [Case<Entries>; 7] = [
     (&[], &[], true, &[]),
-    (&[], &[(4, false)], true, &[(4, false)]),
-    (&[(4, false)], &[], false, &[(4, false)]),
-    (&[(4, true)], &[(4, false)], false, &[(4, true)]),
-    (&[(4, false)], &[(4, true)], true, &[(4, true)]),
+    (&[], &[(4, DOWN)], true, &[(4, DOWN)]),
+    (&[(4, DOWN)], &[], false, &[(4, DOWN)]),
+    (&[(4, UP)], &[(4, DOWN)], false, &[(4, UP)]),
+    (&[(4, DOWN)], &[(4, UP)], true, &[(4, UP)]),
     (
-        &[(1, true), (6, true)],
-        &[(4, false), (9, false)],
+        &[(1, UP), (6, UP)],
+        &[(4, DOWN), (9, DOWN)],
         false,
-        &[(1, true), (4, false), (6, true), (9, false)],
+        &[(1, UP), (4, DOWN), (6, UP), (9, DOWN)],
     ),
     (
-        &[(3, false), (5, false), (7, true)],
-        &[(1, true), (5, true), (6, false)],
+        &[(3, DOWN), (5, DOWN), (7, UP)],
+        &[(1, UP), (5, UP), (6, DOWN)],
         false,
-        &[(1, true), (3, false), (5, true), (6, false), (7, true)],
+        &[(1, UP), (3, DOWN), (5, UP), (6, DOWN), (7, UP)],
     ),
 ];
 
 /// Tries: laws::maps_join_key_by_key, Join::le, Join::join_with
 #[test]
-fn maps_join_key_by_key(rt: HostRuntime) -> Result<(), Fail> {
+fn maps_join_key_by_key(rt: HostRuntime) {
     for case in &MAPS {
-        holds_for(case, maps_join(rt.alloc(), *case)?)?;
+        let (left, right, below, wanted) = *case;
+        let mut map = (joined(&rt, rt.alloc(), left), DOWN);
+        let other = (joined(&rt, rt.alloc(), right), UP);
+        join_in(&rt, &mut map, other, below);
+        assert!(rt; map.0.entries() == wanted && map.1.raised, "{case:?}");
     }
-    Ok(())
 }
 
 fn both(
+    rt: &impl Abort,
     alloc: Global,
     left: Entries,
     right: Entries,
-) -> Result<Both<u16, Flag, u16, Flag>, NoMemory> {
-    Ok(Both {
-        left: joined(alloc, left)?,
-        right: joined(alloc, right)?,
-    })
+) -> Both<u16, Flag, u16, Flag> {
+    Both {
+        left: joined(rt, alloc, left),
+        right: joined(rt, alloc, right),
+    }
 }
 
-fn two_maps_join(
-    alloc: Global,
-    left: Case<Entries>,
-    right: Case<Entries>,
-) -> Result<bool, NoMemory> {
-    let mut maps = both(alloc, left.0, right.0)?;
-    let other = both(alloc, left.1, right.1)?;
-    let is_below = maps.le(&other) == (left.2 && right.2);
-    maps.join_with(other)?;
-    let are_joined = are_entries(maps.left.entries(), left.3)
-        && are_entries(maps.right.entries(), right.3);
+fn join_both(rt: &impl Abort, alloc: Global, left: &Case<Entries>, right: &Case<Entries>) {
+    let mut maps = both(rt, alloc, left.0, right.0);
+    let other = both(rt, alloc, left.1, right.1);
+    join_in(rt, &mut maps, other, left.2 && right.2);
+    assert!(rt; maps.left.entries() == left.3, "{left:?}, {right:?}");
+    assert!(rt; maps.right.entries() == right.3, "{left:?}, {right:?}");
     let is_empty = left.3.is_empty() && right.3.is_empty();
-    Ok(is_below && are_joined && maps.is_empty() == is_empty)
+    assert!(rt; maps.is_empty() == is_empty, "{left:?}, {right:?}");
 }
 
 /// Tries: Both::is_empty, Join::le, Join::join_with
 #[test]
-fn two_maps_join_at_once(rt: HostRuntime) -> Result<(), Fail> {
+fn two_maps_join_at_once(rt: HostRuntime) {
     for left in &MAPS {
         for right in &MAPS {
-            let is_joined = two_maps_join(rt.alloc(), *left, *right)?;
-            holds_for(&(*left, *right), is_joined)?;
+            join_both(&rt, rt.alloc(), left, right);
         }
     }
-    Ok(())
 }
 
 /// Keys that are equal, and that fall.
-static NO_MAPS: [Entries; 2] = [&[(2, true), (2, true)], &[(2, true), (1, true)]];
-
-/// Whether there is a map of the entries.
-fn is_map(alloc: Global, rows: Entries) -> Result<bool, NoMemory> {
-    Ok(map_of(alloc, rows)?.is_some())
-}
-
-fn has_three(map: Parts<u16, Flag>) -> bool {
-    let is_read = map.len() == 3
-        && !map.is_empty()
-        && map.get(&2) == Some(&Flag { raised: false })
-        && map.get(&3).is_none();
-    let entries = map.into_entries();
-    is_read && are_entries(&entries, &[(2, false), (4, true), (7, true)])
-}
+static NO_MAPS: [Entries; 2] = [&[(2, UP), (2, UP)], &[(2, UP), (1, UP)]];
 
 /// Tries: Parts::new, Parts::one, Parts::entries, Parts::into_entries, Parts::from_entries, Parts::len
 /// Tries: Parts::is_empty, Parts::get
 #[test]
-fn maps_are_their_entries(rt: HostRuntime) -> Result<(), Fail> {
+fn maps_are_their_entries(rt: HostRuntime) {
     for rows in &NO_MAPS {
-        holds_for(rows, !is_map(rt.alloc(), *rows)?)?;
+        let map = map_of(rt.alloc(), *rows).expect(&rt, "memory");
+        assert!(rt; map.is_none(), "{rows:?}");
     }
-    let map = joined(rt.alloc(), &[(7, true), (2, false), (4, true)])?;
-    holds("three", has_three(map))
+    let map = joined(&rt, rt.alloc(), &[(7, UP), (2, DOWN), (4, UP)]);
+    assert!(rt; map.len() == 3 && !map.is_empty());
+    assert!(rt; map.get(&2) == Some(&DOWN));
+    assert!(rt; map.get(&3).is_none());
+    let entries = map.into_entries();
+    assert!(rt; entries.as_slice() == [(2, DOWN), (4, UP), (7, UP)].as_slice());
 }
 
-fn is_below_or_equal<V: Exact>(left: &V, right: &V) -> bool {
+fn is_at_most<V: Exact>(left: &V, right: &V) -> bool {
     left.cmp(right).is_le()
 }
 
-fn numbers_compare() -> bool {
-    is_below_or_equal(&false, &true)
-        && is_below_or_equal(&1u8, &2)
-        && !is_below_or_equal(&3u16, &2)
-        && is_below_or_equal(&2u32, &2)
-        && is_below_or_equal(&2u64, &3)
-}
-
-fn records_compare() -> bool {
-    is_below_or_equal(&Third.stamp(), &Fourth.stamp())
-        && is_below_or_equal(&Moment::START, &Moment::START)
-        && is_below_or_equal(&None, &Some(1u8))
-        && !is_below_or_equal(&(1u8, true), &(1, false))
-}
-
-fn texts_compare(alloc: Global) -> Result<bool, NoMemory> {
-    let short = Text::copy_of(alloc, "a")?;
-    let long = Text::copy_of(alloc, "ab")?;
-    Ok(is_below_or_equal(&short, &long) && !is_below_or_equal(&long, &short))
-}
-
 #[test]
-fn keys_compare_exactly(rt: HostRuntime) -> Result<(), Fail> {
-    holds("numbers", numbers_compare())?;
-    holds("records", records_compare())?;
-    holds("texts", texts_compare(rt.alloc())?)
+fn keys_compare_exactly(rt: HostRuntime) {
+    assert!(rt; is_at_most(&false, &true));
+    assert!(rt; is_at_most(&1u8, &2));
+    assert!(rt; !is_at_most(&3u16, &2));
+    assert!(rt; is_at_most(&2u32, &2));
+    assert!(rt; is_at_most(&2u64, &3));
+    assert!(rt; is_at_most(&THIRD, &FOURTH));
+    assert!(rt; is_at_most(&Moment::START, &Moment::START));
+    assert!(rt; is_at_most(&None, &Some(1u8)));
+    assert!(rt; !is_at_most(&(1u8, true), &(1, false)));
+    let short = Text::copy_of(rt.alloc(), "a").expect(&rt, "memory");
+    let long = Text::copy_of(rt.alloc(), "ab").expect(&rt, "memory");
+    assert!(rt; is_at_most(&short, &long) && !is_at_most(&long, &short));
 }

@@ -1,4 +1,4 @@
-use super::{Entries, are_entries, map_of};
+use super::{DOWN, Entries, UP, map_of};
 use crate::hold::{holds, holds_for};
 use lw_join::*;
 use lw_stamp::Stamp;
@@ -10,23 +10,23 @@ const EARLY: Stamp = Stamp {
     node: 9,
 };
 
-const BEFORE: Entries = &[(3, false), (5, false), (7, true)];
+const BEFORE: Entries = &[(3, DOWN), (5, DOWN), (7, UP)];
 
-const OTHER: Entries = &[(1, true), (5, true), (8, false)];
+const OTHER: Entries = &[(1, UP), (5, UP), (8, DOWN)];
 
-const AFTER: Entries = &[(1, true), (3, false), (5, true), (7, true), (8, false)];
+const AFTER: Entries = &[(1, UP), (3, DOWN), (5, UP), (7, UP), (8, DOWN)];
 
 /// More keys than are inserted one by one.
 const MANY: Entries = &[
-    (10, true),
-    (11, false),
-    (12, true),
-    (13, false),
-    (14, true),
-    (15, false),
-    (16, true),
-    (17, false),
-    (18, true),
+    (10, UP),
+    (11, DOWN),
+    (12, UP),
+    (13, DOWN),
+    (14, UP),
+    (15, DOWN),
+    (16, UP),
+    (17, DOWN),
+    (18, UP),
 ];
 
 /// The maps before a join, and what it gives.
@@ -48,7 +48,7 @@ fn is_joined_or_left(alloc: Global, case: (Entries, Entries, Entries)) -> Result
     let right = map(alloc, other)?;
     let is_joined = left.join_with(right).is_ok();
     let wanted = if is_joined { after } else { before };
-    Ok(are_entries(left.entries(), wanted))
+    Ok(left.entries() == wanted)
 }
 
 /// Tries: Join::join_with
@@ -81,7 +81,7 @@ fn are_joined_or_left(
     } else {
         (left.0, right.0)
     };
-    Ok(are_entries(maps.left.entries(), left) && are_entries(maps.right.entries(), right))
+    Ok(maps.left.entries() == left && maps.right.entries() == right)
 }
 
 /// Tries: Join::join_with
@@ -109,7 +109,7 @@ fn has(left: &Beside, entries: Entries, raised: bool) -> bool {
     match &left.0.value {
         OrGone::Gone => false,
         OrGone::Here(map) => {
-            left.0.stamp == EARLY && left.1.raised == raised && are_entries(map.entries(), entries)
+            left.0.stamp == EARLY && left.1.raised == raised && map.entries() == entries
         }
     }
 }

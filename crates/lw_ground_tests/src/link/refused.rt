@@ -1,8 +1,10 @@
 //! What links are read as, and printed, where the first try is refused memory.
 
 use super::*;
+use crate::hold::holds;
 use lw_link::Link;
 use lw_stamp::NoMemory;
+use std::test::Fail;
 
 /// Attributes of each kind, a needless backslash, and spaces that are not printed.
 const SPACED: &str = r#"</1/0>; rt="a\b\"";ct=110;  obs,  </3/0>"#;

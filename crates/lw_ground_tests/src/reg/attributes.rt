@@ -1,9 +1,8 @@
 //! Which names and values are attributes.
 
-use crate::hold::holds_for;
 use lw_reg::{Attributes, Text, is_attribute_name};
-use std::alloc::{AllocError, Global};
-use std::test::Fail;
+use std::alloc::Global;
+use std::process::Abort;
 
 /// Names, and whether a query of that name is an attribute.
 static NAMES: [(&str, bool); 16] = [
@@ -25,34 +24,31 @@ static NAMES: [(&str, bool); 16] = [
     ("sms", false),
 ];
 
-fn letters(alloc: Global, letter: &str, length: usize) -> Result<Text, AllocError> {
-    Ok(Text::from(letter.repeat(alloc, length)?))
+/// A text, and how often it stands there.
+type Part = (&'static str, usize);
+
+fn text(rt: &impl Abort, alloc: Global, (part, count): Part) -> Text {
+    Text::from(part.repeat(alloc, count).expect(rt, "memory"))
 }
 
-/// The attributes of a name and a value, each so often a letter.
-fn attributes(
-    alloc: Global,
-    name: (&str, usize),
-    value: (&str, usize),
-) -> Result<Option<Attributes>, Fail> {
-    let mut pairs = Vec::new(alloc);
-    pairs.push((
-        letters(alloc, name.0, name.1)?,
-        letters(alloc, value.0, value.1)?,
-    ))?;
-    Ok(Attributes::from_pairs(pairs))
+/// The attributes of these names and values, if they are some.
+fn attributes(rt: &impl Abort, alloc: Global, pairs: &[(Part, Part)]) -> Option<Attributes> {
+    let mut texts = Vec::new(alloc);
+    for (name, value) in pairs {
+        let pair = (text(rt, alloc, *name), text(rt, alloc, *value));
+        texts.push(pair).expect(rt, "memory");
+    }
+    Attributes::from_pairs(texts)
 }
 
 /// Tries: is_attribute_name
 #[test]
-fn names_are_of_attributes_or_not(rt: HostRuntime) -> Result<(), Fail> {
-    for case in &NAMES {
-        let (name, is_one) = *case;
-        let made = attributes(rt.alloc(), (name, 1), ("v", 1))?;
-        holds_for(case, is_attribute_name(name) == is_one)?;
-        holds_for(case, made.is_some() == is_one)?;
+fn names_are_of_attributes_or_not(rt: HostRuntime) {
+    for (name, is_one) in &NAMES {
+        let made = attributes(&rt, rt.alloc(), &[((name, 1), ("v", 1))]);
+        assert_eq!(rt; is_attribute_name(name), *is_one, "{name}");
+        assert_eq!(rt; made.is_some(), *is_one, "{name}");
     }
-    Ok(())
 }
 
 /// Lengths of a name and a value, and whether both have room in a query of 255 bytes.
@@ -78,40 +74,30 @@ fn is_pair(attributes: &Attributes, name: usize, value: usize) -> bool {
 
 /// Tries: Attributes::from_pairs, Attributes::as_slice
 #[test]
-fn names_and_values_have_room_in_a_query(rt: HostRuntime) -> Result<(), Fail> {
-    for case in &LENGTHS {
-        let (name, value, is_one) = *case;
-        match attributes(rt.alloc(), ("n", name), ("v", value))? {
-            Some(made) => holds_for(case, is_one && is_pair(&made, name, value))?,
-            None => holds_for(case, !is_one)?,
-        }
+fn names_and_values_have_room_in_a_query(rt: HostRuntime) {
+    for (name, value, is_one) in &LENGTHS {
+        let made = attributes(&rt, rt.alloc(), &[(("n", *name), ("v", *value))]);
+        let is_right = match made {
+            Some(made) => *is_one && is_pair(&made, *name, *value),
+            None => !*is_one,
+        };
+        assert!(rt; is_right, "a name of {name}, a value of {value}");
     }
-    Ok(())
 }
 
-/// Two names, and whether they rise.
-static PAIRS: [(&str, &str, bool); 4] = [
-    ("a", "c", true),
-    ("a", "ab", true),
-    ("c", "a", false),
-    ("a", "a", false),
+/// Two pairs, and whether their names rise.
+static PAIRS: [(&[(Part, Part)], bool); 4] = [
+    (&[(("a", 1), ("1", 1)), (("c", 1), ("2", 1))], true),
+    (&[(("a", 1), ("1", 1)), (("ab", 1), ("2", 1))], true),
+    (&[(("c", 1), ("1", 1)), (("a", 1), ("2", 1))], false),
+    (&[(("a", 1), ("1", 1)), (("a", 1), ("2", 1))], false),
 ];
 
 /// Tries: Attributes::from_pairs
 #[test]
-fn names_of_attributes_rise(rt: HostRuntime) -> Result<(), Fail> {
-    for case in &PAIRS {
-        let (first, second, is_one) = *case;
-        let mut pairs = Vec::new(rt.alloc());
-        pairs.push((
-            Text::copy_of(rt.alloc(), first)?,
-            Text::copy_of(rt.alloc(), "1")?,
-        ))?;
-        pairs.push((
-            Text::copy_of(rt.alloc(), second)?,
-            Text::copy_of(rt.alloc(), "2")?,
-        ))?;
-        holds_for(case, Attributes::from_pairs(pairs).is_some() == is_one)?;
+fn names_of_attributes_rise(rt: HostRuntime) {
+    for (place, (pairs, is_one)) in PAIRS.iter().enumerate() {
+        let made = attributes(&rt, rt.alloc(), pairs);
+        assert_eq!(rt; made.is_some(), *is_one, "at {place}");
     }
-    Ok(())
 }

@@ -3,25 +3,28 @@
 use crate::change::Act::*;
 use crate::change::Mark::*;
 use crate::change::*;
-use crate::hold::{holds, holds_for};
 use lw_join::{Join, OrGone};
 use lw_reg::*;
 use lw_stamp::{Moment, Stamp};
 use std::alloc::Global;
-use std::test::Fail;
+use std::process::Abort;
 
-fn join_all(alloc: Global, slot: &mut Slot, changes: &[Change<'_>]) -> Result<(), Fail> {
+fn join(rt: &impl Abort, alloc: Global, slot: &mut Slot, change: Change<'_>) {
+    let other = slot_of(alloc, change).expect(rt, "memory");
+    slot.join_with(other).expect(rt, "memory for a join");
+}
+
+fn join_all(rt: &impl Abort, alloc: Global, slot: &mut Slot, changes: &[Change<'_>]) {
     for change in changes {
-        slot.join_with(slot_of(alloc, *change)?)?;
+        join(rt, alloc, slot, *change);
     }
-    Ok(())
 }
 
 /// The slots of operations, joined one behind another.
-fn joined(alloc: Global, first: Change<'_>, others: &[Change<'_>]) -> Result<Slot, Fail> {
-    let mut slot = slot_of(alloc, first)?;
-    join_all(alloc, &mut slot, others)?;
-    Ok(slot)
+fn joined(rt: &impl Abort, alloc: Global, first: Change<'_>, others: &[Change<'_>]) -> Slot {
+    let mut slot = slot_of(alloc, first).expect(rt, "memory");
+    join_all(rt, alloc, &mut slot, others);
+    slot
 }
 
 /// What is shown: the identifier, the address, the moment of the last contact, the lifetime and the binding.
@@ -49,90 +52,73 @@ fn shows(slot: &Slot, now: Moment, wanted: Option<Shown>) -> bool {
     }
 }
 
-/// Three operations about one endpoint, a moment, and what is shown then.
-static SCENES: [(&[Change<'static>], u64, Option<Shown>); 3] = [
-    // an Update before its Register
-    (
-        &[
-            (First, First, Register(HOST_A, 0, 86_400)),
-            (Third, Elsewhere, Update(HOST_B, 7, Some(120), None)),
-            (Elsewhere, Elsewhere, Register(HOST_A, 0, 86_400)),
-        ],
-        7,
-        Some((Elsewhere, HOST_B, 7, 120, "U")),
-    ),
-    // two Updates
-    (
-        &[
-            (First, First, Register(HOST_A, 0, 86_400)),
-            (Second, First, Update(HOST_A, 1000, Some(120), None)),
-            (Third, First, Update(HOST_B, 2000, None, Some("UQ"))),
-        ],
-        2000,
-        Some((First, HOST_B, 2000, 120, "UQ")),
-    ),
-    // an Update behind the removal
-    (
-        &[
-            (First, First, Register(HOST_A, 0, 60)),
-            (Second, First, Remove),
-            (Third, First, Update(HOST_B, 0, Some(120), None)),
-        ],
-        0,
-        None,
-    ),
-];
+/// A registration for a day.
+const EARLY: Change<'static> = (First, First, Register(HOST_A, 0, 86_400));
 
-fn joins_in_each_order(
-    alloc: Global,
-    changes: &[Change<'_>],
-    now: Moment,
-    wanted: Option<Shown>,
-) -> Result<(), Fail> {
-    let [a, b, c] = *changes else {
-        return Err("three changes".into());
-    };
-    for (first, others) in [
-        (a, [b, c]),
-        (a, [c, b]),
-        (b, [a, c]),
-        (b, [c, a]),
-        (c, [a, b]),
-        (c, [b, a]),
-    ] {
-        let slot = joined(alloc, first, &others)?;
-        holds("what is shown", shows(&slot, now, wanted))?;
-    }
-    Ok(())
-}
+/// Another, and its Update.
+const LATE: Change<'static> = (Elsewhere, Elsewhere, Register(HOST_A, 0, 86_400));
+
+const OF_LATE: Change<'static> = (Third, Elsewhere, Update(HOST_B, 7, Some(120), None));
+
+/// What is shown of both with the Update.
+const LATER: Option<Shown> = Some((Elsewhere, HOST_B, 7, 120, "U"));
+
+/// Two Updates of the early one.
+const ONE: Change<'static> = (Second, First, Update(HOST_A, 1000, Some(120), None));
+
+const TWO: Change<'static> = (Third, First, Update(HOST_B, 2000, None, Some("UQ")));
+
+/// What is shown of it with both.
+const UPDATED: Option<Shown> = Some((First, HOST_B, 2000, 120, "UQ"));
+
+/// Its removal, and an Update behind that.
+const GONE: Change<'static> = (Second, First, Remove);
+
+const BEHIND: Change<'static> = (Third, First, Update(HOST_B, 0, Some(120), None));
+
+/// Operations about one endpoint, a moment, and what is shown then.
+static ORDERS: [(Change<'static>, &[Change<'static>], u64, Option<Shown>); 19] = [
+    (EARLY, &[OF_LATE, LATE], 7, LATER),
+    (EARLY, &[LATE, OF_LATE], 7, LATER),
+    (OF_LATE, &[EARLY, LATE], 7, LATER),
+    (OF_LATE, &[LATE, EARLY], 7, LATER),
+    (LATE, &[EARLY, OF_LATE], 7, LATER),
+    (LATE, &[OF_LATE, EARLY], 7, LATER),
+    (EARLY, &[ONE, TWO], 2000, UPDATED),
+    (EARLY, &[TWO, ONE], 2000, UPDATED),
+    (ONE, &[EARLY, TWO], 2000, UPDATED),
+    (ONE, &[TWO, EARLY], 2000, UPDATED),
+    (TWO, &[EARLY, ONE], 2000, UPDATED),
+    (TWO, &[ONE, EARLY], 2000, UPDATED),
+    (REGISTERED, &[GONE, BEHIND], 0, None),
+    (REGISTERED, &[BEHIND, GONE], 0, None),
+    (GONE, &[REGISTERED, BEHIND], 0, None),
+    (GONE, &[BEHIND, REGISTERED], 0, None),
+    (BEHIND, &[REGISTERED, GONE], 0, None),
+    (BEHIND, &[GONE, REGISTERED], 0, None),
+    // an Update alone
+    (EARLY, &[OF_LATE], 7, None),
+];
 
 /// Tries: atom, atom_with_endpoint, laws::atoms_are_states, Slot::join_with, Slot::view, Attributes::new
 /// Tries: Attributes::into_pairs
 #[test]
-fn operations_join_in_each_order(rt: HostRuntime) -> Result<(), Fail> {
-    for (changes, ms, wanted) in &SCENES {
-        joins_in_each_order(rt.alloc(), changes, at(*ms), *wanted)?;
+fn operations_join_in_each_order(rt: HostRuntime) {
+    for (place, (first, others, ms, wanted)) in ORDERS.iter().enumerate() {
+        let slot = joined(&rt, rt.alloc(), *first, others);
+        assert!(rt; shows(&slot, at(*ms), *wanted), "at {place}");
     }
     let id = Stamp::read_id(b"0000000000020002");
-    holds("the identifier", id == Some(Elsewhere.stamp()))?;
-    // an Update alone
-    let register = (First, First, Register(HOST_A, 0, 86_400));
-    let update = (Third, Elsewhere, Update(HOST_B, 7, Some(120), None));
-    let slot = joined(rt.alloc(), register, &[update])?;
-    holds(
-        "nothing",
-        shows(&slot, at(7), None) && !slot.expired(at(86_400_000)),
-    )
+    assert!(rt; id == Some(Elsewhere.stamp()), "the identifier");
+    let slot = joined(&rt, rt.alloc(), EARLY, &[OF_LATE]);
+    assert!(rt; !slot.expired(at(86_400_000)), "an Update alone");
 }
 
 /// A registration.
 const REGISTERED: Change<'static> = (First, First, Register(HOST_A, 0, 60));
 
 /// It is removed before it is updated.
-const REMOVED: &[Change<'static>] = &[
-    (Second, First, Remove),
-    (Third, First, Update(HOST_B, 0, Some(120), None)),
-];
+const REMOVED: &[Change<'static>] = &[GONE, BEHIND];
 
 const ONCE_MORE: Change<'static> = (Fourth, Fourth, Register(HOST_A, 1000, 60));
 
@@ -152,11 +138,11 @@ fn is_shown_until(slot: &Slot, end: u64) -> bool {
 
 /// Tries: Slot::view, Slot::expired, Slot::is_removed
 #[test]
-fn what_is_removed_registers_once_more_and_expires(rt: HostRuntime) -> Result<(), Fail> {
-    let mut slot = joined(rt.alloc(), REGISTERED, REMOVED)?;
-    holds("removed", is_gone(&slot))?;
-    join_all(rt.alloc(), &mut slot, &[ONCE_MORE])?;
-    holds("once more", is_shown_until(&slot, 61_000))
+fn what_is_removed_registers_once_more_and_expires(rt: HostRuntime) {
+    let mut slot = joined(&rt, rt.alloc(), REGISTERED, REMOVED);
+    assert!(rt; is_gone(&slot), "removed");
+    join(&rt, rt.alloc(), &mut slot, ONCE_MORE);
+    assert!(rt; is_shown_until(&slot, 61_000), "once more");
 }
 
 /// The watch `Fourth` of `/3/0`, an older one of that path, and `Third` of `/3/0/9`.
@@ -189,19 +175,17 @@ fn has_its_format(slot: &Slot) -> bool {
     }
 }
 
-fn loses_its_watches(alloc: Global, slot: &mut Slot) -> Result<(), Fail> {
-    holds("its format", has_its_format(slot))?;
-    join_all(alloc, slot, &[(Fourth, First, Cancel(&[3, 0], Fourth))])?;
-    holds("cancelled", has_the_later_watch_alone(slot))?;
-    join_all(alloc, slot, &[(Fifth, Fifth, Register(HOST_A, 0, 60))])?;
-    holds("all end", slot.watches().is_empty())
-}
-
 /// Tries: Slot::join_with, Slot::watch, Slot::watching, Slot::token_at, Slot::watches
 #[test]
-fn a_watch_is_cancelled_or_ends(rt: HostRuntime) -> Result<(), Fail> {
-    let mut slot = joined(rt.alloc(), REGISTERED, &WATCHED)?;
-    loses_its_watches(rt.alloc(), &mut slot)
+fn a_watch_is_cancelled_or_ends(rt: HostRuntime) {
+    let mut slot = joined(&rt, rt.alloc(), REGISTERED, &WATCHED);
+    assert!(rt; has_its_format(&slot), "its format");
+    let cancel = (Fourth, First, Cancel(&[3, 0], Fourth));
+    join(&rt, rt.alloc(), &mut slot, cancel);
+    assert!(rt; has_the_later_watch_alone(&slot), "cancelled");
+    let register = (Fifth, Fifth, Register(HOST_A, 0, 60));
+    join(&rt, rt.alloc(), &mut slot, register);
+    assert!(rt; slot.watches().is_empty(), "all end");
 }
 
 /// What is told of a slot: its end, whether it is shown and whether it has expired at the moments 0 and 60,000, and how
@@ -295,36 +279,42 @@ static ENDS: [(&[Change<'static>], Told); 11] = [
 
 const WATCH: Change<'static> = (Second, First, Observe(&[3, 0], None));
 
-/// The operations in this order and in the other.
-fn ends(alloc: Global, changes: &[Change<'_>], told: Told) -> Result<(), Fail> {
-    let mut slot = joined(alloc, REGISTERED, &[WATCH])?;
-    join_all(alloc, &mut slot, changes)?;
-    holds_for(&changes.len(), tells(&slot, told))?;
-    let mut slot = joined(alloc, REGISTERED, &[])?;
+/// The slot of a Register with a watch and these operations.
+fn watched(rt: &impl Abort, alloc: Global, changes: &[Change<'_>]) -> Slot {
+    let mut slot = joined(rt, alloc, REGISTERED, &[WATCH]);
+    join_all(rt, alloc, &mut slot, changes);
+    slot
+}
+
+/// The same in the other order, the watch last.
+fn watched_last(rt: &impl Abort, alloc: Global, changes: &[Change<'_>]) -> Slot {
+    let mut slot = joined(rt, alloc, REGISTERED, &[]);
     for change in changes.iter().rev() {
-        slot.join_with(slot_of(alloc, *change)?)?;
+        join(rt, alloc, &mut slot, *change);
     }
-    slot.join_with(slot_of(alloc, WATCH)?)?;
-    holds_for(&changes.len(), tells(&slot, told))
+    join(rt, alloc, &mut slot, WATCH);
+    slot
 }
 
 /// Tries: atom, Slot::lift
 #[test]
-fn what_was_seen_is_over(rt: HostRuntime) -> Result<(), Fail> {
-    for (changes, told) in &ENDS {
-        ends(rt.alloc(), changes, *told)?;
+fn what_was_seen_is_over(rt: HostRuntime) {
+    for (place, (changes, told)) in ENDS.iter().enumerate() {
+        let slot = watched(&rt, rt.alloc(), changes);
+        assert!(rt; tells(&slot, *told), "at {place}");
+        let slot = watched_last(&rt, rt.alloc(), changes);
+        assert!(rt; tells(&slot, *told), "at {place}, in the other order");
     }
-    Ok(())
 }
 
 /// An end before all that it is about.
 /// Tries: atom, Slot::join_with
 #[test]
-fn an_end_comes_before_its_registration(rt: HostRuntime) -> Result<(), Fail> {
-    let mut slot = slot_of(rt.alloc(), (Fifth, First, Expire(First)))?;
-    holds("alone", tells(&slot, (Some(First), false, false, 0)))?;
-    slot.join_with(slot_of(rt.alloc(), REGISTERED)?)?;
-    holds("over", tells(&slot, (Some(First), false, false, 0)))
+fn an_end_comes_before_its_registration(rt: HostRuntime) {
+    let mut slot = joined(&rt, rt.alloc(), (Fifth, First, Expire(First)), &[]);
+    assert!(rt; tells(&slot, (Some(First), false, false, 0)), "alone");
+    join(&rt, rt.alloc(), &mut slot, REGISTERED);
+    assert!(rt; tells(&slot, (Some(First), false, false, 0)), "over");
 }
 
 /// Operations behind a Register with a watch, and the stamp of what was seen last.
@@ -348,45 +338,31 @@ fn are_one(one: &Slot, other: &Slot) -> bool {
     one.le(other) && other.le(one)
 }
 
-/// Lifts the slot, and joins another of the same operations with that of an Expire up to the stamp.
-fn lifts(alloc: Global, changes: &[Change<'_>], upto: Mark) -> Result<(), Fail> {
-    let mut lifted = joined(alloc, REGISTERED, &[WATCH])?;
-    join_all(alloc, &mut lifted, changes)?;
-    let mut other = joined(alloc, REGISTERED, &[WATCH])?;
-    join_all(alloc, &mut other, changes)?;
-    let end = slot_of(alloc, (Fifth, First, Expire(upto)))?;
-    other.join_with(end)?;
-    lifted.lift();
-    let is_over = lifted.view("a", at(0)).is_none() && !lifted.expired(at(60_000));
-    let is_kept = lifted.address() == other.address() && lifted.watches().len() == 1;
-    holds_for(
-        &upto.stamp(),
-        is_over && is_kept && are_one(&lifted, &other),
-    )
-}
-
 /// Tries: Slot::ended, Slot::lift
 #[test]
-fn a_slot_is_lifted(rt: HostRuntime) -> Result<(), Fail> {
-    for (changes, upto) in &LIFTED {
-        lifts(rt.alloc(), changes, *upto)?;
+fn a_slot_is_lifted(rt: HostRuntime) {
+    for (place, (changes, upto)) in LIFTED.iter().enumerate() {
+        let mut lifted = watched(&rt, rt.alloc(), changes);
+        lifted.lift();
+        let mut other = watched(&rt, rt.alloc(), changes);
+        join(&rt, rt.alloc(), &mut other, (Fifth, First, Expire(*upto)));
+        let is_over = lifted.view("a", at(0)).is_none() && !lifted.expired(at(60_000));
+        assert!(rt; is_over && lifted.watches().len() == 1, "at {place}");
+        assert!(rt; lifted.address() == other.address(), "at {place}");
+        assert!(rt; are_one(&lifted, &other), "at {place}");
     }
-    Ok(())
 }
 
 /// Nothing was seen of the one, and the other was removed.
 /// Tries: Slot::lift
 #[test]
-fn nothing_is_lifted_that_was_not_seen(rt: HostRuntime) -> Result<(), Fail> {
-    let mut watched = slot_of(rt.alloc(), WATCH)?;
-    watched.lift();
-    let is_kept = watched.ended().is_none() && watched.watches().len() == 1;
-    let mut removed = joined(rt.alloc(), REGISTERED, REMOVED)?;
+fn nothing_is_lifted_that_was_not_seen(rt: HostRuntime) {
+    let mut slot = joined(&rt, rt.alloc(), WATCH, &[]);
+    slot.lift();
+    assert!(rt; slot.ended().is_none() && slot.watches().len() == 1);
+    let mut removed = joined(&rt, rt.alloc(), REGISTERED, REMOVED);
     removed.lift();
-    holds(
-        "no end",
-        is_kept && is_gone(&removed) && removed.ended().is_none(),
-    )
+    assert!(rt; is_gone(&removed) && removed.ended().is_none());
 }
 
 /// A Register, what follows it, and the moment from which on the registration has expired.
@@ -411,12 +387,11 @@ static DEADLINES: [(Change<'static>, &[Change<'static>], Option<u64>); 7] = [
 
 /// Tries: Slot::deadline
 #[test]
-fn a_slot_has_a_deadline(rt: HostRuntime) -> Result<(), Fail> {
-    for (first, others, wanted) in &DEADLINES {
-        let slot = joined(rt.alloc(), *first, others)?;
-        holds_for(wanted, slot.deadline() == *wanted)?;
+fn a_slot_has_a_deadline(rt: HostRuntime) {
+    for (place, (first, others, wanted)) in DEADLINES.iter().enumerate() {
+        let slot = joined(&rt, rt.alloc(), *first, others);
+        assert!(rt; slot.deadline() == *wanted, "at {place}");
     }
-    Ok(())
 }
 
 static PATHS: [&[u16]; 3] = [&[65_534], &[65_534; 4], &[3, 0, 9, 1]];
@@ -439,16 +414,15 @@ static RISING: [(&[u16], &[u16]); 4] = [
 
 /// Tries: Path::new, Path::numbers, laws::paths_are_ordered
 #[test]
-fn paths_have_one_to_four_numbers() -> Result<(), Fail> {
+fn paths_have_one_to_four_numbers(rt: HostRuntime) {
     for numbers in &PATHS {
-        let path = Path::new(numbers).ok_or("a path")?;
-        holds("its numbers", path.numbers() == *numbers)?;
+        let path = Path::new(numbers).expect(&rt, "a path");
+        assert!(rt; path.numbers() == *numbers, "{numbers:?}");
     }
     for numbers in &NO_PATHS {
-        holds_for(numbers, Path::new(numbers).is_none())?;
+        assert!(rt; Path::new(numbers).is_none(), "{numbers:?}");
     }
     for (before, behind) in &RISING {
-        holds_for(before, Path::new(before) < Path::new(behind))?;
+        assert!(rt; Path::new(before) < Path::new(behind), "{before:?}");
     }
-    Ok(())
 }

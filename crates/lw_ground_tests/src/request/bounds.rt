@@ -1,52 +1,59 @@
 //! Messages at the bounds of what they may say.
 
-use super::{same, told};
+use super::told;
 use crate::hold::text_of;
 use lw_coap::{CoapOption, Kind, Message, codes};
 use std::alloc::Global;
-use std::test::Fail;
+use std::process::Abort;
 
 fn push_options(
+    rt: &impl Abort,
     alloc: Global,
     options: &mut Vec<CoapOption>,
     number: u16,
     texts: &str,
     between: char,
-) -> Result<(), Fail> {
+) {
     for text in texts.split(between) {
-        let value = Vec::from_slice(alloc, text.as_bytes())?;
-        options.push(CoapOption { number, value })?;
+        let value = Vec::from_slice(alloc, text.as_bytes()).expect(rt, "memory");
+        options
+            .push(CoapOption { number, value })
+            .expect(rt, "memory");
     }
-    Ok(())
 }
 
 /// A POST without a token, of a path, and of queries that `&` divides.
-fn post(alloc: Global, path: &str, queries: &str, payload: &str) -> Result<Message, Fail> {
+fn post(rt: &impl Abort, alloc: Global, path: &str, queries: &str, payload: &str) -> Message {
     let mut options = Vec::new(alloc);
-    push_options(alloc, &mut options, 11, path, '/')?;
-    push_options(alloc, &mut options, 15, queries, '&')?;
-    let payload = Vec::from_slice(alloc, payload.as_bytes())?;
-    Ok(Message {
+    push_options(rt, alloc, &mut options, 11, path, '/');
+    push_options(rt, alloc, &mut options, 15, queries, '&');
+    let payload = Vec::from_slice(alloc, payload.as_bytes()).expect(rt, "memory");
+    Message {
         kind: Kind::Con,
         code: codes::POST,
         mid: 1,
         token: Vec::new(alloc),
         options,
         payload,
-    })
+    }
 }
 
 /// Looks at what a POST means.
 fn check_post(
+    rt: &impl Abort,
     alloc: Global,
     path: &str,
     queries: &str,
     payload: &str,
     want: &str,
-) -> Result<(), Fail> {
-    let message = post(alloc, path, queries, payload)?;
-    let meant = told(alloc, &message)?;
-    same(path, meant.as_str(), want)
+) {
+    let message = post(rt, alloc, path, queries, payload);
+    let meant = told(rt, alloc, &message);
+    assert!(rt; meant.as_str() == want, "{path}: {meant}");
+}
+
+fn text(rt: &impl Abort, alloc: Global, parts: &[(&str, usize)]) -> String {
+    text_of(alloc, parts).expect(rt, "memory")
 }
 
 /// A link of 30 bytes, behind its comma.
@@ -55,11 +62,12 @@ const FURTHER: &str = ",</3303/100>;ver=1.1;obs;ct=110";
 /// Looks at a POST of texts of these lengths: endpoint, binding and SMS number, and how many links follow the first. It
 /// means the words in front, and its texts.
 fn check_lengths(
+    rt: &impl Abort,
     alloc: Global,
     path: &str,
     [endpoint, binding, sms, links]: [usize; 4],
     [word, name, rest]: [(&str, usize); 3],
-) -> Result<(), Fail> {
+) {
     let queries = [
         ("ep=", 1),
         ("e", endpoint),
@@ -68,8 +76,6 @@ fn check_lengths(
         ("&Q&sms=", 1),
         ("1", sms),
     ];
-    let queries = text_of(alloc, &queries)?;
-    let payload = text_of(alloc, &[("</>", 1), (FURTHER, links)])?;
     let want = [
         word,
         name,
@@ -81,14 +87,17 @@ fn check_lengths(
         (" </>", 1),
         (FURTHER, links),
     ];
-    let want = text_of(alloc, &want)?;
+    let queries = text(rt, alloc, &queries);
+    let payload = text(rt, alloc, &[("</>", 1), (FURTHER, links)]);
+    let want = text(rt, alloc, &want);
     check_post(
+        rt,
         alloc,
         path,
         queries.as_str(),
         payload.as_str(),
         want.as_str(),
-    )
+    );
 }
 
 /// Lengths of a Register.
@@ -106,16 +115,15 @@ static UPDATES: [[usize; 4]; 4] = [[1, 8, 0, 0], [1, 8, 1, 1], [1, 8, 9, 3], [1,
 
 /// Tries: understand
 #[test]
-fn registers_and_updates_at_their_bounds(rt: HostRuntime) -> Result<(), Fail> {
+fn registers_and_updates_at_their_bounds(rt: HostRuntime) {
     for lengths in &REGISTERS {
         let front = [("register ", 1), ("e", lengths[0]), (" 1.1 true", 1)];
-        check_lengths(rt.alloc(), "rd", *lengths, front)?;
+        check_lengths(&rt, rt.alloc(), "rd", *lengths, front);
     }
     for lengths in &UPDATES {
         let front = [("update ", 1), ("0000000000010001", 1), ("", 1)];
-        check_lengths(rt.alloc(), "rd/0000000000010001", *lengths, front)?;
+        check_lengths(&rt, rt.alloc(), "rd/0000000000010001", *lengths, front);
     }
-    Ok(())
 }
 
 /// A query, another, and what they mean.
@@ -132,18 +140,17 @@ static BEHIND: [(&str, &str, &str); 7] = [
 /// A Register of the endpoint `a` with a query 700 times before another.
 /// Tries: understand
 #[test]
-fn hundreds_of_queries(rt: HostRuntime) -> Result<(), Fail> {
+fn hundreds_of_queries(rt: HostRuntime) {
     for (query, last, want) in &BEHIND {
-        let queries = text_of(rt.alloc(), &[("ep=a&", 1), (*query, 700), (*last, 1)])?;
-        check_post(rt.alloc(), "rd", queries.as_str(), "</>", want)?;
+        let queries = text(&rt, rt.alloc(), &[("ep=a&", 1), (*query, 700), (*last, 1)]);
+        check_post(&rt, rt.alloc(), "rd", queries.as_str(), "</>", want);
     }
-    Ok(())
 }
 
 /// A payload of over 8,192 bytes stands in no datagram.
 /// Tries: understand
 #[test]
-fn more_than_a_datagram_is_too_large(rt: HostRuntime) -> Result<(), Fail> {
-    let payload = "x".repeat(rt.alloc(), 8193)?;
-    check_post(rt.alloc(), "rd", "ep=a", payload.as_str(), "608d0001")
+fn more_than_a_datagram_is_too_large(rt: HostRuntime) {
+    let payload = text(&rt, rt.alloc(), &[("x", 8193)]);
+    check_post(&rt, rt.alloc(), "rd", "ep=a", payload.as_str(), "608d0001");
 }

@@ -1,7 +1,7 @@
 //! Cases, a line each: what it is, its datagram in hex, and what that means.
 
 /// Registers.
-pub(crate) const REGISTERS: &str = "
+const REGISTERS: &str = "
 the first that a client sends: 4402000101020304b2726411283465703d61056c743d3630096c776d326d3d312e31ff3c2f332f303e -> register a 1.1 false 60 U - </3/0>
 each default: 40020004b272644465703d61ff3c2f3e -> register a 1.0 false 86400 U - </>
 non-confirmable: 5002000bb272644465703d61ff3c2f3e -> register a 1.0 false 86400 U - </>
@@ -10,14 +10,14 @@ an empty endpoint: 40020003b272644365703dff3c2f3e -> 60800003
 ";
 
 /// Unrecognised options.
-pub(crate) const UNRECOGNISED: &str = "
+const UNRECOGNISED: &str = "
 Block1: 40020005b272644465703d61c106ff3c2f3e -> 60820005
 Block1, non-confirmable: 50020005b272644465703d61c106ff3c2f3e -> reject
 Proxy-Uri: 40020006b27264d10b78 -> 60a50006
 ";
 
 /// Lifetimes have at most ten digits.
-pub(crate) const LIFETIMES: &str = "
+const LIFETIMES: &str = "
 none: 40020004b272644465703d61046c743d30ff3c2f3e -> register a 1.0 false 0 U - </>
 60: 40020004b272644465703d61056c743d3630ff3c2f3e -> register a 1.0 false 60 U - </>
 the most: 40020004b272644465703d610d006c743d34323934393637323935ff3c2f3e -> register a 1.0 false 4294967295 U - </>
@@ -28,7 +28,7 @@ no digits: 40020004b272644465703d61036c743dff3c2f3e -> 60800004
 ";
 
 /// Refusals come in the order of the steps.
-pub(crate) const REFUSALS: &str = "
+const REFUSALS: &str = "
 a GET of `rd`: 40010006b27264 -> 60850006
 a GET of `x`: 40010007b178 -> 60840007
 format 50: 40020008b272641132ff3c2f3e -> 608f0008
@@ -39,7 +39,7 @@ an Update of no identifier, no payload: 4002000cb272640178 -> update - - - - -
 ";
 
 /// The earlier of two steps refuses.
-pub(crate) const STEPS: &str = "
+const STEPS: &str = "
 proxied and unrecognised: 40020001b27264d103068178 -> 60a50001
 the same, non-confirmable: 50020001b27264d103068178 -> 50a50001
 unrecognised, unknown path: 40020002b178d10306 -> 60820002
@@ -49,7 +49,7 @@ other version, no list: 40020005b272644465703d61096c776d326d3d312e32ff78 -> 608c
 ";
 
 /// The last query of a name counts.
-pub(crate) const QUERIES: &str = "
+const QUERIES: &str = "
 `ep=` before `ep=a`: 40020001b272644365703d0465703d61ff3c2f3e -> register a 1.0 false 86400 U - </>
 `ep=a` before `ep`: 40020002b272644465703d61026570ff3c2f3e -> 60800002
 `lt=x` before `lt=5`: 40020003b272644465703d61046c743d78046c743d35ff3c2f3e -> register a 1.0 false 5 U - </>
@@ -72,7 +72,7 @@ an empty SMS number: 4002000db272644465703d6103736d73ff3c2f3e -> register a 1.0 
 ";
 
 /// An Update gives what it changes, and a Deregister names its registration.
-pub(crate) const UPDATES: &str = "
+const UPDATES: &str = "
 a lifetime: 40020010b272640d0330303030303030303030303130303031466c743d313230 -> update 0000000000010001 120 - - -
 a binding: 40020011b272640d033030303030303030303030313030303144623d5551 -> update 0000000000010001 - UQ - -
 what an Update ignores: 40020012b272640d03303030303030303030303031303030314365703d076c776d326d3d3903513d7805736d733d31ff3c2f3e -> update 0000000000010001 - - 1 </>
@@ -89,7 +89,7 @@ an upper-case identifier: 4004001ab272640d0330303030303030303030303130303041 -> 
 ";
 
 /// Paths, formats and options.
-pub(crate) const PATHS: &str = "
+const PATHS: &str = "
 a single empty segment: 40020001b0ff3c2f3e -> 60840001
 an empty one before `rd`: 40020002b0027264ff3c2f3e -> 60840002
 three segments: 40020003b272640d033030303030303030303030313030303100ff3c2f3e -> 60840003
@@ -113,7 +113,7 @@ format 50, then 40: 40020014b27264113201283465703d61ff3c2f3e -> 608f0014
 ";
 
 /// Messages have roles.
-pub(crate) const ROLES: &str = "
+const ROLES: &str = "
 a ping: 40000007 -> ping
 an empty NON: 50000007 -> ignore
 an empty ACK: 60000007 -> ignore
@@ -128,7 +128,7 @@ a GET of no path: 40010001 -> 60840001
 ";
 
 /// Reports have no critical option.
-pub(crate) const REPORTS: &str = "
+const REPORTS: &str = "
 a notification: 4845003100000000000300016101ff31 -> report Con 49 [0000000000030001] 69 1 - [31]
 an error ends an observation: 488400320000000000030001 -> report Con 50 [0000000000030001] 132 - - []
 critical: 4145003301b27264ff31 -> reject
@@ -138,3 +138,9 @@ observe of three bytes, format: 6045003663010000620100 -> report Ack 54 [] 69 65
 a first observe: 5145003701600105 -> report Non 55 [01] 69 0 - []
 class 5: 51a0003801 -> report Non 56 [01] 160 - - []
 ";
+
+/// What requests, other messages and reports mean.
+pub(super) static MEANINGS: [&str; 6] = [REGISTERS, LIFETIMES, QUERIES, UPDATES, ROLES, REPORTS];
+
+/// What is refused for its first cause.
+pub(super) static CAUSES: [&str; 4] = [UNRECOGNISED, REFUSALS, STEPS, PATHS];

@@ -1,9 +1,8 @@
 //! Tables that are copied, and tables that are compared.
 
 use super::alike::{ALIKE, ALL};
-use super::since::{AGAIN, FIVE, OF_AGAIN, OF_FIVE, has_hundred, join_hundred, tells};
+use super::since::{AGAIN, FIVE, has_hundred, join_many};
 use super::*;
-use crate::hold::{holds, holds_for};
 
 /// Whether the one says that it is the same as the other, and the other says so too.
 fn are_same(one: &Table, other: &Table) -> bool {
@@ -15,139 +14,156 @@ fn are_different(one: &Table, other: &Table) -> bool {
     !one.same(other) && !other.same(one)
 }
 
-/// What is joined to a table before it is copied, and what is then filed: observations too.
-static COPIED: [(&[Of<'static>], State); 4] = [
+/// What a scene is about, what is joined to a table before it is copied, what both have, and what the one has to which
+/// `CHANGE` is joined then.
+type Copying = (
+    &'static str,
+    &'static [Step],
+    &'static [Step],
+    &'static [Step],
+);
+
+const CHANGE: [Step; 1] = [Joins(("c", (Above(20), Above(20), Register(HOST_B, 0, 60))))];
+
+/// Observations are copied too.
+static COPIED: [Copying; 4] = [
     (
+        "nothing",
         &[],
-        State {
-            change: 0,
-            filed: &[(Id(First), &[]), (Address(HOST_A), &[])],
-            first: None,
-        },
+        &[
+            Counts(0),
+            Filed(Id(First), &[]),
+            Filed(Address(HOST_A), &[]),
+            Shows(0, Behind(None), None),
+            Tells(0, ""),
+        ],
+        &[Counts(1), Tells(0, "c+21 ")],
     ),
     (
+        "five endpoints",
         &FIVE,
-        State {
-            change: 6,
-            filed: &[
-                (Id(First), &["a"]),
-                (Id(Third), &["c"]),
-                (Id(Fourth), &[]),
-                (Address(HOST_A), &["a", "b"]),
-                (Address(HOST_B), &["c", "e"]),
-            ],
-            first: Some(("a", First)),
-        },
+        &[
+            Counts(6),
+            Filed(Id(First), &["a"]),
+            Filed(Id(Third), &["c"]),
+            Filed(Id(Fourth), &[]),
+            Filed(Address(HOST_A), &["a", "b"]),
+            Filed(Address(HOST_B), &["c", "e"]),
+            Shows(0, Behind(None), Some(("a", First))),
+            Tells(0, "a+1 b+2 c+3 d-4 e+5 "),
+            Tells(1, "b+2 c+3 d-4 e+5 "),
+            Tells(3, "d-4 e+5 "),
+            Tells(4, "d-4 e+5 "),
+            Tells(5, "e+5 "),
+            Tells(6, ""),
+            Tells(7, ""),
+            Tells(u64::MAX, ""),
+        ],
+        &[Counts(7), Tells(6, "c+21 ")],
     ),
     (
+        "what has moved again",
         &AGAIN,
-        State {
-            change: 3,
-            filed: &[
-                (Id(Second), &["b"]),
-                (Token(Fourth), &["c"]),
-                (Address(HOST_A), &["b", "c"]),
-            ],
-            first: Some(("b", Second)),
-        },
+        &[
+            Counts(3),
+            Filed(Id(Second), &["b"]),
+            Filed(Token(Fourth), &["c"]),
+            Filed(Address(HOST_A), &["b", "c"]),
+            Shows(0, Behind(None), Some(("b", Second))),
+            Tells(0, "b+2 c+3 "),
+            Tells(1, "b+2 c+3 "),
+            Tells(2, "c+3 "),
+            Tells(3, ""),
+        ],
+        &[Counts(4), Tells(3, "c+21 ")],
     ),
     (
-        &[("a", (Second, First, Observe(&[3], None)))],
-        State {
-            change: 1,
-            filed: &[(Token(Second), &["a"]), (Token(Third), &[])],
-            first: None,
-        },
+        "a watch alone",
+        &[Joins(("a", (Second, First, Observe(&[3], None))))],
+        &[
+            Counts(1),
+            Filed(Token(Second), &["a"]),
+            Filed(Token(Third), &[]),
+            Shows(0, Behind(None), None),
+        ],
+        &[Counts(2), Tells(1, "c+21 ")],
     ),
 ];
 
+static NUMBERED: [Copying; 1] = [(
+    "endpoints that end alike",
+    &ALIKE,
+    &[
+        Counts(9),
+        Tells(0, ALL),
+        Tells(8, "urn:dev:eui:0123456789ab+3 "),
+    ],
+    &[Counts(10), Tells(9, "c+21 ")],
+)];
+
 /// The copy has what the table has, and takes the same change alike.
-fn are_alike(alloc: Global, table: &mut Table, copy: &mut Table, state: State) -> Result<(), Fail> {
-    holds("the same", are_same(table, copy))?;
-    holds("what the copy has", has(copy, state)?)?;
-    let change = ("c", (Above(20), Above(20), Register(HOST_B, 0, 60)));
-    join(alloc, copy, change)?;
-    holds("what the table has", has(table, state)?)?;
-    holds("another", are_different(table, copy))?;
-    join(alloc, table, change)?;
-    holds("the same once more", are_same(table, copy))
+fn are_alike(
+    rt: &impl Abort,
+    alloc: Global,
+    table: &mut Table,
+    copy: &mut Table,
+    (name, _, both, then): &Copying,
+) {
+    assert!(rt; are_same(table, copy), "{name}: the same");
+    play(rt, alloc, copy, name, both).expect(rt, "memory");
+    play(rt, alloc, copy, name, &CHANGE).expect(rt, "memory");
+    play(rt, alloc, table, name, both).expect(rt, "memory");
+    assert!(rt; are_different(table, copy), "{name}: another");
+    play(rt, alloc, copy, name, then).expect(rt, "memory");
+    play(rt, alloc, table, name, &CHANGE).expect(rt, "memory");
+    assert!(rt; are_same(table, copy), "{name}: the same once more");
 }
 
-fn is_copied(alloc: Global, changes: &[Of<'_>], state: State) -> Result<(), Fail> {
-    let mut table = table_of(alloc, changes)?;
-    let mut copy = table.copy()?;
-    are_alike(alloc, &mut table, &mut copy, state)
-}
-
-/// A hundred endpoints that came in falling order.
-fn hundred_are_copied(alloc: Global, table: &Table) -> Result<(), Fail> {
-    let copy = table.copy()?;
-    holds("the same", are_same(table, &copy))?;
-    holds("a hundred", has_hundred(alloc, &copy)?)
+fn copy_all(rt: &impl Abort, alloc: Global, copyings: &[Copying]) {
+    for copying in copyings {
+        let mut table = played(rt, alloc, copying.0, copying.1);
+        let mut copy = table.copy().expect(rt, "memory");
+        are_alike(rt, alloc, &mut table, &mut copy, copying);
+    }
 }
 
 /// Tries: lw_reg::Slot::copy, Table::copy, Table::same
 #[test]
-fn a_table_and_its_copy_are_the_same(rt: HostRuntime) -> Result<(), Fail> {
-    for (changes, state) in &COPIED {
-        is_copied(rt.alloc(), changes, *state)?;
-    }
-    let mut table = Table::new(rt.alloc());
-    join_hundred(rt.alloc(), &mut table)?;
-    hundred_are_copied(rt.alloc(), &table)
-}
-
-/// What is joined to a table before it is copied, its change number, and what has moved since numbers.
-static NUMBERED: [(&[Of<'static>], u64, &[(u64, &str)]); 4] = [
-    (&[], 0, &[(0, "")]),
-    (&FIVE, 6, &OF_FIVE),
-    (&AGAIN, 3, &OF_AGAIN),
-    (&ALIKE, 9, &[(0, ALL), (8, "urn:dev:eui:0123456789ab+3 ")]),
-];
-
-fn keeps(alloc: Global, copy: &mut Table, number: u64, rows: &[(u64, &str)]) -> Result<(), Fail> {
-    holds("its number", copy.change() == number)?;
-    tells(alloc, copy, rows)?;
-    let change = ("c", (Above(20), Above(20), Register(HOST_B, 0, 60)));
-    join(alloc, copy, change)?;
-    holds("the next number", copy.change() == number.saturating_add(1))?;
-    tells(alloc, copy, &[(number, "c+21 ")])
-}
-
-fn keeps_after(
-    alloc: Global,
-    changes: &[Of<'_>],
-    number: u64,
-    rows: &[(u64, &str)],
-) -> Result<(), Fail> {
-    let table = table_of(alloc, changes)?;
-    let mut copy = table.copy()?;
-    keeps(alloc, &mut copy, number, rows)
+fn a_table_and_its_copy_are_the_same(rt: HostRuntime) {
+    copy_all(&rt, rt.alloc(), &COPIED);
 }
 
 /// Tries: Table::copy
 #[test]
-fn a_copy_keeps_the_change_numbers(rt: HostRuntime) -> Result<(), Fail> {
-    for (changes, number, rows) in &NUMBERED {
-        keeps_after(rt.alloc(), changes, *number, rows)?;
-    }
-    Ok(())
+fn a_copy_keeps_the_change_numbers(rt: HostRuntime) {
+    copy_all(&rt, rt.alloc(), &NUMBERED);
 }
 
-const A: Of<'static> = ("a", (First, First, Register(HOST_A, 0, 60)));
+/// A hundred endpoints that came in falling order.
+/// Tries: Table::copy, Table::same
+#[test]
+fn a_hundred_endpoints_are_copied(rt: HostRuntime) {
+    let mut table = Table::new(rt.alloc());
+    join_many(&rt, rt.alloc(), &mut table, 100, true);
+    let copy = table.copy().expect(&rt, "memory");
+    assert!(rt; are_same(&table, &copy));
+    assert!(rt; has_hundred(&rt, rt.alloc(), &copy));
+}
 
-const A_AT_B: Of<'static> = ("a", (First, First, Register(HOST_B, 0, 60)));
+const A: Step = Joins(("a", (First, First, Register(HOST_A, 0, 60))));
 
-const A_REMOVED: Of<'static> = ("a", (First, First, Remove));
+const A_AT_B: Step = Joins(("a", (First, First, Register(HOST_B, 0, 60))));
 
-const B: Of<'static> = ("b", (Second, Second, Register(HOST_A, 0, 60)));
+const A_REMOVED: Step = Joins(("a", (First, First, Remove)));
 
-const C: Of<'static> = ("c", (Third, Third, Register(HOST_B, 0, 0)));
+const B: Step = Joins(("b", (Second, Second, Register(HOST_A, 0, 60))));
 
-const C_UPDATED: Of<'static> = ("c", (Fourth, Third, Update(HOST_B, 9, None, None)));
+const C: Step = Joins(("c", (Third, Third, Register(HOST_B, 0, 0))));
+
+const C_UPDATED: Step = Joins(("c", (Fourth, Third, Update(HOST_B, 9, None, None))));
 
 /// What is joined to two tables, and whether they are then the same.
-static COMPARED: [(&[Of<'static>], &[Of<'static>], bool); 11] = [
+static COMPARED: [(&[Step], &[Step], bool); 11] = [
     (&[A, B, C], &[A, B, C], true),
     // what changes nothing
     (&[A, B, C], &[A, A, B, C, B], true),
@@ -167,22 +183,26 @@ static COMPARED: [(&[Of<'static>], &[Of<'static>], bool); 11] = [
     (&[A, C, C_UPDATED, B], &[A, C, B, C_UPDATED], false),
 ];
 
-fn are_compared(alloc: Global, row: &(&[Of<'_>], &[Of<'_>], bool)) -> Result<bool, Fail> {
-    let (one, other, wanted) = *row;
-    let one = table_of(alloc, one)?;
-    let other = table_of(alloc, other)?;
-    if wanted {
-        Ok(are_same(&one, &other))
-    } else {
-        Ok(are_different(&one, &other))
-    }
+/// Whether each table says that it is the same as the other, or each that it is not.
+fn are_compared(
+    rt: &impl Abort,
+    alloc: Global,
+    one: &[Step],
+    other: &[Step],
+    is_same: bool,
+) -> bool {
+    let one = played(rt, alloc, "one", one);
+    let other = played(rt, alloc, "other", other);
+    one.same(&other) == is_same && other.same(&one) == is_same
 }
 
 /// Tries: Table::same
 #[test]
-fn a_table_with_one_row_more_is_not_the_same(rt: HostRuntime) -> Result<(), Fail> {
-    for (place, row) in COMPARED.iter().enumerate() {
-        holds_for(&place, are_compared(rt.alloc(), row)?)?;
+fn a_table_with_one_row_more_is_not_the_same(rt: HostRuntime) {
+    for (place, (one, other, is_same)) in COMPARED.iter().enumerate() {
+        assert!(rt;
+            are_compared(&rt, rt.alloc(), one, other, *is_same),
+            "at {place}"
+        );
     }
-    Ok(())
 }

@@ -1,91 +1,111 @@
 //! What is left by a join that is refused memory.
 
 use super::*;
-use crate::hold::holds;
+use std::test::Fail;
 
 /// Joins the change. Where that is refused, the table is as before, and it is joined again.
 fn joins(
+    rt: &impl Abort,
     alloc: Global,
     table: &mut Table,
     change: Of<'_>,
-    before: State,
-    after: State,
-) -> Result<(), Fail> {
-    if try_join(alloc, table, change)?.is_err() {
-        holds("as before", has(table, before)?)?;
-        join(alloc, table, change)?;
+    (before, after): (&[Step], &[Step]),
+) -> Result<(), NoMemory> {
+    if try_join(rt, alloc, table, change)?.is_err() {
+        play(rt, alloc, table, "as before", before)?;
+        try_join(rt, alloc, table, change)??;
     }
-    holds("joined", has(table, after)?)
+    play(rt, alloc, table, "joined", after)
 }
 
-const EMPTY: State = State {
-    change: 0,
-    filed: &[(Id(First), &[]), (Address(HOST_A), &[])],
-    first: None,
-};
-
-const AT_HOST_A: State = State {
-    change: 1,
-    filed: &[
-        (Id(First), &["a"]),
-        (Address(HOST_A), &["a"]),
-        (Address(HOST_B), &[]),
-    ],
-    first: Some(("a", First)),
-};
-
-const AT_HOST_B: State = State {
-    change: 2,
-    filed: &[
-        (Id(First), &["a"]),
-        (Address(HOST_A), &[]),
-        (Address(HOST_B), &["a"]),
-    ],
-    first: Some(("a", First)),
-};
-
-fn registers_and_moves(alloc: Global, table: &mut Table) -> Result<(), Fail> {
-    let register = ("a", (First, First, Register(HOST_A, 0, 0)));
-    joins(alloc, table, register, EMPTY, AT_HOST_A)?;
-    let update = ("a", (Second, First, Update(HOST_B, 0, None, None)));
-    joins(alloc, table, update, AT_HOST_A, AT_HOST_B)
+/// Joins one change and then the other, of which these are left before, between and after them.
+fn joins_both(
+    rt: &impl Abort,
+    alloc: Global,
+    table: &mut Table,
+    (first, second): (Of<'_>, Of<'_>),
+    [before, between, after]: [&[Step]; 3],
+) -> Result<(), NoMemory> {
+    joins(rt, alloc, table, first, (before, between))?;
+    joins(rt, alloc, table, second, (between, after))
 }
+
+static EMPTY: [Step; 4] = [
+    Counts(0),
+    Filed(Id(First), &[]),
+    Filed(Address(HOST_A), &[]),
+    Shows(0, Behind(None), None),
+];
+
+static AT_HOST_A: [Step; 5] = [
+    Counts(1),
+    Filed(Id(First), &["a"]),
+    Filed(Address(HOST_A), &["a"]),
+    Filed(Address(HOST_B), &[]),
+    Shows(0, Behind(None), Some(("a", First))),
+];
+
+static AT_HOST_B: [Step; 5] = [
+    Counts(2),
+    Filed(Id(First), &["a"]),
+    Filed(Address(HOST_A), &[]),
+    Filed(Address(HOST_B), &["a"]),
+    Shows(0, Behind(None), Some(("a", First))),
+];
+
+const REGISTERS: Of<'static> = ("a", (First, First, Register(HOST_A, 0, 0)));
+
+const MOVES: Of<'static> = ("a", (Second, First, Update(HOST_B, 0, None, None)));
 
 /// Tries: Table::join
 #[test]
 fn a_refused_join_leaves_the_slot(rt: HostRuntime) -> Result<(), Fail> {
     let mut table = Table::new(rt.alloc());
-    registers_and_moves(rt.alloc(), &mut table)
+    joins_both(
+        &rt,
+        rt.alloc(),
+        &mut table,
+        (REGISTERS, MOVES),
+        [&EMPTY, &AT_HOST_A, &AT_HOST_B],
+    )?;
+    Ok(())
 }
 
-const WITHOUT: State = State {
-    change: 0,
-    filed: &[(Token(Second), &[]), (Token(Third), &[])],
-    first: None,
-};
+static WITHOUT: [Step; 4] = [
+    Counts(0),
+    Filed(Token(Second), &[]),
+    Filed(Token(Third), &[]),
+    Shows(0, Behind(None), None),
+];
 
-const WITH_SECOND: State = State {
-    change: 1,
-    filed: &[(Token(Second), &["a"]), (Token(Third), &[])],
-    first: None,
-};
+static WITH_SECOND: [Step; 4] = [
+    Counts(1),
+    Filed(Token(Second), &["a"]),
+    Filed(Token(Third), &[]),
+    Shows(0, Behind(None), None),
+];
 
-const WITH_THIRD: State = State {
-    change: 2,
-    filed: &[(Token(Third), &["a"]), (Token(Second), &[])],
-    first: None,
-};
+static WITH_THIRD: [Step; 4] = [
+    Counts(2),
+    Filed(Token(Third), &["a"]),
+    Filed(Token(Second), &[]),
+    Shows(0, Behind(None), None),
+];
 
-fn observes_twice(alloc: Global, table: &mut Table) -> Result<(), Fail> {
-    let first = ("a", (Second, First, Observe(&[3], None)));
-    joins(alloc, table, first, WITHOUT, WITH_SECOND)?;
-    let another = ("a", (Third, First, Observe(&[3], None)));
-    joins(alloc, table, another, WITH_SECOND, WITH_THIRD)
-}
+const OBSERVES: Of<'static> = ("a", (Second, First, Observe(&[3], None)));
+
+const OBSERVES_AGAIN: Of<'static> = ("a", (Third, First, Observe(&[3], None)));
 
 /// Tries: Table::join
 #[test]
 fn a_refused_join_leaves_the_tokens(rt: HostRuntime) -> Result<(), Fail> {
     let mut table = Table::new(rt.alloc());
-    observes_twice(rt.alloc(), &mut table)
+    joins_both(
+        &rt,
+        rt.alloc(),
+        &mut table,
+        (OBSERVES, OBSERVES_AGAIN),
+        [&WITHOUT, &WITH_SECOND, &WITH_THIRD],
+    )?;
+    Ok(())
 }

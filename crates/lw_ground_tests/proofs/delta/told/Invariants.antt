@@ -1,5 +1,5 @@
 use Rattle.std.specs.Prelude.{length}
 use Rattle.lw_ground_tests.proofs.delta.told.Given as goal
 
-abbrev pub decreases-loop-text : goal.decreases-loop-text
-decreases-loop-text l = length l.reader.bytes
+abbrev pub decreases-loop-endpoint : goal.decreases-loop-endpoint
+decreases-loop-endpoint g l = length l.reader.bytes
