@@ -1,4 +1,4 @@
-//! Comparisons. Each kind of them is made in one function, so that the functions that call it are proved in little time.
+//! Comparisons. Each kind is made in one function, so that the functions that call it are proved in little time.
 
 use std::fmt::Debug;
 use std::process::Abort;

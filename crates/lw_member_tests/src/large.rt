@@ -58,36 +58,13 @@ fn put_slot(rt: &impl Abort, bytes: &mut Vec<u8>, number: u16, list: usize) {
     let [high, low] = number.to_be_bytes();
     let [first, second] = number.wrapping_add(1).to_be_bytes();
     let [list_high, list_low] = u16::try_from(list).expect(rt, "a length").to_be_bytes();
-    let slot = [
-        1,
-        4,
-        letter(high / 16),
-        letter(high % 16),
-        letter(low / 16),
-        letter(low % 16),
-        0,
-        0,
-        0,
-        0,
-        first,
-        second,
-        0,
-        1,
-        0x40,
-        0,
-        0,
-        0,
-        0,
-        first,
-        second,
-        0,
-        1,
-        list_high,
-        list_low,
-        b'<',
-        b'/',
+    put(rt, bytes, &[1, 4, letter(high / 16), letter(high % 16)]);
+    put(rt, bytes, &[letter(low / 16), letter(low % 16)]);
+    let stamps = [
+        0, 0, 0, 0, first, second, 0, 1, 0x40, 0, 0, 0, 0, first, second, 0, 1, list_high, list_low,
     ];
-    put(rt, bytes, &slot);
+    put(rt, bytes, &stamps);
+    put(rt, bytes, b"</");
     for _ in SHORTEST_LIST..list {
         bytes.push(b'a').expect(rt, "memory");
     }

@@ -127,7 +127,7 @@ const TRIMMED: &[Step] = &[
 
 const SECOND_FAILS: &[Step] = &[Appends(1, 1, 1), AppendsNot(2), Appends(3, 3, 1)];
 
-/// What is tried; whether the second append fails, with its entry kept or not; the steps; and what is there behind them.
+/// What is tried; whether the second append fails, with its entry kept or not; the steps; what is there behind them.
 type Story = (
     &'static str,
     Option<bool>,

@@ -70,7 +70,7 @@ static ROUNDS: [Story; 1] = [(
     ]],
 )];
 
-/// Tries: lw_member::Member::begin, lw_member::Member::round, lw_member::Member::log
+/// Tries: lw_member::Member::begin, lw_member::Member::round
 #[test]
 fn a_round_reads_and_then_writes(rt: HostRuntime) {
     play_all(&rt, rt.alloc(), &ROUNDS);

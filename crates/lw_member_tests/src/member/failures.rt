@@ -311,7 +311,7 @@ static STORIES: [Story; 4] = [
     ),
 ];
 
-/// Tries: lw_member::Member::round, lw_member::Member::node, lw_member::Member::is_claimed
+/// Tries: lw_member::Member::round, lw_member::Member::node, lw_member::Member::is_claimed, lw_member::Member::log
 #[test]
 fn a_failed_round_may_be_followed_by_another(rt: HostRuntime) {
     play_all(&rt, rt.alloc(), &FAULTS);

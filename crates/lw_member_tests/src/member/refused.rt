@@ -73,18 +73,34 @@ fn round_in_two_tries(
     first
 }
 
-/// An Update of what the member registers in a round that may be made again.
-fn registered(alloc: Global, member: &mut Member<Shared<'_>>) -> Result<String, MemberFault> {
+/// The replies of a round with a Register of `a`, which may be made again.
+fn replies_in_two_tries(
+    alloc: Global,
+    member: &mut Member<Shared<'_>>,
+) -> Result<Vec<Reply>, MemberFault> {
     let call = take(alloc, REGISTER)?;
-    let replies = round_in_two_tries(member, slice::from_ref(&call))?;
-    let reply = reply_text(alloc, &replies)?;
-    Ok(update_of(alloc, reply.as_str())?)
+    round_in_two_tries(member, slice::from_ref(&call))
 }
 
-/// An Update of what a member registers that begins over the entries.
-fn registered_over(alloc: Global, entries: &Entries) -> Result<String, MemberFault> {
+/// The one reply of such a round.
+fn reply_in_two_tries(
+    alloc: Global,
+    member: &mut Member<Shared<'_>>,
+) -> Result<String, MemberFault> {
+    let replies = replies_in_two_tries(alloc, member)?;
+    reply_text(alloc, &replies)
+}
+
+/// The reply of a member that begins over the entries.
+fn reply_over(alloc: Global, entries: &Entries) -> Result<String, MemberFault> {
     let mut member = begin_over(alloc, entries, &FIRST_CHANCE)?;
-    registered(alloc, &mut member)
+    reply_in_two_tries(alloc, &mut member)
+}
+
+/// An Update of what such a member registers.
+fn registered_over(alloc: Global, entries: &Entries) -> Result<String, MemberFault> {
+    let reply = reply_over(alloc, entries)?;
+    Ok(update_of(alloc, reply.as_str())?)
 }
 
 /// Compares the replies of a later start over the entries.
@@ -95,8 +111,17 @@ fn later_replies(
     rows: &[(&str, &str)],
 ) -> Result<(), Fail> {
     let mut next = begin_over(alloc, entries, &SECOND_CHANCE)?;
+    all_replies(rt, alloc, &mut next, rows)
+}
+
+fn all_replies(
+    rt: &impl Abort,
+    alloc: Global,
+    member: &mut Member<Shared<'_>>,
+    rows: &[(&str, &str)],
+) -> Result<(), Fail> {
     for row in rows {
-        replies(rt, alloc, &mut next, *row)?;
+        replies(rt, alloc, member, *row)?;
     }
     Ok(())
 }
@@ -117,13 +142,23 @@ fn compact_in_two_tries(member: &mut Member<Shared<'_>>) -> Result<(), MemberFau
     }
 }
 
-/// A member that begins over the entries registers `a`, compacts, and registers `b`.
-fn compact_between(rt: &impl Abort, alloc: Global, entries: &Entries) -> Result<(), Fail> {
-    let mut member = begin_over(alloc, entries, &FIRST_CHANCE)?;
-    replies(rt, alloc, &mut member, (REGISTER, CREATED))?;
-    compact_in_two_tries(&mut member)?;
+/// The member registers `a`, compacts, and registers `b`.
+fn compact_between(
+    rt: &impl Abort,
+    alloc: Global,
+    entries: &Entries,
+    member: &mut Member<Shared<'_>>,
+) -> Result<(), Fail> {
+    replies(rt, alloc, member, (REGISTER, CREATED))?;
+    compact_in_two_tries(member)?;
     counts(rt, LEFT, count_of(rt, entries), 1);
-    replies(rt, alloc, &mut member, (REGISTER_B, CREATED_B))
+    replies(rt, alloc, member, (REGISTER_B, CREATED_B))
+}
+
+/// The same by a member that begins over the entries.
+fn compacted_over(rt: &impl Abort, alloc: Global, entries: &Entries) -> Result<(), Fail> {
+    let mut member = begin_over(alloc, entries, &FIRST_CHANCE)?;
+    compact_between(rt, alloc, entries, &mut member)
 }
 
 const LEFT: At = ("a compaction leaves one entry", 0, 0);
@@ -135,6 +170,6 @@ static BOTH: [(&str, &str); 2] = [(UPDATE, CHANGED), (UPDATE_OF_SECOND, CHANGED)
 #[test]
 fn a_refused_compaction_is_made_again(rt: HostRuntime) -> Result<(), Fail> {
     let entries = entries_of(rt.alloc(), &[])?;
-    compact_between(&rt, rt.alloc(), &entries)?;
+    compacted_over(&rt, rt.alloc(), &entries)?;
     later_replies(&rt, rt.alloc(), &entries, &BOTH)
 }
