@@ -1,5 +1,6 @@
 //! Entries as bytes, which are written out by hand.
 
+use crate::compare::*;
 use hex::FromHexError;
 use lw_delta::DeltaFault;
 use lw_log::*;
@@ -44,49 +45,59 @@ fn whole(alloc: Global, count: usize, behind: &str) -> Result<Vec<u8>, FromHexEr
     Ok(bytes)
 }
 
-/// Compares what the entry that the bytes are is written as with them. What is there before it stays.
-fn is_written_again(rt: &impl Abort, alloc: Global, bytes: &[u8]) {
-    let entry = read_entry(bytes).expect(rt, "an entry");
+/// What the entry is written as, behind a 7.
+fn written(rt: &impl Abort, alloc: Global, entry: &Entry<'_>) -> Vec<u8> {
     let mut out = Vec::new(alloc);
     out.push(7).expect(rt, "memory");
-    put_entry(&mut out, &entry).expect(rt, "memory");
-    let (first, rest) = out.split_first().expect(rt, "something is written");
-    assert_eq!(rt; *first, 7);
-    assert!(rt; rest == bytes, "what is read is written again: {rest:?}");
+    put_entry(&mut out, entry).expect(rt, "memory");
+    out
 }
 
-/// The body of the entry that the bytes are, whose fleet, start and sequence are compared.
-fn body_of<'a>(rt: &impl Abort, bytes: &'a [u8], sequence: u64) -> Body<'a> {
+/// Compares what the entry that the bytes are is written as with them. What is there before it stays.
+fn is_written_again(rt: &impl Abort, alloc: Global, at: At, bytes: &[u8]) {
     let entry = read_entry(bytes).expect(rt, "an entry");
-    assert_eq!(rt; entry.fleet.bytes, FLEET);
-    assert_eq!(rt; entry.start.number, 258);
-    assert_eq!(rt; entry.start.tag, TAG);
-    assert_eq!(rt; entry.sequence, sequence);
-    entry.body
+    let out = written(rt, alloc, &entry);
+    let (first, rest) = out.split_first().expect(rt, "something is written");
+    holds(rt, at, *first == 7 && rest == bytes);
 }
+
+/// The kind of a body, 3 for a whole one with numbers, and its delta.
+fn parts_of<'a>(body: &Body<'a>) -> (usize, &'a [u8]) {
+    match *body {
+        Body::Start => (0, &[]),
+        Body::Delta(delta) => (1, delta),
+        Body::Whole { numbers, delta } => (if are_zero(numbers) { 2 } else { 3 }, delta),
+    }
+}
+
+/// Compares the parts of the entry that the bytes are: its fleet, start and sequence, its kind, and its delta.
+fn has_parts(rt: &impl Abort, at: At, bytes: &[u8], (sequence, kind): (u64, usize), delta: &[u8]) {
+    let entry = read_entry(bytes).expect(rt, "an entry");
+    holds(rt, at, entry.fleet.bytes == FLEET);
+    holds(rt, at, entry.start.number == 258 && entry.start.tag == TAG);
+    holds(rt, at, entry.sequence == sequence);
+    let (own_kind, own_delta) = parts_of(&entry.body);
+    counts(rt, at, own_kind, kind);
+    holds(rt, at, own_delta == delta);
+}
+
+const PARTS: At = ("the parts of an entry", 0, 0);
 
 /// Tries: lw_log::read_entry
 #[test]
 fn the_parts_of_an_entry_are_read(rt: HostRuntime) {
-    let alloc = rt.alloc();
-    let start = hex::decode(alloc, START).expect(&rt, "a start");
-    assert!(rt; matches!(body_of(&rt, &start, 1), Body::Start));
-    let empty = hex::decode(alloc, EMPTY_DELTA).expect(&rt, "a delta");
-    let delta = hex::decode(alloc, DELTA).expect(&rt, "an entry");
-    let Body::Delta(own) = body_of(&rt, &delta, 2) else {
-        panic!(rt; "a delta");
-    };
-    assert!(rt; own == empty.as_slice(), "its delta");
-    let all = whole(alloc, 8192, EMPTY_DELTA).expect(&rt, "an entry");
-    let Body::Whole {
-        numbers,
-        delta: own,
-    } = body_of(&rt, &all, 3)
-    else {
-        panic!(rt; "a whole one");
-    };
-    assert!(rt; numbers.iter().all(|byte| *byte == 0), "its numbers");
-    assert!(rt; own == empty.as_slice(), "its delta");
+    let start = read_hex(&rt, rt.alloc(), START);
+    has_parts(&rt, PARTS, &start, (1, 0), &[]);
+    let empty = read_hex(&rt, rt.alloc(), EMPTY_DELTA);
+    let delta = read_hex(&rt, rt.alloc(), DELTA);
+    has_parts(&rt, PARTS, &delta, (2, 1), &empty);
+    let all = whole(rt.alloc(), 8192, EMPTY_DELTA).expect(&rt, "an entry");
+    has_parts(&rt, PARTS, &all, (3, 2), &empty);
+}
+
+/// The bytes that the text spells in hex.
+fn read_hex(rt: &impl Abort, alloc: Global, text: &str) -> Vec<u8> {
+    hex::decode(alloc, text).expect(rt, "hex")
 }
 
 /// A start, each format of a delta, and each end of the numbers.
@@ -110,12 +121,12 @@ static READ: [&str; 9] = [
 /// Tries: lw_log::read_entry, lw_log::put_entry
 #[test]
 fn what_is_read_is_written_again(rt: HostRuntime) {
-    for text in &READ {
-        let bytes = hex::decode(rt.alloc(), text).expect(&rt, "hex");
-        is_written_again(&rt, rt.alloc(), &bytes);
+    for (number, text) in READ.iter().enumerate() {
+        let bytes = read_hex(&rt, rt.alloc(), text);
+        is_written_again(&rt, rt.alloc(), ("what is read", number, 0), &bytes);
     }
     let all = whole(rt.alloc(), 8192, EMPTY_DELTA).expect(&rt, "an entry");
-    is_written_again(&rt, rt.alloc(), &all);
+    is_written_again(&rt, rt.alloc(), ("a whole one", 0, 0), &all);
 }
 
 /// Each fault, where it is the first: a later one may stand behind it.
@@ -223,47 +234,45 @@ static LENGTHS: [(usize, &str, EntryFault); 4] = [
 ];
 
 /// Compares the fault of bytes that are no entry.
-fn is_refused(rt: &impl Abort, bytes: &[u8], want: EntryFault) {
-    assert_eq!(rt;
-        read_entry(bytes).err(),
-        Some(want),
-        "{} bytes: {bytes:?}",
-        bytes.len()
-    );
+fn is_refused(rt: &impl Abort, at: At, bytes: &[u8], want: EntryFault) {
+    assert_eq!(rt; read_entry(bytes).err(), Some(want), "at {at:?}");
 }
 
 /// Tries: lw_log::read_entry
 #[test]
 fn each_fault_is_told_where_it_is_the_first(rt: HostRuntime) {
-    for (text, fault) in &REFUSED {
-        let bytes = hex::decode(rt.alloc(), text).expect(&rt, "hex");
-        is_refused(&rt, &bytes, *fault);
+    for (number, (text, fault)) in REFUSED.iter().enumerate() {
+        let bytes = read_hex(&rt, rt.alloc(), text);
+        is_refused(&rt, ("a fault", number, 0), &bytes, *fault);
     }
-    for (count, behind, fault) in &LENGTHS {
+    for (number, (count, behind, fault)) in LENGTHS.iter().enumerate() {
         let bytes = whole(rt.alloc(), *count, behind).expect(&rt, "bytes");
-        is_refused(&rt, &bytes, *fault);
+        is_refused(&rt, ("a length", number, 0), &bytes, *fault);
     }
 }
 
-/// Compares the fault of each beginning of the bytes. From the length on, it is one of the delta.
+/// The fault of a beginning of so many bytes. From the length on, it is one of the delta.
+fn fault_of(count: usize, delta_at: usize) -> EntryFault {
+    if count < delta_at {
+        EntryFault::Truncated
+    } else {
+        EntryFault::Delta(DeltaFault::Truncated)
+    }
+}
+
+/// Compares the fault of each beginning of the bytes.
 fn is_truncated(rt: &impl Abort, bytes: &[u8], delta_at: usize) {
     for (count, _) in bytes.iter().enumerate() {
-        let want = if count < delta_at {
-            EntryFault::Truncated
-        } else {
-            EntryFault::Delta(DeltaFault::Truncated)
-        };
-        is_refused(rt, &bytes[..count], want);
+        let at = ("a beginning", count, 0);
+        is_refused(rt, at, &bytes[..count], fault_of(count, delta_at));
     }
 }
 
 /// Tries: lw_log::read_entry
 #[test]
 fn no_beginning_of_an_entry_is_one(rt: HostRuntime) {
-    for text in [START, DELTA] {
-        let bytes = hex::decode(rt.alloc(), text).expect(&rt, "hex");
-        is_truncated(&rt, &bytes, 39);
-    }
+    is_truncated(&rt, &read_hex(&rt, rt.alloc(), START), 39);
+    is_truncated(&rt, &read_hex(&rt, rt.alloc(), DELTA), 39);
     let all = whole(rt.alloc(), 8192, EMPTY_DELTA).expect(&rt, "an entry");
     is_truncated(&rt, &all, 8231);
 }

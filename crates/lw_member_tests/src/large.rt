@@ -1,7 +1,6 @@
 //! Entries of any length, so many as a compaction waits for.
 
 use crate::shared::{Entries, add};
-use lw_log::Bytes;
 use std::alloc::Global;
 use std::process::Abort;
 
@@ -18,19 +17,29 @@ const SHORTEST_LIST: usize = 3;
 
 const LONGEST_LIST: usize = 8_192;
 
+/// Adds bytes behind the others.
+pub(crate) fn put(rt: &impl Abort, bytes: &mut Vec<u8>, more: &[u8]) {
+    bytes.extend_from_slice(more).expect(rt, "memory");
+}
+
 /// An entry of exactly so many bytes: this head, and a delta of registrations with long object lists.
-pub(crate) fn large(rt: &impl Abort, alloc: Global, head: &[u8], length: usize) -> Bytes {
+pub(crate) fn large(rt: &impl Abort, alloc: Global, head: &[u8], length: usize) -> Vec<u8> {
     let mut bytes = head.to_vec(alloc).expect(rt, "memory");
-    bytes.extend_from_slice(BEFORE_SLOTS).expect(rt, "memory");
+    put(rt, &mut bytes, BEFORE_SLOTS);
+    put_slots(rt, &mut bytes, length);
+    put(rt, &mut bytes, b"\x00");
+    bytes
+}
+
+/// Adds registrations up to one byte less than this length.
+fn put_slots(rt: &impl Abort, bytes: &mut Vec<u8>, length: usize) {
     for number in 0..u16::MAX {
         let left = length.saturating_sub(bytes.len()).saturating_sub(1);
         if left == 0 {
-            break;
+            return;
         }
-        put_slot(rt, &mut bytes, number, list_in(left));
+        put_slot(rt, bytes, number, list_in(left));
     }
-    bytes.push(0).expect(rt, "memory");
-    Bytes::from_vec(bytes).expect(rt, "memory")
 }
 
 /// How long a list is, where so many bytes are left for slots: those behind it have room for a list too.
@@ -49,23 +58,23 @@ fn put_slot(rt: &impl Abort, bytes: &mut Vec<u8>, number: u16, list: usize) {
     let [high, low] = number.to_be_bytes();
     let [first, second] = number.wrapping_add(1).to_be_bytes();
     let [list_high, list_low] = u16::try_from(list).expect(rt, "a length").to_be_bytes();
-    let name = [high / 16, high % 16, low / 16, low % 16];
-    bytes.extend_from_slice(&[1, 4]).expect(rt, "memory");
-    for half in name {
-        bytes.push(b'a'.wrapping_add(half)).expect(rt, "memory");
-    }
+    put(rt, bytes, &[1, 4, letter(high / 16), letter(high % 16)]);
+    put(rt, bytes, &[letter(low / 16), letter(low % 16)]);
     let stamps = [
         0, 0, 0, 0, first, second, 0, 1, 0x40, 0, 0, 0, 0, first, second, 0, 1, list_high, list_low,
     ];
-    bytes.extend_from_slice(&stamps).expect(rt, "memory");
-    bytes.extend_from_slice(b"</").expect(rt, "memory");
+    put(rt, bytes, &stamps);
+    put(rt, bytes, b"</");
     for _ in SHORTEST_LIST..list {
         bytes.push(b'a').expect(rt, "memory");
     }
     // Behind the list stand no attributes, not ended, and no watches.
-    bytes
-        .extend_from_slice(b">\x00\x00\x00")
-        .expect(rt, "memory");
+    put(rt, bytes, b">\x00\x00\x00");
+}
+
+/// The letter of half a byte.
+fn letter(half: u8) -> u8 {
+    b'a'.wrapping_add(half)
 }
 
 /// Appends entries with this head that have exactly so many bytes together, at least `LENGTH`.
@@ -73,8 +82,8 @@ pub(crate) fn fill(rt: &impl Abort, alloc: Global, entries: &Entries, head: &[u8
     let count = (total / LENGTH).saturating_sub(1);
     let entry = large(rt, alloc, head, LENGTH);
     for _ in 0..count {
-        add(entries, entry.clone().expect(rt, "memory")).expect(rt, "an append");
+        add(entries, &entry).expect(rt, "an append");
     }
     let left = total.saturating_sub(count.saturating_mul(LENGTH));
-    add(entries, large(rt, alloc, head, left)).expect(rt, "an append");
+    add(entries, &large(rt, alloc, head, left)).expect(rt, "an append");
 }

@@ -1,7 +1,9 @@
 //! Logs in memory, and the one that keeps nothing.
 
+use crate::compare::*;
 use Step::*;
 use lw_log::*;
+use std::alloc::Global;
 use std::process::Abort;
 
 /// What is done with a log. Positions are told by their major numbers, and those of readings by both numbers. Each
@@ -20,16 +22,21 @@ enum Step {
     IsAlone(bool),
 }
 
-fn at(major: u64) -> Position {
+fn place(major: u64) -> Position {
     Position { major, minor: 0 }
 }
 
 /// Appends entries of one byte, and compares their positions.
-fn append<L: DeltaLog>(rt: &impl Abort, log: &mut L, first: u64, major: u64, count: u64) {
+fn append<L: DeltaLog>(
+    rt: &impl Abort,
+    at: At,
+    log: &mut L,
+    (first, major, count): (u64, u64, u64),
+) {
     for number in 0..count {
         let byte = (first.wrapping_add(number) % 256) as u8;
         let position = log.append(&[byte]).expect(rt, "an append");
-        assert_eq!(rt; position, at(major.wrapping_add(number)), "entry {number}");
+        holds(rt, at, position == place(major.wrapping_add(number)));
     }
 }
 
@@ -47,35 +54,43 @@ fn read<L: DeltaLog>(
 }
 
 /// Compares the major numbers and the bytes of entries.
-fn are(rt: &impl Abort, step: usize, entries: &[(Position, Bytes)], want: &[(u64, u8)]) {
-    assert_eq!(rt; entries.len(), want.len(), "step {step}");
+fn are(rt: &impl Abort, at: At, entries: &[(Position, Bytes)], want: &[(u64, u8)]) {
+    counts(rt, at, entries.len(), want.len());
     for (entry, (major, byte)) in entries.iter().zip(want) {
-        assert_eq!(rt; entry.0, at(*major), "step {step}");
-        assert!(rt; entry.1.as_slice() == [*byte].as_slice(), "step {step}");
+        holds(rt, at, entry.0 == place(*major));
+        holds(rt, at, is_byte(&entry.1, *byte));
     }
 }
 
-/// Takes the steps, and compares what each tells.
-fn take_all<L: DeltaLog>(rt: &impl Abort, log: &mut L, steps: &[Step]) {
+/// Whether the bytes are this one.
+fn is_byte(bytes: &[u8], want: u8) -> bool {
+    match bytes {
+        [byte] => *byte == want,
+        _ => false,
+    }
+}
+
+/// Compares the last position of a whole page.
+fn is_page(rt: &impl Abort, at: At, page: &[(Position, Bytes)], last: u64) {
+    counts(rt, at, page.len(), PAGE);
+    holds(rt, at, page.last().expect(rt, "a last").0 == place(last));
+}
+
+/// Takes the step, and compares what it tells.
+fn take<L: DeltaLog>(rt: &impl Abort, at: At, log: &mut L, step: &Step) {
+    match step {
+        Appends(first, major, count) => append(rt, at, log, (*first, *major, *count)),
+        AppendsNot(byte) => holds(rt, at, log.append(&[*byte]) == Err(LogFault::Away)),
+        Reads(after, want) => are(rt, at, &read(rt, log, *after), want),
+        ReadsPage(after, last) => is_page(rt, at, &read(rt, log, *after), *last),
+        Trims(major) => log.trim(place(*major)).expect(rt, "a trim"),
+        IsAlone(is_so) => holds(rt, at, log.is_alone() == *is_so),
+    }
+}
+
+fn take_all<L: DeltaLog>(rt: &impl Abort, name: &'static str, log: &mut L, steps: &[Step]) {
     for (number, step) in steps.iter().enumerate() {
-        match step {
-            Appends(first, major, count) => append(rt, log, *first, *major, *count),
-            AppendsNot(byte) => {
-                assert_eq!(rt; log.append(&[*byte]), Err(LogFault::Away), "step {number}")
-            }
-            Reads(after, want) => are(rt, number, &read(rt, log, *after), want),
-            ReadsPage(after, last) => {
-                let page = read(rt, log, *after);
-                assert_eq!(rt; page.len(), PAGE, "step {number}");
-                assert_eq!(rt;
-                    page.last().expect(rt, "a last").0,
-                    at(*last),
-                    "step {number}"
-                );
-            }
-            Trims(major) => log.trim(at(*major)).expect(rt, "a trim"),
-            IsAlone(is_so) => assert_eq!(rt; log.is_alone(), *is_so, "step {number}"),
-        }
+        take(rt, (name, number, 0), log, step);
     }
 }
 
@@ -112,16 +127,30 @@ const TRIMMED: &[Step] = &[
 
 const SECOND_FAILS: &[Step] = &[Appends(1, 1, 1), AppendsNot(2), Appends(3, 3, 1)];
 
-/// Whether the second append fails, with its entry kept or not; the steps; and what is there behind them.
-type Story = (Option<bool>, &'static [Step], &'static [(u64, u8)]);
+/// What is tried; whether the second append fails, with its entry kept or not; the steps; what is there behind them.
+type Story = (
+    &'static str,
+    Option<bool>,
+    &'static [Step],
+    &'static [(u64, u8)],
+);
 
 static STORIES: [Story; 5] = [
-    (None, IN_ORDER, &[(1, 0), (2, 1), (3, 2)]),
-    (None, PAGES, &[(257, 0)]),
-    (None, TRIMMED, &[(5, 7)]),
-    (Some(false), SECOND_FAILS, &[(1, 1), (3, 3)]),
-    (Some(true), SECOND_FAILS, &[(1, 1), (2, 2), (3, 3)]),
+    ("in order", None, IN_ORDER, &[(1, 0), (2, 1), (3, 2)]),
+    ("pages", None, PAGES, &[(257, 0)]),
+    ("trimmed", None, TRIMMED, &[(5, 7)]),
+    ("not kept", Some(false), SECOND_FAILS, &[(1, 1), (3, 3)]),
+    ("kept", Some(true), SECOND_FAILS, &[(1, 1), (2, 2), (3, 3)]),
 ];
+
+fn play(rt: &impl Abort, alloc: Global, (name, fails, steps, want): &Story) {
+    let mut log = MemoryLog::new(alloc);
+    if let Some(kept) = fails {
+        log.fail_after(1, *kept);
+    }
+    take_all(rt, name, &mut log, steps);
+    are(rt, (name, steps.len(), 0), log.entries(), want);
+}
 
 /// Entries are read in the order of their positions, a page has 256, a trim lets go up to its position, and the
 /// entry of an append that fails is there or not.
@@ -129,13 +158,8 @@ static STORIES: [Story; 5] = [
 /// Tries: lw_log::DeltaLog::read, lw_log::DeltaLog::append, lw_log::DeltaLog::trim
 #[test]
 fn a_log_in_memory_keeps_its_entries(rt: HostRuntime) {
-    for (fails, steps, want) in &STORIES {
-        let mut log = MemoryLog::new(rt.alloc());
-        if let Some(kept) = fails {
-            log.fail_after(1, *kept);
-        }
-        take_all(&rt, &mut log, steps);
-        are(&rt, steps.len(), log.entries(), want);
+    for story in &STORIES {
+        play(&rt, rt.alloc(), story);
     }
 }
 
@@ -146,29 +170,31 @@ static ASKED: [Step; 4] = [
     Trims(2),
 ];
 
+/// Compares what was asked with the append of 1 at position 1, the failed one of 2, the reading and the trim.
+fn are_asked(rt: &impl Abort, at: At, calls: &[MemoryCall]) {
+    let [
+        MemoryCall::Wrote(first, wrote),
+        MemoryCall::Tried(tried),
+        MemoryCall::Read(after, page),
+        MemoryCall::Trimmed(upto),
+    ] = calls
+    else {
+        panic!(rt; "four calls");
+    };
+    holds(rt, at, *first == place(1) && is_byte(wrote, 1));
+    holds(rt, at, is_byte(tried, 2));
+    holds(rt, at, *after == Some(place(1)));
+    are(rt, at, page, &[(2, 2)]);
+    holds(rt, at, *upto == place(2));
+}
+
 /// Tries: lw_log::MemoryLog::asked, lw_log::DeltaLog::read, lw_log::DeltaLog::append, lw_log::DeltaLog::trim
 #[test]
 fn what_was_asked_is_known_in_order(rt: HostRuntime) {
     let mut log = MemoryLog::new(rt.alloc());
     log.fail_after(1, true);
-    take_all(&rt, &mut log, &ASKED);
-    let [
-        MemoryCall::Wrote(place, wrote),
-        MemoryCall::Tried(tried),
-        MemoryCall::Read(after, page),
-        MemoryCall::Trimmed(upto),
-    ] = log.asked()
-    else {
-        panic!(rt; "four calls");
-    };
-    assert!(rt;
-        *place == at(1) && wrote.as_slice() == [1].as_slice(),
-        "the append"
-    );
-    assert!(rt; tried.as_slice() == [2].as_slice(), "the failed one");
-    assert!(rt; *after == Some(at(1)), "the reading");
-    are(&rt, 2, page, &[(2, 2)]);
-    assert!(rt; *upto == at(2), "the trim");
+    take_all(&rt, "what was asked", &mut log, &ASKED);
+    are_asked(&rt, ("what was asked", ASKED.len(), 0), log.asked());
 }
 
 static NOWHERE: [Step; 5] = [
@@ -182,5 +208,5 @@ static NOWHERE: [Step; 5] = [
 /// Tries: lw_log::Nowhere::new, lw_log::DeltaLog::read, lw_log::DeltaLog::append, lw_log::DeltaLog::trim
 #[test]
 fn nowhere_keeps_nothing(rt: HostRuntime) {
-    take_all(&rt, &mut Nowhere::new(rt.alloc()), &NOWHERE);
+    take_all(&rt, "nowhere", &mut Nowhere::new(rt.alloc()), &NOWHERE);
 }

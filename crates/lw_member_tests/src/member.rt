@@ -12,11 +12,12 @@ mod restarts;
 mod several;
 mod stage;
 
+use crate::compare::*;
 use crate::shared::*;
 use acts::Act::*;
 use acts::Look::*;
 use acts::{answers, begin};
-use lw_log::{DeltaLog, FleetId, LogFault, MemoryLog};
+use lw_log::{Bytes, DeltaLog, FleetId, LogFault, MemoryLog};
 use lw_member::{Chance, Member, MemberFault, Moment};
 use lw_reg::Addr;
 use stage::Entry::*;

@@ -1,13 +1,13 @@
 //! A log in memory that several members share, and that can be made to fail.
 
 use hex::FromHexError;
-use lw_log::{Bytes, DeltaLog, LogFault, PAGE, Position};
+use lw_log::{Bytes, DeltaLog, LogFault, MemoryLog, Position};
 use std::alloc::Global;
 use std::cell::{Cell, RefCell};
 use std::process::Abort;
 
-/// Entries that several logs share.
-pub(crate) type Entries = RefCell<Vec<(Position, Bytes)>>;
+/// A log that several logs share.
+pub(crate) type Entries = RefCell<MemoryLog>;
 
 /// A call of a log that fails: how many calls are made before it, its fault, and whether the entry of an append is kept
 /// nevertheless.
@@ -59,39 +59,11 @@ fn failing(planned: &Cell<Option<Failure>>) -> Option<(LogFault, bool)> {
 }
 
 /// Adds an entry behind the others.
-pub(crate) fn add(entries: &Entries, bytes: Bytes) -> Result<Position, LogFault> {
-    let Ok(mut entries) = entries.try_borrow_mut() else {
-        return Err(LogFault::Away);
-    };
-    let last = match entries.last() {
-        Some((position, _)) => position.major,
-        None => 0,
-    };
-    let position = Position {
-        major: last.saturating_add(1),
-        minor: 0,
-    };
-    entries.push((position, bytes))?;
-    Ok(position)
-}
-
-/// The first entries above the position, or from the start.
-fn page_above(
-    alloc: Global,
-    entries: &[(Position, Bytes)],
-    after: Option<Position>,
-) -> Result<Vec<(Position, Bytes)>, LogFault> {
-    let mut page = Vec::new(alloc);
-    for (position, bytes) in entries {
-        let is_above = match after {
-            None => true,
-            Some(after) => after < *position,
-        };
-        if is_above && page.len() < PAGE {
-            page.push((*position, bytes.clone()?))?;
-        }
+pub(crate) fn add(entries: &Entries, entry: &[u8]) -> Result<Position, LogFault> {
+    match entries.try_borrow_mut() {
+        Ok(mut log) => log.append(entry),
+        Err(_) => Err(LogFault::Away),
     }
-    Ok(page)
 }
 
 impl DeltaLog for Shared<'_> {
@@ -99,34 +71,31 @@ impl DeltaLog for Shared<'_> {
         if let Some((fault, _)) = failing(&self.reading) {
             return Err(fault);
         }
-        let Ok(entries) = self.entries.try_borrow() else {
-            return Err(LogFault::Away);
-        };
-        page_above(self.alloc, entries.as_slice(), after)
+        match self.entries.try_borrow_mut() {
+            Ok(mut log) => log.read(after),
+            Err(_) => Err(LogFault::Away),
+        }
     }
 
     fn append(&mut self, entry: &[u8]) -> Result<Position, LogFault> {
         put_all(self.alloc, self.entries, self.between.replace(&[]))?;
-        let failure = failing(&self.append);
-        if let Some((fault, false)) = failure {
-            return Err(fault);
+        let Some((fault, kept)) = failing(&self.append) else {
+            return add(self.entries, entry);
+        };
+        if kept {
+            add(self.entries, entry)?;
         }
-        let position = add(self.entries, Bytes::copy_from_slice(self.alloc, entry)?)?;
-        match failure {
-            Some((fault, _)) => Err(fault),
-            None => Ok(position),
-        }
+        Err(fault)
     }
 
     fn trim(&mut self, upto: Position) -> Result<(), LogFault> {
         if let Some((fault, _)) = failing(&self.trim) {
             return Err(fault);
         }
-        let Ok(mut entries) = self.entries.try_borrow_mut() else {
-            return Err(LogFault::Away);
-        };
-        entries.retain(|entry| upto < entry.0);
-        Ok(())
+        match self.entries.try_borrow_mut() {
+            Ok(mut log) => log.trim(upto),
+            Err(_) => Err(LogFault::Away),
+        }
     }
 
     fn is_alone(&self) -> bool {
@@ -143,27 +112,46 @@ pub(crate) fn bytes_of(alloc: Global, text: &str) -> Result<Vec<u8>, LogFault> {
     }
 }
 
-/// Puts the entries that the texts spell in hex behind the others, as another process does.
+/// Puts the entry that the text spells in hex behind the others, as another process does.
+fn put(alloc: Global, entries: &Entries, text: &str) -> Result<Position, LogFault> {
+    let entry = bytes_of(alloc, text)?;
+    add(entries, &entry)
+}
+
+/// The same with each of the texts.
 pub(crate) fn put_all(alloc: Global, entries: &Entries, texts: &[&str]) -> Result<(), LogFault> {
     for text in texts {
-        add(entries, Bytes::from_vec(bytes_of(alloc, text)?)?)?;
+        put(alloc, entries, text)?;
     }
     Ok(())
 }
 
 /// The entries that the texts spell in hex, in this order.
 pub(crate) fn entries_of(alloc: Global, texts: &[&str]) -> Result<Entries, LogFault> {
-    let entries = RefCell::new(Vec::new(alloc));
+    let entries = RefCell::new(MemoryLog::new(alloc));
     put_all(alloc, &entries, texts)?;
     Ok(entries)
 }
 
+/// How many entries there are.
+pub(crate) fn count_of(rt: &impl Abort, entries: &Entries) -> usize {
+    let log = entries.try_borrow().expect(rt, "the log is free");
+    log.entries().len()
+}
+
 /// How many bytes the entries have together.
 pub(crate) fn total_of(rt: &impl Abort, entries: &Entries) -> usize {
-    let entries = entries.try_borrow().expect(rt, "the entries are free");
+    let log = entries.try_borrow().expect(rt, "the log is free");
     let mut total: usize = 0;
-    for (_, bytes) in entries.iter() {
+    for (_, bytes) in log.entries() {
         total = total.saturating_add(bytes.len());
     }
     total
+}
+
+/// A copy of the last entry.
+pub(crate) fn last_of(rt: &impl Abort, alloc: Global, entries: &Entries) -> Vec<u8> {
+    let log = entries.try_borrow().expect(rt, "the log is free");
+    let (_, bytes) = log.entries().last().expect(rt, "an entry");
+    bytes.to_vec(alloc).expect(rt, "memory")
 }

@@ -1,12 +1,11 @@
 //! What a member is asked, and what is seen of it.
 
-use super::stage::At;
 use super::*;
-use bytes::Bytes;
 use lw_call::{Call, Reply, Taken};
 use lw_reg::Path;
 use lw_stamp::Stamp;
 use std::alloc::AllocError;
+use std::slice;
 
 /// What is asked of a member. Datagrams and replies are in hex.
 pub(super) enum Act {
@@ -53,7 +52,10 @@ pub(super) fn is_seen<G: DeltaLog>(member: &Member<G>, look: &Look) -> bool {
         Look::Fleet(fleet) => member.fleet() == *fleet,
         Look::Claimed(is_so) => member.is_claimed() == *is_so,
         Look::Shown(is_so) => member.node().is_some() == *is_so,
-        Look::Clock(clock) => member.node().is_some_and(|node| node.clock() == *clock),
+        Look::Clock(clock) => match member.node() {
+            Some(node) => node.clock() == *clock,
+            None => false,
+        },
         Look::IsDue(is_so) => member.wants_compaction() == *is_so,
         Look::HasSize(whole, behind) => {
             let size = member.log_size();
@@ -101,8 +103,8 @@ fn replies_to<G: DeltaLog>(
     member: &mut Member<G>,
     datagram: &str,
 ) -> Result<Vec<Reply>, MemberFault> {
-    let calls = [take(alloc, datagram)?];
-    round(member, &calls)
+    let call = take(alloc, datagram)?;
+    round(member, slice::from_ref(&call))
 }
 
 /// What was taken: the datagram that is sent back in hex, or `-`, and behind it what a device tells.
@@ -147,6 +149,22 @@ pub(super) fn update_of(alloc: Global, reply: &str) -> Result<String, AllocError
     }
 }
 
+/// Compares the fault, or that there is none.
+pub(super) fn faults<T: Drop>(
+    rt: &impl Abort,
+    at: At,
+    outcome: Result<T, MemberFault>,
+    want: Option<MemberFault>,
+) {
+    assert_eq!(rt; outcome.err(), want, "at {at:?}");
+}
+
+/// Compares the one reply.
+fn is_reply(rt: &impl Abort, alloc: Global, at: At, replies: &[Reply], want: &str) {
+    let text = given(rt, at, reply_text(alloc, replies));
+    reads(rt, at, text.as_str(), want);
+}
+
 /// Compares the reply to the datagram.
 pub(super) fn answers<G: DeltaLog>(
     rt: &impl Abort,
@@ -155,29 +173,33 @@ pub(super) fn answers<G: DeltaLog>(
     member: &mut Member<G>,
     (datagram, want): (&str, &str),
 ) {
-    match answer(alloc, member, datagram) {
-        Ok(text) => assert_eq!(rt; text.as_str(), want, "to {datagram} at {at:?}"),
-        Err(fault) => panic!(rt; "{fault} in place of {want} at {at:?}"),
+    let replies = given(rt, at, replies_to(alloc, member, datagram));
+    is_reply(rt, alloc, at, &replies, want);
+}
+
+/// The datagrams of the rows, as calls.
+fn calls_of(rt: &impl Abort, alloc: Global, rows: &[(&str, &str)]) -> Vec<Call> {
+    let mut calls = Vec::new(alloc);
+    for (datagram, _) in rows {
+        let call = take(alloc, datagram).expect(rt, "a datagram");
+        calls.push(call).expect(rt, "memory");
     }
+    calls
 }
 
 /// Compares the replies of one round with all datagrams.
 fn answers_all(
     rt: &impl Abort,
     alloc: Global,
+    at: At,
     member: &mut Member<Shared<'_>>,
     rows: &[(&str, &str)],
 ) {
-    let mut calls = Vec::new(alloc);
-    for (datagram, _) in rows {
-        let call = take(alloc, datagram).expect(rt, "a datagram");
-        calls.push(call).expect(rt, "memory");
-    }
-    let replies = round(member, &calls).expect(rt, "a round");
-    assert_eq!(rt; replies.len(), rows.len());
-    for (reply, (datagram, want)) in replies.iter().zip(rows) {
-        let text = reply_text(alloc, std::slice::from_ref(reply)).expect(rt, "a reply");
-        assert_eq!(rt; text.as_str(), *want, "the reply to {datagram}");
+    let calls = calls_of(rt, alloc, rows);
+    let replies = given(rt, at, round(member, &calls));
+    counts(rt, at, replies.len(), rows.len());
+    for (reply, (_, want)) in replies.iter().zip(rows) {
+        is_reply(rt, alloc, at, slice::from_ref(reply), want);
     }
 }
 
@@ -185,24 +207,19 @@ fn answers_all(
 const OBSERVATION: &str = "4801002000000000000200016051330130";
 
 /// Compares the request to the device of an observation of `/3/0` at the first registration, message ID 32.
-fn observes(rt: &impl Abort, alloc: Global, member: &mut Member<Shared<'_>>, want: &str) {
-    let path = Path::new(&[3, 0]).expect(rt, "a path");
-    let id = Stamp {
-        counter: 1,
-        node: 1,
-    };
+fn observes(rt: &impl Abort, alloc: Global, at: At, member: &mut Member<Shared<'_>>) {
     let call = Call::Observe {
         now: Moment::START,
-        id,
-        path,
+        id: Stamp {
+            counter: 1,
+            node: 1,
+        },
+        path: Path::new(&[3, 0]).expect(rt, "a path"),
         accept: None,
         mid: 32,
     };
-    let mut calls = Vec::new(alloc);
-    calls.push(call).expect(rt, "memory");
-    let replies = round(member, &calls).expect(rt, "a round");
-    let text = reply_text(alloc, &replies).expect(rt, "a request");
-    assert_eq!(rt; text.as_str(), want);
+    let replies = given(rt, at, round(member, slice::from_ref(&call)));
+    is_reply(rt, alloc, at, &replies, OBSERVATION);
 }
 
 /// Asks it of the member, and compares what it tells.
@@ -215,18 +232,26 @@ pub(super) fn ask(
 ) {
     match what {
         Act::Answers(datagram, want) => answers(rt, alloc, at, member, (datagram, want)),
-        Act::AnswersAll(rows) => answers_all(rt, alloc, member, rows),
+        Act::AnswersAll(rows) => answers_all(rt, alloc, at, member, rows),
         Act::Refuses(datagram, want) => {
-            let fault = replies_to(alloc, member, datagram).err();
-            assert_eq!(rt; fault, Some(*want), "at {at:?}");
+            faults(rt, at, replies_to(alloc, member, datagram), Some(*want));
         }
-        Act::Rests(want) => assert_eq!(rt; round(member, &[]).err(), *want, "at {at:?}"),
-        Act::Compacts(want) => assert_eq!(rt; compact(member).err(), *want, "at {at:?}"),
-        Act::Observes => observes(rt, alloc, member, OBSERVATION),
-        Act::Knows(updates) => {
-            for update in *updates {
-                answers(rt, alloc, at, member, (update, CHANGED));
-            }
-        }
+        Act::Rests(want) => faults(rt, at, round(member, &[]), *want),
+        Act::Compacts(want) => faults(rt, at, compact(member), *want),
+        Act::Observes => observes(rt, alloc, at, member),
+        Act::Knows(updates) => knows(rt, alloc, at, member, updates),
+    }
+}
+
+/// Compares the replies to Updates: the registration of each is known.
+fn knows(
+    rt: &impl Abort,
+    alloc: Global,
+    at: At,
+    member: &mut Member<Shared<'_>>,
+    updates: &[&str],
+) {
+    for update in updates {
+        answers(rt, alloc, at, member, (update, CHANGED));
     }
 }

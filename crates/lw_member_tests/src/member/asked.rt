@@ -1,15 +1,17 @@
 //! What a member asks of its log.
 
-use super::stage::At;
 use super::*;
 use lw_log::{MemoryCall, Position};
 
-/// A call of a log: what it was, and its position, 0 for none. Behind a reading stands how many entries came.
-type Asked = (char, u64, usize);
+/// A call of a log: what it was, and its position, 0 for none. Behind a reading stand how many entries came, and the
+/// position of the last, 0 for none.
+pub(super) type Asked = (char, u64, usize, u64);
 
-const READ: char = 'r';
+pub(super) const READ: char = 'r';
 
-const WROTE: char = 'w';
+pub(super) const WROTE: char = 'w';
+
+pub(super) const TRIMMED: char = 'x';
 
 /// The major number of the position, or 0 where there is none.
 fn place_of(after: Option<Position>) -> u64 {
@@ -19,21 +21,30 @@ fn place_of(after: Option<Position>) -> u64 {
     }
 }
 
+/// The major number of the position of the last entry, or 0 where there is none.
+fn last_place(page: &[(Position, Bytes)]) -> u64 {
+    match page.last() {
+        Some((position, _)) => position.major,
+        None => 0,
+    }
+}
+
 fn asked_by(call: &MemoryCall) -> Asked {
     match call {
-        MemoryCall::Read(after, page) => (READ, place_of(*after), page.len()),
-        MemoryCall::Wrote(position, _) => (WROTE, position.major, 0),
-        MemoryCall::Tried(_) => ('t', 0, 0),
-        MemoryCall::Trimmed(upto) => ('x', upto.major, 0),
+        MemoryCall::Read(after, page) => (READ, place_of(*after), page.len(), last_place(page)),
+        MemoryCall::Wrote(position, _) => (WROTE, position.major, 0, 0),
+        MemoryCall::Tried(_) => ('t', 0, 0, 0),
+        MemoryCall::Trimmed(upto) => (TRIMMED, upto.major, 0, 0),
     }
 }
 
 /// Compares what the log was asked for behind so many calls.
-fn was_asked(rt: &impl Abort, log: &MemoryLog, before: usize, want: &[Asked]) {
+pub(super) fn was_asked(rt: &impl Abort, at: At, entries: &Entries, before: usize, want: &[Asked]) {
+    let log = entries.try_borrow().expect(rt, "the log is free");
     let calls = log.asked().get(before..).expect(rt, "calls");
-    assert_eq!(rt; calls.len(), want.len(), "behind {before}");
+    counts(rt, at, calls.len(), want.len());
     for (call, row) in calls.iter().zip(want) {
-        assert_eq!(rt; asked_by(call), *row, "behind {before}");
+        holds(rt, at, asked_by(call) == *row);
     }
 }
 
@@ -43,90 +54,87 @@ const PING: &str = "40000007";
 const PONG: &str = "70000007";
 
 /// Two readings at the start. Then a first Register, a second one and a ping.
-static ROUNDS: [Asked; 8] = [
-    (READ, 0, 0),
-    (READ, 0, 0),
-    (WROTE, 1, 0),
-    (READ, 0, 1),
-    (WROTE, 2, 0),
-    (READ, 1, 1),
-    (WROTE, 3, 0),
-    (READ, 2, 1),
-];
+static ROUNDS: [Story; 1] = [(
+    "a round reads and then writes",
+    BESIDE,
+    &[],
+    &[&[
+        Begins(FIRST_CHANCE),
+        Log(WasAsked(0, &[(READ, 0, 0, 0), (READ, 0, 0, 0)])),
+        Does(FIRST, Answers(REGISTER, CREATED)),
+        Log(WasAsked(2, &[(WROTE, 1, 0, 0), (READ, 0, 1, 1), (WROTE, 2, 0, 0)])),
+        Does(FIRST, Answers(REGISTER_B, CREATED_B)),
+        Log(WasAsked(5, &[(READ, 1, 1, 2), (WROTE, 3, 0, 0)])),
+        Does(FIRST, Answers(PING, PONG)),
+        Log(WasAsked(7, &[(READ, 2, 1, 3)])),
+    ]],
+)];
 
-/// A datagram and its reply, and how many of these calls the log has been asked for then.
-static ANSWERED: [(&str, &str, usize); 3] = [
-    (REGISTER, CREATED, 5),
-    (REGISTER_B, CREATED_B, 7),
-    (PING, PONG, 8),
-];
-
-const IN_ORDER: At = ("a round reads and then writes", 0, 0);
-
-/// Tries: lw_member::Member::begin, lw_member::Member::round, lw_member::Member::log
+/// Tries: lw_member::Member::begin, lw_member::Member::round
 #[test]
 fn a_round_reads_and_then_writes(rt: HostRuntime) {
-    let alloc = rt.alloc();
-    let log = MemoryLog::new(alloc);
-    let mut member = begin(alloc, log, &FIRST_CHANCE, Moment::START).expect(&rt, "a member");
-    was_asked(&rt, member.log(), 0, &ROUNDS[..2]);
-    for (datagram, want, count) in &ANSWERED {
-        answers(&rt, alloc, IN_ORDER, &mut member, (datagram, want));
-        let calls = ROUNDS.get(..*count).expect(&rt, "so many calls");
-        was_asked(&rt, member.log(), 0, calls);
-    }
+    play_all(&rt, rt.alloc(), &ROUNDS);
 }
 
-/// A log with so many entries: a start, bytes that are none, and a delta.
-fn log_of(rt: &impl Abort, alloc: Global, count: usize) -> MemoryLog {
-    let mut log = MemoryLog::new(alloc);
-    for number in 1..=count {
-        let text = match number {
-            1 => START,
-            _ if number == count => DELTA,
-            _ => "00",
-        };
-        let entry = bytes_of(alloc, text).expect(rt, "an entry");
-        log.append(&entry).expect(rt, "an append");
-    }
-    log
-}
-
-/// How many entries there are, and what two readings to their end are. A page of fewer than 256 entries is the last.
-static PAGES: [(usize, &[Asked]); 3] = [
-    (255, &[(READ, 0, 255), (READ, 0, 255)]),
+/// A log with a start, so many times bytes that are no entry, and a delta, and what two readings to their end are. A
+/// page of fewer than 256 entries is the last. The log was asked for each append before.
+static PAGES: [Story; 3] = [
     (
-        256,
-        &[
-            (READ, 0, 256),
-            (READ, 256, 0),
-            (READ, 0, 256),
-            (READ, 256, 0),
-        ],
+        "255 entries",
+        BESIDE,
+        &[START],
+        &[&[
+            Log(PutsTimes(253, "00")),
+            Log(Puts(DELTA)),
+            Begins(SECOND_CHANCE),
+            Log(WasAsked(255, &[(READ, 0, 255, 255), (READ, 0, 255, 255)])),
+            Does(FIRST, Answers(UPDATE, CHANGED)),
+        ]],
     ),
     (
-        257,
-        &[
-            (READ, 0, 256),
-            (READ, 256, 1),
-            (READ, 0, 256),
-            (READ, 256, 1),
-        ],
+        "256 entries",
+        BESIDE,
+        &[START],
+        &[&[
+            Log(PutsTimes(254, "00")),
+            Log(Puts(DELTA)),
+            Begins(SECOND_CHANCE),
+            Log(WasAsked(
+                256,
+                &[
+                    (READ, 0, 256, 256),
+                    (READ, 256, 0, 0),
+                    (READ, 0, 256, 256),
+                    (READ, 256, 0, 0),
+                ],
+            )),
+            Does(FIRST, Answers(UPDATE, CHANGED)),
+        ]],
+    ),
+    (
+        "257 entries",
+        BESIDE,
+        &[START],
+        &[&[
+            Log(PutsTimes(255, "00")),
+            Log(Puts(DELTA)),
+            Begins(SECOND_CHANCE),
+            Log(WasAsked(
+                257,
+                &[
+                    (READ, 0, 256, 256),
+                    (READ, 256, 1, 257),
+                    (READ, 0, 256, 256),
+                    (READ, 256, 1, 257),
+                ],
+            )),
+            Does(FIRST, Answers(UPDATE, CHANGED)),
+        ]],
     ),
 ];
-
-const TO_ITS_END: At = ("a log is read to its end", 0, 0);
 
 /// Tries: lw_member::Member::begin, lw_member::Member::round
 #[test]
 fn a_log_is_read_to_its_end(rt: HostRuntime) {
-    let alloc = rt.alloc();
-    for (count, pages) in &PAGES {
-        let log = log_of(&rt, alloc, *count);
-        let begun = begin(alloc, log, &SECOND_CHANCE, Moment::START);
-        let mut member = begun.expect(&rt, "a member");
-        // The log was asked for each append.
-        was_asked(&rt, member.log(), *count, pages);
-        answers(&rt, alloc, TO_ITS_END, &mut member, (UPDATE, CHANGED));
-    }
+    play_all(&rt, rt.alloc(), &PAGES);
 }

@@ -1,9 +1,7 @@
 //! Compactions: all that a member knows is written anew, and what it has read goes.
 
-use super::acts::compact;
-use super::stage::At;
+use super::asked::{READ, TRIMMED, WROTE};
 use super::*;
-use lw_log::{MemoryCall, Position};
 
 /// What stands before the numbers of a whole entry of the first: its head with sequence 3, kind 2.
 const WHOLE_HEAD: &str =
@@ -43,68 +41,28 @@ const ITS_UPDATES: &[&str] = &[UPDATE, UPDATE_OF_SECOND];
 /// Updates of the first registrations of two members.
 const UPDATES_OF_TWO: &[&str] = &[UPDATE, "40020011b272640d0330303030303030303030303230303032"];
 
-fn at(major: u64) -> Position {
-    Position { major, minor: 0 }
-}
+/// A compaction of an empty log only reads it. One behind a Register reads from the start at position 1 on, to the
+/// delta at 2, writes all behind them, with number 1, which is a bit of the first byte, and trims up to the delta.
+static GOES: [Story; 1] = [(
+    "what was read goes once all is written",
+    BESIDE,
+    &[],
+    &[&[
+        Begins(FIRST_CHANCE),
+        Does(FIRST, Compacts(None)),
+        Log(WasAsked(2, &[(READ, 0, 0, 0)])),
+        Does(FIRST, Answers(REGISTER, CREATED)),
+        Does(FIRST, Compacts(None)),
+        Log(WasAsked(6, &[(READ, 1, 1, 2), (WROTE, 3, 0, 0), (TRIMMED, 2, 0, 0)])),
+        Log(HasPlaces(&[3])),
+        Log(HasWhole(WHOLE_HEAD, 2, KNOWN)),
+    ]],
+)];
 
-/// Compares the bytes with what the text spells in hex.
-fn is_hex(rt: &impl Abort, alloc: Global, bytes: &[u8], want: &str) {
-    let text = hex::encode(alloc, bytes).expect(rt, "memory");
-    assert_eq!(rt; text.as_str(), want);
-}
-
-/// Fails where a compaction has asked for other things than the reading of the delta, the append of a whole entry and a
-/// trim.
-fn is_compaction(rt: &impl Abort, alloc: Global, calls: &[MemoryCall]) {
-    let [
-        MemoryCall::Read(after, page),
-        MemoryCall::Wrote(place, entry),
-        MemoryCall::Trimmed(upto),
-    ] = calls
-    else {
-        panic!(rt; "a reading, an append and a trim");
-    };
-    // The start has position 1, and the delta 2.
-    assert_eq!(rt; *after, Some(at(1)), "from the last that was read");
-    assert_eq!(rt; page.last().expect(rt, "a last").0, at(2), "the last");
-    assert_eq!(rt; *place, at(3), "the entry is behind it");
-    assert_eq!(rt; *upto, at(2), "the last one goes");
-    let (head, rest) = entry
-        .as_slice()
-        .split_first_chunk::<39>()
-        .expect(rt, "a head");
-    let (_, known) = rest.split_first_chunk::<8192>().expect(rt, "numbers");
-    is_hex(rt, alloc, head, WHOLE_HEAD);
-    is_hex(rt, alloc, known, KNOWN);
-}
-
-const FIRST_REGISTER: At = ("what was read goes once all is written", 0, 0);
-
-/// A compaction of an empty log only reads it. One behind a Register reads, writes all and trims.
 /// Tries: lw_member::Member::compact
 #[test]
 fn what_was_read_goes_once_all_is_written(rt: HostRuntime) {
-    let alloc = rt.alloc();
-    let log = MemoryLog::new(alloc);
-    let mut member = begin(alloc, log, &FIRST_CHANCE, Moment::START).expect(&rt, "a member");
-    let before = member.log().asked().len();
-    assert_eq!(rt; compact(&mut member), Ok(()));
-    let Some([MemoryCall::Read(None, page)]) = member.log().asked().get(before..) else {
-        panic!(rt; "one reading");
-    };
-    assert!(rt; page.is_empty(), "nothing is there");
-    answers(&rt, alloc, FIRST_REGISTER, &mut member, (REGISTER, CREATED));
-    let before = member.log().asked().len();
-    assert_eq!(rt; compact(&mut member), Ok(()));
-    is_compaction(
-        &rt,
-        alloc,
-        member.log().asked().get(before..).expect(&rt, "calls"),
-    );
-    let [(left, _)] = member.log().entries() else {
-        panic!(rt; "one entry is left");
-    };
-    assert_eq!(rt; *left, at(3), "the whole one");
+    play_all(&rt, rt.alloc(), &GOES);
 }
 
 /// A member registers and observes `a`, and compacts. A later start knows it.

@@ -1,7 +1,7 @@
 //! When a compaction is due, by the bytes of the entries that are in the log.
 
 use super::acts::is_seen;
-use super::stage::At;
+use super::stage::numbered;
 use super::*;
 use crate::large::{fill, large};
 use std::alloc::AllocError;
@@ -28,11 +28,8 @@ const NAMELESS_REPLY: &str = "60800006";
 
 /// Appends a whole entry of so many bytes, whose numbers are none.
 pub(super) fn put_large(rt: &impl Abort, alloc: Global, entries: &Entries, length: usize) {
-    let mut head = bytes_of(alloc, WHOLE_HEAD).expect(rt, "a head");
-    for _ in 0..8_192 {
-        head.push(0).expect(rt, "memory");
-    }
-    add(entries, large(rt, alloc, &head, length)).expect(rt, "an append");
+    let head = numbered(rt, alloc, WHOLE_HEAD, (0, 0, 0));
+    add(entries, &large(rt, alloc, &head, length)).expect(rt, "an append");
 }
 
 /// Appends deltas that have so many bytes together.
@@ -195,14 +192,24 @@ pub(super) fn update_until_due(
 ) {
     let update = long_update(alloc).expect(rt, "memory");
     for _ in 0..2_200 {
-        answers(rt, alloc, COUNTING, member, (update.as_str(), CHANGED));
-        let is_due = is_seen(member, &IsDue(true));
-        assert_eq!(rt; is_due, total_of(rt, entries) > 16 * MIB);
-        if is_due {
-            return;
+        if is_seen(member, &IsDue(true)) {
+            break;
         }
+        update_once(rt, alloc, entries, member, update.as_str());
     }
-    panic!(rt; "16 MiB in 2,200 Updates");
+    holds(rt, COUNTING, is_seen(member, &IsDue(true)));
+}
+
+fn update_once(
+    rt: &impl Abort,
+    alloc: Global,
+    entries: &Entries,
+    member: &mut Member<Shared<'_>>,
+    update: &str,
+) {
+    answers(rt, alloc, COUNTING, member, (update, CHANGED));
+    let is_large = total_of(rt, entries) > 16 * MIB;
+    holds(rt, COUNTING, is_seen(member, &IsDue(true)) == is_large);
 }
 
 const COUNTED: &[Step] = &[

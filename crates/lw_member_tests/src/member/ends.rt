@@ -1,7 +1,6 @@
 //! Clocks, where they end and where they begin.
 
 use super::acts::is_seen;
-use super::stage::At;
 use super::*;
 use lw_log::Nowhere;
 
@@ -118,11 +117,15 @@ const NOWHERE: At = ("a member that keeps nothing", 0, 0);
 fn ask_nowhere(rt: &impl Abort, alloc: Global, ms: u64, rows: &[(&str, &str)]) {
     let moment = Moment::new(ms).expect(rt, "a moment");
     let begun = begin(alloc, Nowhere::new(alloc), &FIRST_CHANCE, moment);
-    let mut member = begun.expect(rt, "a member");
+    let mut member = given(rt, NOWHERE, begun);
     for row in rows {
         answers(rt, alloc, NOWHERE, &mut member, *row);
     }
-    assert!(rt; is_seen(&member, &Number(1)) && is_seen(&member, &Shown(true)));
+    holds(
+        rt,
+        NOWHERE,
+        is_seen(&member, &Number(1)) && is_seen(&member, &Shown(true)),
+    );
 }
 
 /// An Update of the registration with counter 64,001.

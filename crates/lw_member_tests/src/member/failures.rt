@@ -1,58 +1,70 @@
 //! Logs that fail.
 
 use super::acts::{answer, update_of};
-use super::stage::At;
 use super::*;
 
-/// A Register of `c` with the object list `</>`, message ID 6.
-const REGISTER_C: &str = "40020006b272644465703d63ff3c2f3e";
+/// Registers of `a`, `b` and `c`, the last with the object list `</>` and message ID 6.
+static REGISTERS: [&str; 3] = [REGISTER, REGISTER_B, "40020006b272644465703d63ff3c2f3e"];
 
-/// An Update of what the member registers. Where the round fails the device sends it
-/// again.
-fn registered(
+/// The reply to the datagram. Where the round fails the device sends it again.
+fn answer_to(
     rt: &impl Abort,
     alloc: Global,
     member: &mut Member<Shared<'_>>,
-    register: &str,
+    text: &str,
 ) -> String {
-    if let Ok(reply) = answer(alloc, member, register) {
-        return update_of(alloc, reply.as_str()).expect(rt, "memory");
+    if let Ok(reply) = answer(alloc, member, text) {
+        return reply;
     }
     // With its start alone a member has written no less than it knows: what is unwritten is not shown.
-    assert_ne!(rt; member.node().is_some(), member.is_claimed());
-    let reply = answer(alloc, member, register).expect(rt, "a reply");
-    assert!(rt; member.node().is_some());
-    update_of(alloc, reply.as_str()).expect(rt, "memory")
+    holds(rt, AROUND, member.node().is_some() != member.is_claimed());
+    let reply = given(rt, AROUND, answer(alloc, member, text));
+    holds(rt, AROUND, member.node().is_some());
+    reply
 }
 
-/// Fails where something that is given to three devices around a failed append is not known at the next start.
-fn is_known_afterwards(rt: &impl Abort, alloc: Global, alone: bool, (after, kept): (u64, bool)) {
+/// Updates of what a member gives to three devices around a failed append.
+fn given_around(
+    rt: &impl Abort,
+    alloc: Global,
+    entries: &Entries,
+    (alone, failure): (bool, Failure),
+) -> Vec<String> {
+    let log = Shared::new(alloc, entries, alone);
+    log.append.set(Some(failure));
+    let mut member = given(rt, AROUND, begin(alloc, log, &FIRST_CHANCE, Moment::START));
+    let mut updates = Vec::new(alloc);
+    for register in &REGISTERS {
+        let reply = answer_to(rt, alloc, &mut member, register);
+        let update = update_of(alloc, reply.as_str()).expect(rt, "memory");
+        updates.push(update).expect(rt, "memory");
+    }
+    holds(rt, AROUND, member.log().has_failed());
+    updates
+}
+
+/// Fails where something of it is not known at the next start.
+fn is_known_afterwards(rt: &impl Abort, alloc: Global, around: (bool, Failure)) {
     let entries = entries_of(alloc, &[]).expect(rt, "memory");
-    let log = Shared::new(alloc, &entries, alone);
-    let mut member = begin(alloc, log, &FIRST_CHANCE, Moment::START).expect(rt, "a member");
-    member.log().append.set(Some((after, LogFault::Away, kept)));
-    let first = registered(rt, alloc, &mut member, REGISTER);
-    let second = registered(rt, alloc, &mut member, REGISTER_B);
-    let third = registered(rt, alloc, &mut member, REGISTER_C);
-    assert!(rt; member.log().has_failed(), "after {after}");
+    let updates = given_around(rt, alloc, &entries, around);
     let log = Shared::new(alloc, &entries, false);
-    let mut next = begin(alloc, log, &SECOND_CHANCE, Moment::START).expect(rt, "a member");
-    for update in [&first, &second, &third] {
-        answers(rt, alloc, AT, &mut next, (update.as_str(), CHANGED));
+    let mut next = given(rt, AROUND, begin(alloc, log, &SECOND_CHANCE, Moment::START));
+    for update in &updates {
+        answers(rt, alloc, AROUND, &mut next, (update.as_str(), CHANGED));
     }
 }
 
-const AT: At = ("what is given around a failed append is known", 0, 0);
+const AROUND: At = ("what is given around a failed append is known", 0, 0);
 
 /// Tries: lw_member::Member::round, lw_member::Member::node, lw_member::Member::begin
 #[test]
 fn what_is_given_around_a_failed_append_is_known(rt: HostRuntime) {
     // A start, and a delta for each of three devices.
     for append in 0..4 {
-        for kept in [false, true] {
-            is_known_afterwards(&rt, rt.alloc(), false, (append, kept));
-            is_known_afterwards(&rt, rt.alloc(), true, (append, kept));
-        }
+        is_known_afterwards(&rt, rt.alloc(), (false, (append, LogFault::Away, false)));
+        is_known_afterwards(&rt, rt.alloc(), (false, (append, LogFault::Away, true)));
+        is_known_afterwards(&rt, rt.alloc(), (true, (append, LogFault::Away, false)));
+        is_known_afterwards(&rt, rt.alloc(), (true, (append, LogFault::Away, true)));
     }
 }
 
@@ -238,20 +250,24 @@ const CLAIMED_AGAIN: &[Step] = &[
     Log(Has(&[START, START_AGAIN, DELTA_AFTER])),
 ];
 
+/// What a member answers that finds no more than a part of the log.
+const LOST_LOG: MemberFault = MemberFault::Log(LogFault::Lost);
+
+/// The first reading fails, or the second.
+static UNREAD: [Story; 1] = [(
+    "a member begins where all is read",
+    BESIDE,
+    WRITTEN,
+    &[&[
+        ReadsNot((0, LogFault::Lost, false), SECOND_CHANCE, LOST_LOG),
+        ReadsNot((1, LogFault::Lost, false), SECOND_CHANCE, LOST_LOG),
+    ]],
+)];
+
 /// Tries: lw_member::Member::begin
 #[test]
 fn a_member_begins_where_all_is_read(rt: HostRuntime) {
-    let entries = entries_of(rt.alloc(), WRITTEN).expect(&rt, "entries");
-    for before in 0..2 {
-        let log = Shared::new(rt.alloc(), &entries, false);
-        log.reading.set(Some((before, LogFault::Lost, false)));
-        let begun = begin(rt.alloc(), log, &SECOND_CHANCE, Moment::START);
-        assert_eq!(rt;
-            begun.err(),
-            Some(MemberFault::Log(LogFault::Lost)),
-            "after {before}"
-        );
-    }
+    play_all(&rt, rt.alloc(), &UNREAD);
 }
 
 /// The log loses all, is given what was written since, and has the start again that was lost.
@@ -295,7 +311,7 @@ static STORIES: [Story; 4] = [
     ),
 ];
 
-/// Tries: lw_member::Member::round, lw_member::Member::node, lw_member::Member::is_claimed
+/// Tries: lw_member::Member::round, lw_member::Member::node, lw_member::Member::is_claimed, lw_member::Member::log
 #[test]
 fn a_failed_round_may_be_followed_by_another(rt: HostRuntime) {
     play_all(&rt, rt.alloc(), &FAULTS);

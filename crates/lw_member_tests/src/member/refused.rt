@@ -3,6 +3,7 @@
 use super::acts::{answer, compact, reply_text, round, take, update_of};
 use super::*;
 use lw_call::{Call, Reply};
+use std::slice;
 use std::test::Fail;
 
 /// A member at moment 0 over entries to which others may append.
@@ -19,6 +20,8 @@ fn begin_over<'a>(
     )
 }
 
+const REPLY: At = ("the reply of a member that may be refused memory", 0, 0);
+
 /// Compares the reply to the datagram.
 fn replies(
     rt: &impl Abort,
@@ -27,7 +30,7 @@ fn replies(
     (datagram, want): (&str, &str),
 ) -> Result<(), Fail> {
     let text = answer(alloc, member, datagram)?;
-    assert_eq!(rt; text.as_str(), want, "the reply to {datagram}");
+    reads(rt, REPLY, text.as_str(), want);
     Ok(())
 }
 
@@ -70,27 +73,65 @@ fn round_in_two_tries(
     first
 }
 
-/// An Update of what the member registers in a round that may be made again.
-fn registered(alloc: Global, member: &mut Member<Shared<'_>>) -> Result<String, MemberFault> {
-    let calls = [take(alloc, REGISTER)?];
-    let replies = round_in_two_tries(member, &calls)?;
-    let reply = reply_text(alloc, &replies)?;
+/// The replies of a round with a Register of `a`, which may be made again.
+fn replies_in_two_tries(
+    alloc: Global,
+    member: &mut Member<Shared<'_>>,
+) -> Result<Vec<Reply>, MemberFault> {
+    let call = take(alloc, REGISTER)?;
+    round_in_two_tries(member, slice::from_ref(&call))
+}
+
+/// The one reply of such a round.
+fn reply_in_two_tries(
+    alloc: Global,
+    member: &mut Member<Shared<'_>>,
+) -> Result<String, MemberFault> {
+    let replies = replies_in_two_tries(alloc, member)?;
+    reply_text(alloc, &replies)
+}
+
+/// The reply of a member that begins over the entries.
+fn reply_over(alloc: Global, entries: &Entries) -> Result<String, MemberFault> {
+    let mut member = begin_over(alloc, entries, &FIRST_CHANCE)?;
+    reply_in_two_tries(alloc, &mut member)
+}
+
+/// An Update of what such a member registers.
+fn registered_over(alloc: Global, entries: &Entries) -> Result<String, MemberFault> {
+    let reply = reply_over(alloc, entries)?;
     Ok(update_of(alloc, reply.as_str())?)
 }
 
-/// Fails where a start over the entries does not know what a member then registers.
-fn is_registered(rt: &impl Abort, alloc: Global, entries: &Entries) -> Result<(), Fail> {
-    let mut member = begin_over(alloc, entries, &FIRST_CHANCE)?;
-    let update = registered(alloc, &mut member)?;
+/// Compares the replies of a later start over the entries.
+fn later_replies(
+    rt: &impl Abort,
+    alloc: Global,
+    entries: &Entries,
+    rows: &[(&str, &str)],
+) -> Result<(), Fail> {
     let mut next = begin_over(alloc, entries, &SECOND_CHANCE)?;
-    replies(rt, alloc, &mut next, (update.as_str(), CHANGED))
+    all_replies(rt, alloc, &mut next, rows)
+}
+
+fn all_replies(
+    rt: &impl Abort,
+    alloc: Global,
+    member: &mut Member<Shared<'_>>,
+    rows: &[(&str, &str)],
+) -> Result<(), Fail> {
+    for row in rows {
+        replies(rt, alloc, member, *row)?;
+    }
+    Ok(())
 }
 
 /// Tries: lw_member::Member::round
 #[test]
 fn a_refused_round_is_made_again(rt: HostRuntime) -> Result<(), Fail> {
     let entries = entries_of(rt.alloc(), &[])?;
-    is_registered(&rt, rt.alloc(), &entries)
+    let update = registered_over(rt.alloc(), &entries)?;
+    later_replies(&rt, rt.alloc(), &entries, &[(update.as_str(), CHANGED)])
 }
 
 /// A compaction, which is made again where it is refused memory.
@@ -101,7 +142,7 @@ fn compact_in_two_tries(member: &mut Member<Shared<'_>>) -> Result<(), MemberFau
     }
 }
 
-/// Registers `a`, compacts, and registers `b`.
+/// The member registers `a`, compacts, and registers `b`.
 fn compact_between(
     rt: &impl Abort,
     alloc: Global,
@@ -110,26 +151,25 @@ fn compact_between(
 ) -> Result<(), Fail> {
     replies(rt, alloc, member, (REGISTER, CREATED))?;
     compact_in_two_tries(member)?;
-    let left = entries
-        .try_borrow()
-        .expect(rt, "the entries are free")
-        .len();
-    assert_eq!(rt; left, 1);
+    counts(rt, LEFT, count_of(rt, entries), 1);
     replies(rt, alloc, member, (REGISTER_B, CREATED_B))
 }
 
-/// The same by a member that begins over the entries. A later start knows both registrations.
-fn serve_and_compact(rt: &impl Abort, alloc: Global, entries: &Entries) -> Result<(), Fail> {
+/// The same by a member that begins over the entries.
+fn compacted_over(rt: &impl Abort, alloc: Global, entries: &Entries) -> Result<(), Fail> {
     let mut member = begin_over(alloc, entries, &FIRST_CHANCE)?;
-    compact_between(rt, alloc, entries, &mut member)?;
-    let mut next = begin_over(alloc, entries, &SECOND_CHANCE)?;
-    replies(rt, alloc, &mut next, (UPDATE, CHANGED))?;
-    replies(rt, alloc, &mut next, (UPDATE_OF_SECOND, CHANGED))
+    compact_between(rt, alloc, entries, &mut member)
 }
+
+const LEFT: At = ("a compaction leaves one entry", 0, 0);
+
+/// Updates of both registrations, which a later start knows.
+static BOTH: [(&str, &str); 2] = [(UPDATE, CHANGED), (UPDATE_OF_SECOND, CHANGED)];
 
 /// Tries: lw_member::Member::compact
 #[test]
 fn a_refused_compaction_is_made_again(rt: HostRuntime) -> Result<(), Fail> {
     let entries = entries_of(rt.alloc(), &[])?;
-    serve_and_compact(&rt, rt.alloc(), &entries)
+    compacted_over(&rt, rt.alloc(), &entries)?;
+    later_replies(&rt, rt.alloc(), &entries, &BOTH)
 }

@@ -1,9 +1,10 @@
 //! A stage: entries in memory, members over them, and what is done with them as a table of steps.
 
-use super::acts::{Act, Look, ask, is_seen};
+use super::acts::{Act, Look, ask, faults, is_seen};
+use super::asked::{Asked, was_asked};
 use super::due::{put_deltas, put_large, update_until_due};
 use super::*;
-use lw_log::Bytes;
+use crate::large::put;
 
 /// A step. A member is named by its number, in the order in which members begin.
 pub(super) enum Step {
@@ -15,6 +16,8 @@ pub(super) enum Step {
     BeginsAt(u64, Chance),
     /// No member begins over a log that others may append to.
     BeginsNot(Chance, MemberFault),
+    /// The same over one of which a reading fails.
+    ReadsNot(Failure, Chance, MemberFault),
     /// All members end.
     End,
     Does(usize, Act),
@@ -49,8 +52,9 @@ pub(super) enum Fate {
 
 /// What becomes of the entries that are shared, and what they are. Entries are in hex.
 pub(super) enum Entry {
-    /// Another process appends it.
+    /// Another process appends it, once or so many times.
     Puts(&'static str),
+    PutsTimes(usize, &'static str),
     /// Another process appends a whole entry: each byte of its numbers but one, the place of this one and what it is,
     /// and the delta.
     PutsWhole(u8, usize, u8, &'static str),
@@ -70,6 +74,12 @@ pub(super) enum Entry {
     HasBytes(usize),
     /// The last is a whole one, whose numbers are all 0 but for this first byte.
     HasNumbers(u8),
+    /// The last is a whole one with this head, such numbers and this delta.
+    HasWhole(&'static str, u8, &'static str),
+    /// Their positions are these.
+    HasPlaces(&'static [u64]),
+    /// What was asked behind so many calls.
+    WasAsked(usize, &'static [Asked]),
 }
 
 /// A story: what it tells, whether the logs of members are alone each time that it is played, the entries that are
@@ -88,9 +98,6 @@ pub(super) const BESIDE: &[bool] = &[false];
 
 pub(super) const BOTH_WAYS: &[bool] = &[false, true];
 
-/// The story, and the part and the step of it, from 0.
-pub(super) type At = (&'static str, usize, usize);
-
 /// A log in memory, and members over it.
 #[derive(Drop)]
 struct Stage<'a> {
@@ -102,57 +109,46 @@ struct Stage<'a> {
 
 /// Plays the stories, each with logs as it tells.
 pub(super) fn play_all(rt: &impl Abort, alloc: Global, stories: &'static [Story]) {
-    for (name, ways, texts, parts) in stories {
-        for alone in *ways {
-            let entries = entries_of(alloc, texts).expect(rt, "entries");
-            let mut stage = Stage {
-                entries: &entries,
-                alone: *alone,
-                members: Vec::new(alloc),
-            };
-            stage.play(rt, alloc, name, parts);
+    for story in stories {
+        for alone in story.1 {
+            play(rt, alloc, *alone, story);
         }
+    }
+}
+
+fn play(rt: &impl Abort, alloc: Global, alone: bool, story: &'static Story) {
+    let entries = entries_of(alloc, story.2).expect(rt, "entries");
+    let mut stage = Stage {
+        entries: &entries,
+        alone,
+        members: Vec::new(alloc),
+    };
+    for (part, steps) in story.3.iter().enumerate() {
+        stage.take_all(rt, alloc, (story.0, part, 0), steps);
     }
 }
 
 impl<'a> Stage<'a> {
     /// Takes the steps. The first that does not hold fails.
-    fn play(
-        &mut self,
-        rt: &impl Abort,
-        alloc: Global,
-        name: &'static str,
-        parts: &'static [&'static [Step]],
-    ) {
-        for (part, steps) in parts.iter().enumerate() {
-            for (number, step) in steps.iter().enumerate() {
-                self.take(rt, alloc, (name, part, number), step);
-            }
+    fn take_all(&mut self, rt: &impl Abort, alloc: Global, at: At, steps: &'static [Step]) {
+        for (number, step) in steps.iter().enumerate() {
+            self.take(rt, alloc, (at.0, at.1, number), step);
         }
     }
 
     fn take(&mut self, rt: &impl Abort, alloc: Global, at: At, step: &'static Step) {
-        let alone = self.alone;
         match step {
-            Step::Begins(chance) => self.begin(rt, alloc, (alone, 0), chance),
-            Step::BeginsBeside(chance) => self.begin(rt, alloc, (false, 0), chance),
-            Step::BeginsAt(ms, chance) => self.begin(rt, alloc, (alone, *ms), chance),
-            Step::BeginsNot(chance, want) => {
-                let log = Shared::new(alloc, self.entries, false);
-                let begun = begin(alloc, log, chance, Moment::START);
-                assert_eq!(rt; begun.err(), Some(*want), "at {at:?}");
+            Step::Begins(chance) => self.begin(rt, alloc, at, (self.alone, 0), chance),
+            Step::BeginsBeside(chance) => self.begin(rt, alloc, at, (false, 0), chance),
+            Step::BeginsAt(ms, chance) => self.begin(rt, alloc, at, (self.alone, *ms), chance),
+            Step::BeginsNot(chance, want) => self.begin_not(rt, alloc, at, None, (chance, *want)),
+            Step::ReadsNot(failure, chance, want) => {
+                self.begin_not(rt, alloc, at, Some(*failure), (chance, *want));
             }
             Step::End => self.members.clear(),
             Step::Does(who, what) => ask(rt, alloc, at, self.member(rt, *who), what),
-            Step::Each(order, what) => {
-                for who in *order {
-                    ask(rt, alloc, at, self.member(rt, *who), what);
-                }
-            }
-            Step::Shows(who, look) => assert!(rt;
-                is_seen(self.member(rt, *who), look),
-                "at {at:?}"
-            ),
+            Step::Each(order, what) => self.each(rt, alloc, at, order, what),
+            Step::Shows(who, look) => holds(rt, at, is_seen(self.member(rt, *who), look)),
             Step::LogOf(who, fate) => befall(rt, at, self.member(rt, *who).log(), fate),
             Step::UpdatesUntilDue(who) => {
                 let entries = self.entries;
@@ -163,11 +159,38 @@ impl<'a> Stage<'a> {
     }
 
     /// A member begins over a log that is alone or not, at a moment in milliseconds.
-    fn begin(&mut self, rt: &impl Abort, alloc: Global, (alone, ms): (bool, u64), chance: &Chance) {
+    fn begin(
+        &mut self,
+        rt: &impl Abort,
+        alloc: Global,
+        at: At,
+        (alone, ms): (bool, u64),
+        chance: &Chance,
+    ) {
         let log = Shared::new(alloc, self.entries, alone);
         let moment = Moment::new(ms).expect(rt, "a moment");
-        let member = begin(alloc, log, chance, moment).expect(rt, "a member");
+        let member = given(rt, at, begin(alloc, log, chance, moment));
         self.members.push(member).expect(rt, "memory");
+    }
+
+    /// No member begins over a log that others may append to, and of which a reading may fail.
+    fn begin_not(
+        &self,
+        rt: &impl Abort,
+        alloc: Global,
+        at: At,
+        reading: Option<Failure>,
+        (chance, want): (&Chance, MemberFault),
+    ) {
+        let log = Shared::new(alloc, self.entries, false);
+        log.reading.set(reading);
+        faults(rt, at, begin(alloc, log, chance, Moment::START), Some(want));
+    }
+
+    fn each(&mut self, rt: &impl Abort, alloc: Global, at: At, order: &[usize], what: &Act) {
+        for who in order {
+            ask(rt, alloc, at, self.member(rt, *who), what);
+        }
     }
 
     fn member(&mut self, rt: &impl Abort, who: usize) -> &mut Member<Shared<'a>> {
@@ -180,30 +203,43 @@ fn befall(rt: &impl Abort, at: At, log: &Shared<'_>, fate: &Fate) {
         Fate::FailsReading(failure) => log.reading.set(Some(*failure)),
         Fate::FailsAppend(failure) => log.append.set(Some(*failure)),
         Fate::FailsTrim(failure) => log.trim.set(Some(*failure)),
-        Fate::HasFailed => assert!(rt; log.has_failed(), "at {at:?}"),
+        Fate::HasFailed => holds(rt, at, log.has_failed()),
         Fate::ComesBetween(texts) => log.between.set(texts),
     }
 }
 
 fn meet(rt: &impl Abort, alloc: Global, at: At, entries: &Entries, entry: &'static Entry) {
     match entry {
-        Entry::Puts(text) => put_all(alloc, entries, &[text]).expect(rt, "an append"),
+        Entry::Puts(text) => put_times(rt, alloc, entries, 1, text),
+        Entry::PutsTimes(times, text) => put_times(rt, alloc, entries, *times, text),
         Entry::PutsWhole(others, place, byte, delta) => {
-            let bytes = whole(rt, alloc, (*others, *place, *byte), delta);
-            add(entries, bytes).expect(rt, "an append");
+            put_whole(rt, alloc, entries, (*others, *place, *byte), delta);
         }
         Entry::PutsLarge(length) => put_large(rt, alloc, entries, *length),
         Entry::PutsDeltas(total) => put_deltas(rt, alloc, entries, *total),
-        Entry::Loses => lose(rt, entries),
+        Entry::Loses => lose(rt, alloc, entries),
         Entry::Restores(text) => restore(rt, alloc, entries, text),
         Entry::Has(want) => {
-            has_count(rt, at, entries, want.len());
+            counts(rt, at, count_of(rt, entries), want.len());
             has_first(rt, alloc, at, entries, want);
         }
         Entry::HasFirst(want) => has_first(rt, alloc, at, entries, want),
-        Entry::HasCount(want) => has_count(rt, at, entries, *want),
-        Entry::HasBytes(want) => assert_eq!(rt; total_of(rt, entries), *want, "at {at:?}"),
-        Entry::HasNumbers(first) => has_numbers(rt, at, entries, *first),
+        Entry::HasCount(want) => counts(rt, at, count_of(rt, entries), *want),
+        Entry::HasBytes(want) => counts(rt, at, total_of(rt, entries), *want),
+        Entry::HasNumbers(first) => has_numbers(rt, alloc, at, entries, *first),
+        Entry::HasWhole(head, first, delta) => {
+            has_numbers(rt, alloc, at, entries, *first);
+            has_ends(rt, alloc, at, entries, (head, delta));
+        }
+        Entry::HasPlaces(want) => has_places(rt, at, entries, want),
+        Entry::WasAsked(before, want) => was_asked(rt, at, entries, *before, want),
+    }
+}
+
+/// Appends the entry that the text spells in hex so many times.
+fn put_times(rt: &impl Abort, alloc: Global, entries: &Entries, times: usize, text: &str) {
+    for _ in 0..times {
+        put_all(alloc, entries, &[text]).expect(rt, "an append");
     }
 }
 
@@ -211,66 +247,118 @@ fn meet(rt: &impl Abort, alloc: Global, at: At, entries: &Entries, entry: &'stat
 const WHOLE_HEAD: &str =
     "4c574531000102030405060708090a0b0c0d0e0f0003c1c2c3c4c5c6c7c8000000000000000302";
 
-/// A whole entry: each byte of its numbers but one, the place of this one and what it is, and the delta.
-fn whole(
+/// How many bytes a whole entry has before its numbers, and before its delta.
+const NUMBERS_AT: usize = 39;
+
+const DELTA_AT: usize = NUMBERS_AT + 8192;
+
+/// The head that the text spells in hex, and behind it numbers: each byte but one, the place of this one and what it
+/// is.
+pub(super) fn numbered(
     rt: &impl Abort,
     alloc: Global,
+    head: &str,
     (others, place, byte): (u8, usize, u8),
-    delta: &str,
-) -> Bytes {
-    let mut bytes = bytes_of(alloc, WHOLE_HEAD).expect(rt, "a head");
+) -> Vec<u8> {
+    let mut bytes = bytes_of(alloc, head).expect(rt, "a head");
     for number in 0..8_192 {
-        bytes
-            .push(if number == place { byte } else { others })
-            .expect(rt, "memory");
+        let one = if number == place { byte } else { others };
+        bytes.push(one).expect(rt, "memory");
     }
-    let delta = bytes_of(alloc, delta).expect(rt, "a delta");
-    bytes.extend_from_slice(&delta).expect(rt, "memory");
-    Bytes::from_vec(bytes).expect(rt, "memory")
+    bytes
 }
 
-/// Has all entries go.
-fn lose(rt: &impl Abort, entries: &Entries) {
-    entries
-        .try_borrow_mut()
-        .expect(rt, "the entries are free")
-        .clear();
+/// Appends a whole entry with such numbers, and the delta.
+fn put_whole(
+    rt: &impl Abort,
+    alloc: Global,
+    entries: &Entries,
+    numbers: (u8, usize, u8),
+    delta: &str,
+) {
+    let mut bytes = numbered(rt, alloc, WHOLE_HEAD, numbers);
+    put(
+        rt,
+        &mut bytes,
+        &bytes_of(alloc, delta).expect(rt, "a delta"),
+    );
+    add(entries, &bytes).expect(rt, "an append");
+}
+
+/// Has all entries go: positions begin at the first again.
+fn lose(rt: &impl Abort, alloc: Global, entries: &Entries) {
+    *entries.try_borrow_mut().expect(rt, "the log is free") = MemoryLog::new(alloc);
 }
 
 /// All entries go but the last, and before it comes the one that the text spells in hex.
 fn restore(rt: &impl Abort, alloc: Global, entries: &Entries, text: &str) {
-    let last = entries
-        .try_borrow_mut()
-        .expect(rt, "the entries are free")
-        .pop();
-    let (_, bytes) = last.expect(rt, "an entry");
-    lose(rt, entries);
-    put_all(alloc, entries, &[text]).expect(rt, "an append");
-    add(entries, bytes).expect(rt, "an append");
-}
-
-/// Compares how many entries there are.
-fn has_count(rt: &impl Abort, at: At, entries: &Entries, want: usize) {
-    let entries = entries.try_borrow().expect(rt, "the entries are free");
-    assert_eq!(rt; entries.len(), want, "entries at {at:?}");
+    let last = last_of(rt, alloc, entries);
+    lose(rt, alloc, entries);
+    put_times(rt, alloc, entries, 1, text);
+    add(entries, &last).expect(rt, "an append");
 }
 
 /// Compares the first entries with what the texts spell in hex.
 fn has_first(rt: &impl Abort, alloc: Global, at: At, entries: &Entries, want: &[&str]) {
-    let entries = entries.try_borrow().expect(rt, "the entries are free");
-    assert!(rt; entries.len() >= want.len(), "entries at {at:?}");
-    for ((_, bytes), text) in entries.iter().zip(want) {
-        let entry = hex::encode(alloc, bytes).expect(rt, "memory");
-        assert_eq!(rt; entry.as_str(), *text, "an entry at {at:?}");
+    let log = entries.try_borrow().expect(rt, "the log is free");
+    holds(rt, at, log.entries().len() >= want.len());
+    for ((_, bytes), text) in log.entries().iter().zip(want) {
+        is_hex(rt, alloc, at, bytes, text);
+    }
+}
+
+/// Compares the bytes with what the text spells in hex.
+fn is_hex(rt: &impl Abort, alloc: Global, at: At, bytes: &[u8], want: &str) {
+    let text = hex::encode(alloc, bytes).expect(rt, "memory");
+    reads(rt, at, text.as_str(), want);
+}
+
+/// Compares the positions of all entries.
+fn has_places(rt: &impl Abort, at: At, entries: &Entries, want: &[u64]) {
+    let log = entries.try_borrow().expect(rt, "the log is free");
+    counts(rt, at, log.entries().len(), want.len());
+    for ((position, _), major) in log.entries().iter().zip(want) {
+        holds(rt, at, position.major == *major && position.minor == 0);
     }
 }
 
 /// Compares the numbers of the last entry: all of 8192 bytes are 0 but for the first.
-fn has_numbers(rt: &impl Abort, at: At, entries: &Entries, want: u8) {
-    let entries = entries.try_borrow().expect(rt, "the entries are free");
-    let (_, bytes) = entries.last().expect(rt, "an entry");
-    let numbers = bytes.as_slice().get(39..39 + 8192).expect(rt, "numbers");
+fn has_numbers(rt: &impl Abort, alloc: Global, at: At, entries: &Entries, want: u8) {
+    let last = last_of(rt, alloc, entries);
+    are_numbers(
+        rt,
+        at,
+        last.get(NUMBERS_AT..DELTA_AT).expect(rt, "numbers"),
+        want,
+    );
+}
+
+fn are_numbers(rt: &impl Abort, at: At, numbers: &[u8], want: u8) {
     let (first, others) = numbers.split_first().expect(rt, "numbers");
-    assert_eq!(rt; *first, want, "at {at:?}");
-    assert!(rt; others.iter().all(|byte| *byte == 0), "at {at:?}");
+    holds(rt, at, *first == want && are_zero(others));
+}
+
+/// Compares what stands before the numbers of the last entry, and behind them.
+fn has_ends(
+    rt: &impl Abort,
+    alloc: Global,
+    at: At,
+    entries: &Entries,
+    (head, delta): (&str, &str),
+) {
+    let last = last_of(rt, alloc, entries);
+    is_hex(
+        rt,
+        alloc,
+        at,
+        last.get(..NUMBERS_AT).expect(rt, "a head"),
+        head,
+    );
+    is_hex(
+        rt,
+        alloc,
+        at,
+        last.get(DELTA_AT..).expect(rt, "a delta"),
+        delta,
+    );
 }
