@@ -1,19 +1,10 @@
 //! What is told of commands.
 
-use crate::hold::same;
-use crate::told::{FIRST, LATE, registers};
+use crate::told::{LATE, registered};
 use lw_api::{created, no_content, refused};
-use lw_node::Node;
 use lw_stamp::{Moment, Stamp};
 use lw_target::{Answer, Media, Status};
-use std::alloc::Global;
-use std::test::Fail;
-
-/// The token of the observation.
-const TOKEN: Stamp = Stamp {
-    counter: 3,
-    node: 1,
-};
+use std::process::Abort;
 
 const WATCH: &str =
     r#"{"accept":null,"endpoint":"a","id":"0000000000010001","path":"/3/0","token":"0000000000030001"}"#;
@@ -21,50 +12,48 @@ const WATCH: &str =
 const NOT_FOUND: &str = r#"{"error":"not found"}"#;
 
 /// Why a command was not carried out.
-const REFUSALS: [&str; 3] = [
+static REFUSALS: [&str; 3] = [
     r#"{"error":"end of the clock"}"#,
     r#"{"error":"too many requests wait"}"#,
     r#"{"error":"away"}"#,
 ];
 
-fn is(answer: &Answer, status: Status, media: Media, body: &str) -> Result<(), Fail> {
-    if answer.status != status || answer.media != media {
-        return Err(Fail::new(body));
-    }
-    same(answer.body.as_str(), body)
+fn is(rt: &impl Abort, answer: &Answer, status: Status, media: Media, body: &str) {
+    assert_eq!(rt; answer.status, status, "{body}");
+    assert_eq!(rt; answer.media, media, "{body}");
+    assert_eq!(rt; answer.body.as_str(), body);
 }
 
-fn is_created(
-    alloc: Global,
-    ms: u64,
-    token: Stamp,
-    status: Status,
-    body: &str,
-) -> Result<(), Fail> {
-    let mut node = Node::new(alloc, 1);
-    registers(alloc, &mut node)?;
-    let now = Moment::new(ms).ok_or("a moment")?;
-    let answer = created(alloc, &node, now, token)?;
-    is(&answer, status, Media::Json, body)
-}
+/// When it is asked, for the token of node 1 with which counter, and what is told. The observation has 3.
+static CREATED: [(u64, u64, Status, &str); 3] = [
+    (0, 3, Status::Created, WATCH),
+    (LATE, 3, Status::NotFound, NOT_FOUND),
+    (0, 1, Status::NotFound, NOT_FOUND),
+];
 
 /// Tries: created, by_token
 #[test]
-fn an_observation_that_was_created(rt: HostRuntime) -> Result<(), Fail> {
-    let alloc = rt.alloc();
-    is_created(alloc, 0, TOKEN, Status::Created, WATCH)?;
-    is_created(alloc, LATE, TOKEN, Status::NotFound, NOT_FOUND)?;
-    is_created(alloc, 0, FIRST, Status::NotFound, NOT_FOUND)
+fn an_observation_that_was_created(rt: HostRuntime) {
+    let node = registered(&rt, rt.alloc());
+    for (ms, counter, status, body) in &CREATED {
+        let now = Moment::new(*ms).expect(&rt, "a moment");
+        let token = Stamp {
+            counter: *counter,
+            node: 1,
+        };
+        let answer = created(rt.alloc(), &node, now, token).expect(&rt, "memory");
+        is(&rt, &answer, *status, Media::Json, body);
+    }
 }
 
 /// Tries: no_content, refused
 #[test]
-fn commands_of_which_nothing_is_shown(rt: HostRuntime) -> Result<(), Fail> {
+fn commands_of_which_nothing_is_shown(rt: HostRuntime) {
     let alloc = rt.alloc();
-    is(&no_content(alloc), Status::NoContent, Media::Nothing, "")?;
-    for text in REFUSALS {
-        let answer = refused(alloc, Status::ServiceUnavailable, text)?;
-        is(&answer, Status::ServiceUnavailable, Media::Json, text)?;
+    let answer = no_content(alloc);
+    is(&rt, &answer, Status::NoContent, Media::Nothing, "");
+    for text in &REFUSALS {
+        let answer = refused(alloc, Status::ServiceUnavailable, text).expect(&rt, "memory");
+        is(&rt, &answer, Status::ServiceUnavailable, Media::Json, text);
     }
-    Ok(())
 }

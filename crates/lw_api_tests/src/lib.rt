@@ -4,8 +4,6 @@
 #[cfg(test)]
 mod commanded;
 #[cfg(test)]
-mod hold;
-#[cfg(test)]
 mod noted;
 #[cfg(test)]
 mod told;

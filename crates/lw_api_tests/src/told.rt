@@ -1,12 +1,11 @@
 //! What is told of a node with two registrations, of which the first is observed.
 
-use crate::hold::same;
 use lw_api::{About, answer};
 use lw_node::{Addr, Node, Path};
 use lw_stamp::{Moment, Stamp};
 use lw_target::{Answer, Commands, Method, Purpose, Status, purpose_of};
 use std::alloc::Global;
-use std::test::Fail;
+use std::process::Abort;
 
 /// Where both devices are.
 const HOME: Addr = Addr::V4 {
@@ -20,7 +19,7 @@ const REGISTER: &str = "40020004b272644465703d61ff3c2f3e";
 const REGISTER_B: &str = "40020005b272644465703d62ff3c2f3e";
 
 /// The identifier of the first registration.
-pub(crate) const FIRST: Stamp = Stamp {
+const FIRST: Stamp = Stamp {
     counter: 1,
     node: 1,
 };
@@ -34,9 +33,9 @@ const ABOUT: About = About {
 pub(crate) const LATE: u64 = 86_400_000;
 
 /// When it is asked, for which path, with which query, and what is told.
-type Row<'a> = (u64, &'a str, &'a str, &'a str);
+type Row = (u64, &'static str, &'static str, &'static str);
 
-const PAGES: [Row<'static>; 6] = [
+static PAGES: [Row; 6] = [
     (
         0,
         "/v1/registrations",
@@ -76,7 +75,7 @@ const PAGES: [Row<'static>; 6] = [
 ];
 
 /// What is told of one registration, or of one observation.
-const ONES: [Row<'static>; 5] = [
+static ONES: [Row; 5] = [
     (
         0,
         "/v1/registrations/a",
@@ -109,7 +108,7 @@ const ONES: [Row<'static>; 5] = [
     ),
 ];
 
-const CHANGES: [Row<'static>; 5] = [
+static CHANGES: [Row; 5] = [
     (
         0,
         "/v1/changes",
@@ -143,7 +142,7 @@ const CHANGES: [Row<'static>; 5] = [
 ];
 
 /// What is told of the first registration where `/5`, `/3` and `/1/0/1` are observed too, and of the second.
-const OBSERVATIONS: [Row<'static>; 8] = [
+static OBSERVATIONS: [Row; 8] = [
     (
         0,
         "/v1/registrations/a/observations",
@@ -194,9 +193,9 @@ const OBSERVATIONS: [Row<'static>; 8] = [
     ),
 ];
 
-const FOLLOWS_NO_START: [Row<'static>; 1] = [(0, "/v1/changes", "since=1", r#"{"error":"start"}"#)];
+static FOLLOWS_NO_START: [Row; 1] = [(0, "/v1/changes", "since=1", r#"{"error":"start"}"#)];
 
-const FOLLOWS_ANOTHER: [Row<'static>; 2] = [
+static FOLLOWS_ANOTHER: [Row; 2] = [
     (
         0,
         "/v1/changes",
@@ -211,7 +210,7 @@ const FOLLOWS_ANOTHER: [Row<'static>; 2] = [
     ),
 ];
 
-const NOTHING: [Row<'static>; 11] = [
+static NOTHING: [Row; 11] = [
     (0, "/v1/registrations/c", "", r#"{"error":"not found"}"#),
     (LATE, "/v1/registrations/a", "", r#"{"error":"not found"}"#),
     (
@@ -260,136 +259,124 @@ fn query_of(text: &str) -> Option<&str> {
     if text.is_empty() { None } else { Some(text) }
 }
 
-fn told(alloc: Global, node: &Node, row: Row<'_>) -> Result<Answer, Fail> {
+fn told(rt: &impl Abort, alloc: Global, node: &Node, row: &Row) -> Answer {
     let (ms, path, query, _) = row;
-    let now = Moment::new(ms).ok_or("a moment")?;
-    let purpose = purpose_of(alloc, Commands::Off, Method::Get, path, query_of(query))?;
-    match purpose {
-        Ok(Purpose::Question(asked)) => Ok(answer(alloc, node, ABOUT, now, &asked)?),
-        Ok(Purpose::Command(_)) | Err(_) => Err(Fail::new("it asks for nothing")),
-    }
+    let now = Moment::new(*ms).expect(rt, "a moment");
+    let purpose = purpose_of(alloc, Commands::Off, Method::Get, path, query_of(query));
+    let Ok(Purpose::Question(asked)) = purpose.expect(rt, "memory") else {
+        panic!(rt; "{path} asks for nothing");
+    };
+    answer(alloc, node, ABOUT, now, &asked).expect(rt, "memory")
 }
 
-fn is_told(alloc: Global, node: &Node, status: Status, row: Row<'_>) -> Result<(), Fail> {
-    let answer = told(alloc, node, row)?;
-    if answer.status != status {
-        return Err(Fail::new(row.1));
-    }
-    same(answer.body.as_str(), row.3)
-}
-
-fn are_told(alloc: Global, node: &Node, status: Status, rows: &[Row<'_>]) -> Result<(), Fail> {
+/// Fails where to one of these another answer is given.
+fn are_told(rt: &impl Abort, alloc: Global, node: &Node, status: Status, rows: &[Row]) {
     for row in rows {
-        is_told(alloc, node, status, *row)?;
+        let answer = told(rt, alloc, node, row);
+        assert_eq!(rt; answer.status, status, "{}", row.1);
+        assert_eq!(rt; answer.body.as_str(), row.3);
     }
-    Ok(())
 }
 
-fn takes(alloc: Global, node: &mut Node, text: &str) -> Result<(), Fail> {
-    let datagram = hex::decode(alloc, text)?;
-    node.take(Moment::START, HOME, &datagram)?;
-    Ok(())
+fn takes(rt: &impl Abort, alloc: Global, node: &mut Node, text: &str) {
+    let datagram = hex::decode(alloc, text).expect(rt, "a datagram");
+    let _taken = node
+        .take(Moment::START, HOME, &datagram)
+        .expect(rt, "memory");
 }
 
 /// Observes a path of the first registration.
-fn observes(node: &mut Node, numbers: &[u16], accept: Option<u16>) -> Result<(), Fail> {
-    let path = Path::new(numbers).ok_or("a path")?;
-    node.observe(Moment::START, FIRST, path, accept, 32)?;
-    Ok(())
+fn observes(rt: &impl Abort, node: &mut Node, numbers: &[u16], accept: Option<u16>) {
+    let path = Path::new(numbers).expect(rt, "a path");
+    let observed = node.observe(Moment::START, FIRST, path, accept, 32);
+    let _outgoing = observed.expect(rt, "an observation");
 }
 
-pub(crate) fn registers(alloc: Global, node: &mut Node) -> Result<(), Fail> {
-    takes(alloc, node, REGISTER)?;
-    takes(alloc, node, REGISTER_B)?;
-    observes(node, &[3, 0], None)
-}
-
-fn registers_and_tells(alloc: Global, status: Status, rows: &[Row<'_>]) -> Result<(), Fail> {
+/// A node with both registrations, of which the first is observed.
+pub(crate) fn registered(rt: &impl Abort, alloc: Global) -> Node {
     let mut node = Node::new(alloc, 1);
-    registers(alloc, &mut node)?;
-    are_told(alloc, &node, status, rows)
+    takes(rt, alloc, &mut node, REGISTER);
+    takes(rt, alloc, &mut node, REGISTER_B);
+    observes(rt, &mut node, &[3, 0], None);
+    node
+}
+
+fn registers_and_tells(rt: &impl Abort, alloc: Global, status: Status, rows: &[Row]) {
+    let node = registered(rt, alloc);
+    are_told(rt, alloc, &node, status, rows);
 }
 
 /// Tries: answer, registrations, numbers_of, lw_print::node_text
 #[test]
-fn pages_and_numbers(rt: HostRuntime) -> Result<(), Fail> {
-    registers_and_tells(rt.alloc(), Status::Ok, &PAGES)
+fn pages_and_numbers(rt: HostRuntime) {
+    registers_and_tells(&rt, rt.alloc(), Status::Ok, &PAGES);
 }
 
 /// Tries: answer, registration, by_id, by_address, by_token
 #[test]
-fn one_that_is_found(rt: HostRuntime) -> Result<(), Fail> {
-    registers_and_tells(rt.alloc(), Status::Ok, &ONES)
+fn one_that_is_found(rt: HostRuntime) {
+    registers_and_tells(&rt, rt.alloc(), Status::Ok, &ONES);
 }
+
+/// What else is observed.
+static OBSERVED: [(&[u16], Option<u16>); 3] = [(&[5], None), (&[3], Some(110)), (&[1, 0, 1], None)];
 
 /// Tries: answer, observations, lw_print::observations_text
 #[test]
-fn observations_of_a_registration(rt: HostRuntime) -> Result<(), Fail> {
-    let alloc = rt.alloc();
-    let mut node = Node::new(alloc, 1);
-    registers(alloc, &mut node)?;
-    observes(&mut node, &[5], None)?;
-    observes(&mut node, &[3], Some(110))?;
-    observes(&mut node, &[1, 0, 1], None)?;
-    are_told(alloc, &node, Status::Ok, &OBSERVATIONS)
+fn observations_of_a_registration(rt: HostRuntime) {
+    let mut node = registered(&rt, rt.alloc());
+    for (numbers, accept) in &OBSERVED {
+        observes(&rt, &mut node, numbers, *accept);
+    }
+    are_told(&rt, rt.alloc(), &node, Status::Ok, &OBSERVATIONS);
 }
+
+/// As many observations as a page has.
+static PAGE: Row = (0, "/v1/registrations/a/observations", "limit=256", "");
+
+/// What is behind that page.
+static BEHIND_PAGE: [Row; 1] = [(
+    0,
+    "/v1/registrations/a/observations",
+    "limit=256&after=/3/255",
+    r#"{"next":null,"observations":[{"accept":null,"endpoint":"a","id":"0000000000010001","path":"/3/256","token":"0000000001030001"}]}"#,
+)];
 
 /// As many as a page has, and one more: paths below `/3` from `/3/1` on.
-fn observes_257(alloc: Global) -> Result<Node, Fail> {
-    let mut node = Node::new(alloc, 1);
-    registers(alloc, &mut node)?;
-    for number in 1..257 {
-        observes(&mut node, &[3, number], None)?;
-    }
-    Ok(node)
-}
-
-/// How often the text is in the other.
-fn count_of(text: &str, part: &str) -> usize {
-    text.matches(part).count()
-}
-
 /// Tries: answer, observations
 #[test]
-fn a_page_has_256_observations_at_most(rt: HostRuntime) -> Result<(), Fail> {
-    let alloc = rt.alloc();
-    let node = observes_257(alloc)?;
-    let all = (0, "/v1/registrations/a/observations", "limit=256", "");
-    let page = told(alloc, &node, all)?;
-    let text = page.body.as_str();
-    let is_page = count_of(text, "\"token\":") == 256 && text.starts_with(r#"{"next":"/3/255","#);
-    let rest = (
-        0,
-        "/v1/registrations/a/observations",
-        "limit=256&after=/3/255",
-        r#"{"next":null,"observations":[{"accept":null,"endpoint":"a","id":"0000000000010001","path":"/3/256","token":"0000000001030001"}]}"#,
-    );
-    if !is_page {
-        return Err(Fail::from("a page of 256 observations"));
+fn a_page_has_256_observations_at_most(rt: HostRuntime) {
+    let mut node = registered(&rt, rt.alloc());
+    for number in 1..257 {
+        observes(&rt, &mut node, &[3, number], None);
     }
-    is_told(alloc, &node, Status::Ok, rest)
+    let page = told(&rt, rt.alloc(), &node, &PAGE);
+    let text = page.body.as_str();
+    assert_eq!(rt; text.matches("\"token\":").count(), 256);
+    assert!(rt; text.starts_with(r#"{"next":"/3/255","#));
+    are_told(&rt, rt.alloc(), &node, Status::Ok, &BEHIND_PAGE);
 }
 
 /// Tries: answer, lw_print::changes_text
 #[test]
-fn changes_that_follow_a_start(rt: HostRuntime) -> Result<(), Fail> {
-    registers_and_tells(rt.alloc(), Status::Ok, &CHANGES)
+fn changes_that_follow_a_start(rt: HostRuntime) {
+    registers_and_tells(&rt, rt.alloc(), Status::Ok, &CHANGES);
 }
 
 /// Tries: answer, lw_print::changes_text
 #[test]
-fn changes_that_follow_no_start(rt: HostRuntime) -> Result<(), Fail> {
-    registers_and_tells(rt.alloc(), Status::BadRequest, &FOLLOWS_NO_START)
+fn changes_that_follow_no_start(rt: HostRuntime) {
+    registers_and_tells(&rt, rt.alloc(), Status::BadRequest, &FOLLOWS_NO_START);
 }
 
 /// Tries: answer, lw_print::changes_text
 #[test]
-fn changes_that_follow_another_start(rt: HostRuntime) -> Result<(), Fail> {
-    registers_and_tells(rt.alloc(), Status::Gone, &FOLLOWS_ANOTHER)
+fn changes_that_follow_another_start(rt: HostRuntime) {
+    registers_and_tells(&rt, rt.alloc(), Status::Gone, &FOLLOWS_ANOTHER);
 }
 
 /// Tries: answer, not_found, registration, by_id, by_address, by_token
 #[test]
-fn nothing_is_found(rt: HostRuntime) -> Result<(), Fail> {
-    registers_and_tells(rt.alloc(), Status::NotFound, &NOTHING)
+fn nothing_is_found(rt: HostRuntime) {
+    registers_and_tells(&rt, rt.alloc(), Status::NotFound, &NOTHING);
 }

@@ -6,10 +6,9 @@ use lw_metrics::Tally;
 use lw_reg::{Addr, Path, Text};
 use lw_stamp::{Moment, NoMemory, Stamp};
 use std::alloc::Global;
-use std::test::Fail;
+use std::process::Abort;
 
 /// A call.
-#[derive(Clone, Copy)]
 pub(crate) enum Made {
     Take,
     Merge,
@@ -18,7 +17,6 @@ pub(crate) enum Made {
 }
 
 /// What a call gave.
-#[derive(Clone, Copy)]
 pub(crate) enum Gave {
     /// The bytes of a reply.
     Reply(&'static [u8]),
@@ -36,119 +34,110 @@ pub(crate) enum Gave {
     NoMemory(u8),
 }
 
-/// How many there are of `Gave::Other`.
-pub(crate) const OTHERS: u8 = 6;
-/// How many there are of `Gave::NoMemory`.
-pub(crate) const WANTS: u8 = 6;
+/// A round: the calls that were made, and what calls gave.
+pub(crate) type Round = (&'static [Made], &'static [Gave]);
 
 const REGISTRATION: Stamp = Stamp {
     counter: 9,
     node: 1,
 };
 
+/// Where the device is.
+const HOME: Addr = Addr::V4 {
+    address: [192, 0, 2, 7],
+    port: 5683,
+};
+
 /// Counts a round.
-pub(crate) fn count(
-    alloc: Global,
-    tally: &mut Tally,
-    made: &[Made],
-    gave: &[Gave],
-) -> Result<(), Fail> {
-    let calls = calls_of(alloc, made)?;
-    let replies = replies_of(alloc, gave)?;
-    tally.count(&calls, &replies);
-    Ok(())
-}
-
-fn calls_of(alloc: Global, made: &[Made]) -> Result<Vec<Call>, Fail> {
+pub(crate) fn count(rt: &impl Abort, alloc: Global, tally: &mut Tally, round: &Round) {
+    let (made, gave) = round;
     let mut calls = Vec::new(alloc);
-    for call in made {
-        calls.push(call_of(alloc, *call)?)?;
+    for call in *made {
+        calls.push(call_of(rt, alloc, call)).expect(rt, "memory");
     }
-    Ok(calls)
-}
-
-fn replies_of(alloc: Global, gave: &[Gave]) -> Result<Vec<Reply>, Fail> {
     let mut replies = Vec::new(alloc);
-    for reply in gave {
-        replies.push(reply_of(alloc, *reply)?)?;
+    for reply in *gave {
+        replies
+            .push(reply_of(rt, alloc, reply))
+            .expect(rt, "memory");
     }
-    Ok(replies)
+    tally.count(&calls, &replies);
 }
 
-fn call_of(alloc: Global, made: Made) -> Result<Call, Fail> {
+fn call_of(rt: &impl Abort, alloc: Global, made: &Made) -> Call {
     let now = Moment::START;
     match made {
-        Made::Take => Ok(Call::Take {
+        Made::Take => Call::Take {
             now,
-            from: Addr::V4 {
-                address: [192, 0, 2, 7],
-                port: 5683,
-            },
-            bytes: one_byte(alloc)?,
-        }),
-        Made::Merge => Ok(Call::Merge {
-            bytes: one_byte(alloc)?,
-        }),
-        Made::Send => Ok(Call::Send { since: 7 }),
-        Made::Sweep => Ok(Call::Sweep { now }),
+            from: HOME,
+            bytes: one_byte(rt, alloc),
+        },
+        Made::Merge => Call::Merge {
+            bytes: one_byte(rt, alloc),
+        },
+        Made::Send => Call::Send { since: 7 },
+        Made::Sweep => Call::Sweep { now },
     }
 }
 
-fn one_byte(alloc: Global) -> Result<Bytes, Fail> {
-    Ok(Bytes::from_vec([0x40].to_vec(alloc)?)?)
+fn one_byte(rt: &impl Abort, alloc: Global) -> Bytes {
+    let bytes = [0x40].to_vec(alloc).expect(rt, "memory");
+    Bytes::from_vec(bytes).expect(rt, "memory")
 }
 
-fn reply_of(alloc: Global, gave: Gave) -> Result<Reply, Fail> {
+fn reply_of(rt: &impl Abort, alloc: Global, gave: &Gave) -> Reply {
     match gave {
-        Gave::Reply(bytes) => taken(Some(bytes.to_vec(alloc)?), None),
-        Gave::NoReply => taken(None, None),
-        Gave::NoticeAndReply(bytes) => taken(Some(bytes.to_vec(alloc)?), Some(notice(alloc)?)),
-        Gave::Notice => taken(None, Some(notice(alloc)?)),
-        Gave::Swept => Ok(Reply::Sweep(Ok(Some(REGISTRATION)))),
-        Gave::Other(place) => other(place),
-        Gave::NoMemory(place) => want_of_memory(place),
+        Gave::Reply(bytes) => taken(rt, alloc, Some(*bytes), None),
+        Gave::NoReply => taken(rt, alloc, None, None),
+        Gave::NoticeAndReply(bytes) => taken(rt, alloc, Some(*bytes), Some(notice(rt, alloc))),
+        Gave::Notice => taken(rt, alloc, None, Some(notice(rt, alloc))),
+        Gave::Swept => Reply::Sweep(Ok(Some(REGISTRATION))),
+        Gave::Other(number) => other(*number),
+        Gave::NoMemory(number) => want_of_memory(*number),
     }
 }
 
-fn taken(reply: Option<Vec<u8>>, notice: Option<Notice>) -> Result<Reply, Fail> {
-    Ok(Reply::Take(Ok(Taken { reply, notice })))
+fn taken(rt: &impl Abort, alloc: Global, bytes: Option<&[u8]>, notice: Option<Notice>) -> Reply {
+    let reply = match bytes {
+        Some(bytes) => Some(bytes.to_vec(alloc).expect(rt, "memory")),
+        None => None,
+    };
+    Reply::Take(Ok(Taken { reply, notice }))
 }
 
-fn other(place: u8) -> Result<Reply, Fail> {
-    match place {
-        0 => Ok(Reply::Merge(Ok(3))),
-        1 => Ok(Reply::Sweep(Ok(None))),
-        2 => Ok(Reply::Sweep(Err(ClockEnd))),
-        3 => Ok(Reply::Ask(Ok(Answer::Changed(7)))),
-        4 => Ok(Reply::Observe(Err(ObserveFault::NotFound))),
-        _ => Ok(Reply::Cancel(Err(ObserveFault::ClockEnd))),
+fn other(number: u8) -> Reply {
+    match number {
+        0 => Reply::Merge(Ok(3)),
+        1 => Reply::Sweep(Ok(None)),
+        2 => Reply::Sweep(Err(ClockEnd)),
+        3 => Reply::Ask(Ok(Answer::Changed(7))),
+        4 => Reply::Observe(Err(ObserveFault::NotFound)),
+        _ => Reply::Cancel(Err(ObserveFault::ClockEnd)),
     }
 }
 
-fn want_of_memory(place: u8) -> Result<Reply, Fail> {
-    match place {
-        0 => Ok(Reply::Take(Err(NoMemory))),
-        1 => Ok(Reply::Observe(Err(ObserveFault::NoMemory))),
-        2 => Ok(Reply::Cancel(Err(ObserveFault::NoMemory))),
-        3 => Ok(Reply::Send(Err(NoMemory))),
-        4 => Ok(Reply::Merge(Err(MergeFault::NoMemory { joined: 2 }))),
-        _ => Ok(Reply::Ask(Err(NoMemory))),
+fn want_of_memory(number: u8) -> Reply {
+    match number {
+        0 => Reply::Take(Err(NoMemory)),
+        1 => Reply::Observe(Err(ObserveFault::NoMemory)),
+        2 => Reply::Cancel(Err(ObserveFault::NoMemory)),
+        3 => Reply::Send(Err(NoMemory)),
+        4 => Reply::Merge(Err(MergeFault::NoMemory { joined: 2 })),
+        _ => Reply::Ask(Err(NoMemory)),
     }
 }
 
 /// What a device tells of the resource 3303/0/5700.
-fn notice(alloc: Global) -> Result<Notice, Fail> {
-    let path = Path::new(&[3303, 0, 5700]).ok_or("a path")?;
-    let endpoint = Text::copy_of(alloc, "lamp")?;
-    Ok(Notice {
+fn notice(rt: &impl Abort, alloc: Global) -> Notice {
+    Notice {
         token: REGISTRATION,
         id: REGISTRATION,
-        endpoint,
-        path,
+        endpoint: Text::copy_of(alloc, "lamp").expect(rt, "memory"),
+        path: Path::new(&[3303, 0, 5700]).expect(rt, "a path"),
         code: 0x45,
         observe: Some(7),
         format: None,
         ended: false,
         payload: Vec::new(alloc),
-    })
+    }
 }

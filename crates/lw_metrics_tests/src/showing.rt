@@ -1,21 +1,24 @@
 //! The whole text.
 
-use crate::shown::{check_count, check_line_at, measures_of};
+use crate::shown::{has_lines, has_samples, has_text, measures_of};
 use lw_metrics::{
     AppendTimes, Edge, LogUse, Measures, NodeMeasures, RequestMeasures, Responses, Tally,
-    metrics_text,
 };
 use lw_stamp::Moment;
-use std::test::Fail;
+use std::process::Abort;
 
-/// The lines of a server that was started on 14 November 2023, at 22:13:20 and 999 ms.
-const LINES: [&str; 158] = [
+/// The lines of a server that was started on 14 November 2023, at 22:13:20 and 999 ms, up to those of its node.
+static OF_ITS_START: [&str; 6] = [
     "# HELP fleet_build_info The version of the program.",
     "# TYPE fleet_build_info gauge",
     "fleet_build_info{version=\"0.1.0\"} 1",
     "# HELP fleet_start_time_seconds When the program was started, in seconds since 1970.",
     "# TYPE fleet_start_time_seconds gauge",
     "fleet_start_time_seconds 1700000000",
+];
+
+/// The lines of its node.
+static OF_ITS_NODE: [&str; 12] = [
     "# HELP fleet_registrations Registrations that are known.",
     "# TYPE fleet_registrations gauge",
     "fleet_registrations 3",
@@ -28,6 +31,10 @@ const LINES: [&str; 158] = [
     "# HELP fleet_number The number of the node in its fleet.",
     "# TYPE fleet_number gauge",
     "fleet_number 65535",
+];
+
+/// The lines behind those of its node.
+static OF_ALL_ELSE: [&str; 140] = [
     "# HELP fleet_rounds_total Rounds of calls.",
     "# TYPE fleet_rounds_total counter",
     "fleet_rounds_total 21",
@@ -170,21 +177,6 @@ const LINES: [&str; 158] = [
     "fleet_http_responses_total{status=\"503\"} 53",
 ];
 
-/// Where the lines of a node begin among them, and where they end.
-const NODE_BEGINS: usize = 6;
-
-const NODE_ENDS: usize = 18;
-
-/// Fails where the text is another than these lines, each with a line feed behind it.
-fn check_text(text: &str, want: &[&str]) -> Result<(), Fail> {
-    let mut place = 0usize;
-    for line in text.split('\n') {
-        check_line_at(want, place, line)?;
-        place = place.saturating_add(1);
-    }
-    check_count(place, want.len().saturating_add(1))
-}
-
 fn tally() -> Tally {
     Tally {
         rounds: 21,
@@ -235,11 +227,10 @@ fn requests() -> RequestMeasures {
     }
 }
 
-fn measures(node: Option<NodeMeasures>) -> Result<Measures, Fail> {
-    let started = Moment::new(1_700_000_000_999).ok_or("a moment")?;
-    Ok(Measures {
+fn measures(rt: &impl Abort, node: Option<NodeMeasures>) -> Measures {
+    Measures {
         version: "0.1.0",
-        started,
+        started: Moment::new(1_700_000_000_999).expect(rt, "a moment"),
         node,
         tally: tally(),
         passed_over: 28,
@@ -251,36 +242,37 @@ fn measures(node: Option<NodeMeasures>) -> Result<Measures, Fail> {
         blocks: 40,
         bodies: 54,
         requests: requests(),
-    })
+    }
 }
 
 /// Tries: lw_metrics::metrics_text
 #[test]
-fn all_of_a_server_is_shown(rt: HostRuntime) -> Result<(), Fail> {
+fn all_of_a_server_is_shown(rt: HostRuntime) {
     let node = NodeMeasures {
         registrations: 3,
         counter: (1 << 48) - 1,
         change: 12,
         number: 65_535,
     };
-    let measures = measures(Some(node))?;
-    let text = metrics_text(rt.alloc(), &measures)?;
-    check_text(&text, &LINES)
+    let measures = measures(&rt, Some(node));
+    let want = [
+        OF_ITS_START.as_slice(),
+        OF_ITS_NODE.as_slice(),
+        OF_ALL_ELSE.as_slice(),
+    ];
+    has_lines(&rt, rt.alloc(), &measures, &want);
 }
 
 /// Tries: lw_metrics::metrics_text
 #[test]
-fn nothing_is_told_of_a_node_that_is_away(rt: HostRuntime) -> Result<(), Fail> {
-    let measures = measures(None)?;
-    let text = metrics_text(rt.alloc(), &measures)?;
-    let mut want = Vec::new(rt.alloc());
-    want.extend_from_slice(&LINES[..NODE_BEGINS])?;
-    want.extend_from_slice(&LINES[NODE_ENDS..])?;
-    check_text(&text, &want)
+fn nothing_is_told_of_a_node_that_is_away(rt: HostRuntime) {
+    let measures = measures(&rt, None);
+    let want = [OF_ITS_START.as_slice(), OF_ALL_ELSE.as_slice()];
+    has_lines(&rt, rt.alloc(), &measures, &want);
 }
 
 /// The samples of a new tally.
-const NOTHING_YET: [&str; 76] = [
+static NOTHING_YET: [&str; 76] = [
     "fleet_build_info{version=\"0.1.0\"} 1",
     "fleet_start_time_seconds 0",
     "fleet_rounds_total 0",
@@ -359,34 +351,24 @@ const NOTHING_YET: [&str; 76] = [
     "fleet_http_responses_total{status=\"503\"} 0",
 ];
 
-/// Fails where the samples of the text are others than these.
-fn check_samples(text: &str, want: &[&str]) -> Result<(), Fail> {
-    let mut place = 0usize;
-    for line in text.lines() {
-        if !line.starts_with('#') {
-            check_line_at(want, place, line)?;
-            place = place.saturating_add(1);
-        }
-    }
-    check_count(place, want.len())
-}
-
 /// Tries: lw_metrics::Tally::new, lw_metrics::RequestMeasures::new, lw_metrics::metrics_text
 #[test]
-fn each_sample_is_there_from_the_start(rt: HostRuntime) -> Result<(), Fail> {
-    let text = metrics_text(rt.alloc(), &measures_of(Tally::new()))?;
-    check_samples(&text, &NOTHING_YET)
+fn each_sample_is_there_from_the_start(rt: HostRuntime) {
+    let measures = measures_of(Tally::new(), Edge::new());
+    has_samples(&rt, rt.alloc(), &measures, true, &NOTHING_YET);
 }
+
+/// A version, and its sample.
+static ESCAPED: (&str, &str) = (
+    "1 \"é\" \\ n\n",
+    "fleet_build_info{version=\"1 \\\"é\\\" \\\\ n\\n\"} 1\n",
+);
 
 /// Tries: lw_metrics::metrics_text
 #[test]
-fn the_version_is_escaped(rt: HostRuntime) -> Result<(), Fail> {
-    let mut measures = measures_of(Tally::new());
-    measures.version = "1 \"é\" \\ n\n";
-    let text = metrics_text(rt.alloc(), &measures)?;
-    let want = "fleet_build_info{version=\"1 \\\"é\\\" \\\\ n\\n\"} 1\n";
-    if text.contains(want) {
-        return Ok(());
-    }
-    Err(Fail::new("a version that is not escaped"))
+fn the_version_is_escaped(rt: HostRuntime) {
+    let (version, want) = ESCAPED;
+    let mut measures = measures_of(Tally::new(), Edge::new());
+    measures.version = version;
+    has_text(&rt, rt.alloc(), &measures, want);
 }

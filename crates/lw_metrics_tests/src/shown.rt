@@ -3,10 +3,10 @@
 use lw_metrics::{Edge, Measures, RequestMeasures, Tally, metrics_text};
 use lw_stamp::Moment;
 use std::alloc::Global;
-use std::test::Fail;
+use std::process::Abort;
 
-/// The measures of a server that was started at the moment 0, and of which only the tally is told.
-pub(crate) fn measures_of(tally: Tally) -> Measures {
+/// The measures of a server that was started at the moment 0, and of which only these are told.
+pub(crate) fn measures_of(tally: Tally, edge: Edge) -> Measures {
     Measures {
         version: "0.1.0",
         started: Moment::START,
@@ -16,7 +16,7 @@ pub(crate) fn measures_of(tally: Tally) -> Measures {
         away: false,
         log_bytes: 0,
         log_whole_bytes: 0,
-        edge: Edge::new(),
+        edge,
         duplicates: 0,
         blocks: 0,
         bodies: 0,
@@ -24,61 +24,70 @@ pub(crate) fn measures_of(tally: Tally) -> Measures {
     }
 }
 
-/// Fails where a line is another than this one.
-pub(crate) fn check_line(line: Option<&str>, want: Option<&str>) -> Result<(), Fail> {
-    if line == want {
-        return Ok(());
-    }
-    Err(Fail::new(format_args!("{line:?} in place of {want:?}")))
+/// The text of a server with these measures.
+fn text_of(rt: &impl Abort, alloc: Global, measures: &Measures) -> String {
+    metrics_text(alloc, measures).expect(rt, "memory")
 }
 
-/// Fails where a line is another than that at the place. Behind the last there is an empty one.
-pub(crate) fn check_line_at(want: &[&str], place: usize, line: &str) -> Result<(), Fail> {
-    let wanted = match want.get(place) {
-        Some(wanted) => *wanted,
-        None => "",
-    };
-    check_line(Some(line), Some(wanted))
+/// Whether the line is of a number above 0, and not that of the version.
+fn is_counted(line: &str) -> bool {
+    !line.ends_with(" 0") && !line.ends_with(" 0.000000") && !line.starts_with("fleet_build_info")
 }
 
-/// Fails where the samples whose numbers are above 0 are others than these, behind that of the version.
-fn check_samples(text: &str, want: &[&str]) -> Result<(), Fail> {
+/// Whether the line is a sample, and one that is counted where not all are wanted.
+fn is_sample(line: &str, all: bool) -> bool {
+    !line.starts_with('#') && (all || is_counted(line))
+}
+
+/// Fails where the samples are others than these: all of them, or those whose numbers are above 0, behind that of the
+/// version.
+pub(crate) fn has_samples(
+    rt: &impl Abort,
+    alloc: Global,
+    measures: &Measures,
+    all: bool,
+    want: &[&str],
+) {
+    let text = text_of(rt, alloc, measures);
     let mut place = 0usize;
     for line in text.lines() {
-        if is_counted(line) {
-            check_line_at(want, place, line)?;
+        if is_sample(line, all) {
+            assert_eq!(rt; Some(&line), want.get(place));
             place = place.saturating_add(1);
         }
     }
-    check_count(place, want.len())
+    assert_eq!(rt; place, want.len());
 }
 
-/// Fails where there are more or fewer lines than these.
-pub(crate) fn check_count(lines: usize, want: usize) -> Result<(), Fail> {
-    if lines == want {
-        return Ok(());
+/// Fails where the samples whose numbers are above 0 are others than these, behind that of the version.
+pub(crate) fn are_counted(
+    rt: &impl Abort,
+    alloc: Global,
+    (tally, edge): (Tally, Edge),
+    want: &[&str],
+) {
+    has_samples(rt, alloc, &measures_of(tally, edge), false, want);
+}
+
+/// Fails where the text of the measures is another than these lines, each with a line feed behind it.
+pub(crate) fn has_lines(rt: &impl Abort, alloc: Global, measures: &Measures, want: &[&[&str]]) {
+    let text = text_of(rt, alloc, measures);
+    let mut lines = text.split('\n');
+    for part in want {
+        for line in *part {
+            is_line(rt, lines.next(), Some(*line));
+        }
     }
-    Err(Fail::new(format_args!("{lines} lines in place of {want}")))
+    is_line(rt, lines.next(), Some(""));
+    is_line(rt, lines.next(), None);
 }
 
-/// Whether the line is a sample of a number above 0, and not that of the version.
-fn is_counted(line: &str) -> bool {
-    !line.starts_with('#')
-        && !line.ends_with(" 0")
-        && !line.ends_with(" 0.000000")
-        && !line.starts_with("fleet_build_info")
+fn is_line(rt: &impl Abort, line: Option<&str>, want: Option<&str>) {
+    assert_eq!(rt; line, want);
 }
 
-/// Fails where the samples of what is counted at the edge whose numbers are above 0 are others than these.
-pub(crate) fn check_edge(alloc: Global, edge: Edge, want: &[&str]) -> Result<(), Fail> {
-    let mut measures = measures_of(Tally::new());
-    measures.edge = edge;
-    let text = metrics_text(alloc, &measures)?;
-    check_samples(&text, want)
-}
-
-/// Fails where the samples of the tally whose numbers are above 0 are others than these.
-pub(crate) fn check_counted(alloc: Global, tally: Tally, want: &[&str]) -> Result<(), Fail> {
-    let text = metrics_text(alloc, &measures_of(tally))?;
-    check_samples(&text, want)
+/// Fails where this is no part of the text of the measures.
+pub(crate) fn has_text(rt: &impl Abort, alloc: Global, measures: &Measures, want: &str) {
+    let text = text_of(rt, alloc, measures);
+    assert!(rt; text.contains(want), "{want}");
 }

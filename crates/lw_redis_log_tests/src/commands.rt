@@ -1,54 +1,72 @@
-use crate::hold::{same, shown};
+use crate::hold::shown;
 use lw_redis_log::{
     append_command, last_command, login_command, persistence_command, ping_command, read_command,
     trim_command,
 };
 use lw_resp::StreamId;
 use std::alloc::Global;
-use std::test::Fail;
+use std::process::Abort;
 
 /// A command.
-#[derive(Clone, Copy)]
 enum Asked {
-    Read(Option<(u64, u64)>),
-    Last(u64, u64),
+    Read(Option<StreamId>),
+    Last(StreamId),
     Append(&'static [u8], bool),
-    Trim(u64, u64),
+    Trim(StreamId),
     Login,
     Ping,
     Persistence,
 }
 
-fn id(major: u64, minor: u64) -> StreamId {
-    StreamId { major, minor }
-}
-
-fn text_of(alloc: Global, asked: Asked) -> Result<String, Fail> {
+/// The command over the key `fleet`, or with the user.
+fn bytes_of(rt: &impl Abort, alloc: Global, asked: &Asked) -> Vec<u8> {
     let key = b"fleet";
     let bytes = match asked {
-        Asked::Read(None) => read_command(alloc, key, None)?,
-        Asked::Read(Some((major, minor))) => read_command(alloc, key, Some(id(major, minor)))?,
-        Asked::Last(major, minor) => last_command(alloc, key, id(major, minor))?,
-        Asked::Append(entry, makes) => append_command(alloc, key, entry, makes)?,
-        Asked::Trim(major, minor) => trim_command(alloc, key, id(major, minor))?,
-        Asked::Login => login_command(alloc, key, b"a secret")?,
-        Asked::Ping => ping_command(alloc)?,
-        Asked::Persistence => persistence_command(alloc)?,
+        Asked::Read(after) => read_command(alloc, key, *after),
+        Asked::Last(id) => last_command(alloc, key, *id),
+        Asked::Append(entry, makes) => append_command(alloc, key, entry, *makes),
+        Asked::Trim(upto) => trim_command(alloc, key, *upto),
+        Asked::Login => login_command(alloc, key, b"a secret"),
+        Asked::Ping => ping_command(alloc),
+        Asked::Persistence => persistence_command(alloc),
     };
-    Ok(shown(alloc, &bytes)?)
+    bytes.expect(rt, "memory")
 }
 
+/// Identifiers of entries.
+const AT_7_1: StreamId = StreamId { major: 7, minor: 1 };
+
+const LATE: StreamId = StreamId {
+    major: 1526985054069,
+    minor: 0,
+};
+
+const EARLY: StreamId = StreamId {
+    major: 649085820,
+    minor: 0,
+};
+
+const LAST_OF_7: StreamId = StreamId {
+    major: 7,
+    minor: u64::MAX,
+};
+
+const GREATEST: StreamId = StreamId {
+    major: u64::MAX,
+    minor: u64::MAX,
+};
+
 /// Commands, and their arrays of bulk strings by the pages on the protocol and on each command. `~` ends a line.
-const ROWS: [(Asked, &str); 11] = [
+static ROWS: [(Asked, &str); 11] = [
     (
         Asked::Read(None),
         "*6~$6~XRANGE~$5~fleet~$1~-~$1~+~$5~COUNT~$3~256~",
     ),
     (
-        Asked::Read(Some((1526985054069, 0))),
+        Asked::Read(Some(LATE)),
         "*6~$6~XRANGE~$5~fleet~$16~(1526985054069-0~$1~+~$5~COUNT~$3~256~",
     ),
-    (Asked::Last(7, 1), "*4~$6~XRANGE~$5~fleet~$3~7-1~$3~7-1~"),
+    (Asked::Last(AT_7_1), "*4~$6~XRANGE~$5~fleet~$3~7-1~$3~7-1~"),
     (
         Asked::Append(b"LWE1", false),
         "*6~$4~XADD~$5~fleet~$10~NOMKSTREAM~$1~*~$1~e~$4~LWE1~",
@@ -58,16 +76,16 @@ const ROWS: [(Asked, &str); 11] = [
         "*5~$4~XADD~$5~fleet~$1~*~$1~e~$3~~?~",
     ),
     (
-        Asked::Trim(649085820, 0),
+        Asked::Trim(EARLY),
         "*5~$5~XTRIM~$5~fleet~$5~MINID~$1~=~$11~649085820-1~",
     ),
     (
-        Asked::Trim(7, u64::MAX),
+        Asked::Trim(LAST_OF_7),
         "*5~$5~XTRIM~$5~fleet~$5~MINID~$1~=~$3~8-0~",
     ),
     // Nothing stands above the greatest identifier.
     (
-        Asked::Trim(u64::MAX, u64::MAX),
+        Asked::Trim(GREATEST),
         "*5~$5~XTRIM~$5~fleet~$6~MAXLEN~$1~=~$1~0~",
     ),
     (Asked::Login, "*3~$4~AUTH~$5~fleet~$8~a secret~"),
@@ -75,21 +93,14 @@ const ROWS: [(Asked, &str); 11] = [
     (Asked::Persistence, "*2~$4~INFO~$11~persistence~"),
 ];
 
-fn check_all(alloc: Global, rows: &[(Asked, &str)]) -> Result<(), Fail> {
-    for row in rows {
-        same(text_of(alloc, row.0)?.as_str(), row.1)?;
-    }
-    Ok(())
-}
-
-/// Tries: lw_redis_log::read_command
-/// Tries: lw_redis_log::last_command
-/// Tries: lw_redis_log::append_command
-/// Tries: lw_redis_log::trim_command
-/// Tries: lw_redis_log::login_command
-/// Tries: lw_redis_log::ping_command
+/// Tries: lw_redis_log::read_command, lw_redis_log::last_command, lw_redis_log::append_command
+/// Tries: lw_redis_log::trim_command, lw_redis_log::login_command, lw_redis_log::ping_command
 /// Tries: lw_redis_log::persistence_command
 #[test]
-fn commands_are_arrays_of_their_words(rt: HostRuntime) -> Result<(), Fail> {
-    check_all(rt.alloc(), &ROWS)
+fn commands_are_arrays_of_their_words(rt: HostRuntime) {
+    for (asked, want) in &ROWS {
+        let bytes = bytes_of(&rt, rt.alloc(), asked);
+        let text = shown(rt.alloc(), &bytes).expect(&rt, "memory");
+        assert_eq!(rt; text.as_str(), *want);
+    }
 }

@@ -1,9 +1,7 @@
-use crate::hold::{holds_for, same};
 use lw_redis_log::{error_prefix, passes, shown};
-use std::test::Fail;
 
 /// Errors as Redis 7.0 writes them, and whether they pass.
-const ERRORS: [(&str, bool); 22] = [
+static ERRORS: [(&str, bool); 22] = [
     ("LOADING Redis is loading the dataset in memory", true),
     (
         "BUSY Redis is busy running a script. You can only call SCRIPT KILL or SHUTDOWN NOSAVE.",
@@ -55,21 +53,16 @@ const ERRORS: [(&str, bool); 22] = [
     ("", false),
 ];
 
-fn check_errors(rows: &[(&str, bool)]) -> Result<(), Fail> {
-    for row in rows {
-        holds_for(row, passes(row.0.as_bytes()) == row.1)?;
-    }
-    Ok(())
-}
-
 /// Tries: lw_redis_log::passes
 #[test]
-fn some_errors_pass(_rt: HostRuntime) -> Result<(), Fail> {
-    check_errors(&ERRORS)
+fn some_errors_pass(rt: HostRuntime) {
+    for (error, want) in &ERRORS {
+        assert_eq!(rt; passes(error.as_bytes()), *want, "{error}");
+    }
 }
 
 /// Errors, and their prefixes.
-const PREFIXES: [(&str, &str); 4] = [
+static PREFIXES: [(&str, &str); 4] = [
     (
         "ERR unknown command 'AUTH', with args beginning with: 'fleet' 'secret' ",
         "ERR",
@@ -79,21 +72,19 @@ const PREFIXES: [(&str, &str); 4] = [
     ("", ""),
 ];
 
-fn check_prefixes(rows: &[(&str, &str)]) -> Result<(), Fail> {
-    for row in rows {
-        holds_for(row, error_prefix(row.0.as_bytes()) == row.1.as_bytes())?;
-    }
-    Ok(())
-}
-
 /// Tries: lw_redis_log::error_prefix
 #[test]
-fn a_prefix_is_the_first_word(_rt: HostRuntime) -> Result<(), Fail> {
-    check_prefixes(&PREFIXES)
+fn a_prefix_is_the_first_word(rt: HostRuntime) {
+    for (error, want) in &PREFIXES {
+        assert!(rt;
+            error_prefix(error.as_bytes()) == want.as_bytes(),
+            "{error}"
+        );
+    }
 }
 
 /// Texts, and what is shown of them.
-const SHOWN: [(&[u8], &str); 5] = [
+static SHOWN: [(&[u8], &str); 5] = [
     (b"ERR syntax error", "ERR syntax error"),
     (b"ERR ~\x7fa", "ERR ~"),
     (b"ERR \x1b[31m", "ERR "),
@@ -101,24 +92,14 @@ const SHOWN: [(&[u8], &str); 5] = [
     (b"", ""),
 ];
 
-fn check_shown(rows: &[(&[u8], &str)]) -> Result<(), Fail> {
-    for row in rows {
-        same(shown(row.0), row.1)?;
-    }
-    Ok(())
-}
-
-/// Of a text of one letter so many bytes are shown.
-fn check_length(letter: u8, length: usize, want: usize) -> Result<(), Fail> {
-    let long = [letter; 256];
-    let shown = shown(&long[..length.min(256)]);
-    holds_for(&length, shown.len() == want)
-}
-
+/// Of a long text 200 bytes are shown.
 /// Tries: lw_redis_log::shown
 #[test]
-fn what_is_shown_is_printable(_rt: HostRuntime) -> Result<(), Fail> {
-    check_shown(&SHOWN)?;
-    check_length(b'a', 200, 200)?;
-    check_length(b'a', 201, 200)
+fn what_is_shown_is_printable(rt: HostRuntime) {
+    for (text, want) in &SHOWN {
+        assert_eq!(rt; shown(text), *want);
+    }
+    let long = [b'a'; 201];
+    assert_eq!(rt; shown(&long[..200]).len(), 200);
+    assert_eq!(rt; shown(&long).len(), 200);
 }

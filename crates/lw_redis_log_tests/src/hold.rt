@@ -1,24 +1,7 @@
-//! How a test tells what does not hold.
+//! Bytes and entries as texts.
 
+use lw_log::{Bytes, Position};
 use std::alloc::{AllocError, Global};
-use std::fmt::Debug;
-use std::test::Fail;
-
-/// Fails with the row of a table for which it is not so.
-pub(crate) fn holds_for<D: Debug>(row: &D, is_so: bool) -> Result<(), Fail> {
-    if is_so {
-        return Ok(());
-    }
-    Err(Fail::new(format_args!("{row:?}")))
-}
-
-/// Fails where the text is another than it is to be.
-pub(crate) fn same(text: &str, want: &str) -> Result<(), Fail> {
-    if text == want {
-        return Ok(());
-    }
-    Err(Fail::new(format_args!("{text} in place of {want}")))
-}
 
 /// Bytes as a text, with `~` for each end of a line, and `?` for each other byte that is not printed.
 pub(crate) fn shown(alloc: Global, bytes: &[u8]) -> Result<String, AllocError> {
@@ -30,6 +13,17 @@ pub(crate) fn shown(alloc: Global, bytes: &[u8]) -> Result<String, AllocError> {
             b' '..=b'}' => text.push(char::from(*byte))?,
             _ => text.push('?')?,
         }
+    }
+    Ok(text)
+}
+
+/// Entries as a text: `=`, and then the position and the bytes of each.
+pub(crate) fn page_text(alloc: Global, page: &[(Position, Bytes)]) -> Result<String, AllocError> {
+    let mut text = String::from_str(alloc, "=")?;
+    for (position, bytes) in page {
+        let bytes = shown(alloc, bytes)?;
+        let entry = format!(in alloc; " {}-{} {bytes}", position.major, position.minor)?;
+        text.push_str(entry.as_str())?;
     }
     Ok(text)
 }

@@ -1,10 +1,9 @@
-use crate::hold::holds_for;
 use lw_redis_log::{Login, LoginFault, MAX_PART};
 use std::alloc::Global;
-use std::test::Fail;
+use std::process::Abort;
 
 /// Two lines, a user and a password.
-const LOGINS: [&[u8]; 6] = [
+static LOGINS: [&[u8]; 6] = [
     b"fleet\nsecret",
     b"fleet\nsecret\n",
     b"fleet\r\nsecret\r\n",
@@ -14,7 +13,7 @@ const LOGINS: [&[u8]; 6] = [
 ];
 
 /// What is none.
-const NONE: [&[u8]; 16] = [
+static NONE: [&[u8]; 16] = [
     b"",
     b"\n",
     b"\n\n",
@@ -33,42 +32,42 @@ const NONE: [&[u8]; 16] = [
     b"fleet\nsecret\x7f",
 ];
 
-fn check_logins(alloc: Global, rows: &[&[u8]]) -> Result<(), Fail> {
-    for row in rows {
-        holds_for(row, Login::read(alloc, row).is_ok())?;
-    }
-    Ok(())
-}
-
-fn check_none(alloc: Global, rows: &[&[u8]]) -> Result<(), Fail> {
-    for row in rows {
-        let read = Login::read(alloc, row);
-        holds_for(row, read.err() == Some(LoginFault::Malformed))?;
-    }
-    Ok(())
+/// Compares whether the bytes are a login.
+fn is_login(rt: &impl Abort, alloc: Global, bytes: &[u8], want: bool) {
+    let fault = Login::read(alloc, bytes).err();
+    let is_so = if want {
+        fault.is_none()
+    } else {
+        fault == Some(LoginFault::Malformed)
+    };
+    assert!(rt; is_so, "{bytes:?}");
 }
 
 /// Tries: lw_redis_log::Login::read
 #[test]
-fn two_lines_are_a_login(rt: HostRuntime) -> Result<(), Fail> {
-    check_logins(rt.alloc(), &LOGINS)?;
-    check_none(rt.alloc(), &NONE)
-}
-
-/// A line of so many bytes, and another.
-fn is_read(alloc: Global, user: usize, password: usize) -> Result<bool, Fail> {
-    let mut bytes = vec![in alloc; b'u'; user]?;
-    bytes.push(b'\n')?;
-    bytes.extend_from_slice(&vec![in alloc; b'p'; password]?)?;
-    Ok(Login::read(alloc, &bytes).is_ok())
-}
-
-/// Tries: lw_redis_log::Login::read
-#[test]
-fn a_line_has_256_bytes_at_most(rt: HostRuntime) -> Result<(), Fail> {
+fn two_lines_are_a_login(rt: HostRuntime) {
     let alloc = rt.alloc();
-    holds_for(&MAX_PART, MAX_PART == 256)?;
-    holds_for(&"both", is_read(alloc, 256, 256)?)?;
-    holds_for(&"user", !is_read(alloc, 257, 1)?)?;
-    holds_for(&"password", !is_read(alloc, 1, 257)?)
+    for bytes in &LOGINS {
+        is_login(&rt, alloc, bytes, true);
+    }
+    for bytes in &NONE {
+        is_login(&rt, alloc, bytes, false);
+    }
+}
+
+/// How many bytes a user and a password have, and whether they are a login.
+static LENGTHS: [(usize, usize, bool); 3] = [(256, 256, true), (257, 1, false), (1, 257, false)];
+
+/// Tries: lw_redis_log::Login::read
+#[test]
+fn a_line_has_256_bytes_at_most(rt: HostRuntime) {
+    let alloc = rt.alloc();
+    assert_eq!(rt; MAX_PART, 256);
+    for (user, password, want) in &LENGTHS {
+        let mut bytes = vec![in alloc; b'u'; *user].expect(&rt, "memory");
+        bytes.push(b'\n').expect(&rt, "memory");
+        let line = vec![in alloc; b'p'; *password].expect(&rt, "memory");
+        bytes.extend_from_slice(&line).expect(&rt, "memory");
+        is_login(&rt, alloc, &bytes, *want);
+    }
 }

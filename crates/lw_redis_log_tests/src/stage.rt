@@ -1,16 +1,16 @@
 //! A Redis in memory, which answers what was written for it beforehand, and a record of all that was done.
 
-use crate::hold::shown;
-use lw_log::{Bytes, DeltaLog, Position};
+use crate::hold::{page_text, shown};
+use lw_log::{DeltaLog, Position};
 use lw_redis_log::{Connects, Login, Notice, RedisLog};
 use lw_resp::StreamId;
 use std::alloc::{AllocError, Global};
 use std::cell::{Cell, RefCell};
 use std::io::{self, ErrorKind, Read, Write};
-use std::test::Fail;
+use std::process::Abort;
 
 /// What comes of a connection that is made, or of a command that is written, in order.
-#[derive(Clone, Copy, Debug)]
+#[derive(Clone, Copy)]
 pub(crate) enum Answer {
     /// There is a connection.
     Opens,
@@ -25,7 +25,6 @@ pub(crate) enum Answer {
 }
 
 /// What is done, in order.
-#[derive(Clone, Copy, Debug)]
 pub(crate) enum Act {
     /// Entries are read above a position, or from the start.
     Read(Option<(u64, u64)>),
@@ -66,18 +65,21 @@ impl<'a> Stage<'a> {
         self.note(text.as_str())
     }
 
-    /// What comes next. There is nothing behind the last.
-    fn answer(&self) -> Answer {
+    /// What comes next, where something does.
+    fn answer(&self) -> Option<&'a Answer> {
         let next = self.next.get();
         self.next.set(next.saturating_add(1));
-        match self.answers.get(next) {
-            Some(answer) => *answer,
-            None => Answer::Fails,
-        }
+        self.answers.get(next)
     }
 
     fn pass(&self, milliseconds: u64) {
         self.now.set(self.now.get().saturating_add(milliseconds));
+    }
+
+    /// Fails where the record is another than this.
+    fn has_record(&self, rt: &impl Abort, want: &str) {
+        let record = self.record.try_borrow().expect(rt, "the record is free");
+        assert_eq!(rt; record.as_str(), want);
     }
 }
 
@@ -90,23 +92,18 @@ pub(crate) struct Wire<'a> {
     ends: bool,
 }
 
-impl Wire<'_> {
-    fn take(&mut self, answer: Answer) -> io::Result<()> {
-        self.is_slow = matches!(answer, Answer::SaysSlowly(_));
-        self.ends = matches!(answer, Answer::Ends(_));
-        self.coming = match answer {
-            Answer::Says(text) | Answer::SaysSlowly(text) | Answer::Ends(text) => text.as_bytes(),
-            Answer::Opens | Answer::Fails => return Err(io::Error::from(ErrorKind::BrokenPipe)),
-        };
-        Ok(())
-    }
-}
-
 impl Write for Wire<'_> {
     fn write(&mut self, buf: &[u8]) -> io::Result<usize> {
         self.stage.note_bytes(buf)?;
-        let answer = self.stage.answer();
-        self.take(answer)?;
+        let (text, is_slow, ends) = match self.stage.answer() {
+            Some(Answer::Says(text)) => (text, false, false),
+            Some(Answer::SaysSlowly(text)) => (text, true, false),
+            Some(Answer::Ends(text)) => (text, false, true),
+            _ => return Err(io::Error::from(ErrorKind::BrokenPipe)),
+        };
+        self.coming = text.as_bytes();
+        self.is_slow = is_slow;
+        self.ends = ends;
         Ok(buf.len())
     }
 
@@ -120,17 +117,10 @@ impl Read for Wire<'_> {
         if self.coming.is_empty() && !self.ends {
             return Err(io::Error::from(ErrorKind::WouldBlock));
         }
-        if self.is_slow {
-            let Some((first, rest)) = self.coming.split_first() else {
-                return Ok(0);
-            };
-            self.coming = rest;
-            return [*first].as_slice().read(buf);
-        }
-        let mut coming = self.coming;
-        let count = coming.read(buf)?;
-        self.coming = coming;
-        Ok(count)
+        let most = if self.is_slow { 1 } else { buf.len() };
+        let (mut now, later) = self.coming.split_at(most.min(self.coming.len()));
+        self.coming = later;
+        now.read(buf)
     }
 }
 
@@ -145,7 +135,7 @@ impl<'a> Connects for Caller<'a> {
 
     fn connect(&mut self) -> io::Result<Wire<'a>> {
         match self.stage.answer() {
-            Answer::Opens => {
+            Some(Answer::Opens) => {
                 self.stage.note("connects")?;
                 Ok(Wire {
                     stage: self.stage,
@@ -183,44 +173,55 @@ impl<'a> Connects for Caller<'a> {
     }
 }
 
-fn page_text(alloc: Global, page: &[(Position, Bytes)]) -> Result<String, Fail> {
-    let mut text = format!(in alloc; "=")?;
-    for (position, bytes) in page {
-        let bytes = shown(alloc, bytes)?;
-        let entry = format!(in alloc; " {}-{} {bytes}", position.major, position.minor)?;
-        text.push_str(entry.as_str())?;
-    }
-    Ok(text)
-}
-
-fn done<C: Connects>(alloc: Global, log: &mut RedisLog<C>, act: Act) -> Result<String, Fail> {
-    Ok(match act {
+/// Does it, and gives what comes of it as a text.
+fn done<C: Connects>(
+    alloc: Global,
+    log: &mut RedisLog<C>,
+    act: &Act,
+) -> Result<String, AllocError> {
+    let fault = match act {
         Act::Read(after) => {
-            let after = after.map(|(major, minor)| Position { major, minor });
+            let after = match after {
+                Some((major, minor)) => Some(Position {
+                    major: *major,
+                    minor: *minor,
+                }),
+                None => None,
+            };
             match log.read(after) {
-                Ok(page) => page_text(alloc, &page)?,
-                Err(fault) => format!(in alloc; "= {fault:?}")?,
+                Ok(page) => return page_text(alloc, &page),
+                Err(fault) => fault,
             }
         }
         Act::Append(entry) => match log.append(entry.as_bytes()) {
-            Ok(position) => format!(in alloc; "= {}-{}", position.major, position.minor)?,
-            Err(fault) => format!(in alloc; "= {fault:?}")?,
+            Ok(position) => return format!(in alloc; "= {}-{}", position.major, position.minor),
+            Err(fault) => fault,
         },
-        Act::Trim(major, minor) => match log.trim(Position { major, minor }) {
-            Ok(()) => format!(in alloc; "= trimmed")?,
-            Err(fault) => format!(in alloc; "= {fault:?}")?,
-        },
-        Act::Pass(milliseconds) => format!(in alloc; "{milliseconds} ms")?,
-    })
+        Act::Trim(major, minor) => {
+            let upto = Position {
+                major: *major,
+                minor: *minor,
+            };
+            match log.trim(upto) {
+                Ok(()) => return String::from_str(alloc, "= trimmed"),
+                Err(fault) => fault,
+            }
+        }
+        Act::Pass(milliseconds) => return format!(in alloc; "{milliseconds} ms"),
+    };
+    format!(in alloc; "= {fault:?}")
 }
 
-/// The record of what is done over these answers, of a log whose user has a login or not.
-pub(crate) fn record_of(
+/// What a Redis answers, what is done, and the record of it.
+pub(crate) type Story<'a> = (&'a [Answer], &'a [Act], &'a str);
+
+/// Plays the story with a log whose user has a login or not, and compares the record of it.
+pub(crate) fn play(
+    rt: &impl Abort,
     alloc: Global,
-    answers: &[Answer],
-    acts: &[Act],
+    (answers, acts, want): Story<'_>,
     login: Option<Login>,
-) -> Result<String, Fail> {
+) {
     let stage = Stage {
         alloc,
         answers,
@@ -228,16 +229,21 @@ pub(crate) fn record_of(
         now: Cell::new(0),
         record: RefCell::new(String::new(alloc)),
     };
-    let mut log = RedisLog::new(alloc, Caller { stage: &stage }, login, b"k")?;
+    let begun = RedisLog::new(alloc, Caller { stage: &stage }, login, b"k");
+    let mut log = begun.expect(rt, "a log");
     for act in acts {
-        let what = done(alloc, &mut log, *act)?;
-        stage.note(what.as_str())?;
+        let text = done(alloc, &mut log, act).expect(rt, "memory");
+        stage.note(text.as_str()).expect(rt, "memory");
         if let Act::Pass(milliseconds) = act {
             stage.pass(*milliseconds);
         }
     }
-    let Ok(record) = stage.record.try_borrow() else {
-        return Err("the record is free".into());
-    };
-    Ok(String::from_str(alloc, record.as_str())?)
+    stage.has_record(rt, want);
+}
+
+/// Plays each story with a log whose user has no login.
+pub(crate) fn play_all(rt: &impl Abort, alloc: Global, stories: &[Story<'_>]) {
+    for story in stories {
+        play(rt, alloc, *story, None);
+    }
 }

@@ -1,13 +1,7 @@
-use crate::hold::same;
 use crate::stage::Act::{Append, Pass, Read, Trim};
 use crate::stage::Answer::{Ends, Fails, Opens, Says, SaysSlowly};
-use crate::stage::{Act, Answer, record_of};
+use crate::stage::{Act, Answer, Story, play, play_all};
 use lw_redis_log::Login;
-use std::alloc::Global;
-use std::test::Fail;
-
-/// What a Redis answers, what is done, and the record of it.
-type Story = (&'static [Answer], &'static [Act], &'static str);
 
 const PONG: Answer = Says("+PONG\r\n");
 
@@ -27,16 +21,8 @@ const EMPTY: Answer = Says("*0\r\n");
 /// The entry 5-0 is there.
 const FOUND: Answer = Says("*1\r\n*2\r\n$3\r\n5-0\r\n*2\r\n$1\r\ne\r\n$1\r\na\r\n");
 
-fn check_all(alloc: Global, stories: &[Story]) -> Result<(), Fail> {
-    for story in stories {
-        let record = record_of(alloc, story.0, story.1, None)?;
-        same(record.as_str(), story.2)?;
-    }
-    Ok(())
-}
-
 /// The first entry makes the stream where a reading of the whole has found none, or where the server has said so.
-const MADE: [Story; 4] = [
+static MADE: [Story<'static>; 4] = [
     (
         &[Opens, PONG, KEEPS, EMPTY, FIRST, SECOND],
         &[Read(None), Append("a"), Append("b")],
@@ -71,12 +57,12 @@ const MADE: [Story; 4] = [
 
 /// Tries: lw_redis_log::RedisLog::new
 #[test]
-fn a_stream_is_made(rt: HostRuntime) -> Result<(), Fail> {
-    check_all(rt.alloc(), &MADE)
+fn a_stream_is_made(rt: HostRuntime) {
+    play_all(&rt, rt.alloc(), &MADE);
 }
 
 /// A refusal is told, and the connection stays. So it does at a trim.
-const REFUSED: [Story; 2] = [
+static REFUSED: [Story<'static>; 2] = [
     (
         &[
             Opens,
@@ -107,53 +93,107 @@ const REFUSED: [Story; 2] = [
 
 /// Tries: lw_redis_log::RedisLog::new
 #[test]
-fn a_refusal_is_told(rt: HostRuntime) -> Result<(), Fail> {
-    check_all(rt.alloc(), &REFUSED)
+fn a_refusal_is_told(rt: HostRuntime) {
+    play_all(&rt, rt.alloc(), &REFUSED);
 }
-
-/// What drops the connection: an error that passes, another kind, no reply, one and more, the end, and nothing in time.
-const DROPS: [Answer; 9] = [
-    Says("-LOADING Redis is loading the dataset in memory\r\n"),
-    Says(":1\r\n"),
-    Says("5-0\r\n"),
-    Says("$3\r\n5-0\r\n:1\r\n"),
-    Says("$3\r\n5:0\r\n"),
-    Says(""),
-    Says("$3\r\n5-"),
-    Ends("$3\r\n5-"),
-    Fails,
-];
 
 /// Nothing is asked while the pause lasts.
 const DROPPED: &str = "connects\n*1~$4~PING~\n*2~$4~INFO~$11~persistence~\n\
      *6~$4~XADD~$1~k~$10~NOMKSTREAM~$1~*~$1~e~$1~a~\n= Away\n= Away\n99 ms\n= Away\n1 ms\n\
      connects\n*1~$4~PING~\n*6~$4~XADD~$1~k~$10~NOMKSTREAM~$1~*~$1~e~$1~a~\n= 5-0\n";
 
-fn check_drops(alloc: Global, drops: &[Answer], want: &str) -> Result<(), Fail> {
-    let acts = [
-        Append("a"),
-        Append("a"),
-        Pass(99),
-        Append("a"),
-        Pass(1),
-        Append("a"),
-    ];
-    for drop in drops {
-        let answers = [Opens, PONG, KEEPS, *drop, Opens, PONG, FIRST];
-        let record = record_of(alloc, &answers, &acts, None)?;
-        same(record.as_str(), want)?;
-    }
-    Ok(())
-}
+/// An append until it is done, and with it what is done while a pause of 100 ms lasts.
+const APPENDED_AGAIN: &[Act] = &[
+    Append("a"),
+    Append("a"),
+    Pass(99),
+    Append("a"),
+    Pass(1),
+    Append("a"),
+];
+
+/// What drops the connection, which is made again: an error that passes, another kind, no reply, one and more, the
+/// end, and nothing in time.
+static DROPS: [Story<'static>; 9] = [
+    (
+        &[
+            Opens,
+            PONG,
+            KEEPS,
+            Says("-LOADING Redis is loading the dataset in memory\r\n"),
+            Opens,
+            PONG,
+            FIRST,
+        ],
+        APPENDED_AGAIN,
+        DROPPED,
+    ),
+    (
+        &[Opens, PONG, KEEPS, Says(":1\r\n"), Opens, PONG, FIRST],
+        APPENDED_AGAIN,
+        DROPPED,
+    ),
+    (
+        &[Opens, PONG, KEEPS, Says("5-0\r\n"), Opens, PONG, FIRST],
+        APPENDED_AGAIN,
+        DROPPED,
+    ),
+    (
+        &[
+            Opens,
+            PONG,
+            KEEPS,
+            Says("$3\r\n5-0\r\n:1\r\n"),
+            Opens,
+            PONG,
+            FIRST,
+        ],
+        APPENDED_AGAIN,
+        DROPPED,
+    ),
+    (
+        &[
+            Opens,
+            PONG,
+            KEEPS,
+            Says("$3\r\n5:0\r\n"),
+            Opens,
+            PONG,
+            FIRST,
+        ],
+        APPENDED_AGAIN,
+        DROPPED,
+    ),
+    (
+        &[Opens, PONG, KEEPS, Says(""), Opens, PONG, FIRST],
+        APPENDED_AGAIN,
+        DROPPED,
+    ),
+    (
+        &[Opens, PONG, KEEPS, Says("$3\r\n5-"), Opens, PONG, FIRST],
+        APPENDED_AGAIN,
+        DROPPED,
+    ),
+    (
+        &[Opens, PONG, KEEPS, Ends("$3\r\n5-"), Opens, PONG, FIRST],
+        APPENDED_AGAIN,
+        DROPPED,
+    ),
+    (
+        &[Opens, PONG, KEEPS, Fails, Opens, PONG, FIRST],
+        APPENDED_AGAIN,
+        DROPPED,
+    ),
+];
 
 /// Tries: lw_redis_log::RedisLog::new
 #[test]
-fn a_connection_is_made_again(rt: HostRuntime) -> Result<(), Fail> {
-    check_drops(rt.alloc(), &DROPS, DROPPED)
+fn a_connection_is_made_again(rt: HostRuntime) {
+    play_all(&rt, rt.alloc(), &DROPS);
 }
 
 /// Pauses are doubled until the server does what it is asked.
-const PAUSES: [Story; 2] = [
+static PAUSES: [Story<'static>; 2] = [
     (
         &[Fails, Fails, Opens, Says("-BUSY script\r\n"), Fails],
         &[
@@ -204,13 +244,13 @@ const PAUSES: [Story; 2] = [
 
 /// Tries: lw_redis_log::RedisLog::new
 #[test]
-fn pauses_grow(rt: HostRuntime) -> Result<(), Fail> {
-    check_all(rt.alloc(), &PAUSES)
+fn pauses_grow(rt: HostRuntime) {
+    play_all(&rt, rt.alloc(), &PAUSES);
 }
 
-/// What was appended or read last is looked for at a new connection. Where it is gone, the next reading or append tells it
-/// once. What this log let go itself is not looked for.
-const LOST: [Story; 4] = [
+/// What was appended or read last is looked for at a new connection. Where it is gone, the next reading or append
+/// tells it once. What this log let go itself is not looked for.
+static LOST: [Story<'static>; 4] = [
     (
         &[
             Opens,
@@ -292,12 +332,12 @@ const LOST: [Story; 4] = [
 
 /// Tries: lw_redis_log::RedisLog::new
 #[test]
-fn what_is_lost_is_told(rt: HostRuntime) -> Result<(), Fail> {
-    check_all(rt.alloc(), &LOST)
+fn what_is_lost_is_told(rt: HostRuntime) {
+    play_all(&rt, rt.alloc(), &LOST);
 }
 
 /// What a server tells of its disk is asked once, and told where it keeps nothing. One that does not tell is used.
-const DISKS: [Story; 3] = [
+static DISKS: [Story<'static>; 3] = [
     (
         &[Opens, PONG, FORGETS, EMPTY, Ends(""), Opens, PONG, EMPTY],
         &[Read(None), Read(None), Pass(100), Read(None)],
@@ -331,13 +371,51 @@ const DISKS: [Story; 3] = [
 
 /// Tries: lw_redis_log::RedisLog::new
 #[test]
-fn the_disk_is_asked_for(rt: HostRuntime) -> Result<(), Fail> {
-    check_all(rt.alloc(), &DISKS)
+fn the_disk_is_asked_for(rt: HostRuntime) {
+    play_all(&rt, rt.alloc(), &DISKS);
+}
+
+/// Two entries, the second of which is foreign.
+const PAGE: &str = "*2\r\n*2\r\n$3\r\n5-0\r\n*2\r\n$1\r\ne\r\n$2\r\nab\r\n\
+     *2\r\n$3\r\n5-1\r\n*4\r\n$1\r\ne\r\n$1\r\na\r\n$1\r\nf\r\n$0\r\n\r\n";
+
+/// The record of a reading whose reply is whole.
+const WHOLE: &str = "connects\n*1~$4~PING~\n*2~$4~INFO~$11~persistence~\n\
+     *6~$6~XRANGE~$1~k~$1~-~$1~+~$5~COUNT~$3~256~\n\
+     passes over 5-0\npasses over 5-1\n= 5-0 ab 5-1 \n";
+
+/// The record of one whose reply is not.
+const CUT: &str = "connects\n*1~$4~PING~\n*2~$4~INFO~$11~persistence~\n\
+     *6~$6~XRANGE~$1~k~$1~-~$1~+~$5~COUNT~$3~256~\n= Away\n";
+
+/// A reply comes in any pieces.
+static WHOLES: [Story<'static>; 3] = [
+    (&[Opens, PONG, KEEPS, Says(PAGE)], &[Read(None)], WHOLE),
+    (
+        &[Opens, PONG, KEEPS, SaysSlowly(PAGE)],
+        &[Read(None)],
+        WHOLE,
+    ),
+    (&[Opens, PONG, KEEPS, Ends(PAGE)], &[Read(None)], WHOLE),
+];
+
+/// A reply that ends before its end is none.
+/// Tries: lw_redis_log::RedisLog::new
+#[test]
+fn a_reply_is_waited_for(rt: HostRuntime) {
+    play_all(&rt, rt.alloc(), &WHOLES);
+    for end in 0..PAGE.len() {
+        let cut = PAGE.get(..end).expect(&rt, "ASCII");
+        for answer in [Ends(cut), Says(cut)] {
+            let answers = [Opens, PONG, KEEPS, answer];
+            play(&rt, rt.alloc(), (&answers, &[Read(None)], CUT), None);
+        }
+    }
 }
 
 /// A user logs in before all else. A connection that is refused is made again after a pause, and of a refused login
 /// only the first word is told.
-const LOGINS: [Story; 4] = [
+static LOGINS: [Story<'static>; 4] = [
     (
         &[Opens, Says("+OK\r\n"), PONG, KEEPS, EMPTY],
         &[Read(None)],
@@ -374,66 +452,11 @@ const LOGINS: [Story; 4] = [
     ),
 ];
 
-fn check_logins(alloc: Global, stories: &[Story]) -> Result<(), Fail> {
-    for story in stories {
-        let Ok(login) = Login::read(alloc, b"fleet\nsecret\n") else {
-            return Err("no login".into());
-        };
-        let record = record_of(alloc, story.0, story.1, Some(login))?;
-        same(record.as_str(), story.2)?;
-    }
-    Ok(())
-}
-
 /// Tries: lw_redis_log::RedisLog::new
 #[test]
-fn a_user_logs_in(rt: HostRuntime) -> Result<(), Fail> {
-    check_logins(rt.alloc(), &LOGINS)
-}
-
-/// Two entries, the second of which is foreign.
-const PAGE: &str = "*2\r\n*2\r\n$3\r\n5-0\r\n*2\r\n$1\r\ne\r\n$2\r\nab\r\n\
-     *2\r\n$3\r\n5-1\r\n*4\r\n$1\r\ne\r\n$1\r\na\r\n$1\r\nf\r\n$0\r\n\r\n";
-
-fn read_over(alloc: Global, answer: Answer) -> Result<String, Fail> {
-    record_of(alloc, &[Opens, PONG, KEEPS, answer], &[Read(None)], None)
-}
-
-/// The record of a reading whose reply is whole.
-const WHOLE: &str = "connects\n*1~$4~PING~\n*2~$4~INFO~$11~persistence~\n\
-     *6~$6~XRANGE~$1~k~$1~-~$1~+~$5~COUNT~$3~256~\n\
-     passes over 5-0\npasses over 5-1\n= 5-0 ab 5-1 \n";
-
-/// The record of one whose reply is not.
-const CUT: &str = "connects\n*1~$4~PING~\n*2~$4~INFO~$11~persistence~\n\
-     *6~$6~XRANGE~$1~k~$1~-~$1~+~$5~COUNT~$3~256~\n= Away\n";
-
-fn check_readings(alloc: Global, answers: &[Answer], want: &str) -> Result<(), Fail> {
-    for answer in answers {
-        same(read_over(alloc, *answer)?.as_str(), want)?;
+fn a_user_logs_in(rt: HostRuntime) {
+    for story in &LOGINS {
+        let login = Login::read(rt.alloc(), b"fleet\nsecret\n").expect(&rt, "a login");
+        play(&rt, rt.alloc(), *story, Some(login));
     }
-    Ok(())
-}
-
-fn check_cuts(alloc: Global, reply: &'static str, want: &str) -> Result<(), Fail> {
-    for end in 0..reply.len() {
-        let Some(cut) = reply.get(..end) else {
-            return Err("no ASCII".into());
-        };
-        check_readings(alloc, &[Ends(cut), Says(cut)], want)?;
-    }
-    Ok(())
-}
-
-/// A reply comes in any pieces, and one that ends before its end is none.
-///
-/// Tries: lw_redis_log::RedisLog::new
-#[test]
-fn a_reply_is_waited_for(rt: HostRuntime) -> Result<(), Fail> {
-    check_readings(
-        rt.alloc(),
-        &[Says(PAGE), SaysSlowly(PAGE), Ends(PAGE)],
-        WHOLE,
-    )?;
-    check_cuts(rt.alloc(), PAGE, CUT)
 }
