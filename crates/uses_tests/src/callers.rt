@@ -44,6 +44,10 @@ fn names_rise(rt: HostRuntime) {
     has_names(&rt, rt.alloc(), &node, &["a", "b"]);
 }
 
+fn both_meet(rt: &impl Abort, one: &mut Node, other: &mut Node) {
+    meet(one, other).expect(rt, "memory");
+}
+
 /// Tries: meet
 #[test]
 fn two_servers_meet(rt: HostRuntime) {
@@ -51,7 +55,7 @@ fn two_servers_meet(rt: HostRuntime) {
     let mut other = Node::new(rt.alloc(), 2);
     register(&rt, &mut one, REGISTER);
     register(&rt, &mut other, REGISTER_B);
-    meet(&mut one, &mut other).expect(&rt, "memory");
+    both_meet(&rt, &mut one, &mut other);
     has_names(&rt, rt.alloc(), &one, &["a", "b"]);
     has_names(&rt, rt.alloc(), &other, &["a", "b"]);
     assert_eq!(rt; (one.clock(), other.clock()), (1, 1));

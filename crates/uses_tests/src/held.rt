@@ -18,12 +18,13 @@ fn question(rt: &impl Abort, alloc: Global) -> Call {
     }
 }
 
-fn registering(rt: &impl Abort, alloc: Global) -> Call {
-    let bytes = Bytes::from_vec(REGISTER.to_vec(alloc).expect(rt, "memory"));
+/// Takes the datagram at the start.
+fn taking(rt: &impl Abort, alloc: Global, datagram: &[u8]) -> Call {
+    let bytes = Bytes::copy_from_slice(alloc, datagram).expect(rt, "memory");
     Call::Take {
         now: Moment::START,
         from: HOME,
-        bytes: bytes.expect(rt, "memory"),
+        bytes,
     }
 }
 
@@ -35,10 +36,12 @@ fn two_threads_ask(rt: HostRuntime) {
     let first = passes.pop().expect(&rt, "a first pass");
     assert!(rt; first.number() != second.number());
     let shelf = shelves.first().expect(&rt, "a shelf");
-    let (call, asks) = (registering(&rt, rt.alloc()), question(&rt, rt.alloc()));
+    let call = taking(&rt, rt.alloc(), REGISTER);
+    let asks = question(&rt, rt.alloc());
     let asked = ask_from_threads(&rt, &shelves, shelf, (first, &call), (second, &asks));
-    let [one, other] = asked.expect(&rt, "settled");
-    assert_eq!(rt; (one.len(), other.len()), (1, 1), "a part each");
+    let passes = asked.expect(&rt, "settled");
+    let counts = (passes[0].len(), passes[1].len());
+    assert!(rt; counts == (1, 1), "a part each");
 }
 
 /// A node is cut behind a Register that is made with one pass, and then asked with another. The call of the one is in
@@ -50,7 +53,7 @@ fn a_volume_is_read(rt: HostRuntime) {
     let (_shelves, mut passes) = set_up(rt.alloc(), 1, 2).expect(&rt, "memory");
     let mut other = passes.pop().expect(&rt, "a second pass");
     let mut pass = passes.pop().expect(&rt, "a first pass");
-    let call = registering(&rt, rt.alloc());
+    let call = taking(&rt, rt.alloc(), REGISTER);
     let cut = call_and_cut(1, &mut held, &mut pass, &call).expect(&rt, "memory");
     let volume = cut.expect(&rt, "a volume");
     let asks = question(&rt, rt.alloc());
