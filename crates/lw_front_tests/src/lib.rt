@@ -2,6 +2,4 @@
 #![tactic(auto)]
 
 #[cfg(test)]
-mod hold;
-#[cfg(test)]
 mod sockets;

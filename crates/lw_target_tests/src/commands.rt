@@ -1,32 +1,29 @@
 //! What a request changes.
 
-use crate::told::told;
+use crate::told::check;
 use lw_target::{Commands, Method};
 use std::alloc::Global;
-use std::test::Fail;
+use std::process::Abort;
 
 /// The query of a command, and what it comes to.
 type Row = (&'static str, &'static str);
 
-/// What the method comes to at the target, where commands are taken.
-fn check(alloc: Global, method: Method, target: &str, want: &str) -> Result<(), Fail> {
-    let got = told(alloc, Commands::On, method, target)?;
-    if got.as_str() == want {
-        return Ok(());
-    }
-    Err(Fail::new(format_args!("{target}: {got}")))
-}
-
-/// The observations of the endpoint `lamp`, with a query each.
-fn check_lamp(alloc: Global, rows: &[Row]) -> Result<(), Fail> {
+/// What POST comes to at the observations of the endpoint `lamp`, with the query of each row.
+fn check_lamp(rt: &impl Abort, alloc: Global, rows: &[Row]) {
     for (query, want) in rows {
-        let target = format!(in alloc; "/v1/registrations/lamp/observations{query}")?;
-        check(alloc, Method::Post, target.as_str(), want)?;
+        let target = format!(in alloc; "/v1/registrations/lamp/observations{query}");
+        let target = target.expect(rt, "memory");
+        check(
+            rt,
+            alloc,
+            (Commands::On, Method::Post),
+            target.as_str(),
+            want,
+        );
     }
-    Ok(())
 }
 
-const OBSERVED: [Row; 9] = [
+static OBSERVED: [Row; 9] = [
     ("?path=/3", "observe lamp 3"),
     ("?path=/3/0", "observe lamp 3 0"),
     ("?path=/3/0&accept=110", "observe lamp 3 0 in 110"),
@@ -43,11 +40,11 @@ const OBSERVED: [Row; 9] = [
 
 /// Tries: lw_target::purpose_of, lw_path::read_path
 #[test]
-fn a_path_is_observed(rt: HostRuntime) -> Result<(), Fail> {
-    check_lamp(rt.alloc(), &OBSERVED)
+fn a_path_is_observed(rt: HostRuntime) {
+    check_lamp(&rt, rt.alloc(), &OBSERVED);
 }
 
-const NO_PATHS: [Row; 15] = [
+static NO_PATHS: [Row; 15] = [
     ("", "400 path"),
     ("?", "400 path"),
     ("?accept=110", "400 path"),
@@ -67,11 +64,11 @@ const NO_PATHS: [Row; 15] = [
 
 /// Tries: lw_target::purpose_of, lw_path::read_path
 #[test]
-fn without_a_path_nothing_is_observed(rt: HostRuntime) -> Result<(), Fail> {
-    check_lamp(rt.alloc(), &NO_PATHS)
+fn without_a_path_nothing_is_observed(rt: HostRuntime) {
+    check_lamp(&rt, rt.alloc(), &NO_PATHS);
 }
 
-const OTHER_PARAMETERS: [Row; 14] = [
+static OTHER_PARAMETERS: [Row; 14] = [
     ("?path=/3&accept=65536", "400 accept"),
     ("?path=/3&accept=18446744073709551616", "400 accept"),
     ("?path=/3&accept=01", "400 accept"),
@@ -90,14 +87,14 @@ const OTHER_PARAMETERS: [Row; 14] = [
 
 /// Tries: lw_target::purpose_of
 #[test]
-fn other_parameters_of_an_observation(rt: HostRuntime) -> Result<(), Fail> {
-    check_lamp(rt.alloc(), &OTHER_PARAMETERS)
+fn other_parameters_of_an_observation(rt: HostRuntime) {
+    check_lamp(&rt, rt.alloc(), &OTHER_PARAMETERS);
 }
 
 /// A method, a target, and what they come to.
 type TargetRow = (Method, &'static str, &'static str);
 
-const TARGETS: [TargetRow; 12] = [
+static TARGETS: [TargetRow; 12] = [
     (
         Method::Post,
         "/v1/registrations/a%2Fb/observations?path=/3",
@@ -146,22 +143,33 @@ const TARGETS: [TargetRow; 12] = [
 
 /// Tries: lw_target::purpose_of
 #[test]
-fn commands_and_their_targets(rt: HostRuntime) -> Result<(), Fail> {
-    for (method, target, want) in TARGETS {
-        check(rt.alloc(), method, target, want)?;
+fn commands_and_their_targets(rt: HostRuntime) {
+    for (method, target, want) in &TARGETS {
+        check(&rt, rt.alloc(), (Commands::On, *method), target, want);
     }
-    Ok(())
+}
+
+/// What stands at an endpoint comes to this.
+fn check_endpoint(rt: &impl Abort, alloc: Global, endpoint: &str, want: &str) {
+    let target = format!(in alloc; "/v1/registrations/{endpoint}/observations?path=/3");
+    let target = target.expect(rt, "memory");
+    check(
+        rt,
+        alloc,
+        (Commands::On, Method::Post),
+        target.as_str(),
+        want,
+    );
 }
 
 /// The most bytes that an endpoint may have, and one more.
 /// Tries: lw_target::purpose_of
 #[test]
-fn endpoints_have_252_bytes_at_most(rt: HostRuntime) -> Result<(), Fail> {
+fn endpoints_have_252_bytes_at_most(rt: HostRuntime) {
     let alloc = rt.alloc();
-    let longest = "x".repeat(alloc, 252)?;
-    let observed = format!(in alloc; "/v1/registrations/{longest}/observations?path=/3")?;
-    let refused = format!(in alloc; "/v1/registrations/x{longest}/observations?path=/3")?;
-    let want = format!(in alloc; "observe {longest} 3")?;
-    check(alloc, Method::Post, observed.as_str(), want.as_str())?;
-    check(alloc, Method::Post, refused.as_str(), "400 endpoint")
+    let longest = "x".repeat(alloc, 252).expect(&rt, "memory");
+    let observed = format!(in alloc; "observe {longest} 3").expect(&rt, "memory");
+    check_endpoint(&rt, alloc, longest.as_str(), observed.as_str());
+    let longer = "x".repeat(alloc, 253).expect(&rt, "memory");
+    check_endpoint(&rt, alloc, longer.as_str(), "400 endpoint");
 }

@@ -1,37 +1,19 @@
-use crate::told::told;
+use crate::told::{check, told};
 use lw_target::{Commands, Method};
 use std::alloc::Global;
-use std::test::Fail;
+use std::process::Abort;
 
 /// A target that is asked for with GET, and what it comes to.
 type Row = (&'static str, &'static str);
 
-fn check(alloc: Global, method: Method, target: &str, want: &str) -> Result<(), Fail> {
-    check_with(alloc, Commands::On, method, target, want)
-}
-
-fn check_with(
-    alloc: Global,
-    commands: Commands,
-    method: Method,
-    target: &str,
-    want: &str,
-) -> Result<(), Fail> {
-    let got = told(alloc, commands, method, target)?;
-    if got.as_str() == want {
-        return Ok(());
-    }
-    Err(Fail::new(format_args!("{target}: {got}")))
-}
-
-fn check_rows(alloc: Global, rows: &[Row]) -> Result<(), Fail> {
+/// What GET comes to at each target has to be what its row says.
+fn check_rows(rt: &impl Abort, alloc: Global, rows: &[Row]) {
     for (target, want) in rows {
-        check(alloc, Method::Get, target, want)?;
+        check(rt, alloc, (Commands::On, Method::Get), target, want);
     }
-    Ok(())
 }
 
-const TABLE: [Row; 15] = [
+static TABLE: [Row; 15] = [
     ("/", "page"),
     ("/?", "page"),
     ("/v1/health", "health"),
@@ -54,11 +36,11 @@ const TABLE: [Row; 15] = [
 
 /// Tries: lw_target::purpose_of
 #[test]
-fn each_target_is_known(rt: HostRuntime) -> Result<(), Fail> {
-    check_rows(rt.alloc(), &TABLE)
+fn each_target_is_known(rt: HostRuntime) {
+    check_rows(&rt, rt.alloc(), &TABLE);
 }
 
-const NO_TARGETS: [Row; 16] = [
+static NO_TARGETS: [Row; 16] = [
     ("", "404 no such resource"),
     ("v1/health", "404 no such resource"),
     ("//", "404 no such resource"),
@@ -79,11 +61,11 @@ const NO_TARGETS: [Row; 16] = [
 
 /// Tries: lw_target::purpose_of
 #[test]
-fn no_other_path_is_of_a_resource(rt: HostRuntime) -> Result<(), Fail> {
-    check_rows(rt.alloc(), &NO_TARGETS)
+fn no_other_path_is_of_a_resource(rt: HostRuntime) {
+    check_rows(&rt, rt.alloc(), &NO_TARGETS);
 }
 
-const NO_OBSERVATIONS: [Row; 9] = [
+static NO_OBSERVATIONS: [Row; 9] = [
     ("/v1/registrations//observations", "404 no such resource"),
     ("/v1/registrations/a/b/observations", "404 no such resource"),
     ("/v1/registrations/a/observations/", "404 no such resource"),
@@ -100,11 +82,11 @@ const NO_OBSERVATIONS: [Row; 9] = [
 
 /// Tries: lw_target::purpose_of
 #[test]
-fn observations_stand_below_one_endpoint(rt: HostRuntime) -> Result<(), Fail> {
-    check_rows(rt.alloc(), &NO_OBSERVATIONS)
+fn observations_stand_below_one_endpoint(rt: HostRuntime) {
+    check_rows(&rt, rt.alloc(), &NO_OBSERVATIONS);
 }
 
-const OBSERVATIONS: [Row; 24] = [
+static OBSERVATIONS: [Row; 24] = [
     ("/v1/registrations/observations", "of observations"),
     (
         "/v1/registrations/observations/observations",
@@ -160,8 +142,8 @@ const OBSERVATIONS: [Row; 24] = [
 
 /// Tries: lw_target::purpose_of, lw_path::read_path
 #[test]
-fn observations_begin_behind_a_path(rt: HostRuntime) -> Result<(), Fail> {
-    check_rows(rt.alloc(), &OBSERVATIONS)
+fn observations_begin_behind_a_path(rt: HostRuntime) {
+    check_rows(&rt, rt.alloc(), &OBSERVATIONS);
 }
 
 /// Whether commands are taken, a method and a target, and what they come to.
@@ -173,7 +155,7 @@ const WITH_POST: &str = "405 method not allowed: GET, HEAD, POST";
 
 const WITH_DELETE: &str = "405 method not allowed: GET, HEAD, DELETE";
 
-const OTHER_METHODS: [MethodRow; 18] = [
+static OTHER_METHODS: [MethodRow; 18] = [
     (Commands::On, Method::Post, "/", ONLY_GET),
     (Commands::On, Method::Delete, "/v1/ids/none", ONLY_GET),
     (Commands::On, Method::Other, "/v1/health?x=1", ONLY_GET),
@@ -246,14 +228,13 @@ const OTHER_METHODS: [MethodRow; 18] = [
 
 /// Tries: lw_target::purpose_of, lw_target::Allowed::text
 #[test]
-fn a_resource_has_the_methods_that_are_told(rt: HostRuntime) -> Result<(), Fail> {
-    for (commands, method, target, want) in OTHER_METHODS {
-        check_with(rt.alloc(), commands, method, target, want)?;
+fn a_resource_has_the_methods_that_are_told(rt: HostRuntime) {
+    for (commands, method, target, want) in &OTHER_METHODS {
+        check(&rt, rt.alloc(), (*commands, *method), target, want);
     }
-    Ok(())
 }
 
-const SEGMENTS: [Row; 19] = [
+static SEGMENTS: [Row; 19] = [
     ("/v1/registrations/urn:imei:1", "of urn:imei:1"),
     ("/v1/registrations/a%2Fb", "of a/b"),
     ("/v1/registrations/a%2fb", "of a/b"),
@@ -277,11 +258,11 @@ const SEGMENTS: [Row; 19] = [
 
 /// Tries: lw_target::purpose_of
 #[test]
-fn a_segment_is_decoded_after_the_path_was_split(rt: HostRuntime) -> Result<(), Fail> {
-    check_rows(rt.alloc(), &SEGMENTS)
+fn a_segment_is_decoded_after_the_path_was_split(rt: HostRuntime) {
+    check_rows(&rt, rt.alloc(), &SEGMENTS);
 }
 
-const NO_SEGMENTS: [Row; 9] = [
+static NO_SEGMENTS: [Row; 9] = [
     ("/v1/ids/0000000000000001", "400 id"),
     ("/v1/ids/00000000000900011", "400 id"),
     ("/v1/ids/000000000009000%", "400 id"),
@@ -295,11 +276,11 @@ const NO_SEGMENTS: [Row; 9] = [
 
 /// Tries: lw_target::purpose_of
 #[test]
-fn a_segment_that_names_nothing_is_refused(rt: HostRuntime) -> Result<(), Fail> {
-    check_rows(rt.alloc(), &NO_SEGMENTS)
+fn a_segment_that_names_nothing_is_refused(rt: HostRuntime) {
+    check_rows(&rt, rt.alloc(), &NO_SEGMENTS);
 }
 
-const LIMITS: [Row; 12] = [
+static LIMITS: [Row; 12] = [
     ("/v1/registrations?limit=1", "1 of all"),
     ("/v1/registrations?limit=256", "256 of all"),
     ("/v1/registrations?limit=0", "400 limit"),
@@ -316,11 +297,11 @@ const LIMITS: [Row; 12] = [
 
 /// Tries: lw_target::purpose_of
 #[test]
-fn a_limit_is_from_1_to_256(rt: HostRuntime) -> Result<(), Fail> {
-    check_rows(rt.alloc(), &LIMITS)
+fn a_limit_is_from_1_to_256(rt: HostRuntime) {
+    check_rows(&rt, rt.alloc(), &LIMITS);
 }
 
-const AFTERS: [Row; 9] = [
+static AFTERS: [Row; 9] = [
     ("/v1/registrations?after=lamp", "64 after lamp"),
     ("/v1/registrations?after=", "64 after "),
     ("/v1/registrations?after=a%26b%3D", "64 after a&b="),
@@ -334,36 +315,37 @@ const AFTERS: [Row; 9] = [
 
 /// Tries: lw_target::purpose_of
 #[test]
-fn a_text_to_begin_behind_is_decoded(rt: HostRuntime) -> Result<(), Fail> {
-    check_rows(rt.alloc(), &AFTERS)
+fn a_text_to_begin_behind_is_decoded(rt: HostRuntime) {
+    check_rows(&rt, rt.alloc(), &AFTERS);
 }
 
-/// Whether a name of so many bytes is taken behind the front of a target.
-fn takes(alloc: Global, front: &str, letter: &str, count: usize) -> Result<bool, Fail> {
-    let name = letter.repeat(alloc, count)?;
-    let target = format!(in alloc; "{front}{name}")?;
-    let got = told(alloc, Commands::Off, Method::Get, target.as_str())?;
-    Ok(!got.as_str().starts_with("400 "))
+/// Whether a name of so many letters is taken behind the front of a target.
+fn takes(rt: &impl Abort, alloc: Global, front: &str, letter: &str, count: usize) -> bool {
+    let name = letter.repeat(alloc, count).expect(rt, "memory");
+    let target = format!(in alloc; "{front}{name}").expect(rt, "memory");
+    let got = told(rt, alloc, (Commands::Off, Method::Get), target.as_str());
+    !got.as_str().starts_with("400 ")
 }
 
-fn has_252_bytes_at_most(alloc: Global, front: &str) -> Result<bool, Fail> {
-    let plain = takes(alloc, front, "x", 252)? && !takes(alloc, front, "x", 253)?;
-    let encoded = takes(alloc, front, "%41", 252)? && !takes(alloc, front, "%41", 253)?;
-    Ok(plain && encoded)
-}
+/// What stands before a name, and what each byte of the name is spelled as.
+static NAMES: [Row; 4] = [
+    ("/v1/registrations/", "x"),
+    ("/v1/registrations/", "%41"),
+    ("/v1/registrations?after=", "x"),
+    ("/v1/registrations?after=", "%41"),
+];
 
 /// Tries: lw_target::purpose_of
 #[test]
-fn names_have_252_bytes_at_most(rt: HostRuntime) -> Result<(), Fail> {
-    for front in ["/v1/registrations/", "/v1/registrations?after="] {
-        if !has_252_bytes_at_most(rt.alloc(), front)? {
-            return Err(Fail::new(front));
-        }
+fn names_have_252_bytes_at_most(rt: HostRuntime) {
+    for (front, letter) in &NAMES {
+        let longest = takes(&rt, rt.alloc(), front, letter, 252);
+        let longer = takes(&rt, rt.alloc(), front, letter, 253);
+        assert!(rt; longest && !longer, "{front}{letter}");
     }
-    Ok(())
 }
 
-const CHANGES: [Row; 12] = [
+static CHANGES: [Row; 12] = [
     ("/v1/changes?since=0", "64 since 0"),
     (
         "/v1/changes?since=18446744073709551615",
@@ -386,11 +368,11 @@ const CHANGES: [Row; 12] = [
 
 /// Tries: lw_target::purpose_of
 #[test]
-fn changes_are_asked_for_since_a_number(rt: HostRuntime) -> Result<(), Fail> {
-    check_rows(rt.alloc(), &CHANGES)
+fn changes_are_asked_for_since_a_number(rt: HostRuntime) {
+    check_rows(&rt, rt.alloc(), &CHANGES);
 }
 
-const NOTIFICATIONS: [Row; 11] = [
+static NOTIFICATIONS: [Row; 11] = [
     ("/v1/notifications?from=0", "64 from 0"),
     (
         "/v1/notifications?from=18446744073709551615",
@@ -412,11 +394,11 @@ const NOTIFICATIONS: [Row; 11] = [
 
 /// Tries: lw_target::purpose_of
 #[test]
-fn notifications_are_asked_for_from_a_number(rt: HostRuntime) -> Result<(), Fail> {
-    check_rows(rt.alloc(), &NOTIFICATIONS)
+fn notifications_are_asked_for_from_a_number(rt: HostRuntime) {
+    check_rows(&rt, rt.alloc(), &NOTIFICATIONS);
 }
 
-const NO_PARAMETERS: [Row; 16] = [
+static NO_PARAMETERS: [Row; 16] = [
     ("/v1/health?", "health"),
     ("/v1/health?a=1", "400 no such parameter"),
     ("/v1/health?limit=1", "400 no such parameter"),
@@ -443,11 +425,11 @@ const NO_PARAMETERS: [Row; 16] = [
 
 /// Tries: lw_target::purpose_of
 #[test]
-fn other_parameters_are_refused(rt: HostRuntime) -> Result<(), Fail> {
-    check_rows(rt.alloc(), &NO_PARAMETERS)
+fn other_parameters_are_refused(rt: HostRuntime) {
+    check_rows(&rt, rt.alloc(), &NO_PARAMETERS);
 }
 
-const SEVERAL: [Row; 6] = [
+static SEVERAL: [Row; 6] = [
     ("/v1/registrations?limit=1&limit=1", "400 a parameter twice"),
     ("/v1/registrations?after=&after=%", "400 a parameter twice"),
     (
@@ -461,6 +443,6 @@ const SEVERAL: [Row; 6] = [
 
 /// Tries: lw_target::purpose_of, lw_target::Refused::status, lw_target::Refused::text
 #[test]
-fn the_first_fault_decides(rt: HostRuntime) -> Result<(), Fail> {
-    check_rows(rt.alloc(), &SEVERAL)
+fn the_first_fault_decides(rt: HostRuntime) {
+    check_rows(&rt, rt.alloc(), &SEVERAL);
 }

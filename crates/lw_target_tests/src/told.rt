@@ -3,8 +3,8 @@
 use lw_reg::Path;
 use lw_target::{Asked, Command, Commands, Method, Purpose, Refused, purpose_of};
 use std::alloc::Global;
-use std::fmt::Write;
-use std::test::Fail;
+use std::fmt::Display;
+use std::process::Abort;
 
 /// The path of a target, and what stands behind its `?`.
 fn parts(target: &str) -> (&str, Option<&str>) {
@@ -14,115 +14,146 @@ fn parts(target: &str) -> (&str, Option<&str>) {
     }
 }
 
+/// Whether commands are taken, and a method.
+type Request = (Commands, Method);
+
 /// What the request is for, or the status code and the text of why it is for nothing.
-pub(crate) fn told(
-    alloc: Global,
-    commands: Commands,
-    method: Method,
-    target: &str,
-) -> Result<String, Fail> {
+pub(crate) fn told(rt: &impl Abort, alloc: Global, request: Request, target: &str) -> String {
+    let (commands, method) = request;
     let (path, query) = parts(target);
-    match purpose_of(alloc, commands, method, path, query)? {
-        Ok(Purpose::Question(asked)) => in_words(alloc, &asked),
-        Ok(Purpose::Command(command)) => command_in_words(alloc, &command),
-        Err(refused) => refusal_in_words(alloc, refused),
+    match purpose_of(alloc, commands, method, path, query).expect(rt, "memory") {
+        Ok(Purpose::Question(asked)) => in_words(rt, alloc, &asked),
+        Ok(Purpose::Command(command)) => command_in_words(rt, alloc, &command),
+        Err(refused) => refusal_in_words(rt, alloc, refused),
     }
 }
 
-fn refusal_in_words(alloc: Global, refused: Refused) -> Result<String, Fail> {
-    let mut text = format!(in alloc; "{} {}", refused.status(), refused.text())?;
-    if let Refused::MethodNotAllowed(allowed) = refused {
-        write!(text, ": {}", allowed.text())?;
-    }
-    Ok(text)
+/// What the request comes to at the target has to be this.
+pub(crate) fn check(rt: &impl Abort, alloc: Global, request: Request, target: &str, want: &str) {
+    let got = told(rt, alloc, request, target);
+    assert!(rt; got.as_str() == want, "{target}: {got}");
 }
 
-fn command_in_words(alloc: Global, command: &Command) -> Result<String, Fail> {
+/// What is shown, as a text.
+fn text<D: Display + Drop>(rt: &impl Abort, alloc: Global, shown: D) -> String {
+    String::format(alloc, shown).expect(rt, "memory")
+}
+
+fn refusal_in_words(rt: &impl Abort, alloc: Global, refused: Refused) -> String {
+    let (status, why) = (refused.status(), refused.text());
+    match refused {
+        Refused::MethodNotAllowed(allowed) => {
+            let methods = allowed.text();
+            text(rt, alloc, format_args!("{status} {why}: {methods}"))
+        }
+        _ => text(rt, alloc, format_args!("{status} {why}")),
+    }
+}
+
+fn command_in_words(rt: &impl Abort, alloc: Global, command: &Command) -> String {
     match command {
         Command::Observe {
             endpoint,
             path,
             accept,
         } => {
-            let mut text = format!(in alloc; "observe {}", endpoint.as_str())?;
-            write_numbers(&mut text, path)?;
-            if let Some(accept) = accept {
-                write!(text, " in {accept}")?;
+            let endpoint = endpoint.as_str();
+            let numbers = numbers(rt, alloc, path);
+            match accept {
+                Some(accept) => text(
+                    rt,
+                    alloc,
+                    format_args!("observe {endpoint}{numbers} in {accept}"),
+                ),
+                None => text(rt, alloc, format_args!("observe {endpoint}{numbers}")),
             }
-            Ok(text)
         }
-        Command::Cancel { token } => Ok(format!(in alloc;
-            "cancel {} {}",
-            token.counter, token.node
-        )?),
+        Command::Cancel { token } => text(
+            rt,
+            alloc,
+            format_args!("cancel {} {}", token.counter, token.node),
+        ),
     }
 }
 
-fn write_numbers(text: &mut String, path: &Path) -> Result<(), Fail> {
+/// The numbers of a path, each behind a space.
+fn numbers(rt: &impl Abort, alloc: Global, path: &Path) -> String {
+    let mut numbers = String::new(alloc);
     for number in path.numbers() {
-        write!(text, " {number}")?;
+        let one = text(rt, alloc, format_args!(" {number}"));
+        numbers.push_str(one.as_str()).expect(rt, "memory");
     }
-    Ok(())
+    numbers
 }
 
-fn in_words(alloc: Global, asked: &Asked) -> Result<String, Fail> {
+fn in_words(rt: &impl Abort, alloc: Global, asked: &Asked) -> String {
     match asked {
-        Asked::Page => Ok(String::from_str(alloc, "page")?),
-        Asked::Health => Ok(String::from_str(alloc, "health")?),
-        Asked::Node => Ok(String::from_str(alloc, "node")?),
-        Asked::Metrics => Ok(String::from_str(alloc, "metrics")?),
         Asked::Registrations { after, limit } => match after {
-            Some(after) => Ok(format!(in alloc; "{limit} after {}", after.as_str())?),
-            None => Ok(format!(in alloc; "{limit} of all")?),
+            Some(after) => text(rt, alloc, format_args!("{limit} after {}", after.as_str())),
+            None => text(rt, alloc, format_args!("{limit} of all")),
         },
         Asked::Changes {
             since,
             start,
             limit,
         } => match start {
-            Some(start) => Ok(format!(in alloc; "{limit} since {since} of {start}")?),
-            None => Ok(format!(in alloc; "{limit} since {since}")?),
+            Some(start) => text(rt, alloc, format_args!("{limit} since {since} of {start}")),
+            None => text(rt, alloc, format_args!("{limit} since {since}")),
         },
         Asked::Notifications { from, start, limit } => match start {
-            Some(start) => Ok(format!(in alloc; "{limit} from {from} of {start}")?),
-            None => Ok(format!(in alloc; "{limit} from {from}")?),
+            Some(start) => text(rt, alloc, format_args!("{limit} from {from} of {start}")),
+            None => text(rt, alloc, format_args!("{limit} from {from}")),
         },
         Asked::Observations {
             endpoint,
             after,
             limit,
-        } => observed_in_words(alloc, endpoint.as_str(), after, *limit),
-        _ => one_in_words(alloc, asked),
+        } => observed_in_words(rt, alloc, endpoint.as_str(), after, *limit),
+        _ => one_in_words(rt, alloc, asked),
     }
 }
 
 fn observed_in_words(
+    rt: &impl Abort,
     alloc: Global,
     endpoint: &str,
     after: &Option<Path>,
     limit: usize,
-) -> Result<String, Fail> {
-    let mut text = format!(in alloc; "{limit} of {endpoint}")?;
-    let Some(path) = after else {
-        return Ok(text);
-    };
-    text.push_str(" behind")?;
-    write_numbers(&mut text, path)?;
-    Ok(text)
+) -> String {
+    match after {
+        Some(path) => {
+            let numbers = numbers(rt, alloc, path);
+            text(
+                rt,
+                alloc,
+                format_args!("{limit} of {endpoint} behind{numbers}"),
+            )
+        }
+        None => text(rt, alloc, format_args!("{limit} of {endpoint}")),
+    }
 }
 
-fn one_in_words(alloc: Global, asked: &Asked) -> Result<String, Fail> {
+fn one_in_words(rt: &impl Abort, alloc: Global, asked: &Asked) -> String {
     match asked {
-        Asked::Registration { endpoint } => Ok(format!(in alloc; "of {}", endpoint.as_str())?),
-        Asked::ById { id } => Ok(format!(in alloc; "id {} {}", id.counter, id.node)?),
-        Asked::ByToken { token } => Ok(format!(in alloc;
-            "token {} {}",
-            token.counter, token.node
-        )?),
-        Asked::ByAddress { address } => Ok(format!(in alloc;
-            "at {}",
-            address.print(alloc)?.as_str()
-        )?),
-        _ => Err(Fail::from("one registration or observation")),
+        Asked::Registration { endpoint } => text(
+            rt,
+            alloc,
+            format_args!("of {}", endpoint.as_str()),
+        ),
+        Asked::ById { id } => text(rt, alloc, format_args!("id {} {}", id.counter, id.node)),
+        Asked::ByToken { token } => text(
+            rt,
+            alloc,
+            format_args!("token {} {}", token.counter, token.node),
+        ),
+        Asked::ByAddress { address } => {
+            let printed = address.print(alloc).expect(rt, "memory");
+            text(rt, alloc, format_args!("at {}", printed.as_str()))
+        }
+        Asked::Page => text(rt, alloc, "page"),
+        Asked::Health => text(rt, alloc, "health"),
+        Asked::Node => text(rt, alloc, "node"),
+        Asked::Metrics => text(rt, alloc, "metrics"),
+        _ => text(rt, alloc, "one registration or observation"),
     }
 }

@@ -1,15 +1,13 @@
 //! Visits that change something.
 
-use crate::hold::same;
-use crate::stage::{Row, TOKEN, are_sent, guard_of, is_sent, is_sent_with, sent};
+use crate::stage::{Row, Stage, TOKEN};
 use lw_target::Commands;
-use lw_visit::Guard;
-use std::str;
-use std::test::Fail;
+use std::alloc::Global;
+use std::process::Abort;
 
 const CREATED: &str = "content-type: application/json\r\ncontent-length: 3\r\n";
 
-const CARRIED_OUT: [Row<'static>; 5] = [
+static CARRIED_OUT: [Row<'static>; 5] = [
     (
         "POST /v1/registrations/a/observations?path=/3/0 HTTP/1.1\r\nhost: localhost\r\n\r\n",
         "201 Created",
@@ -44,30 +42,23 @@ const CARRIED_OUT: [Row<'static>; 5] = [
 
 /// Tries: visit
 #[test]
-fn what_a_desk_does(rt: HostRuntime) -> Result<(), Fail> {
-    let guard = guard_of(rt.alloc(), None, Commands::On)?;
-    for row in CARRIED_OUT {
-        is_sent_with(&rt, &guard, 1, row)?;
-    }
-    Ok(())
+fn what_a_desk_does(rt: HostRuntime) {
+    let stage = Stage::new(&rt, rt.alloc(), None, Commands::On);
+    stage.are_sent(&rt, 1, &CARRIED_OUT);
 }
 
 /// A command is carried out though there is no memory to tell of it.
 /// Tries: visit
 #[test]
-fn what_a_desk_cannot_tell_of(rt: HostRuntime) -> Result<(), Fail> {
-    let guard = guard_of(rt.alloc(), None, Commands::On)?;
+fn what_a_desk_cannot_tell_of(rt: HostRuntime) {
+    let stage = Stage::new(&rt, rt.alloc(), None, Commands::On);
     let request = "DELETE /v1/tokens/0000000000010007 HTTP/1.1\r\nhost: localhost\r\n\r\n";
-    let (bytes, commands) = sent(&rt, &guard, request)?;
-    if commands != 1 {
-        return Err(Fail::new("carried out once"));
-    }
     let want = "HTTP/1.1 503 Service Unavailable\r\ncontent-length: 0\r\n\r\n";
-    same(str::from_utf8(&bytes)?, want)
+    stage.is_text(&rt, 1, request, want);
 }
 
 /// Fields of requests from another site, where the host is `localhost`.
-const OTHER_SITES: [&str; 12] = [
+static OTHER_SITES: [&str; 12] = [
     "origin: null\r\n",
     "origin:\r\n",
     "origin: http://evil.example\r\n",
@@ -86,35 +77,37 @@ const FORBIDDEN: &str = "content-type: application/json\r\ncontent-length: 29\r\
 
 const FROM_ANOTHER_SITE: &str = r#"{"error":"from another site"}"#;
 
-fn is_forbidden(rt: &HostRuntime, guard: &Guard, line: &str, fields: &str) -> Result<(), Fail> {
-    let request = format!(in rt.alloc(); "{line} HTTP/1.1\r\nhost: localhost\r\n{fields}\r\n")?;
+/// What another site would change.
+static CHANGES: [&str; 2] = [
+    "POST /v1/registrations/a/observations?path=/3",
+    "DELETE /v1/tokens/none?x",
+];
+
+fn is_forbidden(rt: &impl Abort, alloc: Global, stage: &Stage, line: &str, fields: &str) {
+    let request = format!(in alloc; "{line} HTTP/1.1\r\nhost: localhost\r\n{fields}\r\n");
+    let request = request.expect(rt, "memory");
     let row = (
         request.as_str(),
         "403 Forbidden",
         FORBIDDEN,
         FROM_ANOTHER_SITE,
     );
-    is_sent(rt, guard, row)
+    stage.is_sent(rt, 0, &row);
 }
 
 /// Tries: visit
 #[test]
-fn what_another_site_would_change(rt: HostRuntime) -> Result<(), Fail> {
-    let guard = guard_of(rt.alloc(), None, Commands::On)?;
-    for fields in OTHER_SITES {
-        is_forbidden(
-            &rt,
-            &guard,
-            "POST /v1/registrations/a/observations?path=/3",
-            fields,
-        )?;
-        is_forbidden(&rt, &guard, "DELETE /v1/tokens/none?x", fields)?;
+fn what_another_site_would_change(rt: HostRuntime) {
+    let stage = Stage::new(&rt, rt.alloc(), None, Commands::On);
+    for fields in &OTHER_SITES {
+        for line in &CHANGES {
+            is_forbidden(&rt, rt.alloc(), &stage, line, fields);
+        }
     }
-    Ok(())
 }
 
 /// Requests with several faults, of which the first one counts. The guard has a token.
-const FAULTS: [Row<'static>; 8] = [
+static FAULTS: [Row<'static>; 8] = [
     (
         "POST /v1/registrations/a/observations HTTP/1.1\r\nhost: evil.example\r\norigin: null\r\n\r\n",
         "421 Misdirected Request",
@@ -167,13 +160,13 @@ const FAULTS: [Row<'static>; 8] = [
 
 /// Tries: visit
 #[test]
-fn the_first_fault_counts(rt: HostRuntime) -> Result<(), Fail> {
-    let guard = guard_of(rt.alloc(), Some(TOKEN), Commands::On)?;
-    are_sent(&rt, &guard, &FAULTS)
+fn the_first_fault_counts(rt: HostRuntime) {
+    let stage = Stage::new(&rt, rt.alloc(), Some(TOKEN), Commands::On);
+    stage.are_sent(&rt, 0, &FAULTS);
 }
 
 /// What asks and changes nothing may come from anywhere, and where commands are not taken nothing is changed.
-const NO_COMMANDS: [Row<'static>; 3] = [
+static NO_COMMANDS: [Row<'static>; 3] = [
     (
         "GET /v1/health HTTP/1.1\r\nhost: localhost\r\norigin: null\r\n\r\n",
         "200 OK",
@@ -196,7 +189,7 @@ const NO_COMMANDS: [Row<'static>; 3] = [
 
 /// Tries: visit
 #[test]
-fn what_changes_nothing(rt: HostRuntime) -> Result<(), Fail> {
-    let guard = guard_of(rt.alloc(), None, Commands::Off)?;
-    are_sent(&rt, &guard, &NO_COMMANDS)
+fn what_changes_nothing(rt: HostRuntime) {
+    let stage = Stage::new(&rt, rt.alloc(), None, Commands::Off);
+    stage.are_sent(&rt, 0, &NO_COMMANDS);
 }

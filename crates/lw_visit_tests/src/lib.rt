@@ -4,8 +4,6 @@
 #[cfg(test)]
 mod commands;
 #[cfg(test)]
-mod hold;
-#[cfg(test)]
 mod stage;
 #[cfg(test)]
 mod tokens;

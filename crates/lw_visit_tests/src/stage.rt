@@ -1,13 +1,13 @@
 //! A desk, and what is sent for it.
 
-use crate::hold::same;
 use lw_stamp::NoMemory;
 use lw_target::{Answer, Asked, Command, Commands, Desk, Media, Status};
 use lw_visit::{Guard, visit};
 use std::alloc::Global;
 use std::hash::RandomState;
+use std::process::Abort;
+use std::random::RandomSource;
 use std::str;
-use std::test::Fail;
 
 /// The token of a guard that has one.
 pub(crate) const TOKEN: &str = "0123456789abcdef";
@@ -69,69 +69,79 @@ const ALWAYS: &str =
 /// the body.
 pub(crate) type Row<'a> = (&'a str, &'a str, &'a str, &'a str);
 
-/// What is sent back to the bytes, and how many commands the desk has carried out.
-pub(crate) fn sent(
-    rt: &HostRuntime,
-    guard: &Guard,
-    request: &str,
-) -> Result<(Vec<u8>, usize), Fail> {
-    let desk = ByKind {
-        alloc: rt.alloc(),
-        commands: 0,
-    };
-    let mut sent = Vec::new(rt.alloc());
-    let keys = RandomState::new(rt)?;
-    let (desk, ended) = visit(
-        rt.alloc(),
-        keys,
-        desk,
-        guard,
-        &mut request.as_bytes(),
-        &mut sent,
-    );
-    ended?;
-    Ok((sent, desk.commands))
-}
-
-/// Whether the response is sent, and so many commands are carried out.
-pub(crate) fn is_sent_with(
-    rt: &HostRuntime,
-    guard: &Guard,
-    commands: usize,
-    row: Row<'_>,
-) -> Result<(), Fail> {
-    let (request, status, fields, body) = row;
-    let (sent, carried_out) = sent(rt, guard, request)?;
-    if carried_out != commands {
-        return Err(Fail::new(format_args!("{request}: {carried_out} commands")));
-    }
-    let wanted = format!(in rt.alloc(); "HTTP/1.1 {status}\r\n{ALWAYS}{fields}\r\n{body}")?;
-    same(str::from_utf8(&sent)?, wanted.as_str())
-}
-
-pub(crate) fn is_sent(rt: &HostRuntime, guard: &Guard, row: Row<'_>) -> Result<(), Fail> {
-    is_sent_with(rt, guard, 0, row)
-}
-
-pub(crate) fn are_sent(rt: &HostRuntime, guard: &Guard, rows: &[Row<'_>]) -> Result<(), Fail> {
-    for row in rows {
-        is_sent(rt, guard, *row)?;
-    }
-    Ok(())
-}
-
-pub(crate) fn guard_of(
+/// A guard, and the keys with which fields are hashed.
+#[derive(Drop)]
+pub(crate) struct Stage {
     alloc: Global,
-    token: Option<&str>,
-    commands: Commands,
-) -> Result<Guard, Fail> {
-    let token = match token {
-        None => None,
-        Some(token) => Some(String::from_str(alloc, token)?.into_bytes()),
-    };
-    Ok(Guard {
-        token,
-        host: Some(String::from_str(alloc, "fleet.example")?),
-        commands,
-    })
+    keys: RandomState,
+    guard: Guard,
+}
+
+impl Stage {
+    /// A stage whose guard has the host `fleet.example`, and a token where one is given.
+    pub(crate) fn new<R: Abort + RandomSource>(
+        rt: &R,
+        alloc: Global,
+        token: Option<&str>,
+        commands: Commands,
+    ) -> Stage {
+        let keys = RandomState::new(rt).expect(rt, "keys");
+        let host = String::from_str(alloc, "fleet.example").expect(rt, "memory");
+        let token = match token {
+            None => None,
+            Some(token) => Some(token.as_bytes().to_vec(alloc).expect(rt, "memory")),
+        };
+        let guard = Guard {
+            token,
+            host: Some(host),
+            commands,
+        };
+        Stage { alloc, keys, guard }
+    }
+
+    /// What is sent back to the request, and how many commands a new desk has carried out.
+    fn sent(&self, rt: &impl Abort, request: &str) -> (Vec<u8>, usize) {
+        let desk = ByKind {
+            alloc: self.alloc,
+            commands: 0,
+        };
+        let mut sent = Vec::new(self.alloc);
+        let mut reader = request.as_bytes();
+        let (desk, ended) = visit(
+            self.alloc,
+            self.keys,
+            desk,
+            &self.guard,
+            &mut reader,
+            &mut sent,
+        );
+        ended.expect(rt, "a visit");
+        (sent, desk.commands)
+    }
+
+    /// The response has to be the text, and so many commands carried out.
+    pub(crate) fn is_text(&self, rt: &impl Abort, commands: usize, request: &str, want: &str) {
+        let (sent, carried_out) = self.sent(rt, request);
+        assert!(rt;
+            carried_out == commands,
+            "{request}: {carried_out} commands"
+        );
+        let text = str::from_utf8(&sent).expect(rt, "a text");
+        assert!(rt; text == want, "{request}: {text} and not {want}");
+    }
+
+    /// The response has to be that of the row, and so many commands carried out.
+    pub(crate) fn is_sent(&self, rt: &impl Abort, commands: usize, row: &Row<'_>) {
+        let (request, status, fields, body) = *row;
+        let want = format!(in self.alloc; "HTTP/1.1 {status}\r\n{ALWAYS}{fields}\r\n{body}");
+        let want = want.expect(rt, "memory");
+        self.is_text(rt, commands, request, want.as_str());
+    }
+
+    /// The response has to be that of each row, and so many commands carried out at each.
+    pub(crate) fn are_sent(&self, rt: &impl Abort, commands: usize, rows: &[Row<'_>]) {
+        for row in rows {
+            self.is_sent(rt, commands, row);
+        }
+    }
 }

@@ -1,10 +1,9 @@
 //! The token in a file.
 
 use lw_visit::token_in;
-use std::test::Fail;
 
 /// The text of a file, and the token in it; `-` where there is none.
-const ROWS: [(&str, &str); 12] = [
+static ROWS: [(&str, &str); 12] = [
     ("0123456789abcdef", "0123456789abcdef"),
     ("0123456789abcdef\n", "0123456789abcdef"),
     ("0123456789abcdef\r\n", "0123456789abcdef"),
@@ -28,13 +27,10 @@ fn is_token(text: &str, want: &str) -> bool {
 
 /// Tries: token_in
 #[test]
-fn tokens_of_files(_rt: HostRuntime) -> Result<(), Fail> {
+fn tokens_of_files(rt: HostRuntime) {
     for (text, want) in &ROWS {
-        if !is_token(text, want) {
-            return Err(Fail::new(text));
-        }
+        assert!(rt; is_token(text, want), "{text}");
     }
-    Ok(())
 }
 
 /// Whether as many characters are a token.
@@ -45,9 +41,8 @@ fn is_long_token(length: usize) -> bool {
 
 /// Tries: token_in
 #[test]
-fn the_longest_token(_rt: HostRuntime) -> Result<(), Fail> {
-    if is_long_token(256) && !is_long_token(257) && !is_long_token(300) {
-        return Ok(());
-    }
-    Err(Fail::new("the longest token"))
+fn the_longest_token(rt: HostRuntime) {
+    assert!(rt; is_long_token(256));
+    assert!(rt; !is_long_token(257));
+    assert!(rt; !is_long_token(300));
 }

@@ -1,11 +1,11 @@
 //! Visits over a reader and a writer in memory.
 
-use crate::stage::{Row, TOKEN, are_sent, guard_of, is_sent};
+use crate::stage::{Row, Stage, TOKEN};
 use lw_target::Commands;
-use lw_visit::Guard;
-use std::test::Fail;
+use std::alloc::Global;
+use std::process::Abort;
 
-const TOLD: [Row<'static>; 8] = [
+static TOLD: [Row<'static>; 8] = [
     (
         "GET / HTTP/1.1\r\nhost: localhost\r\n\r\n",
         "200 OK",
@@ -56,7 +56,7 @@ const TOLD: [Row<'static>; 8] = [
     ),
 ];
 
-const REFUSED: [Row<'static>; 7] = [
+static REFUSED: [Row<'static>; 7] = [
     (
         "GET /v1/health HTTP/1.1\r\nhost: evil.example\r\n\r\n",
         "421 Misdirected Request",
@@ -107,7 +107,7 @@ const UNAUTHORIZED: &str =
 const A_TOKEN_IS_NEEDED: &str = r#"{"error":"a token is needed"}"#;
 
 /// The token of the guard is `0123456789abcdef`.
-const WITH_TOKEN: [Row<'static>; 6] = [
+static WITH_TOKEN: [Row<'static>; 6] = [
     (
         "GET /v1/node HTTP/1.1\r\nhost: localhost\r\nauthorization: Bearer 0123456789abcdef\r\n\r\n",
         "503 Service Unavailable",
@@ -147,7 +147,7 @@ const WITH_TOKEN: [Row<'static>; 6] = [
 ];
 
 /// Fields of requests that do not bring the token.
-const WITHOUT_TOKEN: [&str; 9] = [
+static WITHOUT_TOKEN: [&str; 9] = [
     "",
     "authorization: 0123456789abcdef\r\n",
     "authorization: Basic 0123456789abcdef\r\n",
@@ -161,55 +161,57 @@ const WITHOUT_TOKEN: [&str; 9] = [
 
 /// Tries: visit
 #[test]
-fn what_a_desk_tells(rt: HostRuntime) -> Result<(), Fail> {
-    let guard = guard_of(rt.alloc(), None, Commands::Off)?;
-    are_sent(&rt, &guard, &TOLD)
+fn what_a_desk_tells(rt: HostRuntime) {
+    let stage = Stage::new(&rt, rt.alloc(), None, Commands::Off);
+    stage.are_sent(&rt, 0, &TOLD);
 }
 
 /// Tries: visit
 #[test]
-fn what_asks_for_nothing(rt: HostRuntime) -> Result<(), Fail> {
-    let guard = guard_of(rt.alloc(), None, Commands::Off)?;
-    are_sent(&rt, &guard, &REFUSED)
+fn what_asks_for_nothing(rt: HostRuntime) {
+    let stage = Stage::new(&rt, rt.alloc(), None, Commands::Off);
+    stage.are_sent(&rt, 0, &REFUSED);
 }
 
 /// Tries: visit
 #[test]
-fn what_brings_the_token_or_needs_none(rt: HostRuntime) -> Result<(), Fail> {
-    let guard = guard_of(rt.alloc(), Some(TOKEN), Commands::Off)?;
-    are_sent(&rt, &guard, &WITH_TOKEN)
+fn what_brings_the_token_or_needs_none(rt: HostRuntime) {
+    let stage = Stage::new(&rt, rt.alloc(), Some(TOKEN), Commands::Off);
+    stage.are_sent(&rt, 0, &WITH_TOKEN);
 }
 
-fn is_unauthorized(rt: &HostRuntime, guard: &Guard, fields: &str) -> Result<(), Fail> {
-    let request = format!(in rt.alloc();
-        "GET /v1/node HTTP/1.1\r\nhost: localhost\r\n{fields}\r\n"
-    )?;
+fn is_unauthorized(rt: &impl Abort, alloc: Global, stage: &Stage, fields: &str) {
+    let request = format!(in alloc; "GET /v1/node HTTP/1.1\r\nhost: localhost\r\n{fields}\r\n");
+    let request = request.expect(rt, "memory");
     let row = (
         request.as_str(),
         "401 Unauthorized",
         UNAUTHORIZED,
         A_TOKEN_IS_NEEDED,
     );
-    is_sent(rt, guard, row)
+    stage.is_sent(rt, 0, &row);
 }
 
 /// Tries: visit
 #[test]
-fn what_does_not_bring_the_token(rt: HostRuntime) -> Result<(), Fail> {
-    let guard = guard_of(rt.alloc(), Some(TOKEN), Commands::Off)?;
+fn what_does_not_bring_the_token(rt: HostRuntime) {
+    let stage = Stage::new(&rt, rt.alloc(), Some(TOKEN), Commands::Off);
     for fields in &WITHOUT_TOKEN {
-        is_unauthorized(&rt, &guard, fields)?;
+        is_unauthorized(&rt, rt.alloc(), &stage, fields);
     }
-    Ok(())
 }
 
-/// Two requests at once, of which the first is answered; one with a body; and half a one.
+/// Two requests at once, of which the first is answered.
+static TWO: [Row<'static>; 1] = [(
+    "GET /v1/health HTTP/1.1\r\nhost: localhost\r\n\r\nGET /metrics HTTP/1.1\r\nhost: localhost\r\n\r\n",
+    "200 OK",
+    "content-type: application/json\r\ncontent-length: 2\r\n",
+    "{}",
+)];
+
 /// Tries: visit
 #[test]
-fn one_request_a_visit(rt: HostRuntime) -> Result<(), Fail> {
-    let guard = guard_of(rt.alloc(), None, Commands::Off)?;
-    let two =
-        "GET /v1/health HTTP/1.1\r\nhost: localhost\r\n\r\nGET /metrics HTTP/1.1\r\nhost: localhost\r\n\r\n";
-    let fields = "content-type: application/json\r\ncontent-length: 2\r\n";
-    is_sent(&rt, &guard, (two, "200 OK", fields, "{}"))
+fn one_request_a_visit(rt: HostRuntime) {
+    let stage = Stage::new(&rt, rt.alloc(), None, Commands::Off);
+    stage.are_sent(&rt, 0, &TWO);
 }

@@ -1,16 +1,15 @@
 //! What the tests start from.
 
 use lw_node::Node;
-use lw_reg::{Addr, Path};
+use lw_reg::Addr;
 use lw_stamp::{Moment, Stamp};
-use std::alloc::Global;
-use std::test::Fail;
+use std::process::Abort;
 
 /// A Register of `a` with the object list `</>`, message ID 4.
-pub(crate) const REGISTER: &str = "40020004b272644465703d61ff3c2f3e";
+pub(crate) const REGISTER: &[u8] = b"\x40\x02\x00\x04\xb2rd\x44ep=a\xff</>";
 
 /// A Register of `b`, message ID 5.
-pub(crate) const REGISTER_B: &str = "40020005b272644465703d62ff3c2f3e";
+pub(crate) const REGISTER_B: &[u8] = b"\x40\x02\x00\x05\xb2rd\x44ep=b\xff</>";
 
 /// Where the devices are.
 pub(crate) const HOME: Addr = Addr::V4 {
@@ -24,29 +23,8 @@ pub(crate) const FIRST: Stamp = Stamp {
     node: 1,
 };
 
-/// Fails with the text where it is not so.
-pub(crate) fn holds(what: &str, is_so: bool) -> Result<(), Fail> {
-    if is_so {
-        return Ok(());
-    }
-    Err(Fail::new(what))
-}
-
-/// The bytes that the text spells in hex.
-pub(crate) fn bytes(alloc: Global, text: &str) -> Result<Vec<u8>, Fail> {
-    Ok(hex::decode(alloc, text)?)
-}
-
 /// The node takes a Register at the start.
-pub(crate) fn register(alloc: Global, node: &mut Node, text: &str) -> Result<(), Fail> {
-    node.take(Moment::START, HOME, &bytes(alloc, text)?)?;
-    Ok(())
-}
-
-/// The path `/3/0`.
-pub(crate) fn device() -> Result<Path, Fail> {
-    match Path::new(&[3, 0]) {
-        Some(path) => Ok(path),
-        None => Err("a path".into()),
-    }
+pub(crate) fn register(rt: &impl Abort, node: &mut Node, datagram: &[u8]) {
+    let taken = node.take(Moment::START, HOME, datagram);
+    drop(taken.expect(rt, "memory"));
 }

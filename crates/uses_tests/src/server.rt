@@ -1,13 +1,13 @@
 //! A server around a node.
 
 use crate::callers::has_names;
-use crate::given::{FIRST, HOME, REGISTER, bytes, device, holds};
+use crate::given::{FIRST, HOME, REGISTER};
 use lw_call::{Notice, ObserveFault};
 use lw_node::Node;
-use lw_reg::{Addr, View};
+use lw_reg::{Addr, Path, View};
 use lw_stamp::{Moment, Stamp};
 use std::alloc::Global;
-use std::test::Fail;
+use std::process::Abort;
 use uses::{Fault, Server, Wish, ten_lines};
 
 /// Counts what it is asked to do, and keeps where the last datagram went.
@@ -34,59 +34,52 @@ impl Server for Counting {
     }
 }
 
-fn idle_server() -> Counting {
-    Counting {
+/// A Register of `a`, then a wish to observe at this identifier. Gives what comes of it, and what was done.
+fn in_ten_lines(
+    rt: &impl Abort,
+    alloc: Global,
+    peer: &mut Node,
+    id: Stamp,
+) -> (Result<u64, Fault>, Counting) {
+    let mut server = Counting {
         sent: 0,
         told: 0,
         shown: 0,
         last: None,
-    }
-}
-
-/// A Register of `a`, then a wish to observe at this identifier.
-fn in_ten_lines(
-    alloc: Global,
-    server: &mut Counting,
-    peer: &mut Node,
-    id: Stamp,
-) -> Result<Result<u64, Fault>, Fail> {
-    let datagram = bytes(alloc, REGISTER)?;
+    };
     let wish = Wish {
         now: Moment::START,
         from: HOME,
-        datagram: &datagram,
+        datagram: REGISTER,
         id,
-        path: device()?,
+        path: Path::new(&[3, 0]).expect(rt, "a path"),
         mid: 1,
     };
-    Ok(ten_lines(alloc, server, peer, 0, &wish))
+    let next = ten_lines(alloc, &mut server, peer, 0, &wish);
+    (next, server)
 }
 
-/// Whether it has sent a reply and a request to the device, and shown it once.
-fn has_served(server: &Counting) -> bool {
-    server.sent == 2 && server.last == Some(HOME) && server.shown == 1 && server.told == 0
-}
-
+/// It has sent a reply and a request to the device, and shown it once.
 /// Tries: ten_lines
 #[test]
-fn ten_lines_do_it(rt: HostRuntime) -> Result<(), Fail> {
-    let mut server = idle_server();
+fn ten_lines_do_it(rt: HostRuntime) {
     let mut peer = Node::new(rt.alloc(), 8);
     let id = Stamp {
         counter: 1,
         node: 7,
     };
-    let next = in_ten_lines(rt.alloc(), &mut server, &mut peer, id)?;
-    holds("what was sent", next == Ok(2) && has_served(&server))?;
-    has_names(rt.alloc(), &peer, &["a"])
+    let (next, server) = in_ten_lines(&rt, rt.alloc(), &mut peer, id);
+    assert!(rt; next == Ok(2));
+    assert_eq!(rt; (server.sent, server.told, server.shown), (2, 0, 1));
+    assert!(rt; server.last == Some(HOME));
+    has_names(&rt, rt.alloc(), &peer, &["a"]);
 }
 
 /// Tries: ten_lines
 #[test]
-fn ten_lines_find_no_stranger(rt: HostRuntime) -> Result<(), Fail> {
-    let mut server = idle_server();
+fn ten_lines_find_no_stranger(rt: HostRuntime) {
     let mut peer = Node::new(rt.alloc(), 8);
-    let refused = in_ten_lines(rt.alloc(), &mut server, &mut peer, FIRST)?;
-    let stranger = Err(Fault::NotObserved(ObserveFault::NotFound));
-    holds("not found", refused == stranger && server.sent == 1)
+    let (refused, server) = in_ten_lines(&rt, rt.alloc(), &mut peer, FIRST);
+    assert!(rt; refused == Err(Fault::NotObserved(ObserveFault::NotFound)));
+    assert_eq!(rt; server.sent, 1);
 }
