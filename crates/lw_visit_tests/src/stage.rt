@@ -65,8 +65,8 @@ impl Desk for ByKind {
 const ALWAYS: &str =
     "connection: close\r\ncache-control: no-store\r\nx-content-type-options: nosniff\r\n";
 
-/// The line and the fields of a request; the status of its response, the fields that come behind those that each has, and
-/// the body.
+/// The line and the fields of a request; the status of its response, the fields that come behind those that each has,
+/// and the body.
 pub(crate) type Row<'a> = (&'a str, &'a str, &'a str, &'a str);
 
 /// A guard, and the keys with which fields are hashed.
