@@ -1,6 +1,6 @@
 use Rattle.std.proofs.Common.{refl}
 use Rattle.std.proofs.lemmas.Option.{slice_get_read}
-use Rattle.lw_serve_tests.proofs.held.cutting.has_shelf.Goals as goal
+use Rattle.lw_serve_tests.proofs.held.shelves.has_shelf.Goals as goal
 
 pub returns-then-is_of : goal.returns-then-is_of
 returns-then-is_of c =
