@@ -2,11 +2,11 @@ mod gates;
 mod gathering;
 mod serving;
 
-use crate::calls::What::Takes;
+use crate::calls::What::{ByEndpoint, Takes};
 use crate::calls::{REGISTER, What, reply_text};
-use crate::held::settle_with;
+use crate::held::{calls, settle_with, settles_so};
 use lw_crew::{Crew, CrewFault, Done, Gate, Job, JobOutcome, Pass, Sharing, gather};
-use lw_held::set_up;
+use lw_held::{Settled, Unsettled, set_up};
 use std::alloc::Global;
 use std::process::Abort;
 use std::sync::Wait;

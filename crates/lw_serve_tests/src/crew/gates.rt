@@ -116,38 +116,36 @@ fn notes<R: Abort>(rt: &R, alloc: Global) -> Notes {
     notes
 }
 
-impl<R: Clock + Abort + Sync> Rounds<'_, R> {
-    /// The first job of the round in which so many came before.
-    fn first_of_round(&self, before: u64) -> u64 {
-        match before.checked_rem(self.width) {
-            Some(place) => before.wrapping_sub(place),
-            None => before,
+/// The first job of the round of that width in which so many came before.
+fn first_of_round(width: u64, before: u64) -> u64 {
+    match before.checked_rem(width) {
+        Some(place) => before.wrapping_sub(place),
+        None => before,
+    }
+}
+
+/// Counts one, and waits until all of its round are counted. Gives how many there were before the round.
+fn meet<R: Clock + Abort>(rt: &R, width: u64, count: &AtomicU64) -> u64 {
+    let first = first_of_round(width, add_one(count));
+    wait_for(rt, count, first.wrapping_add(width));
+    first
+}
+
+/// For how many jobs the note is of the pass that made the call, which was done in its round.
+fn of_pass(notes: &Notes, width: u64, dones: &[Done]) -> u64 {
+    let mut count = 0_u64;
+    for done in dones {
+        if let (Some(note), JobOutcome::At { pass, number }) = (
+            notes.get(done.job as usize),
+            done.result,
+        )
+            && done.job.checked_div(width) == Some(number)
+            && note.load(Ordering::SeqCst) == u64::from(pass).wrapping_add(1)
+        {
+            count = count.wrapping_add(1);
         }
     }
-
-    /// Counts one, and waits until all of its round are counted. Gives how many there were before the round.
-    fn meet(&self, count: &AtomicU64) -> u64 {
-        let first = self.first_of_round(add_one(count));
-        wait_for(self.rt, count, first.wrapping_add(self.width));
-        first
-    }
-
-    /// For how many jobs the note is of the pass that made the call, which was done in its round.
-    fn of_pass(&self, notes: &Notes, dones: &[Done]) -> u64 {
-        let mut count = 0_u64;
-        for done in dones {
-            if let (Some(note), JobOutcome::At { pass, number }) = (
-                notes.get(done.job as usize),
-                done.result,
-            )
-                && done.job.checked_div(self.width) == Some(number)
-                && note.load(Ordering::SeqCst) == u64::from(pass).wrapping_add(1)
-            {
-                count = count.wrapping_add(1);
-            }
-        }
-        count
-    }
+    count
 }
 
 /// The job at the node in the round of the first job.
@@ -157,21 +155,21 @@ fn job_at(first: u64, node: u16) -> u64 {
 
 impl<R: Clock + Abort + Sync> Gate for Rounds<'_, R> {
     fn start(&self, worker: u32, job: u64) -> bool {
-        let first = self.meet(&self.started);
+        let first = meet(self.rt, self.width, &self.started);
         // A job of another round is not noted.
-        if self.first_of_round(job) == first {
+        if first_of_round(self.width, job) == first {
             add(&self.workers, job, worker);
         }
         true
     }
 
     fn inside(&self, node: u16, pass: u32) {
-        let first = self.meet(&self.inside);
+        let first = meet(self.rt, self.width, &self.inside);
         add(&self.passes_inside, job_at(first, node), pass);
     }
 
     fn answered(&self, node: u16, pass: u32) {
-        let first = self.first_of_round(add_one(&self.answered));
+        let first = first_of_round(self.width, add_one(&self.answered));
         add(&self.passes_answered, job_at(first, node), pass);
     }
 }
@@ -223,9 +221,9 @@ fn workers_do_jobs_at_once_and_in_order(rt: HostRuntime) {
         assert_eq!(rt; text.as_str(), *want);
         let count = at.len() as u64;
         assert_eq!(rt; gate.answered.load(Ordering::SeqCst), count);
-        assert_eq!(rt; gate.of_pass(&gate.workers, &dones), count);
-        assert_eq!(rt; gate.of_pass(&gate.passes_inside, &dones), count);
-        assert_eq!(rt; gate.of_pass(&gate.passes_answered, &dones), count);
+        assert_eq!(rt; of_pass(&gate.workers, gate.width, &dones), count);
+        assert_eq!(rt; of_pass(&gate.passes_inside, gate.width, &dones), count);
+        assert_eq!(rt; of_pass(&gate.passes_answered, gate.width, &dones), count);
     }
 }
 

@@ -1,7 +1,11 @@
 //! Jobs at several nodes by several workers, workers that stop early, and crews that are given a list after another.
 
+ghost use Rattle.lw_held.specs.Agree.{AreDistinct};
+ghost use Rattle.lw_held.specs.Shelves.{AreInOrder};
+
 use super::gates::Watch;
 use super::*;
+use lw_crew::Shelf;
 
 /// A job that no list has.
 const NONE: u64 = u64::MAX;
@@ -107,6 +111,62 @@ fn jobs_are_done_in_order_or_told(rt: HostRuntime) {
         assert_eq!(rt; text.as_str(), *want);
         let (started, gone_astray, _others) = gate.counts();
         assert_eq!(rt; (started, gone_astray), (*starts, *astray), "{want}");
+    }
+}
+
+/// Two workers register at a node each. The pass of the first job then reads back what it wrote, and neither pass
+/// settles alone.
+/// Tries: Crew::serve_jobs
+#[test]
+fn passes_go_on_after_a_crew(rt: HostRuntime) {
+    let gate = Watch::new(&rt, (NONE, 0), 2, 0);
+    let (shelves, passes) = set_up(rt.alloc(), 2, 2).expect(&rt, "memory");
+    let jobs = jobs_of(&rt, rt.alloc(), (&[1, 2], Takes(REGISTER)));
+    let mut crew = Crew::new(Sharing::ByNode);
+    let (mut passes, result) = crew.serve_jobs(&rt, rt.alloc(), &shelves, passes, &jobs, &gate);
+    let dones = result.expect(&rt, "results");
+    let first = pass_of_the_first(&rt, &dones);
+    go_on(&rt, rt.alloc(), &shelves, &mut passes, first);
+}
+
+/// The place of the pass that did the first job.
+fn pass_of_the_first<R: Abort>(rt: &R, dones: &[Done]) -> usize {
+    let done = dones.first().expect(rt, "a result");
+    match done.result {
+        JobOutcome::At { pass, .. } => pass as usize,
+        _ => panic!(rt; "no pass"),
+    }
+}
+
+/// The first node is asked with the pass at the place. By this pass alone the second node does not settle, and by the
+/// other alone the first does not.
+fn go_on<R: Wait + Abort>(
+    rt: &R,
+    alloc: Global,
+    shelves: &[Shelf],
+    passes: &mut [Pass],
+    first: usize,
+)
+    requires shelves { AreInOrder shelves.now }
+    requires passes { AreDistinct passes.old }
+{
+    let shown = "1 1 a 0000000000010001 127.0.0.1:5683 0 86400 U false </>";
+    calls(rt, alloc, shelves, passes, 0, first, ByEndpoint("a"), shown);
+    let second = 1_usize.wrapping_sub(first);
+    for (pass, end, want) in [
+        (0, 2, Ok(Settled)),
+        (
+            first,
+            first.wrapping_add(1),
+            Err(Unsettled { node: 2, place: 0 }),
+        ),
+        (
+            second,
+            second.wrapping_add(1),
+            Err(Unsettled { node: 1, place: 0 }),
+        ),
+    ] {
+        settles_so(rt, shelves, &[], passes, &(pass, end, 0, 0, want));
     }
 }
 

@@ -5,7 +5,7 @@ ghost use Rattle.lw_held.specs.Shelves.{AreInOrder};
 ghost use Rattle.std.specs.Prelude.{◌≤◌};
 
 use super::steps::{call, part_is};
-use super::volumes::{FIRST_CALL, TWO_CALLS, Wanted, cut, enters, is_volume};
+use super::volumes::{FIRST_CALL, TWO_CALLS, Wanted, alone, cut, enters, is_volume};
 use super::*;
 
 /// What is done with a shelf, which stands at the first place.
@@ -94,7 +94,7 @@ const SWEPT: [Does<'static>; 4] = [
     Calls(1, 1, Sweeps(86_400_000), "2 5 -"),
 ];
 
-/// Two passes call one node, the first before the second, or the second before the first.
+/// Two passes call one node, one after the other.
 const BY_TWO: [Does<'static>; 2] = [
     Calls(
         0,
@@ -105,43 +105,6 @@ const BY_TWO: [Does<'static>; 2] = [
     Calls(
         0,
         1,
-        ByEndpoint("a"),
-        "1 1 a 0000000000010001 127.0.0.1:5683 0 86400 U false </>",
-    ),
-];
-
-const BY_THE_SECOND_FIRST: [Does<'static>; 2] = [
-    Calls(
-        0,
-        1,
-        Takes(REGISTER),
-        "1 0 604100048272640d0330303030303030303030303130303031",
-    ),
-    Calls(
-        0,
-        0,
-        ByEndpoint("a"),
-        "1 1 a 0000000000010001 127.0.0.1:5683 0 86400 U false </>",
-    ),
-];
-
-/// Two passes call a node each, and one of them reads back what it wrote.
-const BY_EACH: [Does<'static>; 3] = [
-    Calls(
-        0,
-        0,
-        Takes(REGISTER),
-        "1 0 604100048272640d0330303030303030303030303130303031",
-    ),
-    Calls(
-        1,
-        1,
-        Takes(REGISTER),
-        "2 0 604100048272640d0330303030303030303030303130303032",
-    ),
-    Calls(
-        0,
-        0,
         ByEndpoint("a"),
         "1 1 a 0000000000010001 127.0.0.1:5683 0 86400 U false </>",
     ),
@@ -183,7 +146,7 @@ const CUT: [Does<'static>; 5] = [
 ];
 
 /// From which pass up to which and from which volume up to which the nodes are to settle, and what comes of it.
-type Case = (usize, usize, usize, usize, Result<Settled, Unsettled>);
+pub(crate) type Case = (usize, usize, usize, usize, Result<Settled, Unsettled>);
 
 const BY_BOTH: [Case; 1] = [(0, 2, 0, 0, Ok(Settled))];
 
@@ -199,13 +162,6 @@ const BY_SOME: [Case; 4] = [
 const BY_ONE_OR_BOTH: [Case; 3] = [
     (1, 2, 0, 0, Err(Unsettled { node: 1, place: 0 })),
     (0, 1, 0, 0, Err(Unsettled { node: 1, place: 1 })),
-    (0, 2, 0, 0, Ok(Settled)),
-];
-
-/// By the first of the two passes alone, by the second alone, and by both.
-const BY_ONE_OF_EACH: [Case; 3] = [
-    (0, 1, 0, 0, Err(Unsettled { node: 2, place: 0 })),
-    (1, 2, 0, 0, Err(Unsettled { node: 1, place: 0 })),
     (0, 2, 0, 0, Ok(Settled)),
 ];
 
@@ -227,7 +183,7 @@ type Turn<'a> = (&'a [Does<'a>], &'a [Case]);
 /// How many nodes and passes there are, and their turns.
 type Set = (u16, u32, &'static [Turn<'static>]);
 
-static SETS: [Set; 6] = [
+static SETS: [Set; 4] = [
     (
         2,
         2,
@@ -238,8 +194,6 @@ static SETS: [Set; 6] = [
         ],
     ),
     (1, 2, &[(&BY_TWO, &BY_ONE_OR_BOTH)]),
-    (1, 2, &[(&BY_THE_SECOND_FIRST, &BY_BOTH)]),
-    (2, 2, &[(&BY_EACH, &BY_ONE_OF_EACH)]),
     (16, 1, &[(&NUMBERED, &BY_THE_ONLY_ONE)]),
     (
         1,
@@ -262,7 +216,7 @@ fn cuts<R: Wait + Abort>(
 }
 
 /// The node of the shelf at the place is called, with the pass at the place, and the part that it leaves is this.
-pub(super) fn calls<R: Wait + Abort>(
+pub(crate) fn calls<R: Wait + Abort>(
     rt: &R,
     alloc: Global,
     shelves: &[Shelf],
@@ -327,7 +281,7 @@ fn do_all<R: Wait + Abort>(
 
 /// The nodes settle so by some of the passes and of the volumes.
 #[tactic(auto, using(crate::proofs::Keeping::distinct_within))]
-fn settles_so<R: Wait + Abort>(
+pub(crate) fn settles_so<R: Wait + Abort>(
     rt: &R,
     shelves: &[Shelf],
     volumes: &[Volume],
@@ -396,6 +350,40 @@ fn nodes_take_calls_and_settle(rt: HostRuntime) {
     for (nodes, count, turns) in &SETS {
         take_turns(&rt, rt.alloc(), (*nodes, *count), turns);
     }
+}
+
+/// The last two of the passes are the journal of the node, which is that of the shelf too, the last before the other.
+#[tactic(auto, using(crate::proofs::Keeping::distinct_two))]
+fn agree_in_reverse<R: Wait + Abort>(rt: &R, held: &Held, shelves: &[Shelf], mut passes: Vec<Pass>)
+    requires { AreInOrder shelves.now }
+{
+    let second = passes.pop().expect(rt, "a pass");
+    let first = passes.pop().expect(rt, "a pass");
+    assert!(rt; second.number() != first.number());
+    let both = [second, first];
+    assert_eq!(rt; held.agrees(1, &[], &both), Ok(()));
+    assert_eq!(rt; settle_with(rt, shelves, &[], &both), Ok(Settled));
+}
+
+/// Two passes call the node of a shelf, one after the other. Another node has the same journal.
+/// Tries: Held::agrees, settle
+#[test]
+fn passes_agree_and_settle_in_any_order(rt: HostRuntime) {
+    let (shelves, mut passes) = set_up(rt.alloc(), 1, 2).expect(&rt, "memory");
+    let (mut held, mut volumes) = (Held::new(rt.alloc(), 1), Vec::new(rt.alloc()));
+    do_all(
+        &rt,
+        rt.alloc(),
+        &shelves,
+        &mut passes,
+        &mut volumes,
+        &BY_TWO,
+    );
+    for (pass, what) in TWO_CALLS.iter().enumerate() {
+        let place = alone(&rt, rt.alloc(), &mut held, (pass as u32, 0), *what);
+        assert_eq!(rt; place, Ok(pass as u64));
+    }
+    agree_in_reverse(&rt, &held, &shelves, passes);
 }
 
 /// Two new shelves do not settle with what is cut off another node of the number.

@@ -1,29 +1,21 @@
 //! Volumes that are of the nodes of shelves, and whether these settle with them.
 
-ghost use Rattle.std.specs.Prelude.{◌≡◌, ◌↔◌, ℕ, Some, slice_get, IsTrue};
+ghost use Rattle.std.specs.Prelude.{◌≡◌, ℕ, Some, slice_get, IsTrue};
 ghost use Rattle.lw_held.specs.Agree.{AreDistinct};
 ghost use Rattle.lw_held.specs.Shelves.{AreInOrder, HaveShelves};
 ghost use Rattle.lw_held.specs.declared.shelf.Shelf.{Shelf as Shelves};
 
 use super::*;
 
-/// Whether the volume's node is that of a shelf.
+/// Whether the volume's node is that of a shelf, which then stands at the place of its number.
 fn has_shelf(shelves: &[Shelf], volume: &Volume) -> bool
     ensures { IsTrue result → (k : ℕ) × (shelf : Shelves) × (slice_get shelves.now k ≡ Some shelf) × (shelf.number ≡ volume.now.opening.number) }
 {
-    for shelf in shelves {
-        if is_of(shelf, volume) {
-            return true;
-        }
+    let place = usize::from(volume.node()).wrapping_sub(1);
+    match shelves.get(place) {
+        Some(shelf) => shelf.number() == volume.node(),
+        None => false,
     }
-    false
-}
-
-/// Whether the volume is of the shelf's node.
-fn is_of(shelf: &Shelf, volume: &Volume) -> bool
-    ensures { IsTrue result ↔ (shelf.now.number ≡ volume.now.opening.number) }
-{
-    shelf.number() == volume.node()
 }
 
 /// Whether each volume's node is that of a shelf.
