@@ -58,7 +58,7 @@ fn do_with<R: Abort>(
 {
     match does {
         Calls(pass, what, want) => {
-            assert_eq!(rt; step(rt, alloc, held, passes, pass, what), want);
+            assert_eq!(rt; step(rt, alloc, held, passes, pass, what), Ok(want));
         }
         Alone(pass, number, what, want) => {
             assert_eq!(rt; alone(rt, alloc, held, (pass, number), what), Ok(want));
@@ -126,6 +126,9 @@ fn is_said<R: Abort>(rt: &R, alloc: Global, case: &Case, name: &str) {
         rows,
     );
     let said = agrees_some(rt, &held, &volumes, &passes, first, end, node);
+    drop(volumes);
+    drop(held);
+    drop(other);
     assert_eq!(rt; said, want, "{name}");
 }
 

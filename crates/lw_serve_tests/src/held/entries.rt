@@ -19,12 +19,27 @@ pub(super) fn enters_all<R: Abort>(rt: &R, alloc: Global, what: What<'_>, replie
     let mut held = Held::new(alloc, 1);
     let call = what.made(rt, alloc).expect(rt, "memory");
     for (place, reply) in replies.iter().enumerate() {
-        let (entry, at) = held.step(7, 3, &call).expect(rt, "memory");
-        assert_eq!(rt; (at, entry.pass, entry.number), (place as u64, 7, 3));
-        assert!(rt; entry.call.same(&call));
-        let text = reply_text(alloc, &entry.reply).expect(rt, "memory");
-        assert_eq!(rt; text.as_str(), *reply);
+        let made = held.step(7, 3, &call).expect(rt, "memory");
+        is_made(rt, alloc, &made, &call, (place as u64, reply));
+        drop(made);
     }
+    drop(held);
+    drop(call);
+}
+
+/// What is made is the entry of the call, with its place and the reply.
+fn is_made<R: Abort>(
+    rt: &R,
+    alloc: Global,
+    made: &(Entry, u64),
+    call: &Call,
+    (place, reply): (u64, &str),
+) {
+    let (entry, at) = made;
+    assert_eq!(rt; (*at, entry.pass, entry.number), (place, 7, 3));
+    assert!(rt; entry.call.same(call));
+    let text = reply_text(alloc, &entry.reply).expect(rt, "memory");
+    assert_eq!(rt; text.as_str(), reply);
 }
 
 /// Calls that are made before, a call as number 2 of pass 1, a pass, a number and a call behind it, and whether the
@@ -77,10 +92,13 @@ fn entries_are_the_same_where_all_parts_are(rt: HostRuntime) {
     for (before, what, pass, number, other, want) in &PAIRS {
         let mut held = Held::new(rt.alloc(), 1);
         for what in *before {
-            let _entry = entry_of(&rt, rt.alloc(), &mut held, (1, 1), *what);
+            drop(entry_of(&rt, rt.alloc(), &mut held, (1, 1), *what));
         }
         let first = entry_of(&rt, rt.alloc(), &mut held, (1, 2), *what);
         let second = entry_of(&rt, rt.alloc(), &mut held, (*pass, *number), *other);
         assert_eq!(rt; first.same(&second), *want);
+        drop(first);
+        drop(second);
+        drop(held);
     }
 }

@@ -1,7 +1,8 @@
 //! The largest that a node with its journal takes, sends and merges, and a long journal.
 
 use super::entries::enters_all;
-use super::settling::calls;
+use super::settling::Does::Calls;
+use super::settling::take_turns;
 use super::volumes::{alone, cut};
 use super::*;
 
@@ -67,44 +68,21 @@ fn the_longest_register_is_sent_and_merged(rt: HostRuntime) {
     let (register, name) = (whole(&rt, alloc, &LONGEST), whole(&rt, alloc, &NAME));
     let (shows, delta) = (whole(&rt, alloc, &SHOWS), whole(&rt, alloc, &DELTA));
     let sent = whole(&rt, alloc, &SENT);
-    let (shelves, mut passes) = set_up(alloc, 2, 64).expect(&rt, "memory");
     let created = "1 0 604100048272640d0330303030303030303030303130303031";
-    calls(
+    let rows = [
+        Calls(0, 63, Takes(&register), created),
+        Calls(0, 63, ByEndpoint(&name), &shows),
+        Calls(0, 63, Sends(0), &sent),
+        Calls(1, 0, Merges(&delta), "2 0 joined 1"),
+        Calls(0, 63, Sweeps(86_400_000), "1 3 swept 0000000000010001"),
+        Calls(1, 0, Sweeps(86_400_000), "2 1 swept 0000000000010001"),
+    ];
+    take_turns(
         &rt,
         alloc,
-        &shelves,
-        &mut passes,
-        0,
-        63,
-        Takes(&register),
-        created,
+        (2, 64),
+        &[(&rows, &[(0, 64, 0, 0, Ok(Settled))])],
     );
-    calls(
-        &rt,
-        alloc,
-        &shelves,
-        &mut passes,
-        0,
-        63,
-        ByEndpoint(&name),
-        &shows,
-    );
-    calls(&rt, alloc, &shelves, &mut passes, 0, 63, Sends(0), &sent);
-    calls(
-        &rt,
-        alloc,
-        &shelves,
-        &mut passes,
-        1,
-        0,
-        Merges(&delta),
-        "2 0 joined 1",
-    );
-    let (end, swept) = (Sweeps(86_400_000), "1 3 swept 0000000000010001");
-    calls(&rt, alloc, &shelves, &mut passes, 0, 63, end, swept);
-    let swept = "2 1 swept 0000000000010001";
-    calls(&rt, alloc, &shelves, &mut passes, 1, 0, end, swept);
-    assert_eq!(rt; settle_with(&rt, &shelves, &[], &passes), Ok(Settled));
 }
 
 /// Asks the node so many times, the first of them at the place. What is cut off begins there and has as many entries.
@@ -115,6 +93,7 @@ fn asks_and_cuts<R: Abort>(rt: &R, alloc: Global, held: &mut Held, first: u64, c
     }
     let volume = cut(rt, held).expect(rt, "memory");
     assert_eq!(rt; (volume.first(), volume.entries().len()), (first, count));
+    drop(volume);
 }
 
 /// Tries: Held::step, Held::cut
@@ -123,4 +102,5 @@ fn a_journal_of_2000_entries_is_cut(rt: HostRuntime) {
     let mut held = Held::new(rt.alloc(), 1);
     asks_and_cuts(&rt, rt.alloc(), &mut held, 0, 2_000);
     asks_and_cuts(&rt, rt.alloc(), &mut held, 2_000, 3);
+    drop(held);
 }

@@ -79,13 +79,24 @@ fn tries<R: Abort>(
     alloc: Global,
     held: &mut Held,
     what: What<'_>,
-    (place, want): (u64, &str),
+    row: (u64, &str),
 ) -> Result<Option<u64>, NoMemory> {
     let call = what.made(rt, alloc)?;
     let made = held.step(1, 0, &call);
+    let tried = is_entered(rt, alloc, &made, row);
+    drop(made);
     drop(call);
-    let refused = entries_of_a_refusal(&made);
-    if let (Ok((entry, at)), None) = (&made, refused) {
+    tried
+}
+
+fn is_entered<R: Abort>(
+    rt: &R,
+    alloc: Global,
+    made: &Made,
+    (place, want): (u64, &str),
+) -> Result<Option<u64>, NoMemory> {
+    let refused = entries_of_a_refusal(made);
+    if let (Ok((entry, at)), None) = (made, refused) {
         assert_eq!(rt; *at, place);
         assert_eq!(rt; reply_text(alloc, &entry.reply)?.as_str(), want);
     }
@@ -135,7 +146,9 @@ fn gives_in_two_tries<R: Abort>(
 fn a_refused_step_leaves_what_the_node_knows(rt: HostRuntime) -> Result<(), Fail> {
     for row in &ROWS {
         let mut held = Held::new(rt.alloc(), 1);
-        gives_in_two_tries(&rt, rt.alloc(), &mut held, row)?;
+        let given = gives_in_two_tries(&rt, rt.alloc(), &mut held, row);
+        drop(held);
+        given?;
     }
     Ok(())
 }
@@ -151,7 +164,9 @@ fn cuts<R: Abort>(
         Ok(volume) => volume,
         Err(NoMemory) => cut(rt, held)?,
     };
-    is_volume(rt, alloc, &volume, wanted)
+    let is_so = is_volume(rt, alloc, &volume, wanted);
+    drop(volume);
+    is_so
 }
 
 /// Two Registers and an observation, which are cut off; and a sweep and an end.
@@ -186,7 +201,9 @@ fn cuts_in_two_tries<R: Abort>(rt: &R, alloc: Global, held: &mut Held) -> Result
 #[test]
 fn a_refused_growth_of_a_cut_leaves_the_journal(rt: HostRuntime) -> Result<(), Fail> {
     let mut held = Held::new(rt.alloc(), 1);
-    Ok(cuts_in_two_tries(&rt, rt.alloc(), &mut held)?)
+    let cut = cuts_in_two_tries(&rt, rt.alloc(), &mut held);
+    drop(held);
+    Ok(cut?)
 }
 
 /// Keeps what is cut off the journal of the shelf in one try or two, which begins at the place and has so many entries.
@@ -232,6 +249,7 @@ fn settles_after_cuts<R: Wait + Abort>(
 fn a_refused_cut_of_a_shelf_settles(rt: HostRuntime) -> Result<(), Fail> {
     let (shelves, mut passes) = set_up(rt.alloc(), 1, 1)?;
     let mut volumes = Vec::new(rt.alloc());
-    settles_after_cuts(&rt, rt.alloc(), &shelves, &mut passes, &mut volumes)?;
-    Ok(())
+    let settles = settles_after_cuts(&rt, rt.alloc(), &shelves, &mut passes, &mut volumes);
+    drop(volumes);
+    Ok(settles?)
 }

@@ -10,7 +10,7 @@ use super::*;
 
 /// What is done with a shelf, which stands at the first place.
 #[derive(Clone, Copy)]
-enum Does<'a> {
+pub(super) enum Does<'a> {
     /// The node is called, with the pass at the second place. The part that it leaves is this: node, place and reply.
     Calls(usize, usize, What<'a>, &'a str),
     /// The journal is cut, which gives such a volume. It is kept.
@@ -178,7 +178,7 @@ const BY_VOLUMES: [Case; 4] = [
 const BY_BOTH_VOLUMES: [Case; 1] = [(0, 2, 0, 2, Ok(Settled))];
 
 /// What is done, and how the nodes settle then.
-type Turn<'a> = (&'a [Does<'a>], &'a [Case]);
+pub(super) type Turn<'a> = (&'a [Does<'a>], &'a [Case]);
 
 /// How many nodes and passes there are, and their turns.
 type Set = (u16, u32, &'static [Turn<'static>]);
@@ -315,7 +315,7 @@ fn settle_each<R: Wait + Abort>(
 }
 
 /// New nodes take turns with new passes.
-fn take_turns<R: Wait + Abort>(
+pub(super) fn take_turns<R: Wait + Abort>(
     rt: &R,
     alloc: Global,
     (nodes, count): (u16, u32),
@@ -384,6 +384,7 @@ fn passes_agree_and_settle_in_any_order(rt: HostRuntime) {
         assert_eq!(rt; place, Ok(pass as u64));
     }
     agree_in_reverse(&rt, &held, &shelves, passes);
+    drop(held);
 }
 
 /// Two new shelves do not settle with what is cut off another node of the number.

@@ -35,16 +35,19 @@ pub(super) fn step<R: Abort>(
     passes: &mut [Pass],
     pass: usize,
     what: What<'_>,
-) -> u64
+) -> Result<u64, NoMemory>
     requires { AreDistinct passes.old }
     ensures { AreDistinct passes.new }
 {
     assert!(rt; pass < passes.len());
-    let made = what.made(rt, alloc).expect(rt, "memory");
+    let made = what.made(rt, alloc)?;
     let lent = &mut passes[pass];
     let placed = lent.step(1, held, &made);
     drop(made);
-    placed.expect(rt, "memory")
+    match placed {
+        Ok(place) => Ok(place),
+        Err(NoMemory) => Err(NoMemory),
+    }
 }
 
 /// The last part of the pass has the node, the place and the reply.

@@ -11,7 +11,9 @@ pub(super) fn cut<R: Abort>(rt: &R, held: &mut Held) -> Result<Volume, NoMemory>
 /// There is nothing to cut off.
 pub(super) fn cuts_nothing<R: Abort>(rt: &R, held: &mut Held) {
     let made = held.cut();
-    assert!(rt; matches!(&made, Ok(None)));
+    let is_nothing = matches!(&made, Ok(None));
+    drop(made);
+    assert!(rt; is_nothing);
 }
 
 /// Makes the call of the node, as this number of a pass and of a call, and gives its place.
@@ -24,13 +26,15 @@ pub(super) fn alone<R: Abort>(
 ) -> Result<u64, NoMemory> {
     let call = what.made(rt, alloc)?;
     let made = held.step(pass, number, &call);
+    let place = place_of(&made);
+    drop(made);
     drop(call);
-    place_of(made)
+    place
 }
 
 /// The place of the entry. Want of memory is none, though it is kept as one.
-fn place_of(made: Result<(Entry, u64), NoMemory>) -> Result<u64, NoMemory> {
-    match &made {
+fn place_of(made: &Result<(Entry, u64), NoMemory>) -> Result<u64, NoMemory> {
+    match made {
         Ok((entry, place)) if !wants_memory(&entry.reply) => Ok(*place),
         _ => Err(NoMemory),
     }
@@ -51,23 +55,30 @@ pub(super) fn enters<R: Abort>(
     Ok(())
 }
 
-/// The call is made of the node.
-fn acts<R: Abort>(rt: &R, alloc: Global, node: &mut Node, what: What<'_>) -> Result<(), NoMemory> {
-    let call = what.made(rt, alloc)?;
-    let reply = node.act(&call);
-    if wants_memory(&reply) {
-        return Err(NoMemory);
-    }
-    Ok(())
-}
-
 /// A node of number 1 that the calls were made of.
 fn node_after<R: Abort>(rt: &R, alloc: Global, calls: &[What<'_>]) -> Result<Node, NoMemory> {
     let mut node = Node::new(alloc, 1);
-    for what in calls {
-        acts(rt, alloc, &mut node, *what)?;
-    }
+    acts(rt, alloc, &mut node, calls)?;
     Ok(node)
+}
+
+fn acts<R: Abort>(
+    rt: &R,
+    alloc: Global,
+    node: &mut Node,
+    calls: &[What<'_>],
+) -> Result<(), NoMemory> {
+    for what in calls {
+        let call = what.made(rt, alloc)?;
+        let reply = node.act(&call);
+        let is_refused = wants_memory(&reply);
+        drop(reply);
+        drop(call);
+        if is_refused {
+            return Err(NoMemory);
+        }
+    }
+    Ok(())
 }
 
 /// The node is one of number 1 that the calls were made of.
@@ -78,7 +89,9 @@ fn is_after<R: Abort>(
     calls: &[What<'_>],
 ) -> Result<(), NoMemory> {
     let wanted = node_after(rt, alloc, calls)?;
-    assert!(rt; node.same(&wanted));
+    let is_same = node.same(&wanted);
+    drop(wanted);
+    assert!(rt; is_same);
     Ok(())
 }
 
@@ -167,6 +180,7 @@ fn enters_and_cuts<R: Abort>(rt: &R, alloc: Global, held: &mut Held, row: &Row<'
     enters(rt, alloc, held, wanted.0, calls).expect(rt, "memory");
     let volume = cut(rt, held).expect(rt, "memory");
     is_volume(rt, alloc, &volume, wanted).expect(rt, "memory");
+    drop(volume);
 }
 
 /// Tries: Held::step, Held::cut, Volume::node, Volume::first, Volume::entries, Volume::opening, Volume::closing
@@ -177,5 +191,6 @@ fn a_cut_gives_a_volume_and_an_empty_journal(rt: HostRuntime) {
         for row in rows {
             enters_and_cuts(&rt, rt.alloc(), &mut held, row);
         }
+        drop(held);
     }
 }
