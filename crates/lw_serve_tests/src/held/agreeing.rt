@@ -3,7 +3,7 @@
 ghost use Rattle.lw_held.specs.Agree.{AreDistinct};
 
 use super::steps::{part_is, step};
-use super::volumes::{alone, cut};
+use super::volumes::{alone, cut, keeps};
 use super::*;
 
 /// Which of two nodes something is done with: the one that is asked later, whose number is 1, or another.
@@ -56,19 +56,19 @@ fn do_with<R: Abort>(
     requires { AreDistinct passes.old }
     ensures { AreDistinct passes.new }
 {
-    match does {
-        Calls(pass, what, want) => {
-            assert_eq!(rt; step(rt, alloc, held, passes, pass, what), Ok(want));
-        }
+    let (placed, want) = match does {
+        Calls(pass, what, want) => (step(rt, alloc, held, passes, pass, what), want),
         Alone(pass, number, what, want) => {
-            assert_eq!(rt; alone(rt, alloc, held, (pass, number), what), Ok(want));
+            let placed = alone(rt, alloc, held, (pass, number), what);
+            (placed, want)
         }
-        Reads(pass, want) => part_is(rt, alloc, passes.get(pass).expect(rt, "a pass"), want),
-        Keeps => volumes
-            .push(cut(rt, held).expect(rt, "memory"))
-            .expect(rt, "memory"),
-        Loses => drop(cut(rt, held)),
-    }
+        Reads(pass, want) => {
+            return part_is(rt, alloc, passes.get(pass).expect(rt, "a pass"), want);
+        }
+        Keeps => return keeps(rt, held, volumes),
+        Loses => return drop(cut(rt, held)),
+    };
+    assert_eq!(rt; placed, Ok(want));
 }
 
 /// Does it all with the node or with the other.

@@ -85,22 +85,29 @@ fn the_longest_register_is_sent_and_merged(rt: HostRuntime) {
     );
 }
 
-/// Asks the node so many times, the first of them at the place. What is cut off begins there and has as many entries.
-fn asks_and_cuts<R: Abort>(rt: &R, alloc: Global, held: &mut Held, first: u64, count: usize) {
-    for number in 0..count as u64 {
+/// Asks the node so many times, the first of them at the place.
+fn asks<R: Abort>(rt: &R, alloc: Global, held: &mut Held, first: u64, count: u64) {
+    for number in 0..count {
         let place = alone(rt, alloc, held, (1, number), ByEndpoint("a"));
-        assert_eq!(rt; place, Ok(first.saturating_add(number)));
+        assert!(rt; place == Ok(first.saturating_add(number)), "{place:?}");
     }
+}
+
+/// What is cut off begins at the place and has so many entries.
+fn cuts_many<R: Abort>(rt: &R, held: &mut Held, first: u64, count: usize) {
     let volume = cut(rt, held).expect(rt, "memory");
-    assert_eq!(rt; (volume.first(), volume.entries().len()), (first, count));
+    let (at, entries) = (volume.first(), volume.entries().len());
     drop(volume);
+    assert_eq!(rt; (at, entries), (first, count));
 }
 
 /// Tries: Held::step, Held::cut
 #[test]
 fn a_journal_of_2000_entries_is_cut(rt: HostRuntime) {
     let mut held = Held::new(rt.alloc(), 1);
-    asks_and_cuts(&rt, rt.alloc(), &mut held, 0, 2_000);
-    asks_and_cuts(&rt, rt.alloc(), &mut held, 2_000, 3);
+    for (first, count) in [(0, 2_000), (2_000, 3)] {
+        asks(&rt, rt.alloc(), &mut held, first, count);
+        cuts_many(&rt, &mut held, first, count as usize);
+    }
     drop(held);
 }

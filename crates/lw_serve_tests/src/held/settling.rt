@@ -5,7 +5,7 @@ ghost use Rattle.lw_held.specs.Shelves.{AreInOrder};
 ghost use Rattle.std.specs.Prelude.{◌≤◌};
 
 use super::steps::{call, part_is};
-use super::volumes::{FIRST_CALL, TWO_CALLS, Wanted, alone, cut, enters, is_volume};
+use super::volumes::{FIRST_CALL, TWO_CALLS, Wanted, alone, enters, is_volume, keeps};
 use super::*;
 
 /// What is done with a shelf, which stands at the first place.
@@ -387,24 +387,34 @@ fn passes_agree_and_settle_in_any_order(rt: HostRuntime) {
     drop(held);
 }
 
-/// Two new shelves do not settle with what is cut off another node of the number.
+/// What is cut off another node of the number is told.
+fn is_told_of<R: Wait + Abort>(
+    rt: &R,
+    alloc: Global,
+    shelves: &[Shelf],
+    passes: &[Pass],
+    number: u16,
+)
+    requires shelves { AreInOrder shelves.now }
+    requires passes { AreDistinct passes.now }
+{
+    let (mut held, mut volumes) = (Held::new(alloc, number), Vec::new(alloc));
+    enters(rt, alloc, &mut held, 0, &FIRST_CALL).expect(rt, "memory");
+    keeps(rt, &mut held, &mut volumes);
+    drop(held);
+    let told = settle_with(rt, shelves, &volumes, passes);
+    drop(volumes);
+    let (node, place) = (number, 0);
+    assert_eq!(rt; told, Err(Unsettled { node, place }));
+}
+
+/// Two new shelves do not settle with a volume of another node.
 /// Tries: settle
 #[test]
 fn a_volume_of_another_node_is_told_by_settle(rt: HostRuntime) {
-    for number in [1, 2] {
-        let (shelves, passes) = set_up(rt.alloc(), 2, 1).expect(&rt, "memory");
-        let mut held = Held::new(rt.alloc(), number);
-        enters(&rt, rt.alloc(), &mut held, 0, &FIRST_CALL).expect(&rt, "memory");
-        let volumes = [cut(&rt, &mut held).expect(&rt, "memory")];
-        let told = settle_with(&rt, &shelves, &volumes, &passes);
-        assert_eq!(rt;
-            told,
-            Err(Unsettled {
-                node: number,
-                place: 0
-            })
-        );
-    }
+    let (shelves, passes) = set_up(rt.alloc(), 2, 1).expect(&rt, "memory");
+    is_told_of(&rt, rt.alloc(), &shelves, &passes, 1);
+    is_told_of(&rt, rt.alloc(), &shelves, &passes, 2);
 }
 
 /// There are so many shelves and passes. Nodes are numbered from 1 and passes, which have no calls, from 0.

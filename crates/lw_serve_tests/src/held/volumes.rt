@@ -8,6 +8,12 @@ pub(super) fn cut<R: Abort>(rt: &R, held: &mut Held) -> Result<Volume, NoMemory>
     Ok(cut.expect(rt, "a volume"))
 }
 
+/// Keeps the volume that is cut off.
+pub(super) fn keeps<R: Abort>(rt: &R, held: &mut Held, volumes: &mut Vec<Volume>) {
+    let volume = cut(rt, held).expect(rt, "memory");
+    volumes.push(volume).expect(rt, "memory");
+}
+
 /// There is nothing to cut off.
 pub(super) fn cuts_nothing<R: Abort>(rt: &R, held: &mut Held) {
     let made = held.cut();
