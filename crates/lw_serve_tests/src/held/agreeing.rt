@@ -112,23 +112,26 @@ fn agrees_some<R: Abort>(
 
 /// The node says so.
 fn is_said<R: Abort>(rt: &R, alloc: Global, case: &Case, name: &str) {
-    let (number, rows, first, end, node, want) = *case;
-    let (mut held, mut other) = (Held::new(alloc, 1), Held::new(alloc, number));
-    let (_shelves, mut passes) = set_up(alloc, 1, 2).expect(rt, "memory");
-    let mut volumes = Vec::new(alloc);
-    do_all(
-        rt,
-        alloc,
-        &mut held,
-        &mut other,
-        &mut passes,
-        &mut volumes,
-        rows,
-    );
-    let said = agrees_some(rt, &held, &volumes, &passes, first, end, node);
-    drop(volumes);
+    let (mut held, mut other) = (Held::new(alloc, 1), Held::new(alloc, case.0));
+    is_said_by(rt, alloc, &mut held, &mut other, case, name);
     drop(held);
     drop(other);
+}
+
+fn is_said_by<R: Abort>(
+    rt: &R,
+    alloc: Global,
+    held: &mut Held,
+    other: &mut Held,
+    case: &Case,
+    name: &str,
+) {
+    let (_number, rows, first, end, node, want) = *case;
+    let (_shelves, mut passes) = set_up(alloc, 1, 2).expect(rt, "memory");
+    let mut volumes = Vec::new(alloc);
+    do_all(rt, alloc, held, other, &mut passes, &mut volumes, rows);
+    let said = agrees_some(rt, held, &volumes, &passes, first, end, node);
+    drop(volumes);
     assert_eq!(rt; said, want, "{name}");
 }
 

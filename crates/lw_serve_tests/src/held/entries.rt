@@ -18,24 +18,30 @@ fn a_step_gives_the_entry_and_its_place(rt: HostRuntime) {
 pub(super) fn enters_all<R: Abort>(rt: &R, alloc: Global, what: What<'_>, replies: &[&str]) {
     let mut held = Held::new(alloc, 1);
     let call = what.made(rt, alloc).expect(rt, "memory");
-    for (place, reply) in replies.iter().enumerate() {
-        let made = held.step(7, 3, &call).expect(rt, "memory");
-        is_made(rt, alloc, &made, &call, (place as u64, reply));
-        drop(made);
-    }
+    enters_each(rt, alloc, &mut held, &call, replies);
     drop(held);
     drop(call);
+}
+
+fn enters_each<R: Abort>(rt: &R, alloc: Global, held: &mut Held, call: &Call, replies: &[&str]) {
+    for (place, reply) in replies.iter().enumerate() {
+        let made = held.step(7, 3, call);
+        is_made(rt, alloc, &made, call, (place as u64, reply));
+        drop(made);
+    }
 }
 
 /// What is made is the entry of the call, with its place and the reply.
 fn is_made<R: Abort>(
     rt: &R,
     alloc: Global,
-    made: &(Entry, u64),
+    made: &Result<(Entry, u64), NoMemory>,
     call: &Call,
     (place, reply): (u64, &str),
 ) {
-    let (entry, at) = made;
+    let Ok((entry, at)) = made else {
+        panic!(rt; "memory");
+    };
     assert_eq!(rt; (*at, entry.pass, entry.number), (place, 7, 3));
     assert!(rt; entry.call.same(call));
     let text = reply_text(alloc, &entry.reply).expect(rt, "memory");
@@ -86,19 +92,26 @@ fn entry_of<R: Abort>(
     entry
 }
 
+/// The entries are the same, or not.
+fn are_the_same<R: Abort>(rt: &R, alloc: Global, held: &mut Held, pair: &Pair) {
+    let (before, what, pass, number, other, want) = *pair;
+    for what in before {
+        drop(entry_of(rt, alloc, held, (1, 1), *what));
+    }
+    let first = entry_of(rt, alloc, held, (1, 2), what);
+    let second = entry_of(rt, alloc, held, (pass, number), other);
+    let are_same = first.same(&second);
+    drop(first);
+    drop(second);
+    assert_eq!(rt; are_same, want);
+}
+
 /// Tries: Entry::same, Held::step
 #[test]
 fn entries_are_the_same_where_all_parts_are(rt: HostRuntime) {
-    for (before, what, pass, number, other, want) in &PAIRS {
+    for pair in &PAIRS {
         let mut held = Held::new(rt.alloc(), 1);
-        for what in *before {
-            drop(entry_of(&rt, rt.alloc(), &mut held, (1, 1), *what));
-        }
-        let first = entry_of(&rt, rt.alloc(), &mut held, (1, 2), *what);
-        let second = entry_of(&rt, rt.alloc(), &mut held, (*pass, *number), *other);
-        assert_eq!(rt; first.same(&second), *want);
-        drop(first);
-        drop(second);
+        are_the_same(&rt, rt.alloc(), &mut held, pair);
         drop(held);
     }
 }

@@ -4,7 +4,7 @@ ghost use Rattle.lw_held.specs.Agree.{AreDistinct};
 ghost use Rattle.lw_held.specs.Shelves.{AreInOrder};
 
 use super::steps::call;
-use super::volumes::{Wanted, cut, cuts_nothing, enters, is_volume};
+use super::volumes::{cuts, cuts_nothing, enters};
 use super::*;
 use std::test::Fail;
 
@@ -151,22 +151,6 @@ fn a_refused_step_leaves_what_the_node_knows(rt: HostRuntime) -> Result<(), Fail
         given?;
     }
     Ok(())
-}
-
-/// What is cut off in one try or two is such a volume.
-fn cuts<R: Abort>(
-    rt: &R,
-    alloc: Global,
-    held: &mut Held,
-    wanted: Wanted<'_>,
-) -> Result<(), NoMemory> {
-    let volume = match cut(rt, held) {
-        Ok(volume) => volume,
-        Err(NoMemory) => cut(rt, held)?,
-    };
-    let is_so = is_volume(rt, alloc, &volume, wanted);
-    drop(volume);
-    is_so
 }
 
 /// Two Registers and an observation, which are cut off; and a sweep and an end.

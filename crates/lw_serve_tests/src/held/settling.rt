@@ -215,6 +215,14 @@ fn cuts<R: Wait + Abort>(
     volumes.push(volume).expect(rt, "memory");
 }
 
+/// There is nothing to cut off the journal of the shelf.
+fn cuts_nothing<R: Wait + Abort>(rt: &R, shelf: &Shelf) {
+    let made = shelf.cut(rt);
+    let is_nothing = matches!(&made, Ok(None));
+    drop(made);
+    assert!(rt; is_nothing);
+}
+
 /// The node of the shelf at the place is called, with the pass at the place, and the part that it leaves is this.
 pub(crate) fn calls<R: Wait + Abort>(
     rt: &R,
@@ -255,8 +263,7 @@ fn do_with<R: Wait + Abort>(
             cuts(rt, alloc, shelf, volumes, wanted);
         }
         CutsNothing(shelf) => {
-            let made = shelves.get(shelf).expect(rt, "a shelf").cut(rt);
-            assert!(rt; matches!(&made, Ok(None)));
+            cuts_nothing(rt, shelves.get(shelf).expect(rt, "a shelf"));
         }
         Reverses => volumes.reverse(),
     }
@@ -365,6 +372,14 @@ fn agree_in_reverse<R: Wait + Abort>(rt: &R, held: &Held, shelves: &[Shelf], mut
     assert_eq!(rt; settle_with(rt, shelves, &[], &both), Ok(Settled));
 }
 
+/// Makes the calls of the node, as the first of a pass each.
+fn makes_two<R: Abort>(rt: &R, alloc: Global, held: &mut Held) {
+    for (pass, what) in TWO_CALLS.iter().enumerate() {
+        let place = alone(rt, alloc, held, (pass as u32, 0), *what);
+        assert_eq!(rt; place, Ok(pass as u64));
+    }
+}
+
 /// Two passes call the node of a shelf, one after the other. Another node has the same journal.
 /// Tries: Held::agrees, settle
 #[test]
@@ -379,10 +394,7 @@ fn passes_agree_and_settle_in_any_order(rt: HostRuntime) {
         &mut volumes,
         &BY_TWO,
     );
-    for (pass, what) in TWO_CALLS.iter().enumerate() {
-        let place = alone(&rt, rt.alloc(), &mut held, (pass as u32, 0), *what);
-        assert_eq!(rt; place, Ok(pass as u64));
-    }
+    makes_two(&rt, rt.alloc(), &mut held);
     agree_in_reverse(&rt, &held, &shelves, passes);
     drop(held);
 }

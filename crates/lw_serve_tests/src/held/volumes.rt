@@ -184,9 +184,23 @@ fn enters_and_cuts<R: Abort>(rt: &R, alloc: Global, held: &mut Held, row: &Row<'
         return cuts_nothing(rt, held);
     }
     enters(rt, alloc, held, wanted.0, calls).expect(rt, "memory");
-    let volume = cut(rt, held).expect(rt, "memory");
-    is_volume(rt, alloc, &volume, wanted).expect(rt, "memory");
+    cuts(rt, alloc, held, wanted).expect(rt, "memory");
+}
+
+/// What is cut off in one try or two is such a volume.
+pub(super) fn cuts<R: Abort>(
+    rt: &R,
+    alloc: Global,
+    held: &mut Held,
+    wanted: Wanted<'_>,
+) -> Result<(), NoMemory> {
+    let volume = match cut(rt, held) {
+        Ok(volume) => volume,
+        Err(NoMemory) => cut(rt, held)?,
+    };
+    let is_so = is_volume(rt, alloc, &volume, wanted);
     drop(volume);
+    is_so
 }
 
 /// Tries: Held::step, Held::cut, Volume::node, Volume::first, Volume::entries, Volume::opening, Volume::closing
