@@ -1,8 +1,10 @@
 //! The largest that a node with its journal takes, sends and merges, and a long journal.
 
+ghost use Rattle.lw_held.specs.Agree.{AreDistinct};
+ghost use Rattle.lw_held.specs.Shelves.{AreInOrder};
+
 use super::entries::enters_all;
-use super::settling::Does::Calls;
-use super::settling::take_turns;
+use super::settling::calls;
 use super::volumes::{alone, cut};
 use super::*;
 
@@ -61,28 +63,55 @@ fn the_longest_register_is_entered(rt: HostRuntime) {
 
 /// Node 1 takes the Register with the last of 64 passes, shows it and sends it; node 2 merges it with the first. Both
 /// sweep it.
+fn is_merged<R: Wait + Abort>(
+    rt: &R,
+    alloc: Global,
+    shelves: &[Shelf],
+    passes: &mut [Pass],
+    (register, name, shows): (&str, &str, &str),
+    (delta, sent): (&str, &str),
+)
+    requires shelves { AreInOrder shelves.now }
+    requires passes { AreDistinct passes.old }
+{
+    let created = "1 0 604100048272640d0330303030303030303030303130303031";
+    calls(rt, alloc, shelves, passes, 0, 63, Takes(register), created);
+    calls(rt, alloc, shelves, passes, 0, 63, ByEndpoint(name), shows);
+    calls(rt, alloc, shelves, passes, 0, 63, Sends(0), sent);
+    let joined = "2 0 joined 1";
+    calls(rt, alloc, shelves, passes, 1, 0, Merges(delta), joined);
+    let (end, swept) = (Sweeps(86_400_000), "1 3 swept 0000000000010001");
+    calls(rt, alloc, shelves, passes, 0, 63, end, swept);
+    let swept = "2 1 swept 0000000000010001";
+    calls(rt, alloc, shelves, passes, 1, 0, end, swept);
+    assert_eq!(rt; settle_with(rt, shelves, &[], passes), Ok(Settled));
+}
+
+/// The same, of the longest Register.
+fn the_longest_is_merged<R: Wait + Abort>(
+    rt: &R,
+    alloc: Global,
+    shelves: &[Shelf],
+    passes: &mut [Pass],
+)
+    requires shelves { AreInOrder shelves.now }
+    requires passes { AreDistinct passes.old }
+{
+    let (register, name) = (whole(rt, alloc, &LONGEST), whole(rt, alloc, &NAME));
+    let (shows, delta) = (whole(rt, alloc, &SHOWS), whole(rt, alloc, &DELTA));
+    let sent = whole(rt, alloc, &SENT);
+    let (taken, told) = (
+        (register.as_str(), name.as_str(), shows.as_str()),
+        (delta.as_str(), sent.as_str()),
+    );
+    is_merged(rt, alloc, shelves, passes, taken, told);
+}
+
 /// Tries: Held::step
 #[test]
 fn the_longest_register_is_sent_and_merged(rt: HostRuntime) {
-    let alloc = rt.alloc();
-    let (register, name) = (whole(&rt, alloc, &LONGEST), whole(&rt, alloc, &NAME));
-    let (shows, delta) = (whole(&rt, alloc, &SHOWS), whole(&rt, alloc, &DELTA));
-    let sent = whole(&rt, alloc, &SENT);
-    let created = "1 0 604100048272640d0330303030303030303030303130303031";
-    let rows = [
-        Calls(0, 63, Takes(&register), created),
-        Calls(0, 63, ByEndpoint(&name), &shows),
-        Calls(0, 63, Sends(0), &sent),
-        Calls(1, 0, Merges(&delta), "2 0 joined 1"),
-        Calls(0, 63, Sweeps(86_400_000), "1 3 swept 0000000000010001"),
-        Calls(1, 0, Sweeps(86_400_000), "2 1 swept 0000000000010001"),
-    ];
-    take_turns(
-        &rt,
-        alloc,
-        (2, 64),
-        &[(&rows, &[(0, 64, 0, 0, Ok(Settled))])],
-    );
+    let (shelves, mut passes) = set_up(rt.alloc(), 2, 64).expect(&rt, "memory");
+    the_longest_is_merged(&rt, rt.alloc(), &shelves, &mut passes);
 }
 
 /// Asks the node so many times, the first of them at the place.

@@ -10,7 +10,7 @@ use super::*;
 
 /// What is done with a shelf, which stands at the first place.
 #[derive(Clone, Copy)]
-pub(super) enum Does<'a> {
+enum Does<'a> {
     /// The node is called, with the pass at the second place. The part that it leaves is this: node, place and reply.
     Calls(usize, usize, What<'a>, &'a str),
     /// The journal is cut, which gives such a volume. It is kept.
@@ -178,7 +178,7 @@ const BY_VOLUMES: [Case; 4] = [
 const BY_BOTH_VOLUMES: [Case; 1] = [(0, 2, 0, 2, Ok(Settled))];
 
 /// What is done, and how the nodes settle then.
-pub(super) type Turn<'a> = (&'a [Does<'a>], &'a [Case]);
+type Turn<'a> = (&'a [Does<'a>], &'a [Case]);
 
 /// How many nodes and passes there are, and their turns.
 type Set = (u16, u32, &'static [Turn<'static>]);
@@ -322,7 +322,7 @@ fn settle_each<R: Wait + Abort>(
 }
 
 /// New nodes take turns with new passes.
-pub(super) fn take_turns<R: Wait + Abort>(
+fn take_turns<R: Wait + Abort>(
     rt: &R,
     alloc: Global,
     (nodes, count): (u16, u32),

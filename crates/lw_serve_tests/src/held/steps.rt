@@ -16,7 +16,9 @@ pub(super) fn call<R: Wait + Abort>(
     requires { AreDistinct passes.old }
     ensures { AreDistinct passes.new }
 {
-    assert!(rt; pass < passes.len());
+    if pass >= passes.len() {
+        panic!(rt; "a pass");
+    }
     let made = what.made(rt, alloc)?;
     let lent = &mut passes[pass];
     let placed = shelf.call(rt, &NoGate, lent, &made);
@@ -39,7 +41,9 @@ pub(super) fn step<R: Abort>(
     requires { AreDistinct passes.old }
     ensures { AreDistinct passes.new }
 {
-    assert!(rt; pass < passes.len());
+    if pass >= passes.len() {
+        panic!(rt; "a pass");
+    }
     let made = what.made(rt, alloc)?;
     let lent = &mut passes[pass];
     let placed = lent.step(1, held, &made);

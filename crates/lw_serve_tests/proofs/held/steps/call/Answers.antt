@@ -8,6 +8,6 @@ use Rattle.lw_serve_tests.proofs.held.steps.call.Goals as goal
 pub returns-in-Ok : goal.returns-in-Ok
 returns-in-Ok g c =
     let lent = slice_index_or c.args.passes.now c.args.pass c.index-passes-pass.result in
-    distinct_kept c.args.passes.now c.args.pass lent c.call-placed.new.pass (slice_get_read _ _ _ _ refl c.if-assert.false c.index-passes-pass.is ∙ ap (λ (x : Transcript). Some x) c.index-passes-pass.is)
+    distinct_kept c.args.passes.now c.args.pass lent c.call-placed.new.pass (slice_get_read _ _ _ _ refl c.if-pass-passes.false c.index-passes-pass.is ∙ ap (λ (x : Transcript). Some x) c.index-passes-pass.is)
     (number_kept c.args.shelf.now.number (λ place entry. IsAnswered lent.number (length lent.parts) c.in_ok-made.made entry place) c.call-placed.result lent c.call-placed.new.pass c.call-placed.ensures.answered c.call-placed.ensures.unchanged)
     c.requires
