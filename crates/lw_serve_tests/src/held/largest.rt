@@ -68,12 +68,12 @@ fn is_merged<R: Wait + Abort>(
     alloc: Global,
     shelves: &[Shelf],
     passes: &mut [Pass],
-    (register, name, shows): (&str, &str, &str),
-    (delta, sent): (&str, &str),
+    texts: [&str; 5],
 )
     requires shelves { AreInOrder shelves.now }
     requires passes { AreDistinct passes.old }
 {
+    let [register, name, shows, delta, sent] = texts;
     let created = "1 0 604100048272640d0330303030303030303030303130303031";
     calls(rt, alloc, shelves, passes, 0, 63, Takes(register), created);
     calls(rt, alloc, shelves, passes, 0, 63, ByEndpoint(name), shows);
@@ -100,11 +100,8 @@ fn the_longest_is_merged<R: Wait + Abort>(
     let (register, name) = (whole(rt, alloc, &LONGEST), whole(rt, alloc, &NAME));
     let (shows, delta) = (whole(rt, alloc, &SHOWS), whole(rt, alloc, &DELTA));
     let sent = whole(rt, alloc, &SENT);
-    let (taken, told) = (
-        (register.as_str(), name.as_str(), shows.as_str()),
-        (delta.as_str(), sent.as_str()),
-    );
-    is_merged(rt, alloc, shelves, passes, taken, told);
+    let texts: [&str; 5] = [&register, &name, &shows, &delta, &sent];
+    is_merged(rt, alloc, shelves, passes, texts);
 }
 
 /// Tries: Held::step
