@@ -1,11 +1,12 @@
 //! Datagrams, the calls that take and ask for them, and what is given as a text.
 
+use hex::FromHexError;
 use lw_node::{
-    Addr, Answer, Bytes, Call, MergeFault, ObserveFault, Question, Reply, Seen, Sent, Text,
+    Addr, Answer, Bytes, Call, MergeFault, ObserveFault, Path, Question, Reply, Seen, Sent, Text,
 };
 use lw_stamp::{Moment, NoMemory, Stamp};
 use std::alloc::{AllocError, Global};
-use std::test::Fail;
+use std::process::Abort;
 
 /// A Register of `a` with the object list `</>`, message ID 4.
 pub(super) const REGISTER: &str = "40020004b272644465703d61ff3c2f3e";
@@ -13,33 +14,79 @@ pub(super) const REGISTER: &str = "40020004b272644465703d61ff3c2f3e";
 /// The reply to the first Register with message ID 4 at node 1.
 pub(super) const CREATED: &str = "604100048272640d0330303030303030303030303130303031";
 
-/// The bytes that the digits spell.
-pub(super) fn bytes(alloc: Global, text: &str) -> Result<Bytes, Fail> {
-    Ok(Bytes::from_vec(hex::decode(alloc, text)?)?)
+/// What is asked of a node. Datagrams and deltas are in hex, addresses are 127.0.0.1:5683, and moments are 0 but for
+/// those of sweeps, in milliseconds.
+#[derive(Clone, Copy)]
+pub(super) enum What<'a> {
+    Takes(&'a str),
+    Observes(&'a str, &'a [u16], u16),
+    Cancels(&'a str, u16),
+    Sweeps(u64),
+    Sends(u64),
+    Merges(&'a str),
+    ByEndpoint(&'a str),
 }
 
-/// The datagram, to be taken at moment 0 from 127.0.0.1:5683.
-pub(super) fn take(alloc: Global, datagram: &str) -> Result<Call, Fail> {
+impl What<'_> {
+    pub(super) fn made<R: Abort>(self, rt: &R, alloc: Global) -> Result<Call, NoMemory> {
+        let now = Moment::START;
+        match self {
+            What::Takes(datagram) => take(rt, alloc, datagram),
+            What::Observes(id, path, mid) => Ok(Call::Observe {
+                now,
+                id: stamp(rt, id),
+                path: Path::new(path).expect(rt, "a path"),
+                accept: None,
+                mid,
+            }),
+            What::Cancels(token, mid) => Ok(Call::Cancel {
+                now,
+                token: stamp(rt, token),
+                mid,
+            }),
+            What::Sweeps(ms) => Ok(Call::Sweep {
+                now: Moment::new(ms).expect(rt, "a moment"),
+            }),
+            What::Sends(since) => Ok(Call::Send { since }),
+            What::Merges(delta) => merge(rt, alloc, delta),
+            What::ByEndpoint(endpoint) => ask(alloc, endpoint),
+        }
+    }
+}
+
+fn stamp<R: Abort>(rt: &R, text: &str) -> Stamp {
+    Stamp::read_id(text.as_bytes()).expect(rt, "an identifier")
+}
+
+/// The bytes that the digits spell.
+fn bytes<R: Abort>(rt: &R, alloc: Global, text: &str) -> Result<Bytes, NoMemory> {
+    match hex::decode(alloc, text) {
+        Ok(bytes) => Ok(Bytes::from_vec(bytes)?),
+        Err(fault) => {
+            assert_eq!(rt; fault, FromHexError::OutOfMemory);
+            Err(NoMemory)
+        }
+    }
+}
+
+fn take<R: Abort>(rt: &R, alloc: Global, datagram: &str) -> Result<Call, NoMemory> {
     Ok(Call::Take {
         now: Moment::START,
         from: Addr::V4 {
             address: [127, 0, 0, 1],
             port: 5683,
         },
-        bytes: bytes(alloc, datagram)?,
+        bytes: bytes(rt, alloc, datagram)?,
     })
 }
 
-/// Sweeps at a moment in milliseconds.
-pub(super) fn sweep(ms: u64) -> Result<Call, Fail> {
-    match Moment::new(ms) {
-        Some(now) => Ok(Call::Sweep { now }),
-        None => Err("a moment".into()),
-    }
+fn merge<R: Abort>(rt: &R, alloc: Global, delta: &str) -> Result<Call, NoMemory> {
+    Ok(Call::Merge {
+        bytes: bytes(rt, alloc, delta)?,
+    })
 }
 
-/// Asks for an endpoint at moment 0.
-pub(super) fn ask(alloc: Global, endpoint: &str) -> Result<Call, Fail> {
+fn ask(alloc: Global, endpoint: &str) -> Result<Call, NoMemory> {
     Ok(Call::Ask {
         now: Moment::START,
         question: Question::ByEndpoint(Text::copy_of(alloc, endpoint)?),

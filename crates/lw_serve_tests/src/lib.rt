@@ -8,6 +8,4 @@ mod crew;
 #[cfg(test)]
 mod held;
 #[cfg(test)]
-mod hold;
-#[cfg(test)]
 mod serve;

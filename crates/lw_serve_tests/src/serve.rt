@@ -1,29 +1,33 @@
-mod cutting;
 mod keeping;
+mod many;
 mod moments;
 mod refused;
-mod rounds;
-mod sweeping;
+mod runs;
 mod udp;
 mod wire;
 
-use crate::calls::{CREATED, REGISTER};
-use crate::hold::{holds, is_text, same};
+use log::sink::Discard;
 use lw_reg::Addr;
-use lw_serve::{HostClock, Plan, ServeFault, SystemClock, UdpWire, Wire, WireFault, serve_on};
-use lw_stamp::Moment;
-use std::alloc::Global;
-use std::test::Fail;
-use wire::{
-    Arrival, Coming, FewWrites, MemoryWire, Ticks, bytes, is_served, is_served_at, is_served_cut,
-    run, run_cut,
+use lw_serve::{
+    HostClock, Plan, ServeFault, SystemClock, UdpWire, VolumeSink, Wire, WireFault, serve_into,
+    serve_on,
 };
+use lw_stamp::{Moment, NoMemory};
+use std::alloc::Global;
+use std::process::Abort;
+use std::sync::Wait;
+use std::thread::Threads;
+use wire::Coming::{self, Alone, AtOnce, BehindFault};
+use wire::{Arrival, FewWrites, MemoryWire, Ticks};
 
 /// An empty message, message ID 7.
 const PING: &[u8] = &[0x40, 0, 0, 7];
 
-/// A Register of `b` with the object list `</>`, message ID 5.
-const OTHER_REGISTER: &str = "40020005b272644465703d62ff3c2f3e";
+/// A Register of `a` with the object list `</>`, message ID 4.
+const REGISTER: &[u8] = b"\x40\x02\x00\x04\xb2rd\x44ep=a\xff</>";
 
-/// The reply to it at node 2, where that knows of one operation.
-const CREATED_SECOND: &str = "604100058272640d0330303030303030303030303230303032";
+/// A Register of `b` with the object list `</>`, message ID 5.
+const OTHER_REGISTER: &[u8] = b"\x40\x02\x00\x05\xb2rd\x44ep=b\xff</>";
+
+/// An Update of lifetime 120 of what node 1 registers first, message ID 16.
+const UPDATE: &[u8] = b"\x40\x02\x00\x10\xb2rd\x0d\x030000000000010001\x46lt=120";

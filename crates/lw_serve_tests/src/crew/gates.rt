@@ -1,140 +1,151 @@
 //! What a gate is told, and when.
 
 use super::*;
-use lw_node::{Bytes, Call};
-use lw_reg::Addr;
-use lw_stamp::Moment;
 use std::sync::atomic::{AtomicU64, Ordering};
 use std::thread;
 use std::time::{Clock, Duration};
 
-/// A number that threads count, and wait for.
+/// Counts one, and gives how many there were before.
+fn add_one(count: &AtomicU64) -> u64 {
+    count.fetch_add(1, Ordering::SeqCst)
+}
+
+/// Waits for up to ten seconds until there are so many.
+fn wait_for<R: Clock + Abort>(rt: &R, count: &AtomicU64, want: u64) {
+    for _turn in 0..10_000 {
+        if count.load(Ordering::SeqCst) >= want {
+            return;
+        }
+        thread::sleep(rt, Duration::from_millis(1));
+    }
+    panic!(rt; "a wait for {want} in vain");
+}
+
+/// Watches which jobs start, lets no worker do one of them, holds each worker until so many have started a job, and
+/// stays inside for a while.
 #[derive(Drop)]
-pub(super) struct Count(AtomicU64);
+pub(super) struct Watch<'a, R: Clock + Abort + Sync> {
+    pub(super) rt: &'a R,
+    /// The job that is not done while fewer than so many have started.
+    pub(super) refused: (u64, u64),
+    pub(super) awaited: u64,
+    /// In milliseconds.
+    pub(super) stays: u64,
+    pub(super) started: AtomicU64,
+    /// How many jobs were not the next one, or of another worker than the first.
+    pub(super) astray: AtomicU64,
+    /// How many were of another worker than the first.
+    pub(super) others: AtomicU64,
+}
 
-impl Count {
-    pub(super) fn new() -> Count {
-        Count(AtomicU64::new(0))
-    }
-
-    pub(super) fn get(&self) -> u64 {
-        self.0.load(Ordering::SeqCst)
-    }
-
-    /// Counts one, and gives how many there were before.
-    pub(super) fn add_one(&self) -> u64 {
-        self.0.fetch_add(1, Ordering::SeqCst)
-    }
-
-    /// Waits for up to five seconds until there are so many, and tells whether there are.
-    pub(super) fn comes_to<C: Clock>(&self, clock: &C, want: u64) -> bool {
-        for _turn in 0..5_000 {
-            if self.get() >= want {
-                return true;
-            }
-            thread::sleep(clock, Duration::from_millis(1));
+impl<'a, R: Clock + Abort + Sync> Watch<'a, R> {
+    pub(super) fn new(rt: &'a R, refused: (u64, u64), awaited: u64, stays: u64) -> Watch<'a, R> {
+        Watch {
+            rt,
+            refused,
+            awaited,
+            stays,
+            started: AtomicU64::new(0),
+            astray: AtomicU64::new(0),
+            others: AtomicU64::new(0),
         }
-        false
     }
 
-    /// Counts one, and waits until all three of its round are counted. What waits in vain is counted too. Gives how
-    /// many there were before the round.
-    fn meet<C: Clock>(&self, clock: &C, lost: &Count) -> u64 {
-        let first = first_of_round(self.add_one());
-        if lost.get() == 0 && !self.comes_to(clock, first.wrapping_add(3)) {
-            lost.add_one();
-        }
-        first
+    /// How many jobs were started, how many of them astray, and how many by others.
+    pub(super) fn counts(&self) -> (u64, u64, u64) {
+        (
+            self.started.load(Ordering::SeqCst),
+            self.astray.load(Ordering::SeqCst),
+            self.others.load(Ordering::SeqCst),
+        )
     }
 }
 
-/// For each of nine jobs, the sum of what was told of it.
-#[derive(Drop)]
-struct Notes(Vec<AtomicU64>);
-
-impl Notes {
-    fn new(alloc: Global) -> Result<Notes, AllocError> {
-        let mut notes = Vec::new(alloc);
-        for _job in 0..9 {
-            notes.push(AtomicU64::new(0))?;
+impl<R: Clock + Abort + Sync> Gate for Watch<'_, R> {
+    fn start(&self, worker: u32, job: u64) -> bool {
+        let before = add_one(&self.started);
+        if worker != 0 {
+            add_one(&self.others);
         }
-        Ok(Notes(notes))
+        if worker != 0 || job != before {
+            add_one(&self.astray);
+        }
+        wait_for(self.rt, &self.started, self.awaited);
+        let (refused, until) = self.refused;
+        job != refused || before >= until
     }
 
-    fn add(&self, job: u64, number: u64) {
-        if let Some(note) = self.0.get(job as usize) {
-            note.fetch_add(number, Ordering::SeqCst);
-        }
+    fn inside(&self, _node: u16, _pass: u32) {
+        thread::sleep(self.rt, Duration::from_millis(self.stays));
     }
 
-    /// Whether the job was done in its round, and what was told of it is the pass, counted from 1.
-    fn is_of(&self, done: &Done) -> bool {
-        match (self.0.get(done.job as usize), done.result) {
-            (Some(note), JobOutcome::At { pass, number }) => {
-                number == done.job / 3
-                    && note.load(Ordering::SeqCst) == u64::from(pass).wrapping_add(1)
-            }
-            _ => false,
-        }
-    }
+    fn answered(&self, _node: u16, _pass: u32) {}
+}
 
-    /// For how many that is so.
-    fn of(&self, dones: &[Done]) -> u64 {
-        let mut count = 0_u64;
-        for done in dones {
-            if self.is_of(done) {
-                count = count.wrapping_add(1);
-            }
-        }
-        count
+/// For each job, the sum of what was told of it.
+type Notes = Vec<AtomicU64>;
+
+fn add(notes: &Notes, job: u64, number: u32) {
+    if let Some(note) = notes.get(job as usize) {
+        note.fetch_add(u64::from(number).wrapping_add(1), Ordering::SeqCst);
     }
 }
 
-/// Holds three workers with nine jobs, of which each three in a row are at nodes 1 to 3. Each worker is held until
-/// three have started a job, and each call until three are inside. So the jobs are done in three rounds. Of each job
-/// are noted the worker that started it and the pass that was told inside and when it was answered, counted from 1.
+/// Holds workers with nine jobs or fewer, of which each few in a row are at nodes 1, 2 and so on. Each worker is held
+/// until as many have started a job, and each call until as many are inside. So the jobs are done in rounds. Of each
+/// job are noted the worker that started it and the pass that was told inside and when it was answered, counted from 1.
 #[derive(Drop)]
-struct Rounds<'a, C: Clock + Sync> {
-    clock: &'a C,
-    started: Count,
-    inside: Count,
-    answered: Count,
-    /// How many waited in vain.
-    lost: Count,
+struct Rounds<'a, R: Clock + Abort + Sync> {
+    rt: &'a R,
+    /// How many jobs a round has.
+    width: u64,
+    started: AtomicU64,
+    inside: AtomicU64,
+    answered: AtomicU64,
     workers: Notes,
     passes_inside: Notes,
     passes_answered: Notes,
 }
 
-impl<'a, C: Clock + Sync> Rounds<'a, C> {
-    fn new(alloc: Global, clock: &'a C) -> Result<Rounds<'a, C>, AllocError> {
-        Ok(Rounds {
-            clock,
-            started: Count::new(),
-            inside: Count::new(),
-            answered: Count::new(),
-            lost: Count::new(),
-            workers: Notes::new(alloc)?,
-            passes_inside: Notes::new(alloc)?,
-            passes_answered: Notes::new(alloc)?,
-        })
+/// Nine notes.
+fn notes<R: Abort>(rt: &R, alloc: Global) -> Notes {
+    let mut notes = Vec::new(alloc);
+    for _job in 0..9 {
+        notes.push(AtomicU64::new(0)).expect(rt, "memory");
     }
+    notes
+}
 
-    /// How many waited in vain; of how many jobs the worker that was noted has the pass that made the call; and for how
-    /// many that pass was told inside, and when it was answered.
-    fn counts(&self, dones: &[Done]) -> (u64, u64, u64, u64) {
-        (
-            self.lost.get(),
-            self.workers.of(dones),
-            self.passes_inside.of(dones),
-            self.passes_answered.of(dones),
-        )
+/// The first job of the round of that width in which so many came before.
+fn first_of_round(width: u64, before: u64) -> u64 {
+    match before.checked_rem(width) {
+        Some(place) => before.wrapping_sub(place),
+        None => before,
     }
 }
 
-/// The first job of the round in which so many came before.
-fn first_of_round(before: u64) -> u64 {
-    before.wrapping_sub(before % 3)
+/// Counts one, and waits until all of its round are counted. Gives how many there were before the round.
+fn meet<R: Clock + Abort>(rt: &R, width: u64, count: &AtomicU64) -> u64 {
+    let first = first_of_round(width, add_one(count));
+    wait_for(rt, count, first.wrapping_add(width));
+    first
+}
+
+/// For how many jobs the note is of the pass that made the call, which was done in its round.
+fn of_pass(notes: &Notes, width: u64, dones: &[Done]) -> u64 {
+    let mut count = 0_u64;
+    for done in dones {
+        if let (Some(note), JobOutcome::At { pass, number }) = (
+            notes.get(done.job as usize),
+            done.result,
+        )
+            && done.job.checked_div(width) == Some(number)
+            && note.load(Ordering::SeqCst) == u64::from(pass).wrapping_add(1)
+        {
+            count = count.wrapping_add(1);
+        }
+    }
+    count
 }
 
 /// The job at the node in the round of the first job.
@@ -142,203 +153,123 @@ fn job_at(first: u64, node: u16) -> u64 {
     first.wrapping_add(u64::from(node)).wrapping_sub(1)
 }
 
-impl<C: Clock + Sync> Gate for Rounds<'_, C> {
+impl<R: Clock + Abort + Sync> Gate for Rounds<'_, R> {
     fn start(&self, worker: u32, job: u64) -> bool {
-        let first = self.started.meet(self.clock, &self.lost);
+        let first = meet(self.rt, self.width, &self.started);
         // A job of another round is not noted.
-        if first_of_round(job) == first {
-            self.workers.add(job, u64::from(worker).wrapping_add(1));
+        if first_of_round(self.width, job) == first {
+            add(&self.workers, job, worker);
         }
         true
     }
 
     fn inside(&self, node: u16, pass: u32) {
-        let job = job_at(self.inside.meet(self.clock, &self.lost), node);
-        self.passes_inside.add(job, u64::from(pass).wrapping_add(1));
+        let first = meet(self.rt, self.width, &self.inside);
+        add(&self.passes_inside, job_at(first, node), pass);
     }
 
     fn answered(&self, node: u16, pass: u32) {
-        let job = job_at(first_of_round(self.answered.add_one()), node);
-        self.passes_answered
-            .add(job, u64::from(pass).wrapping_add(1));
+        let first = first_of_round(self.width, add_one(&self.answered));
+        add(&self.passes_answered, job_at(first, node), pass);
     }
 }
 
-/// Has three workers register at three nodes in three rounds: what the gate has counted.
-fn counted<R: Threads + Wait + Sync, C: Clock + Sync>(
-    rt: &R,
-    alloc: Global,
-    gate: &Rounds<'_, C>,
-) -> Result<String, Fail> {
-    let jobs = registers(alloc, &[1, 2, 3, 1, 2, 3, 1, 2, 3])?;
-    let (shelves, passes) = set_up(alloc, 3, 3)?;
-    let mut crew = Crew::new(Sharing::ByNode);
-    let (_passes, result) = crew.serve_jobs(rt, alloc, &shelves, passes, &jobs, gate);
-    match result {
-        Ok(dones) => Ok(format!(in alloc; "{:?}", gate.counts(&dones))?),
-        Err(_) => Err("results".into()),
-    }
-}
+/// How many nodes and workers there are, at which nodes the jobs are, and what comes of them.
+static AT_ONCE: [(u16, u32, &[u16], &str); 2] = [
+    (
+        2,
+        2,
+        &[1, 2],
+        "0: 1 0 604100048272640d0330303030303030303030303130303031
+1: 2 0 604100048272640d0330303030303030303030303130303032
+2 passes, 2 parts, Ok(Settled)",
+    ),
+    (
+        3,
+        3,
+        &[1, 2, 3, 1, 2, 3, 1, 2, 3],
+        "0: 1 0 604100048272640d0330303030303030303030303130303031
+1: 2 0 604100048272640d0330303030303030303030303130303032
+2: 3 0 604100048272640d0330303030303030303030303130303033
+3: 1 1 604100048272640d0330303030303030303030303230303031
+4: 2 1 604100048272640d0330303030303030303030303230303032
+5: 3 1 604100048272640d0330303030303030303030303230303033
+6: 1 2 604100048272640d0330303030303030303030303330303031
+7: 2 2 604100048272640d0330303030303030303030303330303032
+8: 3 2 604100048272640d0330303030303030303030303330303033
+3 passes, 9 parts, Ok(Settled)",
+    ),
+];
 
-/// Tries: Crew::serve_jobs, lw_held::Shelf::call
+/// Tries: Crew::serve_jobs, Crew::new, lw_held::Shelf::call
 #[test]
-fn three_workers_do_jobs_at_once_and_in_order(rt: HostRuntime) -> Result<(), Fail> {
-    let gate = Rounds::new(rt.alloc(), &rt)?;
-    let counted = counted(&rt, rt.alloc(), &gate);
-    drop(gate);
-    same(counted?.as_str(), "(0, 9, 9, 9)")
+fn workers_do_jobs_at_once_and_in_order(rt: HostRuntime) {
+    let alloc = rt.alloc();
+    for (nodes, workers, at, want) in &AT_ONCE {
+        let gate = Rounds {
+            rt: &rt,
+            width: u64::from(*nodes),
+            started: AtomicU64::new(0),
+            inside: AtomicU64::new(0),
+            answered: AtomicU64::new(0),
+            workers: notes(&rt, alloc),
+            passes_inside: notes(&rt, alloc),
+            passes_answered: notes(&rt, alloc),
+        };
+        let sizes = (*nodes, *workers, Sharing::ByNode);
+        let (text, dones) = played(&rt, alloc, sizes, &[(at, Takes(REGISTER))], &gate);
+        assert_eq!(rt; text.as_str(), *want);
+        let count = at.len() as u64;
+        assert_eq!(rt; gate.answered.load(Ordering::SeqCst), count);
+        assert_eq!(rt; of_pass(&gate.workers, gate.width, &dones), count);
+        assert_eq!(rt; of_pass(&gate.passes_inside, gate.width, &dones), count);
+        assert_eq!(rt; of_pass(&gate.passes_answered, gate.width, &dones), count);
+    }
 }
 
 /// Watches two workers that call the first node. The first call stays inside for a while when the other worker has its
-/// job, and then, when it was answered, waits until the other is inside.
+/// job, and is alone there. Then, when it was answered, it waits until the other is inside.
 #[derive(Drop)]
-struct Turns<'a, C: Clock + Sync> {
-    clock: &'a C,
-    started: Count,
-    inside: Count,
-    /// How many were inside with another.
-    met: Count,
-    /// How many waited in vain.
-    lost: Count,
+struct Turns<'a, R: Clock + Abort + Sync> {
+    rt: &'a R,
+    started: AtomicU64,
+    inside: AtomicU64,
 }
 
-impl<C: Clock + Sync> Gate for Turns<'_, C> {
+impl<R: Clock + Abort + Sync> Gate for Turns<'_, R> {
     fn start(&self, _worker: u32, _job: u64) -> bool {
-        self.started.add_one();
+        add_one(&self.started);
         true
     }
 
     fn inside(&self, node: u16, _pass: u32) {
-        if node != 1 || self.inside.add_one() > 0 {
-            return;
-        }
-        if !self.started.comes_to(self.clock, 2) {
-            self.lost.add_one();
-        }
-        thread::sleep(self.clock, Duration::from_millis(200));
-        if self.inside.get() > 1 {
-            self.met.add_one();
+        if node == 1 && add_one(&self.inside) == 0 {
+            wait_for(self.rt, &self.started, 2);
+            thread::sleep(self.rt, Duration::from_millis(200));
+            assert_eq!(self.rt; self.inside.load(Ordering::SeqCst), 1, "one alone inside");
         }
     }
 
     fn answered(&self, node: u16, _pass: u32) {
-        if node == 1 && !self.inside.comes_to(self.clock, 2) {
-            self.lost.add_one();
+        if node == 1 {
+            wait_for(self.rt, &self.inside, 2);
         }
     }
 }
 
 /// Tries: Crew::serve_jobs, lw_held::Shelf::call
 #[test]
-fn a_call_is_alone_inside_and_answered_after_the_lock(rt: HostRuntime) -> Result<(), Fail> {
+fn a_call_is_alone_inside_and_answered_after_the_lock(rt: HostRuntime) {
     let gate = Turns {
-        clock: &rt,
-        started: Count::new(),
-        inside: Count::new(),
-        met: Count::new(),
-        lost: Count::new(),
+        rt: &rt,
+        started: AtomicU64::new(0),
+        inside: AtomicU64::new(0),
     };
     // A third job, at another node, is what the second worker has its thread for.
-    let played = played(&rt, rt.alloc(), 2, 2, &[1, 1, 2], &gate);
-    let (met, lost) = (gate.met.get(), gate.lost.get());
-    drop(gate);
-    let lines = played?;
-    holds("one alone inside", met == 0)?;
-    holds("the lock is let go", lost == 0)?;
-    holds(
-        "both settle",
-        lines.ends_with("\n2 passes, 3 parts, Ok(Settled)"),
-    )
-}
-
-/// Stays inside for a while, and counts what other workers than the first start.
-#[derive(Drop)]
-struct Lingers<'a, C: Clock + Sync> {
-    clock: &'a C,
-    others: Count,
-}
-
-impl<C: Clock + Sync> Gate for Lingers<'_, C> {
-    fn start(&self, worker: u32, _job: u64) -> bool {
-        if worker != 0 {
-            self.others.add_one();
-        }
-        true
-    }
-
-    fn inside(&self, _node: u16, _pass: u32) {
-        thread::sleep(self.clock, Duration::from_millis(100));
-    }
-
-    fn answered(&self, _node: u16, _pass: u32) {}
-}
-
-/// Tries: Crew::serve_jobs
-#[test]
-fn jobs_at_one_node_are_done_on_one_thread(rt: HostRuntime) -> Result<(), Fail> {
-    let gate = Lingers {
-        clock: &rt,
-        others: Count::new(),
-    };
-    let played = played(&rt, rt.alloc(), 2, 3, &[2, 2, 2], &gate);
-    let others = gate.others.get();
-    drop(gate);
-    let lines = played?;
-    holds("the first worker alone", others == 0)?;
-    holds(
-        "all settle",
-        lines.ends_with("\n3 passes, 3 parts, Ok(Settled)"),
-    )
-}
-
-/// A Take of 8,192 bytes that are no message.
-fn long_at(alloc: Global, node: u16) -> Result<Job, Fail> {
-    let call = Call::Take {
-        now: Moment::START,
-        from: Addr::V4 {
-            address: [127, 0, 0, 1],
-            port: 5683,
-        },
-        bytes: Bytes::from_vec(vec![in alloc; 0x41; 8_192]?)?,
-    };
-    Ok(Job { node, call })
-}
-
-/// How many of the jobs at two nodes are done by the second of two workers who share them so. Each takes a while.
-fn done_by_the_second<R: Threads + Wait + Sync, C: Clock + Sync>(
-    rt: &R,
-    clock: &C,
-    alloc: Global,
-    sharing: Sharing,
-    jobs: &[Job],
-) -> Result<u64, Fail> {
-    let gate = Lingers {
-        clock,
-        others: Count::new(),
-    };
-    let (shelves, passes) = set_up(alloc, 2, 2)?;
-    let mut crew = Crew::new(sharing);
-    let (_passes, result) = crew.serve_jobs(rt, alloc, &shelves, passes, jobs, &gate);
-    let others = gate.others.get();
-    drop(gate);
-    match result {
-        Ok(_) => Ok(others),
-        Err(_) => Err("results".into()),
-    }
-}
-
-/// Tries: Crew::new, Crew::serve_jobs
-#[test]
-fn short_jobs_at_two_nodes_are_shared_by_node_alone(rt: HostRuntime) -> Result<(), Fail> {
-    let alloc = rt.alloc();
-    let short = registers(alloc, &[1, 2, 1, 2])?;
-    let by_work = done_by_the_second(&rt, &rt, alloc, Sharing::ByWork, &short)?;
-    holds("short jobs on one thread", by_work == 0)?;
-    let by_node = done_by_the_second(&rt, &rt, alloc, Sharing::ByNode, &short)?;
-    holds("short jobs on two threads", by_node > 0)?;
-    let mut long = Vec::new(alloc);
-    long.push(long_at(alloc, 1)?)?;
-    long.push(long_at(alloc, 2)?)?;
-    let of_long = done_by_the_second(&rt, &rt, alloc, Sharing::ByWork, &long)?;
-    holds("long jobs on two threads", of_long > 0)
+    let list: List<'_> = (&[1, 1, 2], Takes(REGISTER));
+    let (text, _dones) = played(&rt, rt.alloc(), (2, 2, Sharing::ByNode), &[list], &gate);
+    assert!(rt;
+        text.ends_with("\n2 passes, 3 parts, Ok(Settled)"),
+        "{text}"
+    );
 }

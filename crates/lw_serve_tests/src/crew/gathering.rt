@@ -3,12 +3,12 @@
 use super::*;
 
 /// The results of the jobs, each with its place as a part's number.
-fn results(alloc: Global, jobs: &[u64]) -> Result<Vec<Done>, Fail> {
+fn results<R: Abort>(rt: &R, alloc: Global, jobs: &[u64]) -> Vec<Done> {
     let mut dones = Vec::new(alloc);
     for (number, job) in jobs.iter().enumerate() {
-        dones.push(done(*job, number as u64))?;
+        dones.push(done(*job, number as u64)).expect(rt, "memory");
     }
-    Ok(dones)
+    dones
 }
 
 fn done(job: u64, number: u64) -> Done {
@@ -17,42 +17,30 @@ fn done(job: u64, number: u64) -> Done {
 }
 
 /// The results of the jobs are put in the order of the jobs, where the numbers of their parts are these.
-fn are_gathered(alloc: Global, jobs: &[u64], numbers: &[u64]) -> Result<(), Fail> {
-    let gathered = gather(alloc, jobs.len() as u64, results(alloc, jobs)?)?;
-    holds("the order of the jobs", are_in_order(&gathered, numbers))
-}
-
-fn are_in_order(dones: &[Done], numbers: &[u64]) -> bool {
-    for (job, (result, number)) in dones.iter().zip(numbers).enumerate() {
-        if *result != done(job as u64, *number) {
-            return false;
-        }
+fn are_gathered<R: Abort>(rt: &R, alloc: Global, jobs: &[u64], numbers: &[u64]) {
+    let gathered = gather(alloc, jobs.len() as u64, results(rt, alloc, jobs));
+    let gathered = gathered.expect(rt, "results");
+    assert_eq!(rt; gathered.len(), numbers.len());
+    for (job, (result, number)) in gathered.iter().zip(numbers).enumerate() {
+        assert_eq!(rt; *result, done(job as u64, *number));
     }
-    dones.len() == numbers.len()
 }
 
-/// The numbers of a thousand jobs, the last first. The numbers of their parts fall as well.
-fn backwards(alloc: Global) -> Result<Vec<u64>, Fail> {
-    let mut jobs = Vec::new(alloc);
+/// Jobs that results came of, and the numbers of their parts in the order of the jobs.
+static ORDERS: [(&[u64], &[u64]); 3] = [(&[], &[]), (&[1, 0], &[1, 0]), (&[2, 0, 1], &[1, 2, 0])];
+
+/// A thousand jobs come last, the last of them first. The numbers of their parts fall as well.
+/// Tries: gather
+#[test]
+fn results_are_put_in_order(rt: HostRuntime) {
+    for (jobs, numbers) in &ORDERS {
+        are_gathered(&rt, rt.alloc(), jobs, numbers);
+    }
+    let mut jobs = Vec::new(rt.alloc());
     for job in 0..1000 {
-        jobs.push(999_u64.wrapping_sub(job))?;
+        jobs.push(999_u64.wrapping_sub(job)).expect(&rt, "memory");
     }
-    Ok(jobs)
-}
-
-/// Tries: gather
-#[test]
-fn results_are_put_in_order(rt: HostRuntime) -> Result<(), Fail> {
-    are_gathered(rt.alloc(), &[], &[])?;
-    are_gathered(rt.alloc(), &[1, 0], &[1, 0])?;
-    are_gathered(rt.alloc(), &[2, 0, 1], &[1, 2, 0])
-}
-
-/// Tries: gather
-#[test]
-fn many_results_are_put_in_order(rt: HostRuntime) -> Result<(), Fail> {
-    let jobs = backwards(rt.alloc())?;
-    are_gathered(rt.alloc(), &jobs, &jobs)
+    are_gathered(&rt, rt.alloc(), &jobs, &jobs);
 }
 
 /// How many jobs there are, those that results came of, and the fault with its number.
@@ -65,24 +53,18 @@ static FAULTS: [(u64, &[u64], &str); 6] = [
     (3, &[2, 2, 7], "2 Double { job: 2 }"),
 ];
 
-/// The results of the jobs have the fault.
-fn have_fault(alloc: Global, count: u64, jobs: &[u64], want: &str) -> Result<(), Fail> {
-    match gather(alloc, count, results(alloc, jobs)?) {
-        Ok(_) => Err("a fault".into()),
-        Err(fault) => is_fault(alloc, fault, want),
-    }
-}
-
-fn is_fault(alloc: Global, fault: CrewFault, want: &str) -> Result<(), Fail> {
+fn is_fault<R: Abort>(rt: &R, alloc: Global, fault: CrewFault, want: &str) {
     let number = fault.number();
-    is_text(format!(in alloc; "{number} {fault:?}"), want)
+    let text = format!(in alloc; "{number} {fault:?}").expect(rt, "memory");
+    assert_eq!(rt; text.as_str(), want);
 }
 
 /// Tries: gather, CrewFault::number
 #[test]
-fn faults_have_numbers(rt: HostRuntime) -> Result<(), Fail> {
+fn faults_have_numbers(rt: HostRuntime) {
     for (count, jobs, want) in &FAULTS {
-        have_fault(rt.alloc(), *count, jobs, want)?;
+        let gathered = gather(rt.alloc(), *count, results(&rt, rt.alloc(), jobs));
+        is_fault(&rt, rt.alloc(), gathered.expect_err(&rt, "a fault"), want);
     }
-    is_fault(rt.alloc(), CrewFault::NoMemory, "4 NoMemory")
+    is_fault(&rt, rt.alloc(), CrewFault::NoMemory, "4 NoMemory");
 }

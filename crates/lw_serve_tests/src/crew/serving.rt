@@ -1,348 +1,281 @@
-//! Jobs at several nodes by several workers.
+//! Jobs at several nodes by several workers, workers that stop early, and crews that are given a list after another.
 
 ghost use Rattle.lw_held.specs.Agree.{AreDistinct};
 ghost use Rattle.lw_held.specs.Shelves.{AreInOrder};
 
-use super::gates::Count;
+use super::gates::Watch;
 use super::*;
-use crate::held::steps::{What, call, part_is, settle_some};
-use std::sync::atomic::{AtomicU64, Ordering};
-use std::thread;
-use std::time::{Clock, Duration};
+use lw_crew::Shelf;
 
-/// Holds the calls of two nodes until both are inside, and counts what was answered.
-#[derive(Drop)]
-struct Meeting<'a, C: Clock + Sync> {
-    clock: &'a C,
-    inside: [AtomicU64; 2],
-    lost: AtomicU64,
-    answered: [AtomicU64; 2],
-}
+/// A job that no list has.
+const NONE: u64 = u64::MAX;
 
-impl<C: Clock + Sync> Gate for Meeting<'_, C> {
-    fn start(&self, _worker: u32, _job: u64) -> bool {
-        true
-    }
+/// How many nodes and workers there are; at which nodes the jobs of each list are; the job that no worker is to do
+/// while fewer than so many have started; how many start, and how many of them not as the next one of the first worker;
+/// and what comes of the lists.
+type Run = (
+    u16,
+    u32,
+    &'static [&'static [u16]],
+    (u64, u64),
+    (u64, u64),
+    &'static str,
+);
 
-    fn inside(&self, node: u16, _pass: u32) {
-        let [first, second] = &self.inside;
-        let (mine, theirs) = if node == 1 {
-            (first, second)
-        } else {
-            (second, first)
-        };
-        mine.store(1, Ordering::SeqCst);
-        for _turn in 0..10000 {
-            if theirs.load(Ordering::SeqCst) == 1 {
-                return;
-            }
-            thread::sleep(self.clock, Duration::from_millis(1));
-        }
-        self.lost.fetch_add(1, Ordering::SeqCst);
-    }
-
-    fn answered(&self, node: u16, _pass: u32) {
-        let [first, second] = &self.answered;
-        let mine = if node == 1 { first } else { second };
-        mine.fetch_add(1, Ordering::SeqCst);
-    }
-}
-
-impl<'a, C: Clock + Sync> Meeting<'a, C> {
-    fn new(clock: &'a C) -> Meeting<'a, C> {
-        Meeting {
-            clock,
-            inside: [AtomicU64::new(0), AtomicU64::new(0)],
-            lost: AtomicU64::new(0),
-            answered: [AtomicU64::new(0), AtomicU64::new(0)],
-        }
-    }
-
-    /// How many calls waited in vain, and how many of each node were answered.
-    fn counts(&self) -> (u64, u64, u64) {
-        let [first, second] = &self.answered;
-        (
-            self.lost.load(Ordering::SeqCst),
-            first.load(Ordering::SeqCst),
-            second.load(Ordering::SeqCst),
-        )
-    }
-}
-
-/// What comes of a Register at each of two nodes, where each of two passes makes a call.
-const REGISTERED: &str = "0: 1 0 604100048272640d0330303030303030303030303130303031
-1: 2 0 604100048272640d0330303030303030303030303130303032
-2 passes, 2 parts, Ok(Settled)";
+static RUNS: [Run; 7] = [
+    // Nodes without a shelf.
+    (
+        2,
+        1,
+        &[&[3, 0, 65535, 1]],
+        (NONE, 0),
+        (4, 0),
+        "0: NoSuchNode
+1: NoSuchNode
+2: NoSuchNode
+3: 1 0 604100048272640d0330303030303030303030303130303031
+1 passes, 1 parts, Ok(Settled)",
+    ),
+    // One worker does the jobs in order.
+    (
+        3,
+        1,
+        &[&[3, 1, 3]],
+        (NONE, 0),
+        (3, 0),
+        "0: 3 0 604100048272640d0330303030303030303030303130303033
+1: 1 0 604100048272640d0330303030303030303030303130303031
+2: 3 1 604100048272640d0330303030303030303030303230303033
+1 passes, 3 parts, Ok(Settled)",
+    ),
+    // No jobs.
+    (
+        1,
+        3,
+        &[&[]],
+        (NONE, 0),
+        (0, 0),
+        "3 passes, 0 parts, Ok(Settled)",
+    ),
+    // A stopped worker leaves its job to none, and what comes behind to others.
+    (
+        1,
+        2,
+        &[&[1, 1]],
+        (0, NONE),
+        (2, 1),
+        "Missing { job: 0 }\n2 passes, 1 parts, Ok(Settled)",
+    ),
+    (
+        1,
+        1,
+        &[&[1, 1]],
+        (0, NONE),
+        (1, 0),
+        "Missing { job: 0 }\n1 passes, 0 parts, Ok(Settled)",
+    ),
+    (
+        1,
+        1,
+        &[&[1, 1, 1]],
+        (2, NONE),
+        (3, 0),
+        "Missing { job: 2 }\n1 passes, 2 parts, Ok(Settled)",
+    ),
+    // A crew goes on after a stopped worker.
+    (
+        1,
+        1,
+        &[&[1, 1, 1], &[1, 1, 1]],
+        (1, 2),
+        (5, 3),
+        "Missing { job: 1 }
+0: 1 1 604100048272640d0330303030303030303030303230303031
+1: 1 2 604100048272640d0330303030303030303030303330303031
+2: 1 3 604100048272640d0330303030303030303030303430303031
+1 passes, 4 parts, Ok(Settled)",
+    ),
+];
 
 /// Tries: Crew::serve_jobs, Crew::new
 #[test]
-fn two_nodes_are_called_at_once(rt: HostRuntime) -> Result<(), Fail> {
-    let gate = Meeting::new(&rt);
-    let registered = register_at_once(&rt, rt.alloc(), &gate);
-    let counts = gate.counts();
-    drop(gate);
-    registered?;
-    holds("both at once", counts == (0, 1, 1))
-}
-
-/// Has two workers register at two nodes. The pass of the first job then reads back what it wrote, and neither pass
-/// settles alone.
-fn register_at_once<R: Threads + Wait + Sync, G: Gate>(
-    rt: &R,
-    alloc: Global,
-    gate: &G,
-) -> Result<(), Fail> {
-    let jobs = registers(alloc, &[1, 2])?;
-    do_at_once(rt, alloc, &jobs, gate)
-}
-
-fn do_at_once<R: Threads + Wait + Sync, G: Gate>(
-    rt: &R,
-    alloc: Global,
-    jobs: &[Job],
-    gate: &G,
-) -> Result<(), Fail> {
-    let (shelves, passes) = set_up(alloc, 2, 2)?;
-    let mut crew = Crew::new(Sharing::ByNode);
-    let (mut passes, result) = crew.serve_jobs(rt, alloc, &shelves, passes, jobs, gate);
-    are_registered(rt, alloc, &shelves, &mut passes, &result)
-}
-
-fn are_registered<R: Wait>(
-    rt: &R,
-    alloc: Global,
-    shelves: &[Shelf],
-    passes: &mut [Pass],
-    done: &Result<Vec<Done>, CrewFault>,
-) -> Result<(), Fail>
-    requires shelves { AreInOrder shelves.now }
-    requires passes { AreDistinct passes.old }
-{
-    let settled = settle_alone(rt, shelves, passes);
-    is_told(alloc, passes, done, settled, REGISTERED)?;
-    match first_pass(done) {
-        Some(first) => read_back(rt, alloc, shelves, passes, first),
-        None => Err("a result".into()),
+fn jobs_are_done_in_order_or_told(rt: HostRuntime) {
+    for (nodes, workers, lists, refused, (starts, astray), want) in &RUNS {
+        let gate = Watch::new(&rt, *refused, 0, 0);
+        let mut jobs = Vec::new(rt.alloc());
+        for at in *lists {
+            jobs.push((*at, Takes(REGISTER))).expect(&rt, "memory");
+        }
+        let sizes = (*nodes, *workers, Sharing::ByNode);
+        let (text, _dones) = played(&rt, rt.alloc(), sizes, &jobs, &gate);
+        assert_eq!(rt; text.as_str(), *want);
+        let (started, gone_astray, _others) = gate.counts();
+        assert_eq!(rt; (started, gone_astray), (*starts, *astray), "{want}");
     }
 }
 
-fn is_told(
-    alloc: Global,
-    passes: &[Pass],
-    done: &Result<Vec<Done>, CrewFault>,
-    settled: Result<Settled, Unsettled>,
-    want: &str,
-) -> Result<(), Fail> {
-    same(told(alloc, passes, done, settled)?.as_str(), want)
+/// Two workers register at a node each. The pass of the first job then reads back what it wrote, and neither pass
+/// settles alone.
+/// Tries: Crew::serve_jobs
+#[test]
+fn passes_go_on_after_a_crew(rt: HostRuntime) {
+    let gate = Watch::new(&rt, (NONE, 0), 2, 0);
+    let (shelves, passes) = set_up(rt.alloc(), 2, 2).expect(&rt, "memory");
+    let jobs = jobs_of(&rt, rt.alloc(), (&[1, 2], Takes(REGISTER)));
+    let mut crew = Crew::new(Sharing::ByNode);
+    let (mut passes, result) = crew.serve_jobs(&rt, rt.alloc(), &shelves, passes, &jobs, &gate);
+    let dones = result.expect(&rt, "results");
+    let first = pass_of_the_first(&rt, &dones);
+    go_on(&rt, rt.alloc(), &shelves, &mut passes, first);
 }
 
 /// The place of the pass that did the first job.
-fn first_pass(done: &Result<Vec<Done>, CrewFault>) -> Option<usize> {
-    match done {
-        Ok(dones) => pass_of(dones.first()?.result),
-        Err(_) => None,
+fn pass_of_the_first<R: Abort>(rt: &R, dones: &[Done]) -> usize {
+    let done = dones.first().expect(rt, "a result");
+    match done.result {
+        JobOutcome::At { pass, .. } => pass as usize,
+        _ => panic!(rt; "no pass"),
     }
 }
 
-fn pass_of(outcome: JobOutcome) -> Option<usize> {
-    match outcome {
-        JobOutcome::At { pass, .. } => Some(pass as usize),
-        _ => None,
-    }
-}
-
-/// Asks the first node for `a` with the pass that registered there, which is shown. By this pass alone the second node
-/// does not settle, and by the other alone the first does not.
-fn read_back<R: Wait>(
+/// The first node is asked with the pass at the place. By this pass alone the second node does not settle, and by the
+/// other alone the first does not.
+fn go_on<R: Wait + Abort>(
     rt: &R,
     alloc: Global,
     shelves: &[Shelf],
     passes: &mut [Pass],
     first: usize,
-) -> Result<(), Fail>
+)
     requires shelves { AreInOrder shelves.now }
     requires passes { AreDistinct passes.old }
 {
-    let Some(shelf) = shelves.first() else {
-        return Err("a shelf".into());
-    };
-    call(rt, alloc, shelf, passes, first, What::ByEndpoint("a"))?;
-    part_is(
-        alloc,
-        passes,
-        first,
-        "1 1 a 0000000000010001 127.0.0.1:5683 0 86400 U false </>",
-    )?;
-    settles_not(rt, shelves, passes, first, 2)?;
-    settles_not(rt, shelves, passes, 1_usize.wrapping_sub(first), 1)
+    let shown = "1 1 a 0000000000010001 127.0.0.1:5683 0 86400 U false </>";
+    calls(rt, alloc, shelves, passes, 0, first, ByEndpoint("a"), shown);
+    let second = 1_usize.wrapping_sub(first);
+    for (pass, end, want) in [
+        (0, 2, Ok(Settled)),
+        (
+            first,
+            first.wrapping_add(1),
+            Err(Unsettled { node: 2, place: 0 }),
+        ),
+        (
+            second,
+            second.wrapping_add(1),
+            Err(Unsettled { node: 1, place: 0 }),
+        ),
+    ] {
+        settles_so(rt, shelves, &[], passes, &(pass, end, 0, 0, want));
+    }
 }
 
-/// By the pass at the place alone the node lacks its first call.
-fn settles_not<R: Wait>(
-    rt: &R,
-    shelves: &[Shelf],
-    passes: &[Pass],
-    pass: usize,
-    node: u16,
-) -> Result<(), Fail>
-    requires shelves { AreInOrder shelves.now }
-    requires passes { AreDistinct passes.now }
-{
-    let settled = settle_some(rt, shelves, passes, pass, pass.wrapping_add(1));
-    holds(
-        "a pass is left out",
-        settled == Err(Unsettled { node, place: 0 }),
-    )
-}
+/// How many nodes and workers there are and how these share jobs, at which nodes the jobs are, whether they are long,
+/// and whether another worker than the first does some; and how many passes and parts there are then. Each job takes a
+/// while.
+type Shared = (Sizes, &'static [u16], bool, bool, &'static str);
 
-/// Tries: Crew::serve_jobs
+static SHARED: [Shared; 4] = [
+    (
+        (2, 3, Sharing::ByNode),
+        &[2, 2, 2],
+        false,
+        false,
+        "\n3 passes, 3 parts, Ok(Settled)",
+    ),
+    (
+        (2, 2, Sharing::ByWork),
+        &[1, 2, 1, 2],
+        false,
+        false,
+        "\n2 passes, 4 parts, Ok(Settled)",
+    ),
+    (
+        (2, 2, Sharing::ByNode),
+        &[1, 2, 1, 2],
+        false,
+        true,
+        "\n2 passes, 4 parts, Ok(Settled)",
+    ),
+    (
+        (2, 2, Sharing::ByWork),
+        &[1, 2],
+        true,
+        true,
+        "\n2 passes, 2 parts, Ok(Settled)",
+    ),
+];
+
+/// A long job is a Take of 8,192 bytes that are no message.
+/// Tries: Crew::new, Crew::serve_jobs
 #[test]
-fn a_node_without_shelf_is_told(rt: HostRuntime) -> Result<(), Fail> {
-    is_played(
-        &rt,
-        rt.alloc(),
-        2,
-        1,
-        &[3, 0, 65535, 1],
-        &NoGate,
-        "0: NoSuchNode\n\
-         1: NoSuchNode\n\
-         2: NoSuchNode\n\
-         3: 1 0 604100048272640d0330303030303030303030303130303031\n\
-         1 passes, 1 parts, Ok(Settled)",
-    )
-}
-
-/// Counts the jobs that start, each of which is to be the next one, and of the first worker.
-#[derive(Drop)]
-struct Counts {
-    next: AtomicU64,
-    astray: AtomicU64,
-}
-
-impl Counts {
-    fn counts(&self) -> (u64, u64) {
-        let (next, astray) = (&self.next, &self.astray);
-        (next.load(Ordering::SeqCst), astray.load(Ordering::SeqCst))
+fn jobs_are_shared_by_node_or_by_work(rt: HostRuntime) {
+    let long = "41".repeat(rt.alloc(), 8192).expect(&rt, "memory");
+    for (sizes, nodes, are_long, are_shared, want) in &SHARED {
+        let gate = Watch::new(&rt, (NONE, 0), 0, 100);
+        let datagram = if *are_long { long.as_str() } else { REGISTER };
+        let list: List<'_> = (nodes, Takes(datagram));
+        let (text, _dones) = played(&rt, rt.alloc(), *sizes, &[list], &gate);
+        assert!(rt; text.ends_with(*want), "{text}");
+        let (_started, _astray, others) = gate.counts();
+        assert_eq!(rt; others > 0, *are_shared, "{text}");
     }
-}
-
-impl Gate for Counts {
-    fn start(&self, worker: u32, job: u64) -> bool {
-        if worker != 0 || self.next.fetch_add(1, Ordering::SeqCst) != job {
-            self.astray.fetch_add(1, Ordering::SeqCst);
-        }
-        true
-    }
-
-    fn inside(&self, _node: u16, _pass: u32) {}
-
-    fn answered(&self, _node: u16, _pass: u32) {}
-}
-
-/// Tries: Crew::serve_jobs
-#[test]
-fn one_worker_does_the_jobs_in_order(rt: HostRuntime) -> Result<(), Fail> {
-    let gate = Counts {
-        next: AtomicU64::new(0),
-        astray: AtomicU64::new(0),
-    };
-    let played = is_played(
-        &rt,
-        rt.alloc(),
-        3,
-        1,
-        &[3, 1, 3],
-        &gate,
-        "0: 3 0 604100048272640d0330303030303030303030303130303033\n\
-         1: 1 0 604100048272640d0330303030303030303030303130303031\n\
-         2: 3 1 604100048272640d0330303030303030303030303230303033\n\
-         1 passes, 3 parts, Ok(Settled)",
-    );
-    let (next, astray) = gate.counts();
-    drop(gate);
-    played?;
-    holds("three jobs", next == 3)?;
-    holds("in order", astray == 0)
-}
-
-/// Each node from 1 to 16, twenty times over.
-fn all_nodes(alloc: Global) -> Result<Vec<u16>, Fail> {
-    let mut nodes = Vec::new(alloc);
-    for turn in 0_u16..320 {
-        nodes.push((turn % 16).wrapping_add(1))?;
-    }
-    Ok(nodes)
 }
 
 /// The line is of a 2.01 of the node: an identifier ends in the number of its node.
-fn is_of_node(alloc: Global, line: &str, node: u16) -> Result<(), Fail> {
-    holds_at(line, format!(in alloc; ": {node} "))?;
-    let number = format!(in alloc; "{node:04x}")?;
-    ends_in(alloc, line, number.as_str())
-}
-
-fn holds_at(line: &str, at: Result<String, AllocError>) -> Result<(), Fail> {
-    holds("the node", line.contains(at?.as_str()))
-}
-
-/// The bytes at the end of the line are the text.
-fn ends_in(alloc: Global, line: &str, text: &str) -> Result<(), Fail> {
-    let end = hex::encode(alloc, text.as_bytes())?;
-    holds("the identifier", line.ends_with(end.as_str()))
+fn is_of_node<R: Abort>(rt: &R, alloc: Global, line: &str, node: u16) {
+    let at = format!(in alloc; ": {node} ").expect(rt, "memory");
+    assert!(rt; line.contains(at.as_str()), "{line}");
+    let number = format!(in alloc; "{node:04x}").expect(rt, "memory");
+    let end = hex::encode(alloc, number.as_bytes()).expect(rt, "memory");
+    assert!(rt; line.ends_with(end.as_str()), "{line}");
 }
 
 /// There is a line for each of the nodes and one for the passes.
-fn are_of_nodes(alloc: Global, text: &str, nodes: &[u16]) -> Result<(), Fail> {
+fn are_of_nodes<R: Abort>(rt: &R, alloc: Global, text: &str, nodes: &[u16], last: &str) {
     for (line, node) in text.lines().zip(nodes) {
-        is_of_node(alloc, line, *node)?;
+        is_of_node(rt, alloc, line, *node);
     }
-    holds("a line for each node", text.lines().count() == 321)?;
-    holds("all", text.ends_with("\n8 passes, 320 parts, Ok(Settled)"))
+    assert_eq!(rt; text.lines().count(), nodes.len().wrapping_add(1));
+    assert!(rt; text.ends_with(last), "{text}");
 }
 
-/// Holds workers until eight have started a job.
-#[derive(Drop)]
-struct Assembly<'a, C: Clock + Sync> {
-    clock: &'a C,
-    started: Count,
-    /// How many waited in vain.
-    lost: Count,
-}
-
-impl<C: Clock + Sync> Gate for Assembly<'_, C> {
-    fn start(&self, _worker: u32, _job: u64) -> bool {
-        self.started.add_one();
-        if self.lost.get() == 0 && !self.started.comes_to(self.clock, 8) {
-            self.lost.add_one();
-        }
-        true
-    }
-
-    fn inside(&self, _node: u16, _pass: u32) {}
-
-    fn answered(&self, _node: u16, _pass: u32) {}
-}
-
+/// Each node from 1 to 16, twenty times over, by eight workers at once.
 /// Tries: Crew::serve_jobs
 #[test]
-fn many_jobs_are_done_by_all_workers(rt: HostRuntime) -> Result<(), Fail> {
-    let nodes = all_nodes(rt.alloc())?;
-    let gate = Assembly {
-        clock: &rt,
-        started: Count::new(),
-        lost: Count::new(),
-    };
-    let played = played(&rt, rt.alloc(), 16, 8, &nodes, &gate);
-    let lost = gate.lost.get();
-    drop(gate);
-    are_of_nodes(rt.alloc(), played?.as_str(), &nodes)?;
-    holds("eight at once", lost == 0)
+fn many_jobs_are_done_by_all_workers(rt: HostRuntime) {
+    let mut nodes = Vec::new(rt.alloc());
+    for turn in 0_u16..320 {
+        nodes
+            .push((turn % 16).wrapping_add(1))
+            .expect(&rt, "memory");
+    }
+    let gate = Watch::new(&rt, (NONE, 0), 8, 0);
+    let list: List<'_> = (&nodes, Takes(REGISTER));
+    let (text, _dones) = played(&rt, rt.alloc(), (16, 8, Sharing::ByNode), &[list], &gate);
+    let last = "\n8 passes, 320 parts, Ok(Settled)";
+    are_of_nodes(&rt, rt.alloc(), &text, &nodes, last);
 }
 
-/// Tries: Crew::serve_jobs, Crew::new
+/// Three jobs, and 200 behind them.
+/// Tries: Crew::serve_jobs
 #[test]
-fn no_jobs_are_done(rt: HostRuntime) -> Result<(), Fail> {
-    let want = "3 passes, 0 parts, Ok(Settled)";
-    is_played(&rt, rt.alloc(), 1, 3, &[], &NoGate, want)
+fn a_crew_does_a_longer_list_after_a_short_one(rt: HostRuntime) {
+    let gate = Watch::new(&rt, (NONE, 0), 0, 0);
+    let (few, many): (List<'_>, List<'_>) = (
+        (&[1, 2, 1], Takes(REGISTER)),
+        (&[2; 200], Takes(REGISTER)),
+    );
+    let (text, dones) = played(
+        &rt,
+        rt.alloc(),
+        (2, 2, Sharing::ByNode),
+        &[few, many],
+        &gate,
+    );
+    assert_eq!(rt; (text.lines().count(), dones.len()), (204, 200));
+    assert!(rt;
+        text.ends_with("\n2 passes, 203 parts, Ok(Settled)"),
+        "{text}"
+    );
 }

@@ -1,42 +1,42 @@
-//! Whether transcripts are a journal.
+//! Whether transcripts are a journal, with the volumes that were cut off it.
 
-ghost use Rattle.std.specs.Prelude.{IfOk};
 ghost use Rattle.lw_held.specs.Agree.{AreDistinct};
 
-use super::settling::last_two;
-use super::steps::Row;
-use super::steps::Whose::*;
+use super::steps::{part_is, step};
+use super::volumes::{alone, cut, keeps};
 use super::*;
 
-const NO_CALLS: [Row<'static>; 0] = [];
+/// Which of two nodes something is done with: the one that is asked later, whose number is 1, or another.
+#[derive(Clone, Copy)]
+enum Whose {
+    Its,
+    Anothers,
+}
 
-const REGISTERED: [Row<'static>; 2] = [(Its, 0, Takes(REGISTER), 0), (Its, 1, ByEndpoint("a"), 1)];
+/// What is done with a node. Each call has its place in the journal.
+#[derive(Clone, Copy)]
+enum Does<'a> {
+    /// The call is made, with the pass at the place.
+    Calls(usize, What<'a>, u64),
+    /// The call is made as this number of a pass and of a call. No pass keeps it.
+    Alone(u32, u64, What<'a>, u64),
+    /// The last part of the pass at the place is this.
+    Reads(usize, &'a str),
+    /// The journal is cut, and the volume is kept.
+    Keeps,
+    /// The journal is cut, and the volume is let go.
+    Loses,
+}
 
-const SENT_BY_TWO: [Row<'static>; 2] = [(Its, 0, Sends(0), 0), (Its, 1, Sends(0), 1)];
+use Does::*;
+use Whose::*;
 
-/// A pass has the place of another's call, with an entry of another node.
-const ONE_PLACE: [Row<'static>; 2] = [(Anothers, 0, Sends(0), 0), (Its, 1, Sends(0), 0)];
+type Row<'a> = (Whose, Does<'a>);
 
-const BEHIND: [Row<'static>; 2] = [(Anothers, 1, Sends(0), 0), (Anothers, 0, Sends(0), 1)];
-
-/// What is at place 0 of one node comes behind what is at place 1 of another.
-const FALLING: [Row<'static>; 3] = [
-    (Anothers, 1, Sends(0), 0),
-    (Anothers, 0, Sends(0), 1),
-    (Its, 0, Sends(0), 0),
-];
-
-const SENT_ONCE: [Row<'static>; 1] = [(Its, 0, Sends(0), 0)];
-
-const SENT_TWICE: [Row<'static>; 2] = [(Its, 0, Sends(0), 0), (Its, 0, Sends(0), 1)];
-
-/// The entry at a place is another, though number, pass and place are the same.
-const SENT_AND_TAKEN: [Row<'static>; 2] = [(Its, 0, Sends(0), 0), (Its, 0, Takes(REGISTER), 1)];
-
-/// The calls that a node is asked after, those that two passes were made with, and from which pass up to which and by
-/// which number of a node it is asked; and what it says.
+/// The number of the other node; what is done in turn; from which of two passes up to which and by which number the one
+/// node is asked then; and what it says of them and of the volumes that are kept.
 type Case = (
-    &'static [Row<'static>],
+    u16,
     &'static [Row<'static>],
     usize,
     usize,
@@ -44,133 +44,422 @@ type Case = (
     Result<(), u64>,
 );
 
+/// Does it with the node.
+fn do_with<R: Abort>(
+    rt: &R,
+    alloc: Global,
+    held: &mut Held,
+    passes: &mut [Pass],
+    volumes: &mut Vec<Volume>,
+    does: Does<'_>,
+)
+    requires { AreDistinct passes.old }
+    ensures { AreDistinct passes.new }
+{
+    let (placed, want) = match does {
+        Calls(pass, what, want) => (step(rt, alloc, held, passes, pass, what), want),
+        Alone(pass, number, what, want) => {
+            let placed = alone(rt, alloc, held, (pass, number), what);
+            (placed, want)
+        }
+        Reads(pass, want) => {
+            return part_is(rt, alloc, passes.get(pass).expect(rt, "a pass"), want);
+        }
+        Keeps => return keeps(rt, held, volumes),
+        Loses => return drop(cut(rt, held)),
+    };
+    assert_eq!(rt; placed, Ok(want));
+}
+
+/// Does it all with the node or with the other.
+fn do_all<R: Abort>(
+    rt: &R,
+    alloc: Global,
+    held: &mut Held,
+    other: &mut Held,
+    passes: &mut [Pass],
+    volumes: &mut Vec<Volume>,
+    rows: &[Row<'_>],
+)
+    requires { AreDistinct passes.old }
+    ensures { AreDistinct passes.new }
+{
+    for row in rows {
+        let (whose, does) = *row;
+        match whose {
+            Its => do_with(rt, alloc, held, passes, volumes, does),
+            Anothers => do_with(rt, alloc, other, passes, volumes, does),
+        }
+    }
+}
+
+/// Whether the transcripts of some passes in a row are the journal, with the volumes.
+#[tactic(auto, using(crate::proofs::Keeping::distinct_within))]
+fn agrees_some<R: Abort>(
+    rt: &R,
+    held: &Held,
+    volumes: &[Volume],
+    passes: &[Pass],
+    first: usize,
+    end: usize,
+    node: u16,
+) -> Result<(), u64>
+    requires { AreDistinct passes.now }
+{
+    assert!(rt; first <= end && end <= passes.len());
+    held.agrees(node, volumes, &passes[first..end])
+}
+
+/// The node says so.
+fn is_said<R: Abort>(rt: &R, alloc: Global, case: &Case, name: &str) {
+    let (mut held, mut other) = (Held::new(alloc, 1), Held::new(alloc, case.0));
+    is_said_by(rt, alloc, &mut held, &mut other, case, name);
+    drop(held);
+    drop(other);
+}
+
+fn is_said_by<R: Abort>(
+    rt: &R,
+    alloc: Global,
+    held: &mut Held,
+    other: &mut Held,
+    case: &Case,
+    name: &str,
+) {
+    let (_number, rows, first, end, node, want) = *case;
+    let (_shelves, mut passes) = set_up(alloc, 1, 2).expect(rt, "memory");
+    let mut volumes = Vec::new(alloc);
+    do_all(rt, alloc, held, other, &mut passes, &mut volumes, rows);
+    let said = agrees_some(rt, held, &volumes, &passes, first, end, node);
+    drop(volumes);
+    assert_eq!(rt; said, want, "{name}");
+}
+
+const NO_CALLS: [Row<'static>; 0] = [];
+
+/// The passes have called another node, and the one has made the same calls.
+const REGISTERED: [Row<'static>; 5] = [
+    (Anothers, Calls(0, Takes(REGISTER), 0)),
+    (Anothers, Calls(1, ByEndpoint("a"), 1)),
+    (
+        Anothers,
+        Reads(
+            1,
+            "1 1 a 0000000000010001 127.0.0.1:5683 0 86400 U false </>",
+        ),
+    ),
+    (Its, Alone(0, 0, Takes(REGISTER), 0)),
+    (Its, Alone(1, 0, ByEndpoint("a"), 1)),
+];
+
+const SENT_ONCE: [Row<'static>; 2] = [
+    (Anothers, Calls(0, Sends(0), 0)),
+    (Its, Alone(0, 0, Sends(0), 0)),
+];
+
+const SENT_AND_TAKEN: [Row<'static>; 4] = [
+    (Anothers, Calls(0, Sends(0), 0)),
+    (Anothers, Calls(0, Takes(REGISTER), 1)),
+    (Its, Alone(0, 0, Sends(0), 0)),
+    (Its, Alone(0, 1, Takes(REGISTER), 1)),
+];
+
 /// Transcripts that are the journal, and those of another node.
-static WHOLE: [Case; 6] = [
-    (&NO_CALLS, &NO_CALLS, 0, 2, 1, Ok(())),
-    (&NO_CALLS, &NO_CALLS, 0, 2, 2, Err(0)),
-    (&REGISTERED, &REGISTERED, 0, 2, 1, Ok(())),
-    (&REGISTERED, &REGISTERED, 0, 2, 2, Err(0)),
-    (&SENT_ONCE, &SENT_ONCE, 0, 2, 1, Ok(())),
-    (&SENT_AND_TAKEN, &SENT_AND_TAKEN, 0, 2, 1, Ok(())),
+const WHOLE: [Case; 6] = [
+    (1, &NO_CALLS, 0, 2, 1, Ok(())),
+    (1, &NO_CALLS, 0, 2, 2, Err(0)),
+    (1, &REGISTERED, 0, 2, 1, Ok(())),
+    (1, &REGISTERED, 0, 2, 2, Err(0)),
+    (1, &SENT_ONCE, 0, 2, 1, Ok(())),
+    (1, &SENT_AND_TAKEN, 0, 2, 1, Ok(())),
+];
+
+const SENT_BY_TWO: [Row<'static>; 4] = [
+    (Anothers, Calls(0, Sends(0), 0)),
+    (Anothers, Calls(1, Sends(0), 1)),
+    (Its, Alone(0, 0, Sends(0), 0)),
+    (Its, Alone(1, 0, Sends(0), 1)),
+];
+
+/// A pass has the place of another's call, with an entry of another node.
+const ONE_PLACE: [Row<'static>; 2] = [
+    (Anothers, Calls(0, Sends(0), 0)),
+    (Its, Calls(1, Sends(0), 0)),
+];
+
+const BEHIND: [Row<'static>; 2] = [
+    (Anothers, Calls(1, Sends(0), 0)),
+    (Anothers, Calls(0, Sends(0), 1)),
+];
+
+/// What is at place 0 of one node comes behind what is at place 1 of another.
+const FALLING: [Row<'static>; 3] = [
+    (Anothers, Calls(1, Sends(0), 0)),
+    (Anothers, Calls(0, Sends(0), 1)),
+    (Its, Calls(0, Sends(0), 0)),
+];
+
+/// The entry at a place is another, though number, pass and place are the same.
+const SENT_TWICE: [Row<'static>; 4] = [
+    (Anothers, Calls(0, Sends(0), 0)),
+    (Anothers, Calls(0, Sends(0), 1)),
+    (Its, Alone(0, 0, Sends(0), 0)),
+    (Its, Alone(0, 1, Takes(REGISTER), 1)),
 ];
 
 /// Transcripts from which a part is missing, or that have one of another node.
-static ASTRAY: [Case; 7] = [
-    (&SENT_BY_TWO, &SENT_BY_TWO, 1, 2, 1, Err(0)),
-    (&SENT_BY_TWO, &SENT_BY_TWO, 0, 1, 1, Err(1)),
-    (&ONE_PLACE, &ONE_PLACE, 0, 2, 1, Err(0)),
-    (&ONE_PLACE, &ONE_PLACE, 1, 2, 1, Ok(())),
-    (&BEHIND, &BEHIND, 0, 1, 1, Err(1)),
-    (&FALLING, &FALLING, 0, 1, 1, Err(0)),
-    (&SENT_AND_TAKEN, &SENT_TWICE, 0, 2, 1, Err(1)),
+const ASTRAY: [Case; 7] = [
+    (1, &SENT_BY_TWO, 1, 2, 1, Err(0)),
+    (1, &SENT_BY_TWO, 0, 1, 1, Err(1)),
+    (1, &ONE_PLACE, 0, 2, 1, Err(0)),
+    (1, &ONE_PLACE, 1, 2, 1, Ok(())),
+    (1, &BEHIND, 0, 1, 1, Err(1)),
+    (1, &FALLING, 0, 1, 1, Err(0)),
+    (1, &SENT_TWICE, 0, 2, 1, Err(1)),
 ];
 
-/// The node says of the transcripts what it is to say.
-fn is_said(alloc: Global, case: &Case) -> Result<(), Fail> {
-    let mut held = Held::new(alloc, 1);
-    let said = is_said_by(alloc, &mut held, case);
-    drop(held);
-    said
-}
+/// Two passes call the node, one after the other.
+const BY_TWO: [Row<'static>; 2] = [
+    (Its, Calls(0, Takes(REGISTER), 0)),
+    (Its, Calls(1, ByEndpoint("a"), 1)),
+];
 
-fn is_said_by(alloc: Global, held: &mut Held, case: &Case) -> Result<(), Fail> {
-    let (its, others, first, end, node, want) = *case;
-    let _passes = played(alloc, held, its)?;
-    let passes = played_by_another(alloc, others)?;
-    let said = agrees_some(held, node, &passes, first, end);
-    holds("what is said", said == want)
-}
+const BY_ONE_OR_BOTH: [Case; 4] = [
+    (1, &BY_TWO, 1, 2, 1, Err(0)),
+    (1, &BY_TWO, 0, 1, 1, Err(1)),
+    (1, &BY_TWO, 0, 2, 1, Ok(())),
+    (1, &BY_TWO, 0, 2, 2, Err(0)),
+];
 
-/// The passes after the calls of a node that is let go.
-fn played_by_another(alloc: Global, rows: &[Row<'_>]) -> Result<Vec<Pass>, Fail>
-    ensures { IfOk result (λ passes. AreDistinct passes.items) }
-{
-    let mut held = Held::new(alloc, 1);
-    let passes = played(alloc, &mut held, rows);
-    drop(held);
-    passes
-}
+/// The node is cut once, at a place that the other has too.
+const BESIDE_ANOTHER: [Row<'static>; 5] = [
+    (Its, Calls(0, Takes(REGISTER), 0)),
+    (Its, Keeps),
+    (Anothers, Alone(0, 0, Takes(REGISTER), 0)),
+    (Anothers, Keeps),
+    (Its, Calls(1, ByEndpoint("a"), 1)),
+];
+
+/// The other's volumes begin after the node's journal does, and the first of them is lost.
+const BESIDE_MANY: [Row<'static>; 7] = [
+    (Anothers, Alone(0, 0, Sends(0), 0)),
+    (Anothers, Loses),
+    (Anothers, Alone(0, 1, Takes(REGISTER), 1)),
+    (Anothers, Keeps),
+    (Anothers, Alone(0, 0, Sends(0), 2)),
+    (Anothers, Keeps),
+    (Its, Calls(0, Takes(REGISTER), 0)),
+];
+
+const BESIDE: [Case; 4] = [
+    (2, &BESIDE_ANOTHER, 0, 2, 1, Ok(())),
+    (1, &BESIDE_ANOTHER, 0, 2, 1, Err(0)),
+    (2, &BESIDE_MANY, 0, 2, 1, Ok(())),
+    (1, &BESIDE_MANY, 0, 2, 1, Err(1)),
+];
+
+/// Both nodes have the same two entries, and the other's are cut off one by one.
+const IN_HALVES: [Row<'static>; 7] = [
+    (Its, Calls(0, Takes(REGISTER), 0)),
+    (Its, Calls(1, ByEndpoint("a"), 1)),
+    (Its, Loses),
+    (Anothers, Alone(0, 0, Takes(REGISTER), 0)),
+    (Anothers, Keeps),
+    (Anothers, Alone(1, 0, ByEndpoint("a"), 1)),
+    (Anothers, Keeps),
+];
+
+/// The node's two entries are in one volume, and one of them in another too.
+const FIRST_TWICE: [Row<'static>; 5] = [
+    (Its, Calls(0, Takes(REGISTER), 0)),
+    (Its, Calls(1, ByEndpoint("a"), 1)),
+    (Its, Keeps),
+    (Anothers, Alone(0, 0, Takes(REGISTER), 0)),
+    (Anothers, Keeps),
+];
+
+const SECOND_TWICE: [Row<'static>; 7] = [
+    (Its, Calls(0, Takes(REGISTER), 0)),
+    (Its, Calls(1, ByEndpoint("a"), 1)),
+    (Its, Keeps),
+    (Anothers, Alone(0, 0, Takes(REGISTER), 0)),
+    (Anothers, Loses),
+    (Anothers, Alone(1, 0, ByEndpoint("a"), 1)),
+    (Anothers, Keeps),
+];
+
+const OVERLAPS: [Case; 3] = [
+    (1, &IN_HALVES, 0, 2, 1, Ok(())),
+    (1, &FIRST_TWICE, 0, 2, 1, Err(0)),
+    (1, &SECOND_TWICE, 0, 2, 1, Err(1)),
+];
+
+/// What comes after the other's volume begins with a node that has taken no Register: a volume, or the journal.
+const OTHER_VOLUME: [Row<'static>; 6] = [
+    (Anothers, Calls(0, Takes(REGISTER), 0)),
+    (Anothers, Keeps),
+    (Its, Alone(9, 0, Sends(0), 0)),
+    (Its, Loses),
+    (Its, Calls(1, ByEndpoint("a"), 1)),
+    (Its, Keeps),
+];
+
+const OTHER_JOURNAL: [Row<'static>; 5] = [
+    (Anothers, Calls(0, Takes(REGISTER), 0)),
+    (Anothers, Keeps),
+    (Its, Alone(9, 0, Sends(0), 0)),
+    (Its, Loses),
+    (Its, Calls(1, ByEndpoint("a"), 1)),
+];
+
+/// After two volumes of the other, with an empty journal.
+const EMPTY_JOURNAL: [Row<'static>; 7] = [
+    (Anothers, Calls(0, Takes(REGISTER), 0)),
+    (Anothers, Keeps),
+    (Anothers, Calls(1, ByEndpoint("a"), 1)),
+    (Anothers, Keeps),
+    (Its, Alone(9, 0, Sends(0), 0)),
+    (Its, Alone(9, 1, Sends(0), 1)),
+    (Its, Loses),
+];
+
+/// The nodes differ by their clocks alone.
+const OTHER_CLOCK: [Row<'static>; 5] = [
+    (Anothers, Calls(0, Sends(0), 0)),
+    (Anothers, Keeps),
+    (Its, Alone(9, 0, Merges("4c57443300000000000500"), 0)),
+    (Its, Loses),
+    (Its, Calls(1, ByEndpoint("a"), 1)),
+];
+
+/// The other has answered nothing that changed it.
+const SAME_NODE: [Row<'static>; 5] = [
+    (Anothers, Calls(0, Sends(0), 0)),
+    (Anothers, Keeps),
+    (Its, Alone(9, 0, ByEndpoint("a"), 0)),
+    (Its, Loses),
+    (Its, Calls(1, ByEndpoint("a"), 1)),
+];
+
+const LINKS: [Case; 5] = [
+    (1, &OTHER_VOLUME, 0, 2, 1, Err(1)),
+    (1, &OTHER_JOURNAL, 0, 2, 1, Err(1)),
+    (1, &EMPTY_JOURNAL, 0, 2, 1, Err(2)),
+    (1, &OTHER_CLOCK, 0, 2, 1, Err(1)),
+    (1, &SAME_NODE, 0, 2, 1, Ok(())),
+];
+
+/// A volume between two others is lost, of one place or of two, whose calls no pass has kept.
+const ONE_LOST: [Row<'static>; 6] = [
+    (Its, Calls(0, Takes(REGISTER), 0)),
+    (Its, Keeps),
+    (Its, Alone(9, 0, Sends(0), 1)),
+    (Its, Loses),
+    (Its, Calls(1, ByEndpoint("a"), 2)),
+    (Its, Keeps),
+];
+
+const TWO_LOST: [Row<'static>; 7] = [
+    (Its, Calls(0, Takes(REGISTER), 0)),
+    (Its, Keeps),
+    (Its, Alone(9, 0, Sends(0), 1)),
+    (Its, Alone(9, 1, Sends(0), 2)),
+    (Its, Loses),
+    (Its, Calls(1, ByEndpoint("a"), 3)),
+    (Its, Keeps),
+];
+
+/// The last volume, the first, and the only one.
+const LAST_LOST: [Row<'static>; 4] = [
+    (Its, Calls(0, Takes(REGISTER), 0)),
+    (Its, Keeps),
+    (Its, Alone(9, 0, Sends(0), 1)),
+    (Its, Loses),
+];
+
+const FIRST_LOST: [Row<'static>; 4] = [
+    (Its, Alone(9, 0, Sends(0), 0)),
+    (Its, Loses),
+    (Its, Calls(0, Takes(REGISTER), 1)),
+    (Its, Keeps),
+];
+
+const ALL_LOST: [Row<'static>; 2] = [(Its, Alone(9, 0, Sends(0), 0)), (Its, Loses)];
+
+const NONE_LOST: [Row<'static>; 6] = [
+    (Its, Calls(0, Takes(REGISTER), 0)),
+    (Its, Keeps),
+    (Its, Calls(1, Sends(0), 1)),
+    (Its, Keeps),
+    (Its, Calls(1, ByEndpoint("a"), 2)),
+    (Its, Keeps),
+];
+
+const GAPS: [Case; 6] = [
+    (1, &NONE_LOST, 0, 2, 1, Ok(())),
+    (1, &ONE_LOST, 0, 2, 1, Err(1)),
+    (1, &TWO_LOST, 0, 2, 1, Err(1)),
+    (1, &LAST_LOST, 0, 2, 1, Err(1)),
+    (1, &FIRST_LOST, 0, 2, 1, Err(0)),
+    (1, &ALL_LOST, 0, 2, 1, Err(0)),
+];
+
+/// The node's journal begins at 0, and the other's volume at 1.
+const AFTER_THE_LAST: [Row<'static>; 5] = [
+    (Its, Calls(0, Takes(REGISTER), 0)),
+    (Anothers, Alone(0, 0, Takes(REGISTER), 0)),
+    (Anothers, Loses),
+    (Anothers, Calls(1, ByEndpoint("a"), 1)),
+    (Anothers, Keeps),
+];
+
+/// Both have the same two entries. The journal begins at 1, and the other's volume at 1 too, or at 0.
+const AT_THE_FIRST: [Row<'static>; 7] = [
+    (Its, Calls(0, Takes(REGISTER), 0)),
+    (Its, Keeps),
+    (Its, Calls(1, ByEndpoint("a"), 1)),
+    (Anothers, Alone(0, 0, Takes(REGISTER), 0)),
+    (Anothers, Loses),
+    (Anothers, Alone(1, 0, ByEndpoint("a"), 1)),
+    (Anothers, Keeps),
+];
+
+const OVER_THE_FIRST: [Row<'static>; 6] = [
+    (Its, Calls(0, Takes(REGISTER), 0)),
+    (Its, Loses),
+    (Its, Calls(1, ByEndpoint("a"), 1)),
+    (Anothers, Alone(0, 0, Takes(REGISTER), 0)),
+    (Anothers, Alone(1, 0, ByEndpoint("a"), 1)),
+    (Anothers, Keeps),
+];
+
+const AFTER: [Case; 3] = [
+    (1, &AFTER_THE_LAST, 0, 2, 1, Err(1)),
+    (1, &AT_THE_FIRST, 0, 2, 1, Err(1)),
+    (1, &OVER_THE_FIRST, 0, 2, 1, Err(1)),
+];
+
+/// What the cases are of.
+static CASES: [(&str, &[Case]); 8] = [
+    ("two passes make one journal", &WHOLE),
+    ("other transcripts fail", &ASTRAY),
+    ("passes agree together, but not alone", &BY_ONE_OR_BOTH),
+    ("volumes of another node are passed over", &BESIDE),
+    ("an overlap is told at its first place", &OVERLAPS),
+    ("a broken link is told where it begins", &LINKS),
+    ("a gap is told at its first place", &GAPS),
+    (
+        "a volume after the beginning of the journal is told",
+        &AFTER,
+    ),
+];
 
 /// Tries: Pass::step, Held::agrees
 #[test]
-fn two_passes_make_one_journal(rt: HostRuntime) -> Result<(), Fail> {
-    for case in &WHOLE {
-        is_said(rt.alloc(), case)?;
+fn a_journal_is_what_transcripts_and_volumes_say(rt: HostRuntime) {
+    for (name, cases) in &CASES {
+        for case in *cases {
+            is_said(&rt, rt.alloc(), case, name);
+        }
     }
-    Ok(())
-}
-
-/// Tries: Held::agrees
-#[test]
-fn other_transcripts_fail(rt: HostRuntime) -> Result<(), Fail> {
-    for case in &ASTRAY {
-        is_said(rt.alloc(), case)?;
-    }
-    Ok(())
-}
-
-/// Tries: Pass::step
-#[test]
-fn a_pass_reads_what_another_wrote(rt: HostRuntime) -> Result<(), Fail> {
-    let passes = played_by_another(rt.alloc(), &REGISTERED)?;
-    part_is(
-        rt.alloc(),
-        &passes,
-        1,
-        "1 1 a 0000000000010001 127.0.0.1:5683 0 86400 U false </>",
-    )
-}
-
-/// From which of two passes up to which and by which number the node is asked that both called, the first pass before
-/// the second; and what it says.
-static BY_ONE_OR_BOTH: [(usize, usize, u16, Result<(), u64>); 4] = [
-    (1, 2, 1, Err(0)),
-    (0, 1, 1, Err(1)),
-    (0, 2, 1, Ok(())),
-    (0, 2, 2, Err(0)),
-];
-
-/// Whether the transcripts of the two are the journal, the one before the other.
-#[tactic(auto, using(crate::proofs::Keeping::distinct_two))]
-fn agrees_two(held: &Held, one: Pass, other: Pass) -> Result<(), u64> {
-    let are_apart = one.number() != other.number();
-    let both = [one, other];
-    let said = if are_apart {
-        held.agrees(1, &[], &both)
-    } else {
-        Err(u64::MAX)
-    };
-    drop(both);
-    said
-}
-
-/// The node says of some of the passes what it is to say.
-fn agrees_so(held: &Held, passes: &[Pass]) -> Result<(), Fail>
-    requires { AreDistinct passes.now }
-{
-    for (first, end, node, want) in &BY_ONE_OR_BOTH {
-        let said = agrees_some(held, *node, passes, *first, *end);
-        holds("what is said", said == *want)?;
-    }
-    Ok(())
-}
-
-/// Two passes call the node, which agrees with both in either order and with neither alone.
-fn agrees_with_both(alloc: Global, held: &mut Held) -> Result<(), Fail> {
-    let mut passes = played(alloc, held, &REGISTERED)?;
-    agrees_so(held, &passes)?;
-    let Some((second, first)) = last_two(&mut passes) else {
-        return Err("two passes".into());
-    };
-    let said = agrees_two(held, second, first);
-    holds("the second before the first", said == Ok(()))
-}
-
-/// Tries: Held::agrees
-#[test]
-fn passes_agree_in_any_order_but_not_alone(rt: HostRuntime) -> Result<(), Fail> {
-    let mut held = Held::new(rt.alloc(), 1);
-    let agrees = agrees_with_both(rt.alloc(), &mut held);
-    drop(held);
-    agrees
 }

@@ -10,143 +10,108 @@ const REPLIES: [&str; 2] = [
 
 /// Tries: Held::new, Held::step
 #[test]
-fn a_step_gives_the_entry_and_its_place(rt: HostRuntime) -> Result<(), Fail> {
-    enters_all(rt.alloc(), take(rt.alloc(), REGISTER)?, &REPLIES)
+fn a_step_gives_the_entry_and_its_place(rt: HostRuntime) {
+    enters_all(&rt, rt.alloc(), Takes(REGISTER), &REPLIES);
 }
 
-/// Makes the call of node 1 once for each of the replies.
-pub(super) fn enters_all(alloc: Global, call: Call, replies: &[&str]) -> Result<(), Fail> {
+/// Makes the call of node 1, as pass 7 and number 3, once for each of the replies.
+pub(super) fn enters_all<R: Abort>(rt: &R, alloc: Global, what: What<'_>, replies: &[&str]) {
     let mut held = Held::new(alloc, 1);
-    let entered = enters_each(alloc, &mut held, &call, replies);
+    let call = what.made(rt, alloc).expect(rt, "memory");
+    enters_each(rt, alloc, &mut held, &call, replies);
     drop(held);
     drop(call);
-    entered
 }
 
-fn enters_each(alloc: Global, held: &mut Held, call: &Call, replies: &[&str]) -> Result<(), Fail> {
+fn enters_each<R: Abort>(rt: &R, alloc: Global, held: &mut Held, call: &Call, replies: &[&str]) {
     for (place, reply) in replies.iter().enumerate() {
-        enters(alloc, held, call, place as u64, reply)?;
+        let made = held.step(7, 3, call);
+        is_made(rt, alloc, &made, call, (place as u64, reply));
+        drop(made);
     }
-    Ok(())
 }
 
-/// An entry with its place, or none.
-type Made = Result<(Entry, u64), NoMemory>;
-
-/// Makes the call as pass 7 and number 3, which gives the entry and the place.
-fn enters(
+/// What is made is the entry of the call, with its place and the reply.
+fn is_made<R: Abort>(
+    rt: &R,
     alloc: Global,
-    held: &mut Held,
+    made: &Result<(Entry, u64), NoMemory>,
     call: &Call,
-    place: u64,
-    reply: &str,
-) -> Result<(), Fail> {
-    let made = held.step(7, 3, call);
-    let entered = is_made(alloc, &made, call, place, reply);
-    drop(made);
-    entered
-}
-
-fn is_made(alloc: Global, made: &Made, call: &Call, place: u64, reply: &str) -> Result<(), Fail> {
+    (place, reply): (u64, &str),
+) {
     let Ok((entry, at)) = made else {
-        return Err("no memory".into());
+        panic!(rt; "memory");
     };
-    holds("the place", *at == place)?;
-    holds("the call", entry.call.same(call))?;
-    holds("the pass", entry.pass == 7 && entry.number == 3)?;
-    is_text(reply_text(alloc, &entry.reply), reply)
+    assert_eq!(rt; (*at, entry.pass, entry.number), (place, 7, 3));
+    assert!(rt; entry.call.same(call));
+    let text = reply_text(alloc, &entry.reply).expect(rt, "memory");
+    assert_eq!(rt; text.as_str(), reply);
 }
 
-/// A pass, a number and what a sending is since, and whether the entry is that of the sending of all as number 2 of
-/// pass 1, whose reply is the same again.
-static SENDINGS: [(u32, u64, u64, bool); 4] = [
-    (1, 2, 0, true),
-    (2, 2, 0, false),
-    (1, 3, 0, false),
-    (1, 2, 1, false),
+/// Calls that are made before, a call as number 2 of pass 1, a pass, a number and a call behind it, and whether the
+/// entries of both are the same.
+type Pair = (
+    &'static [What<'static>],
+    What<'static>,
+    u32,
+    u64,
+    What<'static>,
+    bool,
+);
+
+static PAIRS: [Pair; 8] = [
+    (&[], Sends(0), 1, 2, Sends(0), true),
+    (&[], Sends(0), 2, 2, Sends(0), false),
+    (&[], Sends(0), 1, 3, Sends(0), false),
+    (&[], Sends(0), 1, 2, Sends(1), false),
+    // Two Registers have identifiers of their own.
+    (&[], Takes(REGISTER), 1, 2, Takes(REGISTER), false),
+    // Sweeps of a node that knows of nothing, and one that ends what the next then cannot.
+    (&[], Sweeps(0), 1, 2, Sweeps(0), true),
+    (&[], Sweeps(0), 1, 2, Sweeps(1), false),
+    (
+        &[Takes(REGISTER)],
+        Sweeps(86_400_000),
+        1,
+        2,
+        Sweeps(86_400_000),
+        false,
+    ),
 ];
 
-/// Tries: Entry::same
-#[test]
-fn entries_are_the_same_where_all_parts_are(rt: HostRuntime) -> Result<(), Fail> {
-    let mut held = Held::new(rt.alloc(), 1);
-    let are_same = are_sent(&mut held);
-    drop(held);
-    are_same
-}
-
-fn are_sent(held: &mut Held) -> Result<(), Fail> {
-    for (pass, number, since, want) in &SENDINGS {
-        is_sent(held, *pass, *number, *since, *want)?;
-    }
-    Ok(())
-}
-
-fn is_sent(held: &mut Held, pass: u32, number: u64, since: u64, want: bool) -> Result<(), Fail> {
-    let (all, sending) = (Call::Send { since: 0 }, Call::Send { since });
-    let are_same = are_the_same(held, &all, pass, number, &sending);
-    drop(all);
-    drop(sending);
-    holds("the same", are_same? == want)
-}
-
-/// Two Registers have identifiers of their own.
-/// Tries: Entry::same
-#[test]
-fn entries_with_other_replies_differ(rt: HostRuntime) -> Result<(), Fail> {
-    let register = take(rt.alloc(), REGISTER)?;
-    let mut held = Held::new(rt.alloc(), 1);
-    let are_same = are_the_same(&mut held, &register, 1, 2, &register);
-    drop(held);
-    drop(register);
-    holds("another entry", !are_same?)
-}
-
-/// Sweeps of a node that knows of nothing.
-/// Tries: Entry::same, Held::step
-#[test]
-fn entries_of_sweeps_are_the_same_at_one_moment(rt: HostRuntime) -> Result<(), Fail> {
-    let mut held = Held::new(rt.alloc(), 1);
-    let same = are_the_same(&mut held, &sweep(0)?, 1, 2, &sweep(0)?);
-    let other = are_the_same(&mut held, &sweep(0)?, 1, 2, &sweep(1)?);
-    drop(held);
-    holds("the same moment", same?)?;
-    holds("another moment", !other?)
-}
-
-/// The second of two sweeps has nothing to end.
-/// Tries: Entry::same, Held::step
-#[test]
-fn entries_of_sweeps_differ_by_what_ended(rt: HostRuntime) -> Result<(), Fail> {
-    let mut held = Held::new(rt.alloc(), 1);
-    let register = take(rt.alloc(), REGISTER)?;
-    let registered = held.step(1, 1, &register);
-    let are_same = are_the_same(&mut held, &sweep(86_400_000)?, 1, 2, &sweep(86_400_000)?);
-    drop(held);
-    drop(registered);
-    drop(register);
-    holds("what ended", !are_same?)
-}
-
-/// Whether the entry of a call, as number 2 of pass 1, is that of the other call behind it.
-fn are_the_same(
+/// The entry of the call.
+fn entry_of<R: Abort>(
+    rt: &R,
+    alloc: Global,
     held: &mut Held,
-    call: &Call,
-    pass: u32,
-    number: u64,
-    other: &Call,
-) -> Result<bool, NoMemory> {
-    let first = held.step(1, 2, call);
-    let second = held.step(pass, number, other);
-    let are_same = are_equal(&first, &second);
+    (pass, number): (u32, u64),
+    what: What<'_>,
+) -> Entry {
+    let call = what.made(rt, alloc).expect(rt, "memory");
+    let (entry, _place) = held.step(pass, number, &call).expect(rt, "memory");
+    entry
+}
+
+/// The entries are the same, or not.
+fn are_the_same<R: Abort>(rt: &R, alloc: Global, held: &mut Held, pair: &Pair) {
+    let (before, what, pass, number, other, want) = *pair;
+    for what in before {
+        drop(entry_of(rt, alloc, held, (1, 1), *what));
+    }
+    let first = entry_of(rt, alloc, held, (1, 2), what);
+    let second = entry_of(rt, alloc, held, (pass, number), other);
+    let are_same = first.same(&second);
     drop(first);
     drop(second);
-    are_same
+    assert_eq!(rt; are_same, want);
 }
 
-fn are_equal(first: &Made, second: &Made) -> Result<bool, NoMemory> {
-    match (first, second) {
-        (Ok((first, _)), Ok((second, _))) => Ok(first.same(second)),
-        _ => Err(NoMemory),
+/// Tries: Entry::same, Held::step
+#[test]
+fn entries_are_the_same_where_all_parts_are(rt: HostRuntime) {
+    for pair in &PAIRS {
+        let mut held = Held::new(rt.alloc(), 1);
+        are_the_same(&rt, rt.alloc(), &mut held, pair);
+        drop(held);
     }
 }

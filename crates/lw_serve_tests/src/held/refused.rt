@@ -3,12 +3,10 @@
 ghost use Rattle.lw_held.specs.Agree.{AreDistinct};
 ghost use Rattle.lw_held.specs.Shelves.{AreInOrder};
 
-use super::cutting::settle_with;
-use super::volumes::{Wanted, cut, cuts_nothing, enters, is_volume};
+use super::steps::call;
+use super::volumes::{cuts, cuts_nothing, enters};
 use super::*;
-use crate::calls::{CREATED, wants_memory};
-use lw_held::Volume;
-use steps::What;
+use std::test::Fail;
 
 /// A Register of `b` with the object list `</>`, message ID 5, and the reply to the first at node 1.
 const REGISTER_B: &str = "40020005b272644465703d62ff3c2f3e";
@@ -74,53 +72,61 @@ fn entries_of_a_refusal(made: &Made) -> Option<u64> {
     }
 }
 
-/// The call is an entry at the place, with the reply.
-fn is_entered(alloc: Global, made: &Made, place: u64, want: &str) -> Result<(), Fail> {
-    if entries_of_a_refusal(made).is_some() {
-        return Err(NoMemory.into());
-    }
-    let Ok((entry, at)) = made else {
-        return Err(NoMemory.into());
-    };
-    holds("the place", *at == place)?;
-    is_text(reply_text(alloc, &entry.reply), want)
-}
-
-fn gives(
+/// Makes the call, which is an entry at the place, with the reply. Where it is refused, gives how many entries there
+/// are of it.
+fn tries<R: Abort>(
+    rt: &R,
     alloc: Global,
     held: &mut Held,
     what: What<'_>,
-    place: u64,
-    want: &str,
-) -> Result<(), Fail> {
-    let call = what.made(alloc)?;
+    row: (u64, &str),
+) -> Result<Option<u64>, NoMemory> {
+    let call = what.made(rt, alloc)?;
     let made = held.step(1, 0, &call);
-    let entered = is_entered(alloc, &made, place, want);
+    let tried = is_entered(rt, alloc, &made, row);
     drop(made);
     drop(call);
-    entered
+    tried
 }
 
-/// Makes the call at place 1. Where it is refused, gives how many entries there are of it.
-fn tries(alloc: Global, held: &mut Held, row: &Row) -> Result<Option<u64>, Fail> {
-    let call = row.what.made(alloc)?;
-    let made = held.step(1, 0, &call);
-    let refused = entries_of_a_refusal(&made);
-    let entered = match refused {
-        None => is_entered(alloc, &made, 1, row.gives),
-        Some(_) => Ok(()),
-    };
-    drop(made);
-    drop(call);
-    entered?;
+fn is_entered<R: Abort>(
+    rt: &R,
+    alloc: Global,
+    made: &Made,
+    (place, want): (u64, &str),
+) -> Result<Option<u64>, NoMemory> {
+    let refused = entries_of_a_refusal(made);
+    if let (Ok((entry, at)), None) = (made, refused) {
+        assert_eq!(rt; *at, place);
+        assert_eq!(rt; reply_text(alloc, &entry.reply)?.as_str(), want);
+    }
     Ok(refused)
 }
 
+/// The call is an entry at the place, with the reply.
+fn gives<R: Abort>(
+    rt: &R,
+    alloc: Global,
+    held: &mut Held,
+    what: What<'_>,
+    row: (u64, &str),
+) -> Result<(), NoMemory> {
+    match tries(rt, alloc, held, what, row)? {
+        None => Ok(()),
+        Some(_) => Err(NoMemory),
+    }
+}
+
 /// Where the call is refused, the node knows what it knew, and the same call is made again.
-fn gives_in_two_tries(alloc: Global, held: &mut Held, row: &Row) -> Result<(), Fail> {
-    gives(alloc, held, Takes(REGISTER_B), 0, CREATED_B)?;
-    let Some(entries) = tries(alloc, held, row)? else {
-        return gives(alloc, held, Sends(0), 2, row.after);
+fn gives_in_two_tries<R: Abort>(
+    rt: &R,
+    alloc: Global,
+    held: &mut Held,
+    row: &Row,
+) -> Result<(), NoMemory> {
+    gives(rt, alloc, held, Takes(REGISTER_B), (0, CREATED_B))?;
+    let Some(entries) = tries(rt, alloc, held, row.what, (1, row.gives))? else {
+        return gives(rt, alloc, held, Sends(0), (2, row.after));
     };
     let calls = [
         (Sends(0), OF_B),
@@ -130,7 +136,7 @@ fn gives_in_two_tries(alloc: Global, held: &mut Held, row: &Row) -> Result<(), F
     ];
     for (number, (what, want)) in calls.iter().enumerate() {
         let place = entries.saturating_add(1).saturating_add(number as u64);
-        gives(alloc, held, *what, place, want)?;
+        gives(rt, alloc, held, *what, (place, want))?;
     }
     Ok(())
 }
@@ -140,28 +146,11 @@ fn gives_in_two_tries(alloc: Global, held: &mut Held, row: &Row) -> Result<(), F
 fn a_refused_step_leaves_what_the_node_knows(rt: HostRuntime) -> Result<(), Fail> {
     for row in &ROWS {
         let mut held = Held::new(rt.alloc(), 1);
-        let given = gives_in_two_tries(rt.alloc(), &mut held, row);
+        let given = gives_in_two_tries(&rt, rt.alloc(), &mut held, row);
         drop(held);
         given?;
     }
     Ok(())
-}
-
-/// What is cut off. Where the cut is refused, it is made again.
-fn cut_in_two_tries(held: &mut Held) -> Result<Volume, Fail> {
-    match held.cut() {
-        Ok(Some(volume)) => Ok(volume),
-        Ok(None) => Err("a volume".into()),
-        Err(NoMemory) => cut(held),
-    }
-}
-
-/// What is cut off in one try or two is such a volume.
-fn cuts(alloc: Global, held: &mut Held, wanted: Wanted<'_>) -> Result<(), Fail> {
-    let volume = cut_in_two_tries(held)?;
-    let is_so = is_volume(alloc, &volume, wanted);
-    drop(volume);
-    is_so
 }
 
 /// Two Registers and an observation, which are cut off; and a sweep and an end.
@@ -182,76 +171,61 @@ const THEIR_REPLIES: [&str; 5] = [
 ];
 
 /// A refused cut leaves the journal, its first place and the opening: the next one gives them.
-fn cuts_in_two_tries(alloc: Global, held: &mut Held) -> Result<(), Fail> {
+fn cuts_in_two_tries<R: Abort>(rt: &R, alloc: Global, held: &mut Held) -> Result<(), NoMemory> {
     let (calls, replies) = (&TO_BE_CUT, &THEIR_REPLIES);
-    enters(alloc, held, 0, &calls[..3])?;
-    cuts(alloc, held, (0, &[], &calls[..3], &replies[..3]))?;
-    enters(alloc, held, 3, &calls[3..])?;
-    cuts(alloc, held, (3, &calls[..3], calls, &replies[3..]))?;
-    cuts_nothing(held)
+    enters(rt, alloc, held, 0, &calls[..3])?;
+    cuts(rt, alloc, held, (0, &[], &calls[..3], &replies[..3]))?;
+    enters(rt, alloc, held, 3, &calls[3..])?;
+    cuts(rt, alloc, held, (3, &calls[..3], calls, &replies[3..]))?;
+    cuts_nothing(rt, held);
+    Ok(())
 }
 
 /// Tries: Held::cut
 #[test]
 fn a_refused_growth_of_a_cut_leaves_the_journal(rt: HostRuntime) -> Result<(), Fail> {
     let mut held = Held::new(rt.alloc(), 1);
-    let cut = cuts_in_two_tries(rt.alloc(), &mut held);
+    let cut = cuts_in_two_tries(&rt, rt.alloc(), &mut held);
     drop(held);
-    cut
+    Ok(cut?)
 }
 
-/// What is cut off the journal of the shelf. Where the cut is refused, it is made again.
-fn cut_of_shelf<R: Wait>(rt: &R, shelf: &Shelf) -> Result<Volume, Fail> {
-    match shelf.cut(rt) {
-        Ok(Some(volume)) => Ok(volume),
-        Ok(None) => Err("a volume".into()),
-        Err(NoMemory) => cut_of_shelf_again(rt, shelf),
-    }
-}
-
-fn cut_of_shelf_again<R: Wait>(rt: &R, shelf: &Shelf) -> Result<Volume, Fail> {
-    match shelf.cut(rt) {
-        Ok(Some(volume)) => Ok(volume),
-        Ok(None) => Err("a volume".into()),
-        Err(NoMemory) => Err(NoMemory.into()),
-    }
-}
-
-/// Keeps what is cut off the journal of the shelf, which begins at the place and has so many entries.
-fn keeps_cut<R: Wait>(
+/// Keeps what is cut off the journal of the shelf in one try or two, which begins at the place and has so many entries.
+fn keeps_cut<R: Wait + Abort>(
     rt: &R,
     shelf: &Shelf,
     volumes: &mut Vec<Volume>,
-    first: u64,
-    count: usize,
-) -> Result<(), Fail> {
-    let volume = cut_of_shelf(rt, shelf)?;
-    let is_such = volume.first() == first && volume.entries().len() == count;
+    (first, count): (u64, usize),
+) -> Result<(), NoMemory> {
+    let made = match shelf.cut(rt) {
+        Ok(made) => made,
+        Err(NoMemory) => shelf.cut(rt)?,
+    };
+    let volume = made.expect(rt, "a volume");
+    assert_eq!(rt; (volume.first(), volume.entries().len()), (first, count));
     volumes.push(volume)?;
-    holds("what is cut off", is_such)
+    Ok(())
 }
 
 /// The node of the shelf makes two calls, which are cut off, and a third, which is cut off too; and it is settled.
-fn settles_after_cuts<R: Wait>(
+fn settles_after_cuts<R: Wait + Abort>(
     rt: &R,
     alloc: Global,
     shelves: &[Shelf],
     passes: &mut [Pass],
     volumes: &mut Vec<Volume>,
-) -> Result<(), Fail>
+) -> Result<(), NoMemory>
     requires shelves { AreInOrder shelves.now }
     requires passes { AreDistinct passes.old }
 {
-    let Some(shelf) = shelves.first() else {
-        return Err("a shelf".into());
-    };
+    let shelf = shelves.first().expect(rt, "a shelf");
     call(rt, alloc, shelf, passes, 0, Takes(REGISTER))?;
     call(rt, alloc, shelf, passes, 0, Takes(REGISTER_B))?;
-    keeps_cut(rt, shelf, volumes, 0, 2)?;
+    keeps_cut(rt, shelf, volumes, (0, 2))?;
     call(rt, alloc, shelf, passes, 0, Sweeps(86_400_000))?;
-    keeps_cut(rt, shelf, volumes, 2, 1)?;
-    let settled = settle_with(rt, shelves, volumes, passes);
-    holds("settled", settled == Ok(Settled))
+    keeps_cut(rt, shelf, volumes, (2, 1))?;
+    assert_eq!(rt; settle_with(rt, shelves, volumes, passes), Ok(Settled));
+    Ok(())
 }
 
 /// Tries: Shelf::cut, settle
@@ -261,5 +235,5 @@ fn a_refused_cut_of_a_shelf_settles(rt: HostRuntime) -> Result<(), Fail> {
     let mut volumes = Vec::new(rt.alloc());
     let settles = settles_after_cuts(&rt, rt.alloc(), &shelves, &mut passes, &mut volumes);
     drop(volumes);
-    settles
+    Ok(settles?)
 }

@@ -1,15 +1,9 @@
 //! Which journals are cut after which rounds, and that each volume goes to the sink.
 
-ghost use Rattle.std.specs.Prelude.{◌≡◌, ◌<◌, [], vec_capacity, vec_len};
+ghost use Rattle.std.specs.Prelude.{◌<◌, vec_capacity, vec_len};
 
-use super::rounds::alone;
 use super::*;
-use log::sink::Discard;
 use lw_held::Volume;
-use lw_serve::{VolumeSink, serve_into};
-use lw_stamp::NoMemory;
-use std::sync::Wait;
-use std::thread::Threads;
 
 /// Keeps volumes, and has no room when it is asked for the time that is told, from 1.
 #[derive(Drop)]
@@ -17,18 +11,6 @@ struct Refusing {
     volumes: Vec<Volume>,
     asked: u32,
     refused: u32,
-}
-
-impl Refusing {
-    fn new(alloc: Global, refused: u32) -> Refusing
-        ensures { result.volumes.items ≡ [] }
-    {
-        Refusing {
-            volumes: Vec::new(alloc),
-            asked: 0,
-            refused,
-        }
-    }
 }
 
 impl VolumeSink for Refusing {
@@ -54,49 +36,12 @@ impl VolumeSink for Refusing {
     }
 }
 
-/// How a run ended, and a line for each volume: its node, its first place and how many entries it has.
-fn told(alloc: Global, ended: Result<(), ServeFault>, volumes: &[Volume]) -> Result<String, Fail> {
-    let mut text = format!(in alloc; "{ended:?}")?;
-    for volume in volumes {
-        let (node, first, count) = (volume.node(), volume.first(), volume.entries().len());
-        write!(text, "\n{node} {first} {count}")?;
-    }
-    Ok(text)
-}
-
-/// Serves three pings at node 2, a round for each, by one worker at two nodes.
-fn kept_of<R: Threads + Wait + Sync>(
-    rt: &R,
-    alloc: Global,
-    plan: &Plan,
-    refused: u32,
-) -> Result<String, Fail> {
-    let arrivals = [alone(PING), alone(PING), alone(PING)];
-    let mut wire = MemoryWire::new(alloc, &arrivals);
-    let moments = [Some(Moment::START)];
-    let mut clock = Ticks::new(&moments);
-    let mut written = Vec::new(alloc);
-    let mut sink = Refusing::new(alloc, refused);
-    let ended = serve_into(
-        rt,
-        alloc,
-        &mut wire,
-        &mut clock,
-        &Discard,
-        plan,
-        &mut sink,
-        &mut written,
-    );
-    let text = told(alloc, ended, &sink.volumes);
-    drop(sink);
-    text
-}
-
-/// After how many rounds journals are cut, which time the sink has no room, and what it keeps.
+/// After how many rounds journals are cut, which time the sink has no room, and how the run ends, with a line for each
+/// volume that the sink keeps: its node, its first place and how many entries it has.
 ///
 /// In the first round node 1 sweeps and sends, and node 2 takes the ping too. In the second and the third each merges
 /// one delta more. The last merges are made behind the last cut.
-const KEPT: [(Option<u32>, u32, &str); 8] = [
+static KEPT: [(Option<u32>, u32, &str); 8] = [
     (None, 0, "Ok(())"),
     (
         Some(1),
@@ -112,14 +57,73 @@ const KEPT: [(Option<u32>, u32, &str); 8] = [
     (Some(3), 2, "Ok(())\n1 0 8"),
 ];
 
+/// A ping in each of three rounds.
+static PINGS: [Arrival<'static>; 3] = [
+    (5683, PING, Alone),
+    (5683, PING, Alone),
+    (5683, PING, Alone),
+];
+
+/// Serves three pings at node 2, a round for each, by one worker at two nodes: how the run ended, and the volumes.
+fn kept_of<R: Threads + Wait + Sync + Abort>(
+    rt: &R,
+    alloc: Global,
+    plan: &Plan,
+    refused: u32,
+) -> String {
+    let mut wire = MemoryWire::new(alloc, &PINGS);
+    let (mut clock, mut written) = (Ticks::new(&[0]), Vec::new(alloc));
+    let mut sink = Refusing {
+        volumes: Vec::new(alloc),
+        asked: 0,
+        refused,
+    };
+    let ended = serve_into(
+        rt,
+        alloc,
+        &mut wire,
+        &mut clock,
+        &Discard,
+        plan,
+        &mut sink,
+        &mut written,
+    );
+    let mut text = format!(in alloc; "{ended:?}").expect(rt, "memory");
+    for volume in &sink.volumes {
+        let (node, first, count) = (volume.node(), volume.first(), volume.entries().len());
+        write!(text, "\n{node} {first} {count}").expect(rt, "memory");
+    }
+    text
+}
+
 /// Tries: serve_into, VolumeSink::make_room, VolumeSink::keep, VolumeSink::volumes
 #[test]
-fn each_journal_is_cut_when_it_is_due(rt: HostRuntime) -> Result<(), Fail> {
-    for (cut, refused, want) in KEPT {
-        let Some(plan) = Plan::new(3, 2, 1, cut) else {
-            return Err("a plan".into());
-        };
-        same(kept_of(&rt, rt.alloc(), &plan, refused)?.as_str(), want)?;
+fn each_journal_is_cut_when_it_is_due(rt: HostRuntime) {
+    for (cut, refused, want) in &KEPT {
+        let plan = Plan::new(3, 2, 1, *cut).expect(&rt, "a plan");
+        let text = kept_of(&rt, rt.alloc(), &plan, *refused);
+        assert_eq!(rt; text.as_str(), *want);
     }
-    Ok(())
+}
+
+/// After how many rounds journals are cut, and whether there is such a plan.
+static CUTS: [(Option<u32>, bool); 6] = [
+    (None, true),
+    (Some(0), false),
+    (Some(1), true),
+    (Some(1_000_000), true),
+    (Some(1_000_001), false),
+    (Some(u32::MAX), false),
+];
+
+/// Tries: Plan::new, Plan::cuts_after
+#[test]
+fn a_plan_is_cut_after_1_to_1000000_rounds(rt: HostRuntime) {
+    for (cut, is_planned) in &CUTS {
+        let plan = Plan::new(1, 1, 1, *cut);
+        assert_eq!(rt; plan.is_some(), *is_planned);
+        if let Some(plan) = plan {
+            assert_eq!(rt; plan.cut, *cut);
+        }
+    }
 }

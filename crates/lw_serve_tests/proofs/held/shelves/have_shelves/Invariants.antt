@@ -2,7 +2,7 @@ use Rattle.std.proofs.Common.{◌≡◌, ℕ, ◌<◌}
 use Rattle.std.specs.Prelude.{Some, slice_get}
 use Rattle.lw_held.specs.declared.shelf.Shelf.{Shelf}
 use Rattle.lw_held.specs.History.{VolumeContent}
-use Rattle.lw_serve_tests.proofs.held.cutting.have_shelves.Given as goal
+use Rattle.lw_serve_tests.proofs.held.shelves.have_shelves.Given as goal
 
 -- each volume that was passed has a shelf
 abbrev pub invariant-loop-volume : goal.invariant-loop-volume

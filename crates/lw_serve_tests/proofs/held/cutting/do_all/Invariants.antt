@@ -1,5 +1,0 @@
-use Rattle.lw_held.specs.Agree.{AreDistinct}
-use Rattle.lw_serve_tests.proofs.held.cutting.do_all.Given as goal
-
-abbrev pub invariant-loop-row : goal.invariant-loop-row
-invariant-loop-row l = AreDistinct l.passes
