@@ -9,7 +9,8 @@ use super::*;
 
 /// Whether the volume's node is that of a shelf, which then stands at the place of its number.
 fn has_shelf(shelves: &[Shelf], volume: &Volume) -> bool
-    ensures { IsTrue result → (k : ℕ) × (shelf : Shelves) × (slice_get shelves.now k ≡ Some shelf) × (shelf.number ≡ volume.now.opening.number) }
+    ensures { IsTrue result → (k : ℕ) × (shelf : Shelves) × (slice_get shelves.now k ≡ Some shelf)
+        × (shelf.number ≡ volume.now.opening.number) }
 {
     let place = usize::from(volume.node()).wrapping_sub(1);
     match shelves.get(place) {
