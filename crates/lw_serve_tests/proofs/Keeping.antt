@@ -1,12 +1,9 @@
--- Passes keep their numbers when a call is made with one of them, and volumes their shelves.
+-- Passes keep their numbers when a call is made with one of them.
 use Rattle.std.proofs.Common.{◌≡◌, ℕ, zero, suc, ◌+◌, ◌-◌, List, [], ◌∷◌, Option, Some, None, Result, Ok, Err, refl, sym, ap, ◌∙◌, arith}
 use Rattle.std.specs.Prelude.{set, slice_get, slice_range, take, drop, IfOk, OnErr}
 use Rattle.lw_stamp.specs.declared.no_memory.NoMemory.{NoMemory}
 use Rattle.lw_held.specs.declared.entry.Entry.{Entry}
-use Rattle.lw_held.specs.declared.shelf.Shelf.{Shelf}
 use Rattle.lw_held.specs.Agree.{AreDistinct}
-use Rattle.lw_held.specs.History.{VolumeContent}
-use Rattle.lw_held.specs.Shelves.{HaveShelves}
 use Rattle.lw_held.specs.Transcript.{Transcript, with_part}
 
 pub number_kept : (node : ℕ) (P : ℕ → Entry → Type 0) (r : Result ℕ NoMemory) (old new : Transcript) → IfOk r (λ place. (entry : Entry) × P place entry × (new ≡ with_part old node place entry)) → OnErr r (new ≡ old) → new.number ≡ old.number
@@ -75,7 +72,3 @@ distinct_two one other apart (suc zero) (suc zero) a b is_a is_b equal = refl
 distinct_two one other apart (suc (suc i)) j a b is_a is_b equal = absurd (let bad : ◌≡◌ {A = Option Transcript} None (Some a) = is_a in cc)
 distinct_two one other apart zero (suc (suc j)) a b is_a is_b equal = absurd (let bad : ◌≡◌ {A = Option Transcript} None (Some b) = is_b in cc)
 distinct_two one other apart (suc zero) (suc (suc j)) a b is_a is_b equal = absurd (let bad : ◌≡◌ {A = Option Transcript} None (Some b) = is_b in cc)
-
--- ---- volumes, and the shelves of their nodes
-pub no_volumes : (shelves : List Shelf) → HaveShelves shelves []
-no_volumes shelves i volume at = absurd (let bad : ◌≡◌ {A = Option VolumeContent} None (Some volume) = at in cc)

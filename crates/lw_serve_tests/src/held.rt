@@ -9,12 +9,12 @@ mod volumes;
 
 use crate::calls::What::*;
 use crate::calls::{CREATED, REGISTER, What, reply_text, wants_memory};
-use lw_held::{Entry, Held, NoGate, Part, Pass, Settled, Shelf, Unsettled, Volume, set_up, settle};
+use lw_held::{Entry, Held, NoGate, Pass, Settled, Shelf, Unsettled, Volume, set_up, settle};
 use lw_node::{Call, Node};
 use lw_stamp::NoMemory;
 pub(crate) use settling::{calls, settles_so};
 pub(crate) use shelves::settle_with;
-use std::alloc::{AllocError, Global};
+use std::alloc::Global;
 use std::process::Abort;
 use std::sync::Wait;
 

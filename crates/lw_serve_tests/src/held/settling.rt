@@ -2,7 +2,6 @@
 
 ghost use Rattle.lw_held.specs.Agree.{AreDistinct};
 ghost use Rattle.lw_held.specs.Shelves.{AreInOrder};
-ghost use Rattle.std.specs.Prelude.{◌≤◌};
 
 use super::steps::{call, part_is};
 use super::volumes::{FIRST_CALL, TWO_CALLS, Wanted, alone, enters, is_volume, keeps};
