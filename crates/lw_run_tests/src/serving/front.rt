@@ -131,14 +131,22 @@ impl MemoryFront {
         }
     }
 
-    /// Has a command carried out.
+    /// Has a command carried out, and adds a line where the desk then has nothing to send.
     fn command<D: Desk>(
         &mut self,
         desk: &mut D,
         command: Option<Command>,
     ) -> Result<(), WireFault> {
         let command = command.ok_or(WireFault)?;
-        self.put_answer(desk.carry_out(&command))
+        self.put_answer(desk.carry_out(&command))?;
+        if desk.wants_to_send() {
+            return Ok(());
+        }
+        self.put_line("nothing to send")
+    }
+
+    fn put_line(&mut self, line: &str) -> Result<(), WireFault> {
+        writeln!(self.sent, "{line}").ok().ok_or(WireFault)
     }
 
     fn ask<D: Desk>(&mut self, desk: &D, questions: &[Question]) -> Result<(), WireFault> {

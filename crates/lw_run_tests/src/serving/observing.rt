@@ -71,7 +71,8 @@ const PAGE_END: Piece = Piece::Line(r#"],"start":"0000000000000009"}"#);
 /// A visitor asks for all that devices told.
 const NOTIFICATIONS: Coming = Coming::Asks(&[Question::Notifications]);
 
-const NO_SUCH: Piece = Piece::Line(r#"NotFound Json {"error":"not found"}"#);
+/// What a command for what is not there comes to: a device is asked nothing.
+const NO_SUCH: Piece = Piece::Text("NotFound Json {\"error\":\"not found\"}\nnothing to send\n");
 
 /// The request for the second block: the second message of the server's own, with the token of the first fetch.
 const ASKS_REST: &str = "4401000100000000b1330130c110";
