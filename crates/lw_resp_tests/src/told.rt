@@ -30,7 +30,7 @@ fn word_text(rt: &impl Abort, alloc: Global, word: &Word<'_>) -> String {
 }
 
 /// The word at the front and what stands behind it, or `not whole` or `malformed`.
-pub fn word_told(rt: &impl Abort, alloc: Global, bytes: &[u8]) -> String {
+pub(crate) fn word_told(rt: &impl Abort, alloc: Global, bytes: &[u8]) -> String {
     match first_word(bytes) {
         Ok(Some((word, rest))) => {
             let shown = word_text(rt, alloc, &word);
@@ -64,7 +64,7 @@ fn reply_text(rt: &impl Abort, alloc: Global, reply: &Reply<'_>) -> String {
 }
 
 /// The reply at the front and what stands behind it, or `not whole` or `malformed`.
-pub fn reply_told(rt: &impl Abort, alloc: Global, bytes: &[u8]) -> String {
+pub(crate) fn reply_told(rt: &impl Abort, alloc: Global, bytes: &[u8]) -> String {
     match first_reply(alloc, bytes) {
         Ok(Some((reply, rest))) => {
             let shown = reply_text(rt, alloc, &reply);
