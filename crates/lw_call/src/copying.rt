@@ -97,7 +97,8 @@ impl Taken {
 }
 
 impl Notice {
-    fn copy(&self, alloc: Global) -> Result<Notice, NoMemory>
+    /// A copy of equal content.
+    pub fn copy(&self, alloc: Global) -> Result<Notice, NoMemory>
         ensures { IfOk result (λ notice. notice ≡ self.now) }
     {
         Ok(Notice {

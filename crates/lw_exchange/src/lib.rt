@@ -40,7 +40,7 @@ pub use bytes::Bytes;
 pub use exchange::Exchange;
 pub use fetches::{Fetches, MAX_FETCHES};
 pub use message_ids::{MessageIds, put_message_id};
-pub use notifications::token_in_blocks;
+pub use notifications::{stamp_of_token, token_in_blocks};
 pub use parcel::Parcel;
 pub use piece::Piece;
 pub use replies::{MAX_BYTES, MAX_EXCHANGES, Replies};

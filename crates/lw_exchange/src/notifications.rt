@@ -10,6 +10,7 @@ ghost use Rattle.lw_exchange.specs.FetchMessages.{acknowledgement_of, is_content
 ghost use Rattle.lw_exchange.specs.FetchMessages.{IsTokenInBlocks};
 ghost use Rattle.lw_exchange.specs.FetchMessages.{is_in_blocks, without_block2 as one_without};
 ghost use Rattle.lw_exchange.specs.Fetches.{Begins, Makes, begun, notified as is_notified_so, block_of as block_of_one};
+ghost use Rattle.lw_exchange.specs.Waiting.{token_in as token_bytes};
 ghost use Rattle.lw_exchange.specs.inner.Fetches.{IsDecided};
 
 use crate::block::Block;
@@ -21,6 +22,7 @@ use crate::fetch_options::{block2_in, etag_of, told_by, without_block2};
 use crate::parcel::Parcel;
 use crate::reading::read;
 use crate::responses::{has_token_of, is_content, may_respond};
+use crate::waiting::token_in;
 use lw_coap::{Message, encode};
 use lw_reg::{Addr, Watch};
 use lw_stamp::{Moment, NoMemory, Stamp};
@@ -44,6 +46,13 @@ fn token_of(message: &Message) -> Option<Stamp>
         return None;
     }
     stamp_in(&message.token)
+}
+
+/// The token of a message, where it is a stamp.
+pub fn stamp_of_token(bytes: &[u8]) -> Option<Stamp>
+    ensures { (s : Stamps) → (result ≡ Some s) ↔ (stamp_bytes s ≡ token_bytes bytes.now) }
+{
+    stamp_in(token_in(bytes))
 }
 
 /// The token of a response that tells the state of a resource in blocks, where it is a stamp.

@@ -239,7 +239,7 @@ fn is_separate(bytes: &[u8]) -> bool
 }
 
 /// The token of a message.
-fn token_in(bytes: &[u8]) -> &[u8]
+pub(crate) fn token_in(bytes: &[u8]) -> &[u8]
     ensures { result.now ≡ token_of bytes.now }
 {
     match bytes {
