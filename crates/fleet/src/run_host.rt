@@ -9,7 +9,7 @@ use lw_fleet::{Keeps, LogLevel, RedisOptions, RunOptions, RunningFault, Runs};
 use lw_front::{Sockets, SystemStopwatch};
 use lw_log::{DeltaLog, FleetId, Nowhere};
 use lw_member::{Chance, Member};
-use lw_run::{Compaction, HostClock, Metered, Moment, RunFault, Server, Timed, run_on};
+use lw_run::{Compaction, HostClock, HostClocks, Metered, Moment, RunFault, Server, Timed, run_on};
 use lw_sqlite_log::{OpenFault, SqliteLog};
 use lw_wire::SystemClock;
 use std::net::SocketAddr;
@@ -133,9 +133,10 @@ impl<'a, L: Log> Place<'a, L> {
         if let Some(visited) = &self.visited {
             info!(self.log; "http address={}", visited.address);
         }
-        let clock = SystemClock { clock: host };
+        let now = moment(host)?;
+        let clocks = HostClocks::new(SystemClock { clock: host }, stopwatch(host)?, now);
         let (skew, page) = (skew_of(&options.keeps), self.page()?);
-        let server = Server::new(host.alloc(), member, clock, skew, moment(host)?, page);
+        let server = Server::new(host.alloc(), member, clocks, skew, now, page);
         let (wait, compaction) = (wait_of(&options.keeps), compaction_of(&options.keeps));
         run_on(&mut self.sockets, server, self.log, wait, compaction).map_err(fault_of_run)
     }

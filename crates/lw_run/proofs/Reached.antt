@@ -35,11 +35,11 @@ if_ok (Err e) follows is = tt
 
 pub is_heard_from : (from : Addr) (bytes : List ℕ) (old mid new : ServerContent) (watch : Option Watch)
     → mid ≡ old → IsWatchIn old bytes watch → new ≡ record mid { devices = new.devices } → (passage : Passage)
-    → IsPassed mid.latest from watch bytes mid.devices passage new.devices → IsHeardFrom from bytes old passage new
+    → IsPassed mid.steady from watch bytes mid.devices passage new.devices → IsHeardFrom from bytes old passage new
 is_heard_from from bytes old mid new watch same found rest passage passed = record {
   watch = watch;
   found = found;
-  passed = subst (λ (server : ServerContent). IsPassed server.latest from watch bytes server.devices passage new.devices) same passed;
+  passed = subst (λ (server : ServerContent). IsPassed server.steady from watch bytes server.devices passage new.devices) same passed;
   rest = rest ∙ ap (λ (server : ServerContent). record server { devices = new.devices }) same;
 }
 

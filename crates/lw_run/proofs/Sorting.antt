@@ -37,15 +37,15 @@ sorted_behind now front a old new are puts = record {
 }
 
 -- some of the datagrams are sorted, and the rest is to be
-pub record IsGoingOn (now : Moment) (old : List BodyContent) (all : List Datagram) (bodies : List BodyContent) (sorted : Sorted) (rest : List Datagram) : Type 0 where
+pub record IsGoingOn (now steady : Moment) (old : List BodyContent) (all : List Datagram) (bodies : List BodyContent) (sorted : Sorted) (rest : List Datagram) : Type 0 where
   pub front : List Arrival
   pub are : all ≡ map datagram_of front ++ rest
-  pub taken : AreTaken now old front bodies
+  pub taken : AreTaken steady old front bodies
   pub sorted_are : IsSorted now front sorted
 
-pub sorting_begins : (now : Moment) (old : List BodyContent) (all rest : List Datagram) (sorted : Sorted) → sorted.calls.items ≡ []
-    → sorted.origins.items ≡ [] → sorted.handled.items ≡ [] → rest ≡ all → IsGoingOn now old all old sorted rest
-sorting_begins now old all rest sorted calls origins handled is = record {
+pub sorting_begins : (now steady : Moment) (old : List BodyContent) (all rest : List Datagram) (sorted : Sorted) → sorted.calls.items ≡ []
+    → sorted.origins.items ≡ [] → sorted.handled.items ≡ [] → rest ≡ all → IsGoingOn now steady old all old sorted rest
+sorting_begins now steady old all rest sorted calls origins handled is = record {
   front = [];
   are = sym is;
   taken = refl;
@@ -59,38 +59,38 @@ more_are front a all rest left are is =
     are ∙ ap (λ r. map datagram_of front ++ r) is ∙ sym (append_assoc (map datagram_of front) (datagram_of a ∷ []) left)
     ∙ ap (λ m. m ++ left) (sym (map-append datagram_of front (a ∷ [])))
 
-pub sorting_goes_on : (now : Moment) (old mid new : List BodyContent) (all rest left : List Datagram) (sorted more : Sorted) (d : Datagram) (piece : Piece)
-    → rest ≡ d ∷ left → IsTaken mid (ms_of now) d.from d.bytes piece new → Puts now sorted (arrival_of d piece) more
-    → IsGoingOn now old all mid sorted rest → IsGoingOn now old all new more left
-sorting_goes_on now old mid new all rest left sorted more d piece is taken puts way = record {
+pub sorting_goes_on : (now steady : Moment) (old mid new : List BodyContent) (all rest left : List Datagram) (sorted more : Sorted) (d : Datagram) (piece : Piece)
+    → rest ≡ d ∷ left → IsTaken mid (ms_of steady) d.from d.bytes piece new → Puts now sorted (arrival_of d piece) more
+    → IsGoingOn now steady old all mid sorted rest → IsGoingOn now steady old all new more left
+sorting_goes_on now steady old mid new all rest left sorted more d piece is taken puts way = record {
   front = way.front ++ arrival_of d piece ∷ [];
   are = more_are way.front (arrival_of d piece) all rest left way.are is;
-  taken = taken_behind now old mid new way.front (arrival_of d piece) way.taken taken;
+  taken = taken_behind steady old mid new way.front (arrival_of d piece) way.taken taken;
   sorted_are = sorted_behind now way.front (arrival_of d piece) sorted more way.sorted_are puts;
 }
 
 -- there is no memory for one more: the bodies are as they were, or went on
-pub sorting_fails : (now : Moment) (old mid new : List BodyContent) (all rest : List Datagram) (sorted : Sorted) → new ≡ mid
-    → IsGoingOn now old all mid sorted rest → GoOn now old all new
-sorting_fails now old mid new all rest sorted same way = record {
+pub sorting_fails : (now steady : Moment) (old mid new : List BodyContent) (all rest : List Datagram) (sorted : Sorted) → new ≡ mid
+    → IsGoingOn now steady old all mid sorted rest → GoOn steady old all new
+sorting_fails now steady old mid new all rest sorted same way = record {
   front = way.front;
   rest = rest;
   are = way.are;
-  taken = subst (λ (b : List BodyContent). AreTaken now old way.front b) (sym same) way.taken;
+  taken = subst (λ (b : List BodyContent). AreTaken steady old way.front b) (sym same) way.taken;
 }
 
-pub sorting_fails_behind : (now : Moment) (old mid new : List BodyContent) (all rest left : List Datagram) (sorted : Sorted) (d : Datagram) (piece : Piece)
-    → rest ≡ d ∷ left → IsTaken mid (ms_of now) d.from d.bytes piece new → IsGoingOn now old all mid sorted rest → GoOn now old all new
-sorting_fails_behind now old mid new all rest left sorted d piece is taken way = record {
+pub sorting_fails_behind : (now steady : Moment) (old mid new : List BodyContent) (all rest left : List Datagram) (sorted : Sorted) (d : Datagram) (piece : Piece)
+    → rest ≡ d ∷ left → IsTaken mid (ms_of steady) d.from d.bytes piece new → IsGoingOn now steady old all mid sorted rest → GoOn steady old all new
+sorting_fails_behind now steady old mid new all rest left sorted d piece is taken way = record {
   front = way.front ++ arrival_of d piece ∷ [];
   rest = left;
   are = more_are way.front (arrival_of d piece) all rest left way.are is;
-  taken = taken_behind now old mid new way.front (arrival_of d piece) way.taken taken;
+  taken = taken_behind steady old mid new way.front (arrival_of d piece) way.taken taken;
 }
 
-pub sorting_ends : (now : Moment) (old new : List BodyContent) (all rest : List Datagram) (sorted : Sorted) → rest ≡ []
-    → IsGoingOn now old all new sorted rest → AreSorted now old all sorted new
-sorting_ends now old new all rest sorted none way = record {
+pub sorting_ends : (now steady : Moment) (old new : List BodyContent) (all rest : List Datagram) (sorted : Sorted) → rest ≡ []
+    → IsGoingOn now steady old all new sorted rest → AreSorted now steady old all sorted new
+sorting_ends now steady old new all rest sorted none way = record {
   arrivals = way.front;
   are = sym (append-nil (map datagram_of way.front)) ∙ ap (λ r. map datagram_of way.front ++ r) (sym none) ∙ sym way.are;
   taken = way.taken;

@@ -24,7 +24,7 @@ use Rattle.lw_run.specs.declared.blocks.Sorted.{Sorted}
 use Rattle.lw_run.specs.Blocks.{Arrival, answered_of, datagram_of, origin_of, lacks_block, with_blocks, AreHandled, AreTaken, GoOn}
 use Rattle.lw_run.specs.Exchanges.{fresh_of, sent_again, exchanges_of, with_duplicates, with_unkept, Keeps}
 use Rattle.lw_run.specs.Numbering.{with_unnumbered, AreNumbered}
-use Rattle.lw_run.specs.Server.{ServerContent, Stays}
+use Rattle.lw_run.specs.Server.{ServerContent, IsAtOnce, Stays}
 use Rattle.lw_run.specs.Turns.{sends_of, IsTurn, GoesOn}
 use Rattle.lw_run.specs.inner.Settling.{all_calls, Settles}
 use Rattle.lw_run.specs.inner.Sorting.{AreSorted}
@@ -49,11 +49,11 @@ pub more_duplicates : (old new again count left : ℕ) (batch fresh : List Datag
 more_duplicates old new again count left batch fresh is less all some =
     is ∙ ap (λ (n : ℕ). min (old + n) (2 ^ 64 - 1)) (less ∙ (λ k. all k - some k))
 
-pub stays_from : (old mid new : ServerContent) → mid ≡ old → new.skew ≡ mid.skew → new.started ≡ mid.started → new.passed_over ≡ mid.passed_over
+pub stays_from : (old mid new : ServerContent) → mid ≡ old → IsAtOnce mid new → new.skew ≡ mid.skew → new.started ≡ mid.started → new.passed_over ≡ mid.passed_over
     → new.page ≡ mid.page → new.edge ≡ mid.edge → new.away ≡ mid.away → new.told ≡ mid.told → new.devices ≡ mid.devices → new.fault ≡ mid.fault → Stays old new
-stays_from old mid new same skew started passed_over page edge away told devices fault =
+stays_from old mid new same at_once skew started passed_over page edge away told devices fault =
     subst (λ (server : ServerContent). Stays server new) same
-    (record { skew = skew; started = started; passed_over = passed_over; page = page; edge = edge; away = away; told = told; devices = devices; fault = fault })
+    (record { at_once = at_once; skew = skew; started = started; passed_over = passed_over; page = page; edge = edge; away = away; told = told; devices = devices; fault = fault })
 
 -- a server whose member is still as it was has put nothing into its log
 pub writes_none_from : (old mid : ServerContent) → mid ≡ old → WritesOwn old.member mid.member
@@ -64,9 +64,9 @@ pub goes_nowhere : (now : Moment) (bodies : List BodyContent) (datagrams : List 
 goes_nowhere now bodies datagrams = record { front = []; rest = datagrams; are = refl; taken = refl }
 
 -- or they went on by all
-pub goes_all : (now : Moment) (old new : List BodyContent) (datagrams : List Datagram) (sorted : Sorted) → AreSorted now old datagrams sorted new
-    → GoOn now old datagrams new
-goes_all now old new datagrams sorted are = record {
+pub goes_all : (now steady : Moment) (old new : List BodyContent) (datagrams : List Datagram) (sorted : Sorted)
+    → AreSorted now steady old datagrams sorted new → GoOn steady old datagrams new
+goes_all now steady old new datagrams sorted are = record {
   front = are.arrivals;
   rest = [];
   are = sym are.are ∙ sym (append-nil (map datagram_of are.arrivals));
@@ -98,29 +98,26 @@ settles_by before old new tally counts sorted calls asked replies start handled 
     }
 
 -- the bodies of a server go on from those that it had at first
-pub goes_on_by : (now : Moment) (old mid : ServerContent) (batch fresh : List Datagram) (bodies : List BodyContent) → mid ≡ old
-    → fresh ≡ fresh_of now mid.kept batch → GoOn now mid.bodies fresh bodies
-    → (x : Moment) × GoOn x old.bodies (fresh_of x old.kept batch) bodies
-goes_on_by now old mid batch fresh bodies same some goes = (
-  now,
-  subst (λ (server : ServerContent). GoOn now server.bodies (fresh_of now server.kept batch) bodies) same
-      (subst (λ (ds : List Datagram). GoOn now mid.bodies ds bodies) some goes),
-)
+pub goes_on_by : (old mid new : ServerContent) (batch fresh : List Datagram) → mid ≡ old
+    → fresh ≡ fresh_of mid.steady mid.kept batch → GoOn mid.steady mid.bodies fresh new.bodies → GoesOn old batch new
+goes_on_by old mid new batch fresh same some goes =
+    subst (λ (server : ServerContent). GoesOn server batch new) same
+    (subst (λ (ds : List Datagram). GoOn mid.steady mid.bodies ds new.bodies) some goes)
 
 -- what the code does comes to a turn
-pub is_turn : (now before : Moment) (old mid new : ServerContent) (batch fresh : List Datagram) (sorted : Sorted) (handled numbered : List Handled) (sends : List (Addr × List ℕ)) (is_all lacks : Bool)
-    → mid ≡ old → ms_of before ≡ ms_of now - 1000 * mid.skew
-    → fresh ≡ fresh_of now mid.kept batch → AreSorted now mid.bodies fresh sorted new.bodies
+pub is_turn : (before : Moment) (old mid new : ServerContent) (batch fresh : List Datagram) (sorted : Sorted) (handled numbered : List Handled) (sends : List (Addr × List ℕ)) (is_all lacks : Bool)
+    → mid ≡ old → ms_of before ≡ ms_of mid.latest - 1000 * mid.skew
+    → fresh ≡ fresh_of mid.steady mid.kept batch → AreSorted mid.latest mid.steady mid.bodies fresh sorted new.bodies
     → Settles before mid.member mid.tally sorted handled new.member new.tally
-    → AreNumbered now mid.ids handled numbered new.ids → new.unnumbered ≡ with_unnumbered mid.unnumbered handled numbered
-    → sends ≡ sent_again now mid.kept batch ++ sends_of numbered → Keeps mid.kept (exchanges_of now numbered) new.kept is_all
+    → AreNumbered mid.steady mid.ids handled numbered new.ids → new.unnumbered ≡ with_unnumbered mid.unnumbered handled numbered
+    → sends ≡ sent_again mid.steady mid.kept batch ++ sends_of numbered → Keeps mid.kept (exchanges_of mid.steady numbered) new.kept is_all
     → lacks ≡ list_any lacks_block numbered → new.unkept ≡ with_unkept mid.unkept (is_all && not lacks)
     → new.duplicates ≡ with_duplicates mid.duplicates batch fresh → new.blocks ≡ with_blocks mid.blocks sorted.handled.items sorted.origins.items
-    → new.latest ≡ now → IsTurn now old batch sends new
-is_turn now before old mid new batch fresh sorted handled numbered sends is_all lacks same back some sorts settles numbers without sent keeps lack short more blocks latest =
+    → IsTurn old batch sends new
+is_turn before old mid new batch fresh sorted handled numbered sends is_all lacks same back some sorts settles numbers without sent keeps lack short more blocks =
     let all = settles.handled_are ∙ ap (λ (hs : List Handled). hs ++ settles.more) sorts.sorted_are.handled in
     let calls = ap (all_calls before mid.member.claimed) sorts.sorted_are.calls in
-    subst (λ (server : ServerContent). IsTurn now server batch sends new) same
+    subst (λ (server : ServerContent). IsTurn server batch sends new) same
     (record {
       before = before;
       arrivals = sorts.arrivals;
@@ -133,7 +130,7 @@ is_turn now before old mid new batch fresh sorted handled numbered sends is_all 
       bodies = sorts.taken;
       round = subst (λ (cs : List Call). IsRound mid.member cs settles.replies new.member) calls settles.round;
       answers = subst (λ (os : List Origin). AreHandled os settles.replies settles.more) sorts.sorted_are.origins settles.answers;
-      numbers = subst (λ (hs : List Handled). AreNumbered now mid.ids hs numbered new.ids) all numbers;
+      numbers = subst (λ (hs : List Handled). AreNumbered mid.steady mid.ids hs numbered new.ids) all numbers;
       unnumbered = without ∙ ap (λ (hs : List Handled). with_unnumbered mid.unnumbered hs numbered) all;
       sent = sent;
       counts = settles.counted_are ∙ ap (λ (cs : List Call). counted mid.tally cs settles.replies) calls;
@@ -142,7 +139,6 @@ is_turn now before old mid new batch fresh sorted handled numbered sends is_all 
       duplicates = more ∙ ap (with_duplicates mid.duplicates batch) some;
       blocks = blocks ∙ ap (λ (hs : List Handled). with_blocks mid.blocks hs sorted.origins.items) sorts.sorted_are.handled
           ∙ ap (with_blocks mid.blocks (filter_map answered_of sorts.arrivals)) sorts.sorted_are.origins;
-      latest = latest;
     })
 
 no_arrivals : (arrivals : List Arrival) → map datagram_of arrivals ≡ [] → arrivals ≡ []
@@ -162,12 +158,12 @@ none_numbered now first last [] [] none are = refl
 none_numbered now first last [] (n ∷ numbered) none are = absurd are
 none_numbered now first last (h ∷ handled) numbered none are = absurd (cc)
 
-pub is_tick : (now : Moment) (old new : ServerContent) (batch : List Datagram) (sends : List (Addr × List ℕ)) → batch ≡ []
-    → IsTurn now old batch sends new → IsTurn now old [] [] new
-is_tick now old new batch sends none turn =
-    let empty = subst (λ (b : List Datagram). IsTurn now old b sends new) none turn in
+pub is_tick : (old new : ServerContent) (batch : List Datagram) (sends : List (Addr × List ℕ)) → batch ≡ []
+    → IsTurn old batch sends new → IsTurn old [] [] new
+is_tick old new batch sends none turn =
+    let empty = subst (λ (b : List Datagram). IsTurn old b sends new) none turn in
     let nothing = nothing_handled empty.arrivals empty.replies empty.handled (no_arrivals empty.arrivals empty.fresh) empty.answers in
-    let none_sent = none_numbered now old.ids new.ids _ empty.numbered nothing empty.numbers in
+    let none_sent = none_numbered old.steady old.ids new.ids _ empty.numbered nothing empty.numbers in
     record {
       before = empty.before;
       arrivals = empty.arrivals;
@@ -188,16 +184,16 @@ is_tick now old new batch sends none turn =
       unkept = empty.unkept;
       duplicates = empty.duplicates;
       blocks = empty.blocks;
-      latest = empty.latest;
     }
 
 -- a turn without datagrams changes no body
-pub tick_stays : (now : Moment) (old new : ServerContent) (batch : List Datagram) (sends : List (Addr × List ℕ)) → batch ≡ []
-    → IsTurn now old batch sends new → new.bodies ≡ old.bodies
-tick_stays now old new batch sends none turn =
-    let empty = subst (λ (b : List Datagram). IsTurn now old b sends new) none turn in
-    subst (λ (arrivals : List Arrival). AreTaken now old.bodies arrivals new.bodies) (no_arrivals empty.arrivals empty.fresh) empty.bodies
+pub tick_stays : (old new : ServerContent) (batch : List Datagram) (sends : List (Addr × List ℕ)) → batch ≡ []
+    → IsTurn old batch sends new → new.bodies ≡ old.bodies
+tick_stays old new batch sends none turn =
+    let empty = subst (λ (b : List Datagram). IsTurn old b sends new) none turn in
+    subst (λ (arrivals : List Arrival). AreTaken old.steady old.bodies arrivals new.bodies) (no_arrivals empty.arrivals empty.fresh) empty.bodies
 
-pub tick_fails : (kept : List Exchange) (old new : List BodyContent) (batch : List Datagram) → batch ≡ []
-    → ((now : Moment) × GoOn now old (fresh_of now kept batch) new) → new ≡ old
-tick_fails kept old new batch none goes = stays_without goes.0 old new _ (ap (fresh_of goes.0 kept) none) goes.1
+pub tick_fails : (old new : ServerContent) (batch : List Datagram) → batch ≡ [] → GoesOn old batch new
+    → new.bodies ≡ old.bodies
+tick_fails old new batch none goes =
+    stays_without old.steady old.bodies new.bodies _ (ap (fresh_of old.steady old.kept) none) goes

@@ -33,8 +33,10 @@ use Rattle.lw_run.specs.declared.commands.Done.TheVariants as outcomes
 use Rattle.lw_run.specs.declared.fault.TurnFault.{TurnFault}
 use Rattle.lw_run.specs.declared.fault.TurnFault.TheVariants as turns
 use Rattle.lw_run.specs.Desk.{serves}
-use Rattle.lw_run.specs.Devices.{DevicesContent, Undo}
-use Rattle.lw_run.specs.Server.{ServerContent}
+use Rattle.lw_run.specs.declared.clocks.Times.{Times}
+use Rattle.lw_run.specs.Devices.{DevicesContent, Undo, with_task}
+use Rattle.lw_run.specs.Server.{ReadsClock, ServerContent}
+use Rattle.lw_run.specs.Stepping.{IsTokenOn}
 
 -- ---- what the node gave
 abbrev pub done_by : ObserveFault → Done
@@ -60,72 +62,80 @@ waiting_after waiting now (replies.Cancel (Ok outgoing)) =
 waiting_after waiting now _ = waiting
 
 -- ---- a round with one call, which is counted; so its request leaves only after what it has changed was written
-pub record Requests (call : Call) (now : Moment) (old : MemberContent) (tally : Tally) (devices : DevicesContent)
+-- The request waits from a moment of the clock that never goes back.
+pub record Requests (call : Call) (steady : Moment) (old : MemberContent) (tally : Tally) (devices : DevicesContent)
     (done : Done) (new : MemberContent) (counts : Tally) (left : DevicesContent) : Type 0 where
   pub reply : Reply
   pub round : IsRound old (call ∷ []) (reply ∷ []) new
   pub counts_are : counts ≡ counted tally (call ∷ []) (reply ∷ [])
   pub done_is : done ≡ done_of reply
-  pub waiting : left ≡ record devices { requests = waiting_after devices.requests now reply }
+  pub waiting : left ≡ record devices { requests = waiting_after devices.requests steady reply }
 
 -- nothing else of a server has changed
-pub record IsRequested (call : Call) (now : Moment) (old : ServerContent) (done : Done) (new : ServerContent)
-    : Type 0 where
-  pub requests : Requests call now old.member old.tally old.devices done new.member new.tally new.devices
+pub record IsRequested (call : Call) (old : ServerContent) (done : Done) (new : ServerContent) : Type 0 where
+  pub requests : Requests call old.steady old.member old.tally old.devices done new.member new.tally new.devices
   pub rest : new ≡ record old { member = new.member; tally = new.tally; devices = new.devices }
 
 -- ---- a path of an endpoint is to be observed: of what is shown of it, while the server serves
-abbrev pub IsObservedOf : Option Registration → Moment → Path → Option ℕ → ServerContent → Done → ServerContent → Type 0
-IsObservedOf None now path accept old done new = (done ≡ outcomes.NotFound) × (new ≡ old)
-IsObservedOf (Some shown) now path accept old done new =
-    IsRequested (calls.Observe now shown.id path accept 0) now old done new
+abbrev pub IsObservedOf : Option Registration → Path → Option ℕ → ServerContent → Done → ServerContent → Type 0
+IsObservedOf None path accept old done new = (done ≡ outcomes.NotFound) × (new ≡ old)
+IsObservedOf (Some shown) path accept old done new =
+    IsRequested (calls.Observe old.latest shown.id path accept 0) old done new
 
-pub record IsObservedWhere (endpoint : List ℕ) (path : Path) (accept : Option ℕ) (now : Moment) (old : ServerContent)
-    (done : Done) (new : ServerContent) : Type 0 where
+pub record IsObservedWhere (endpoint : List ℕ) (path : Path) (accept : Option ℕ) (old : ServerContent) (done : Done)
+    (new : ServerContent) : Type 0 where
   pub shown : Option Registration
-  pub found : ShownOf (shown_in old.member.node.table.state) (ms_of now) endpoint shown
-  pub observed : IsObservedOf shown now path accept old done new
+  pub found : ShownOf (shown_in old.member.node.table.state) (ms_of old.latest) endpoint shown
+  pub observed : IsObservedOf shown path accept old done new
 
-abbrev pub IsObserved : Bool → List ℕ → Path → Option ℕ → Moment → ServerContent → Done → ServerContent → Type 0
-IsObserved true endpoint path accept now old done new = IsObservedWhere endpoint path accept now old done new
-IsObserved false endpoint path accept now old done new = (done ≡ outcomes.Away) × (new ≡ old)
+abbrev pub IsObserved : Bool → List ℕ → Path → Option ℕ → ServerContent → Done → ServerContent → Type 0
+IsObserved true endpoint path accept old done new = IsObservedWhere endpoint path accept old done new
+IsObserved false endpoint path accept old done new = (done ≡ outcomes.Away) × (new ≡ old)
 
--- ---- a command, at a moment
-abbrev pub IsOrdered : Command → Moment → ServerContent → Done → ServerContent → Type 0
-IsOrdered (commands.Observe endpoint path accept) now old done new =
-    IsObserved (serves old) endpoint path accept now old done new
-IsOrdered (commands.Cancel token) now old done new = IsRequested (calls.Cancel now token 0) now old done new
+-- ---- a command, at the moment that the clocks told last
+abbrev pub IsOrdered : Command → ServerContent → Done → ServerContent → Type 0
+IsOrdered (commands.Observe endpoint path accept) old done new = IsObserved (serves old) endpoint path accept old done new
+IsOrdered (commands.Cancel token) old done new = IsRequested (calls.Cancel old.latest token 0) old done new
 
 -- where 1,024 requests wait no command is carried out
-abbrev pub IsOrderedWhere : Bool → Command → Moment → ServerContent → Done → ServerContent → Type 0
-IsOrderedWhere true command now old done new = (done ≡ outcomes.TooMany) × (new ≡ old)
-IsOrderedWhere false command now old done new = IsOrdered command now old done new
+abbrev pub IsOrderedWhere : Bool → Command → ServerContent → Done → ServerContent → Type 0
+IsOrderedWhere true command old done new = (done ≡ outcomes.TooMany) × (new ≡ old)
+IsOrderedWhere false command old done new = IsOrdered command old done new
 
 abbrev pub is_full : ServerContent → Bool
 is_full server = nat_le 1024 (length server.devices.requests)
 
-abbrev pub at_moment : Moment → ServerContent → ServerContent
-at_moment now server = record server { latest = now }
-
+-- The clocks are read first, so the moment of a command is the one that they tell.
 abbrev pub IsExecuted : Command → ServerContent → Done → ServerContent → Type 0
 IsExecuted command old done new =
-    (now : Moment) × IsOrderedWhere (is_full old) command now (at_moment now old) done new
+    (times : Times) × ((mid : ServerContent) × (ReadsClock (Some times) old mid
+    × IsOrderedWhere (is_full mid) command mid done new))
 
 -- ---- a command that failed
--- What a failed round has left on the path of the registration is left to undo, where there is memory for that.
-abbrev pub LeavesUndo : Stamp → Path → Option Stamp → DevicesContent → DevicesContent → Type 0
+-- Its round may have been made. What is observed then on the path of the registration is to end, if it is not the
+-- observation that was there before.
+abbrev pub LeavesUndo : Stamp → Path → Option Stamp → ServerContent → ServerContent → Type 0
 LeavesUndo id path before old new =
-    (new ≡ old) ⊎ (new ≡ record old { tasks = old.tasks ++ Undo id path before ∷ [] })
+    new ≡ record old { member = new.member; devices = with_task (Undo id path before) old.devices }
 
-abbrev pub MayLeaveUndo : DevicesContent → DevicesContent → Type 0
-MayLeaveUndo old new =
-    (new ≡ old) ⊎ ((id : Stamp) × (path : Path) × (before : Option Stamp) × LeavesUndo id path before old new)
+pub record MayHaveObserved (endpoint : List ℕ) (path : Path) (old new : ServerContent) : Type 0 where
+  pub shown : Registration
+  pub found : ShownOf (shown_in old.member.node.table.state) (ms_of old.latest) endpoint (Some shown)
+  pub before : Option Stamp
+  pub on : IsTokenOn (shown_in old.member.node.table.state) (ms_of old.latest) shown.id path before
+  pub left : LeavesUndo shown.id path before old new
 
--- No request waits more, and nothing else has changed but what the member has done.
-pub record IsFailed (old new : ServerContent) : Type 0 where
-  pub own : WritesOwn old.member new.member
-  pub devices : MayLeaveUndo old.devices new.devices
-  pub rest : new ≡ record old { member = new.member; latest = new.latest; devices = new.devices }
+-- No request waits more. Nothing has changed; or the member alone has, and what an Observe may have left is undone later.
+abbrev pub FailsTo : Command → ServerContent → ServerContent → Type 0
+FailsTo (commands.Observe endpoint path accept) old new = (new ≡ old) ⊎ MayHaveObserved endpoint path old new
+FailsTo (commands.Cancel token) old new = new ≡ record old { member = new.member }
+
+pub record IsFailed (command : Command) (old new : ServerContent) : Type 0 where
+  pub told : Option Times
+  pub mid : ServerContent
+  pub read : ReadsClock told old mid
+  pub own : WritesOwn mid.member new.member
+  pub fails : FailsTo command mid new
 
 -- ---- what is told of it
 abbrev pub away_text : List ℕ
@@ -164,7 +174,7 @@ TellsOutcome server (Err fault) answer = IsJson status.ServiceUnavailable (reaso
 -- ---- a command at the desk: what it failed by is noted, for the run to end or to go on by
 abbrev pub Executes : Command → ServerContent → Result Done TurnFault → ServerContent → Type 0
 Executes command old (Ok done) new = IsExecuted command old done new
-Executes command old (Err fault) new = IsFailed old new
+Executes command old (Err fault) new = IsFailed command old new
 
 abbrev pub noting : Result Done TurnFault → ServerContent → ServerContent
 noting (Ok done) server = server

@@ -1,10 +1,11 @@
 -- What is under way with devices: requests that wait for an answer (RFC 7252, section 4.2), notifications that come in
 -- blocks (RFC 7959, section 2.6), and what is left to do of both (RFC 7641, section 3.6).
-use Rattle.std.specs.Prelude.{ℕ, ◌%◌, ◌^◌, Bool, List, [], ◌∷◌, Option}
+use Rattle.std.specs.Prelude.{ℕ, ◌%◌, ◌^◌, Bool, List, [], ◌∷◌, ◌++◌, take, Option}
 use Rattle.lw_stamp.specs.declared.moment.Moment.{Moment}
 use Rattle.lw_stamp.specs.declared.stamp.Stamp.{Stamp}
 use Rattle.lw_stamp.specs.Moment.{ms_of}
 use Rattle.lw_reg.specs.declared.path.Path.{Path}
+use Rattle.lw_call.specs.Contents.{NoticeContent}
 use Rattle.lw_exchange.specs.Fetches.{FetchesContent}
 use Rattle.lw_exchange.specs.Waiting.{WaitingContent}
 use Rattle.lw_exchange.specs.declared.waiting.About.{About}
@@ -15,6 +16,10 @@ use Rattle.lw_run.specs.declared.devices.RequestCounts.{RequestCounts}
 pub data TaskContent : Type 0 where
   -- the observation with the token is to end: its request came to nothing, as the code says
   End : Stamp → ℕ → TaskContent
+  -- it is to end, if it has not ended yet, and this is to be told of it: whether it has ended, and the log leads that
+  Close : NoticeContent → Bool → TaskContent
+  -- the round of a report failed: this is to be told, if its observation lives no more
+  Check : NoticeContent → TaskContent
   -- what came of the fetch with the number is to be told: its request came to nothing
   Cut : ℕ → TaskContent
   -- a notification is to be told that came in blocks, and whether all came
@@ -27,6 +32,14 @@ pub record DevicesContent : Type 0 where
   pub fetches : FetchesContent
   pub tasks : List TaskContent
   pub counts : RequestCounts
+
+-- one more thing is left to do, behind the others
+abbrev pub with_task : TaskContent → DevicesContent → DevicesContent
+with_task task devices = record devices { tasks = devices.tasks ++ task ∷ [] }
+
+-- only so much is left to do: the first of it
+abbrev pub with_first : ℕ → DevicesContent → DevicesContent
+with_first count devices = record devices { tasks = take count devices.tasks }
 
 abbrev pub new_counts : RequestCounts
 new_counts = record { sent = 0; sent_again = 0; reset = 0; unanswered = 0; blocks = 0 }

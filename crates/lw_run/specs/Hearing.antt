@@ -112,7 +112,7 @@ pub record IsHeardFrom (from : Addr) (bytes : List ℕ) (old : ServerContent) (p
     : Type 0 where
   pub watch : Option Watch
   pub found : IsWatchIn old bytes watch
-  pub passed : IsPassed old.latest from watch bytes old.devices passage new.devices
+  pub passed : IsPassed old.steady from watch bytes old.devices passage new.devices
   pub rest : new ≡ record old { devices = new.devices }
 
 -- ---- any datagram: a request goes on to the store

@@ -1,5 +1,6 @@
 pub mod Front
 pub mod Faults
+pub mod Clocks
 pub mod Server
 pub mod Blocks
 pub mod Exchanges

@@ -1,5 +1,5 @@
 -- What contracts see of a server.
-use Rattle.std.specs.Prelude.{◌≡◌, ℕ, Bool, false, List, [], Option, None}
+use Rattle.std.specs.Prelude.{◌≡◌, ℕ, Bool, false, List, [], Option, None, Some}
 use Rattle.lw_stamp.specs.declared.moment.Moment.{Moment}
 use Rattle.lw_member.specs.Member.{MemberContent}
 use Rattle.lw_metrics.specs.declared.edge.Edge.{Edge}
@@ -10,7 +10,9 @@ use Rattle.lw_exchange.specs.MessageIds.{first_lanes}
 use Rattle.lw_metrics.specs.Counting.{new_tally}
 use Rattle.lw_metrics.specs.Edge.{new_edge}
 use Rattle.lw_metrics.specs.declared.tally.Tally.{Tally}
+use Rattle.lw_run.specs.declared.clocks.Times.{Times}
 use Rattle.lw_run.specs.declared.fault.TurnFault.{TurnFault}
+use Rattle.lw_run.specs.Clocks.{later, Tells}
 use Rattle.lw_run.specs.Devices.{DevicesContent, new_devices}
 use Rattle.lw_run.specs.Telling.{new_told, ToldContent}
 
@@ -18,7 +20,9 @@ pub record ServerContent : Type 0 where
   pub member : MemberContent
   pub skew : ℕ  -- seconds by which the clocks of the fleet's servers may differ
   pub started : Moment
-  pub latest : Moment  -- of the last turn, or of the start
+  pub clock : Option (List Times)  -- what its clocks have told, in order, where that is known
+  pub latest : Moment  -- what the host's clock told last: lifetimes go by it
+  pub steady : Moment  -- of a clock that never goes back: the times of the message layer go by it
   pub tally : Tally  -- of the rounds that gave replies
   pub passed_over : ℕ  -- how many turns failed for want of memory
   pub page : Option (List ℕ)  -- what is told at `/`, if there is a page
@@ -36,12 +40,14 @@ pub record ServerContent : Type 0 where
   pub fault : Option TurnFault  -- what the last command failed by, until that is noted
 
 -- one of a member that has done nothing yet
-abbrev pub new_server : MemberContent → ℕ → Moment → Option (List ℕ) → ServerContent
-new_server member skew now page = record {
+abbrev pub new_server : MemberContent → Option (List Times) → ℕ → Moment → Option (List ℕ) → ServerContent
+new_server member clock skew now page = record {
   member = member;
   skew = skew;
   started = now;
+  clock = clock;
   latest = now;
+  steady = now;
   tally = new_tally;
   passed_over = 0;
   page = page;
@@ -59,8 +65,27 @@ new_server member skew now page = record {
   fault = None;
 }
 
+-- ---- the clocks
+-- The server once its clocks have told this, if they told anything. Its own moment that never goes back is the later of
+-- what it was and of what they tell.
+abbrev pub at_times : Option Times → ServerContent → ServerContent
+at_times None server = server
+at_times (Some times) server = record server { latest = times.moment; steady = later server.steady times.steady }
+
+-- It has asked its clocks, and they told this, if anything.
+pub record ReadsClock (told : Option Times) (old new : ServerContent) : Type 0 where
+  pub tells : Tells old.clock new.clock told
+  pub same : new ≡ record (at_times told old) { clock = new.clock }
+
+-- It has not asked its clocks: the moments are those that they told last.
+pub record IsAtOnce (old new : ServerContent) : Type 0 where
+  pub clock : new.clock ≡ old.clock
+  pub latest : new.latest ≡ old.latest
+  pub steady : new.steady ≡ old.steady
+
 -- what no turn changes
 pub record Stays (old new : ServerContent) : Type 0 where
+  pub at_once : IsAtOnce old new
   pub skew : new.skew ≡ old.skew
   pub started : new.started ≡ old.started
   pub passed_over : new.passed_over ≡ old.passed_over

@@ -1,11 +1,12 @@
 -- What a step with devices does (RFC 7252, section 4.2; RFC 7641, sections 3.4 and 3.6; RFC 7959, section 2.6).
-use Rattle.std.specs.Prelude.{◌≡◌, ◌≢◌, ℕ, Bool, true, false, List, [], ◌∷◌, ◌++◌, ◌⊎◌, length}
+use Rattle.std.specs.Prelude.{◌≡◌, ◌≢◌, ◌↔◌, ℕ, Bool, true, false, List, [], ◌∷◌, ◌++◌, ◌⊎◌, length, filter_map, map, All}
 use Rattle.std.specs.Prelude.{Option, Some, None, Ok, Err, option_map}
 use Rattle.std.specs.declared.alloc.Global.{Global}
 use Rattle.std.specs.declared.vec.Vec.{Vec}
 use Rattle.lw_stamp.specs.declared.moment.Moment.{Moment}
 use Rattle.lw_stamp.specs.declared.stamp.Stamp.{Stamp}
 use Rattle.lw_stamp.specs.Moment.{ms_of}
+use Rattle.lw_stamp.specs.Stamp.{stamp_bytes}
 use Rattle.lw_reg.specs.declared.addr.Addr.{Addr}
 use Rattle.lw_reg.specs.declared.addr.Addr.TheVariants.{V4}
 use Rattle.lw_reg.specs.declared.path.Path.{Path}
@@ -17,7 +18,7 @@ use Rattle.lw_reg.specs.Showing.{LivesOf}
 use Rattle.lw_table.specs.LookUps.{ById, ByToken, WatchOfIdAfter}
 use Rattle.lw_exchange.specs.declared.message_ids.Lane.{Lane}
 use Rattle.lw_exchange.specs.Fetches.{IsCut}
-use Rattle.lw_exchange.specs.Waiting.{IsStepped, StepContent, Sends, Unanswered, Postponed}
+use Rattle.lw_exchange.specs.Waiting.{IsStepped, StepContent, Sends, Unanswered, Postponed, token_in}
 use Rattle.lw_call.specs.declared.call.Call.{Call}
 use Rattle.lw_call.specs.declared.call.Call.TheVariants as calls
 use Rattle.lw_call.specs.declared.observe_fault.ObserveFault.TheVariants as observe_faults
@@ -29,9 +30,9 @@ use Rattle.lw_member.specs.Rounds.{IsRound}
 use Rattle.lw_run.specs.declared.devices.Progress.{Progress}
 use Rattle.lw_run.specs.declared.devices.Progress.TheVariants as progress
 use Rattle.lw_run.specs.declared.devices.RequestCounts.{RequestCounts}
-use Rattle.lw_run.specs.Devices.{TaskContent, End, Cut, Tell, Undo, DevicesContent, left_of}
+use Rattle.lw_run.specs.Devices.{TaskContent, End, Close, Check, Cut, Tell, Undo, DevicesContent, left_of}
 use Rattle.lw_run.specs.Server.{ServerContent}
-use Rattle.lw_run.specs.Telling.{with_capacity, IsToldIf}
+use Rattle.lw_run.specs.Telling.{with_capacity, IsTold, IsToldIf}
 
 -- ---- a step with the requests that wait (RFC 7252, section 4.2)
 -- what it comes to: nothing, where none is due; bytes that are to be sent; or else something was done
@@ -130,7 +131,7 @@ pub record IsReport (from : Addr) (bytes : List ℕ) (is_complete : Bool) (old :
   pub given : TakenContent
   pub call : MakesCall (calls.Take old.latest from bytes) reply old new
   pub is_given : IsGiven reply given
-  pub told : IsToldIf old.latest given.notice is_complete (with_capacity old.told new.told.notices.capacity) new.told
+  pub told : IsToldIf old.steady given.notice is_complete (with_capacity old.told new.told.notices.capacity) new.told
   pub answer_is : option_map (λ bytes. bytes.items) answer ≡ given.reply
   pub same : new ≡ record old { member = new.member; tally = new.tally; told = new.told }
 
@@ -159,28 +160,106 @@ pub record IsEnding (server : ServerContent) (token : Stamp) (code : ℕ) (notic
   pub by_token : ByToken (shown_in server.member.node.table.state) (ms_of server.latest) token found
   pub notice_is : notice ≡ option_map (ended_notice token code) found
 
--- it is told where the node has ended the observation
-abbrev pub IsToldBy : Reply → NoticeContent → Option NoticeContent → Type 0
-IsToldBy (replies.Cancel (Ok outgoing)) notice told = told ≡ Some notice
-IsToldBy (replies.Cancel (Err observe_faults.NoMemory)) notice told = ⊥
-IsToldBy reply notice told = told ≡ None
+-- nothing is known of it while the log does not lead all that the node knows
+abbrev pub IsEndingIf : Bool → ServerContent → Option Stamp → ℕ → Option NoticeContent → Type 0
+IsEndingIf false server token code notice = notice ≡ None
+IsEndingIf true server None code notice = notice ≡ None
+IsEndingIf true server (Some token) code notice = IsEnding server token code notice
 
-pub record EndsWith (token : Stamp) (notice : NoticeContent) (old new : ServerContent) : Type 0 where
-  pub reply : Reply
-  pub ended : Option NoticeContent
-  pub call : MakesCall (calls.Cancel old.latest token 0) reply old new
-  pub is_ended : IsToldBy reply notice ended
-  pub told : IsToldIf old.latest ended true (with_capacity old.told new.told.notices.capacity) new.told
-  pub same : new ≡ record old { member = new.member; tally = new.tally; told = new.told }
-
-abbrev pub EndsIf : Stamp → Option NoticeContent → ServerContent → ServerContent → Type 0
-EndsIf token None old new = new ≡ old
-EndsIf token (Some notice) old new = EndsWith token notice old new
+-- If it lives, it is to end with the others that are to end, and that is to be told; else there is nothing to do.
+abbrev pub closing : Option NoticeContent → List TaskContent
+closing None = []
+closing (Some notice) = Close notice false ∷ []
 
 pub record Ends (token : Stamp) (code : ℕ) (old new : ServerContent) : Type 0 where
   pub notice : Option NoticeContent
   pub is : IsEnding old token code notice
-  pub ends : EndsIf token notice old new
+  pub same : new ≡ record old {
+    devices =
+        record (old.devices) { tasks = without_first old.devices.tasks ++ closing notice };
+  }
+
+-- All that are to end do so in one round.
+abbrev pub cancel_of : Moment → TaskContent → Option Call
+cancel_of now (Close notice false) = Some (calls.Cancel now notice.token 0)
+cancel_of now task = None
+
+abbrev pub cancels_of : Moment → List TaskContent → List Call
+cancels_of now tasks = filter_map (cancel_of now) tasks
+
+-- they have ended, and that is told next
+abbrev pub over : TaskContent → TaskContent
+over (Close notice is_over) = Close notice true
+over task = task
+
+-- the node had memory for the call; where the observation had ended already, there was nothing to do
+abbrev pub HadMemory : Reply → Type 0
+HadMemory (replies.Cancel (Err observe_faults.NoMemory)) = ⊥
+HadMemory reply = Unit {0}
+
+pub record Closes (old new : ServerContent) : Type 0 where
+  pub replies : List Reply
+  pub round : IsRound old.member (cancels_of old.latest old.devices.tasks) replies new.member
+  pub counts : new.tally ≡ counted old.tally (cancels_of old.latest old.devices.tasks) replies
+  pub had_memory : All HadMemory replies
+  pub same : new ≡ record old {
+    member = new.member;
+    tally = new.tally;
+    devices =
+        record (old.devices) { tasks = map over old.devices.tasks };
+  }
+
+-- one that has ended is told
+pub record TellsEnd (notice : NoticeContent) (old new : ServerContent) : Type 0 where
+  pub told : IsTold old.steady notice true (with_capacity old.told new.told.notices.capacity) new.told
+  pub same : new ≡ record (done_first old) { told = new.told }
+
+abbrev pub IsClosed : NoticeContent → Bool → ServerContent → ServerContent → Type 0
+IsClosed notice false old new = Closes old new
+IsClosed notice true old new = TellsEnd notice old new
+
+-- ---- a report whose round failed may have ended its observation (RFC 7641, section 3.2)
+-- of its token, if that is of a live observation, this is to be told then: it has ended, as the code of the report says
+abbrev pub code_in : List ℕ → ℕ
+code_in (first ∷ code ∷ rest) = code
+code_in bytes = 0
+
+pub record IsAtStake (server : ServerContent) (bytes : List ℕ) (notice : Option NoticeContent) : Type 0 where
+  pub token : Option Stamp
+  pub is_token : (s : Stamp) → (token ≡ Some s) ↔ (stamp_bytes s ≡ token_in bytes)
+  pub is : IsEndingIf server.member.led server token (code_in bytes) notice
+
+-- where the observation lives no more, it is told that it has ended; else there is nothing to do
+abbrev pub overdue : NoticeContent → Option (Registration × Watch) → List TaskContent
+overdue notice None = Close notice true ∷ []
+overdue notice (Some found) = []
+
+pub record Checks (notice : NoticeContent) (old new : ServerContent) : Type 0 where
+  pub found : Option (Registration × Watch)
+  pub by_token : ByToken (shown_in old.member.node.table.state) (ms_of old.latest) notice.token found
+  pub same : new ≡ record old {
+    devices =
+        record (old.devices) { tasks = without_first old.devices.tasks ++ overdue notice found };
+  }
+
+-- What a report leaves where it failed: nothing has changed; or its round may have been made, and it is to be looked at
+-- whether its observation lives.
+abbrev pub checking : Option NoticeContent → List TaskContent
+checking None = []
+checking (Some notice) = Check notice ∷ []
+
+pub record IsReportLeft (bytes : List ℕ) (old new : ServerContent) : Type 0 where
+  pub notice : Option NoticeContent
+  pub at_stake : IsAtStake old bytes notice
+  pub left : new ≡ record old {
+    member = new.member;
+    tally = new.tally;
+    told = with_capacity old.told new.told.notices.capacity;
+    devices = record (old.devices) { tasks = old.devices.tasks ++ checking notice };
+  }
+
+abbrev pub LeavesReport : List ℕ → ServerContent → ServerContent → Type 0
+LeavesReport bytes old new = (new ≡ old) ⊎ IsReportLeft bytes old new
 
 -- ---- what a failed round has left (RFC 7641, section 3.6)
 -- a live watch of the registration with the identifier, on the path
@@ -242,7 +321,9 @@ pub record Undoes (id : Stamp) (path : Path) (before : Option Stamp) (old new : 
 -- ---- a step
 -- The first thing that is left to do is done, and is left no more.
 abbrev pub IsDone : TaskContent → ServerContent → ServerContent → Type 0
-IsDone (End token code) old new = (mid : ServerContent) × Ends token code old mid × (new ≡ done_first mid)
+IsDone (End token code) old new = Ends token code old new
+IsDone (Close notice is_over) old new = IsClosed notice is_over old new
+IsDone (Check notice) old new = Checks notice old new
 IsDone (Cut fetch) old new = IsFirstCut fetch old.devices new.devices × (new ≡ record old { devices = new.devices })
 IsDone (Tell message is_complete) old new =
     (mid : ServerContent) × ((answer : Option (Vec ℕ Global)) × IsReport anywhere message is_complete old answer mid)
@@ -251,13 +332,13 @@ IsDone (Undo id path before) old new = (mid : ServerContent) × Undoes id path b
 
 -- where nothing is left to do, a step with the requests is made
 pub record IsRequestStep (old : ServerContent) (it : Progress) (new : ServerContent) : Type 0 where
-  pub steps : StepsRequests old.latest old.devices old.ids it new.devices new.ids
+  pub steps : StepsRequests old.steady old.devices old.ids it new.devices new.ids
   pub same : new ≡ record old { devices = new.devices; ids = new.ids }
 
 abbrev pub IsStepOf : Option TaskContent → ServerContent → Progress → ServerContent → Type 0
 IsStepOf None old it new = IsRequestStep old it new
 IsStepOf (Some task) old it new = (it ≡ progress.Moved) × IsDone task old new
 
--- A step of a server, at the moment of the last turn.
+-- A step of a server, at the moment that its clocks told last.
 abbrev pub IsNextStep : ServerContent → Progress → ServerContent → Type 0
 IsNextStep old it new = IsStepOf (first_of old.devices.tasks) old it new

@@ -42,29 +42,30 @@ sends_of handled = filter_map send_of handled
 -- One round of the member, which is counted, with what the store takes of the datagrams that are fresh. What is sent
 -- are the replies to those that were answered before, those to blocks that are answered without the store, and those of
 -- the round. The last two have their message IDs before they are kept, so a request that comes again gets the same
--- reply (RFC 7252, sections 4.4 and 4.5). The Sweeps are at the moment less the seconds that clocks may differ.
-pub record IsTurn (now : Moment) (old : ServerContent) (batch : List Datagram) (sends : List (Addr × List ℕ)) (new : ServerContent) : Type 0 where
+-- reply (RFC 7252, sections 4.4 and 4.5). The Sweeps are at the moment less the seconds that clocks may differ. What the
+-- store is called for is at the host's moment; which request came before, and what is kept for how long, goes by the
+-- clock that never goes back.
+pub record IsTurn (old : ServerContent) (batch : List Datagram) (sends : List (Addr × List ℕ)) (new : ServerContent) : Type 0 where
   pub before : Moment
   pub arrivals : List Arrival
   pub replies : List Reply
   pub handled : List Handled
   pub numbered : List Handled
   pub is_all_kept : Bool
-  pub before_is : ms_of before ≡ ms_of now - 1000 * old.skew
-  pub fresh : map datagram_of arrivals ≡ fresh_of now old.kept batch
-  pub bodies : AreTaken now old.bodies arrivals new.bodies
-  pub round : IsRound old.member (calls_of now before old.member.claimed arrivals) replies new.member
+  pub before_is : ms_of before ≡ ms_of old.latest - 1000 * old.skew
+  pub fresh : map datagram_of arrivals ≡ fresh_of old.steady old.kept batch
+  pub bodies : AreTaken old.steady old.bodies arrivals new.bodies
+  pub round : IsRound old.member (calls_of old.latest before old.member.claimed arrivals) replies new.member
   pub answers : AreHandled (filter_map origin_of arrivals) replies handled
-  pub numbers : AreNumbered now old.ids (filter_map answered_of arrivals ++ handled) numbered new.ids
+  pub numbers : AreNumbered old.steady old.ids (filter_map answered_of arrivals ++ handled) numbered new.ids
   pub unnumbered : new.unnumbered ≡ with_unnumbered old.unnumbered (filter_map answered_of arrivals ++ handled) numbered
-  pub sent : sends ≡ sent_again now old.kept batch ++ sends_of numbered
-  pub counts : new.tally ≡ counted old.tally (calls_of now before old.member.claimed arrivals) replies
-  pub kept : Keeps old.kept (exchanges_of now numbered) new.kept is_all_kept
+  pub sent : sends ≡ sent_again old.steady old.kept batch ++ sends_of numbered
+  pub counts : new.tally ≡ counted old.tally (calls_of old.latest before old.member.claimed arrivals) replies
+  pub kept : Keeps old.kept (exchanges_of old.steady numbered) new.kept is_all_kept
   pub unkept : new.unkept ≡ with_unkept old.unkept (is_all_kept && not (list_any lacks_block numbered))
-  pub duplicates : new.duplicates ≡ with_duplicates old.duplicates batch (fresh_of now old.kept batch)
+  pub duplicates : new.duplicates ≡ with_duplicates old.duplicates batch (fresh_of old.steady old.kept batch)
   pub blocks : new.blocks ≡ with_blocks old.blocks (filter_map answered_of arrivals) (filter_map origin_of arrivals)
-  pub latest : new.latest ≡ now
 
 -- The bodies are those before, or those after some of the datagrams that are fresh, from the first on.
 abbrev pub GoesOn : ServerContent → List Datagram → ServerContent → Type 0
-GoesOn old batch new = (now : Moment) × GoOn now old.bodies (fresh_of now old.kept batch) new.bodies
+GoesOn old batch new = GoOn old.steady old.bodies (fresh_of old.steady old.kept batch) new.bodies

@@ -3,3 +3,4 @@ pub mod Settling
 pub mod Sorting
 pub mod Devices
 pub mod Reports
+pub mod Stepping

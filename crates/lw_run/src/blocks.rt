@@ -123,20 +123,21 @@ impl Sorted {
     }
 }
 
-/// The datagrams, each among the bodies that those before it left. Where there is no memory for all, the bodies are those
-/// after some of them.
+/// The datagrams, each among the bodies that those before it left: the store is called at the moment, and the bodies go by
+/// the one that never goes back. Where there is no memory for all, the bodies are those after some of them.
 pub(crate) fn sort(
     alloc: Global,
     bodies: &mut Bodies,
     now: Moment,
+    steady: Moment,
     fresh: Vec<Datagram>,
 ) -> Result<Sorted, NoMemory>
-    ensures sorted { IfOk result (λ sorted. AreSorted now bodies.old fresh.items sorted bodies.new) }
-    ensures memory { OnErr result (GoOn now bodies.old fresh.items bodies.new) }
+    ensures sorted { IfOk result (λ sorted. AreSorted now steady bodies.old fresh.items sorted bodies.new) }
+    ensures memory { OnErr result (GoOn steady bodies.old fresh.items bodies.new) }
 {
     let mut sorted = Sorted::new(alloc);
     for datagram in fresh {
-        let piece = bodies.take(now, datagram.from, &datagram.bytes)?;
+        let piece = bodies.take(steady, datagram.from, &datagram.bytes)?;
         sorted.put(now, datagram, piece)?;
     }
     Ok(sorted)

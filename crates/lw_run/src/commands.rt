@@ -1,16 +1,18 @@
 //! What operators have done: observations are made and ended.
 
-ghost use Rattle.std.specs.Prelude.{◌≡◌, ◌∷◌, [], option_map, IfOk, OnErr};
+ghost use Rattle.std.specs.Prelude.{◌≡◌, ◌⊎◌, ◌∷◌, [], option_map, IfOk, OnErr};
 ghost use Rattle.lw_call.specs.declared.call.Call.TheVariants as calls;
 ghost use Rattle.lw_exchange.specs.Waiting.{HasRoom};
 ghost use Rattle.lw_member.specs.Own.{WritesOwn};
-ghost use Rattle.lw_run.specs.Commands.{done_by, done_of as done_in, waiting_after, Executes, IsFailed, IsObserved, IsOrdered, IsRequested, Requests as RequestsOnce};
+ghost use Rattle.lw_run.specs.Commands.{done_by, done_of as done_in, is_full, waiting_after, Executes, FailsTo};
+ghost use Rattle.lw_run.specs.Commands.{IsObserved, IsOrdered, IsOrderedWhere, IsRequested, LeavesUndo, MayHaveObserved};
+ghost use Rattle.lw_run.specs.Commands.{Requests as RequestsOnce};
 ghost use Rattle.lw_run.specs.Desk.{serves};
 
-use crate::devices::Devices;
+use crate::devices::{Devices, Task};
 use crate::one_call::call_once;
 use crate::stepping::token_on;
-use crate::{Server, TurnFault};
+use crate::{Clocks, Server, TurnFault};
 use lw_call::{Call, ObserveFault, Outgoing, Reply};
 use lw_exchange::{About, Requests};
 use lw_log::DeltaLog;
@@ -19,7 +21,6 @@ use lw_metrics::Tally;
 use lw_reg::Path;
 use lw_stamp::{Moment, Stamp, Text};
 use lw_target::Command;
-use lw_wire::HostClock;
 use std::alloc::Global;
 
 /// How many requests to devices may wait where a command is to be carried out, at most.
@@ -44,34 +45,42 @@ pub enum Done {
     NoMemory,
 }
 
-impl<G: DeltaLog, C: HostClock + Drop> Server<G, C> {
-    /// Carries out a command at the moment that it is.
+impl<G: DeltaLog, C: Clocks> Server<G, C> {
+    /// Carries out a command at the moment that the clocks tell.
     pub(crate) fn execute(&mut self, command: &Command) -> Result<Done, TurnFault>
         ensures { Executes command.now self.old result self.new }
     {
-        let Some(now) = self.clock.now() else {
-            return Err(TurnFault::ClockRefused);
-        };
-        self.latest = now;
+        self.read_clock()?;
+        self.execute_now(command)
+    }
+
+    /// Carries out a command at the moment that the clocks told last.
+    fn execute_now(&mut self, command: &Command) -> Result<Done, TurnFault>
+        ensures executed { IfOk result (λ done.
+            IsOrderedWhere (is_full self.old) command.now self.old done self.new) }
+        ensures own { WritesOwn self.old.member self.new.member }
+        ensures failed { OnErr result (FailsTo command.now self.old self.new) }
+    {
         if self.devices.waiting() >= MOST_WAITING {
             return Ok(Done::TooMany);
         }
-        self.order(now, command)
+        self.order(command)
     }
 
-    fn order(&mut self, now: Moment, command: &Command) -> Result<Done, TurnFault>
-        ensures ordered { IfOk result (λ done. IsOrdered command.now now self.old done self.new) }
-        ensures failed { OnErr result (IsFailed self.old self.new) }
+    fn order(&mut self, command: &Command) -> Result<Done, TurnFault>
+        ensures ordered { IfOk result (λ done. IsOrdered command.now self.old done self.new) }
+        ensures own { WritesOwn self.old.member self.new.member }
+        ensures failed { OnErr result (FailsTo command.now self.old self.new) }
     {
         match command {
             Command::Observe {
                 endpoint,
                 path,
                 accept,
-            } => self.observe(now, endpoint, *path, *accept),
+            } => self.observe(endpoint, *path, *accept),
             Command::Cancel { token } => {
-                let token = *token;
-                self.request(now, Call::Cancel { now, token, mid: 0 })
+                let (now, token) = (self.latest, *token);
+                self.request(Call::Cancel { now, token, mid: 0 })
             }
         }
     }
@@ -79,15 +88,16 @@ impl<G: DeltaLog, C: HostClock + Drop> Server<G, C> {
     /// Has a path of the endpoint's registration observed.
     fn observe(
         &mut self,
-        now: Moment,
         endpoint: &Text,
         path: Path,
         accept: Option<u16>,
     ) -> Result<Done, TurnFault>
         ensures observed { IfOk result (λ done.
-            IsObserved (serves self.old) endpoint.now path accept now self.old done self.new) }
-        ensures failed { OnErr result (IsFailed self.old self.new) }
+            IsObserved (serves self.old) endpoint.now path accept self.old done self.new) }
+        ensures own { WritesOwn self.old.member self.new.member }
+        ensures failed { OnErr result ((self.new ≡ self.old) ⊎ MayHaveObserved endpoint.now path self.old self.new) }
     {
+        let now = self.latest;
         let Some(node) = self.node() else {
             return Ok(Done::Away);
         };
@@ -95,45 +105,47 @@ impl<G: DeltaLog, C: HostClock + Drop> Server<G, C> {
             return Ok(Done::NotFound);
         };
         let (id, before) = (shown.id, token_on(node, now, shown.id, path));
-        self.observe_shown(now, id, path, accept, before)
+        self.observe_shown(id, path, accept, before)
     }
 
-    /// Has a path of the registration observed, on which there was this observation before.
+    /// Has a path of the registration observed, on which there was this observation before. Where the round fails, what it
+    /// has left is written with the next one, and then it is ended.
     fn observe_shown(
         &mut self,
-        now: Moment,
         id: Stamp,
         path: Path,
         accept: Option<u16>,
         before: Option<Stamp>,
     ) -> Result<Done, TurnFault>
         ensures observed { IfOk result (λ done.
-            IsRequested (calls.Observe now id path accept 0) now self.old done self.new) }
-        ensures failed { OnErr result (IsFailed self.old self.new) }
+            IsRequested (calls.Observe self.old.latest id path accept 0) self.old done self.new) }
+        ensures own { WritesOwn self.old.member self.new.member }
+        ensures failed { OnErr result ((self.new ≡ self.old) ⊎ LeavesUndo id path before self.old self.new) }
     {
-        let call = Call::Observe {
-            now,
+        let count = self.devices.tasks_left();
+        self.devices.leave(Task::Undo { id, path, before })?;
+        let made = self.request(Call::Observe {
+            now: self.latest,
             id,
             path,
             accept,
             mid: 0,
-        };
-        let made = self.request(now, call);
-        if made.is_err() {
-            // What the failed round has left is written with the next one, and then it is ended.
-            self.devices.leave_undo(id, path, before);
+        });
+        if made.is_ok() {
+            self.devices.keep_first(count);
         }
         made
     }
 
     /// A round with the call. The request that it gives waits to be sent.
-    fn request(&mut self, now: Moment, call: Call) -> Result<Done, TurnFault>
-        ensures requested { IfOk result (λ done. IsRequested call now self.old done self.new) }
+    fn request(&mut self, call: Call) -> Result<Done, TurnFault>
+        ensures requested { IfOk result (λ done. IsRequested call self.old done self.new) }
         ensures own { WritesOwn self.old.member self.new.member }
         ensures unchanged { OnErr result (self.new ≡ record (self.old) { member = self.new.member }) }
     {
+        let steady = self.steady;
         let (member, tally) = (&mut self.member, &mut self.tally);
-        request_once(self.alloc, member, tally, &mut self.devices, now, call)
+        request_once(self.alloc, member, tally, &mut self.devices, steady, call)
     }
 }
 
@@ -143,18 +155,18 @@ fn request_once<G: DeltaLog>(
     member: &mut Member<G>,
     tally: &mut Tally,
     devices: &mut Devices,
-    now: Moment,
+    steady: Moment,
     call: Call,
 ) -> Result<Done, TurnFault>
     ensures requested { IfOk result (λ done.
-        RequestsOnce call now member.old tally.old devices.old done member.new tally.new devices.new) }
+        RequestsOnce call steady member.old tally.old devices.old done member.new tally.new devices.new) }
     ensures own { WritesOwn member.old member.new }
     ensures uncounted { OnErr result (tally.new ≡ tally.old) }
     ensures unchanged { OnErr result (devices.new ≡ devices.old) }
 {
     devices.requests.reserve()?;
     let reply = call_once(alloc, member, tally, call)?;
-    Ok(requested(&mut devices.requests, now, reply))
+    Ok(requested(&mut devices.requests, steady, reply))
 }
 
 /// Puts the request that a call gave behind those that wait. There is room for it.

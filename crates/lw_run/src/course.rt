@@ -5,13 +5,15 @@ ghost use Rattle.lw_run.specs.Front.{IsWithin};
 
 use crate::hearing::is_report;
 use crate::receiving::{pass_over, receive};
-use crate::telling::Refusals;
-use crate::{Compaction, Front, Heard, Metered, Passage, Progress, RunFault, Server, TurnFault};
+use crate::telling::LineRate;
+use crate::{
+    Clocks, Compaction, Front, Heard, Metered, Passage, Progress, RunFault, Server, TurnFault,
+};
 use log::{Log, debug, info, warn};
 use lw_log::DeltaLog;
 use lw_reg::Addr;
 use lw_stamp::Moment;
-use lw_wire::{Datagram, HostClock, WireFault, socket_address_of};
+use lw_wire::{Datagram, WireFault, socket_address_of};
 use std::time::Duration;
 
 /// How many faults of the front, or turns without memory, in a row end a run.
@@ -23,12 +25,15 @@ const TURNS_BETWEEN_COMPACTIONS: u32 = 1_000;
 /// How many steps with devices are made in a turn.
 const STEPS_A_TURN: u32 = 4_096;
 
+/// How many milliseconds a second has.
+const MILLISECONDS: u64 = 1_000;
+
 /// How many microseconds a millisecond has.
 const MICROSECONDS: u64 = 1_000;
 
 /// A server, and how its last turns went.
 #[derive(Drop)]
-pub(crate) struct Course<G: DeltaLog + Metered, C: HostClock + Drop> {
+pub(crate) struct Course<G: DeltaLog + Metered, C: Clocks> {
     server: Server<G, C>,
     /// How many times in a row the front failed.
     faults: u32,
@@ -40,14 +45,16 @@ pub(crate) struct Course<G: DeltaLog + Metered, C: HostClock + Drop> {
     /// Whether the log has lost entries since it was compacted. Whoever reads it from its beginning may miss what stood in
     /// them, until all is written anew.
     has_lost: bool,
-    /// The moment of the last turn.
+    /// The moment of the last turn, by the clock that never goes back.
     last: Moment,
-    refusals: Refusals,
+    refusals: LineRate,
+    send_lines: LineRate,
+    receive_lines: LineRate,
 }
 
-impl<G: DeltaLog + Metered, C: HostClock + Drop> Course<G, C> {
+impl<G: DeltaLog + Metered, C: Clocks> Course<G, C> {
     pub(crate) fn new(server: Server<G, C>, compaction: Compaction) -> Course<G, C> {
-        let last = server.latest();
+        let last = server.steady();
         let mut course = Course {
             server,
             compaction,
@@ -56,7 +63,9 @@ impl<G: DeltaLog + Metered, C: HostClock + Drop> Course<G, C> {
             rest: 0,
             has_lost: false,
             last,
-            refusals: Refusals::new(),
+            refusals: LineRate::new(),
+            send_lines: LineRate::new(),
+            receive_lines: LineRate::new(),
         };
         course.note_log();
         course
@@ -80,6 +89,8 @@ impl<G: DeltaLog + Metered, C: HostClock + Drop> Course<G, C> {
             has_lost,
             last,
             refusals,
+            send_lines,
+            receive_lines,
         } = self;
         let (server, heard) = front.attend(server, buffer, wait);
         let mut course = Course {
@@ -91,6 +102,8 @@ impl<G: DeltaLog + Metered, C: HostClock + Drop> Course<G, C> {
             has_lost,
             last,
             refusals,
+            send_lines,
+            receive_lines,
         };
         course.server.edge.responses = front.responses();
         (course, heard)
@@ -136,12 +149,12 @@ impl<G: DeltaLog + Metered, C: HostClock + Drop> Course<G, C> {
     ) -> Result<(), TurnFault>
         requires { count ≤ length buffer.old }
     {
+        self.server.read_clock()?;
         let batch = receive(self.server.allocator(), front, buffer, count, from)?;
         let batch = self.hear(front, log, batch)?;
-        if !batch.is_empty() {
-            for (to, bytes) in self.sends_of(batch)? {
-                self.send(front, log, to, bytes);
-            }
+        // Also where nothing is left for the store: what has expired ends.
+        for (to, bytes) in self.sends_of(batch)? {
+            self.send(front, log, to, bytes);
         }
         self.serve_devices(front, log)
     }
@@ -214,8 +227,8 @@ impl<G: DeltaLog + Metered, C: HostClock + Drop> Course<G, C> {
 
     /// Sends a reply.
     fn send<F: Front, L: Log>(&mut self, front: &mut F, log: &L, to: Addr, bytes: Vec<u8>) {
-        self.refusals
-            .tell(log, self.server.latest().ms() / 1_000, to, &bytes);
+        let second = self.second();
+        self.refusals.tell(log, second, to, &bytes);
         self.put_out(front, log, to, &bytes);
     }
 
@@ -231,8 +244,17 @@ impl<G: DeltaLog + Metered, C: HostClock + Drop> Course<G, C> {
         if front.send(to, bytes).is_err() {
             let edge = &mut self.server.edge;
             edge.send_faults = edge.send_faults.saturating_add(1);
-            warn!(log; "send passed over");
+            let second = self.second();
+            if self.send_lines.tells(second) {
+                let address = socket_address_of(&to);
+                warn!(log; "send passed over to={address}");
+            }
         }
+    }
+
+    /// The second that it is, by the clock that never goes back.
+    fn second(&self) -> u64 {
+        self.server.steady().ms() / MILLISECONDS
     }
 
     /// A turn without datagrams.
@@ -247,6 +269,7 @@ impl<G: DeltaLog + Metered, C: HostClock + Drop> Course<G, C> {
     }
 
     fn try_tick<F: Front, L: Log>(&mut self, front: &mut F, log: &L) -> Result<(), TurnFault> {
+        self.server.read_clock()?;
         self.server.tick()?;
         if self.server.away {
             // It is told first that the log is back.
@@ -268,7 +291,7 @@ impl<G: DeltaLog + Metered, C: HostClock + Drop> Course<G, C> {
 
     /// Counts the time since the turn before, if the log has been away since then.
     fn note_time(&mut self) {
-        let now = self.server.latest();
+        let now = self.server.steady();
         if self.server.away {
             let milliseconds = now.ms().saturating_sub(self.last.ms());
             let edge = &mut self.server.edge;
@@ -292,7 +315,10 @@ impl<G: DeltaLog + Metered, C: HostClock + Drop> Course<G, C> {
         if self.faults >= FAULTS_IN_A_ROW {
             return Err(RunFault::ReceiveFailed);
         }
-        warn!(log; "receive passed over");
+        let second = self.second();
+        if self.receive_lines.tells(second) {
+            warn!(log; "receive passed over");
+        }
         Ok(())
     }
 

@@ -6,7 +6,7 @@ ghost use Rattle.lw_target.specs.declared.desk.Status.TheVariants as statuses;
 ghost use Rattle.lw_run.specs.Commands.{noting, reason_of as reason_in, TellsDone, TellsObserved, TellsOutcome};
 ghost use Rattle.lw_run.specs.Desk.{about_of, health_status, serves, version, AreMeasures, AreRequestMeasures, IsMeasuredBy, TellsHealth, TellsMetrics, TellsNotifications, TellsOfNode, TellsPage};
 
-use crate::{Done, Server, TurnFault};
+use crate::{Clocks, Done, Server, TurnFault};
 use lw_api::{About, answer, created, no_content, not_found, notifications, numbers_of, refused};
 use lw_log::DeltaLog;
 use lw_metrics::{Measures, NodeMeasures, RequestMeasures, metrics_text};
@@ -14,7 +14,6 @@ use lw_node::Node;
 use lw_print::health_text;
 use lw_stamp::{NoMemory, Stamp};
 use lw_target::{Answer, Asked, Command, Desk, Media, Status};
-use lw_wire::HostClock;
 
 /// The version of the program.
 const VERSION: &str = "0.1.0";
@@ -25,7 +24,7 @@ const AWAY: &str = r#"{"error":"away"}"#;
 /// What is told where there is no memory to do what was asked for.
 const NO_MEMORY: &str = r#"{"error":"no memory"}"#;
 
-impl<G: DeltaLog, C: HostClock + Drop> Desk for Server<G, C> {
+impl<G: DeltaLog, C: Clocks> Desk for Server<G, C> {
     ghost use Rattle.lw_run.specs.Commands.{IsCarriedOut};
     ghost use Rattle.lw_run.specs.Desk.{TellsOf};
 
@@ -52,11 +51,11 @@ impl<G: DeltaLog, C: HostClock + Drop> Desk for Server<G, C> {
     }
 
     fn wants_to_send(&self) -> bool {
-        self.fault.is_some() || self.devices.requests.is_due(self.latest)
+        self.fault.is_some() || !self.away && self.devices.requests.is_due(self.steady)
     }
 }
 
-impl<G: DeltaLog, C: HostClock + Drop> Server<G, C> {
+impl<G: DeltaLog, C: Clocks> Server<G, C> {
     fn page(&self) -> Result<Answer, NoMemory>
         ensures { IfOk result (TellsPage self.now.page) }
     {

@@ -3,15 +3,16 @@
 
 ghost use Rattle.std.specs.Prelude.{◌≡◌, ◌<◌, ◌≤◌, ◌+◌, ◌++◌, length, map, option_map, vec_capacity, vec_len};
 ghost use Rattle.std.specs.Prelude.{IfOk, OnErr, OnOk};
+ghost use Rattle.std.specs.Option.{option_to_list};
 ghost use Rattle.lw_exchange.specs.Waiting.{HasRoom};
-ghost use Rattle.lw_run.specs.Commands.{LeavesUndo};
-ghost use Rattle.lw_run.specs.Devices.{left_of, new_counts, new_devices};
+ghost use Rattle.lw_run.specs.Devices.{left_of, new_counts, new_devices, with_first, with_task};
 ghost use Rattle.lw_run.specs.Hearing.{counts_block, counts_heard, is_confirmable as is_confirmable_in, left_by, AsksRest, IsPassed, Passes, WholePasses};
-ghost use Rattle.lw_run.specs.Stepping.{first_of, with_sent, without_first, IsFirstCut, StepsRequests};
+ghost use Rattle.lw_run.specs.Stepping.{cancel_of as cancel_in, cancels_of, first_of, over, with_sent, without_first, IsFirstCut, StepsRequests};
 ghost use Rattle.lw_run.specs.inner.Devices.{task_in, task_of};
 
 use crate::hearing::Passage;
 use bytes::Bytes;
+use lw_call::{Call, Notice};
 use lw_exchange::{About, Fetches, Heard, MessageIds, Parcel, Requests, Step};
 use lw_reg::{Addr, Path, Watch};
 use lw_stamp::{Moment, NoMemory, Stamp};
@@ -32,6 +33,14 @@ pub(crate) enum Task {
         token: Stamp,
         code: u8,
     },
+    /// It is to end, if it has not ended yet, and the notice is to be told of that.
+    Close {
+        notice: Notice,
+        /// Whether it has ended, and the log leads that.
+        is_over: bool,
+    },
+    /// The round of a report failed: the notice is to be told, if its observation lives no more.
+    Check(Notice),
     /// What came of the fetch with the number is to be told, since its request came to nothing.
     Cut(u32),
     /// A notification is to be told that came in blocks, of which perhaps some did not come.
@@ -55,6 +64,11 @@ pub(crate) enum First {
         token: Stamp,
         code: u8,
     },
+    Close {
+        notice: Notice,
+        is_over: bool,
+    },
+    Check(Notice),
     Cut(u32),
     Tell {
         bytes: Bytes,
@@ -188,13 +202,62 @@ impl Devices {
         self.requests.count()
     }
 
-    /// Leaves to undo what a failed round may have left on the path of the registration, where there is memory for that.
-    pub(crate) fn leave_undo(&mut self, id: Stamp, path: Path, before: Option<Stamp>)
-        ensures { LeavesUndo id path before self.old self.new }
+    /// How much is left to do.
+    pub(crate) fn tasks_left(&self) -> usize
+        ensures { result ≡ length self.now.tasks }
     {
-        match self.tasks.reserve(1) {
-            Ok(()) => self.tasks.push_reserved(Task::Undo { id, path, before }),
-            Err(_) => {}
+        self.tasks.len()
+    }
+
+    /// Leaves one more thing to do.
+    pub(crate) fn leave(&mut self, task: Task) -> Result<(), NoMemory>
+        ensures left { OnOk result (self.new ≡ with_task (task_of task) self.old) }
+        ensures unchanged { OnErr result (self.new ≡ self.old) }
+    {
+        self.tasks.push(task)?;
+        Ok(())
+    }
+
+    /// Only so much of what is left to do is still to be done: the first of it.
+    pub(crate) fn keep_first(&mut self, count: usize)
+        ensures { self.new ≡ with_first count self.old }
+    {
+        self.tasks.truncate(count);
+    }
+
+    /// The first thing that is left to do is done, and this is left to do behind the others, if it is something.
+    pub(crate) fn put_behind(&mut self, task: Option<Task>) -> Result<(), NoMemory>
+        ensures behind { OnOk result (self.new
+            ≡ record (self.old) { tasks = without_first self.old.tasks ++ option_to_list (option_map task_of task) }) }
+        ensures unchanged { OnErr result (self.new ≡ self.old) }
+    {
+        self.tasks.reserve(1)?;
+        self.drop_first();
+        if let Some(task) = task {
+            self.tasks.push(task)?;
+        }
+        Ok(())
+    }
+
+    /// The calls that end the observations which are to end.
+    pub(crate) fn cancels(&self, alloc: Global, now: Moment) -> Result<Vec<Call>, NoMemory>
+        ensures { IfOk result (λ calls. calls.items ≡ cancels_of now self.now.tasks) }
+    {
+        let mut calls = Vec::new(alloc);
+        for task in &self.tasks {
+            if let Some(call) = cancel_of(now, task) {
+                calls.push(call)?;
+            }
+        }
+        Ok(calls)
+    }
+
+    /// All observations that were to end have ended.
+    pub(crate) fn close_all(&mut self)
+        ensures { self.new ≡ record (self.old) { tasks = map over self.old.tasks } }
+    {
+        for task in &mut self.tasks {
+            note_over(task);
         }
     }
 
@@ -210,6 +273,11 @@ impl Devices {
                 token: *token,
                 code: *code,
             },
+            Task::Close { notice, is_over } => First::Close {
+                notice: notice.copy(alloc)?,
+                is_over: *is_over,
+            },
+            Task::Check(notice) => First::Check(notice.copy(alloc)?),
             Task::Cut(fetch) => First::Cut(*fetch),
             Task::Undo { id, path, before } => First::Undo {
                 id: *id,
@@ -274,6 +342,32 @@ impl Devices {
             }
             Step::Postponed => Ok(Progress::Moved),
         }
+    }
+}
+
+/// The call that ends an observation which is to end.
+fn cancel_of(now: Moment, task: &Task) -> Option<Call>
+    ensures { result ≡ cancel_in now (task_of task.now) }
+{
+    match task {
+        Task::Close {
+            notice,
+            is_over: false,
+        } => Some(Call::Cancel {
+            now,
+            token: notice.token,
+            mid: 0,
+        }),
+        _ => None,
+    }
+}
+
+/// An observation that was to end has ended.
+fn note_over(task: &mut Task)
+    ensures { task_of task.new ≡ over (task_of task.old) }
+{
+    if let Task::Close { is_over, .. } = task {
+        *is_over = true;
     }
 }
 

@@ -5,13 +5,13 @@ ghost use Rattle.std.specs.Prelude.{◌≡◌, IfOk, OnErr};
 ghost use Rattle.lw_run.specs.Hearing.{IsHeard, IsHeardFrom, IsWatchAt, IsWatchIn, IsWatchOf};
 ghost use Rattle.lw_run.specs.inner.Reports.{is_report as is_report_in};
 
-use crate::Server;
+use crate::{Clocks, Server};
 use lw_exchange::{is_request, token_in_blocks};
 use lw_log::DeltaLog;
 use lw_node::Node;
 use lw_reg::{Addr, Watch};
 use lw_stamp::{Moment, NoMemory, Stamp};
-use lw_wire::{Datagram, HostClock};
+use lw_wire::Datagram;
 
 /// What becomes of a datagram before the store takes it.
 #[derive(Drop)]
@@ -24,8 +24,8 @@ pub enum Passage {
     Held(Option<Vec<u8>>),
 }
 
-impl<G: DeltaLog, C: HostClock + Drop> Server<G, C> {
-    /// Hears a datagram before the store takes it, at the moment of the last turn.
+impl<G: DeltaLog, C: Clocks> Server<G, C> {
+    /// Hears a datagram before the store takes it, at the moment that the clocks told last.
     pub fn hear(&mut self, datagram: &Datagram) -> Result<Passage, NoMemory>
         ensures heard { IfOk result (λ passage. IsHeard datagram.now self.old passage self.new) }
         ensures unchanged { OnErr result (self.new ≡ self.old) }
@@ -42,7 +42,7 @@ impl<G: DeltaLog, C: HostClock + Drop> Server<G, C> {
         ensures unchanged { OnErr result (self.new ≡ self.old) }
     {
         let watch = self.watch_in(bytes)?;
-        self.devices.hear(self.latest, from, watch, bytes)
+        self.devices.hear(self.steady, from, watch, bytes)
     }
 
     /// The watch that a notification in blocks is of, if that lives.

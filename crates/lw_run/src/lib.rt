@@ -4,6 +4,7 @@
 
 mod blocks;
 mod calling;
+mod clocks;
 mod commands;
 mod course;
 mod desk;
@@ -24,6 +25,7 @@ mod telling;
 mod timed;
 mod told;
 
+pub use clocks::{Clocks, HostClocks, Times};
 pub use commands::Done;
 pub use devices::{Progress, RequestCounts};
 pub use fault::{RunFault, TurnFault};

@@ -1,10 +1,10 @@
 //! A run.
 
 use crate::course::Course;
-use crate::{Front, Heard, Metered, RunFault, Server};
+use crate::{Clocks, Front, Heard, Metered, RunFault, Server};
 use log::Log;
 use lw_log::DeltaLog;
-use lw_wire::{BUFFER, HostClock, WireFault};
+use lw_wire::{BUFFER, WireFault};
 use std::time::Duration;
 
 /// Whether a run has its log go on from all that the node knows, where what stands behind that is large.
@@ -16,7 +16,7 @@ pub enum Compaction {
 }
 
 /// Serves until the front tells that it is over. Where nothing comes for so long a time a turn is made without datagrams.
-pub fn run_on<F: Front, G: DeltaLog + Metered, C: HostClock + Drop, L: Log>(
+pub fn run_on<F: Front, G: DeltaLog + Metered, C: Clocks, L: Log>(
     front: &mut F,
     server: Server<G, C>,
     log: &L,

@@ -1,13 +1,15 @@
 //! A member that takes datagrams.
 
-ghost use Rattle.std.specs.Prelude.{◌≡◌, ◌↔◌, [], map, option_map, string_bytes, IfOk, OnErr, OnOk, IsTrue};
+ghost use Rattle.std.specs.Prelude.{◌≡◌, ◌↔◌, [], map, option_map, string_bytes, None, Some, IfErr, IfOk, OnErr, OnOk, IsTrue};
 ghost use Rattle.lw_member.specs.Compaction.{IsCompactionDue, IsCompacted, Compacts};
 ghost use Rattle.lw_member.specs.Own.{WritesOwn};
 ghost use Rattle.lw_metrics.specs.Counting.{one_more};
-ghost use Rattle.lw_run.specs.Server.{new_server, KeepsStill, Stays};
+ghost use Rattle.lw_run.specs.Clocks.{later as later_of};
+ghost use Rattle.lw_run.specs.Server.{new_server, IsAtOnce, KeepsStill, ReadsClock, Stays};
+ghost use Rattle.lw_run.specs.declared.clocks.Times.{Times as Told};
+ghost use Rattle.lw_run.specs.declared.fault.TurnFault.TheVariants.{ClockRefused};
 ghost use Rattle.lw_run.specs.Turns.{IsTurn, GoesOn, sent};
 
-use crate::TurnFault;
 use crate::blocks::{any_lacks_block, sort};
 use crate::calling::moment_before;
 use crate::devices::Devices;
@@ -16,27 +18,30 @@ use crate::numbering::number_replies;
 use crate::sending::put_sends;
 use crate::settling::settle;
 use crate::told::Told;
+use crate::{Clocks, TurnFault};
 use lw_exchange::{Bodies, MessageIds, Replies};
 use lw_log::DeltaLog;
 use lw_member::Member;
 use lw_metrics::{Edge, Tally};
 use lw_reg::Addr;
 use lw_stamp::Moment;
-use lw_wire::{Datagram, HostClock};
+use lw_wire::Datagram;
 use std::alloc::Global;
 use std::marker::Model;
 
-/// A member, and the clock that it takes datagrams by.
+/// A member, and the clocks that it takes datagrams by.
 #[derive(Drop)]
-pub struct Server<G: DeltaLog, C: HostClock + Drop> {
+pub struct Server<G: DeltaLog, C: Clocks> {
     pub(crate) alloc: Global,
     pub(crate) member: Member<G>,
     pub(crate) clock: C,
     /// How many seconds the clocks of the fleet's servers may differ.
     skew: u32,
     pub(crate) started: Moment,
-    /// The moment of the last turn, or of the start.
+    /// The moment that the host's clock told last: lifetimes go by it.
     pub(crate) latest: Moment,
+    /// The moment of a clock that never goes back: what waits for an answer, and what is kept for some time, goes by it.
+    pub(crate) steady: Moment,
     pub(crate) tally: Tally,
     /// How many turns failed for want of memory.
     pub(crate) passed_over: u64,
@@ -68,7 +73,7 @@ pub struct Server<G: DeltaLog, C: HostClock + Drop> {
     pub(crate) fault: Option<TurnFault>,
 }
 
-impl<G: DeltaLog, C: HostClock + Drop> Model for Server<G, C> {
+impl<G: DeltaLog, C: Clocks> Model for Server<G, C> {
     ghost use Rattle.std.specs.Coded.{codes};
     ghost use Rattle.std.specs.Prelude.{option_map, string_bytes};
     ghost use Rattle.lw_node.specs.Node.{node_code};
@@ -82,7 +87,9 @@ impl<G: DeltaLog, C: HostClock + Drop> Model for Server<G, C> {
       member = s.member;
       skew = s.skew;
       started = s.started;
+      clock = C.told s.clock;
       latest = s.latest;
+      steady = s.steady;
       tally = s.tally;
       passed_over = s.passed_over;
       page = option_map string_bytes s.page;
@@ -101,8 +108,9 @@ impl<G: DeltaLog, C: HostClock + Drop> Model for Server<G, C> {
     } };
 }
 
-impl<G: DeltaLog, C: HostClock + Drop> Server<G, C> {
-    /// The server of a member, which is started now. The clocks of the fleet's servers may differ by so many seconds.
+impl<G: DeltaLog, C: Clocks> Server<G, C> {
+    /// The server of a member, which is started at the moment. The clocks of the fleet's servers may differ by so many
+    /// seconds.
     pub fn new(
         alloc: Global,
         member: Member<G>,
@@ -111,7 +119,7 @@ impl<G: DeltaLog, C: HostClock + Drop> Server<G, C> {
         now: Moment,
         page: Option<String>,
     ) -> Server<G, C>
-        ensures { result ≡ new_server member skew now (option_map string_bytes page) }
+        ensures { result ≡ new_server member (C.told clock) skew now (option_map string_bytes page) }
     {
         Server {
             alloc,
@@ -120,6 +128,7 @@ impl<G: DeltaLog, C: HostClock + Drop> Server<G, C> {
             skew,
             started: now,
             latest: now,
+            steady: now,
             tally: Tally::new(),
             passed_over: 0,
             page,
@@ -138,14 +147,27 @@ impl<G: DeltaLog, C: HostClock + Drop> Server<G, C> {
         }
     }
 
-    /// Takes datagrams at the moment that it is, and ends what has expired: the replies that are to be sent, those that are
-    /// sent again before the others. Where it fails nothing is to be sent, and nothing is kept.
+    /// Reads the clocks. What the server does until it reads them again it does at the moment that they tell.
+    pub fn read_clock(&mut self) -> Result<(), TurnFault>
+        ensures read { OnOk result ((times : Told) × ReadsClock (Some times) self.old self.new) }
+        ensures refused { OnErr result (ReadsClock None self.old self.new) }
+        ensures fault { IfErr result (λ fault. fault ≡ ClockRefused) }
+    {
+        let Some(times) = self.clock.read() else {
+            return Err(TurnFault::ClockRefused);
+        };
+        self.latest = times.moment;
+        self.steady = later(self.steady, times.steady);
+        Ok(())
+    }
+
+    /// Takes datagrams at the moment that the clocks told last, and ends what has expired: the replies that are to be sent,
+    /// those that are sent again before the others. Where it fails nothing is to be sent, and nothing is kept.
     ///
     /// Where it fails blocks of the batch may have been put to their bodies. What a device sends behind one that was lost
     /// so is answered by 4.08, and the device begins its body anew.
     pub fn take(&mut self, batch: Vec<Datagram>) -> Result<Vec<(Addr, Vec<u8>)>, TurnFault>
-        ensures turn { IfOk result (λ sends.
-            (now : Moment) × IsTurn now self.old batch.items (map sent sends.items) self.new) }
+        ensures turn { IfOk result (λ sends. IsTurn self.old batch.items (map sent sends.items) self.new) }
         // Also where it fails.
         ensures own { WritesOwn self.old.member self.new.member }
         ensures stays { Stays self.old self.new }
@@ -153,15 +175,12 @@ impl<G: DeltaLog, C: HostClock + Drop> Server<G, C> {
         ensures kept { OnErr result (KeepsStill self.old self.new) }
         ensures bodies { OnErr result (GoesOn self.old batch.items self.new) }
     {
-        let Some(now) = self.clock.now() else {
-            return Err(TurnFault::ClockRefused);
-        };
-        self.latest = now;
+        let (now, steady) = (self.latest, self.steady);
         let count = batch.len();
         let mut sends = Vec::new(self.alloc);
-        let fresh = fresh_of(self.alloc, &self.kept, now, batch, &mut sends)?;
+        let fresh = fresh_of(self.alloc, &self.kept, steady, batch, &mut sends)?;
         let again = count.saturating_sub(fresh.len()) as u64;
-        let sorted = sort(self.alloc, &mut self.bodies, now, fresh)?;
+        let sorted = sort(self.alloc, &mut self.bodies, now, steady, fresh)?;
         let blocks = sorted.with_blocks(self.blocks);
         let before = moment_before(now, self.skew);
         let mut handled = settle(
@@ -174,8 +193,8 @@ impl<G: DeltaLog, C: HostClock + Drop> Server<G, C> {
         )?;
         self.duplicates = self.duplicates.saturating_add(again);
         self.blocks = blocks;
-        self.unnumbered = number_replies(&mut self.ids, self.unnumbered, now, &mut handled);
-        let is_all_kept = keep_exchanges(self.alloc, &mut self.kept, now, &handled);
+        self.unnumbered = number_replies(&mut self.ids, self.unnumbered, steady, &mut handled);
+        let is_all_kept = keep_exchanges(self.alloc, &mut self.kept, steady, &handled);
         let lacks_block = any_lacks_block(&handled);
         self.unkept = with_unkept(self.unkept, is_all_kept, lacks_block);
         put_sends(handled, &mut sends);
@@ -184,7 +203,7 @@ impl<G: DeltaLog, C: HostClock + Drop> Server<G, C> {
 
     /// A turn without datagrams.
     pub fn tick(&mut self) -> Result<(), TurnFault>
-        ensures turn { OnOk result ((now : Moment) × IsTurn now self.old [] [] self.new) }
+        ensures turn { OnOk result (IsTurn self.old [] [] self.new) }
         ensures own { WritesOwn self.old.member self.new.member }
         ensures stays { Stays self.old self.new }
         ensures uncounted { OnErr result (self.new.tally ≡ self.old.tally) }
@@ -208,7 +227,7 @@ impl<G: DeltaLog, C: HostClock + Drop> Server<G, C> {
         // Also where it fails.
         ensures own { Compacts self.old.member self.new.member }
         ensures stays { Stays self.old self.new }
-        ensures same { (self.new.tally ≡ self.old.tally) × (self.new.latest ≡ self.old.latest) }
+        ensures same { (self.new.tally ≡ self.old.tally) × IsAtOnce self.old self.new }
         ensures kept { KeepsStill self.old self.new }
         ensures bodies { self.new.bodies ≡ self.old.bodies }
     {
@@ -254,8 +273,15 @@ impl<G: DeltaLog, C: HostClock + Drop> Server<G, C> {
         self.alloc
     }
 
-    /// The moment of the last turn.
-    pub(crate) fn latest(&self) -> Moment {
-        self.latest
+    /// The moment by the clock that never goes back.
+    pub(crate) fn steady(&self) -> Moment {
+        self.steady
     }
+}
+
+/// The later of two moments.
+fn later(a: Moment, b: Moment) -> Moment
+    ensures { result ≡ later_of a b }
+{
+    if a.ms() < b.ms() { b } else { a }
 }

@@ -1,25 +1,31 @@
 //! What is left to do with devices, a step at a time.
 
-ghost use Rattle.std.specs.Prelude.{◌≡◌, ◌≢◌, true, IfOk, OnErr, OnOk};
+ghost use Rattle.std.specs.Prelude.{◌≡◌, ◌≢◌, ◌⊎◌, true, false, Option, option_map, All, IfOk, OnErr, OnOk};
+ghost use Rattle.std.specs.Option.{is_some, option_to_list};
 ghost use Rattle.lw_stamp.specs.Moment.{ms_of};
 ghost use Rattle.lw_reg.specs.Reading.{shown_in};
+ghost use Rattle.lw_reg.specs.Registration.{Registration};
+ghost use Rattle.lw_reg.specs.declared.watch.Watch.{Watch};
+ghost use Rattle.lw_table.specs.LookUps.{ByToken};
 ghost use Rattle.lw_member.specs.Own.{WritesOwn};
 ghost use Rattle.lw_run.specs.declared.devices.Progress.TheVariants.{Moved};
-ghost use Rattle.lw_run.specs.Devices.{Cut, End, Tell, Undo};
-ghost use Rattle.lw_run.specs.Stepping.{done_first, CancelsIf, Cancels, Ends, EndsWith, IsDone, IsEnding, IsLeft};
-ghost use Rattle.lw_run.specs.Stepping.{IsGiven, IsNextStep, IsReport, IsRequestStep, IsToldBy, IsTokenOn};
-ghost use Rattle.lw_run.specs.inner.Devices.{task_in};
+ghost use Rattle.lw_run.specs.Devices.{Check, Close, Cut, End, Tell, Undo};
+ghost use Rattle.lw_run.specs.Stepping.{closing as closing_of, code_in as code_of, done_first, overdue as overdue_of};
+ghost use Rattle.lw_run.specs.Stepping.{CancelsIf, Cancels, Closes, HadMemory, IsAtStake, IsDone, IsEnding, IsLeft};
+ghost use Rattle.lw_run.specs.Stepping.{IsGiven, IsNextStep, IsReport, IsRequestStep, IsTokenOn, LeavesReport, TellsEnd};
+ghost use Rattle.lw_run.specs.inner.Devices.{task_in, task_of};
+ghost use Rattle.lw_run.specs.inner.Stepping.{LeavesCheck};
 
-use crate::devices::First;
+use crate::devices::{First, Task};
 use crate::one_call::call_once;
-use crate::{Progress, Server, TurnFault};
+use crate::{Clocks, Progress, Server, TurnFault};
 use bytes::Bytes;
 use lw_call::{Call, Notice, ObserveFault, Reply, Taken};
+use lw_exchange::stamp_of_token;
 use lw_log::DeltaLog;
 use lw_node::Node;
 use lw_reg::{Addr, Path};
 use lw_stamp::{Moment, NoMemory, Stamp, Text};
-use lw_wire::HostClock;
 
 /// The store looks at the token of a notification, and not where it comes from.
 const ANYWHERE: Addr = Addr::V4 {
@@ -30,9 +36,9 @@ const ANYWHERE: Addr = Addr::V4 {
 /// How many observations of a registration are looked through at most.
 const MOST_WATCHES: u32 = 65_536;
 
-impl<G: DeltaLog, C: HostClock + Drop> Server<G, C> {
-    /// Does the first thing that is left to do with devices, or what is to be done with the first request that is due,
-    /// at the moment of the last turn. Where it fails, that is still left to do.
+impl<G: DeltaLog, C: Clocks> Server<G, C> {
+    /// Does the first thing that is left to do with devices, or what is to be done with the first request that is due, at
+    /// the moment that the clocks told last. Where it fails, that is still left to do.
     pub fn next_step(&mut self) -> Result<Progress, TurnFault>
         ensures stepped { IfOk result (λ it. IsNextStep self.old it self.new) }
         // Also where it fails.
@@ -50,7 +56,7 @@ impl<G: DeltaLog, C: HostClock + Drop> Server<G, C> {
         ensures member { self.new.member ≡ self.old.member }
         ensures left { OnErr result (self.new ≡ self.old) }
     {
-        Ok(self.devices.step(self.latest, &mut self.ids)?)
+        Ok(self.devices.step(self.steady, &mut self.ids)?)
     }
 
     fn do_first(&mut self, first: First) -> Result<Progress, TurnFault>
@@ -69,6 +75,8 @@ impl<G: DeltaLog, C: HostClock + Drop> Server<G, C> {
     {
         match first {
             First::End { token, code } => self.end(token, code),
+            First::Close { notice, is_over } => self.close(notice, is_over),
+            First::Check(notice) => self.check(notice),
             First::Cut(fetch) => self.cut(fetch),
             First::Tell { bytes, is_complete } => self.tell(bytes, is_complete),
             First::Undo { id, path, before } => self.undo(id, path, before),
@@ -91,26 +99,15 @@ impl<G: DeltaLog, C: HostClock + Drop> Server<G, C> {
         Ok(())
     }
 
-    /// Ends an observation whose request came to nothing, and tells that, if it lives.
+    /// An observation whose request came to nothing is to end with the others that are to end, if it lives.
     fn end(&mut self, token: Stamp, code: u8) -> Result<(), TurnFault>
         ensures done { OnOk result (IsDone (End token code) self.old self.new) }
-        ensures own { WritesOwn self.old.member self.new.member }
-        ensures left { OnErr result (IsLeft self.old self.new) }
+        ensures member { self.new.member ≡ self.old.member }
+        ensures left { OnErr result (self.new ≡ self.old) }
     {
-        self.end_observation(token, code)?;
-        self.drop_first();
+        let notice = self.ending(token, code)?;
+        self.devices.put_behind(closing(notice))?;
         Ok(())
-    }
-
-    fn end_observation(&mut self, token: Stamp, code: u8) -> Result<(), TurnFault>
-        ensures ends { OnOk result (Ends token code self.old self.new) }
-        ensures own { WritesOwn self.old.member self.new.member }
-        ensures left { OnErr result (IsLeft self.old self.new) }
-    {
-        match self.ending(token, code)? {
-            Some(notice) => self.end_with(token, notice),
-            None => Ok(()),
-        }
     }
 
     /// What is told of an observation that ends so, if it lives.
@@ -136,18 +133,66 @@ impl<G: DeltaLog, C: HostClock + Drop> Server<G, C> {
         }))
     }
 
-    fn end_with(&mut self, token: Stamp, notice: Notice) -> Result<(), TurnFault>
-        ensures ends { OnOk result (EndsWith token notice self.old self.new) }
+    /// Ends all observations that are to end; or tells this one, if it has ended.
+    fn close(&mut self, notice: Notice, is_over: bool) -> Result<(), TurnFault>
+        ensures done { OnOk result (IsDone (Close notice is_over) self.old self.new) }
         ensures own { WritesOwn self.old.member self.new.member }
         ensures left { OnErr result (IsLeft self.old self.new) }
     {
-        let now = self.latest;
-        self.told.reserve(1)?;
-        let call = Call::Cancel { now, token, mid: 0 };
-        let reply = call_once(self.alloc, &mut self.member, &mut self.tally, call)?;
-        let told = ended_by(reply, notice)?;
-        self.told.tell_one(now, told, true);
+        if is_over {
+            self.tell_end(notice)
+        } else {
+            self.close_all()
+        }
+    }
+
+    /// Ends all observations that are to end, in one round. They are told next.
+    fn close_all(&mut self) -> Result<(), TurnFault>
+        ensures closed { OnOk result (Closes self.old self.new) }
+        ensures own { WritesOwn self.old.member self.new.member }
+        ensures left { OnErr result (IsLeft self.old self.new) }
+    {
+        let calls = self.devices.cancels(self.alloc, self.latest)?;
+        let replies = self.member.round(&calls)?;
+        self.tally.count(&calls, &replies);
+        had_memory(&replies)?;
+        self.devices.close_all();
         Ok(())
+    }
+
+    /// Tells an observation that has ended.
+    fn tell_end(&mut self, notice: Notice) -> Result<(), TurnFault>
+        ensures told { OnOk result (TellsEnd notice self.old self.new) }
+        ensures member { self.new.member ≡ self.old.member }
+        ensures left { OnErr result (IsLeft self.old self.new) }
+    {
+        self.told.reserve(1)?;
+        self.told.tell(self.steady, notice, true);
+        self.drop_first();
+        Ok(())
+    }
+
+    /// An observation of which a report came whose round failed is to be told as ended, if it lives no more.
+    fn check(&mut self, notice: Notice) -> Result<(), TurnFault>
+        ensures done { OnOk result (IsDone (Check notice) self.old self.new) }
+        ensures member { self.new.member ≡ self.old.member }
+        ensures left { OnErr result (self.new ≡ self.old) }
+    {
+        let lives = self.lives(notice.token)?;
+        self.devices.put_behind(overdue(notice, lives))?;
+        Ok(())
+    }
+
+    /// Whether the observation with the token lives.
+    fn lives(&self, token: Stamp) -> Result<bool, TurnFault>
+        ensures { IfOk result (λ lives. (found : Option (Registration × Watch))
+            × ByToken (shown_in self.now.member.node.table.state) (ms_of self.now.latest) token found
+            × (lives ≡ is_some found)) }
+    {
+        let Some(node) = self.member.node() else {
+            return Err(TurnFault::Away);
+        };
+        Ok(node.by_token(self.latest, token).is_some())
     }
 
     /// Ends the observation that a failed round has left on the path of the registration, if it has.
@@ -214,16 +259,50 @@ impl<G: DeltaLog, C: HostClock + Drop> Server<G, C> {
         Ok(())
     }
 
-    /// Takes what a device reports, in a round of its own, at the moment of the last turn, and tells it: what answers
-    /// it, if it is owed an answer.
+    /// Takes what a device reports, in a round of its own, at the moment that the clocks told last, and tells it: what
+    /// answers it, if it is owed an answer. Where it fails, and its observation lives no more then, that is told later.
     pub fn report(&mut self, from: Addr, bytes: &[u8]) -> Result<Option<Vec<u8>>, TurnFault>
         ensures report { IfOk result (λ answer. IsReport from bytes.now true self.old answer self.new) }
         // Also where it fails.
         ensures own { WritesOwn self.old.member self.new.member }
-        ensures left { OnErr result (IsLeft self.old self.new) }
+        ensures left { OnErr result (LeavesReport bytes.now self.old self.new) }
     {
+        let notice = self.at_stake(bytes)?;
         let bytes = Bytes::copy_from_slice(self.alloc, bytes)?;
-        self.take_report(from, bytes, true)
+        match notice {
+            Some(notice) => self.report_of(notice, from, bytes),
+            None => self.take_report(from, bytes, true),
+        }
+    }
+
+    /// Takes what a device reports of a live observation.
+    fn report_of(
+        &mut self,
+        notice: Notice,
+        from: Addr,
+        bytes: Bytes,
+    ) -> Result<Option<Vec<u8>>, TurnFault>
+        ensures report { IfOk result (λ answer. IsReport from bytes true self.old answer self.new) }
+        ensures own { WritesOwn self.old.member self.new.member }
+        ensures left { OnErr result ((self.new ≡ self.old) ⊎ LeavesCheck notice self.old self.new) }
+    {
+        let count = self.devices.tasks_left();
+        self.devices.leave(Task::Check(notice))?;
+        let taken = self.take_report(from, bytes, true);
+        if taken.is_ok() {
+            self.devices.keep_first(count);
+        }
+        taken
+    }
+
+    /// What is to be told of a report where its round fails and its observation lives no more: it is of a live one now.
+    fn at_stake(&self, bytes: &[u8]) -> Result<Option<Notice>, TurnFault>
+        ensures { IfOk result (λ notice. IsAtStake self.now bytes.now notice) }
+    {
+        match stamp_of_token(bytes) {
+            Some(token) if self.member.node().is_some() => self.ending(token, code_in(bytes)),
+            _ => Ok(None),
+        }
     }
 
     fn take_report(
@@ -241,7 +320,7 @@ impl<G: DeltaLog, C: HostClock + Drop> Server<G, C> {
         let call = Call::Take { now, from, bytes };
         let reply = call_once(self.alloc, &mut self.member, &mut self.tally, call)?;
         let Taken { reply, notice } = taken_of(reply)?;
-        self.told.tell_one(now, notice, is_complete);
+        self.told.tell_one(self.steady, notice, is_complete);
         Ok(reply)
     }
 }
@@ -261,15 +340,58 @@ pub(crate) fn token_on(node: &Node, now: Moment, id: Stamp, path: Path) -> Optio
     None
 }
 
-/// The notice of an observation that has ended, where the node has ended it.
-fn ended_by(reply: Reply, notice: Notice) -> Result<Option<Notice>, NoMemory>
-    ensures { IfOk result (λ told. IsToldBy reply notice told) }
+/// What is left to do with an observation that is to end, if it lives.
+fn closing(notice: Option<Notice>) -> Option<Task>
+    ensures { option_to_list (option_map task_of result) ≡ closing_of notice }
 {
-    match reply {
-        Reply::Cancel(Ok(_outgoing)) => Ok(Some(notice)),
-        Reply::Cancel(Err(ObserveFault::NoMemory)) => Err(NoMemory),
-        _other => Ok(None),
+    let notice = notice?;
+    Some(Task::Close {
+        notice,
+        is_over: false,
+    })
+}
+
+/// What is left to do with an observation of which a report came whose round failed.
+fn overdue(notice: Notice, lives: bool) -> Option<Task>
+    ensures { (found : Option (Registration × Watch)) → lives ≡ is_some found
+        → option_to_list (option_map task_of result) ≡ overdue_of notice found }
+{
+    if lives {
+        return None;
     }
+    Some(Task::Close {
+        notice,
+        is_over: true,
+    })
+}
+
+/// The code of a message, which stands behind its first byte.
+fn code_in(bytes: &[u8]) -> u8
+    ensures { result ≡ code_of bytes.now }
+{
+    match bytes {
+        [_, code, ..] => *code,
+        _ => 0,
+    }
+}
+
+/// There was memory to end observations.
+fn had_memory(replies: &[Reply]) -> Result<(), NoMemory>
+    ensures { OnOk result (All HadMemory replies.now) }
+{
+    for reply in replies {
+        if is_refused(reply) {
+            return Err(NoMemory);
+        }
+    }
+    Ok(())
+}
+
+/// Whether there was no memory to end an observation.
+fn is_refused(reply: &Reply) -> bool
+    ensures { result ≡ false → HadMemory reply.now }
+{
+    matches!(reply, Reply::Cancel(Err(ObserveFault::NoMemory)))
 }
 
 /// What the node has given for a datagram.

@@ -4,28 +4,28 @@ use log::{Log, debug, info};
 use lw_reg::Addr;
 use lw_wire::socket_address_of;
 
-/// How many refusals of a second are told.
-const REFUSALS_A_SECOND: u32 = 10;
+/// How many lines of one kind are told in a second.
+const LINES_A_SECOND: u32 = 10;
 
-/// How many refusals of the present second were told.
+/// How many lines of one kind were told in the present second.
 #[derive(Clone, Copy)]
-pub(crate) struct Refusals {
+pub(crate) struct LineRate {
     second: u64,
     told: u32,
 }
 
-impl Refusals {
-    pub(crate) fn new() -> Refusals {
-        Refusals { second: 0, told: 0 }
+impl LineRate {
+    pub(crate) fn new() -> LineRate {
+        LineRate { second: 0, told: 0 }
     }
 
     /// Whether one more is told in the second, which is then counted.
-    fn tells(&mut self, second: u64) -> bool {
+    pub(crate) fn tells(&mut self, second: u64) -> bool {
         if self.second != second {
-            *self = Refusals { second, told: 0 };
+            *self = LineRate { second, told: 0 };
         }
         self.told = self.told.saturating_add(1);
-        self.told <= REFUSALS_A_SECOND
+        self.told <= LINES_A_SECOND
     }
 
     /// Tells of a reply that is sent in the second: at level debug, and at level info where it refuses.

@@ -9,7 +9,7 @@ use lw_front::SystemStopwatch;
 use lw_log::{DeltaLog, FleetId, Nowhere};
 use lw_member::{Chance, Member};
 use lw_reg::Addr;
-use lw_run::{Compaction, Front, Heard, Responses, Server, Timed, run_on};
+use lw_run::{Compaction, Front, Heard, HostClocks, Responses, Server, Timed, run_on};
 use lw_serve::{UdpWire, Wire};
 use lw_sqlite_log::SqliteLog;
 use lw_stamp::Moment;
@@ -109,7 +109,11 @@ fn answer_over<R: Clock, G: DeltaLog>(
     let server = Server::new(
         alloc,
         member,
-        SystemClock { clock: rt },
+        HostClocks::new(
+            SystemClock { clock: rt },
+            SystemStopwatch::start(rt)?,
+            Moment::START,
+        ),
         0,
         Moment::START,
         None,

@@ -22,8 +22,8 @@ pub record Puts (now : Moment) (old : Sorted) (arrival : Arrival) (new : Sorted)
   pub origins : new.origins.items ≡ old.origins.items ++ option_to_list (origin_of arrival)
   pub handled : new.handled.items ≡ old.handled.items ++ option_to_list (answered_of arrival)
 
-pub record AreSorted (now : Moment) (old : List BodyContent) (datagrams : List Datagram) (sorted : Sorted) (new : List BodyContent) : Type 0 where
+pub record AreSorted (now steady : Moment) (old : List BodyContent) (datagrams : List Datagram) (sorted : Sorted) (new : List BodyContent) : Type 0 where
   pub arrivals : List Arrival
   pub are : map datagram_of arrivals ≡ datagrams
-  pub taken : AreTaken now old arrivals new
+  pub taken : AreTaken steady old arrivals new
   pub sorted_are : IsSorted now arrivals sorted

@@ -255,10 +255,14 @@ impl Ticks {
     }
 }
 
-impl HostClock for Ticks {
-    fn now(&mut self) -> Option<Moment> {
+impl Clocks for Ticks {
+    fn read(&mut self) -> Option<Times> {
         let ms = self.moments.get(self.readings).or(self.moments.last())?;
         self.readings = self.readings.wrapping_add(1);
-        Moment::new(*ms)
+        let moment = Moment::new(*ms)?;
+        Some(Times {
+            moment,
+            steady: moment,
+        })
     }
 }

@@ -62,6 +62,7 @@ fn new_server(rt: &impl Abort, alloc: Global) -> Server<MemoryLog, Ticks> {
 
 impl Turn {
     fn sends(&self, rt: &impl Abort, alloc: Global, server: &mut Server<MemoryLog, Ticks>) {
+        server.read_clock().expect(rt, self.datagram);
         let sends = server.take(self.batch(rt, alloc)).expect(rt, self.datagram);
         assert_eq!(rt; sends.len(), self.sent.len(), "{}", self.datagram);
         for (send, want) in sends.iter().zip(self.sent) {

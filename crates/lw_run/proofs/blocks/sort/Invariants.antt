@@ -5,4 +5,4 @@ use Rattle.lw_run.proofs.blocks.sort.Given as goal
 
 abbrev pub invariant-loop-datagram : goal.invariant-loop-datagram
 invariant-loop-datagram l =
-    IsGoingOn l.now l.initial.bodies l.fn.fresh.items l.bodies l.sorted (into_iter_items l.datagram-iterator)
+    IsGoingOn l.now l.steady l.initial.bodies l.fn.fresh.items l.bodies l.sorted (into_iter_items l.datagram-iterator)

@@ -9,44 +9,39 @@ use Rattle.lw_run.proofs.Sorting.{on_err}
 use Rattle.lw_run.proofs.Turns.{all_sent, goes_all, goes_nowhere, goes_on_by, is_turn, more_duplicates, stays_from, writes_none_from}
 use Rattle.lw_run.proofs.server.Server.take.Goals as goal
 
-pub returns-in_default-clause-bodies : goal.returns-in_default-clause-bodies
-returns-in_default-clause-bodies g c = goes_on_by c.self.inside.latest _ _ c.args.batch.items _ _ c.self.view_is refl (goes_nowhere _ _ _)
-
 pub returns-in_err-fresh-clause-own : goal.returns-in_err-fresh-clause-own
 returns-in_err-fresh-clause-own g c = writes_none_from _ _ c.self.view_is
 
 pub returns-in_err-fresh-clause-bodies : goal.returns-in_err-fresh-clause-bodies
-returns-in_err-fresh-clause-bodies g c = on_err _ (goes_on_by c.in-Some.now _ _ c.args.batch.items _ _ c.self.view_is refl (goes_nowhere _ _ _))
+returns-in_err-fresh-clause-bodies g c = on_err _ (goes_on_by _ _ _ c.args.batch.items _ c.self.view_is refl (goes_nowhere _ _ _))
 
 pub returns-in_err-sorted-clause-own : goal.returns-in_err-sorted-clause-own
 returns-in_err-sorted-clause-own g c = writes_none_from _ _ c.self.view_is
 
 pub returns-in_err-sorted-clause-bodies : goal.returns-in_err-sorted-clause-bodies
 returns-in_err-sorted-clause-bodies g c =
-    on_err _ (goes_on_by c.in-Some.now _ _ c.args.batch.items _ _ c.self.view_is c.in_ok-fresh.ensures.fresh c.in_err-sorted.ensures.memory)
+    on_err _ (goes_on_by _ _ _ c.args.batch.items _ c.self.view_is c.in_ok-fresh.ensures.fresh c.in_err-sorted.ensures.memory)
 
 pub returns-in_err-handled-clause-bodies : goal.returns-in_err-handled-clause-bodies
 returns-in_err-handled-clause-bodies g c =
-    on_err _ (goes_on_by c.in-Some.now _ _ c.args.batch.items _ _ c.self.view_is c.in_ok-fresh.ensures.fresh (goes_all _ _ _ _ _ c.in_ok-sorted.ensures.sorted))
+    on_err _ (goes_on_by _ _ _ c.args.batch.items _ c.self.view_is c.in_ok-fresh.ensures.fresh (goes_all _ _ _ _ _ _ c.in_ok-sorted.ensures.sorted))
 
 pub returns-in_err-handled-clause-stays : goal.returns-in_err-handled-clause-stays
-returns-in_err-handled-clause-stays g c = stays_from _ _ _ c.self.view_is refl refl refl refl refl refl refl refl refl
+returns-in_err-handled-clause-stays g c = stays_from _ _ _ c.self.view_is (record { clock = refl; latest = refl; steady = refl }) refl refl refl refl refl refl refl refl refl
 
 pub returns-clause-stays : goal.returns-clause-stays
-returns-clause-stays g c = stays_from _ _ _ c.self.view_is refl refl refl refl refl refl refl refl refl
+returns-clause-stays g c = stays_from _ _ _ c.self.view_is (record { clock = refl; latest = refl; steady = refl }) refl refl refl refl refl refl refl refl refl
 
 pub returns-clause-turn : goal.returns-clause-turn
 returns-clause-turn g c =
-    let now = c.in-Some.now in
+    let steady = c.self.inside.steady in
     let fresh = c.in_ok-fresh.fresh.items in
     let more = more_duplicates _ _ _ _ _ c.args.batch.items fresh c.saturating_add-self-inside.ensures c.saturating_sub-again.ensures
     (c.len-count.ensures ∙ c.args.batch.ok.0) (c.len.ensures ∙ c.in_ok-fresh.fresh.ok.0) in
     let sends = all_sent _ _ _ _ _ c.put_sends.ensures (ap (map sent) c.in_ok-handled.ensures.sends ∙ c.in_ok-fresh.ensures.sent) (ap (map sent) c.new-sends.ensures.items) in
-    let keeps = subst (λ (hs : List Handled). Keeps c.self.inside.kept (exchanges_of now hs) c.keep_exchanges-is_all_kept.new.kept c.keep_exchanges-is_all_kept.result) c.deref.ensures.value c.keep_exchanges-is_all_kept.ensures in
-    let numbers = numbered_in now _ _ _ _ _ _ c.deref_mut.ensures.value c.in_ok-handled.handled.ok.0 c.number_replies-self-inside.auto.handled c.number_replies-self-inside.ensures.numbered in
+    let keeps = subst (λ (hs : List Handled). Keeps c.self.inside.kept (exchanges_of steady hs) c.keep_exchanges-is_all_kept.new.kept c.keep_exchanges-is_all_kept.result) c.deref.ensures.value c.keep_exchanges-is_all_kept.ensures in
+    let numbers = numbered_in steady _ _ _ _ _ _ c.deref_mut.ensures.value c.in_ok-handled.handled.ok.0 c.number_replies-self-inside.auto.handled c.number_replies-self-inside.ensures.numbered in
     let unnumbered = unnumbered_in _ _ _ _ _ _ c.deref_mut.ensures.value c.in_ok-handled.handled.ok.0 c.number_replies-self-inside.auto.handled c.number_replies-self-inside.ensures.count in
-    let lacks = c.any_lacks_block-lacks_block.ensures ∙ ap (list_any lacks_block) c.deref-2.ensures.value in (
-      now,
-      is_turn _ _ _ _ _ _ _ _ _ _ _ _ _ c.self.view_is c.moment_before-before.ensures c.in_ok-fresh.ensures.fresh c.in_ok-sorted.ensures.sorted
-          c.in_ok-handled.ensures.settled numbers unnumbered sends keeps lacks c.with_unkept-self-inside.ensures more c.with_blocks-blocks.ensures refl,
-    )
+    let lacks = c.any_lacks_block-lacks_block.ensures ∙ ap (list_any lacks_block) c.deref-2.ensures.value in
+    is_turn _ _ _ _ _ _ _ _ _ _ _ _ c.self.view_is c.moment_before-before.ensures c.in_ok-fresh.ensures.fresh c.in_ok-sorted.ensures.sorted
+    c.in_ok-handled.ensures.settled numbers unnumbered sends keeps lacks c.with_unkept-self-inside.ensures more c.with_blocks-blocks.ensures
