@@ -10,7 +10,7 @@ LIBRARIES = "/usr/lib/*/faketime/libfaketime.so.1"
 
 
 def years_ahead(scene, years):
-    """Words before a program's, by which it sees a clock so many years ahead. There are none where nothing gives that."""
+    """Words before a program's, by which it sees a clock so many years ahead, or none where nothing gives that."""
     if not tools.tool(("faketime",), "faketime"):
         scene.passes_over("a clock that is ahead, since there is no faketime (FLEET_INSTALL=1 has it installed)")
         return None
