@@ -1,9 +1,11 @@
--- What a first look has seen of entries, one after another.
+-- What a first look has seen of entries, one after another, and which clocks are refused.
 use Rattle.std.proofs.Common.{◌≡◌, ◌⊎◌, inl, inr, ℕ, List, [], ◌∷◌, ◌++◌, Bool, true, false, refl, sym, subst}
 use Rattle.std.specs.Prelude.{IsTrue}
 use Rattle.lw_log.specs.Entries.{BodyContent, EntryContent, IsEntry}
 use Rattle.lw_log.specs.Entries.BodyContent.{Start, Delta, Whole}
 use Rattle.lw_member.specs.declared.looking.FirstLook.{FirstLook}
+use Rattle.lw_stamp.specs.declared.moment.Moment.{Moment}
+use Rattle.lw_member.specs.Clocks.{IsPast2100, IsYearsAhead, IsRefusedClock}
 use Rattle.lw_member.specs.Beginning.{BeginsLog, IsWhole, HasWhole, IsUncut}
 use Rattle.lw_member.specs.inner.Looking.{IsFirst, IsFirstBody, IsAll, IsAllBody, HasBeginning, HasSeen}
 
@@ -58,3 +60,8 @@ uncut_none look es seen not_any = subst (λ xs. IsUncut xs) (sym (seen.none (fal
     false_of : (b : Bool) → (IsTrue b → ⊥) → b ≡ false
     false_of true not_any = absurd (not_any refl)
     false_of false not_any = refl
+
+-- ---- clocks
+pub not_refused : (moment : Moment) (clock : ℕ) → (IsPast2100 moment → ⊥) → (IsYearsAhead moment clock → ⊥) → IsRefusedClock moment clock → ⊥
+not_refused moment clock past ahead (inl h) = past h
+not_refused moment clock past ahead (inr h) = ahead h

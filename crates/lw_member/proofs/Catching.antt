@@ -57,7 +57,7 @@ pub member_same : (asked : Option (List LogCall)) (a b : Standing) → HasSameSt
 member_same asked a b same leading m = record {
   leading = leading;
   number = ap (λ (s : Start). s.number) same.start ∙ m.number ∙ sym same.number;
-  floor = subst (λ n. n < 281474976710656) (sym same.floor) m.floor;
+  floor = subst (λ n. n < 262556467200000) (sym same.floor) m.floor;
 }
 
 pub length_placed : (page : List (Position × List ℕ)) → length (placed page) ≡ length page
@@ -130,7 +130,7 @@ member_failed a b more s s1 asked only leads m =
     record {
       leading = leads b later.leading;
       number = ap (λ (x : Standing). x.start.number) only ∙ later.number ∙ sym (ap (λ (x : Standing). x.node.number) only);
-      floor = subst (λ n. n < 281474976710656) (sym (ap (λ (x : Standing). x.floor) only)) later.floor;
+      floor = subst (λ n. n < 262556467200000) (sym (ap (λ (x : Standing). x.floor) only)) later.floor;
     }
 
 -- what is led is not touched
@@ -141,7 +141,7 @@ member_parts asked a b node led written start floor m = record {
     up_to = λ h. written ∙ m.leading.up_to (sym led ∙ h) ∙ ap (λ (n : NodeContent). n.table.count.change) (sym node);
   };
   number = ap (λ (s : Start). s.number) start ∙ m.number ∙ ap (λ (n : NodeContent). n.number) (sym node);
-  floor = subst (λ n. n < 281474976710656) (sym floor) m.floor;
+  floor = subst (λ n. n < 262556467200000) (sym floor) m.floor;
 }
 
 -- the node goes on, and nothing else changes but whether all is led
@@ -149,7 +149,7 @@ pub member_goes : (asked : Option (List LogCall)) (a b : Standing) → b ≡ rec
 member_goes asked a b only goes leads m = record {
   leading = leads asked m.leading;
   number = ap (λ (x : Standing). x.start.number) only ∙ m.number ∙ sym goes.number;
-  floor = subst (λ n. n < 281474976710656) (sym (ap (λ (x : Standing). x.floor) only)) m.floor;
+  floor = subst (λ n. n < 262556467200000) (sym (ap (λ (x : Standing). x.floor) only)) m.floor;
 }
 
 pub member_claimed : (asked : Option (List LogCall)) (s : Standing) (claimed : Bool) → IsMember asked s → IsMember asked (record s { claimed = claimed })

@@ -107,7 +107,7 @@ member_brings a0 a1 s0 s p since led delta is brings asked was node start floor 
         up_to = λ h. written ∙ ap (λ (n : NodeContent). n.table.count.change) (sym node);
       };
       number = ap (λ (x : Starts). x.number) start ∙ m.number ∙ ap (λ (n : NodeContent). n.number) (sym node);
-      floor = subst (λ n. n < 281474976710656) (sym floor) m.floor;
+      floor = subst (λ n. n < 262556467200000) (sym floor) m.floor;
     }
 
 brought_by : (s : Standing) (fleet delta bytes : List ℕ) (body : BodyContent) (d : DeltaContent) → IsEntryOf s fleet body bytes → HasDelta body delta → IsSpelling delta d → BringsDelta bytes d

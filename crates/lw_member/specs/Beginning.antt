@@ -1,12 +1,12 @@
 -- How a member begins: a new node, with a number that no start in its log has had, that has merged the log.
-use Rattle.std.specs.Prelude.{◌≡◌, ℕ, ◌-◌, ◌*◌, ◌^◌, ◌<◌, ◌≤◌, ◌⊎◌, min, List, [], ◌∷◌, ◌++◌, Option, None, true, false}
+use Rattle.std.specs.Prelude.{◌≡◌, ℕ, ◌^◌, ◌<◌, ◌≤◌, ◌⊎◌, List, [], ◌∷◌, ◌++◌, Option, None, true, false}
 use Rattle.lw_stamp.specs.declared.moment.Moment.{Moment}
-use Rattle.lw_stamp.specs.Moment.{ms_of}
 use Rattle.lw_node.specs.Exchange.{known_by}
 use Rattle.lw_node.specs.Node.{fresh}
 use Rattle.lw_log.specs.Calls.{LogCall, Calls}
 use Rattle.lw_log.specs.Entries.{EntryContent, IsEntry}
 use Rattle.lw_log.specs.Entries.BodyContent.{Start, Whole}
+use Rattle.lw_member.specs.Clocks.{IsRefusedClock, floor_at}
 use Rattle.lw_member.specs.Counting.{CountsEntries, counted_by}
 use Rattle.lw_member.specs.Member.{MemberContent, IsLedBy}
 use Rattle.lw_member.specs.Reading.{AreReadToTheEnd, entries_in, last_read, AreGood, IsFree, IsMet, AreNoted, MergesEntries}
@@ -27,10 +27,6 @@ abbrev pub IsUncut : List (List ℕ) → Type 0
 IsUncut [] = Unit {0}
 IsUncut (e ∷ es) = BeginsLog e ⊎ HasWhole (e ∷ es)
 
--- 64 for each millisecond, as far as a clock goes
-abbrev pub floor_at : Moment → ℕ
-floor_at moment = min (64 * ms_of moment) (2 ^ 48 - 1)
-
 -- from the first on, and round from the last to 1, the one comes before the other
 abbrev pub ComesBefore : ℕ → ℕ → ℕ → Type 0
 ComesBefore first n number = ((first ≤ n) × (n < number)) ⊎ ((number < first) × ((first ≤ n) ⊎ (n < number)))
@@ -41,7 +37,7 @@ pub record IsFirstFree (had : ℕ → Type 0) (first number : ℕ) : Type 0 wher
   pub free : ¬ had number
   pub before : (n : ℕ) → 1 ≤ n → n < 2 ^ 16 → ComesBefore first n number → had n
 
--- The log is read to its end twice: to find a number, from the first on, and to merge.
+-- The log is read to its end twice: to find a number, from the first on, and to merge. The moment is not refused.
 pub record IsBegun (before : Option (List LogCall)) (moment : Moment) (tag first : ℕ) (new : MemberContent) : Type 0 where
   pub looked : List LogCall
   pub pages : List LogCall
@@ -57,6 +53,7 @@ pub record IsBegun (before : Option (List LogCall)) (moment : Moment) (tag first
   pub numbers : AreNoted [] (entries_in pages) new.numbers
   pub counted : CountsEntries (0, 0) (entries_in pages) (counted_by new)
   pub merged : MergesEntries (fresh new.node.number) (entries_in pages) new.node
+  pub clock : ¬ IsRefusedClock moment new.node.clock
   pub tag_is : new.tag ≡ tag
   pub floor_is : new.floor ≡ floor_at moment
   pub unclaimed : new.claimed ≡ false

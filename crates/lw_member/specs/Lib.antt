@@ -1,3 +1,4 @@
+pub mod Clocks
 pub mod Member
 pub mod Parts
 pub mod Faults

@@ -1,7 +1,8 @@
 -- What a member's parts are to contracts, and what is true of them.
-use Rattle.std.specs.Prelude.{◌≡◌, ◌<◌, ◌^◌, ℕ, List, Option, option_map, true}
+use Rattle.std.specs.Prelude.{◌≡◌, ◌<◌, ◌*◌, ℕ, List, Option, option_map, true}
 use Rattle.lw_log.specs.Calls.{LogCall, place_of}
 use Rattle.lw_member.specs.declared.standing.Standing.{Standing}
+use Rattle.lw_member.specs.Clocks.{year_2100}
 use Rattle.lw_member.specs.Member.{MemberContent, IsWritten}
 
 abbrev pub fleet_of : Standing → Option (List ℕ)
@@ -33,8 +34,8 @@ pub record IsLeading (asked : Option (List LogCall)) (s : Standing) : Type 0 whe
   pub written : IsWritten asked s.node s.led s.written
   pub up_to : s.led ≡ true → s.written ≡ s.node.table.count.change
 
--- and the number is that of the node, and the floor is a clock
+-- and the number is that of the node, and the floor is a clock of before 2100
 pub record IsMember (asked : Option (List LogCall)) (s : Standing) : Type 0 where
   pub leading : IsLeading asked s
   pub number : s.start.number ≡ s.node.number
-  pub floor : s.floor < 2 ^ 48
+  pub floor : s.floor < 64 * year_2100

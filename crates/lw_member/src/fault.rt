@@ -31,6 +31,9 @@ pub enum MemberFault {
     /// Each number has had a start.
     #[error("each number has had a start")]
     NumbersEnded,
+    /// The moment is past 2100, or years after what the clock of the log tells.
+    #[error("the clock is past 2100, or years ahead of the log")]
+    ClockAhead,
     /// A growth was refused.
     #[error("out of memory")]
     NoMemory,

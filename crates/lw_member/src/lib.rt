@@ -3,6 +3,7 @@
 #![tactic(auto)]
 
 mod chance;
+mod clocks;
 mod compaction;
 mod fault;
 mod looking;

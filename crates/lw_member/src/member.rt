@@ -1,13 +1,16 @@
 //! A member.
 
-ghost use Rattle.std.specs.Prelude.{◌≡◌, ◌↔◌, IfOk, IfSome, IsNone, IsTrue, OnOk, false, option_map};
+ghost use Rattle.std.specs.Prelude.{◌≡◌, ◌↔◌, IfOk, IfSome, IsNone, IsTrue, OnOk, Err, false, option_map};
 ghost use Rattle.lw_node.specs.Exchange.{known_by};
-ghost use Rattle.lw_member.specs.Beginning.{IsBegun, floor_at as floor_of};
+ghost use Rattle.lw_member.specs.Beginning.{IsBegun};
+ghost use Rattle.lw_member.specs.Clocks.{IsPast2100};
+ghost use Rattle.lw_member.specs.declared.fault.MemberFault.TheVariants.{ClockAhead as IsAhead};
 ghost use Rattle.lw_member.specs.Compaction.{IsCompactionDue, IsCompacted, Compacts};
 ghost use Rattle.lw_member.specs.Member.{IsLedBy};
 ghost use Rattle.lw_member.specs.Own.{WritesOwn};
 ghost use Rattle.lw_member.specs.Rounds.{IsRound};
 
+use crate::clocks::{floor_at, is_past_2100, is_years_ahead};
 use crate::compaction::compact;
 use crate::looking::look;
 use crate::rounds::{catch_up, round};
@@ -19,12 +22,6 @@ use lw_node::Node;
 use lw_stamp::Moment;
 use std::alloc::Global;
 use std::marker::Model;
-
-/// The greatest clock of a node.
-const LAST_CLOCK: u64 = (1 << 48) - 1;
-
-/// By how much a clock is raised for each millisecond since 1970.
-const FLOOR_A_MILLISECOND: u64 = 64;
 
 /// A server of a fleet: a node, and its log, which it owns.
 #[derive(Drop)]
@@ -49,27 +46,22 @@ impl<G: DeltaLog> Model for Member<G> {
     ghost invariant = { λ m. IsMember (G.calls m.log) m.standing };
 }
 
-/// The clock that a member is raised to that begins at the moment.
-fn floor_at(moment: Moment) -> u64
-    ensures { result ≡ floor_of moment }
-{
-    moment
-        .ms()
-        .saturating_mul(FLOOR_A_MILLISECOND)
-        .min(LAST_CLOCK)
-}
-
 impl<G: DeltaLog> Member<G> {
     /// Reads the log to its end, takes the first number from that of the chance on which no start in it has had, and is then
-    /// a new node that has merged it.
+    /// a new node that has merged it. It writes nothing. At a moment from 2100 on, or years after what the clock of the
+    /// log tells, it is refused.
     pub fn begin(
         alloc: Global,
         log: G,
         chance: &Chance,
         moment: Moment,
     ) -> Result<Member<G>, MemberFault>
-        ensures { IfOk result (IsBegun (G.calls log) moment chance.now.tag chance.now.number) }
+        ensures begun { IfOk result (IsBegun (G.calls log) moment chance.now.tag chance.now.number) }
+        ensures past { IsPast2100 moment → result ≡ Err IsAhead }
     {
+        if is_past_2100(moment) {
+            return Err(MemberFault::ClockAhead);
+        }
         let mut log = log;
         let found = look(alloc, &mut log)?;
         let Some(number) = found.numbers.free_from(chance.number) else {
@@ -88,6 +80,9 @@ impl<G: DeltaLog> Member<G> {
         )?;
         if catch_up(&mut log, &mut standing)? {
             return Err(MemberFault::NumberTaken);
+        }
+        if is_years_ahead(moment, standing.node.clock()) {
+            return Err(MemberFault::ClockAhead);
         }
         Ok(Member { log, standing })
     }

@@ -1,7 +1,8 @@
 //! The parts of a round, over a log and what its member knows.
 
-ghost use Rattle.std.specs.Prelude.{◌≡◌, ◌≢◌, ◌↔◌, ◌<◌, ◌^◌, ◌⊎◌, [], List, Option, Some, true, false, option_map, IfOk, IsTrue, OnOk, OnErr};
+ghost use Rattle.std.specs.Prelude.{◌≡◌, ◌≢◌, ◌↔◌, ◌<◌, ◌*◌, ◌⊎◌, [], List, Option, Some, true, false, option_map, IfOk, IsTrue, OnOk, OnErr};
 ghost use Rattle.lw_log.specs.Calls.{LogCall, Calls, append_calls, place_of};
+ghost use Rattle.lw_member.specs.Clocks.{year_2100};
 ghost use Rattle.lw_member.specs.Own.{WritesOwn};
 ghost use Rattle.lw_member.specs.Reading.{AreReadToTheEnd, AreReads, entries_in, last_read};
 ghost use Rattle.lw_member.specs.Rounds.{IsRound};
@@ -120,7 +121,7 @@ fn write<G: DeltaLog>(log: &mut G, standing: &mut Standing) -> Result<(), Member
 /// Claims the number: a start entry is appended, the log's own order decides, and the clock is raised to the floor.
 fn claim<G: DeltaLog>(log: &mut G, standing: &mut Standing) -> Result<(), MemberFault>
     requires unclaimed { standing.old.claimed ≡ false }
-    requires floor { standing.old.floor < 2 ^ 48 }
+    requires floor { standing.old.floor < 64 * year_2100 }
     ensures claimed { IsMember (G.calls log.old) standing.old
         → OnOk result (IsClaimed (G.calls log.old) standing.old (G.calls log.new) standing.new) }
     ensures own { Claims (G.calls log.old) (G.calls log.new) standing.old }

@@ -1,6 +1,6 @@
 //! What a member knows, and how far it has read and written.
 
-ghost use Rattle.std.specs.Prelude.{◌≡◌, ◌≢◌, ◌↔◌, ◌≤◌, ◌<◌, ◌^◌, ◌+◌, ◌++◌, ◌⊎◌, ℕ, List, [], ◌∷◌, length, Option, Some, true, false, cond, IfOk, OnOk, IsTrue, vec_len, vec_capacity};
+ghost use Rattle.std.specs.Prelude.{◌≡◌, ◌≢◌, ◌↔◌, ◌≤◌, ◌<◌, ◌*◌, ◌+◌, ◌++◌, ◌⊎◌, ℕ, List, [], ◌∷◌, length, Option, Some, true, false, cond, IfOk, OnOk, IsTrue, vec_len, vec_capacity};
 ghost use Rattle.lw_call.specs.declared.reply.Reply.{Reply as Replies};
 ghost use Rattle.lw_delta.specs.Delta.{DeltaContent, IsSpelling};
 ghost use Rattle.lw_node.specs.Exchange.{Merged};
@@ -8,6 +8,7 @@ ghost use Rattle.lw_table.specs.Changes.{LAST};
 ghost use Rattle.lw_log.specs.Calls.{LogCall, placed, place, place_of};
 ghost use Rattle.lw_log.specs.Entries.{BringsDelta, FitsBody, body_content};
 ghost use Rattle.lw_log.specs.Entries.BodyContent.{Start as StartContent};
+ghost use Rattle.lw_member.specs.Clocks.{year_2100};
 ghost use Rattle.lw_member.specs.Reading.{TellsOf, bytes_of, place_read};
 ghost use Rattle.lw_member.specs.Rounds.{Makes};
 ghost use Rattle.lw_member.specs.inner.Seeing.{IsSeenBy, AreSeenBy};
@@ -64,7 +65,7 @@ impl Standing {
         alone: bool,
         floor: u64,
     ) -> Result<Standing, NoMemory>
-        requires { floor < 2 ^ 48 }
+        requires { floor < 64 * year_2100 }
         ensures new { IfOk result (λ standing. IsNew standing start floor) }
         ensures member { IfOk result (λ standing. (asked : Option (List LogCall)) → IsMember asked standing) }
     {
@@ -175,7 +176,7 @@ impl Standing {
 
     /// Raises the clock to the floor.
     pub(crate) fn raise(&mut self) -> Result<(), MemberFault>
-        requires { self.old.floor < 2 ^ 48 }
+        requires { self.old.floor < 64 * year_2100 }
         ensures raised { OnOk result (Merged self.old.node self.old.floor [] self.new.node) }
         ensures led { OnOk result (IsTrue self.new.led ↔ IsStill self.old self.new.node) }
         ensures only { self.new ≡ record self.old { node = self.new.node; led = self.new.led } }

@@ -24,4 +24,5 @@ end_of faults.LogCut = ends.LogCut
 end_of faults.LogNewer = ends.LogNewer
 end_of faults.NumberTaken = ends.NumberTaken
 end_of faults.NumbersEnded = ends.NumbersEnded
+end_of faults.ClockAhead = ends.ClockRefused
 end_of faults.NoMemory = ends.NoMemory

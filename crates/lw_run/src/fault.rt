@@ -74,8 +74,8 @@ pub enum RunFault {
     /// The front failed 1,000 times in a row.
     #[error("receive failed: the front failed 1000 times in a row")]
     ReceiveFailed,
-    /// The host's clock gave no moment.
-    #[error("clock refused: the host's clock gave no moment in range")]
+    /// The host's clock gave no moment, or one that is past 2100 or years ahead of the log.
+    #[error("clock refused: the host's clock gave no moment in range, or is past 2100, or years ahead of the log")]
     ClockRefused,
     /// A growth was refused at the start, or in 1,000 turns in a row.
     #[error("no memory: a growth was refused at the start, or in 1000 turns in a row")]
@@ -112,6 +112,7 @@ impl From<MemberFault> for RunFault {
             MemberFault::LogNewer => RunFault::LogNewer,
             MemberFault::NumberTaken => RunFault::NumberTaken,
             MemberFault::NumbersEnded => RunFault::NumbersEnded,
+            MemberFault::ClockAhead => RunFault::ClockRefused,
         }
     }
 }

@@ -21,8 +21,13 @@ const AT_END: &[Step] = &[
     Log(Has(&[START, LAST_CLOCK, SECOND_START])),
 ];
 
+/// The last millisecond before 2100-01-01 at midnight UTC, and the first after it.
+const LAST_OF_2099: u64 = 4_102_444_799_999;
+
+const FIRST_OF_2100: u64 = 4_102_444_800_000;
+
 /// The moment in milliseconds at which a member begins, and the reply to the first Register of `a`: its counter is
-/// above 64 for each millisecond, and no clock goes on from 2^48 - 1.
+/// above 64 for each millisecond.
 static FLOORS: [Story; 6] = [
     (
         "counter 1",
@@ -83,29 +88,97 @@ static FLOORS: [Story; 6] = [
         ]],
     ),
     (
-        "the last moment before 2109-05-15",
+        "the last moment before 2100",
         BESIDE,
         &[],
         &[&[
-            BeginsAt(4_398_046_511_103, FIRST_CHANCE),
+            BeginsAt(LAST_OF_2099, FIRST_CHANCE),
             Does(
                 FIRST,
                 Answers(
                     REGISTER,
-                    "604100048272640d0366666666666666666666633130303031",
+                    "604100048272640d0365656362333066356666633130303031",
                 ),
             ),
             Shows(FIRST, Shown(true)),
         ]],
     ),
     (
-        "none from 2109-05-15 on",
+        "none from 2100 on",
         BESIDE,
         &[],
+        &[&[IsAheadAt(FIRST_OF_2100), Log(Has(&[]))]],
+    ),
+];
+
+/// Deltas of the first start without slots: the first clock of 2020, the last of that millisecond, and the one before.
+const IN_2020: &str =
+    "4c574531000102030405060708090a0b0c0d0e0f0001a1a2a3a4a5a6a7a8000000000000000201\
+4c5744335bd799ba000000";
+
+const LATER_IN_2020: &str =
+    "4c574531000102030405060708090a0b0c0d0e0f0001a1a2a3a4a5a6a7a8000000000000000201\
+4c5744335bd799ba003f00";
+
+const BEFORE_2020: &str =
+    "4c574531000102030405060708090a0b0c0d0e0f0001a1a2a3a4a5a6a7a8000000000000000201\
+4c5744335bd799b9ffff00";
+
+/// Five years of 365.25 days after 2020-01-01, in milliseconds.
+const FIVE_YEARS_LATER: u64 = 1_577_836_800_000 + 157_788_000_000;
+
+/// A log of 2020 or later takes a start up to five years after it, and one of before up to 2100. What is refused writes
+/// nothing, and the next start begins.
+static AHEAD: [Story; 5] = [
+    (
+        "2100 over a log of 1970",
+        BESIDE,
+        WRITTEN,
         &[&[
-            BeginsAt(4_398_046_511_104, FIRST_CHANCE),
-            Does(FIRST, Answers(REGISTER, UNAVAILABLE)),
-            Shows(FIRST, Shown(true)),
+            IsAheadAt(FIRST_OF_2100),
+            IsAheadAt(Moment::LAST_MS),
+            Log(Has(WRITTEN)),
+            BeginsAt(LAST_OF_2099, SECOND_CHANCE),
+            Does(FIRST, Answers(UPDATE, CHANGED)),
+        ]],
+    ),
+    (
+        "five years after a log of 2020",
+        BESIDE,
+        &[START, IN_2020],
+        &[&[
+            IsAheadAt(FIVE_YEARS_LATER + 1),
+            IsAheadAt(LAST_OF_2099),
+            Log(Has(&[START, IN_2020])),
+            BeginsAt(FIVE_YEARS_LATER, SECOND_CHANCE),
+        ]],
+    ),
+    (
+        "five years after the millisecond of a log",
+        BESIDE,
+        &[START, LATER_IN_2020],
+        &[&[
+            IsAheadAt(FIVE_YEARS_LATER + 1),
+            BeginsAt(FIVE_YEARS_LATER, SECOND_CHANCE),
+        ]],
+    ),
+    (
+        "a log of before 2020",
+        BESIDE,
+        &[START, BEFORE_2020],
+        &[&[
+            IsAheadAt(FIRST_OF_2100),
+            BeginsAt(LAST_OF_2099, SECOND_CHANCE),
+        ]],
+    ),
+    (
+        "before a log",
+        BESIDE,
+        &[START, LAST_CLOCK],
+        &[&[
+            IsAheadAt(FIRST_OF_2100),
+            BeginsAt(LAST_OF_2099, SECOND_CHANCE),
+            BeginsAt(0, SECOND_CHANCE),
         ]],
     ),
 ];
@@ -191,4 +264,10 @@ static CLOCKED: [Story; 2] = [
 fn a_clock_begins_above_its_floor_and_ends(rt: HostRuntime) {
     play_all(&rt, rt.alloc(), &FLOORS);
     play_all(&rt, rt.alloc(), &CLOCKED);
+}
+
+/// Tries: lw_member::Member::begin
+#[test]
+fn no_member_begins_past_2100_or_years_after_its_log(rt: HostRuntime) {
+    play_all(&rt, rt.alloc(), &AHEAD);
 }

@@ -16,6 +16,8 @@ pub(super) enum Step {
     BeginsAt(u64, Chance),
     /// No member begins over a log that others may append to.
     BeginsNot(Chance, MemberFault),
+    /// None begins at a moment in milliseconds, because of its clock.
+    IsAheadAt(u64),
     /// The same over one of which a reading fails.
     ReadsNot(Failure, Chance, MemberFault),
     /// All members end.
@@ -141,9 +143,15 @@ impl<'a> Stage<'a> {
             Step::Begins(chance) => self.begin(rt, alloc, at, (self.alone, 0), chance),
             Step::BeginsBeside(chance) => self.begin(rt, alloc, at, (false, 0), chance),
             Step::BeginsAt(ms, chance) => self.begin(rt, alloc, at, (self.alone, *ms), chance),
-            Step::BeginsNot(chance, want) => self.begin_not(rt, alloc, at, None, (chance, *want)),
+            Step::BeginsNot(chance, want) => {
+                self.begin_not(rt, alloc, at, None, (0, chance, *want));
+            }
+            Step::IsAheadAt(ms) => {
+                let want = (*ms, &SECOND_CHANCE, MemberFault::ClockAhead);
+                self.begin_not(rt, alloc, at, None, want);
+            }
             Step::ReadsNot(failure, chance, want) => {
-                self.begin_not(rt, alloc, at, Some(*failure), (chance, *want));
+                self.begin_not(rt, alloc, at, Some(*failure), (0, chance, *want));
             }
             Step::End => self.members.clear(),
             Step::Does(who, what) => ask(rt, alloc, at, self.member(rt, *who), what),
@@ -173,18 +181,20 @@ impl<'a> Stage<'a> {
         self.members.push(member).expect(rt, "memory");
     }
 
-    /// No member begins over a log that others may append to, and of which a reading may fail.
+    /// No member begins at a moment in milliseconds, over a log that others may append to, and of which a reading may
+    /// fail.
     fn begin_not(
         &self,
         rt: &impl Abort,
         alloc: Global,
         at: At,
         reading: Option<Failure>,
-        (chance, want): (&Chance, MemberFault),
+        (ms, chance, want): (u64, &Chance, MemberFault),
     ) {
         let log = Shared::new(alloc, self.entries, false);
         log.reading.set(reading);
-        faults(rt, at, begin(alloc, log, chance, Moment::START), Some(want));
+        let moment = Moment::new(ms).expect(rt, "a moment");
+        faults(rt, at, begin(alloc, log, chance, moment), Some(want));
     }
 
     fn each(&mut self, rt: &impl Abort, alloc: Global, at: At, order: &[usize], what: &Act) {

@@ -11,7 +11,7 @@ pub returns-clause-own : goal.returns-clause-own
 returns-clause-own g c = claims_read _ _ _ c.args.standing.now c.in_ok-fleet.ensures.own c.catch_up.ensures.asked
 
 pub raise-requires : goal.raise-requires
-raise-requires g c = subst (λ n. n < 281474976710656) (sym (c.catch_up.ensures.same.floor ∙ c.in_ok-fleet.ensures.same.floor)) c.requires.floor
+raise-requires g c = subst (λ n. n < 262556467200000) (sym (c.catch_up.ensures.same.floor ∙ c.in_ok-fleet.ensures.same.floor)) c.requires.floor
 
 pub returns-in_err-raise-clause-own : goal.returns-in_err-raise-clause-own
 returns-in_err-raise-clause-own g c = claims_read _ _ _ c.args.standing.now c.in_ok-fleet.ensures.own c.catch_up.ensures.asked

@@ -3,19 +3,21 @@ use Rattle.lw_node.specs.Node.{NodeContent, fresh}
 use Rattle.lw_log.specs.declared.start.Start.{Start}
 use Rattle.lw_member.specs.Reading.{AreReadToTheEnd, last_read, IsFree, IsMet, MergesEntries, entries_in}
 use Rattle.lw_member.specs.Beginning.{IsFirstFree}
+use Rattle.lw_member.specs.Clocks.{IsYearsAhead}
 use Rattle.lw_member.specs.Counting.{CountsEntries}
 use Rattle.lw_member.specs.Parts.{numbers_of}
 use Rattle.lw_member.specs.inner.Taking.{IsJudged}
 use Rattle.lw_member.specs.inner.Standing.{counted_in}
 use Rattle.lw_member.proofs.Asking.{calls_then}
+use Rattle.lw_member.proofs.Beginnings.{not_refused}
 use Rattle.lw_member.proofs.Numbering.{first_free_met, noted_new}
 use Rattle.lw_member.proofs.member.Member.begin.Goals as goal
 
 pub invariant_of-result : goal.invariant_of-result
 invariant_of-result g c = c.catch_up.ensures.member (c.in_ok-standing.ensures.member _)
 
-pub returns : goal.returns
-returns g c =
+pub returns-clause-begun : goal.returns-clause-begun
+returns-clause-begun g c =
     let found = c.in_ok-found.ensures in
     let read = c.in_ok-catch_up.ensures.read in
     let s = c.in_ok-standing.standing in
@@ -43,8 +45,10 @@ returns g c =
       numbers = noted_new (numbers_of s) (numbers_of s1) (entries_in read.0) new.numbers read.3.numbers;
       counted = subst (λ (n : ℕ × ℕ). CountsEntries n (entries_in read.0) (counted_in s1)) new.counted read.3.counted;
       merged = subst (λ (n : NodeContent). MergesEntries n (entries_in read.0) s1.node) (new.node ∙ ap fresh (ap (λ (x : Start). x.number) (sym start) ∙ number)) read.3.merged;
+      clock = not_refused c.args.moment s1.node.clock (λ h. let bad = c.if-is_past_2100.ensures.1 h in cc)
+          (λ h. let bad = c.if-is_years_ahead.ensures.1 (subst (λ n. IsYearsAhead c.args.moment n) (sym c.clock.ensures.value) h) in cc);
       tag_is = ap (λ (x : Start). x.tag) (same.start ∙ start);
-      floor_is = same.floor ∙ new.floor_is ∙ c.floor_at.ensures;
+      floor_is = same.floor ∙ new.floor_is ∙ c.floor_at.ensures.value;
       unclaimed = same.claimed ∙ new.unclaimed;
       all = read.3.led ∙ new.led;
       led = m.leading.written.whole (read.3.led ∙ new.led);
