@@ -3,7 +3,7 @@
 ghost use Rattle.std.specs.Prelude.{length, IfOk, IfSome};
 ghost use Rattle.lw_run.specs.Front.{IsWithin};
 
-use crate::reception::{Reception, VISIT, VISITORS};
+use crate::reception::Reception;
 use log::Log;
 use lw_metrics::Responses;
 use lw_reg::Addr;
@@ -86,19 +86,16 @@ impl<'a, C: Clock, L: Log> Sockets<'a, C, L> {
         self.poll
             .poll(&mut self.events, Some(time))
             .map_err(|_| WireFault)?;
-        let Some(reception) = &mut self.reception else {
-            return Ok(());
-        };
-        for event in self.events.iter() {
-            let token = event.token();
-            reception.knocks = reception.knocks || token == VISITORS;
-            reception.stirs = reception.stirs || token == VISIT;
+        if let Some(reception) = &mut self.reception {
+            for event in self.events.iter() {
+                reception.note(event.token());
+            }
         }
         Ok(())
     }
 
-    /// Answers the visitors that are there, and gives the desk back. A datagram goes before the next of them.
-    fn receive_visitors<D: Desk + Drop>(&mut self, desk: D) -> (D, Result<(), WireFault>) {
+    /// Lets visitors in, and goes on with one of them. It gives the desk back.
+    fn receive_visitor<D: Desk + Drop>(&mut self, desk: D) -> (D, Result<(), WireFault>) {
         if self.reception.is_none() {
             return (desk, Ok(()));
         }
@@ -118,7 +115,7 @@ impl<'a, C: Clock, L: Log> Sockets<'a, C, L> {
         self.now()
     }
 
-    /// What there is to do without waiting, of which one thing is that the desk has something to send.
+    /// What there is to do without waiting: a datagram, before what the desk has to send.
     fn at_once(
         &mut self,
         wants_to_send: bool,
@@ -126,12 +123,10 @@ impl<'a, C: Clock, L: Log> Sockets<'a, C, L> {
     ) -> Result<Option<Heard>, WireFault>
         ensures { IfOk result (λ there. IfSome there (IsWithin (length buffer.new))) }
     {
-        if wants_to_send {
-            return Ok(Some(Heard::Nothing));
-        }
         // The wait tells of what comes, and not of what is there: that is looked for first.
         match self.more(buffer)? {
             Some((count, from)) => Ok(Some(Heard::Datagram(count, from))),
+            None if wants_to_send => Ok(Some(Heard::Nothing)),
             None => Ok(None),
         }
     }
@@ -161,14 +156,17 @@ impl<'a, C: Clock, L: Log> Sockets<'a, C, L> {
 
     /// Waits for what comes next, but no longer than is left of the time. It tells whether some was left.
     fn wait(&mut self, began: Instant, time: Duration) -> Result<bool, WireFault> {
-        let passed = self.now()?.saturating_duration_since(began);
-        let left = time.saturating_sub(passed);
-        let stirs = self
-            .reception
-            .as_ref()
-            .is_some_and(|reception| reception.stirs);
-        self.look(if stirs { Duration::ZERO } else { left })?;
-        Ok(left != Duration::ZERO)
+        let now = self.now()?;
+        let left = time.saturating_sub(now.saturating_duration_since(began));
+        let rest = match &self.reception {
+            Some(reception) => reception.rest(now),
+            None => Duration::MAX,
+        };
+        let wait = left.min(rest);
+        if wait > Duration::ZERO {
+            self.look(wait)?;
+        }
+        Ok(left > Duration::ZERO)
     }
 }
 
@@ -185,7 +183,7 @@ impl<C: Clock, L: Log> Front for Sockets<'_, C, L> {
             Err(fault) => return (desk, Err(fault)),
         };
         for _turn in 0..u64::MAX {
-            let (back, received) = self.receive_visitors(desk);
+            let (back, received) = self.receive_visitor(desk);
             desk = back;
             if let Err(fault) = received {
                 return (desk, Err(fault));
