@@ -3,6 +3,7 @@
 ghost use Rattle.std.specs.Prelude.{length, IfOk, IfSome};
 ghost use Rattle.lw_run.specs.Front.{IsWithin};
 
+use crate::drops::Drops;
 use crate::reception::Reception;
 use log::Log;
 use lw_metrics::Responses;
@@ -17,6 +18,7 @@ use std::alloc::Global;
 use std::hash::RandomState;
 use std::io::{self, ErrorKind};
 use std::net::{Net, SocketAddr};
+use std::rt::Files;
 use std::time::{Clock, Duration, Instant};
 
 /// What the socket of datagrams is waited for under.
@@ -25,39 +27,43 @@ const DATAGRAMS: Token = Token(0);
 /// How many events a wait tells of.
 const EVENTS: usize = 32;
 
-/// A UDP socket that never waits itself, a listener for visitors where there is one, and what waits for them.
+/// A UDP socket that never waits itself, a listener for visitors where there is one, and what waits for them. The host
+/// has the clock, and tells what it dropped.
 #[derive(Drop)]
-pub struct Sockets<'a, C: Clock, L: Log> {
-    clock: &'a C,
+pub struct Sockets<'a, H: Clock + Files + AllocGlobal, L: Log> {
+    host: &'a H,
     log: &'a L,
     alloc: Global,
     poll: Poll,
     events: Events<Global>,
     datagrams: UdpSocket,
+    drops: Drops,
     reception: Option<Reception>,
 }
 
-impl<'a, C: Clock, L: Log> Sockets<'a, C, L> {
+impl<'a, H: Clock + Files + AllocGlobal, L: Log> Sockets<'a, H, L> {
     /// Binds a UDP socket at the address. Of visitors a line is logged.
     pub fn bind<N: Net>(
         net: &N,
-        clock: &'a C,
+        host: &'a H,
         log: &'a L,
         alloc: Global,
         address: SocketAddr,
-    ) -> io::Result<Sockets<'a, C, L>> {
+    ) -> io::Result<Sockets<'a, H, L>> {
         let poll = Poll::new(net)?;
         let events = Events::with_capacity(alloc, EVENTS)?;
         let mut datagrams = UdpSocket::bind(net, address)?;
         poll.registry()
             .register(&mut datagrams, DATAGRAMS, Interest::READABLE)?;
+        let drops = Drops::new(alloc, datagrams.local_addr()?)?;
         Ok(Sockets {
-            clock,
+            host,
             log,
             alloc,
             poll,
             events,
             datagrams,
+            drops,
             reception: None,
         })
     }
@@ -109,6 +115,13 @@ impl<'a, C: Clock, L: Log> Sockets<'a, C, L> {
         }
     }
 
+    /// Only visitors are told of drops.
+    fn look_at_drops(&mut self, now: Instant) {
+        if self.reception.is_some() {
+            self.drops.look(self.host, now);
+        }
+    }
+
     /// Notes what is there, without waiting, and tells the moment.
     fn look_now(&mut self) -> Result<Instant, WireFault> {
         self.look(Duration::ZERO)?;
@@ -151,7 +164,7 @@ impl<'a, C: Clock, L: Log> Sockets<'a, C, L> {
     }
 
     fn now(&self) -> Result<Instant, WireFault> {
-        Instant::now(self.clock).map_err(|_| WireFault)
+        Instant::now(self.host).map_err(|_| WireFault)
     }
 
     /// Waits for what comes next, but no longer than is left of the time. It tells whether some was left.
@@ -170,7 +183,7 @@ impl<'a, C: Clock, L: Log> Sockets<'a, C, L> {
     }
 }
 
-impl<C: Clock, L: Log> Front for Sockets<'_, C, L> {
+impl<H: Clock + Files + AllocGlobal, L: Log> Front for Sockets<'_, H, L> {
     fn attend<D: Desk + Drop>(
         &mut self,
         desk: D,
@@ -182,6 +195,7 @@ impl<C: Clock, L: Log> Front for Sockets<'_, C, L> {
             Ok(began) => began,
             Err(fault) => return (desk, Err(fault)),
         };
+        self.look_at_drops(began);
         for _turn in 0..u64::MAX {
             let (back, received) = self.receive_visitor(desk);
             desk = back;
@@ -217,5 +231,9 @@ impl<C: Clock, L: Log> Front for Sockets<'_, C, L> {
             Some(reception) => reception.responses,
             None => Responses::new(),
         }
+    }
+
+    fn drops(&self) -> u64 {
+        self.drops.count
     }
 }

@@ -93,6 +93,7 @@ impl<G: DeltaLog + Metered, C: HostClock + Drop> Course<G, C> {
             refusals,
         };
         course.server.edge.responses = front.responses();
+        course.server.edge.drops = front.drops();
         (course, heard)
     }
 
