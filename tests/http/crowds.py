@@ -2,7 +2,10 @@
 
 import multiprocessing
 import os
+import re
 import resource
+import selectors
+import signal
 import socket
 import threading
 import time
@@ -16,8 +19,14 @@ HEALTH = spelled("/v1/health")
 # how many seconds a visit has, and how much later its end may be seen
 VISIT, LATER = 5.0, 2.0
 SEATS, IDLE = 16, 40
+# how many seconds old a visit is that has not asked before it makes room, and how long a turn without datagrams waits
+FRESH, TURN = 1.0, 1.0
+# visitors who come at once: one more than there are seats, and more than the system keeps waiting
+AT_ONCE = 17, 64, 200
 DATAGRAMS, VISITORS, LEAST_ANSWERS = 5_000, 16, 1_000
 FLOOD = 3.0
+# more than the buffer of a socket holds, where it is 8 MB and a datagram takes 768 bytes of it
+FLOODED = 12_000
 # 64 lists of some 7 KB are a page of nearly half a megabyte
 VERY_LONG_LIST = b",".join(b"</%d/0>;title=some-more-bytes" % number for number in range(1000, 1220))
 SEGMENT = 536
@@ -92,14 +101,86 @@ def asked_meanwhile(scene, check, visitor, least):
     scene.is_true(f"{check}, the longest wait is {visitor.longest:.2f} s", visitor.longest < 1, "a second or more")
 
 
+class Arrivals:
+    """Visitors who come at once and ask so many seconds after they have connected."""
+
+    def __init__(self, address, count, pause=0.0):
+        self.begun, self.pause, self.address = time.monotonic(), pause, address
+        # of each answer its status, and how long its visitor waited for it
+        self.answers, self.longest = [], 0.0
+        self.waiting = selectors.DefaultSelector()
+        for _ in range(count):
+            visitor = socket.socket()
+            visitor.setblocking(False)
+            visitor.connect_ex(address)
+            self.waiting.register(visitor, selectors.EVENT_WRITE)
+
+    def all_answers(self):
+        """The status of each answer, once all have come, or ten seconds are over."""
+        while (left := self.begun + 10 - time.monotonic()) > 0 and self.waiting.get_map():
+            for key, _ in self.waiting.select(left):
+                self.goes_on(key.fileobj, key.events)
+        for key in list(self.waiting.get_map().values()):
+            self.ends(key.fileobj, "no answer")
+        return self.answers
+
+    def goes_on(self, visitor, events):
+        if events == selectors.EVENT_WRITE:
+            time.sleep(self.pause)
+            self.pause = 0.0
+            say(visitor, [HEALTH])
+            self.waiting.modify(visitor, selectors.EVENT_READ)
+            return
+        visitor.setblocking(True)
+        visitor.settimeout(VISIT)
+        self.ends(visitor, read(hear(visitor)).status)
+        self.longest = max(self.longest, time.monotonic() - self.begun)
+
+    def ends(self, visitor, status):
+        self.answers.append(status)
+        self.waiting.unregister(visitor)
+        visitor.close()
+
+
+def arrivals(scene):
+    """However many come at once, each is let in as soon as there is a seat, and none is closed without an answer."""
+    with scene.serving(*SERVES) as server:
+        for count in AT_ONCE:
+            for pause in (0.0, 0.02):
+                check = f"{count} visitors at once, who ask {pause:.2f} s after they connect"
+                found = Arrivals(server.visited, count, pause)
+                scene.holds(check, found.all_answers(), ["200 OK"] * count)
+                # a server that waits for the end of a turn with each 16 would take several
+                most = TURN * (1 + count // 100)
+                scene.is_true(f"{check}: the last waits {found.longest:.2f} s", found.longest < most, f"{most} s or more")
+
+
+def silent_visitors(scene):
+    """Sixteen who say nothing have all seats: whoever comes next waits until the first was there for a second."""
+    with scene.serving(*SERVES) as server:
+        visitors = [connected(server.visited) for _ in range(SEATS)]
+        begun = time.monotonic()
+        used = server.processor_seconds()
+        response, waited = ask(server.visited, "/v1/health"), time.monotonic() - begun
+        used = server.processor_seconds() - used
+        scene.holds(f"a visitor beside {SEATS} silent ones", response.status, "200 OK")
+        is_right = FRESH / 2 < waited < FRESH + TURN / 2
+        scene.is_true(f"he waits {waited:.2f} s for a seat", is_right, f"about {FRESH} s is right")
+        scene.is_true(f"the processor is used for {used:.2f} s meanwhile", used < FRESH / 2, "half of it or more")
+        scene.holds("the one who came first made room", [is_closed(it) for it in visitors].count(True), 1)
+        for visitor in visitors:
+            visitor.close()
+
+
 def idle_visitors(scene):
-    """Where all seats are taken, whoever came first and has not asked yet makes room."""
+    """Where all seats are taken, whoever came first and has not asked yet makes room once he was there for a second."""
     with scene.serving(*SERVES) as server:
         visitors = [connected(server.visited) for _ in range(IDLE)]
         begun = time.monotonic()
         response, waited = ask(server.visited, "/v1/health"), time.monotonic() - begun
         scene.holds(f"a visitor beside {IDLE} idle ones", response.status, "200 OK")
-        scene.is_true("he waits less than a second", waited < 1, waited)
+        # two times sixteen of those who came before him had to make room
+        scene.is_true(f"he waits {waited:.2f} s", FRESH < waited < 2 * FRESH + TURN, f"about {2 * FRESH} s is right")
         # he had one of the seats
         gone = IDLE - SEATS + 1
         want, closed, end = [True] * gone + [False] * (IDLE - gone), [], time.monotonic() + 1
@@ -164,6 +245,40 @@ def flooded(scene):
             scene.holds("a Register after the flood", client.code_of(coap.register("lamp")), "2.01")
 
 
+def drops_of(server):
+    """The drops of the socket of datagrams that the server tells."""
+    found = re.search(r"^fleet_socket_drops_total (\d+)$", ask(server.visited, "/metrics").body.decode(), re.M)
+    return int(found.group(1)) if found else None
+
+
+def drops(scene):
+    """What the system drops since the socket's buffer is full is told, as the system's own table has it."""
+    with scene.serving(*SERVES) as server:
+        scene.holds("drops before any", drops_of(server), 0)
+        server.run.send_signal(signal.SIGSTOP)
+        with socket.socket(socket.AF_INET, socket.SOCK_DGRAM) as sender:
+            sender.connect(("127.0.0.1", server.port))
+            for _ in range(FLOODED):
+                sender.send(coap.PING)
+        want = drops_in_table(server.port)
+        server.run.send_signal(signal.SIGCONT)
+        scene.is_true(f"of {FLOODED} datagrams to a server that is stopped {want} are dropped", want > 0, want)
+        end, found = time.monotonic() + 3 * TURN, None
+        while found != want and time.monotonic() < end:
+            time.sleep(0.1)
+            found = drops_of(server)
+        scene.holds("the drops that it tells", found, want)
+        with Client(server.port) as client:
+            scene.holds("a Register then", client.code_of(coap.register("lamp")), "2.01")
+
+
+def drops_in_table(port):
+    """The drops of the socket of 127.0.0.1 with this port, in the system's table."""
+    place = f"0100007F:{port:04X}"
+    rows = [line.split() for line in open("/proc/net/udp", encoding="ascii")]
+    return sum(int(row[-1]) for row in rows if row[1] == place)
+
+
 def few_files(scene):
     """Where the process can open no more files, devices are served, and visitors once others have left."""
     with scene.serving(*SERVES) as server, Client(server.port) as client:
@@ -181,4 +296,4 @@ def few_files(scene):
         scene.holds("a visitor once they have left", ask(server.visited, "/v1/health").status, "200 OK")
 
 
-CROWDS = slow_visitors, idle_visitors, beside_datagrams, flooded, few_files
+CROWDS = slow_visitors, arrivals, silent_visitors, idle_visitors, beside_datagrams, flooded, few_files, drops

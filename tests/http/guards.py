@@ -1,5 +1,6 @@
 """Who may ask: the hosts that a request may be for, and the token that it has to bring."""
 
+import os
 import pathlib
 import tempfile
 
@@ -92,6 +93,7 @@ def with_token(values):
 def token_file(scene, text):
     path = pathlib.Path(tempfile.mkdtemp(prefix="token-", dir=scene.folder)) / "token"
     path.write_bytes(text)
+    os.chmod(path, 0o600)
     return path
 
 
@@ -150,6 +152,22 @@ FILES = (
     (f"{TOKEN}:\n", None),
     (f"{TOKEN}\0\n", None),
 )
+
+
+# the modes of a file with a token, and whether its owner alone may write it
+MODES = ((0o400, True), (0o600, True), (0o644, True), (0o620, False), (0o602, False), (0o666, False))
+
+
+def token_modes(scene):
+    """A file that others than its owner may write gives no token."""
+    path = token_file(scene, f"{TOKEN}\n".encode())
+    for mode, is_own in MODES:
+        os.chmod(path, mode)
+        with scene.server(*SERVES, "--http-token-file", path) as server:
+            if is_own:
+                scene.holds(f"a file with mode {mode:04o}", server.serves(), True)
+            else:
+                scene.holds(f"a file with mode {mode:04o}", server.ends(10), (1, "token refused"))
 
 
 def token_files(scene):

@@ -102,6 +102,7 @@ MEASURED = {
     "fleet_receive_faults_total": 0,
     "fleet_send_faults_total": 0,
     "fleet_dropped_total": 0,
+    "fleet_socket_drops_total": 0,
     "fleet_duplicates_total": 0,
     "fleet_blocks_total": 0,
     "fleet_bodies": 0,

@@ -1,6 +1,6 @@
 //! Who may ask over HTTP, where, and what they see first.
 
-use crate::file_front::read_front;
+use crate::file_front::read_own_front;
 use crate::page::page_of_file;
 use log::Log;
 use lw_fleet::{HttpOptions, RunningFault};
@@ -90,10 +90,10 @@ fn commands_of(options: &HttpOptions<'_>) -> Commands {
     }
 }
 
-/// The token in the file.
+/// The token in the file, which its owner alone may write.
 fn token_of_file(host: &HostRuntime, path: &str) -> Result<Vec<u8>, RunningFault> {
     let mut room = [0; TOKEN_ROOM];
-    let Ok(count) = read_front(host, path, &mut room) else {
+    let Ok(count) = read_own_front(host, path, &mut room) else {
         return Err(RunningFault::TokenRefused);
     };
     let Some(token) = token_in(&room[..count.min(TOKEN_ROOM)]) else {

@@ -13,29 +13,39 @@ use std::io::{self, ErrorKind};
 use std::net::{Net, SocketAddr};
 use std::time::{Duration, Instant};
 
-/// What the listener is waited for under, and what each visit.
-pub(crate) const VISITORS: Token = Token(1);
-
-pub(crate) const VISIT: Token = Token(2);
+/// What the listener is waited for under. The visits have those behind it.
+const VISITORS: Token = Token(1);
 
 /// How many visits there are at once at most.
 const SEATS: usize = 16;
 
-/// How long a visit lasts at most.
-const VISIT_SECONDS: u64 = 5;
+/// How many milliseconds are waited before a visitor is let in for whom the host had nothing left.
+const PAUSE: u64 = 100;
 
-/// A listener, and the visits that it has let in.
+/// Whether visitors wait to be let in.
+#[derive(Clone, Copy)]
+enum Door {
+    /// None does: the poll tells of the next.
+    Quiet,
+    /// Some may.
+    Knocked,
+    /// Some may, and the host had nothing left for the first of them.
+    Refused,
+}
+
+/// A listener, and the visits that it has let in, the oldest first.
 #[derive(Drop)]
 pub(crate) struct Reception {
     alloc: Global,
     keys: RandomState,
     guard: Guard,
     listener: TcpListener,
+    door: Door,
     visits: Vec<Visit>,
-    /// Whether visitors may wait to be let in.
-    pub(crate) knocks: bool,
-    /// Whether a visit may go on.
-    pub(crate) stirs: bool,
+    /// What the last visit is waited for under.
+    last: Token,
+    /// How often a visit has gone on.
+    turn: u64,
     /// How those were answered that are over.
     pub(crate) responses: Responses,
 }
@@ -57,9 +67,10 @@ impl Reception {
             keys,
             guard,
             listener,
+            door: Door::Knocked,
             visits: Vec::new(alloc),
-            knocks: true,
-            stirs: false,
+            last: VISITORS,
+            turn: 0,
             responses: Responses::new(),
         })
     }
@@ -68,7 +79,17 @@ impl Reception {
         self.listener.local_addr()
     }
 
-    /// Lets visitors in, goes on with each visit, and lets those go that are over or last too long. It gives the desk
+    /// Notes what the poll tells of.
+    pub(crate) fn note(&mut self, token: Token) {
+        if token == VISITORS {
+            self.door = Door::Knocked;
+        }
+        for visit in self.visits.iter_mut() {
+            visit.stirs = visit.stirs || visit.token == token;
+        }
+    }
+
+    /// Lets visitors in, lets those go that last too long, and goes on with one of those that may. It gives the desk
     /// back.
     pub(crate) fn receive<D: Desk + Drop, L: Log>(
         &mut self,
@@ -77,39 +98,76 @@ impl Reception {
         desk: D,
         log: &L,
     ) -> D {
-        if self.knocks && self.let_in(poll, now, log).is_err() {
-            // It is tried again at the next turn.
-            self.knocks = true;
-        }
-        self.step_all(now, desk, log)
+        self.let_late_go(now, log);
+        self.let_in(poll, now, log);
+        self.go_on(now, desk, log)
     }
 
-    /// Seats the visitors that wait. Where all seats are taken, the oldest visit that has not asked yet makes room.
-    fn let_in<L: Log>(&mut self, poll: &Poll, now: Instant, log: &L) -> io::Result<()> {
-        for _seat in 0..SEATS {
-            let (mut stream, peer) = match self.listener.accept() {
-                Ok(accepted) => accepted,
-                Err(error) => {
-                    // Where no descriptor is left, it is tried again.
-                    self.knocks = error.kind() != ErrorKind::WouldBlock;
-                    return Ok(());
-                }
-            };
-            poll.registry().register(&mut stream, VISIT, Interest::READABLE | Interest::WRITABLE)?;
-            self.make_room(log);
-            self.visits
-                .push(Visit::new(self.alloc, self.keys, stream, peer, now))?;
-            self.stirs = true;
+    /// How long may be waited before this is to be looked at again.
+    pub(crate) fn rest(&self, now: Instant) -> Duration {
+        if self.visits.iter().any(|visit| visit.stirs) {
+            return Duration::ZERO;
         }
+        match self.door {
+            Door::Quiet => Duration::MAX,
+            Door::Knocked => self.until_seat(now),
+            Door::Refused => Duration::from_millis(PAUSE),
+        }
+    }
+
+    /// How long it is until there is a seat for whoever comes next, if no visit ends before.
+    fn until_seat(&self, now: Instant) -> Duration {
+        if self.visits.len() < SEATS {
+            return Duration::ZERO;
+        }
+        let mut soonest = Duration::MAX;
+        for visit in self.visits.iter() {
+            if let Some(stays) = visit.stays(now) {
+                soonest = soonest.min(stays);
+            }
+        }
+        soonest
+    }
+
+    /// Seats the visitors that wait, as far as there are seats.
+    fn let_in<L: Log>(&mut self, poll: &Poll, now: Instant, log: &L) {
+        for _seat in 0..SEATS {
+            if matches!(self.door, Door::Quiet) || self.until_seat(now) > Duration::ZERO {
+                return;
+            }
+            self.door = match self.seat_next(poll, now, log) {
+                Ok(()) => Door::Knocked,
+                Err(error) if error.kind() == ErrorKind::WouldBlock => Door::Quiet,
+                Err(_) => Door::Refused,
+            };
+            if matches!(self.door, Door::Refused) {
+                return;
+            }
+        }
+    }
+
+    /// Seats the first visitor that waits. Where all seats are taken, a visit makes room.
+    fn seat_next<L: Log>(&mut self, poll: &Poll, now: Instant, log: &L) -> io::Result<()> {
+        let (mut stream, peer) = self.listener.accept()?;
+        let token = Token(self.last.0.saturating_add(1));
+        let interest = Interest::READABLE | Interest::WRITABLE;
+        poll.registry().register(&mut stream, token, interest)?;
+        self.last = token;
+        self.make_room(now, log);
+        let visit = Visit::new(self.alloc, self.keys, stream, peer, token, now);
+        self.visits.push(visit)?;
         Ok(())
     }
 
-    fn make_room<L: Log>(&mut self, log: &L) {
+    /// Where all seats are taken, the oldest visit that may be sent away goes.
+    fn make_room<L: Log>(&mut self, now: Instant, log: &L) {
         if self.visits.len() < SEATS {
             return;
         }
-        let oldest = self.visits.iter().position(|visit| !visit.is_asked());
-        self.let_go(oldest.unwrap_or(0), log);
+        let may_go = |visit: &Visit| visit.stays(now) == Some(Duration::ZERO);
+        if let Some(place) = self.visits.iter().position(may_go) {
+            self.let_go(place, log);
+        }
     }
 
     /// Ends the visit at the place, if there is one, and tells of it. The others keep their order.
@@ -123,21 +181,44 @@ impl Reception {
         }
     }
 
-    fn step_all<D: Desk + Drop, L: Log>(&mut self, now: Instant, desk: D, log: &L) -> D {
-        let mut desk = desk;
-        self.stirs = false;
+    /// Ends the visits that last too long and wait for their peers.
+    fn let_late_go<L: Log>(&mut self, now: Instant, log: &L) {
         for place in (0..self.visits.len()).rev() {
-            let Some(visit) = self.visits.get_mut(place) else {
-                return desk;
+            let Some(visit) = self.visits.get(place) else {
+                return;
             };
-            let is_late = now.saturating_duration_since(visit.began)
-                > Duration::from_secs(VISIT_SECONDS);
-            let (back, going) = visit.step(self.alloc, desk, &self.guard);
-            desk = back;
-            self.stirs = self.stirs || going == Going::On;
-            if is_late || going == Going::Over {
+            if !visit.stirs && visit.is_late(now) {
                 self.let_go(place, log);
             }
+        }
+    }
+
+    /// Of the visits that may go on, the one that has not for the longest time.
+    fn next_place(&self) -> Option<usize> {
+        let mut next = None;
+        let mut first = u64::MAX;
+        for (place, visit) in self.visits.iter().enumerate() {
+            if visit.stirs && visit.turn < first {
+                (next, first) = (Some(place), visit.turn);
+            }
+        }
+        next
+    }
+
+    /// Goes on with one visit, and ends it if it is over, or lasts too long.
+    fn go_on<D: Desk + Drop, L: Log>(&mut self, now: Instant, desk: D, log: &L) -> D {
+        let Some(place) = self.next_place() else {
+            return desk;
+        };
+        let Some(visit) = self.visits.get_mut(place) else {
+            return desk;
+        };
+        self.turn = self.turn.saturating_add(1);
+        visit.turn = self.turn;
+        let (desk, going) = visit.step(self.alloc, desk, &self.guard);
+        visit.stirs = going == Going::On;
+        if going == Going::Over || visit.is_late(now) {
+            self.let_go(place, log);
         }
         desk
     }

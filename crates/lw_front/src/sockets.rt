@@ -3,7 +3,8 @@
 ghost use Rattle.std.specs.Prelude.{length, IfOk, IfSome};
 ghost use Rattle.lw_run.specs.Front.{IsWithin};
 
-use crate::reception::{Reception, VISIT, VISITORS};
+use crate::drops::Drops;
+use crate::reception::Reception;
 use log::Log;
 use lw_metrics::Responses;
 use lw_reg::Addr;
@@ -17,6 +18,7 @@ use std::alloc::Global;
 use std::hash::RandomState;
 use std::io::{self, ErrorKind};
 use std::net::{Net, SocketAddr};
+use std::rt::Files;
 use std::time::{Clock, Duration, Instant};
 
 /// What the socket of datagrams is waited for under.
@@ -25,39 +27,43 @@ const DATAGRAMS: Token = Token(0);
 /// How many events a wait tells of.
 const EVENTS: usize = 32;
 
-/// A UDP socket that never waits itself, a listener for visitors where there is one, and what waits for them.
+/// A UDP socket that never waits itself, a listener for visitors where there is one, and what waits for them. The host
+/// has the clock, and tells what it dropped.
 #[derive(Drop)]
-pub struct Sockets<'a, C: Clock, L: Log> {
-    clock: &'a C,
+pub struct Sockets<'a, H: Clock + Files + AllocGlobal, L: Log> {
+    host: &'a H,
     log: &'a L,
     alloc: Global,
     poll: Poll,
     events: Events<Global>,
     datagrams: UdpSocket,
+    drops: Drops,
     reception: Option<Reception>,
 }
 
-impl<'a, C: Clock, L: Log> Sockets<'a, C, L> {
+impl<'a, H: Clock + Files + AllocGlobal, L: Log> Sockets<'a, H, L> {
     /// Binds a UDP socket at the address. Of visitors a line is logged.
     pub fn bind<N: Net>(
         net: &N,
-        clock: &'a C,
+        host: &'a H,
         log: &'a L,
         alloc: Global,
         address: SocketAddr,
-    ) -> io::Result<Sockets<'a, C, L>> {
+    ) -> io::Result<Sockets<'a, H, L>> {
         let poll = Poll::new(net)?;
         let events = Events::with_capacity(alloc, EVENTS)?;
         let mut datagrams = UdpSocket::bind(net, address)?;
         poll.registry()
             .register(&mut datagrams, DATAGRAMS, Interest::READABLE)?;
+        let drops = Drops::new(alloc, datagrams.local_addr()?)?;
         Ok(Sockets {
-            clock,
+            host,
             log,
             alloc,
             poll,
             events,
             datagrams,
+            drops,
             reception: None,
         })
     }
@@ -86,19 +92,16 @@ impl<'a, C: Clock, L: Log> Sockets<'a, C, L> {
         self.poll
             .poll(&mut self.events, Some(time))
             .map_err(|_| WireFault)?;
-        let Some(reception) = &mut self.reception else {
-            return Ok(());
-        };
-        for event in self.events.iter() {
-            let token = event.token();
-            reception.knocks = reception.knocks || token == VISITORS;
-            reception.stirs = reception.stirs || token == VISIT;
+        if let Some(reception) = &mut self.reception {
+            for event in self.events.iter() {
+                reception.note(event.token());
+            }
         }
         Ok(())
     }
 
-    /// Answers the visitors that are there, and gives the desk back. A datagram goes before the next of them.
-    fn receive_visitors<D: Desk + Drop>(&mut self, desk: D) -> (D, Result<(), WireFault>) {
+    /// Lets visitors in, and goes on with one of them. It gives the desk back.
+    fn receive_visitor<D: Desk + Drop>(&mut self, desk: D) -> (D, Result<(), WireFault>) {
         if self.reception.is_none() {
             return (desk, Ok(()));
         }
@@ -112,13 +115,20 @@ impl<'a, C: Clock, L: Log> Sockets<'a, C, L> {
         }
     }
 
+    /// Only visitors are told of drops.
+    fn look_at_drops(&mut self, now: Instant) {
+        if self.reception.is_some() {
+            self.drops.look(self.host, now);
+        }
+    }
+
     /// Notes what is there, without waiting, and tells the moment.
     fn look_now(&mut self) -> Result<Instant, WireFault> {
         self.look(Duration::ZERO)?;
         self.now()
     }
 
-    /// What there is to do without waiting, of which one thing is that the desk has something to send.
+    /// What there is to do without waiting: a datagram, before what the desk has to send.
     fn at_once(
         &mut self,
         wants_to_send: bool,
@@ -126,12 +136,10 @@ impl<'a, C: Clock, L: Log> Sockets<'a, C, L> {
     ) -> Result<Option<Heard>, WireFault>
         ensures { IfOk result (λ there. IfSome there (IsWithin (length buffer.new))) }
     {
-        if wants_to_send {
-            return Ok(Some(Heard::Nothing));
-        }
         // The wait tells of what comes, and not of what is there: that is looked for first.
         match self.more(buffer)? {
             Some((count, from)) => Ok(Some(Heard::Datagram(count, from))),
+            None if wants_to_send => Ok(Some(Heard::Nothing)),
             None => Ok(None),
         }
     }
@@ -156,23 +164,26 @@ impl<'a, C: Clock, L: Log> Sockets<'a, C, L> {
     }
 
     fn now(&self) -> Result<Instant, WireFault> {
-        Instant::now(self.clock).map_err(|_| WireFault)
+        Instant::now(self.host).map_err(|_| WireFault)
     }
 
     /// Waits for what comes next, but no longer than is left of the time. It tells whether some was left.
     fn wait(&mut self, began: Instant, time: Duration) -> Result<bool, WireFault> {
-        let passed = self.now()?.saturating_duration_since(began);
-        let left = time.saturating_sub(passed);
-        let stirs = self
-            .reception
-            .as_ref()
-            .is_some_and(|reception| reception.stirs);
-        self.look(if stirs { Duration::ZERO } else { left })?;
-        Ok(left != Duration::ZERO)
+        let now = self.now()?;
+        let left = time.saturating_sub(now.saturating_duration_since(began));
+        let rest = match &self.reception {
+            Some(reception) => reception.rest(now),
+            None => Duration::MAX,
+        };
+        let wait = left.min(rest);
+        if wait > Duration::ZERO {
+            self.look(wait)?;
+        }
+        Ok(left > Duration::ZERO)
     }
 }
 
-impl<C: Clock, L: Log> Front for Sockets<'_, C, L> {
+impl<H: Clock + Files + AllocGlobal, L: Log> Front for Sockets<'_, H, L> {
     fn attend<D: Desk + Drop>(
         &mut self,
         desk: D,
@@ -184,8 +195,9 @@ impl<C: Clock, L: Log> Front for Sockets<'_, C, L> {
             Ok(began) => began,
             Err(fault) => return (desk, Err(fault)),
         };
+        self.look_at_drops(began);
         for _turn in 0..u64::MAX {
-            let (back, received) = self.receive_visitors(desk);
+            let (back, received) = self.receive_visitor(desk);
             desk = back;
             if let Err(fault) = received {
                 return (desk, Err(fault));
@@ -219,5 +231,9 @@ impl<C: Clock, L: Log> Front for Sockets<'_, C, L> {
             Some(reception) => reception.responses,
             None => Responses::new(),
         }
+    }
+
+    fn drops(&self) -> u64 {
+        self.drops.count
     }
 }

@@ -5,18 +5,25 @@ use http_server::Connection;
 use log::{Log, info};
 use lw_target::Desk;
 use lw_visit::{Guard, advance, new_connection};
+use mio::Token;
 use mio::net::TcpStream;
 use std::alloc::Global;
 use std::hash::RandomState;
 use std::io::{self, ErrorKind, Read};
 use std::net::SocketAddr;
-use std::time::Instant;
+use std::time::{Duration, Instant};
 
 /// How often a visit reads or writes before others have their turn.
 const STEPS: u32 = 8;
 
 /// How many bytes are read at once, for which a connection always has room.
 const AT_ONCE: usize = 4096;
+
+/// How many seconds a visit lasts at most.
+const LASTS: u64 = 5;
+
+/// How many seconds old a visit is that has not asked before it makes room for another.
+const FRESH: u64 = 1;
 
 /// What may go before a response (RFC 9110, section 15.2.1).
 const CONTINUE: &[u8] = b"HTTP/1.1 100 Continue\r\n\r\n";
@@ -27,8 +34,14 @@ pub(crate) struct Visit {
     stream: TcpStream,
     peer: SocketAddr,
     connection: Connection,
+    /// What it is waited for under.
+    pub(crate) token: Token,
     /// When it came.
-    pub(crate) began: Instant,
+    began: Instant,
+    /// Whether it may go on.
+    pub(crate) stirs: bool,
+    /// The turn in which it went on last.
+    pub(crate) turn: u64,
     asked: AskedLine,
     /// The status of the response, once there is one.
     pub(crate) status: Option<u16>,
@@ -53,13 +66,17 @@ impl Visit {
         keys: RandomState,
         stream: TcpStream,
         peer: SocketAddr,
+        token: Token,
         began: Instant,
     ) -> Visit {
         Visit {
             stream,
             peer,
             connection: new_connection(alloc, keys),
+            token,
             began,
+            stirs: true,
+            turn: 0,
             asked: AskedLine::new(),
             status: None,
             sent: 0,
@@ -67,8 +84,25 @@ impl Visit {
     }
 
     /// Whether a whole request has come.
-    pub(crate) fn is_asked(&self) -> bool {
+    fn is_asked(&self) -> bool {
         self.connection.wants_write() || !self.connection.wants_read()
+    }
+
+    fn age(&self, now: Instant) -> Duration {
+        now.saturating_duration_since(self.began)
+    }
+
+    /// Whether it has lasted as long as it may.
+    pub(crate) fn is_late(&self, now: Instant) -> bool {
+        self.age(now) >= Duration::from_secs(LASTS)
+    }
+
+    /// How long it is before it makes room for another, as long as it waits for its peer. One that has asked makes none.
+    pub(crate) fn stays(&self, now: Instant) -> Option<Duration> {
+        if self.stirs || self.is_asked() {
+            return None;
+        }
+        Some(Duration::from_secs(FRESH).saturating_sub(self.age(now)))
     }
 
     /// Reads, answers and writes as far as it goes, but not for ever. It gives the desk back.

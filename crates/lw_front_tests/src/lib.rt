@@ -2,4 +2,6 @@
 #![tactic(auto)]
 
 #[cfg(test)]
+mod drops;
+#[cfg(test)]
 mod sockets;

@@ -14,11 +14,21 @@ use std::io::{self, Read, Write};
 use std::net::{Ipv4Addr, Net, OpenStream, SocketAddr, TcpStream, ToSocketAddrs, UdpSocket};
 use std::process::Abort;
 use std::random::RandomSource;
+use std::rt::Files;
 use std::time::{Clock, Duration, Instant};
 
-/// A desk that tells the same to all that is asked.
+/// A desk that tells the same to all that is asked, and has something to send after a command.
 #[derive(Drop)]
-struct OneAnswer(Global);
+struct OneAnswer {
+    alloc: Global,
+    /// How many commands came.
+    commands: usize,
+}
+
+/// A desk to which no command came.
+fn quiet(alloc: Global) -> OneAnswer {
+    OneAnswer { alloc, commands: 0 }
+}
 
 impl Desk for OneAnswer {
     ghost tells = { λ desk asked answer. Unit {0} };
@@ -29,16 +39,17 @@ impl Desk for OneAnswer {
         Ok(Answer {
             status: Status::Ok,
             media: Media::Json,
-            body: String::from_str(self.0, "{}")?,
+            body: String::from_str(self.alloc, "{}")?,
         })
     }
 
     fn carry_out(&mut self, _command: &Command) -> Option<Answer> {
+        self.commands = self.commands.saturating_add(1);
         None
     }
 
     fn wants_to_send(&self) -> bool {
-        false
+        self.commands > 0
     }
 }
 
@@ -55,7 +66,7 @@ fn client_at<N: Net>(net: &N, host: &str) -> io::Result<UdpSocket> {
 }
 
 /// A front at the address.
-fn bound<'a, R: Abort + Net + Clock, L: Log>(
+fn bound<'a, R: Abort + Net + Clock + Files + AllocGlobal, L: Log>(
     rt: &'a R,
     log: &'a L,
     alloc: Global,
@@ -65,12 +76,15 @@ fn bound<'a, R: Abort + Net + Clock, L: Log>(
 }
 
 /// Where the front is.
-fn place_of<C: Clock, L: Log>(rt: &impl Abort, sockets: &Sockets<'_, C, L>) -> SocketAddr {
+fn place_of<C: Clock + Files + AllocGlobal, L: Log>(
+    rt: &impl Abort,
+    sockets: &Sockets<'_, C, L>,
+) -> SocketAddr {
     sockets.local_address().expect(rt, "an address")
 }
 
 /// Two datagrams that were sent come in their order, where they were sent from, and what the front sends arrives there.
-fn is_served<C: Clock, L: Log>(
+fn is_served<C: Clock + Files + AllocGlobal, L: Log>(
     rt: &impl Abort,
     sockets: &mut Sockets<'_, C, L>,
     desk: OneAnswer,
@@ -104,12 +118,12 @@ fn hears(rt: &impl Abort, client: &UdpSocket, at: SocketAddr) {
 }
 
 /// A front at another port of a client's host serves it twice.
-fn serves<R: Abort + Net + Clock>(rt: &R, alloc: Global, client: &UdpSocket) {
+fn serves<R: Abort + Net + Clock + Files + AllocGlobal>(rt: &R, alloc: Global, client: &UdpSocket) {
     let mut address = client.local_addr().expect(rt, "an address");
     address.set_port(0);
     let mut sockets = bound(rt, &Discard, alloc, address);
-    is_served(rt, &mut sockets, OneAnswer(alloc), client);
-    is_served(rt, &mut sockets, OneAnswer(alloc), client);
+    is_served(rt, &mut sockets, quiet(alloc), client);
+    is_served(rt, &mut sockets, quiet(alloc), client);
 }
 
 /// Tries: lw_front::Sockets::bind, lw_front::Sockets::local_address, lw_run::Front::attend, lw_run::Front::more
@@ -133,11 +147,7 @@ fn datagrams_come_and_go_over_ipv6(rt: HostRuntime) {
 fn a_wait_ends_when_its_time_is_over(rt: HostRuntime) {
     let mut sockets = bound(&rt, &Discard, rt.alloc(), loopback());
     let began = Instant::now(&rt).expect(&rt, "a clock");
-    let (_desk, heard) = sockets.attend(
-        OneAnswer(rt.alloc()),
-        &mut [0; 4],
-        Duration::from_millis(300),
-    );
+    let (_desk, heard) = sockets.attend(quiet(rt.alloc()), &mut [0; 4], Duration::from_millis(300));
     let waited = began.elapsed(&rt).expect(&rt, "a clock");
     assert!(rt; heard == Ok(Heard::Nothing), "nothing comes");
     assert!(rt; waited >= Duration::from_millis(300), "so long");
@@ -166,7 +176,7 @@ const TOLD: &str = "HTTP/1.1 200 OK\r\nconnection: close\r\ncache-control: no-st
     x-content-type-options: nosniff\r\ncontent-type: application/json\r\ncontent-length: 2\r\n\r\n{}";
 
 /// What a visitor at the address who says this is told while the front waits for a datagram, and where he is.
-fn visited<R: Abort + Net, C: Clock, L: Log>(
+fn visited<R: Abort + Net, C: Clock + Files + AllocGlobal, L: Log>(
     rt: &R,
     alloc: Global,
     sockets: &mut Sockets<'_, C, L>,
@@ -177,21 +187,21 @@ fn visited<R: Abort + Net, C: Clock, L: Log>(
     let from = visitor.local_addr().expect(rt, "an address");
     visitor.write_all(says).expect(rt, "a request");
     let time = Duration::from_millis(300);
-    let (_desk, heard) = sockets.attend(OneAnswer(alloc), &mut [0; 4], time);
+    let (_desk, heard) = sockets.attend(quiet(alloc), &mut [0; 4], time);
     assert!(rt; heard.is_ok(), "a wait");
     let told = io::read_to_string(alloc, visitor).expect(rt, "a response");
     (told, from)
 }
 
-/// Lets anybody in at some port of the loopback.
-fn let_in<R: Abort + Net + RandomSource, C: Clock, L: Log>(
+/// Lets anybody in at some port of the loopback, who may also give commands.
+fn let_in<R: Abort + Net + RandomSource, C: Clock + Files + AllocGlobal, L: Log>(
     rt: &R,
     sockets: &mut Sockets<'_, C, L>,
 ) -> SocketAddr {
     let guard = Guard {
         token: None,
         host: None,
-        commands: Commands::Off,
+        commands: Commands::On,
     };
     let keys = RandomState::new(rt).expect(rt, "keys");
     let place = sockets.receive(rt, keys, guard, loopback());
@@ -226,7 +236,7 @@ static LINES: [(&[u8], &str); 5] = [
 ];
 
 /// Where a visitor came from who says this.
-fn told_of<R: Abort + Net + Clock + RandomSource, L: Log>(
+fn told_of<R: Abort + Net + Clock + Files + AllocGlobal + RandomSource, L: Log>(
     rt: &R,
     log: &L,
     alloc: Global,
@@ -238,7 +248,7 @@ fn told_of<R: Abort + Net + Clock + RandomSource, L: Log>(
 }
 
 /// Of a visitor who says this, one line is logged, and this stands in it behind where he is.
-fn is_logged<R: Abort + Net + Clock + RandomSource>(
+fn is_logged<R: Abort + Net + Clock + Files + AllocGlobal + RandomSource>(
     rt: &R,
     alloc: Global,
     says: &[u8],
@@ -282,7 +292,7 @@ fn framed(rt: &impl Abort, alloc: Global, frame: Frame, length: usize) -> String
 }
 
 /// A request whose method and whose target have so many bytes is logged with so many of each.
-fn is_cut<R: Abort + Net + Clock + RandomSource>(
+fn is_cut<R: Abort + Net + Clock + Files + AllocGlobal + RandomSource>(
     rt: &R,
     alloc: Global,
     length: usize,
@@ -322,4 +332,84 @@ fn responses_are_counted_by_status(rt: HostRuntime) {
     let counts = sockets.responses().counts;
     let want = [2, 0, 0, 1, 0, 0, 1, 0, 0, 0, 0, 0, 0, 0, 0, 0];
     assert!(rt; counts == want, "{counts:?}");
+}
+
+const COMMAND: &[u8] =
+    b"POST /v1/registrations/lamp/observations?path=/3 HTTP/1.1\r\nhost: localhost\r\ncontent-length: 0\r\n\r\n";
+
+/// So many visitors at the address, each of whom says this.
+fn visitors<R: Abort + Net>(
+    rt: &R,
+    alloc: Global,
+    at: SocketAddr,
+    count: usize,
+    says: &[u8],
+) -> Vec<R::Stream> {
+    let mut visitors = Vec::new(alloc);
+    for _visitor in 0..count {
+        let mut visitor = TcpStream::connect(rt, at).expect(rt, "a connection");
+        visitor.write_all(says).expect(rt, "a request");
+        visitors.push(visitor).expect(rt, "memory");
+    }
+    visitors
+}
+
+/// Three commands and a datagram are there. The datagram is heard behind one command at most, and then one command comes
+/// a wait.
+/// Tries: lw_run::Front::attend
+#[test]
+fn a_datagram_goes_before_the_next_command(rt: HostRuntime) {
+    let mut sockets = bound(&rt, &Discard, rt.alloc(), loopback());
+    let at = let_in(&rt, &mut sockets);
+    let _visitors = visitors(&rt, rt.alloc(), at, 3, COMMAND);
+    let client = client_at(&rt, "127.0.0.1:0").expect(&rt, "a client");
+    let sent = client.send_to(b"one", place_of(&rt, &sockets));
+    sent.expect(&rt, "a send");
+    let (buffer, time) = (&mut [0; 4], Duration::from_secs(20));
+    let (desk, heard) = sockets.attend(quiet(rt.alloc()), buffer, time);
+    assert!(rt; matches!(heard, Ok(Heard::Datagram(3, _))), "the datagram");
+    assert!(rt; desk.commands == 1, "one command before it");
+    let (desk, heard) = sockets.attend(desk, buffer, time);
+    assert!(rt; heard == Ok(Heard::Nothing), "there is something to send");
+    assert!(rt; desk.commands == 2, "one more");
+    let (desk, _heard) = sockets.attend(desk, buffer, time);
+    assert!(rt; desk.commands == 3, "and the last");
+}
+
+/// More visitors than there are seats are answered, and none of them waits for the time to end.
+/// Tries: lw_run::Front::attend
+#[test]
+fn whoever_waits_is_let_in_as_soon_as_there_is_a_seat(rt: HostRuntime) {
+    let mut sockets = bound(&rt, &Discard, rt.alloc(), loopback());
+    let at = let_in(&rt, &mut sockets);
+    let _visitors = visitors(&rt, rt.alloc(), at, 40, ASKED);
+    let began = Instant::now(&rt).expect(&rt, "a clock");
+    let mut desk = quiet(rt.alloc());
+    for _wait in 0..20 {
+        let (back, heard) = sockets.attend(desk, &mut [0; 4], Duration::from_millis(100));
+        assert!(rt; heard == Ok(Heard::Nothing), "no datagram");
+        desk = back;
+        if sockets.responses().counts[0] == 40 {
+            break;
+        }
+    }
+    let waited = began.elapsed(&rt).expect(&rt, "a clock");
+    assert!(rt; sockets.responses().counts[0] == 40, "all are answered");
+    assert!(rt; waited < Duration::from_secs(2), "{waited:?}");
+}
+
+/// Where all seats are taken by visitors who say nothing, the next one is answered once the first has been there for a
+/// second.
+/// Tries: lw_run::Front::attend
+#[test]
+fn whoever_says_nothing_makes_room_after_a_second(rt: HostRuntime) {
+    let mut sockets = bound(&rt, &Discard, rt.alloc(), loopback());
+    let at = let_in(&rt, &mut sockets);
+    let _silent = visitors(&rt, rt.alloc(), at, 16, b"");
+    let _asking = visitors(&rt, rt.alloc(), at, 1, ASKED);
+    let time = Duration::from_millis(500);
+    let (desk, _heard) = sockets.attend(quiet(rt.alloc()), &mut [0; 4], time);
+    assert!(rt; sockets.responses().counts[0] == 0, "nobody is closed yet");
+    let (_desk, _heard) = sockets.attend(desk, &mut [0; 4], Duration::from_secs(1));
+    assert!(rt; sockets.responses().counts[0] == 1, "the next is answered");
 }

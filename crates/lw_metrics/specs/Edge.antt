@@ -66,6 +66,7 @@ new_edge = record {
   receive_faults = 0;
   send_faults = 0;
   dropped = 0;
+  drops = 0;
   responses = new_responses;
 }
 

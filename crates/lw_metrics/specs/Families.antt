@@ -9,7 +9,7 @@ use Rattle.lw_metrics.specs.declared.edge.Edge.{Edge}
 use Rattle.lw_metrics.specs.declared.measures.Measures.{Measures}
 use Rattle.lw_metrics.specs.declared.measures.NodeMeasures.{NodeMeasures}
 use Rattle.lw_metrics.specs.declared.metric.Metric.{Metric}
-use Rattle.lw_metrics.specs.declared.metric.Metric.TheVariants.{BuildInfo, StartTime, Registrations, StampClock, Change, Number, Rounds, Datagrams, Replies, EmptyReplies, Unanswered, Notifications, Swept, NoMemory, RequestsSent, RequestsSentAgain, RequestsReset, RequestsUnanswered, RequestsWaiting, NotificationsStale, NotificationBlocks, Fetches, Unnumbered, PassedOver, LogAway, AppendSeconds, EntriesWritten, EntriesRead, LogBytes, WholeBytes, Compactions, AwaySeconds, ReceiveFaults, SendFaults, Dropped, Duplicates, Blocks, Bodies, Responses}
+use Rattle.lw_metrics.specs.declared.metric.Metric.TheVariants.{BuildInfo, StartTime, Registrations, StampClock, Change, Number, Rounds, Datagrams, Replies, EmptyReplies, Unanswered, Notifications, Swept, NoMemory, RequestsSent, RequestsSentAgain, RequestsReset, RequestsUnanswered, RequestsWaiting, NotificationsStale, NotificationBlocks, Fetches, Unnumbered, PassedOver, LogAway, AppendSeconds, EntriesWritten, EntriesRead, LogBytes, WholeBytes, Compactions, AwaySeconds, ReceiveFaults, SendFaults, Dropped, SocketDrops, Duplicates, Blocks, Bodies, Responses}
 use Rattle.lw_metrics.specs.declared.requests.RequestMeasures.{RequestMeasures}
 use Rattle.lw_metrics.specs.declared.responses.Responses.{Responses as ResponseCounts}
 use Rattle.lw_metrics.specs.declared.tally.Tally.{Tally}
@@ -182,6 +182,7 @@ fault_families edge =
     of_number ReceiveFaults edge.receive_faults
     ∷ of_number SendFaults edge.send_faults
     ∷ of_number Dropped edge.dropped
+    ∷ of_number SocketDrops edge.drops
     ∷ []
 
 -- what was answered beside the rounds: datagrams that came again, blocks of bodies, visitors

@@ -1,7 +1,7 @@
 -- The metrics that are shown: their names, what is said of them, and their types.
 use Rattle.std.specs.Prelude.{ℕ, List, codes}
 use Rattle.lw_metrics.specs.declared.metric.Metric.{Metric}
-use Rattle.lw_metrics.specs.declared.metric.Metric.TheVariants.{BuildInfo, StartTime, Registrations, StampClock, Change, Number, Rounds, Datagrams, Replies, EmptyReplies, Unanswered, Notifications, Swept, NoMemory, RequestsSent, RequestsSentAgain, RequestsReset, RequestsUnanswered, RequestsWaiting, NotificationsStale, NotificationBlocks, Fetches, Unnumbered, PassedOver, LogAway, AppendSeconds, EntriesWritten, EntriesRead, LogBytes, WholeBytes, Compactions, AwaySeconds, ReceiveFaults, SendFaults, Dropped, Duplicates, Blocks, Bodies, Responses}
+use Rattle.lw_metrics.specs.declared.metric.Metric.TheVariants.{BuildInfo, StartTime, Registrations, StampClock, Change, Number, Rounds, Datagrams, Replies, EmptyReplies, Unanswered, Notifications, Swept, NoMemory, RequestsSent, RequestsSentAgain, RequestsReset, RequestsUnanswered, RequestsWaiting, NotificationsStale, NotificationBlocks, Fetches, Unnumbered, PassedOver, LogAway, AppendSeconds, EntriesWritten, EntriesRead, LogBytes, WholeBytes, Compactions, AwaySeconds, ReceiveFaults, SendFaults, Dropped, SocketDrops, Duplicates, Blocks, Bodies, Responses}
 
 unfoldable pub name_of : Metric → List ℕ
 name_of BuildInfo = codes "fleet_build_info"
@@ -39,6 +39,7 @@ name_of AwaySeconds = codes "fleet_log_away_seconds_total"
 name_of ReceiveFaults = codes "fleet_receive_faults_total"
 name_of SendFaults = codes "fleet_send_faults_total"
 name_of Dropped = codes "fleet_dropped_total"
+name_of SocketDrops = codes "fleet_socket_drops_total"
 name_of Duplicates = codes "fleet_duplicates_total"
 name_of Blocks = codes "fleet_blocks_total"
 name_of Bodies = codes "fleet_bodies"
@@ -80,6 +81,7 @@ help_of AwaySeconds = codes "Seconds for which the log was away."
 help_of ReceiveFaults = codes "Faults in waiting for datagrams."
 help_of SendFaults = codes "Replies that could not be sent."
 help_of Dropped = codes "Datagrams that were passed over since the log was away."
+help_of SocketDrops = codes "Datagrams that the system dropped since the socket's buffer was full."
 help_of Duplicates = codes "Datagrams that came again and got the same reply."
 help_of Blocks = codes "Datagrams that were blocks of bodies."
 help_of Bodies = codes "Bodies whose blocks have not all come."

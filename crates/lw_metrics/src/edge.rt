@@ -39,6 +39,8 @@ pub struct Edge {
     pub send_faults: u64,
     /// The datagrams that were passed over since the log was away.
     pub dropped: u64,
+    /// The datagrams that the system dropped before the front could take them.
+    pub drops: u64,
     pub responses: Responses,
 }
 
@@ -54,6 +56,7 @@ impl Edge {
             receive_faults: 0,
             send_faults: 0,
             dropped: 0,
+            drops: 0,
             responses: Responses::new(),
         }
     }

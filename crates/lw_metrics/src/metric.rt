@@ -39,6 +39,7 @@ pub(crate) enum Metric {
     ReceiveFaults,
     SendFaults,
     Dropped,
+    SocketDrops,
     Duplicates,
     Blocks,
     Bodies,
@@ -86,6 +87,7 @@ impl Metric {
             Metric::ReceiveFaults => "fleet_receive_faults_total",
             Metric::SendFaults => "fleet_send_faults_total",
             Metric::Dropped => "fleet_dropped_total",
+            Metric::SocketDrops => "fleet_socket_drops_total",
             Metric::Duplicates => "fleet_duplicates_total",
             Metric::Blocks => "fleet_blocks_total",
             Metric::Bodies => "fleet_bodies",
@@ -137,6 +139,9 @@ impl Metric {
             Metric::ReceiveFaults => "Faults in waiting for datagrams.",
             Metric::SendFaults => "Replies that could not be sent.",
             Metric::Dropped => "Datagrams that were passed over since the log was away.",
+            Metric::SocketDrops => {
+                "Datagrams that the system dropped since the socket's buffer was full."
+            }
             Metric::Duplicates => "Datagrams that came again and got the same reply.",
             Metric::Blocks => "Datagrams that were blocks of bodies.",
             Metric::Bodies => "Bodies whose blocks have not all come.",

@@ -150,7 +150,8 @@ fn put_faults(text: &mut String, edge: &Edge) -> Result<(), NoMemory>
 {
     put_number(text, Metric::ReceiveFaults, edge.receive_faults)?;
     put_number(text, Metric::SendFaults, edge.send_faults)?;
-    put_number(text, Metric::Dropped, edge.dropped)
+    put_number(text, Metric::Dropped, edge.dropped)?;
+    put_number(text, Metric::SocketDrops, edge.drops)
 }
 
 fn put_answered(text: &mut String, alloc: Global, measures: &Measures) -> Result<(), NoMemory>

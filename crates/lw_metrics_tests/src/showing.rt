@@ -148,6 +148,9 @@ static OF_ALL_ELSE: [&str; 140] = [
     "# HELP fleet_dropped_total Datagrams that were passed over since the log was away.",
     "# TYPE fleet_dropped_total counter",
     "fleet_dropped_total 38",
+    "# HELP fleet_socket_drops_total Datagrams that the system dropped since the socket's buffer was full.",
+    "# TYPE fleet_socket_drops_total counter",
+    "fleet_socket_drops_total 74",
     "# HELP fleet_duplicates_total Datagrams that came again and got the same reply.",
     "# TYPE fleet_duplicates_total counter",
     "fleet_duplicates_total 39",
@@ -205,6 +208,7 @@ fn edge() -> Edge {
         receive_faults: 36,
         send_faults: 37,
         dropped: 38,
+        drops: 74,
         responses: Responses {
             counts: [
                 41, 71, 72, 42, 43, 73, 44, 45, 46, 47, 48, 49, 50, 51, 52, 53,
@@ -330,6 +334,7 @@ static NOTHING_YET: [&str; 76] = [
     "fleet_receive_faults_total 0",
     "fleet_send_faults_total 0",
     "fleet_dropped_total 0",
+    "fleet_socket_drops_total 0",
     "fleet_duplicates_total 0",
     "fleet_blocks_total 0",
     "fleet_bodies 0",

@@ -106,6 +106,7 @@ impl<G: DeltaLog + Metered, C: Clocks> Course<G, C> {
             receive_lines,
         };
         course.server.edge.responses = front.responses();
+        course.server.edge.drops = front.drops();
         (course, heard)
     }
 

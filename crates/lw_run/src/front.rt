@@ -41,4 +41,7 @@ pub trait Front {
 
     /// How visitors were answered, since the front is there.
     fn responses(&self) -> Responses;
+
+    /// How many datagrams were dropped before they could be received, since the front is there.
+    fn drops(&self) -> u64;
 }

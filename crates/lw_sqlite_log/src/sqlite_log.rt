@@ -4,7 +4,7 @@ ghost use Rattle.std.specs.Prelude.{◌≢◌, IfErr};
 
 use crate::OpenFault;
 use crate::columns::{kind_of, number_of};
-use crate::folder::make_folder;
+use crate::folder::{make_file, make_folder};
 use crate::statements::{self, Store, TABLE};
 use lw_log::{Bytes, DeltaLog, LogFault, PAGE, Position};
 use sqlite::Row;
@@ -75,10 +75,11 @@ fn entry_of(alloc: Global, row: &Row) -> Result<(Position, Bytes), LogFault> {
 }
 
 impl SqliteLog {
-    /// Opens the log of the folder, or makes the folder and the file.
+    /// Opens the log of the folder, or makes the folder and the file, which are then their owner's alone.
     pub fn open(rt: &HostRuntime, folder: &str) -> Result<SqliteLog, OpenFault> {
         make_folder(rt, folder)?;
         let path = format!(in rt.alloc(); "{folder}/{FILE}")?;
+        make_file(rt, path.as_str())?;
         let mut store = statements::open(rt, path.as_str())?;
         if !has_table(&mut store)? {
             statements::create(&mut store)?;

@@ -74,6 +74,10 @@ impl Front for CountedFront {
     fn responses(&self) -> Responses {
         Responses::new()
     }
+
+    fn drops(&self) -> u64 {
+        0
+    }
 }
 
 /// Answers so many datagrams.

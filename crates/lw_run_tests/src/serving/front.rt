@@ -39,7 +39,8 @@ pub(super) enum Coming {
     Times(u32, &'static Coming),
 }
 
-/// A front in memory. Where all has come it is over. Two visitors have asked for what is not there.
+/// A front in memory. Where all has come it is over. Two visitors have asked for what is not there, and seven datagrams
+/// were dropped.
 #[derive(Drop)]
 pub(super) struct MemoryFront {
     alloc: Global,
@@ -236,6 +237,10 @@ impl Front for MemoryFront {
         responses.count(404);
         responses.count(404);
         responses
+    }
+
+    fn drops(&self) -> u64 {
+        7
     }
 }
 

@@ -65,6 +65,7 @@ static MEASURED: [Measured; 6] = [
             "fleet_receive_faults_total 0",
             "fleet_send_faults_total 0",
             "fleet_dropped_total 4",
+            "fleet_socket_drops_total 7",
             "fleet_duplicates_total 0",
             "fleet_blocks_total 0",
             "fleet_bodies 0",
