@@ -11,7 +11,7 @@ from scenes import SOON, is_answered, is_soon, measure
 from visiting import ask
 
 # how long the processor is looked at while Redis is away, and how much of it may be used, in seconds
-LOOKED_AT, MOST_USED = 5, 1.0
+LOOKED_AT, MOST_USED = 5, 0.5
 # 2.05
 VALUE = 0x45
 # how long a device waits for an answer before it sends again, and how long what is not to come is waited for
@@ -113,18 +113,31 @@ def replaced_without_room(scene):
     with scene.redis() as redis, scene.sharing(redis.address, "--http-commands") as server:
         with Observed(server.port, "lamp") as lamp:
             token = observed(server, lamp)
-            before = ask(server.visited, observations(lamp)).body
+            before = shown(server, lamp)
             room(redis, 1)
             scene.holds("a command that Redis does not take", observe(server, lamp), AWAY)
             scene.holds("what the device hears of it", lamp.hears_nothing(NOTHING), None)
             room(redis, 0)
             is_soon(lambda: ask(server.visited, observations(lamp)).status == "200 OK")
-            scene.holds("what the device hears once there is room", lamp.hears_nothing(NOTHING), None)
-            found = ask(server.visited, observations(lamp)).body
-            scene.holds("what is observed then", json.loads(found), json.loads(before))
+            token = lives_on(scene, server, lamp, token, before)
             scene.holds("a notification of it", lamp.told(token, 2, b"2"), "acknowledged")
             found = told_of(server, token, 2)
             scene.holds("what is told of it: two values", found, [(VALUE, False)] * 2)
+
+
+def lives_on(scene, server, lamp, token, before):
+    """The token of what is observed: that of before, or of the observation in its place, which the device is asked for."""
+    request = lamp.heard(2 * NOTHING)
+    if request and request.option(OBSERVE) == b"":
+        token = request.token.hex()
+        lamp.answers(request, b"1", ((OBSERVE, b"\x01"),))
+    scene.holds("what is observed once there is room", shown(server, lamp), [{**it, "token": token} for it in before])
+    return token
+
+
+def shown(server, device):
+    """The observations of a device's registration, as they are told."""
+    return json.loads(ask(server.visited, observations(device)).body)["observations"]
 
 
 REFUSING = due_while_away, ended_without_room, replaced_without_room
