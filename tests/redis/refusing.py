@@ -126,7 +126,7 @@ def replaced_without_room(scene):
 
 
 def lives_on(scene, server, lamp, token, before):
-    """The token of what is observed: that of before, or of the observation in its place, which the device is asked for."""
+    """The token of what is observed: the one before, or another in its place, which the device is asked for."""
     request = lamp.heard(2 * NOTHING)
     if request and request.option(OBSERVE) == b"":
         token = request.token.hex()
