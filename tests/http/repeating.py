@@ -16,6 +16,9 @@ from visiting import ask, refused
 SEED = 20240607
 # RFC 7252, section 4.8: the first wait in seconds, least and most, and how often a request is sent again
 LEAST_WAIT, MOST_WAIT, MAX_RETRANSMIT = 2.0, 3.0, 4
+# until a request is sent for the last time, and until it is given up: each wait is twice the one before (section 4.2)
+LEAST_SPAN, MOST_SPAN = (it * (2**MAX_RETRANSMIT - 1) for it in (LEAST_WAIT, MOST_WAIT))
+LEAST_TIME, MOST_TIME = (it * (2 ** (MAX_RETRANSMIT + 1) - 1) for it in (LEAST_WAIT, MOST_WAIT))
 # how much earlier or later something may be seen here, on a busy machine
 EARLIER, LATER = 0.05, 1.0
 # 5.04: nobody has answered
@@ -87,11 +90,10 @@ def unacknowledged(scene):
 
 def never_answered(scene, server, silent, token, begun):
     """Once the last wait is over, 62 to 93 seconds after the first, the observation has ended."""
-    least, most = (it * (2 ** (MAX_RETRANSMIT + 1) - 1) for it in (LEAST_WAIT, MOST_WAIT))
     ended = silent.notice(token, "null", b"", code=GATEWAY_TIMEOUT, ended="true")
-    is_soon(lambda: ended in asked_of(server).body.decode(), most - (time.monotonic() - begun) + LATER)
+    is_soon(lambda: ended in asked_of(server).body.decode(), MOST_TIME - (time.monotonic() - begun) + LATER)
     seconds = time.monotonic() - begun
-    scene.is_true(f"it ends after {seconds:.1f} s", least - EARLIER <= seconds <= most + LATER, seconds)
+    scene.is_true(f"it ends after {seconds:.1f} s", LEAST_TIME - EARLIER <= seconds <= MOST_TIME + LATER, seconds)
     scene.is_true("its end is told", ended in asked_of(server).body.decode(), asked_of(server).body)
     scene.holds("GET of its token", ask(server.visited, f"/v1/tokens/{token}"), NOT_FOUND)
     scene.holds("what else the device hears", silent.hears_nothing(), None)

@@ -10,6 +10,7 @@ import time
 from asking import Client, codes_of, identifiers
 from coap import OBSERVE, deregister, register, update
 from devices import Observed, cancel, notices, observations, observe, token_of
+from scene import running
 from scenes import SOON, is_answered, is_soon
 from visiting import ask, refused
 
@@ -20,20 +21,6 @@ PATIENCE, LAST_REPLY = 10, 5
 LEAST_AWAY, MOST_AWAY = 3, 15
 # A Redis that loads answers behind each 1,024 commands. So there are more, and each takes so many microseconds.
 FILLING, LOADING_SLOWLY = 12_000, ("--key-load-delay", "250")
-
-
-@contextlib.contextmanager
-def running(*threads):
-    """Threads that run meanwhile, and are then stopped."""
-    for thread in threads:
-        thread.start()
-    try:
-        yield
-    finally:
-        for thread in threads:
-            thread.stopped.set()
-        for thread in threads:
-            thread.join(SOON)
 
 
 class Speaker(threading.Thread):

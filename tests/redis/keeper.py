@@ -1,7 +1,6 @@
 """A Redis of this test alone: how it is started, stopped, killed and started again, and what it is asked."""
 
 import contextlib
-import ctypes
 import pathlib
 import random
 import signal
@@ -9,20 +8,11 @@ import socket
 import subprocess
 import time
 
-from serving import LIMIT
+from serving import LIMIT, ends_with_the_test
 
 KEY = "fleet"
-# the number of PR_SET_PDEATHSIG in <linux/prctl.h>
-PARENT_DEATH_SIGNAL = 1
 LEAST_PORT = 10_000
 PORT_RANGE = pathlib.Path("/proc/sys/net/ipv4/ip_local_port_range")
-libc = ctypes.CDLL(None)
-
-
-def ends_with_the_test():
-    """A process that this was called in is killed where the test ends, however that ends."""
-    libc.prctl(PARENT_DEATH_SIGNAL, signal.SIGKILL)
-
 
 def lasting_port(kind):
     """A port that the system gives to nobody who asks for any, so that it stays free while nobody is there.

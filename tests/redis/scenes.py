@@ -10,8 +10,9 @@ import time
 import tools
 from asking import Client, codes_of
 from coap import update
-from keeper import Redis, ends_with_the_test, lasting_port
+from keeper import Redis, lasting_port
 from scene import NoServer, Scene
+from serving import ends_with_the_test
 from visiting import ask
 
 VISITS = ("--http", "127.0.0.1:0")

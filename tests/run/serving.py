@@ -1,6 +1,7 @@
 """Runs of `fleet run`, and what the system tells of them."""
 
 import contextlib
+import ctypes
 import os
 import pathlib
 import re
@@ -16,6 +17,14 @@ LIMIT = 60
 SERVING = re.compile(r"serving address=(\S+):(\d+) number=(\d+) keeps=(\w+)\n")
 VISITED = re.compile(r"http address=\[?([^\]\s]+)\]?:(\d+)\n")
 TABLES = ("udp", "udp6", "tcp", "tcp6")
+# the number of PR_SET_PDEATHSIG in <linux/prctl.h>
+PARENT_DEATH_SIGNAL = 1
+libc = ctypes.CDLL(None)
+
+
+def ends_with_the_test():
+    """A process that this was called in is killed where the thread that began it ends, however that ends."""
+    libc.prctl(PARENT_DEATH_SIGNAL, signal.SIGKILL)
 
 
 def local_address(text):
