@@ -91,7 +91,7 @@ static MADE: [Run; 6] = [
             ..STAGE
         },
         want: &[
-            Piece::Line("Ok(()) WrWrWrrr"),
+            Piece::Line("Ok(()) WrWrWrrrr"),
             Piece::Sent(3, CREATED),
             Piece::Line(OBSERVED),
             Piece::Sent(3, ASKS),
@@ -234,7 +234,7 @@ static TOLD: [Run; 4] = [
             ..STAGE
         },
         want: &[
-            Piece::Line("Ok(()) WrWrWrrrrr"),
+            Piece::Line("Ok(()) WrWrWrrrrrrr"),
             Piece::Sent(3, CREATED),
             Piece::Line(OBSERVED),
             Piece::Sent(3, ASKS),
@@ -263,7 +263,7 @@ static TOLD: [Run; 4] = [
             ..STAGE
         },
         want: &[
-            Piece::Line("Ok(()) WrWrWrrrr"),
+            Piece::Line("Ok(()) WrWrWrrrrrrr"),
             Piece::Sent(3, CREATED),
             Piece::Line(OBSERVED),
             Piece::Sent(3, ASKS),
