@@ -1,5 +1,6 @@
 mod Handling
 mod Keeping
+mod Marking
 mod Numbers
 mod Reached
 mod Sorting

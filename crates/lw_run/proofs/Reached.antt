@@ -1,7 +1,8 @@
 -- What the message layer and commands come to, from what their parts are.
-use Rattle.std.specs.Prelude.{◌≡◌, ℕ, ◌<◌, ◌≤◌, Bool, true, false, List, length, Option, Some, Result, Ok, Err, IfOk, IfSome, OnErr, refl}
-use Rattle.std.proofs.Common.{ap, ◌∙◌, subst, sym}
-use Rattle.std.proofs.Math.Logic.{inr}
+use Rattle.std.specs.Prelude.{◌≡◌, ℕ, ◌<◌, ◌≤◌, Bool, true, false, List, [], ◌∷◌, ◌++◌, length, take, Option, None, Some}
+use Rattle.std.specs.Prelude.{Result, Ok, Err, IfOk, IfSome, OnErr, refl}
+use Rattle.std.proofs.Common.{ap, ◌∙◌, subst, sym, inl}
+use Rattle.std.proofs.Math.Seq.{take-append_seam}
 use Rattle.std.proofs.lemmas.Bool.{le-leb, lt-leb}
 use Rattle.std.specs.Result.{result_ok}
 use Rattle.lw_stamp.specs.declared.moment.Moment.{Moment}
@@ -18,20 +19,40 @@ use Rattle.lw_call.specs.declared.call.Call.{Call}
 use Rattle.lw_call.specs.declared.call.Call.TheVariants.{Observe}
 use Rattle.lw_member.specs.Member.{MemberContent}
 use Rattle.lw_member.specs.Own.{WritesOwn}
+use Rattle.lw_member.specs.Rounds.{IsRound}
 use Rattle.lw_target.specs.declared.command.Command.{Command}
+use Rattle.lw_target.specs.declared.command.Command.TheVariants as commands
+use Rattle.lw_run.specs.declared.clocks.Times.{Times}
 use Rattle.lw_run.specs.declared.commands.Done.{Done}
 use Rattle.lw_run.specs.declared.commands.Done.TheVariants.{Away, TooMany}
 use Rattle.lw_run.specs.declared.fault.TurnFault.{TurnFault}
 use Rattle.lw_run.specs.declared.hearing.Passage.{Passage}
-use Rattle.lw_run.specs.Commands.{at_moment, Executes, IsFailed, IsObserved, IsObservedOf, IsOrdered, IsOrderedWhere, IsRequested, LeavesUndo, Requests}
+use Rattle.lw_run.specs.Clocks.{later, Tells}
+use Rattle.lw_run.specs.Commands.{is_full, waiting_after, Executes, FailsTo, IsObserved, IsObservedOf, IsOrdered}
+use Rattle.lw_run.specs.Commands.{IsOrderedWhere, IsRequested, LeavesUndo, Requests}
 use Rattle.lw_run.specs.Desk.{serves}
+use Rattle.lw_run.specs.Devices.{with_first, with_task, DevicesContent, TaskContent, Undo}
 use Rattle.lw_run.specs.Hearing.{IsHeardFrom, IsPassed, IsWatchIn}
-use Rattle.lw_run.specs.Server.{ServerContent}
+use Rattle.lw_run.specs.Server.{ReadsClock, ServerContent}
+use Rattle.lw_run.proofs.Turns.{writes_none}
 
 -- what holds of a result that is no error, so does what follows from it
 pub if_ok : {T E : Type 0} {P Q : T → Type 0} (r : Result T E) → ((x : T) → P x → Q x) → IfOk r P → IfOk r Q
 if_ok (Ok x) follows is = follows x is
 if_ok (Err e) follows is = tt
+
+-- ---- the clocks
+pub reads_clock : (old mid new : ServerContent) (times : Times) → mid ≡ old → Tells mid.clock new.clock (Some times)
+    → new ≡ record mid { clock = new.clock; latest = times.moment; steady = new.steady }
+    → new.steady ≡ later mid.steady times.steady → (x : Times) × ReadsClock (Some x) old new
+reads_clock old mid new times same tells is steady = (
+  times,
+  subst (λ (server : ServerContent). ReadsClock (Some times) server new) same
+      (record {
+        tells = tells;
+        same = is ∙ ap (λ (m : Moment). record mid { clock = new.clock; latest = times.moment; steady = m }) steady;
+      }),
+)
 
 pub is_heard_from : (from : Addr) (bytes : List ℕ) (old mid new : ServerContent) (watch : Option Watch)
     → mid ≡ old → IsWatchIn old bytes watch → new ≡ record mid { devices = new.devices } → (passage : Passage)
@@ -43,88 +64,120 @@ is_heard_from from bytes old mid new watch same found rest passage passed = reco
   rest = rest ∙ ap (λ (server : ServerContent). record server { devices = new.devices }) same;
 }
 
-pub is_requested : (call : Call) (now : Moment) (old mid new : ServerContent) → mid ≡ old
+pub is_requested : (call : Call) (old mid new : ServerContent) → mid ≡ old
     → new ≡ record mid { member = new.member; tally = new.tally; devices = new.devices } → (done : Done)
-    → Requests call now mid.member mid.tally mid.devices done new.member new.tally new.devices
-    → IsRequested call now old done new
-is_requested call now old mid new same rest done requests =
-    subst (λ (server : ServerContent). IsRequested call now server done new) same (record { requests = requests; rest = rest })
+    → Requests call mid.steady mid.member mid.tally mid.devices done new.member new.tally new.devices
+    → IsRequested call old done new
+is_requested call old mid new same rest done requests =
+    subst (λ (server : ServerContent). IsRequested call server done new) same (record { requests = requests; rest = rest })
 
--- ---- a command that failed, and what its round has left to do
-pub fails_with : (old asked mid new : ServerContent) (id : Stamp) (path : Path) (before : Option Stamp) → mid ≡ asked
-    → asked ≡ record old { member = asked.member } → WritesOwn old.member asked.member
-    → new ≡ record mid { devices = new.devices } → LeavesUndo id path before mid.devices new.devices → IsFailed old new
-fails_with old asked mid new id path before same changed own rest left =
-    let is : new ≡ record old { member = asked.member; devices = new.devices } =
-    rest ∙ ap (λ (server : ServerContent). record server { devices = new.devices }) (same ∙ changed) in
+-- ---- a round while one more thing is left to do, which is left no more behind it
+first_again : (old : DevicesContent) (task : TaskContent) (count : ℕ) → count ≡ length old.tasks
+    → take count (old.tasks ++ task ∷ []) ≡ old.tasks
+first_again old task count counted =
+    ap (λ (n : ℕ). take n (old.tasks ++ task ∷ [])) counted ∙ take-append_seam old.tasks (task ∷ [])
+
+pub requested_behind : (call : Call) (task : TaskContent) (old mid after new : ServerContent) (count : ℕ)
+    → mid ≡ record old { devices = with_task task old.devices } → count ≡ length old.devices.tasks
+    → new ≡ record after { devices = with_first count after.devices } → (done : Done) → IsRequested call mid done after
+    → IsRequested call old done new
+requested_behind call task old mid after new count same counted is done requested =
+    let it = subst (λ (server : ServerContent). IsRequested call server done after) same requested in
+    let waits = waiting_after old.devices.requests old.steady it.requests.reply in
+    let devices : new.devices ≡ record (old.devices) { requests = waits } =
+    ap (λ (server : ServerContent). server.devices) is ∙ ap (with_first count) it.requests.waiting
+    ∙ ap (λ (tasks : List TaskContent). record (old.devices) { requests = waits; tasks = tasks }) (first_again old.devices task count counted) in
     record {
-      own = subst (λ (member : MemberContent). WritesOwn old.member member) (sym (ap (λ (server : ServerContent). server.member) is)) own;
-      devices = inr (id, path, before, subst (λ (server : ServerContent). LeavesUndo id path before server.devices new.devices) (same ∙ changed) left);
-      rest = is ∙ (λ k. record old {
-        member = ap (λ (server : ServerContent). server.member) (sym is) k;
-        latest = ap (λ (server : ServerContent). server.latest) (sym is) k;
-        devices = new.devices;
-      });
+      requests = record {
+        reply = it.requests.reply;
+        round = subst (λ (member : MemberContent). IsRound old.member (call ∷ []) (it.requests.reply ∷ []) member)
+            (sym (ap (λ (server : ServerContent). server.member) is)) it.requests.round;
+        counts_are = ap (λ (server : ServerContent). server.tally) is ∙ it.requests.counts_are;
+        done_is = it.requests.done_is;
+        waiting = devices;
+      };
+      rest = is ∙ ap (λ (server : ServerContent). record server { devices = with_first count after.devices }) it.rest
+          ∙ (λ k. record old {
+            member = ap (λ (server : ServerContent). server.member) (sym is) k;
+            tally = ap (λ (server : ServerContent). server.tally) (sym is) k;
+            devices = ap (λ (server : ServerContent). server.devices) (sym is) k;
+          });
     }
+
+pub leaves_undo : (id : Stamp) (path : Path) (before : Option Stamp) (old mid new : ServerContent)
+    → mid ≡ record old { devices = with_task (Undo id path before) old.devices }
+    → new ≡ record mid { member = new.member } → LeavesUndo id path before old new
+leaves_undo id path before old mid new same rest =
+    rest ∙ ap (λ (server : ServerContent). record server { member = new.member }) same
 
 -- ---- a path that is to be observed
 is_true : (b : Bool) → (b ≡ false → true ≡ false) → b ≡ true
 is_true true never = refl
 is_true false never = sym (never refl)
 
-pub unserved : (endpoint : List ℕ) (path : Path) (accept : Option ℕ) (now : Moment) (old : ServerContent) → serves old ≡ false
-    → IsObserved (serves old) endpoint path accept now old Away old
-unserved endpoint path accept now old away =
-    subst (λ (b : Bool). IsObserved b endpoint path accept now old Away old) (sym away) (refl, refl)
+pub unserved : (endpoint : List ℕ) (path : Path) (accept : Option ℕ) (old : ServerContent) → serves old ≡ false
+    → IsObserved (serves old) endpoint path accept old Away old
+unserved endpoint path accept old away =
+    subst (λ (b : Bool). IsObserved b endpoint path accept old Away old) (sym away) (refl, refl)
 
-pub observed_where : (endpoint text : List ℕ) (path : Path) (accept : Option ℕ) (now : Moment) (old new : ServerContent) (node : NodeContent)
+found_at : (endpoint text : List ℕ) (old : ServerContent) (node : NodeContent) (shown : Option Registration)
+    → node ≡ old.member.node → text ≡ endpoint → ShownOf (shown_in node.table.state) (ms_of old.latest) text shown
+    → ShownOf (shown_in old.member.node.table.state) (ms_of old.latest) endpoint shown
+found_at endpoint text old node shown same named found =
+    subst (λ (n : NodeContent). ShownOf (shown_in n.table.state) (ms_of old.latest) endpoint shown) same
+    (subst (λ (e : List ℕ). ShownOf (shown_in node.table.state) (ms_of old.latest) e shown) named found)
+
+pub observed_where : (endpoint text : List ℕ) (path : Path) (accept : Option ℕ) (old new : ServerContent) (node : NodeContent)
     (shown : Option Registration) → (serves old ≡ false → true ≡ false) → node ≡ old.member.node → text ≡ endpoint
-    → ShownOf (shown_in node.table.state) (ms_of now) text shown → (done : Done) → IsObservedOf shown now path accept old done new
-    → IsObserved (serves old) endpoint path accept now old done new
-observed_where endpoint text path accept now old new node shown here same named found done observed =
-    subst (λ (b : Bool). IsObserved b endpoint path accept now old done new) (sym (is_true (serves old) here))
-    (record {
-      shown = shown;
-      found = subst (λ (n : NodeContent). ShownOf (shown_in n.table.state) (ms_of now) endpoint shown) same
-          (subst (λ (e : List ℕ). ShownOf (shown_in node.table.state) (ms_of now) e shown) named found);
-      observed = observed;
-    })
+    → ShownOf (shown_in node.table.state) (ms_of old.latest) text shown → (done : Done) → IsObservedOf shown path accept old done new
+    → IsObserved (serves old) endpoint path accept old done new
+observed_where endpoint text path accept old new node shown here same named found done observed =
+    subst (λ (b : Bool). IsObserved b endpoint path accept old done new) (sym (is_true (serves old) here))
+    (record { shown = shown; found = found_at endpoint text old node shown same named found; observed = observed })
 
-pub observed_shown : (endpoint text : List ℕ) (path : Path) (accept : Option ℕ) (now : Moment) (old new : ServerContent) (node : NodeContent)
+pub observed_shown : (endpoint text : List ℕ) (path : Path) (accept : Option ℕ) (old new : ServerContent) (node : NodeContent)
     (shown : Registration) (id : Stamp) → (serves old ≡ false → true ≡ false) → node ≡ old.member.node → text ≡ endpoint
-    → ShownOf (shown_in node.table.state) (ms_of now) text (Some shown) → id ≡ shown.id → (done : Done)
-    → IsRequested (Observe now id path accept 0) now old done new → IsObserved (serves old) endpoint path accept now old done new
-observed_shown endpoint text path accept now old new node shown id here same named found its done requested =
-    observed_where endpoint text path accept now old new node (Some shown) here same named found done
-    (subst (λ (i : Stamp). IsRequested (Observe now i path accept 0) now old done new) its requested)
+    → ShownOf (shown_in node.table.state) (ms_of old.latest) text (Some shown) → id ≡ shown.id → (done : Done)
+    → IsRequested (Observe old.latest id path accept 0) old done new → IsObserved (serves old) endpoint path accept old done new
+observed_shown endpoint text path accept old new node shown id here same named found its done requested =
+    observed_where endpoint text path accept old new node (Some shown) here same named found done
+    (subst (λ (i : Stamp). IsRequested (Observe old.latest i path accept 0) old done new) its requested)
 
 -- ---- a command
-pub too_many : (command : Command) (old mid : ServerContent) (now : Moment) (count : ℕ) → mid ≡ old → count ≡ length mid.devices.requests
-    → 1024 ≤ count → Executes command old (Ok TooMany) (at_moment now mid)
-too_many command old mid now count same counted full =
-    subst (λ (server : ServerContent). Executes command server (Ok TooMany) (at_moment now mid)) same (
-      now,
-      subst (λ (b : Bool). IsOrderedWhere b command now (at_moment now mid) TooMany (at_moment now mid))
-          (sym (le-leb 1024 (length mid.devices.requests) (subst (λ (n : ℕ). 1024 ≤ n) counted full))) (refl, refl),
-    )
+pub too_many : (command : Command) (old mid : ServerContent) (count : ℕ) → mid ≡ old → count ≡ length mid.devices.requests
+    → 1024 ≤ count → IsOrderedWhere (is_full old) command old TooMany mid
+too_many command old mid count same counted full =
+    subst (λ (server : ServerContent). IsOrderedWhere (is_full server) command server TooMany mid) same
+    (subst (λ (b : Bool). IsOrderedWhere b command mid TooMany mid)
+    (sym (le-leb 1024 (length mid.devices.requests) (subst (λ (n : ℕ). 1024 ≤ n) counted full))) (refl, refl))
 
-executed_of : (command : Command) (mid new : ServerContent) (now : Moment) (result : Result Done TurnFault)
-    → length mid.devices.requests < 1024 → IfOk result (λ done. IsOrdered command now (at_moment now mid) done new)
-    → OnErr result (IsFailed (at_moment now mid) new) → Executes command mid result new
-executed_of command mid new now (Ok done) fewer ordered failed = (
-  now,
-  subst (λ (b : Bool). IsOrderedWhere b command now (at_moment now mid) done new)
-      (sym (lt-leb 1024 (length mid.devices.requests) fewer)) ordered,
-)
-executed_of command mid new now (Err fault) fewer ordered failed =
-    record { own = failed.own; devices = failed.devices; rest = failed.rest }
+pub ordered : (command : Command) (old mid new : ServerContent) (count : ℕ) → mid ≡ old → count ≡ length mid.devices.requests
+    → count < 1024 → (done : Done) → IsOrdered command mid done new → IsOrderedWhere (is_full old) command old done new
+ordered command old mid new count same counted fewer done is =
+    subst (λ (server : ServerContent). IsOrderedWhere (is_full server) command server done new) same
+    (subst (λ (b : Bool). IsOrderedWhere b command mid done new)
+    (sym (lt-leb 1024 (length mid.devices.requests) (subst (λ (n : ℕ). n < 1024) counted fewer))) is)
 
-pub executed : (command : Command) (old mid new : ServerContent) (now : Moment) (count : ℕ) (result : Result Done TurnFault) → mid ≡ old
-    → count ≡ length mid.devices.requests → count < 1024 → IfOk result (λ done. IsOrdered command now (at_moment now mid) done new)
-    → OnErr result (IsFailed (at_moment now mid) new) → Executes command old result new
-executed command old mid new now count result same counted fewer ordered failed =
-    subst (λ (server : ServerContent). Executes command server result new) same
-    (executed_of command mid new now result (subst (λ (n : ℕ). n < 1024) counted fewer) ordered failed)
+pub executes : (command : Command) (old mid new : ServerContent) (times : Times) (result : Result Done TurnFault)
+    → ReadsClock (Some times) old mid → IfOk result (λ done. IsOrderedWhere (is_full mid) command mid done new)
+    → WritesOwn mid.member new.member → OnErr result (FailsTo command mid new) → Executes command old result new
+executes command old mid new times (Ok done) reads is own fails = (times, (mid, (reads, is)))
+executes command old mid new times (Err fault) reads is own fails =
+    record { told = Some times; mid = mid; read = reads; own = own; fails = fails }
+
+fails_nowhere : (command : Command) (server : ServerContent) → FailsTo command server server
+fails_nowhere (commands.Observe endpoint path accept) server = inl refl
+fails_nowhere (commands.Cancel token) server = refl
+
+pub refuses : (command : Command) (old new : ServerContent) (fault : TurnFault) → ReadsClock None old new
+    → Executes command old (Err fault) new
+refuses command old new fault reads = record {
+  told = None;
+  mid = new;
+  read = reads;
+  own = writes_none new.member;
+  fails = fails_nowhere command new;
+}
 
 -- ---- what is told of a result that is no error
 some_where_ok : {T E : Type 0} (P : T → Type 0) (r : Result T E) → IfOk r P → IfSome (result_ok r) P

@@ -1,8 +1,10 @@
 -- Steps with devices.
-use Rattle.std.specs.Prelude.{◌≡◌, ◌≢◌, ◌++◌, ℕ, ◌+◌, Bool, true, false, List, [], ◌∷◌, length, Option, Some, None, option_map, map}
+use Rattle.std.specs.Prelude.{◌≡◌, ◌≢◌, ◌++◌, ℕ, ◌+◌, Bool, true, false, List, [], ◌∷◌, length, take, Option, Some, None, option_map, map}
 use Rattle.std.specs.declared.alloc.Global.{Global}
 use Rattle.std.specs.declared.vec.Vec.{Vec}
 use Rattle.std.proofs.Common.{refl, sym, ap, ◌∙◌, subst, inl, inr, add-one, append-nil}
+use Rattle.std.proofs.Math.Seq.{take-append_seam}
+use Rattle.std.proofs.lemmas.List.{take-map}
 use Rattle.lw_stamp.specs.declared.moment.Moment.{Moment}
 use Rattle.lw_stamp.specs.declared.stamp.Stamp.{Stamp}
 use Rattle.lw_stamp.specs.Moment.{ms_of}
@@ -18,18 +20,20 @@ use Rattle.lw_call.specs.declared.call.Call.TheVariants as calls
 use Rattle.lw_call.specs.declared.reply.Reply.{Reply}
 use Rattle.lw_call.specs.Contents.{NoticeContent, TakenContent}
 use Rattle.lw_metrics.specs.Counting.{counted}
+use Rattle.lw_member.specs.Member.{MemberContent}
 use Rattle.lw_member.specs.Rounds.{IsRound}
 use Rattle.lw_exchange.specs.declared.message_ids.Lane.{Lane}
 use Rattle.lw_exchange.specs.declared.requests.Step.{Step}
 use Rattle.lw_exchange.specs.Waiting.{step_content, IsStepped}
 use Rattle.lw_run.specs.declared.devices.Progress.{Progress}
 use Rattle.lw_run.specs.declared.devices.Task.{Task}
-use Rattle.lw_run.specs.Devices.{DevicesContent, TaskContent}
+use Rattle.lw_run.specs.Devices.{with_first, with_task, Check, DevicesContent, TaskContent}
 use Rattle.lw_run.specs.Server.{ServerContent}
-use Rattle.lw_run.specs.Stepping.{counts_behind, left_by, Ends, EndsWith, IsEnding, IsGiven, IsProgress, IsReport}
+use Rattle.lw_run.specs.Stepping.{counts_behind, left_by, IsGiven, IsLeft, IsProgress, IsReport}
 use Rattle.lw_run.specs.Stepping.{IsNoneOn, IsTokenOn, LookedAt, StepsRequests}
 use Rattle.lw_run.specs.Telling.{is_newer_notice, with_capacity, IsPutIf, IsToldIf, ToldContent}
 use Rattle.lw_run.specs.inner.Devices.{task_of}
+use Rattle.lw_run.specs.inner.Stepping.{LeavesCheck}
 
 -- the step that was made, with what was counted and what is left to do by it
 pub steps_by : (now : Moment) (old mid new : DevicesContent) (lanes after : List Lane) (it : Progress)
@@ -58,6 +62,15 @@ no_more old new same = ap (map task_of) same ∙ sym (append-nil (map task_of ol
 pub some_more : (old mid : List Task) (new more : List TaskContent) → mid ≡ old → new ≡ map task_of mid ++ more
     → new ≡ map task_of old ++ more
 some_more old mid new more same is = is ∙ ap (λ (ts : List Task). map task_of ts ++ more) same
+
+-- only the first of what is left to do is left
+pub keeps_first : (count : ℕ) (old mid new : DevicesContent) (items left : List Task) → mid ≡ old
+    → mid.tasks ≡ map task_of items → left ≡ take count items → new ≡ record mid { tasks = map task_of left }
+    → new ≡ with_first count old
+keeps_first count old mid new items left same are first is =
+    is ∙ ap (λ (tasks : List TaskContent). record mid { tasks = tasks })
+    (ap (map task_of) first ∙ sym (take-map task_of count items) ∙ ap (take count) (sym are))
+    ∙ ap (with_first count) same
 
 -- ---- notices
 put_keeps_capacity : (is_newer : Bool) (now : Moment) (notice : NoticeContent) (is_complete : Bool)
@@ -88,7 +101,7 @@ pub is_report : (from : Addr) (bytes : List ℕ) (is_complete : Bool) (old mid n
     → IsRound mid.member (calls.Take mid.latest from bytes ∷ []) (reply ∷ []) new.member
     → new.tally ≡ counted mid.tally (calls.Take mid.latest from bytes ∷ []) (reply ∷ [])
     → IsGiven reply given → shown ≡ given → reserved ≡ with_capacity mid.told reserved.notices.capacity
-    → IsToldIf mid.latest shown.notice is_complete reserved new.told
+    → IsToldIf mid.steady shown.notice is_complete reserved new.told
     → option_map (λ bytes. bytes.items) answer ≡ shown.reply
     → new ≡ record mid { member = new.member; tally = new.tally; told = new.told }
     → IsReport from bytes is_complete old answer new
@@ -100,19 +113,54 @@ is_report from bytes is_complete old mid new reply given shown reserved answer
       given = shown;
       call = record { round = round; counts = counts };
       is_given = subst (λ (taken : TakenContent). IsGiven reply taken) (sym is) gives;
-      told = told_in_room mid.latest shown.notice is_complete mid.told reserved new.told room told;
+      told = told_in_room mid.steady shown.notice is_complete mid.told reserved new.told room told;
       answer_is = replied;
       same = others;
     })
 
-pub ends_by : (token : Stamp) (code : ℕ) (old new : ServerContent) (made : Option NoticeContent)
-    (notice : NoticeContent)
-    → made ≡ Some notice → IsEnding old token code made → EndsWith token notice old new → Ends token code old new
-ends_by token code old new made notice is ending ends = record {
-  notice = Some notice;
-  is = subst (λ (it : Option NoticeContent). IsEnding old token code it) is ending;
-  ends = ends;
-}
+-- ---- a report while it is left to look at its observation, which is left no more behind it
+pub report_behind : (from : Addr) (bytes : List ℕ) (is_complete : Bool) (task : TaskContent)
+    (old mid after new : ServerContent) (count : ℕ) → mid ≡ record old { devices = with_task task old.devices }
+    → count ≡ length old.devices.tasks → new ≡ record after { devices = with_first count after.devices }
+    → (answer : Option (Vec ℕ Global)) → IsReport from bytes is_complete mid answer after
+    → IsReport from bytes is_complete old answer new
+report_behind from bytes is_complete task old mid after new count same counted is answer report =
+    let it = subst (λ (server : ServerContent). IsReport from bytes is_complete server answer after) same report in
+    let member : new.member ≡ after.member = ap (λ (server : ServerContent). server.member) is in
+    let told : new.told ≡ after.told = ap (λ (server : ServerContent). server.told) is in
+    let devices : with_first count after.devices ≡ old.devices =
+    ap (λ (server : ServerContent). with_first count server.devices) it.same
+    ∙ ap (λ (tasks : List TaskContent). record (old.devices) { tasks = tasks })
+    (ap (λ (n : ℕ). take n (old.devices.tasks ++ task ∷ [])) counted ∙ take-append_seam old.devices.tasks (task ∷ [])) in
+    record {
+      reply = it.reply;
+      given = it.given;
+      call = record {
+        round = subst (λ (m : MemberContent).
+            IsRound old.member (calls.Take old.latest from bytes ∷ []) (it.reply ∷ []) m) (sym member) it.call.round;
+        counts = ap (λ (server : ServerContent). server.tally) is ∙ it.call.counts;
+      };
+      is_given = it.is_given;
+      told = subst (λ (t : ToldContent).
+          IsToldIf old.steady it.given.notice is_complete (with_capacity old.told t.notices.capacity) t) (sym told) it.told;
+      answer_is = it.answer_is;
+      same = is ∙ ap (λ (server : ServerContent). record server { devices = with_first count after.devices }) it.same
+          ∙ ap (λ (ds : DevicesContent). record old { member = after.member; tally = after.tally; told = after.told; devices = ds }) devices
+          ∙ (λ k. record old {
+            member = sym member k;
+            tally = ap (λ (server : ServerContent). server.tally) (sym is) k;
+            told = sym told k;
+          });
+    }
+
+pub leaves_check : (notice : NoticeContent) (old mid new : ServerContent)
+    → mid ≡ record old { devices = with_task (Check notice) old.devices } → IsLeft mid new → LeavesCheck notice old new
+leaves_check notice old mid new same left =
+    subst (λ (server : ServerContent). new ≡ record server {
+      member = new.member;
+      tally = new.tally;
+      told = with_capacity server.told new.told.notices.capacity;
+    }) same left
 
 -- ---- what is observed
 pub looked_at_none : (M : Marks) (now : ℕ) (id : Stamp) (path : Path) → LookedAt M now id path None 0

@@ -1,6 +1,7 @@
 -- What a step with devices does (RFC 7252, section 4.2; RFC 7641, sections 3.4 and 3.6; RFC 7959, section 2.6).
-use Rattle.std.specs.Prelude.{◌≡◌, ◌≢◌, ◌↔◌, ℕ, Bool, true, false, List, [], ◌∷◌, ◌++◌, ◌⊎◌, length, filter_map, map, All}
+use Rattle.std.specs.Prelude.{◌≡◌, ◌≢◌, ◌↔◌, ℕ, Bool, true, false, List, [], ◌∷◌, ◌++◌, ◌⊎◌, length, filter_map, map}
 use Rattle.std.specs.Prelude.{Option, Some, None, Ok, Err, option_map}
+use Rattle.std.specs.List.{list_any}
 use Rattle.std.specs.declared.alloc.Global.{Global}
 use Rattle.std.specs.declared.vec.Vec.{Vec}
 use Rattle.lw_stamp.specs.declared.moment.Moment.{Moment}
@@ -176,7 +177,7 @@ pub record Ends (token : Stamp) (code : ℕ) (old new : ServerContent) : Type 0 
   pub is : IsEnding old token code notice
   pub same : new ≡ record old {
     devices =
-        record (old.devices) { tasks = without_first old.devices.tasks ++ closing notice };
+        record (old.devices) { tasks = without_first (old.devices.tasks ++ closing notice) };
   }
 
 -- All that are to end do so in one round.
@@ -192,16 +193,16 @@ abbrev pub over : TaskContent → TaskContent
 over (Close notice is_over) = Close notice true
 over task = task
 
--- the node had memory for the call; where the observation had ended already, there was nothing to do
-abbrev pub HadMemory : Reply → Type 0
-HadMemory (replies.Cancel (Err observe_faults.NoMemory)) = ⊥
-HadMemory reply = Unit {0}
+-- the node had no memory for the call; where the observation had ended already, there was nothing to do
+abbrev pub is_refused : Reply → Bool
+is_refused (replies.Cancel (Err observe_faults.NoMemory)) = true
+is_refused reply = false
 
 pub record Closes (old new : ServerContent) : Type 0 where
   pub replies : List Reply
   pub round : IsRound old.member (cancels_of old.latest old.devices.tasks) replies new.member
   pub counts : new.tally ≡ counted old.tally (cancels_of old.latest old.devices.tasks) replies
-  pub had_memory : All HadMemory replies
+  pub had_memory : list_any is_refused replies ≡ false
   pub same : new ≡ record old {
     member = new.member;
     tally = new.tally;
@@ -239,7 +240,7 @@ pub record Checks (notice : NoticeContent) (old new : ServerContent) : Type 0 wh
   pub by_token : ByToken (shown_in old.member.node.table.state) (ms_of old.latest) notice.token found
   pub same : new ≡ record old {
     devices =
-        record (old.devices) { tasks = without_first old.devices.tasks ++ overdue notice found };
+        record (old.devices) { tasks = without_first (old.devices.tasks ++ overdue notice found) };
   }
 
 -- What a report leaves where it failed: nothing has changed; or its round may have been made, and it is to be looked at

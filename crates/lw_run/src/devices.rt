@@ -228,14 +228,13 @@ impl Devices {
     /// The first thing that is left to do is done, and this is left to do behind the others, if it is something.
     pub(crate) fn put_behind(&mut self, task: Option<Task>) -> Result<(), NoMemory>
         ensures behind { OnOk result (self.new
-            ≡ record (self.old) { tasks = without_first self.old.tasks ++ option_to_list (option_map task_of task) }) }
+            ≡ record (self.old) { tasks = without_first (self.old.tasks ++ option_to_list (option_map task_of task)) }) }
         ensures unchanged { OnErr result (self.new ≡ self.old) }
     {
-        self.tasks.reserve(1)?;
-        self.drop_first();
         if let Some(task) = task {
             self.tasks.push(task)?;
         }
+        self.drop_first();
         Ok(())
     }
 
@@ -244,11 +243,7 @@ impl Devices {
         ensures { IfOk result (λ calls. calls.items ≡ cancels_of now self.now.tasks) }
     {
         let mut calls = Vec::new(alloc);
-        for task in &self.tasks {
-            if let Some(call) = cancel_of(now, task) {
-                calls.push(call)?;
-            }
-        }
+        put_cancels(&mut calls, now, &self.tasks)?;
         Ok(calls)
     }
 
@@ -256,9 +251,7 @@ impl Devices {
     pub(crate) fn close_all(&mut self)
         ensures { self.new ≡ record (self.old) { tasks = map over self.old.tasks } }
     {
-        for task in &mut self.tasks {
-            note_over(task);
-        }
+        all_over(&mut self.tasks);
     }
 
     /// The first thing that is left to do.
@@ -345,6 +338,18 @@ impl Devices {
     }
 }
 
+/// Puts the calls that end the observations which are to end behind the others.
+fn put_cancels(calls: &mut Vec<Call>, now: Moment, tasks: &[Task]) -> Result<(), NoMemory>
+    ensures { OnOk result (calls.new.items ≡ calls.old.items ++ cancels_of now (map task_of tasks.now)) }
+{
+    for task in tasks {
+        if let Some(call) = cancel_of(now, task) {
+            calls.push(call)?;
+        }
+    }
+    Ok(())
+}
+
 /// The call that ends an observation which is to end.
 fn cancel_of(now: Moment, task: &Task) -> Option<Call>
     ensures { result ≡ cancel_in now (task_of task.now) }
@@ -359,6 +364,15 @@ fn cancel_of(now: Moment, task: &Task) -> Option<Call>
             mid: 0,
         }),
         _ => None,
+    }
+}
+
+/// All observations that were to end have ended.
+fn all_over(tasks: &mut [Task])
+    ensures { map task_of tasks.new ≡ map over (map task_of tasks.old) }
+{
+    for task in tasks.iter_mut() {
+        note_over(task);
     }
 }
 

@@ -6,7 +6,7 @@ ghost use Rattle.lw_member.specs.Own.{WritesOwn};
 ghost use Rattle.lw_metrics.specs.Counting.{one_more};
 ghost use Rattle.lw_run.specs.Clocks.{later as later_of};
 ghost use Rattle.lw_run.specs.Server.{new_server, IsAtOnce, KeepsStill, ReadsClock, Stays};
-ghost use Rattle.lw_run.specs.declared.clocks.Times.{Times as Told};
+ghost use Rattle.lw_run.specs.declared.clocks.Times.{Times};
 ghost use Rattle.lw_run.specs.declared.fault.TurnFault.TheVariants.{ClockRefused};
 ghost use Rattle.lw_run.specs.Turns.{IsTurn, GoesOn, sent};
 
@@ -149,7 +149,7 @@ impl<G: DeltaLog, C: Clocks> Server<G, C> {
 
     /// Reads the clocks. What the server does until it reads them again it does at the moment that they tell.
     pub fn read_clock(&mut self) -> Result<(), TurnFault>
-        ensures read { OnOk result ((times : Told) × ReadsClock (Some times) self.old self.new) }
+        ensures read { OnOk result ((times : Times) × ReadsClock (Some times) self.old self.new) }
         ensures refused { OnErr result (ReadsClock None self.old self.new) }
         ensures fault { IfErr result (λ fault. fault ≡ ClockRefused) }
     {

@@ -1,6 +1,7 @@
 //! What is left to do with devices, a step at a time.
 
-ghost use Rattle.std.specs.Prelude.{◌≡◌, ◌≢◌, ◌⊎◌, true, false, Option, option_map, All, IfOk, OnErr, OnOk};
+ghost use Rattle.std.specs.Prelude.{◌≡◌, ◌≢◌, ◌⊎◌, true, false, Option, option_map, IfOk, OnErr, OnOk};
+ghost use Rattle.std.specs.List.{list_any};
 ghost use Rattle.std.specs.Option.{is_some, option_to_list};
 ghost use Rattle.lw_stamp.specs.Moment.{ms_of};
 ghost use Rattle.lw_reg.specs.Reading.{shown_in};
@@ -10,8 +11,8 @@ ghost use Rattle.lw_table.specs.LookUps.{ByToken};
 ghost use Rattle.lw_member.specs.Own.{WritesOwn};
 ghost use Rattle.lw_run.specs.declared.devices.Progress.TheVariants.{Moved};
 ghost use Rattle.lw_run.specs.Devices.{Check, Close, Cut, End, Tell, Undo};
-ghost use Rattle.lw_run.specs.Stepping.{closing as closing_of, code_in as code_of, done_first, overdue as overdue_of};
-ghost use Rattle.lw_run.specs.Stepping.{CancelsIf, Cancels, Closes, HadMemory, IsAtStake, IsDone, IsEnding, IsLeft};
+ghost use Rattle.lw_run.specs.Stepping.{closing as closing_of, code_in as code_of, done_first, is_refused as is_refused_in, overdue as overdue_of};
+ghost use Rattle.lw_run.specs.Stepping.{CancelsIf, Cancels, Closes, IsAtStake, IsDone, IsEnding, IsLeft};
 ghost use Rattle.lw_run.specs.Stepping.{IsGiven, IsNextStep, IsReport, IsRequestStep, IsTokenOn, LeavesReport, TellsEnd};
 ghost use Rattle.lw_run.specs.inner.Devices.{task_in, task_of};
 ghost use Rattle.lw_run.specs.inner.Stepping.{LeavesCheck};
@@ -377,19 +378,23 @@ fn code_in(bytes: &[u8]) -> u8
 
 /// There was memory to end observations.
 fn had_memory(replies: &[Reply]) -> Result<(), NoMemory>
-    ensures { OnOk result (All HadMemory replies.now) }
+    ensures { OnOk result (list_any is_refused_in replies.now ≡ false) }
 {
-    for reply in replies {
-        if is_refused(reply) {
-            return Err(NoMemory);
-        }
+    if is_any_refused(replies) {
+        return Err(NoMemory);
     }
     Ok(())
 }
 
+fn is_any_refused(replies: &[Reply]) -> bool
+    ensures { result ≡ list_any is_refused_in replies.now }
+{
+    replies.iter().any(|reply| is_refused(reply))
+}
+
 /// Whether there was no memory to end an observation.
 fn is_refused(reply: &Reply) -> bool
-    ensures { result ≡ false → HadMemory reply.now }
+    ensures { result ≡ is_refused_in reply.now }
 {
     matches!(reply, Reply::Cancel(Err(ObserveFault::NoMemory)))
 }
