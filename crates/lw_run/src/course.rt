@@ -3,6 +3,7 @@
 ghost use Rattle.std.specs.Prelude.{◌≤◌, length, IfOk};
 ghost use Rattle.lw_run.specs.Front.{IsWithin};
 
+use crate::counter::nears_end;
 use crate::hearing::is_report;
 use crate::receiving::{pass_over, receive};
 use crate::telling::Refusals;
@@ -40,6 +41,8 @@ pub(crate) struct Course<G: DeltaLog + Metered, C: HostClock + Drop> {
     /// Whether the log has lost entries since it was compacted. Whoever reads it from its beginning may miss what stood in
     /// them, until all is written anew.
     has_lost: bool,
+    /// Whether it was told that the counter nears its end.
+    told_of_end: bool,
     /// The moment of the last turn.
     last: Moment,
     refusals: Refusals,
@@ -55,6 +58,7 @@ impl<G: DeltaLog + Metered, C: HostClock + Drop> Course<G, C> {
             starved: 0,
             rest: 0,
             has_lost: false,
+            told_of_end: false,
             last,
             refusals: Refusals::new(),
         };
@@ -78,6 +82,7 @@ impl<G: DeltaLog + Metered, C: HostClock + Drop> Course<G, C> {
             compaction,
             rest,
             has_lost,
+            told_of_end,
             last,
             refusals,
         } = self;
@@ -89,6 +94,7 @@ impl<G: DeltaLog + Metered, C: HostClock + Drop> Course<G, C> {
             compaction,
             rest,
             has_lost,
+            told_of_end,
             last,
             refusals,
         };
@@ -263,7 +269,23 @@ impl<G: DeltaLog + Metered, C: HostClock + Drop> Course<G, C> {
             Err(fault) => self.endures(log, fault),
         };
         self.note_log();
+        self.tell_of_end(log);
         ended
+    }
+
+    /// Tells once that the counter nears its end.
+    fn tell_of_end<L: Log>(&mut self, log: &L) {
+        if self.told_of_end {
+            return;
+        }
+        let Some(node) = self.server.node() else {
+            return;
+        };
+        let counter = node.clock();
+        if nears_end(counter) {
+            warn!(log; "counter near its end counter={counter}");
+            self.told_of_end = true;
+        }
     }
 
     /// Counts the time since the turn before, if the log has been away since then.

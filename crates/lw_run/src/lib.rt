@@ -5,6 +5,7 @@
 mod blocks;
 mod calling;
 mod commands;
+mod counter;
 mod course;
 mod desk;
 mod devices;
