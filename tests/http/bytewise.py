@@ -75,7 +75,8 @@ def is_health(text):
     """Whether the bytes are one response, with the health and nothing behind it."""
     response = read(text)
     try:
-        return response == told("200 OK", response.body.decode()) and response.body.startswith(b'{"now":')
+        is_whole = response == told("200 OK", response.body.decode())
+        return is_whole and response.body.startswith(b'{"counter":"ok","now":')
     except UnicodeDecodeError:
         return False
 

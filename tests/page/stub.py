@@ -89,8 +89,8 @@ class Stub:
     def members(self, path, query):
         is_away = self.mode == "away"
         if path == "/v1/health":
-            word = "away" if is_away else "serving"
-            return 503 if is_away else 200, {"now": self.now, "status": word, "version": "0.1.0"}
+            health = {"now": self.now, "status": self.mode if is_away else "serving", "version": "0.1.0"}
+            return (503, health) if is_away else (200, {"counter": "ok", **health})
         if is_away:
             return 503, {"error": "away"}
         if self.mode == "refusing":

@@ -115,14 +115,29 @@ node_json n = object
     (member (codes "start") (string (tag_text n.start))
     no_members)))))
 
--- a server serves, or its log is away
-abbrev pub status_text : Bool → List ℕ
-status_text true = codes "serving"
-status_text false = codes "away"
+-- whether a counter nears its end
+abbrev pub counter_text : Bool → List ℕ
+counter_text true = codes "near its end"
+counter_text false = codes "ok"
 
-abbrev pub health_json : Moment → Bool → List ℕ → Data
-health_json now serves version = object
+-- a server serves
+abbrev pub serving_json : Moment → Bool → List ℕ → Data
+serving_json now nears_end version = object
+    (member (codes "counter") (string (counter_text nears_end))
     (member (codes "now") (number (unsigned (ms_of now)))
-    (member (codes "status") (string (status_text serves))
+    (member (codes "status") (string (codes "serving"))
+    (member (codes "version") (string version)
+    no_members))))
+
+-- its log is away
+abbrev pub away_json : Moment → List ℕ → Data
+away_json now version = object
+    (member (codes "now") (number (unsigned (ms_of now)))
+    (member (codes "status") (string (codes "away"))
     (member (codes "version") (string version)
     no_members)))
+
+-- nothing is told of the counter of a server whose log is away
+abbrev pub health_json : Moment → Bool → Bool → List ℕ → Data
+health_json now true nears_end version = serving_json now nears_end version
+health_json now false nears_end version = away_json now version

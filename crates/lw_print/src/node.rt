@@ -2,7 +2,7 @@
 
 ghost use Rattle.std.specs.Prelude.{◌≡◌, IfOk, string_bytes};
 ghost use Rattle.serde_json.specs.Written.{compact_text};
-ghost use Rattle.lw_print.specs.Json.{health_json, node_json, status_text};
+ghost use Rattle.lw_print.specs.Json.{away_json, counter_text, health_json, node_json, serving_json};
 ghost use Rattle.lw_print.specs.inner.Tokens.{Adds, data_tokens};
 
 use crate::members::{put_number, put_short_or_null, put_tag, put_text};
@@ -54,26 +54,29 @@ fn put_node(out: &mut Writer, alloc: Global, numbers: &NodeNumbers) -> Result<()
     Ok(out.end_object()?)
 }
 
-/// Whether a server serves, at a moment, and its version.
+/// Whether a server serves, at a moment, whether its counter nears its end, and its version.
 #[derive(Drop)]
 struct Health<'a> {
     now: Moment,
     serves: bool,
+    nears_end: bool,
     version: &'a str,
 }
 
-/// The JSON object of whether a server serves, or its log is away.
+/// The JSON object of whether a server serves, or its log is away. Where it serves, it tells of its counter.
 pub fn health_text(
     alloc: Global,
     now: Moment,
     serves: bool,
+    nears_end: bool,
     version: &str,
 ) -> Result<String, NoMemory>
-    ensures { IfOk result (λ text. string_bytes text ≡ compact_text (health_json now serves version.now)) }
+    ensures { IfOk result (λ text. string_bytes text ≡ compact_text (health_json now serves nears_end version.now)) }
 {
     let health = Health {
         now,
         serves,
+        nears_end,
         version,
     };
     json_text(alloc, &health)
@@ -82,25 +85,45 @@ pub fn health_text(
 impl Print for Health<'_> {
     ghost use Rattle.lw_print.specs.Json.{health_json};
 
-    ghost json = { λ health. health_json health.now health.serves health.version.now };
+    ghost json = { λ health. health_json health.now health.serves health.nears_end health.version.now };
 
     fn put(&self, out: &mut Writer, _alloc: Global) -> Result<(), NoMemory> {
-        put_health(out, self.now, self.serves, self.version)
+        if self.serves {
+            put_serving(out, self.now, self.nears_end, self.version)
+        } else {
+            put_away(out, self.now, self.version)
+        }
     }
 }
 
-fn put_health(out: &mut Writer, now: Moment, serves: bool, version: &str) -> Result<(), NoMemory>
-    ensures { Adds result out.old out.new (data_tokens (health_json now serves version.now)) }
+fn put_serving(
+    out: &mut Writer,
+    now: Moment,
+    nears_end: bool,
+    version: &str,
+) -> Result<(), NoMemory>
+    ensures { Adds result out.old out.new (data_tokens (serving_json now nears_end version.now)) }
 {
     out.begin_object()?;
+    put_text(out, "counter", counter(nears_end))?;
     put_number(out, "now", now.ms())?;
-    put_text(out, "status", status(serves))?;
+    put_text(out, "status", "serving")?;
     put_text(out, "version", version)?;
     Ok(out.end_object()?)
 }
 
-fn status(serves: bool) -> &'static str
-    ensures { result.now ≡ status_text serves }
+fn put_away(out: &mut Writer, now: Moment, version: &str) -> Result<(), NoMemory>
+    ensures { Adds result out.old out.new (data_tokens (away_json now version.now)) }
 {
-    if serves { "serving" } else { "away" }
+    out.begin_object()?;
+    put_number(out, "now", now.ms())?;
+    put_text(out, "status", "away")?;
+    put_text(out, "version", version)?;
+    Ok(out.end_object()?)
+}
+
+fn counter(nears_end: bool) -> &'static str
+    ensures { result.now ≡ counter_text nears_end }
+{
+    if nears_end { "near its end" } else { "ok" }
 }

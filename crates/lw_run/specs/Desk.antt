@@ -1,8 +1,9 @@
 -- What a server tells over HTTP (RFC 9110, section 15; RFC 8259).
-use Rattle.std.specs.Prelude.{◌≡◌, ◌≢◌, ℕ, Bool, true, false, not, ◌&&◌, List, length, Option, Some, None, IsSomeAnd, if◌then◌else◌, codes, string_bytes}
+use Rattle.std.specs.Prelude.{◌≡◌, ◌≢◌, ◌↔◌, ◌≤◌, ◌*◌, ◌⊎◌, ℕ, IsTrue, Bool, true, false, not, ◌&&◌, List, length, Option, Some, None, IsSomeAnd, if◌then◌else◌, codes, string_bytes}
 use Rattle.serde_json.specs.Written.{compact_text}
 use Rattle.lw_stamp.specs.Moment.{ms_of}
 use Rattle.lw_node.specs.Node.{NodeContent}
+use Rattle.lw_member.specs.Clocks.{year_2100}
 use Rattle.lw_member.specs.Member.{MemberContent}
 use Rattle.lw_print.specs.Json.{health_json}
 use Rattle.lw_metrics.specs.declared.measures.Measures.{Measures}
@@ -37,9 +38,20 @@ abbrev pub health_status : Bool → Status
 health_status true = status.Ok
 health_status false = status.ServiceUnavailable
 
+-- what a start in 2100 would raise the counter to, or more
+abbrev pub NearsEnd : ℕ → Type 0
+NearsEnd counter = 64 * year_2100 ≤ counter
+
+abbrev pub IsHealth : ServerContent → Bool → Bool → Answer → Type 0
+IsHealth server is_serving nears_end =
+    IsJson (health_status is_serving) (compact_text (health_json server.latest is_serving nears_end version))
+
+-- that the counter nears its end is told while it serves
 abbrev pub TellsHealth : ServerContent → Answer → Type 0
-TellsHealth server =
-    IsJson (health_status (serves server)) (compact_text (health_json server.latest (serves server) version))
+TellsHealth server answer =
+    ((serves server ≡ true) × (nears_end : Bool) × (IsTrue nears_end ↔ NearsEnd server.member.node.clock)
+    × IsHealth server true nears_end answer)
+    ⊎ ((serves server ≡ false) × IsHealth server false false answer)
 
 -- ---- the page, where there is one
 abbrev pub TellsPage : Option (List ℕ) → Answer → Type 0

@@ -3,6 +3,7 @@
 ghost use Rattle.std.specs.Prelude.{◌≤◌, length, IfOk};
 ghost use Rattle.lw_run.specs.Front.{IsWithin};
 
+use crate::counter::nears_end;
 use crate::hearing::is_report;
 use crate::receiving::{pass_over, receive};
 use crate::telling::LineRate;
@@ -45,6 +46,8 @@ pub(crate) struct Course<G: DeltaLog + Metered, C: Clocks> {
     /// Whether the log has lost entries since it was compacted. Whoever reads it from its beginning may miss what stood in
     /// them, until all is written anew.
     has_lost: bool,
+    /// Whether it was told that the counter nears its end.
+    told_of_end: bool,
     /// The moment of the last turn, by the clock that never goes back.
     last: Moment,
     refusals: LineRate,
@@ -62,6 +65,7 @@ impl<G: DeltaLog + Metered, C: Clocks> Course<G, C> {
             starved: 0,
             rest: 0,
             has_lost: false,
+            told_of_end: false,
             last,
             refusals: LineRate::new(),
             send_lines: LineRate::new(),
@@ -87,6 +91,7 @@ impl<G: DeltaLog + Metered, C: Clocks> Course<G, C> {
             compaction,
             rest,
             has_lost,
+            told_of_end,
             last,
             refusals,
             send_lines,
@@ -100,6 +105,7 @@ impl<G: DeltaLog + Metered, C: Clocks> Course<G, C> {
             compaction,
             rest,
             has_lost,
+            told_of_end,
             last,
             refusals,
             send_lines,
@@ -287,7 +293,23 @@ impl<G: DeltaLog + Metered, C: Clocks> Course<G, C> {
             Err(fault) => self.endures(log, fault),
         };
         self.note_log();
+        self.tell_of_end(log);
         ended
+    }
+
+    /// Tells once that the counter nears its end.
+    fn tell_of_end<L: Log>(&mut self, log: &L) {
+        if self.told_of_end {
+            return;
+        }
+        let Some(node) = self.server.node() else {
+            return;
+        };
+        let counter = node.clock();
+        if nears_end(counter) {
+            warn!(log; "counter near its end counter={counter}");
+            self.told_of_end = true;
+        }
     }
 
     /// Counts the time since the turn before, if the log has been away since then.

@@ -4,8 +4,9 @@ ghost use Rattle.std.specs.Prelude.{◌≡◌, ◌↔◌, IfOk, IfSome, IsNone, 
 ghost use Rattle.lw_api.specs.Answers.{IsJson, IsNoContent};
 ghost use Rattle.lw_target.specs.declared.desk.Status.TheVariants as statuses;
 ghost use Rattle.lw_run.specs.Commands.{noting, reason_of as reason_in, TellsDone, TellsObserved, TellsOutcome};
-ghost use Rattle.lw_run.specs.Desk.{about_of, health_status, serves, version, AreMeasures, AreRequestMeasures, IsMeasuredBy, TellsHealth, TellsMetrics, TellsNotifications, TellsOfNode, TellsPage};
+ghost use Rattle.lw_run.specs.Desk.{about_of, health_status, serves, version, IsHealth, AreMeasures, AreRequestMeasures, IsMeasuredBy, TellsHealth, TellsMetrics, TellsNotifications, TellsOfNode, TellsPage};
 
+use crate::counter::nears_end;
 use crate::{Clocks, Done, Server, TurnFault};
 use lw_api::{About, answer, created, no_content, not_found, notifications, numbers_of, refused};
 use lw_log::DeltaLog;
@@ -72,11 +73,19 @@ impl<G: DeltaLog, C: Clocks> Server<G, C> {
     fn health(&self) -> Result<Answer, NoMemory>
         ensures { IfOk result (TellsHealth self.now) }
     {
-        let serves = self.node().is_some();
+        match self.node() {
+            Some(node) => self.tell_health(true, nears_end(node.clock())),
+            None => self.tell_health(false, false),
+        }
+    }
+
+    fn tell_health(&self, serves: bool, nears_end: bool) -> Result<Answer, NoMemory>
+        ensures { IfOk result (IsHealth self.now serves nears_end) }
+    {
         Ok(Answer {
             status: status_of(serves),
             media: Media::Json,
-            body: health_text(self.alloc, self.latest, serves, VERSION)?,
+            body: health_text(self.alloc, self.latest, serves, nears_end, VERSION)?,
         })
     }
 

@@ -6,6 +6,7 @@ mod blocks;
 mod calling;
 mod clocks;
 mod commands;
+mod counter;
 mod course;
 mod desk;
 mod devices;

@@ -15,7 +15,7 @@ static TOLD: [Run; 5] = [
             ..STAGE
         },
         want: &[
-            Piece::Line(r#"Ok Json {"now":0,"status":"serving","version":"0.1.0"}"#),
+            Piece::Line(r#"Ok Json {"counter":"ok","now":0,"status":"serving","version":"0.1.0"}"#),
             Piece::Text(r#"Ok Json {"change":0,"counter":0,"number":null,"registrations":0,"#),
             Piece::Line(r#""start":"0000000000000009"}"#),
         ],
@@ -29,7 +29,9 @@ static TOLD: [Run; 5] = [
         },
         want: &[
             Piece::Sent(5683, CREATED),
-            Piece::Line(r#"Ok Json {"now":1000,"status":"serving","version":"0.1.0"}"#),
+            Piece::Line(
+                r#"Ok Json {"counter":"ok","now":1000,"status":"serving","version":"0.1.0"}"#,
+            ),
             Piece::Text(r#"Ok Json {"change":1,"counter":1,"number":1,"registrations":1,"#),
             Piece::Line(r#""start":"0000000000000009"}"#),
         ],

@@ -1,10 +1,10 @@
-use Rattle.lw_print.proofs.TokenLemmas.{one, ◌⨾◌, done, text_as, number_as}
-use Rattle.lw_print.proofs.node.put_health.Goals as goal
+use Rattle.lw_print.proofs.TokenLemmas.{one, ◌⨾◌, done, number_as}
+use Rattle.lw_print.proofs.node.put_away.Goals as goal
 
 pub returns : goal.returns
 returns c = done
     (one c.in_ok-begin_object.ensures
     ⨾ number_as c.ms.ensures.value c.in_ok-put_number.ensures
-    ⨾ text_as c.status.ensures c.in_ok-put_text.ensures
+    ⨾ c.in_ok-put_text.ensures
     ⨾ c.in_ok-put_text-2.ensures
     ⨾ one c.in_ok-end_object.ensures)
