@@ -152,7 +152,8 @@ def arrivals(scene):
                 scene.holds(check, found.all_answers(), ["200 OK"] * count)
                 # a server that waits for the end of a turn with each 16 would take several
                 most = TURN * (1 + count // 100)
-                scene.is_true(f"{check}: the last waits {found.longest:.2f} s", found.longest < most, f"{most} s or more")
+                waited = f"{check}: the last waits {found.longest:.2f} s"
+                scene.is_true(waited, found.longest < most, f"{most} s or more")
 
 
 def silent_visitors(scene):
