@@ -25,7 +25,7 @@ FRESH, TURN = 1.0, 1.0
 AT_ONCE = 17, 64, 200
 DATAGRAMS, VISITORS, LEAST_ANSWERS = 5_000, 16, 1_000
 FLOOD = 3.0
-# more than the buffer of a socket holds, where it is 8 MB and a datagram takes 768 bytes of it
+# more than the buffer of a socket holds, where it is 8 MB and a datagram takes 832 bytes of it
 FLOODED = 12_000
 # 64 lists of some 7 KB are a page of nearly half a megabyte
 VERY_LONG_LIST = b",".join(b"</%d/0>;title=some-more-bytes" % number for number in range(1000, 1220))
