@@ -106,7 +106,7 @@ impl Visit {
         self.age(now) >= Duration::from_secs(LASTS)
     }
 
-    /// How long it is before it makes room for another, as long as it waits for its peer. One that has asked makes none.
+    /// How long it is before it makes room for another, where it waits for its peer. One that has asked makes none.
     pub(crate) fn stays(&self, now: Instant) -> Option<Duration> {
         if self.stirs || self.is_asked() {
             return None;

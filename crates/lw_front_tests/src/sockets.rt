@@ -354,8 +354,8 @@ fn visitors<R: Abort + Net>(
     visitors
 }
 
-/// Three commands and a datagram are there. The datagram is heard behind one command at most, and then one command comes
-/// a wait.
+/// Three commands and a datagram are there. The datagram is heard behind one command at most, and then one command
+/// comes a wait.
 /// Tries: lw_run::Front::attend
 #[test]
 fn a_datagram_goes_before_the_next_command(rt: HostRuntime) {

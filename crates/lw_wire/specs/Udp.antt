@@ -9,8 +9,8 @@ use Rattle.lw_reg.specs.declared.addr.Addr.{Addr}
 use Rattle.lw_reg.specs.declared.addr.Addr.TheVariants.{V4, V6}
 
 -- ---- The scope. An address of fe80::/10 is one of a link alone (RFC 4291, section 2.5.6), and the number of the scope
--- tells of which. Behind its first ten bits are 54 bits of 0, so its second segment is 0. The store has no other place for
--- a scope, and keeps it in that segment, where it fits.
+-- tells of which. Behind its first ten bits are 54 bits of 0, so its second segment is 0. The store has no other place
+-- for a scope, and keeps it in that segment, where it fits.
 abbrev pub is_of_link : List ℕ → Bool
 is_of_link segments = nat_le 0xfe80 (slice_index segments 0) && nat_le (slice_index segments 0) 0xfebf
 
