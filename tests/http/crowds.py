@@ -25,7 +25,7 @@ FRESH, TURN = 1.0, 1.0
 AT_ONCE = 17, 64, 200
 DATAGRAMS, VISITORS, LEAST_ANSWERS = 5_000, 16, 1_000
 FLOOD = 3.0
-# more than the buffer of a socket holds, where it is 8 MB and a datagram takes 768 bytes of it
+# more than the buffer of a socket holds, where it is 8 MB and a datagram takes 832 bytes of it
 FLOODED = 12_000
 # 64 lists of some 7 KB are a page of nearly half a megabyte
 VERY_LONG_LIST = b",".join(b"</%d/0>;title=some-more-bytes" % number for number in range(1000, 1220))
@@ -152,7 +152,8 @@ def arrivals(scene):
                 scene.holds(check, found.all_answers(), ["200 OK"] * count)
                 # a server that waits for the end of a turn with each 16 would take several
                 most = TURN * (1 + count // 100)
-                scene.is_true(f"{check}: the last waits {found.longest:.2f} s", found.longest < most, f"{most} s or more")
+                waited = f"{check}: the last waits {found.longest:.2f} s"
+                scene.is_true(waited, found.longest < most, f"{most} s or more")
 
 
 def silent_visitors(scene):

@@ -22,7 +22,8 @@ class Client:
     def __init__(self, port, address="127.0.0.1"):
         family = socket.AF_INET6 if ":" in address else socket.AF_INET
         self.socket = socket.socket(family, socket.SOCK_DGRAM)
-        self.socket.connect((address, port))
+        # a link-local address stands before its scope, as fe80::1%eth0
+        self.socket.connect(socket.getaddrinfo(address, port, family, socket.SOCK_DGRAM)[0][4])
 
     def __enter__(self):
         return self

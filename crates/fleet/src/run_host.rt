@@ -12,7 +12,7 @@ use lw_member::{Chance, Member};
 use lw_run::{Compaction, HostClock, HostClocks, Metered, Moment, RunFault, Server, Timed, run_on};
 use lw_sqlite_log::{OpenFault, SqliteLog};
 use lw_wire::SystemClock;
-use std::net::SocketAddr;
+use std::net::{IpAddr, SocketAddr};
 use std::random::RandomSource;
 use std::sync::Wait;
 use std::time::Duration;
@@ -171,16 +171,26 @@ pub(crate) fn stopwatch(
     }
 }
 
-/// The socket that devices send to.
+/// The socket that devices send to. An address of one link alone is refused: its link is not known.
 fn bind<'a, L: Log>(
     host: &'a HostRuntime,
     log: &'a L,
     options: &RunOptions<'_>,
 ) -> Result<Sockets<'a, HostRuntime, L>, RunningFault> {
+    if is_link_local(options.bind) {
+        return Err(RunningFault::LinkLocalRefused);
+    }
     let address = SocketAddr::new(options.bind, options.port);
     match Sockets::bind(host, host, log, host.alloc(), address) {
         Ok(sockets) => Ok(sockets),
         Err(_) => Err(RunningFault::BindFailed),
+    }
+}
+
+fn is_link_local(address: IpAddr) -> bool {
+    match address {
+        IpAddr::V4(_) => false,
+        IpAddr::V6(ip) => ip.is_unicast_link_local(),
     }
 }
 

@@ -2,7 +2,7 @@
 use Rattle.std.specs.Prelude.{ℕ, List, codes, Bool, true, false, Option}
 use Rattle.std.specs.Io.KnownBytes.{Appends}
 use Rattle.lw_fleet.specs.declared.running_server.RunningFault.{RunningFault}
-use Rattle.lw_fleet.specs.declared.running_server.RunningFault.TheVariants.{DataFailed, DataInUse, DataDamaged, DataNewer, DataCut, AnotherFleet, NumberTaken, NumbersEnded, RedisAway, RedisRefused, LoginRefused, BindFailed, HttpBindFailed, TokenRefused, PageRefused, ReceiveFailed, ClockRefused, RandomFailed, NoMemory}
+use Rattle.lw_fleet.specs.declared.running_server.RunningFault.TheVariants.{DataFailed, DataInUse, DataDamaged, DataNewer, DataCut, AnotherFleet, NumberTaken, NumbersEnded, RedisAway, RedisRefused, LoginRefused, BindFailed, LinkLocalRefused, HttpBindFailed, TokenRefused, PageRefused, ReceiveFailed, ClockRefused, RandomFailed, NoMemory}
 use Rattle.lw_serve.specs.Ending.{AppendsFront}
 
 -- the line of a fault of `run`, with its line feed
@@ -19,6 +19,7 @@ running_line RedisAway = codes "redis away\n"
 running_line RedisRefused = codes "redis refused\n"
 running_line LoginRefused = codes "login refused\n"
 running_line BindFailed = codes "bind failed\n"
+running_line LinkLocalRefused = codes "link-local refused\n"
 running_line HttpBindFailed = codes "http bind failed\n"
 running_line TokenRefused = codes "token refused\n"
 running_line PageRefused = codes "page refused\n"

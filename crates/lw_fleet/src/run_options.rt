@@ -82,7 +82,7 @@ pub(crate) enum BadRunOption {
 impl BadRunOption {
     pub(crate) fn message(self) -> &'static str {
         match self {
-            BadRunOption::Bind => "'--bind <IP>' takes an IPv4 or IPv6 address",
+            BadRunOption::Bind => "'--bind <IP>' takes an IPv4 or IPv6 address, without a scope",
             BadRunOption::Port => BAD_PORT,
             BadRunOption::Level => "'--log <LEVEL>' takes off, error, warn, info or debug",
             BadRunOption::KeptTwice => {

@@ -55,6 +55,9 @@ pub enum RunningFault {
     /// No socket could be bound to the address.
     #[error("bind failed: no socket could be bound to the address and the port")]
     BindFailed,
+    /// The address is one of a link alone, and nothing tells of which.
+    #[error("link-local refused: an address of fe80::/10 is one of each link, and --bind names none")]
+    LinkLocalRefused,
     /// No socket could be bound to the address for HTTP.
     #[error("http bind failed: no socket could be bound to the address of --http")]
     HttpBindFailed,
@@ -103,6 +106,7 @@ impl RunningFault {
             RunningFault::RedisRefused => "redis refused\n",
             RunningFault::LoginRefused => "login refused\n",
             RunningFault::BindFailed => "bind failed\n",
+            RunningFault::LinkLocalRefused => "link-local refused\n",
             RunningFault::HttpBindFailed => "http bind failed\n",
             RunningFault::TokenRefused => "token refused\n",
             RunningFault::PageRefused => "page refused\n",

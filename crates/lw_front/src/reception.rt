@@ -85,7 +85,9 @@ impl Reception {
             self.door = Door::Knocked;
         }
         for visit in self.visits.iter_mut() {
-            visit.stirs = visit.stirs || visit.token == token;
+            if visit.token == token {
+                visit.stir(self.turn);
+            }
         }
     }
 
@@ -154,7 +156,8 @@ impl Reception {
         poll.registry().register(&mut stream, token, interest)?;
         self.last = token;
         self.make_room(now, log);
-        let visit = Visit::new(self.alloc, self.keys, stream, peer, token, now);
+        let turn = self.turn;
+        let visit = Visit::new(self.alloc, self.keys, stream, peer, token, now, turn);
         self.visits.push(visit)?;
         Ok(())
     }
@@ -193,13 +196,13 @@ impl Reception {
         }
     }
 
-    /// Of the visits that may go on, the one that has not for the longest time.
+    /// Of the visits that may go on, the one that has waited for the most turns, and of several the oldest.
     fn next_place(&self) -> Option<usize> {
         let mut next = None;
         let mut first = u64::MAX;
         for (place, visit) in self.visits.iter().enumerate() {
-            if visit.stirs && visit.turn < first {
-                (next, first) = (Some(place), visit.turn);
+            if visit.stirs && visit.since < first {
+                (next, first) = (Some(place), visit.since);
             }
         }
         next
@@ -214,9 +217,12 @@ impl Reception {
             return desk;
         };
         self.turn = self.turn.saturating_add(1);
-        visit.turn = self.turn;
         let (desk, going) = visit.step(self.alloc, desk, &self.guard);
-        visit.stirs = going == Going::On;
+        visit.stirs = false;
+        if going == Going::On {
+            // Behind those that may go on by now.
+            visit.stir(self.turn.saturating_add(1));
+        }
         if going == Going::Over || visit.is_late(now) {
             self.let_go(place, log);
         }

@@ -40,8 +40,8 @@ pub(crate) struct Visit {
     began: Instant,
     /// Whether it may go on.
     pub(crate) stirs: bool,
-    /// The turn in which it went on last.
-    pub(crate) turn: u64,
+    /// The turn since which it may.
+    pub(crate) since: u64,
     asked: AskedLine,
     /// The status of the response, once there is one.
     pub(crate) status: Option<u16>,
@@ -68,6 +68,7 @@ impl Visit {
         peer: SocketAddr,
         token: Token,
         began: Instant,
+        since: u64,
     ) -> Visit {
         Visit {
             stream,
@@ -76,7 +77,7 @@ impl Visit {
             token,
             began,
             stirs: true,
-            turn: 0,
+            since,
             asked: AskedLine::new(),
             status: None,
             sent: 0,
@@ -92,12 +93,20 @@ impl Visit {
         now.saturating_duration_since(self.began)
     }
 
+    /// It may go on, since this turn or an earlier one.
+    pub(crate) fn stir(&mut self, turn: u64) {
+        if !self.stirs {
+            self.stirs = true;
+            self.since = turn;
+        }
+    }
+
     /// Whether it has lasted as long as it may.
     pub(crate) fn is_late(&self, now: Instant) -> bool {
         self.age(now) >= Duration::from_secs(LASTS)
     }
 
-    /// How long it is before it makes room for another, as long as it waits for its peer. One that has asked makes none.
+    /// How long it is before it makes room for another, where it waits for its peer. One that has asked makes none.
     pub(crate) fn stays(&self, now: Instant) -> Option<Duration> {
         if self.stirs || self.is_asked() {
             return None;

@@ -354,8 +354,8 @@ fn visitors<R: Abort + Net>(
     visitors
 }
 
-/// Three commands and a datagram are there. The datagram is heard behind one command at most, and then one command comes
-/// a wait.
+/// Three commands and a datagram are there. The datagram is heard behind one command at most, and then one command
+/// comes a wait.
 /// Tries: lw_run::Front::attend
 #[test]
 fn a_datagram_goes_before_the_next_command(rt: HostRuntime) {
@@ -412,4 +412,26 @@ fn whoever_says_nothing_makes_room_after_a_second(rt: HostRuntime) {
     assert!(rt; sockets.responses().counts[0] == 0, "nobody is closed yet");
     let (_desk, _heard) = sockets.attend(desk, &mut [0; 4], Duration::from_secs(1));
     assert!(rt; sockets.responses().counts[0] == 1, "the next is answered");
+}
+
+/// A visitor asks late, for what is not there, while another comes at each wait and asks at once. He has his turn.
+/// Tries: lw_run::Front::attend
+#[test]
+fn a_visit_has_its_turn_beside_newcomers(rt: HostRuntime) {
+    let mut sockets = bound(&rt, &Discard, rt.alloc(), loopback());
+    let at = let_in(&rt, &mut sockets);
+    let mut late = TcpStream::connect(&rt, at).expect(&rt, "a connection");
+    let (buffer, time) = (&mut [0; 4], Duration::from_millis(100));
+    let (mut desk, _heard) = sockets.attend(quiet(rt.alloc()), buffer, time);
+    let said = late.write_all(b"GET /none HTTP/1.0\r\n\r\n");
+    said.expect(&rt, "a request");
+    let client = client_at(&rt, "127.0.0.1:0").expect(&rt, "a client");
+    for _wait in 0..8 {
+        let _newcomers = visitors(&rt, rt.alloc(), at, 1, ASKED);
+        let sent = client.send_to(b"one", place_of(&rt, &sockets));
+        sent.expect(&rt, "a send");
+        let (back, _heard) = sockets.attend(desk, buffer, time);
+        desk = back;
+    }
+    assert!(rt; sockets.responses().counts[6] == 1, "he is answered");
 }

@@ -5,6 +5,7 @@
 mod address;
 mod clock;
 mod datagram;
+pub mod laws;
 mod wire_fault;
 
 pub use address::{address_of, socket_address_of};

@@ -4,7 +4,7 @@ use super::command_line::{BAD_PORT, refuses};
 
 const RUN: &str = "Usage: fleet run [OPTIONS]\n\n";
 
-const BAD_BIND: &str = "'--bind <IP>' takes an IPv4 or IPv6 address";
+const BAD_BIND: &str = "'--bind <IP>' takes an IPv4 or IPv6 address, without a scope";
 
 const BAD_LEVEL: &str = "'--log <LEVEL>' takes off, error, warn, info or debug";
 
@@ -49,10 +49,11 @@ const BAD_PAGE: &str = "'--page <FILE>' takes the path of a file, and not an emp
 const NO_TOKEN: &str = "'--http <ADDR>' off the loopback needs '--http-token-file <FILE>'";
 
 /// Words that are refused, and the line. Of several rules the first that fails is told.
-static REFUSED: [(&[&str], &str); 20] = [
+static REFUSED: [(&[&str], &str); 21] = [
     (&["fleet", "run", "--bind", "localhost"], BAD_BIND),
     (&["fleet", "run", "--bind", "127.0.0.1:5683"], BAD_BIND),
     (&["fleet", "run", "--bind", "[::1]"], BAD_BIND),
+    (&["fleet", "run", "--bind", "fe80::1%2"], BAD_BIND),
     (&["fleet", "run", "--bind", "127.0.0.256"], BAD_BIND),
     (&["fleet", "run", "--bind", "127.0.0"], BAD_BIND),
     (&["fleet", "run", "--bind", "127.0.0.01"], BAD_BIND),

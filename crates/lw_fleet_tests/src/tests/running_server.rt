@@ -43,7 +43,7 @@ fn a_server_that_is_over(rt: HostRuntime) {
 }
 
 /// Each fault, and its line.
-pub(super) static LINES: [(RunningFault, &str); 19] = [
+pub(super) static LINES: [(RunningFault, &str); 20] = [
     (RunningFault::DataFailed, "data failed\n"),
     (RunningFault::DataInUse, "data in use\n"),
     (RunningFault::DataDamaged, "data damaged\n"),
@@ -56,6 +56,7 @@ pub(super) static LINES: [(RunningFault, &str); 19] = [
     (RunningFault::RedisRefused, "redis refused\n"),
     (RunningFault::LoginRefused, "login refused\n"),
     (RunningFault::BindFailed, "bind failed\n"),
+    (RunningFault::LinkLocalRefused, "link-local refused\n"),
     (RunningFault::HttpBindFailed, "http bind failed\n"),
     (RunningFault::TokenRefused, "token refused\n"),
     (RunningFault::PageRefused, "page refused\n"),
