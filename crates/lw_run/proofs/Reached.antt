@@ -1,7 +1,7 @@
 -- What the message layer and commands come to, from what their parts are.
-use Rattle.std.specs.Prelude.{◌≡◌, ℕ, ◌<◌, ◌≤◌, Bool, true, false, List, [], ◌∷◌, ◌++◌, length, take, Option, None, Some}
+use Rattle.std.specs.Prelude.{◌≡◌, ℕ, ◌<◌, ◌≤◌, Bool, true, false, List, [], ◌∷◌, ◌++◌, ◌⊎◌, length, take, Option, None, Some}
 use Rattle.std.specs.Prelude.{Result, Ok, Err, IfOk, IfSome, OnErr, refl}
-use Rattle.std.proofs.Common.{ap, ◌∙◌, subst, sym, inl}
+use Rattle.std.proofs.Common.{ap, ◌∙◌, subst, sym, inl, inr}
 use Rattle.std.proofs.Math.Seq.{take-append_seam}
 use Rattle.std.proofs.lemmas.Bool.{le-leb, lt-leb}
 use Rattle.std.specs.Result.{result_ok}
@@ -29,11 +29,12 @@ use Rattle.lw_run.specs.declared.fault.TurnFault.{TurnFault}
 use Rattle.lw_run.specs.declared.hearing.Passage.{Passage}
 use Rattle.lw_run.specs.Clocks.{later, Tells}
 use Rattle.lw_run.specs.Commands.{is_full, waiting_after, Executes, FailsTo, IsObserved, IsObservedOf, IsOrdered}
-use Rattle.lw_run.specs.Commands.{IsOrderedWhere, IsRequested, LeavesUndo, Requests}
+use Rattle.lw_run.specs.Commands.{IsOrderedWhere, IsRequested, LeavesUndo, MayHaveObserved, Requests}
 use Rattle.lw_run.specs.Desk.{serves}
 use Rattle.lw_run.specs.Devices.{with_first, with_task, DevicesContent, TaskContent, Undo}
 use Rattle.lw_run.specs.Hearing.{IsHeardFrom, IsPassed, IsWatchIn}
 use Rattle.lw_run.specs.Server.{ReadsClock, ServerContent}
+use Rattle.lw_run.specs.Stepping.{IsTokenOn}
 use Rattle.lw_run.proofs.Turns.{writes_none}
 
 -- what holds of a result that is no error, so does what follows from it
@@ -42,14 +43,15 @@ if_ok (Ok x) follows is = follows x is
 if_ok (Err e) follows is = tt
 
 -- ---- the clocks
-pub reads_clock : (old mid new : ServerContent) (times : Times) → mid ≡ old → Tells mid.clock new.clock (Some times)
+pub reads_clock : (old mid new : ServerContent) (told : Option Times) (times : Times) → mid ≡ old → told ≡ Some times
+    → Tells mid.clock new.clock told
     → new ≡ record mid { clock = new.clock; latest = times.moment; steady = new.steady }
     → new.steady ≡ later mid.steady times.steady → (x : Times) × ReadsClock (Some x) old new
-reads_clock old mid new times same tells is steady = (
+reads_clock old mid new told times same some tells is steady = (
   times,
   subst (λ (server : ServerContent). ReadsClock (Some times) server new) same
       (record {
-        tells = tells;
+        tells = subst (λ (it : Option Times). Tells mid.clock new.clock it) some tells;
         same = is ∙ ap (λ (m : Moment). record mid { clock = new.clock; latest = times.moment; steady = m }) steady;
       }),
 )
@@ -120,28 +122,53 @@ pub unserved : (endpoint : List ℕ) (path : Path) (accept : Option ℕ) (old : 
 unserved endpoint path accept old away =
     subst (λ (b : Bool). IsObserved b endpoint path accept old Away old) (sym away) (refl, refl)
 
-found_at : (endpoint text : List ℕ) (old : ServerContent) (node : NodeContent) (shown : Option Registration)
-    → node ≡ old.member.node → text ≡ endpoint → ShownOf (shown_in node.table.state) (ms_of old.latest) text shown
+found_at : (endpoint text : List ℕ) (old : ServerContent) (node : NodeContent) (now : Moment) (shown : Option Registration)
+    → now ≡ old.latest → node ≡ old.member.node → text ≡ endpoint → ShownOf (shown_in node.table.state) (ms_of now) text shown
     → ShownOf (shown_in old.member.node.table.state) (ms_of old.latest) endpoint shown
-found_at endpoint text old node shown same named found =
-    subst (λ (n : NodeContent). ShownOf (shown_in n.table.state) (ms_of old.latest) endpoint shown) same
-    (subst (λ (e : List ℕ). ShownOf (shown_in node.table.state) (ms_of old.latest) e shown) named found)
+found_at endpoint text old node now shown moment same named found =
+    subst (λ (m : Moment). ShownOf (shown_in old.member.node.table.state) (ms_of m) endpoint shown) moment
+    (subst (λ (n : NodeContent). ShownOf (shown_in n.table.state) (ms_of now) endpoint shown) same
+    (subst (λ (e : List ℕ). ShownOf (shown_in node.table.state) (ms_of now) e shown) named found))
 
 pub observed_where : (endpoint text : List ℕ) (path : Path) (accept : Option ℕ) (old new : ServerContent) (node : NodeContent)
-    (shown : Option Registration) → (serves old ≡ false → true ≡ false) → node ≡ old.member.node → text ≡ endpoint
-    → ShownOf (shown_in node.table.state) (ms_of old.latest) text shown → (done : Done) → IsObservedOf shown path accept old done new
+    (now : Moment) (shown : Option Registration) → (serves old ≡ false → true ≡ false) → now ≡ old.latest
+    → node ≡ old.member.node → text ≡ endpoint → ShownOf (shown_in node.table.state) (ms_of now) text shown → (done : Done) → IsObservedOf shown path accept old done new
     → IsObserved (serves old) endpoint path accept old done new
-observed_where endpoint text path accept old new node shown here same named found done observed =
+observed_where endpoint text path accept old new node now shown here moment same named found done observed =
     subst (λ (b : Bool). IsObserved b endpoint path accept old done new) (sym (is_true (serves old) here))
-    (record { shown = shown; found = found_at endpoint text old node shown same named found; observed = observed })
+    (record { shown = shown; found = found_at endpoint text old node now shown moment same named found; observed = observed })
 
 pub observed_shown : (endpoint text : List ℕ) (path : Path) (accept : Option ℕ) (old new : ServerContent) (node : NodeContent)
-    (shown : Registration) (id : Stamp) → (serves old ≡ false → true ≡ false) → node ≡ old.member.node → text ≡ endpoint
-    → ShownOf (shown_in node.table.state) (ms_of old.latest) text (Some shown) → id ≡ shown.id → (done : Done)
+    (now : Moment) (shown : Registration) (id : Stamp) → (serves old ≡ false → true ≡ false) → now ≡ old.latest
+    → node ≡ old.member.node → text ≡ endpoint → ShownOf (shown_in node.table.state) (ms_of now) text (Some shown)
+    → id ≡ shown.id → (done : Done)
     → IsRequested (Observe old.latest id path accept 0) old done new → IsObserved (serves old) endpoint path accept old done new
-observed_shown endpoint text path accept old new node shown id here same named found its done requested =
-    observed_where endpoint text path accept old new node (Some shown) here same named found done
+observed_shown endpoint text path accept old new node now shown id here moment same named found its done requested =
+    observed_where endpoint text path accept old new node now (Some shown) here moment same named found done
     (subst (λ (i : Stamp). IsRequested (Observe old.latest i path accept 0) old done new) its requested)
+
+-- a round that failed may have left an observation
+pub may_have_observed : (endpoint text : List ℕ) (path : Path) (old new : ServerContent) (node : NodeContent) (now : Moment)
+    (shown : Registration) (id : Stamp) (before : Option Stamp) → now ≡ old.latest → node ≡ old.member.node → text ≡ endpoint
+    → ShownOf (shown_in node.table.state) (ms_of now) text (Some shown) → id ≡ shown.id
+    → IsTokenOn (shown_in node.table.state) (ms_of now) id path before
+    → (new ≡ old) ⊎ LeavesUndo id path before old new → (new ≡ old) ⊎ MayHaveObserved endpoint path old new
+may_have_observed endpoint text path old new node now shown id before moment same named found its on (inl as_it_was) = inl as_it_was
+may_have_observed endpoint text path old new node now shown id before moment same named found its on (inr left) =
+    inr (record {
+      shown = shown;
+      found = found_at endpoint text old node now (Some shown) moment same named found;
+      before = before;
+      on = subst (λ (m : Moment). IsTokenOn (shown_in old.member.node.table.state) (ms_of m) shown.id path before) moment
+          (subst (λ (n : NodeContent). IsTokenOn (shown_in n.table.state) (ms_of now) shown.id path before) same
+          (subst (λ (i : Stamp). IsTokenOn (shown_in node.table.state) (ms_of now) i path before) its on));
+      left = subst (λ (i : Stamp). LeavesUndo i path before old new) its left;
+    })
+
+-- what holds of a result that is an error, so does what follows from it
+pub if_err : {T E P Q : Type 0} (r : Result T E) → (P → Q) → OnErr r P → OnErr r Q
+if_err (Ok x) follows is = tt
+if_err (Err e) follows is = follows is
 
 -- ---- a command
 pub too_many : (command : Command) (old mid : ServerContent) (count : ℕ) → mid ≡ old → count ≡ length mid.devices.requests

@@ -16,6 +16,8 @@ use Rattle.lw_reg.specs.Reading.{shown_in}
 use Rattle.lw_reg.specs.Registration.{Registration}
 use Rattle.lw_table.specs.LookUps.{WatchOfIdAfter}
 use Rattle.lw_node.specs.Node.{NodeContent}
+use Rattle.std.specs.List.{list_any}
+use Rattle.lw_call.specs.declared.call.Call.{Call}
 use Rattle.lw_call.specs.declared.call.Call.TheVariants as calls
 use Rattle.lw_call.specs.declared.reply.Reply.{Reply}
 use Rattle.lw_call.specs.Contents.{NoticeContent, TakenContent}
@@ -29,7 +31,7 @@ use Rattle.lw_run.specs.declared.devices.Progress.{Progress}
 use Rattle.lw_run.specs.declared.devices.Task.{Task}
 use Rattle.lw_run.specs.Devices.{with_first, with_task, Check, DevicesContent, TaskContent}
 use Rattle.lw_run.specs.Server.{ServerContent}
-use Rattle.lw_run.specs.Stepping.{counts_behind, left_by, IsGiven, IsLeft, IsProgress, IsReport}
+use Rattle.lw_run.specs.Stepping.{cancels_of, counts_behind, is_refused, left_by, over, Closes, IsGiven, IsLeft, IsProgress, IsReport}
 use Rattle.lw_run.specs.Stepping.{IsNoneOn, IsTokenOn, LookedAt, StepsRequests}
 use Rattle.lw_run.specs.Telling.{is_newer_notice, with_capacity, IsPutIf, IsToldIf, ToldContent}
 use Rattle.lw_run.specs.inner.Devices.{task_of}
@@ -152,6 +154,38 @@ report_behind from bytes is_complete task old mid after new count same counted i
             told = sym told k;
           });
     }
+
+-- the same, of a server
+pub left_behind : (old view mid : ServerContent) (task : TaskContent) (devices : DevicesContent) → view ≡ old
+    → devices ≡ with_task task view.devices → mid ≡ record view { devices = devices }
+    → mid ≡ record old { devices = with_task task old.devices }
+left_behind old view mid task devices same left is =
+    is ∙ ap (λ (ds : DevicesContent). record view { devices = ds }) left
+    ∙ ap (λ (server : ServerContent). record server { devices = with_task task server.devices }) same
+
+pub kept_first : (after view new : ServerContent) (count : ℕ) → view ≡ after → new.devices ≡ with_first count view.devices
+    → new ≡ record view { devices = new.devices } → new ≡ record after { devices = with_first count after.devices }
+kept_first after view new count same first is =
+    is ∙ ap (λ (ds : DevicesContent). record view { devices = ds }) first
+    ∙ ap (λ (server : ServerContent). record server { devices = with_first count server.devices }) same
+
+-- ---- the observations that are to end, in one round
+pub closes_by : (old mid new : ServerContent) (made asked counted_calls : List Call)
+    (replies counted_replies looked : List Reply) → mid ≡ old → made ≡ cancels_of mid.latest mid.devices.tasks → asked ≡ made
+    → IsRound mid.member asked replies new.member → counted_calls ≡ made → counted_replies ≡ replies
+    → new.tally ≡ counted mid.tally counted_calls counted_replies → looked ≡ replies
+    → list_any is_refused looked ≡ false → new.devices ≡ record (mid.devices) { tasks = map over mid.devices.tasks }
+    → new ≡ record mid { member = new.member; tally = new.tally; devices = new.devices } → Closes old new
+closes_by old mid new made asked counted_calls replies counted_replies looked
+    same are these round also those counts seen none devices rest =
+    subst (λ (server : ServerContent). Closes server new) same
+    (record {
+      replies = replies;
+      round = subst (λ (cs : List Call). IsRound mid.member cs replies new.member) (these ∙ are) round;
+      counts = counts ∙ (λ k. counted mid.tally ((also ∙ are) k) (those k));
+      had_memory = ap (list_any is_refused) (sym seen) ∙ none;
+      same = rest ∙ ap (λ (ds : DevicesContent). record mid { member = new.member; tally = new.tally; devices = ds }) devices;
+    })
 
 pub leaves_check : (notice : NoticeContent) (old mid new : ServerContent)
     → mid ≡ record old { devices = with_task (Check notice) old.devices } → IsLeft mid new → LeavesCheck notice old new

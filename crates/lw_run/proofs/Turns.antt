@@ -24,7 +24,7 @@ use Rattle.lw_run.specs.declared.blocks.Sorted.{Sorted}
 use Rattle.lw_run.specs.Blocks.{Arrival, answered_of, datagram_of, origin_of, lacks_block, with_blocks, AreHandled, AreTaken, GoOn}
 use Rattle.lw_run.specs.Exchanges.{fresh_of, sent_again, exchanges_of, with_duplicates, with_unkept, Keeps}
 use Rattle.lw_run.specs.Numbering.{with_unnumbered, AreNumbered}
-use Rattle.lw_run.specs.Server.{ServerContent, IsAtOnce, Stays}
+use Rattle.lw_run.specs.Server.{ServerContent, IsAtOnce, KeepsStill, Stays}
 use Rattle.lw_run.specs.Turns.{sends_of, IsTurn, GoesOn}
 use Rattle.lw_run.specs.inner.Settling.{all_calls, Settles}
 use Rattle.lw_run.specs.inner.Sorting.{AreSorted}
@@ -98,11 +98,22 @@ settles_by before old new tally counts sorted calls asked replies start handled 
     }
 
 -- the bodies of a server go on from those that it had at first
-pub goes_on_by : (old mid new : ServerContent) (batch fresh : List Datagram) → mid ≡ old
-    → fresh ≡ fresh_of mid.steady mid.kept batch → GoOn mid.steady mid.bodies fresh new.bodies → GoesOn old batch new
-goes_on_by old mid new batch fresh same some goes =
-    subst (λ (server : ServerContent). GoesOn server batch new) same
-    (subst (λ (ds : List Datagram). GoOn mid.steady mid.bodies ds new.bodies) some goes)
+pub goes_on_by : (old mid : ServerContent) (batch fresh : List Datagram) (bodies : List BodyContent) → mid ≡ old
+    → fresh ≡ fresh_of mid.steady mid.kept batch → GoOn mid.steady mid.bodies fresh bodies
+    → GoOn old.steady old.bodies (fresh_of old.steady old.kept batch) bodies
+goes_on_by old mid batch fresh bodies same some goes =
+    subst (λ (server : ServerContent). GoOn server.steady server.bodies (fresh_of server.steady server.kept batch) bodies) same
+    (subst (λ (ds : List Datagram). GoOn mid.steady mid.bodies ds bodies) some goes)
+
+-- what is kept of a server is what it had at first
+pub keeps_still : (old mid new : ServerContent) → mid ≡ old → new.kept ≡ mid.kept → new.duplicates ≡ mid.duplicates
+    → new.unkept ≡ mid.unkept → new.blocks ≡ mid.blocks → new.ids ≡ mid.ids → new.unnumbered ≡ mid.unnumbered → KeepsStill old new
+keeps_still old mid new same kept duplicates unkept blocks ids unnumbered =
+    subst (λ (server : ServerContent). KeepsStill server new) same
+    (record { kept = kept; duplicates = duplicates; unkept = unkept; blocks = blocks; ids = ids; unnumbered = unnumbered })
+
+pub tally_stays : (old mid : ServerContent) (tally : Tally) → mid ≡ old → tally ≡ mid.tally → tally ≡ old.tally
+tally_stays old mid tally same is = is ∙ ap (λ (server : ServerContent). server.tally) same
 
 -- what the code does comes to a turn
 pub is_turn : (before : Moment) (old mid new : ServerContent) (batch fresh : List Datagram) (sorted : Sorted) (handled numbered : List Handled) (sends : List (Addr × List ℕ)) (is_all lacks : Bool)
@@ -193,7 +204,6 @@ tick_stays old new batch sends none turn =
     let empty = subst (λ (b : List Datagram). IsTurn old b sends new) none turn in
     subst (λ (arrivals : List Arrival). AreTaken old.steady old.bodies arrivals new.bodies) (no_arrivals empty.arrivals empty.fresh) empty.bodies
 
-pub tick_fails : (old new : ServerContent) (batch : List Datagram) → batch ≡ [] → GoesOn old batch new
-    → new.bodies ≡ old.bodies
-tick_fails old new batch none goes =
-    stays_without old.steady old.bodies new.bodies _ (ap (fresh_of old.steady old.kept) none) goes
+pub tick_fails : (kept : List Exchange) (steady : Moment) (old new : List BodyContent) (batch : List Datagram) → batch ≡ []
+    → GoOn steady old (fresh_of steady kept batch) new → new ≡ old
+tick_fails kept steady old new batch none goes = stays_without steady old new _ (ap (fresh_of steady kept) none) goes

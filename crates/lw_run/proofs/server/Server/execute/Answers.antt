@@ -1,11 +1,10 @@
-use Rattle.lw_run.proofs.Reached.{executed, too_many}
+use Rattle.lw_run.proofs.Reached.{executes, refuses}
 use Rattle.lw_run.proofs.server.Server.execute.Goals as goal
 
-pub returns-then-waiting-ge-MOST_WAITING : goal.returns-then-waiting-ge-MOST_WAITING
-returns-then-waiting-ge-MOST_WAITING g c =
-    too_many c.args.command.now _ _ c.in-Some.now _ c.self.view_is c.waiting.ensures c.if-waiting-ge-MOST_WAITING.true
+pub returns-in_err-read_clock : goal.returns-in_err-read_clock
+returns-in_err-read_clock g c = rw c.from_residual.ensures (refuses _ _ _ _ c.in_err-read_clock.ensures.refused)
 
 pub returns : goal.returns
 returns g c =
-    executed c.args.command.now _ _ _ c.in-Some.now _ _ c.self.view_is c.waiting.ensures c.if-waiting-ge-MOST_WAITING.false
-    c.order.ensures.ordered c.order.ensures.failed
+    let read = c.in_ok-read_clock.ensures.read in
+    executes _ _ _ _ read.0 _ read.1 c.execute_now.ensures.executed c.execute_now.ensures.own c.execute_now.ensures.failed

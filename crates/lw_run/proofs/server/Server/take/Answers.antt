@@ -6,25 +6,34 @@ use Rattle.lw_run.specs.Exchanges.{exchanges_of, Keeps}
 use Rattle.lw_run.specs.Turns.{sent}
 use Rattle.lw_run.proofs.Numbers.{numbered_in, unnumbered_in}
 use Rattle.lw_run.proofs.Sorting.{on_err}
-use Rattle.lw_run.proofs.Turns.{all_sent, goes_all, goes_nowhere, goes_on_by, is_turn, more_duplicates, stays_from, writes_none_from}
+use Rattle.lw_run.proofs.Turns.{all_sent, goes_all, goes_nowhere, goes_on_by, is_turn, keeps_still, more_duplicates, stays_from, tally_stays, writes_none, writes_none_from}
 use Rattle.lw_run.proofs.server.Server.take.Goals as goal
 
 pub returns-in_err-fresh-clause-own : goal.returns-in_err-fresh-clause-own
-returns-in_err-fresh-clause-own g c = writes_none_from _ _ c.self.view_is
+returns-in_err-fresh-clause-own g c = writes_none _
 
 pub returns-in_err-fresh-clause-bodies : goal.returns-in_err-fresh-clause-bodies
-returns-in_err-fresh-clause-bodies g c = on_err _ (goes_on_by _ _ _ c.args.batch.items _ c.self.view_is refl (goes_nowhere _ _ _))
+returns-in_err-fresh-clause-bodies g c = on_err _ (goes_nowhere _ _ _)
 
 pub returns-in_err-sorted-clause-own : goal.returns-in_err-sorted-clause-own
 returns-in_err-sorted-clause-own g c = writes_none_from _ _ c.self.view_is
 
+pub returns-in_err-sorted-clause-stays : goal.returns-in_err-sorted-clause-stays
+returns-in_err-sorted-clause-stays g c = stays_from _ _ _ c.self.view_is (record { clock = refl; latest = refl; steady = refl }) refl refl refl refl refl refl refl refl refl
+
 pub returns-in_err-sorted-clause-bodies : goal.returns-in_err-sorted-clause-bodies
 returns-in_err-sorted-clause-bodies g c =
-    on_err _ (goes_on_by _ _ _ c.args.batch.items _ c.self.view_is c.in_ok-fresh.ensures.fresh c.in_err-sorted.ensures.memory)
+    on_err _ (goes_on_by _ _ c.args.batch.items _ _ c.self.view_is c.in_ok-fresh.ensures.fresh c.in_err-sorted.ensures.memory)
 
 pub returns-in_err-handled-clause-bodies : goal.returns-in_err-handled-clause-bodies
 returns-in_err-handled-clause-bodies g c =
-    on_err _ (goes_on_by _ _ _ c.args.batch.items _ c.self.view_is c.in_ok-fresh.ensures.fresh (goes_all _ _ _ _ _ _ c.in_ok-sorted.ensures.sorted))
+    on_err _ (goes_on_by _ _ c.args.batch.items _ _ c.self.view_is c.in_ok-fresh.ensures.fresh (goes_all _ _ _ _ _ _ c.in_ok-sorted.ensures.sorted))
+
+pub returns-in_err-handled-clause-uncounted : goal.returns-in_err-handled-clause-uncounted
+returns-in_err-handled-clause-uncounted g c = on_err _ (tally_stays _ _ _ c.self.view_is c.in_err-handled.ensures.uncounted)
+
+pub returns-in_err-handled-clause-kept : goal.returns-in_err-handled-clause-kept
+returns-in_err-handled-clause-kept g c = on_err _ (keeps_still _ _ _ c.self.view_is refl refl refl refl refl refl)
 
 pub returns-in_err-handled-clause-stays : goal.returns-in_err-handled-clause-stays
 returns-in_err-handled-clause-stays g c = stays_from _ _ _ c.self.view_is (record { clock = refl; latest = refl; steady = refl }) refl refl refl refl refl refl refl refl refl

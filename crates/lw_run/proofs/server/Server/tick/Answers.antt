@@ -8,4 +8,4 @@ pub returns-clause-bodies : goal.returns-clause-bodies
 returns-clause-bodies g c = tick_stays _ _ _ _ c.new.ensures.items c.in_ok-take.ensures.turn
 
 pub returns-in_err-take-clause-bodies : goal.returns-in_err-take-clause-bodies
-returns-in_err-take-clause-bodies g c = tick_fails _ _ _ c.new.ensures.items c.in_err-take.ensures.bodies
+returns-in_err-take-clause-bodies g c = tick_fails c.args.self.now.kept c.args.self.now.steady _ _ _ c.new.ensures.items c.in_err-take.ensures.bodies

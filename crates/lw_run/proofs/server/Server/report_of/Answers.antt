@@ -1,0 +1,13 @@
+use Rattle.std.proofs.Common.{◌∙◌, ap, length, refl, true}
+use Rattle.lw_run.specs.Devices.{Check}
+use Rattle.lw_run.specs.Server.{ServerContent}
+use Rattle.lw_run.proofs.Reached.{if_ok}
+use Rattle.lw_run.proofs.Steps.{kept_first, left_behind, report_behind}
+use Rattle.lw_run.proofs.server.Server.report_of.Goals as goal
+
+pub returns-then-is_ok-clause-report : goal.returns-then-is_ok-clause-report
+returns-then-is_ok-clause-report g c =
+    if_ok _ (report_behind c.args.from c.args.bytes true (Check c.args.notice) c.args.self.now _ _ _ _
+    (left_behind _ _ _ _ _ c.self.view_is c.in_ok-leave.ensures.left refl)
+    (c.tasks_left-count.ensures ∙ ap (λ (server : ServerContent). length server.devices.tasks) c.self.view_is)
+    (kept_first _ _ _ _ c.self-2.view_is c.keep_first.ensures refl)) c.take_report-taken.ensures.report
