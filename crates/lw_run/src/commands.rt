@@ -50,8 +50,10 @@ impl<G: DeltaLog, C: Clocks> Server<G, C> {
     pub(crate) fn execute(&mut self, command: &Command) -> Result<Done, TurnFault>
         ensures { Executes command.now self.old result self.new }
     {
-        self.read_clock()?;
-        self.execute_now(command)
+        match self.read_clock() {
+            Ok(()) => self.execute_now(command),
+            Err(fault) => Err(fault),
+        }
     }
 
     /// Carries out a command at the moment that the clocks told last.
