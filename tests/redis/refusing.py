@@ -14,6 +14,8 @@ from visiting import ask
 LOOKED_AT, MOST_USED = 5, 0.5
 # 2.05
 VALUE = 0x45
+# a path that is not observed otherwise
+OTHER_PATH = "/3/0/13"
 # how long a device waits for an answer before it sends again, and how long what is not to come is waited for
 AGAIN, NOTHING = 1.0, 1.0
 
@@ -108,31 +110,20 @@ def silent_without_room(scene):
             scene.holds("GET of the token of a device that is silent", status, "404 Not Found")
 
 
-def replaced_without_room(scene):
-    """A command to observe what is observed already, which fails since Redis takes nothing, ends nothing."""
+def refused_without_room(scene):
+    """A command to observe that fails, since Redis takes nothing, leaves nothing behind, and ends nothing else."""
     with scene.redis() as redis, scene.sharing(redis.address, "--http-commands") as server:
         with Observed(server.port, "lamp") as lamp:
             token = observed(server, lamp)
             before = shown(server, lamp)
             room(redis, 1)
-            scene.holds("a command that Redis does not take", observe(server, lamp), AWAY)
+            scene.holds("a command that Redis does not take", observe(server, lamp, path=OTHER_PATH), AWAY)
             scene.holds("what the device hears of it", lamp.hears_nothing(NOTHING), None)
             room(redis, 0)
             is_soon(lambda: ask(server.visited, observations(lamp)).status == "200 OK")
-            token = lives_on(scene, server, lamp, token, before)
-            scene.holds("a notification of it", lamp.told(token, 2, b"2"), "acknowledged")
-            found = told_of(server, token, 2)
-            scene.holds("what is told of it: two values", found, [(VALUE, False)] * 2)
-
-
-def lives_on(scene, server, lamp, token, before):
-    """The token of what is observed: the one before, or another in its place, which the device is asked for."""
-    request = lamp.heard(2 * NOTHING)
-    if request and request.option(OBSERVE) == b"":
-        token = request.token.hex()
-        lamp.answers(request, b"1", ((OBSERVE, b"\x01"),))
-    scene.holds("what is observed once there is room", shown(server, lamp), [{**it, "token": token} for it in before])
-    return token
+            scene.holds("what is observed once there is room", is_soon(lambda: shown(server, lamp) == before), True)
+            scene.holds("a notification of what was observed", lamp.told(token, 2, b"2"), "acknowledged")
+            scene.holds("what is told of it: two values", told_of(server, token, 2), [(VALUE, False)] * 2)
 
 
 def shown(server, device):
@@ -140,6 +131,6 @@ def shown(server, device):
     return json.loads(ask(server.visited, observations(device)).body)["observations"]
 
 
-REFUSING = due_while_away, ended_without_room, replaced_without_room
+REFUSING = due_while_away, ended_without_room, refused_without_room
 # it waits more than it works
 WAITING = (silent_without_room,)
