@@ -31,10 +31,11 @@ use Rattle.lw_run.specs.Clocks.{later, Tells}
 use Rattle.lw_run.specs.Commands.{is_full, waiting_after, Executes, FailsTo, IsObserved, IsObservedOf, IsOrdered}
 use Rattle.lw_run.specs.Commands.{IsOrderedWhere, IsRequested, LeavesUndo, MayHaveObserved, Requests}
 use Rattle.lw_run.specs.Desk.{serves}
-use Rattle.lw_run.specs.Devices.{with_first, with_task, DevicesContent, TaskContent, Undo}
+use Rattle.lw_run.specs.Devices.{with_task, DevicesContent, TaskContent, Undo}
 use Rattle.lw_run.specs.Hearing.{IsHeardFrom, IsPassed, IsWatchIn}
 use Rattle.lw_run.specs.Server.{ReadsClock, ServerContent}
 use Rattle.lw_run.specs.Stepping.{IsTokenOn}
+use Rattle.lw_run.specs.inner.Devices.{with_first}
 use Rattle.lw_run.proofs.Turns.{writes_none}
 
 -- what holds of a result that is no error, so does what follows from it

@@ -29,12 +29,12 @@ use Rattle.lw_exchange.specs.declared.requests.Step.{Step}
 use Rattle.lw_exchange.specs.Waiting.{step_content, IsStepped}
 use Rattle.lw_run.specs.declared.devices.Progress.{Progress}
 use Rattle.lw_run.specs.declared.devices.Task.{Task}
-use Rattle.lw_run.specs.Devices.{with_first, with_task, Check, DevicesContent, TaskContent}
+use Rattle.lw_run.specs.Devices.{with_task, Check, DevicesContent, TaskContent}
 use Rattle.lw_run.specs.Server.{ServerContent}
 use Rattle.lw_run.specs.Stepping.{cancels_of, counts_behind, is_refused, left_by, over, Closes, IsGiven, IsLeft, IsProgress, IsReport}
 use Rattle.lw_run.specs.Stepping.{IsNoneOn, IsTokenOn, LookedAt, StepsRequests}
 use Rattle.lw_run.specs.Telling.{is_newer_notice, with_capacity, IsPutIf, IsToldIf, ToldContent}
-use Rattle.lw_run.specs.inner.Devices.{task_of}
+use Rattle.lw_run.specs.inner.Devices.{task_of, with_first}
 use Rattle.lw_run.specs.inner.Stepping.{LeavesCheck}
 
 -- the step that was made, with what was counted and what is left to do by it

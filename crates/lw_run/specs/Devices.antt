@@ -1,6 +1,6 @@
 -- What is under way with devices: requests that wait for an answer (RFC 7252, section 4.2), notifications that come in
 -- blocks (RFC 7959, section 2.6), and what is left to do of both (RFC 7641, section 3.6).
-use Rattle.std.specs.Prelude.{ℕ, ◌%◌, ◌^◌, Bool, List, [], ◌∷◌, ◌++◌, take, Option}
+use Rattle.std.specs.Prelude.{ℕ, ◌%◌, ◌^◌, Bool, List, [], ◌∷◌, ◌++◌, Option}
 use Rattle.lw_stamp.specs.declared.moment.Moment.{Moment}
 use Rattle.lw_stamp.specs.declared.stamp.Stamp.{Stamp}
 use Rattle.lw_stamp.specs.Moment.{ms_of}
@@ -36,10 +36,6 @@ pub record DevicesContent : Type 0 where
 -- one more thing is left to do, behind the others
 abbrev pub with_task : TaskContent → DevicesContent → DevicesContent
 with_task task devices = record devices { tasks = devices.tasks ++ task ∷ [] }
-
--- only so much is left to do: the first of it
-abbrev pub with_first : ℕ → DevicesContent → DevicesContent
-with_first count devices = record devices { tasks = take count devices.tasks }
 
 abbrev pub new_counts : RequestCounts
 new_counts = record { sent = 0; sent_again = 0; reset = 0; unanswered = 0; blocks = 0 }

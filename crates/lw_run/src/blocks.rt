@@ -123,8 +123,8 @@ impl Sorted {
     }
 }
 
-/// The datagrams, each among the bodies that those before it left: the store is called at the moment, and the bodies go by
-/// the one that never goes back. Where there is no memory for all, the bodies are those after some of them.
+/// The datagrams, each among the bodies that those before it left: the store is called at the moment, and the bodies go
+/// by the one that never goes back. Where there is no memory for all, the bodies are those after some of them.
 pub(crate) fn sort(
     alloc: Global,
     bodies: &mut Bodies,

@@ -1,5 +1,7 @@
 //! The clocks of a host.
 
+ghost use Rattle.std.specs.Prelude.{◌≡◌};
+
 use crate::Stopwatch;
 use lw_stamp::Moment;
 use lw_wire::HostClock;
@@ -40,7 +42,11 @@ pub struct HostClocks<C: HostClock + Drop, S: Stopwatch> {
 
 impl<C: HostClock + Drop, S: Stopwatch> HostClocks<C, S> {
     /// Clocks that start at the moment at which the stopwatch was started.
-    pub fn new(clock: C, stopwatch: S, start: Moment) -> HostClocks<C, S> {
+    pub fn new(clock: C, stopwatch: S, start: Moment) -> HostClocks<C, S>
+        ensures clock { result.clock ≡ clock }
+        ensures stopwatch { result.stopwatch ≡ stopwatch }
+        ensures start { result.start ≡ start }
+    {
         HostClocks {
             clock,
             stopwatch,

@@ -110,8 +110,8 @@ impl<G: DeltaLog, C: Clocks> Server<G, C> {
         self.observe_shown(id, path, accept, before)
     }
 
-    /// Has a path of the registration observed, on which there was this observation before. Where the round fails, what it
-    /// has left is written with the next one, and then it is ended.
+    /// Has a path of the registration observed, on which there was this observation before. Where the round fails, what
+    /// it has left is written with the next one, and then it is ended.
     fn observe_shown(
         &mut self,
         id: Stamp,

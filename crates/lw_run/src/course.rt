@@ -43,8 +43,8 @@ pub(crate) struct Course<G: DeltaLog + Metered, C: Clocks> {
     compaction: Compaction,
     /// How many turns are left before a compaction is tried again.
     rest: u32,
-    /// Whether the log has lost entries since it was compacted. Whoever reads it from its beginning may miss what stood in
-    /// them, until all is written anew.
+    /// Whether the log has lost entries since it was compacted. Whoever reads it from its beginning may miss what stood
+    /// in them, until all is written anew.
     has_lost: bool,
     /// Whether it was told that the counter nears its end.
     told_of_end: bool,
@@ -124,8 +124,8 @@ impl<G: DeltaLog + Metered, C: Clocks> Course<G, C> {
         }
     }
 
-    /// A turn with the datagram that came, and with those that are there behind it. Where the log is away they are passed
-    /// over.
+    /// A turn with the datagram that came, and with those that are there behind it. Where the log is away they are
+    /// passed over.
     pub(crate) fn take<F: Front, L: Log>(
         &mut self,
         front: &mut F,

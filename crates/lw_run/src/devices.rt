@@ -1,14 +1,14 @@
-//! What is under way with devices: requests that wait for an answer, notifications that come in blocks, and what is left
-//! to do of both.
+//! What is under way with devices: requests that wait for an answer, notifications that come in blocks, and what is
+//! left to do of both.
 
 ghost use Rattle.std.specs.Prelude.{◌≡◌, ◌<◌, ◌≤◌, ◌+◌, ◌++◌, length, map, option_map, vec_capacity, vec_len};
 ghost use Rattle.std.specs.Prelude.{IfOk, OnErr, OnOk};
 ghost use Rattle.std.specs.Option.{option_to_list};
 ghost use Rattle.lw_exchange.specs.Waiting.{HasRoom};
-ghost use Rattle.lw_run.specs.Devices.{left_of, new_counts, new_devices, with_first, with_task};
+ghost use Rattle.lw_run.specs.Devices.{left_of, new_counts, new_devices, with_task};
 ghost use Rattle.lw_run.specs.Hearing.{counts_block, counts_heard, is_confirmable as is_confirmable_in, left_by, AsksRest, IsPassed, Passes, WholePasses};
 ghost use Rattle.lw_run.specs.Stepping.{cancel_of as cancel_in, cancels_of, first_of, over, with_sent, without_first, IsFirstCut, StepsRequests};
-ghost use Rattle.lw_run.specs.inner.Devices.{task_in, task_of};
+ghost use Rattle.lw_run.specs.inner.Devices.{task_in, task_of, with_first};
 
 use crate::hearing::Passage;
 use bytes::Bytes;
@@ -432,8 +432,8 @@ fn pass(
     }
 }
 
-/// Asks for the rest of a notification. Where as many requests wait as can, what has come of it is told. There is room for
-/// a task.
+/// Asks for the rest of a notification. Where as many requests wait as can, what has come of it is told. There is room
+/// for a task.
 fn ask_rest(
     requests: &mut Requests,
     tasks: &mut Vec<Task>,

@@ -12,8 +12,8 @@ use lw_stamp::Moment;
 /// The type of a non-confirmable message.
 const NON_CONFIRMABLE: u8 = 1;
 
-/// Puts message IDs of the server's own into the replies that are not confirmable. Where none is free there is no reply:
-/// how many replies were not sent so, counted on.
+/// Puts message IDs of the server's own into the replies that are not confirmable. Where none is free there is no
+/// reply: how many replies were not sent so, counted on.
 pub(crate) fn number_replies(
     ids: &mut MessageIds,
     unnumbered: u64,

@@ -15,7 +15,8 @@ pub enum Compaction {
     Never,
 }
 
-/// Serves until the front tells that it is over. Where nothing comes for so long a time a turn is made without datagrams.
+/// Serves until the front tells that it is over. Where nothing comes for so long a time a turn is made without
+/// datagrams.
 pub fn run_on<F: Front, G: DeltaLog + Metered, C: Clocks, L: Log>(
     front: &mut F,
     server: Server<G, C>,

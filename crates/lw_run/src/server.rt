@@ -40,7 +40,8 @@ pub struct Server<G: DeltaLog, C: Clocks> {
     pub(crate) started: Moment,
     /// The moment that the host's clock told last: lifetimes go by it.
     pub(crate) latest: Moment,
-    /// The moment of a clock that never goes back: what waits for an answer, and what is kept for some time, goes by it.
+    /// The moment of a clock that never goes back: what waits for an answer, and what is kept for some time, goes by
+    /// it.
     pub(crate) steady: Moment,
     pub(crate) tally: Tally,
     /// How many turns failed for want of memory.
@@ -161,11 +162,11 @@ impl<G: DeltaLog, C: Clocks> Server<G, C> {
         Ok(())
     }
 
-    /// Takes datagrams at the moment that the clocks told last, and ends what has expired: the replies that are to be sent,
-    /// those that are sent again before the others. Where it fails nothing is to be sent, and nothing is kept.
+    /// Takes datagrams at the moment that the clocks told last, and ends what has expired: the replies that are to be
+    /// sent, those that are sent again before the others. Where it fails nothing is to be sent, and nothing is kept.
     ///
-    /// Where it fails blocks of the batch may have been put to their bodies. What a device sends behind one that was lost
-    /// so is answered by 4.08, and the device begins its body anew.
+    /// Where it fails blocks of the batch may have been put to their bodies. What a device sends behind one that was
+    /// lost so is answered by 4.08, and the device begins its body anew.
     pub fn take(&mut self, batch: Vec<Datagram>) -> Result<Vec<(Addr, Vec<u8>)>, TurnFault>
         ensures turn { IfOk result (λ sends. IsTurn self.old batch.items (map sent sends.items) self.new) }
         // Also where it fails.
@@ -249,8 +250,8 @@ impl<G: DeltaLog, C: Clocks> Server<G, C> {
         self.duplicates
     }
 
-    /// How many turns had no memory for all that they answered. What was not kept is taken again if it comes again, and the
-    /// reply to a body may have gone without its block.
+    /// How many turns had no memory for all that they answered. What was not kept is taken again if it comes again, and
+    /// the reply to a body may have gone without its block.
     pub fn unkept(&self) -> u64
         ensures { result ≡ self.now.unkept }
     {

@@ -14,8 +14,8 @@ use lw_reg::Addr;
 use lw_stamp::Moment;
 use std::alloc::Global;
 
-/// A round of the member with what it takes of the datagrams, which is counted, and the Sweeps at the moment before: the
-/// datagrams that are answered. There is room for as many to be sent.
+/// A round of the member with what it takes of the datagrams, which is counted, and the Sweeps at the moment before:
+/// the datagrams that are answered. There is room for as many to be sent.
 pub(crate) fn settle<G: DeltaLog>(
     alloc: Global,
     member: &mut Member<G>,

@@ -38,8 +38,8 @@ const ANYWHERE: Addr = Addr::V4 {
 const MOST_WATCHES: u32 = 65_536;
 
 impl<G: DeltaLog, C: Clocks> Server<G, C> {
-    /// Does the first thing that is left to do with devices, or what is to be done with the first request that is due, at
-    /// the moment that the clocks told last. Where it fails, that is still left to do.
+    /// Does the first thing that is left to do with devices, or what is to be done with the first request that is due,
+    /// at the moment that the clocks told last. Where it fails, that is still left to do.
     pub fn next_step(&mut self) -> Result<Progress, TurnFault>
         ensures stepped { IfOk result (λ it. IsNextStep self.old it self.new) }
         // Also where it fails.

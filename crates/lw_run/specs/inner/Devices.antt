@@ -1,9 +1,10 @@
 -- What is left to do with devices, as the code has it.
+use Rattle.std.specs.Prelude.{ℕ, take}
 use Rattle.lw_run.specs.declared.devices.First.{First}
 use Rattle.lw_run.specs.declared.devices.First.TheVariants as firsts
 use Rattle.lw_run.specs.declared.devices.Task.{Task}
 use Rattle.lw_run.specs.declared.devices.Task.TheVariants as tasks
-use Rattle.lw_run.specs.Devices.{TaskContent, End, Close, Check, Cut, Tell, Undo}
+use Rattle.lw_run.specs.Devices.{DevicesContent, TaskContent, End, Close, Check, Cut, Tell, Undo}
 
 abbrev pub task_of : Task → TaskContent
 task_of (tasks.End token code) = End token code
@@ -20,3 +21,7 @@ task_in (firsts.Check notice) = Check notice
 task_in (firsts.Cut fetch) = Cut fetch
 task_in (firsts.Tell bytes is_complete) = Tell bytes is_complete
 task_in (firsts.Undo id path before) = Undo id path before
+
+-- only so much is left to do: the first of it
+abbrev pub with_first : ℕ → DevicesContent → DevicesContent
+with_first count devices = record devices { tasks = take count devices.tasks }
