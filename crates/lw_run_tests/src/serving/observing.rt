@@ -16,6 +16,12 @@ const ASKS_AGAIN: &str = "4801000200000000000400016051330130";
 /// The GET that asks for it: confirmable, the first message of the server's own, with Observe 0.
 const ASKS: &str = "4801000000000000000200016051330130";
 
+/// What is told of an observation of `/1/0`, and the GET that asks for it: the second message of the server's own.
+const OBSERVED_OTHER: &str =
+    r#"Created Json {"accept":null,"endpoint":"a","id":"0000000000010001","path":"/1/0","token":"0000000000030001"}"#;
+
+const ASKS_OTHER: &str = "4801000100000000000300016051310130";
+
 /// The GET that ends it, with Observe 1: the second message of the server's own.
 const ENDS: &str = "480100010000000000020001610151330130";
 
@@ -34,8 +40,10 @@ const HAS_SECOND: &str = "60000032";
 /// A notification of more than 16 bytes, confirmable: Block2 0/1/16, Observe 5.
 const BLOCK: &str = "4845003100000000000200016105d10408ff30313233343536373839616263646566";
 
-/// The device rejects the first GET.
+/// The device rejects the first GET, and the second.
 const RESET: &str = "70000000";
+
+const RESET_SECOND: &str = "70000001";
 
 /// The first notification as the page of notifications has it: 2.05, Observe 1 and `1`.
 const TOLD_FIRST: &str =
@@ -61,6 +69,14 @@ const TOLD_NO_ANSWER: &str =
 const TOLD_RESET: &str =
     r#"{"complete":true,"notice":{"code":0,"content_format":null,"ended":true,"endpoint":"a","id":"0000000000010001","observe":null,"path":"/3/0","payload":"","token":"0000000000020001"},"number":0}"#;
 
+/// The end of one of `/1/0` that the device has reset, as the second.
+const TOLD_RESET_SECOND: &str =
+    r#"{"complete":true,"notice":{"code":0,"content_format":null,"ended":true,"endpoint":"a","id":"0000000000010001","observe":null,"path":"/1/0","payload":"","token":"0000000000030001"},"number":1}"#;
+
+/// The end of one that the device has ended by 4.04.
+const TOLD_NOT_FOUND: &str =
+    r#"{"complete":true,"notice":{"code":132,"content_format":null,"ended":true,"endpoint":"a","id":"0000000000010001","observe":null,"path":"/3/0","payload":"","token":"0000000000020001"},"number":0}"#;
+
 /// Before and behind the notifications of a page that has one, and of one that has two.
 const PAGE_OF_ONE: Piece = Piece::Text(r#"Ok Json {"next":1,"notifications":["#);
 
@@ -78,7 +94,7 @@ const NO_SUCH: Piece = Piece::Text("NotFound Json {\"error\":\"not found\"}\nnot
 const ASKS_REST: &str = "4401000100000000b1330130c110";
 
 /// Observations that are made and ended.
-static MADE: [Run; 6] = [
+static MADE: [Run; 7] = [
     Run {
         name: "an observation is made and tells",
         stage: Stage {
@@ -155,6 +171,34 @@ static MADE: [Run; 6] = [
         ],
     },
     Run {
+        // Both end in one round: a reading and an entry.
+        name: "Resets that come together end their observations together",
+        stage: Stage {
+            comings: &[
+                Coming::Datagram(3, REGISTER),
+                Coming::Observe("/3/0"),
+                Coming::Observe("/1/0"),
+                Coming::Datagram(3, RESET),
+                Coming::AtOnce(3, RESET_SECOND),
+                NOTIFICATIONS,
+            ],
+            ..STAGE
+        },
+        want: &[
+            Piece::Line("Ok(()) WrWrWrrWrrrWr"),
+            Piece::Sent(3, CREATED),
+            Piece::Line(OBSERVED),
+            Piece::Sent(3, ASKS),
+            Piece::Line(OBSERVED_OTHER),
+            Piece::Sent(3, ASKS_OTHER),
+            PAGE_OF_TWO,
+            Piece::Text(TOLD_RESET),
+            Piece::Text(","),
+            Piece::Text(TOLD_RESET_SECOND),
+            PAGE_END,
+        ],
+    },
+    Run {
         name: "an observation is ended",
         stage: Stage {
             comings: &[
@@ -212,14 +256,14 @@ static MADE: [Run; 6] = [
 ];
 
 /// Tries: lw_run::run_on, lw_run::Server::next_step, lw_run::Server::hear, lw_target::Desk::carry_out
-/// Tries: lw_target::Desk::wants_to_send
+/// Tries: lw_target::Desk::wants_to_send, lw_call::Notice::copy
 #[test]
 fn observations_are_made_and_ended(rt: HostRuntime) {
     plays(&rt, rt.alloc(), &MADE);
 }
 
 /// What devices tell, and what is sent to them for it.
-static TOLD: [Run; 4] = [
+static TOLD: [Run; 5] = [
     Run {
         name: "an older notification is acknowledged and not told",
         stage: Stage {
@@ -277,6 +321,31 @@ static TOLD: [Run; 4] = [
         ],
     },
     Run {
+        // The device ends the observation by 4.04, which the log does not take. The next round writes it.
+        name: "an end that the log does not take is told once it does",
+        stage: Stage {
+            comings: &[
+                Coming::Datagram(3, REGISTER),
+                Coming::Observe("/3/0"),
+                Coming::Datagram(3, "688400000000000000020001"),
+                Coming::Times(2, &Coming::Nothing),
+                NOTIFICATIONS,
+            ],
+            appends: Some(3),
+            ..STAGE
+        },
+        want: &[
+            Piece::Sent(3, CREATED),
+            Piece::Line(OBSERVED),
+            Piece::Sent(3, ASKS),
+            PAGE_OF_ONE,
+            Piece::Text(TOLD_NOT_FOUND),
+            PAGE_END,
+            Piece::Line("[WARN  lw_run::course] log away"),
+            Piece::Line("[INFO  lw_run::course] log back"),
+        ],
+    },
+    Run {
         // The device answers the request for the second block by 4.04: what came is told, and that it is not all.
         name: "a notification that breaks off is told so",
         stage: Stage {
@@ -321,7 +390,7 @@ static TOLD: [Run; 4] = [
 ];
 
 /// Tries: lw_run::run_on, lw_run::Server::take, lw_run::Server::report, lw_run::Server::hear
-/// Tries: lw_run::Server::next_step, lw_api::notifications
+/// Tries: lw_run::Server::next_step, lw_api::notifications, lw_exchange::stamp_of_token
 #[test]
 fn what_devices_tell_is_told(rt: HostRuntime) {
     plays(&rt, rt.alloc(), &TOLD);

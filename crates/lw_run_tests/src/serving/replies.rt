@@ -75,7 +75,10 @@ static REPLIES: [Run; 3] = [
         },
         want: &[
             Piece::Line("Ok(()) Wrr"),
-            Piece::Times(2, "[WARN  lw_run::course] send passed over to=127.0.0.1:1\n"),
+            Piece::Times(
+                2,
+                "[WARN  lw_run::course] send passed over to=127.0.0.1:1\n",
+            ),
         ],
     },
     Run {

@@ -323,7 +323,8 @@ static EXPIRIES: [Run; 4] = [
     },
 ];
 
-/// Tries: lw_run::run_on, lw_run::Server::new, lw_run::Server::take, lw_run::Server::tick
+/// Tries: lw_run::run_on, lw_run::Server::new, lw_run::Server::take, lw_run::Server::tick, lw_run::Server::read_clock
+/// Tries: lw_run::Clocks::read
 #[test]
 fn runs_go_on_and_end(rt: HostRuntime) {
     plays(&rt, rt.alloc(), &QUIET);
