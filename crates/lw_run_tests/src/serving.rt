@@ -1,6 +1,7 @@
 //! Runs of a server over a front in memory, by a clock in memory.
 
 mod blocks;
+mod clocks;
 mod compacting;
 mod desk;
 mod front;
