@@ -18,7 +18,7 @@ const BETWEEN: u64 = 1;
 /// The drops of a socket, as they were seen last.
 #[derive(Drop)]
 pub(crate) struct Drops {
-    table: &'static str,
+    is_ipv6: bool,
     place: String,
     looked: Option<Instant>,
     pub(crate) count: u64,
@@ -27,12 +27,12 @@ pub(crate) struct Drops {
 impl Drops {
     /// Those of the socket at the address, of which none are seen yet.
     pub(crate) fn new(alloc: Global, address: SocketAddr) -> io::Result<Drops> {
-        let (table, place) = match address {
-            SocketAddr::V4(it) => (TABLE, place_of_ipv4(alloc, it.ip(), it.port())?),
-            SocketAddr::V6(it) => (TABLE_OF_IPV6, place_of_ipv6(alloc, it.ip(), it.port())?),
+        let place = match address {
+            SocketAddr::V4(it) => place_of_ipv4(alloc, it.ip(), it.port())?,
+            SocketAddr::V6(it) => place_of_ipv6(alloc, it.ip(), it.port())?,
         };
         Ok(Drops {
-            table,
+            is_ipv6: address.is_ipv6(),
             place,
             looked: None,
             count: 0,
@@ -47,7 +47,8 @@ impl Drops {
             return;
         }
         self.looked = Some(now);
-        self.count = match fs::read_to_string(host, self.table) {
+        let path = if self.is_ipv6 { TABLE_OF_IPV6 } else { TABLE };
+        self.count = match fs::read_to_string(host, path) {
             Ok(table) => drops_in(table.as_str(), self.place.as_str()),
             Err(_) => 0,
         };
