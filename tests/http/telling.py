@@ -35,6 +35,8 @@ OPERATORS, MANY, ORDERED = 8, 200, 10.0
 PROMPT, PATIENCE = 0.5, 2.0
 # how many devices are gone
 GONE = 100
+# what is written of their ends: one entry in a round of all of them, and a few more where they do not come at once
+ENTRIES, MOST_ENTRIES = "fleet_log_entries_written_total", 10
 
 
 class Teller(threading.Thread):
@@ -189,12 +191,20 @@ def gone_at_once(scene):
             it.hear(5)
         other = stack.enter_context(Observed(server.port, "other"))
         tokens, begun = [token_of(observe(server, it)) for it in gone], time.monotonic()
+        before = measures_of(server)[ENTRIES]
         stands_still(scene, server, begun)
         found = updated(other, 3.0)
         is_soon(lambda: len(ends_of(server)) >= GONE)
-        are_prompt(scene, f"where {GONE} observations end at once", found, 1)
+        scene.is_true(f"where {GONE} observations end at once: Updates are answered", answers_in(found) > 0, found)
+        entries = measures_of(server)[ENTRIES] - before - answers_in(found)
+        scene.is_true(f"they take {entries} entries of the log", entries <= MOST_ENTRIES, f"{MOST_ENTRIES} at most")
         want = sorted((it, GATEWAY_TIMEOUT, True) for it in tokens)
         scene.is_true("each end is told once", ends_of(server) == want, ends_of(server))
+
+
+def answers_in(found):
+    """How many Updates were answered."""
+    return sum(code == "2.04" for code, _ in found)
 
 
 def stands_still(scene, server, begun):
