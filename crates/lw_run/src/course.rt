@@ -203,10 +203,27 @@ impl<G: DeltaLog + Metered, C: Clocks> Course<G, C> {
         Ok(())
     }
 
-    /// Does what is left to do with devices, and sends the requests that are due.
+    /// Does what is left to do with devices, once what is due of requests is done.
     fn serve_devices<F: Front, L: Log>(&mut self, front: &mut F, log: &L) -> Result<(), TurnFault> {
+        self.serve_requests(front, log)?;
         for _step in 0..STEPS_A_TURN {
             match self.server.next_step()? {
+                Progress::Idle => return Ok(()),
+                Progress::Moved => {}
+                Progress::Sends(to, bytes) => self.send_request(front, log, to, &bytes),
+            }
+        }
+        Ok(())
+    }
+
+    /// Sends the requests that are due, and gives up those whose time is over. So the observations of these end together.
+    fn serve_requests<F: Front, L: Log>(
+        &mut self,
+        front: &mut F,
+        log: &L,
+    ) -> Result<(), TurnFault> {
+        for _step in 0..STEPS_A_TURN {
+            match self.server.step_requests()? {
                 Progress::Idle => return Ok(()),
                 Progress::Moved => {}
                 Progress::Sends(to, bytes) => self.send_request(front, log, to, &bytes),

@@ -52,7 +52,8 @@ impl<G: DeltaLog, C: Clocks> Server<G, C> {
         }
     }
 
-    fn step_requests(&mut self) -> Result<Progress, TurnFault>
+    /// Does what is to be done with the first request that is due.
+    pub(crate) fn step_requests(&mut self) -> Result<Progress, TurnFault>
         ensures steps { IfOk result (λ it. IsRequestStep self.old it self.new) }
         ensures member { self.new.member ≡ self.old.member }
         ensures left { OnErr result (self.new ≡ self.old) }
