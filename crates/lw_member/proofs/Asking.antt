@@ -80,3 +80,15 @@ entries_append (Trimmed p ∷ xs) ys = entries_append xs ys
 
 pub entries_more : (pages : List LogCall) (from : Option (ℕ × ℕ)) (es : List Placed) → entries_in (pages ++ Read from es ∷ []) ≡ entries_in pages ++ bytes_of es
 entries_more pages from es = entries_append pages (Read from es ∷ []) ∙ ap (λ rest. entries_in pages ++ rest) (append-nil (bytes_of es))
+
+-- what is read to the end is read
+pub ended_reads : (after : Option (ℕ × ℕ)) (pages : List LogCall) → AreReadToTheEnd after pages → AreReads pages
+ended_reads after [] h = absurd h
+ended_reads after (Read from es ∷ []) h = tt
+ended_reads after (Read from es ∷ Read to ys ∷ pages) h = ended_reads (place_read after es) (Read to ys ∷ pages) h.2
+ended_reads after (Read from es ∷ Wrote p ∷ pages) h = absurd h.2
+ended_reads after (Read from es ∷ Tried e ∷ pages) h = absurd h.2
+ended_reads after (Read from es ∷ Trimmed p ∷ pages) h = absurd h.2
+ended_reads after (Wrote p ∷ pages) h = absurd h
+ended_reads after (Tried e ∷ pages) h = absurd h
+ended_reads after (Trimmed p ∷ pages) h = absurd h

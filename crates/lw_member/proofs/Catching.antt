@@ -1,21 +1,24 @@
 -- Pages of a log that are read and taken, one after another.
-use Rattle.std.proofs.Common.{◌≡◌, ℕ, suc, ◌<◌, ◌≤◌, List, [], ◌∷◌, ◌++◌, length, Option, Bool, refl, sym, ap, ◌∙◌, subst, append-nil, arith}
+use Rattle.std.proofs.Common.{◌≡◌, ◌⊎◌, inl, inr, ℕ, suc, ◌<◌, ◌≤◌, List, [], ◌∷◌, ◌++◌, length, Option, None, Bool, refl, sym, ap, ◌∙◌, subst, append-nil, arith}
 use Rattle.lw_log.specs.Calls.{LogCall, Placed, Calls, placed, place_of}
 use Rattle.lw_log.specs.Calls.LogCall.{Read}
 use Rattle.lw_log.specs.declared.position.Position.{Position}
 use Rattle.lw_log.specs.declared.start.Start.{Start}
 use Rattle.lw_member.specs.declared.standing.Standing.{Standing}
+use Rattle.lw_node.specs.Exchange.{known_by}
 use Rattle.lw_node.specs.Node.{NodeContent}
 use Rattle.lw_member.specs.Member.{IsWritten}
 use Rattle.lw_member.specs.Parts.{IsLeading, IsMember}
-use Rattle.lw_member.specs.Reading.{AreReads, AreReadToTheEnd, bytes_of, entries_in, last_read, place_read}
+use Rattle.lw_member.specs.Reading.{AreReads, AreReadToTheEnd, ReadsOn, bytes_of, entries_in, last_read, place_read}
 use Rattle.lw_member.specs.inner.Going.{Goes}
 use Rattle.lw_member.specs.inner.Seeing.{AreSeenBy}
 use Rattle.lw_member.specs.inner.Standing.{HasSameStart}
-use Rattle.lw_member.specs.inner.Taking.{ArePages, Takes, IsJudged}
+use Rattle.lw_member.specs.inner.Taking.{ArePages, IsBehind, IsReadBy, Takes, IsJudged}
 use Rattle.lw_member.proofs.Asking.{calls_none, calls_then, pages_more, pages_end, pages_last, pages_are_reads, reads_more, entries_more, page_seen}
 use Rattle.lw_member.proofs.Leading.{written_more}
 use Rattle.lw_member.proofs.Taking.{takes_none, takes_then, judged_start, judged_then}
+use Rattle.lw_member.proofs.Merging.{same_none, same_then}
+use Rattle.lw_member.proofs.Knowing.{on_pages, by_then, merges_known}
 
 pub record Caught (before : Option (List LogCall)) (old : Standing) (now : Option (List LogCall)) (new : Standing) (own : Bool) : Type 0 where
   pub pages : List LogCall
@@ -25,8 +28,8 @@ pub record Caught (before : Option (List LogCall)) (old : Standing) (now : Optio
   pub judged : IsJudged old.claimed old.start.number old.start.tag (entries_in pages) own
   pub same : HasSameStart old new
 
-abbrev pub Asked : Option (List LogCall) → Option (List LogCall) → Type 0
-Asked before now = (pages : List LogCall) × Calls before now pages × AreReads pages
+abbrev pub Asked : Option (List LogCall) → Standing → Option (List LogCall) → Standing → Type 0
+Asked before old now new = (pages : List LogCall) × Calls before now pages × AreReads pages × IsReadBy old pages new
 
 pub caught_start : (asked : Option (List LogCall)) (s : Standing) → Caught asked s asked s s.claimed
 caught_start asked s = record {
@@ -35,14 +38,8 @@ caught_start asked s = record {
   are = refl;
   takes = takes_none s;
   judged = judged_start s.claimed s.start.number s.start.tag;
-  same = record { number = refl; start = refl; made_up = refl; alone = refl; claimed = refl; floor = refl };
+  same = same_none s;
 }
-
-pub asked_none : (a b c : Option (List LogCall)) → Asked a b → Calls b c [] → Asked a c
-asked_none a b c one two = (one.0, subst (λ xs. Calls a c xs) (append-nil one.0) (calls_then a b c one.0 [] one.1 two), one.2)
-
-pub asked_page : (a b c : Option (List LogCall)) (from : Option (ℕ × ℕ)) (es : List Placed) → Asked a b → Calls b c (Read from es ∷ []) → Asked a c
-asked_page a b c from es one two = (one.0 ++ Read from es ∷ [], calls_then a b c one.0 (Read from es ∷ []) one.1 two, reads_more one.0 from es one.2)
 
 -- the log was asked more
 pub member_more : (a b : Option (List LogCall)) (more : List LogCall) (s : Standing) → Calls a b more → IsMember a s → IsMember b s
@@ -82,14 +79,7 @@ module _ (a0 a a1 : Option (List LogCall)) (s0 s s1 : Standing) (own later : Boo
       subst (λ es. IsJudged s0.claimed s0.start.number s0.start.tag es later) (sym is) (judged_then s0.claimed own later s0.start.number s0.start.tag (entries_in c.pages) (bytes_of (placed page)) c.judged here)
 
   same_all : HasSameStart s0 s1
-  same_all = record {
-    number = same.number ∙ c.same.number;
-    start = same.start ∙ c.same.start;
-    made_up = same.made_up ∙ c.same.made_up;
-    alone = same.alone ∙ c.same.alone;
-    claimed = same.claimed ∙ c.same.claimed;
-    floor = same.floor ∙ c.same.floor;
-  }
+  same_all = same_then s0 s s1 c.same same
 
   pub caught_page : 256 ≤ length page → Caught a0 s0 a1 s1 later
   caught_page full = record {
@@ -113,8 +103,38 @@ module _ (a0 a a1 : Option (List LogCall)) (s0 s s1 : Standing) (own later : Boo
     read_to ∙ sym (pages_last (place_of s0.read_to) (place_of s.read_to) c.pages (place_of s.read_to) (placed page) c.are),
   )
 
-pub caught_asked : (a0 a : Option (List LogCall)) (s0 s : Standing) (own : Bool) → Caught a0 s0 a s own → Asked a0 a
-caught_asked a0 a s0 s own c = (c.pages, c.asked, pages_are_reads (place_of s0.read_to) (place_of s.read_to) c.pages c.are)
+-- ---- what was asked, also where it fails
+module _ (a0 a : Option (List LogCall)) (s0 s : Standing) (own : Bool) (c : Caught a0 s0 a s own) where
+  caught_on : ReadsOn s0.alone (known_by s.node) (place_of s0.read_to) c.pages (place_of s.read_to)
+  caught_on = on_pages s0.alone (known_by s.node) (place_of s0.read_to) c.pages (place_of s.read_to) c.are (merges_known s0.node s.node (entries_in c.pages) c.takes.merged)
+
+  caught_reads : AreReads c.pages
+  caught_reads = pages_are_reads (place_of s0.read_to) (place_of s.read_to) c.pages c.are
+
+  pub caught_asked : Asked a0 s0 a s
+  caught_asked = (c.pages, c.asked, caught_reads, inr caught_on)
+
+  -- the log did not give a page
+  pub asked_fault : (b : Option (List LogCall)) (s1 : Standing) → Calls a b [] → s1.node ≡ s.node → (s1.read_to ≡ None) ⊎ (s1.read_to ≡ s.read_to) → Asked a0 s0 b s1
+  asked_fault b s1 asked node moved = (
+    c.pages,
+    subst (λ xs. Calls a0 b xs) (append-nil c.pages) (calls_then a0 a b c.pages [] c.asked asked),
+    caught_reads,
+    elim moved [
+      | inl none ↦ inl (ap place_of none)
+      | inr same ↦ inr (subst (λ (p : Option Position). ReadsOn s0.alone (known_by s1.node) (place_of s0.read_to) c.pages (place_of p)) (sym same)
+          (subst (λ (n : NodeContent). ReadsOn s0.alone (known_by n) (place_of s0.read_to) c.pages (place_of s.read_to)) (sym node) caught_on))
+    ],
+  )
+
+  -- it gave one, of which the first entries were taken
+  pub asked_page : (b : Option (List LogCall)) (s1 : Standing) (page : List Placed) → Calls a b (Read (place_of s.read_to) page ∷ []) → HasSameStart s s1 → IsBehind s page s1 → Asked a0 s0 b s1
+  asked_page b s1 page asked same behind = (
+    c.pages ++ Read (place_of s.read_to) page ∷ [],
+    calls_then a0 a b c.pages (Read (place_of s.read_to) page ∷ []) c.asked asked,
+    reads_more c.pages (place_of s.read_to) page caught_reads,
+    by_then s0 s s1 c.pages (Read (place_of s.read_to) page ∷ []) caught_on c.same.alone same.knows (inr (behind.taken, behind.left, behind.is, refl, behind.known, behind.read_to)),
+  )
 
 -- what was read was seen
 pub page_leads : (a a1 : Option (List LogCall)) (s s1 : Standing) (from : Option (ℕ × ℕ)) (page : List (Position × List ℕ)) → Calls a a1 (Read from (placed page) ∷ [])
@@ -124,7 +144,7 @@ page_leads a a1 s s1 from page asked leads same m =
     member_same a1 s s1 same (leads a1 (page_seen a a1 from (placed page) asked) more.leading) more
 
 -- an append failed, and what was written may be written again
-pub member_failed : (a b : Option (List LogCall)) (more : List LogCall) (s s1 : Standing) → Calls a b more → s1 ≡ record s { written = s1.written; led = s1.led } → ((asked : Option (List LogCall)) → IsLeading asked s → IsLeading asked s1) → IsMember a s → IsMember b s1
+pub member_failed : (a b : Option (List LogCall)) (more : List LogCall) (s s1 : Standing) → Calls a b more → s1 ≡ record s { read_to = s1.read_to; written = s1.written; led = s1.led } → ((asked : Option (List LogCall)) → IsLeading asked s → IsLeading asked s1) → IsMember a s → IsMember b s1
 member_failed a b more s s1 asked only leads m =
     let later = member_more a b more s asked m in
     record {

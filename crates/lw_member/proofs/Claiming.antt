@@ -16,7 +16,10 @@ use Rattle.lw_member.specs.inner.Standing.{HasSameStart, IsStill, counted_in}
 use Rattle.lw_member.specs.inner.Taking.{Takes, IsJudged}
 use Rattle.lw_member.specs.inner.Writing.{Claims, IsStarted, IsClaimed}
 use Rattle.lw_member.proofs.Asking.{calls_then}
-use Rattle.lw_member.proofs.Owning.{claims_append, reads_claim}
+use Rattle.lw_member.proofs.Owning.{reads_claim, start_of}
+use Rattle.lw_member.proofs.Catching.{Asked}
+use Rattle.lw_member.proofs.Going.{below_then, goes_below}
+use Rattle.lw_member.proofs.Knowing.{by_more, by_then}
 use Rattle.lw_member.proofs.Counting.{counts_then}
 use Rattle.lw_member.proofs.Numbering.{noted_same}
 use Rattle.lw_member.proofs.Taking.{judged_holds}
@@ -80,20 +83,28 @@ module _ (a0 a1 a2 : Option (List LogCall)) (s0 s1 s2 s3 : Standing) (fleet : Li
     written_is = ap (λ (s : Standing). s.written) only;
   }
 
-  pub claim_same : HasSameStart s0 (record s3 { claimed = false })
-  claim_same = record {
+  pub claim_same : HasSameStart s0 s1 → HasSameStart s0 (record s3 { claimed = false })
+  claim_same first = record {
     number = number_is;
     start = start_is;
     made_up = ap (λ (s : Standing). s.made_up) only ∙ same.made_up ∙ ap (λ (s : Standing). s.made_up) one;
     alone = ap (λ (s : Standing). s.alone) only ∙ same.alone ∙ ap (λ (s : Standing). s.alone) one;
     claimed = sym unclaimed;
     floor = ap (λ (s : Standing). s.floor) only ∙ same.floor ∙ ap (λ (s : Standing). s.floor) one;
+    settled = λ h. ap (λ (s : Standing). s.settled) only ∙ same.settled (first.settled h);
+    fleet = λ f h is. ap fleet_of only ∙ same.fleet f (first.settled h) (first.fleet f h is);
+    knows = below_then (known_by s0.node) (known_by s2.node) (known_by s3.node) (below_then (known_by s0.node) (known_by s1.node) (known_by s2.node) first.knows same.knows) (goes_below s2.node s3.node goes);
   }
 
 -- a claim, and what was read behind it
-pub claims_read : (a0 a1 a2 : Option (List LogCall)) (s0 : Standing) → Claims a0 a1 s0 → (pages : List LogCall) × Calls a1 a2 pages × AreReads pages → Claims a0 a2 s0
-claims_read a0 a1 a2 s0 one two = (
-  one.0 ++ two.0,
-  calls_then a0 a1 a2 one.0 two.0 one.1 two.1,
-  claims_append s0.start.number s0.start.tag one.0 two.0 one.2 (reads_claim s0.start.number s0.start.tag two.0 two.2),
+pub claims_read : (a0 a1 a2 : Option (List LogCall)) (s0 s1 s2 : Standing) (fleet : List ℕ) → IsStarted a0 s0 fleet a1 s1 → HasSameStart s0 s1 → HasSameStart s1 s2 → Asked a1 s1 a2 s2 → Claims a0 s0 a2 s2
+claims_read a0 a1 a2 s0 s1 s2 fleet started first same two = (
+  Wrote started.place ∷ two.0,
+  calls_then a0 a1 a2 (Wrote started.place ∷ []) two.0 started.asked two.1,
+  (start_of s0 fleet started.place.1 started.entry, reads_claim s0.start.number s0.start.tag two.0 two.2),
+  by_then s0 s1 s2 (Wrote started.place ∷ []) two.0 started.read_to first.alone same.knows two.3,
 )
+
+-- and the node goes on
+pub claims_more : (a0 a2 : Option (List LogCall)) (s0 s2 s3 : Standing) → s3.read_to ≡ s2.read_to → Goes s2.node s3.node → Claims a0 s0 a2 s2 → Claims a0 s0 a2 s3
+claims_more a0 a2 s0 s2 s3 same goes claims = (claims.0, claims.1, claims.2, by_more s0 s2 s3 claims.0 (ap place_of same) (goes_below s2.node s3.node goes) claims.3)

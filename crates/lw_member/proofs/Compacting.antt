@@ -1,7 +1,7 @@
 -- A compaction, put together from its parts.
 use Rattle.std.proofs.Common.{◌≡◌, ◌⊎◌, inl, inr, ℕ, List, [], ◌∷◌, Option, Some, None, Bool, false, cond, refl, sym, ap, ◌∙◌, subst, append-nil}
 use Rattle.std.specs.Prelude.{Result, Ok, Err, option_map}
-use Rattle.lw_node.specs.Exchange.{IsDeltaSince}
+use Rattle.lw_node.specs.Exchange.{IsDeltaSince, known_by}
 use Rattle.lw_node.specs.Node.{NodeContent}
 use Rattle.lw_log.specs.Calls.{LogCall, Calls, place, place_of, trim_calls}
 use Rattle.lw_log.specs.Calls.LogCall.{Read, Wrote, Tried, Trimmed}
@@ -12,28 +12,20 @@ use Rattle.lw_log.specs.declared.log_fault.LogFault.TheVariants.{Away, Refused, 
 use Rattle.lw_log.specs.declared.position.Position.{Position}
 use Rattle.lw_log.specs.declared.start.Start.{Start as Starts}
 use Rattle.lw_member.specs.declared.standing.Standing.{Standing}
-use Rattle.lw_member.specs.Compaction.{IsOwnWhole, IsRenewing, IsCompacted, Compacts}
+use Rattle.lw_member.specs.Compaction.{IsOwnWhole, IsRenewing, IsCompacted, Compacts, LetsGo, StandsBefore}
 use Rattle.lw_member.specs.Counting.{CountsEntries, own_entries}
 use Rattle.lw_member.specs.Parts.{content_of, fleet_of, numbers_of, IsMember}
-use Rattle.lw_member.specs.Reading.{AreReads, AreReadToTheEnd, AreGood, AreNoted, HoldsNumber, MergesEntries, entries_in, last_read, place_read}
+use Rattle.lw_member.specs.Rounds.{place_after}
+use Rattle.lw_member.specs.Reading.{AreReads, AreReadToTheEnd, ReadsOn, AreGood, AreNoted, HoldsNumber, MergesEntries, entries_in, last_read, place_read}
 use Rattle.lw_member.specs.inner.Standing.{HasSameStart, counted_in}
-use Rattle.lw_member.specs.inner.Taking.{Takes, IsJudged}
+use Rattle.lw_member.specs.inner.Taking.{IsReadBy, Takes, IsJudged}
 use Rattle.lw_member.specs.inner.Wholes.{IsWholeOf, IsWrittenWhole, IsTryingWhole, TriesWhole}
-use Rattle.lw_member.proofs.Asking.{calls_then}
+use Rattle.lw_member.proofs.Asking.{calls_then, ended_reads}
+use Rattle.lw_member.proofs.Knowing.{by_then}
+use Rattle.lw_member.proofs.Merging.{same_then}
+use Rattle.lw_member.proofs.Owning.{read_all, stays_of}
 use Rattle.lw_member.proofs.Counting.{counts_then}
 use Rattle.lw_member.proofs.Taking.{judged_holds}
-
--- what is read to the end is read
-ended_reads : (after : Option (ℕ × ℕ)) (pages : List LogCall) → AreReadToTheEnd after pages → AreReads pages
-ended_reads after [] h = absurd h
-ended_reads after (Read from es ∷ []) h = tt
-ended_reads after (Read from es ∷ Read to ys ∷ pages) h = ended_reads (place_read after es) (Read to ys ∷ pages) h.2
-ended_reads after (Read from es ∷ Wrote p ∷ pages) h = absurd h.2
-ended_reads after (Read from es ∷ Tried e ∷ pages) h = absurd h.2
-ended_reads after (Read from es ∷ Trimmed p ∷ pages) h = absurd h.2
-ended_reads after (Wrote p ∷ pages) h = absurd h
-ended_reads after (Tried e ∷ pages) h = absurd h
-ended_reads after (Trimmed p ∷ pages) h = absurd h
 
 pub none_of : {A : Type 0} (o : Option A) → ((x : A) → o ≡ Some x → ⊥) → o ≡ None
 none_of None h = refl
@@ -57,8 +49,16 @@ own_whole asked s1 s2 fleet bytes node start fleet_is numbers number w = (
 )
 
 -- ---- what was asked, also where it fails
-pub compacts_read : (a0 a1 : Option (List LogCall)) (s0 s1 : Standing) → (pages : List LogCall) × Calls a0 a1 pages × AreReads pages → Compacts (content_of a0 s0) (content_of a1 s1)
-compacts_read a0 a1 s0 s1 reads = record { pages = reads.0; more = []; asked = subst (λ cs. Calls a0 a1 cs) (sym (append-nil reads.0)) reads.1; reads = reads.2; renewing = tt }
+pub compacts_read : (a0 a1 : Option (List LogCall)) (s0 s1 : Standing) → HasSameStart s0 s1 → (pages : List LogCall) × Calls a0 a1 pages × AreReads pages × IsReadBy s0 pages s1 → Compacts (content_of a0 s0) (content_of a1 s1)
+compacts_read a0 a1 s0 s1 same reads = record {
+  pages = reads.0;
+  more = [];
+  asked = subst (λ cs. Calls a0 a1 cs) (sym (append-nil reads.0)) reads.1;
+  reads = reads.2;
+  renewing = tt;
+  stays = stays_of a0 a1 s0 s1 same;
+  read_on = subst (λ cs. IsReadBy s0 cs s1) (sym (append-nil reads.0)) reads.3;
+}
 
 -- the log was read to its end
 module _ (a0 a1 : Option (List LogCall)) (s0 s1 : Standing) (pages : List LogCall) (own : Bool) (asked : Calls a0 a1 pages) (read : AreReadToTheEnd (place_of s0.read_to) pages)
@@ -74,7 +74,13 @@ module _ (a0 a1 : Option (List LogCall)) (s0 s1 : Standing) (pages : List LogCal
       let h : HoldsNumber s0.start.number s0.start.tag (entries_in pages) = judged_holds s0.start.number s0.start.tag (entries_in pages) own (subst (λ b. IsJudged b s0.start.number s0.start.tag (entries_in pages) own) unclaimed judged) in
       subst (λ n. HoldsNumber n s1.start.tag (entries_in pages)) number (subst (λ t. HoldsNumber s0.start.number t (entries_in pages)) tag h)
 
+  read_pages : ReadsOn s0.alone (known_by s1.node) (place_of s0.read_to) pages (place_of s1.read_to)
+  read_pages = read_all s0 s1 pages read takes.merged last
+
   -- ---- nothing is written
+  pub compacts_none : Compacts (content_of a0 s0) (content_of a1 s1)
+  compacts_none = compacts_read a0 a1 s0 s1 same (pages, asked, ended_reads (place_of s0.read_to) pages read, inr read_pages)
+
   pub compacted_none : (place_of s1.read_to ≡ None) ⊎ (fleet_of s1 ≡ None) → IsCompacted (content_of a0 s0) (content_of a1 s1)
   compacted_none none = record {
     pages = pages;
@@ -120,35 +126,58 @@ module _ (a0 a1 : Option (List LogCall)) (s0 s1 : Standing) (pages : List LogCal
     trying a (Read from es ∷ x ∷ more) t = absurd t
     trying a (Trimmed p ∷ x ∷ more) t = absurd t
 
-    pub compacts_tried : TriesWhole a1 s1 fleet a2 → Compacts (content_of a0 s0) (content_of a2 s2)
-    compacts_tried tries = record { pages = pages; more = tries.0; asked = calls_then a0 a1 a2 pages tries.0 asked tries.1; reads = ended_reads (place_of s0.read_to) pages read; renewing = trying a2 tries.0 tries.2 }
+    pub compacts_tried : TriesWhole a1 s1 fleet a2 s2 → Compacts (content_of a0 s0) (content_of a2 s2)
+    compacts_tried tries = record {
+      pages = pages;
+      more = tries.0;
+      asked = calls_then a0 a1 a2 pages tries.0 asked tries.1;
+      reads = ended_reads (place_of s0.read_to) pages read;
+      renewing = trying a2 tries.0 tries.2;
+      stays = stays_of a0 a2 s0 s2 (same_then s0 s1 s2 same later);
+      read_on = by_then s0 s1 s2 pages tries.0 read_pages same.alone later.knows tries.3;
+    }
 
     -- ---- and what was read goes
-    module _ (a3 : Option (List LogCall)) (upto : Position) (is : s1.read_to ≡ Some upto) (w : IsWrittenWhole a1 s1 fleet a2 s2) where
+    module _ (a3 : Option (List LogCall)) (upto : Position) (is : s1.read_to ≡ Some upto) (at : Position) (w : IsWrittenWhole a1 s1 fleet (place at) a2 s2) where
       last_is : last_read (place_of s0.read_to) pages ≡ Some (place upto)
       last_is = sym last ∙ ap (λ p. place_of p) is
 
-      renewing_trim : (r : Result Unit LogFault) → IsRenewing (content_of a0 s0) pages (content_of a3 s2) (Wrote w.place ∷ trim_calls upto r)
-      renewing_trim (Ok x) = (read, is_own a3 w.place.1 w.whole, last_is)
-      renewing_trim (Err NoMemory) = (read, is_own a3 w.place.1 w.whole)
-      renewing_trim (Err Away) = (read, is_own a3 w.place.1 w.whole, last_is)
-      renewing_trim (Err Refused) = (read, is_own a3 w.place.1 w.whole, last_is)
-      renewing_trim (Err Lost) = (read, is_own a3 w.place.1 w.whole, last_is)
+      is_before : StandsBefore (place upto) (place at) → StandsBefore (place upto) w.place.0
+      is_before before = subst (λ (p : ℕ × ℕ). StandsBefore (place upto) p) (sym w.place_is) before
 
-      pub compacts_trimmed : (r : Result Unit LogFault) → Calls a2 a3 (trim_calls upto r) → Compacts (content_of a0 s0) (content_of a3 s2)
-      compacts_trimmed r trimmed = record {
+      renewing_trim : StandsBefore (place upto) (place at) → (r : Result Unit LogFault) → IsRenewing (content_of a0 s0) pages (content_of a3 s2) (Wrote w.place ∷ trim_calls upto r)
+      renewing_trim before (Ok x) = (read, is_own a3 w.place.1 w.whole, last_is, is_before before)
+      renewing_trim before (Err NoMemory) = (read, is_own a3 w.place.1 w.whole)
+      renewing_trim before (Err Away) = (read, is_own a3 w.place.1 w.whole, last_is, is_before before)
+      renewing_trim before (Err Refused) = (read, is_own a3 w.place.1 w.whole, last_is, is_before before)
+      renewing_trim before (Err Lost) = (read, is_own a3 w.place.1 w.whole, last_is, is_before before)
+
+      -- a trim moves it no more
+      trimmed_on : (r : Result Unit LogFault) → ReadsOn s1.alone (known_by s2.node) (place_of s1.read_to) (Wrote w.place ∷ trim_calls upto r) (place_of s2.read_to)
+      trimmed_on (Ok x) = w.read_to
+      trimmed_on (Err NoMemory) = w.read_to
+      trimmed_on (Err Away) = w.read_to
+      trimmed_on (Err Refused) = w.read_to
+      trimmed_on (Err Lost) = w.read_to
+
+      pub compacts_trimmed : StandsBefore (place upto) (place at) → (r : Result Unit LogFault) → Calls a2 a3 (trim_calls upto r) → Compacts (content_of a0 s0) (content_of a3 s2)
+      compacts_trimmed before r trimmed = record {
         pages = pages;
         more = Wrote w.place ∷ trim_calls upto r;
         asked = calls_then a0 a1 a3 pages (Wrote w.place ∷ trim_calls upto r) asked (calls_then a1 a2 a3 (Wrote w.place ∷ []) (trim_calls upto r) w.asked trimmed);
         reads = ended_reads (place_of s0.read_to) pages read;
-        renewing = renewing_trim r;
+        renewing = renewing_trim before r;
+        stays = stays_of a0 a3 s0 s2 (same_then s0 s1 s2 same later);
+        read_on = by_then s0 s1 s2 pages (Wrote w.place ∷ trim_calls upto r) read_pages same.alone later.knows (inr (trimmed_on r));
       }
 
-      pub compacted_whole : Calls a2 a3 (Trimmed (place upto) ∷ []) → IsMember a3 s2 → IsCompacted (content_of a0 s0) (content_of a3 s2)
-      compacted_whole trimmed now = record {
+      -- all but what goes
+      compacted_by : (calls : List LogCall) → Calls a2 a3 calls → place_after s0.alone (last_read (place_of s0.read_to) pages) (Wrote w.place ∷ calls) ≡ cond s0.alone (Some w.place.0) (last_read (place_of s0.read_to) pages)
+          → own_entries s0.alone (Wrote w.place ∷ calls) ≡ own_entries s0.alone (Wrote w.place ∷ []) → LetsGo w.place (place upto) (Wrote w.place ∷ calls) → IsMember a3 s2 → IsCompacted (content_of a0 s0) (content_of a3 s2)
+      compacted_by calls after place_is own_is goes now = record {
         pages = pages;
-        wrote = Wrote w.place ∷ Trimmed (place upto) ∷ [];
-        asked = calls_then a0 a1 a3 pages (Wrote w.place ∷ Trimmed (place upto) ∷ []) asked (calls_then a1 a2 a3 (Wrote w.place ∷ []) (Trimmed (place upto) ∷ []) w.asked trimmed);
+        wrote = Wrote w.place ∷ calls;
+        asked = calls_then a0 a1 a3 pages (Wrote w.place ∷ calls) asked (calls_then a1 a2 a3 (Wrote w.place ∷ []) calls w.asked after);
         start = record {
           number = later.number ∙ same.number;
           tag = ap (λ (x : Starts). x.tag) (later.start ∙ same.start);
@@ -157,12 +186,30 @@ module _ (a0 a1 : Option (List LogCall)) (s0 s1 : Standing) (pages : List LogCal
         };
         claimed = later.claimed ∙ same.claimed;
         read = read;
-        read_to = w.read_to ∙ ap (λ b. cond b (Some w.place.0) (place_of s1.read_to)) same.alone ∙ ap (λ p. cond s0.alone (Some w.place.0) p) last;
+        read_to = w.read_to ∙ ap (λ b. cond b (Some w.place.0) (place_of s1.read_to)) same.alone ∙ ap (λ p. cond s0.alone (Some w.place.0) p) last ∙ sym place_is;
         good = subst (λ f. AreGood f (entries_in pages)) (sym fleet_now) takes.good;
         holds = λ unclaimed. subst (λ n. HoldsNumber n s2.start.tag (entries_in pages)) (sym later.number) (subst (λ (x : Starts). HoldsNumber s1.node.number x.tag (entries_in pages)) (sym later.start) (holds_read unclaimed));
         merged = subst (λ (n : NodeContent). MergesEntries s0.node (entries_in pages) n) (sym node) takes.merged;
         numbers = subst (λ ns. AreNoted (numbers_of s0) (entries_in pages) ns) (sym numbers_now) takes.numbers;
-        counted = counts_then (counted_in s0) (counted_in s1) (counted_in s2) (entries_in pages) (own_entries s0.alone (Wrote w.place ∷ [])) takes.counted
-            (subst (λ b. CountsEntries (counted_in s1) (own_entries b (Wrote w.place ∷ [])) (counted_in s2)) same.alone w.counted);
-        renewed = inr (w.place, place upto, refl, is_own a3 w.place.1 w.whole, last_is, w.led, now.leading.written.whole w.led);
+        counted = counts_then (counted_in s0) (counted_in s1) (counted_in s2) (entries_in pages) (own_entries s0.alone (Wrote w.place ∷ calls)) takes.counted
+            (subst (λ es. CountsEntries (counted_in s1) es (counted_in s2)) (sym own_is) (subst (λ b. CountsEntries (counted_in s1) (own_entries b (Wrote w.place ∷ [])) (counted_in s2)) same.alone w.counted));
+        renewed = inr (w.place, place upto, goes, is_own a3 w.place.1 w.whole, last_is, w.led, now.leading.written.whole w.led);
+      }
+
+      pub compacted_whole : StandsBefore (place upto) (place at) → Calls a2 a3 (Trimmed (place upto) ∷ []) → IsMember a3 s2 → IsCompacted (content_of a0 s0) (content_of a3 s2)
+      compacted_whole before trimmed now = compacted_by (Trimmed (place upto) ∷ []) trimmed refl refl (inl (is_before before, refl)) now
+
+      -- nothing goes
+      pub compacted_kept : (StandsBefore (place upto) (place at) → ⊥) → Calls a2 a3 [] → IsMember a3 s2 → IsCompacted (content_of a0 s0) (content_of a3 s2)
+      compacted_kept behind none now = compacted_by [] none refl refl (inr (λ h. behind (subst (λ (p : ℕ × ℕ). StandsBefore (place upto) p) w.place_is h), refl)) now
+
+      pub compacts_kept : Calls a2 a3 [] → Compacts (content_of a0 s0) (content_of a3 s2)
+      compacts_kept none = record {
+        pages = pages;
+        more = Wrote w.place ∷ [];
+        asked = calls_then a0 a1 a3 pages (Wrote w.place ∷ []) asked (calls_then a1 a2 a3 (Wrote w.place ∷ []) [] w.asked none);
+        reads = ended_reads (place_of s0.read_to) pages read;
+        renewing = (read, is_own a3 w.place.1 w.whole);
+        stays = stays_of a0 a3 s0 s2 (same_then s0 s1 s2 same later);
+        read_on = by_then s0 s1 s2 pages (Wrote w.place ∷ []) read_pages same.alone later.knows (inr w.read_to);
       }

@@ -9,8 +9,9 @@ use Rattle.lw_reg.specs.OrderLaws.{text_order}
 use Rattle.lw_reg.specs.declared.op.Op.{Op}
 use Rattle.lw_reg.specs.declared.slot.Slot.{Slot}
 use Rattle.lw_reg.specs.contracts.slot.Slot as slots
-use Rattle.lw_reg.specs.Marks.{Marks}
-use Rattle.lw_reg.specs.State.{State}
+use Rattle.lw_reg.specs.Marks.{Marks, marks_of}
+use Rattle.lw_reg.specs.State.{State, state_below, state_join, state_of}
+use Rattle.lw_reg.proofs.States.{state_laws}
 use Rattle.lw_reg.proofs.Members.{none_there, first_there, more_there, there_or_first}
 use Rattle.lw_table.specs.Changes.{Count, LAST, Recounts, IsSince, counted}
 use Rattle.lw_table.proofs.RowLemmas.{same_or_not}
@@ -18,7 +19,7 @@ use Rattle.lw_call.specs.declared.call.Call.{Call}
 use Rattle.lw_call.specs.declared.merge_fault.MergeFault.{MergeFault}
 use Rattle.lw_call.specs.declared.merge_fault.MergeFault.TheVariants as merge_faults
 use Rattle.lw_call.specs.declared.reply.Reply.{Reply}
-use Rattle.lw_node.specs.Exchange.{Merged, Merges}
+use Rattle.lw_node.specs.Exchange.{IsBelow, Merged, Merges, known_by, state_in}
 use Rattle.lw_node.specs.Node.{NodeContent, Leaves, marks_in}
 use Rattle.lw_node.specs.Node.Known.{Shown}
 use Rattle.lw_node.specs.Steps.{at_node, IsStep, Steps}
@@ -75,7 +76,7 @@ module _ (old new : State) (before after : Count) (r : Recounts old new before a
 
 -- ---- nodes
 pub goes_refl : (node : NodeContent) → Goes node node
-goes_refl node = record { number = refl; clock = omega arith; change = omega arith; still = λ same last. refl; before = λ last since e within not_since. (not_since, refl) }
+goes_refl node = record { number = refl; clock = omega arith; state = state_laws.reflexive node.table.state; change = omega arith; still = λ same last. refl; before = λ last since e within not_since. (not_since, refl) }
 
 pub goes_same : (old new : NodeContent) → new ≡ old → Goes old new
 goes_same old new same = subst (λ (n : NodeContent). Goes old n) (sym same) (goes_refl old)
@@ -88,6 +89,7 @@ goes_then first mid last one two =
     let d = two.clock in record {
       number = two.number ∙ one.number;
       clock = omega (arith, c, d);
+      state = state_laws.transitive first.table.state mid.table.state last.table.state one.state two.state;
       change = omega (arith, a, b);
       still = λ same below. two.still (omega (arith, a, b, same)) below ∙ one.still (omega (arith, a, b, same)) (omega (arith, a, b, same, below));
       before = λ end since e within not_since.
@@ -96,17 +98,22 @@ goes_then first mid last one two =
           (y.0, x.1 ∙ y.1);
     }
 
-goes_by : (old new : NodeContent) → new.number ≡ old.number → old.clock ≤ new.clock → Recounts old.table.state new.table.state old.table.count new.table.count → Goes old new
-goes_by old new number clock r = record {
+goes_by : (old new : NodeContent) → new.number ≡ old.number → old.clock ≤ new.clock → state_below old.table.state new.table.state → Recounts old.table.state new.table.state old.table.count new.table.count → Goes old new
+goes_by old new number clock state r = record {
   number = number;
   clock = clock;
+  state = state;
   change = not_less old.table.state new.table.state old.table.count new.table.count r;
   still = recounted_still old.table.state new.table.state old.table.count new.table.count r;
   before = recounted_before old.table.state new.table.state old.table.count new.table.count r;
 }
 
+-- what is joined is above what was there
+joined_above : (old more new : State) → new ≡ state_join old more → state_below old new
+joined_above old more new is = subst (λ (s : State). state_below old s) (sym is) (state_laws.above_left old more)
+
 pub goes_merged : (old new : NodeContent) (clock : ℕ) (ss : List (List ℕ × Slot)) → Merged old clock ss new → Goes old new
-goes_merged old new clock ss m = let c = m.clock_is in goes_by old new m.number (omega (arith, c)) m.count
+goes_merged old new clock ss m = let c = m.clock_is in goes_by old new m.number (omega (arith, c)) (joined_above old.table.state (state_in ss) new.table.state m.state) m.count
 
 pub goes_merges : (old new : NodeContent) (bytes : List ℕ) (outcome : Result ℕ MergeFault) → Merges old bytes outcome new → Goes old new
 goes_merges old new bytes (Ok count) m = goes_merged old new m.delta.clock m.delta.slots m.merged
@@ -115,7 +122,8 @@ goes_merges old new bytes (Err (merge_faults.NoMemory joined)) m = goes_merged o
 
 goes_leaves : (old new : NodeContent) (operation : Option Op) → Leaves old operation new → Goes old new
 goes_leaves old new None left = goes_same old new left
-goes_leaves old new (Some operation) left = let c = left.clock in goes_by old new left.number (omega (arith, c)) left.count
+goes_leaves old new (Some operation) left =
+    let c = left.clock in goes_by old new left.number (omega (arith, c)) (joined_above old.table.state (state_of (marks_of operation)) new.table.state left.state) left.count
 
 goes_steps : (old new : NodeContent) (M : Marks) (call : Call) (reply : Reply) → Steps old M call reply new → Goes old new
 goes_steps old new M call reply steps =
@@ -125,3 +133,13 @@ goes_steps old new M call reply steps =
 
 pub goes_step : (old : NodeContent) (call : Call) (reply : Reply) (new : NodeContent) → IsStep old call reply new → Goes old new
 goes_step old call reply new step = goes_steps old new (marks_in old.table.state Shown) call reply (step Shown tt)
+
+-- ---- what a node knows
+pub goes_below : (old new : NodeContent) → Goes old new → IsBelow (known_by old) (known_by new)
+goes_below old new goes = (goes.clock, goes.state)
+
+pub below_same : (old new : NodeContent) → new ≡ old → IsBelow (known_by old) (known_by new)
+below_same old new same = goes_below old new (goes_same old new same)
+
+pub below_then : (a b c : ℕ × State) → IsBelow a b → IsBelow b c → IsBelow a c
+below_then a b c one two = (let x = one.0 in let y = two.0 in omega (arith, x, y), state_laws.transitive a.1 b.1 c.1 one.1 two.1)

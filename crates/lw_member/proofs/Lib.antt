@@ -6,6 +6,7 @@ pub mod Numbering
 pub mod Counting
 pub mod Taking
 pub mod Merging
+pub mod Knowing
 pub mod Making
 pub mod RoundLemmas
 pub mod Catching

@@ -1,6 +1,6 @@
 -- What a member takes from one entry.
 use Rattle.std.proofs.Common.{◌≡◌, ◌↔◌, ◌⊎◌, inl, inr, ℕ, ◌<◌, ◌≤◌, List, [], ◌∷◌, length, Option, Some, Result, Ok, Err, Bool, true, false, refl, sym, ap, ◌∙◌, subst, arith}
-use Rattle.std.specs.Prelude.{IsTrue, OnOk}
+use Rattle.std.specs.Prelude.{IsTrue, OnOk, option_map}
 use Rattle.std.specs.Result.{is_err}
 use Rattle.lw_join.proofs.MapLemmas.{empty_below}
 use Rattle.lw_reg.specs.OrderLaws.{text_order}
@@ -9,11 +9,12 @@ use Rattle.lw_table.specs.Changes.{LAST}
 use Rattle.lw_delta.specs.Delta.{DeltaContent, IsSpelling}
 use Rattle.lw_delta.proofs.Answering.{one_delta}
 use Rattle.lw_call.specs.declared.merge_fault.MergeFault.{MergeFault}
-use Rattle.lw_node.specs.Exchange.{Merged, Merges}
+use Rattle.lw_node.specs.Exchange.{Merged, Merges, known_by}
 use Rattle.lw_node.specs.Node.{NodeContent, fresh}
 use Rattle.lw_log.specs.Calls.{LogCall}
 use Rattle.lw_log.specs.Entries.{BodyContent, EntryContent, IsEntry, HasDelta, BringsDelta}
 use Rattle.lw_log.specs.EntryFaults.{IsNewer}
+use Rattle.lw_log.specs.declared.entry.FleetId.{FleetId}
 use Rattle.lw_member.specs.declared.standing.Standing.{Standing}
 use Rattle.lw_member.specs.Member.{IsWritten}
 use Rattle.lw_member.specs.Counting.{counted_with, CountsEntry}
@@ -24,6 +25,7 @@ use Rattle.lw_member.specs.inner.Seeing.{IsSeenBy}
 use Rattle.lw_member.specs.inner.Standing.{HasSameStart, IsStill, counted_in}
 use Rattle.lw_member.specs.inner.Taking.{Takes}
 use Rattle.lw_member.proofs.Counting.{counts_one}
+use Rattle.lw_member.proofs.Going.{below_same, below_then, goes_below, goes_merges}
 use Rattle.lw_member.proofs.Numbering.{noted_one, noted_entry}
 use Rattle.lw_member.proofs.Leading.{written_goes, written_calm, written_whole, taken_led}
 
@@ -86,7 +88,7 @@ brings_none bytes e only none d brings = none brings.delta (subst (λ (x : Entry
 pub brings_no_entry : (bytes : List ℕ) → ((x : EntryContent) → IsEntry bytes x → ⊥) → (d : DeltaContent) → BringsDelta bytes d → ⊥
 brings_no_entry bytes none d brings = none brings.entry brings.is
 
-same_delta : (body : BodyContent) (a b : List ℕ) → HasDelta body a → HasDelta body b → a ≡ b
+pub same_delta : (body : BodyContent) (a b : List ℕ) → HasDelta body a → HasDelta body b → a ≡ b
 same_delta BodyContent.Start a b h g = absurd h
 same_delta (BodyContent.Delta own) a b h g = sym h ∙ g
 same_delta (BodyContent.Whole numbers own) a b h g = sym h ∙ g
@@ -123,12 +125,68 @@ same_then a b c one two = record {
   alone = two.alone ∙ one.alone;
   claimed = two.claimed ∙ one.claimed;
   floor = two.floor ∙ one.floor;
+  settled = λ h. two.settled (one.settled h);
+  fleet = λ f h is. two.fleet f (one.settled h) (one.fleet f h is);
+  knows = below_then (known_by a.node) (known_by b.node) (known_by c.node) one.knows two.knows;
 }
 
 pub same_none : (s : Standing) → HasSameStart s s
-same_none s = record { number = refl; start = refl; made_up = refl; alone = refl; claimed = refl; floor = refl }
+same_none s = record { number = refl; start = refl; made_up = refl; alone = refl; claimed = refl; floor = refl; settled = λ h. h; fleet = λ f h is. is; knows = below_same s.node s.node refl }
+
+-- what is read or written next changes nothing of it
+pub same_failed : (s s1 : Standing) → s1 ≡ record s { read_to = s1.read_to; written = s1.written; led = s1.led } → HasSameStart s s1
+same_failed s s1 only = subst (λ (x : Standing). HasSameStart s x) (sym only) (record { number = refl; start = refl; made_up = refl; alone = refl; claimed = refl; floor = refl; settled = λ h. h; fleet = λ f h is. is; knows = below_same s.node s.node refl })
 
 pub settled_leading : (asked : Option (List LogCall)) (old new : Standing) → Goes old.node new.node → new.node.table.count.change ≤ LAST → (IsTrue new.led → IsStill old new.node) → new.written ≡ old.written → IsLeading asked old → IsLeading asked new
 settled_leading asked old new goes last calm is leading =
     let x = leading_settled asked old.node new.node old.led old.written new.led goes last calm leading.up_to leading.written in
     record { written = subst (λ w. IsWritten asked new.node new.led w) (sym is) x.0; up_to = λ h. is ∙ x.1 h }
+
+-- its start was appended, in its fleet
+pub same_started : (s s1 : Standing) → s1 ≡ record s { sequence = s1.sequence; read_to = s1.read_to; size = s1.size; fleet = s1.fleet } → (own : FleetId) → ((f : List ℕ) → fleet_of s ≡ Some f → own.bytes ≡ f)
+    → (s1.fleet ≡ s.fleet) ⊎ (s1.fleet ≡ Some own) → HasSameStart s s1
+same_started s s1 only own is moved = record {
+  number = ap (λ (x : Standing). x.node.number) only;
+  start = ap (λ (x : Standing). x.start) only;
+  made_up = ap (λ (x : Standing). x.made_up) only;
+  alone = ap (λ (x : Standing). x.alone) only;
+  claimed = ap (λ (x : Standing). x.claimed) only;
+  floor = ap (λ (x : Standing). x.floor) only;
+  settled = λ h. ap (λ (x : Standing). x.settled) only ∙ h;
+  fleet = λ f h was. elim moved [
+    | inl same ↦ ap (λ (x : Option FleetId). option_map (λ (y : FleetId). y.bytes) x) same ∙ was
+    | inr new ↦ ap (λ (x : Option FleetId). option_map (λ (y : FleetId). y.bytes) x) new ∙ ap Some (is f was)
+  ];
+  knows = below_same s.node s1.node (ap (λ (x : Standing). x.node) only);
+}
+
+-- the parts that a start is of are the same
+pub same_parts : (a b c : Standing) → b.node ≡ a.node → b.start ≡ a.start → b.made_up ≡ a.made_up → b.alone ≡ a.alone → b.claimed ≡ a.claimed → b.floor ≡ a.floor → b.settled ≡ a.settled → b.fleet ≡ a.fleet → HasSameStart b c → HasSameStart a c
+same_parts a b c node start made_up alone claimed floor settled fleet same = same_then a b c (record {
+  number = ap (λ (n : NodeContent). n.number) node;
+  start = start;
+  made_up = made_up;
+  alone = alone;
+  claimed = claimed;
+  floor = floor;
+  settled = λ h. settled ∙ h;
+  fleet = λ f h was. ap (λ (x : Option FleetId). option_map (λ (y : FleetId). y.bytes) x) fleet ∙ was;
+  knows = below_same a.node b.node node;
+}) same
+
+-- a delta was merged, if there was no fault, or a part of it
+pub same_merged : (a b : Standing) (delta : List ℕ) (outcome : Result ℕ MergeFault) → Merges a.node delta outcome b.node → b.start ≡ a.start → b.made_up ≡ a.made_up → b.alone ≡ a.alone → b.claimed ≡ a.claimed → b.floor ≡ a.floor
+    → (a.settled ≡ true → (b.settled ≡ true) × (b.fleet ≡ a.fleet)) → HasSameStart a b
+same_merged a b delta outcome merges start made_up alone claimed floor kept =
+    let goes = goes_merges a.node b.node delta outcome merges in
+    record {
+      number = goes.number;
+      start = start;
+      made_up = made_up;
+      alone = alone;
+      claimed = claimed;
+      floor = floor;
+      settled = λ h. (kept h).0;
+      fleet = λ f h was. ap (λ (x : Option FleetId). option_map (λ (y : FleetId). y.bytes) x) (kept h).1 ∙ was;
+      knows = goes_below a.node b.node goes;
+    }

@@ -1,9 +1,9 @@
 -- What a member has appended is its own.
 use Rattle.std.proofs.Common.{◌≡◌, ◌<◌, inl, ℕ, List, [], ◌∷◌, ◌++◌, Option, Bool, true, false, refl, sym, ap, ◌∙◌, subst}
 use Rattle.std.specs.Prelude.{Result, Ok, Err, Some, IfOk}
-use Rattle.lw_node.specs.Exchange.{IsDeltaSince}
+use Rattle.lw_node.specs.Exchange.{IsDeltaSince, known_by}
 use Rattle.lw_node.specs.Node.{NodeContent}
-use Rattle.lw_log.specs.Calls.{LogCall, Placed, Calls, append_calls}
+use Rattle.lw_log.specs.Calls.{LogCall, Placed, Calls, append_calls, place_of}
 use Rattle.lw_delta.specs.Delta.{DeltaContent, IsSpelling}
 use Rattle.lw_log.specs.Entries.{BodyContent, HasDelta, BringsDelta}
 use Rattle.lw_log.specs.Entries.BodyContent.{Start, Delta, Whole}
@@ -14,14 +14,19 @@ use Rattle.lw_log.specs.declared.start.Start.{Start as Starts}
 use Rattle.lw_member.specs.declared.standing.Standing.{Standing}
 use Rattle.lw_log.specs.Calls.LogCall.{Read, Wrote, Tried, Trimmed}
 use Rattle.lw_member.specs.Member.{MemberContent}
-use Rattle.lw_member.specs.Member.{IsWritten}
+use Rattle.lw_member.specs.Member.{IsWritten, Stays}
 use Rattle.lw_member.specs.Own.{AreOwnCalls, IsOwnEntry, IsOwnSince, WritesOwn}
 use Rattle.lw_member.specs.Parts.{content_of, fleet_of, numbers_of, IsMember}
-use Rattle.lw_member.specs.Reading.{AreReads}
-use Rattle.lw_member.specs.inner.Taking.{IsEntryOf}
+use Rattle.lw_member.specs.Reading.{AreReads, AreReadToTheEnd, KnowsAll, MergesEntries, ReadsOn, entries_in, last_read}
+use Rattle.lw_member.specs.Rounds.{place_after}
+use Rattle.lw_member.specs.inner.Standing.{HasSameStart}
+use Rattle.lw_member.specs.inner.Taking.{IsEntryOf, IsReadBy}
 use Rattle.lw_member.specs.inner.Wholes.{IsWholeOf, IsTryingWhole}
-use Rattle.lw_member.specs.inner.Writing.{IsStartOf, AreClaims, Claims, WritesOwnCalls}
-use Rattle.lw_member.proofs.Asking.{calls_then}
+use Rattle.lw_member.specs.inner.Writing.{IsStartOf, AreClaims, Claims, IsClaimed, WritesOwnCalls}
+use Rattle.lw_member.proofs.Asking.{calls_then, ended_reads}
+use Rattle.lw_member.proofs.Going.{below_then, goes_below}
+use Rattle.lw_member.proofs.Knowing.{by_then, knows_more, merges_known, on_end}
+use Rattle.lw_member.proofs.Merging.{same_then}
 use Rattle.lw_member.proofs.Leading.{appended_led, written_anew, written_whole}
 
 pub own_append : (m : MemberContent) (xs ys : List LogCall) → AreOwnCalls m xs → AreOwnCalls m ys → AreOwnCalls m (xs ++ ys)
@@ -136,24 +141,82 @@ append_whole s fleet entry (Err Lost) whole = whole
 claims_at : (a : Option (List LogCall)) (s0 s : Standing) (calls : List LogCall) → s0.start.number ≡ s.node.number → s0.start.tag ≡ s.start.tag → AreClaims s0.start.number s0.start.tag calls → AreOwnCalls (content_of a s) calls
 claims_at a s0 s calls number tag claims = claims_own (content_of a s) calls (subst (λ t. AreClaims s.node.number t calls) tag (subst (λ n. AreClaims n s0.start.tag calls) number claims))
 
-pub claims_write : (a0 a1 : Option (List LogCall)) (s0 s : Standing) → Claims a0 a1 s0 → s0.start.number ≡ s0.node.number → s.node.number ≡ s0.node.number → s.start ≡ s0.start → WritesOwn (content_of a0 s0) (content_of a1 s)
-claims_write a0 a1 s0 s claims own number start = record { more = claims.0; asked = claims.1; own = claims_at a1 s0 s claims.0 (own ∙ sym number) (ap (λ (x : Starts). x.tag) (sym start)) claims.2 }
-
-pub claims_write_more : (a0 a1 a2 : Option (List LogCall)) (s0 s : Standing) → Claims a0 a1 s0 → WritesOwnCalls a1 a2 s → s0.start.number ≡ s0.node.number → s.node.number ≡ s0.node.number → s.start ≡ s0.start → WritesOwn (content_of a0 s0) (content_of a2 s)
-claims_write_more a0 a1 a2 s0 s claims more own number start = record {
-  more = claims.0 ++ more.0;
-  asked = calls_then a0 a1 a2 claims.0 more.0 claims.1 more.1;
-  own = own_append (content_of a2 s) claims.0 more.0 (claims_at a2 s0 s claims.0 (own ∙ sym number) (ap (λ (x : Starts). x.tag) (sym start)) claims.2) more.2;
+-- what a member is does not go
+pub stays_of : (a0 a1 : Option (List LogCall)) (s0 s : Standing) → HasSameStart s0 s → Stays (content_of a0 s0) (content_of a1 s)
+stays_of a0 a1 s0 s same = record {
+  start = record { number = same.number; tag = ap (λ (x : Starts). x.tag) same.start; floor = same.floor; alone = same.alone };
+  claimed = λ h. same.claimed ∙ h;
+  settled = same.settled;
+  fleet = same.fleet;
+  knows = same.knows;
 }
 
-pub reads_write : (a0 a1 : Option (List LogCall)) (s0 s : Standing) → (pages : List LogCall) × Calls a0 a1 pages × AreReads pages → WritesOwn (content_of a0 s0) (content_of a1 s)
-reads_write a0 a1 s0 s reads = record { more = reads.0; asked = reads.1; own = reads_own (content_of a1 s) reads.0 reads.2 }
+pub claims_write : (a0 a1 : Option (List LogCall)) (s0 s : Standing) → Claims a0 s0 a1 s → s0.start.number ≡ s0.node.number → HasSameStart s0 s → WritesOwn (content_of a0 s0) (content_of a1 s)
+claims_write a0 a1 s0 s claims own same = record {
+  more = claims.0;
+  asked = claims.1;
+  own = claims_at a1 s0 s claims.0 (own ∙ sym same.number) (ap (λ (x : Starts). x.tag) (sym same.start)) claims.2;
+  stays = stays_of a0 a1 s0 s same;
+  read_on = claims.3;
+}
 
-pub reads_write_more : (a0 a1 a2 : Option (List LogCall)) (s0 s : Standing) → (pages : List LogCall) × Calls a0 a1 pages × AreReads pages → WritesOwnCalls a1 a2 s → WritesOwn (content_of a0 s0) (content_of a2 s)
-reads_write_more a0 a1 a2 s0 s reads more = record {
-  more = reads.0 ++ more.0;
-  asked = calls_then a0 a1 a2 reads.0 more.0 reads.1 more.1;
-  own = own_append (content_of a2 s) reads.0 more.0 (reads_own (content_of a2 s) reads.0 reads.2) more.2;
+-- ---- after a claim
+module _ (a0 a1 a2 : Option (List LogCall)) (s0 s1 s2 : Standing) (c : IsClaimed a0 s0 a1 s1) (same : HasSameStart s0 (record s1 { claimed = false })) (is : s1.claimed ≡ true) (later : HasSameStart s1 s2) (w : WritesOwnCalls a1 s1 a2 s2) where
+  own_start : IsOwnEntry (content_of a2 s2) c.place.1
+  own_start = inl (record {
+    entry = c.own.0.entry;
+    is = c.own.0.is;
+    number = c.own.0.number ∙ sym later.number;
+    tag = c.own.0.tag ∙ ap (λ (x : Starts). x.tag) (sym later.start);
+    body_is = c.own.0.body_is;
+  })
+
+  known : KnowsAll (known_by s1.node) (entries_in c.pages)
+  known = knows_more (known_by c.merged.node) (known_by s1.node) (entries_in c.pages) (goes_below c.merged.node s1.node c.goes) (merges_known s0.node c.merged.node (entries_in c.pages) c.merges)
+
+  read_claim : ReadsOn s0.alone (known_by s1.node) (place_of s0.read_to) (Wrote c.place ∷ c.pages) (place_of s1.read_to)
+  read_claim =
+      subst (λ (p : Option (ℕ × ℕ)). ReadsOn s0.alone (known_by s1.node) (place_after s0.alone (place_of s0.read_to) (Wrote c.place ∷ [])) c.pages p) (sym c.read_to)
+      (on_end s0.alone (known_by s1.node) (place_after s0.alone (place_of s0.read_to) (Wrote c.place ∷ [])) c.pages c.read known)
+
+  pub claimed_write : WritesOwn (content_of a0 s0) (content_of a2 s2)
+  claimed_write = record {
+    more = (Wrote c.place ∷ c.pages) ++ w.0;
+    asked = calls_then a0 a1 a2 (Wrote c.place ∷ c.pages) w.0 c.asked w.1;
+    own = own_append (content_of a2 s2) (Wrote c.place ∷ c.pages) w.0 (own_start, reads_own (content_of a2 s2) c.pages (ended_reads (place_after s0.alone (place_of s0.read_to) (Wrote c.place ∷ [])) c.pages c.read)) w.2;
+    stays = record {
+      start = record {
+        number = later.number ∙ same.number;
+        tag = ap (λ (x : Starts). x.tag) (later.start ∙ same.start);
+        floor = later.floor ∙ same.floor;
+        alone = later.alone ∙ same.alone;
+      };
+      claimed = λ h. later.claimed ∙ is;
+      settled = λ h. later.settled (same.settled h);
+      fleet = λ f h was. later.fleet f (same.settled h) (same.fleet f h was);
+      knows = below_then (known_by s0.node) (known_by s1.node) (known_by s2.node) same.knows later.knows;
+    };
+    read_on = by_then s0 s1 s2 (Wrote c.place ∷ c.pages) w.0 read_claim same.alone later.knows w.3;
+  }
+
+-- ---- without one
+pub reads_write : (a0 a1 : Option (List LogCall)) (s0 s : Standing) → HasSameStart s0 s → (pages : List LogCall) × Calls a0 a1 pages × AreReads pages × IsReadBy s0 pages s → WritesOwn (content_of a0 s0) (content_of a1 s)
+reads_write a0 a1 s0 s same reads = record { more = reads.0; asked = reads.1; own = reads_own (content_of a1 s) reads.0 reads.2; stays = stays_of a0 a1 s0 s same; read_on = reads.3 }
+
+-- the log was read to its end, and what was read is known
+pub read_all : (s0 s1 : Standing) (pages : List LogCall) → AreReadToTheEnd (place_of s0.read_to) pages → MergesEntries s0.node (entries_in pages) s1.node → place_of s1.read_to ≡ last_read (place_of s0.read_to) pages
+    → ReadsOn s0.alone (known_by s1.node) (place_of s0.read_to) pages (place_of s1.read_to)
+read_all s0 s1 pages read merged last =
+    subst (λ (p : Option (ℕ × ℕ)). ReadsOn s0.alone (known_by s1.node) (place_of s0.read_to) pages p) (sym last) (on_end s0.alone (known_by s1.node) (place_of s0.read_to) pages read (merges_known s0.node s1.node (entries_in pages) merged))
+
+pub reads_write_more : (a0 a1 a2 : Option (List LogCall)) (s0 s1 s2 : Standing) (pages : List LogCall) → Calls a0 a1 pages → AreReadToTheEnd (place_of s0.read_to) pages → MergesEntries s0.node (entries_in pages) s1.node
+    → place_of s1.read_to ≡ last_read (place_of s0.read_to) pages → HasSameStart s0 s1 → HasSameStart s1 s2 → WritesOwnCalls a1 s1 a2 s2 → WritesOwn (content_of a0 s0) (content_of a2 s2)
+reads_write_more a0 a1 a2 s0 s1 s2 pages asked read merged last same later w = record {
+  more = pages ++ w.0;
+  asked = calls_then a0 a1 a2 pages w.0 asked w.1;
+  own = own_append (content_of a2 s2) pages w.0 (reads_own (content_of a2 s2) pages (ended_reads (place_of s0.read_to) pages read)) w.2;
+  stays = stays_of a0 a2 s0 s2 (same_then s0 s1 s2 same later);
+  read_on = by_then s0 s1 s2 pages w.0 (read_all s0 s1 pages read merged last) same.alone later.knows w.3;
 }
 
 pub if_ok : {A E : Type 0} (P Q : A → Type 0) (r : Result A E) → IfOk r P → ((x : A) → P x → Q x) → IfOk r Q

@@ -142,4 +142,4 @@ pub takes_read : (a b : Standing) (es : List (List ℕ)) (r : Option Position) �
 takes_read a b es r t = record { merged = t.merged; good = t.good; settled = t.settled; unsettled = t.unsettled; led = t.led; written = t.written; numbers = t.numbers; counted = t.counted }
 
 pub same_read : (a b : Standing) (r : Option Position) → HasSameStart a b → HasSameStart a (record b { read_to = r })
-same_read a b r s = record { number = s.number; start = s.start; made_up = s.made_up; alone = s.alone; claimed = s.claimed; floor = s.floor }
+same_read a b r s = record { number = s.number; start = s.start; made_up = s.made_up; alone = s.alone; claimed = s.claimed; floor = s.floor; settled = s.settled; fleet = s.fleet; knows = s.knows }

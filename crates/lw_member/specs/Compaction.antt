@@ -5,10 +5,10 @@ use Rattle.lw_log.specs.Calls.{LogCall, Placed, Calls}
 use Rattle.lw_log.specs.Calls.LogCall.{Wrote, Tried, Trimmed}
 use Rattle.lw_log.specs.Entries.BodyContent.{Whole}
 use Rattle.lw_member.specs.Counting.{CountsEntries, counted_by, own_entries}
-use Rattle.lw_member.specs.Member.{MemberContent, IsLedBy}
-use Rattle.lw_member.specs.Own.{IsOwnIn}
+use Rattle.lw_member.specs.Member.{MemberContent, IsLedBy, IsSameStart, Stays}
+use Rattle.lw_member.specs.Own.{IsOwnIn, IsReadOn}
 use Rattle.lw_member.specs.Reading.{AreReads, AreReadToTheEnd, entries_in, last_read, AreGood, AreNoted, HoldsNumber, MergesEntries}
-use Rattle.lw_member.specs.Rounds.{IsSameStart, place_after}
+use Rattle.lw_member.specs.Rounds.{place_after}
 
 -- ---- when it is due
 -- more than 16 MiB, and more than four times the bytes of the whole entry
@@ -23,12 +23,20 @@ IsCompactionDue member = (member.claimed ≡ true) × IsLarge member.whole membe
 abbrev pub IsOwnWhole : MemberContent → List ℕ → Type 0
 IsOwnWhole member bytes = (delta : List ℕ) × IsDeltaSince member.node 0 delta × IsOwnIn member (Whole member.numbers delta) bytes
 
+-- positions rise by the first and then by the second number
+abbrev pub StandsBefore : ℕ × ℕ → ℕ × ℕ → Type 0
+StandsBefore a b = (a.0 < b.0) ⊎ ((a.0 ≡ b.0) × (a.1 < b.1))
+
+-- what stands up to the position goes behind the append, where the entry itself stands behind it
+abbrev pub LetsGo : Placed → ℕ × ℕ → List LogCall → Type 0
+LetsGo p upto calls = (StandsBefore upto p.0 × (calls ≡ Wrote p ∷ Trimmed upto ∷ [])) ⊎ ((¬ StandsBefore upto p.0) × (calls ≡ Wrote p ∷ []))
+
 -- All that the node knows is appended, and then goes what was read. Nothing is written where no entry was read that tells of
 -- a fleet.
 abbrev pub IsRenewed : MemberContent → List LogCall → MemberContent → List LogCall → Type 0
 IsRenewed old pages new calls =
     ((calls ≡ []) × ((last_read old.read_to pages ≡ None) ⊎ (new.fleet ≡ None)))
-    ⊎ ((p : Placed) × (upto : ℕ × ℕ) × (calls ≡ Wrote p ∷ Trimmed upto ∷ []) × IsOwnWhole new p.1 × (last_read old.read_to pages ≡ Some upto) × (new.led ≡ true) × IsLedBy new.calls (known_by new.node))
+    ⊎ ((p : Placed) × (upto : ℕ × ℕ) × LetsGo p upto calls × IsOwnWhole new p.1 × (last_read old.read_to pages ≡ Some upto) × (new.led ≡ true) × IsLedBy new.calls (known_by new.node))
 
 -- The log is read to its end and merged; all that the node knows is appended; and then goes what was read.
 pub record IsCompacted (old new : MemberContent) : Type 0 where
@@ -47,17 +55,21 @@ pub record IsCompacted (old new : MemberContent) : Type 0 where
   pub renewed : IsRenewed old pages new wrote
 
 -- ---- also where it fails
--- what was read goes only after an append that returned, and only where the log was read to its end
+-- what was read goes only after an append that returned, only where it stands before what was appended, and only where the log
+-- was read to its end
 abbrev pub IsRenewing : MemberContent → List LogCall → MemberContent → List LogCall → Type 0
 IsRenewing old pages new [] = Unit {0}
 IsRenewing old pages new (Tried e ∷ []) = AreReadToTheEnd old.read_to pages × IsOwnWhole new e
 IsRenewing old pages new (Wrote p ∷ []) = AreReadToTheEnd old.read_to pages × IsOwnWhole new p.1
-IsRenewing old pages new (Wrote p ∷ Trimmed upto ∷ []) = AreReadToTheEnd old.read_to pages × IsOwnWhole new p.1 × (last_read old.read_to pages ≡ Some upto)
+IsRenewing old pages new (Wrote p ∷ Trimmed upto ∷ []) = AreReadToTheEnd old.read_to pages × IsOwnWhole new p.1 × (last_read old.read_to pages ≡ Some upto) × StandsBefore upto p.0
 IsRenewing old pages new _ = ⊥
 
+-- and the member knows what it knew, and is behind no entry that it does not know
 pub record Compacts (old new : MemberContent) : Type 0 where
   pub pages : List LogCall
   pub more : List LogCall
   pub asked : Calls old.calls new.calls (pages ++ more)
   pub reads : AreReads pages
   pub renewing : IsRenewing old pages new more
+  pub stays : Stays old new
+  pub read_on : IsReadOn old (pages ++ more) new

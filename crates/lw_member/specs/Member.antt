@@ -5,7 +5,7 @@ use Rattle.lw_reg.specs.declared.slot.Slot.{Slot}
 use Rattle.lw_reg.specs.Slot.{slot_below}
 use Rattle.lw_reg.specs.State.{State}
 use Rattle.lw_table.specs.Changes.{IsSince}
-use Rattle.lw_node.specs.Exchange.{known_by}
+use Rattle.lw_node.specs.Exchange.{IsBelow, known_by}
 use Rattle.lw_node.specs.Node.{NodeContent}
 use Rattle.lw_log.specs.Calls.{LogCall}
 use Rattle.lw_log.specs.Known.{HasSeen, IsLed}
@@ -40,3 +40,19 @@ pub record IsWritten (asked : Option (List LogCall)) (node : NodeContent) (led :
   pub within : written ≤ node.table.count.change
   pub unmoved : (calls : List LogCall) → asked ≡ Some calls → (reader : ℕ × State) → HasSeen reader calls → HasUnmoved node written reader.1
   pub whole : led ≡ true → IsLedBy asked (known_by node)
+
+-- ---- from one call to the next
+-- the start is the same
+pub record IsSameStart (old new : MemberContent) : Type 0 where
+  pub number : new.node.number ≡ old.node.number
+  pub tag : new.tag ≡ old.tag
+  pub floor : new.floor ≡ old.floor
+  pub alone : new.alone ≡ old.alone
+
+-- Nothing is forgotten: the number, once it is claimed; the fleet, once a delta has told it; and what the node knows.
+pub record Stays (old new : MemberContent) : Type 0 where
+  pub start : IsSameStart old new
+  pub claimed : old.claimed ≡ true → new.claimed ≡ true
+  pub settled : old.settled ≡ true → new.settled ≡ true
+  pub fleet : (f : List ℕ) → old.settled ≡ true → old.fleet ≡ Some f → new.fleet ≡ Some f
+  pub knows : IsBelow (known_by old.node) (known_by new.node)

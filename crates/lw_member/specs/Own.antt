@@ -1,11 +1,12 @@
 -- What a member writes into its log.
-use Rattle.std.specs.Prelude.{◌≡◌, ℕ, ◌⊎◌, List, [], ◌∷◌, Some}
-use Rattle.lw_node.specs.Exchange.{IsDeltaSince}
+use Rattle.std.specs.Prelude.{◌≡◌, ℕ, ◌⊎◌, List, [], ◌∷◌, Some, None}
+use Rattle.lw_node.specs.Exchange.{IsDeltaSince, known_by}
 use Rattle.lw_log.specs.Calls.{LogCall, Calls}
 use Rattle.lw_log.specs.Calls.LogCall.{Read, Wrote, Tried, Trimmed}
 use Rattle.lw_log.specs.Entries.{BodyContent, EntryContent, IsEntry}
 use Rattle.lw_log.specs.Entries.BodyContent.{Start, Delta}
-use Rattle.lw_member.specs.Member.{MemberContent}
+use Rattle.lw_member.specs.Member.{MemberContent, Stays}
+use Rattle.lw_member.specs.Reading.{ReadsOn}
 
 -- an entry of this start, with this body
 pub record IsOwn (member : MemberContent) (body : BodyContent) (bytes : List ℕ) : Type 0 where
@@ -37,9 +38,15 @@ abbrev pub AreOwnCalls : MemberContent → List LogCall → Type 0
 AreOwnCalls member [] = Unit {0}
 AreOwnCalls member (call ∷ calls) = IsOwnCall member call × AreOwnCalls member calls
 
+-- It has read on over entries that it knows; or the log has lost something, and is read from its first entry again.
+abbrev pub IsReadOn : MemberContent → List LogCall → MemberContent → Type 0
+IsReadOn old more new = (new.read_to ≡ None) ⊎ ReadsOn old.alone (known_by new.node) old.read_to more new.read_to
+
 -- Nothing that the node does not know is put into the log, also by an append that failed and is there all the same; and
--- nothing is let go.
+-- nothing is let go. The member knows what it knew, and is behind no entry that it does not know.
 pub record WritesOwn (old new : MemberContent) : Type 0 where
   pub more : List LogCall
   pub asked : Calls old.calls new.calls more
   pub own : AreOwnCalls new more
+  pub stays : Stays old new
+  pub read_on : IsReadOn old more new

@@ -1,5 +1,6 @@
 -- How a log is read to its end, and what its entries bring to a node.
-use Rattle.std.specs.Prelude.{◌≡◌, ◌↔◌, ℕ, ◌<◌, ◌≤◌, ◌/◌, ◌%◌, ◌^◌, ◌⊎◌, List, [], ◌∷◌, ◌++◌, length, map, slice_index, Option, Some}
+use Rattle.std.specs.Prelude.{◌≡◌, ◌↔◌, ℕ, ◌<◌, ◌≤◌, ◌/◌, ◌%◌, ◌^◌, ◌⊎◌, List, [], ◌∷◌, ◌++◌, length, map, slice_index, Option, Some, Bool, cond}
+use Rattle.lw_reg.specs.State.{State}
 use Rattle.lw_delta.specs.Delta.{DeltaContent}
 use Rattle.lw_node.specs.Exchange.{Merged}
 use Rattle.lw_node.specs.Node.{NodeContent}
@@ -8,6 +9,7 @@ use Rattle.lw_log.specs.Calls.LogCall.{Read, Wrote, Tried, Trimmed}
 use Rattle.lw_log.specs.Entries.{BodyContent, EntryContent, IsEntry, BringsDelta}
 use Rattle.lw_log.specs.Entries.BodyContent.{Start, Delta, Whole}
 use Rattle.lw_log.specs.EntryFaults.{IsNewer}
+use Rattle.lw_log.specs.Known.{Has}
 
 -- ---- pages
 -- the position of the last of these entries, or where there is none the one before
@@ -60,6 +62,23 @@ MergesEntry old bytes new = ((d : DeltaContent) × BringsDelta bytes d × Merged
 abbrev pub MergesEntries : NodeContent → List (List ℕ) → NodeContent → Type 0
 MergesEntries old [] new = new ≡ old
 MergesEntries old (e ∷ es) new = (mid : NodeContent) × MergesEntry old e mid × MergesEntries mid es new
+
+-- ---- how far it has read
+-- what each of the entries brings is at or below what is known
+abbrev pub KnowsAll : ℕ × State → List (List ℕ) → Type 0
+KnowsAll known [] = Unit {0}
+KnowsAll known (e ∷ es) = Has known e × KnowsAll known es
+
+-- How the position moves with what was asked. A reading is asked for from there on, and the position is behind those of its
+-- first entries that are known: all of them, or fewer where one could not be merged. An own entry moves it where nobody else
+-- appends to the log.
+abbrev pub ReadsOn : Bool → ℕ × State → Option (ℕ × ℕ) → List LogCall → Option (ℕ × ℕ) → Type 0
+ReadsOn alone known from [] upto = upto ≡ from
+ReadsOn alone known from (Read after es ∷ calls) upto =
+    (taken left : List Placed) × (es ≡ taken ++ left) × (after ≡ from) × KnowsAll known (bytes_of taken) × ReadsOn alone known (place_read from taken) calls upto
+ReadsOn alone known from (Wrote p ∷ calls) upto = ReadsOn alone known (cond alone (Some p.0) from) calls upto
+ReadsOn alone known from (Tried e ∷ calls) upto = ReadsOn alone known from calls upto
+ReadsOn alone known from (Trimmed p ∷ calls) upto = ReadsOn alone known from calls upto
 
 -- ---- entries that a member goes on from
 -- it is of no newer format, and a delta that it brings is one of the fleet

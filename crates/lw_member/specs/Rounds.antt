@@ -9,7 +9,7 @@ use Rattle.lw_node.specs.Steps.{IsStep}
 use Rattle.lw_log.specs.Calls.{LogCall, Placed, Calls}
 use Rattle.lw_log.specs.Calls.LogCall.{Read, Wrote, Tried, Trimmed}
 use Rattle.lw_log.specs.Entries.BodyContent.{Start}
-use Rattle.lw_member.specs.Member.{MemberContent, IsLedBy}
+use Rattle.lw_member.specs.Member.{MemberContent, IsLedBy, IsSameStart}
 use Rattle.lw_member.specs.Counting.{CountsEntries, counted_by, own_entries}
 use Rattle.lw_member.specs.Own.{IsOwnIn, IsOwnSince}
 use Rattle.lw_member.specs.Reading.{AreReadToTheEnd, entries_in, last_read, AreGood, HoldsNumber, AreNoted, MergesEntries}
@@ -64,13 +64,6 @@ abbrev pub IsWriting : MemberContent → NodeContent → List LogCall → Member
 IsWriting old merged wrote new =
     (IsCalm old merged new.node × (wrote ≡ []))
     ⊎ ((¬ IsCalm old merged new.node) × (p : Placed) × (wrote ≡ Wrote p ∷ []) × IsOwnSince new (since_of old merged) p.1)
-
--- the start is the same
-pub record IsSameStart (old new : MemberContent) : Type 0 where
-  pub number : new.node.number ≡ old.node.number
-  pub tag : new.tag ≡ old.tag
-  pub floor : new.floor ≡ old.floor
-  pub alone : new.alone ≡ old.alone
 
 -- ---- the round
 -- Its claim is appended, if it claims; the log is read to its end and merged; the calls are made; and what has changed is

@@ -1,7 +1,8 @@
 //! A compaction: all that the node knows is written anew, and what was read goes.
 
-ghost use Rattle.std.specs.Prelude.{◌≡◌, OnOk};
-ghost use Rattle.lw_member.specs.Compaction.{IsCompacted, Compacts};
+ghost use Rattle.std.specs.Prelude.{◌≡◌, ◌↔◌, IfOk, IsTrue, OnErr, OnOk};
+ghost use Rattle.lw_log.specs.Calls.{place};
+ghost use Rattle.lw_member.specs.Compaction.{IsCompacted, Compacts, StandsBefore};
 ghost use Rattle.lw_member.specs.Parts.{content_of, IsMember};
 ghost use Rattle.lw_member.specs.inner.Standing.{HasSameStart};
 ghost use Rattle.lw_member.specs.inner.Wholes.{IsWrittenWhole, TriesWhole};
@@ -9,17 +10,26 @@ ghost use Rattle.lw_member.specs.inner.Wholes.{IsWrittenWhole, TriesWhole};
 use crate::MemberFault;
 use crate::rounds::{append, catch_up};
 use crate::standing::Standing;
-use lw_log::{Body, DeltaLog, FleetId};
+use lw_log::{Body, DeltaLog, FleetId, Position};
 
-/// Appends all that the node knows, with the numbers that starts have had.
+/// Whether the one position stands before the other.
+fn stands_before(one: Position, other: Position) -> bool
+    ensures { IsTrue result ↔ StandsBefore (place one) (place other) }
+{
+    one < other
+}
+
+/// Appends all that the node knows, with the numbers that starts have had: where it stands.
 fn write_whole<G: DeltaLog>(
     log: &mut G,
     standing: &mut Standing,
     fleet: FleetId,
-) -> Result<(), MemberFault>
+) -> Result<Position, MemberFault>
     requires { IsMember (G.calls log.old) standing.old }
-    ensures written { OnOk result (IsWrittenWhole (G.calls log.old) standing.old fleet.bytes (G.calls log.new) standing.new) }
-    ensures own { TriesWhole (G.calls log.old) standing.old fleet.bytes (G.calls log.new) }
+    ensures written { IfOk result (λ position. IsWrittenWhole (G.calls log.old) standing.old fleet.bytes
+        (place position) (G.calls log.new) standing.new) }
+    ensures own { OnErr result (TriesWhole (G.calls log.old) standing.old fleet.bytes
+        (G.calls log.new) standing.new) }
     ensures same { HasSameStart standing.old standing.new }
     ensures node { standing.new.node ≡ standing.old.node }
     ensures fleet { standing.new.fleet ≡ standing.old.fleet }
@@ -36,10 +46,10 @@ fn write_whole<G: DeltaLog>(
     standing.appended_whole(position, entry.len());
     standing.written = standing.node.change();
     standing.led = true;
-    Ok(())
+    Ok(position)
 }
 
-/// Reads the log to its end, appends all that the node knows, and then has go what was read.
+/// Reads the log to its end, appends all that the node knows, and then has go what was read, which stands before it.
 pub(crate) fn compact<G: DeltaLog>(log: &mut G, standing: &mut Standing) -> Result<(), MemberFault>
     requires { IsMember (G.calls log.old) standing.old }
     ensures compacted { OnOk result (IsCompacted (content_of (G.calls log.old) standing.old)
@@ -55,7 +65,10 @@ pub(crate) fn compact<G: DeltaLog>(log: &mut G, standing: &mut Standing) -> Resu
     let Some(fleet) = standing.fleet else {
         return Ok(());
     };
-    write_whole(log, standing, fleet)?;
-    log.trim(upto)?;
+    let position = write_whole(log, standing, fleet)?;
+    // Where the log gives a position that it gave before, the entry would go with the others.
+    if stands_before(upto, position) {
+        log.trim(upto)?;
+    }
     Ok(())
 }

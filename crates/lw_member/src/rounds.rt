@@ -1,6 +1,6 @@
 //! The parts of a round, over a log and what its member knows.
 
-ghost use Rattle.std.specs.Prelude.{◌≡◌, ◌≢◌, ◌↔◌, ◌<◌, ◌*◌, ◌⊎◌, [], List, Option, Some, true, false, option_map, IfOk, IsTrue, OnOk, OnErr};
+ghost use Rattle.std.specs.Prelude.{◌≡◌, ◌≢◌, ◌↔◌, ◌<◌, ◌*◌, ◌⊎◌, [], List, Option, Some, None, true, false, option_map, IfOk, IsTrue, OnOk, OnErr};
 ghost use Rattle.lw_log.specs.Calls.{LogCall, Calls, append_calls, place_of};
 ghost use Rattle.lw_member.specs.Clocks.{year_2100};
 ghost use Rattle.lw_member.specs.Own.{WritesOwn};
@@ -8,7 +8,7 @@ ghost use Rattle.lw_member.specs.Reading.{AreReadToTheEnd, AreReads, entries_in,
 ghost use Rattle.lw_member.specs.Rounds.{IsRound};
 ghost use Rattle.lw_member.specs.Parts.{content_of, IsLeading, IsMember};
 ghost use Rattle.lw_member.specs.inner.Standing.{HasSameStart};
-ghost use Rattle.lw_member.specs.inner.Taking.{Takes, IsJudged};
+ghost use Rattle.lw_member.specs.inner.Taking.{Takes, IsJudged, IsReadBy};
 ghost use Rattle.lw_member.specs.inner.Writing.{Claims, Finished, IsStarted, IsWritingNow, IsClaimed, WritesOwnCalls};
 
 use crate::MemberFault;
@@ -26,13 +26,20 @@ pub(crate) fn catch_up<G: DeltaLog>(
         × Takes standing.old (entries_in pages) standing.new
         × IsJudged standing.old.claimed standing.old.start.number standing.old.start.tag (entries_in pages) own
         × (place_of standing.new.read_to ≡ last_read (place_of standing.old.read_to) pages)) }
-    ensures asked { (pages : List LogCall) × Calls (G.calls log.old) (G.calls log.new) pages × AreReads pages }
+    ensures asked { (pages : List LogCall) × Calls (G.calls log.old) (G.calls log.new) pages × AreReads pages
+        × IsReadBy standing.old pages standing.new }
     ensures same { HasSameStart standing.old standing.new }
     ensures member { IsMember (G.calls log.old) standing.old → IsMember (G.calls log.new) standing.new }
 {
     let mut own = standing.claimed;
     for _page in 0..u64::MAX {
-        let page = log.read(standing.read_to)?;
+        let page = match log.read(standing.read_to) {
+            Ok(page) => page,
+            Err(fault) => {
+                standing.failed(fault);
+                return Err(MemberFault::from(fault));
+            }
+        };
         own = standing.judge_on(own, &page)?;
         standing.take_page(&page)?;
         if page.len() < PAGE {
@@ -42,7 +49,7 @@ pub(crate) fn catch_up<G: DeltaLog>(
     Err(MemberFault::Log(LogFault::Refused))
 }
 
-/// Appends an entry. What the log has lost by its fault is to be written again.
+/// Appends an entry. What the log has lost by its fault is to be read and written again.
 pub(crate) fn append<G: DeltaLog>(
     log: &mut G,
     standing: &mut Standing,
@@ -50,7 +57,12 @@ pub(crate) fn append<G: DeltaLog>(
 ) -> Result<Position, LogFault>
     ensures asked { Calls (G.calls log.old) (G.calls log.new) (append_calls entry.now result) }
     ensures done { OnOk result (standing.new ≡ standing.old) }
-    ensures only { standing.new ≡ record standing.old { written = standing.new.written; led = standing.new.led } }
+    ensures only { standing.new ≡ record standing.old {
+      read_to = standing.new.read_to;
+      written = standing.new.written;
+      led = standing.new.led;
+    } }
+    ensures read_to { (standing.new.read_to ≡ None) ⊎ (standing.new.read_to ≡ standing.old.read_to) }
     ensures leading { (asked : Option (List LogCall)) → IsLeading asked standing.old
         → IsLeading asked standing.new }
 {
@@ -77,14 +89,11 @@ fn is_in(fleet: Option<FleetId>, own: FleetId) -> bool
 fn write_start<G: DeltaLog>(log: &mut G, standing: &mut Standing) -> Result<FleetId, MemberFault>
     ensures started { IfOk result (λ fleet. IsStarted (G.calls log.old) standing.old fleet.bytes
         (G.calls log.new) standing.new) }
-    ensures own { Claims (G.calls log.old) (G.calls log.new) standing.old }
+    ensures own { OnErr result (Claims (G.calls log.old) standing.old (G.calls log.new) standing.new) }
     ensures same { HasSameStart standing.old standing.new }
     ensures member { IsMember (G.calls log.old) standing.old → IsMember (G.calls log.new) standing.new }
 {
-    let fleet = match standing.fleet {
-        Some(fleet) => fleet,
-        None => standing.made_up,
-    };
+    let fleet = standing.own_fleet();
     let entry = standing.entry(fleet, Body::Start)?;
     let position = append(log, standing, &entry)?;
     standing.started(position, fleet, entry.len());
@@ -96,7 +105,7 @@ fn write<G: DeltaLog>(log: &mut G, standing: &mut Standing) -> Result<(), Member
     ensures written { IsMember (G.calls log.old) standing.old
         → OnOk result (IsWritingNow (G.calls log.old) standing.old (G.calls log.new) standing.new) }
     ensures own { IsMember (G.calls log.old) standing.old
-        → WritesOwnCalls (G.calls log.old) (G.calls log.new) standing.new }
+        → WritesOwnCalls (G.calls log.old) standing.old (G.calls log.new) standing.new }
     ensures same { HasSameStart standing.old standing.new }
     ensures node { standing.new.node ≡ standing.old.node }
     ensures fleet { standing.new.fleet ≡ standing.old.fleet }
@@ -124,7 +133,7 @@ fn claim<G: DeltaLog>(log: &mut G, standing: &mut Standing) -> Result<(), Member
     requires floor { standing.old.floor < 64 * year_2100 }
     ensures claimed { IsMember (G.calls log.old) standing.old
         → OnOk result (IsClaimed (G.calls log.old) standing.old (G.calls log.new) standing.new) }
-    ensures own { Claims (G.calls log.old) (G.calls log.new) standing.old }
+    ensures own { Claims (G.calls log.old) standing.old (G.calls log.new) standing.new }
     ensures same { OnErr result (HasSameStart standing.old standing.new) }
     ensures start { OnOk result (HasSameStart standing.old (record standing.new { claimed = false })
         × (standing.new.claimed ≡ true)) }
@@ -149,7 +158,7 @@ fn finish<G: DeltaLog>(
     requires { IsMember (G.calls log.old) standing.old }
     ensures finished { IfOk result (λ replies. Finished (G.calls log.old) standing.old calls.now
         replies.items (G.calls log.new) standing.new) }
-    ensures own { WritesOwnCalls (G.calls log.old) (G.calls log.new) standing.new }
+    ensures own { WritesOwnCalls (G.calls log.old) standing.old (G.calls log.new) standing.new }
     ensures same { HasSameStart standing.old standing.new }
     ensures member { IsMember (G.calls log.new) standing.new }
 {

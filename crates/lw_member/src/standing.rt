@@ -1,6 +1,6 @@
 //! What a member knows, and how far it has read and written.
 
-ghost use Rattle.std.specs.Prelude.{◌≡◌, ◌≢◌, ◌↔◌, ◌≤◌, ◌<◌, ◌*◌, ◌+◌, ◌++◌, ◌⊎◌, ℕ, List, [], ◌∷◌, length, Option, Some, true, false, cond, IfOk, OnOk, IsTrue, vec_len, vec_capacity};
+ghost use Rattle.std.specs.Prelude.{◌≡◌, ◌≢◌, ◌↔◌, ◌≤◌, ◌<◌, ◌*◌, ◌+◌, ◌++◌, ◌⊎◌, ℕ, List, [], ◌∷◌, length, Option, Some, None, true, false, cond, IfOk, OnOk, IsTrue, vec_len, vec_capacity};
 ghost use Rattle.lw_call.specs.declared.reply.Reply.{Reply as Replies};
 ghost use Rattle.lw_delta.specs.Delta.{DeltaContent, IsSpelling};
 ghost use Rattle.lw_node.specs.Exchange.{Merged};
@@ -16,7 +16,7 @@ ghost use Rattle.lw_member.specs.inner.Going.{Goes};
 ghost use Rattle.lw_member.specs.Counting.{counted_with};
 ghost use Rattle.lw_member.specs.Parts.{fleet_of, IsLeading, IsMember};
 ghost use Rattle.lw_member.specs.inner.Standing.{IsNew, HasSameStart, IsStill, counted_in, counted_of};
-ghost use Rattle.lw_member.specs.inner.Taking.{Takes, IsJudged, IsJudgedEntry, IsJudgedPage, IsSpelt, IsEntryOf};
+ghost use Rattle.lw_member.specs.inner.Taking.{Takes, IsBehind, IsJudged, IsJudgedEntry, IsJudgedPage, IsSpelt, IsEntryOf};
 
 use crate::MemberFault;
 use crate::numbers::{Numbers, has_bit};
@@ -94,6 +94,8 @@ impl Standing {
         ensures taken { OnOk result (Takes self.old (bytes_of (placed page.now)) self.new) }
         ensures read_to { OnOk result (place_of self.new.read_to
             ≡ place_read (place_of self.old.read_to) (placed page.now)) }
+        // Also where it fails.
+        ensures behind { IsBehind self.old (placed page.now) self.new }
         ensures same { HasSameStart self.old self.new }
         ensures leading { (asked : Option (List LogCall)) → AreSeenBy asked (bytes_of (placed page.now))
             → IsLeading asked self.old → IsLeading asked self.new }
@@ -226,6 +228,16 @@ impl Standing {
         }
     }
 
+    /// The fleet, or where the log has none the one that is made up.
+    pub(crate) fn own_fleet(&self) -> FleetId
+        ensures { (f : List ℕ) → fleet_of self.now ≡ Some f → result.bytes ≡ f }
+    {
+        match self.fleet {
+            Some(fleet) => fleet,
+            None => self.made_up,
+        }
+    }
+
     /// The bytes of an entry with this body, the next of this start.
     pub(crate) fn entry(&self, fleet: FleetId, body: Body<'_>) -> Result<Vec<u8>, NoMemory>
         requires fits { FitsBody (body_content body) }
@@ -304,6 +316,7 @@ impl Standing {
             ≡ cond self.old.alone (Some (place position)) (place_of self.old.read_to) }
         ensures counted { counted_in self.new
             ≡ cond self.old.alone (counted_with StartContent length (counted_in self.old)) (counted_in self.old) }
+        ensures fleet { (self.new.fleet ≡ self.old.fleet) ⊎ (self.new.fleet ≡ Some fleet) }
     {
         self.appended(position, length);
         if self.alone {
@@ -311,12 +324,18 @@ impl Standing {
         }
     }
 
-    /// An append has failed. What the log has lost is written again.
+    /// The log did not do what it was asked. Where it has lost something, all is read again, and written again.
     pub(crate) fn failed(&mut self, fault: LogFault)
-        ensures only { self.new ≡ record self.old { written = self.new.written; led = self.new.led } }
+        ensures only { self.new ≡ record self.old {
+          read_to = self.new.read_to;
+          written = self.new.written;
+          led = self.new.led;
+        } }
+        ensures read_to { (self.new.read_to ≡ None) ⊎ (self.new.read_to ≡ self.old.read_to) }
         ensures leading { (asked : Option (List LogCall)) → IsLeading asked self.old → IsLeading asked self.new }
     {
         if fault == LogFault::Lost {
+            self.read_to = None;
             self.written = 0;
             self.led = false;
         }

@@ -1,13 +1,14 @@
 -- How a member's parts go on.
-use Rattle.std.specs.Prelude.{◌≡◌, ◌<◌, ℕ, None, true, false}
+use Rattle.std.specs.Prelude.{◌≡◌, ◌<◌, ℕ, List, Some, None, true, false}
 use Rattle.lw_table.specs.Changes.{LAST}
+use Rattle.lw_node.specs.Exchange.{IsBelow, known_by}
 use Rattle.lw_node.specs.Node.{NodeContent, fresh}
 use Rattle.lw_log.specs.Calls.{place_of}
 use Rattle.lw_log.specs.declared.start.Start.{Start}
 use Rattle.lw_member.specs.declared.size.LogSize.{LogSize}
 use Rattle.lw_member.specs.declared.standing.Standing.{Standing}
 use Rattle.lw_member.specs.Reading.{HasBit}
-use Rattle.lw_member.specs.Parts.{numbers_of}
+use Rattle.lw_member.specs.Parts.{fleet_of, numbers_of}
 
 -- the bytes that were counted
 abbrev pub counted_of : LogSize → ℕ × ℕ
@@ -16,7 +17,7 @@ counted_of size = (size.whole, size.behind)
 abbrev pub counted_in : Standing → ℕ × ℕ
 counted_in s = counted_of s.size
 
--- the start is the same, with what it has claimed
+-- the start is the same, with what it has claimed, and nothing that was known is forgotten
 pub record HasSameStart (old new : Standing) : Type 0 where
   pub number : new.node.number ≡ old.node.number
   pub start : new.start ≡ old.start
@@ -24,6 +25,9 @@ pub record HasSameStart (old new : Standing) : Type 0 where
   pub alone : new.alone ≡ old.alone
   pub claimed : new.claimed ≡ old.claimed
   pub floor : new.floor ≡ old.floor
+  pub settled : old.settled ≡ true → new.settled ≡ true
+  pub fleet : (f : List ℕ) → old.settled ≡ true → fleet_of old ≡ Some f → fleet_of new ≡ Some f
+  pub knows : IsBelow (known_by old.node) (known_by new.node)
 
 -- the log leads all of it still: neither its change number nor its clock has moved
 abbrev pub IsStill : Standing → NodeContent → Type 0

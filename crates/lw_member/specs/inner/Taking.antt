@@ -1,11 +1,12 @@
 -- What a member takes from entries, and judges of them.
-use Rattle.std.specs.Prelude.{◌≡◌, ℕ, ◌≤◌, List, [], ◌∷◌, length, Option, Some, None, Bool, true, false}
+use Rattle.std.specs.Prelude.{◌≡◌, ℕ, ◌≤◌, List, [], ◌∷◌, ◌++◌, ◌⊎◌, length, Option, Some, None, Bool, true, false}
 use Rattle.lw_delta.specs.Delta.{DeltaContent, IsSpelling}
-use Rattle.lw_log.specs.Calls.{LogCall}
+use Rattle.lw_node.specs.Exchange.{known_by}
+use Rattle.lw_log.specs.Calls.{LogCall, Placed, place_of}
 use Rattle.lw_log.specs.Calls.LogCall.{Read, Wrote, Tried, Trimmed}
 use Rattle.lw_log.specs.Entries.{BodyContent, EntryContent, IsEntry, HasDelta, BringsDelta}
 use Rattle.lw_member.specs.declared.standing.Standing.{Standing}
-use Rattle.lw_member.specs.Reading.{MergesEntries, AreGood, AreNoted, IsFree, IsOf, IsTakenFirst, Meets, place_read}
+use Rattle.lw_member.specs.Reading.{MergesEntries, AreGood, AreNoted, IsFree, IsOf, IsTakenFirst, KnowsAll, Meets, ReadsOn, bytes_of, place_read}
 use Rattle.lw_member.specs.Counting.{CountsEntries}
 use Rattle.lw_member.specs.Parts.{fleet_of, numbers_of}
 use Rattle.lw_member.specs.inner.Standing.{counted_in}
@@ -51,6 +52,18 @@ ArePages after (Read from es ∷ calls) upto = (from ≡ after) × (256 ≤ leng
 ArePages after (Wrote p ∷ calls) upto = ⊥
 ArePages after (Tried e ∷ calls) upto = ⊥
 ArePages after (Trimmed p ∷ calls) upto = ⊥
+
+-- the position is behind the first entries of a page, each of which is known
+pub record IsBehind (old : Standing) (page : List Placed) (new : Standing) : Type 0 where
+  pub taken : List Placed
+  pub left : List Placed
+  pub is : page ≡ taken ++ left
+  pub known : KnowsAll (known_by new.node) (bytes_of taken)
+  pub read_to : place_of new.read_to ≡ place_read (place_of old.read_to) taken
+
+-- it has read on with these calls, or is to read from the first entry
+abbrev pub IsReadBy : Standing → List LogCall → Standing → Type 0
+IsReadBy old more new = (place_of new.read_to ≡ None) ⊎ ReadsOn old.alone (known_by new.node) (place_of old.read_to) more (place_of new.read_to)
 
 -- ---- entries that are written
 -- the body's delta is spelled

@@ -8,7 +8,7 @@ use Rattle.lw_member.specs.declared.standing.Standing.{Standing}
 use Rattle.lw_member.specs.Counting.{CountsEntries, own_entries}
 use Rattle.lw_member.specs.Parts.{numbers_of}
 use Rattle.lw_member.specs.Rounds.{place_after}
-use Rattle.lw_member.specs.inner.Taking.{IsEntryOf}
+use Rattle.lw_member.specs.inner.Taking.{IsEntryOf, IsReadBy}
 use Rattle.lw_member.specs.inner.Standing.{counted_in}
 
 -- an entry of the member's, in the fleet, with all that the node knows
@@ -17,9 +17,10 @@ pub record IsWholeOf (s : Standing) (fleet : List ℕ) (bytes : List ℕ) : Type
   pub is : IsDeltaSince s.node 0 delta
   pub entry : IsEntryOf s fleet (Whole (numbers_of s) delta) bytes
 
--- it was appended, and the log leads all
-pub record IsWrittenWhole (before : Option (List LogCall)) (old : Standing) (fleet : List ℕ) (after : Option (List LogCall)) (new : Standing) : Type 0 where
+-- it was appended at a position, and the log leads all
+pub record IsWrittenWhole (before : Option (List LogCall)) (old : Standing) (fleet : List ℕ) (at : ℕ × ℕ) (after : Option (List LogCall)) (new : Standing) : Type 0 where
   pub place : Placed
+  pub place_is : place.0 ≡ at
   pub asked : Calls before after (Wrote place ∷ [])
   pub whole : IsWholeOf old fleet place.1
   pub led : new.led ≡ true
@@ -33,5 +34,5 @@ IsTryingWhole s fleet (Wrote p ∷ []) = IsWholeOf s fleet p.1
 IsTryingWhole s fleet (Tried e ∷ []) = IsWholeOf s fleet e
 IsTryingWhole s fleet _ = ⊥
 
-abbrev pub TriesWhole : Option (List LogCall) → Standing → List ℕ → Option (List LogCall) → Type 0
-TriesWhole before s fleet after = (more : List LogCall) × Calls before after more × IsTryingWhole s fleet more
+abbrev pub TriesWhole : Option (List LogCall) → Standing → List ℕ → Option (List LogCall) → Standing → Type 0
+TriesWhole before old fleet after new = (more : List LogCall) × Calls before after more × IsTryingWhole old fleet more × IsReadBy old more new

@@ -15,11 +15,11 @@ use Rattle.lw_member.specs.Counting.{CountsEntries, own_entries}
 use Rattle.lw_member.specs.Parts.{content_of, fleet_of, numbers_of, IsMember}
 use Rattle.lw_member.specs.inner.Going.{Goes}
 use Rattle.lw_member.specs.inner.Standing.{HasSameStart, IsStill, counted_in}
-use Rattle.lw_member.specs.inner.Taking.{IsEntryOf}
+use Rattle.lw_member.specs.inner.Taking.{IsEntryOf, IsReadBy}
 
 -- all that was appended, or tried, is the member's own
-abbrev pub WritesOwnCalls : Option (List LogCall) → Option (List LogCall) → Standing → Type 0
-WritesOwnCalls before after new = (more : List LogCall) × Calls before after more × AreOwnCalls (content_of after new) more
+abbrev pub WritesOwnCalls : Option (List LogCall) → Standing → Option (List LogCall) → Standing → Type 0
+WritesOwnCalls before old after new = (more : List LogCall) × Calls before after more × AreOwnCalls (content_of after new) more × IsReadBy old more new
 
 -- a start entry of this number and tag
 pub record IsStartOf (number tag : ℕ) (bytes : List ℕ) : Type 0 where
@@ -37,8 +37,8 @@ AreClaims number tag (Wrote p ∷ calls) = IsStartOf number tag p.1 × AreClaims
 AreClaims number tag (Tried e ∷ calls) = IsStartOf number tag e × AreClaims number tag calls
 AreClaims number tag (Trimmed upto ∷ calls) = ⊥
 
-abbrev pub Claims : Option (List LogCall) → Option (List LogCall) → Standing → Type 0
-Claims before after s = (more : List LogCall) × Calls before after more × AreClaims s.start.number s.start.tag more
+abbrev pub Claims : Option (List LogCall) → Standing → Option (List LogCall) → Standing → Type 0
+Claims before old after new = (more : List LogCall) × Calls before after more × AreClaims old.start.number old.start.tag more × IsReadBy old more new
 
 -- a start entry was appended
 pub record IsStarted (before : Option (List LogCall)) (old : Standing) (fleet : List ℕ) (after : Option (List LogCall)) (new : Standing) : Type 0 where

@@ -1,15 +1,25 @@
-use Rattle.std.proofs.Common.{inl, inr, Option, ap}
+use Rattle.std.proofs.Common.{inl, inr, Option, ap, refl}
 use Rattle.std.specs.Prelude.{option_map}
 use Rattle.lw_log.specs.Calls.{place_of}
 use Rattle.lw_log.specs.declared.entry.FleetId.{FleetId}
+use Rattle.lw_member.proofs.Asking.{calls_none}
 use Rattle.lw_member.proofs.Catching.{member_more}
-use Rattle.lw_member.proofs.Compacting.{none_of, compacted_none, compacts_tried, compacts_trimmed, compacted_whole}
+use Rattle.lw_member.proofs.Compacting.{none_of, compacted_none, compacted_kept, compacted_whole, compacts_kept, compacts_none, compacts_read, compacts_tried, compacts_trimmed}
 use Rattle.lw_member.proofs.compaction.compact.Goals as goal
+
+pub returns-in_err-catch_up-clause-own : goal.returns-in_err-catch_up-clause-own
+returns-in_err-catch_up-clause-own g c =
+    compacts_read _ _ c.args.standing.now c.catch_up.new.standing c.catch_up.ensures.same c.catch_up.ensures.asked
 
 pub returns-in_default-clause-compacted : goal.returns-in_default-clause-compacted
 returns-in_default-clause-compacted g c =
     let read = c.in_ok-catch_up.ensures.read in
     compacted_none _ _ c.args.standing.now c.catch_up.new.standing read.0 c.in_ok-catch_up.field-0 read.1 read.2 read.3 read.4 read.5 c.catch_up.ensures.same c.requires (inl (ap place_of (none_of _ c.in_default.not-Some)))
+
+pub returns-in_default-clause-own : goal.returns-in_default-clause-own
+returns-in_default-clause-own g c =
+    let read = c.in_ok-catch_up.ensures.read in
+    compacts_none _ _ c.args.standing.now c.catch_up.new.standing read.0 c.in_ok-catch_up.field-0 read.1 read.2 read.3 read.4 read.5 c.catch_up.ensures.same c.requires
 
 pub returns-in_default-fleet-clause-compacted : goal.returns-in_default-fleet-clause-compacted
 returns-in_default-fleet-clause-compacted g c =
@@ -17,12 +27,17 @@ returns-in_default-fleet-clause-compacted g c =
     compacted_none _ _ c.args.standing.now c.catch_up.new.standing read.0 c.in_ok-catch_up.field-0 read.1 read.2 read.3 read.4 read.5 c.catch_up.ensures.same c.requires
     (inr (ap (λ (f : Option FleetId). option_map (λ (x : FleetId). x.bytes) f) (none_of _ c.in_default-fleet.not-Some)))
 
-pub returns-in_err-write_whole-clause-own : goal.returns-in_err-write_whole-clause-own
-returns-in_err-write_whole-clause-own g c =
+pub returns-in_default-fleet-clause-own : goal.returns-in_default-fleet-clause-own
+returns-in_default-fleet-clause-own g c =
+    let read = c.in_ok-catch_up.ensures.read in
+    compacts_none _ _ c.args.standing.now c.catch_up.new.standing read.0 c.in_ok-catch_up.field-0 read.1 read.2 read.3 read.4 read.5 c.catch_up.ensures.same c.requires
+
+pub returns-in_err-position-clause-own : goal.returns-in_err-position-clause-own
+returns-in_err-position-clause-own g c =
     let read = c.in_ok-catch_up.ensures.read in
     let fleet = ap (λ (f : Option FleetId). option_map (λ (x : FleetId). x.bytes) f) c.in-Some-fleet.is in
     compacts_tried _ _ c.args.standing.now c.catch_up.new.standing read.0 c.in_ok-catch_up.field-0 read.1 read.2 read.3 read.4 read.5 c.catch_up.ensures.same c.requires
-    _ c.write_whole.new.standing c.in-Some-fleet.fleet.bytes fleet c.write_whole.ensures.same c.write_whole.ensures.node c.write_whole.ensures.fleet c.write_whole.ensures.numbers c.write_whole.ensures.own
+    _ c.write_whole.new.standing c.in-Some-fleet.fleet.bytes fleet c.write_whole.ensures.same c.write_whole.ensures.node c.write_whole.ensures.fleet c.write_whole.ensures.numbers c.in_err-position.ensures.own
 
 pub returns-in_err-trim-clause-own : goal.returns-in_err-trim-clause-own
 returns-in_err-trim-clause-own g c =
@@ -30,26 +45,44 @@ returns-in_err-trim-clause-own g c =
     let fleet = ap (λ (f : Option FleetId). option_map (λ (x : FleetId). x.bytes) f) c.in-Some-fleet.is in
     compacts_trimmed _ _ c.args.standing.now c.catch_up.new.standing read.0 c.in_ok-catch_up.field-0 read.1 read.2 read.3 read.4 read.5 c.catch_up.ensures.same c.requires
     _ c.write_whole.new.standing c.in-Some-fleet.fleet.bytes fleet c.write_whole.ensures.same c.write_whole.ensures.node c.write_whole.ensures.fleet c.write_whole.ensures.numbers
-    _ c.in-Some.upto c.in-Some.is c.in_ok-write_whole.ensures.written c.trim.result c.trim.ensures
+    _ c.in-Some.upto c.in-Some.is c.in_ok-position.position c.in_ok-position.ensures.written (c.if-stands_before.ensures.0 refl) c.trim.result c.trim.ensures
 
 pub returns-in_err-trim-clause-member : goal.returns-in_err-trim-clause-member
-returns-in_err-trim-clause-member g c = member_more _ _ _ c.write_whole.new.standing c.trim.ensures c.write_whole.ensures.member
+returns-in_err-trim-clause-member g c =
+    member_more _ _ _ c.write_whole.new.standing c.trim.ensures c.write_whole.ensures.member
 
-pub returns-clause-compacted : goal.returns-clause-compacted
-returns-clause-compacted g c =
+pub returns-then-stands_before-clause-compacted : goal.returns-then-stands_before-clause-compacted
+returns-then-stands_before-clause-compacted g c =
     let read = c.in_ok-catch_up.ensures.read in
     let fleet = ap (λ (f : Option FleetId). option_map (λ (x : FleetId). x.bytes) f) c.in-Some-fleet.is in
     compacted_whole _ _ c.args.standing.now c.catch_up.new.standing read.0 c.in_ok-catch_up.field-0 read.1 read.2 read.3 read.4 read.5 c.catch_up.ensures.same c.requires
     _ c.write_whole.new.standing c.in-Some-fleet.fleet.bytes fleet c.write_whole.ensures.same c.write_whole.ensures.node c.write_whole.ensures.fleet c.write_whole.ensures.numbers
-    _ c.in-Some.upto c.in-Some.is c.in_ok-write_whole.ensures.written c.in_ok-trim.ensures (member_more _ _ _ c.write_whole.new.standing c.trim.ensures c.write_whole.ensures.member)
+    _ c.in-Some.upto c.in-Some.is c.in_ok-position.position c.in_ok-position.ensures.written (c.if-stands_before.ensures.0 refl) c.in_ok-trim.ensures (member_more _ _ _ c.write_whole.new.standing c.trim.ensures c.write_whole.ensures.member)
 
-pub returns-clause-own : goal.returns-clause-own
-returns-clause-own g c =
+pub returns-then-stands_before-clause-own : goal.returns-then-stands_before-clause-own
+returns-then-stands_before-clause-own g c =
     let read = c.in_ok-catch_up.ensures.read in
     let fleet = ap (λ (f : Option FleetId). option_map (λ (x : FleetId). x.bytes) f) c.in-Some-fleet.is in
     compacts_trimmed _ _ c.args.standing.now c.catch_up.new.standing read.0 c.in_ok-catch_up.field-0 read.1 read.2 read.3 read.4 read.5 c.catch_up.ensures.same c.requires
     _ c.write_whole.new.standing c.in-Some-fleet.fleet.bytes fleet c.write_whole.ensures.same c.write_whole.ensures.node c.write_whole.ensures.fleet c.write_whole.ensures.numbers
-    _ c.in-Some.upto c.in-Some.is c.in_ok-write_whole.ensures.written c.trim.result c.trim.ensures
+    _ c.in-Some.upto c.in-Some.is c.in_ok-position.position c.in_ok-position.ensures.written (c.if-stands_before.ensures.0 refl) c.trim.result c.trim.ensures
 
-pub returns-clause-member : goal.returns-clause-member
-returns-clause-member g c = member_more _ _ _ c.write_whole.new.standing c.trim.ensures c.write_whole.ensures.member
+pub returns-then-stands_before-clause-member : goal.returns-then-stands_before-clause-member
+returns-then-stands_before-clause-member g c =
+    member_more _ _ _ c.write_whole.new.standing c.trim.ensures c.write_whole.ensures.member
+
+pub returns-else-stands_before-clause-compacted : goal.returns-else-stands_before-clause-compacted
+returns-else-stands_before-clause-compacted g c =
+    let read = c.in_ok-catch_up.ensures.read in
+    let fleet = ap (λ (f : Option FleetId). option_map (λ (x : FleetId). x.bytes) f) c.in-Some-fleet.is in
+    compacted_kept _ _ c.args.standing.now c.catch_up.new.standing read.0 c.in_ok-catch_up.field-0 read.1 read.2 read.3 read.4 read.5 c.catch_up.ensures.same c.requires
+    _ c.write_whole.new.standing c.in-Some-fleet.fleet.bytes fleet c.write_whole.ensures.same c.write_whole.ensures.node c.write_whole.ensures.fleet c.write_whole.ensures.numbers
+    _ c.in-Some.upto c.in-Some.is c.in_ok-position.position c.in_ok-position.ensures.written (λ h. let bad = c.if-stands_before.ensures.1 h in cc) (calls_none _) c.write_whole.ensures.member
+
+pub returns-else-stands_before-clause-own : goal.returns-else-stands_before-clause-own
+returns-else-stands_before-clause-own g c =
+    let read = c.in_ok-catch_up.ensures.read in
+    let fleet = ap (λ (f : Option FleetId). option_map (λ (x : FleetId). x.bytes) f) c.in-Some-fleet.is in
+    compacts_kept _ _ c.args.standing.now c.catch_up.new.standing read.0 c.in_ok-catch_up.field-0 read.1 read.2 read.3 read.4 read.5 c.catch_up.ensures.same c.requires
+    _ c.write_whole.new.standing c.in-Some-fleet.fleet.bytes fleet c.write_whole.ensures.same c.write_whole.ensures.node c.write_whole.ensures.fleet c.write_whole.ensures.numbers
+    _ c.in-Some.upto c.in-Some.is c.in_ok-position.position c.in_ok-position.ensures.written (calls_none _)

@@ -10,6 +10,8 @@ use Rattle.lw_member.specs.declared.standing.Standing.{Standing}
 use Rattle.lw_member.specs.inner.Standing.{counted_in}
 use Rattle.lw_member.proofs.Catching.{member_failed}
 use Rattle.lw_member.proofs.Counting.{counts_own}
+use Rattle.lw_member.proofs.Knowing.{by_failed}
+use Rattle.lw_member.proofs.Merging.{same_failed}
 use Rattle.lw_member.proofs.Owning.{append_whole, member_whole}
 use Rattle.lw_member.proofs.compaction.write_whole.Goals as goal
 
@@ -29,14 +31,10 @@ returns-in_err-position-clause-own g c =
     let s0 = c.args.standing.now in
     let is = subst (λ d. IsDeltaSince s0.node 0 d) (sym c.deref.ensures.value) c.in_ok-delta.ensures in
     let e = subst (λ b. IsEntryOf s0 c.args.fleet.bytes (Whole (numbers_of s0) c.deref.result.now) b) (sym c.deref-2.ensures.value) (subst (λ ns. IsEntryOf s0 c.args.fleet.bytes (Whole ns c.deref.result.now) c.in_ok-entry.entry.items) c.as_bytes.ensures.bytes c.in_ok-entry.ensures) in
-    (_, c.append.ensures.asked, append_whole s0 _ _ _ (record { delta = c.deref.result.now; is = is; entry = e }))
+    (_, c.in_err-position.ensures.asked, append_whole s0 _ _ _ (record { delta = c.deref.result.now; is = is; entry = e }), by_failed s0 c.append.new.standing _ _ c.append.ensures.read_to)
 
-pub returns-clause-own : goal.returns-clause-own
-returns-clause-own g c =
-    let s0 = c.args.standing.now in
-    let is = subst (λ d. IsDeltaSince s0.node 0 d) (sym c.deref.ensures.value) c.in_ok-delta.ensures in
-    let e = subst (λ b. IsEntryOf s0 c.args.fleet.bytes (Whole (numbers_of s0) c.deref.result.now) b) (sym c.deref-2.ensures.value) (subst (λ ns. IsEntryOf s0 c.args.fleet.bytes (Whole ns c.deref.result.now) c.in_ok-entry.entry.items) c.as_bytes.ensures.bytes c.in_ok-entry.ensures) in
-    (_, c.append.ensures.asked, append_whole s0 _ _ _ (record { delta = c.deref.result.now; is = is; entry = e }))
+pub returns-in_err-position-clause-same : goal.returns-in_err-position-clause-same
+returns-in_err-position-clause-same g c = same_failed c.args.standing.now c.append.new.standing c.append.ensures.only
 
 pub returns-clause-written : goal.returns-clause-written
 returns-clause-written g c =
@@ -45,6 +43,7 @@ returns-clause-written g c =
     let e = subst (λ b. IsEntryOf s0 c.args.fleet.bytes (Whole (numbers_of s0) c.deref.result.now) b) (sym c.deref-2.ensures.value) (subst (λ ns. IsEntryOf s0 c.args.fleet.bytes (Whole ns c.deref.result.now) c.in_ok-entry.entry.items) c.as_bytes.ensures.bytes c.in_ok-entry.ensures) in
     record {
       place = (place c.in_ok-position.position, c.deref-2.result.now);
+      place_is = refl;
       asked = c.in_ok-position.ensures.asked;
       whole = record { delta = c.deref.result.now; is = is; entry = e };
       led = refl;

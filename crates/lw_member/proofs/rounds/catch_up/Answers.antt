@@ -1,78 +1,96 @@
-use Rattle.std.proofs.Common.{◌≡◌, ℕ, List, Option, arith, subst}
+use Rattle.std.proofs.Common.{◌≡◌, ℕ, List, Option, ap, arith, subst}
 use Rattle.lw_log.specs.Calls.{LogCall, placed, place_of}
 use Rattle.lw_log.specs.declared.position.Position.{Position}
 use Rattle.lw_member.specs.Parts.{IsLeading}
 use Rattle.lw_member.specs.Reading.{bytes_of, place_read}
 use Rattle.lw_member.specs.inner.Seeing.{AreSeenBy}
-use Rattle.lw_member.specs.inner.Taking.{Takes, IsJudged}
-use Rattle.lw_member.proofs.Catching.{caught_start, caught_page, caught_end, caught_asked, asked_none, asked_page, member_more, page_leads}
+use Rattle.lw_member.specs.declared.standing.Standing.{Standing}
+use Rattle.lw_member.specs.inner.Taking.{IsBehind, Takes, IsJudged}
+use Rattle.lw_member.proofs.Catching.{caught_start, caught_page, caught_end, caught_asked, asked_fault, asked_page, member_failed, member_more, page_leads}
+use Rattle.lw_member.proofs.Knowing.{behind_none}
+use Rattle.lw_member.proofs.Merging.{same_failed, same_none, same_then}
 use Rattle.lw_member.proofs.rounds.catch_up.Goals as goal
 
 pub loop-page-init : goal.loop-page-init
 loop-page-init g c = record { caught = caught_start _ c.args.standing.now; member = λ m. m }
 
-pub returns-in_err-page-clause-asked : goal.returns-in_err-page-clause-asked
-returns-in_err-page-clause-asked g c = asked_none _ _ _ (caught_asked _ _ _ _ _ c.loop-page.invariant.caught) c.in_err-page.ensures
+pub returns-in-Err-clause-asked : goal.returns-in-Err-clause-asked
+returns-in-Err-clause-asked g c =
+    asked_fault _ _ _ _ _ c.loop-page.invariant.caught _ c.failed.new.self c.in-Err.ensures (ap (λ (x : Standing). x.node) c.failed.ensures.only) c.failed.ensures.read_to
 
-pub returns-in_err-page-clause-member : goal.returns-in_err-page-clause-member
-returns-in_err-page-clause-member g c = λ m. member_more _ _ _ _ c.in_err-page.ensures (c.loop-page.invariant.member m)
+pub returns-in-Err-clause-same : goal.returns-in-Err-clause-same
+returns-in-Err-clause-same g c = same_then _ _ _ c.loop-page.invariant.caught.same (same_failed c.loop-page.standing c.failed.new.self c.failed.ensures.only)
+
+pub returns-in-Err-clause-member : goal.returns-in-Err-clause-member
+returns-in-Err-clause-member g c = λ m. member_failed _ _ _ _ _ c.in-Err.ensures c.failed.ensures.only c.failed.ensures.leading (c.loop-page.invariant.member m)
 
 pub returns-in_err-own-clause-asked : goal.returns-in_err-own-clause-asked
-returns-in_err-own-clause-asked g c = asked_page _ _ _ _ _ (caught_asked _ _ _ _ _ c.loop-page.invariant.caught) c.in_ok-page.ensures
+returns-in_err-own-clause-asked g c =
+    asked_page _ _ _ _ _ c.loop-page.invariant.caught _ c.loop-page.standing _ c.in-Ok.ensures (same_none c.loop-page.standing) (behind_none c.loop-page.standing _)
 
 pub returns-in_err-own-clause-member : goal.returns-in_err-own-clause-member
-returns-in_err-own-clause-member g c = λ m. member_more _ _ _ _ c.in_ok-page.ensures (c.loop-page.invariant.member m)
+returns-in_err-own-clause-member g c = λ m. member_more _ _ _ _ c.in-Ok.ensures (c.loop-page.invariant.member m)
 
 pub returns-in_err-take_page-clause-asked : goal.returns-in_err-take_page-clause-asked
-returns-in_err-take_page-clause-asked g c = asked_page _ _ _ _ _ (caught_asked _ _ _ _ _ c.loop-page.invariant.caught) c.in_ok-page.ensures
+returns-in_err-take_page-clause-asked g c =
+    let behind = subst (λ (p : List (Position × List ℕ)). IsBehind c.loop-page.standing (placed p) c.take_page.new.self) c.deref-in-loop-page.ensures.value c.take_page.ensures.behind in
+    asked_page _ _ _ _ _ c.loop-page.invariant.caught _ c.take_page.new.self _ c.in-Ok.ensures c.take_page.ensures.same behind
+
+pub returns-in_err-take_page-clause-same : goal.returns-in_err-take_page-clause-same
+returns-in_err-take_page-clause-same g c = same_then _ _ _ c.loop-page.invariant.caught.same c.take_page.ensures.same
 
 pub returns-in_err-take_page-clause-member : goal.returns-in_err-take_page-clause-member
 returns-in_err-take_page-clause-member g c = λ m.
     let s0 = c.args.standing.now in
     let s = c.loop-page.standing in
     let s1 = c.take_page.new.self in
-    let page = c.in_ok-page.page.items in
+    let page = c.in-Ok.page.items in
     let leads = subst (λ (p : List (Position × List ℕ)). (asked : Option (List LogCall)) → AreSeenBy asked (bytes_of (placed p)) → IsLeading asked s → IsLeading asked s1) c.deref-in-loop-page.ensures.value c.in_err-take_page.ensures.leading in
-    page_leads _ _ s s1 _ page c.in_ok-page.ensures leads c.in_err-take_page.ensures.same (c.loop-page.invariant.member m)
+    page_leads _ _ s s1 _ page c.in-Ok.ensures leads c.in_err-take_page.ensures.same (c.loop-page.invariant.member m)
 
 pub returns-then-len-lt-PAGE-clause-read : goal.returns-then-len-lt-PAGE-clause-read
 returns-then-len-lt-PAGE-clause-read g c =
     let s0 = c.args.standing.now in
     let s = c.loop-page.standing in
     let s1 = c.take_page.new.self in
-    let page = c.in_ok-page.page.items in
+    let page = c.in-Ok.page.items in
     let judged = subst (λ (p : List (Position × List ℕ)). IsJudged c.loop-page.own s.start.number s.start.tag (bytes_of (placed p)) c.in_ok-own.own) c.deref.ensures.value c.in_ok-own.ensures in
     let same2 = c.deref-in-loop-page.ensures.value in
     let takes = subst (λ (p : List (Position × List ℕ)). Takes s (bytes_of (placed p)) s1) same2 c.in_ok-take_page.ensures.taken in
     let read_to = subst (λ (p : List (Position × List ℕ)). place_of s1.read_to ≡ place_read (place_of s.read_to) (placed p)) same2 c.in_ok-take_page.ensures.read_to in
-    caught_end _ _ _ s0 s s1 c.loop-page.own c.in_ok-own.own page c.loop-page.invariant.caught c.in_ok-page.ensures judged takes read_to c.in_ok-take_page.ensures.same (omega (arith, c.len.ensures, c.if-len-lt-PAGE.true))
+    caught_end _ _ _ s0 s s1 c.loop-page.own c.in_ok-own.own page c.loop-page.invariant.caught c.in-Ok.ensures judged takes read_to c.in_ok-take_page.ensures.same (omega (arith, c.len.ensures, c.if-len-lt-PAGE.true))
 
 pub returns-then-len-lt-PAGE-clause-asked : goal.returns-then-len-lt-PAGE-clause-asked
-returns-then-len-lt-PAGE-clause-asked g c = asked_page _ _ _ _ _ (caught_asked _ _ _ _ _ c.loop-page.invariant.caught) c.in_ok-page.ensures
+returns-then-len-lt-PAGE-clause-asked g c =
+    let behind = subst (λ (p : List (Position × List ℕ)). IsBehind c.loop-page.standing (placed p) c.take_page.new.self) c.deref-in-loop-page.ensures.value c.take_page.ensures.behind in
+    asked_page _ _ _ _ _ c.loop-page.invariant.caught _ c.take_page.new.self _ c.in-Ok.ensures c.take_page.ensures.same behind
+
+pub returns-then-len-lt-PAGE-clause-same : goal.returns-then-len-lt-PAGE-clause-same
+returns-then-len-lt-PAGE-clause-same g c = same_then _ _ _ c.loop-page.invariant.caught.same c.take_page.ensures.same
 
 pub returns-then-len-lt-PAGE-clause-member : goal.returns-then-len-lt-PAGE-clause-member
 returns-then-len-lt-PAGE-clause-member g c = λ m.
     let s0 = c.args.standing.now in
     let s = c.loop-page.standing in
     let s1 = c.take_page.new.self in
-    let page = c.in_ok-page.page.items in
+    let page = c.in-Ok.page.items in
     let leads = subst (λ (p : List (Position × List ℕ)). (asked : Option (List LogCall)) → AreSeenBy asked (bytes_of (placed p)) → IsLeading asked s → IsLeading asked s1) c.deref-in-loop-page.ensures.value c.in_ok-take_page.ensures.leading in
-    page_leads _ _ s s1 _ page c.in_ok-page.ensures leads c.in_ok-take_page.ensures.same (c.loop-page.invariant.member m)
+    page_leads _ _ s s1 _ page c.in-Ok.ensures leads c.in_ok-take_page.ensures.same (c.loop-page.invariant.member m)
 
 pub loop-page-preserved : goal.loop-page-preserved
 loop-page-preserved g c =
     let s0 = c.args.standing.now in
     let s = c.loop-page.standing in
     let s1 = c.take_page.new.self in
-    let page = c.in_ok-page.page.items in
+    let page = c.in-Ok.page.items in
     let judged = subst (λ (p : List (Position × List ℕ)). IsJudged c.loop-page.own s.start.number s.start.tag (bytes_of (placed p)) c.in_ok-own.own) c.deref.ensures.value c.in_ok-own.ensures in
     let same2 = c.deref-in-loop-page.ensures.value in
     let takes = subst (λ (p : List (Position × List ℕ)). Takes s (bytes_of (placed p)) s1) same2 c.in_ok-take_page.ensures.taken in
     let read_to = subst (λ (p : List (Position × List ℕ)). place_of s1.read_to ≡ place_read (place_of s.read_to) (placed p)) same2 c.in_ok-take_page.ensures.read_to in
     let leads = subst (λ (p : List (Position × List ℕ)). (asked : Option (List LogCall)) → AreSeenBy asked (bytes_of (placed p)) → IsLeading asked s → IsLeading asked s1) same2 c.in_ok-take_page.ensures.leading in
     record {
-      caught = caught_page _ _ _ s0 s s1 c.loop-page.own c.in_ok-own.own page c.loop-page.invariant.caught c.in_ok-page.ensures judged takes read_to c.in_ok-take_page.ensures.same (omega (arith, c.len.ensures, c.if-len-lt-PAGE.false));
-      member = λ m. page_leads _ _ s s1 _ page c.in_ok-page.ensures leads c.in_ok-take_page.ensures.same (c.loop-page.invariant.member m);
+      caught = caught_page _ _ _ s0 s s1 c.loop-page.own c.in_ok-own.own page c.loop-page.invariant.caught c.in-Ok.ensures judged takes read_to c.in_ok-take_page.ensures.same (omega (arith, c.len.ensures, c.if-len-lt-PAGE.false));
+      member = λ m. page_leads _ _ s s1 _ page c.in-Ok.ensures leads c.in_ok-take_page.ensures.same (c.loop-page.invariant.member m);
     }
 
 pub returns-clause-asked : goal.returns-clause-asked

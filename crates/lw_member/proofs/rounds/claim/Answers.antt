@@ -1,20 +1,25 @@
-use Rattle.std.proofs.Common.{◌≡◌, ◌<◌, Some, true, ◌∙◌, sym, refl, subst}
+use Rattle.std.proofs.Common.{◌≡◌, ◌<◌, Some, true, ap, ◌∙◌, sym, refl, subst}
+use Rattle.lw_member.specs.declared.standing.Standing.{Standing}
 use Rattle.lw_member.specs.Parts.{fleet_of}
 use Rattle.lw_member.proofs.Catching.{member_goes, member_claimed}
-use Rattle.lw_member.proofs.Claiming.{claim_is, claims_read}
+use Rattle.lw_member.proofs.Claiming.{claim_is, claim_same, claims_more, claims_read}
 use Rattle.lw_member.proofs.rounds.claim.Goals as goal
 
 pub returns-in_err-catch_up-clause-own : goal.returns-in_err-catch_up-clause-own
-returns-in_err-catch_up-clause-own g c = claims_read _ _ _ c.args.standing.now c.in_ok-fleet.ensures.own c.catch_up.ensures.asked
+returns-in_err-catch_up-clause-own g c = 
+    claims_read _ _ _ c.args.standing.now c.write_start.new.standing c.catch_up.new.standing _ c.in_ok-fleet.ensures.started c.write_start.ensures.same c.catch_up.ensures.same c.catch_up.ensures.asked
 
 pub returns-clause-own : goal.returns-clause-own
-returns-clause-own g c = claims_read _ _ _ c.args.standing.now c.in_ok-fleet.ensures.own c.catch_up.ensures.asked
+returns-clause-own g c = 
+    claims_read _ _ _ c.args.standing.now c.write_start.new.standing c.catch_up.new.standing _ c.in_ok-fleet.ensures.started c.write_start.ensures.same c.catch_up.ensures.same c.catch_up.ensures.asked
 
 pub raise-requires : goal.raise-requires
 raise-requires g c = subst (λ n. n < 262556467200000) (sym (c.catch_up.ensures.same.floor ∙ c.in_ok-fleet.ensures.same.floor)) c.requires.floor
 
 pub returns-in_err-raise-clause-own : goal.returns-in_err-raise-clause-own
-returns-in_err-raise-clause-own g c = claims_read _ _ _ c.args.standing.now c.in_ok-fleet.ensures.own c.catch_up.ensures.asked
+returns-in_err-raise-clause-own g c = 
+    claims_more _ _ c.args.standing.now c.catch_up.new.standing _ (ap (λ (x : Standing). x.read_to) c.raise.ensures.only) c.raise.ensures.goes
+    (claims_read _ _ _ c.args.standing.now c.write_start.new.standing c.catch_up.new.standing _ c.in_ok-fleet.ensures.started c.write_start.ensures.same c.catch_up.ensures.same c.catch_up.ensures.asked)
 
 pub returns-in_err-raise-clause-member : goal.returns-in_err-raise-clause-member
 returns-in_err-raise-clause-member g c = λ m. member_goes _ c.catch_up.new.standing c.raise.new.self c.raise.ensures.only c.raise.ensures.goes c.raise.ensures.leading (c.catch_up.ensures.member (c.in_ok-fleet.ensures.member m))
@@ -28,7 +33,9 @@ returns-then-is_in-clause-claimed g c = λ m.
     c.in_ok-raise.ensures.raised c.in_ok-raise.ensures.led c.raise.ensures.only c.raise.ensures.goes
 
 pub returns-then-is_in-clause-own : goal.returns-then-is_in-clause-own
-returns-then-is_in-clause-own g c = claims_read _ _ _ c.args.standing.now c.in_ok-fleet.ensures.own c.catch_up.ensures.asked
+returns-then-is_in-clause-own g c = 
+    claims_more _ _ c.args.standing.now c.catch_up.new.standing _ (ap (λ (x : Standing). x.read_to) c.raise.ensures.only) c.raise.ensures.goes
+    (claims_read _ _ _ c.args.standing.now c.write_start.new.standing c.catch_up.new.standing _ c.in_ok-fleet.ensures.started c.write_start.ensures.same c.catch_up.ensures.same c.catch_up.ensures.asked)
 
 pub returns-then-is_in-clause-member : goal.returns-then-is_in-clause-member
 returns-then-is_in-clause-member g c = λ m. member_claimed _ c.raise.new.self true (member_goes _ c.catch_up.new.standing c.raise.new.self c.raise.ensures.only c.raise.ensures.goes c.raise.ensures.leading (c.catch_up.ensures.member (c.in_ok-fleet.ensures.member m)))

@@ -1,10 +1,10 @@
 use Rattle.std.proofs.Common.{◌∙◌, refl}
-use Rattle.lw_member.proofs.Owning.{claims_write, claims_write_more, reads_write, reads_write_more, if_ok}
+use Rattle.lw_member.proofs.Owning.{claims_write, claimed_write, reads_write, reads_write_more, if_ok}
 use Rattle.lw_member.proofs.RoundLemmas.{idle_round, claimed_round}
 use Rattle.lw_member.proofs.rounds.round.Goals as goal
 
 pub returns-in_err-claim-clause-own : goal.returns-in_err-claim-clause-own
-returns-in_err-claim-clause-own g c = claims_write _ _ c.args.standing.now c.claim.new.standing c.claim.ensures.own c.requires.number c.in_err-claim.ensures.same.number c.in_err-claim.ensures.same.start
+returns-in_err-claim-clause-own g c = claims_write _ _ c.args.standing.now c.claim.new.standing c.in_err-claim.ensures.own c.requires.number c.in_err-claim.ensures.same
 
 pub returns-then-is_claiming-clause-round : goal.returns-then-is_claiming-clause-round
 returns-then-is_claiming-clause-round g c =
@@ -14,11 +14,11 @@ returns-then-is_claiming-clause-round g c =
 
 pub returns-then-is_claiming-clause-own : goal.returns-then-is_claiming-clause-own
 returns-then-is_claiming-clause-own g c =
-    claims_write_more _ _ _ c.args.standing.now c.finish.new.standing c.claim.ensures.own c.finish.ensures.own c.requires.number
-    (c.finish.ensures.same.number ∙ c.in_ok-claim.ensures.start.0.number) (c.finish.ensures.same.start ∙ c.in_ok-claim.ensures.start.0.start)
+    claimed_write _ _ _ c.args.standing.now c.claim.new.standing c.finish.new.standing (c.in_ok-claim.ensures.claimed c.requires) c.in_ok-claim.ensures.start.0 c.in_ok-claim.ensures.start.1 c.finish.ensures.same
+    c.finish.ensures.own
 
 pub returns-in_err-catch_up-clause-own : goal.returns-in_err-catch_up-clause-own
-returns-in_err-catch_up-clause-own g c = reads_write _ _ c.args.standing.now c.catch_up.new.standing c.catch_up.ensures.asked
+returns-in_err-catch_up-clause-own g c = reads_write _ _ c.args.standing.now c.catch_up.new.standing c.catch_up.ensures.same c.catch_up.ensures.asked
 
 pub returns-clause-round : goal.returns-clause-round
 returns-clause-round g c =
@@ -28,4 +28,6 @@ returns-clause-round g c =
     c.catch_up.ensures.same c.requires (c.catch_up.ensures.member c.requires) f.made f.written (λ h. let bad = c.if-is_claiming.ensures.1 h in cc))
 
 pub returns-clause-own : goal.returns-clause-own
-returns-clause-own g c = reads_write_more _ _ _ c.args.standing.now c.finish-2.new.standing c.catch_up.ensures.asked c.finish-2.ensures.own
+returns-clause-own g c =
+    let read = c.in_ok-catch_up.ensures.read in
+    reads_write_more _ _ _ c.args.standing.now c.catch_up.new.standing c.finish-2.new.standing read.0 c.in_ok-catch_up.field-0-x read.1 read.2 read.4 c.catch_up.ensures.same c.finish-2.ensures.same c.finish-2.ensures.own

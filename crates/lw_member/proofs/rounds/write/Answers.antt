@@ -1,5 +1,5 @@
 use Rattle.std.proofs.Common.{◌∷◌, [], length, Option, Some, true, cond, ap, ◌∙◌, sym, inr, refl, subst}
-use Rattle.std.specs.Prelude.{option_map}
+use Rattle.std.specs.Prelude.{Ok, option_map}
 use Rattle.lw_delta.specs.Delta.{IsSpelling}
 use Rattle.lw_node.specs.Exchange.{IsDeltaSince}
 use Rattle.lw_node.specs.Node.{NodeContent}
@@ -14,6 +14,8 @@ use Rattle.lw_member.specs.declared.standing.Standing.{Standing}
 use Rattle.lw_member.specs.inner.Standing.{counted_in}
 use Rattle.lw_member.proofs.Catching.{member_failed}
 use Rattle.lw_member.proofs.Counting.{counts_own}
+use Rattle.lw_member.proofs.Knowing.{by_failed}
+use Rattle.lw_member.proofs.Merging.{same_failed}
 use Rattle.lw_member.proofs.Owning.{append_own, own_since, member_written}
 use Rattle.lw_member.proofs.rounds.write.Goals as goal
 
@@ -33,7 +35,15 @@ returns-in_err-position-clause-own g c = λ m.
     let is = subst (λ d. IsDeltaSince s0.node s0.written d) (sym c.deref.ensures.value) c.in_ok-delta.ensures in
     let fleet = ap (λ (f : Option FleetId). option_map (λ (x : FleetId). x.bytes) f) (ap (λ (x : Standing). x.fleet) only ∙ c.in-Some.is) in
     let e = subst (λ b. IsEntryOf s0 c.in-Some.fleet.bytes (Delta c.deref.result.now) b) (sym c.deref-2.ensures.value) c.in_ok-entry.ensures in
-    (_, c.append.ensures.asked, append_own (content_of (g.G.DeltaLog.calls c.append.new.log) s) _ _ (inr (s0.written, own_since _ s0 s _ _ _ s0.written (ap (λ (x : Standing). x.node) only) (ap (λ (x : Standing). x.start) only) fleet is e m.number)))
+    (
+      _,
+      c.in_err-position.ensures.asked,
+      append_own (content_of (g.G.DeltaLog.calls c.append.new.log) s) _ _ (inr (s0.written, own_since _ s0 s _ _ _ s0.written (ap (λ (x : Standing). x.node) only) (ap (λ (x : Standing). x.start) only) fleet is e m.number)),
+      by_failed s0 s _ _ c.append.ensures.read_to,
+    )
+
+pub returns-in_err-position-clause-same : goal.returns-in_err-position-clause-same
+returns-in_err-position-clause-same g c = same_failed c.args.standing.now c.append.new.standing c.append.ensures.only
 
 pub returns-clause-own : goal.returns-clause-own
 returns-clause-own g c = λ m.
@@ -46,7 +56,12 @@ returns-clause-own g c = λ m.
     let start = ap (λ (x : Standing). x.start) only ∙ ap (λ (x : Standing). x.start) done in
     let fleet = ap (λ (f : Option FleetId). option_map (λ (x : FleetId). x.bytes) f) (ap (λ (x : Standing). x.fleet) only ∙ ap (λ (x : Standing). x.fleet) done ∙ c.in-Some.is) in
     let s : Standing = record c.appended.new.self { led = true; written = c.change-standing.result } in
-    (_, c.append.ensures.asked, append_own (content_of (g.G.DeltaLog.calls c.append.new.log) s) _ _ (inr (s0.written, own_since _ s0 s _ _ _ s0.written node start fleet is e m.number)))
+    (
+      _,
+      c.in_ok-position.ensures.asked,
+      append_own (content_of (g.G.DeltaLog.calls c.append.new.log) s) _ (Ok c.in_ok-position.position) (inr (s0.written, own_since _ s0 s _ _ _ s0.written node start fleet is e m.number)),
+      inr (c.appended.ensures.read_to ∙ ap (λ (x : Standing). cond x.alone (Some (place c.in_ok-position.position)) (place_of x.read_to)) done),
+    )
 
 pub returns-clause-written : goal.returns-clause-written
 returns-clause-written g c = λ m.

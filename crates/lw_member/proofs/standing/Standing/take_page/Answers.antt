@@ -1,11 +1,39 @@
-use Rattle.std.proofs.Common.{◌≡◌, [], ◌∷◌, Some, refl, sym, subst}
+use Rattle.std.proofs.Common.{◌≡◌, ◌+◌, [], ◌∷◌, Some, take, drop, refl, sym, ap, ◌∙◌, subst}
+use Rattle.std.proofs.lemmas.List.{take-append-drop}
 use Rattle.std.proofs.lemmas.Option.{slice_get_read}
-use Rattle.lw_log.specs.Calls.{place_of}
+use Rattle.lw_node.specs.Exchange.{known_by}
+use Rattle.lw_log.specs.Calls.{place_of, placed}
+use Rattle.lw_member.specs.declared.standing.Standing.{Standing}
+use Rattle.lw_member.specs.Reading.{bytes_of}
 use Rattle.lw_member.specs.inner.Seeing.{IsSeenBy}
 use Rattle.lw_member.specs.inner.Taking.{Takes}
-use Rattle.lw_member.proofs.Merging.{same_then}
-use Rattle.lw_member.proofs.Taking.{takes_then, entries_take, places_take, seen_at, takes_read, same_read}
+use Rattle.lw_member.proofs.Knowing.{behind_none, knows_more, merges_known, placed_split}
+use Rattle.lw_member.proofs.Merging.{same_none, same_then}
+use Rattle.lw_member.proofs.Taking.{takes_none, takes_then, entries_take, places_take, seen_at, takes_read, same_read}
 use Rattle.lw_member.proofs.standing.Standing.take_page.Goals as goal
+
+pub loop-position-init : goal.loop-position-init
+loop-position-init c = record {
+  taken = takes_none c.args.self.now;
+  read_to = refl;
+  behind = behind_none c.args.self.now (placed c.args.page.now);
+  same = same_none c.args.self.now;
+  leading = λ asked seen leading. leading;
+}
+
+pub returns-in_err-take-clause-behind : goal.returns-in_err-take-clause-behind
+returns-in_err-take-clause-behind c =
+    let before = c.loop-position.invariant.behind in
+    record {
+      taken = before.taken;
+      left = before.left;
+      is = before.is;
+      known = knows_more (known_by c.loop-position.self.node) (known_by c.take.new.self.node) (bytes_of before.taken) c.in_err-take.ensures.same.knows before.known;
+      read_to = ap place_of c.in_err-take.ensures.read_to ∙ before.read_to;
+    }
+
+pub returns-in_err-take-clause-same : goal.returns-in_err-take-clause-same
+returns-in_err-take-clause-same c = same_then c.args.self.now c.loop-position.self c.take.new.self c.loop-position.invariant.same c.in_err-take.ensures.same
 
 pub returns-in_err-take-clause-leading : goal.returns-in_err-take-clause-leading
 returns-in_err-take-clause-leading c = λ asked seen leading.
@@ -23,10 +51,20 @@ loop-position-preserved c =
     let new = c.take.new.self in
     let one : Takes mid (c.loop-position-item.result.1 ∷ []) new = subst (λ b. Takes mid (b ∷ []) new) same c.in_ok-take.ensures.taken in
     let both = takes_then old mid new _ (c.loop-position-item.result.1 ∷ []) c.loop-position.invariant.taken one in
+    let later : Standing = record new { read_to = Some c.loop-position-item.result.0 } in
+    let taken : Takes old (bytes_of (placed (take (c.loop-position.position-index + 1) c.args.page.now))) later =
+        subst (λ es. Takes old es later) (sym (entries_take c.args.page.now c.loop-position.position-index c.loop-position-item.result item)) (takes_read old new _ (Some c.loop-position-item.result.0) both) in
+    let read_to = sym (places_take c.args.page.now c.loop-position.position-index c.loop-position-item.result (place_of old.read_to) item) in
     record {
-      taken = subst (λ es. Takes old es (record new { read_to = Some c.loop-position-item.result.0 })) (sym (entries_take c.args.page.now c.loop-position.position-index c.loop-position-item.result item))
-          (takes_read old new _ (Some c.loop-position-item.result.0) both);
-      read_to = sym (places_take c.args.page.now c.loop-position.position-index c.loop-position-item.result (place_of old.read_to) item);
+      taken = taken;
+      read_to = read_to;
+      behind = record {
+        taken = placed (take (c.loop-position.position-index + 1) c.args.page.now);
+        left = placed (drop (c.loop-position.position-index + 1) c.args.page.now);
+        is = placed_split c.args.page.now (take (c.loop-position.position-index + 1) c.args.page.now) (drop (c.loop-position.position-index + 1) c.args.page.now) (take-append-drop (c.loop-position.position-index + 1) c.args.page.now);
+        known = merges_known old.node later.node (bytes_of (placed (take (c.loop-position.position-index + 1) c.args.page.now))) taken.merged;
+        read_to = read_to;
+      };
       same = same_read old new (Some c.loop-position-item.result.0) (same_then old mid new c.loop-position.invariant.same c.in_ok-take.ensures.same);
       leading = λ asked seen leading.
           let own = seen_at asked c.args.page.now c.loop-position.position-index c.loop-position-item.result item seen in
