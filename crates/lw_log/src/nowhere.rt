@@ -23,6 +23,10 @@ impl Nowhere {
 }
 
 impl DeltaLog for Nowhere {
+    ghost use Rattle.std.specs.Prelude.{true};
+
+    ghost alone = { true };
+
     fn read(&mut self, _after: Option<Position>) -> Result<Vec<(Position, Bytes)>, LogFault> {
         Ok(Vec::new(self.alloc))
     }

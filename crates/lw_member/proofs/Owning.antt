@@ -1,6 +1,6 @@
 -- What a member has appended is its own.
-use Rattle.std.proofs.Common.{◌≡◌, ◌<◌, inl, ℕ, List, [], ◌∷◌, ◌++◌, Option, Bool, true, false, refl, sym, ap, ◌∙◌, subst}
-use Rattle.std.specs.Prelude.{Result, Ok, Err, Some, IfOk}
+use Rattle.std.proofs.Common.{◌≡◌, ◌<◌, ◌⊎◌, inl, ℕ, List, [], ◌∷◌, ◌++◌, Option, Bool, true, false, refl, sym, ap, ◌∙◌, subst}
+use Rattle.std.specs.Prelude.{Result, Ok, Err, Some, None, IfOk}
 use Rattle.lw_node.specs.Exchange.{IsDeltaSince, known_by}
 use Rattle.lw_node.specs.Node.{NodeContent}
 use Rattle.lw_log.specs.Calls.{LogCall, Placed, Calls, append_calls, place_of}
@@ -218,6 +218,16 @@ reads_write_more a0 a1 a2 s0 s1 s2 pages asked read merged last same later w = r
   stays = stays_of a0 a2 s0 s2 (same_then s0 s1 s2 same later);
   read_on = by_then s0 s1 s2 pages w.0 (read_all s0 s1 pages read merged last) same.alone later.knows w.3;
 }
+
+-- the calls are made, and what has changed is written
+pub writes_from : (a0 a1 : Option (List LogCall)) (s0 mid s : Standing) → mid ≡ record s0 { node = mid.node; led = mid.led } → WritesOwnCalls a0 mid a1 s → WritesOwnCalls a0 s0 a1 s
+writes_from a0 a1 s0 mid s only w = (
+  w.0,
+  w.1,
+  w.2,
+  subst (λ (p : Option (ℕ × ℕ)). (place_of s.read_to ≡ None) ⊎ ReadsOn s0.alone (known_by s.node) p w.0 (place_of s.read_to)) (ap (λ (x : Standing). place_of x.read_to) only)
+  (subst (λ b. (place_of s.read_to ≡ None) ⊎ ReadsOn b (known_by s.node) (place_of mid.read_to) w.0 (place_of s.read_to)) (ap (λ (x : Standing). x.alone) only) w.3),
+)
 
 pub if_ok : {A E : Type 0} (P Q : A → Type 0) (r : Result A E) → IfOk r P → ((x : A) → P x → Q x) → IfOk r Q
 if_ok P Q (Ok x) p f = f x p

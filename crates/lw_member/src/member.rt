@@ -58,6 +58,7 @@ impl<G: DeltaLog> Member<G> {
     ) -> Result<Member<G>, MemberFault>
         ensures begun { IfOk result (IsBegun (G.calls log) moment chance.now.tag chance.now.number) }
         ensures past { IsPast2100 moment → result ≡ Err IsAhead }
+        ensures alone { IfOk result (λ member. member.view.alone ≡ G.alone) }
     {
         if is_past_2100(moment) {
             return Err(MemberFault::ClockAhead);

@@ -1,11 +1,12 @@
 -- Turns without datagrams, turns in which the member was not asked, and what a turn comes to.
 use Rattle.std.specs.Prelude.{◌≡◌, ◌+◌, ◌-◌, ◌*◌, ◌^◌, min, ◌++◌, ◌&&◌, not, ℕ, Bool, List, [], ◌∷◌, length, map, filter_map, Option, None, Some, refl}
 use Rattle.std.specs.List.{list_any}
-use Rattle.std.proofs.Common.{sym, ap, ◌∙◌, subst}
+use Rattle.std.proofs.Common.{inr, sym, ap, ◌∙◌, subst, arith}
 use Rattle.std.proofs.lemmas.List.{append-nil}
 use Rattle.lw_stamp.specs.declared.moment.Moment.{Moment}
 use Rattle.lw_stamp.specs.Moment.{ms_of}
 use Rattle.lw_reg.specs.declared.addr.Addr.{Addr}
+use Rattle.lw_reg.proofs.States.{state_laws}
 use Rattle.lw_wire.specs.declared.datagram.Datagram.{Datagram}
 use Rattle.lw_call.specs.declared.call.Call.{Call}
 use Rattle.lw_call.specs.declared.reply.Reply.{Reply}
@@ -35,7 +36,19 @@ calls_none (Some calls) = ap Some (sym (append-nil calls))
 
 -- a member that was not asked has put nothing into its log
 pub writes_none : (member : MemberContent) → WritesOwn member member
-writes_none member = record { more = []; asked = calls_none member.calls; own = tt }
+writes_none member = record {
+  more = [];
+  asked = calls_none member.calls;
+  own = tt;
+  stays = record {
+    start = record { number = refl; tag = refl; floor = refl; alone = refl };
+    claimed = λ h. h;
+    settled = λ h. h;
+    fleet = λ f h is. is;
+    knows = (omega arith, state_laws.reflexive member.node.table.state);
+  };
+  read_on = inr refl;
+}
 
 -- what is sent stands behind what is sent again
 pub all_sent : (all reserved begun again behind : List (Addr × List ℕ)) → all ≡ reserved ++ behind → reserved ≡ begun ++ again → begun ≡ []

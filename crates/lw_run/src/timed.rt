@@ -59,6 +59,8 @@ fn count_append(log_use: &mut LogUse, is_written: bool, began: Option<u64>, ende
 impl<G: DeltaLog, S: Stopwatch> DeltaLog for Timed<G, S> {
     ghost calls = { λ timed. G.calls timed.log };
 
+    ghost alone = { G.alone };
+
     fn read(&mut self, after: Option<Position>) -> Result<Vec<(Position, Bytes)>, LogFault> {
         let page = self.log.read(after)?;
         self.log_use.entries_read = self.log_use.entries_read.saturating_add(page.len() as u64);

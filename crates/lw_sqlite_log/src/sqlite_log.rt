@@ -114,6 +114,10 @@ impl SqliteLog {
 }
 
 impl DeltaLog for SqliteLog {
+    ghost use Rattle.std.specs.Prelude.{true};
+
+    ghost alone = { true };
+
     fn read(&mut self, after: Option<Position>) -> Result<Vec<(Position, Bytes)>, LogFault> {
         let mut page = Vec::new(self.alloc);
         if after.is_some() && after == self.end {

@@ -2,6 +2,7 @@ use Rattle.std.proofs.Common.{◌≡◌, ◌++◌, List, ap, ◌∙◌, sym, sub
 use Rattle.lw_call.specs.declared.reply.Reply.{Reply}
 use Rattle.lw_member.specs.Rounds.{Makes}
 use Rattle.lw_member.proofs.Catching.{member_goes}
+use Rattle.lw_member.proofs.Owning.{writes_from}
 use Rattle.lw_member.proofs.rounds.finish.Goals as goal
 
 pub returns-clause-finished : goal.returns-clause-finished
@@ -18,13 +19,15 @@ returns-clause-finished g c =
     }
 
 pub returns-in_err-write-clause-own : goal.returns-in_err-write-clause-own
-returns-in_err-write-clause-own g c = c.write.ensures.own (member_goes _ c.args.standing.now c.make.new.self c.make.ensures.only c.make.ensures.goes c.make.ensures.leading c.requires)
+returns-in_err-write-clause-own g c =
+    writes_from _ _ c.args.standing.now c.make.new.self c.write.new.standing c.make.ensures.only (c.write.ensures.own (member_goes _ c.args.standing.now c.make.new.self c.make.ensures.only c.make.ensures.goes c.make.ensures.leading c.requires))
 
 pub returns-in_err-write-clause-member : goal.returns-in_err-write-clause-member
 returns-in_err-write-clause-member g c = c.write.ensures.member (member_goes _ c.args.standing.now c.make.new.self c.make.ensures.only c.make.ensures.goes c.make.ensures.leading c.requires)
 
 pub returns-clause-own : goal.returns-clause-own
-returns-clause-own g c = c.write.ensures.own (member_goes _ c.args.standing.now c.make.new.self c.make.ensures.only c.make.ensures.goes c.make.ensures.leading c.requires)
+returns-clause-own g c =
+    writes_from _ _ c.args.standing.now c.make.new.self c.write.new.standing c.make.ensures.only (c.write.ensures.own (member_goes _ c.args.standing.now c.make.new.self c.make.ensures.only c.make.ensures.goes c.make.ensures.leading c.requires))
 
 pub returns-clause-member : goal.returns-clause-member
 returns-clause-member g c = c.write.ensures.member (member_goes _ c.args.standing.now c.make.new.self c.make.ensures.only c.make.ensures.goes c.make.ensures.leading c.requires)

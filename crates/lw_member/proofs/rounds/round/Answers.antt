@@ -30,4 +30,4 @@ returns-clause-round g c =
 pub returns-clause-own : goal.returns-clause-own
 returns-clause-own g c =
     let read = c.in_ok-catch_up.ensures.read in
-    reads_write_more _ _ _ c.args.standing.now c.catch_up.new.standing c.finish-2.new.standing read.0 c.in_ok-catch_up.field-0-x read.1 read.2 read.4 c.catch_up.ensures.same c.finish-2.ensures.same c.finish-2.ensures.own
+    reads_write_more _ _ _ c.args.standing.now c.catch_up.new.standing c.finish-2.new.standing read.0 read.1 read.2 read.3.merged read.5 c.catch_up.ensures.same c.finish-2.ensures.same c.finish-2.ensures.own

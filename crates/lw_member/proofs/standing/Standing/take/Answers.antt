@@ -1,4 +1,6 @@
-use Rattle.std.proofs.Common.{◌≡◌, ◌↔◌, ◌⊎◌, inl, inr, List, ℕ, refl, sym, ap, ◌∙◌, subst}
+use Rattle.std.proofs.Common.{◌≡◌, ◌↔◌, ◌⊎◌, inl, inr, List, Option, ℕ, refl, sym, ap, ◌∙◌, subst}
+use Rattle.std.specs.Prelude.{option_map}
+use Rattle.lw_log.specs.declared.entry.FleetId.{FleetId}
 use Rattle.lw_log.specs.Entries.{HasDelta, body_content, content_of}
 use Rattle.lw_member.specs.declared.standing.Standing.{Standing}
 use Rattle.lw_member.specs.declared.numbers.Numbers.{Numbers}
@@ -6,7 +8,8 @@ use Rattle.lw_member.specs.Parts.{numbers_of}
 use Rattle.lw_member.specs.Reading.{HasBit, TellsOf}
 use Rattle.lw_member.specs.inner.Standing.{counted_in, counted_of}
 use Rattle.lw_member.proofs.Numbering.{noted_entry, noted_no_entry}
-use Rattle.lw_member.proofs.Merging.{takes_nothing, takes_delta, brings_none, brings_no_entry, on_ok, on_ok_four, same_none}
+use Rattle.lw_member.proofs.Merging.{takes_nothing, takes_delta, brings_none, brings_no_entry, on_ok, on_ok_four, same_none, same_parts}
+use Rattle.lw_member.proofs.Going.{below_same}
 use Rattle.lw_member.proofs.standing.Standing.take.Goals as goal
 
 pub returns-in-Err : goal.returns-in-Err
@@ -77,3 +80,26 @@ returns-in-Whole-clause-leading c = λ asked seen leading.
     let has : HasDelta (body_content c.in-Ok.entry.body) delta = subst (λ b. HasDelta (body_content b) delta) (sym c.in-Whole.is) refl in
     c.merge-in-Whole.ensures.leading asked c.args.bytes.now (λ d spelled. record { entry = content_of c.in-Ok.entry; delta = delta; is = c.in-Ok.ensures.found; has = has; spelled = spelled }) seen
     (record { written = leading.written; up_to = leading.up_to })
+
+pub returns-in-Start-clause-same : goal.returns-in-Start-clause-same
+returns-in-Start-clause-same c =
+    let old = c.args.self.now in
+    let new = c.hear_start.new.self in
+    let only = c.hear_start.ensures.only in
+    record {
+      number = ap (λ (s : Standing). s.node.number) only;
+      start = ap (λ (s : Standing). s.start) only;
+      made_up = ap (λ (s : Standing). s.made_up) only;
+      alone = ap (λ (s : Standing). s.alone) only;
+      claimed = ap (λ (s : Standing). s.claimed) only;
+      floor = ap (λ (s : Standing). s.floor) only;
+      settled = λ h. ap (λ (s : Standing). s.settled) only ∙ h;
+      fleet = λ f h was. ap (λ (x : Option FleetId). option_map (λ (y : FleetId). y.bytes) x) (c.hear_start.ensures.fleet h) ∙ was;
+      knows = below_same old.node new.node (ap (λ (s : Standing). s.node) only);
+    }
+
+pub returns-in-Delta-clause-same : goal.returns-in-Delta-clause-same
+returns-in-Delta-clause-same c = same_parts c.args.self.now _ c.merge.new.self refl refl refl refl refl refl refl refl c.merge.ensures.same
+
+pub returns-in-Whole-clause-same : goal.returns-in-Whole-clause-same
+returns-in-Whole-clause-same c = same_parts c.args.self.now _ c.merge-in-Whole.new.self refl refl refl refl refl refl refl refl c.merge-in-Whole.ensures.same
