@@ -1,6 +1,6 @@
-use Rattle.std.proofs.Common.{sym, refl, arith}
+use Rattle.std.proofs.Common.{rules, sym, refl, arith}
 use Rattle.lw_member.proofs.Going.{goes_merges}
-use Rattle.lw_member.proofs.Merging.{merged_whole, leading_taken, leading_kept, same_merged}
+use Rattle.lw_member.proofs.Merging.{merged_whole, leading_taken, leading_kept, same_merged, same_none}
 use Rattle.lw_member.proofs.Leading.{written_goes}
 use Rattle.lw_member.proofs.standing.Standing.merge.Goals as goal
 
@@ -33,14 +33,17 @@ returns-else-self-2-clause-leading c = λ asked bytes brings seen leading.
     let r = c.change-change.type_inv in
     record { written = leading_kept asked c.args.self.now.node c.merge-merged.new.self c.args.self.now.led c.args.self.now.written c.if-self-2.false goes (omega (arith, e, r)) leading.written; up_to = λ t. absurd (let f = c.if-self-2.false in cc) }
 
+pub returns-then-ne-clause-same : goal.returns-then-ne-clause-same
+returns-then-ne-clause-same c = same_none c.args.self.now
+
 pub returns-then-is_err-clause-same : goal.returns-then-is_err-clause-same
 returns-then-is_err-clause-same c =
     same_merged c.args.self.now _ c.args.delta.now c.merge-merged.result c.merge-merged.ensures.merges refl refl refl refl refl (λ h. (h, refl))
 
 pub returns-then-self-2-clause-same : goal.returns-then-self-2-clause-same
 returns-then-self-2-clause-same c =
-    same_merged c.args.self.now _ c.args.delta.now c.merge-merged.result c.merge-merged.ensures.merges refl refl refl refl refl (λ h. (refl, c.xx h))
+    same_merged c.args.self.now _ c.args.delta.now c.merge-merged.result c.merge-merged.ensures.merges refl refl refl refl refl (λ h. (refl, search rules))
 
 pub returns-else-self-2-clause-same : goal.returns-else-self-2-clause-same
 returns-else-self-2-clause-same c =
-    same_merged c.args.self.now _ c.args.delta.now c.merge-merged.result c.merge-merged.ensures.merges refl refl refl refl refl (λ h. (refl, c.xx h))
+    same_merged c.args.self.now _ c.args.delta.now c.merge-merged.result c.merge-merged.ensures.merges refl refl refl refl refl (λ h. (refl, search rules))

@@ -5,9 +5,15 @@ use Rattle.lw_node.specs.Exchange.{Merged}
 use Rattle.lw_node.specs.Node.{NodeContent}
 use Rattle.lw_member.specs.declared.standing.Standing.{Standing}
 use Rattle.lw_member.specs.inner.Going.{Goes}
-use Rattle.lw_member.proofs.Going.{goes_merges}
+use Rattle.lw_member.proofs.Going.{goes_merges, goes_refl}
 use Rattle.lw_member.proofs.Merging.{merged_whole, settled_leading}
 use Rattle.lw_member.proofs.standing.Standing.raise.Goals as goal
+
+pub returns-in_err-new-clause-goes : goal.returns-in_err-new-clause-goes
+returns-in_err-new-clause-goes c = goes_refl c.args.self.now.node
+
+pub returns-in_err-delta-clause-goes : goal.returns-in_err-delta-clause-goes
+returns-in_err-delta-clause-goes c = goes_refl c.args.self.now.node
 
 pub returns-in-Ok-clause-raised : goal.returns-in-Ok-clause-raised
 returns-in-Ok-clause-raised c =
