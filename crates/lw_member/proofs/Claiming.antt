@@ -18,7 +18,7 @@ use Rattle.lw_member.specs.inner.Writing.{Claims, IsStarted, IsClaimed}
 use Rattle.lw_member.proofs.Asking.{calls_then}
 use Rattle.lw_member.proofs.Owning.{reads_claim, start_of}
 use Rattle.lw_member.proofs.Catching.{Asked}
-use Rattle.lw_member.proofs.Going.{below_then, goes_below}
+use Rattle.lw_member.proofs.Going.{goes_below}
 use Rattle.lw_member.proofs.Knowing.{by_more, by_then}
 use Rattle.lw_member.proofs.Counting.{counts_then}
 use Rattle.lw_member.proofs.Numbering.{noted_same}
@@ -81,19 +81,6 @@ module _ (a0 a1 a2 : Option (List LogCall)) (s0 s1 s2 s3 : Standing) (fleet : Li
     goes = goes;
     still = still;
     written_is = ap (λ (s : Standing). s.written) only;
-  }
-
-  pub claim_same : HasSameStart s0 s1 → HasSameStart s0 (record s3 { claimed = false })
-  claim_same first = record {
-    number = number_is;
-    start = start_is;
-    made_up = ap (λ (s : Standing). s.made_up) only ∙ same.made_up ∙ ap (λ (s : Standing). s.made_up) one;
-    alone = ap (λ (s : Standing). s.alone) only ∙ same.alone ∙ ap (λ (s : Standing). s.alone) one;
-    claimed = sym unclaimed;
-    floor = ap (λ (s : Standing). s.floor) only ∙ same.floor ∙ ap (λ (s : Standing). s.floor) one;
-    settled = λ h. ap (λ (s : Standing). s.settled) only ∙ same.settled (first.settled h);
-    fleet = λ f h is. ap fleet_of only ∙ same.fleet f (first.settled h) (first.fleet f h is);
-    knows = below_then (known_by s0.node) (known_by s2.node) (known_by s3.node) (below_then (known_by s0.node) (known_by s1.node) (known_by s2.node) first.knows same.knows) (goes_below s2.node s3.node goes);
   }
 
 -- a claim, and what was read behind it

@@ -1,6 +1,6 @@
 -- What a member takes from one entry.
 use Rattle.std.proofs.Common.{◌≡◌, ◌↔◌, ◌⊎◌, inl, inr, ℕ, ◌<◌, ◌≤◌, List, [], ◌∷◌, length, Option, Some, Result, Ok, Err, Bool, true, false, refl, sym, ap, ◌∙◌, subst, arith}
-use Rattle.std.specs.Prelude.{IsTrue, OnOk, option_map}
+use Rattle.std.specs.Prelude.{IsTrue, OnErr, OnOk, option_map}
 use Rattle.std.specs.Result.{is_err}
 use Rattle.lw_join.proofs.MapLemmas.{empty_below}
 use Rattle.lw_reg.specs.OrderLaws.{text_order}
@@ -112,6 +112,10 @@ pub on_ok : {E P Q : Type 0} (r : Result (Unit {0}) E) → OnOk r P → (P → Q
 on_ok (Ok x) p f = f p
 on_ok (Err e) p f = tt
 
+pub on_err : {A E P : Type 0} (r : Result A E) → P → OnErr r P
+on_err (Ok x) p = tt
+on_err (Err e) p = p
+
 pub on_ok_four : {E A B C D Q : Type 0} (r : Result (Unit {0}) E) → OnOk r A → OnOk r B → OnOk r C → OnOk r D → (A → B → C → D → Q) → OnOk r Q
 on_ok_four (Ok x) a b c d f = f a b c d
 on_ok_four (Err e) a b c d f = tt
@@ -173,6 +177,50 @@ same_parts a b c node start made_up alone claimed floor settled fleet same = sam
   fleet = λ f h was. ap (λ (x : Option FleetId). option_map (λ (y : FleetId). y.bytes) x) fleet ∙ was;
   knows = below_same a.node b.node node;
 }) same
+
+-- an entry was appended, and the log leads all
+pub same_appended : (s s1 : Standing) (led : Bool) (written : ℕ) → s1 ≡ record s { sequence = s1.sequence; read_to = s1.read_to; size = s1.size } → HasSameStart s (record s1 { led = led; written = written })
+same_appended s s1 led written only =
+    let same : (x : Standing) → HasSameStart x (record x { sequence = s1.sequence; read_to = s1.read_to; size = s1.size; led = led; written = written }) = λ x. record {
+      number = refl;
+      start = refl;
+      made_up = refl;
+      alone = refl;
+      claimed = refl;
+      floor = refl;
+      settled = λ h. h;
+      fleet = λ f h is. is;
+      knows = below_same x.node x.node refl;
+    } in
+    subst (λ (x : Standing). HasSameStart s (record x { led = led; written = written })) (sym only) (same s)
+
+-- the node goes on
+pub same_made : (s s1 : Standing) → s1 ≡ record s { node = s1.node; led = s1.led } → Goes s.node s1.node → HasSameStart s s1
+same_made s s1 only goes = record {
+  number = goes.number;
+  start = ap (λ (x : Standing). x.start) only;
+  made_up = ap (λ (x : Standing). x.made_up) only;
+  alone = ap (λ (x : Standing). x.alone) only;
+  claimed = ap (λ (x : Standing). x.claimed) only;
+  floor = ap (λ (x : Standing). x.floor) only;
+  settled = λ h. ap (λ (x : Standing). x.settled) only ∙ h;
+  fleet = λ f h was. ap fleet_of only ∙ was;
+  knows = goes_below s.node s1.node goes;
+}
+
+-- its number is claimed
+pub same_unclaimed : (s s1 : Standing) → HasSameStart s s1 → s.claimed ≡ false → HasSameStart s (record s1 { claimed = false })
+same_unclaimed s s1 same unclaimed = record {
+  number = same.number;
+  start = same.start;
+  made_up = same.made_up;
+  alone = same.alone;
+  claimed = sym unclaimed;
+  floor = same.floor;
+  settled = same.settled;
+  fleet = same.fleet;
+  knows = same.knows;
+}
 
 -- a delta was merged, if there was no fault, or a part of it
 pub same_merged : (a b : Standing) (delta : List ℕ) (outcome : Result ℕ MergeFault) → Merges a.node delta outcome b.node → b.start ≡ a.start → b.made_up ≡ a.made_up → b.alone ≡ a.alone → b.claimed ≡ a.claimed → b.floor ≡ a.floor

@@ -21,11 +21,11 @@ use Rattle.lw_member.specs.Reading.{AreReads, AreReadToTheEnd, KnowsAll, MergesE
 use Rattle.lw_member.specs.Rounds.{place_after}
 use Rattle.lw_member.specs.inner.Standing.{HasSameStart}
 use Rattle.lw_member.specs.inner.Taking.{IsEntryOf, IsReadBy}
-use Rattle.lw_member.specs.inner.Wholes.{IsWholeOf, IsTryingWhole}
+use Rattle.lw_member.specs.inner.Wholes.{IsWholeOf, IsTryingWhole, TriesWhole}
 use Rattle.lw_member.specs.inner.Writing.{IsStartOf, AreClaims, Claims, IsClaimed, WritesOwnCalls}
-use Rattle.lw_member.proofs.Asking.{calls_then, ended_reads}
+use Rattle.lw_member.proofs.Asking.{calls_none, calls_then, ended_reads}
 use Rattle.lw_member.proofs.Going.{below_then, goes_below}
-use Rattle.lw_member.proofs.Knowing.{by_then, knows_more, merges_known, on_end}
+use Rattle.lw_member.proofs.Knowing.{by_none, by_then, knows_more, merges_known, on_end}
 use Rattle.lw_member.proofs.Merging.{same_then}
 use Rattle.lw_member.proofs.Leading.{appended_led, written_anew, written_whole}
 
@@ -136,6 +136,13 @@ append_whole s fleet entry (Err NoMemory) whole = tt
 append_whole s fleet entry (Err Away) whole = whole
 append_whole s fleet entry (Err Refused) whole = whole
 append_whole s fleet entry (Err Lost) whole = whole
+
+-- nothing was asked
+pub claims_none : (asked : Option (List LogCall)) (s : Standing) → Claims asked s asked s
+claims_none asked s = ([], calls_none asked, tt, by_none s)
+
+pub tries_none : (asked : Option (List LogCall)) (s : Standing) (fleet : List ℕ) → TriesWhole asked s fleet asked s
+tries_none asked s fleet = ([], calls_none asked, tt, by_none s)
 
 -- ---- what a round has appended
 claims_at : (a : Option (List LogCall)) (s0 s : Standing) (calls : List LogCall) → s0.start.number ≡ s.node.number → s0.start.tag ≡ s.start.tag → AreClaims s0.start.number s0.start.tag calls → AreOwnCalls (content_of a s) calls

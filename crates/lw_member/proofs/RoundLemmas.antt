@@ -16,7 +16,8 @@ use Rattle.lw_member.specs.Own.{IsOwnIn, IsOwnSince}
 use Rattle.lw_member.specs.Counting.{CountsEntries, own_entries}
 use Rattle.lw_member.specs.Parts.{content_of, fleet_of, numbers_of, IsMember}
 use Rattle.lw_member.specs.Reading.{AreReadToTheEnd, entries_in, last_read, AreGood, AreNoted, HoldsNumber}
-use Rattle.lw_member.specs.Rounds.{Makes, IsClaiming, IsCalm, IsWriting, IsRound, IsSameStart, place_after, since_of}
+use Rattle.lw_member.specs.Rounds.{Makes, IsClaiming, IsCalm, IsWriting, IsRound, place_after, since_of}
+use Rattle.lw_member.specs.Member.{IsSameStart}
 use Rattle.lw_member.specs.inner.Going.{Goes}
 use Rattle.lw_member.specs.inner.Standing.{HasSameStart, IsStill, counted_in}
 use Rattle.lw_member.specs.inner.Taking.{Takes, IsJudged}

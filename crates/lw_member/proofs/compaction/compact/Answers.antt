@@ -51,24 +51,24 @@ pub returns-in_err-trim-clause-member : goal.returns-in_err-trim-clause-member
 returns-in_err-trim-clause-member g c =
     member_more _ _ _ c.write_whole.new.standing c.trim.ensures c.write_whole.ensures.member
 
-pub returns-then-stands_before-clause-compacted : goal.returns-then-stands_before-clause-compacted
-returns-then-stands_before-clause-compacted g c =
+pub returns-in_ok-trim-clause-compacted : goal.returns-in_ok-trim-clause-compacted
+returns-in_ok-trim-clause-compacted g c =
     let read = c.in_ok-catch_up.ensures.read in
     let fleet = ap (λ (f : Option FleetId). option_map (λ (x : FleetId). x.bytes) f) c.in-Some-fleet.is in
     compacted_whole _ _ c.args.standing.now c.catch_up.new.standing read.0 c.in_ok-catch_up.field-0 read.1 read.2 read.3 read.4 read.5 c.catch_up.ensures.same c.requires
     _ c.write_whole.new.standing c.in-Some-fleet.fleet.bytes fleet c.write_whole.ensures.same c.write_whole.ensures.node c.write_whole.ensures.fleet c.write_whole.ensures.numbers
     _ c.in-Some.upto c.in-Some.is c.in_ok-position.position c.in_ok-position.ensures.written (c.if-stands_before.ensures.0 refl) c.in_ok-trim.ensures (member_more _ _ _ c.write_whole.new.standing c.trim.ensures c.write_whole.ensures.member)
 
-pub returns-then-stands_before-clause-own : goal.returns-then-stands_before-clause-own
-returns-then-stands_before-clause-own g c =
+pub returns-in_ok-trim-clause-own : goal.returns-in_ok-trim-clause-own
+returns-in_ok-trim-clause-own g c =
     let read = c.in_ok-catch_up.ensures.read in
     let fleet = ap (λ (f : Option FleetId). option_map (λ (x : FleetId). x.bytes) f) c.in-Some-fleet.is in
     compacts_trimmed _ _ c.args.standing.now c.catch_up.new.standing read.0 c.in_ok-catch_up.field-0 read.1 read.2 read.3 read.4 read.5 c.catch_up.ensures.same c.requires
     _ c.write_whole.new.standing c.in-Some-fleet.fleet.bytes fleet c.write_whole.ensures.same c.write_whole.ensures.node c.write_whole.ensures.fleet c.write_whole.ensures.numbers
     _ c.in-Some.upto c.in-Some.is c.in_ok-position.position c.in_ok-position.ensures.written (c.if-stands_before.ensures.0 refl) c.trim.result c.trim.ensures
 
-pub returns-then-stands_before-clause-member : goal.returns-then-stands_before-clause-member
-returns-then-stands_before-clause-member g c =
+pub returns-in_ok-trim-clause-member : goal.returns-in_ok-trim-clause-member
+returns-in_ok-trim-clause-member g c =
     member_more _ _ _ c.write_whole.new.standing c.trim.ensures c.write_whole.ensures.member
 
 pub returns-else-stands_before-clause-compacted : goal.returns-else-stands_before-clause-compacted

@@ -1,4 +1,4 @@
-use Rattle.std.proofs.Common.{Some, length, true, cond, ap, ◌∙◌, sym, refl, subst}
+use Rattle.std.proofs.Common.{◌≡◌, Err, Some, length, true, cond, ap, ◌∙◌, sym, refl, subst}
 use Rattle.lw_delta.specs.Delta.{IsSpelling}
 use Rattle.lw_node.specs.Exchange.{IsDeltaSince}
 use Rattle.lw_node.specs.Node.{NodeContent}
@@ -10,9 +10,10 @@ use Rattle.lw_member.specs.declared.standing.Standing.{Standing}
 use Rattle.lw_member.specs.inner.Standing.{counted_in}
 use Rattle.lw_member.proofs.Catching.{member_failed}
 use Rattle.lw_member.proofs.Counting.{counts_own}
+use Rattle.lw_member.specs.inner.Wholes.{TriesWhole}
 use Rattle.lw_member.proofs.Knowing.{by_failed}
-use Rattle.lw_member.proofs.Merging.{same_failed}
-use Rattle.lw_member.proofs.Owning.{append_whole, member_whole}
+use Rattle.lw_member.proofs.Merging.{on_err, same_appended, same_failed, same_none}
+use Rattle.lw_member.proofs.Owning.{append_whole, member_whole, tries_none}
 use Rattle.lw_member.proofs.compaction.write_whole.Goals as goal
 
 pub entry-requires-clause-fits : goal.entry-requires-clause-fits
@@ -31,7 +32,13 @@ returns-in_err-position-clause-own g c =
     let s0 = c.args.standing.now in
     let is = subst (λ d. IsDeltaSince s0.node 0 d) (sym c.deref.ensures.value) c.in_ok-delta.ensures in
     let e = subst (λ b. IsEntryOf s0 c.args.fleet.bytes (Whole (numbers_of s0) c.deref.result.now) b) (sym c.deref-2.ensures.value) (subst (λ ns. IsEntryOf s0 c.args.fleet.bytes (Whole ns c.deref.result.now) c.in_ok-entry.entry.items) c.as_bytes.ensures.bytes c.in_ok-entry.ensures) in
-    (_, c.in_err-position.ensures.asked, append_whole s0 _ _ _ (record { delta = c.deref.result.now; is = is; entry = e }), by_failed s0 c.append.new.standing _ _ c.append.ensures.read_to)
+    let own : TriesWhole (g.G.DeltaLog.calls c.args.log.now) s0 c.args.fleet.bytes (g.G.DeltaLog.calls c.append.new.log) c.append.new.standing = (
+      _,
+      c.in_err-position.ensures.asked,
+      append_whole s0 _ c.deref-2.result.now (Err c.in_err-position.field-0.0) (record { delta = c.deref.result.now; is = is; entry = e }),
+      by_failed s0 c.append.new.standing c.deref-2.result.now c.in_err-position.field-0.0 c.append.ensures.read_to,
+    ) in
+    on_err _ own
 
 pub returns-in_err-position-clause-same : goal.returns-in_err-position-clause-same
 returns-in_err-position-clause-same g c = same_failed c.args.standing.now c.append.new.standing c.append.ensures.only
@@ -65,3 +72,23 @@ returns-clause-member g c =
     let floor = ap (λ (x : Standing). x.floor) only ∙ ap (λ (x : Standing). x.floor) done in
     let s : Standing = record c.appended_whole.new.self { led = true; written = c.change-standing.result } in
     member_whole _ _ s0 s (place c.in_ok-position.position, c.deref-2.result.now) _ (record { delta = c.deref.result.now; is = is; entry = e }) c.in_ok-position.ensures.asked node start floor refl (c.change-standing.ensures ∙ ap (λ (n : NodeContent). n.table.count.change) node) c.requires
+
+pub returns-in_err-delta-clause-same : goal.returns-in_err-delta-clause-same
+returns-in_err-delta-clause-same g c = same_none c.args.standing.now
+
+pub returns-in_err-delta-clause-own : goal.returns-in_err-delta-clause-own
+returns-in_err-delta-clause-own g c = on_err _ (tries_none (g.G.DeltaLog.calls c.args.log.now) c.args.standing.now c.args.fleet.bytes)
+
+pub returns-in_err-entry-clause-same : goal.returns-in_err-entry-clause-same
+returns-in_err-entry-clause-same g c = same_none c.args.standing.now
+
+pub returns-in_err-entry-clause-own : goal.returns-in_err-entry-clause-own
+returns-in_err-entry-clause-own g c = on_err _ (tries_none (g.G.DeltaLog.calls c.args.log.now) c.args.standing.now c.args.fleet.bytes)
+
+pub returns-clause-same : goal.returns-clause-same
+returns-clause-same g c =
+    let s0 = c.args.standing.now in
+    let s = c.appended_whole.new.self in
+    let only : s ≡ record s0 { sequence = s.sequence; read_to = s.read_to; size = s.size } =
+        c.appended_whole.ensures.only ∙ ap (λ (x : Standing). record x { sequence = s.sequence; read_to = s.read_to; size = s.size }) c.in_ok-position.ensures.done in
+    same_appended s0 s true c.change-standing.result only

@@ -2,7 +2,8 @@ use Rattle.std.proofs.Common.{◌≡◌, ◌<◌, Some, true, ap, ◌∙◌, sym
 use Rattle.lw_member.specs.declared.standing.Standing.{Standing}
 use Rattle.lw_member.specs.Parts.{fleet_of}
 use Rattle.lw_member.proofs.Catching.{member_goes, member_claimed}
-use Rattle.lw_member.proofs.Claiming.{claim_is, claim_same, claims_more, claims_read}
+use Rattle.lw_member.proofs.Claiming.{claim_is, claims_more, claims_read}
+use Rattle.lw_member.proofs.Merging.{on_err, same_made, same_then, same_unclaimed}
 use Rattle.lw_member.proofs.rounds.claim.Goals as goal
 
 pub returns-in_err-catch_up-clause-own : goal.returns-in_err-catch_up-clause-own
@@ -18,7 +19,7 @@ raise-requires g c = subst (λ n. n < 262556467200000) (sym (c.catch_up.ensures.
 
 pub returns-in_err-raise-clause-own : goal.returns-in_err-raise-clause-own
 returns-in_err-raise-clause-own g c = 
-    claims_more _ _ c.args.standing.now c.catch_up.new.standing _ (ap (λ (x : Standing). x.read_to) c.raise.ensures.only) c.raise.ensures.goes
+    claims_more _ _ c.args.standing.now c.catch_up.new.standing c.raise.new.self (ap (λ (x : Standing). x.read_to) c.raise.ensures.only) c.raise.ensures.goes
     (claims_read _ _ _ c.args.standing.now c.write_start.new.standing c.catch_up.new.standing _ c.in_ok-fleet.ensures.started c.write_start.ensures.same c.catch_up.ensures.same c.catch_up.ensures.asked)
 
 pub returns-in_err-raise-clause-member : goal.returns-in_err-raise-clause-member
@@ -34,8 +35,23 @@ returns-then-is_in-clause-claimed g c = λ m.
 
 pub returns-then-is_in-clause-own : goal.returns-then-is_in-clause-own
 returns-then-is_in-clause-own g c = 
-    claims_more _ _ c.args.standing.now c.catch_up.new.standing _ (ap (λ (x : Standing). x.read_to) c.raise.ensures.only) c.raise.ensures.goes
+    claims_more _ _ c.args.standing.now c.catch_up.new.standing (record c.raise.new.self { claimed = true }) (ap (λ (x : Standing). x.read_to) c.raise.ensures.only) c.raise.ensures.goes
     (claims_read _ _ _ c.args.standing.now c.write_start.new.standing c.catch_up.new.standing _ c.in_ok-fleet.ensures.started c.write_start.ensures.same c.catch_up.ensures.same c.catch_up.ensures.asked)
 
 pub returns-then-is_in-clause-member : goal.returns-then-is_in-clause-member
 returns-then-is_in-clause-member g c = λ m. member_claimed _ c.raise.new.self true (member_goes _ c.catch_up.new.standing c.raise.new.self c.raise.ensures.only c.raise.ensures.goes c.raise.ensures.leading (c.catch_up.ensures.member (c.in_ok-fleet.ensures.member m)))
+
+pub returns-in_err-raise-clause-same : goal.returns-in_err-raise-clause-same
+returns-in_err-raise-clause-same g c =
+    on_err _ (same_then _ _ _ (same_then _ _ _ c.write_start.ensures.same c.catch_up.ensures.same) (same_made c.catch_up.new.standing c.raise.new.self c.raise.ensures.only c.raise.ensures.goes))
+
+pub returns-in_err-catch_up-clause-same : goal.returns-in_err-catch_up-clause-same
+returns-in_err-catch_up-clause-same g c = on_err _ (same_then _ _ _ c.write_start.ensures.same c.catch_up.ensures.same)
+
+pub returns-then-is_in-clause-start : goal.returns-then-is_in-clause-start
+returns-then-is_in-clause-start g c =
+    let same = same_then _ _ _ (same_then _ _ _ c.write_start.ensures.same c.catch_up.ensures.same) (same_made c.catch_up.new.standing c.raise.new.self c.raise.ensures.only c.raise.ensures.goes) in
+    (same_unclaimed c.args.standing.now c.raise.new.self same c.requires.unclaimed, refl)
+
+pub returns-clause-same : goal.returns-clause-same
+returns-clause-same g c = same_then _ _ _ c.write_start.ensures.same c.catch_up.ensures.same

@@ -2,6 +2,7 @@ use Rattle.std.proofs.Common.{◌≡◌, ◌++◌, List, ap, ◌∙◌, sym, sub
 use Rattle.lw_call.specs.declared.reply.Reply.{Reply}
 use Rattle.lw_member.specs.Rounds.{Makes}
 use Rattle.lw_member.proofs.Catching.{member_goes}
+use Rattle.lw_member.proofs.Merging.{same_made, same_none, same_then}
 use Rattle.lw_member.proofs.Owning.{writes_from}
 use Rattle.lw_member.proofs.rounds.finish.Goals as goal
 
@@ -31,3 +32,14 @@ returns-clause-own g c =
 
 pub returns-clause-member : goal.returns-clause-member
 returns-clause-member g c = c.write.ensures.member (member_goes _ c.args.standing.now c.make.new.self c.make.ensures.only c.make.ensures.goes c.make.ensures.leading c.requires)
+
+pub returns-in_err-replies-clause-same : goal.returns-in_err-replies-clause-same
+returns-in_err-replies-clause-same g c = same_none c.args.standing.now
+
+pub returns-in_err-write-clause-same : goal.returns-in_err-write-clause-same
+returns-in_err-write-clause-same g c =
+    same_then c.args.standing.now c.make.new.self c.write.new.standing (same_made c.args.standing.now c.make.new.self c.make.ensures.only c.make.ensures.goes) c.write.ensures.same
+
+pub returns-clause-same : goal.returns-clause-same
+returns-clause-same g c =
+    same_then c.args.standing.now c.make.new.self c.write.new.standing (same_made c.args.standing.now c.make.new.self c.make.ensures.only c.make.ensures.goes) c.write.ensures.same

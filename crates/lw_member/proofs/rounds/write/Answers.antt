@@ -1,4 +1,4 @@
-use Rattle.std.proofs.Common.{◌∷◌, [], length, Option, Some, true, cond, ap, ◌∙◌, sym, inr, refl, subst}
+use Rattle.std.proofs.Common.{◌≡◌, Err, ◌∷◌, [], length, Option, Some, true, cond, ap, ◌∙◌, sym, inr, refl, subst}
 use Rattle.std.specs.Prelude.{Ok, option_map}
 use Rattle.lw_delta.specs.Delta.{IsSpelling}
 use Rattle.lw_node.specs.Exchange.{IsDeltaSince}
@@ -15,7 +15,7 @@ use Rattle.lw_member.specs.inner.Standing.{counted_in}
 use Rattle.lw_member.proofs.Catching.{member_failed}
 use Rattle.lw_member.proofs.Counting.{counts_own}
 use Rattle.lw_member.proofs.Knowing.{by_failed}
-use Rattle.lw_member.proofs.Merging.{same_failed}
+use Rattle.lw_member.proofs.Merging.{same_appended, same_failed, same_none}
 use Rattle.lw_member.proofs.Owning.{append_own, own_since, member_written}
 use Rattle.lw_member.proofs.rounds.write.Goals as goal
 
@@ -38,8 +38,8 @@ returns-in_err-position-clause-own g c = λ m.
     (
       _,
       c.in_err-position.ensures.asked,
-      append_own (content_of (g.G.DeltaLog.calls c.append.new.log) s) _ _ (inr (s0.written, own_since _ s0 s _ _ _ s0.written (ap (λ (x : Standing). x.node) only) (ap (λ (x : Standing). x.start) only) fleet is e m.number)),
-      by_failed s0 s _ _ c.append.ensures.read_to,
+      append_own (content_of (g.G.DeltaLog.calls c.append.new.log) s) c.deref-2.result.now (Err c.in_err-position.field-0.0) (inr (s0.written, own_since _ s0 s _ _ _ s0.written (ap (λ (x : Standing). x.node) only) (ap (λ (x : Standing). x.start) only) fleet is e m.number)),
+      by_failed s0 s c.deref-2.result.now c.in_err-position.field-0.0 c.append.ensures.read_to,
     )
 
 pub returns-in_err-position-clause-same : goal.returns-in_err-position-clause-same
@@ -59,7 +59,7 @@ returns-clause-own g c = λ m.
     (
       _,
       c.in_ok-position.ensures.asked,
-      append_own (content_of (g.G.DeltaLog.calls c.append.new.log) s) _ (Ok c.in_ok-position.position) (inr (s0.written, own_since _ s0 s _ _ _ s0.written node start fleet is e m.number)),
+      append_own (content_of (g.G.DeltaLog.calls c.append.new.log) s) c.deref-2.result.now (Ok c.in_ok-position.position) (inr (s0.written, own_since _ s0 s _ _ _ s0.written node start fleet is e m.number)),
       inr (c.appended.ensures.read_to ∙ ap (λ (x : Standing). cond x.alone (Some (place c.in_ok-position.position)) (place_of x.read_to)) done),
     )
 
@@ -98,3 +98,23 @@ returns-clause-member g c = λ m.
     let s : Standing = record c.appended.new.self { led = true; written = c.change-standing.result } in
     let floor = ap (λ (x : Standing). x.floor) only ∙ ap (λ (x : Standing). x.floor) done in
     member_written _ _ s0 s (place c.in_ok-position.position, c.deref-2.result.now) _ _ is e c.in_ok-position.ensures.asked node start floor refl (c.change-standing.ensures ∙ ap (λ (n : NodeContent). n.table.count.change) node) m
+
+pub returns-then-standing-clause-same : goal.returns-then-standing-clause-same
+returns-then-standing-clause-same g c = same_none c.args.standing.now
+
+pub returns-in_default-clause-same : goal.returns-in_default-clause-same
+returns-in_default-clause-same g c = same_none c.args.standing.now
+
+pub returns-in_err-delta-clause-same : goal.returns-in_err-delta-clause-same
+returns-in_err-delta-clause-same g c = same_none c.args.standing.now
+
+pub returns-in_err-entry-clause-same : goal.returns-in_err-entry-clause-same
+returns-in_err-entry-clause-same g c = same_none c.args.standing.now
+
+pub returns-clause-same : goal.returns-clause-same
+returns-clause-same g c =
+    let s0 = c.args.standing.now in
+    let s = c.appended.new.self in
+    let only : s ≡ record s0 { sequence = s.sequence; read_to = s.read_to; size = s.size } =
+        c.appended.ensures.only ∙ ap (λ (x : Standing). record x { sequence = s.sequence; read_to = s.read_to; size = s.size }) c.in_ok-position.ensures.done in
+    same_appended s0 s true c.change-standing.result only

@@ -1,4 +1,4 @@
-use Rattle.std.proofs.Common.{◌≡◌, inl, inr, length, Some, cond, ap, ◌∙◌, sym, subst}
+use Rattle.std.proofs.Common.{◌≡◌, inl, inr, Err, length, Some, cond, ap, ◌∙◌, sym, subst}
 use Rattle.lw_log.specs.Calls.{place, place_of}
 use Rattle.lw_log.specs.Entries.BodyContent.{Start}
 use Rattle.lw_member.specs.inner.Taking.{IsEntryOf}
@@ -7,21 +7,30 @@ use Rattle.lw_member.specs.Counting.{counted_with}
 use Rattle.lw_member.specs.inner.Standing.{counted_in}
 use Rattle.lw_member.proofs.Counting.{counts_own}
 use Rattle.lw_member.proofs.Catching.{member_failed, member_more, member_parts}
+use Rattle.lw_member.specs.inner.Writing.{Claims}
 use Rattle.lw_member.proofs.Knowing.{by_failed}
-use Rattle.lw_member.proofs.Merging.{same_failed, same_started}
-use Rattle.lw_member.proofs.Owning.{append_claims, start_of}
+use Rattle.lw_member.proofs.Merging.{on_err, same_failed, same_none, same_started}
+use Rattle.lw_member.proofs.Owning.{append_claims, claims_none, start_of}
 use Rattle.lw_member.proofs.rounds.write_start.Goals as goal
 
 pub returns-in_err-position-clause-member : goal.returns-in_err-position-clause-member
 returns-in_err-position-clause-member g c = λ m. member_failed _ _ _ _ _ c.append.ensures.asked c.append.ensures.only c.append.ensures.leading m
 
 pub returns-in_err-position-clause-own : goal.returns-in_err-position-clause-own
-returns-in_err-position-clause-own g c = (
-  _,
-  c.in_err-position.ensures.asked,
-  append_claims _ _ _ _ (start_of _ _ _ (subst (λ b. IsEntryOf c.args.standing.now c.own_fleet.result.bytes Start b) (sym c.deref.ensures.value) c.in_ok-entry.ensures)),
-  by_failed c.args.standing.now c.append.new.standing _ _ c.append.ensures.read_to,
-)
+returns-in_err-position-clause-own g c =
+    let own : Claims (g.G.DeltaLog.calls c.args.log.now) c.args.standing.now (g.G.DeltaLog.calls c.append.new.log) c.append.new.standing = (
+      _,
+      c.in_err-position.ensures.asked,
+      append_claims _ _ c.deref.result.now (Err c.in_err-position.field-0.0) (start_of _ _ _ (subst (λ b. IsEntryOf c.args.standing.now c.own_fleet-fleet.result.bytes Start b) (sym c.deref.ensures.value) c.in_ok-entry.ensures)),
+      by_failed c.args.standing.now c.append.new.standing c.deref.result.now c.in_err-position.field-0.0 c.append.ensures.read_to,
+    ) in
+    on_err _ own
+
+pub returns-in_err-entry-clause-own : goal.returns-in_err-entry-clause-own
+returns-in_err-entry-clause-own g c = on_err _ (claims_none (g.G.DeltaLog.calls c.args.log.now) c.args.standing.now)
+
+pub returns-in_err-entry-clause-same : goal.returns-in_err-entry-clause-same
+returns-in_err-entry-clause-same g c = same_none c.args.standing.now
 
 pub returns-in_err-position-clause-same : goal.returns-in_err-position-clause-same
 returns-in_err-position-clause-same g c = same_failed c.args.standing.now c.append.new.standing c.append.ensures.only
@@ -33,7 +42,7 @@ returns-clause-same g c =
     let done = c.in_ok-position.ensures.done in
     let only : s ≡ record s0 { sequence = s.sequence; read_to = s.read_to; size = s.size; fleet = s.fleet } =
         c.started.ensures.only ∙ ap (λ (x : Standing). record x { sequence = s.sequence; read_to = s.read_to; size = s.size; fleet = s.fleet }) done in
-    same_started s0 s only c.own_fleet.result c.own_fleet.ensures (elim c.started.ensures.fleet [
+    same_started s0 s only c.own_fleet-fleet.result c.own_fleet-fleet.ensures (elim c.started.ensures.fleet [
       | inl same ↦ inl (same ∙ ap (λ (x : Standing). x.fleet) done)
       | inr own ↦ inr own
     ])
@@ -44,7 +53,7 @@ returns-clause-started g c =
     let s = c.started.new.self in
     let only = c.started.ensures.only in
     let done = c.in_ok-position.ensures.done in
-    let e = subst (λ b. IsEntryOf s0 c.own_fleet.result.bytes Start b) (sym c.deref.ensures.value) c.in_ok-entry.ensures in
+    let e = subst (λ b. IsEntryOf s0 c.own_fleet-fleet.result.bytes Start b) (sym c.deref.ensures.value) c.in_ok-entry.ensures in
     record {
       place = (place c.in_ok-position.position, c.deref.result.now);
       asked = c.in_ok-position.ensures.asked;
