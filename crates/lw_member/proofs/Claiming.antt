@@ -1,5 +1,5 @@
 -- A claim, put together from its parts.
-use Rattle.std.proofs.Common.{◌≡◌, ◌↔◌, ℕ, List, [], ◌∷◌, ◌++◌, Option, Some, Bool, true, false, sym, ap, ◌∙◌, subst}
+use Rattle.std.proofs.Common.{◌≡◌, ◌↔◌, ◌⊎◌, inl, inr, ℕ, List, [], ◌∷◌, ◌++◌, Option, Some, None, Bool, true, false, sym, ap, ◌∙◌, subst}
 use Rattle.std.specs.Prelude.{IsTrue, option_map}
 use Rattle.lw_node.specs.Exchange.{Merged}
 use Rattle.lw_node.specs.Node.{NodeContent}
@@ -10,7 +10,7 @@ use Rattle.lw_log.specs.declared.start.Start.{Start as Starts}
 use Rattle.lw_member.specs.declared.standing.Standing.{Standing}
 use Rattle.lw_member.specs.Counting.{CountsEntries, own_entries}
 use Rattle.lw_member.specs.Parts.{fleet_of, numbers_of, IsMember}
-use Rattle.lw_member.specs.Reading.{AreReads, AreReadToTheEnd, entries_in, last_read, AreGood, HoldsNumber, MergesEntries}
+use Rattle.lw_member.specs.Reading.{AreReads, AreReadToTheEnd, entries_in, last_read, AreGood, HoldsNumber, IsTakenFirst, MergesEntries}
 use Rattle.lw_member.specs.inner.Going.{Goes}
 use Rattle.lw_member.specs.inner.Standing.{HasSameStart, IsStill, counted_in}
 use Rattle.lw_member.specs.inner.Taking.{Takes, IsJudged}
@@ -18,7 +18,7 @@ use Rattle.lw_member.specs.inner.Writing.{Claims, IsStarted, IsClaimed}
 use Rattle.lw_member.proofs.Asking.{calls_then}
 use Rattle.lw_member.proofs.Owning.{reads_claim, start_of}
 use Rattle.lw_member.proofs.Catching.{Asked}
-use Rattle.lw_member.proofs.Going.{goes_below}
+use Rattle.lw_member.proofs.Going.{below_same, goes_below}
 use Rattle.lw_member.proofs.Knowing.{by_more, by_then}
 use Rattle.lw_member.proofs.Counting.{counts_then}
 use Rattle.lw_member.proofs.Numbering.{noted_same}
@@ -28,7 +28,7 @@ module _ (a0 a1 a2 : Option (List LogCall)) (s0 s1 s2 s3 : Standing) (fleet : Li
     (started : IsStarted a0 s0 fleet a1 s1) (asked : Calls a1 a2 pages) (read : AreReadToTheEnd (place_of s1.read_to) pages) (takes : Takes s1 (entries_in pages) s2)
     (judged : IsJudged s1.claimed s1.start.number s1.start.tag (entries_in pages) own) (same : HasSameStart s1 s2) (in_fleet : fleet_of s2 ≡ Some fleet) (last : place_of s2.read_to ≡ last_read (place_of s1.read_to) pages)
     (number : s0.start.number ≡ s0.node.number) (unclaimed : s0.claimed ≡ false) (member : IsMember a2 s2)
-    (raised : Merged s2.node s2.floor [] s3.node) (still : IsTrue s3.led ↔ IsStill s2 s3.node) (only : s3 ≡ record s2 { node = s3.node; led = s3.led }) (goes : Goes s2.node s3.node) where
+    (shown : s2.alone ≡ false → own ≡ true) (raised : Merged s2.node s2.floor [] s3.node) (still : IsTrue s3.led ↔ IsStill s2 s3.node) (only : s3 ≡ record s2 { node = s3.node; led = s3.led }) (goes : Goes s2.node s3.node) where
   one : s1 ≡ record s0 { sequence = s1.sequence; read_to = s1.read_to; size = s1.size; fleet = s1.fleet }
   one = started.only
 
@@ -50,6 +50,16 @@ module _ (a0 a1 a2 : Option (List LogCall)) (s0 s1 s2 s3 : Standing) (fleet : Li
       let t : s1.start.tag ≡ s3.start.tag = ap (λ (x : Starts). x.tag) (ap (λ (s : Standing). s.start) one ∙ sym start_is) in
       subst (λ x. HoldsNumber x s3.start.tag (entries_in pages)) n (subst (λ x. HoldsNumber s1.start.number x (entries_in pages)) t holds_first)
 
+  first_now : s0.alone ≡ false → IsTakenFirst s3.node.number s3.start.tag (entries_in pages)
+  first_now shared =
+      let is : own ≡ true = shown (same.alone ∙ ap (λ (s : Standing). s.alone) one ∙ shared) in
+      let mine : IsJudged false s1.start.number s1.start.tag (entries_in pages) true =
+          subst (λ b. IsJudged false s1.start.number s1.start.tag (entries_in pages) b) is
+          (subst (λ b. IsJudged b s1.start.number s1.start.tag (entries_in pages) own) (ap (λ (s : Standing). s.claimed) one ∙ unclaimed) judged) in
+      let n : s1.start.number ≡ s3.node.number = ap (λ (s : Standing). s.start.number) one ∙ number ∙ sym number_is in
+      let t : s1.start.tag ≡ s3.start.tag = ap (λ (x : Starts). x.tag) (ap (λ (s : Standing). s.start) one ∙ sym start_is) in
+      subst (λ x. IsTakenFirst x s3.start.tag (entries_in pages)) n (subst (λ x. IsTakenFirst s1.start.number x (entries_in pages)) t mine)
+
   pub claim_is : IsClaimed a0 s0 a2 (record s3 { claimed = true })
   claim_is = record {
     place = started.place;
@@ -70,6 +80,7 @@ module _ (a0 a1 a2 : Option (List LogCall)) (s0 s1 s2 s3 : Standing) (fleet : Li
     read_to = ap (λ (s : Standing). place_of s.read_to) only ∙ last ∙ ap (λ p. last_read p pages) started.read_to;
     good = subst (λ f. AreGood f (entries_in pages)) (ap (λ (s : Standing). option_map (λ (f : FleetId). f.bytes) s.fleet) (sym only)) takes.good;
     holds = holds_now;
+    first = first_now;
     merges = subst (λ (n : NodeContent). MergesEntries n (entries_in pages) s2.node) (ap (λ (s : Standing). s.node) one) takes.merged;
     numbers = noted_same (numbers_of s1) (numbers_of s0) (numbers_of s2) (numbers_of s3) (entries_in pages) (sym (ap numbers_of one)) (ap numbers_of only) takes.numbers;
     counted = counts_then (counted_in s0) (counted_in s1) (counted_in s3) (own_entries s0.alone (Wrote started.place ∷ [])) (entries_in pages) started.counted
@@ -95,3 +106,8 @@ claims_read a0 a1 a2 s0 s1 s2 fleet started first same two = (
 -- and the node goes on
 pub claims_more : (a0 a2 : Option (List LogCall)) (s0 s2 s3 : Standing) → s3.read_to ≡ s2.read_to → Goes s2.node s3.node → Claims a0 s0 a2 s2 → Claims a0 s0 a2 s3
 claims_more a0 a2 s0 s2 s3 same goes claims = (claims.0, claims.1, claims.2, by_more s0 s2 s3 claims.0 (ap place_of same) (goes_below s2.node s3.node goes) claims.3)
+
+-- and it has lost something
+pub claims_failed : (a0 a2 : Option (List LogCall)) (s0 s2 s3 : Standing) → s3 ≡ record s2 { read_to = s3.read_to; written = s3.written; led = s3.led } → (s3.read_to ≡ None) ⊎ (s3.read_to ≡ s2.read_to) → Claims a0 s0 a2 s2 → Claims a0 s0 a2 s3
+claims_failed a0 a2 s0 s2 s3 only (inl none) claims = (claims.0, claims.1, claims.2, inl (ap place_of none))
+claims_failed a0 a2 s0 s2 s3 only (inr same) claims = (claims.0, claims.1, claims.2, by_more s0 s2 s3 claims.0 (ap place_of same) (below_same s2.node s3.node (ap (λ (x : Standing). x.node) only)) claims.3)

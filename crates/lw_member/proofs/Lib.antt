@@ -14,3 +14,4 @@ pub mod Owning
 pub mod Claiming
 pub mod Beginnings
 pub mod Compacting
+pub mod Living

@@ -15,7 +15,7 @@ use Rattle.lw_member.specs.declared.standing.Standing.{Standing}
 use Rattle.lw_member.specs.Own.{IsOwnIn, IsOwnSince}
 use Rattle.lw_member.specs.Counting.{CountsEntries, own_entries}
 use Rattle.lw_member.specs.Parts.{content_of, fleet_of, numbers_of, IsMember}
-use Rattle.lw_member.specs.Reading.{AreReadToTheEnd, entries_in, last_read, AreGood, AreNoted, HoldsNumber}
+use Rattle.lw_member.specs.Reading.{AreReadToTheEnd, entries_in, last_read, AreGood, AreNoted, HoldsNumber, IsTakenFirst}
 use Rattle.lw_member.specs.Rounds.{Makes, IsClaiming, IsCalm, IsWriting, IsRound, place_after, since_of}
 use Rattle.lw_member.specs.Member.{IsSameStart}
 use Rattle.lw_member.specs.inner.Going.{Goes}
@@ -116,6 +116,7 @@ module _ (a0 a1 a2 : Option (List LogCall)) (s0 s1 s2 s3 : Standing) (calls : Li
     read_to = read_later s0 s1 s2 s3 (place_of s0.read_to) pages wrote.now.wrote same.alone last made.only wrote.now.read_to;
     good = good_later s1 s2 s3 (entries_in pages) made.only wrote.fleet takes.good;
     holds = holds_idle;
+    first = λ claiming. absurd (idle claiming);
     numbers = noted_later s0 s1 s2 s3 (entries_in pages) made.only wrote.numbers takes.numbers;
     counted = counted_later s0 s1 s2 s3 (counted_in s0) (entries_in pages) wrote.now.wrote same.alone takes.counted made.only wrote.now.counted;
     merged = takes.merged;
@@ -182,6 +183,7 @@ module _ (a0 a1 a2 : Option (List LogCall)) (s0 s1 s2 s3 : Standing) (calls : Li
     read_to = read_later s0 s1 s2 s3 (place_after s0.alone (place_of s0.read_to) (Wrote claimed.place ∷ [])) claimed.pages wrote.now.wrote same.alone claimed.read_to made.only wrote.now.read_to;
     good = good_later s1 s2 s3 (entries_in claimed.pages) made.only wrote.fleet claimed.good;
     holds = λ unclaimed. subst (λ n. HoldsNumber n s3.start.tag (entries_in claimed.pages)) number_is (subst (λ t. HoldsNumber s1.node.number t (entries_in claimed.pages)) tag_is claimed.holds);
+    first = λ claims shared. subst (λ n. IsTakenFirst n s3.start.tag (entries_in claimed.pages)) number_is (subst (λ t. IsTakenFirst s1.node.number t (entries_in claimed.pages)) tag_is (claimed.first shared));
     numbers = noted_later s0 s1 s2 s3 (entries_in claimed.pages) made.only wrote.numbers claimed.numbers;
     counted = subst (λ es. CountsEntries (counted_in s0) es (counted_in s3)) (append_assoc (own_entries s0.alone (Wrote claimed.place ∷ [])) (entries_in claimed.pages) (own_entries s0.alone wrote.now.wrote))
         (counted_later s0 s1 s2 s3 (counted_in s0) (own_entries s0.alone (Wrote claimed.place ∷ []) ++ entries_in claimed.pages) wrote.now.wrote same.alone claimed.counted made.only wrote.now.counted);

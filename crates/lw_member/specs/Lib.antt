@@ -8,4 +8,5 @@ pub mod Own
 pub mod Rounds
 pub mod Beginning
 pub mod Compaction
+pub mod Lives
 pub mod inner

@@ -1,5 +1,5 @@
 -- What contracts see of a member: a node, what was asked of its log, and how far the log leads what the node knows.
-use Rattle.std.specs.Prelude.{◌≡◌, ℕ, ◌≤◌, List, Option, Some, IsSomeAnd, Bool, true}
+use Rattle.std.specs.Prelude.{◌≡◌, ℕ, ◌≤◌, List, Option, Some, None, IsSomeAnd, Bool, true, false}
 use Rattle.std.specs.FinMap.{get}
 use Rattle.lw_reg.specs.declared.slot.Slot.{Slot}
 use Rattle.lw_reg.specs.Slot.{slot_below}
@@ -56,3 +56,9 @@ pub record Stays (old new : MemberContent) : Type 0 where
   pub settled : old.settled ≡ true → new.settled ≡ true
   pub fleet : (f : List ℕ) → old.settled ≡ true → old.fleet ≡ Some f → new.fleet ≡ Some f
   pub knows : IsBelow (known_by old.node) (known_by new.node)
+
+-- all is read from the first entry on, and written again
+pub record BeginsAnew (member : MemberContent) : Type 0 where
+  pub read_to : member.read_to ≡ None
+  pub led : member.led ≡ false
+  pub written : member.written ≡ 0

@@ -12,7 +12,7 @@ use Rattle.lw_log.specs.Entries.BodyContent.{Start}
 use Rattle.lw_member.specs.Member.{MemberContent, IsLedBy, IsSameStart}
 use Rattle.lw_member.specs.Counting.{CountsEntries, counted_by, own_entries}
 use Rattle.lw_member.specs.Own.{IsOwnIn, IsOwnSince}
-use Rattle.lw_member.specs.Reading.{AreReadToTheEnd, entries_in, last_read, AreGood, HoldsNumber, AreNoted, MergesEntries}
+use Rattle.lw_member.specs.Reading.{AreReadToTheEnd, entries_in, last_read, AreGood, HoldsNumber, IsTakenFirst, AreNoted, MergesEntries}
 
 -- the calls, made one after another, each with the reply that the node gives
 abbrev pub Makes : NodeContent → List Call → List Reply → NodeContent → Type 0
@@ -67,7 +67,8 @@ IsWriting old merged wrote new =
 
 -- ---- the round
 -- Its claim is appended, if it claims; the log is read to its end and merged; the calls are made; and what has changed is
--- appended. Then the log leads all that the node knows.
+-- appended. Then the log leads all that the node knows. Where others append to the log, its claim is the first entry there that
+-- tells of its number.
 pub record IsRound (old : MemberContent) (calls : List Call) (replies : List Reply) (new : MemberContent) : Type 0 where
   pub claim : List LogCall
   pub pages : List LogCall
@@ -81,6 +82,7 @@ pub record IsRound (old : MemberContent) (calls : List Call) (replies : List Rep
   pub read_to : new.read_to ≡ place_after old.alone (last_read (place_after old.alone old.read_to claim) pages) wrote
   pub good : AreGood new.fleet (entries_in pages)
   pub holds : old.claimed ≡ false → HoldsNumber new.node.number new.tag (entries_in pages)
+  pub first : IsClaiming old calls → old.alone ≡ false → IsTakenFirst new.node.number new.tag (entries_in pages)
   pub numbers : AreNoted old.numbers (entries_in pages) new.numbers
   pub counted : CountsEntries (counted_by old) (own_entries old.alone claim ++ (entries_in pages ++ own_entries old.alone wrote)) (counted_by new)
   pub merged : MergesEntries old.node (entries_in pages) merged_node

@@ -6,6 +6,7 @@ mod chance;
 mod clocks;
 mod compaction;
 mod fault;
+pub mod laws;
 mod looking;
 mod member;
 mod numbers;

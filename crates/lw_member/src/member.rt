@@ -1,12 +1,13 @@
 //! A member.
 
-ghost use Rattle.std.specs.Prelude.{◌≡◌, ◌↔◌, IfOk, IfSome, IsNone, IsTrue, OnOk, Err, false, option_map};
+ghost use Rattle.std.specs.Prelude.{◌≡◌, ◌↔◌, IfErr, IfOk, IfSome, IsNone, IsTrue, OnOk, Err, false, option_map};
 ghost use Rattle.lw_node.specs.Exchange.{known_by};
 ghost use Rattle.lw_member.specs.Beginning.{IsBegun};
 ghost use Rattle.lw_member.specs.Clocks.{IsPast2100};
-ghost use Rattle.lw_member.specs.declared.fault.MemberFault.TheVariants.{ClockAhead as IsAhead};
+ghost use Rattle.lw_log.specs.declared.log_fault.LogFault.TheVariants.{Lost as IsLost};
+ghost use Rattle.lw_member.specs.declared.fault.MemberFault.TheVariants.{ClockAhead as IsAhead, Log as IsLog};
 ghost use Rattle.lw_member.specs.Compaction.{IsCompactionDue, IsCompacted, Compacts};
-ghost use Rattle.lw_member.specs.Member.{IsLedBy};
+ghost use Rattle.lw_member.specs.Member.{BeginsAnew, IsLedBy};
 ghost use Rattle.lw_member.specs.Own.{WritesOwn};
 ghost use Rattle.lw_member.specs.Rounds.{IsRound};
 
@@ -58,7 +59,7 @@ impl<G: DeltaLog> Member<G> {
     ) -> Result<Member<G>, MemberFault>
         ensures begun { IfOk result (IsBegun (G.calls log) moment chance.now.tag chance.now.number) }
         ensures past { IsPast2100 moment → result ≡ Err IsAhead }
-        ensures alone { IfOk result (λ member. member.view.alone ≡ G.alone) }
+        ensures alone { IfOk result (λ member. member.alone ≡ G.alone) }
     {
         if is_past_2100(moment) {
             return Err(MemberFault::ClockAhead);
@@ -94,6 +95,8 @@ impl<G: DeltaLog> Member<G> {
         ensures round { IfOk result (λ replies. IsRound self.old calls.now replies.items self.new) }
         // Also where it fails.
         ensures own { WritesOwn self.old self.new }
+        // What the log has lost is read and written again.
+        ensures lost { IfErr result (λ fault. fault ≡ IsLog IsLost → BeginsAnew self.new) }
     {
         round(&mut self.log, &mut self.standing, calls)
     }

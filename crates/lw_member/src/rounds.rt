@@ -1,13 +1,14 @@
 //! The parts of a round, over a log and what its member knows.
 
-ghost use Rattle.std.specs.Prelude.{◌≡◌, ◌≢◌, ◌↔◌, ◌<◌, ◌*◌, ◌⊎◌, [], List, Option, Some, None, true, false, option_map, IfOk, IsTrue, OnOk, OnErr};
+ghost use Rattle.std.specs.Prelude.{◌≡◌, ◌≢◌, ◌↔◌, ◌<◌, ◌*◌, ◌⊎◌, [], List, Option, Some, None, true, false, option_map, IfErr, IfOk, IsTrue, OnOk, OnErr};
 ghost use Rattle.lw_log.specs.Calls.{LogCall, Calls, append_calls, place_of};
 ghost use Rattle.lw_member.specs.Clocks.{year_2100};
 ghost use Rattle.lw_member.specs.Own.{WritesOwn};
 ghost use Rattle.lw_member.specs.Reading.{AreReadToTheEnd, AreReads, entries_in, last_read};
 ghost use Rattle.lw_member.specs.Rounds.{IsRound};
 ghost use Rattle.lw_member.specs.Parts.{content_of, IsLeading, IsMember};
-ghost use Rattle.lw_member.specs.inner.Standing.{HasSameStart};
+ghost use Rattle.lw_member.specs.Faults.{fault_of};
+ghost use Rattle.lw_member.specs.inner.Standing.{BeginsAnewBy, HasSameStart};
 ghost use Rattle.lw_member.specs.inner.Taking.{Takes, IsJudged, IsReadBy};
 ghost use Rattle.lw_member.specs.inner.Writing.{Claims, Finished, IsStarted, IsWritingNow, IsClaimed, WritesOwnCalls};
 
@@ -28,6 +29,7 @@ pub(crate) fn catch_up<G: DeltaLog>(
         × (place_of standing.new.read_to ≡ last_read (place_of standing.old.read_to) pages)) }
     ensures asked { (pages : List LogCall) × Calls (G.calls log.old) (G.calls log.new) pages × AreReads pages
         × IsReadBy standing.old pages standing.new }
+    ensures lost { IfErr result (λ fault. BeginsAnewBy fault standing.new) }
     ensures same { HasSameStart standing.old standing.new }
     ensures member { IsMember (G.calls log.old) standing.old → IsMember (G.calls log.new) standing.new }
 {
@@ -63,6 +65,7 @@ pub(crate) fn append<G: DeltaLog>(
       led = standing.new.led;
     } }
     ensures read_to { (standing.new.read_to ≡ None) ⊎ (standing.new.read_to ≡ standing.old.read_to) }
+    ensures lost { IfErr result (λ fault. BeginsAnewBy (fault_of fault) standing.new) }
     ensures leading { (asked : Option (List LogCall)) → IsLeading asked standing.old
         → IsLeading asked standing.new }
 {
@@ -85,10 +88,18 @@ fn is_in(fleet: Option<FleetId>, own: FleetId) -> bool
     }
 }
 
+/// Whether its own start was not read, which was appended, though it is read again.
+fn is_gone(own: bool, alone: bool) -> bool
+    ensures { result ≡ false → alone ≡ false → own ≡ true }
+{
+    !own && !alone
+}
+
 /// Appends a start entry, and tells the fleet that it is in.
 fn write_start<G: DeltaLog>(log: &mut G, standing: &mut Standing) -> Result<FleetId, MemberFault>
     ensures started { IfOk result (λ fleet. IsStarted (G.calls log.old) standing.old fleet.bytes
         (G.calls log.new) standing.new) }
+    ensures lost { IfErr result (λ fault. BeginsAnewBy fault standing.new) }
     ensures own { OnErr result (Claims (G.calls log.old) standing.old (G.calls log.new) standing.new) }
     ensures same { HasSameStart standing.old standing.new }
     ensures member { IsMember (G.calls log.old) standing.old → IsMember (G.calls log.new) standing.new }
@@ -104,6 +115,7 @@ fn write_start<G: DeltaLog>(log: &mut G, standing: &mut Standing) -> Result<Flee
 fn write<G: DeltaLog>(log: &mut G, standing: &mut Standing) -> Result<(), MemberFault>
     ensures written { IsMember (G.calls log.old) standing.old
         → OnOk result (IsWritingNow (G.calls log.old) standing.old (G.calls log.new) standing.new) }
+    ensures lost { IfErr result (λ fault. BeginsAnewBy fault standing.new) }
     ensures own { IsMember (G.calls log.old) standing.old
         → WritesOwnCalls (G.calls log.old) standing.old (G.calls log.new) standing.new }
     ensures same { HasSameStart standing.old standing.new }
@@ -116,7 +128,7 @@ fn write<G: DeltaLog>(log: &mut G, standing: &mut Standing) -> Result<(), Member
         return Ok(());
     }
     let Some(fleet) = standing.fleet else {
-        return Err(MemberFault::Log(LogFault::Lost));
+        return Err(MemberFault::Log(LogFault::Refused));
     };
     let delta = standing.node.delta_since(standing.written)?;
     let entry = standing.entry(fleet, Body::Delta(&delta))?;
@@ -133,6 +145,7 @@ fn claim<G: DeltaLog>(log: &mut G, standing: &mut Standing) -> Result<(), Member
     requires floor { standing.old.floor < 64 * year_2100 }
     ensures claimed { IsMember (G.calls log.old) standing.old
         → OnOk result (IsClaimed (G.calls log.old) standing.old (G.calls log.new) standing.new) }
+    ensures lost { IfErr result (λ fault. BeginsAnewBy fault standing.new) }
     ensures own { Claims (G.calls log.old) standing.old (G.calls log.new) standing.new }
     ensures same { OnErr result (HasSameStart standing.old standing.new) }
     ensures start { OnOk result (HasSameStart standing.old (record standing.new { claimed = false })
@@ -140,7 +153,11 @@ fn claim<G: DeltaLog>(log: &mut G, standing: &mut Standing) -> Result<(), Member
     ensures member { IsMember (G.calls log.old) standing.old → IsMember (G.calls log.new) standing.new }
 {
     let fleet = write_start(log, standing)?;
-    catch_up(log, standing)?;
+    let own = catch_up(log, standing)?;
+    if is_gone(own, standing.alone) {
+        standing.failed(LogFault::Lost);
+        return Err(MemberFault::Log(LogFault::Lost));
+    }
     if is_in(standing.fleet, fleet) {
         standing.raise()?;
         standing.claimed = true;
@@ -158,6 +175,7 @@ fn finish<G: DeltaLog>(
     requires { IsMember (G.calls log.old) standing.old }
     ensures finished { IfOk result (λ replies. Finished (G.calls log.old) standing.old calls.now
         replies.items (G.calls log.new) standing.new) }
+    ensures lost { IfErr result (λ fault. BeginsAnewBy fault standing.new) }
     ensures own { WritesOwnCalls (G.calls log.old) standing.old (G.calls log.new) standing.new }
     ensures same { HasSameStart standing.old standing.new }
     ensures member { IsMember (G.calls log.new) standing.new }
@@ -177,6 +195,7 @@ pub(crate) fn round<G: DeltaLog>(
     requires { IsMember (G.calls log.old) standing.old }
     ensures round { IfOk result (λ replies. IsRound (content_of (G.calls log.old) standing.old) calls.now
         replies.items (content_of (G.calls log.new) standing.new)) }
+    ensures lost { IfErr result (λ fault. BeginsAnewBy fault standing.new) }
     ensures own { WritesOwn (content_of (G.calls log.old) standing.old)
         (content_of (G.calls log.new) standing.new) }
     ensures member { IsMember (G.calls log.new) standing.new }

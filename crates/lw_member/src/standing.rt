@@ -1,6 +1,6 @@
 //! What a member knows, and how far it has read and written.
 
-ghost use Rattle.std.specs.Prelude.{◌≡◌, ◌≢◌, ◌↔◌, ◌≤◌, ◌<◌, ◌*◌, ◌+◌, ◌++◌, ◌⊎◌, ℕ, List, [], ◌∷◌, length, Option, Some, None, true, false, cond, IfOk, OnOk, IsTrue, vec_len, vec_capacity};
+ghost use Rattle.std.specs.Prelude.{◌≡◌, ◌≢◌, ◌↔◌, ◌≤◌, ◌<◌, ◌*◌, ◌+◌, ◌++◌, ◌⊎◌, ℕ, List, [], ◌∷◌, length, Option, Some, None, true, false, cond, IfErr, IfOk, OnOk, IsTrue, vec_len, vec_capacity};
 ghost use Rattle.lw_call.specs.declared.reply.Reply.{Reply as Replies};
 ghost use Rattle.lw_delta.specs.Delta.{DeltaContent, IsSpelling};
 ghost use Rattle.lw_node.specs.Exchange.{Merged};
@@ -8,6 +8,9 @@ ghost use Rattle.lw_table.specs.Changes.{LAST};
 ghost use Rattle.lw_log.specs.Calls.{LogCall, placed, place, place_of};
 ghost use Rattle.lw_log.specs.Entries.{BringsDelta, FitsBody, body_content};
 ghost use Rattle.lw_log.specs.Entries.BodyContent.{Start as StartContent};
+ghost use Rattle.lw_log.specs.declared.log_fault.LogFault.TheVariants.{Lost as IsLost};
+ghost use Rattle.lw_member.specs.declared.fault.MemberFault.TheVariants.{Log as IsLog};
+ghost use Rattle.lw_member.specs.Faults.{fault_of};
 ghost use Rattle.lw_member.specs.Clocks.{year_2100};
 ghost use Rattle.lw_member.specs.Reading.{TellsOf, bytes_of, place_read};
 ghost use Rattle.lw_member.specs.Rounds.{Makes};
@@ -15,7 +18,7 @@ ghost use Rattle.lw_member.specs.inner.Seeing.{IsSeenBy, AreSeenBy};
 ghost use Rattle.lw_member.specs.inner.Going.{Goes};
 ghost use Rattle.lw_member.specs.Counting.{counted_with};
 ghost use Rattle.lw_member.specs.Parts.{fleet_of, IsLeading, IsMember};
-ghost use Rattle.lw_member.specs.inner.Standing.{IsNew, HasSameStart, IsStill, counted_in, counted_of};
+ghost use Rattle.lw_member.specs.inner.Standing.{BeginsAnewBy, IsNew, HasSameStart, IsStill, counted_in, counted_of};
 ghost use Rattle.lw_member.specs.inner.Taking.{Takes, IsBehind, IsJudged, IsJudgedEntry, IsJudgedPage, IsSpelt, IsEntryOf};
 
 use crate::MemberFault;
@@ -94,6 +97,7 @@ impl Standing {
         ensures taken { OnOk result (Takes self.old (bytes_of (placed page.now)) self.new) }
         ensures read_to { OnOk result (place_of self.new.read_to
             ≡ place_read (place_of self.old.read_to) (placed page.now)) }
+        ensures fault { IfErr result (λ fault. fault ≢ IsLog IsLost) }
         // Also where it fails.
         ensures behind { IsBehind self.old (placed page.now) self.new }
         ensures same { HasSameStart self.old self.new }
@@ -110,6 +114,7 @@ impl Standing {
     /// Takes what an entry brings. Bytes that are none are passed over.
     fn take(&mut self, bytes: &[u8]) -> Result<(), MemberFault>
         ensures taken { OnOk result (Takes self.old (bytes.now ∷ []) self.new) }
+        ensures fault { IfErr result (λ fault. fault ≢ IsLog IsLost) }
         ensures read_to { self.new.read_to ≡ self.old.read_to }
         ensures same { HasSameStart self.old self.new }
         ensures leading { (asked : Option (List LogCall)) → IsSeenBy asked bytes.now
@@ -147,6 +152,7 @@ impl Standing {
         ensures merged { OnOk result ((d : DeltaContent) → IsSpelling delta.now d
             → Merged self.old.node d.clock d.slots self.new.node) }
         ensures fleet { OnOk result ((self.new.settled ≡ true) × (fleet_of self.new ≡ Some fleet.bytes)) }
+        ensures fault { IfErr result (λ fault. fault ≢ IsLog IsLost) }
         ensures settled { OnOk result (self.old.settled ≡ true → self.new.fleet ≡ self.old.fleet) }
         ensures led { OnOk result (self.new.led ≡ self.old.led) }
         ensures written { self.old.led ≡ false → self.new.written ≡ self.old.written }
@@ -180,6 +186,7 @@ impl Standing {
     pub(crate) fn raise(&mut self) -> Result<(), MemberFault>
         requires { self.old.floor < 64 * year_2100 }
         ensures raised { OnOk result (Merged self.old.node self.old.floor [] self.new.node) }
+        ensures fault { IfErr result (λ fault. fault ≢ IsLog IsLost) }
         ensures led { OnOk result (IsTrue self.new.led ↔ IsStill self.old self.new.node) }
         ensures only { self.new ≡ record self.old { node = self.new.node; led = self.new.led } }
         ensures goes { Goes self.old.node self.new.node }
@@ -332,6 +339,7 @@ impl Standing {
           led = self.new.led;
         } }
         ensures read_to { (self.new.read_to ≡ None) ⊎ (self.new.read_to ≡ self.old.read_to) }
+        ensures lost { BeginsAnewBy (fault_of fault) self.new }
         ensures leading { (asked : Option (List LogCall)) → IsLeading asked self.old → IsLeading asked self.new }
     {
         if fault == LogFault::Lost {
@@ -347,7 +355,8 @@ impl Standing {
         own: bool,
         page: &[(Position, Bytes)],
     ) -> Result<bool, MemberFault>
-        ensures { IfOk result (IsJudged own self.now.start.number self.now.start.tag (bytes_of (placed page.now))) }
+        ensures judged { IfOk result (IsJudged own self.now.start.number self.now.start.tag (bytes_of (placed page.now))) }
+        ensures fault { IfErr result (λ fault. fault ≢ IsLog IsLost) }
     {
         if own {
             return Ok(true);
@@ -390,7 +399,8 @@ impl Standing {
 
 /// Passes over bytes that are no entry. One of a newer format is not passed over.
 fn pass_over(fault: EntryFault) -> Result<(), MemberFault>
-    ensures { OnOk result (fault ≢ EntryFault.Newer) }
+    ensures known { OnOk result (fault ≢ EntryFault.Newer) }
+    ensures fault { IfErr result (λ fault. fault ≢ IsLog IsLost) }
 {
     match fault {
         EntryFault::Newer => Err(MemberFault::LogNewer),

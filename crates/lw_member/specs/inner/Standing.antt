@@ -5,6 +5,9 @@ use Rattle.lw_node.specs.Exchange.{IsBelow, known_by}
 use Rattle.lw_node.specs.Node.{NodeContent, fresh}
 use Rattle.lw_log.specs.Calls.{place_of}
 use Rattle.lw_log.specs.declared.start.Start.{Start}
+use Rattle.lw_log.specs.declared.log_fault.LogFault.TheVariants.{Lost}
+use Rattle.lw_member.specs.declared.fault.MemberFault.{MemberFault}
+use Rattle.lw_member.specs.declared.fault.MemberFault.TheVariants.{Log}
 use Rattle.lw_member.specs.declared.size.LogSize.{LogSize}
 use Rattle.lw_member.specs.declared.standing.Standing.{Standing}
 use Rattle.lw_member.specs.Reading.{HasBit}
@@ -43,3 +46,7 @@ pub record IsNew (s : Standing) (start : Start) (floor : ℕ) : Type 0 where
   pub led : s.led ≡ true
   pub numbers : (n : ℕ) → ¬ HasBit (numbers_of s) n
   pub counted : counted_in s ≡ (0, 0)
+
+-- where the log has lost something, all is read and written again
+abbrev pub BeginsAnewBy : MemberFault → Standing → Type 0
+BeginsAnewBy fault s = fault ≡ Log Lost → (place_of s.read_to ≡ None) × (s.led ≡ false) × (s.written ≡ 0)

@@ -9,7 +9,7 @@ use Rattle.lw_call.specs.declared.reply.Reply.{Reply}
 use Rattle.lw_node.specs.Exchange.{Merged}
 use Rattle.lw_member.specs.declared.standing.Standing.{Standing}
 use Rattle.lw_member.specs.Own.{AreOwnCalls, IsOwnIn, IsOwnSince}
-use Rattle.lw_member.specs.Reading.{AreReadToTheEnd, entries_in, last_read, AreGood, AreNoted, HoldsNumber, MergesEntries}
+use Rattle.lw_member.specs.Reading.{AreReadToTheEnd, entries_in, last_read, AreGood, AreNoted, HoldsNumber, IsTakenFirst, MergesEntries}
 use Rattle.lw_member.specs.Rounds.{Makes, place_after}
 use Rattle.lw_member.specs.Counting.{CountsEntries, own_entries}
 use Rattle.lw_member.specs.Parts.{content_of, fleet_of, numbers_of, IsMember}
@@ -69,6 +69,7 @@ pub record IsClaimed (before : Option (List LogCall)) (old : Standing) (after : 
   pub read_to : place_of new.read_to ≡ last_read (place_after old.alone (place_of old.read_to) (Wrote place ∷ [])) pages
   pub good : AreGood (fleet_of new) (entries_in pages)
   pub holds : HoldsNumber new.node.number new.start.tag (entries_in pages)
+  pub first : old.alone ≡ false → IsTakenFirst new.node.number new.start.tag (entries_in pages)
   pub merges : MergesEntries old.node (entries_in pages) merged.node
   pub numbers : AreNoted (numbers_of old) (entries_in pages) (numbers_of new)
   pub counted : CountsEntries (counted_in old) (own_entries old.alone (Wrote place ∷ []) ++ entries_in pages) (counted_in new)

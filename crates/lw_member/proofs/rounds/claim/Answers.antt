@@ -1,13 +1,14 @@
-use Rattle.std.proofs.Common.{◌≡◌, ◌<◌, Some, true, ap, ◌∙◌, sym, refl, subst}
+use Rattle.std.proofs.Common.{◌≡◌, ◌<◌, [], Some, true, ap, ◌∙◌, sym, refl, subst}
 use Rattle.lw_member.specs.declared.standing.Standing.{Standing}
 use Rattle.lw_member.specs.Parts.{fleet_of}
-use Rattle.lw_member.proofs.Catching.{member_goes, member_claimed}
-use Rattle.lw_member.proofs.Claiming.{claim_is, claims_more, claims_read}
-use Rattle.lw_member.proofs.Merging.{on_err, same_made, same_then, same_unclaimed}
+use Rattle.lw_member.proofs.Asking.{calls_none}
+use Rattle.lw_member.proofs.Catching.{member_failed, member_goes, member_claimed}
+use Rattle.lw_member.proofs.Claiming.{claim_is, claims_failed, claims_more, claims_read}
+use Rattle.lw_member.proofs.Merging.{on_err, same_failed, same_made, same_then, same_unclaimed}
 use Rattle.lw_member.proofs.rounds.claim.Goals as goal
 
-pub returns-in_err-catch_up-clause-own : goal.returns-in_err-catch_up-clause-own
-returns-in_err-catch_up-clause-own g c = 
+pub returns-in_err-own-clause-own : goal.returns-in_err-own-clause-own
+returns-in_err-own-clause-own g c = 
     claims_read _ _ _ c.args.standing.now c.write_start.new.standing c.catch_up.new.standing _ c.in_ok-fleet.ensures.started c.write_start.ensures.same c.catch_up.ensures.same c.catch_up.ensures.asked
 
 pub returns-clause-own : goal.returns-clause-own
@@ -27,11 +28,11 @@ returns-in_err-raise-clause-member g c = λ m. member_goes _ c.catch_up.new.stan
 
 pub returns-then-is_in-clause-claimed : goal.returns-then-is_in-clause-claimed
 returns-then-is_in-clause-claimed g c = λ m.
-    let read = c.in_ok-catch_up.ensures.read in
+    let read = c.in_ok-own.ensures.read in
     let fleet : fleet_of c.catch_up.new.standing ≡ Some c.in_ok-fleet.fleet.bytes = c.if-is_in.ensures.0 refl in
-    claim_is _ _ _ c.args.standing.now c.write_start.new.standing c.catch_up.new.standing c.raise.new.self c.in_ok-fleet.fleet.bytes c.in_ok-catch_up.field-0 read.0
+    claim_is _ _ _ c.args.standing.now c.write_start.new.standing c.catch_up.new.standing c.raise.new.self c.in_ok-fleet.fleet.bytes c.in_ok-own.own read.0
     c.in_ok-fleet.ensures.started read.1 read.2 read.3 read.4 c.catch_up.ensures.same fleet read.5 m.number c.requires.unclaimed (c.catch_up.ensures.member (c.in_ok-fleet.ensures.member m))
-    c.in_ok-raise.ensures.raised c.in_ok-raise.ensures.led c.raise.ensures.only c.raise.ensures.goes
+    (c.if-is_gone.ensures refl) c.in_ok-raise.ensures.raised c.in_ok-raise.ensures.led c.raise.ensures.only c.raise.ensures.goes
 
 pub returns-then-is_in-clause-own : goal.returns-then-is_in-clause-own
 returns-then-is_in-clause-own g c = 
@@ -45,8 +46,8 @@ pub returns-in_err-raise-clause-same : goal.returns-in_err-raise-clause-same
 returns-in_err-raise-clause-same g c =
     on_err _ (same_then _ _ _ (same_then _ _ _ c.write_start.ensures.same c.catch_up.ensures.same) (same_made c.catch_up.new.standing c.raise.new.self c.raise.ensures.only c.raise.ensures.goes))
 
-pub returns-in_err-catch_up-clause-same : goal.returns-in_err-catch_up-clause-same
-returns-in_err-catch_up-clause-same g c = on_err _ (same_then _ _ _ c.write_start.ensures.same c.catch_up.ensures.same)
+pub returns-in_err-own-clause-same : goal.returns-in_err-own-clause-same
+returns-in_err-own-clause-same g c = on_err _ (same_then _ _ _ c.write_start.ensures.same c.catch_up.ensures.same)
 
 pub returns-then-is_in-clause-start : goal.returns-then-is_in-clause-start
 returns-then-is_in-clause-start g c =
@@ -55,3 +56,16 @@ returns-then-is_in-clause-start g c =
 
 pub returns-clause-same : goal.returns-clause-same
 returns-clause-same g c = same_then _ _ _ c.write_start.ensures.same c.catch_up.ensures.same
+
+pub returns-then-is_gone-clause-own : goal.returns-then-is_gone-clause-own
+returns-then-is_gone-clause-own g c =
+    claims_failed _ _ c.args.standing.now c.catch_up.new.standing c.failed.new.self c.failed.ensures.only c.failed.ensures.read_to
+    (claims_read _ _ _ c.args.standing.now c.write_start.new.standing c.catch_up.new.standing _ c.in_ok-fleet.ensures.started c.write_start.ensures.same c.catch_up.ensures.same c.catch_up.ensures.asked)
+
+pub returns-then-is_gone-clause-same : goal.returns-then-is_gone-clause-same
+returns-then-is_gone-clause-same g c =
+    same_then _ _ _ (same_then _ _ _ c.write_start.ensures.same c.catch_up.ensures.same) (same_failed c.catch_up.new.standing c.failed.new.self c.failed.ensures.only)
+
+pub returns-then-is_gone-clause-member : goal.returns-then-is_gone-clause-member
+returns-then-is_gone-clause-member g c = λ m.
+    member_failed _ _ [] c.catch_up.new.standing c.failed.new.self (calls_none _) c.failed.ensures.only c.failed.ensures.leading (c.catch_up.ensures.member (c.in_ok-fleet.ensures.member m))

@@ -14,12 +14,13 @@ use Rattle.lw_member.proofs.standing.Standing.take.Goals as goal
 
 pub returns-in-Err : goal.returns-in-Err
 returns-in-Err c = record {
-  taken = on_ok c.pass_over.result c.pass_over.ensures (λ known.
+  taken = on_ok c.pass_over.result c.pass_over.ensures.known (λ known.
       takes_nothing c.args.self.now c.args.self.now c.args.bytes.now
       (λ newer. let bad = c.in-Err.ensures.newer.1 newer in known cc)
       (brings_no_entry c.args.bytes.now (λ x is. c.in-Err.ensures.only x is)) refl (λ h. (h, refl)) refl refl
       (noted_no_entry (numbers_of c.args.self.now) c.args.bytes.now (λ x is. c.in-Err.ensures.only x is))
       (inr (λ x is. c.in-Err.ensures.only x is, refl)));
+  fault = c.pass_over.ensures.fault;
   read_to = refl;
   same = same_none c.args.self.now;
   leading = λ asked seen leading. leading;
