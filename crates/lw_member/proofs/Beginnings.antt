@@ -1,12 +1,12 @@
 -- What a first look has seen of entries, one after another, and which clocks are refused.
-use Rattle.std.proofs.Common.{◌≡◌, ◌⊎◌, inl, inr, ℕ, List, [], ◌∷◌, ◌++◌, Bool, true, false, refl, sym, subst}
+use Rattle.std.proofs.Common.{◌≡◌, ◌⊎◌, inl, inr, ℕ, List, [], ◌∷◌, ◌++◌, Bool, true, false, cond, refl, sym, subst}
 use Rattle.std.specs.Prelude.{IsTrue}
 use Rattle.lw_log.specs.Entries.{BodyContent, EntryContent, IsEntry}
 use Rattle.lw_log.specs.Entries.BodyContent.{Start, Delta, Whole}
 use Rattle.lw_member.specs.declared.looking.FirstLook.{FirstLook}
 use Rattle.lw_stamp.specs.declared.moment.Moment.{Moment}
 use Rattle.lw_member.specs.Clocks.{IsPast2100, IsYearsAhead, IsRefusedClock}
-use Rattle.lw_member.specs.Beginning.{BeginsLog, IsWhole, HasWhole, IsUncut}
+use Rattle.lw_member.specs.Beginning.{BeginsLog, IsWhole, HasWhole, IsUncut, sequence_over}
 use Rattle.lw_member.specs.inner.Looking.{IsFirst, IsFirstBody, IsAll, IsAllBody, HasBeginning, HasSeen}
 
 -- ---- lists of entries
@@ -65,3 +65,15 @@ uncut_none look es seen not_any = subst (λ xs. IsUncut xs) (sym (seen.none (fal
 pub not_refused : (moment : Moment) (clock : ℕ) → (IsPast2100 moment → ⊥) → (IsYearsAhead moment clock → ⊥) → IsRefusedClock moment clock → ⊥
 not_refused moment clock past ahead (inl h) = past h
 not_refused moment clock past ahead (inr h) = ahead h
+
+-- what has an entry more is not empty
+pub not_empty : (es : List (List ℕ)) (e : List ℕ) → es ++ e ∷ [] ≡ [] → ⊥
+not_empty [] e h = cc
+not_empty (x ∷ es) e h = cc
+
+-- the sequence over what a first look has seen
+pub sequence_seen : (es : List (List ℕ)) (any : Bool) → (any ≡ false → es ≡ []) → (any ≡ true → es ≡ [] → ⊥) → cond any 1 0 ≡ sequence_over es
+sequence_seen [] true none some = absurd (some refl refl)
+sequence_seen [] false none some = refl
+sequence_seen (e ∷ es) true none some = refl
+sequence_seen (e ∷ es) false none some = absurd (let bad = none refl in cc)

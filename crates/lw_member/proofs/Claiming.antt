@@ -1,5 +1,5 @@
 -- A claim, put together from its parts.
-use Rattle.std.proofs.Common.{◌≡◌, ◌↔◌, ◌⊎◌, inl, inr, ℕ, List, [], ◌∷◌, ◌++◌, Option, Some, None, Bool, true, false, sym, ap, ◌∙◌, subst}
+use Rattle.std.proofs.Common.{◌≡◌, ◌↔◌, ◌⊎◌, inl, inr, ℕ, List, [], ◌∷◌, Option, Some, None, Bool, true, false, sym, ap, ◌∙◌, subst}
 use Rattle.std.specs.Prelude.{IsTrue, option_map}
 use Rattle.lw_node.specs.Exchange.{Merged}
 use Rattle.lw_node.specs.Node.{NodeContent}
@@ -10,7 +10,7 @@ use Rattle.lw_log.specs.declared.start.Start.{Start as Starts}
 use Rattle.lw_member.specs.declared.standing.Standing.{Standing}
 use Rattle.lw_member.specs.Counting.{CountsEntries, own_entries}
 use Rattle.lw_member.specs.Parts.{fleet_of, numbers_of, IsMember}
-use Rattle.lw_member.specs.Reading.{AreReads, AreReadToTheEnd, entries_in, last_read, AreGood, HoldsNumber, IsTakenFirst, MergesEntries}
+use Rattle.lw_member.specs.Reading.{AreReadToTheEnd, entries_in, last_read, AreGood, HoldsNumber, IsTakenFirst, MergesEntries}
 use Rattle.lw_member.specs.inner.Going.{Goes}
 use Rattle.lw_member.specs.inner.Standing.{HasSameStart, IsStill, counted_in}
 use Rattle.lw_member.specs.inner.Taking.{Takes, IsJudged}
@@ -54,8 +54,8 @@ module _ (a0 a1 a2 : Option (List LogCall)) (s0 s1 s2 s3 : Standing) (fleet : Li
   first_now shared =
       let is : own ≡ true = shown (same.alone ∙ ap (λ (s : Standing). s.alone) one ∙ shared) in
       let mine : IsJudged false s1.start.number s1.start.tag (entries_in pages) true =
-          subst (λ b. IsJudged false s1.start.number s1.start.tag (entries_in pages) b) is
-          (subst (λ b. IsJudged b s1.start.number s1.start.tag (entries_in pages) own) (ap (λ (s : Standing). s.claimed) one ∙ unclaimed) judged) in
+      subst (λ b. IsJudged false s1.start.number s1.start.tag (entries_in pages) b) is
+      (subst (λ b. IsJudged b s1.start.number s1.start.tag (entries_in pages) own) (ap (λ (s : Standing). s.claimed) one ∙ unclaimed) judged) in
       let n : s1.start.number ≡ s3.node.number = ap (λ (s : Standing). s.start.number) one ∙ number ∙ sym number_is in
       let t : s1.start.tag ≡ s3.start.tag = ap (λ (x : Starts). x.tag) (ap (λ (s : Standing). s.start) one ∙ sym start_is) in
       subst (λ x. IsTakenFirst x s3.start.tag (entries_in pages)) n (subst (λ x. IsTakenFirst s1.start.number x (entries_in pages)) t mine)
@@ -76,6 +76,7 @@ module _ (a0 a1 a2 : Option (List LogCall)) (s0 s1 s2 s3 : Standing) (fleet : Li
       },
       fleet_is ∙ ap (λ f. Some f) (sym started.entry.fleet_is),
     );
+    numbered = started.entry.sequence_is;
     read = subst (λ p. AreReadToTheEnd p pages) started.read_to read;
     read_to = ap (λ (s : Standing). place_of s.read_to) only ∙ last ∙ ap (λ p. last_read p pages) started.read_to;
     good = subst (λ f. AreGood f (entries_in pages)) (ap (λ (s : Standing). option_map (λ (f : FleetId). f.bytes) s.fleet) (sym only)) takes.good;

@@ -16,7 +16,7 @@ use Rattle.lw_member.specs.Compaction.{IsOwnWhole, IsRenewing, IsCompacted, Comp
 use Rattle.lw_member.specs.Counting.{CountsEntries, own_entries}
 use Rattle.lw_member.specs.Parts.{content_of, fleet_of, numbers_of, IsMember}
 use Rattle.lw_member.specs.Rounds.{place_after}
-use Rattle.lw_member.specs.Reading.{AreReads, AreReadToTheEnd, ReadsOn, AreGood, AreNoted, HoldsNumber, MergesEntries, entries_in, last_read, place_read}
+use Rattle.lw_member.specs.Reading.{AreReads, AreReadToTheEnd, ReadsOn, AreGood, AreNoted, HoldsNumber, MergesEntries, entries_in, last_read}
 use Rattle.lw_member.specs.inner.Standing.{HasSameStart, counted_in}
 use Rattle.lw_member.specs.inner.Taking.{IsReadBy, Takes, IsJudged}
 use Rattle.lw_member.specs.inner.Wholes.{IsWholeOf, IsWrittenWhole, IsTryingWhole, TriesWhole}

@@ -1,6 +1,5 @@
 -- What was merged is known, and how far a member has read.
-use Rattle.std.proofs.Common.{◌≡◌, inl, inr, ◌⊎◌, ℕ, ◌<◌, List, [], ◌∷◌, ◌++◌, Option, Some, None, Result, Ok, Err, Bool, cond, refl, sym, ap, ◌∙◌, subst, append-nil, arith}
-use Rattle.lw_reg.specs.declared.slot.Slot.{Slot}
+use Rattle.std.proofs.Common.{◌≡◌, inl, inr, ◌⊎◌, ℕ, List, [], ◌∷◌, ◌++◌, Option, Some, None, Err, Bool, cond, refl, sym, ap, ◌∙◌, subst, append-nil, arith}
 use Rattle.lw_reg.specs.State.{State, state_below}
 use Rattle.lw_reg.proofs.States.{state_laws}
 use Rattle.lw_delta.specs.Delta.{DeltaContent, IsSpelling}

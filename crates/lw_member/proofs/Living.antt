@@ -1,7 +1,7 @@
 -- A member from one call to the next.
-use Rattle.std.proofs.Common.{◌≡◌, ℕ, List, [], ◌∷◌, refl, ◌∙◌, sym, subst}
+use Rattle.std.proofs.Common.{[], ◌∷◌, refl, ◌∙◌, sym, subst}
 use Rattle.lw_node.specs.Exchange.{known_by}
-use Rattle.lw_member.specs.Lives.{Asked, ForgetsNothing, Leaves, Lives}
+use Rattle.lw_member.specs.Lives.{Asked, ForgetsNothing, Leaves}
 use Rattle.lw_member.specs.Lives.Asked.{Round, Compaction}
 use Rattle.lw_member.specs.Member.{MemberContent, Stays}
 use Rattle.lw_member.proofs.Going.{below_same, below_then}

@@ -65,14 +65,15 @@ written_new asked node number is =
 -- ---- one entry
 -- an entry that brings nothing, or bytes that are none
 pub takes_nothing : (old new : Standing) (bytes : List ℕ) → (IsNewer bytes → ⊥) → ((d : DeltaContent) → BringsDelta bytes d → ⊥) → new.node ≡ old.node → (old.settled ≡ true → (new.settled ≡ true) × (new.fleet ≡ old.fleet))
-    → new.led ≡ old.led → new.written ≡ old.written → ((n : ℕ) → HasBit (numbers_of new) n ↔ (HasBit (numbers_of old) n ⊎ Meets n bytes)) → CountsEntry (counted_in old) bytes (counted_in new) → Takes old (bytes ∷ []) new
-takes_nothing old new bytes known none node settled led written noted counts = record {
+    → new.led ≡ old.led → new.written ≡ old.written → new.sequence ≡ old.sequence → ((n : ℕ) → HasBit (numbers_of new) n ↔ (HasBit (numbers_of old) n ⊎ Meets n bytes)) → CountsEntry (counted_in old) bytes (counted_in new) → Takes old (bytes ∷ []) new
+takes_nothing old new bytes known none node settled led written sequence noted counts = record {
   merged = (new.node, inr (none, node), refl);
   good = (record { known = known; of_fleet = λ d brings. absurd (none d brings) }, tt);
   settled = settled;
   unsettled = λ h. (none, tt);
   led = led;
   written = λ h. written;
+  sequence = sequence;
   numbers = noted_one (numbers_of old) (numbers_of new) bytes noted;
   counted = counts_one (counted_in old) (counted_in new) bytes counts;
 }
@@ -94,15 +95,16 @@ same_delta (BodyContent.Delta own) a b h g = sym h ∙ g
 same_delta (BodyContent.Whole numbers own) a b h g = sym h ∙ g
 
 pub takes_delta : (old new : Standing) (bytes : List ℕ) (e : EntryContent) (delta : List ℕ) (d : DeltaContent) → IsEntry bytes e → ((x : EntryContent) → IsEntry bytes x → e ≡ x) → HasDelta e.body delta → IsSpelling delta d → (IsNewer bytes → ⊥)
-    → Merged old.node d.clock d.slots new.node → new.settled ≡ true → fleet_of new ≡ Some e.fleet → (old.settled ≡ true → new.fleet ≡ old.fleet) → new.led ≡ old.led → (old.led ≡ false → new.written ≡ old.written)
+    → Merged old.node d.clock d.slots new.node → new.settled ≡ true → fleet_of new ≡ Some e.fleet → (old.settled ≡ true → new.fleet ≡ old.fleet) → new.led ≡ old.led → (old.led ≡ false → new.written ≡ old.written) → new.sequence ≡ old.sequence
     → ((n : ℕ) → HasBit (numbers_of new) n ↔ (HasBit (numbers_of old) n ⊎ ((e.number ≡ n) ⊎ TellsOf n e.body))) → counted_in new ≡ counted_with e.body (length bytes) (counted_in old) → Takes old (bytes ∷ []) new
-takes_delta old new bytes e delta d is only has spelled known merged settled fleet kept led written noted counts = record {
+takes_delta old new bytes e delta d is only has spelled known merged settled fleet kept led written sequence noted counts = record {
   merged = (new.node, inl (d, record { entry = e; delta = delta; is = is; has = has; spelled = spelled }, merged), refl);
   good = (record { known = known; of_fleet = λ x brings. fleet ∙ ap (λ (y : EntryContent). Some y.fleet) (only brings.entry brings.is) }, tt);
   settled = λ h. (settled, kept h);
   unsettled = λ h. absurd cc;
   led = led;
   written = written;
+  sequence = sequence;
   numbers = noted_one (numbers_of old) (numbers_of new) bytes (noted_entry (numbers_of old) (numbers_of new) bytes e is only noted);
   counted = counts_one (counted_in old) (counted_in new) bytes (inl (e, is, counts));
 }

@@ -233,7 +233,7 @@ writes_from a0 a1 s0 mid s only w = (
   w.1,
   w.2,
   subst (λ (p : Option (ℕ × ℕ)). (place_of s.read_to ≡ None) ⊎ ReadsOn s0.alone (known_by s.node) p w.0 (place_of s.read_to)) (ap (λ (x : Standing). place_of x.read_to) only)
-  (subst (λ b. (place_of s.read_to ≡ None) ⊎ ReadsOn b (known_by s.node) (place_of mid.read_to) w.0 (place_of s.read_to)) (ap (λ (x : Standing). x.alone) only) w.3),
+      (subst (λ b. (place_of s.read_to ≡ None) ⊎ ReadsOn b (known_by s.node) (place_of mid.read_to) w.0 (place_of s.read_to)) (ap (λ (x : Standing). x.alone) only) w.3),
 )
 
 pub if_ok : {A E : Type 0} (P Q : A → Type 0) (r : Result A E) → IfOk r P → ((x : A) → P x → Q x) → IfOk r Q

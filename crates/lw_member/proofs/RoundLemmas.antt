@@ -163,7 +163,7 @@ module _ (a0 a1 a2 : Option (List LogCall)) (s0 s1 s2 s3 : Standing) (calls : Li
   fleet_is : fleet_of s1 ≡ fleet_of s3
   fleet_is = ap (λ (f : Option FleetId). option_map (λ (x : FleetId). x.bytes) f) (sym (wrote.fleet ∙ ap (λ (s : Standing). s.fleet) made.only))
 
-  own_start : IsOwnIn (content_of a2 s3) Start claimed.place.1
+  abbrev own_start : IsOwnIn (content_of a2 s3) Start claimed.place.1
   own_start = (
     record { entry = claimed.own.0.entry; is = claimed.own.0.is; number = claimed.own.0.number ∙ number_is; tag = claimed.own.0.tag ∙ tag_is; body_is = claimed.own.0.body_is },
     sym fleet_is ∙ claimed.own.1,
@@ -178,7 +178,7 @@ module _ (a0 a1 a2 : Option (List LogCall)) (s0 s1 s2 s3 : Standing) (calls : Li
     wrote = wrote.now.wrote;
     asked = calls_then a0 a1 a2 (Wrote claimed.place ∷ claimed.pages) wrote.now.wrote claimed.asked wrote.now.asked;
     start = same_start a0 a2 s0 s1 s2 s3 same.number same.start same.alone same.floor made.goes made.only wrote.same;
-    claims = inr (claiming, wrote.same.claimed ∙ ap (λ (s : Standing). s.claimed) made.only ∙ is, claimed.place, refl, own_start);
+    claims = inr (claiming, wrote.same.claimed ∙ ap (λ (s : Standing). s.claimed) made.only ∙ is, claimed.place, refl, own_start, claimed.numbered);
     read = claimed.read;
     read_to = read_later s0 s1 s2 s3 (place_after s0.alone (place_of s0.read_to) (Wrote claimed.place ∷ [])) claimed.pages wrote.now.wrote same.alone claimed.read_to made.only wrote.now.read_to;
     good = good_later s1 s2 s3 (entries_in claimed.pages) made.only wrote.fleet claimed.good;

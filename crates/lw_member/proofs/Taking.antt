@@ -35,7 +35,7 @@ good_bare fleet other (x ∷ xs) good bare = (record { known = good.0.known; of_
 
 -- ---- what is taken
 pub takes_none : (s : Standing) → Takes s [] s
-takes_none s = record { merged = refl; good = tt; settled = λ h. (h, refl); unsettled = λ h. tt; led = refl; written = λ h. refl; numbers = noted_none (numbers_of s); counted = refl }
+takes_none s = record { merged = refl; good = tt; settled = λ h. (h, refl); unsettled = λ h. tt; led = refl; written = λ h. refl; sequence = refl; numbers = noted_none (numbers_of s); counted = refl }
 
 not_both : {G : Type 0} → false ≡ true → G
 not_both h = absurd cc
@@ -51,6 +51,7 @@ takes_then a b c xs ys one two = record {
   unsettled = λ h. bare_append xs ys (one.unsettled (unsettled b.settled refl h)) (two.unsettled h);
   led = two.led ∙ one.led;
   written = λ h. two.written (one.led ∙ h) ∙ one.written h;
+  sequence = two.sequence ∙ one.sequence;
   numbers = noted_then (numbers_of a) (numbers_of b) (numbers_of c) xs ys one.numbers two.numbers;
   counted = counts_then (counted_in a) (counted_in b) (counted_in c) xs ys one.counted two.counted;
 }
@@ -139,7 +140,7 @@ items_take xs i x at = rw add-one (items_suc xs i x at)
 
 -- ---- how far was read says nothing of what was taken
 pub takes_read : (a b : Standing) (es : List (List ℕ)) (r : Option Position) → Takes a es b → Takes a es (record b { read_to = r })
-takes_read a b es r t = record { merged = t.merged; good = t.good; settled = t.settled; unsettled = t.unsettled; led = t.led; written = t.written; numbers = t.numbers; counted = t.counted }
+takes_read a b es r t = record { merged = t.merged; good = t.good; settled = t.settled; unsettled = t.unsettled; led = t.led; written = t.written; sequence = t.sequence; numbers = t.numbers; counted = t.counted }
 
 pub same_read : (a b : Standing) (r : Option Position) → HasSameStart a b → HasSameStart a (record b { read_to = r })
 same_read a b r s = record { number = s.number; start = s.start; made_up = s.made_up; alone = s.alone; claimed = s.claimed; floor = s.floor; settled = s.settled; fleet = s.fleet; knows = s.knows }

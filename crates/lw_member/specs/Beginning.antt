@@ -11,7 +11,7 @@ use Rattle.lw_member.specs.Counting.{CountsEntries, counted_by}
 use Rattle.lw_member.specs.Member.{MemberContent, IsLedBy}
 use Rattle.lw_member.specs.Reading.{AreReadToTheEnd, entries_in, last_read, AreGood, IsFree, IsMet, AreNoted, MergesEntries}
 
--- the first entry that a log ever has: a start, and the first of its own
+-- The first entry that a log ever has: a start with the sequence 1. A start over a log that has entries goes on behind 1.
 abbrev pub BeginsLog : List ℕ → Type 0
 BeginsLog bytes = (e : EntryContent) × IsEntry bytes e × (e.body ≡ Start) × (e.sequence ≡ 1)
 
@@ -26,6 +26,11 @@ HasWhole (e ∷ es) = IsWhole e ⊎ HasWhole es
 abbrev pub IsUncut : List (List ℕ) → Type 0
 IsUncut [] = Unit {0}
 IsUncut (e ∷ es) = BeginsLog e ⊎ HasWhole (e ∷ es)
+
+-- the sequence before that of the first own entry
+abbrev pub sequence_over : List (List ℕ) → ℕ
+sequence_over [] = 0
+sequence_over (e ∷ es) = 1
 
 -- from the first on, and round from the last to 1, the one comes before the other
 abbrev pub ComesBefore : ℕ → ℕ → ℕ → Type 0
@@ -56,6 +61,7 @@ pub record IsBegun (before : Option (List LogCall)) (moment : Moment) (tag first
   pub clock : ¬ IsRefusedClock moment new.node.clock
   pub tag_is : new.tag ≡ tag
   pub floor_is : new.floor ≡ floor_at moment
+  pub sequence : new.sequence ≡ sequence_over (entries_in looked)
   pub unclaimed : new.claimed ≡ false
   pub all : new.led ≡ true
   pub led : IsLedBy new.calls (known_by new.node)

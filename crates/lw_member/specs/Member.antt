@@ -19,6 +19,7 @@ pub record MemberContent : Type 0 where
   pub alone : Bool  -- nobody else appends to its log
   pub claimed : Bool  -- the log has told that the number is its own
   pub floor : ℕ  -- to which the clock is raised with the claim
+  pub sequence : ℕ  -- of the last entry that it appended, or 1 before its first where the log had entries
   pub led : Bool  -- the log leads all that the node knows
   pub written : ℕ  -- the change number up to which it leads what the node knows
   pub read_to : Option (ℕ × ℕ)  -- the position of the last entry that was read

@@ -1,5 +1,5 @@
 -- What a member writes into its log.
-use Rattle.std.specs.Prelude.{◌≡◌, ℕ, ◌⊎◌, List, [], ◌∷◌, Some, None}
+use Rattle.std.specs.Prelude.{◌≡◌, ℕ, ◌+◌, ◌-◌, ◌^◌, min, ◌⊎◌, List, [], ◌∷◌, Some, None}
 use Rattle.lw_node.specs.Exchange.{IsDeltaSince, known_by}
 use Rattle.lw_log.specs.Calls.{LogCall, Calls}
 use Rattle.lw_log.specs.Calls.LogCall.{Read, Wrote, Tried, Trimmed}
@@ -7,6 +7,10 @@ use Rattle.lw_log.specs.Entries.{BodyContent, EntryContent, IsEntry}
 use Rattle.lw_log.specs.Entries.BodyContent.{Start, Delta}
 use Rattle.lw_member.specs.Member.{MemberContent, Stays}
 use Rattle.lw_member.specs.Reading.{ReadsOn}
+
+-- of the entry behind one with this sequence, which goes up to the last number of 64 bits
+abbrev pub next_sequence : ℕ → ℕ
+next_sequence sequence = min (sequence + 1) (2 ^ 64 - 1)
 
 -- an entry of this start, with this body
 pub record IsOwn (member : MemberContent) (body : BodyContent) (bytes : List ℕ) : Type 0 where

@@ -21,6 +21,7 @@ content_of asked s = record {
   alone = s.alone;
   claimed = s.claimed;
   floor = s.floor;
+  sequence = s.sequence;
   led = s.led;
   written = s.written;
   read_to = place_of s.read_to;

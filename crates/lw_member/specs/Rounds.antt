@@ -11,7 +11,7 @@ use Rattle.lw_log.specs.Calls.LogCall.{Read, Wrote, Tried, Trimmed}
 use Rattle.lw_log.specs.Entries.BodyContent.{Start}
 use Rattle.lw_member.specs.Member.{MemberContent, IsLedBy, IsSameStart}
 use Rattle.lw_member.specs.Counting.{CountsEntries, counted_by, own_entries}
-use Rattle.lw_member.specs.Own.{IsOwnIn, IsOwnSince}
+use Rattle.lw_member.specs.Own.{IsOwnIn, IsOwnSince, next_sequence}
 use Rattle.lw_member.specs.Reading.{AreReadToTheEnd, entries_in, last_read, AreGood, HoldsNumber, IsTakenFirst, AreNoted, MergesEntries}
 
 -- the calls, made one after another, each with the reply that the node gives
@@ -34,7 +34,7 @@ IsClaiming old calls = (old.claimed ≡ false) × IsActive old calls
 abbrev pub IsClaim : MemberContent → List Call → List LogCall → MemberContent → Type 0
 IsClaim old calls claim new =
     ((¬ IsClaiming old calls) × (claim ≡ []) × (new.claimed ≡ old.claimed))
-    ⊎ (IsClaiming old calls × (new.claimed ≡ true) × (p : Placed) × (claim ≡ Wrote p ∷ []) × IsOwnIn new Start p.1)
+    ⊎ (IsClaiming old calls × (new.claimed ≡ true) × (p : Placed) × (claim ≡ Wrote p ∷ []) × (own : IsOwnIn new Start p.1) × (own.0.entry.sequence ≡ next_sequence old.sequence))
 
 -- with a claim, the clock is raised to the floor: the empty delta with that clock is merged
 abbrev pub IsRaised : List LogCall → ℕ → NodeContent → NodeContent → Type 0

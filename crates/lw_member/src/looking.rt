@@ -3,8 +3,8 @@
 ghost use Rattle.std.specs.Prelude.{◌≡◌, ◌↔◌, ◌⊎◌, ◌∷◌, ◌++◌, [], ℕ, List, None, IsTrue, false, IfOk};
 ghost use Rattle.lw_log.specs.Calls.{LogCall, Calls, placed, place_of};
 ghost use Rattle.lw_log.specs.Entries.{content_of};
-ghost use Rattle.lw_member.specs.Beginning.{BeginsLog, IsWhole, IsUncut};
-ghost use Rattle.lw_member.specs.Reading.{AreReadToTheEnd, AreNoted, bytes_of, entries_in, place_read};
+ghost use Rattle.lw_member.specs.Beginning.{BeginsLog, IsWhole, IsUncut, sequence_over};
+ghost use Rattle.lw_member.specs.Reading.{AreReadToTheEnd, bytes_of, entries_in, place_read};
 ghost use Rattle.lw_member.specs.inner.Looking.{HasSeen, IsFirst, IsAll};
 
 use crate::MemberFault;
@@ -31,6 +31,13 @@ impl FirstLook {
             return false;
         }
         self.any
+    }
+
+    /// The sequence before that of the first entry of a start: what begins a log is the only entry with the sequence 1.
+    pub(crate) fn sequence(&self) -> u64
+        ensures { (es : List (List ℕ)) → HasSeen es self.now → result ≡ sequence_over es }
+    {
+        if self.any { 1 } else { 0 }
     }
 
     fn note_page(&mut self, page: &[(Position, Bytes)])
@@ -102,7 +109,7 @@ fn is_whole(entry: &Entry<'_>) -> bool
 pub(crate) fn look<G: DeltaLog>(alloc: Global, log: &mut G) -> Result<FirstLook, MemberFault>
     ensures { IfOk result (λ found. (pages : List LogCall) × Calls (G.calls log.old) (G.calls log.new) pages
         × AreReadToTheEnd None pages × IsUncut (entries_in pages)
-        × AreNoted [] (entries_in pages) found.numbers.bytes.value) }
+        × HasSeen (entries_in pages) found) }
 {
     let numbers = Numbers::new(alloc)?;
     let mut found = FirstLook {

@@ -79,6 +79,7 @@ impl<G: DeltaLog> Member<G> {
             chance.fleet,
             log.is_alone(),
             floor_at(moment),
+            found.sequence(),
         )?;
         if catch_up(&mut log, &mut standing)? {
             return Err(MemberFault::NumberTaken);

@@ -48,7 +48,8 @@ pub(crate) struct Standing {
     pub alone: bool,
     pub claimed: bool,
     pub floor: u64,
-    /// Of the last entry whose append returned.
+    /// Of the last entry whose append returned. Before the first it is 0 over an empty log, and else 1: so only the first
+    /// entry of a log has the sequence 1.
     pub sequence: u64,
     /// Whether the log leads all that the node knows.
     pub led: bool,
@@ -60,16 +61,17 @@ pub(crate) struct Standing {
 }
 
 impl Standing {
-    /// That of a new node, which has read and written nothing.
+    /// That of a new node, which has read and written nothing. Its first entry has the next sequence.
     pub(crate) fn new(
         alloc: Global,
         start: Start,
         made_up: FleetId,
         alone: bool,
         floor: u64,
+        sequence: u64,
     ) -> Result<Standing, NoMemory>
         requires { floor < 64 * year_2100 }
-        ensures new { IfOk result (λ standing. IsNew standing start floor) }
+        ensures new { IfOk result (λ standing. IsNew standing start alone floor sequence) }
         ensures member { IfOk result (λ standing. (asked : Option (List LogCall)) → IsMember asked standing) }
     {
         let numbers = Numbers::new(alloc)?;
@@ -83,7 +85,7 @@ impl Standing {
             alone,
             claimed: false,
             floor,
-            sequence: 0,
+            sequence,
             led: true,
             written: 0,
             read_to: None,
@@ -157,6 +159,7 @@ impl Standing {
         ensures led { OnOk result (self.new.led ≡ self.old.led) }
         ensures written { self.old.led ≡ false → self.new.written ≡ self.old.written }
         ensures read_to { self.new.read_to ≡ self.old.read_to }
+        ensures sequence { self.new.sequence ≡ self.old.sequence }
         ensures numbers { self.new.numbers ≡ self.old.numbers }
         ensures size { self.new.size ≡ self.old.size }
         ensures same { HasSameStart self.old self.new }

@@ -1,5 +1,5 @@
 -- What a first look has seen of entries.
-use Rattle.std.specs.Prelude.{◌≡◌, ℕ, ◌⊎◌, List, [], ◌∷◌, true, false}
+use Rattle.std.specs.Prelude.{◌≡◌, ◌≢◌, ℕ, ◌⊎◌, List, [], ◌∷◌, true, false}
 use Rattle.lw_log.specs.Entries.{BodyContent, EntryContent}
 use Rattle.lw_log.specs.Entries.BodyContent.{Start, Delta, Whole}
 use Rattle.lw_member.specs.declared.looking.FirstLook.{FirstLook}
@@ -29,5 +29,6 @@ HasBeginning (e ∷ es) = BeginsLog e ⊎ HasWhole (e ∷ es)
 -- these entries were seen
 pub record HasSeen (es : List (List ℕ)) (look : FirstLook) : Type 0 where
   pub none : look.any ≡ false → es ≡ []
+  pub some : look.any ≡ true → es ≢ []
   pub whole : look.whole ≡ true → HasBeginning es
   pub numbers : AreNoted [] es look.numbers.bytes.value

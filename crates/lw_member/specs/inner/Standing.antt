@@ -1,5 +1,5 @@
 -- How a member's parts go on.
-use Rattle.std.specs.Prelude.{◌≡◌, ◌<◌, ℕ, List, Some, None, true, false}
+use Rattle.std.specs.Prelude.{◌≡◌, ◌<◌, ℕ, List, Some, None, Bool, true, false}
 use Rattle.lw_table.specs.Changes.{LAST}
 use Rattle.lw_node.specs.Exchange.{IsBelow, known_by}
 use Rattle.lw_node.specs.Node.{NodeContent, fresh}
@@ -37,11 +37,13 @@ abbrev pub IsStill : Standing → NodeContent → Type 0
 IsStill old node = (old.led ≡ true) × (node.table.count.change ≡ old.node.table.count.change) × (node.table.count.change < LAST) × (node.clock ≡ old.node.clock)
 
 -- a new node with the number, which has read and written nothing
-pub record IsNew (s : Standing) (start : Start) (floor : ℕ) : Type 0 where
+pub record IsNew (s : Standing) (start : Start) (alone : Bool) (floor sequence : ℕ) : Type 0 where
   pub node : s.node ≡ fresh start.number
   pub start_is : s.start ≡ start
   pub unclaimed : s.claimed ≡ false
+  pub alone_is : s.alone ≡ alone
   pub floor_is : s.floor ≡ floor
+  pub sequence_is : s.sequence ≡ sequence
   pub unread : place_of s.read_to ≡ None
   pub led : s.led ≡ true
   pub numbers : (n : ℕ) → ¬ HasBit (numbers_of s) n

@@ -8,6 +8,7 @@ use Rattle.lw_log.specs.Entries.{BodyContent, EntryContent, IsEntry, HasDelta, B
 use Rattle.lw_member.specs.declared.standing.Standing.{Standing}
 use Rattle.lw_member.specs.Reading.{MergesEntries, AreGood, AreNoted, IsFree, IsOf, IsTakenFirst, KnowsAll, Meets, ReadsOn, bytes_of, place_read}
 use Rattle.lw_member.specs.Counting.{CountsEntries}
+use Rattle.lw_member.specs.Own.{next_sequence}
 use Rattle.lw_member.specs.Parts.{fleet_of, numbers_of}
 use Rattle.lw_member.specs.inner.Standing.{counted_in}
 
@@ -24,6 +25,7 @@ pub record Takes (old : Standing) (entries : List (List ℕ)) (new : Standing) :
   pub unsettled : new.settled ≡ false → AreBare entries
   pub led : new.led ≡ old.led
   pub written : old.led ≡ false → new.written ≡ old.written
+  pub sequence : new.sequence ≡ old.sequence
   pub numbers : AreNoted (numbers_of old) entries (numbers_of new)
   pub counted : CountsEntries (counted_in old) entries (counted_in new)
 
@@ -76,5 +78,6 @@ pub record IsEntryOf (s : Standing) (fleet : List ℕ) (body : BodyContent) (byt
   pub is : IsEntry bytes entry
   pub number : entry.number ≡ s.start.number
   pub tag : entry.tag ≡ s.start.tag
+  pub sequence_is : entry.sequence ≡ next_sequence s.sequence
   pub fleet_is : entry.fleet ≡ fleet
   pub body_is : entry.body ≡ body

@@ -8,7 +8,7 @@ use Rattle.lw_call.specs.declared.call.Call.{Call}
 use Rattle.lw_call.specs.declared.reply.Reply.{Reply}
 use Rattle.lw_node.specs.Exchange.{Merged}
 use Rattle.lw_member.specs.declared.standing.Standing.{Standing}
-use Rattle.lw_member.specs.Own.{AreOwnCalls, IsOwnIn, IsOwnSince}
+use Rattle.lw_member.specs.Own.{AreOwnCalls, IsOwnIn, IsOwnSince, next_sequence}
 use Rattle.lw_member.specs.Reading.{AreReadToTheEnd, entries_in, last_read, AreGood, AreNoted, HoldsNumber, IsTakenFirst, MergesEntries}
 use Rattle.lw_member.specs.Rounds.{Makes, place_after}
 use Rattle.lw_member.specs.Counting.{CountsEntries, own_entries}
@@ -65,6 +65,7 @@ pub record IsClaimed (before : Option (List LogCall)) (old : Standing) (after : 
   pub merged : Standing
   pub asked : Calls before after (Wrote place ∷ pages)
   pub own : IsOwnIn (content_of after new) Start place.1
+  pub numbered : own.0.entry.sequence ≡ next_sequence old.sequence
   pub read : AreReadToTheEnd (place_after old.alone (place_of old.read_to) (Wrote place ∷ [])) pages
   pub read_to : place_of new.read_to ≡ last_read (place_after old.alone (place_of old.read_to) (Wrote place ∷ [])) pages
   pub good : AreGood (fleet_of new) (entries_in pages)

@@ -90,5 +90,5 @@ returns-clause-same g c =
     let s0 = c.args.standing.now in
     let s = c.appended_whole.new.self in
     let only : s ≡ record s0 { sequence = s.sequence; read_to = s.read_to; size = s.size } =
-        c.appended_whole.ensures.only ∙ ap (λ (x : Standing). record x { sequence = s.sequence; read_to = s.read_to; size = s.size }) c.in_ok-position.ensures.done in
+    c.appended_whole.ensures.only ∙ ap (λ (x : Standing). record x { sequence = s.sequence; read_to = s.read_to; size = s.size }) c.in_ok-position.ensures.done in
     same_appended s0 s true c.change-standing.result only

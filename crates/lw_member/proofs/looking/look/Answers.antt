@@ -3,7 +3,7 @@ use Rattle.lw_log.specs.Calls.{LogCall, placed, place_of}
 use Rattle.lw_log.specs.Calls.LogCall.{Read}
 use Rattle.lw_log.specs.declared.position.Position.{Position}
 use Rattle.lw_member.specs.Beginning.{IsUncut}
-use Rattle.lw_member.specs.Reading.{AreNoted, bytes_of, entries_in, place_read}
+use Rattle.lw_member.specs.Reading.{bytes_of, entries_in, place_read}
 use Rattle.lw_member.specs.inner.Looking.{HasSeen}
 use Rattle.lw_member.specs.inner.Taking.{ArePages}
 use Rattle.lw_member.proofs.Asking.{calls_none, calls_then, pages_more, pages_end, entries_more}
@@ -17,7 +17,7 @@ loop-page-init g c =
       [],
       calls_none (g.G.DeltaLog.calls c.args.log.now),
       refl,
-      record { none = λ h. refl; whole = λ h. absurd cc; numbers = noted_new numbers numbers [] c.in_ok-numbers.ensures (noted_none numbers) },
+      record { none = λ h. refl; some = λ h. absurd cc; whole = λ h. absurd cc; numbers = noted_new numbers numbers [] c.in_ok-numbers.ensures (noted_none numbers) },
     )
 
 pub returns-then-len-lt-PAGE : goal.returns-then-len-lt-PAGE
@@ -31,7 +31,7 @@ returns-then-len-lt-PAGE g c =
       calls_then _ _ _ i.0 (last ∷ []) i.1 c.in_ok-page.ensures,
       pages_end None from i.0 from (placed page) i.2 refl (let l = length_placed page in omega (arith, l, c.len.ensures, c.if-len-lt-PAGE.true)),
       subst (λ es. IsUncut es) (sym (entries_more i.0 from (placed page))) (c.if-is_cut.ensures _ seen (λ t. cc)),
-      subst (λ es. AreNoted [] es c.note_page.new.self.numbers.bytes.value) (sym (entries_more i.0 from (placed page))) seen.numbers,
+      subst (λ es. HasSeen es c.note_page.new.self) (sym (entries_more i.0 from (placed page))) seen,
     )
 
 pub loop-page-preserved : goal.loop-page-preserved

@@ -8,18 +8,18 @@ use Rattle.lw_member.proofs.Merging.{on_err, same_failed, same_made, same_then, 
 use Rattle.lw_member.proofs.rounds.claim.Goals as goal
 
 pub returns-in_err-own-clause-own : goal.returns-in_err-own-clause-own
-returns-in_err-own-clause-own g c = 
+returns-in_err-own-clause-own g c =
     claims_read _ _ _ c.args.standing.now c.write_start.new.standing c.catch_up.new.standing _ c.in_ok-fleet.ensures.started c.write_start.ensures.same c.catch_up.ensures.same c.catch_up.ensures.asked
 
 pub returns-clause-own : goal.returns-clause-own
-returns-clause-own g c = 
+returns-clause-own g c =
     claims_read _ _ _ c.args.standing.now c.write_start.new.standing c.catch_up.new.standing _ c.in_ok-fleet.ensures.started c.write_start.ensures.same c.catch_up.ensures.same c.catch_up.ensures.asked
 
 pub raise-requires : goal.raise-requires
 raise-requires g c = subst (λ n. n < 262556467200000) (sym (c.catch_up.ensures.same.floor ∙ c.in_ok-fleet.ensures.same.floor)) c.requires.floor
 
 pub returns-in_err-raise-clause-own : goal.returns-in_err-raise-clause-own
-returns-in_err-raise-clause-own g c = 
+returns-in_err-raise-clause-own g c =
     claims_more _ _ c.args.standing.now c.catch_up.new.standing c.raise.new.self (ap (λ (x : Standing). x.read_to) c.raise.ensures.only) c.raise.ensures.goes
     (claims_read _ _ _ c.args.standing.now c.write_start.new.standing c.catch_up.new.standing _ c.in_ok-fleet.ensures.started c.write_start.ensures.same c.catch_up.ensures.same c.catch_up.ensures.asked)
 
@@ -35,7 +35,7 @@ returns-then-is_in-clause-claimed g c = λ m.
     (c.if-is_gone.ensures refl) c.in_ok-raise.ensures.raised c.in_ok-raise.ensures.led c.raise.ensures.only c.raise.ensures.goes
 
 pub returns-then-is_in-clause-own : goal.returns-then-is_in-clause-own
-returns-then-is_in-clause-own g c = 
+returns-then-is_in-clause-own g c =
     claims_more _ _ c.args.standing.now c.catch_up.new.standing (record c.raise.new.self { claimed = true }) (ap (λ (x : Standing). x.read_to) c.raise.ensures.only) c.raise.ensures.goes
     (claims_read _ _ _ c.args.standing.now c.write_start.new.standing c.catch_up.new.standing _ c.in_ok-fleet.ensures.started c.write_start.ensures.same c.catch_up.ensures.same c.catch_up.ensures.asked)
 

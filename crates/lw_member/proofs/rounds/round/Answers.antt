@@ -1,4 +1,4 @@
-use Rattle.std.proofs.Common.{◌∙◌, refl}
+use Rattle.std.proofs.Common.{refl}
 use Rattle.lw_member.proofs.Owning.{claims_write, claimed_write, reads_write, reads_write_more, if_ok}
 use Rattle.lw_member.proofs.RoundLemmas.{idle_round, claimed_round}
 use Rattle.lw_member.proofs.rounds.round.Goals as goal

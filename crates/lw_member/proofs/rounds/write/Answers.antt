@@ -34,8 +34,7 @@ returns-in_err-position-clause-own g c = λ m.
     let only = c.append.ensures.only in
     let is = subst (λ d. IsDeltaSince s0.node s0.written d) (sym c.deref.ensures.value) c.in_ok-delta.ensures in
     let fleet = ap (λ (f : Option FleetId). option_map (λ (x : FleetId). x.bytes) f) (ap (λ (x : Standing). x.fleet) only ∙ c.in-Some.is) in
-    let e = subst (λ b. IsEntryOf s0 c.in-Some.fleet.bytes (Delta c.deref.result.now) b) (sym c.deref-2.ensures.value) c.in_ok-entry.ensures in
-    (
+    let e = subst (λ b. IsEntryOf s0 c.in-Some.fleet.bytes (Delta c.deref.result.now) b) (sym c.deref-2.ensures.value) c.in_ok-entry.ensures in (
       _,
       c.in_err-position.ensures.asked,
       append_own (content_of (g.G.DeltaLog.calls c.append.new.log) s) c.deref-2.result.now (Err c.in_err-position.field-0.0) (inr (s0.written, own_since _ s0 s _ _ _ s0.written (ap (λ (x : Standing). x.node) only) (ap (λ (x : Standing). x.start) only) fleet is e m.number)),
@@ -55,8 +54,7 @@ returns-clause-own g c = λ m.
     let node = ap (λ (x : Standing). x.node) only ∙ ap (λ (x : Standing). x.node) done in
     let start = ap (λ (x : Standing). x.start) only ∙ ap (λ (x : Standing). x.start) done in
     let fleet = ap (λ (f : Option FleetId). option_map (λ (x : FleetId). x.bytes) f) (ap (λ (x : Standing). x.fleet) only ∙ ap (λ (x : Standing). x.fleet) done ∙ c.in-Some.is) in
-    let s : Standing = record c.appended.new.self { led = true; written = c.change-standing.result } in
-    (
+    let s : Standing = record c.appended.new.self { led = true; written = c.change-standing.result } in (
       _,
       c.in_ok-position.ensures.asked,
       append_own (content_of (g.G.DeltaLog.calls c.append.new.log) s) c.deref-2.result.now (Ok c.in_ok-position.position) (inr (s0.written, own_since _ s0 s _ _ _ s0.written node start fleet is e m.number)),
@@ -116,5 +114,5 @@ returns-clause-same g c =
     let s0 = c.args.standing.now in
     let s = c.appended.new.self in
     let only : s ≡ record s0 { sequence = s.sequence; read_to = s.read_to; size = s.size } =
-        c.appended.ensures.only ∙ ap (λ (x : Standing). record x { sequence = s.sequence; read_to = s.read_to; size = s.size }) c.in_ok-position.ensures.done in
+    c.appended.ensures.only ∙ ap (λ (x : Standing). record x { sequence = s.sequence; read_to = s.read_to; size = s.size }) c.in_ok-position.ensures.done in
     same_appended s0 s true c.change-standing.result only

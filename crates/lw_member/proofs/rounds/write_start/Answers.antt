@@ -41,7 +41,7 @@ returns-clause-same g c =
     let s = c.started.new.self in
     let done = c.in_ok-position.ensures.done in
     let only : s ≡ record s0 { sequence = s.sequence; read_to = s.read_to; size = s.size; fleet = s.fleet } =
-        c.started.ensures.only ∙ ap (λ (x : Standing). record x { sequence = s.sequence; read_to = s.read_to; size = s.size; fleet = s.fleet }) done in
+    c.started.ensures.only ∙ ap (λ (x : Standing). record x { sequence = s.sequence; read_to = s.read_to; size = s.size; fleet = s.fleet }) done in
     same_started s0 s only c.own_fleet-fleet.result c.own_fleet-fleet.ensures (elim c.started.ensures.fleet [
       | inl same ↦ inl (same ∙ ap (λ (x : Standing). x.fleet) done)
       | inr own ↦ inr own

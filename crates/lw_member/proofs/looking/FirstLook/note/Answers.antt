@@ -2,13 +2,14 @@ use Rattle.std.proofs.Common.{[], ◌∷◌, ◌++◌, ap, sym, ◌∙◌, subst
 use Rattle.lw_member.specs.declared.looking.FirstLook.{FirstLook}
 use Rattle.lw_member.specs.Reading.{AreNoted}
 use Rattle.lw_member.proofs.Numbering.{noted_one, noted_then}
-use Rattle.lw_member.proofs.Beginnings.{begins, beginning_before}
+use Rattle.lw_member.proofs.Beginnings.{begins, beginning_before, not_empty}
 use Rattle.lw_member.proofs.looking.FirstLook.note.Goals as goal
 use Rattle.lw_member.proofs.looking.FirstLook.note.Goals.{then-is_beginning, else-is_beginning}
 
 pub returns : goal.returns
 returns c = λ es seen. record {
   none = λ f. absurd cc;
+  some = λ t. not_empty es c.args.bytes.now;
   whole = λ h. elim c.if-is_beginning.branch [
     | then-is_beginning w ↦ begins es c.args.self.now c.args.bytes.now seen (c.is_beginning.ensures w.if-is_beginning.true)
     | else-is_beginning w ↦ beginning_before es (c.args.bytes.now ∷ []) (seen.whole (sym (ap (λ (l : FirstLook). l.whole) w.self-is) ∙ h))

@@ -41,7 +41,7 @@ returns-clause-begun g c =
       free = subst (λ n. IsFree n (entries_in read.0)) number free;
       number = subst (λ n. 1 ≤ n) (ap (λ (x : Start). x.number) (sym start) ∙ number) c.in-Some.ensures.found.within.0;
       first_free = subst (λ n. IsFirstFree (λ m. IsMet m (entries_in found.0)) c.args.chance.now.number n) (ap (λ (x : Start). x.number) (sym start) ∙ number)
-          (first_free_met c.in_ok-found.found.numbers.bytes.value (entries_in found.0) c.args.chance.now.number c.in-Some.number found.4 c.in-Some.ensures.found);
+          (first_free_met c.in_ok-found.found.numbers.bytes.value (entries_in found.0) c.args.chance.now.number c.in-Some.number found.4.numbers c.in-Some.ensures.found);
       numbers = noted_new (numbers_of s) (numbers_of s1) (entries_in read.0) new.numbers read.3.numbers;
       counted = subst (λ (n : ℕ × ℕ). CountsEntries n (entries_in read.0) (counted_in s1)) new.counted read.3.counted;
       merged = subst (λ (n : NodeContent). MergesEntries n (entries_in read.0) s1.node) (new.node ∙ ap fresh (ap (λ (x : Start). x.number) (sym start) ∙ number)) read.3.merged;
@@ -49,7 +49,11 @@ returns-clause-begun g c =
           (λ h. let bad = c.if-is_years_ahead.ensures.1 (subst (λ n. IsYearsAhead c.args.moment n) (sym c.clock.ensures.value) h) in cc);
       tag_is = ap (λ (x : Start). x.tag) (same.start ∙ start);
       floor_is = same.floor ∙ new.floor_is ∙ c.floor_at.ensures.value;
+      sequence = read.3.sequence ∙ new.sequence_is ∙ c.sequence.ensures (entries_in found.0) found.4;
       unclaimed = same.claimed ∙ new.unclaimed;
       all = read.3.led ∙ new.led;
       led = m.leading.written.whole (read.3.led ∙ new.led);
     }
+
+pub returns-clause-alone : goal.returns-clause-alone
+returns-clause-alone g c = c.catch_up.ensures.same.alone ∙ c.in_ok-standing.ensures.new.alone_is ∙ c.is_alone.ensures

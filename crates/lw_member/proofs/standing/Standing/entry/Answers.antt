@@ -15,6 +15,7 @@ returns c =
       };
       number = refl;
       tag = refl;
+      sequence_is = c.saturating_add.ensures;
       fleet_is = refl;
       body_is = refl;
     }

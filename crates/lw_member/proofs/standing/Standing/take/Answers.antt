@@ -17,7 +17,7 @@ returns-in-Err c = record {
   taken = on_ok c.pass_over.result c.pass_over.ensures.known (λ known.
       takes_nothing c.args.self.now c.args.self.now c.args.bytes.now
       (λ newer. let bad = c.in-Err.ensures.newer.1 newer in known cc)
-      (brings_no_entry c.args.bytes.now (λ x is. c.in-Err.ensures.only x is)) refl (λ h. (h, refl)) refl refl
+      (brings_no_entry c.args.bytes.now (λ x is. c.in-Err.ensures.only x is)) refl (λ h. (h, refl)) refl refl refl
       (noted_no_entry (numbers_of c.args.self.now) c.args.bytes.now (λ x is. c.in-Err.ensures.only x is))
       (inr (λ x is. c.in-Err.ensures.only x is, refl)));
   fault = c.pass_over.ensures.fault;
@@ -37,6 +37,7 @@ returns-in-Start-clause-taken c =
     (λ h. (ap (λ (s : Standing). s.settled) c.hear_start.ensures.only ∙ h, c.hear_start.ensures.fleet h))
     (ap (λ (s : Standing). s.led) c.hear_start.ensures.only)
     (ap (λ (s : Standing). s.written) c.hear_start.ensures.only)
+    (ap (λ (s : Standing). s.sequence) c.hear_start.ensures.only)
     (noted_entry (numbers_of old) (numbers_of new) c.args.bytes.now (content_of c.in-Ok.entry) c.in-Ok.ensures.found (λ x is. c.in-Ok.ensures.only x is)
     (λ n. subst (λ (xs : List ℕ). HasBit xs n ↔ (HasBit (numbers_of old) n ⊎ ((c.in-Ok.entry.start.number ≡ n) ⊎ TellsOf n (body_content c.in-Ok.entry.body))))
     (sym (ap numbers_of c.hear_start.ensures.only)) (c.note.ensures n)))
@@ -50,7 +51,7 @@ returns-in-Delta-clause-taken c =
     let has : HasDelta (body_content c.in-Ok.entry.body) delta = subst (λ b. HasDelta (body_content b) delta) (sym c.in-Delta.is) refl in
     let d = c.in-Ok.ensures.found.spelled delta has in
     on_ok_four c.merge.result c.merge.ensures.merged c.merge.ensures.fleet c.merge.ensures.settled c.merge.ensures.led
-    (λ merged fleet settled led. takes_delta c.args.self.now c.merge.new.self bytes e delta d.0 c.in-Ok.ensures.found (λ x is. c.in-Ok.ensures.only x is) has d.1 (λ newer. let bad = c.in-Ok.ensures.newer.1 newer in cc) (merged d.0 d.1) fleet.0 fleet.1 settled led c.merge.ensures.written
+    (λ merged fleet settled led. takes_delta c.args.self.now c.merge.new.self bytes e delta d.0 c.in-Ok.ensures.found (λ x is. c.in-Ok.ensures.only x is) has d.1 (λ newer. let bad = c.in-Ok.ensures.newer.1 newer in cc) (merged d.0 d.1) fleet.0 fleet.1 settled led c.merge.ensures.written c.merge.ensures.sequence
     (λ n. subst (λ (x : Numbers). HasBit x.bytes.value n ↔ (HasBit (numbers_of c.args.self.now) n ⊎ ((e.number ≡ n) ⊎ TellsOf n e.body)))
     (sym c.merge.ensures.numbers) (c.note.ensures n))
     (ap counted_of c.merge.ensures.size ∙ c.with_entry-self.ensures))
@@ -70,7 +71,7 @@ returns-in-Whole-clause-taken c =
     let has : HasDelta (body_content c.in-Ok.entry.body) delta = subst (λ b. HasDelta (body_content b) delta) (sym c.in-Whole.is) refl in
     let d = c.in-Ok.ensures.found.spelled delta has in
     on_ok_four c.merge-in-Whole.result c.merge-in-Whole.ensures.merged c.merge-in-Whole.ensures.fleet c.merge-in-Whole.ensures.settled c.merge-in-Whole.ensures.led
-    (λ merged fleet settled led. takes_delta c.args.self.now c.merge-in-Whole.new.self bytes e delta d.0 c.in-Ok.ensures.found (λ x is. c.in-Ok.ensures.only x is) has d.1 (λ newer. let bad = c.in-Ok.ensures.newer.1 newer in cc) (merged d.0 d.1) fleet.0 fleet.1 settled led c.merge-in-Whole.ensures.written
+    (λ merged fleet settled led. takes_delta c.args.self.now c.merge-in-Whole.new.self bytes e delta d.0 c.in-Ok.ensures.found (λ x is. c.in-Ok.ensures.only x is) has d.1 (λ newer. let bad = c.in-Ok.ensures.newer.1 newer in cc) (merged d.0 d.1) fleet.0 fleet.1 settled led c.merge-in-Whole.ensures.written c.merge-in-Whole.ensures.sequence
     (λ n. subst (λ (x : Numbers). HasBit x.bytes.value n ↔ (HasBit (numbers_of c.args.self.now) n ⊎ ((e.number ≡ n) ⊎ TellsOf n e.body)))
     (sym c.merge-in-Whole.ensures.numbers) (c.note.ensures n))
     (ap counted_of c.merge-in-Whole.ensures.size ∙ c.with_entry-self.ensures))

@@ -53,7 +53,7 @@ loop-position-preserved c =
     let both = takes_then old mid new _ (c.loop-position-item.result.1 ∷ []) c.loop-position.invariant.taken one in
     let later : Standing = record new { read_to = Some c.loop-position-item.result.0 } in
     let taken : Takes old (bytes_of (placed (take (c.loop-position.position-index + 1) c.args.page.now))) later =
-        subst (λ es. Takes old es later) (sym (entries_take c.args.page.now c.loop-position.position-index c.loop-position-item.result item)) (takes_read old new _ (Some c.loop-position-item.result.0) both) in
+    subst (λ es. Takes old es later) (sym (entries_take c.args.page.now c.loop-position.position-index c.loop-position-item.result item)) (takes_read old new _ (Some c.loop-position-item.result.0) both) in
     let read_to = sym (places_take c.args.page.now c.loop-position.position-index c.loop-position-item.result (place_of old.read_to) item) in
     record {
       taken = taken;
