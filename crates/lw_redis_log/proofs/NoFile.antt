@@ -1,17 +1,15 @@
 -- A line that is looked for at each place.
 use Rattle.std.proofs.Common.{lit<, inl, inr, subst, ◌≡◌, ◌≢◌, ◌↔◌, ℕ, ◌+◌, ◌<◌, ◌≤◌, Bool, true, false, nat_eq, IsTrue, List, [], ◌∷◌, ◌++◌, length, take, drop, refl, sym, ap, ◌∙◌, arith, ◌-◌, length-drop, take_all}
 use Rattle.std.specs.List.{starts_with}
-use Rattle.std.proofs.lemmas.Bool.Decides.{Decides-eqb}
 use Rattle.std.proofs.lemmas.Bool.{cases_lt}
 use Rattle.std.proofs.lemmas.List.{take-append-drop, length-append}
-use Rattle.std.proofs.lemmas.Slice.Eq.{starts_is}
 use Rattle.std.proofs.Math.Seq.{drop-append_seam}
 use Rattle.lw_redis_log.specs.Persistence.{file_line, TellsOfNoFile}
 use Rattle.lw_redis_log.specs.inner.Persistence.{BeginsWithIt}
+use Rattle.lw_redis_log.proofs.Beginnings.{begins_with}
 
 pub begins : (text : List ℕ) (r : Bool) → r ≡ starts_with nat_eq text file_line → IsTrue r ↔ BeginsWithIt text
-begins text true e = (λ _. (drop (length file_line) text, (starts_is Decides-eqb text file_line true e).0 refl), λ _. refl)
-begins text false e = (λ no. absurd cc, λ h. (starts_is Decides-eqb text file_line false e).1 h.0 h.1)
+begins text r e = begins_with file_line text r e
 
 -- what a slice from a place on is
 abbrev pub from : List ℕ → ℕ → List ℕ
