@@ -2,12 +2,12 @@
 
 ghost use Rattle.std.specs.Prelude.{◌≢◌, IfErr};
 
-use crate::commands::{last_command, login_command, persistence_command, ping_command};
+use crate::commands::{login_command, persistence_command, ping_command};
 use crate::connects::{Connects, Notice};
 use crate::errors::error_prefix;
 use crate::outcomes::RedisFault;
 use crate::redis_log::RedisLog;
-use crate::replies::{forgets, is_found, said};
+use crate::replies::{forgets, said};
 use lw_log::LogFault;
 use lw_stamp::NoMemory;
 
@@ -31,7 +31,8 @@ impl<C: Connects> RedisLog<C> {
         self.log_in()?;
         self.ping()?;
         self.learn_persistence()?;
-        self.look_for_last()
+        self.is_new = true;
+        Ok(())
     }
 
     /// The connection is of no use.
@@ -98,23 +99,5 @@ impl<C: Connects> RedisLog<C> {
         }
         self.is_known = true;
         Ok(())
-    }
-
-    /// Looks whether the entry is there that was appended last.
-    fn look_for_last(&mut self) -> Result<(), LogFault>
-        ensures asked { IfErr result (λ fault. fault ≢ LogFault.NoMemory) }
-    {
-        let Some(last) = self.last else {
-            return Ok(());
-        };
-        let command = last_command(self.alloc, &self.key, last);
-        let bytes = self.ask_made(command)?;
-        match is_found(self.alloc, &bytes) {
-            Ok(is_found) => {
-                self.has_lost = !is_found;
-                Ok(())
-            }
-            Err(fault) => Err(self.give_up(fault)),
-        }
     }
 }

@@ -7,21 +7,24 @@ mod connects;
 mod errors;
 mod greeting;
 mod login;
+mod marks;
 mod outcomes;
 mod pages;
 mod patience;
 mod persistence;
 mod redis_log;
 mod replies;
+mod seen;
 mod tcp;
 
 pub use commands::{
-    append_command, last_command, login_command, persistence_command, ping_command, read_command,
+    ReadFrom, append_command, login_command, persistence_command, ping_command, read_command,
     trim_command,
 };
 pub use connects::{Connects, Notice};
 pub use errors::{MAX_SHOWN, error_prefix, passes, shown};
 pub use login::{Login, LoginFault, MAX_PART};
+pub use marks::{Arrival, LOOK_SIZE, Mark, arrival_in, behind, is_looked_for};
 pub use outcomes::{
     RedisFault, append_outcome, entries_outcome, persistence_outcome, status_outcome, trim_outcome,
 };

@@ -2,7 +2,7 @@
 
 ghost use Rattle.std.specs.Prelude.{◌≢◌, IfErr};
 
-use crate::commands::{append_command, read_command, trim_command};
+use crate::commands::{ReadFrom, append_command, read_command, trim_command};
 use crate::connection::Line;
 use crate::connects::{Connects, Notice};
 use crate::errors::shown;
@@ -10,6 +10,7 @@ use crate::login::Login;
 use crate::outcomes::RedisFault;
 use crate::pages::{id_of, position_of};
 use crate::replies::{appended, page_read, trimmed};
+use crate::seen::Seen;
 use lw_log::{Bytes, DeltaLog, EntryFault, LogFault, Position, read_entry};
 use lw_resp::StreamId;
 use lw_stamp::NoMemory;
@@ -17,8 +18,11 @@ use std::alloc::Global;
 
 /// Keeps entries in one stream of a Redis, which other processes append to and trim at any time.
 ///
-/// A connection that fails is made again after a pause, and each call answers `Away` until then. A reading or an append
-/// tells once that the stream is gone, or has lost its end.
+/// A connection that fails is made again after a pause, and each call answers `Away` until then.
+///
+/// A reading above the entry that was read last asks for that entry as well. Where the stream does not begin with it,
+/// or lacks what this log has appended, it has lost something: the call answers `Lost`, and nothing is remembered of
+/// it. So does an append whose identifier is not above all that was seen, or that finds no stream.
 #[derive(Drop)]
 pub struct RedisLog<C: Connects> {
     pub(crate) alloc: Global,
@@ -27,10 +31,9 @@ pub struct RedisLog<C: Connects> {
     pub(crate) key: Vec<u8>,
     /// Whether the server was asked what it keeps on its disk.
     pub(crate) is_known: bool,
-    /// The last entry of the stream, as far as this process has appended or read.
-    pub(crate) last: Option<StreamId>,
-    /// Whether that entry is not there any more, which the next reading or append tells.
-    pub(crate) has_lost: bool,
+    /// Whether nothing was read yet over the connection.
+    pub(crate) is_new: bool,
+    seen: Seen,
     /// Whether the next append makes the stream.
     makes: bool,
 }
@@ -57,8 +60,8 @@ impl<C: Connects> RedisLog<C> {
             login,
             key: key.to_vec(alloc)?,
             is_known: false,
-            last: None,
-            has_lost: false,
+            is_new: false,
+            seen: Seen::new(),
             makes: false,
         })
     }
@@ -80,12 +83,11 @@ impl<C: Connects> RedisLog<C> {
         }
     }
 
-    /// The end of the stream is lost.
+    /// The stream has lost something. What is there now may be another one.
     fn lose(&mut self) -> LogFault
         ensures asked { result ≢ LogFault.NoMemory }
     {
-        self.last = None;
-        self.has_lost = false;
+        self.seen = Seen::new();
         self.line.world.hear(Notice::Lost);
         LogFault::Lost
     }
@@ -93,54 +95,52 @@ impl<C: Connects> RedisLog<C> {
     fn ask_read(
         &mut self,
         command: &[u8],
-        is_whole: bool,
+        from: ReadFrom,
     ) -> Result<Vec<(Position, Bytes)>, LogFault>
         ensures asked { IfErr result (λ fault. fault ≢ LogFault.NoMemory) }
     {
         self.make_ready()?;
-        if self.has_lost {
-            return Err(self.lose());
-        }
         let bytes = self.ask(command)?;
-        match page_read(self.alloc, &bytes) {
-            Ok(page) => {
-                self.line.settle();
-                // Only a reading of the whole stream tells that there is none.
-                if is_whole || !page.is_empty() {
-                    self.makes = page.is_empty();
-                }
-                self.look_at(&page);
-                Ok(page)
-            }
-            Err(fault) => Err(self.fail(fault)),
+        let page = match page_read(self.alloc, &bytes) {
+            Ok(page) => page,
+            Err(fault) => return Err(self.fail(fault)),
+        };
+        self.line.settle();
+        let Some(page) = self.seen.take(from, page) else {
+            return Err(self.lose());
+        };
+        self.is_new = false;
+        // Only a reading of the whole stream tells that there is none.
+        if from == ReadFrom::First || !page.is_empty() {
+            self.makes = page.is_empty();
         }
+        self.seen.note_page(from, &page);
+        self.look_at(&page);
+        Ok(page)
     }
 
-    /// Notes where the page ends, and tells of what in it is no entry.
+    /// Tells of what in the page is no entry.
     fn look_at(&mut self, page: &[(Position, Bytes)]) {
         for (position, bytes) in page {
-            let id = id_of(*position);
-            self.last = self.last.max(Some(id));
             if is_passed_over(bytes) {
-                self.line.world.hear(Notice::PassedOver(id));
+                self.line.world.hear(Notice::PassedOver(id_of(*position)));
             }
         }
     }
 
-    fn ask_append(&mut self, command: &[u8]) -> Result<Position, LogFault>
+    fn ask_append(&mut self, command: &[u8], entry: &[u8]) -> Result<Position, LogFault>
         ensures asked { IfErr result (λ fault. fault ≢ LogFault.NoMemory) }
     {
         self.make_ready()?;
-        if self.has_lost {
-            return Err(self.lose());
-        }
         let bytes = self.ask(command)?;
         match appended(self.alloc, &bytes) {
             Ok(id) => {
                 self.line.settle();
-                self.last = self.last.max(Some(id));
                 self.makes = false;
-                Ok(position_of(id))
+                if self.seen.note_append(id, entry) {
+                    return Ok(position_of(id));
+                }
+                Err(self.lose())
             }
             Err(fault) => {
                 self.makes = self.makes || fault == RedisFault::Lost;
@@ -157,7 +157,7 @@ impl<C: Connects> RedisLog<C> {
         match trimmed(self.alloc, &bytes) {
             Ok(_) => {
                 self.line.settle();
-                self.last = self.last.filter(|last| upto < *last);
+                self.seen.note_trim(upto);
                 Ok(())
             }
             Err(fault) => Err(self.fail(fault)),
@@ -178,17 +178,19 @@ impl<C: Connects> RedisLog<C> {
 // Want of memory is told only before the server is asked. What is read or written later is as away.
 impl<C: Connects> DeltaLog for RedisLog<C> {
     fn read(&mut self, after: Option<Position>) -> Result<Vec<(Position, Bytes)>, LogFault> {
-        let Ok(command) = read_command(self.alloc, &self.key, after.map(id_of)) else {
+        let must_look = self.is_new || !self.line.is_open();
+        let from = self.seen.from(after.map(id_of), must_look);
+        let Ok(command) = read_command(self.alloc, &self.key, from) else {
             return Err(LogFault::NoMemory);
         };
-        self.ask_read(&command, after.is_none())
+        self.ask_read(&command, from)
     }
 
     fn append(&mut self, entry: &[u8]) -> Result<Position, LogFault> {
         let Ok(command) = append_command(self.alloc, &self.key, entry, self.makes) else {
             return Err(LogFault::NoMemory);
         };
-        self.ask_append(&command)
+        self.ask_append(&command, entry)
     }
 
     fn trim(&mut self, upto: Position) -> Result<(), LogFault> {

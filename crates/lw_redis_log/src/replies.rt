@@ -40,12 +40,6 @@ pub(crate) fn page_read(
     }
 }
 
-/// Whether an entry was found.
-pub(crate) fn is_found(alloc: Global, bytes: &[u8]) -> Result<bool, RedisFault<'_>> {
-    let reply = whole_reply(alloc, bytes)?;
-    Ok(!entries_outcome(&reply)?.is_empty())
-}
-
 /// Entries were let go.
 pub(crate) fn trimmed(alloc: Global, bytes: &[u8]) -> Result<u64, RedisFault<'_>> {
     trim_outcome(&whole_reply(alloc, bytes)?)

@@ -1,6 +1,6 @@
 use crate::hold::shown;
 use lw_redis_log::{
-    append_command, last_command, login_command, persistence_command, ping_command, read_command,
+    ReadFrom, append_command, login_command, persistence_command, ping_command, read_command,
     trim_command,
 };
 use lw_resp::StreamId;
@@ -9,8 +9,7 @@ use std::process::Abort;
 
 /// A command.
 enum Asked {
-    Read(Option<StreamId>),
-    Last(StreamId),
+    Read(ReadFrom),
     Append(&'static [u8], bool),
     Trim(StreamId),
     Login,
@@ -22,8 +21,7 @@ enum Asked {
 fn bytes_of(rt: &impl Abort, alloc: Global, asked: &Asked) -> Vec<u8> {
     let key = b"fleet";
     let bytes = match asked {
-        Asked::Read(after) => read_command(alloc, key, *after),
-        Asked::Last(id) => last_command(alloc, key, *id),
+        Asked::Read(from) => read_command(alloc, key, *from),
         Asked::Append(entry, makes) => append_command(alloc, key, entry, *makes),
         Asked::Trim(upto) => trim_command(alloc, key, *upto),
         Asked::Login => login_command(alloc, key, b"a secret"),
@@ -59,14 +57,17 @@ const GREATEST: StreamId = StreamId {
 /// Commands, and their arrays of bulk strings by the pages on the protocol and on each command. `~` ends a line.
 static ROWS: [(Asked, &str); 11] = [
     (
-        Asked::Read(None),
+        Asked::Read(ReadFrom::First),
         "*6~$6~XRANGE~$5~fleet~$1~-~$1~+~$5~COUNT~$3~256~",
     ),
     (
-        Asked::Read(Some(LATE)),
+        Asked::Read(ReadFrom::Above(LATE)),
         "*6~$6~XRANGE~$5~fleet~$16~(1526985054069-0~$1~+~$5~COUNT~$3~256~",
     ),
-    (Asked::Last(AT_7_1), "*4~$6~XRANGE~$5~fleet~$3~7-1~$3~7-1~"),
+    (
+        Asked::Read(ReadFrom::At(AT_7_1)),
+        "*6~$6~XRANGE~$5~fleet~$3~7-1~$1~+~$5~COUNT~$3~257~",
+    ),
     (
         Asked::Append(b"LWE1", false),
         "*6~$4~XADD~$5~fleet~$10~NOMKSTREAM~$1~*~$1~e~$4~LWE1~",
@@ -93,9 +94,8 @@ static ROWS: [(Asked, &str); 11] = [
     (Asked::Persistence, "*2~$4~INFO~$11~persistence~"),
 ];
 
-/// Tries: lw_redis_log::read_command, lw_redis_log::last_command, lw_redis_log::append_command
-/// Tries: lw_redis_log::trim_command, lw_redis_log::login_command, lw_redis_log::ping_command
-/// Tries: lw_redis_log::persistence_command
+/// Tries: lw_redis_log::read_command, lw_redis_log::append_command, lw_redis_log::trim_command
+/// Tries: lw_redis_log::login_command, lw_redis_log::ping_command, lw_redis_log::persistence_command
 #[test]
 fn commands_are_arrays_of_their_words(rt: HostRuntime) {
     for (asked, want) in &ROWS {

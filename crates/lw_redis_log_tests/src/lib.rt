@@ -10,6 +10,10 @@ mod hold;
 #[cfg(test)]
 mod login;
 #[cfg(test)]
+mod losses;
+#[cfg(test)]
+mod marks;
+#[cfg(test)]
 mod outcomes;
 #[cfg(test)]
 mod pauses;

@@ -222,7 +222,6 @@ static PAUSES: [Story<'static>; 2] = [
             Ends(""),
             Opens,
             PONG,
-            FOUND,
             SECOND,
         ],
         &[
@@ -237,7 +236,7 @@ static PAUSES: [Story<'static>; 2] = [
          connects\n*1~$4~PING~\n*2~$4~INFO~$11~persistence~\n\
          *6~$4~XADD~$1~k~$10~NOMKSTREAM~$1~*~$1~e~$1~a~\n= 5-0\n\
          *6~$4~XADD~$1~k~$10~NOMKSTREAM~$1~*~$1~e~$1~b~\n= Away\n100 ms\n\
-         connects\n*1~$4~PING~\n*4~$6~XRANGE~$1~k~$3~5-0~$3~5-0~\n\
+         connects\n*1~$4~PING~\n\
          *6~$4~XADD~$1~k~$10~NOMKSTREAM~$1~*~$1~e~$1~b~\n= 6-0\n",
     ),
 ];
@@ -246,94 +245,6 @@ static PAUSES: [Story<'static>; 2] = [
 #[test]
 fn pauses_grow(rt: HostRuntime) {
     play_all(&rt, rt.alloc(), &PAUSES);
-}
-
-/// What was appended or read last is looked for at a new connection. Where it is gone, the next reading or append
-/// tells it once. What this log let go itself is not looked for.
-static LOST: [Story<'static>; 4] = [
-    (
-        &[
-            Opens,
-            PONG,
-            KEEPS,
-            FIRST,
-            Ends(""),
-            Opens,
-            PONG,
-            EMPTY,
-            SECOND,
-        ],
-        &[
-            Append("a"),
-            Append("b"),
-            Pass(100),
-            Append("b"),
-            Append("b"),
-        ],
-        "connects\n*1~$4~PING~\n*2~$4~INFO~$11~persistence~\n\
-         *6~$4~XADD~$1~k~$10~NOMKSTREAM~$1~*~$1~e~$1~a~\n= 5-0\n\
-         *6~$4~XADD~$1~k~$10~NOMKSTREAM~$1~*~$1~e~$1~b~\n= Away\n100 ms\n\
-         connects\n*1~$4~PING~\n*4~$6~XRANGE~$1~k~$3~5-0~$3~5-0~\nlost\n= Lost\n\
-         *6~$4~XADD~$1~k~$10~NOMKSTREAM~$1~*~$1~e~$1~b~\n= 6-0\n",
-    ),
-    (
-        &[
-            Opens,
-            PONG,
-            KEEPS,
-            FIRST,
-            Ends(""),
-            Opens,
-            PONG,
-            EMPTY,
-            EMPTY,
-        ],
-        &[
-            Append("a"),
-            Append("b"),
-            Pass(100),
-            Read(Some((5, 0))),
-            Read(Some((5, 0))),
-        ],
-        "connects\n*1~$4~PING~\n*2~$4~INFO~$11~persistence~\n\
-         *6~$4~XADD~$1~k~$10~NOMKSTREAM~$1~*~$1~e~$1~a~\n= 5-0\n\
-         *6~$4~XADD~$1~k~$10~NOMKSTREAM~$1~*~$1~e~$1~b~\n= Away\n100 ms\n\
-         connects\n*1~$4~PING~\n*4~$6~XRANGE~$1~k~$3~5-0~$3~5-0~\nlost\n= Lost\n\
-         *6~$6~XRANGE~$1~k~$4~(5-0~$1~+~$5~COUNT~$3~256~\n=\n",
-    ),
-    (
-        &[Opens, PONG, KEEPS, FOUND, Ends(""), Opens, PONG, EMPTY],
-        &[Read(None), Append("b"), Pass(100), Append("b")],
-        "connects\n*1~$4~PING~\n*2~$4~INFO~$11~persistence~\n\
-         *6~$6~XRANGE~$1~k~$1~-~$1~+~$5~COUNT~$3~256~\npasses over 5-0\n= 5-0 a\n\
-         *6~$4~XADD~$1~k~$10~NOMKSTREAM~$1~*~$1~e~$1~b~\n= Away\n100 ms\n\
-         connects\n*1~$4~PING~\n*4~$6~XRANGE~$1~k~$3~5-0~$3~5-0~\nlost\n= Lost\n",
-    ),
-    (
-        &[
-            Opens,
-            PONG,
-            KEEPS,
-            FIRST,
-            Says(":1\r\n"),
-            Ends(""),
-            Opens,
-            PONG,
-            SECOND,
-        ],
-        &[Append("a"), Trim(5, 0), Append("b"), Pass(100), Append("b")],
-        "connects\n*1~$4~PING~\n*2~$4~INFO~$11~persistence~\n\
-         *6~$4~XADD~$1~k~$10~NOMKSTREAM~$1~*~$1~e~$1~a~\n= 5-0\n\
-         *5~$5~XTRIM~$1~k~$5~MINID~$1~=~$3~5-1~\n= trimmed\n\
-         *6~$4~XADD~$1~k~$10~NOMKSTREAM~$1~*~$1~e~$1~b~\n= Away\n100 ms\n\
-         connects\n*1~$4~PING~\n*6~$4~XADD~$1~k~$10~NOMKSTREAM~$1~*~$1~e~$1~b~\n= 6-0\n",
-    ),
-];
-
-/// Tries: lw_redis_log::RedisLog::new
-#[test]
-fn what_is_lost_is_told(rt: HostRuntime) {
-    play_all(&rt, rt.alloc(), &LOST);
 }
 
 /// What a server tells of its disk is asked once, and told where it keeps nothing. One that does not tell is used.
