@@ -16,6 +16,7 @@ mod redis_log;
 mod replies;
 mod seen;
 mod tcp;
+mod trims;
 
 pub use commands::{
     ReadFrom, append_command, login_command, persistence_command, ping_command, read_command,
@@ -33,3 +34,4 @@ pub use patience::{LONGEST_PAUSE, SHORTEST_PAUSE, longer_pause, patience_for};
 pub use persistence::keeps_nothing;
 pub use redis_log::RedisLog;
 pub use tcp::TcpRedis;
+pub use trims::TRIM_DELAY;

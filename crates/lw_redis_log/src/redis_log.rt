@@ -11,7 +11,8 @@ use crate::outcomes::RedisFault;
 use crate::pages::{id_of, position_of};
 use crate::replies::{appended, page_read, trimmed};
 use crate::seen::Seen;
-use lw_log::{Bytes, DeltaLog, EntryFault, LogFault, Position, read_entry};
+use crate::trims::Trims;
+use lw_log::{Bytes, DeltaLog, EntryFault, LogFault, PAGE, Position, read_entry};
 use lw_resp::StreamId;
 use lw_stamp::NoMemory;
 use std::alloc::Global;
@@ -23,6 +24,9 @@ use std::alloc::Global;
 /// A reading above the entry that was read last asks for that entry as well. Where the stream does not begin with it,
 /// or lacks what this log has appended, it has lost something: the call answers `Lost`, and nothing is remembered of
 /// it. So does an append whose identifier is not above all that was seen, or that finds no stream.
+///
+/// Entries that are to go stay for `TRIM_DELAY`, so that another server finds the entry that it has read last. They go
+/// with a reading after that which has found that entry; a server that ends before leaves them.
 #[derive(Drop)]
 pub struct RedisLog<C: Connects> {
     pub(crate) alloc: Global,
@@ -34,6 +38,7 @@ pub struct RedisLog<C: Connects> {
     /// Whether nothing was read yet over the connection.
     pub(crate) is_new: bool,
     seen: Seen,
+    trims: Trims,
     /// Whether the next append makes the stream.
     makes: bool,
 }
@@ -62,6 +67,7 @@ impl<C: Connects> RedisLog<C> {
             is_known: false,
             is_new: false,
             seen: Seen::new(),
+            trims: Trims::new(),
             makes: false,
         })
     }
@@ -88,6 +94,7 @@ impl<C: Connects> RedisLog<C> {
         ensures asked { result ≢ LogFault.NoMemory }
     {
         self.seen = Seen::new();
+        self.trims = Trims::new();
         self.line.world.hear(Notice::Lost);
         LogFault::Lost
     }
@@ -116,6 +123,11 @@ impl<C: Connects> RedisLog<C> {
         }
         self.seen.note_page(from, &page);
         self.look_at(&page);
+        if let ReadFrom::At(_) = from
+            && page.len() < PAGE
+        {
+            self.trim_what_is_due();
+        }
         Ok(page)
     }
 
@@ -149,17 +161,29 @@ impl<C: Connects> RedisLog<C> {
         }
     }
 
-    fn ask_trim(&mut self, command: &[u8], upto: StreamId) -> Result<(), LogFault>
-        ensures asked { IfErr result (λ fault. fault ≢ LogFault.NoMemory) }
-    {
-        self.make_ready()?;
-        let bytes = self.ask(command)?;
-        match trimmed(self.alloc, &bytes) {
-            Ok(_) => {
-                self.line.settle();
+    /// Has go what has waited for its time, from a stream that has just shown that it is the one that was read before.
+    /// Where the server does not do it, it is asked again later.
+    fn trim_what_is_due(&mut self) {
+        let now = self.line.world.milliseconds();
+        let Some(upto) = self.trims.due(now) else {
+            return;
+        };
+        match self.ask_trim(upto) {
+            Ok(()) => {
+                self.trims.end_first();
                 self.seen.note_trim(upto);
-                Ok(())
             }
+            Err(_) => self.trims.put_off(now),
+        }
+    }
+
+    fn ask_trim(&mut self, upto: StreamId) -> Result<(), LogFault> {
+        let Ok(command) = trim_command(self.alloc, &self.key, upto) else {
+            return Err(LogFault::NoMemory);
+        };
+        let bytes = self.ask(&command)?;
+        match trimmed(self.alloc, &bytes) {
+            Ok(_) => Ok(()),
             Err(fault) => Err(self.fail(fault)),
         }
     }
@@ -178,7 +202,8 @@ impl<C: Connects> RedisLog<C> {
 // Want of memory is told only before the server is asked. What is read or written later is as away.
 impl<C: Connects> DeltaLog for RedisLog<C> {
     fn read(&mut self, after: Option<Position>) -> Result<Vec<(Position, Bytes)>, LogFault> {
-        let must_look = self.is_new || !self.line.is_open();
+        let trims = self.trims.due(self.line.world.milliseconds()).is_some();
+        let must_look = trims || self.is_new || !self.line.is_open();
         let from = self.seen.from(after.map(id_of), must_look);
         let Ok(command) = read_command(self.alloc, &self.key, from) else {
             return Err(LogFault::NoMemory);
@@ -193,12 +218,11 @@ impl<C: Connects> DeltaLog for RedisLog<C> {
         self.ask_append(&command, entry)
     }
 
+    /// Has the entries go with a later reading.
     fn trim(&mut self, upto: Position) -> Result<(), LogFault> {
-        let id = id_of(upto);
-        let Ok(command) = trim_command(self.alloc, &self.key, id) else {
-            return Err(LogFault::NoMemory);
-        };
-        self.ask_trim(&command, id)
+        let now = self.line.world.milliseconds();
+        self.trims.note(id_of(upto), now);
+        Ok(())
     }
 
     fn is_alone(&self) -> bool {

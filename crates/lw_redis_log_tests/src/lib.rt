@@ -21,3 +21,5 @@ mod pauses;
 mod stage;
 #[cfg(test)]
 mod stories;
+#[cfg(test)]
+mod trims;

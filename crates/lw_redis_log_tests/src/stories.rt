@@ -1,4 +1,4 @@
-use crate::stage::Act::{Append, Pass, Read, Trim};
+use crate::stage::Act::{Append, Pass, Read};
 use crate::stage::Answer::{Ends, Fails, Opens, Says, SaysSlowly};
 use crate::stage::{Act, Answer, Story, play, play_all};
 use lw_redis_log::Login;
@@ -61,35 +61,20 @@ fn a_stream_is_made(rt: HostRuntime) {
     play_all(&rt, rt.alloc(), &MADE);
 }
 
-/// A refusal is told, and the connection stays. So it does at a trim.
-static REFUSED: [Story<'static>; 2] = [
-    (
-        &[
-            Opens,
-            PONG,
-            KEEPS,
-            Says("-NOPERM no permissions\r\n"),
-            FIRST,
-        ],
-        &[Append("a"), Append("a")],
-        "connects\n*1~$4~PING~\n*2~$4~INFO~$11~persistence~\n\
+/// A refusal is told, and the connection stays.
+static REFUSED: [Story<'static>; 1] = [(
+    &[
+        Opens,
+        PONG,
+        KEEPS,
+        Says("-NOPERM no permissions\r\n"),
+        FIRST,
+    ],
+    &[Append("a"), Append("a")],
+    "connects\n*1~$4~PING~\n*2~$4~INFO~$11~persistence~\n\
          *6~$4~XADD~$1~k~$10~NOMKSTREAM~$1~*~$1~e~$1~a~\nNOPERM no permissions\n= Refused\n\
          *6~$4~XADD~$1~k~$10~NOMKSTREAM~$1~*~$1~e~$1~a~\n= 5-0\n",
-    ),
-    (
-        &[
-            Opens,
-            PONG,
-            KEEPS,
-            Says(":2\r\n"),
-            Says("-WRONGTYPE other\r\n"),
-        ],
-        &[Trim(5, 0), Trim(5, 0)],
-        "connects\n*1~$4~PING~\n*2~$4~INFO~$11~persistence~\n\
-         *5~$5~XTRIM~$1~k~$5~MINID~$1~=~$3~5-1~\n= trimmed\n\
-         *5~$5~XTRIM~$1~k~$5~MINID~$1~=~$3~5-1~\nWRONGTYPE other\n= Refused\n",
-    ),
-];
+)];
 
 /// Tries: lw_redis_log::RedisLog::new
 #[test]
