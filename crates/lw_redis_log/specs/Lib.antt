@@ -1,5 +1,6 @@
 pub mod Commands
 pub mod Errors
+pub mod Fleets
 pub mod Outcomes
 pub mod Persistence
 pub mod Pages

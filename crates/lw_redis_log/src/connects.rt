@@ -14,6 +14,10 @@ pub enum Notice<'a> {
     Lost,
     /// What stands there is no entry of a log, and is passed over.
     PassedOver(StreamId),
+    /// What stands there is a delta of another fleet, and is passed over.
+    AnotherFleet(StreamId),
+    /// The stream begins with a delta of another fleet.
+    AnotherStream,
 }
 
 /// Connections to a Redis, a clock that only goes on, and who is told.

@@ -5,9 +5,11 @@ mod commands;
 mod connection;
 mod connects;
 mod errors;
+mod fleets;
 mod greeting;
 mod login;
 mod marks;
+mod notice_rate;
 mod outcomes;
 mod pages;
 mod patience;
@@ -24,6 +26,7 @@ pub use commands::{
 };
 pub use connects::{Connects, Notice};
 pub use errors::{MAX_SHOWN, error_prefix, passes, shown};
+pub use fleets::fleet_of_delta;
 pub use login::{Login, LoginFault, MAX_PART};
 pub use marks::{Arrival, LOOK_SIZE, Mark, arrival_in, behind, is_looked_for};
 pub use outcomes::{

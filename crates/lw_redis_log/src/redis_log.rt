@@ -6,13 +6,15 @@ use crate::commands::{ReadFrom, append_command, read_command, trim_command};
 use crate::connection::Line;
 use crate::connects::{Connects, Notice};
 use crate::errors::shown;
+use crate::fleets::{Fleet, Owner, fleet_of_delta};
 use crate::login::Login;
+use crate::notice_rate::NoticeRate;
 use crate::outcomes::RedisFault;
 use crate::pages::{id_of, position_of};
 use crate::replies::{appended, page_read, trimmed};
 use crate::seen::Seen;
 use crate::trims::Trims;
-use lw_log::{Bytes, DeltaLog, EntryFault, LogFault, PAGE, Position, read_entry};
+use lw_log::{Bytes, DeltaLog, EntryFault, LogFault, PAGE, Position};
 use lw_resp::StreamId;
 use lw_stamp::NoMemory;
 use std::alloc::Global;
@@ -27,6 +29,9 @@ use std::alloc::Global;
 ///
 /// Entries that are to go stay for `TRIM_DELAY`, so that another server finds the entry that it has read last. They go
 /// with a reading after that which has found that entry; a server that ends before leaves them.
+///
+/// The first delta that is read or appended tells the fleet. A delta of another fleet is given without its bytes, as
+/// what is no entry. Where a stream begins with one, it is another fleet's, and reading it answers `Refused`.
 #[derive(Drop)]
 pub struct RedisLog<C: Connects> {
     pub(crate) alloc: Global,
@@ -39,16 +44,12 @@ pub struct RedisLog<C: Connects> {
     pub(crate) is_new: bool,
     seen: Seen,
     trims: Trims,
+    fleet: Fleet,
+    /// Whether the stream was told to be another fleet's.
+    is_foreign: bool,
+    rate: NoticeRate,
     /// Whether the next append makes the stream.
     makes: bool,
-}
-
-/// Whether the bytes are no entry, nor one of a later format.
-fn is_passed_over(bytes: &[u8]) -> bool {
-    match read_entry(bytes) {
-        Ok(_) | Err(EntryFault::Newer) => false,
-        Err(_) => true,
-    }
 }
 
 impl<C: Connects> RedisLog<C> {
@@ -68,6 +69,9 @@ impl<C: Connects> RedisLog<C> {
             is_new: false,
             seen: Seen::new(),
             trims: Trims::new(),
+            fleet: Fleet::new(),
+            is_foreign: false,
+            rate: NoticeRate::new(),
             makes: false,
         })
     }
@@ -113,16 +117,12 @@ impl<C: Connects> RedisLog<C> {
             Err(fault) => return Err(self.fail(fault)),
         };
         self.line.settle();
-        let Some(page) = self.seen.take(from, page) else {
+        let Some(mut page) = self.seen.take(from, page) else {
             return Err(self.lose());
         };
         self.is_new = false;
-        // Only a reading of the whole stream tells that there is none.
-        if from == ReadFrom::First || !page.is_empty() {
-            self.makes = page.is_empty();
-        }
-        self.seen.note_page(from, &page);
-        self.look_at(&page);
+        self.note_page(from, &page);
+        self.sift(&mut page)?;
         if let ReadFrom::At(_) = from
             && page.len() < PAGE
         {
@@ -131,13 +131,57 @@ impl<C: Connects> RedisLog<C> {
         Ok(page)
     }
 
-    /// Tells of what in the page is no entry.
-    fn look_at(&mut self, page: &[(Position, Bytes)]) {
-        for (position, bytes) in page {
-            if is_passed_over(bytes) {
-                self.line.world.hear(Notice::PassedOver(id_of(*position)));
+    /// Remembers what was read.
+    fn note_page(&mut self, from: ReadFrom, page: &[(Position, Bytes)]) {
+        if from == ReadFrom::First {
+            self.fleet.begin();
+        }
+        // Only a reading of the whole stream tells that there is none.
+        if from == ReadFrom::First || !page.is_empty() {
+            self.makes = page.is_empty();
+        }
+        self.seen.note_page(from, page);
+    }
+
+    /// Tells of what in the page is no entry of the fleet. Of a delta of another fleet no bytes are left.
+    fn sift(&mut self, page: &mut Vec<(Position, Bytes)>) -> Result<(), LogFault>
+        ensures asked { IfErr result (λ fault. fault ≢ LogFault.NoMemory) }
+    {
+        for (position, bytes) in page.iter_mut() {
+            match fleet_of_delta(bytes) {
+                Ok(None) | Err(EntryFault::Newer) => {}
+                Ok(Some(fleet)) => match self.fleet.owner(fleet) {
+                    Owner::Own => self.is_foreign = false,
+                    Owner::Another => {
+                        *bytes = Bytes::new();
+                        self.tell(Notice::AnotherFleet(id_of(*position)));
+                    }
+                    Owner::AnotherStream => return Err(self.refuse_stream()),
+                },
+                Err(_) => self.tell(Notice::PassedOver(id_of(*position))),
             }
         }
+        Ok(())
+    }
+
+    /// Tells of an entry that is passed over, unless many were told of in this second.
+    fn tell(&mut self, notice: Notice<'_>) {
+        if self.rate.tells(self.line.world.milliseconds()) {
+            self.line.world.hear(notice);
+        }
+    }
+
+    /// The stream is another fleet's. It is told once.
+    fn refuse_stream(&mut self) -> LogFault
+        ensures asked { result ≢ LogFault.NoMemory }
+    {
+        self.seen = Seen::new();
+        self.trims = Trims::new();
+        if !self.is_foreign {
+            self.line.world.hear(Notice::AnotherStream);
+        }
+        self.is_foreign = true;
+        LogFault::Refused
     }
 
     fn ask_append(&mut self, command: &[u8], entry: &[u8]) -> Result<Position, LogFault>
@@ -149,6 +193,7 @@ impl<C: Connects> RedisLog<C> {
             Ok(id) => {
                 self.line.settle();
                 self.makes = false;
+                self.fleet.note_append(entry);
                 if self.seen.note_append(id, entry) {
                     return Ok(position_of(id));
                 }

@@ -1,7 +1,7 @@
 //! Connections over TCP.
 
 use crate::connects::{Connects, Notice};
-use log::{Log, warn};
+use log::{Log, error, warn};
 use std::io::{self, ErrorKind};
 use std::net::{Net, OpenStream, SocketAddr, TcpStream, ToSocketAddrs};
 use std::time::{Clock, Duration, Instant};
@@ -74,6 +74,10 @@ impl<R: Net + Clock, L: Log> Connects for TcpRedis<'_, '_, R, L> {
             Notice::PassedOver(id) => {
                 warn!(log; "entry passed over position={}-{}", id.major, id.minor);
             }
+            Notice::AnotherFleet(id) => {
+                error!(log; "entry of another fleet passed over id={}-{}", id.major, id.minor);
+            }
+            Notice::AnotherStream => error!(log; "stream of another fleet"),
         }
     }
 }

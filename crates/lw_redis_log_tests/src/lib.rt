@@ -6,6 +6,8 @@ mod commands;
 #[cfg(test)]
 mod errors;
 #[cfg(test)]
+mod fleets;
+#[cfg(test)]
 mod hold;
 #[cfg(test)]
 mod login;

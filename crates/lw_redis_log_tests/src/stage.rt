@@ -27,6 +27,7 @@ pub(crate) enum Answer {
 }
 
 /// What is done, in order.
+#[derive(Drop)]
 pub(crate) enum Act {
     /// Entries are read above a position, or from the start.
     Read(Option<(u64, u64)>),
@@ -191,6 +192,8 @@ impl<'a> Connects for Caller<'a> {
             Notice::KeepsNothing => self.stage.note("keeps nothing"),
             Notice::Lost => self.stage.note("lost"),
             Notice::PassedOver(id) => self.stage.note_id("passes over", id),
+            Notice::AnotherFleet(id) => self.stage.note_id("another fleet", id),
+            Notice::AnotherStream => self.stage.note("another stream"),
         };
     }
 }
