@@ -1,5 +1,5 @@
 pub mod Places
 pub mod Beginnings
-pub mod NoFile
+pub mod Telling
 pub mod LoginLemmas
 pub mod PageLemmas

@@ -47,5 +47,5 @@ login_words user password = codes "AUTH" ∷ user ∷ password ∷ []
 abbrev pub ping_words : List (List ℕ)
 ping_words = codes "PING" ∷ []
 
-abbrev pub persistence_words : List (List ℕ)
-persistence_words = codes "INFO" ∷ codes "persistence" ∷ []
+abbrev pub info_words : List (List ℕ)
+info_words = codes "INFO" ∷ []

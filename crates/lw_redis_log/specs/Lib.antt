@@ -2,7 +2,7 @@ pub mod Commands
 pub mod Errors
 pub mod Fleets
 pub mod Outcomes
-pub mod Persistence
+pub mod Settings
 pub mod Pages
 pub mod Marks
 pub mod Logins

@@ -2,7 +2,7 @@
 
 ghost use Rattle.std.specs.Prelude.{◌≡◌, ◌++◌, IfOk, OnOk};
 ghost use Rattle.lw_resp.specs.Bytes.{command_bytes};
-ghost use Rattle.lw_redis_log.specs.Commands.{start_word, count_word, read_words, append_words, login_words, ping_words, persistence_words, IsTrim};
+ghost use Rattle.lw_redis_log.specs.Commands.{start_word, count_word, read_words, append_words, login_words, ping_words, info_words, IsTrim};
 
 use lw_resp::{FIELD, StreamId, command};
 use lw_stamp::NoMemory;
@@ -89,9 +89,9 @@ pub fn ping_command(alloc: Global) -> Result<Vec<u8>, NoMemory>
     command(alloc, &[b"PING"])
 }
 
-/// Asks what the server keeps on its disk.
-pub fn persistence_command(alloc: Global) -> Result<Vec<u8>, NoMemory>
-    ensures { IfOk result (λ bytes. bytes.items ≡ command_bytes persistence_words) }
+/// Asks what the server is, and how it is set.
+pub fn info_command(alloc: Global) -> Result<Vec<u8>, NoMemory>
+    ensures { IfOk result (λ bytes. bytes.items ≡ command_bytes info_words) }
 {
-    command(alloc, &[b"INFO", b"persistence"])
+    command(alloc, &[b"INFO"])
 }

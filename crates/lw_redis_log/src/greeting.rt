@@ -2,12 +2,13 @@
 
 ghost use Rattle.std.specs.Prelude.{◌≢◌, IfErr};
 
-use crate::commands::{login_command, persistence_command, ping_command};
+use crate::commands::{info_command, login_command, ping_command};
 use crate::connects::{Connects, Notice};
 use crate::errors::error_prefix;
 use crate::outcomes::RedisFault;
 use crate::redis_log::RedisLog;
-use crate::replies::{forgets, said};
+use crate::replies::{said, settings};
+use crate::settings::Settings;
 use lw_log::LogFault;
 use lw_stamp::NoMemory;
 
@@ -30,7 +31,7 @@ impl<C: Connects> RedisLog<C> {
     {
         self.log_in()?;
         self.ping()?;
-        self.learn_persistence()?;
+        self.learn_settings()?;
         self.is_new = true;
         Ok(())
     }
@@ -84,20 +85,34 @@ impl<C: Connects> RedisLog<C> {
         }
     }
 
-    /// Asks once what the server keeps. One that does not tell is used nevertheless.
-    fn learn_persistence(&mut self) -> Result<(), LogFault>
+    /// Asks what the server is. One that does not tell is used nevertheless.
+    fn learn_settings(&mut self) -> Result<(), LogFault>
         ensures asked { IfErr result (λ fault. fault ≢ LogFault.NoMemory) }
     {
-        if self.is_known {
-            return Ok(());
+        let bytes = self.ask_made(info_command(self.alloc))?;
+        match settings(self.alloc, &bytes) {
+            Ok(settings) => {
+                self.warn(settings);
+                Ok(())
+            }
+            Err(RedisFault::Refused(_)) => Ok(()),
+            Err(fault) => Err(self.give_up(fault)),
         }
-        let bytes = self.ask_made(persistence_command(self.alloc))?;
-        match forgets(self.alloc, &bytes) {
-            Ok(true) => self.line.world.hear(Notice::KeepsNothing),
-            Ok(false) | Err(RedisFault::Refused(_)) => {}
-            Err(fault) => return Err(self.give_up(fault)),
+    }
+
+    /// Tells of what may lose the stream, of each once.
+    fn warn(&mut self, settings: Settings) {
+        if settings.keeps_nothing && !self.warned.keeps_nothing {
+            self.warned.keeps_nothing = true;
+            self.line.world.hear(Notice::KeepsNothing);
         }
-        self.is_known = true;
-        Ok(())
+        if settings.is_replica && !self.warned.is_replica {
+            self.warned.is_replica = true;
+            self.line.world.hear(Notice::IsReplica);
+        }
+        if settings.evicts && !self.warned.evicts {
+            self.warned.evicts = true;
+            self.line.world.hear(Notice::Evicts);
+        }
     }
 }

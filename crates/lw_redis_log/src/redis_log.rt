@@ -13,6 +13,7 @@ use crate::outcomes::RedisFault;
 use crate::pages::{id_of, position_of};
 use crate::replies::{appended, page_read, trimmed};
 use crate::seen::Seen;
+use crate::settings::Settings;
 use crate::trims::Trims;
 use lw_log::{Bytes, DeltaLog, EntryFault, LogFault, PAGE, Position};
 use lw_resp::StreamId;
@@ -38,8 +39,8 @@ pub struct RedisLog<C: Connects> {
     pub(crate) line: Line<C>,
     pub(crate) login: Option<Login>,
     pub(crate) key: Vec<u8>,
-    /// Whether the server was asked what it keeps on its disk.
-    pub(crate) is_known: bool,
+    /// What was told of a server.
+    pub(crate) warned: Settings,
     /// Whether nothing was read yet over the connection.
     pub(crate) is_new: bool,
     seen: Seen,
@@ -65,7 +66,11 @@ impl<C: Connects> RedisLog<C> {
             line: Line::new(alloc, world),
             login,
             key: key.to_vec(alloc)?,
-            is_known: false,
+            warned: Settings {
+                keeps_nothing: false,
+                is_replica: false,
+                evicts: false,
+            },
             is_new: false,
             seen: Seen::new(),
             trims: Trims::new(),

@@ -70,6 +70,8 @@ impl<R: Net + Clock, L: Log> Connects for TcpRedis<'_, '_, R, L> {
         match notice {
             Notice::Refused(text) => warn!(log; "redis refused error={text}"),
             Notice::KeepsNothing => warn!(log; "redis keeps nothing on its disk"),
+            Notice::IsReplica => warn!(log; "redis is a replica"),
+            Notice::Evicts => warn!(log; "redis may evict the stream"),
             Notice::Lost => warn!(log; "redis lost the end of the stream"),
             Notice::PassedOver(id) => {
                 warn!(log; "entry passed over position={}-{}", id.major, id.minor);

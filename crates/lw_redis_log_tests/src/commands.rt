@@ -1,7 +1,6 @@
 use crate::hold::shown;
 use lw_redis_log::{
-    ReadFrom, append_command, login_command, persistence_command, ping_command, read_command,
-    trim_command,
+    ReadFrom, append_command, info_command, login_command, ping_command, read_command, trim_command,
 };
 use lw_resp::StreamId;
 use std::alloc::Global;
@@ -14,7 +13,7 @@ enum Asked {
     Trim(StreamId),
     Login,
     Ping,
-    Persistence,
+    Info,
 }
 
 /// The command over the key `fleet`, or with the user.
@@ -26,7 +25,7 @@ fn bytes_of(rt: &impl Abort, alloc: Global, asked: &Asked) -> Vec<u8> {
         Asked::Trim(upto) => trim_command(alloc, key, *upto),
         Asked::Login => login_command(alloc, key, b"a secret"),
         Asked::Ping => ping_command(alloc),
-        Asked::Persistence => persistence_command(alloc),
+        Asked::Info => info_command(alloc),
     };
     bytes.expect(rt, "memory")
 }
@@ -91,11 +90,11 @@ static ROWS: [(Asked, &str); 11] = [
     ),
     (Asked::Login, "*3~$4~AUTH~$5~fleet~$8~a secret~"),
     (Asked::Ping, "*1~$4~PING~"),
-    (Asked::Persistence, "*2~$4~INFO~$11~persistence~"),
+    (Asked::Info, "*1~$4~INFO~"),
 ];
 
 /// Tries: lw_redis_log::read_command, lw_redis_log::append_command, lw_redis_log::trim_command
-/// Tries: lw_redis_log::login_command, lw_redis_log::ping_command, lw_redis_log::persistence_command
+/// Tries: lw_redis_log::login_command, lw_redis_log::ping_command, lw_redis_log::info_command
 #[test]
 fn commands_are_arrays_of_their_words(rt: HostRuntime) {
     for (asked, want) in &ROWS {

@@ -80,7 +80,7 @@ static OVER: [Story<'static>; 5] = [
     (
         &[Opens, PONG, KEEPS, OWN, MIXED],
         &[Read(None), Read(Some((5, 0)))],
-        "connects\n*1~$4~PING~\n*2~$4~INFO~$11~persistence~\n\
+        "connects\n*1~$4~PING~\n*1~$4~INFO~\n\
          *6~$6~XRANGE~$1~k~$1~-~$1~+~$5~COUNT~$3~256~\n= 5-0 LWE1FFFFFFFFFFFFFFFF01ttttttttssssssss?LWD3???????\n\
          *6~$6~XRANGE~$1~k~$3~5-0~$1~+~$5~COUNT~$3~257~\n\
          another fleet 6-0\n= 6-0  7-0 LWE1FFFFFFFFFFFFFFFF01ttttttttssssssss?LWD3???????\n",
@@ -94,7 +94,7 @@ static OVER: [Story<'static>; 5] = [
             Read(Some((6, 0))),
             Read(Some((6, 0))),
         ],
-        "connects\n*1~$4~PING~\n*2~$4~INFO~$11~persistence~\n\
+        "connects\n*1~$4~PING~\n*1~$4~INFO~\n\
          *6~$6~XRANGE~$1~k~$1~-~$1~+~$5~COUNT~$3~256~\n= 5-0 LWE1FFFFFFFFFFFFFFFF01ttttttttssssssss?LWD3???????\n\
          *6~$6~XRANGE~$1~k~$3~5-0~$1~+~$5~COUNT~$3~257~\nanother fleet 6-0\n= 6-0 \n\
          *6~$6~XRANGE~$1~k~$3~6-0~$1~+~$5~COUNT~$3~257~\n=\n\
@@ -103,7 +103,7 @@ static OVER: [Story<'static>; 5] = [
     (
         &[Opens, PONG, KEEPS, AT_5, LAST_OF_G],
         &[Append(DELTA), Read(None)],
-        "connects\n*1~$4~PING~\n*2~$4~INFO~$11~persistence~\n\
+        "connects\n*1~$4~PING~\n*1~$4~INFO~\n\
          *6~$4~XADD~$1~k~$10~NOMKSTREAM~$1~*~$1~e~$50~LWE1FFFFFFFFFFFFFFFF01ttttttttssssssss?LWD3???????~\n= 5-0\n\
          *6~$6~XRANGE~$1~k~$1~-~$1~+~$5~COUNT~$3~256~\n\
          another fleet 6-0\n= 5-0 LWE1FFFFFFFFFFFFFFFF01ttttttttssssssss?LWD3??????? 6-0 \n",
@@ -111,7 +111,7 @@ static OVER: [Story<'static>; 5] = [
     (
         &[Opens, PONG, KEEPS, STARTS],
         &[Read(None)],
-        "connects\n*1~$4~PING~\n*2~$4~INFO~$11~persistence~\n\
+        "connects\n*1~$4~PING~\n*1~$4~INFO~\n\
          *6~$6~XRANGE~$1~k~$1~-~$1~+~$5~COUNT~$3~256~\n\
          = 4-0 LWE1GGGGGGGGGGGGGGGG01ttttttttssssssss? 5-0 LWE1FFFFFFFFFFFFFFFF01ttttttttssssssss?LWD3??????? 6-0 \
          LWE1GGGGGGGGGGGGGGGG01ttttttttssssssss?\n",
@@ -119,7 +119,7 @@ static OVER: [Story<'static>; 5] = [
     (
         &[Opens, PONG, KEEPS, OWN, EMPTY, WHOLE_OF_G],
         &[Read(None), Read(Some((1, 0))), Read(Some((2, 0)))],
-        "connects\n*1~$4~PING~\n*2~$4~INFO~$11~persistence~\n\
+        "connects\n*1~$4~PING~\n*1~$4~INFO~\n\
          *6~$6~XRANGE~$1~k~$1~-~$1~+~$5~COUNT~$3~256~\n= 5-0 LWE1FFFFFFFFFFFFFFFF01ttttttttssssssss?LWD3???????\n\
          *6~$6~XRANGE~$1~k~$4~(1-0~$1~+~$5~COUNT~$3~256~\n=\n\
          *6~$6~XRANGE~$1~k~$4~(2-0~$1~+~$5~COUNT~$3~256~\nanother fleet 6-0\n= 6-0 \n",
@@ -145,7 +145,7 @@ static STREAM: [Story<'static>; 4] = [
             Read(None),
             Read(None),
         ],
-        "connects\n*1~$4~PING~\n*2~$4~INFO~$11~persistence~\n\
+        "connects\n*1~$4~PING~\n*1~$4~INFO~\n\
          *6~$4~XADD~$1~k~$10~NOMKSTREAM~$1~*~$1~e~$50~LWE1FFFFFFFFFFFFFFFF01ttttttttssssssss?LWD3???????~\n= 5-0\n\
          *6~$6~XRANGE~$1~k~$1~-~$1~+~$5~COUNT~$3~256~\nanother stream\n= Refused\n\
          *6~$6~XRANGE~$1~k~$1~-~$1~+~$5~COUNT~$3~256~\n= Refused\n\
@@ -156,7 +156,7 @@ static STREAM: [Story<'static>; 4] = [
     (
         &[Opens, PONG, KEEPS, OWN, EMPTY, WHOLE_OF_G],
         &[Read(None), Read(Some((5, 0))), Read(None)],
-        "connects\n*1~$4~PING~\n*2~$4~INFO~$11~persistence~\n\
+        "connects\n*1~$4~PING~\n*1~$4~INFO~\n\
          *6~$6~XRANGE~$1~k~$1~-~$1~+~$5~COUNT~$3~256~\n= 5-0 LWE1FFFFFFFFFFFFFFFF01ttttttttssssssss?LWD3???????\n\
          *6~$6~XRANGE~$1~k~$3~5-0~$1~+~$5~COUNT~$3~257~\nlost\n= Lost\n\
          *6~$6~XRANGE~$1~k~$1~-~$1~+~$5~COUNT~$3~256~\nanother stream\n= Refused\n",
@@ -170,7 +170,7 @@ static STREAM: [Story<'static>; 4] = [
             Read(Some((5, 0))),
             Read(Some((5, 0))),
         ],
-        "connects\n*1~$4~PING~\n*2~$4~INFO~$11~persistence~\n\
+        "connects\n*1~$4~PING~\n*1~$4~INFO~\n\
          *6~$6~XRANGE~$1~k~$1~-~$1~+~$5~COUNT~$3~256~\n= 5-0 LWE1FFFFFFFFFFFFFFFF01ttttttttssssssss?LWD3???????\n\
          *6~$6~XRANGE~$1~k~$1~-~$1~+~$5~COUNT~$3~256~\n=\n\
          *6~$6~XRANGE~$1~k~$4~(5-0~$1~+~$5~COUNT~$3~256~\nanother stream\n= Refused\n\
@@ -180,7 +180,7 @@ static STREAM: [Story<'static>; 4] = [
     (
         &[Opens, PONG, KEEPS, FIRST_OF_G],
         &[Read(None)],
-        "connects\n*1~$4~PING~\n*2~$4~INFO~$11~persistence~\n\
+        "connects\n*1~$4~PING~\n*1~$4~INFO~\n\
          *6~$6~XRANGE~$1~k~$1~-~$1~+~$5~COUNT~$3~256~\n\
          another fleet 5-0\n= 4-0 LWE1GGGGGGGGGGGGGGGG01ttttttttssssssss?LWD3??????? 5-0 \n",
     ),
@@ -232,7 +232,7 @@ fn no_more_than_100_are_told_of_in_a_second(rt: HostRuntime) {
     read_all(&mut acts, &mut answers, 1).expect(&rt, "memory");
     let first = readings(alloc, TOLD + 2, TOLD).expect(&rt, "memory");
     let then = readings(alloc, 1, 1).expect(&rt, "memory");
-    let greeting = "connects\n*1~$4~PING~\n*2~$4~INFO~$11~persistence~\n";
+    let greeting = "connects\n*1~$4~PING~\n*1~$4~INFO~\n";
     let want = format!(in alloc; "{greeting}{first}1000 ms\n{then}").expect(&rt, "memory");
     play(&rt, alloc, (&answers, &acts, want.as_str()), None);
 }

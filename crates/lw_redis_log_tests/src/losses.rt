@@ -46,7 +46,7 @@ static READ_BEFORE: [Story<'static>; 7] = [
             Read(Some((5, 0))),
             Read(Some((6, 0))),
         ],
-        "connects\n*1~$4~PING~\n*2~$4~INFO~$11~persistence~\n\
+        "connects\n*1~$4~PING~\n*1~$4~INFO~\n\
          *6~$6~XRANGE~$1~k~$1~-~$1~+~$5~COUNT~$3~256~\npasses over 5-0\n= 5-0 a\n\
          *6~$6~XRANGE~$1~k~$3~5-0~$1~+~$5~COUNT~$3~257~\n=\n\
          *6~$6~XRANGE~$1~k~$3~5-0~$1~+~$5~COUNT~$3~257~\npasses over 6-0\n= 6-0 b\n\
@@ -55,7 +55,7 @@ static READ_BEFORE: [Story<'static>; 7] = [
     (
         &[Opens, PONG, KEEPS, FIFTH, EMPTY, EMPTY],
         &[Read(None), Read(Some((5, 0))), Read(Some((5, 0)))],
-        "connects\n*1~$4~PING~\n*2~$4~INFO~$11~persistence~\n\
+        "connects\n*1~$4~PING~\n*1~$4~INFO~\n\
          *6~$6~XRANGE~$1~k~$1~-~$1~+~$5~COUNT~$3~256~\npasses over 5-0\n= 5-0 a\n\
          *6~$6~XRANGE~$1~k~$3~5-0~$1~+~$5~COUNT~$3~257~\nlost\n= Lost\n\
          *6~$6~XRANGE~$1~k~$4~(5-0~$1~+~$5~COUNT~$3~256~\n=\n",
@@ -63,21 +63,21 @@ static READ_BEFORE: [Story<'static>; 7] = [
     (
         &[Opens, PONG, KEEPS, FIFTH, SIXTH],
         &[Read(None), Read(Some((5, 0)))],
-        "connects\n*1~$4~PING~\n*2~$4~INFO~$11~persistence~\n\
+        "connects\n*1~$4~PING~\n*1~$4~INFO~\n\
          *6~$6~XRANGE~$1~k~$1~-~$1~+~$5~COUNT~$3~256~\npasses over 5-0\n= 5-0 a\n\
          *6~$6~XRANGE~$1~k~$3~5-0~$1~+~$5~COUNT~$3~257~\nlost\n= Lost\n",
     ),
     (
         &[Opens, PONG, KEEPS, FIFTH, OTHER],
         &[Read(None), Read(Some((5, 0)))],
-        "connects\n*1~$4~PING~\n*2~$4~INFO~$11~persistence~\n\
+        "connects\n*1~$4~PING~\n*1~$4~INFO~\n\
          *6~$6~XRANGE~$1~k~$1~-~$1~+~$5~COUNT~$3~256~\npasses over 5-0\n= 5-0 a\n\
          *6~$6~XRANGE~$1~k~$3~5-0~$1~+~$5~COUNT~$3~257~\nlost\n= Lost\n",
     ),
     (
         &[Opens, PONG, KEEPS, FIFTH, FOREIGN],
         &[Read(None), Read(Some((5, 0)))],
-        "connects\n*1~$4~PING~\n*2~$4~INFO~$11~persistence~\n\
+        "connects\n*1~$4~PING~\n*1~$4~INFO~\n\
          *6~$6~XRANGE~$1~k~$1~-~$1~+~$5~COUNT~$3~256~\npasses over 5-0\n= 5-0 a\n\
          *6~$6~XRANGE~$1~k~$3~5-0~$1~+~$5~COUNT~$3~257~\nlost\n= Lost\n",
     ),
@@ -90,7 +90,7 @@ static READ_BEFORE: [Story<'static>; 7] = [
             Read(Some((5, 0))),
             Read(Some((5, 9))),
         ],
-        "connects\n*1~$4~PING~\n*2~$4~INFO~$11~persistence~\n\
+        "connects\n*1~$4~PING~\n*1~$4~INFO~\n\
          *6~$6~XRANGE~$1~k~$1~-~$1~+~$5~COUNT~$3~256~\npasses over 5-0\n= 5-0 a\n\
          *6~$6~XRANGE~$1~k~$1~-~$1~+~$5~COUNT~$3~256~\n=\n\
          *6~$6~XRANGE~$1~k~$4~(5-0~$1~+~$5~COUNT~$3~256~\npasses over 6-0\n= 6-0 b\n\
@@ -98,17 +98,27 @@ static READ_BEFORE: [Story<'static>; 7] = [
     ),
     // So it is over a connection that was made again.
     (
-        &[Opens, PONG, KEEPS, FIFTH, Ends(""), Opens, PONG, EMPTY],
+        &[
+            Opens,
+            PONG,
+            KEEPS,
+            FIFTH,
+            Ends(""),
+            Opens,
+            PONG,
+            KEEPS,
+            EMPTY,
+        ],
         &[
             Read(None),
             Read(Some((5, 0))),
             Pass(100),
             Read(Some((5, 0))),
         ],
-        "connects\n*1~$4~PING~\n*2~$4~INFO~$11~persistence~\n\
+        "connects\n*1~$4~PING~\n*1~$4~INFO~\n\
          *6~$6~XRANGE~$1~k~$1~-~$1~+~$5~COUNT~$3~256~\npasses over 5-0\n= 5-0 a\n\
          *6~$6~XRANGE~$1~k~$3~5-0~$1~+~$5~COUNT~$3~257~\n= Away\n100 ms\n\
-         connects\n*1~$4~PING~\n\
+         connects\n*1~$4~PING~\n*1~$4~INFO~\n\
          *6~$6~XRANGE~$1~k~$3~5-0~$1~+~$5~COUNT~$3~257~\nlost\n= Lost\n",
     ),
 ];
@@ -124,7 +134,7 @@ static OWN: [Story<'static>; 7] = [
     (
         &[Opens, PONG, KEEPS, AT_5, FIFTH, FIFTH],
         &[Append("a"), Read(None), Read(Some((5, 0)))],
-        "connects\n*1~$4~PING~\n*2~$4~INFO~$11~persistence~\n\
+        "connects\n*1~$4~PING~\n*1~$4~INFO~\n\
          *6~$4~XADD~$1~k~$10~NOMKSTREAM~$1~*~$1~e~$1~a~\n= 5-0\n\
          *6~$6~XRANGE~$1~k~$1~-~$1~+~$5~COUNT~$3~256~\npasses over 5-0\n= 5-0 a\n\
          *6~$6~XRANGE~$1~k~$3~5-0~$1~+~$5~COUNT~$3~257~\n=\n",
@@ -132,28 +142,28 @@ static OWN: [Story<'static>; 7] = [
     (
         &[Opens, PONG, KEEPS, AT_5, EMPTY],
         &[Append("a"), Read(None)],
-        "connects\n*1~$4~PING~\n*2~$4~INFO~$11~persistence~\n\
+        "connects\n*1~$4~PING~\n*1~$4~INFO~\n\
          *6~$4~XADD~$1~k~$10~NOMKSTREAM~$1~*~$1~e~$1~a~\n= 5-0\n\
          *6~$6~XRANGE~$1~k~$1~-~$1~+~$5~COUNT~$3~256~\nlost\n= Lost\n",
     ),
     (
         &[Opens, PONG, KEEPS, AT_5, SIXTH],
         &[Append("a"), Read(None)],
-        "connects\n*1~$4~PING~\n*2~$4~INFO~$11~persistence~\n\
+        "connects\n*1~$4~PING~\n*1~$4~INFO~\n\
          *6~$4~XADD~$1~k~$10~NOMKSTREAM~$1~*~$1~e~$1~a~\n= 5-0\n\
          *6~$6~XRANGE~$1~k~$1~-~$1~+~$5~COUNT~$3~256~\nlost\n= Lost\n",
     ),
     (
         &[Opens, PONG, KEEPS, AT_5, OTHER],
         &[Append("a"), Read(None)],
-        "connects\n*1~$4~PING~\n*2~$4~INFO~$11~persistence~\n\
+        "connects\n*1~$4~PING~\n*1~$4~INFO~\n\
          *6~$4~XADD~$1~k~$10~NOMKSTREAM~$1~*~$1~e~$1~a~\n= 5-0\n\
          *6~$6~XRANGE~$1~k~$1~-~$1~+~$5~COUNT~$3~256~\nlost\n= Lost\n",
     ),
     (
         &[Opens, PONG, KEEPS, AT_5, EMPTY],
         &[Append("a"), Read(Some((5, 0)))],
-        "connects\n*1~$4~PING~\n*2~$4~INFO~$11~persistence~\n\
+        "connects\n*1~$4~PING~\n*1~$4~INFO~\n\
          *6~$4~XADD~$1~k~$10~NOMKSTREAM~$1~*~$1~e~$1~a~\n= 5-0\n\
          *6~$6~XRANGE~$1~k~$4~(5-0~$1~+~$5~COUNT~$3~256~\nlost\n= Lost\n",
     ),
@@ -165,7 +175,7 @@ static OWN: [Story<'static>; 7] = [
             Read(Some((5, 0))),
             Read(Some((6, 0))),
         ],
-        "connects\n*1~$4~PING~\n*2~$4~INFO~$11~persistence~\n\
+        "connects\n*1~$4~PING~\n*1~$4~INFO~\n\
          *6~$6~XRANGE~$1~k~$1~-~$1~+~$5~COUNT~$3~256~\npasses over 5-0\n= 5-0 a\n\
          *6~$4~XADD~$1~k~$10~NOMKSTREAM~$1~*~$1~e~$1~b~\n= 6-0\n\
          *6~$6~XRANGE~$1~k~$3~5-0~$1~+~$5~COUNT~$3~257~\npasses over 6-0\n= 6-0 b\n\
@@ -174,7 +184,7 @@ static OWN: [Story<'static>; 7] = [
     (
         &[Opens, PONG, KEEPS, FIFTH, AT_6, FIFTH, FIFTH],
         &[Read(None), Append("b"), Read(Some((5, 0))), Read(None)],
-        "connects\n*1~$4~PING~\n*2~$4~INFO~$11~persistence~\n\
+        "connects\n*1~$4~PING~\n*1~$4~INFO~\n\
          *6~$6~XRANGE~$1~k~$1~-~$1~+~$5~COUNT~$3~256~\npasses over 5-0\n= 5-0 a\n\
          *6~$4~XADD~$1~k~$10~NOMKSTREAM~$1~*~$1~e~$1~b~\n= 6-0\n\
          *6~$6~XRANGE~$1~k~$3~5-0~$1~+~$5~COUNT~$3~257~\nlost\n= Lost\n\
@@ -193,7 +203,7 @@ static RISING: [Story<'static>; 5] = [
     (
         &[Opens, PONG, KEEPS, FIFTH, AT_5, AT_4],
         &[Read(None), Append("b"), Append("b")],
-        "connects\n*1~$4~PING~\n*2~$4~INFO~$11~persistence~\n\
+        "connects\n*1~$4~PING~\n*1~$4~INFO~\n\
          *6~$6~XRANGE~$1~k~$1~-~$1~+~$5~COUNT~$3~256~\npasses over 5-0\n= 5-0 a\n\
          *6~$4~XADD~$1~k~$10~NOMKSTREAM~$1~*~$1~e~$1~b~\nlost\n= Lost\n\
          *6~$4~XADD~$1~k~$10~NOMKSTREAM~$1~*~$1~e~$1~b~\n= 4-9\n",
@@ -201,21 +211,21 @@ static RISING: [Story<'static>; 5] = [
     (
         &[Opens, PONG, KEEPS, FIFTH, AT_4],
         &[Read(None), Append("b")],
-        "connects\n*1~$4~PING~\n*2~$4~INFO~$11~persistence~\n\
+        "connects\n*1~$4~PING~\n*1~$4~INFO~\n\
          *6~$6~XRANGE~$1~k~$1~-~$1~+~$5~COUNT~$3~256~\npasses over 5-0\n= 5-0 a\n\
          *6~$4~XADD~$1~k~$10~NOMKSTREAM~$1~*~$1~e~$1~b~\nlost\n= Lost\n",
     ),
     (
         &[Opens, PONG, KEEPS, AT_5, AT_5],
         &[Append("a"), Append("b")],
-        "connects\n*1~$4~PING~\n*2~$4~INFO~$11~persistence~\n\
+        "connects\n*1~$4~PING~\n*1~$4~INFO~\n\
          *6~$4~XADD~$1~k~$10~NOMKSTREAM~$1~*~$1~e~$1~a~\n= 5-0\n\
          *6~$4~XADD~$1~k~$10~NOMKSTREAM~$1~*~$1~e~$1~b~\nlost\n= Lost\n",
     ),
     (
         &[Opens, PONG, KEEPS, AT_5, AT_6, BOTH],
         &[Append("a"), Append("b"), Read(None)],
-        "connects\n*1~$4~PING~\n*2~$4~INFO~$11~persistence~\n\
+        "connects\n*1~$4~PING~\n*1~$4~INFO~\n\
          *6~$4~XADD~$1~k~$10~NOMKSTREAM~$1~*~$1~e~$1~a~\n= 5-0\n\
          *6~$4~XADD~$1~k~$10~NOMKSTREAM~$1~*~$1~e~$1~b~\n= 6-0\n\
          *6~$6~XRANGE~$1~k~$1~-~$1~+~$5~COUNT~$3~256~\npasses over 5-0\npasses over 6-0\n= 5-0 a 6-0 b\n",
@@ -223,7 +233,7 @@ static RISING: [Story<'static>; 5] = [
     (
         &[Opens, PONG, KEEPS, AT_5, Says("$-1\r\n"), EMPTY],
         &[Append("a"), Append("b"), Read(None)],
-        "connects\n*1~$4~PING~\n*2~$4~INFO~$11~persistence~\n\
+        "connects\n*1~$4~PING~\n*1~$4~INFO~\n\
          *6~$4~XADD~$1~k~$10~NOMKSTREAM~$1~*~$1~e~$1~a~\n= 5-0\n\
          *6~$4~XADD~$1~k~$10~NOMKSTREAM~$1~*~$1~e~$1~b~\nlost\n= Lost\n\
          *6~$6~XRANGE~$1~k~$1~-~$1~+~$5~COUNT~$3~256~\n=\n",
@@ -258,6 +268,7 @@ static LARGE_LAST: [Story<'static>; 2] = [
             Ends(""),
             Opens,
             PONG,
+            KEEPS,
             LARGE,
         ],
         &[
@@ -270,14 +281,14 @@ static LARGE_LAST: [Story<'static>; 2] = [
             Pass(100),
             Read(Some((5, 0))),
         ],
-        "connects\n*1~$4~PING~\n*2~$4~INFO~$11~persistence~\n\
+        "connects\n*1~$4~PING~\n*1~$4~INFO~\n\
          *6~$6~XRANGE~$1~k~$1~-~$1~+~$5~COUNT~$3~256~\npasses over 5-0\n= 5-0 (49153)\n\
          *6~$6~XRANGE~$1~k~$4~(5-0~$1~+~$5~COUNT~$3~256~\n=\n\
          *6~$6~XRANGE~$1~k~$4~(5-0~$1~+~$5~COUNT~$3~256~\n=\n\
          *6~$6~XRANGE~$1~k~$3~5-0~$1~+~$5~COUNT~$3~257~\n=\n\
          *6~$6~XRANGE~$1~k~$4~(5-0~$1~+~$5~COUNT~$3~256~\n=\n\
          *6~$6~XRANGE~$1~k~$4~(5-0~$1~+~$5~COUNT~$3~256~\n= Away\n100 ms\n\
-         connects\n*1~$4~PING~\n\
+         connects\n*1~$4~PING~\n*1~$4~INFO~\n\
          *6~$6~XRANGE~$1~k~$3~5-0~$1~+~$5~COUNT~$3~257~\n=\n",
     ),
     (
@@ -288,7 +299,7 @@ static LARGE_LAST: [Story<'static>; 2] = [
             Read(Some((5, 0))),
             Read(Some((5, 0))),
         ],
-        "connects\n*1~$4~PING~\n*2~$4~INFO~$11~persistence~\n\
+        "connects\n*1~$4~PING~\n*1~$4~INFO~\n\
          *6~$6~XRANGE~$1~k~$1~-~$1~+~$5~COUNT~$3~256~\npasses over 5-0\n= 5-0 (49153)\n\
          *6~$6~XRANGE~$1~k~$4~(5-0~$1~+~$5~COUNT~$3~256~\n=\n\
          *6~$6~XRANGE~$1~k~$4~(5-0~$1~+~$5~COUNT~$3~256~\n=\n\

@@ -190,6 +190,8 @@ impl<'a> Connects for Caller<'a> {
         let _ = match notice {
             Notice::Refused(error) => self.stage.note(error),
             Notice::KeepsNothing => self.stage.note("keeps nothing"),
+            Notice::IsReplica => self.stage.note("replica"),
+            Notice::Evicts => self.stage.note("evicts"),
             Notice::Lost => self.stage.note("lost"),
             Notice::PassedOver(id) => self.stage.note_id("passes over", id),
             Notice::AnotherFleet(id) => self.stage.note_id("another fleet", id),

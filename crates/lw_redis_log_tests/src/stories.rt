@@ -26,7 +26,7 @@ static MADE: [Story<'static>; 4] = [
     (
         &[Opens, PONG, KEEPS, EMPTY, FIRST, SECOND],
         &[Read(None), Append("a"), Append("b")],
-        "connects\n*1~$4~PING~\n*2~$4~INFO~$11~persistence~\n\
+        "connects\n*1~$4~PING~\n*1~$4~INFO~\n\
          *6~$6~XRANGE~$1~k~$1~-~$1~+~$5~COUNT~$3~256~\n=\n\
          *5~$4~XADD~$1~k~$1~*~$1~e~$1~a~\n= 5-0\n\
          *6~$4~XADD~$1~k~$10~NOMKSTREAM~$1~*~$1~e~$1~b~\n= 6-0\n",
@@ -34,21 +34,21 @@ static MADE: [Story<'static>; 4] = [
     (
         &[Opens, PONG, KEEPS, FOUND, SECOND],
         &[Read(None), Append("b")],
-        "connects\n*1~$4~PING~\n*2~$4~INFO~$11~persistence~\n\
+        "connects\n*1~$4~PING~\n*1~$4~INFO~\n\
          *6~$6~XRANGE~$1~k~$1~-~$1~+~$5~COUNT~$3~256~\npasses over 5-0\n= 5-0 a\n\
          *6~$4~XADD~$1~k~$10~NOMKSTREAM~$1~*~$1~e~$1~b~\n= 6-0\n",
     ),
     (
         &[Opens, PONG, KEEPS, EMPTY, SECOND],
         &[Read(Some((5, 0))), Append("b")],
-        "connects\n*1~$4~PING~\n*2~$4~INFO~$11~persistence~\n\
+        "connects\n*1~$4~PING~\n*1~$4~INFO~\n\
          *6~$6~XRANGE~$1~k~$4~(5-0~$1~+~$5~COUNT~$3~256~\n=\n\
          *6~$4~XADD~$1~k~$10~NOMKSTREAM~$1~*~$1~e~$1~b~\n= 6-0\n",
     ),
     (
         &[Opens, PONG, KEEPS, Says("$-1\r\n"), FIRST, SECOND],
         &[Append("a"), Append("a"), Append("b")],
-        "connects\n*1~$4~PING~\n*2~$4~INFO~$11~persistence~\n\
+        "connects\n*1~$4~PING~\n*1~$4~INFO~\n\
          *6~$4~XADD~$1~k~$10~NOMKSTREAM~$1~*~$1~e~$1~a~\nlost\n= Lost\n\
          *5~$4~XADD~$1~k~$1~*~$1~e~$1~a~\n= 5-0\n\
          *6~$4~XADD~$1~k~$10~NOMKSTREAM~$1~*~$1~e~$1~b~\n= 6-0\n",
@@ -71,7 +71,7 @@ static REFUSED: [Story<'static>; 1] = [(
         FIRST,
     ],
     &[Append("a"), Append("a")],
-    "connects\n*1~$4~PING~\n*2~$4~INFO~$11~persistence~\n\
+    "connects\n*1~$4~PING~\n*1~$4~INFO~\n\
          *6~$4~XADD~$1~k~$10~NOMKSTREAM~$1~*~$1~e~$1~a~\nNOPERM no permissions\n= Refused\n\
          *6~$4~XADD~$1~k~$10~NOMKSTREAM~$1~*~$1~e~$1~a~\n= 5-0\n",
 )];
@@ -83,9 +83,9 @@ fn a_refusal_is_told(rt: HostRuntime) {
 }
 
 /// Nothing is asked while the pause lasts.
-const DROPPED: &str = "connects\n*1~$4~PING~\n*2~$4~INFO~$11~persistence~\n\
+const DROPPED: &str = "connects\n*1~$4~PING~\n*1~$4~INFO~\n\
      *6~$4~XADD~$1~k~$10~NOMKSTREAM~$1~*~$1~e~$1~a~\n= Away\n= Away\n99 ms\n= Away\n1 ms\n\
-     connects\n*1~$4~PING~\n*6~$4~XADD~$1~k~$10~NOMKSTREAM~$1~*~$1~e~$1~a~\n= 5-0\n";
+     connects\n*1~$4~PING~\n*1~$4~INFO~\n*6~$4~XADD~$1~k~$10~NOMKSTREAM~$1~*~$1~e~$1~a~\n= 5-0\n";
 
 /// An append until it is done, and with it what is done while a pause of 100 ms lasts.
 const APPENDED_AGAIN: &[Act] = &[
@@ -108,18 +108,37 @@ static DROPS: [Story<'static>; 9] = [
             Says("-LOADING Redis is loading the dataset in memory\r\n"),
             Opens,
             PONG,
+            KEEPS,
             FIRST,
         ],
         APPENDED_AGAIN,
         DROPPED,
     ),
     (
-        &[Opens, PONG, KEEPS, Says(":1\r\n"), Opens, PONG, FIRST],
+        &[
+            Opens,
+            PONG,
+            KEEPS,
+            Says(":1\r\n"),
+            Opens,
+            PONG,
+            KEEPS,
+            FIRST,
+        ],
         APPENDED_AGAIN,
         DROPPED,
     ),
     (
-        &[Opens, PONG, KEEPS, Says("5-0\r\n"), Opens, PONG, FIRST],
+        &[
+            Opens,
+            PONG,
+            KEEPS,
+            Says("5-0\r\n"),
+            Opens,
+            PONG,
+            KEEPS,
+            FIRST,
+        ],
         APPENDED_AGAIN,
         DROPPED,
     ),
@@ -131,6 +150,7 @@ static DROPS: [Story<'static>; 9] = [
             Says("$3\r\n5-0\r\n:1\r\n"),
             Opens,
             PONG,
+            KEEPS,
             FIRST,
         ],
         APPENDED_AGAIN,
@@ -144,28 +164,47 @@ static DROPS: [Story<'static>; 9] = [
             Says("$3\r\n5:0\r\n"),
             Opens,
             PONG,
+            KEEPS,
             FIRST,
         ],
         APPENDED_AGAIN,
         DROPPED,
     ),
     (
-        &[Opens, PONG, KEEPS, Says(""), Opens, PONG, FIRST],
+        &[Opens, PONG, KEEPS, Says(""), Opens, PONG, KEEPS, FIRST],
         APPENDED_AGAIN,
         DROPPED,
     ),
     (
-        &[Opens, PONG, KEEPS, Says("$3\r\n5-"), Opens, PONG, FIRST],
+        &[
+            Opens,
+            PONG,
+            KEEPS,
+            Says("$3\r\n5-"),
+            Opens,
+            PONG,
+            KEEPS,
+            FIRST,
+        ],
         APPENDED_AGAIN,
         DROPPED,
     ),
     (
-        &[Opens, PONG, KEEPS, Ends("$3\r\n5-"), Opens, PONG, FIRST],
+        &[
+            Opens,
+            PONG,
+            KEEPS,
+            Ends("$3\r\n5-"),
+            Opens,
+            PONG,
+            KEEPS,
+            FIRST,
+        ],
         APPENDED_AGAIN,
         DROPPED,
     ),
     (
-        &[Opens, PONG, KEEPS, Fails, Opens, PONG, FIRST],
+        &[Opens, PONG, KEEPS, Fails, Opens, PONG, KEEPS, FIRST],
         APPENDED_AGAIN,
         DROPPED,
     ),
@@ -207,6 +246,7 @@ static PAUSES: [Story<'static>; 2] = [
             Ends(""),
             Opens,
             PONG,
+            KEEPS,
             SECOND,
         ],
         &[
@@ -218,10 +258,10 @@ static PAUSES: [Story<'static>; 2] = [
             Append("b"),
         ],
         "connects not\n= Away\n100 ms\n\
-         connects\n*1~$4~PING~\n*2~$4~INFO~$11~persistence~\n\
+         connects\n*1~$4~PING~\n*1~$4~INFO~\n\
          *6~$4~XADD~$1~k~$10~NOMKSTREAM~$1~*~$1~e~$1~a~\n= 5-0\n\
          *6~$4~XADD~$1~k~$10~NOMKSTREAM~$1~*~$1~e~$1~b~\n= Away\n100 ms\n\
-         connects\n*1~$4~PING~\n\
+         connects\n*1~$4~PING~\n*1~$4~INFO~\n\
          *6~$4~XADD~$1~k~$10~NOMKSTREAM~$1~*~$1~e~$1~b~\n= 6-0\n",
     ),
 ];
@@ -232,20 +272,87 @@ fn pauses_grow(rt: HostRuntime) {
     play_all(&rt, rt.alloc(), &PAUSES);
 }
 
-/// What a server tells of its disk is asked once, and told where it keeps nothing. One that does not tell is used.
-static DISKS: [Story<'static>; 3] = [
+/// A replica whose policy lets no key go but those that end.
+const REPLICA: Answer = Says(
+    "$61\r\na\r\nmaxmemory_policy:volatile-lru\r\nrole:slave\r\nmaster_port:1\r\n\r\n",
+);
+
+/// The same with a policy that lets any key go.
+const EVICTS: Answer = Says(
+    "$60\r\na\r\nmaxmemory_policy:allkeys-lru\r\nrole:slave\r\nmaster_port:1\r\n\r\n",
+);
+
+/// What a server is is asked at each connection, and each thing told once. One that does not tell is used.
+static SETTINGS: [Story<'static>; 4] = [
     (
-        &[Opens, PONG, FORGETS, EMPTY, Ends(""), Opens, PONG, EMPTY],
+        &[
+            Opens,
+            PONG,
+            FORGETS,
+            EMPTY,
+            Ends(""),
+            Opens,
+            PONG,
+            FORGETS,
+            EMPTY,
+        ],
         &[Read(None), Read(None), Pass(100), Read(None)],
-        "connects\n*1~$4~PING~\n*2~$4~INFO~$11~persistence~\nkeeps nothing\n\
+        "connects\n*1~$4~PING~\n*1~$4~INFO~\nkeeps nothing\n\
          *6~$6~XRANGE~$1~k~$1~-~$1~+~$5~COUNT~$3~256~\n=\n\
          *6~$6~XRANGE~$1~k~$1~-~$1~+~$5~COUNT~$3~256~\n= Away\n100 ms\n\
-         connects\n*1~$4~PING~\n*6~$6~XRANGE~$1~k~$1~-~$1~+~$5~COUNT~$3~256~\n=\n",
+         connects\n*1~$4~PING~\n*1~$4~INFO~\n\
+         *6~$6~XRANGE~$1~k~$1~-~$1~+~$5~COUNT~$3~256~\n=\n",
+    ),
+    (
+        &[
+            Opens,
+            PONG,
+            KEEPS,
+            EMPTY,
+            Ends(""),
+            Opens,
+            PONG,
+            REPLICA,
+            EMPTY,
+            Ends(""),
+            Opens,
+            PONG,
+            EVICTS,
+            EMPTY,
+            Ends(""),
+            Opens,
+            PONG,
+            EVICTS,
+            EMPTY,
+        ],
+        &[
+            Read(None),
+            Read(None),
+            Pass(100),
+            Read(None),
+            Read(None),
+            Pass(100),
+            Read(None),
+            Read(None),
+            Pass(100),
+            Read(None),
+        ],
+        "connects\n*1~$4~PING~\n*1~$4~INFO~\n\
+         *6~$6~XRANGE~$1~k~$1~-~$1~+~$5~COUNT~$3~256~\n=\n\
+         *6~$6~XRANGE~$1~k~$1~-~$1~+~$5~COUNT~$3~256~\n= Away\n100 ms\n\
+         connects\n*1~$4~PING~\n*1~$4~INFO~\nreplica\n\
+         *6~$6~XRANGE~$1~k~$1~-~$1~+~$5~COUNT~$3~256~\n=\n\
+         *6~$6~XRANGE~$1~k~$1~-~$1~+~$5~COUNT~$3~256~\n= Away\n100 ms\n\
+         connects\n*1~$4~PING~\n*1~$4~INFO~\nevicts\n\
+         *6~$6~XRANGE~$1~k~$1~-~$1~+~$5~COUNT~$3~256~\n=\n\
+         *6~$6~XRANGE~$1~k~$1~-~$1~+~$5~COUNT~$3~256~\n= Away\n100 ms\n\
+         connects\n*1~$4~PING~\n*1~$4~INFO~\n\
+         *6~$6~XRANGE~$1~k~$1~-~$1~+~$5~COUNT~$3~256~\n=\n",
     ),
     (
         &[Opens, PONG, Says("-NOPERM no permissions\r\n"), EMPTY],
         &[Read(None)],
-        "connects\n*1~$4~PING~\n*2~$4~INFO~$11~persistence~\n\
+        "connects\n*1~$4~PING~\n*1~$4~INFO~\n\
          *6~$6~XRANGE~$1~k~$1~-~$1~+~$5~COUNT~$3~256~\n=\n",
     ),
     (
@@ -259,16 +366,16 @@ static DISKS: [Story<'static>; 3] = [
             EMPTY,
         ],
         &[Read(None), Pass(100), Read(None)],
-        "connects\n*1~$4~PING~\n*2~$4~INFO~$11~persistence~\n= Away\n100 ms\n\
-         connects\n*1~$4~PING~\n*2~$4~INFO~$11~persistence~\nkeeps nothing\n\
+        "connects\n*1~$4~PING~\n*1~$4~INFO~\n= Away\n100 ms\n\
+         connects\n*1~$4~PING~\n*1~$4~INFO~\nkeeps nothing\n\
          *6~$6~XRANGE~$1~k~$1~-~$1~+~$5~COUNT~$3~256~\n=\n",
     ),
 ];
 
 /// Tries: lw_redis_log::RedisLog::new
 #[test]
-fn the_disk_is_asked_for(rt: HostRuntime) {
-    play_all(&rt, rt.alloc(), &DISKS);
+fn settings_are_asked_for(rt: HostRuntime) {
+    play_all(&rt, rt.alloc(), &SETTINGS);
 }
 
 /// Two entries, the second of which is foreign.
@@ -276,12 +383,12 @@ const PAGE: &str = "*2\r\n*2\r\n$3\r\n5-0\r\n*2\r\n$1\r\ne\r\n$2\r\nab\r\n\
      *2\r\n$3\r\n5-1\r\n*4\r\n$1\r\ne\r\n$1\r\na\r\n$1\r\nf\r\n$0\r\n\r\n";
 
 /// The record of a reading whose reply is whole.
-const WHOLE: &str = "connects\n*1~$4~PING~\n*2~$4~INFO~$11~persistence~\n\
+const WHOLE: &str = "connects\n*1~$4~PING~\n*1~$4~INFO~\n\
      *6~$6~XRANGE~$1~k~$1~-~$1~+~$5~COUNT~$3~256~\n\
      passes over 5-0\npasses over 5-1\n= 5-0 ab 5-1 \n";
 
 /// The record of one whose reply is not.
-const CUT: &str = "connects\n*1~$4~PING~\n*2~$4~INFO~$11~persistence~\n\
+const CUT: &str = "connects\n*1~$4~PING~\n*1~$4~INFO~\n\
      *6~$6~XRANGE~$1~k~$1~-~$1~+~$5~COUNT~$3~256~\n= Away\n";
 
 /// A reply comes in any pieces.
@@ -315,7 +422,7 @@ static LOGINS: [Story<'static>; 4] = [
     (
         &[Opens, Says("+OK\r\n"), PONG, KEEPS, EMPTY],
         &[Read(None)],
-        "connects\n*3~$4~AUTH~$5~fleet~$6~secret~\n*1~$4~PING~\n*2~$4~INFO~$11~persistence~\n\
+        "connects\n*3~$4~AUTH~$5~fleet~$6~secret~\n*1~$4~PING~\n*1~$4~INFO~\n\
          *6~$6~XRANGE~$1~k~$1~-~$1~+~$5~COUNT~$3~256~\n=\n",
     ),
     (

@@ -51,7 +51,7 @@ static LATER: [Story<'static>; 3] = [
             Read(Some((5, 0))),
             Read(Some((5, 0))),
         ],
-        "connects\n*1~$4~PING~\n*2~$4~INFO~$11~persistence~\n\
+        "connects\n*1~$4~PING~\n*1~$4~INFO~\n\
          *6~$6~XRANGE~$1~k~$1~-~$1~+~$5~COUNT~$3~256~\npasses over 5-0\n= 5-0 a\n\
          = trimmed\n29999 ms\n\
          *6~$6~XRANGE~$1~k~$3~5-0~$1~+~$5~COUNT~$3~257~\n=\n\
@@ -79,7 +79,7 @@ static LATER: [Story<'static>; 3] = [
             Read(Some((5, 0))),
             Read(Some((5, 0))),
         ],
-        "connects\n*1~$4~PING~\n*2~$4~INFO~$11~persistence~\n\
+        "connects\n*1~$4~PING~\n*1~$4~INFO~\n\
          *6~$6~XRANGE~$1~k~$1~-~$1~+~$5~COUNT~$3~256~\npasses over 5-0\n= 5-0 a\n\
          = trimmed\n10000 ms\n= trimmed\n5000 ms\n= trimmed\n15000 ms\n\
          *6~$6~XRANGE~$1~k~$3~5-0~$1~+~$5~COUNT~$3~257~\n\
@@ -102,7 +102,7 @@ static LATER: [Story<'static>; 3] = [
             Read(Some((4, 0))),
             Read(Some((6, 0))),
         ],
-        "connects\n*1~$4~PING~\n*2~$4~INFO~$11~persistence~\n\
+        "connects\n*1~$4~PING~\n*1~$4~INFO~\n\
          *6~$6~XRANGE~$1~k~$1~-~$1~+~$5~COUNT~$3~256~\npasses over 5-0\n= 5-0 a\n\
          = trimmed\n30000 ms\n\
          *6~$4~XADD~$1~k~$10~NOMKSTREAM~$1~*~$1~e~$1~b~\n= 6-0\n\
@@ -144,7 +144,7 @@ static AGAIN: [Story<'static>; 2] = [
             Pass(1),
             Read(Some((5, 0))),
         ],
-        "connects\n*1~$4~PING~\n*2~$4~INFO~$11~persistence~\n\
+        "connects\n*1~$4~PING~\n*1~$4~INFO~\n\
          *6~$6~XRANGE~$1~k~$1~-~$1~+~$5~COUNT~$3~256~\npasses over 5-0\n= 5-0 a\n\
          = trimmed\n30000 ms\n\
          *6~$6~XRANGE~$1~k~$3~5-0~$1~+~$5~COUNT~$3~257~\n\
@@ -165,6 +165,7 @@ static AGAIN: [Story<'static>; 2] = [
             Ends(""),
             Opens,
             PONG,
+            KEEPS,
             SIXTH,
             SIXTH,
             GONE,
@@ -180,13 +181,13 @@ static AGAIN: [Story<'static>; 2] = [
             Pass(29_900),
             Read(Some((6, 0))),
         ],
-        "connects\n*1~$4~PING~\n*2~$4~INFO~$11~persistence~\n\
+        "connects\n*1~$4~PING~\n*1~$4~INFO~\n\
          *6~$6~XRANGE~$1~k~$1~-~$1~+~$5~COUNT~$3~256~\npasses over 5-0\n= 5-0 a\n\
          = trimmed\n30000 ms\n\
          *6~$6~XRANGE~$1~k~$3~5-0~$1~+~$5~COUNT~$3~257~\n\
          passes over 6-0\n*5~$5~XTRIM~$1~k~$5~MINID~$1~=~$4~4-10~\n= 6-0 b\n\
          = Away\n100 ms\n\
-         connects\n*1~$4~PING~\n\
+         connects\n*1~$4~PING~\n*1~$4~INFO~\n\
          *6~$6~XRANGE~$1~k~$3~6-0~$1~+~$5~COUNT~$3~257~\n=\n\
          29900 ms\n\
          *6~$6~XRANGE~$1~k~$3~6-0~$1~+~$5~COUNT~$3~257~\n\
@@ -212,7 +213,7 @@ static SEEN: [Story<'static>; 4] = [
             Read(None),
             Read(Some((5, 0))),
         ],
-        "connects\n*1~$4~PING~\n*2~$4~INFO~$11~persistence~\n\
+        "connects\n*1~$4~PING~\n*1~$4~INFO~\n\
          *6~$6~XRANGE~$1~k~$1~-~$1~+~$5~COUNT~$3~256~\npasses over 5-0\n= 5-0 a\n\
          = trimmed\n30000 ms\n\
          *6~$6~XRANGE~$1~k~$3~5-0~$1~+~$5~COUNT~$3~257~\nlost\n= Lost\n\
@@ -229,7 +230,7 @@ static SEEN: [Story<'static>; 4] = [
             Read(None),
             Read(Some((5, 0))),
         ],
-        "connects\n*1~$4~PING~\n*2~$4~INFO~$11~persistence~\n\
+        "connects\n*1~$4~PING~\n*1~$4~INFO~\n\
          *6~$6~XRANGE~$1~k~$1~-~$1~+~$5~COUNT~$3~256~\npasses over 5-0\n= 5-0 a\n\
          = trimmed\n\
          *6~$4~XADD~$1~k~$10~NOMKSTREAM~$1~*~$1~e~$1~b~\nlost\n= Lost\n30000 ms\n\
@@ -245,7 +246,7 @@ static SEEN: [Story<'static>; 4] = [
             Read(Some((5, 0))),
             Read(Some((5, 0))),
         ],
-        "connects\n*1~$4~PING~\n*2~$4~INFO~$11~persistence~\n\
+        "connects\n*1~$4~PING~\n*1~$4~INFO~\n\
          *6~$6~XRANGE~$1~k~$1~-~$1~+~$5~COUNT~$3~256~\npasses over 5-0\n= 5-0 a\n\
          = trimmed\n30000 ms\n\
          *6~$6~XRANGE~$1~k~$3~5-0~$1~+~$5~COUNT~$3~257~\n\
@@ -261,7 +262,7 @@ static SEEN: [Story<'static>; 4] = [
             Pass(30_000),
             Read(Some((5, 0))),
         ],
-        "connects\n*1~$4~PING~\n*2~$4~INFO~$11~persistence~\n\
+        "connects\n*1~$4~PING~\n*1~$4~INFO~\n\
          *6~$6~XRANGE~$1~k~$1~-~$1~+~$5~COUNT~$3~256~\npasses over 5-0\n= 5-0 (49153)\n\
          = trimmed\n\
          *6~$6~XRANGE~$1~k~$4~(5-0~$1~+~$5~COUNT~$3~256~\n=\n30000 ms\n\
