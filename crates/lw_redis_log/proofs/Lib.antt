@@ -1,4 +1,5 @@
 pub mod Places
-pub mod NoFile
+pub mod Beginnings
+pub mod Telling
 pub mod LoginLemmas
 pub mod PageLemmas

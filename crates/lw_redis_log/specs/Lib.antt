@@ -1,7 +1,9 @@
 pub mod Commands
 pub mod Errors
+pub mod Fleets
 pub mod Outcomes
-pub mod Persistence
+pub mod Settings
 pub mod Pages
+pub mod Marks
 pub mod Logins
 pub mod inner

@@ -1,2 +1,2 @@
 pub mod Logins
-pub mod Persistence
+pub mod Settings

@@ -1,26 +1,51 @@
 //! The commands of a log over a stream.
 
-ghost use Rattle.std.specs.Prelude.{◌≡◌, IfOk};
+ghost use Rattle.std.specs.Prelude.{◌≡◌, ◌++◌, IfOk, OnOk};
 ghost use Rattle.lw_resp.specs.Bytes.{command_bytes};
-ghost use Rattle.lw_redis_log.specs.Commands.{read_words, append_words, last_words, login_words, ping_words, persistence_words, IsTrim};
+ghost use Rattle.lw_redis_log.specs.Commands.{start_word, count_word, read_words, append_words, login_words, ping_words, info_words, IsTrim};
 
 use lw_resp::{FIELD, StreamId, command};
 use lw_stamp::NoMemory;
 use std::alloc::Global;
 
-/// Asks for the first entries above an identifier, or for the first of all.
-pub fn read_command(alloc: Global, key: &[u8], after: Option<StreamId>) -> Result<Vec<u8>, NoMemory>
-    ensures { IfOk result (λ bytes. bytes.items ≡ command_bytes (read_words key.now after)) }
+/// Where a reading begins.
+#[derive(Clone, Copy, Debug, PartialEq, Eq)]
+pub enum ReadFrom {
+    /// At the first entry of all.
+    First,
+    /// Above an identifier.
+    Above(StreamId),
+    /// At an identifier, whose entry is asked for beside as many as elsewhere.
+    At(StreamId),
+}
+
+impl ReadFrom {
+    /// Puts where the range starts behind what is there.
+    fn put(self, out: &mut Vec<u8>) -> Result<(), NoMemory>
+        ensures { OnOk result (out.new.items ≡ out.old.items ++ start_word self) }
+    {
+        match self {
+            ReadFrom::First => out.push(b'-')?,
+            ReadFrom::Above(id) => {
+                out.push(b'(')?;
+                id.put(out)?;
+            }
+            ReadFrom::At(id) => id.put(out)?,
+        }
+        Ok(())
+    }
+}
+
+/// Asks for the first entries from somewhere on.
+pub fn read_command(alloc: Global, key: &[u8], from: ReadFrom) -> Result<Vec<u8>, NoMemory>
+    ensures { IfOk result (λ bytes. bytes.items ≡ command_bytes (read_words key.now from)) }
 {
     let mut start = Vec::new(alloc);
-    match after {
-        Some(id) => {
-            start.push(b'(')?;
-            id.put(&mut start)?;
-        }
-        None => start.push(b'-')?,
+    from.put(&mut start)?;
+    match from {
+        ReadFrom::At(_) => command(alloc, &[b"XRANGE", key, &start, b"+", b"COUNT", b"257"]),
+        _ => command(alloc, &[b"XRANGE", key, &start, b"+", b"COUNT", b"256"]),
     }
-    command(alloc, &[b"XRANGE", key, &start, b"+", b"COUNT", b"256"])
 }
 
 /// Appends an entry, and makes the stream where it is to be made.
@@ -50,15 +75,6 @@ pub fn trim_command(alloc: Global, key: &[u8], upto: StreamId) -> Result<Vec<u8>
     command(alloc, &[b"XTRIM", key, b"MINID", b"=", &start])
 }
 
-/// Asks for the entry of an identifier.
-pub fn last_command(alloc: Global, key: &[u8], id: StreamId) -> Result<Vec<u8>, NoMemory>
-    ensures { IfOk result (λ bytes. bytes.items ≡ command_bytes (last_words key.now id)) }
-{
-    let mut text = Vec::new(alloc);
-    id.put(&mut text)?;
-    command(alloc, &[b"XRANGE", key, &text, &text])
-}
-
 /// Logs a user in.
 pub fn login_command(alloc: Global, user: &[u8], password: &[u8]) -> Result<Vec<u8>, NoMemory>
     ensures { IfOk result (λ bytes. bytes.items ≡ command_bytes (login_words user.now password.now)) }
@@ -73,9 +89,9 @@ pub fn ping_command(alloc: Global) -> Result<Vec<u8>, NoMemory>
     command(alloc, &[b"PING"])
 }
 
-/// Asks what the server keeps on its disk.
-pub fn persistence_command(alloc: Global) -> Result<Vec<u8>, NoMemory>
-    ensures { IfOk result (λ bytes. bytes.items ≡ command_bytes persistence_words) }
+/// Asks what the server is, and how it is set.
+pub fn info_command(alloc: Global) -> Result<Vec<u8>, NoMemory>
+    ensures { IfOk result (λ bytes. bytes.items ≡ command_bytes info_words) }
 {
-    command(alloc, &[b"INFO", b"persistence"])
+    command(alloc, &[b"INFO"])
 }

@@ -10,10 +10,18 @@ pub enum Notice<'a> {
     Refused(&'a str),
     /// The server keeps no file of what is appended: it has nothing when it is started again.
     KeepsNothing,
+    /// The server is a replica of another one: it may lack what that one has, and writes nothing.
+    IsReplica,
+    /// The server may have the stream go where its memory is full.
+    Evicts,
     /// The stream is gone, or has lost its end.
     Lost,
     /// What stands there is no entry of a log, and is passed over.
     PassedOver(StreamId),
+    /// What stands there is a delta of another fleet, and is passed over.
+    AnotherFleet(StreamId),
+    /// The stream begins with a delta of another fleet.
+    AnotherStream,
 }
 
 /// Connections to a Redis, a clock that only goes on, and who is told.

@@ -2,12 +2,15 @@
 
 ghost use Rattle.std.specs.Prelude.{◌≡◌, ◌==◌, ◌↔◌, IsTrue, IsUtf8, position, take};
 ghost use Rattle.std.specs.List.{before_first};
-ghost use Rattle.lw_redis_log.specs.Errors.{IsAmong, Passes, prefix_of, unready_prefixes, unwriting_prefixes, is_hidden as is_unprinted};
+ghost use Rattle.lw_redis_log.specs.Errors.{IsAmong, IsCrowded, Passes, prefix_of, unready_prefixes, unwriting_prefixes, is_hidden as is_unprinted};
 
 use std::str;
 
 /// How many bytes of an error are shown at most.
 pub const MAX_SHOWN: usize = 200;
+
+/// How the error begins of a server that takes no further connection.
+const CROWDED: &[u8] = b"ERR max number of clients";
 
 fn space_place(text: &[u8]) -> Option<usize>
     ensures { result ≡ position (λ byte. byte == 32) text.now }
@@ -25,12 +28,19 @@ pub fn error_prefix(text: &[u8]) -> &[u8]
     }
 }
 
-/// Whether the error is one that passes: the server does not answer now, or does not write now.
+/// Whether the error is one that passes: the server does not answer now, does not write now, or has no room for a
+/// further connection now.
 pub fn passes(text: &[u8]) -> bool
     ensures { IsTrue result ↔ Passes text.now }
 {
     let prefix = error_prefix(text);
-    is_unready(prefix) || is_unwriting(prefix)
+    is_unready(prefix) || is_unwriting(prefix) || is_crowded(text)
+}
+
+fn is_crowded(text: &[u8]) -> bool
+    ensures { IsTrue result ↔ IsCrowded text.now }
+{
+    text.starts_with(CROWDED)
 }
 
 fn is_word(prefix: &[u8], word: &[u8]) -> bool
@@ -55,6 +65,7 @@ fn is_unwriting(prefix: &[u8]) -> bool
         || is_word(prefix, b"CLUSTERDOWN")
         || is_word(prefix, b"OOM")
         || is_word(prefix, b"MISCONF")
+        || is_word(prefix, b"NOREPLICAS")
 }
 
 fn is_hidden(byte: u8) -> bool

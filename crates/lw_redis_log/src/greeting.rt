@@ -2,12 +2,13 @@
 
 ghost use Rattle.std.specs.Prelude.{◌≢◌, IfErr};
 
-use crate::commands::{last_command, login_command, persistence_command, ping_command};
+use crate::commands::{info_command, login_command, ping_command};
 use crate::connects::{Connects, Notice};
 use crate::errors::error_prefix;
 use crate::outcomes::RedisFault;
 use crate::redis_log::RedisLog;
-use crate::replies::{forgets, is_found, said};
+use crate::replies::{said, settings};
+use crate::settings::Settings;
 use lw_log::LogFault;
 use lw_stamp::NoMemory;
 
@@ -30,8 +31,9 @@ impl<C: Connects> RedisLog<C> {
     {
         self.log_in()?;
         self.ping()?;
-        self.learn_persistence()?;
-        self.look_for_last()
+        self.learn_settings()?;
+        self.is_new = true;
+        Ok(())
     }
 
     /// The connection is of no use.
@@ -83,38 +85,34 @@ impl<C: Connects> RedisLog<C> {
         }
     }
 
-    /// Asks once what the server keeps. One that does not tell is used nevertheless.
-    fn learn_persistence(&mut self) -> Result<(), LogFault>
+    /// Asks what the server is. One that does not tell is used nevertheless.
+    fn learn_settings(&mut self) -> Result<(), LogFault>
         ensures asked { IfErr result (λ fault. fault ≢ LogFault.NoMemory) }
     {
-        if self.is_known {
-            return Ok(());
-        }
-        let bytes = self.ask_made(persistence_command(self.alloc))?;
-        match forgets(self.alloc, &bytes) {
-            Ok(true) => self.line.world.hear(Notice::KeepsNothing),
-            Ok(false) | Err(RedisFault::Refused(_)) => {}
-            Err(fault) => return Err(self.give_up(fault)),
-        }
-        self.is_known = true;
-        Ok(())
-    }
-
-    /// Looks whether the entry is there that was appended last.
-    fn look_for_last(&mut self) -> Result<(), LogFault>
-        ensures asked { IfErr result (λ fault. fault ≢ LogFault.NoMemory) }
-    {
-        let Some(last) = self.last else {
-            return Ok(());
-        };
-        let command = last_command(self.alloc, &self.key, last);
-        let bytes = self.ask_made(command)?;
-        match is_found(self.alloc, &bytes) {
-            Ok(is_found) => {
-                self.has_lost = !is_found;
+        let bytes = self.ask_made(info_command(self.alloc))?;
+        match settings(self.alloc, &bytes) {
+            Ok(settings) => {
+                self.warn(settings);
                 Ok(())
             }
+            Err(RedisFault::Refused(_)) => Ok(()),
             Err(fault) => Err(self.give_up(fault)),
+        }
+    }
+
+    /// Tells of what may lose the stream, of each once.
+    fn warn(&mut self, settings: Settings) {
+        if settings.keeps_nothing && !self.warned.keeps_nothing {
+            self.warned.keeps_nothing = true;
+            self.line.world.hear(Notice::KeepsNothing);
+        }
+        if settings.is_replica && !self.warned.is_replica {
+            self.warned.is_replica = true;
+            self.line.world.hear(Notice::IsReplica);
+        }
+        if settings.evicts && !self.warned.evicts {
+            self.warned.evicts = true;
+            self.line.world.hear(Notice::Evicts);
         }
     }
 }

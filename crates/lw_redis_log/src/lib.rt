@@ -5,28 +5,35 @@ mod commands;
 mod connection;
 mod connects;
 mod errors;
+mod fleets;
 mod greeting;
 mod login;
+mod marks;
+mod notice_rate;
 mod outcomes;
 mod pages;
 mod patience;
-mod persistence;
 mod redis_log;
 mod replies;
+mod seen;
+mod settings;
 mod tcp;
+mod trims;
 
 pub use commands::{
-    append_command, last_command, login_command, persistence_command, ping_command, read_command,
-    trim_command,
+    ReadFrom, append_command, info_command, login_command, ping_command, read_command, trim_command,
 };
 pub use connects::{Connects, Notice};
 pub use errors::{MAX_SHOWN, error_prefix, passes, shown};
+pub use fleets::fleet_of_delta;
 pub use login::{Login, LoginFault, MAX_PART};
+pub use marks::{Arrival, LOOK_SIZE, Mark, arrival_in, behind, is_looked_for};
 pub use outcomes::{
-    RedisFault, append_outcome, entries_outcome, persistence_outcome, status_outcome, trim_outcome,
+    RedisFault, append_outcome, entries_outcome, info_outcome, status_outcome, trim_outcome,
 };
 pub use pages::{PageFault, page_of};
 pub use patience::{LONGEST_PAUSE, SHORTEST_PAUSE, longer_pause, patience_for};
-pub use persistence::keeps_nothing;
 pub use redis_log::RedisLog;
+pub use settings::Settings;
 pub use tcp::TcpRedis;
+pub use trims::TRIM_DELAY;

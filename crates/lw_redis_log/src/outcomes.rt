@@ -80,8 +80,8 @@ pub fn status_outcome<'a>(want: &[u8], reply: &Reply<'a>) -> Result<(), RedisFau
     }
 }
 
-/// What the server told of what it keeps on its disk.
-pub fn persistence_outcome<'a>(reply: &Reply<'a>) -> Result<&'a [u8], RedisFault<'a>>
+/// What the server told of itself.
+pub fn info_outcome<'a>(reply: &Reply<'a>) -> Result<&'a [u8], RedisFault<'a>>
     ensures { IsInfo reply.now result }
 {
     match reply {

@@ -2,45 +2,55 @@
 
 ghost use Rattle.std.specs.Prelude.{◌≢◌, IfErr};
 
-use crate::commands::{append_command, read_command, trim_command};
+use crate::commands::{ReadFrom, append_command, read_command, trim_command};
 use crate::connection::Line;
 use crate::connects::{Connects, Notice};
 use crate::errors::shown;
+use crate::fleets::{Fleet, Owner, fleet_of_delta};
 use crate::login::Login;
+use crate::notice_rate::NoticeRate;
 use crate::outcomes::RedisFault;
 use crate::pages::{id_of, position_of};
 use crate::replies::{appended, page_read, trimmed};
-use lw_log::{Bytes, DeltaLog, EntryFault, LogFault, Position, read_entry};
+use crate::seen::Seen;
+use crate::settings::Settings;
+use crate::trims::Trims;
+use lw_log::{Bytes, DeltaLog, EntryFault, LogFault, PAGE, Position};
 use lw_resp::StreamId;
 use lw_stamp::NoMemory;
 use std::alloc::Global;
 
 /// Keeps entries in one stream of a Redis, which other processes append to and trim at any time.
 ///
-/// A connection that fails is made again after a pause, and each call answers `Away` until then. A reading or an append
-/// tells once that the stream is gone, or has lost its end.
+/// A connection that fails is made again after a pause, and each call answers `Away` until then.
+///
+/// A reading above the entry that was read last asks for that entry as well. Where the stream does not begin with it,
+/// or lacks what this log has appended, it has lost something: the call answers `Lost`, and nothing is remembered of
+/// it. So does an append whose identifier is not above all that was seen, or that finds no stream.
+///
+/// Entries that are to go stay for `TRIM_DELAY`, so that another server finds the entry that it has read last. They go
+/// with a reading after that which has found that entry; a server that ends before leaves them.
+///
+/// The first delta that is read or appended tells the fleet. A delta of another fleet is given without its bytes, as
+/// what is no entry. Where a stream begins with one, it is another fleet's, and reading it answers `Refused`.
 #[derive(Drop)]
 pub struct RedisLog<C: Connects> {
     pub(crate) alloc: Global,
     pub(crate) line: Line<C>,
     pub(crate) login: Option<Login>,
     pub(crate) key: Vec<u8>,
-    /// Whether the server was asked what it keeps on its disk.
-    pub(crate) is_known: bool,
-    /// The last entry of the stream, as far as this process has appended or read.
-    pub(crate) last: Option<StreamId>,
-    /// Whether that entry is not there any more, which the next reading or append tells.
-    pub(crate) has_lost: bool,
+    /// What was told of a server.
+    pub(crate) warned: Settings,
+    /// Whether nothing was read yet over the connection.
+    pub(crate) is_new: bool,
+    seen: Seen,
+    trims: Trims,
+    fleet: Fleet,
+    /// Whether the stream was told to be another fleet's.
+    is_foreign: bool,
+    rate: NoticeRate,
     /// Whether the next append makes the stream.
     makes: bool,
-}
-
-/// Whether the bytes are no entry, nor one of a later format.
-fn is_passed_over(bytes: &[u8]) -> bool {
-    match read_entry(bytes) {
-        Ok(_) | Err(EntryFault::Newer) => false,
-        Err(_) => true,
-    }
 }
 
 impl<C: Connects> RedisLog<C> {
@@ -56,9 +66,17 @@ impl<C: Connects> RedisLog<C> {
             line: Line::new(alloc, world),
             login,
             key: key.to_vec(alloc)?,
-            is_known: false,
-            last: None,
-            has_lost: false,
+            warned: Settings {
+                keeps_nothing: false,
+                is_replica: false,
+                evicts: false,
+            },
+            is_new: false,
+            seen: Seen::new(),
+            trims: Trims::new(),
+            fleet: Fleet::new(),
+            is_foreign: false,
+            rate: NoticeRate::new(),
             makes: false,
         })
     }
@@ -80,12 +98,12 @@ impl<C: Connects> RedisLog<C> {
         }
     }
 
-    /// The end of the stream is lost.
+    /// The stream has lost something. What is there now may be another one.
     fn lose(&mut self) -> LogFault
         ensures asked { result ≢ LogFault.NoMemory }
     {
-        self.last = None;
-        self.has_lost = false;
+        self.seen = Seen::new();
+        self.trims = Trims::new();
         self.line.world.hear(Notice::Lost);
         LogFault::Lost
     }
@@ -93,54 +111,98 @@ impl<C: Connects> RedisLog<C> {
     fn ask_read(
         &mut self,
         command: &[u8],
-        is_whole: bool,
+        from: ReadFrom,
     ) -> Result<Vec<(Position, Bytes)>, LogFault>
         ensures asked { IfErr result (λ fault. fault ≢ LogFault.NoMemory) }
     {
         self.make_ready()?;
-        if self.has_lost {
-            return Err(self.lose());
-        }
         let bytes = self.ask(command)?;
-        match page_read(self.alloc, &bytes) {
-            Ok(page) => {
-                self.line.settle();
-                // Only a reading of the whole stream tells that there is none.
-                if is_whole || !page.is_empty() {
-                    self.makes = page.is_empty();
-                }
-                self.look_at(&page);
-                Ok(page)
+        let page = match page_read(self.alloc, &bytes) {
+            Ok(page) => page,
+            Err(fault) => return Err(self.fail(fault)),
+        };
+        self.line.settle();
+        let Some(mut page) = self.seen.take(from, page) else {
+            return Err(self.lose());
+        };
+        self.is_new = false;
+        self.note_page(from, &page);
+        self.sift(&mut page)?;
+        if let ReadFrom::At(_) = from
+            && page.len() < PAGE
+        {
+            self.trim_what_is_due();
+        }
+        Ok(page)
+    }
+
+    /// Remembers what was read.
+    fn note_page(&mut self, from: ReadFrom, page: &[(Position, Bytes)]) {
+        if from == ReadFrom::First {
+            self.fleet.begin();
+        }
+        // Only a reading of the whole stream tells that there is none.
+        if from == ReadFrom::First || !page.is_empty() {
+            self.makes = page.is_empty();
+        }
+        self.seen.note_page(from, page);
+    }
+
+    /// Tells of what in the page is no entry of the fleet. Of a delta of another fleet no bytes are left.
+    fn sift(&mut self, page: &mut Vec<(Position, Bytes)>) -> Result<(), LogFault>
+        ensures asked { IfErr result (λ fault. fault ≢ LogFault.NoMemory) }
+    {
+        for (position, bytes) in page.iter_mut() {
+            match fleet_of_delta(bytes) {
+                Ok(None) | Err(EntryFault::Newer) => {}
+                Ok(Some(fleet)) => match self.fleet.owner(fleet) {
+                    Owner::Own => self.is_foreign = false,
+                    Owner::Another => {
+                        *bytes = Bytes::new();
+                        self.tell(Notice::AnotherFleet(id_of(*position)));
+                    }
+                    Owner::AnotherStream => return Err(self.refuse_stream()),
+                },
+                Err(_) => self.tell(Notice::PassedOver(id_of(*position))),
             }
-            Err(fault) => Err(self.fail(fault)),
+        }
+        Ok(())
+    }
+
+    /// Tells of an entry that is passed over, unless many were told of in this second.
+    fn tell(&mut self, notice: Notice<'_>) {
+        if self.rate.tells(self.line.world.milliseconds()) {
+            self.line.world.hear(notice);
         }
     }
 
-    /// Notes where the page ends, and tells of what in it is no entry.
-    fn look_at(&mut self, page: &[(Position, Bytes)]) {
-        for (position, bytes) in page {
-            let id = id_of(*position);
-            self.last = self.last.max(Some(id));
-            if is_passed_over(bytes) {
-                self.line.world.hear(Notice::PassedOver(id));
-            }
+    /// The stream is another fleet's. It is told once.
+    fn refuse_stream(&mut self) -> LogFault
+        ensures asked { result ≢ LogFault.NoMemory }
+    {
+        self.seen = Seen::new();
+        self.trims = Trims::new();
+        if !self.is_foreign {
+            self.line.world.hear(Notice::AnotherStream);
         }
+        self.is_foreign = true;
+        LogFault::Refused
     }
 
-    fn ask_append(&mut self, command: &[u8]) -> Result<Position, LogFault>
+    fn ask_append(&mut self, command: &[u8], entry: &[u8]) -> Result<Position, LogFault>
         ensures asked { IfErr result (λ fault. fault ≢ LogFault.NoMemory) }
     {
         self.make_ready()?;
-        if self.has_lost {
-            return Err(self.lose());
-        }
         let bytes = self.ask(command)?;
         match appended(self.alloc, &bytes) {
             Ok(id) => {
                 self.line.settle();
-                self.last = self.last.max(Some(id));
                 self.makes = false;
-                Ok(position_of(id))
+                self.fleet.note_append(entry);
+                if self.seen.note_append(id, entry) {
+                    return Ok(position_of(id));
+                }
+                Err(self.lose())
             }
             Err(fault) => {
                 self.makes = self.makes || fault == RedisFault::Lost;
@@ -149,17 +211,29 @@ impl<C: Connects> RedisLog<C> {
         }
     }
 
-    fn ask_trim(&mut self, command: &[u8], upto: StreamId) -> Result<(), LogFault>
-        ensures asked { IfErr result (λ fault. fault ≢ LogFault.NoMemory) }
-    {
-        self.make_ready()?;
-        let bytes = self.ask(command)?;
-        match trimmed(self.alloc, &bytes) {
-            Ok(_) => {
-                self.line.settle();
-                self.last = self.last.filter(|last| upto < *last);
-                Ok(())
+    /// Has go what has waited for its time, from a stream that has just shown that it is the one that was read before.
+    /// Where the server does not do it, it is asked again later.
+    fn trim_what_is_due(&mut self) {
+        let now = self.line.world.milliseconds();
+        let Some(upto) = self.trims.due(now) else {
+            return;
+        };
+        match self.ask_trim(upto) {
+            Ok(()) => {
+                self.trims.end_first();
+                self.seen.note_trim(upto);
             }
+            Err(_) => self.trims.put_off(now),
+        }
+    }
+
+    fn ask_trim(&mut self, upto: StreamId) -> Result<(), LogFault> {
+        let Ok(command) = trim_command(self.alloc, &self.key, upto) else {
+            return Err(LogFault::NoMemory);
+        };
+        let bytes = self.ask(&command)?;
+        match trimmed(self.alloc, &bytes) {
+            Ok(_) => Ok(()),
             Err(fault) => Err(self.fail(fault)),
         }
     }
@@ -178,25 +252,27 @@ impl<C: Connects> RedisLog<C> {
 // Want of memory is told only before the server is asked. What is read or written later is as away.
 impl<C: Connects> DeltaLog for RedisLog<C> {
     fn read(&mut self, after: Option<Position>) -> Result<Vec<(Position, Bytes)>, LogFault> {
-        let Ok(command) = read_command(self.alloc, &self.key, after.map(id_of)) else {
+        let trims = self.trims.due(self.line.world.milliseconds()).is_some();
+        let must_look = trims || self.is_new || !self.line.is_open();
+        let from = self.seen.from(after.map(id_of), must_look);
+        let Ok(command) = read_command(self.alloc, &self.key, from) else {
             return Err(LogFault::NoMemory);
         };
-        self.ask_read(&command, after.is_none())
+        self.ask_read(&command, from)
     }
 
     fn append(&mut self, entry: &[u8]) -> Result<Position, LogFault> {
         let Ok(command) = append_command(self.alloc, &self.key, entry, self.makes) else {
             return Err(LogFault::NoMemory);
         };
-        self.ask_append(&command)
+        self.ask_append(&command, entry)
     }
 
+    /// Has the entries go with a later reading.
     fn trim(&mut self, upto: Position) -> Result<(), LogFault> {
-        let id = id_of(upto);
-        let Ok(command) = trim_command(self.alloc, &self.key, id) else {
-            return Err(LogFault::NoMemory);
-        };
-        self.ask_trim(&command, id)
+        let now = self.line.world.milliseconds();
+        self.trims.note(id_of(upto), now);
+        Ok(())
     }
 
     fn is_alone(&self) -> bool {

@@ -1,10 +1,10 @@
 //! What the bytes of a reply are to what was asked. Where they are none, or more than one, the server is as away.
 
 use crate::outcomes::{
-    RedisFault, append_outcome, entries_outcome, persistence_outcome, status_outcome, trim_outcome,
+    RedisFault, append_outcome, entries_outcome, info_outcome, status_outcome, trim_outcome,
 };
 use crate::pages::page_of;
-use crate::persistence::keeps_nothing;
+use crate::settings::Settings;
 use lw_log::{Bytes, Position};
 use lw_resp::{Reply, StreamId, first_reply};
 use std::alloc::Global;
@@ -40,12 +40,6 @@ pub(crate) fn page_read(
     }
 }
 
-/// Whether an entry was found.
-pub(crate) fn is_found(alloc: Global, bytes: &[u8]) -> Result<bool, RedisFault<'_>> {
-    let reply = whole_reply(alloc, bytes)?;
-    Ok(!entries_outcome(&reply)?.is_empty())
-}
-
 /// Entries were let go.
 pub(crate) fn trimmed(alloc: Global, bytes: &[u8]) -> Result<u64, RedisFault<'_>> {
     trim_outcome(&whole_reply(alloc, bytes)?)
@@ -56,7 +50,7 @@ pub(crate) fn said<'a>(want: &[u8], alloc: Global, bytes: &'a [u8]) -> Result<()
     status_outcome(want, &whole_reply(alloc, bytes)?)
 }
 
-/// Whether the server keeps nothing on its disk.
-pub(crate) fn forgets(alloc: Global, bytes: &[u8]) -> Result<bool, RedisFault<'_>> {
-    Ok(keeps_nothing(persistence_outcome(&whole_reply(alloc, bytes)?)?))
+/// What the server told of itself.
+pub(crate) fn settings(alloc: Global, bytes: &[u8]) -> Result<Settings, RedisFault<'_>> {
+    Ok(Settings::read(info_outcome(&whole_reply(alloc, bytes)?)?))
 }

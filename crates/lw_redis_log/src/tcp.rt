@@ -1,7 +1,7 @@
 //! Connections over TCP.
 
 use crate::connects::{Connects, Notice};
-use log::{Log, warn};
+use log::{Log, error, warn};
 use std::io::{self, ErrorKind};
 use std::net::{Net, OpenStream, SocketAddr, TcpStream, ToSocketAddrs};
 use std::time::{Clock, Duration, Instant};
@@ -70,10 +70,16 @@ impl<R: Net + Clock, L: Log> Connects for TcpRedis<'_, '_, R, L> {
         match notice {
             Notice::Refused(text) => warn!(log; "redis refused error={text}"),
             Notice::KeepsNothing => warn!(log; "redis keeps nothing on its disk"),
+            Notice::IsReplica => warn!(log; "redis is a replica"),
+            Notice::Evicts => warn!(log; "redis may evict the stream"),
             Notice::Lost => warn!(log; "redis lost the end of the stream"),
             Notice::PassedOver(id) => {
                 warn!(log; "entry passed over position={}-{}", id.major, id.minor);
             }
+            Notice::AnotherFleet(id) => {
+                error!(log; "entry of another fleet passed over id={}-{}", id.major, id.minor);
+            }
+            Notice::AnotherStream => error!(log; "stream of another fleet"),
         }
     }
 }

@@ -1,7 +1,6 @@
 use crate::hold::shown;
 use lw_redis_log::{
-    append_command, last_command, login_command, persistence_command, ping_command, read_command,
-    trim_command,
+    ReadFrom, append_command, info_command, login_command, ping_command, read_command, trim_command,
 };
 use lw_resp::StreamId;
 use std::alloc::Global;
@@ -9,26 +8,24 @@ use std::process::Abort;
 
 /// A command.
 enum Asked {
-    Read(Option<StreamId>),
-    Last(StreamId),
+    Read(ReadFrom),
     Append(&'static [u8], bool),
     Trim(StreamId),
     Login,
     Ping,
-    Persistence,
+    Info,
 }
 
 /// The command over the key `fleet`, or with the user.
 fn bytes_of(rt: &impl Abort, alloc: Global, asked: &Asked) -> Vec<u8> {
     let key = b"fleet";
     let bytes = match asked {
-        Asked::Read(after) => read_command(alloc, key, *after),
-        Asked::Last(id) => last_command(alloc, key, *id),
+        Asked::Read(from) => read_command(alloc, key, *from),
         Asked::Append(entry, makes) => append_command(alloc, key, entry, *makes),
         Asked::Trim(upto) => trim_command(alloc, key, *upto),
         Asked::Login => login_command(alloc, key, b"a secret"),
         Asked::Ping => ping_command(alloc),
-        Asked::Persistence => persistence_command(alloc),
+        Asked::Info => info_command(alloc),
     };
     bytes.expect(rt, "memory")
 }
@@ -59,14 +56,17 @@ const GREATEST: StreamId = StreamId {
 /// Commands, and their arrays of bulk strings by the pages on the protocol and on each command. `~` ends a line.
 static ROWS: [(Asked, &str); 11] = [
     (
-        Asked::Read(None),
+        Asked::Read(ReadFrom::First),
         "*6~$6~XRANGE~$5~fleet~$1~-~$1~+~$5~COUNT~$3~256~",
     ),
     (
-        Asked::Read(Some(LATE)),
+        Asked::Read(ReadFrom::Above(LATE)),
         "*6~$6~XRANGE~$5~fleet~$16~(1526985054069-0~$1~+~$5~COUNT~$3~256~",
     ),
-    (Asked::Last(AT_7_1), "*4~$6~XRANGE~$5~fleet~$3~7-1~$3~7-1~"),
+    (
+        Asked::Read(ReadFrom::At(AT_7_1)),
+        "*6~$6~XRANGE~$5~fleet~$3~7-1~$1~+~$5~COUNT~$3~257~",
+    ),
     (
         Asked::Append(b"LWE1", false),
         "*6~$4~XADD~$5~fleet~$10~NOMKSTREAM~$1~*~$1~e~$4~LWE1~",
@@ -90,12 +90,11 @@ static ROWS: [(Asked, &str); 11] = [
     ),
     (Asked::Login, "*3~$4~AUTH~$5~fleet~$8~a secret~"),
     (Asked::Ping, "*1~$4~PING~"),
-    (Asked::Persistence, "*2~$4~INFO~$11~persistence~"),
+    (Asked::Info, "*1~$4~INFO~"),
 ];
 
-/// Tries: lw_redis_log::read_command, lw_redis_log::last_command, lw_redis_log::append_command
-/// Tries: lw_redis_log::trim_command, lw_redis_log::login_command, lw_redis_log::ping_command
-/// Tries: lw_redis_log::persistence_command
+/// Tries: lw_redis_log::read_command, lw_redis_log::append_command, lw_redis_log::trim_command
+/// Tries: lw_redis_log::login_command, lw_redis_log::ping_command, lw_redis_log::info_command
 #[test]
 fn commands_are_arrays_of_their_words(rt: HostRuntime) {
     for (asked, want) in &ROWS {

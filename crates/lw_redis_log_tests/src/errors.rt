@@ -1,7 +1,7 @@
 use lw_redis_log::{error_prefix, passes, shown};
 
 /// Errors as Redis 7.0 writes them, and whether they pass.
-static ERRORS: [(&str, bool); 22] = [
+static ERRORS: [(&str, bool); 28] = [
     ("LOADING Redis is loading the dataset in memory", true),
     (
         "BUSY Redis is busy running a script. You can only call SCRIPT KILL or SHUTDOWN NOSAVE.",
@@ -28,6 +28,13 @@ static ERRORS: [(&str, bool); 22] = [
         "MISCONF Redis is configured to save RDB snapshots, but it's currently unable to persist to disk.",
         true,
     ),
+    ("NOREPLICAS Not enough good replicas to write.", true),
+    ("ERR max number of clients reached", true),
+    (
+        "ERR max number of clients + cluster connections reached",
+        true,
+    ),
+    ("ERR max number of clients", true),
     ("LOADING", true),
     ("NOAUTH Authentication required.", false),
     (
@@ -44,7 +51,9 @@ static ERRORS: [(&str, bool); 22] = [
     ),
     ("MOVED 3999 127.0.0.1:6381", false),
     ("ERR syntax error", false),
-    ("NOREPLICAS Not enough good replicas to write.", false),
+    ("ERR max number of client", false),
+    ("ERR  max number of clients reached", false),
+    ("max number of clients reached", false),
     ("BUSYGROUP Consumer Group name already exists", false),
     ("BUSYKEY Target key name already exists.", false),
     ("ERR LOADING", false),

@@ -17,11 +17,18 @@ pub(crate) fn shown(alloc: Global, bytes: &[u8]) -> Result<String, AllocError> {
     Ok(text)
 }
 
-/// Entries as a text: `=`, and then the position and the bytes of each.
+/// How many bytes of an entry are shown at most.
+const MOST_SHOWN: usize = 100;
+
+/// Entries as a text: `=`, and then the position and the bytes of each, or of many how many they are.
 pub(crate) fn page_text(alloc: Global, page: &[(Position, Bytes)]) -> Result<String, AllocError> {
     let mut text = String::from_str(alloc, "=")?;
     for (position, bytes) in page {
-        let bytes = shown(alloc, bytes)?;
+        let bytes = if bytes.len() > MOST_SHOWN {
+            format!(in alloc; "({})", bytes.len())?
+        } else {
+            shown(alloc, bytes)?
+        };
         let entry = format!(in alloc; " {}-{} {bytes}", position.major, position.minor)?;
         text.push_str(entry.as_str())?;
     }

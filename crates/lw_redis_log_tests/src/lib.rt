@@ -6,9 +6,15 @@ mod commands;
 #[cfg(test)]
 mod errors;
 #[cfg(test)]
+mod fleets;
+#[cfg(test)]
 mod hold;
 #[cfg(test)]
 mod login;
+#[cfg(test)]
+mod losses;
+#[cfg(test)]
+mod marks;
 #[cfg(test)]
 mod outcomes;
 #[cfg(test)]
@@ -17,3 +23,5 @@ mod pauses;
 mod stage;
 #[cfg(test)]
 mod stories;
+#[cfg(test)]
+mod trims;

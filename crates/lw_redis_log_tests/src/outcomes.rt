@@ -1,7 +1,7 @@
 use crate::hold::{page_text, shown};
 use lw_redis_log::{
-    PageFault, RedisFault, append_outcome, entries_outcome, keeps_nothing, page_of,
-    persistence_outcome, status_outcome, trim_outcome,
+    PageFault, RedisFault, Settings, append_outcome, entries_outcome, info_outcome, page_of,
+    status_outcome, trim_outcome,
 };
 use lw_resp::{Entry, Reply, first_reply};
 use std::alloc::{AllocError, Global};
@@ -39,8 +39,8 @@ enum Asked {
     Trim,
     /// `PING`
     Status,
-    /// `INFO persistence`
-    Persistence,
+    /// `INFO`
+    Info,
     Read,
 }
 
@@ -64,6 +64,21 @@ fn entries_text(alloc: Global, entries: &[Entry<'_>]) -> Result<String, AllocErr
     }
 }
 
+/// What is to be known of a server, as a text.
+fn settings_text(alloc: Global, settings: Settings) -> Result<String, AllocError> {
+    let mut text = String::from_str(alloc, "=")?;
+    if settings.keeps_nothing {
+        text.push_str(" keeps nothing")?;
+    }
+    if settings.is_replica {
+        text.push_str(" replica")?;
+    }
+    if settings.evicts {
+        text.push_str(" evicts")?;
+    }
+    Ok(text)
+}
+
 /// What the reply is to the question, as a text.
 fn text_of(alloc: Global, asked: &Asked, reply: &Reply<'_>) -> Result<String, AllocError> {
     let fault = match asked {
@@ -79,8 +94,8 @@ fn text_of(alloc: Global, asked: &Asked, reply: &Reply<'_>) -> Result<String, Al
             Ok(()) => return String::from_str(alloc, "ok"),
             Err(fault) => fault,
         },
-        Asked::Persistence => match persistence_outcome(reply) {
-            Ok(text) => return format!(in alloc; "{}", keeps_nothing(text)),
+        Asked::Info => match info_outcome(reply) {
+            Ok(text) => return settings_text(alloc, Settings::read(text)),
             Err(fault) => fault,
         },
         Asked::Read => match entries_outcome(reply) {
@@ -160,30 +175,64 @@ fn replies_to_a_greeting(rt: HostRuntime) {
     check_all(&rt, rt.alloc(), &Asked::Status, &TO_ANY);
 }
 
-/// Replies to `INFO persistence`.
-static DISKS: [Row; 9] = [
+/// Replies to `INFO`.
+static SETTINGS: [Row; 19] = [
     (
         "$41\r\n# Persistence\r\nloading:0\r\naof_enabled:0\r\n\r\n",
-        "true",
+        "= keeps nothing",
     ),
     (
         "$41\r\n# Persistence\r\nloading:0\r\naof_enabled:1\r\n\r\n",
-        "false",
+        "=",
     ),
-    ("$31\r\n# Persistence\r\nxaof_enabled:0\r\n\r\n", "false"),
-    ("$29\r\n# Persistence\r\naof_enabled:0\n\r\n", "false"),
-    ("$29\r\n# Persistence\r\naof_enabled:\r\n\r\n", "false"),
-    ("$0\r\n\r\n", "false"),
+    ("$31\r\n# Persistence\r\nxaof_enabled:0\r\n\r\n", "="),
+    ("$29\r\n# Persistence\r\naof_enabled:0\n\r\n", "="),
+    ("$29\r\n# Persistence\r\naof_enabled:\r\n\r\n", "="),
+    (
+        "$42\r\n# Replication\r\nrole:slave\r\nmaster_host:a\r\n\r\n",
+        "= replica",
+    ),
+    (
+        "$48\r\n# Replication\r\nrole:master\r\nconnected_slaves:1\r\n\r\n",
+        "=",
+    ),
+    ("$28\r\n# Replication\r\nrole:slave2\r\n\r\n", "="),
+    ("$28\r\n# Replication\r\nxrole:slave\r\n\r\n", "="),
+    (
+        "$53\r\n# Memory\r\nmaxmemory_policy:allkeys-lru\r\nallocator:a\r\n\r\n",
+        "= evicts",
+    ),
+    (
+        "$43\r\n# Memory\r\nmaxmemory_policy:allkeys-random\r\n\r\n",
+        "= evicts",
+    ),
+    (
+        "$41\r\n# Memory\r\nmaxmemory_policy:volatile-lru\r\n\r\n",
+        "=",
+    ),
+    (
+        "$39\r\n# Memory\r\nmaxmemory_policy:noeviction\r\n\r\n",
+        "=",
+    ),
+    (
+        "$41\r\n# Memory\r\nxmaxmemory_policy:allkeys-lru\r\n\r\n",
+        "=",
+    ),
+    (
+        "$60\r\na\r\nmaxmemory_policy:allkeys-lfu\r\naof_enabled:0\r\nrole:slave\r\n\r\n",
+        "= keeps nothing replica evicts",
+    ),
+    ("$0\r\n\r\n", "="),
     ("$-1\r\n", "away"),
     (":0\r\n", "away"),
     ("*0\r\n", "away"),
 ];
 
-/// Tries: lw_redis_log::persistence_outcome, lw_redis_log::keeps_nothing
+/// Tries: lw_redis_log::info_outcome, lw_redis_log::Settings::read
 #[test]
-fn replies_about_the_disk(rt: HostRuntime) {
-    check_all(&rt, rt.alloc(), &Asked::Persistence, &DISKS);
-    check_all(&rt, rt.alloc(), &Asked::Persistence, &TO_ANY);
+fn replies_about_a_server(rt: HostRuntime) {
+    check_all(&rt, rt.alloc(), &Asked::Info, &SETTINGS);
+    check_all(&rt, rt.alloc(), &Asked::Info, &TO_ANY);
 }
 
 /// Replies to a reading.

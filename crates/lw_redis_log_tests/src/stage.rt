@@ -22,9 +22,12 @@ pub(crate) enum Answer {
     SaysSlowly(&'static str),
     /// These bytes, and the end of the connection.
     Ends(&'static str),
+    /// These bytes, so many times `a`, and these bytes.
+    SaysLarge(&'static str, usize, &'static str),
 }
 
 /// What is done, in order.
+#[derive(Drop)]
 pub(crate) enum Act {
     /// Entries are read above a position, or from the start.
     Read(Option<(u64, u64)>),
@@ -87,21 +90,37 @@ impl<'a> Stage<'a> {
 #[derive(Drop)]
 pub(crate) struct Wire<'a> {
     stage: &'a Stage<'a>,
-    coming: &'static [u8],
+    coming: Vec<u8>,
+    /// How many of these have come.
+    came: usize,
     is_slow: bool,
     ends: bool,
+}
+
+impl Wire<'_> {
+    /// Has these bytes come, with so many times `a` between them.
+    fn bring(&mut self, head: &str, letters: usize, tail: &str) -> Result<(), AllocError> {
+        self.coming.clear();
+        self.came = 0;
+        self.coming.extend_from_slice(head.as_bytes())?;
+        for _ in 0..letters {
+            self.coming.push(b'a')?;
+        }
+        self.coming.extend_from_slice(tail.as_bytes())
+    }
 }
 
 impl Write for Wire<'_> {
     fn write(&mut self, buf: &[u8]) -> io::Result<usize> {
         self.stage.note_bytes(buf)?;
-        let (text, is_slow, ends) = match self.stage.answer() {
-            Some(Answer::Says(text)) => (text, false, false),
-            Some(Answer::SaysSlowly(text)) => (text, true, false),
-            Some(Answer::Ends(text)) => (text, false, true),
+        let (head, letters, tail, is_slow, ends) = match self.stage.answer() {
+            Some(Answer::Says(text)) => (*text, 0, "", false, false),
+            Some(Answer::SaysSlowly(text)) => (*text, 0, "", true, false),
+            Some(Answer::Ends(text)) => (*text, 0, "", false, true),
+            Some(Answer::SaysLarge(head, letters, tail)) => (*head, *letters, *tail, false, false),
             _ => return Err(io::Error::from(ErrorKind::BrokenPipe)),
         };
-        self.coming = text.as_bytes();
+        self.bring(head, letters, tail)?;
         self.is_slow = is_slow;
         self.ends = ends;
         Ok(buf.len())
@@ -114,13 +133,16 @@ impl Write for Wire<'_> {
 
 impl Read for Wire<'_> {
     fn read(&mut self, buf: &mut [u8]) -> io::Result<usize> {
-        if self.coming.is_empty() && !self.ends {
+        let mut left = self.coming.get(self.came..).unwrap_or(b"");
+        if left.is_empty() && !self.ends {
             return Err(io::Error::from(ErrorKind::WouldBlock));
         }
-        let most = if self.is_slow { 1 } else { buf.len() };
-        let (mut now, later) = self.coming.split_at(most.min(self.coming.len()));
-        self.coming = later;
-        now.read(buf)
+        if self.is_slow {
+            left = left.get(..1).unwrap_or(b"");
+        }
+        let count = left.read(buf)?;
+        self.came = self.came.saturating_add(count);
+        Ok(count)
     }
 }
 
@@ -139,7 +161,8 @@ impl<'a> Connects for Caller<'a> {
                 self.stage.note("connects")?;
                 Ok(Wire {
                     stage: self.stage,
-                    coming: b"",
+                    coming: Vec::new(self.stage.alloc),
+                    came: 0,
                     is_slow: false,
                     ends: false,
                 })
@@ -167,8 +190,12 @@ impl<'a> Connects for Caller<'a> {
         let _ = match notice {
             Notice::Refused(error) => self.stage.note(error),
             Notice::KeepsNothing => self.stage.note("keeps nothing"),
+            Notice::IsReplica => self.stage.note("replica"),
+            Notice::Evicts => self.stage.note("evicts"),
             Notice::Lost => self.stage.note("lost"),
             Notice::PassedOver(id) => self.stage.note_id("passes over", id),
+            Notice::AnotherFleet(id) => self.stage.note_id("another fleet", id),
+            Notice::AnotherStream => self.stage.note("another stream"),
         };
     }
 }

@@ -1,4 +1,4 @@
-use crate::stage::Act::{Append, Pass, Read, Trim};
+use crate::stage::Act::{Append, Pass, Read};
 use crate::stage::Answer::{Ends, Fails, Opens, Says, SaysSlowly};
 use crate::stage::{Act, Answer, Story, play, play_all};
 use lw_redis_log::Login;
@@ -26,7 +26,7 @@ static MADE: [Story<'static>; 4] = [
     (
         &[Opens, PONG, KEEPS, EMPTY, FIRST, SECOND],
         &[Read(None), Append("a"), Append("b")],
-        "connects\n*1~$4~PING~\n*2~$4~INFO~$11~persistence~\n\
+        "connects\n*1~$4~PING~\n*1~$4~INFO~\n\
          *6~$6~XRANGE~$1~k~$1~-~$1~+~$5~COUNT~$3~256~\n=\n\
          *5~$4~XADD~$1~k~$1~*~$1~e~$1~a~\n= 5-0\n\
          *6~$4~XADD~$1~k~$10~NOMKSTREAM~$1~*~$1~e~$1~b~\n= 6-0\n",
@@ -34,21 +34,21 @@ static MADE: [Story<'static>; 4] = [
     (
         &[Opens, PONG, KEEPS, FOUND, SECOND],
         &[Read(None), Append("b")],
-        "connects\n*1~$4~PING~\n*2~$4~INFO~$11~persistence~\n\
+        "connects\n*1~$4~PING~\n*1~$4~INFO~\n\
          *6~$6~XRANGE~$1~k~$1~-~$1~+~$5~COUNT~$3~256~\npasses over 5-0\n= 5-0 a\n\
          *6~$4~XADD~$1~k~$10~NOMKSTREAM~$1~*~$1~e~$1~b~\n= 6-0\n",
     ),
     (
         &[Opens, PONG, KEEPS, EMPTY, SECOND],
         &[Read(Some((5, 0))), Append("b")],
-        "connects\n*1~$4~PING~\n*2~$4~INFO~$11~persistence~\n\
+        "connects\n*1~$4~PING~\n*1~$4~INFO~\n\
          *6~$6~XRANGE~$1~k~$4~(5-0~$1~+~$5~COUNT~$3~256~\n=\n\
          *6~$4~XADD~$1~k~$10~NOMKSTREAM~$1~*~$1~e~$1~b~\n= 6-0\n",
     ),
     (
         &[Opens, PONG, KEEPS, Says("$-1\r\n"), FIRST, SECOND],
         &[Append("a"), Append("a"), Append("b")],
-        "connects\n*1~$4~PING~\n*2~$4~INFO~$11~persistence~\n\
+        "connects\n*1~$4~PING~\n*1~$4~INFO~\n\
          *6~$4~XADD~$1~k~$10~NOMKSTREAM~$1~*~$1~e~$1~a~\nlost\n= Lost\n\
          *5~$4~XADD~$1~k~$1~*~$1~e~$1~a~\n= 5-0\n\
          *6~$4~XADD~$1~k~$10~NOMKSTREAM~$1~*~$1~e~$1~b~\n= 6-0\n",
@@ -61,35 +61,20 @@ fn a_stream_is_made(rt: HostRuntime) {
     play_all(&rt, rt.alloc(), &MADE);
 }
 
-/// A refusal is told, and the connection stays. So it does at a trim.
-static REFUSED: [Story<'static>; 2] = [
-    (
-        &[
-            Opens,
-            PONG,
-            KEEPS,
-            Says("-NOPERM no permissions\r\n"),
-            FIRST,
-        ],
-        &[Append("a"), Append("a")],
-        "connects\n*1~$4~PING~\n*2~$4~INFO~$11~persistence~\n\
+/// A refusal is told, and the connection stays.
+static REFUSED: [Story<'static>; 1] = [(
+    &[
+        Opens,
+        PONG,
+        KEEPS,
+        Says("-NOPERM no permissions\r\n"),
+        FIRST,
+    ],
+    &[Append("a"), Append("a")],
+    "connects\n*1~$4~PING~\n*1~$4~INFO~\n\
          *6~$4~XADD~$1~k~$10~NOMKSTREAM~$1~*~$1~e~$1~a~\nNOPERM no permissions\n= Refused\n\
          *6~$4~XADD~$1~k~$10~NOMKSTREAM~$1~*~$1~e~$1~a~\n= 5-0\n",
-    ),
-    (
-        &[
-            Opens,
-            PONG,
-            KEEPS,
-            Says(":2\r\n"),
-            Says("-WRONGTYPE other\r\n"),
-        ],
-        &[Trim(5, 0), Trim(5, 0)],
-        "connects\n*1~$4~PING~\n*2~$4~INFO~$11~persistence~\n\
-         *5~$5~XTRIM~$1~k~$5~MINID~$1~=~$3~5-1~\n= trimmed\n\
-         *5~$5~XTRIM~$1~k~$5~MINID~$1~=~$3~5-1~\nWRONGTYPE other\n= Refused\n",
-    ),
-];
+)];
 
 /// Tries: lw_redis_log::RedisLog::new
 #[test]
@@ -98,9 +83,9 @@ fn a_refusal_is_told(rt: HostRuntime) {
 }
 
 /// Nothing is asked while the pause lasts.
-const DROPPED: &str = "connects\n*1~$4~PING~\n*2~$4~INFO~$11~persistence~\n\
+const DROPPED: &str = "connects\n*1~$4~PING~\n*1~$4~INFO~\n\
      *6~$4~XADD~$1~k~$10~NOMKSTREAM~$1~*~$1~e~$1~a~\n= Away\n= Away\n99 ms\n= Away\n1 ms\n\
-     connects\n*1~$4~PING~\n*6~$4~XADD~$1~k~$10~NOMKSTREAM~$1~*~$1~e~$1~a~\n= 5-0\n";
+     connects\n*1~$4~PING~\n*1~$4~INFO~\n*6~$4~XADD~$1~k~$10~NOMKSTREAM~$1~*~$1~e~$1~a~\n= 5-0\n";
 
 /// An append until it is done, and with it what is done while a pause of 100 ms lasts.
 const APPENDED_AGAIN: &[Act] = &[
@@ -123,18 +108,37 @@ static DROPS: [Story<'static>; 9] = [
             Says("-LOADING Redis is loading the dataset in memory\r\n"),
             Opens,
             PONG,
+            KEEPS,
             FIRST,
         ],
         APPENDED_AGAIN,
         DROPPED,
     ),
     (
-        &[Opens, PONG, KEEPS, Says(":1\r\n"), Opens, PONG, FIRST],
+        &[
+            Opens,
+            PONG,
+            KEEPS,
+            Says(":1\r\n"),
+            Opens,
+            PONG,
+            KEEPS,
+            FIRST,
+        ],
         APPENDED_AGAIN,
         DROPPED,
     ),
     (
-        &[Opens, PONG, KEEPS, Says("5-0\r\n"), Opens, PONG, FIRST],
+        &[
+            Opens,
+            PONG,
+            KEEPS,
+            Says("5-0\r\n"),
+            Opens,
+            PONG,
+            KEEPS,
+            FIRST,
+        ],
         APPENDED_AGAIN,
         DROPPED,
     ),
@@ -146,6 +150,7 @@ static DROPS: [Story<'static>; 9] = [
             Says("$3\r\n5-0\r\n:1\r\n"),
             Opens,
             PONG,
+            KEEPS,
             FIRST,
         ],
         APPENDED_AGAIN,
@@ -159,28 +164,47 @@ static DROPS: [Story<'static>; 9] = [
             Says("$3\r\n5:0\r\n"),
             Opens,
             PONG,
+            KEEPS,
             FIRST,
         ],
         APPENDED_AGAIN,
         DROPPED,
     ),
     (
-        &[Opens, PONG, KEEPS, Says(""), Opens, PONG, FIRST],
+        &[Opens, PONG, KEEPS, Says(""), Opens, PONG, KEEPS, FIRST],
         APPENDED_AGAIN,
         DROPPED,
     ),
     (
-        &[Opens, PONG, KEEPS, Says("$3\r\n5-"), Opens, PONG, FIRST],
+        &[
+            Opens,
+            PONG,
+            KEEPS,
+            Says("$3\r\n5-"),
+            Opens,
+            PONG,
+            KEEPS,
+            FIRST,
+        ],
         APPENDED_AGAIN,
         DROPPED,
     ),
     (
-        &[Opens, PONG, KEEPS, Ends("$3\r\n5-"), Opens, PONG, FIRST],
+        &[
+            Opens,
+            PONG,
+            KEEPS,
+            Ends("$3\r\n5-"),
+            Opens,
+            PONG,
+            KEEPS,
+            FIRST,
+        ],
         APPENDED_AGAIN,
         DROPPED,
     ),
     (
-        &[Opens, PONG, KEEPS, Fails, Opens, PONG, FIRST],
+        &[Opens, PONG, KEEPS, Fails, Opens, PONG, KEEPS, FIRST],
         APPENDED_AGAIN,
         DROPPED,
     ),
@@ -222,7 +246,7 @@ static PAUSES: [Story<'static>; 2] = [
             Ends(""),
             Opens,
             PONG,
-            FOUND,
+            KEEPS,
             SECOND,
         ],
         &[
@@ -234,10 +258,10 @@ static PAUSES: [Story<'static>; 2] = [
             Append("b"),
         ],
         "connects not\n= Away\n100 ms\n\
-         connects\n*1~$4~PING~\n*2~$4~INFO~$11~persistence~\n\
+         connects\n*1~$4~PING~\n*1~$4~INFO~\n\
          *6~$4~XADD~$1~k~$10~NOMKSTREAM~$1~*~$1~e~$1~a~\n= 5-0\n\
          *6~$4~XADD~$1~k~$10~NOMKSTREAM~$1~*~$1~e~$1~b~\n= Away\n100 ms\n\
-         connects\n*1~$4~PING~\n*4~$6~XRANGE~$1~k~$3~5-0~$3~5-0~\n\
+         connects\n*1~$4~PING~\n*1~$4~INFO~\n\
          *6~$4~XADD~$1~k~$10~NOMKSTREAM~$1~*~$1~e~$1~b~\n= 6-0\n",
     ),
 ];
@@ -248,108 +272,87 @@ fn pauses_grow(rt: HostRuntime) {
     play_all(&rt, rt.alloc(), &PAUSES);
 }
 
-/// What was appended or read last is looked for at a new connection. Where it is gone, the next reading or append
-/// tells it once. What this log let go itself is not looked for.
-static LOST: [Story<'static>; 4] = [
-    (
-        &[
-            Opens,
-            PONG,
-            KEEPS,
-            FIRST,
-            Ends(""),
-            Opens,
-            PONG,
-            EMPTY,
-            SECOND,
-        ],
-        &[
-            Append("a"),
-            Append("b"),
-            Pass(100),
-            Append("b"),
-            Append("b"),
-        ],
-        "connects\n*1~$4~PING~\n*2~$4~INFO~$11~persistence~\n\
-         *6~$4~XADD~$1~k~$10~NOMKSTREAM~$1~*~$1~e~$1~a~\n= 5-0\n\
-         *6~$4~XADD~$1~k~$10~NOMKSTREAM~$1~*~$1~e~$1~b~\n= Away\n100 ms\n\
-         connects\n*1~$4~PING~\n*4~$6~XRANGE~$1~k~$3~5-0~$3~5-0~\nlost\n= Lost\n\
-         *6~$4~XADD~$1~k~$10~NOMKSTREAM~$1~*~$1~e~$1~b~\n= 6-0\n",
-    ),
-    (
-        &[
-            Opens,
-            PONG,
-            KEEPS,
-            FIRST,
-            Ends(""),
-            Opens,
-            PONG,
-            EMPTY,
-            EMPTY,
-        ],
-        &[
-            Append("a"),
-            Append("b"),
-            Pass(100),
-            Read(Some((5, 0))),
-            Read(Some((5, 0))),
-        ],
-        "connects\n*1~$4~PING~\n*2~$4~INFO~$11~persistence~\n\
-         *6~$4~XADD~$1~k~$10~NOMKSTREAM~$1~*~$1~e~$1~a~\n= 5-0\n\
-         *6~$4~XADD~$1~k~$10~NOMKSTREAM~$1~*~$1~e~$1~b~\n= Away\n100 ms\n\
-         connects\n*1~$4~PING~\n*4~$6~XRANGE~$1~k~$3~5-0~$3~5-0~\nlost\n= Lost\n\
-         *6~$6~XRANGE~$1~k~$4~(5-0~$1~+~$5~COUNT~$3~256~\n=\n",
-    ),
-    (
-        &[Opens, PONG, KEEPS, FOUND, Ends(""), Opens, PONG, EMPTY],
-        &[Read(None), Append("b"), Pass(100), Append("b")],
-        "connects\n*1~$4~PING~\n*2~$4~INFO~$11~persistence~\n\
-         *6~$6~XRANGE~$1~k~$1~-~$1~+~$5~COUNT~$3~256~\npasses over 5-0\n= 5-0 a\n\
-         *6~$4~XADD~$1~k~$10~NOMKSTREAM~$1~*~$1~e~$1~b~\n= Away\n100 ms\n\
-         connects\n*1~$4~PING~\n*4~$6~XRANGE~$1~k~$3~5-0~$3~5-0~\nlost\n= Lost\n",
-    ),
-    (
-        &[
-            Opens,
-            PONG,
-            KEEPS,
-            FIRST,
-            Says(":1\r\n"),
-            Ends(""),
-            Opens,
-            PONG,
-            SECOND,
-        ],
-        &[Append("a"), Trim(5, 0), Append("b"), Pass(100), Append("b")],
-        "connects\n*1~$4~PING~\n*2~$4~INFO~$11~persistence~\n\
-         *6~$4~XADD~$1~k~$10~NOMKSTREAM~$1~*~$1~e~$1~a~\n= 5-0\n\
-         *5~$5~XTRIM~$1~k~$5~MINID~$1~=~$3~5-1~\n= trimmed\n\
-         *6~$4~XADD~$1~k~$10~NOMKSTREAM~$1~*~$1~e~$1~b~\n= Away\n100 ms\n\
-         connects\n*1~$4~PING~\n*6~$4~XADD~$1~k~$10~NOMKSTREAM~$1~*~$1~e~$1~b~\n= 6-0\n",
-    ),
-];
+/// A replica whose policy lets no key go but those that end.
+const REPLICA: Answer = Says(
+    "$61\r\na\r\nmaxmemory_policy:volatile-lru\r\nrole:slave\r\nmaster_port:1\r\n\r\n",
+);
 
-/// Tries: lw_redis_log::RedisLog::new
-#[test]
-fn what_is_lost_is_told(rt: HostRuntime) {
-    play_all(&rt, rt.alloc(), &LOST);
-}
+/// The same with a policy that lets any key go.
+const EVICTS: Answer = Says(
+    "$60\r\na\r\nmaxmemory_policy:allkeys-lru\r\nrole:slave\r\nmaster_port:1\r\n\r\n",
+);
 
-/// What a server tells of its disk is asked once, and told where it keeps nothing. One that does not tell is used.
-static DISKS: [Story<'static>; 3] = [
+/// What a server is is asked at each connection, and each thing told once. One that does not tell is used.
+static SETTINGS: [Story<'static>; 4] = [
     (
-        &[Opens, PONG, FORGETS, EMPTY, Ends(""), Opens, PONG, EMPTY],
+        &[
+            Opens,
+            PONG,
+            FORGETS,
+            EMPTY,
+            Ends(""),
+            Opens,
+            PONG,
+            FORGETS,
+            EMPTY,
+        ],
         &[Read(None), Read(None), Pass(100), Read(None)],
-        "connects\n*1~$4~PING~\n*2~$4~INFO~$11~persistence~\nkeeps nothing\n\
+        "connects\n*1~$4~PING~\n*1~$4~INFO~\nkeeps nothing\n\
          *6~$6~XRANGE~$1~k~$1~-~$1~+~$5~COUNT~$3~256~\n=\n\
          *6~$6~XRANGE~$1~k~$1~-~$1~+~$5~COUNT~$3~256~\n= Away\n100 ms\n\
-         connects\n*1~$4~PING~\n*6~$6~XRANGE~$1~k~$1~-~$1~+~$5~COUNT~$3~256~\n=\n",
+         connects\n*1~$4~PING~\n*1~$4~INFO~\n\
+         *6~$6~XRANGE~$1~k~$1~-~$1~+~$5~COUNT~$3~256~\n=\n",
+    ),
+    (
+        &[
+            Opens,
+            PONG,
+            KEEPS,
+            EMPTY,
+            Ends(""),
+            Opens,
+            PONG,
+            REPLICA,
+            EMPTY,
+            Ends(""),
+            Opens,
+            PONG,
+            EVICTS,
+            EMPTY,
+            Ends(""),
+            Opens,
+            PONG,
+            EVICTS,
+            EMPTY,
+        ],
+        &[
+            Read(None),
+            Read(None),
+            Pass(100),
+            Read(None),
+            Read(None),
+            Pass(100),
+            Read(None),
+            Read(None),
+            Pass(100),
+            Read(None),
+        ],
+        "connects\n*1~$4~PING~\n*1~$4~INFO~\n\
+         *6~$6~XRANGE~$1~k~$1~-~$1~+~$5~COUNT~$3~256~\n=\n\
+         *6~$6~XRANGE~$1~k~$1~-~$1~+~$5~COUNT~$3~256~\n= Away\n100 ms\n\
+         connects\n*1~$4~PING~\n*1~$4~INFO~\nreplica\n\
+         *6~$6~XRANGE~$1~k~$1~-~$1~+~$5~COUNT~$3~256~\n=\n\
+         *6~$6~XRANGE~$1~k~$1~-~$1~+~$5~COUNT~$3~256~\n= Away\n100 ms\n\
+         connects\n*1~$4~PING~\n*1~$4~INFO~\nevicts\n\
+         *6~$6~XRANGE~$1~k~$1~-~$1~+~$5~COUNT~$3~256~\n=\n\
+         *6~$6~XRANGE~$1~k~$1~-~$1~+~$5~COUNT~$3~256~\n= Away\n100 ms\n\
+         connects\n*1~$4~PING~\n*1~$4~INFO~\n\
+         *6~$6~XRANGE~$1~k~$1~-~$1~+~$5~COUNT~$3~256~\n=\n",
     ),
     (
         &[Opens, PONG, Says("-NOPERM no permissions\r\n"), EMPTY],
         &[Read(None)],
-        "connects\n*1~$4~PING~\n*2~$4~INFO~$11~persistence~\n\
+        "connects\n*1~$4~PING~\n*1~$4~INFO~\n\
          *6~$6~XRANGE~$1~k~$1~-~$1~+~$5~COUNT~$3~256~\n=\n",
     ),
     (
@@ -363,16 +366,16 @@ static DISKS: [Story<'static>; 3] = [
             EMPTY,
         ],
         &[Read(None), Pass(100), Read(None)],
-        "connects\n*1~$4~PING~\n*2~$4~INFO~$11~persistence~\n= Away\n100 ms\n\
-         connects\n*1~$4~PING~\n*2~$4~INFO~$11~persistence~\nkeeps nothing\n\
+        "connects\n*1~$4~PING~\n*1~$4~INFO~\n= Away\n100 ms\n\
+         connects\n*1~$4~PING~\n*1~$4~INFO~\nkeeps nothing\n\
          *6~$6~XRANGE~$1~k~$1~-~$1~+~$5~COUNT~$3~256~\n=\n",
     ),
 ];
 
 /// Tries: lw_redis_log::RedisLog::new
 #[test]
-fn the_disk_is_asked_for(rt: HostRuntime) {
-    play_all(&rt, rt.alloc(), &DISKS);
+fn settings_are_asked_for(rt: HostRuntime) {
+    play_all(&rt, rt.alloc(), &SETTINGS);
 }
 
 /// Two entries, the second of which is foreign.
@@ -380,12 +383,12 @@ const PAGE: &str = "*2\r\n*2\r\n$3\r\n5-0\r\n*2\r\n$1\r\ne\r\n$2\r\nab\r\n\
      *2\r\n$3\r\n5-1\r\n*4\r\n$1\r\ne\r\n$1\r\na\r\n$1\r\nf\r\n$0\r\n\r\n";
 
 /// The record of a reading whose reply is whole.
-const WHOLE: &str = "connects\n*1~$4~PING~\n*2~$4~INFO~$11~persistence~\n\
+const WHOLE: &str = "connects\n*1~$4~PING~\n*1~$4~INFO~\n\
      *6~$6~XRANGE~$1~k~$1~-~$1~+~$5~COUNT~$3~256~\n\
      passes over 5-0\npasses over 5-1\n= 5-0 ab 5-1 \n";
 
 /// The record of one whose reply is not.
-const CUT: &str = "connects\n*1~$4~PING~\n*2~$4~INFO~$11~persistence~\n\
+const CUT: &str = "connects\n*1~$4~PING~\n*1~$4~INFO~\n\
      *6~$6~XRANGE~$1~k~$1~-~$1~+~$5~COUNT~$3~256~\n= Away\n";
 
 /// A reply comes in any pieces.
@@ -419,7 +422,7 @@ static LOGINS: [Story<'static>; 4] = [
     (
         &[Opens, Says("+OK\r\n"), PONG, KEEPS, EMPTY],
         &[Read(None)],
-        "connects\n*3~$4~AUTH~$5~fleet~$6~secret~\n*1~$4~PING~\n*2~$4~INFO~$11~persistence~\n\
+        "connects\n*3~$4~AUTH~$5~fleet~$6~secret~\n*1~$4~PING~\n*1~$4~INFO~\n\
          *6~$6~XRANGE~$1~k~$1~-~$1~+~$5~COUNT~$3~256~\n=\n",
     ),
     (
