@@ -7,10 +7,12 @@ use crate::counter::nears_end;
 use crate::hearing::is_report;
 use crate::receiving::{pass_over, receive};
 use crate::telling::LineRate;
+use crate::upkeep::Upkeep;
 use crate::{
-    Clocks, Compaction, Front, Heard, Metered, Passage, Progress, RunFault, Server, TurnFault,
+    Clocks, Compaction, Front, Heard, MemberFault, Metered, Passage, Progress, RunFault, Server,
+    TurnFault,
 };
-use log::{Log, debug, info, warn};
+use log::{Log, debug, error, info, warn};
 use lw_log::DeltaLog;
 use lw_reg::Addr;
 use lw_stamp::Moment;
@@ -20,14 +22,14 @@ use std::time::Duration;
 /// How many faults of the front, or turns without memory, in a row end a run.
 const FAULTS_IN_A_ROW: u32 = 1_000;
 
-/// How many turns after a compaction that was put off it is tried again.
-const TURNS_BETWEEN_COMPACTIONS: u32 = 1_000;
-
 /// How many steps with devices are made in a turn.
 const STEPS_A_TURN: u32 = 4_096;
 
 /// How many milliseconds a second has.
 const MILLISECONDS: u64 = 1_000;
+
+/// How many seconds a minute has.
+const SECONDS: u64 = 60;
 
 /// How many microseconds a millisecond has.
 const MICROSECONDS: u64 = 1_000;
@@ -40,17 +42,13 @@ pub(crate) struct Course<G: DeltaLog + Metered, C: Clocks> {
     faults: u32,
     /// How many turns in a row found no memory.
     starved: u32,
-    compaction: Compaction,
-    /// How many turns are left before a compaction is tried again.
-    rest: u32,
-    /// Whether the log has lost entries since it was compacted. Whoever reads it from its beginning may miss what stood
-    /// in them, until all is written anew.
-    has_lost: bool,
+    upkeep: Upkeep,
     /// Whether it was told that the counter nears its end.
     told_of_end: bool,
     /// The moment of the last turn, by the clock that never goes back.
     last: Moment,
     refusals: LineRate,
+    fault_lines: LineRate,
     send_lines: LineRate,
     receive_lines: LineRate,
 }
@@ -60,14 +58,13 @@ impl<G: DeltaLog + Metered, C: Clocks> Course<G, C> {
         let last = server.steady();
         let mut course = Course {
             server,
-            compaction,
+            upkeep: Upkeep::new(compaction),
             faults: 0,
             starved: 0,
-            rest: 0,
-            has_lost: false,
             told_of_end: false,
             last,
             refusals: LineRate::new(),
+            fault_lines: LineRate::of(1),
             send_lines: LineRate::new(),
             receive_lines: LineRate::new(),
         };
@@ -88,12 +85,11 @@ impl<G: DeltaLog + Metered, C: Clocks> Course<G, C> {
             server,
             faults,
             starved,
-            compaction,
-            rest,
-            has_lost,
+            upkeep,
             told_of_end,
             last,
             refusals,
+            fault_lines,
             send_lines,
             receive_lines,
         } = self;
@@ -102,12 +98,11 @@ impl<G: DeltaLog + Metered, C: Clocks> Course<G, C> {
             server,
             faults,
             starved,
-            compaction,
-            rest,
-            has_lost,
+            upkeep,
             told_of_end,
             last,
             refusals,
+            fault_lines,
             send_lines,
             receive_lines,
         };
@@ -236,7 +231,7 @@ impl<G: DeltaLog + Metered, C: Clocks> Course<G, C> {
     fn sends_of(&mut self, batch: Vec<Datagram>) -> Result<Vec<(Addr, Vec<u8>)>, TurnFault> {
         let count = batch.len() as u64;
         match self.server.take(batch) {
-            Err(fault @ (TurnFault::Away | TurnFault::Lost)) => {
+            Err(fault @ (TurnFault::Away | TurnFault::Lost | TurnFault::Member(_))) => {
                 self.drop_datagrams(count);
                 Err(fault)
             }
@@ -372,38 +367,48 @@ impl<G: DeltaLog + Metered, C: Clocks> Course<G, C> {
         self.compact_if_due(log)
     }
 
+    /// Whether nobody else writes into the log.
+    fn is_alone(&self) -> bool {
+        self.server.member.log().is_alone()
+    }
+
     fn is_compaction_due(&self) -> bool {
-        self.compaction == Compaction::WhereDue
-            && self.rest == 0
-            && (self.server.wants_compaction() || self.is_to_be_mended())
+        self.upkeep.is_ready() && (self.server.wants_compaction() || self.is_to_be_mended())
     }
 
     /// Whether the log has lost entries that this server can write anew.
     fn is_to_be_mended(&self) -> bool {
-        self.has_lost && self.server.member.is_claimed()
+        self.upkeep.has_lost && self.server.member.is_claimed()
     }
 
     /// Compacts the log where that is due. Where it fails for now, it is put off by some turns.
     fn compact_if_due<L: Log>(&mut self, log: &L) -> Result<(), RunFault> {
-        self.rest = self.rest.saturating_sub(1);
+        self.upkeep.note_turn();
         if !self.is_compaction_due() {
             return Ok(());
         }
         match self.server.compact() {
-            Ok(()) => {
-                let edge = &mut self.server.edge;
-                edge.compactions = edge.compactions.saturating_add(1);
-                self.has_lost = false;
-                info!(log; "compacted");
-                Ok(())
+            Ok(()) => self.compacted(log),
+            Err(TurnFault::Away | TurnFault::NoMemory) => self.put_off(log),
+            Err(TurnFault::Member(fault)) if self.outlasts(fault) => {
+                self.note_refusal(log, fault, false);
+                self.put_off(log);
             }
-            Err(TurnFault::Away | TurnFault::NoMemory) => {
-                warn!(log; "compaction put off");
-                self.rest = TURNS_BETWEEN_COMPACTIONS;
-                Ok(())
-            }
-            Err(fault) => self.endures(log, fault),
+            Err(fault) => return self.endures(log, fault),
         }
+        Ok(())
+    }
+
+    fn compacted<L: Log>(&mut self, log: &L) {
+        let edge = &mut self.server.edge;
+        edge.compactions = edge.compactions.saturating_add(1);
+        self.upkeep.compacted();
+        info!(log; "compacted");
+    }
+
+    fn put_off<L: Log>(&mut self, log: &L) {
+        warn!(log; "compaction put off");
+        self.upkeep.put_off();
     }
 
     /// The log is away from now on, until a turn is made.
@@ -417,30 +422,56 @@ impl<G: DeltaLog + Metered, C: Clocks> Course<G, C> {
     /// A turn failed: whether the run goes on.
     fn endures<L: Log>(&mut self, log: &L, fault: TurnFault) -> Result<(), RunFault> {
         match fault {
-            TurnFault::Away => {
-                self.goes_away(log);
-                Ok(())
-            }
+            TurnFault::Away => self.goes_away(log),
             TurnFault::Lost => {
-                self.has_lost = true;
-                self.rest = 0;
+                self.upkeep.lose();
                 warn!(log; "log lost");
                 self.goes_away(log);
-                Ok(())
             }
-            TurnFault::NoMemory => {
-                if self.starved == 0 {
-                    warn!(log; "no memory for a turn");
-                }
-                self.server.pass_over();
-                self.starved = self.starved.saturating_add(1);
-                if self.starved >= FAULTS_IN_A_ROW {
-                    return Err(RunFault::NoMemory);
-                }
-                Ok(())
-            }
-            TurnFault::ClockRefused => Err(RunFault::ClockRefused),
-            TurnFault::Member(fault) => Err(RunFault::from(fault)),
+            TurnFault::NoMemory => return self.starves(log),
+            TurnFault::ClockRefused => return Err(RunFault::ClockRefused),
+            TurnFault::Member(fault) => return self.is_refused(log, fault),
+        }
+        Ok(())
+    }
+
+    /// A turn found no memory: whether the run goes on.
+    fn starves<L: Log>(&mut self, log: &L) -> Result<(), RunFault> {
+        if self.starved == 0 {
+            warn!(log; "no memory for a turn");
+        }
+        self.server.pass_over();
+        self.starved = self.starved.saturating_add(1);
+        if self.starved >= FAULTS_IN_A_ROW {
+            return Err(RunFault::NoMemory);
+        }
+        Ok(())
+    }
+
+    /// Whether the run goes on after the fault. What others do to a log that they share may pass, and each server that
+    /// goes on keeps all that it knows: it can write that anew. One that found its number taken knows only what it read.
+    fn outlasts(&self, fault: MemberFault) -> bool {
+        !self.is_alone() && fault != MemberFault::NumberTaken
+    }
+
+    /// The log refused a turn, or has what this server does not read: whether the run goes on.
+    fn is_refused<L: Log>(&mut self, log: &L, fault: MemberFault) -> Result<(), RunFault> {
+        if !self.outlasts(fault) {
+            return Err(RunFault::from(fault));
+        }
+        let begins = !self.server.away;
+        self.note_refusal(log, fault, begins);
+        self.goes_away(log);
+        Ok(())
+    }
+
+    /// Counts that the log refused, and tells of it once a minute at most, or where that begins.
+    fn note_refusal<L: Log>(&mut self, log: &L, fault: MemberFault, begins: bool) {
+        let edge = &mut self.server.edge;
+        edge.refusals = edge.refusals.saturating_add(1);
+        let minute = self.second() / SECONDS;
+        if self.fault_lines.tells(minute) || begins {
+            error!(log; "log refused fault={fault}");
         }
     }
 }

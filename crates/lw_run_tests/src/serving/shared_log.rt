@@ -18,6 +18,8 @@ pub(super) struct Trouble {
 pub(super) struct SharedLog<'a> {
     pub(super) log: &'a RefCell<MemoryLog>,
     pub(super) trouble: &'a Cell<Option<Trouble>>,
+    /// Whether nobody else writes into it.
+    pub(super) alone: bool,
 }
 
 impl SharedLog<'_> {
@@ -64,7 +66,7 @@ impl DeltaLog for SharedLog<'_> {
     }
 
     fn is_alone(&self) -> bool {
-        false
+        self.alone
     }
 }
 
