@@ -5,7 +5,7 @@ ghost use Rattle.lw_run.specs.Front.{IsWithin};
 
 use crate::counter::nears_end;
 use crate::hearing::is_report;
-use crate::receiving::{pass_over, receive};
+use crate::receiving::{pass_over, pass_over_old, receive};
 use crate::telling::LineRate;
 use crate::upkeep::Upkeep;
 use crate::{
@@ -24,6 +24,9 @@ const FAULTS_IN_A_ROW: u32 = 1_000;
 
 /// How many steps with devices are made in a turn.
 const STEPS_A_TURN: u32 = 4_096;
+
+/// How many milliseconds may pass from one turn to the next before what has come meanwhile is old.
+const STILL: u64 = 3_000;
 
 /// How many milliseconds a second has.
 const MILLISECONDS: u64 = 1_000;
@@ -134,7 +137,7 @@ impl<G: DeltaLog + Metered, C: Clocks> Course<G, C> {
         if self.server.away {
             let passed = pass_over(front, buffer);
             self.drop_datagrams(passed);
-            return self.tick(front, log);
+            return self.tick(front, log, buffer);
         }
         self.faults = 0;
         let made = self.try_take(front, log, buffer, count, from);
@@ -152,6 +155,10 @@ impl<G: DeltaLog + Metered, C: Clocks> Course<G, C> {
         requires { count ≤ length buffer.old }
     {
         self.server.read_clock()?;
+        if let Some(still) = self.stood_still() {
+            self.drop_datagrams(1);
+            return self.wake(front, log, buffer, still);
+        }
         let batch = receive(self.server.allocator(), front, buffer, count, from)?;
         let batch = self.hear(front, log, batch)?;
         // Also where nothing is left for the store: what has expired ends.
@@ -281,14 +288,52 @@ impl<G: DeltaLog + Metered, C: Clocks> Course<G, C> {
         &mut self,
         front: &mut F,
         log: &L,
+        buffer: &mut [u8],
     ) -> Result<(), RunFault> {
         self.faults = 0;
-        let made = self.try_tick(front, log);
+        let made = self.try_tick(front, log, buffer);
         self.end_turn(log, made)
     }
 
-    fn try_tick<F: Front, L: Log>(&mut self, front: &mut F, log: &L) -> Result<(), TurnFault> {
+    fn try_tick<F: Front, L: Log>(
+        &mut self,
+        front: &mut F,
+        log: &L,
+        buffer: &mut [u8],
+    ) -> Result<(), TurnFault> {
         self.server.read_clock()?;
+        match self.stood_still() {
+            Some(still) => self.wake(front, log, buffer, still),
+            None => self.go_round(front, log),
+        }
+    }
+
+    /// For how many milliseconds the server has stood still before this turn, where others share its log and that is
+    /// long: it was stopped, or a turn took so long.
+    fn stood_still(&self) -> Option<u64> {
+        let passed = self.server.steady().ms().saturating_sub(self.last.ms());
+        (passed > STILL && !self.is_alone()).then_some(passed)
+    }
+
+    /// A turn of a server that has stood still. What devices sent meanwhile is old: they may have gone to another server,
+    /// and what that has told them holds. So it is passed over.
+    fn wake<F: Front, L: Log>(
+        &mut self,
+        front: &mut F,
+        log: &L,
+        buffer: &mut [u8],
+        still: u64,
+    ) -> Result<(), TurnFault> {
+        let passed = pass_over_old(front, buffer);
+        self.drop_datagrams(passed);
+        if !self.server.away {
+            warn!(log; "stood still for={still}ms");
+        }
+        self.go_round(front, log)
+    }
+
+    /// What a turn without datagrams does, at the moment that the clocks told last.
+    fn go_round<F: Front, L: Log>(&mut self, front: &mut F, log: &L) -> Result<(), TurnFault> {
         self.server.tick()?;
         if self.server.away {
             // It is told first that the log is back.

@@ -449,7 +449,7 @@ static STRAY: [(&[&str], &str, &str); 22] = [
     (
         &["fleet", "run", "--redis=a:1", "--found=yes"],
         "unexpected value 'yes' for '--found' found; no more were expected",
-        "Usage: fleet run --found\n\n",
+        "Usage: fleet run --redis <HOST:PORT> --found\n\n",
     ),
     (
         &["fleet", "run", "--data"],
