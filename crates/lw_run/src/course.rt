@@ -7,7 +7,7 @@ use crate::counter::nears_end;
 use crate::hearing::is_report;
 use crate::receiving::{pass_over, pass_over_old, receive};
 use crate::telling::LineRate;
-use crate::upkeep::Upkeep;
+use crate::upkeep::{Upkeep, wait_of};
 use crate::{
     Clocks, Compaction, Front, Heard, MemberFault, Metered, Passage, Progress, RunFault, Server,
     TurnFault,
@@ -418,7 +418,18 @@ impl<G: DeltaLog + Metered, C: Clocks> Course<G, C> {
     }
 
     fn is_compaction_due(&self) -> bool {
-        self.upkeep.is_ready() && (self.server.wants_compaction() || self.is_to_be_mended())
+        self.upkeep.is_ready() && (self.is_to_be_mended() || self.has_waited())
+    }
+
+    /// Whether much has stood in the log for as long as this server leaves it to others to compact it.
+    fn has_waited(&self) -> bool {
+        let member = &self.server.member;
+        let wait = if self.is_alone() {
+            0
+        } else {
+            wait_of(member.start().number, member.log_size().whole)
+        };
+        self.upkeep.is_large_for(self.server.steady(), wait)
     }
 
     /// Whether the log has lost entries that this server can write anew.
@@ -428,7 +439,8 @@ impl<G: DeltaLog + Metered, C: Clocks> Course<G, C> {
 
     /// Compacts the log where that is due. Where it fails for now, it is put off by some turns.
     fn compact_if_due<L: Log>(&mut self, log: &L) -> Result<(), RunFault> {
-        self.upkeep.note_turn();
+        let is_large = self.server.wants_compaction();
+        self.upkeep.note_turn(is_large, self.server.steady());
         if !self.is_compaction_due() {
             return Ok(());
         }
