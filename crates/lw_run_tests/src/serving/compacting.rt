@@ -32,7 +32,7 @@ const BEFORE_DUE: [Coming; 4] = [
 
 /// The first turn with a datagram enters the start: an entry and a reading. Where that makes the compaction due it
 /// follows: a reading, an entry and a trim. The turns behind it go on. Where a byte less is there, it follows the turn
-/// that reads more.
+/// that writes more.
 static DUE: [Run; 2] = [
     Run {
         name: "a byte more than 16 MiB",
@@ -59,7 +59,7 @@ static DUE: [Run; 2] = [
             ..STAGE
         },
         want: &[
-            Piece::Line("Ok(()) rWrrWrWrWx"),
+            Piece::Line("Ok(()) rWrrWrWxrW"),
             Piece::Sent(1, PONG),
             Piece::Sent(2, CREATED_BEHIND),
             Piece::Sent(3, CHANGED),

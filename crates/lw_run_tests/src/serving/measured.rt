@@ -143,18 +143,24 @@ static MEASURED: [Measured; 8] = [
         ],
     },
     Measured {
-        // What another start has left is 2,030 entries, which a start reads twice.
+        // What another start has left is 2,030 entries, which a start reads twice; then it reads its own. Two seconds
+        // later it compacts.
         name: "a compaction is counted",
         stage: Stage {
-            comings: &[Coming::Nothing, Coming::Datagram(1, PING), MEASURES],
+            comings: &[
+                Coming::Nothing,
+                Coming::Datagram(1, PING),
+                Coming::Nothing,
+                MEASURES,
+            ],
+            moments: &[1_000, 1_000, 3_000],
             kept: KEPT,
-            alone: true,
             ..STAGE
         },
         lines: &[
             "fleet_log_append_seconds_count 2",
             "fleet_log_entries_written_total 2",
-            "fleet_log_entries_read_total 4060",
+            "fleet_log_entries_read_total 4061",
             "fleet_log_bytes 16777217",
             "fleet_log_compactions_total 1",
         ],
