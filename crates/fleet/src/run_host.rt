@@ -46,7 +46,7 @@ impl Runs for Host<'_, HostRuntime> {
                 place.serve(member, "data", options)
             }
             Keeps::Redis(redis) => {
-                let member = begin_shared(host, &log, redis)?;
+                let member = begin_shared(host, &log, redis, redis.found)?;
                 let mut place = Place::open(host, &log, options, visitors)?;
                 serve_shared(&mut place, member, redis, options).map_err(fault_of_redis)
             }
@@ -67,7 +67,7 @@ fn serve_shared<'a, 'n, L: Log>(
         match place.serve(member, "redis", options) {
             Err(RunningFault::NumberTaken) => {
                 info!(place.log; "number taken, another is drawn");
-                member = begin_shared(place.host, place.log, redis)?;
+                member = begin_shared(place.host, place.log, redis, false)?;
             }
             ended => return ended,
         }

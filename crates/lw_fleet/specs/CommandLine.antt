@@ -71,13 +71,15 @@ udp_app = with_rule
     (flag_option (codes "memory")))
     (long_option (codes "data"))
 
--- a command with the options `--redis`, `--redis-login`, `--stream` and `--skew`
+-- a command with the options `--redis`, `--redis-login`, `--stream`, `--skew` and `--found`
 abbrev pub with_redis_options : App → App
 with_redis_options app = with_rule
     (with_rule
+    (with_rule
     (with_rule (with_rule app (long_option (codes "redis"))) (long_option (codes "redis-login")))
     (long_option (codes "stream")))
-    (long_option (codes "skew"))
+    (long_option (codes "skew")))
+    (flag_option (codes "found"))
 
 -- a command with the options `--http`, `--http-token-file`, `--http-host`, `--http-commands` and `--page`
 abbrev pub with_http_options : App → App
@@ -170,8 +172,8 @@ pub record IsHostAndPort (text host : Text) (port : ℕ) : Type 0 where
   pub port_digits : Writes digits port
   pub port_fits : (1 ≤ port) × (port < 2 ^ 16)
 
--- The options of Redis are those that were given: the key `fleet` and ten seconds where they were not. Neither the path
--- of a file nor the key is empty.
+-- The options of Redis are those that were given: the key `fleet` and ten seconds where they were not. The fleet is
+-- founded where `--found` is given. Neither the path of a file nor the key is empty.
 pub record IsGivenToRedis (rows : List Row) (redis : RedisOptions) : Type 0 where
   pub address : IsSomeAnd (first_of (codes "redis") rows) (λ text. IsHostAndPort text redis.host.now redis.port)
   pub login_file : IsTextIfGiven (first_of (codes "redis-login") rows) redis.login_file
@@ -179,11 +181,12 @@ pub record IsGivenToRedis (rows : List Row) (redis : RedisOptions) : Type 0 wher
   pub stream_some : redis.stream.now ≢ []
   pub skew : Writes (given (codes "skew") (codes "10") rows) redis.skew
   pub skew_fits : redis.skew ≤ 3600
+  pub found : IsTrue redis.found ↔ HasFlag (codes "found") rows
 
 -- no option is given that goes with `--redis`
 abbrev pub IsWithoutRedis : List Row → Type 0
 IsWithoutRedis rows = (first_of (codes "redis-login") rows ≡ None) × (first_of (codes "stream") rows ≡ None)
-    × (first_of (codes "skew") rows ≡ None)
+    × (first_of (codes "skew") rows ≡ None) × (¬ HasFlag (codes "found") rows)
 
 -- What is registered is kept nowhere where `--memory` is given, and in a stream of Redis where `--redis` is. Else it is
 -- kept in a folder: that of `--data`, or `fleet-data`. Only one of the three is given, the path of a folder is not empty,

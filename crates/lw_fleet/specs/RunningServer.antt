@@ -2,7 +2,7 @@
 use Rattle.std.specs.Prelude.{ℕ, List, codes, Bool, true, false, Option}
 use Rattle.std.specs.Io.KnownBytes.{Appends}
 use Rattle.lw_fleet.specs.declared.running_server.RunningFault.{RunningFault}
-use Rattle.lw_fleet.specs.declared.running_server.RunningFault.TheVariants.{DataFailed, DataInUse, DataDamaged, DataNewer, DataCut, AnotherFleet, NumberTaken, NumbersEnded, RedisAway, RedisRefused, LoginRefused, BindFailed, LinkLocalRefused, HttpBindFailed, TokenRefused, PageRefused, ReceiveFailed, ClockRefused, RandomFailed, NoMemory}
+use Rattle.lw_fleet.specs.declared.running_server.RunningFault.TheVariants.{DataFailed, DataInUse, DataDamaged, DataNewer, DataCut, AnotherFleet, NumberTaken, NumbersEnded, NoFleet, FleetExists, RedisAway, RedisRefused, LoginRefused, BindFailed, LinkLocalRefused, HttpBindFailed, TokenRefused, PageRefused, ReceiveFailed, ClockRefused, RandomFailed, NoMemory}
 use Rattle.lw_serve.specs.Ending.{AppendsFront}
 
 -- the line of a fault of `run`, with its line feed
@@ -15,6 +15,8 @@ running_line DataCut = codes "data cut\n"
 running_line AnotherFleet = codes "another fleet\n"
 running_line NumberTaken = codes "number taken\n"
 running_line NumbersEnded = codes "numbers ended\n"
+running_line NoFleet = codes "no fleet\n"
+running_line FleetExists = codes "fleet exists\n"
 running_line RedisAway = codes "redis away\n"
 running_line RedisRefused = codes "redis refused\n"
 running_line LoginRefused = codes "login refused\n"

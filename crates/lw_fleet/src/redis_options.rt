@@ -6,7 +6,7 @@ ghost use Rattle.clap.specs.Words.{app_of, first_of, subcommand_rows_of};
 ghost use Rattle.lw_fleet.specs.CommandLine.{option_rows, with_redis_options, IsGivenToRedis, IsHost, IsHostAndPort, IsHostText, IsWithoutRedis};
 ghost use Rattle.lw_fleet.specs.declared.redis_options.RedisOptions.{RedisOptions as Shared};
 
-use crate::command::{given_text, number_within, option, small_number, text_of};
+use crate::command::{flag, given_text, has_flag, number_within, option, small_number, text_of};
 use crate::run_options::{BadRunOption, text_in};
 use clap::{ArgMatches, Command};
 use std::alloc::{AllocError, Global};
@@ -27,6 +27,8 @@ pub struct RedisOptions<'a> {
     pub stream: &'a str,
     /// How many seconds the clocks of the servers may differ: 0 to 3600.
     pub skew: u32,
+    /// Whether the server founds the fleet, which the stream does not have yet.
+    pub found: bool,
 }
 
 /// The command with the options that are about Redis.
@@ -62,6 +64,11 @@ pub(crate) fn add_redis_options<'a>(
             "skew",
             "S",
             "Seconds that the clocks of the servers may differ, 0 to 3600 [default: 10]",
+        ))?
+        .arg(flag(
+            alloc,
+            "found",
+            "Founds the fleet: once, for the first server over a stream that has none",
         ))
 }
 
@@ -92,6 +99,7 @@ pub(crate) fn redis_at<'a>(
         login_file,
         stream,
         skew: skew as u32,
+        found: has_flag(matches, "found"),
     })
 }
 
@@ -104,11 +112,13 @@ pub(crate) fn refuse_without_redis(matches: &ArgMatches<'_>) -> Result<(), BadRu
         given_text(matches, "redis-login"),
         given_text(matches, "stream"),
         given_text(matches, "skew"),
+        has_flag(matches, "found"),
     ) {
-        (None, None, None) => Ok(()),
-        (Some(_), _, _) => Err(BadRunOption::LoginFileWithoutRedis),
-        (None, Some(_), _) => Err(BadRunOption::StreamWithoutRedis),
-        (None, None, Some(_)) => Err(BadRunOption::SkewWithoutRedis),
+        (None, None, None, false) => Ok(()),
+        (Some(_), _, _, _) => Err(BadRunOption::LoginFileWithoutRedis),
+        (None, Some(_), _, _) => Err(BadRunOption::StreamWithoutRedis),
+        (None, None, Some(_), _) => Err(BadRunOption::SkewWithoutRedis),
+        (None, None, None, true) => Err(BadRunOption::FoundWithoutRedis),
     }
 }
 

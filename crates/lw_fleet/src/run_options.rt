@@ -65,6 +65,7 @@ pub(crate) enum BadRunOption {
     LoginFileWithoutRedis,
     StreamWithoutRedis,
     SkewWithoutRedis,
+    FoundWithoutRedis,
     LoginFile,
     Stream,
     Skew,
@@ -99,6 +100,7 @@ impl BadRunOption {
             }
             BadRunOption::StreamWithoutRedis => "'--stream <KEY>' needs '--redis <HOST:PORT>'",
             BadRunOption::SkewWithoutRedis => "'--skew <S>' needs '--redis <HOST:PORT>'",
+            BadRunOption::FoundWithoutRedis => "'--found' needs '--redis <HOST:PORT>'",
             BadRunOption::LoginFile => {
                 "'--redis-login <FILE>' takes the path of a file, and not an empty text"
             }

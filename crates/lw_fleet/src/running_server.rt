@@ -43,6 +43,12 @@ pub enum RunningFault {
     /// No number is left for a start.
     #[error("numbers ended: all 65535 numbers had a start")]
     NumbersEnded,
+    /// The stream tells of no fleet, and none is founded.
+    #[error("no fleet: the stream in Redis tells of none; begin one server with --found")]
+    NoFleet,
+    /// The stream tells of a fleet, and one is to be founded.
+    #[error("fleet exists: the stream in Redis tells of one; begin without --found")]
+    FleetExists,
     /// Redis could not be reached at the start.
     #[error("redis away: no connection in the first 10 seconds")]
     RedisAway,
@@ -102,6 +108,8 @@ impl RunningFault {
             RunningFault::AnotherFleet => "another fleet\n",
             RunningFault::NumberTaken => "number taken\n",
             RunningFault::NumbersEnded => "numbers ended\n",
+            RunningFault::NoFleet => "no fleet\n",
+            RunningFault::FleetExists => "fleet exists\n",
             RunningFault::RedisAway => "redis away\n",
             RunningFault::RedisRefused => "redis refused\n",
             RunningFault::LoginRefused => "login refused\n",

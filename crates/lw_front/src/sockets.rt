@@ -27,6 +27,9 @@ const DATAGRAMS: Token = Token(0);
 /// How many events a wait tells of.
 const EVENTS: usize = 32;
 
+/// How many seconds may pass from the end of a wait to the next before visitors have to wait for a turn.
+const STILL: u64 = 3;
+
 /// A UDP socket that never waits itself, a listener for visitors where there is one, and what waits for them. The host
 /// has the clock, and tells what it dropped.
 #[derive(Drop)]
@@ -39,6 +42,8 @@ pub struct Sockets<'a, H: Clock + Files + AllocGlobal, L: Log> {
     datagrams: UdpSocket,
     drops: Drops,
     reception: Option<Reception>,
+    /// When the last wait ended.
+    left: Option<Instant>,
 }
 
 impl<'a, H: Clock + Files + AllocGlobal, L: Log> Sockets<'a, H, L> {
@@ -65,6 +70,7 @@ impl<'a, H: Clock + Files + AllocGlobal, L: Log> Sockets<'a, H, L> {
             datagrams,
             drops,
             reception: None,
+            left: None,
         })
     }
 
@@ -101,7 +107,15 @@ impl<'a, H: Clock + Files + AllocGlobal, L: Log> Sockets<'a, H, L> {
     }
 
     /// Lets visitors in, and goes on with one of them. It gives the desk back.
-    fn receive_visitor<D: Desk + Drop>(&mut self, desk: D) -> (D, Result<(), WireFault>) {
+    ///
+    /// Once the time is over none goes on before the next turn. So what the desk tells is no older than the time, also
+    /// where the process was stopped while it waited.
+    fn receive_visitor<D: Desk + Drop>(
+        &mut self,
+        desk: D,
+        began: Instant,
+        time: Duration,
+    ) -> (D, Result<(), WireFault>) {
         if self.reception.is_none() {
             return (desk, Ok(()));
         }
@@ -109,6 +123,9 @@ impl<'a, H: Clock + Files + AllocGlobal, L: Log> Sockets<'a, H, L> {
             Ok(now) => now,
             Err(fault) => return (desk, Err(fault)),
         };
+        if now.saturating_duration_since(began) >= time {
+            return (desk, Ok(()));
+        }
         match &mut self.reception {
             Some(reception) => (reception.receive(&self.poll, now, desk, self.log), Ok(())),
             None => (desk, Ok(())),
@@ -163,6 +180,41 @@ impl<'a, H: Clock + Files + AllocGlobal, L: Log> Sockets<'a, H, L> {
         Ok(Some(Heard::Nothing))
     }
 
+    /// Whether so much time has passed since the last wait that the desk may lack what has happened meanwhile: the process
+    /// was stopped, or the turn took long.
+    fn stood_still(&self, now: Instant) -> bool {
+        match self.left {
+            Some(left) => now.saturating_duration_since(left) > Duration::from_secs(STILL),
+            None => false,
+        }
+    }
+
+    /// Waits for so long a time from then on, and has the desk answer visitors meanwhile.
+    fn attend_from<D: Desk + Drop>(
+        &mut self,
+        desk: D,
+        buffer: &mut [u8],
+        began: Instant,
+        time: Duration,
+    ) -> (D, Result<Heard, WireFault>)
+        ensures { IfOk result.1 (IsWithin (length buffer.new)) }
+    {
+        let mut desk = desk;
+        for _turn in 0..u64::MAX {
+            let (back, received) = self.receive_visitor(desk, began, time);
+            desk = back;
+            if let Err(fault) = received {
+                return (desk, Err(fault));
+            }
+            match self.next(desk.wants_to_send(), buffer, began, time) {
+                Ok(Some(heard)) => return (desk, Ok(heard)),
+                Ok(None) => {}
+                Err(fault) => return (desk, Err(fault)),
+            }
+        }
+        (desk, Ok(Heard::Nothing))
+    }
+
     fn now(&self) -> Result<Instant, WireFault> {
         Instant::now(self.host).map_err(|_| WireFault)
     }
@@ -190,25 +242,18 @@ impl<H: Clock + Files + AllocGlobal, L: Log> Front for Sockets<'_, H, L> {
         buffer: &mut [u8],
         time: Duration,
     ) -> (D, Result<Heard, WireFault>) {
-        let mut desk = desk;
         let began = match self.now() {
             Ok(began) => began,
             Err(fault) => return (desk, Err(fault)),
         };
         self.look_at_drops(began);
-        for _turn in 0..u64::MAX {
-            let (back, received) = self.receive_visitor(desk);
-            desk = back;
-            if let Err(fault) = received {
-                return (desk, Err(fault));
-            }
-            match self.next(desk.wants_to_send(), buffer, began, time) {
-                Ok(Some(heard)) => return (desk, Ok(heard)),
-                Ok(None) => {}
-                Err(fault) => return (desk, Err(fault)),
-            }
+        if self.stood_still(began) {
+            self.left = Some(began);
+            return (desk, Ok(Heard::Nothing));
         }
-        (desk, Ok(Heard::Nothing))
+        let (desk, heard) = self.attend_from(desk, buffer, began, time);
+        self.left = self.now().ok();
+        (desk, heard)
     }
 
     fn more(&mut self, buffer: &mut [u8]) -> Result<Option<(usize, Addr)>, WireFault> {

@@ -376,6 +376,50 @@ fn a_datagram_goes_before_the_next_command(rt: HostRuntime) {
     assert!(rt; desk.commands == 3, "and the last");
 }
 
+/// Tries: lw_run::Front::attend
+#[test]
+fn once_the_time_is_over_no_visitor_is_answered(rt: HostRuntime) {
+    let mut sockets = bound(&rt, &Discard, rt.alloc(), loopback());
+    let at = let_in(&rt, &mut sockets);
+    let _visitors = visitors(&rt, rt.alloc(), at, 1, ASKED);
+    let (desk, heard) = sockets.attend(quiet(rt.alloc()), &mut [0; 4], Duration::ZERO);
+    assert!(rt; heard == Ok(Heard::Nothing), "the time is over");
+    assert!(rt; sockets.responses().counts[0] == 0, "nobody is answered");
+    let (_desk, heard) = sockets.attend(desk, &mut [0; 4], Duration::from_millis(300));
+    assert!(rt; heard == Ok(Heard::Nothing), "no datagram");
+    assert!(rt;
+        sockets.responses().counts[0] == 1,
+        "the visitor is answered"
+    );
+}
+
+/// Waits so long for a datagram that nobody sends.
+fn pause<R: Abort + Net>(rt: &R, time: Duration) {
+    let socket = UdpSocket::bind(rt, "127.0.0.1:0").expect(rt, "a socket");
+    socket.set_read_timeout(Some(time)).expect(rt, "a time-out");
+    let heard = socket.recv_from(&mut [0; 4]);
+    assert!(rt; heard.is_err(), "nothing comes");
+}
+
+/// Where the last wait ended more than three seconds ago, a turn is made before a visitor is answered.
+/// Tries: lw_run::Front::attend
+#[test]
+fn whoever_stood_still_makes_a_turn_first(rt: HostRuntime) {
+    let mut sockets = bound(&rt, &Discard, rt.alloc(), loopback());
+    let at = let_in(&rt, &mut sockets);
+    let (desk, _heard) = sockets.attend(quiet(rt.alloc()), &mut [0; 4], Duration::from_millis(1));
+    let _visitors = visitors(&rt, rt.alloc(), at, 1, ASKED);
+    pause(&rt, Duration::from_millis(3_100));
+    let (desk, heard) = sockets.attend(desk, &mut [0; 4], Duration::from_secs(20));
+    assert!(rt; heard == Ok(Heard::Nothing), "nothing is waited for");
+    assert!(rt; sockets.responses().counts[0] == 0, "nobody is answered");
+    let (_desk, _heard) = sockets.attend(desk, &mut [0; 4], Duration::from_millis(300));
+    assert!(rt;
+        sockets.responses().counts[0] == 1,
+        "the visitor is answered"
+    );
+}
+
 /// More visitors than there are seats are answered, and none of them waits for the time to end.
 /// Tries: lw_run::Front::attend
 #[test]

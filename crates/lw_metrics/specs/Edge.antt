@@ -63,6 +63,7 @@ new_edge = record {
   log = new_use;
   compactions = 0;
   away = 0;
+  refusals = 0;
   receive_faults = 0;
   send_faults = 0;
   dropped = 0;

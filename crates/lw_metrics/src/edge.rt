@@ -33,11 +33,13 @@ pub struct Edge {
     pub compactions: u64,
     /// How long the log was away, in microseconds.
     pub away: u64,
+    /// The turns and compactions that the log refused, and the run went on.
+    pub refusals: u64,
     /// How often the wait for datagrams failed.
     pub receive_faults: u64,
     /// The replies that could not be sent.
     pub send_faults: u64,
-    /// The datagrams that were passed over since the log was away.
+    /// The datagrams that were passed over since the log was away, or the server had stood still.
     pub dropped: u64,
     /// The datagrams that the system dropped before the front could take them.
     pub drops: u64,
@@ -53,6 +55,7 @@ impl Edge {
             log: LogUse::new(),
             compactions: 0,
             away: 0,
+            refusals: 0,
             receive_faults: 0,
             send_faults: 0,
             dropped: 0,

@@ -36,6 +36,7 @@ pub(crate) enum Metric {
     WholeBytes,
     Compactions,
     AwaySeconds,
+    Refusals,
     ReceiveFaults,
     SendFaults,
     Dropped,
@@ -84,6 +85,7 @@ impl Metric {
             Metric::WholeBytes => "fleet_log_whole_bytes",
             Metric::Compactions => "fleet_log_compactions_total",
             Metric::AwaySeconds => "fleet_log_away_seconds_total",
+            Metric::Refusals => "fleet_log_refused_total",
             Metric::ReceiveFaults => "fleet_receive_faults_total",
             Metric::SendFaults => "fleet_send_faults_total",
             Metric::Dropped => "fleet_dropped_total",
@@ -136,9 +138,12 @@ impl Metric {
             Metric::WholeBytes => "Bytes of the last whole entry of the log.",
             Metric::Compactions => "Compactions of the log.",
             Metric::AwaySeconds => "Seconds for which the log was away.",
+            Metric::Refusals => "Turns and compactions that the log refused.",
             Metric::ReceiveFaults => "Faults in waiting for datagrams.",
             Metric::SendFaults => "Replies that could not be sent.",
-            Metric::Dropped => "Datagrams that were passed over since the log was away.",
+            Metric::Dropped => {
+                "Datagrams that were passed over since the log was away, or the server had stood still."
+            }
             Metric::SocketDrops => {
                 "Datagrams that the system dropped since the socket's buffer was full."
             }

@@ -133,7 +133,8 @@ fn put_log(text: &mut String, alloc: Global, measures: &Measures) -> Result<(), 
     put_number(text, Metric::LogBytes, measures.log_bytes)?;
     put_number(text, Metric::WholeBytes, measures.log_whole_bytes)?;
     put_number(text, Metric::Compactions, measures.edge.compactions)?;
-    put_seconds(text, alloc, Metric::AwaySeconds, measures.edge.away)
+    put_seconds(text, alloc, Metric::AwaySeconds, measures.edge.away)?;
+    put_number(text, Metric::Refusals, measures.edge.refusals)
 }
 
 fn put_front(text: &mut String, alloc: Global, measures: &Measures) -> Result<(), NoMemory>

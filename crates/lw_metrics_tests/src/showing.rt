@@ -34,7 +34,7 @@ static OF_ITS_NODE: [&str; 12] = [
 ];
 
 /// The lines behind those of its node.
-static OF_ALL_ELSE: [&str; 143] = [
+static OF_ALL_ELSE: [&str; 146] = [
     "# HELP fleet_rounds_total Rounds of calls.",
     "# TYPE fleet_rounds_total counter",
     "fleet_rounds_total 21",
@@ -139,13 +139,16 @@ static OF_ALL_ELSE: [&str; 143] = [
     "# HELP fleet_log_away_seconds_total Seconds for which the log was away.",
     "# TYPE fleet_log_away_seconds_total counter",
     "fleet_log_away_seconds_total 18446744073709.551615",
+    "# HELP fleet_log_refused_total Turns and compactions that the log refused.",
+    "# TYPE fleet_log_refused_total counter",
+    "fleet_log_refused_total 75",
     "# HELP fleet_receive_faults_total Faults in waiting for datagrams.",
     "# TYPE fleet_receive_faults_total counter",
     "fleet_receive_faults_total 36",
     "# HELP fleet_send_faults_total Replies that could not be sent.",
     "# TYPE fleet_send_faults_total counter",
     "fleet_send_faults_total 37",
-    "# HELP fleet_dropped_total Datagrams that were passed over since the log was away.",
+    "# HELP fleet_dropped_total Datagrams that were passed over since the log was away, or the server had stood still.",
     "# TYPE fleet_dropped_total counter",
     "fleet_dropped_total 38",
     "# HELP fleet_socket_drops_total Datagrams that the system dropped since the socket's buffer was full.",
@@ -205,6 +208,7 @@ fn edge() -> Edge {
         },
         compactions: 35,
         away: u64::MAX,
+        refusals: 75,
         receive_faults: 36,
         send_faults: 37,
         dropped: 38,
@@ -276,7 +280,7 @@ fn nothing_is_told_of_a_node_that_is_away(rt: HostRuntime) {
 }
 
 /// The samples of a new tally.
-static NOTHING_YET: [&str; 77] = [
+static NOTHING_YET: [&str; 78] = [
     "fleet_build_info{version=\"0.1.0\"} 1",
     "fleet_start_time_seconds 0",
     "fleet_rounds_total 0",
@@ -331,6 +335,7 @@ static NOTHING_YET: [&str; 77] = [
     "fleet_log_whole_bytes 0",
     "fleet_log_compactions_total 0",
     "fleet_log_away_seconds_total 0.000000",
+    "fleet_log_refused_total 0",
     "fleet_receive_faults_total 0",
     "fleet_send_faults_total 0",
     "fleet_dropped_total 0",

@@ -5,12 +5,14 @@ ghost use Rattle.lw_run.specs.Front.{IsWithin};
 
 use crate::counter::nears_end;
 use crate::hearing::is_report;
-use crate::receiving::{pass_over, receive};
+use crate::receiving::{pass_over, pass_over_old, receive};
 use crate::telling::LineRate;
+use crate::upkeep::{Upkeep, wait_of};
 use crate::{
-    Clocks, Compaction, Front, Heard, Metered, Passage, Progress, RunFault, Server, TurnFault,
+    Clocks, Compaction, Front, Heard, MemberFault, Metered, Passage, Progress, RunFault, Server,
+    TurnFault,
 };
-use log::{Log, debug, info, warn};
+use log::{Log, debug, error, info, warn};
 use lw_log::DeltaLog;
 use lw_reg::Addr;
 use lw_stamp::Moment;
@@ -20,14 +22,17 @@ use std::time::Duration;
 /// How many faults of the front, or turns without memory, in a row end a run.
 const FAULTS_IN_A_ROW: u32 = 1_000;
 
-/// How many turns after a compaction that was put off it is tried again.
-const TURNS_BETWEEN_COMPACTIONS: u32 = 1_000;
-
 /// How many steps with devices are made in a turn.
 const STEPS_A_TURN: u32 = 4_096;
 
+/// How many milliseconds may pass from one turn to the next before what has come meanwhile is old.
+const STILL: u64 = 3_000;
+
 /// How many milliseconds a second has.
 const MILLISECONDS: u64 = 1_000;
+
+/// How many seconds a minute has.
+const SECONDS: u64 = 60;
 
 /// How many microseconds a millisecond has.
 const MICROSECONDS: u64 = 1_000;
@@ -40,17 +45,13 @@ pub(crate) struct Course<G: DeltaLog + Metered, C: Clocks> {
     faults: u32,
     /// How many turns in a row found no memory.
     starved: u32,
-    compaction: Compaction,
-    /// How many turns are left before a compaction is tried again.
-    rest: u32,
-    /// Whether the log has lost entries since it was compacted. Whoever reads it from its beginning may miss what stood
-    /// in them, until all is written anew.
-    has_lost: bool,
+    upkeep: Upkeep,
     /// Whether it was told that the counter nears its end.
     told_of_end: bool,
     /// The moment of the last turn, by the clock that never goes back.
     last: Moment,
     refusals: LineRate,
+    fault_lines: LineRate,
     send_lines: LineRate,
     receive_lines: LineRate,
 }
@@ -60,14 +61,13 @@ impl<G: DeltaLog + Metered, C: Clocks> Course<G, C> {
         let last = server.steady();
         let mut course = Course {
             server,
-            compaction,
+            upkeep: Upkeep::new(compaction),
             faults: 0,
             starved: 0,
-            rest: 0,
-            has_lost: false,
             told_of_end: false,
             last,
             refusals: LineRate::new(),
+            fault_lines: LineRate::of(1),
             send_lines: LineRate::new(),
             receive_lines: LineRate::new(),
         };
@@ -88,12 +88,11 @@ impl<G: DeltaLog + Metered, C: Clocks> Course<G, C> {
             server,
             faults,
             starved,
-            compaction,
-            rest,
-            has_lost,
+            upkeep,
             told_of_end,
             last,
             refusals,
+            fault_lines,
             send_lines,
             receive_lines,
         } = self;
@@ -102,12 +101,11 @@ impl<G: DeltaLog + Metered, C: Clocks> Course<G, C> {
             server,
             faults,
             starved,
-            compaction,
-            rest,
-            has_lost,
+            upkeep,
             told_of_end,
             last,
             refusals,
+            fault_lines,
             send_lines,
             receive_lines,
         };
@@ -139,7 +137,7 @@ impl<G: DeltaLog + Metered, C: Clocks> Course<G, C> {
         if self.server.away {
             let passed = pass_over(front, buffer);
             self.drop_datagrams(passed);
-            return self.tick(front, log);
+            return self.tick(front, log, buffer);
         }
         self.faults = 0;
         let made = self.try_take(front, log, buffer, count, from);
@@ -157,6 +155,10 @@ impl<G: DeltaLog + Metered, C: Clocks> Course<G, C> {
         requires { count ≤ length buffer.old }
     {
         self.server.read_clock()?;
+        if let Some(still) = self.stood_still() {
+            self.drop_datagrams(1);
+            return self.wake(front, log, buffer, still);
+        }
         let batch = receive(self.server.allocator(), front, buffer, count, from)?;
         let batch = self.hear(front, log, batch)?;
         // Also where nothing is left for the store: what has expired ends.
@@ -236,7 +238,7 @@ impl<G: DeltaLog + Metered, C: Clocks> Course<G, C> {
     fn sends_of(&mut self, batch: Vec<Datagram>) -> Result<Vec<(Addr, Vec<u8>)>, TurnFault> {
         let count = batch.len() as u64;
         match self.server.take(batch) {
-            Err(fault @ (TurnFault::Away | TurnFault::Lost)) => {
+            Err(fault @ (TurnFault::Away | TurnFault::Lost | TurnFault::Member(_))) => {
                 self.drop_datagrams(count);
                 Err(fault)
             }
@@ -286,14 +288,52 @@ impl<G: DeltaLog + Metered, C: Clocks> Course<G, C> {
         &mut self,
         front: &mut F,
         log: &L,
+        buffer: &mut [u8],
     ) -> Result<(), RunFault> {
         self.faults = 0;
-        let made = self.try_tick(front, log);
+        let made = self.try_tick(front, log, buffer);
         self.end_turn(log, made)
     }
 
-    fn try_tick<F: Front, L: Log>(&mut self, front: &mut F, log: &L) -> Result<(), TurnFault> {
+    fn try_tick<F: Front, L: Log>(
+        &mut self,
+        front: &mut F,
+        log: &L,
+        buffer: &mut [u8],
+    ) -> Result<(), TurnFault> {
         self.server.read_clock()?;
+        match self.stood_still() {
+            Some(still) => self.wake(front, log, buffer, still),
+            None => self.go_round(front, log),
+        }
+    }
+
+    /// For how many milliseconds the server has stood still before this turn, where others share its log and that is
+    /// long: it was stopped, or a turn took so long.
+    fn stood_still(&self) -> Option<u64> {
+        let passed = self.server.steady().ms().saturating_sub(self.last.ms());
+        (passed > STILL && !self.is_alone()).then_some(passed)
+    }
+
+    /// A turn of a server that has stood still. What devices sent meanwhile is old: they may have gone to another server,
+    /// and what that has told them holds. So it is passed over.
+    fn wake<F: Front, L: Log>(
+        &mut self,
+        front: &mut F,
+        log: &L,
+        buffer: &mut [u8],
+        still: u64,
+    ) -> Result<(), TurnFault> {
+        let passed = pass_over_old(front, buffer);
+        self.drop_datagrams(passed);
+        if !self.server.away {
+            warn!(log; "stood still for={still}ms");
+        }
+        self.go_round(front, log)
+    }
+
+    /// What a turn without datagrams does, at the moment that the clocks told last.
+    fn go_round<F: Front, L: Log>(&mut self, front: &mut F, log: &L) -> Result<(), TurnFault> {
         self.server.tick()?;
         if self.server.away {
             // It is told first that the log is back.
@@ -372,38 +412,60 @@ impl<G: DeltaLog + Metered, C: Clocks> Course<G, C> {
         self.compact_if_due(log)
     }
 
+    /// Whether nobody else writes into the log.
+    fn is_alone(&self) -> bool {
+        self.server.member.log().is_alone()
+    }
+
     fn is_compaction_due(&self) -> bool {
-        self.compaction == Compaction::WhereDue
-            && self.rest == 0
-            && (self.server.wants_compaction() || self.is_to_be_mended())
+        self.upkeep.is_ready() && (self.is_to_be_mended() || self.has_waited())
+    }
+
+    /// Whether much has stood in the log for as long as this server leaves it to others to compact it.
+    fn has_waited(&self) -> bool {
+        let member = &self.server.member;
+        let wait = if self.is_alone() {
+            0
+        } else {
+            wait_of(member.start().number, member.log_size().whole)
+        };
+        self.upkeep.is_large_for(self.server.steady(), wait)
     }
 
     /// Whether the log has lost entries that this server can write anew.
     fn is_to_be_mended(&self) -> bool {
-        self.has_lost && self.server.member.is_claimed()
+        self.upkeep.has_lost && self.server.member.is_claimed()
     }
 
     /// Compacts the log where that is due. Where it fails for now, it is put off by some turns.
     fn compact_if_due<L: Log>(&mut self, log: &L) -> Result<(), RunFault> {
-        self.rest = self.rest.saturating_sub(1);
+        let is_large = self.server.wants_compaction();
+        self.upkeep.note_turn(is_large, self.server.steady());
         if !self.is_compaction_due() {
             return Ok(());
         }
         match self.server.compact() {
-            Ok(()) => {
-                let edge = &mut self.server.edge;
-                edge.compactions = edge.compactions.saturating_add(1);
-                self.has_lost = false;
-                info!(log; "compacted");
-                Ok(())
+            Ok(()) => self.compacted(log),
+            Err(TurnFault::Away | TurnFault::NoMemory) => self.put_off(log),
+            Err(TurnFault::Member(fault)) if self.outlasts(fault) => {
+                self.note_refusal(log, fault, false);
+                self.put_off(log);
             }
-            Err(TurnFault::Away | TurnFault::NoMemory) => {
-                warn!(log; "compaction put off");
-                self.rest = TURNS_BETWEEN_COMPACTIONS;
-                Ok(())
-            }
-            Err(fault) => self.endures(log, fault),
+            Err(fault) => return self.endures(log, fault),
         }
+        Ok(())
+    }
+
+    fn compacted<L: Log>(&mut self, log: &L) {
+        let edge = &mut self.server.edge;
+        edge.compactions = edge.compactions.saturating_add(1);
+        self.upkeep.compacted();
+        info!(log; "compacted");
+    }
+
+    fn put_off<L: Log>(&mut self, log: &L) {
+        warn!(log; "compaction put off");
+        self.upkeep.put_off();
     }
 
     /// The log is away from now on, until a turn is made.
@@ -417,30 +479,56 @@ impl<G: DeltaLog + Metered, C: Clocks> Course<G, C> {
     /// A turn failed: whether the run goes on.
     fn endures<L: Log>(&mut self, log: &L, fault: TurnFault) -> Result<(), RunFault> {
         match fault {
-            TurnFault::Away => {
-                self.goes_away(log);
-                Ok(())
-            }
+            TurnFault::Away => self.goes_away(log),
             TurnFault::Lost => {
-                self.has_lost = true;
-                self.rest = 0;
+                self.upkeep.lose();
                 warn!(log; "log lost");
                 self.goes_away(log);
-                Ok(())
             }
-            TurnFault::NoMemory => {
-                if self.starved == 0 {
-                    warn!(log; "no memory for a turn");
-                }
-                self.server.pass_over();
-                self.starved = self.starved.saturating_add(1);
-                if self.starved >= FAULTS_IN_A_ROW {
-                    return Err(RunFault::NoMemory);
-                }
-                Ok(())
-            }
-            TurnFault::ClockRefused => Err(RunFault::ClockRefused),
-            TurnFault::Member(fault) => Err(RunFault::from(fault)),
+            TurnFault::NoMemory => return self.starves(log),
+            TurnFault::ClockRefused => return Err(RunFault::ClockRefused),
+            TurnFault::Member(fault) => return self.is_refused(log, fault),
+        }
+        Ok(())
+    }
+
+    /// A turn found no memory: whether the run goes on.
+    fn starves<L: Log>(&mut self, log: &L) -> Result<(), RunFault> {
+        if self.starved == 0 {
+            warn!(log; "no memory for a turn");
+        }
+        self.server.pass_over();
+        self.starved = self.starved.saturating_add(1);
+        if self.starved >= FAULTS_IN_A_ROW {
+            return Err(RunFault::NoMemory);
+        }
+        Ok(())
+    }
+
+    /// Whether the run goes on after the fault. What others do to a log that they share may pass, and each server that
+    /// goes on keeps all that it knows: it can write that anew. One that found its number taken knows only what it read.
+    fn outlasts(&self, fault: MemberFault) -> bool {
+        !self.is_alone() && fault != MemberFault::NumberTaken
+    }
+
+    /// The log refused a turn, or has what this server does not read: whether the run goes on.
+    fn is_refused<L: Log>(&mut self, log: &L, fault: MemberFault) -> Result<(), RunFault> {
+        if !self.outlasts(fault) {
+            return Err(RunFault::from(fault));
+        }
+        let begins = !self.server.away;
+        self.note_refusal(log, fault, begins);
+        self.goes_away(log);
+        Ok(())
+    }
+
+    /// Counts that the log refused, and tells of it once a minute at most, or where that begins.
+    fn note_refusal<L: Log>(&mut self, log: &L, fault: MemberFault, begins: bool) {
+        let edge = &mut self.server.edge;
+        edge.refusals = edge.refusals.saturating_add(1);
+        let minute = self.second() / SECONDS;
+        if self.fault_lines.tells(minute) || begins {
+            error!(log; "log refused fault={fault}");
         }
     }
 }

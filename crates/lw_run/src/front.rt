@@ -23,7 +23,8 @@ pub enum Heard {
 /// What datagrams come and go over, and visitors.
 pub trait Front {
     /// Waits so long for a datagram, and has the desk answer visitors meanwhile. As soon as they have left it something
-    /// to send, it waits no more. It gives the desk back. Bytes for which the buffer has no room are lost.
+    /// to send, it waits no more. Once the time is over it answers none any more, also where the process was stopped in
+    /// between. It gives the desk back. Bytes for which the buffer has no room are lost.
     fn attend<D: Desk + Drop>(
         &mut self,
         desk: D,

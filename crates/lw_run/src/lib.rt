@@ -25,6 +25,7 @@ mod stepping;
 mod telling;
 mod timed;
 mod told;
+mod upkeep;
 
 pub use clocks::{Clocks, HostClocks, Times};
 pub use commands::Done;

@@ -34,6 +34,21 @@ pub(crate) fn receive<F: Front>(
     Ok(batch)
 }
 
+/// How many datagrams are passed over at most that came while the server stood still.
+const MOST_OLD: u32 = 65_536;
+
+/// Passes over the datagrams that are there: how many.
+pub(crate) fn pass_over_old<F: Front>(front: &mut F, buffer: &mut [u8]) -> u64 {
+    let mut passed = 0u64;
+    for _old in 0..MOST_OLD {
+        let Ok(Some(_)) = front.more(buffer) else {
+            break;
+        };
+        passed = passed.saturating_add(1);
+    }
+    passed
+}
+
 /// Passes over the datagrams that are there, which with the one that came make a batch at most: how many with that one.
 pub(crate) fn pass_over<F: Front>(front: &mut F, buffer: &mut [u8]) -> u64 {
     let mut passed = 1u64;

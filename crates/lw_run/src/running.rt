@@ -32,7 +32,7 @@ pub fn run_on<F: Front, G: DeltaLog + Metered, C: Clocks, L: Log>(
         course.note_command(log)?;
         match heard {
             Ok(Heard::Datagram(count, from)) => course.take(front, log, &mut buffer, count, from)?,
-            Ok(Heard::Nothing) => course.tick(front, log)?,
+            Ok(Heard::Nothing) => course.tick(front, log, &mut buffer)?,
             Ok(Heard::End) => return Ok(()),
             Err(WireFault) => course.fail(log)?,
         }

@@ -7,25 +7,37 @@ use lw_wire::socket_address_of;
 /// How many lines of one kind are told in a second.
 const LINES_A_SECOND: u32 = 10;
 
-/// How many lines of one kind were told in the present second.
+/// How many lines of one kind were told in the present period, as a second.
 #[derive(Clone, Copy)]
 pub(crate) struct LineRate {
-    second: u64,
+    most: u32,
+    period: u64,
     told: u32,
 }
 
 impl LineRate {
+    /// Of as many lines as are told in a second.
     pub(crate) fn new() -> LineRate {
-        LineRate { second: 0, told: 0 }
+        LineRate::of(LINES_A_SECOND)
     }
 
-    /// Whether one more is told in the second, which is then counted.
-    pub(crate) fn tells(&mut self, second: u64) -> bool {
-        if self.second != second {
-            *self = LineRate { second, told: 0 };
+    /// Of so many lines in a period.
+    pub(crate) fn of(most: u32) -> LineRate {
+        LineRate {
+            most,
+            period: 0,
+            told: 0,
+        }
+    }
+
+    /// Whether one more is told in the period, which is then counted.
+    pub(crate) fn tells(&mut self, period: u64) -> bool {
+        if self.period != period {
+            self.period = period;
+            self.told = 0;
         }
         self.told = self.told.saturating_add(1);
-        self.told <= LINES_A_SECOND
+        self.told <= self.most
     }
 
     /// Tells of a reply that is sent in the second: at level debug, and at level info where it refuses.

@@ -54,6 +54,7 @@ const REDIS: RedisOptions<'static> = RedisOptions {
     login_file: None,
     stream: "fleet",
     skew: 10,
+    found: false,
 };
 
 /// What is served over HTTP where nothing more is said.
@@ -224,7 +225,7 @@ fn addresses_to_run(rt: HostRuntime) {
 }
 
 /// Words that give a stream of Redis.
-static SHARED: [Given; 14] = [
+static SHARED: [Given; 16] = [
     Given {
         words: &["fleet", "run", "--redis", "127.0.0.1:6379"],
         keeps: Keeps::Redis(RedisOptions {
@@ -344,6 +345,27 @@ static SHARED: [Given; 14] = [
             host: "r",
             port: 1,
             skew: 60,
+            ..REDIS
+        }),
+        ..GIVEN
+    },
+    Given {
+        words: &["fleet", "run", "--redis=r:1", "--found"],
+        keeps: Keeps::Redis(RedisOptions {
+            host: "r",
+            port: 1,
+            found: true,
+            ..REDIS
+        }),
+        ..GIVEN
+    },
+    Given {
+        words: &["fleet", "run", "--found", "--stream=s", "--redis=r:1"],
+        keeps: Keeps::Redis(RedisOptions {
+            host: "r",
+            port: 1,
+            stream: "s",
+            found: true,
             ..REDIS
         }),
         ..GIVEN
@@ -673,6 +695,7 @@ Options:
       --redis-login <FILE>      File with the user and the password for Redis, on a line each
       --stream <KEY>            Key of the stream in Redis [default: fleet]
       --skew <S>                Seconds that the clocks of the servers may differ, 0 to 3600 [default: 10]
+      --found                   Founds the fleet: once, for the first server over a stream that has none
       --http <ADDR>             Address and port that HTTP is served on, as 127.0.0.1:8080 or [::1]:8080 [default: none]
       --http-token-file <FILE>  File whose first line is the token that HTTP requests have to bring
       --http-host <NAME>        Name that HTTP requests may be for, beside IP addresses and localhost

@@ -22,6 +22,8 @@ const STREAM_ALONE: &str = "'--stream <KEY>' needs '--redis <HOST:PORT>'";
 
 const SKEW_ALONE: &str = "'--skew <S>' needs '--redis <HOST:PORT>'";
 
+const FOUND_ALONE: &str = "'--found' needs '--redis <HOST:PORT>'";
+
 const BAD_LOGIN: &str = "'--redis-login <FILE>' takes the path of a file, and not an empty text";
 
 const BAD_STREAM: &str = "'--stream <KEY>' takes a key, and not an empty text";
@@ -165,7 +167,7 @@ fn refused_seconds_of_redis(rt: HostRuntime) {
 }
 
 /// Words that are refused for what goes with `--redis` or against it, and the line.
-static REFUSED_FOR_REDIS: [(&[&str], &str); 29] = [
+static REFUSED_FOR_REDIS: [(&[&str], &str); 35] = [
     (&["fleet", "run", "--redis=r:1", "--memory"], KEPT_TWICE),
     (&["fleet", "run", "--data=a", "--redis=r:1"], KEPT_TWICE),
     (
@@ -186,6 +188,12 @@ static REFUSED_FOR_REDIS: [(&[&str], &str); 29] = [
     (&["fleet", "run", "--skew", "10"], SKEW_ALONE),
     (&["fleet", "run", "--skew=s"], SKEW_ALONE),
     (&["fleet", "run", "--memory", "--skew=1"], SKEW_ALONE),
+    (&["fleet", "run", "--found"], FOUND_ALONE),
+    (&["fleet", "run", "--memory", "--found"], FOUND_ALONE),
+    (&["fleet", "run", "--found", "--data=a"], FOUND_ALONE),
+    (&["fleet", "run", "--found", "--skew=1"], SKEW_ALONE),
+    (&["fleet", "run", "--found", "--http-host=h"], FOUND_ALONE),
+    (&["fleet", "run", "--found", "--redis=r"], BAD_REDIS),
     (&["fleet", "run", "--data=a", "--stream=s"], STREAM_ALONE),
     (
         &["fleet", "run", "--memory", "--redis-login=l"],
@@ -412,15 +420,15 @@ fn refused_words_of_http(rt: HostRuntime) {
 }
 
 /// Words that no option takes, the line, and the usage where there is one.
-static STRAY: [(&[&str], &str, &str); 20] = [
+static STRAY: [(&[&str], &str, &str); 22] = [
     (
         &["fleet", "run", "here"],
         "unexpected argument 'here' found",
         RUN,
     ),
     (
-        &["fleet", "run", "--count", "1"],
-        "unexpected argument '--count' found",
+        &["fleet", "run", "--workers", "1"],
+        "unexpected argument '--workers' found",
         RUN,
     ),
     (
@@ -432,6 +440,16 @@ static STRAY: [(&[&str], &str, &str); 20] = [
         &["fleet", "run", "--memory", "--memory"],
         "the argument '--memory' cannot be used multiple times",
         RUN,
+    ),
+    (
+        &["fleet", "run", "--redis=a:1", "--found", "--found"],
+        "the argument '--found' cannot be used multiple times",
+        RUN,
+    ),
+    (
+        &["fleet", "run", "--redis=a:1", "--found=yes"],
+        "unexpected value 'yes' for '--found' found; no more were expected",
+        "Usage: fleet run --redis <HOST:PORT> --found\n\n",
     ),
     (
         &["fleet", "run", "--data"],

@@ -43,7 +43,7 @@ fn a_server_that_is_over(rt: HostRuntime) {
 }
 
 /// Each fault, and its line.
-pub(super) static LINES: [(RunningFault, &str); 20] = [
+pub(super) static LINES: [(RunningFault, &str); 22] = [
     (RunningFault::DataFailed, "data failed\n"),
     (RunningFault::DataInUse, "data in use\n"),
     (RunningFault::DataDamaged, "data damaged\n"),
@@ -52,6 +52,8 @@ pub(super) static LINES: [(RunningFault, &str); 20] = [
     (RunningFault::AnotherFleet, "another fleet\n"),
     (RunningFault::NumberTaken, "number taken\n"),
     (RunningFault::NumbersEnded, "numbers ended\n"),
+    (RunningFault::NoFleet, "no fleet\n"),
+    (RunningFault::FleetExists, "fleet exists\n"),
     (RunningFault::RedisAway, "redis away\n"),
     (RunningFault::RedisRefused, "redis refused\n"),
     (RunningFault::LoginRefused, "login refused\n"),

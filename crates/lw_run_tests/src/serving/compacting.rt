@@ -10,6 +10,8 @@ const CREATED_BEHIND: &str = "604100048272640d0330303030303030313030303130303031
 
 const UPDATE_BEHIND: &str = "40020010b272640d0330303030303030313030303130303031";
 
+const REFUSED: Piece = Piece::Line("[ERROR lw_run::course] log refused fault=the log refused");
+
 const PUT_OFF: Piece = Piece::Line("[WARN  lw_run::course] compaction put off");
 
 const LOST: Piece = Piece::Line("[WARN  lw_run::course] log lost");
@@ -30,13 +32,14 @@ const BEFORE_DUE: [Coming; 4] = [
 
 /// The first turn with a datagram enters the start: an entry and a reading. Where that makes the compaction due it
 /// follows: a reading, an entry and a trim. The turns behind it go on. Where a byte less is there, it follows the turn
-/// that reads more.
+/// that writes more.
 static DUE: [Run; 2] = [
     Run {
         name: "a byte more than 16 MiB",
         stage: Stage {
             comings: &BEFORE_DUE,
             kept: KEPT,
+            alone: true,
             ..STAGE
         },
         want: &[
@@ -52,10 +55,11 @@ static DUE: [Run; 2] = [
         stage: Stage {
             comings: &BEFORE_DUE,
             kept: KEPT - 1,
+            alone: true,
             ..STAGE
         },
         want: &[
-            Piece::Line("Ok(()) rWrrWrWrWx"),
+            Piece::Line("Ok(()) rWrrWrWxrW"),
             Piece::Sent(1, PONG),
             Piece::Sent(2, CREATED_BEHIND),
             Piece::Sent(3, CHANGED),
@@ -70,6 +74,70 @@ fn a_run_compacts_after_the_turn_that_makes_it_due(rt: HostRuntime) {
     plays(&rt, rt.alloc(), &DUE);
 }
 
+/// A ping, and two turns behind it.
+const TWO_TURNS_LATER: [Coming; 3] = [Coming::Datagram(1, PING), Coming::Nothing, Coming::Nothing];
+
+/// Where others share the log, number 1 leaves it to them for two seconds.
+static SHARED: [Run; 3] = [
+    Run {
+        name: "less than two seconds later",
+        stage: Stage {
+            comings: &TWO_TURNS_LATER,
+            moments: &[1_000, 2_000, 2_999],
+            kept: KEPT,
+            ..STAGE
+        },
+        want: &[Piece::Line("Ok(()) Wrrr"), Piece::Sent(1, PONG)],
+    },
+    Run {
+        name: "two seconds later",
+        stage: Stage {
+            comings: &TWO_TURNS_LATER,
+            moments: &[1_000, 2_000, 3_000],
+            kept: KEPT,
+            ..STAGE
+        },
+        want: &[
+            Piece::Line("Ok(()) WrrrrWx"),
+            Piece::Sent(1, PONG),
+            COMPACTED,
+        ],
+    },
+    Run {
+        name: "two seconds later, but the log refuses",
+        stage: Stage {
+            comings: &[
+                Coming::Datagram(1, PING),
+                Coming::Nothing,
+                Coming::Datagram(2, PING),
+                Coming::Datagram(3, PING),
+            ],
+            moments: &[1_000, 2_000, 3_000],
+            kept: KEPT,
+            trouble: Some(Trouble {
+                fault: LogFault::Refused,
+                after: 3,
+                times: 1,
+            }),
+            ..STAGE
+        },
+        want: &[
+            Piece::Line("Ok(()) Wrrrr"),
+            Piece::Sent(1, PONG),
+            Piece::Sent(2, PONG),
+            Piece::Sent(3, PONG),
+            REFUSED,
+            PUT_OFF,
+        ],
+    },
+];
+
+/// Tries: lw_run::run_on, lw_run::Server::compact, lw_run::Server::wants_compaction
+#[test]
+fn a_log_that_others_share_is_left_to_them_at_first(rt: HostRuntime) {
+    plays(&rt, rt.alloc(), &SHARED);
+}
+
 /// A ping from each of two ports.
 const PINGS: [Coming; 2] = [Coming::Datagram(1, PING), Coming::Datagram(2, PING)];
 
@@ -80,6 +148,7 @@ static FAULTS: [Run; 4] = [
         stage: Stage {
             comings: &PINGS,
             kept: KEPT,
+            alone: true,
             trouble: Some(Trouble {
                 fault: LogFault::Away,
                 after: 1,
@@ -99,6 +168,7 @@ static FAULTS: [Run; 4] = [
         stage: Stage {
             comings: &PINGS,
             kept: KEPT,
+            alone: true,
             trouble: Some(Trouble {
                 fault: LogFault::NoMemory,
                 after: 1,
@@ -118,6 +188,7 @@ static FAULTS: [Run; 4] = [
         stage: Stage {
             comings: &PINGS,
             kept: KEPT,
+            alone: true,
             trouble: Some(Trouble {
                 fault: LogFault::Lost,
                 after: 1,
@@ -139,6 +210,7 @@ static FAULTS: [Run; 4] = [
         stage: Stage {
             comings: &PINGS,
             kept: KEPT,
+            alone: true,
             trouble: Some(Trouble {
                 fault: LogFault::Refused,
                 after: 1,
@@ -166,6 +238,7 @@ static PUT_OFF_BY: [Run; 2] = [
                 Coming::Times(999, &Coming::Nothing),
             ],
             kept: KEPT,
+            alone: true,
             trouble: Some(Trouble {
                 fault: LogFault::NoMemory,
                 after: 1,
@@ -189,6 +262,7 @@ static PUT_OFF_BY: [Run; 2] = [
                 Coming::Times(1_000, &Coming::Nothing),
             ],
             kept: KEPT,
+            alone: true,
             trouble: Some(Trouble {
                 fault: LogFault::NoMemory,
                 after: 1,
@@ -272,6 +346,7 @@ static LOSSES: [Run; 4] = [
         stage: Stage {
             comings: &PINGS,
             kept: KEPT,
+            alone: true,
             compaction: Compaction::Never,
             ..STAGE
         },
@@ -283,8 +358,50 @@ static LOSSES: [Run; 4] = [
     },
 ];
 
+/// The reading of the compaction behind the loss has no memory.
+const THEN_NO_MEMORY: Option<Trouble> = Some(Trouble {
+    fault: LogFault::NoMemory,
+    after: 1,
+    times: 1,
+});
+
+/// A compaction that is to mend a loss is tried again ten turns later, and not before.
+static MENDED_LATER: [Run; 2] = [
+    Run {
+        name: "nine turns later",
+        stage: Stage {
+            comings: &[
+                Coming::Datagram(1, PING),
+                Coming::Nothing,
+                Coming::Nothing,
+                Coming::Times(9, &Coming::Nothing),
+            ],
+            trouble: IS_LOST,
+            next_trouble: THEN_NO_MEMORY,
+            ..STAGE
+        },
+        want: &[Piece::Sent(1, PONG), LOST, AWAY, BACK, PUT_OFF],
+    },
+    Run {
+        name: "ten turns later",
+        stage: Stage {
+            comings: &[
+                Coming::Datagram(1, PING),
+                Coming::Nothing,
+                Coming::Nothing,
+                Coming::Times(10, &Coming::Nothing),
+            ],
+            trouble: IS_LOST,
+            next_trouble: THEN_NO_MEMORY,
+            ..STAGE
+        },
+        want: &[Piece::Sent(1, PONG), LOST, AWAY, BACK, PUT_OFF, COMPACTED],
+    },
+];
+
 /// Tries: lw_run::run_on
 #[test]
 fn a_log_that_has_lost_entries_is_written_anew(rt: HostRuntime) {
     plays(&rt, rt.alloc(), &LOSSES);
+    plays(&rt, rt.alloc(), &MENDED_LATER);
 }

@@ -15,7 +15,7 @@ struct Measured {
 const MEASURES: Coming = Coming::Asks(&[Question::Metrics]);
 
 /// Runs of which each kind of measure is told.
-static MEASURED: [Measured; 6] = [
+static MEASURED: [Measured; 8] = [
     Measured {
         name: "turns are counted",
         stage: Stage {
@@ -100,6 +100,28 @@ static MEASURED: [Measured; 6] = [
         lines: &["fleet_dropped_total 0"],
     },
     Measured {
+        name: "what the log refuses is counted, and passes over as where it is away",
+        stage: Stage {
+            comings: &AT_ONCE,
+            trouble: Some(Trouble {
+                fault: LogFault::Refused,
+                after: 0,
+                times: 1,
+            }),
+            ..STAGE
+        },
+        lines: &["fleet_log_refused_total 1", "fleet_dropped_total 5"],
+    },
+    Measured {
+        name: "what comes while a server stands still is counted",
+        stage: Stage {
+            comings: &AT_ONCE,
+            moments: &[3_001],
+            ..STAGE
+        },
+        lines: &["fleet_log_refused_total 0", "fleet_dropped_total 3"],
+    },
+    Measured {
         name: "faults of the front are counted",
         stage: Stage {
             comings: &[
@@ -121,10 +143,17 @@ static MEASURED: [Measured; 6] = [
         ],
     },
     Measured {
-        // What another start has left is 2,030 entries, which a start reads twice; then it reads its own.
+        // What another start has left is 2,030 entries, which a start reads twice; then it reads its own. Two seconds
+        // later it compacts.
         name: "a compaction is counted",
         stage: Stage {
-            comings: &[Coming::Nothing, Coming::Datagram(1, PING), MEASURES],
+            comings: &[
+                Coming::Nothing,
+                Coming::Datagram(1, PING),
+                Coming::Nothing,
+                MEASURES,
+            ],
+            moments: &[1_000, 1_000, 3_000],
             kept: KEPT,
             ..STAGE
         },

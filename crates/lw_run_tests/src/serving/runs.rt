@@ -77,8 +77,11 @@ const PINGS: [Coming; 6] = [
     Coming::Datagram(6, PING),
 ];
 
+/// What is told where the log refuses.
+const REFUSED: Piece = Piece::Line("[ERROR lw_run::course] log refused fault=the log refused");
+
 /// What the log answers to how many readings, after the first round; and what comes of a ping to each of these ports.
-static TROUBLES: [Run; 7] = [
+static TROUBLES: [Run; 8] = [
     Run {
         name: "the log is away for three readings",
         stage: Stage {
@@ -122,9 +125,32 @@ static TROUBLES: [Run; 7] = [
         ],
     },
     Run {
-        name: "the log refuses",
+        name: "the log refuses, and others share it",
         stage: Stage {
             comings: &PINGS,
+            trouble: Some(Trouble {
+                fault: LogFault::Refused,
+                after: 1,
+                times: 1,
+            }),
+            ..STAGE
+        },
+        want: &[
+            Piece::Line("Ok(()) Wrrrrr"),
+            Piece::Sent(1, PONG),
+            Piece::Sent(4, PONG),
+            Piece::Sent(5, PONG),
+            Piece::Sent(6, PONG),
+            REFUSED,
+            Piece::Line("[WARN  lw_run::course] log away"),
+            Piece::Line("[INFO  lw_run::course] log back"),
+        ],
+    },
+    Run {
+        name: "the log refuses, and nobody shares it",
+        stage: Stage {
+            comings: &PINGS,
+            alone: true,
             trouble: Some(Trouble {
                 fault: LogFault::Refused,
                 after: 1,
@@ -215,6 +241,107 @@ static TROUBLES: [Run; 7] = [
     },
 ];
 
+/// A log refuses each reading in two minutes. It is told as it begins, and then once a minute.
+static REFUSALS: [Run; 1] = [Run {
+    name: "a log that goes on refusing",
+    stage: Stage {
+        comings: &[
+            Coming::Datagram(1, PING),
+            Coming::Times(6, &Coming::Nothing),
+        ],
+        moments: &[0, 1_000, 2_000, 59_999, 60_000, 61_000, 62_000],
+        trouble: Some(Trouble {
+            fault: LogFault::Refused,
+            after: 1,
+            times: 6,
+        }),
+        ..STAGE
+    },
+    want: &[
+        Piece::Sent(1, PONG),
+        REFUSED,
+        Piece::Line("[WARN  lw_run::course] log away"),
+        REFUSED,
+    ],
+}];
+
+/// A ping, and behind it three more, of which two are there at once.
+const BEHIND_A_PAUSE: [Coming; 4] = [
+    Coming::Datagram(1, PING),
+    Coming::Datagram(2, PING),
+    Coming::AtOnce(3, PING),
+    Coming::Datagram(4, PING),
+];
+
+/// What comes more than three seconds after the turn before is passed over where others share the log, which is read. What
+/// comes behind that is answered.
+static PAUSES: [Run; 4] = [
+    Run {
+        name: "three seconds",
+        stage: Stage {
+            comings: &BEHIND_A_PAUSE,
+            moments: &[0, 3_000],
+            ..STAGE
+        },
+        want: &[
+            Piece::Line("Ok(()) Wrrr"),
+            Piece::Sent(1, PONG),
+            Piece::Sent(2, PONG),
+            Piece::Sent(3, PONG),
+            Piece::Sent(4, PONG),
+        ],
+    },
+    Run {
+        name: "more than three seconds",
+        stage: Stage {
+            comings: &BEHIND_A_PAUSE,
+            moments: &[0, 3_001, 6_001],
+            ..STAGE
+        },
+        want: &[
+            Piece::Line("Ok(()) Wrrr"),
+            Piece::Sent(1, PONG),
+            Piece::Sent(4, PONG),
+            Piece::Line("[WARN  lw_run::course] stood still for=3001ms"),
+        ],
+    },
+    Run {
+        name: "more than three seconds, in which nothing is heard at first",
+        stage: Stage {
+            comings: &[
+                Coming::Datagram(1, PING),
+                Coming::Nothing,
+                Coming::AtOnce(2, PING),
+                Coming::Datagram(4, PING),
+            ],
+            moments: &[0, 20_000],
+            ..STAGE
+        },
+        want: &[
+            Piece::Line("Ok(()) Wrrr"),
+            Piece::Sent(1, PONG),
+            Piece::Sent(4, PONG),
+            Piece::Line("[WARN  lw_run::course] stood still for=20000ms"),
+        ],
+    },
+    Run {
+        name: "more than three seconds, where nobody shares the log",
+        stage: Stage {
+            comings: &BEHIND_A_PAUSE,
+            moments: &[0, 3_001],
+            alone: true,
+            ..STAGE
+        },
+        want: &[
+            Piece::Line("Ok(()) Wrrr"),
+            Piece::Sent(1, PONG),
+            Piece::Sent(2, PONG),
+            Piece::Sent(3, PONG),
+            Piece::Sent(4, PONG),
+        ],
+    },
+];
+
 /// So many turns, none of which has memory but the last, if there is one.
 static WITHOUT_MEMORY: [Run; 2] = [
     Run {
@@ -296,6 +423,7 @@ static EXPIRIES: [Run; 4] = [
         stage: Stage {
             comings: &EXPIRING,
             moments: &[0, 10_999, 10_999],
+            alone: true,
             skew: 10,
             ..STAGE
         },
@@ -311,6 +439,7 @@ static EXPIRIES: [Run; 4] = [
         stage: Stage {
             comings: &EXPIRING,
             moments: &[0, 11_000, 11_000],
+            alone: true,
             skew: 10,
             ..STAGE
         },
@@ -337,4 +466,11 @@ fn runs_go_on_and_end(rt: HostRuntime) {
 #[test]
 fn while_the_log_is_away_nothing_is_answered(rt: HostRuntime) {
     plays(&rt, rt.alloc(), &TROUBLES);
+    plays(&rt, rt.alloc(), &REFUSALS);
+}
+
+/// Tries: lw_run::run_on, lw_run::Server::take, lw_run::Server::tick
+#[test]
+fn what_comes_while_a_server_stands_still_is_passed_over(rt: HostRuntime) {
+    plays(&rt, rt.alloc(), &PAUSES);
 }

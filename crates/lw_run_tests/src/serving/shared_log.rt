@@ -13,28 +13,42 @@ pub(super) struct Trouble {
     pub(super) times: u32,
 }
 
+impl Trouble {
+    /// What is left of it behind a reading, and the fault of the reading, if it has one.
+    fn behind_reading(self) -> (Option<Trouble>, Option<LogFault>) {
+        if let Some(after) = self.after.checked_sub(1) {
+            return (Some(Trouble { after, ..self }), None);
+        }
+        match self.times.checked_sub(1) {
+            None => (None, None),
+            Some(0) => (None, Some(self.fault)),
+            Some(times) => (Some(Trouble { times, ..self }), Some(self.fault)),
+        }
+    }
+}
+
+/// What ails a log, and what ails it from then on.
+pub(super) type Troubles = (Option<Trouble>, Option<Trouble>);
+
 /// A log that is looked at after the run.
 #[derive(Drop)]
 pub(super) struct SharedLog<'a> {
     pub(super) log: &'a RefCell<MemoryLog>,
-    pub(super) trouble: &'a Cell<Option<Trouble>>,
+    pub(super) troubles: &'a Cell<Troubles>,
+    /// Whether nobody else writes into it.
+    pub(super) alone: bool,
 }
 
 impl SharedLog<'_> {
     /// The fault of this reading, if it has one.
     fn fault(&self) -> Option<LogFault> {
-        let trouble = self.trouble.get()?;
-        let (after, times) = match (trouble.after.checked_sub(1), trouble.times.checked_sub(1)) {
-            (Some(after), _) => (after, trouble.times),
-            (None, Some(times)) => (0, times),
-            (None, None) => return None,
-        };
-        self.trouble.set(Some(Trouble {
-            after,
-            times,
-            ..trouble
-        }));
-        (trouble.after == 0).then_some(trouble.fault)
+        let (trouble, next) = self.troubles.get();
+        let (left, fault) = trouble?.behind_reading();
+        match left {
+            Some(_) => self.troubles.set((left, next)),
+            None => self.troubles.set((next, None)),
+        }
+        fault
     }
 }
 
@@ -64,7 +78,7 @@ impl DeltaLog for SharedLog<'_> {
     }
 
     fn is_alone(&self) -> bool {
-        false
+        self.alone
     }
 }
 

@@ -11,28 +11,32 @@ use std::process::Abort;
 use std::time::Duration;
 
 /// What comes, the moments in milliseconds, by how many seconds clocks may differ, how many bytes another start has
-/// left in the log, what ails its readings, after how many appends one fails, whether each send fails, whether the log
-/// is compacted, and the page that is told.
+/// left in the log, whether nobody else writes into it, what ails its readings and what does then, after how many appends
+/// one fails, whether each send fails, whether the log is compacted, and the page that is told.
 #[derive(Drop)]
 pub(super) struct Stage {
     pub(super) comings: &'static [Coming],
     pub(super) moments: &'static [u64],
     pub(super) skew: u32,
     pub(super) kept: usize,
+    pub(super) alone: bool,
     pub(super) trouble: Option<Trouble>,
+    pub(super) next_trouble: Option<Trouble>,
     pub(super) appends: Option<u64>,
     pub(super) send_fails: bool,
     pub(super) compaction: Compaction,
     pub(super) page: Option<&'static str>,
 }
 
-/// Nothing comes, at moment 0, with a log that is empty and that nothing ails.
+/// Nothing comes, at moment 0, with a log that is empty, that nothing ails, and that others write into.
 pub(super) const STAGE: Stage = Stage {
     comings: &[],
     moments: &[0],
     skew: 0,
     kept: 0,
+    alone: false,
     trouble: None,
+    next_trouble: None,
     appends: None,
     send_fails: false,
     compaction: Compaction::WhereDue,
@@ -54,13 +58,14 @@ impl Stage {
     }
 
     fn play_over(&self, alloc: Global, log: &RefCell<MemoryLog>) -> Result<String, MemberFault> {
-        let trouble = Cell::new(None);
+        let troubles = Cell::new((None, None));
         let shared = SharedLog {
             log,
-            trouble: &trouble,
+            troubles: &troubles,
+            alone: self.alone,
         };
         let server = self.server(alloc, shared)?;
-        trouble.set(self.trouble);
+        troubles.set((self.trouble, self.next_trouble));
         self.run(alloc, server, log)
     }
 

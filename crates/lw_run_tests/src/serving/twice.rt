@@ -32,6 +32,7 @@ static AGAIN: [Run; 4] = [
         stage: Stage {
             comings: &[Coming::Times(3, &Coming::Datagram(3, REGISTER))],
             moments: &[0, 247_000, 247_001],
+            alone: true,
             ..STAGE
         },
         want: &[

@@ -6,16 +6,18 @@ use Rattle.lw_fleet.proofs.redis_options.add_redis_options.Goals as goal
 
 pub returns-clause-app : goal.returns-clause-app
 returns-clause-app c =
-    IfOk-weaker c.arg-4.result _ _
-    (λ command added. added.shape c.option-4.ensures.local
+    IfOk-weaker c.arg-5.result _ _
+    (λ command added. added.shape c.flag.ensures.local
+    ∙ ap₂ with_rule (c.in_ok-arg-4.ensures.shape c.option-4.ensures.local
     ∙ ap₂ with_rule (c.in_ok-arg-3.ensures.shape c.option-3.ensures.local
     ∙ ap₂ with_rule (c.in_ok-arg-2.ensures.shape c.option-2.ensures.local
-    ∙ ap₂ with_rule (c.in_ok-arg.ensures.shape c.option.ensures.local ∙ ap₂ with_rule refl c.option.ensures.rule) c.option-2.ensures.rule) c.option-3.ensures.rule) c.option-4.ensures.rule) c.arg-4.ensures
+    ∙ ap₂ with_rule (c.in_ok-arg.ensures.shape c.option.ensures.local ∙ ap₂ with_rule refl c.option.ensures.rule) c.option-2.ensures.rule) c.option-3.ensures.rule) c.option-4.ensures.rule) c.flag.ensures.rule) c.arg-5.ensures
 
 pub returns-clause-local : goal.returns-clause-local
 returns-clause-local c =
-    IfOk-weaker c.arg-4.result _ _
+    IfOk-weaker c.arg-5.result _ _
     (λ command added none. no_globals _ _ _ added.globals
+    (no_globals _ _ _ c.in_ok-arg-4.ensures.globals
     (no_globals _ _ _ c.in_ok-arg-3.ensures.globals
     (no_globals _ _ _ c.in_ok-arg-2.ensures.globals
-    (no_globals _ _ _ c.in_ok-arg.ensures.globals none c.option.ensures.local) c.option-2.ensures.local) c.option-3.ensures.local) c.option-4.ensures.local) c.arg-4.ensures
+    (no_globals _ _ _ c.in_ok-arg.ensures.globals none c.option.ensures.local) c.option-2.ensures.local) c.option-3.ensures.local) c.option-4.ensures.local) c.flag.ensures.local) c.arg-5.ensures
