@@ -46,10 +46,14 @@ class Fleet:
         for server in filter(None, self.servers):
             server.kill()
 
+    def address(self, _place):
+        """Where the server at a place has its Redis."""
+        return self.redis.address
+
     def starts(self, *places):
         """Starts the servers at these places, and gives what those have logged that do not serve."""
         for place in places:
-            words = ("--redis", self.redis.address, "--port", self.ports[place], *VISITS)
+            words = ("--redis", self.address(place), "--port", self.ports[place], *VISITS)
             self.servers[place] = self.scene.server(*words, before=ends_with_the_test)
         return [self.servers[place].errors()[-200:] for place in places if not self.servers[place].serves()]
 
@@ -59,9 +63,13 @@ class Fleet:
             self.servers[place].run.kill()
         for place in places:
             self.servers[place].kill()
-        self.redis.settles()
+        self.settles(places)
         for place in places:
             self.ends[place] += 1
+
+    def settles(self, _places):
+        """Waits until Redis has done whatever servers had asked it that were killed."""
+        self.redis.settles()
 
 
 class Roamer(threading.Thread):
