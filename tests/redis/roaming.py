@@ -195,3 +195,24 @@ class Traveller(Roamer):
             return reply
         self.faults.append((self.number, self.place, reply and reply.code, request.options[-1]))
         return None
+
+
+class Registrant(threading.Thread):
+    """A device that registers names of its own, at one server after another, until it is stopped."""
+
+    def __init__(self, number, servers):
+        super().__init__(daemon=True)
+        self.number, self.servers, self.stopped = number, servers, threading.Event()
+        # the identifiers that it was told, by their names
+        self.known = {}
+
+    def run(self):
+        with contextlib.ExitStack() as stack:
+            clients = [stack.enter_context(Client(it.port)) for it in self.servers]
+            for turn in itertools.count(self.number):
+                if self.stopped.wait(TURN / 2):
+                    return
+                name = f"registrant-{self.number}-{turn}"
+                reply = clients[turn % len(clients)].ask(coap.register(name), 1.0)
+                if reply not in (None, CLOSED) and reply.code == "2.01":
+                    self.known[name] = reply.located

@@ -18,8 +18,9 @@ from visiting import ask
 
 VISITS = ("--http", "127.0.0.1:0")
 # the word by which a server founds a fleet, and how many entries a stream has then: a start, and a delta
-FOUND, FOUNDED = "--found", 2
-OLD = os.environ.get("FLEET_OLD")
+FOUNDS, FOUNDED = ("--found",), 2
+if os.environ.get("FLEET_OLD"):
+    FOUNDS = ()
 # how long is waited for what is to come soon, in seconds: a server looks for a Redis each five seconds at least
 SOON = 20.0
 # how long it takes at most until a server knows what another one was told, on a busy machine
@@ -56,9 +57,9 @@ class RedisScene(Scene):
 
     def founds(self, redis, *words, key=KEY):
         """A fleet is founded by a server that is told to, and ends once the stream tells of it."""
-        if OLD:
+        if not FOUNDS:
             return
-        with self.sharing(redis.address, FOUND, "--stream", key, *words) as server:
+        with self.sharing(redis.address, *FOUNDS, "--stream", key, *words) as server:
             if not is_soon(lambda: redis.length(key) >= FOUNDED):
                 raise NoServer(f"no fleet was founded: {server.errors()[-200:]}")
 
@@ -115,6 +116,11 @@ class RedisScene(Scene):
         differing = [sorted(set(found[0].items()) ^ set(it.items()))[:3] for it in found if it != found[0]]
         self.holds(f"{what}: {len(servers)} servers show the same {len(found[0])} registrations", differing, [])
         return found[0]
+
+
+def ended(servers):
+    """How those have ended that have."""
+    return [it.ends(0) for it in servers if it.run.poll() is not None]
 
 
 def settle(servers):
