@@ -6,7 +6,7 @@ import socket
 import threading
 import time
 
-from asking import Client, codes_of, identifiers
+from asking import Client, identifiers
 from coap import OBSERVE, deregister, register, update
 from devices import Observed, cancel, notices, observations, observe, token_of
 from scene import running

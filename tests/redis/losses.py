@@ -24,10 +24,10 @@ BEHIND = 30_000
 MENDING = 5
 
 
-def have_noticed(scene, what, servers):
+def have_noticed(scene, what, servers, wait=NOTICED):
     """Each server notices the loss by itself, and writes all anew."""
     for line in ("log lost", "compacted"):
-        is_soon(lambda line=line: all(f"{line}\n" in it.errors() for it in servers), NOTICED)
+        is_soon(lambda line=line: all(f"{line}\n" in it.errors() for it in servers), wait)
         found = [f"{line}\n" in it.errors() for it in servers]
         scene.holds(f"{what}: servers that log `{line}`, though nobody asks them", found, [True] * len(servers))
 
@@ -146,7 +146,7 @@ def trimmed_empty(scene):
 
 
 def begun_anew(scene):
-    """Whoever founds another fleet where the stream is gone ends nobody; those before go on where it is deleted again."""
+    """Another fleet that is founded where the stream is gone ends nobody: those before go on once it is deleted."""
     what = "another fleet is founded"
     with told(scene, what) as (redis, servers, found):
         for it in servers:
@@ -207,7 +207,7 @@ def taken_over(scene):
         scene.is_true(f"{what} lacks some", replica.length() < primary.length(), replica.length())
         between.goes_to(replica.port)
         primary.kill()
-        have_noticed(scene, what, servers)
+        have_noticed(scene, what, servers, SOON)
         scene.holds(f"{what}: Registers before", len(known), 2 * AT_EACH * len(servers))
         hear_of_each_other(scene, what, servers, known)
         scene.all_know(what, replica.address, servers, known)

@@ -12,7 +12,7 @@ import coap
 from asking import CLOSED, TOKENS, Client
 from between import CUTS, DELAYS, HOLDS, LOSES, PASSES, PIECES, REFUSES, STANDS, Between
 from model import DEREGISTERS, REGISTERS, UPDATES, Model, Sent
-from roaming import TURN, Fleet
+from roaming import Fleet
 from scene import running
 from scenes import SOON, is_soon, listed
 
