@@ -12,7 +12,7 @@ TURN = 0.02
 PIECE = 7
 # what is done with what comes
 PASSES, HOLDS, CUTS, PIECES = "passes", "holds", "cuts", "pieces"
-STANDS, DELAYS, REFUSES, LOSES = "stands still", "delays", "refuses", "loses"
+STANDS, DELAYS, REFUSES, LOSES, KEEPS = "stands still", "delays", "refuses", "loses", "keeps"
 # how long each part is on its way where it is delayed, in seconds
 DELAY = 0.05
 # of an append that is lost so many bytes pass
@@ -23,6 +23,7 @@ class Between(threading.Thread):
     """Passes on what comes, until it is left.
 
     - While it holds, what Redis answers to an append stays here; while it stands still, whatever comes.
+    - While it keeps, appends stay here. They come to Redis later, also where nobody waits for the answer any more.
     - Where it is to cut, the next answer to an append is lost with its connection; where it is to lose, the next append
       is, but for its beginning. It passes from then on.
     - In pieces a few bytes are passed on at once. Where it delays, each part is on its way for a while.
@@ -36,8 +37,10 @@ class Between(threading.Thread):
         self.port = self.front.getsockname()[1]
         # the other end of each connection, those to Redis, and those over which an append was asked last
         self.others, self.backs, self.appending = {}, set(), set()
-        # what stays here: when it is due, where it goes, and the bytes
+        # what stays here: where it goes, and the bytes; before them, where it is on the way, when it is due
         self.held, self.on_the_way = [], collections.deque()
+        # connections to Redis which nobody is behind any more, and over which an append is still to go
+        self.late = set()
         self.cuts = 0
 
     def __enter__(self):
@@ -47,12 +50,17 @@ class Between(threading.Thread):
     def __exit__(self, *_):
         self.stopped.set()
         self.join()
-        for it in (self.front, *self.others):
+        for it in (self.front, *self.others, *self.late):
             it.close()
 
     @property
     def address(self):
         return f"127.0.0.1:{self.port}"
+
+    @property
+    def is_idle(self):
+        """Whether no connection is there, and nothing is left that is to go to Redis."""
+        return not self.others and not self.late
 
     def goes_to(self, port):
         """Passes on to another Redis from now on. Connections to the one before are closed."""
@@ -75,7 +83,7 @@ class Between(threading.Thread):
             if self.does == REFUSES:
                 for it in list(self.others):
                     self.closes(it)
-            if self.does != HOLDS and not stands:
+            if self.does not in (HOLDS, KEEPS) and not stands:
                 self.releases()
 
     def wait(self):
@@ -122,6 +130,8 @@ class Between(threading.Thread):
             self.does, self.cuts = PASSES, self.cuts + 1
             self.says(far, found[:BEGINNING])
             self.closes(end)
+        elif far in self.appending and self.does == KEEPS:
+            self.held.append((far, found))
         else:
             self.passes(far, found)
 
@@ -143,13 +153,20 @@ class Between(threading.Thread):
         while self.on_the_way and self.on_the_way[0][0] <= time.monotonic():
             held.append(self.on_the_way.popleft()[1:])
         for end, found in held:
-            if end in self.others:
+            if end in self.others or end in self.late:
                 self.says(end, found)
+        for it in self.late:
+            it.close()
+        self.late = set()
 
     def closes(self, end):
-        other = self.others.pop(end, None)
+        other, kept = self.others.pop(end, None), {it for it, _ in self.held} if self.does == KEEPS else set()
         self.others.pop(other, None)
         for it in filter(None, (end, other)):
+            is_late = it in self.backs and it in kept
             self.backs.discard(it)
             self.appending.discard(it)
-            it.close()
+            if is_late:
+                self.late.add(it)
+            else:
+                it.close()

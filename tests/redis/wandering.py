@@ -10,7 +10,7 @@ import time
 
 import coap
 from asking import CLOSED, TOKENS, Client
-from between import CUTS, DELAYS, HOLDS, LOSES, PASSES, PIECES, REFUSES, STANDS, Between
+from between import CUTS, DELAYS, HOLDS, KEEPS, LOSES, PASSES, PIECES, REFUSES, STANDS, Between
 from model import DEREGISTERS, REGISTERS, UPDATES, Model, Sent
 from roaming import Fleet
 from scene import running
@@ -105,7 +105,9 @@ class Counted:
 class LinkFaults(threading.Thread):
     """Faults of the connections between servers and Redis, one after another, until it is stopped."""
 
-    KINDS = STANDS, DELAYS, REFUSES, PIECES, HOLDS, CUTS, LOSES
+    KINDS = STANDS, KEEPS, DELAYS, REFUSES, PIECES, HOLDS, CUTS, LOSES
+    # how long those last at most after which a server gives up its connection, and others, in seconds
+    LONG, LONGEST, MOST = (STANDS, KEEPS), 3.0, 1.2
 
     def __init__(self, seed, betweens):
         super().__init__(daemon=True)
@@ -117,7 +119,7 @@ class LinkFaults(threading.Thread):
             between, kind = self.chance.choice(self.betweens), self.chance.choice(self.KINDS)
             self.counted.adds(f"connection {kind}")
             between.does = kind
-            self.stopped.wait(self.chance.uniform(0.1, 1.2))
+            self.stopped.wait(self.chance.uniform(0.1, self.LONGEST if kind in self.LONG else self.MOST))
             between.does = PASSES
 
 
@@ -191,7 +193,7 @@ class Linked(Fleet):
 
     def settles(self, places):
         """What servers that were killed have said to Redis comes there before anybody hears of their ends."""
-        is_soon(lambda: not any(self.betweens[it].others for it in places))
+        is_soon(lambda: all(self.betweens[it].is_idle for it in places))
         super().settles(places)
 
 
