@@ -19,8 +19,9 @@ START, DELTA, WHOLE = 0, 1, 2
 # a list of some 6 KB: 300 registrations with such a list are compacted after some 2,500 Updates
 VERY_LONG_LIST = b",".join(b"</%d/0>;title=some-more-bytes" % number for number in range(1000, 1220))
 HEAVY, MOST_ROUNDS, MOST_LEFT = 300, 20, 100
-# how long a server waits at most until it is its turn to compact, and how long entries stay then, in seconds
-LONGEST_TURN, TRIMMED_AFTER = 40.0, 30.0
+# how many turns there are to compact, how long a server waits at most until it has its own, and how long entries stay
+# then, in seconds
+TURNS, LONGEST_TURN, TRIMMED_AFTER = 16, 40.0, 30.0
 
 
 def kind_of(fields):
@@ -151,11 +152,17 @@ def compactions(scene):
         scene.is_true(f"{what}: {redis.length()} entries are left", is_short, redis.length())
         kinds = [kind_of(it) for it in redis.entries()]
         scene.is_true("a whole entry is among them", WHOLE in kinds, kinds)
-        count = sum(it.compactions() for it in servers)
-        scene.is_true(f"{what}: by {count} of 4 servers", 1 <= count < len(awake), count)
+        count, most = sum(it.compactions() for it in servers), have_first_turn(awake)
+        scene.is_true(f"{what}: by {count} of those whose turn is first", 1 <= count <= most, f"{most} are right")
         losers = [number for number, it in enumerate(servers) if "log lost\n" in it.errors()]
         scene.holds(f"{what}: servers that tell of a loss", losers, [])
         scene.all_know(what, redis.address, servers, known)
+
+
+def have_first_turn(servers):
+    """How many of the servers compact before others, as their numbers have it."""
+    turns = [int(numbers_of(it)[-1]) % TURNS for it in servers]
+    return turns.count(min(turns))
 
 
 def codes_until_compacted(servers, known):

@@ -5,9 +5,9 @@ import signal
 import time
 
 from asking import Client, identifiers
-from between import Between
+from between import KEEPS, PASSES, Between
 from coap import register, update
-from entries import WHOLE, appends, kind_of
+from entries import WHOLE, appends, kind_of, strange
 from faults import PATIENCE, is_mended, told
 from keeper import KEY
 from roaming import Registrant
@@ -173,6 +173,37 @@ def begun_anew(scene):
 ANOTHER = "stream of another fleet"
 
 
+def founded_meanwhile(scene):
+    """Another fleet that is founded just before a server writes all anew comes first, and nobody ends."""
+    what = "a fleet that is founded while another is written anew"
+    with scene.redis() as redis, Between(redis.port) as between, scene.sharing(between.address) as server:
+        with Client(server.port) as client:
+            scene.holds(f"{what}: a Register before", client.code_of(register("before")), "2.01")
+        between.does = KEEPS
+        redis.ask("DEL", KEY)
+        scene.is_true(f"{what}: one is about to write", is_soon(lambda: between.held), server.errors()[-200:])
+        with scene.sharing(redis.address, *FOUNDS) as stranger, Client(stranger.port) as client:
+            scene.holds(f"{what}: a Register at the other", client.code_of(register("first")), "2.01")
+            between.does = PASSES
+            is_told = is_soon(lambda: strange(stranger))
+            scene.is_true(f"{what}: the other tells of what is written", is_told, stranger.errors()[-200:])
+            with scene.sharing(redis.address) as later:
+                scene.holds(f"{what}: who begins then is of the other", list(shown(later)), ["first"])
+            scene.holds(f"{what}: servers that have ended", ended([server, stranger]), [])
+
+
+def warned(scene):
+    """A server warns of a Redis that is a replica, and of one that may throw the stream away."""
+    with scene.redis() as redis, scene.empty_redis() as replica:
+        redis.sets("maxmemory-policy", "allkeys-lru")
+        redis.sets("repl-diskless-sync-delay", 0)
+        replica.ask("REPLICAOF", "127.0.0.1", redis.port)
+        is_soon(lambda: replica.length() == redis.length())
+        for it, line in ((redis, "redis may evict the stream"), (replica, "redis is a replica")):
+            with scene.sharing(it.address) as server:
+                scene.holds(f"lines of `{line}`", server.errors().count(f"{line}\n"), 1)
+
+
 def forgetful(scene):
     """A Redis that keeps nothing on its disk is told all again by its servers."""
     what = "a Redis that has forgotten"
@@ -260,9 +291,11 @@ LOSSES = (
     shortened,
     trimmed,
     begun_anew,
+    founded_meanwhile,
     begun_with_others,
     forgetful,
     taken_over,
+    warned,
 )
 # it waits more than it works
 WAITING_LOSSES = (trimmed_empty,)

@@ -12,6 +12,8 @@ from visiting import WAIT, ask
 
 # how long a server stands still for which what lies in its socket is old, in seconds
 STOOD_STILL = 5
+# how many ask it meanwhile
+VISITORS = 4
 LINE = "stood still for="
 
 
@@ -60,19 +62,25 @@ def asked_in_vain(scene):
 
 
 def visited_in_vain(scene):
-    """A visitor who asked a server while it stood still is told what is so when it goes on."""
-    what = "a visitor of a server that stood still"
+    """Visitors who asked a server while it stood still are told what is so when it goes on."""
+    what = "visitors of a server that stood still"
     with told(scene, what) as (_, servers, found), Client(servers[1].port) as client:
         known = identifiers([client.ask(register("lamp"))])
         target, statuses = "/v1/registrations/lamp", []
         is_soon(lambda: ask(servers[0].visited, target).status == "200 OK")
+        # so that nothing is under way where it stops
+        time.sleep(0.5)
         servers[0].run.send_signal(signal.SIGSTOP)
         scene.holds(f"{what}: a removal meanwhile", client.code_of(deregister(*known)), "2.02")
         time.sleep(STOOD_STILL)
-        visitor = threading.Thread(target=lambda: statuses.append(ask(servers[0].visited, target).status))
-        visitor.start()
+        visits = [lambda: statuses.append(ask(servers[0].visited, target).status)] * VISITORS
+        visitors = [threading.Thread(target=it) for it in visits]
+        for it in visitors:
+            it.start()
         time.sleep(0.5)
         servers[0].run.send_signal(signal.SIGCONT)
-        visitor.join(WAIT)
-        scene.holds(f"{what}: what he is told of what was removed", statuses, ["404 Not Found"])
+        for it in visitors:
+            it.join(WAIT)
+        told_of = "what they are told of what was removed"
+        scene.holds(f"{what}: {told_of}", statuses, ["404 Not Found"] * VISITORS)
         scene.knows(f"{what}: afterwards", servers[0], found.known, [*found.removed, *known])
