@@ -15,7 +15,7 @@ from scene import running
 from scenes import FOUNDS, SOON, SPREAD, ended, is_answered, is_soon, shown
 
 # within which time each server notices that something is lost, where nobody asks it, in seconds
-NOTICED = 2.0
+NOTICED = 5.0
 # how often the stream is deleted under devices, how many these are, and how long they go on after each, in seconds
 DELETIONS, REGISTRANTS, BETWEEN_DELETIONS = 8, 6, 1.0
 # how far a clock is behind, in milliseconds

@@ -14,7 +14,7 @@ from between import CUTS, DELAYS, HOLDS, KEEPS, LOSES, PASSES, PIECES, REFUSES, 
 from model import DEREGISTERS, REGISTERS, UPDATES, Model, Sent
 from roaming import Fleet
 from scene import running
-from scenes import SOON, is_soon, listed
+from scenes import SOON, ended, is_soon, listed
 
 SEEDS = 20240607, 20240611
 SERVERS, DEVICES = 4, 24
@@ -102,6 +102,12 @@ class Counted:
         return ", ".join(f"{kind} {self.counts[kind]}" for kind in sorted(self.counts))
 
 
+def shuffled(chance, kinds):
+    """All of these in an order by lot, again and again."""
+    while True:
+        yield from chance.sample(kinds, len(kinds))
+
+
 class LinkFaults(threading.Thread):
     """Faults of the connections between servers and Redis, one after another, until it is stopped."""
 
@@ -115,8 +121,9 @@ class LinkFaults(threading.Thread):
         self.counted, self.stopped = Counted(), threading.Event()
 
     def run(self):
+        kinds = shuffled(self.chance, self.KINDS)
         while not self.stopped.wait(self.chance.uniform(0, 0.5)):
-            between, kind = self.chance.choice(self.betweens), self.chance.choice(self.KINDS)
+            between, kind = self.chance.choice(self.betweens), next(kinds)
             self.counted.adds(f"connection {kind}")
             between.does = kind
             self.stopped.wait(self.chance.uniform(0.1, self.LONGEST if kind in self.LONG else self.MOST))
@@ -139,10 +146,10 @@ class HostFaults:
         }
 
     def go_on(self, seconds):
-        end = time.monotonic() + seconds
+        end, kinds = time.monotonic() + seconds, shuffled(self.chance, list(self.kinds))
         while time.monotonic() < end:
             self.waits(0.1, 0.8)
-            kind = self.chance.choice(list(self.kinds))
+            kind = next(kinds)
             self.counted.adds(kind)
             self.kinds[kind]()
 
@@ -186,10 +193,16 @@ class Linked(Fleet):
 
     def __init__(self, scene, redis, betweens):
         super().__init__(scene, redis, len(betweens))
-        self.betweens = betweens
+        # `begun` has all servers that were ever started
+        self.betweens, self.begun = betweens, []
 
     def address(self, place):
         return self.betweens[place].address
+
+    def starts(self, *places):
+        unserved = super().starts(*places)
+        self.begun += [self.servers[it] for it in places]
+        return unserved
 
     def settles(self, places):
         """What servers that were killed have said to Redis comes there before anybody hears of their ends."""
@@ -221,8 +234,9 @@ def wanders(scene, seed, fleet):
     scene.holds(f"{what}: answers that nothing explains", (len(wrong), wrong[:3]), (0, []))
     scene.holds(f"{what}: identifiers that were given twice", len(given) - len(set(given)), 0)
     scene.holds(f"{what}: starts that do not serve", hosts.unserved, [])
-    ended = [it.errors()[-200:] for it in fleet.servers if it.run.poll() is not None]
-    scene.holds(f"{what}: servers that have ended by themselves", ended, [])
+    scene.holds(f"{what}: servers that have ended by themselves", ended(fleet.servers), [])
+    losers = [it.errors()[-200:] for it in fleet.begun if "log lost\n" in it.errors()]
+    scene.holds(f"{what}: servers that tell of a loss, where nothing is lost", losers, [])
     shows_as_told(scene, what, fleet, models, set(given))
 
 
