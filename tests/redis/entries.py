@@ -2,6 +2,7 @@
 
 import os
 import re
+import signal
 import struct
 import time
 
@@ -10,7 +11,7 @@ from between import CUTS, HOLDS, PASSES, PIECES, Between
 from coap import read, register, spelled, update
 from faults import told
 from keeper import KEY
-from scenes import SOON, SPREAD, is_answered, is_soon, measure, shown
+from scenes import SOON, SPREAD, ended, is_answered, is_soon, measure, shown
 
 # where the parts of an entry stand: the number of its start, the tag, the sequence, and the kind
 NUMBER, TAG, KIND = slice(20, 22), slice(22, 30), 38
@@ -18,6 +19,9 @@ START, DELTA, WHOLE = 0, 1, 2
 # a list of some 6 KB: 300 registrations with such a list are compacted after some 2,500 Updates
 VERY_LONG_LIST = b",".join(b"</%d/0>;title=some-more-bytes" % number for number in range(1000, 1220))
 HEAVY, MOST_ROUNDS, MOST_LEFT = 300, 20, 100
+# how many turns there are to compact, how long a server waits at most until it has its own, and how long entries stay
+# then, in seconds
+TURNS, LONGEST_TURN, TRIMMED_AFTER = 16, 40.0, 30.0
 
 
 def kind_of(fields):
@@ -57,18 +61,26 @@ def passed_over(server):
 
 
 def fleets(scene):
-    """A start of another fleet is passed over; a delta of it ends every server, and whoever begins."""
-    with told(scene, "another fleet") as (redis, servers, found):
+    """What stands in a stream of another fleet is passed over and told of, and ends nobody."""
+    what = "entries of another fleet"
+    with told(scene, what) as (redis, servers, found):
+        scene.founds(redis, key="other")
         with scene.sharing(redis.address, "--stream", "other") as other, Client(other.port) as client:
             scene.holds("a Register at another fleet", client.code_of(register("stranger")), "2.01")
-        scene.is_true("which its stream has", redis.length("other") >= 2, redis.length("other"))
         appends(redis, "e", first_of(redis, START, "other"))
-        scene.all_know("a start of another fleet", redis.address, servers, found.known, found.removed)
-        appends(redis, "e", first_of(redis, DELTA, "other"))
-        found = [it.ends(SOON) for it in servers]
-        scene.holds("servers after a delta of another fleet", found, [(1, "another fleet")] * 3)
-        with scene.sharer(redis.address) as newcomer:
-            scene.holds("a newcomer then", newcomer.ends(SOON), (1, "another fleet"))
+        deltas = [fields[1] for fields in redis.entries("other") if kind_of(fields) == DELTA]
+        added = {appends(redis, "e", it).decode() for it in deltas}
+        is_soon(lambda: all(strange(it) == added for it in servers), SPREAD)
+        unlike = [strange(it) ^ added for it in servers]
+        scene.holds(f"{what}: those that servers pass over, and do not tell of, or the other way", unlike, [set()] * 3)
+        scene.all_know(what, redis.address, servers, found.known, found.removed)
+        scene.holds(f"{what}: who shows what they tell of", ["stranger" in shown(it) for it in servers], [False] * 3)
+        scene.holds(f"{what}: servers that have ended", ended(servers), [])
+
+
+def strange(server):
+    """The identifiers of the entries of which a server logs that they are of another fleet."""
+    return set(re.findall(r"entry of another fleet passed over id=(\S+)", server.errors()))
 
 
 def numbers(scene):
@@ -95,37 +107,73 @@ def numbers_of(server):
 
 
 def newer(scene):
-    """An entry of a later format ends who reads it."""
+    """An entry of a later format ends who begins. Who has served is away until it is gone."""
     with scene.redis() as redis, scene.sharing(redis.address) as server, Client(server.port) as client:
-        scene.holds("a Register", client.code_of(register("a")), "2.01")
-        appends(redis, "e", b"LWE2" + first_of(redis, START)[4:])
-        scene.holds("a server after an entry of a later format", server.ends(SOON), (1, "data newer"))
+        known = identifiers([client.ask(register("a"))])
+        added = appends(redis, "e", b"LWE2" + first_of(redis, START)[4:])
+        scene.is_true("a server after an entry of a later format", is_away(server), server.errors()[-200:])
+        code = client.code_of(update(*known), 1.0)
+        scene.holds("an Update there, and its end", (code, ended([server])), ("none", []))
         with scene.sharer(redis.address) as newcomer:
             scene.holds("a newcomer then", newcomer.ends(SOON), (1, "data newer"))
+        redis.ask("XDEL", KEY, added)
+        scene.holds("an Update once it is gone", is_answered(server, update(*known)), True)
+        scene.all_know("an entry of a later format that is gone", redis.address, [server], known)
+
+
+def is_away(server, wait=SOON):
+    return is_soon(lambda: "log away\n" in server.errors(), wait)
 
 
 def compactions(scene):
-    """Where many entries stand in a stream, one of three servers writes all as one and has the others go."""
-    with scene.redis() as redis, scene.several(redis.address, 3) as servers:
+    """Where many entries stand in a stream one server writes all as one, and has the others go half a minute later."""
+    what = "a stream that is written anew"
+    with scene.redis() as redis, scene.several(redis.address, 4) as servers:
+        *awake, asleep = servers
         with Client(servers[0].port) as client:
             requests = [register(f"heavy-{it}", objects=VERY_LONG_LIST) for it in range(HEAVY)]
             known = identifiers(client.ask_all(requests, at_once=8, wait=20))
         scene.holds("Registers of long lists", len(known), HEAVY)
-        codes, longest = {}, redis.length()
-        for number in range(MOST_ROUNDS):
-            with Client(servers[number % 3].port) as client:
-                codes |= codes_of(client.ask_all([update(it) for it in known], at_once=8, wait=5))
-            longest = max(longest, redis.length())
-            if any(it.compactions() for it in servers):
-                break
+        scene.agree("long lists", servers)
+        asleep.run.send_signal(signal.SIGSTOP)
+        codes = codes_until_compacted(awake, known)
         # a server that waits for a long entry may let some go, as one whose Redis is away
         scene.holds("answers to Updates until all was written anew", set(codes) - {"none"}, {"2.04"})
-        scene.is_true("that was done", any(it.compactions() for it in servers), f"{MOST_ROUNDS} rounds")
-        is_short = is_soon(lambda: redis.length() <= MOST_LEFT)
-        scene.is_true(f"the stream has {redis.length()} entries, and had {longest}", is_short, redis.length())
+        is_done = is_soon(lambda: any(it.compactions() for it in awake), LONGEST_TURN)
+        length = redis.length()
+        scene.is_true("that was done", is_done, f"{MOST_ROUNDS} rounds")
+        scene.is_true(f"{what} has its {length} entries at first", length > MOST_LEFT, length)
+        # who missed it all still finds what it has read last
+        redis.ask("CLIENT", "KILL", "TYPE", "normal")
+        asleep.run.send_signal(signal.SIGCONT)
+        is_answered(asleep, update(known[0]))
+        scene.knows(f"{what}: who stood still meanwhile", asleep, known)
+        is_short = is_soon(lambda: redis.length() <= MOST_LEFT, TRIMMED_AFTER + SOON)
+        scene.is_true(f"{what}: {redis.length()} entries are left", is_short, redis.length())
         kinds = [kind_of(it) for it in redis.entries()]
         scene.is_true("a whole entry is among them", WHOLE in kinds, kinds)
-        scene.all_know("a stream that was written anew", redis.address, servers, known)
+        count, most = sum(it.compactions() for it in servers), have_first_turn(awake)
+        scene.is_true(f"{what}: by {count} of those whose turn is first", 1 <= count <= most, f"{most} are right")
+        losers = [number for number, it in enumerate(servers) if "log lost\n" in it.errors()]
+        scene.holds(f"{what}: servers that tell of a loss", losers, [])
+        scene.all_know(what, redis.address, servers, known)
+
+
+def have_first_turn(servers):
+    """How many of the servers compact before others, as their numbers have it."""
+    turns = [int(numbers_of(it)[-1]) % TURNS for it in servers]
+    return turns.count(min(turns))
+
+
+def codes_until_compacted(servers, known):
+    """The codes of Updates at one server after another, until one of them has written all anew."""
+    codes = {}
+    for number in range(MOST_ROUNDS):
+        with Client(servers[number % len(servers)].port) as client:
+            codes |= codes_of(client.ask_all([update(it) for it in known], at_once=8, wait=5))
+        if any(it.compactions() for it in servers):
+            break
+    return codes
 
 
 def held_back(scene):
@@ -173,6 +221,7 @@ def expired(scene):
     """What has expired is ended when the fleet's clocks may differ no more, and not before."""
     lifetime, skew = 2, 1
     with scene.redis() as redis, scene.several(redis.address, 2, "--skew", skew) as servers:
+        scene.founds(redis, key="other")
         with scene.sharing(redis.address, "--stream", "other") as patient:
             with Client(servers[0].port) as client, Client(servers[1].port) as second, Client(patient.port) as third:
                 second.ask(register("lasting"))

@@ -1,17 +1,16 @@
-"""A Redis that is away, comes back, or has lost what it was told."""
+"""A Redis that is away, or refuses for a while, and comes back."""
 
 import contextlib
 import json
-import signal
 import socket
 import threading
 import time
 
-from asking import Client, codes_of, identifiers
+from asking import Client, identifiers
 from coap import OBSERVE, deregister, register, update
 from devices import Observed, cancel, notices, observations, observe, token_of
 from scene import running
-from scenes import SOON, is_answered, is_soon
+from scenes import FOUNDS, SOON, ended, is_answered, is_soon
 from visiting import ask, refused
 
 AWAY = refused("503 Service Unavailable", "away")
@@ -21,6 +20,8 @@ PATIENCE, LAST_REPLY = 10, 5
 LEAST_AWAY, MOST_AWAY = 3, 15
 # A Redis that loads answers behind each 1,024 commands. So there are more, and each takes so many microseconds.
 FILLING, LOADING_SLOWLY = 12_000, ("--key-load-delay", "250")
+# how many connections a Redis takes that is not told otherwise
+MOST_CLIENTS = 10_000
 
 
 class Speaker(threading.Thread):
@@ -85,10 +86,10 @@ def nobody(scene):
 
 def late(scene):
     """A Redis that is started within ten seconds is soon enough."""
-    redis = scene.redis()
+    redis = scene.empty_redis()
     with contextlib.ExitStack() as stack:
         stack.callback(redis.kill)
-        server = stack.enter_context(scene.sharer(redis.address))
+        server = stack.enter_context(scene.sharer(redis.address, *FOUNDS))
         time.sleep(LEAST_AWAY)
         found = server.run.poll(), server.errors()
         scene.holds("a server that waits for its Redis, and what it says", found, (None, ""))
@@ -183,15 +184,32 @@ def killed(scene):
         all_goes_on(scene, "a Redis that is started again", redis, servers, found)
 
 
+# settings by which a Redis takes nothing, and what makes it take all again
+TAKES_NOTHING = {"without room": ("maxmemory", 1, 0), "without its replicas": ("min-replicas-to-write", 1, 0)}
+
+
 def full(scene):
-    """A Redis without room takes nothing, so what a server has made of a request is told nobody."""
-    with told(scene, "a Redis without room") as (redis, servers, found):
-        redis.ask("CONFIG", "SET", "maxmemory", 1)
-        before = redis.length()
-        nothing_is_told(scene, "a Redis without room", servers, found.known, 1)
-        scene.holds("a Redis without room: what it took", redis.length() - before, 0)
-        redis.ask("CONFIG", "SET", "maxmemory", 0)
-        all_goes_on(scene, "a Redis with room again", redis, servers, found)
+    """A Redis that takes nothing has what a server has made of a request told nobody, and ends no server."""
+    for what, (setting, nothing, all_again) in TAKES_NOTHING.items():
+        with told(scene, f"a Redis {what}") as (redis, servers, found):
+            redis.sets(setting, nothing)
+            before = redis.length()
+            nothing_is_told(scene, f"a Redis {what}", servers, found.known, 1)
+            scene.holds(f"a Redis {what}: what it took", redis.length() - before, 0)
+            redis.sets(setting, all_again)
+            all_goes_on(scene, f"a Redis that was {what}", redis, servers, found)
+
+
+def crowded(scene):
+    """A Redis all of whose connections are taken refuses who has to connect again, and ends no server."""
+    what = "a Redis whose connections are taken"
+    with told(scene, what) as (redis, servers, found), redis.asking() as asks:
+        # those that are there stay, so this one alone is left
+        asks([("CONFIG", "SET", "maxclients", 1), ("CLIENT", "KILL", "TYPE", "normal", "SKIPME", "yes")])
+        nothing_is_told(scene, what, servers, found.known, LEAST_AWAY)
+        scene.holds(f"{what}: servers that have ended", ended(servers), [])
+        asks([("CONFIG", "SET", "maxclients", MOST_CLIENTS)])
+        all_goes_on(scene, f"{what} for a while", redis, servers, found)
 
 
 def loading(scene):
@@ -213,87 +231,6 @@ def loading(scene):
             scene.is_true("a newcomer waits, and serves", newcomer.serves(SOON), newcomer.errors()[-200:])
             scene.knows("a newcomer that has waited", newcomer, found.known, found.removed)
         all_goes_on(scene, "a Redis that has loaded", redis, servers, found)
-
-
-def gone(scene):
-    """Where the stream is gone, what the servers know is written anew."""
-    for words in (("FLUSHALL",), ("DEL", "fleet")):
-        what = " ".join(words)
-        with told(scene, what) as (redis, servers, found):
-            redis.ask(*words)
-            begun, loser = time.monotonic(), servers[1]
-            is_told = is_answered(loser, update(found.known[0]))
-            seconds, is_written, lines = time.monotonic() - begun, is_soon(loser.compactions), loser.errors()
-            scene.is_true(f"{what}: an Update is soon answered ({seconds:.1f} s)", is_told, lines[-200:])
-            scene.is_true(f"{what}: all is written anew", is_written, lines[-200:])
-            scene.is_true(f"{what}: and the loss is logged", "log lost\n" in lines, lines[-200:])
-            scene.all_know(what, redis.address, servers, found.known, found.removed)
-
-
-def shortened(scene):
-    """Where the end of the stream is gone when a server connects again, it writes all anew, though nobody asks it."""
-    with told(scene, "a stream without its end") as (redis, servers, found):
-        ids = [identifier for identifier, _ in redis.ask("XRANGE", "fleet", "-", "+")]
-        redis.ask("XDEL", "fleet", *ids[len(ids) // 4 :])
-        redis.ask("CLIENT", "KILL", "TYPE", "normal")
-        is_soon(lambda: any(it.compactions() for it in servers))
-        scene.is_true("the loss is logged", any("log lost\n" in it.errors() for it in servers), "by none")
-        is_mended(scene, "a stream without its end", servers)
-        answered = [is_answered(it, update(found.known[0])) for it in servers]
-        scene.holds("a stream without its end: each server soon answers again", answered, [True] * 3)
-        scene.all_know("a stream without its end", redis.address, servers, found.known, found.removed)
-
-
-def trimmed(scene):
-    """Where a stream lost its beginning and stays, its servers go on, and nobody begins who would know less."""
-    with told(scene, "XTRIM") as (redis, servers, found):
-        redis.ask("XTRIM", "fleet", "MAXLEN", 0)
-        for server in servers:
-            scene.knows("XTRIM, at a server", server, found.known, found.removed)
-        with scene.sharer(redis.address) as newcomer:
-            scene.holds("XTRIM: a newcomer", newcomer.ends(SOON), (1, "data cut"))
-
-
-def begun_anew(scene):
-    """Whoever begins where the stream is gone begins another fleet, which ends the servers of the one before."""
-    with told(scene, "a new fleet") as (redis, servers, found):
-        redis.ask("DEL", "fleet")
-        with scene.sharing(redis.address) as newcomer, Client(newcomer.port) as client:
-            scene.holds("a Register at a server that found no stream", client.code_of(register("first")), "2.01")
-            ends = [it.ends(SOON) for it in servers]
-            scene.holds("the servers of the fleet before", ends, [(1, "another fleet")] * 3)
-            scene.holds("an Update at the new one", client.code_of(update(found.known[0])), "4.04")
-
-
-def forgetful(scene):
-    """A Redis that keeps nothing on its disk is told all again by its servers."""
-    with told(scene, "a Redis that keeps nothing", keeps="no") as (redis, servers, found):
-        warned = ["redis keeps nothing on its disk\n" in it.errors() for it in servers]
-        scene.holds("servers that warn of it", warned, [True] * 3)
-        redis.kill()
-        redis.start()
-        scene.holds("entries once it is started again", redis.length(), 0)
-        answered = [is_answered(it, update(found.known[0])) for it in servers]
-        scene.holds("a Redis that has forgotten: each server soon answers again", answered, [True] * 3)
-        scene.is_true("what it had is written anew", is_soon(lambda: any(it.compactions() for it in servers)), "not")
-        is_mended(scene, "a Redis that has forgotten", servers)
-        scene.all_know("a Redis that has forgotten", redis.address, servers, found.known, found.removed)
-
-
-def sleeper(scene):
-    """A server that stood still knows what it missed before it answers, and the others go on meanwhile."""
-    with told(scene, "a server that stands still") as (redis, servers, found):
-        servers[2].run.send_signal(signal.SIGSTOP)
-        with Client(servers[0].port) as client:
-            missed = identifiers(client.ask_all([register(f"missed-{it}") for it in range(40)]))
-            ended = client.ask_all([deregister(it) for it in found.known[:10]])
-        time.sleep(LEAST_AWAY)
-        servers[2].run.send_signal(signal.SIGCONT)
-        codes = codes_of(ended)
-        scene.holds("Registers and removals meanwhile", (len(missed), codes), (40, {"2.02": 10}))
-        known, removed = [*found.known[10:], *missed], [*found.removed, *found.known[:10]]
-        scene.knows("a server that goes on", servers[2], known, removed)
-        scene.all_know("a server that has gone on", redis.address, servers, known, removed)
 
 
 def commanded(scene):
@@ -321,7 +258,7 @@ def commanded(scene):
 
 
 def room(redis, size):
-    redis.ask("CONFIG", "SET", "maxmemory", size)
+    redis.sets("maxmemory", size)
 
 
 def commanded_again(scene, server, lamp, token):

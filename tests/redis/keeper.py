@@ -113,13 +113,25 @@ class Redis:
 
     def ask_all(self, commands):
         """The replies to commands, over a connection of their own."""
+        with self.asking() as asks:
+            return asks(commands)
+
+    @contextlib.contextmanager
+    def asking(self):
+        """What gives the replies to commands, over one connection."""
         with socket.create_connection(("127.0.0.1", self.port), LIMIT) as connection:
             with connection.makefile("rb") as reader:
+
+                def asks(commands):
+                    connection.sendall(b"".join(words_of(it) for it in commands))
+                    return [reply_from(reader) for _ in commands]
+
                 if self.password:
-                    connection.sendall(words_of(("AUTH", "default", self.password)))
-                    reply_from(reader)
-                connection.sendall(b"".join(words_of(it) for it in commands))
-                return [reply_from(reader) for _ in commands]
+                    asks([("AUTH", "default", self.password)])
+                yield asks
+
+    def sets(self, setting, value):
+        self.ask("CONFIG", "SET", setting, value)
 
     def entries(self, key=KEY):
         """The fields of each entry of a stream."""

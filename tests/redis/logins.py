@@ -4,8 +4,11 @@ import re
 import tempfile
 
 from asking import Client
-from coap import register, spelled
-from scenes import SOON
+from coap import register
+from entries import is_away
+from faults import all_goes_on, nothing_is_told, told
+from keeper import KEY
+from scenes import SOON, ended, is_answered
 
 PASSWORD, WRONG, GENERAL = "pass-0123456789-word", "wrong-9876543210-word", "general-4567890123-word"
 RIGHTS = ("+xadd", "+xrange", "+xtrim", "+ping", "+auth", "+info")
@@ -56,26 +59,27 @@ def tells_no_password(scene):
 
 
 def is_refused(scene, what, server, error):
-    """A run ends by a refusal, of which Redis's own text stands before."""
+    """A start ends by a refusal, of which Redis's own text stands before."""
     scene.holds(f"the end: {what}", server.ends(SOON), (1, "redis refused"))
+    tells_why(scene, server, error)
+
+
+def tells_why(scene, server, error):
     found = re.findall(r"redis refused error=(\w+)", server.errors())
     scene.holds("what Redis says of it", found[:1], [error])
 
 
 def refusals(scene):
-    """What a Redis refuses for good ends a server."""
-    with scene.redis(password=GENERAL) as redis:
+    """What a Redis refuses for good ends a start. A server that serves is away until Redis does what it is asked."""
+    with scene.empty_redis(password=GENERAL) as redis:
+        scene.founds(redis, *login_of(scene, "default", GENERAL))
         for user, rights in USERS.items():
             redis.ask("ACL", "SETUSER", user, "on", f">{PASSWORD}", "~fleet", *rights)
         for what, (login, words, error) in AT_A_START.items():
             further = login_of(scene, *login) if login else ()
             with scene.sharer(redis.address, *further, *words) as server:
                 is_refused(scene, what, server, error)
-        may_not_write = login_of(scene, "reader", PASSWORD)
-        with scene.sharing(redis.address, *may_not_write) as server, Client(server.port) as client:
-            client.say(spelled(register("a"), 1, b"a"))
-            is_refused(scene, "a Register where nothing may be appended", server, "NOPERM")
-            scene.holds("what it has answered", client.hear(0.1), None)
+        refused_meanwhile(scene, redis)
         serving(scene, redis)
     tells_no_password(scene)
 
@@ -95,6 +99,22 @@ AT_A_START = {
 }
 
 
+def refused_meanwhile(scene, redis):
+    """A user that may not append, and one that may no longer log in, until they may."""
+    with scene.sharing(redis.address, *login_of(scene, "reader", PASSWORD)) as server, Client(server.port) as client:
+        what = "a Register where nothing may be appended"
+        code = client.code_of(register("a"), 1.0)
+        scene.holds(f"{what}, and ends", (code, is_away(server), ended([server])), ("none", True, []))
+        tells_why(scene, server, "NOPERM")
+        redis.ask("ACL", "SETUSER", "reader", "+xadd")
+        scene.holds(f"{what} until it may be", is_answered(server, register("a"), "2.01"), True)
+        redis.ask_all([("ACL", "SETUSER", "reader", "off"), ("CLIENT", "KILL", "USER", "reader")])
+        what = "a Register where the user is off"
+        scene.holds(f"{what}, and ends", (client.code_of(register("b"), 2.0), ended([server])), ("none", []))
+        redis.ask("ACL", "SETUSER", "reader", "on")
+        scene.holds(f"{what} until it is on", is_answered(server, register("b"), "2.01"), True)
+
+
 def serving(scene, redis):
     """The right logins serve, also one with the ends of lines of another system, or without the last."""
     texts = {
@@ -111,14 +131,18 @@ def serving(scene, redis):
 
 
 def other_types(scene):
-    """A key that holds something else is refused, at a start and while a server serves."""
-    with scene.redis() as redis:
-        redis.ask("SET", "fleet", "text")
+    """A key that holds something else ends a start. Servers that serve are away until it does no more, and know all."""
+    with scene.empty_redis() as redis:
+        redis.ask("SET", KEY, "text")
         with scene.sharer(redis.address) as server:
             is_refused(scene, "a key that holds a text", server, "WRONGTYPE")
-        scene.holds("the text then", redis.ask("GET", "fleet"), b"text")
-        redis.ask("DEL", "fleet")
-        with scene.sharing(redis.address) as server, Client(server.port) as client:
-            scene.holds("a Register once it is gone", client.code_of(register("a")), "2.01")
-            redis.ask("SET", "fleet", "text")
-            is_refused(scene, "a key that becomes a text", server, "WRONGTYPE")
+        scene.holds("the text then", redis.ask("GET", KEY), b"text")
+    what = "a key that becomes a text"
+    with told(scene, what) as (redis, servers, found):
+        redis.ask("SET", KEY, "text")
+        nothing_is_told(scene, what, servers, found.known, 1)
+        scene.holds(f"{what}: servers that have ended", ended(servers), [])
+        for it in servers:
+            tells_why(scene, it, "WRONGTYPE")
+        redis.ask("DEL", KEY)
+        all_goes_on(scene, f"{what}, and is deleted", redis, servers, found)

@@ -5,6 +5,7 @@ import time
 
 from coap import CONFIRMABLE, NOT_FOUND, OBSERVE, Message, bytes_of, update
 from devices import Observed, answer_of, notices, observations, observe, token_of
+from entries import is_away
 from faults import AWAY, room
 from repeating import GATEWAY_TIMEOUT, LATER, LEAST_SPAN, MAX_RETRANSMIT, MOST_TIME, MOST_WAIT
 from scenes import SOON, is_answered, is_soon, measure
@@ -38,10 +39,6 @@ def told_of(server, token, count):
 def notices_of(server, token):
     found = (it["notice"] for it in notices(server, 0))
     return [(it["code"], it["ended"]) for it in found if it["token"] == token]
-
-
-def is_away(server, wait=SOON):
-    return is_soon(lambda: "log away\n" in server.errors(), wait)
 
 
 def due_while_away(scene):

@@ -46,10 +46,14 @@ class Fleet:
         for server in filter(None, self.servers):
             server.kill()
 
+    def address(self, _place):
+        """Where the server at a place has its Redis."""
+        return self.redis.address
+
     def starts(self, *places):
         """Starts the servers at these places, and gives what those have logged that do not serve."""
         for place in places:
-            words = ("--redis", self.redis.address, "--port", self.ports[place], *VISITS)
+            words = ("--redis", self.address(place), "--port", self.ports[place], *VISITS)
             self.servers[place] = self.scene.server(*words, before=ends_with_the_test)
         return [self.servers[place].errors()[-200:] for place in places if not self.servers[place].serves()]
 
@@ -59,9 +63,13 @@ class Fleet:
             self.servers[place].run.kill()
         for place in places:
             self.servers[place].kill()
-        self.redis.settles()
+        self.settles(places)
         for place in places:
             self.ends[place] += 1
+
+    def settles(self, _places):
+        """Waits until Redis has done whatever servers had asked it that were killed."""
+        self.redis.settles()
 
 
 class Roamer(threading.Thread):
@@ -187,3 +195,24 @@ class Traveller(Roamer):
             return reply
         self.faults.append((self.number, self.place, reply and reply.code, request.options[-1]))
         return None
+
+
+class Registrant(threading.Thread):
+    """A device that registers names of its own, at one server after another, until it is stopped."""
+
+    def __init__(self, number, servers):
+        super().__init__(daemon=True)
+        self.number, self.servers, self.stopped = number, servers, threading.Event()
+        # the identifiers that it was told, by their names
+        self.known = {}
+
+    def run(self):
+        with contextlib.ExitStack() as stack:
+            clients = [stack.enter_context(Client(it.port)) for it in self.servers]
+            for turn in itertools.count(self.number):
+                if self.stopped.wait(TURN / 2):
+                    return
+                name = f"registrant-{self.number}-{turn}"
+                reply = clients[turn % len(clients)].ask(coap.register(name), 1.0)
+                if reply not in (None, CLOSED) and reply.code == "2.01":
+                    self.known[name] = reply.located

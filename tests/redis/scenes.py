@@ -2,6 +2,7 @@
 
 import contextlib
 import json
+import os
 import pathlib
 import socket
 import tempfile
@@ -10,12 +11,16 @@ import time
 import tools
 from asking import Client, codes_of
 from coap import update
-from keeper import Redis, lasting_port
+from keeper import KEY, Redis, lasting_port
 from scene import NoServer, Scene
 from serving import ends_with_the_test
 from visiting import ask
 
 VISITS = ("--http", "127.0.0.1:0")
+# the word by which a server founds a fleet, and how many entries a stream has then: a start, and a delta
+FOUNDS, FOUNDED = ("--found",), 2
+if os.environ.get("FLEET_OLD"):
+    FOUNDS = ()
 # how long is waited for what is to come soon, in seconds: a server looks for a Redis each five seconds at least
 SOON = 20.0
 # how long it takes at most until a server knows what another one was told, on a busy machine
@@ -39,9 +44,24 @@ class RedisScene(Scene):
         super().__init__("redis", program, folder)
         self.tool = tools.tool(("redis-server",), "redis-server")
 
+    @contextlib.contextmanager
     def redis(self, **further):
-        """A Redis of its own, which is not started yet."""
+        """A Redis of its own, in which a fleet is founded. No server of it runs yet."""
+        with self.empty_redis(**further) as redis:
+            self.founds(redis)
+            yield redis
+
+    def empty_redis(self, **further):
+        """A Redis of its own, which is not started yet, and has nothing."""
         return Redis(self.tool, pathlib.Path(tempfile.mkdtemp(prefix="redis-", dir=self.folder)), **further)
+
+    def founds(self, redis, *words, key=KEY):
+        """A fleet is founded by a server that is told to, and ends once the stream tells of it."""
+        if not FOUNDS:
+            return
+        with self.sharing(redis.address, *FOUNDS, "--stream", key, *words) as server:
+            if not is_soon(lambda: redis.length(key) >= FOUNDED):
+                raise NoServer(f"no fleet was founded: {server.errors()[-200:]}")
 
     @staticmethod
     def closed_port():
@@ -98,6 +118,11 @@ class RedisScene(Scene):
         return found[0]
 
 
+def ended(servers):
+    """How those have ended that have."""
+    return [it.ends(0) for it in servers if it.run.poll() is not None]
+
+
 def settle(servers):
     """The first of these servers enters the stream, and the others have read that."""
     with Client(servers[0].port) as client:
@@ -121,17 +146,23 @@ def codes_told(port, found):
         return codes_of(client.ask_all([update(it) for it in found], at_once=25, wait=10))
 
 
-def shown(server):
-    """The identifiers that the server tells of over HTTP, by endpoint."""
+def listed(server):
+    """The registrations that the server tells of over HTTP, each as its members, by endpoint. None where it is away."""
     found, path = {}, "/v1/registrations?limit=256"
     while path:
         response = ask(server.visited, path)
         if response.status != "200 OK":
-            return {"status": response.status}
+            return None
         told_of = json.loads(response.body)
-        found.update((it["endpoint"], it["id"]) for it in told_of["registrations"])
+        found.update((it["endpoint"], it) for it in told_of["registrations"])
         path = f"/v1/registrations?limit=256&after={told_of['next']}" if told_of["next"] else None
     return found
+
+
+def shown(server):
+    """The identifiers that the server tells of over HTTP, by endpoint."""
+    found = listed(server)
+    return {"server": "away"} if found is None else {name: it["id"] for name, it in found.items()}
 
 
 def measure(server, name):
