@@ -10,7 +10,7 @@ from asking import Client, identifiers
 from coap import OBSERVE, deregister, register, update
 from devices import Observed, cancel, notices, observations, observe, token_of
 from scene import running
-from scenes import FOUNDS, SOON, ended, is_answered, is_soon
+from scenes import FOUND, SOON, ended, is_answered, is_soon
 from visiting import ask, refused
 
 AWAY = refused("503 Service Unavailable", "away")
@@ -89,7 +89,7 @@ def late(scene):
     redis = scene.empty_redis()
     with contextlib.ExitStack() as stack:
         stack.callback(redis.kill)
-        server = stack.enter_context(scene.sharer(redis.address, *FOUNDS))
+        server = stack.enter_context(scene.sharer(redis.address, FOUND))
         time.sleep(LEAST_AWAY)
         found = server.run.poll(), server.errors()
         scene.holds("a server that waits for its Redis, and what it says", found, (None, ""))

@@ -12,7 +12,7 @@ from faults import PATIENCE, is_mended, told
 from keeper import KEY
 from roaming import Registrant
 from scene import running
-from scenes import FOUNDS, SOON, SPREAD, ended, is_answered, is_soon, shown
+from scenes import FOUND, SOON, SPREAD, ended, is_answered, is_soon, shown
 
 # within which time each server notices that something is lost, where nobody asks it, in seconds
 NOTICED = 5.0
@@ -152,7 +152,7 @@ def begun_anew(scene):
         for it in servers:
             it.run.send_signal(signal.SIGSTOP)
         redis.ask("DEL", KEY)
-        with scene.sharing(redis.address, *FOUNDS) as stranger, Client(stranger.port) as client:
+        with scene.sharing(redis.address, FOUND) as stranger, Client(stranger.port) as client:
             for it in servers:
                 it.run.send_signal(signal.SIGCONT)
             scene.holds(f"{what}: a Register there", client.code_of(register("first")), "2.01")
@@ -182,7 +182,7 @@ def founded_meanwhile(scene):
         between.does = KEEPS
         redis.ask("DEL", KEY)
         scene.is_true(f"{what}: one is about to write", is_soon(lambda: between.held), server.errors()[-200:])
-        with scene.sharing(redis.address, *FOUNDS) as stranger, Client(stranger.port) as client:
+        with scene.sharing(redis.address, FOUND) as stranger, Client(stranger.port) as client:
             scene.holds(f"{what}: a Register at the other", client.code_of(register("first")), "2.01")
             between.does = PASSES
             is_told = is_soon(lambda: strange(stranger))

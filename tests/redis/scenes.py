@@ -2,7 +2,6 @@
 
 import contextlib
 import json
-import os
 import pathlib
 import socket
 import tempfile
@@ -18,9 +17,7 @@ from visiting import ask
 
 VISITS = ("--http", "127.0.0.1:0")
 # the word by which a server founds a fleet, and how many entries a stream has then: a start, and a delta
-FOUNDS, FOUNDED = ("--found",), 2
-if os.environ.get("FLEET_OLD"):
-    FOUNDS = ()
+FOUND, FOUNDED = "--found", 2
 # how long is waited for what is to come soon, in seconds: a server looks for a Redis each five seconds at least
 SOON = 20.0
 # how long it takes at most until a server knows what another one was told, on a busy machine
@@ -57,9 +54,7 @@ class RedisScene(Scene):
 
     def founds(self, redis, *words, key=KEY):
         """A fleet is founded by a server that is told to, and ends once the stream tells of it."""
-        if not FOUNDS:
-            return
-        with self.sharing(redis.address, *FOUNDS, "--stream", key, *words) as server:
+        with self.sharing(redis.address, FOUND, "--stream", key, *words) as server:
             if not is_soon(lambda: redis.length(key) >= FOUNDED):
                 raise NoServer(f"no fleet was founded: {server.errors()[-200:]}")
 
