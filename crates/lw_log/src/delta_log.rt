@@ -10,13 +10,13 @@ pub const PAGE: usize = 256;
 ///
 /// A call that answers `NoMemory` has asked nothing of the log.
 pub trait DeltaLog: Drop {
-    ghost use Rattle.std.specs.Prelude.{◌≡◌, Bool, false, Option, None, List, [], MatchResult};
+    ghost use Rattle.std.specs.Prelude.{◌≡◌, Bool, true, false, Option, None, List, [], MatchResult};
     ghost use Rattle.lw_log.specs.Calls.{LogCall, Calls, read_calls, append_calls, trim_calls};
 
     /// What was asked of it, in order, where that is known.
     ghost calls: { Self → Option (List LogCall) } = { λ _. None };
 
-    /// Whether no other process can append to it.
+    /// Whether such a log can be one to which no other process appends.
     ghost alone: { Bool } = { false };
 
     /// The first entries above the position, in order, 256 at most. Fewer than 256 are the end.
@@ -34,5 +34,5 @@ pub trait DeltaLog: Drop {
 
     /// Whether no other process can append to it. Then what was appended need not be read.
     fn is_alone(&self) -> bool
-        ensures { result ≡ alone };
+        ensures { result ≡ true → alone ≡ true };
 }

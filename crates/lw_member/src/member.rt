@@ -1,6 +1,6 @@
 //! A member.
 
-ghost use Rattle.std.specs.Prelude.{◌≡◌, ◌↔◌, IfErr, IfOk, IfSome, IsNone, IsTrue, OnOk, Err, false, option_map};
+ghost use Rattle.std.specs.Prelude.{◌≡◌, ◌↔◌, IfErr, IfOk, IfSome, IsNone, IsTrue, OnOk, Err, true, false, option_map};
 ghost use Rattle.lw_node.specs.Exchange.{known_by};
 ghost use Rattle.lw_member.specs.Beginning.{IsBegun};
 ghost use Rattle.lw_member.specs.Clocks.{IsPast2100};
@@ -59,7 +59,8 @@ impl<G: DeltaLog> Member<G> {
     ) -> Result<Member<G>, MemberFault>
         ensures begun { IfOk result (IsBegun (G.calls log) moment chance.now.tag chance.now.number) }
         ensures past { IsPast2100 moment → result ≡ Err IsAhead }
-        ensures alone { IfOk result (λ member. member.alone ≡ G.alone) }
+        // Only over a log of its own does it go on behind what it has written.
+        ensures alone { IfOk result (λ member. member.alone ≡ true → G.alone ≡ true) }
     {
         if is_past_2100(moment) {
             return Err(MemberFault::ClockAhead);

@@ -66,9 +66,9 @@ const DELTA: &str = "4c574531000102030405060708090a0b0c0d0e0f0001a1a2a3a4a5a6a7a
 const START_AGAIN: &str =
     "4c574531000102030405060708090a0b0c0d0e0f0001a1a2a3a4a5a6a7a8000000000000000200";
 
-/// The start entry of the second in the same fleet.
+/// The start entry of the second in the same fleet, over a log that has entries: sequence 2.
 const SECOND_START: &str =
-    "4c574531000102030405060708090a0b0c0d0e0f0002b1b2b3b4b5b6b7b8000000000000000100";
+    "4c574531000102030405060708090a0b0c0d0e0f0002b1b2b3b4b5b6b7b8000000000000000200";
 
 /// A Register of `a` with the object list `</>`, message ID 4.
 const REGISTER: &str = "40020004b272644465703d61ff3c2f3e";

@@ -67,6 +67,10 @@ pub(crate) fn add(entries: &Entries, entry: &[u8]) -> Result<Position, LogFault>
 }
 
 impl DeltaLog for Shared<'_> {
+    ghost use Rattle.std.specs.Prelude.{true};
+
+    ghost alone = { true };
+
     fn read(&mut self, after: Option<Position>) -> Result<Vec<(Position, Bytes)>, LogFault> {
         if let Some((fault, _)) = failing(&self.reading) {
             return Err(fault);

@@ -228,9 +228,9 @@ fn a_start_that_knows_nothing_gives_no_identifier_of_before(rt: HostRuntime) {
     ask_nowhere(&rt, rt.alloc(), 1_001, &AFTER);
 }
 
-/// The first delta of the second start, sequence 2: no slot, and a clock of 64,000.
+/// The first delta of the second start, sequence 3: no slot, and a clock of 64,000.
 const CLOCK_ALONE: &str =
-    "4c574531000102030405060708090a0b0c0d0e0f0002b1b2b3b4b5b6b7b8000000000000000201\
+    "4c574531000102030405060708090a0b0c0d0e0f0002b1b2b3b4b5b6b7b8000000000000000301\
 4c57443300000000fa0000";
 
 /// Without calls the clock stays below the floor. It is raised with the claim, and written also where nothing else is.

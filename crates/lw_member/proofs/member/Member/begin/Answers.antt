@@ -56,4 +56,4 @@ returns-clause-begun g c =
     }
 
 pub returns-clause-alone : goal.returns-clause-alone
-returns-clause-alone g c = c.catch_up.ensures.same.alone ∙ c.in_ok-standing.ensures.new.alone_is ∙ c.is_alone.ensures
+returns-clause-alone g c = λ h. c.is_alone.ensures (sym (c.catch_up.ensures.same.alone ∙ c.in_ok-standing.ensures.new.alone_is) ∙ h)
