@@ -284,7 +284,23 @@ const LOST: &[Step] = &[
     Does(SECOND, Answers(UPDATE_OF_SECOND, CHANGED)),
 ];
 
-static STORIES: [Story; 4] = [
+/// A reading finds that the log has lost something, and all has gone: all is written again.
+const FOUND_LOST: &[Step] = &[
+    Begins(FIRST_CHANCE),
+    Does(FIRST, Answers(REGISTER, CREATED)),
+    LogOf(FIRST, FailsReading((0, LogFault::Lost, false))),
+    Does(FIRST, Refuses(UPDATE, LOST_LOG)),
+    Shows(FIRST, Shown(false)),
+    Log(Loses),
+    Does(FIRST, Rests(None)),
+    Shows(FIRST, Shown(true)),
+    Log(HasCount(1)),
+    Log(Restores(START)),
+    Begins(SECOND_CHANCE),
+    Does(SECOND, Answers(UPDATE, CHANGED)),
+];
+
+static STORIES: [Story; 5] = [
     (
         "a failed round may be followed by another",
         BESIDE,
@@ -308,6 +324,12 @@ static STORIES: [Story; 4] = [
         BESIDE,
         &[],
         &[LOST],
+    ),
+    (
+        "a loss that a reading finds is mended",
+        BESIDE,
+        &[],
+        &[FOUND_LOST],
     ),
 ];
 

@@ -48,6 +48,15 @@ static REFUSED: &[Story] = &[
         ]],
     ),
     (
+        "what a second start has left",
+        BESIDE,
+        &[SECOND_START, DELTA],
+        &[&[
+            BeginsNot(SECOND_CHANCE, MemberFault::LogCut),
+            Log(Has(&[SECOND_START, DELTA])),
+        ]],
+    ),
+    (
         "what is no entry",
         BESIDE,
         &["00"],
