@@ -1,5 +1,5 @@
 -- Entries that are known again, and what a page tells of them (FIPS 180-4: SHA-256).
-use Rattle.std.specs.Prelude.{◌≡◌, ◌<◌, ◌⊎◌, ℕ, List, [], ◌∷◌, length, Option, Some, None, Any}
+use Rattle.std.specs.Prelude.{◌≡◌, ◌<◌, ◌⊎◌, ℕ, List, ◌∷◌, length, Option, Some, None, Any}
 use Rattle.sha2.specs.Sha256.{sha256}
 use Rattle.lw_resp.specs.StreamIds.{IsAbove}
 use Rattle.lw_resp.specs.declared.stream_id.StreamId.{StreamId}

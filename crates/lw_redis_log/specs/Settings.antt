@@ -1,5 +1,5 @@
 -- What a server tells of itself (Redis commands: INFO, sections memory, persistence and replication).
-use Rattle.std.specs.Prelude.{◌≡◌, ℕ, List, ◌++◌, ◌∷◌, [], codes}
+use Rattle.std.specs.Prelude.{◌≡◌, ℕ, List, ◌++◌, codes}
 use Rattle.lw_resp.specs.Bytes.{crlf}
 
 -- the part stands somewhere in the text

@@ -2,7 +2,7 @@
 
 ghost use Rattle.std.specs.Prelude.{◌≡◌, ◌++◌, IfOk, OnOk};
 ghost use Rattle.lw_resp.specs.Bytes.{command_bytes};
-ghost use Rattle.lw_redis_log.specs.Commands.{start_word, count_word, read_words, append_words, login_words, ping_words, info_words, IsTrim};
+ghost use Rattle.lw_redis_log.specs.Commands.{start_word, read_words, append_words, login_words, ping_words, info_words, IsTrim};
 
 use lw_resp::{FIELD, StreamId, command};
 use lw_stamp::NoMemory;

@@ -3,7 +3,7 @@
 ghost use Rattle.std.specs.Prelude.{◌≡◌, ◌↔◌, ◌≤◌, ◌+◌, ◌*◌, Any, IsTrue, IfSome, IfNone, List, ℕ};
 ghost use Rattle.lw_resp.specs.StreamIds.{IsAbove};
 ghost use Rattle.lw_log.specs.declared.position.Position.{Position as Positions};
-ghost use Rattle.lw_redis_log.specs.Marks.{mark_of, HasMark, IsAt, IsBehind, IsArrival};
+ghost use Rattle.lw_redis_log.specs.Marks.{mark_of, HasMark, IsBehind, IsArrival};
 ghost use Rattle.lw_redis_log.specs.Pages.{id_at};
 
 use crate::pages::id_of;

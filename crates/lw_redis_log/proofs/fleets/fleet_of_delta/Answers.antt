@@ -1,4 +1,4 @@
-use Rattle.std.proofs.Common.{◌≡◌, Err, ap, subst, option_map, Some, None}
+use Rattle.std.proofs.Common.{◌≡◌, Err, ap, subst, option_map}
 use Rattle.lw_log.specs.Entries.{EntryContent, content_of}
 use Rattle.lw_redis_log.specs.Fleets.{delta_fleet}
 use Rattle.lw_redis_log.proofs.fleets.fleet_of_delta.Goals as goal
