@@ -8,7 +8,7 @@ from coap import register
 from entries import is_away
 from faults import all_goes_on, nothing_is_told, told
 from keeper import KEY
-from scenes import SOON, ended, is_answered
+from scenes import SOON, ended, is_answered, measure
 
 PASSWORD, WRONG, GENERAL = "pass-0123456789-word", "wrong-9876543210-word", "general-4567890123-word"
 RIGHTS = ("+xadd", "+xrange", "+xtrim", "+ping", "+auth", "+info")
@@ -144,5 +144,7 @@ def other_types(scene):
         scene.holds(f"{what}: servers that have ended", ended(servers), [])
         for it in servers:
             tells_why(scene, it, "WRONGTYPE")
+        counts = [measure(it, "fleet_log_refused_total") for it in servers]
+        scene.is_true(f"{what}: turns that are counted as refused: {counts}", all(counts), "none at one")
         redis.ask("DEL", KEY)
         all_goes_on(scene, f"{what}, and is deleted", redis, servers, found)
