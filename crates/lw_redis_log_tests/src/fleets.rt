@@ -1,6 +1,8 @@
 use crate::stage::Act::{Append, Pass, Read};
 use crate::stage::Answer::{Opens, Says, SaysLarge};
 use crate::stage::{Act, Answer, Story, play, play_all};
+use lw_log::{EntryFault, FleetId};
+use lw_redis_log::fleet_of_delta;
 use std::alloc::{AllocError, Global};
 
 const PONG: Answer = Says("+PONG\r\n");
@@ -235,4 +237,33 @@ fn no_more_than_100_are_told_of_in_a_second(rt: HostRuntime) {
     let greeting = "connects\n*1~$4~PING~\n*1~$4~INFO~\n";
     let want = format!(in alloc; "{greeting}{first}1000 ms\n{then}").expect(&rt, "memory");
     play(&rt, alloc, (&answers, &acts, want.as_str()), None);
+}
+
+/// A start of the fleet `F`, the same with a byte more, and with the number 0; and bytes that are too few, or of another
+/// kind or format.
+static FLEETS: [(&[u8], Result<Option<FleetId>, EntryFault>); 7] = [
+    (DELTA.as_bytes(), Ok(Some(FleetId { bytes: [b'F'; 16] }))),
+    (b"LWE1FFFFFFFFFFFFFFFF01ttttttttssssssss\x00", Ok(None)),
+    (
+        b"LWE1FFFFFFFFFFFFFFFF01ttttttttssssssss\x00\x00",
+        Err(EntryFault::Trailing),
+    ),
+    (
+        b"LWE1FFFFFFFFFFFFFFFF\x00\x00ttttttttssssssss\x00",
+        Err(EntryFault::Range),
+    ),
+    (b"LWE1FFFFFFFFFFFFFFFF01", Err(EntryFault::Truncated)),
+    (
+        b"LWE2FFFFFFFFFFFFFFFF01ttttttttssssssss\x00",
+        Err(EntryFault::Newer),
+    ),
+    (b"entry", Err(EntryFault::Magic)),
+];
+
+/// Tries: lw_redis_log::fleet_of_delta
+#[test]
+fn a_delta_tells_its_fleet(rt: HostRuntime) {
+    for (bytes, want) in &FLEETS {
+        assert!(rt; fleet_of_delta(bytes) == *want);
+    }
 }
