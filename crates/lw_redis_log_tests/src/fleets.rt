@@ -242,7 +242,10 @@ fn no_more_than_100_are_told_of_in_a_second(rt: HostRuntime) {
 /// A start of the fleet `F`, the same with a byte more, and with the number 0; and bytes that are too few, or of another
 /// kind or format.
 static FLEETS: [(&[u8], Result<Option<FleetId>, EntryFault>); 7] = [
-    (DELTA.as_bytes(), Ok(Some(FleetId { bytes: [b'F'; 16] }))),
+    (
+        b"LWE1FFFFFFFFFFFFFFFF01ttttttttssssssss\x01LWD3\x00\x00\x00\x00\x00\x01\x00",
+        Ok(Some(FleetId { bytes: [b'F'; 16] })),
+    ),
     (b"LWE1FFFFFFFFFFFFFFFF01ttttttttssssssss\x00", Ok(None)),
     (
         b"LWE1FFFFFFFFFFFFFFFF01ttttttttssssssss\x00\x00",
