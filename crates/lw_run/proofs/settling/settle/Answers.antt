@@ -3,6 +3,7 @@ use Rattle.lw_call.specs.declared.call.Call.TheVariants.{Sweep}
 use Rattle.lw_metrics.specs.Counting.{counted}
 use Rattle.lw_run.specs.Turns.{sweeps_a_turn}
 use Rattle.lw_run.proofs.Turns.{settles_by}
+use Rattle.lw_run.proofs.Turns.{writes_none}
 use Rattle.lw_run.proofs.settling.settle.Goals as goal
 
 pub returns-clause-settled : goal.returns-clause-settled
@@ -12,3 +13,12 @@ returns-clause-settled g c =
     let counts = c.count.ensures ∙ (λ k. counted c.args.tally.now ((c.deref-2.ensures.value ∙ sym c.deref.ensures.value) k) (c.deref-3.ensures.value k)) in
     settles_by _ _ _ _ _ _ _ _ _ _ _ _ calls c.deref.ensures.value c.in_ok-replies.ensures.round counts c.in_ok-reserve.ensures.items
     c.put_handled.ensures.handled.1.0 c.put_handled.ensures.handled.1.1
+
+pub returns-in_err-put_sweeps_where-clause-own : goal.returns-in_err-put_sweeps_where-clause-own
+returns-in_err-put_sweeps_where-clause-own g c = writes_none _
+
+pub returns-in_err-reserve-clause-own : goal.returns-in_err-reserve-clause-own
+returns-in_err-reserve-clause-own g c = writes_none _
+
+pub returns-in_err-reserve-2-clause-own : goal.returns-in_err-reserve-2-clause-own
+returns-in_err-reserve-2-clause-own g c = writes_none _

@@ -2,6 +2,7 @@ use Rattle.std.proofs.Common.{ap}
 use Rattle.lw_reg.specs.Registration.{Registration}
 use Rattle.lw_run.specs.Server.{ServerContent}
 use Rattle.lw_run.proofs.Reached.{if_err, if_ok, may_have_observed, observed_shown}
+use Rattle.lw_run.proofs.Turns.{writes_none}
 use Rattle.lw_run.proofs.server.Server.observe.Goals as goal
 
 pub returns-clause-observed : goal.returns-clause-observed
@@ -17,3 +18,9 @@ returns-clause-failed g c =
     c.in-Some-by_endpoint.shown _ _ (ap (λ (server : ServerContent). server.latest) c.self.view_is)
     c.in-Some.ensures.node c.as_str.ensures c.in-Some-by_endpoint.ensures.read
     (ap (λ (r : Registration). r.id) c.shown.view_is) c.token_on-before.ensures) c.observe_shown.ensures.failed
+
+pub returns-in_default-clause-own : goal.returns-in_default-clause-own
+returns-in_default-clause-own g c = writes_none _
+
+pub returns-in_default-by_endpoint-clause-own : goal.returns-in_default-by_endpoint-clause-own
+returns-in_default-by_endpoint-clause-own g c = writes_none _

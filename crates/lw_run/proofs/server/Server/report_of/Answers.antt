@@ -3,6 +3,7 @@ use Rattle.lw_run.specs.Devices.{Check}
 use Rattle.lw_run.specs.Server.{ServerContent}
 use Rattle.lw_run.proofs.Reached.{if_ok}
 use Rattle.lw_run.proofs.Steps.{kept_first, left_behind, report_behind}
+use Rattle.lw_run.proofs.Turns.{writes_none}
 use Rattle.lw_run.proofs.server.Server.report_of.Goals as goal
 
 pub returns-then-is_ok-clause-report : goal.returns-then-is_ok-clause-report
@@ -11,3 +12,6 @@ returns-then-is_ok-clause-report g c =
     (left_behind _ _ _ _ _ c.self.view_is c.in_ok-leave.ensures.left refl)
     (c.tasks_left-count.ensures ∙ ap (λ (server : ServerContent). length server.devices.tasks) c.self.view_is)
     (kept_first _ _ _ _ c.self-2.view_is c.keep_first.ensures refl)) c.take_report-taken.ensures.report
+
+pub returns-in_err-leave-clause-own : goal.returns-in_err-leave-clause-own
+returns-in_err-leave-clause-own g c = writes_none _

@@ -1,3 +1,4 @@
+use Rattle.lw_run.proofs.Turns.{writes_none}
 use Rattle.lw_run.proofs.server.Server.undo.Goals as goal
 
 pub returns-clause-done : goal.returns-clause-done
@@ -11,3 +12,6 @@ returns-clause-done g c = (
   },
   c.drop_first.ensures,
 )
+
+pub returns-in_err-there-clause-own : goal.returns-in_err-there-clause-own
+returns-in_err-there-clause-own g c = writes_none _

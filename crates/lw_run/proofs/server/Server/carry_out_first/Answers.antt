@@ -1,0 +1,11 @@
+use Rattle.lw_run.proofs.Turns.{writes_none}
+use Rattle.lw_run.proofs.server.Server.carry_out_first.Goals as goal
+
+pub returns-in-End-clause-own : goal.returns-in-End-clause-own
+returns-in-End-clause-own g c = writes_none _
+
+pub returns-in-Check-clause-own : goal.returns-in-Check-clause-own
+returns-in-Check-clause-own g c = writes_none _
+
+pub returns-in-Cut-clause-own : goal.returns-in-Cut-clause-own
+returns-in-Cut-clause-own g c = writes_none _
