@@ -50,6 +50,9 @@ writes_none member = record {
   read_on = inr refl;
 }
 
+pub writes_same : (old new : MemberContent) → new ≡ old → WritesOwn old new
+writes_same old new same = subst (λ (member : MemberContent). WritesOwn old member) (sym same) (writes_none old)
+
 -- what is sent stands behind what is sent again
 pub all_sent : (all reserved begun again behind : List (Addr × List ℕ)) → all ≡ reserved ++ behind → reserved ≡ begun ++ again → begun ≡ []
     → all ≡ again ++ behind

@@ -3,7 +3,7 @@ use Rattle.lw_run.specs.Devices.{Check}
 use Rattle.lw_run.specs.Server.{ServerContent}
 use Rattle.lw_run.proofs.Reached.{if_ok}
 use Rattle.lw_run.proofs.Steps.{kept_first, left_behind, report_behind}
-use Rattle.lw_run.proofs.Turns.{writes_none}
+use Rattle.lw_run.proofs.Turns.{writes_same}
 use Rattle.lw_run.proofs.server.Server.report_of.Goals as goal
 
 pub returns-then-is_ok-clause-report : goal.returns-then-is_ok-clause-report
@@ -14,4 +14,4 @@ returns-then-is_ok-clause-report g c =
     (kept_first _ _ _ _ c.self-2.view_is c.keep_first.ensures refl)) c.take_report-taken.ensures.report
 
 pub returns-in_err-leave-clause-own : goal.returns-in_err-leave-clause-own
-returns-in_err-leave-clause-own g c = writes_none _
+returns-in_err-leave-clause-own g c = writes_same _ _ (ap (λ (server : ServerContent). server.member) c.self.view_is)

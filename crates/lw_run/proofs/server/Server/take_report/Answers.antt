@@ -1,6 +1,7 @@
-use Rattle.std.proofs.Common.{refl}
+use Rattle.lw_run.specs.Server.{ServerContent}
+use Rattle.std.proofs.Common.{refl, ap}
 use Rattle.lw_run.proofs.Steps.{is_report}
-use Rattle.lw_run.proofs.Turns.{writes_none}
+use Rattle.lw_run.proofs.Turns.{writes_same}
 use Rattle.lw_run.proofs.server.Server.take_report.Goals as goal
 
 pub returns-clause-report : goal.returns-clause-report
@@ -9,4 +10,4 @@ returns-clause-report g c =
     c.in_ok-reply-2.ensures c.reply.view_is c.reserve.ensures.same c.tell_one.ensures refl refl
 
 pub returns-in_err-reserve-clause-own : goal.returns-in_err-reserve-clause-own
-returns-in_err-reserve-clause-own g c = writes_none _
+returns-in_err-reserve-clause-own g c = writes_same _ _ (ap (λ (server : ServerContent). server.member) c.self.view_is)
