@@ -53,6 +53,10 @@ impl SharedLog<'_> {
 }
 
 impl DeltaLog for SharedLog<'_> {
+    ghost use Rattle.std.specs.Prelude.{true};
+
+    ghost alone = { true };
+
     fn read(&mut self, after: Option<Position>) -> Result<Vec<(Position, Bytes)>, LogFault> {
         if let Some(fault) = self.fault() {
             return Err(fault);
