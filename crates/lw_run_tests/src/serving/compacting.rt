@@ -197,7 +197,7 @@ static FAULTS: [Run; 4] = [
             ..STAGE
         },
         want: &[
-            Piece::Line("Ok(()) WrrrWx"),
+            Piece::Line("Ok(()) WrrrrrrrrrWrWx"),
             Piece::Sent(1, PONG),
             LOST,
             AWAY,
@@ -294,7 +294,7 @@ const IS_LOST: Option<Trouble> = Some(Trouble {
     times: 1,
 });
 
-/// A log that has lost entries is written anew, however short it is, by a server that has written into it.
+/// A log that has lost entries is read and written anew, however short it is.
 static LOSSES: [Run; 4] = [
     Run {
         name: "a log that has lost entries is compacted",
@@ -304,7 +304,7 @@ static LOSSES: [Run; 4] = [
             ..STAGE
         },
         want: &[
-            Piece::Line("Ok(()) WrrrWx"),
+            Piece::Line("Ok(()) WrrWrWx"),
             Piece::Sent(1, PONG),
             LOST,
             AWAY,
@@ -321,7 +321,7 @@ static LOSSES: [Run; 4] = [
             ..STAGE
         },
         want: &[
-            Piece::Line("Ok(()) Wrr"),
+            Piece::Line("Ok(()) WrrW"),
             Piece::Sent(1, PONG),
             LOST,
             AWAY,
@@ -329,7 +329,7 @@ static LOSSES: [Run; 4] = [
         ],
     },
     Run {
-        name: "a server that has written nothing has nothing that is lost",
+        name: "a server that has written nothing writes what it knows",
         stage: Stage {
             comings: &[Coming::Nothing, Coming::Nothing],
             trouble: Some(Trouble {
@@ -339,7 +339,7 @@ static LOSSES: [Run; 4] = [
             }),
             ..STAGE
         },
-        want: &[Piece::Line("Ok(()) r"), LOST, AWAY, BACK],
+        want: &[Piece::Line("Ok(()) WrWrWx"), LOST, AWAY, BACK, COMPACTED],
     },
     Run {
         name: "a run may leave its log as it grows",
