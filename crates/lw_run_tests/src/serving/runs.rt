@@ -113,7 +113,7 @@ static TROUBLES: [Run; 8] = [
             ..STAGE
         },
         want: &[
-            Piece::Line("Ok(()) WrrrWxrrr"),
+            Piece::Line("Ok(()) WrrWrWxrrr"),
             Piece::Sent(1, PONG),
             Piece::Sent(4, PONG),
             Piece::Sent(5, PONG),
