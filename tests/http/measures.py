@@ -100,6 +100,7 @@ MEASURED = {
     "fleet_log_compactions_total": 0,
     "fleet_log_away_seconds_total": 0,
     "fleet_log_refused_total": 0,
+    "fleet_clock_offset_seconds": 0,
     "fleet_receive_faults_total": 0,
     "fleet_send_faults_total": 0,
     "fleet_dropped_total": 0,

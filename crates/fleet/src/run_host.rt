@@ -1,15 +1,18 @@
 //! A server over a real socket and a real log.
 
 use crate::host::Host;
-use crate::shared::{SharedLog, begin_shared};
+use crate::shared::{Shared, SharedLog};
 use crate::visitors::{Visited, Visitors};
 use log::sink::Console;
 use log::{LevelFilter, Log, Logged, info};
-use lw_fleet::{Keeps, LogLevel, RedisOptions, RunOptions, RunningFault, Runs};
+use lw_fleet::{Keeps, LogLevel, RunOptions, RunningFault, Runs};
 use lw_front::{Sockets, SystemStopwatch};
 use lw_log::{DeltaLog, FleetId, Nowhere};
 use lw_member::{Chance, Member};
-use lw_run::{Compaction, HostClock, HostClocks, Metered, Moment, RunFault, Server, Timed, run_on};
+use lw_redis_log::RedisClock;
+use lw_run::{
+    Clocks, Compaction, HostClock, HostClocks, Metered, Moment, RunFault, Server, Timed, run_on,
+};
 use lw_sqlite_log::{OpenFault, SqliteLog};
 use lw_wire::SystemClock;
 use std::net::{IpAddr, SocketAddr};
@@ -26,6 +29,10 @@ const WAIT_FOR_OTHERS: u64 = 100;
 /// How many random bytes a start draws: a fleet, a tag and a number.
 const CHANCE: usize = 26;
 
+/// The clocks of the host.
+pub(crate) type OwnClocks<'a> =
+    HostClocks<SystemClock<'a, HostRuntime>, SystemStopwatch<'a, HostRuntime>>;
+
 impl Runs for Host<'_, HostRuntime> {
     fn run<R: Wait>(&mut self, _rt: &R, options: &RunOptions<'_>) -> Result<(), RunningFault> {
         let host = self.host;
@@ -36,19 +43,29 @@ impl Runs for Host<'_, HostRuntime> {
         };
         match &options.keeps {
             Keeps::Nothing => {
-                let member = begin(host, Nowhere::new(host.alloc()))?;
+                let now = moment(host)?;
+                let member = begin(host, Nowhere::new(host.alloc()), now)?;
                 let mut place = Place::open(host, &log, options, visitors)?;
-                place.serve(member, "nothing", options)
+                place.serve(member, host_clocks(host, now)?, now, "nothing", options)
             }
             Keeps::Folder(folder) => {
-                let member = begin(host, SqliteLog::open(host, folder).map_err(fault_of_open)?)?;
+                let kept = SqliteLog::open(host, folder).map_err(fault_of_open)?;
+                let now = moment(host)?;
+                let member = begin(host, kept, now)?;
                 let mut place = Place::open(host, &log, options, visitors)?;
-                place.serve(member, "data", options)
+                place.serve(member, host_clocks(host, now)?, now, "data", options)
             }
             Keeps::Redis(redis) => {
-                let member = begin_shared(host, &log, redis, redis.found)?;
+                let clock = RedisClock::new(host);
+                let shared = Shared {
+                    host,
+                    log: &log,
+                    options: redis,
+                    clock: &clock,
+                };
+                let member = shared.begin(redis.found)?;
                 let mut place = Place::open(host, &log, options, visitors)?;
-                serve_shared(&mut place, member, redis, options).map_err(fault_of_redis)
+                serve_shared(&mut place, member, &shared, options).map_err(fault_of_redis)
             }
         }
     }
@@ -59,15 +76,17 @@ impl Runs for Host<'_, HostRuntime> {
 fn serve_shared<'a, 'n, L: Log>(
     place: &mut Place<'a, L>,
     first: Member<SharedLog<'a, 'n, L>>,
-    redis: &RedisOptions<'n>,
+    shared: &Shared<'a, 'n, L>,
     options: &RunOptions<'_>,
 ) -> Result<(), RunningFault> {
     let mut member = first;
     for _start in 0..u64::MAX {
-        match place.serve(member, "redis", options) {
+        let now = shared.moment()?;
+        let clocks = shared.clocks(now)?;
+        match place.serve(member, clocks, now, "redis", options) {
             Err(RunningFault::NumberTaken) => {
                 info!(place.log; "number taken, another is drawn");
-                member = begin_shared(place.host, place.log, redis, false)?;
+                member = shared.begin(false)?;
             }
             ended => return ended,
         }
@@ -79,9 +98,9 @@ fn serve_shared<'a, 'n, L: Log>(
 fn begin<'a, G: DeltaLog>(
     host: &'a HostRuntime,
     kept: G,
+    now: Moment,
 ) -> Result<Member<Timed<G, SystemStopwatch<'a, HostRuntime>>>, RunningFault> {
     let timed = Timed::new(kept, stopwatch(host)?);
-    let now = moment(host)?;
     match Member::begin(host.alloc(), timed, &draw(host)?, now) {
         Ok(member) => Ok(member),
         Err(fault) => Err(fault_of_run(RunFault::from(fault))),
@@ -118,10 +137,12 @@ impl<'a, L: Log> Place<'a, L> {
         })
     }
 
-    /// Serves devices and visitors.
-    fn serve<G: DeltaLog + Metered>(
+    /// Serves devices and visitors, from the moment on that is now.
+    fn serve<G: DeltaLog + Metered, C: Clocks>(
         &mut self,
         member: Member<G>,
+        clocks: C,
+        now: Moment,
         keeps: &str,
         options: &RunOptions<'_>,
     ) -> Result<(), RunningFault> {
@@ -133,8 +154,6 @@ impl<'a, L: Log> Place<'a, L> {
         if let Some(visited) = &self.visited {
             info!(self.log; "http address={}", visited.address);
         }
-        let now = moment(host)?;
-        let clocks = HostClocks::new(SystemClock { clock: host }, stopwatch(host)?, now);
         let (skew, page) = (skew_of(&options.keeps), self.page()?);
         let server = Server::new(host.alloc(), member, clocks, skew, now, page);
         let (wait, compaction) = (wait_of(&options.keeps), compaction_of(&options.keeps));
@@ -153,7 +172,16 @@ impl<'a, L: Log> Place<'a, L> {
     }
 }
 
-/// The moment that it is.
+/// The clocks of the host, of which one begins at the moment.
+pub(crate) fn host_clocks(
+    host: &HostRuntime,
+    start: Moment,
+) -> Result<OwnClocks<'_>, RunningFault> {
+    let clock = SystemClock { clock: host };
+    Ok(HostClocks::new(clock, stopwatch(host)?, start))
+}
+
+/// The moment that it is, by the host's clock.
 pub(crate) fn moment(host: &HostRuntime) -> Result<Moment, RunningFault> {
     let mut clock = SystemClock { clock: host };
     match clock.now() {

@@ -1,14 +1,14 @@
 //! A server that shares its fleet with others, over a stream of Redis.
 
 use crate::file_front::read_front;
-use crate::run_host::{draw, fault_of_run, moment, stopwatch};
+use crate::run_host::{OwnClocks, draw, fault_of_run, host_clocks, moment, stopwatch};
 use log::{Log, info};
 use lw_fleet::{RedisOptions, RunningFault};
 use lw_front::SystemStopwatch;
 use lw_log::{DeltaLog, FleetId, LogFault};
 use lw_member::{Call, Chance, Member, MemberFault};
-use lw_redis_log::{Login, LoginFault, RedisLog, TcpRedis};
-use lw_run::{RunFault, Stopwatch, Timed};
+use lw_redis_log::{Login, LoginFault, RedisClock, RedisLog, TcpRedis};
+use lw_run::{FleetClock, Moment, RunFault, SharedClocks, Stopwatch, Timed};
 use std::thread;
 use std::time::Duration;
 
@@ -27,33 +27,147 @@ pub(crate) type SharedLog<'a, 'n, L> = Timed<
     SystemStopwatch<'a, HostRuntime>,
 >;
 
-/// A member of the fleet that the stream has, or that it founds where that is asked for. Where Redis is away, or the
-/// stream has no fleet yet, it is asked again, for ten seconds.
-pub(crate) fn begin_shared<'a, 'n, L: Log>(
-    host: &'a HostRuntime,
-    log: &'a L,
-    options: &RedisOptions<'n>,
-    founds: bool,
-) -> Result<Member<SharedLog<'a, 'n, L>>, RunningFault> {
-    let waited = stopwatch(host)?;
-    // One for all attempts: what one has founded, though it was not told so, the next knows as its own.
-    let own = draw(host)?.fleet;
-    let mut told = false;
-    for _attempt in 0..u64::MAX {
-        let fault = match attempt(host, log, options, founds, own)? {
-            Ok(member) => return Ok(member),
-            Err(fault) => fault,
-        };
-        if fault == RunningFault::NoFleet && !told {
-            info!(log; "no fleet in the stream yet: its first server begins with --found");
-            told = true;
-        }
-        if is_over(&waited) {
-            return Err(fault);
-        }
-        thread::sleep(host, Duration::from_millis(PAUSE));
+/// The clock of the fleet, as Redis tells it.
+#[derive(Drop)]
+pub(crate) struct RedisMoments<'a> {
+    clock: &'a RedisClock<'a, HostRuntime>,
+}
+
+impl FleetClock for RedisMoments<'_> {
+    fn moment(&self) -> Option<Moment> {
+        Moment::new(self.clock.milliseconds()?)
     }
-    Err(RunningFault::RedisAway)
+}
+
+/// Where the servers of a fleet meet: a stream of a Redis, whose clock they go by.
+#[derive(Drop)]
+pub(crate) struct Shared<'a, 'n, L: Log> {
+    pub(crate) host: &'a HostRuntime,
+    pub(crate) log: &'a L,
+    pub(crate) options: &'a RedisOptions<'n>,
+    pub(crate) clock: &'a RedisClock<'a, HostRuntime>,
+}
+
+impl<'a, 'n, L: Log> Shared<'a, 'n, L> {
+    /// The moment that it is: by the host's clock where Redis has told none.
+    pub(crate) fn moment(&self) -> Result<Moment, RunningFault> {
+        match (RedisMoments { clock: self.clock }).moment() {
+            Some(moment) => Ok(moment),
+            None => moment(self.host),
+        }
+    }
+
+    /// The clocks of a server that is started at the moment.
+    pub(crate) fn clocks(
+        &self,
+        start: Moment,
+    ) -> Result<SharedClocks<OwnClocks<'a>, RedisMoments<'a>>, RunningFault> {
+        let fleet = RedisMoments { clock: self.clock };
+        Ok(SharedClocks::new(host_clocks(self.host, start)?, fleet))
+    }
+
+    /// A member of the fleet that the stream has, or that it founds where that is asked for. Where Redis is away, or the
+    /// stream has no fleet yet, it is asked again, for ten seconds.
+    pub(crate) fn begin(
+        &self,
+        founds: bool,
+    ) -> Result<Member<SharedLog<'a, 'n, L>>, RunningFault> {
+        let waited = stopwatch(self.host)?;
+        // One for all attempts: what one has founded, though it was not told so, the next knows as its own.
+        let own = draw(self.host)?.fleet;
+        let mut told = false;
+        for _attempt in 0..u64::MAX {
+            let fault = match self.attempt(founds, own)? {
+                Ok(member) => return Ok(member),
+                Err(fault) => fault,
+            };
+            if fault == RunningFault::NoFleet && !told {
+                info!(self.log; "no fleet in the stream yet: its first server begins with --found");
+                told = true;
+            }
+            if is_over(&waited) {
+                return Err(fault);
+            }
+            thread::sleep(self.host, Duration::from_millis(PAUSE));
+        }
+        Err(RunningFault::RedisAway)
+    }
+
+    /// A member of the fleet that the stream has. Where it has none, and that is asked for, it founds its own. Else it is
+    /// what the start ends by where the time is over.
+    fn attempt(
+        &self,
+        founds: bool,
+        own: FleetId,
+    ) -> Result<Result<Member<SharedLog<'a, 'n, L>>, RunningFault>, RunningFault> {
+        let mut member = match self.try_begin(own)? {
+            Ok(member) => member,
+            Err(fault) => return Ok(Err(passing(fault)?)),
+        };
+        match member.fleet() {
+            None if founds => {}
+            None => return Ok(Err(RunningFault::NoFleet)),
+            Some(fleet) if founds && fleet != own => return Err(RunningFault::FleetExists),
+            Some(_) => return Ok(Ok(member)),
+        }
+        match self.found(&mut member)? {
+            Ok(()) => {
+                info!(self.log; "fleet founded");
+                Ok(Ok(member))
+            }
+            // Another was faster.
+            Err(MemberFault::NumberTaken | MemberFault::AnotherFleet) => {
+                Err(RunningFault::FleetExists)
+            }
+            Err(fault) => Ok(Err(passing(fault)?)),
+        }
+    }
+
+    /// Founds the fleet: a round that changes nothing has the member write into the stream, whose first entry tells the
+    /// fleet.
+    fn found<G: DeltaLog>(
+        &self,
+        member: &mut Member<G>,
+    ) -> Result<Result<(), MemberFault>, RunningFault> {
+        let now = self.moment()?;
+        match member.round(&[Call::Sweep { now }]) {
+            Ok(_) => Ok(Ok(())),
+            Err(fault) => Ok(Err(fault)),
+        }
+    }
+
+    /// A member over the stream, which is read to its end. Redis is asked for the moment before.
+    fn try_begin(
+        &self,
+        own: FleetId,
+    ) -> Result<Result<Member<SharedLog<'a, 'n, L>>, MemberFault>, RunningFault> {
+        let host = self.host;
+        let login = match self.options.login_file {
+            None => None,
+            Some(path) => Some(login_of_file(host, path)?),
+        };
+        let redis = TcpRedis::new(
+            host,
+            self.log,
+            self.options.host,
+            self.options.port,
+            self.clock,
+        );
+        let stream = self.options.stream.as_bytes();
+        let Ok(mut kept) = RedisLog::new(host.alloc(), redis, login, stream) else {
+            return Err(RunningFault::NoMemory);
+        };
+        if let Err(fault) = kept.connect() {
+            return Ok(Err(MemberFault::Log(fault)));
+        }
+        let timed = Timed::new(kept, stopwatch(host)?);
+        let now = self.moment()?;
+        let chance = Chance {
+            fleet: own,
+            ..draw(host)?
+        };
+        Ok(Member::begin(host.alloc(), timed, &chance, now))
+    }
 }
 
 /// Whether a start has waited as long as it does.
@@ -64,49 +178,6 @@ fn is_over<S: Stopwatch>(waited: &S) -> bool {
     }
 }
 
-/// A member of the fleet that the stream has. Where it has none, and that is asked for, it founds its own. Else it is
-/// what the start ends by where the time is over.
-fn attempt<'a, 'n, L: Log>(
-    host: &'a HostRuntime,
-    log: &'a L,
-    options: &RedisOptions<'n>,
-    founds: bool,
-    own: FleetId,
-) -> Result<Result<Member<SharedLog<'a, 'n, L>>, RunningFault>, RunningFault> {
-    let mut member = match try_begin(host, log, options, own)? {
-        Ok(member) => member,
-        Err(fault) => return Ok(Err(passing(fault)?)),
-    };
-    match member.fleet() {
-        None if founds => {}
-        None => return Ok(Err(RunningFault::NoFleet)),
-        Some(fleet) if founds && fleet != own => return Err(RunningFault::FleetExists),
-        Some(_) => return Ok(Ok(member)),
-    }
-    match found(host, &mut member)? {
-        Ok(()) => {
-            info!(log; "fleet founded");
-            Ok(Ok(member))
-        }
-        // Another was faster.
-        Err(MemberFault::NumberTaken | MemberFault::AnotherFleet) => Err(RunningFault::FleetExists),
-        Err(fault) => Ok(Err(passing(fault)?)),
-    }
-}
-
-/// Founds the fleet: a round that changes nothing has the member write into the stream, whose first entry tells the
-/// fleet.
-fn found<G: DeltaLog>(
-    host: &HostRuntime,
-    member: &mut Member<G>,
-) -> Result<Result<(), MemberFault>, RunningFault> {
-    let now = moment(host)?;
-    match member.round(&[Call::Sweep { now }]) {
-        Ok(_) => Ok(Ok(())),
-        Err(fault) => Ok(Err(fault)),
-    }
-}
-
 /// What a start ends by where the fault of its member does not pass in time. One that does not pass ends it now.
 fn passing(fault: MemberFault) -> Result<RunningFault, RunningFault> {
     match fault {
@@ -114,29 +185,6 @@ fn passing(fault: MemberFault) -> Result<RunningFault, RunningFault> {
         MemberFault::Log(LogFault::Refused) => Err(RunningFault::RedisRefused),
         fault => Err(fault_of_run(RunFault::from(fault))),
     }
-}
-
-fn try_begin<'a, 'n, L: Log>(
-    host: &'a HostRuntime,
-    log: &'a L,
-    options: &RedisOptions<'n>,
-    own: FleetId,
-) -> Result<Result<Member<SharedLog<'a, 'n, L>>, MemberFault>, RunningFault> {
-    let login = match options.login_file {
-        None => None,
-        Some(path) => Some(login_of_file(host, path)?),
-    };
-    let redis = TcpRedis::new(host, log, options.host, options.port);
-    let Ok(kept) = RedisLog::new(host.alloc(), redis, login, options.stream.as_bytes()) else {
-        return Err(RunningFault::NoMemory);
-    };
-    let timed = Timed::new(kept, stopwatch(host)?);
-    let now = moment(host)?;
-    let chance = Chance {
-        fleet: own,
-        ..draw(host)?
-    };
-    Ok(Member::begin(host.alloc(), timed, &chance, now))
 }
 
 /// The user and the password in the file.

@@ -64,6 +64,7 @@ new_edge = record {
   compactions = 0;
   away = 0;
   refusals = 0;
+  clock_offset = 0;
   receive_faults = 0;
   send_faults = 0;
   dropped = 0;

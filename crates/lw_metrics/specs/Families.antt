@@ -9,7 +9,7 @@ use Rattle.lw_metrics.specs.declared.edge.Edge.{Edge}
 use Rattle.lw_metrics.specs.declared.measures.Measures.{Measures}
 use Rattle.lw_metrics.specs.declared.measures.NodeMeasures.{NodeMeasures}
 use Rattle.lw_metrics.specs.declared.metric.Metric.{Metric}
-use Rattle.lw_metrics.specs.declared.metric.Metric.TheVariants.{BuildInfo, StartTime, Registrations, StampClock, Change, Number, Rounds, Datagrams, Replies, EmptyReplies, Unanswered, Notifications, Swept, NoMemory, RequestsSent, RequestsSentAgain, RequestsReset, RequestsUnanswered, RequestsWaiting, NotificationsStale, NotificationBlocks, Fetches, Unnumbered, PassedOver, LogAway, AppendSeconds, EntriesWritten, EntriesRead, LogBytes, WholeBytes, Compactions, AwaySeconds, Refusals, ReceiveFaults, SendFaults, Dropped, SocketDrops, Duplicates, Blocks, Bodies, Responses}
+use Rattle.lw_metrics.specs.declared.metric.Metric.TheVariants.{BuildInfo, StartTime, Registrations, StampClock, Change, Number, Rounds, Datagrams, Replies, EmptyReplies, Unanswered, Notifications, Swept, NoMemory, RequestsSent, RequestsSentAgain, RequestsReset, RequestsUnanswered, RequestsWaiting, NotificationsStale, NotificationBlocks, Fetches, Unnumbered, PassedOver, LogAway, AppendSeconds, EntriesWritten, EntriesRead, LogBytes, WholeBytes, Compactions, AwaySeconds, Refusals, ClockOffset, ReceiveFaults, SendFaults, Dropped, SocketDrops, Duplicates, Blocks, Bodies, Responses}
 use Rattle.lw_metrics.specs.declared.requests.RequestMeasures.{RequestMeasures}
 use Rattle.lw_metrics.specs.declared.responses.Responses.{Responses as ResponseCounts}
 use Rattle.lw_metrics.specs.declared.tally.Tally.{Tally}
@@ -167,7 +167,7 @@ use_families log =
     ∷ of_number EntriesRead log.entries_read
     ∷ []
 
--- what stands in it, whether it was there, and how often it refused
+-- what stands in it, whether it was there, how often it refused, and how far the host's clock is from its
 abbrev pub log_families : Measures → List Family
 log_families measures =
     of_number LogBytes measures.log_bytes
@@ -175,6 +175,7 @@ log_families measures =
     ∷ of_number Compactions measures.edge.compactions
     ∷ of_seconds AwaySeconds measures.edge.away
     ∷ of_number Refusals measures.edge.refusals
+    ∷ of_seconds ClockOffset measures.edge.clock_offset
     ∷ []
 
 -- what failed in what datagrams come over

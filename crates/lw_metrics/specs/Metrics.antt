@@ -1,7 +1,7 @@
 -- The metrics that are shown: their names, what is said of them, and their types.
 use Rattle.std.specs.Prelude.{ℕ, List, codes}
 use Rattle.lw_metrics.specs.declared.metric.Metric.{Metric}
-use Rattle.lw_metrics.specs.declared.metric.Metric.TheVariants.{BuildInfo, StartTime, Registrations, StampClock, Change, Number, Rounds, Datagrams, Replies, EmptyReplies, Unanswered, Notifications, Swept, NoMemory, RequestsSent, RequestsSentAgain, RequestsReset, RequestsUnanswered, RequestsWaiting, NotificationsStale, NotificationBlocks, Fetches, Unnumbered, PassedOver, LogAway, AppendSeconds, EntriesWritten, EntriesRead, LogBytes, WholeBytes, Compactions, AwaySeconds, Refusals, ReceiveFaults, SendFaults, Dropped, SocketDrops, Duplicates, Blocks, Bodies, Responses}
+use Rattle.lw_metrics.specs.declared.metric.Metric.TheVariants.{BuildInfo, StartTime, Registrations, StampClock, Change, Number, Rounds, Datagrams, Replies, EmptyReplies, Unanswered, Notifications, Swept, NoMemory, RequestsSent, RequestsSentAgain, RequestsReset, RequestsUnanswered, RequestsWaiting, NotificationsStale, NotificationBlocks, Fetches, Unnumbered, PassedOver, LogAway, AppendSeconds, EntriesWritten, EntriesRead, LogBytes, WholeBytes, Compactions, AwaySeconds, Refusals, ClockOffset, ReceiveFaults, SendFaults, Dropped, SocketDrops, Duplicates, Blocks, Bodies, Responses}
 
 unfoldable pub name_of : Metric → List ℕ
 name_of BuildInfo = codes "fleet_build_info"
@@ -37,6 +37,7 @@ name_of WholeBytes = codes "fleet_log_whole_bytes"
 name_of Compactions = codes "fleet_log_compactions_total"
 name_of AwaySeconds = codes "fleet_log_away_seconds_total"
 name_of Refusals = codes "fleet_log_refused_total"
+name_of ClockOffset = codes "fleet_clock_offset_seconds"
 name_of ReceiveFaults = codes "fleet_receive_faults_total"
 name_of SendFaults = codes "fleet_send_faults_total"
 name_of Dropped = codes "fleet_dropped_total"
@@ -80,8 +81,9 @@ help_of WholeBytes = codes "Bytes of the last whole entry of the log."
 help_of Compactions = codes "Compactions of the log."
 help_of AwaySeconds = codes "Seconds for which the log was away."
 help_of Refusals = codes "Turns and compactions that the log refused."
+help_of ClockOffset = codes "How far the clock of the host is from the one that lifetimes go by."
 help_of ReceiveFaults = codes "Faults in waiting for datagrams."
-help_of SendFaults = codes "Replies that could not be sent."
+help_of SendFaults = codes "Replies, and requests to devices, that could not be sent."
 help_of Dropped = codes "Datagrams that were passed over since the log was away, or the server had stood still."
 help_of SocketDrops = codes "Datagrams that the system dropped since the socket's buffer was full."
 help_of Duplicates = codes "Datagrams that came again and got the same reply."
@@ -102,6 +104,7 @@ kind_of Fetches = codes "gauge"
 kind_of LogAway = codes "gauge"
 kind_of LogBytes = codes "gauge"
 kind_of WholeBytes = codes "gauge"
+kind_of ClockOffset = codes "gauge"
 kind_of Bodies = codes "gauge"
 kind_of AppendSeconds = codes "histogram"
 kind_of _ = codes "counter"

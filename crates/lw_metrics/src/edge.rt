@@ -35,6 +35,8 @@ pub struct Edge {
     pub away: u64,
     /// The turns and compactions that the log refused, and the run went on.
     pub refusals: u64,
+    /// How far the host's clock is from the one that lifetimes go by, in microseconds.
+    pub clock_offset: u64,
     /// How often the wait for datagrams failed.
     pub receive_faults: u64,
     /// The replies that could not be sent.
@@ -56,6 +58,7 @@ impl Edge {
             compactions: 0,
             away: 0,
             refusals: 0,
+            clock_offset: 0,
             receive_faults: 0,
             send_faults: 0,
             dropped: 0,

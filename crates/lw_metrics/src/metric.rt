@@ -37,6 +37,7 @@ pub(crate) enum Metric {
     Compactions,
     AwaySeconds,
     Refusals,
+    ClockOffset,
     ReceiveFaults,
     SendFaults,
     Dropped,
@@ -86,6 +87,7 @@ impl Metric {
             Metric::Compactions => "fleet_log_compactions_total",
             Metric::AwaySeconds => "fleet_log_away_seconds_total",
             Metric::Refusals => "fleet_log_refused_total",
+            Metric::ClockOffset => "fleet_clock_offset_seconds",
             Metric::ReceiveFaults => "fleet_receive_faults_total",
             Metric::SendFaults => "fleet_send_faults_total",
             Metric::Dropped => "fleet_dropped_total",
@@ -139,8 +141,11 @@ impl Metric {
             Metric::Compactions => "Compactions of the log.",
             Metric::AwaySeconds => "Seconds for which the log was away.",
             Metric::Refusals => "Turns and compactions that the log refused.",
+            Metric::ClockOffset => {
+                "How far the clock of the host is from the one that lifetimes go by."
+            }
             Metric::ReceiveFaults => "Faults in waiting for datagrams.",
-            Metric::SendFaults => "Replies that could not be sent.",
+            Metric::SendFaults => "Replies, and requests to devices, that could not be sent.",
             Metric::Dropped => {
                 "Datagrams that were passed over since the log was away, or the server had stood still."
             }
@@ -170,6 +175,7 @@ impl Metric {
             | Metric::LogAway
             | Metric::LogBytes
             | Metric::WholeBytes
+            | Metric::ClockOffset
             | Metric::Bodies => "gauge",
             Metric::AppendSeconds => "histogram",
             _ => "counter",

@@ -134,7 +134,8 @@ fn put_log(text: &mut String, alloc: Global, measures: &Measures) -> Result<(), 
     put_number(text, Metric::WholeBytes, measures.log_whole_bytes)?;
     put_number(text, Metric::Compactions, measures.edge.compactions)?;
     put_seconds(text, alloc, Metric::AwaySeconds, measures.edge.away)?;
-    put_number(text, Metric::Refusals, measures.edge.refusals)
+    put_number(text, Metric::Refusals, measures.edge.refusals)?;
+    put_seconds(text, alloc, Metric::ClockOffset, measures.edge.clock_offset)
 }
 
 fn put_front(text: &mut String, alloc: Global, measures: &Measures) -> Result<(), NoMemory>

@@ -9,8 +9,8 @@ use crate::receiving::{pass_over, pass_over_old, receive};
 use crate::telling::LineRate;
 use crate::upkeep::{Upkeep, wait_of};
 use crate::{
-    Clocks, Compaction, Front, Heard, MemberFault, Metered, Passage, Progress, RunFault, Server,
-    TurnFault,
+    Clocks, Compaction, Front, Heard, MemberFault, Metered, Offset, Passage, Progress, RunFault,
+    Server, TurnFault,
 };
 use log::{Log, debug, error, info, warn};
 use lw_log::DeltaLog;
@@ -34,6 +34,10 @@ const MILLISECONDS: u64 = 1_000;
 /// How many seconds a minute has.
 const SECONDS: u64 = 60;
 
+/// How many milliseconds the clocks of a host and of its fleet may differ beside the skew: for as long a fleet's clock may
+/// take to tell the moment.
+const LAG: u64 = 1_000;
+
 /// How many microseconds a millisecond has.
 const MICROSECONDS: u64 = 1_000;
 
@@ -54,6 +58,7 @@ pub(crate) struct Course<G: DeltaLog + Metered, C: Clocks> {
     fault_lines: LineRate,
     send_lines: LineRate,
     receive_lines: LineRate,
+    clock_lines: LineRate,
 }
 
 impl<G: DeltaLog + Metered, C: Clocks> Course<G, C> {
@@ -70,6 +75,7 @@ impl<G: DeltaLog + Metered, C: Clocks> Course<G, C> {
             fault_lines: LineRate::of(1),
             send_lines: LineRate::new(),
             receive_lines: LineRate::new(),
+            clock_lines: LineRate::of(1),
         };
         course.note_log();
         course
@@ -95,6 +101,7 @@ impl<G: DeltaLog + Metered, C: Clocks> Course<G, C> {
             fault_lines,
             send_lines,
             receive_lines,
+            clock_lines,
         } = self;
         let (server, heard) = front.attend(server, buffer, wait);
         let mut course = Course {
@@ -108,6 +115,7 @@ impl<G: DeltaLog + Metered, C: Clocks> Course<G, C> {
             fault_lines,
             send_lines,
             receive_lines,
+            clock_lines,
         };
         course.server.edge.responses = front.responses();
         course.server.edge.drops = front.drops();
@@ -345,6 +353,7 @@ impl<G: DeltaLog + Metered, C: Clocks> Course<G, C> {
     /// A turn was made, or failed: whether the run goes on.
     fn end_turn<L: Log>(&mut self, log: &L, made: Result<(), TurnFault>) -> Result<(), RunFault> {
         self.note_time();
+        self.note_clock(log);
         let ended = match made {
             Ok(()) => self.goes_on(log),
             Err(fault) => self.endures(log, fault),
@@ -380,6 +389,25 @@ impl<G: DeltaLog + Metered, C: Clocks> Course<G, C> {
                 .saturating_add(milliseconds.saturating_mul(MICROSECONDS));
         }
         self.last = now;
+    }
+
+    /// Notes how the host's clock stands to that of the fleet. Where they differ by more than the clocks of a fleet may,
+    /// that is told once a minute at most.
+    fn note_clock<L: Log>(&mut self, log: &L) {
+        let offset = self.server.clock.offset();
+        let milliseconds = offset.milliseconds();
+        self.server.edge.clock_offset = milliseconds.saturating_mul(MICROSECONDS);
+        let most = u64::from(self.server.skew).saturating_mul(MILLISECONDS);
+        if milliseconds <= most.saturating_add(LAG) {
+            return;
+        }
+        let minute = self.second() / SECONDS;
+        if self.clock_lines.tells(minute) {
+            match offset {
+                Offset::Ahead(by) => warn!(log; "clock ahead by={by}ms"),
+                Offset::Behind(by) => warn!(log; "clock behind by={by}ms"),
+            }
+        }
     }
 
     /// Notes what the log was asked.

@@ -27,7 +27,7 @@ mod timed;
 mod told;
 mod upkeep;
 
-pub use clocks::{Clocks, HostClocks, Times};
+pub use clocks::{Clocks, FleetClock, HostClocks, Offset, SharedClocks, Times};
 pub use commands::Done;
 pub use devices::{Progress, RequestCounts};
 pub use fault::{RunFault, TurnFault};

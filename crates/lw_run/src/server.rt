@@ -36,7 +36,7 @@ pub struct Server<G: DeltaLog, C: Clocks> {
     pub(crate) member: Member<G>,
     pub(crate) clock: C,
     /// How many seconds the clocks of the fleet's servers may differ.
-    skew: u32,
+    pub(crate) skew: u32,
     pub(crate) started: Moment,
     /// The moment that the host's clock told last: lifetimes go by it.
     pub(crate) latest: Moment,
