@@ -43,17 +43,14 @@ impl Runs for Host<'_, HostRuntime> {
         };
         match &options.keeps {
             Keeps::Nothing => {
-                let now = moment(host)?;
-                let member = begin(host, Nowhere::new(host.alloc()), now)?;
+                let member = begin(host, Nowhere::new(host.alloc()))?;
                 let mut place = Place::open(host, &log, options, visitors)?;
-                place.serve(member, host_clocks(host, now)?, now, "nothing", options)
+                place.serve_alone(member, "nothing", options)
             }
             Keeps::Folder(folder) => {
-                let kept = SqliteLog::open(host, folder).map_err(fault_of_open)?;
-                let now = moment(host)?;
-                let member = begin(host, kept, now)?;
+                let member = begin(host, SqliteLog::open(host, folder).map_err(fault_of_open)?)?;
                 let mut place = Place::open(host, &log, options, visitors)?;
-                place.serve(member, host_clocks(host, now)?, now, "data", options)
+                place.serve_alone(member, "data", options)
             }
             Keeps::Redis(redis) => {
                 let clock = RedisClock::new(host);
@@ -98,9 +95,9 @@ fn serve_shared<'a, 'n, L: Log>(
 fn begin<'a, G: DeltaLog>(
     host: &'a HostRuntime,
     kept: G,
-    now: Moment,
 ) -> Result<Member<Timed<G, SystemStopwatch<'a, HostRuntime>>>, RunningFault> {
     let timed = Timed::new(kept, stopwatch(host)?);
+    let now = moment(host)?;
     match Member::begin(host.alloc(), timed, &draw(host)?, now) {
         Ok(member) => Ok(member),
         Err(fault) => Err(fault_of_run(RunFault::from(fault))),
@@ -135,6 +132,18 @@ impl<'a, L: Log> Place<'a, L> {
             sockets,
             visited,
         })
+    }
+
+    /// Serves devices and visitors by the host's own clock.
+    fn serve_alone<G: DeltaLog + Metered>(
+        &mut self,
+        member: Member<G>,
+        keeps: &str,
+        options: &RunOptions<'_>,
+    ) -> Result<(), RunningFault> {
+        let now = moment(self.host)?;
+        let clocks = host_clocks(self.host, now)?;
+        self.serve(member, clocks, now, keeps, options)
     }
 
     /// Serves devices and visitors, from the moment on that is now.

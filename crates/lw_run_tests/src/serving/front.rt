@@ -244,17 +244,20 @@ impl Front for MemoryFront {
     }
 }
 
-/// A clock in memory. It gives the moments in turn, in milliseconds, and the last of them from then on.
+/// A clock in memory. It gives the moments in turn, in milliseconds, and the last of them from then on. The host's own
+/// stands so to it.
 #[derive(Drop)]
 pub(super) struct Ticks {
     moments: &'static [u64],
+    offset: Offset,
     readings: usize,
 }
 
 impl Ticks {
-    pub(super) fn new(moments: &'static [u64]) -> Ticks {
+    pub(super) fn new(moments: &'static [u64], offset: Offset) -> Ticks {
         Ticks {
             moments,
+            offset,
             readings: 0,
         }
     }
@@ -269,5 +272,9 @@ impl Clocks for Ticks {
             moment,
             steady: moment,
         })
+    }
+
+    fn offset(&self) -> Offset {
+        self.offset
     }
 }

@@ -15,7 +15,7 @@ struct Measured {
 const MEASURES: Coming = Coming::Asks(&[Question::Metrics]);
 
 /// Runs of which each kind of measure is told.
-static MEASURED: [Measured; 8] = [
+static MEASURED: [Measured; 9] = [
     Measured {
         name: "turns are counted",
         stage: Stage {
@@ -120,6 +120,15 @@ static MEASURED: [Measured; 8] = [
             ..STAGE
         },
         lines: &["fleet_log_refused_total 0", "fleet_dropped_total 3"],
+    },
+    Measured {
+        name: "how far the host's clock is from the fleet's",
+        stage: Stage {
+            comings: &[Coming::Nothing, MEASURES],
+            offset: Offset::Behind(8_123),
+            ..STAGE
+        },
+        lines: &["fleet_clock_offset_seconds 8.123000"],
     },
     Measured {
         name: "faults of the front are counted",

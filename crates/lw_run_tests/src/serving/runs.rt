@@ -452,14 +452,79 @@ static EXPIRIES: [Run; 4] = [
     },
 ];
 
+/// Three rounds, at the start, a millisecond before a minute has passed, and then.
+const MINUTE: [u64; 3] = [0, 59_999, 60_000];
+
+/// How the host's clock stands to the one that is told, where the clocks of a fleet may differ by ten seconds. What tells
+/// the moment may be a second late. A line comes once a minute.
+static OFFSETS: [Run; 4] = [
+    Run {
+        name: "a clock that is as far ahead as may be",
+        stage: Stage {
+            comings: &[Coming::Times(3, &Coming::Nothing)],
+            moments: &MINUTE,
+            skew: 10,
+            offset: Offset::Ahead(11_000),
+            alone: true,
+            ..STAGE
+        },
+        want: &[Piece::Line("Ok(()) ")],
+    },
+    Run {
+        name: "a clock that is further ahead",
+        stage: Stage {
+            comings: &[Coming::Times(3, &Coming::Nothing)],
+            moments: &MINUTE,
+            skew: 10,
+            offset: Offset::Ahead(11_001),
+            alone: true,
+            ..STAGE
+        },
+        want: &[
+            Piece::Line("Ok(()) "),
+            Piece::Line("[WARN  lw_run::course] clock ahead by=11001ms"),
+            Piece::Line("[WARN  lw_run::course] clock ahead by=11001ms"),
+        ],
+    },
+    Run {
+        name: "a clock that is far behind",
+        stage: Stage {
+            comings: &[Coming::Times(2, &Coming::Nothing)],
+            moments: &MINUTE,
+            skew: 10,
+            offset: Offset::Behind(172_800_000),
+            alone: true,
+            ..STAGE
+        },
+        want: &[
+            Piece::Line("Ok(()) "),
+            Piece::Line("[WARN  lw_run::course] clock behind by=172800000ms"),
+        ],
+    },
+    Run {
+        name: "a clock of a fleet without a skew",
+        stage: Stage {
+            comings: &[Coming::Nothing],
+            offset: Offset::Behind(1_001),
+            alone: true,
+            ..STAGE
+        },
+        want: &[
+            Piece::Line("Ok(()) "),
+            Piece::Line("[WARN  lw_run::course] clock behind by=1001ms"),
+        ],
+    },
+];
+
 /// Tries: lw_run::run_on, lw_run::Server::new, lw_run::Server::take, lw_run::Server::tick, lw_run::Server::read_clock
-/// Tries: lw_run::Clocks::read
+/// Tries: lw_run::Clocks::read, lw_run::Clocks::offset
 #[test]
 fn runs_go_on_and_end(rt: HostRuntime) {
     plays(&rt, rt.alloc(), &QUIET);
     plays(&rt, rt.alloc(), &WITHOUT_A_MOMENT);
     plays(&rt, rt.alloc(), &WITHOUT_MEMORY);
     plays(&rt, rt.alloc(), &EXPIRIES);
+    plays(&rt, rt.alloc(), &OFFSETS);
 }
 
 /// Tries: lw_run::run_on, lw_run::Server::take, lw_run::Server::tick

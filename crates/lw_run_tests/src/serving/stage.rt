@@ -18,6 +18,7 @@ pub(super) struct Stage {
     pub(super) comings: &'static [Coming],
     pub(super) moments: &'static [u64],
     pub(super) skew: u32,
+    pub(super) offset: Offset,
     pub(super) kept: usize,
     pub(super) alone: bool,
     pub(super) trouble: Option<Trouble>,
@@ -28,11 +29,12 @@ pub(super) struct Stage {
     pub(super) page: Option<&'static str>,
 }
 
-/// Nothing comes, at moment 0, with a log that is empty, that nothing ails, and that others write into.
+/// Nothing comes, at moment 0, by a host's clock that is right, with a log that is empty, that nothing ails, and that others write into.
 pub(super) const STAGE: Stage = Stage {
     comings: &[],
     moments: &[0],
     skew: 0,
+    offset: Offset::NONE,
     kept: 0,
     alone: false,
     trouble: None,
@@ -74,7 +76,7 @@ impl Stage {
         let page = page_of(alloc, self.page)?;
         let log = Timed::new(shared, Readings::new(&[Some(0)]));
         let member = Member::begin(alloc, log, &CHANCE, Moment::START)?;
-        let clock = Ticks::new(self.moments);
+        let clock = Ticks::new(self.moments, self.offset);
         Ok(Server::new(alloc, member, clock, self.skew, Moment::START, page))
     }
 

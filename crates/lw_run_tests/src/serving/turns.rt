@@ -56,7 +56,7 @@ pub(super) fn takes(rt: &impl Abort, alloc: Global, turns: &[Turn]) {
 fn new_server(rt: &impl Abort, alloc: Global) -> Server<MemoryLog, Ticks> {
     let log = MemoryLog::new(alloc);
     let member = Member::begin(alloc, log, &CHANCE, Moment::START).expect(rt, "a member");
-    let clock = Ticks::new(&[1_000]);
+    let clock = Ticks::new(&[1_000], Offset::NONE);
     Server::new(alloc, member, clock, 0, Moment::START, None)
 }
 
