@@ -11,7 +11,7 @@ from keeper import KEY
 from scenes import SOON, ended, is_answered, measure
 
 PASSWORD, WRONG, GENERAL = "pass-0123456789-word", "wrong-9876543210-word", "general-4567890123-word"
-RIGHTS = ("+xadd", "+xrange", "+xtrim", "+ping", "+auth", "+info")
+RIGHTS = ("+xadd", "+xrange", "+xtrim", "+ping", "+auth", "+info", "+time")
 # the bytes of files that are no logins
 NO_LOGINS = {
     "one line": b"fleet",

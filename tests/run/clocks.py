@@ -29,11 +29,16 @@ def library():
 
 def years_ahead(scene, years):
     """Words before a program's, by which it sees a clock so many years ahead, or none where nothing gives that."""
+    return seconds_ahead(scene, years * YEAR)
+
+
+def seconds_ahead(scene, seconds):
+    """The same, of a clock so many seconds ahead."""
     path = library()
     if not path:
         scene.passes_over("a clock that is ahead, since there is no libfaketime (FLEET_INSTALL=1 has it installed)")
         return None
-    return "env", f"LD_PRELOAD={path}", f"FAKETIME=+{years * YEAR}", "FAKETIME_DONT_FAKE_MONOTONIC=1"
+    return "env", f"LD_PRELOAD={path}", f"FAKETIME={seconds:+d}", "FAKETIME_DONT_FAKE_MONOTONIC=1"
 
 
 class Clock:
