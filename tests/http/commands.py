@@ -3,9 +3,9 @@
 from checks import SERVES
 from coap import OBSERVE
 from devices import OBSERVES, Observed, cancel, observations, observe, token_of
-from guards import TOKEN, token_file, with_token
 from targets import ID, LONG, METHODS, NO_ENDPOINT, NO_LIMIT, NO_PARAMETER, NO_RESOURCE, NO_START, NO_TOKEN, NO_VALUE
 from targets import NO_WATCH, NOT_ALLOWED, NOT_FOUND, NOT_THIS_HOST, NOTIFIED, OBSERVED, TWICE, bad, with_query
+from tokens import TOKEN, token_file, with_token
 from visiting import ask, refused
 
 NO_PATH, NO_ACCEPT, NO_FROM = map(bad, ("path", "accept", "from"))

@@ -1,14 +1,13 @@
 """Who may ask: the hosts that a request may be for, and the token that it has to bring."""
 
 import os
-import pathlib
-import tempfile
 
 from asking import Client
 from checks import SERVES
 from coap import register
 from targets import GUARDED, ID, NO_ENDPOINT, NO_PARAMETER, NO_RESOURCE, NO_SINCE, NO_TOKEN, NOT_ALLOWED, NOT_FOUND
 from targets import NOT_THIS_HOST
+from tokens import TOKEN, WRONG, token_file, with_token
 from visiting import ask
 
 # who a request may be for: the field or its lack, the version, and the response's status
@@ -56,8 +55,6 @@ def hosts(scene):
 
 
 ABSOLUTE = ("localhost:8080", "evil.example"), ("evil.example", "localhost:8080")
-TOKEN = "AZaz09-._~+/=aaa"
-WRONG = f"{TOKEN[:-1]}b"
 # the Authorization fields of a request, and whether they present the token
 PRESENTED = (
     ((), False),
@@ -84,17 +81,6 @@ PRESENTED = (
     ((f"Bearer {TOKEN}", f"Basic {TOKEN}"), False),
     ((f"Bearer {WRONG}", f"Bearer {TOKEN}"), False),
 )
-
-
-def with_token(values):
-    return {"fields": [f"Authorization: {it}" for it in values]}
-
-
-def token_file(scene, text):
-    path = pathlib.Path(tempfile.mkdtemp(prefix="token-", dir=scene.folder)) / "token"
-    path.write_bytes(text)
-    os.chmod(path, 0o600)
-    return path
 
 
 def tokens(scene):

@@ -6,8 +6,9 @@ from coap import ACKNOWLEDGEMENT, BLOCK2, CONFIRMABLE, CONTENT, CONTENT_FORMAT, 
 from coap import NOT_FOUND, OBSERVE, RESET, Message, bytes_of, parsed, unsigned
 from devices import NOTHING, OBSERVES, PATH, SOON, Observed, answer_of, asks_for, is_soon, noted, notices, observe
 from devices import tells_from, token_of
-from measures import measures_of
-from repeating import EARLIER, LATER, LEAST_WAIT, MOST_WAIT, stale_of
+from exposition import measures_of
+from repeating import stale_of
+from repeats import EARLIER, LATER, LEAST_WAIT, MOST_WAIT
 
 SIZE2 = 28
 # the exponent of blocks of 64 bytes, and how long a token of a fetch is

@@ -8,7 +8,7 @@ from coap import ACKNOWLEDGEMENT, CONFIRMABLE, CONTENT, CONTENT_FORMAT, EMPTY, G
 from coap import RESET, Message, parsed, update
 from devices import COMMANDS, NOTHING, OBSERVES, SOON, Observed, asked_of, asks_for, cancel, is_soon, noted, notes
 from devices import notices, notifications, observations, observe, tells_from, token_of
-from measures import measures_of
+from exposition import measures_of
 from targets import GONE
 from targets import NOT_FOUND as NOBODY
 from visiting import ask, told

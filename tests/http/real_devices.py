@@ -3,7 +3,6 @@
 import pathlib
 import re
 import signal
-import socket
 import subprocess
 import tempfile
 import time
@@ -11,6 +10,7 @@ import time
 import tools
 from devices import COMMANDS, cancel, is_soon, notices, observe, token_of
 from observing import ENDED
+from ports import free_port
 from serving import LIMIT
 from visiting import told
 
@@ -19,12 +19,6 @@ RESOURCE = "/3/0/9"
 LONG = "".join(f"{it:05}" for it in range(1_000))
 # a device that hears of a change tells it at once; on a busy machine that may take so many seconds
 TELLS = 10.0
-
-
-def free_port():
-    with socket.socket(socket.AF_INET, socket.SOCK_DGRAM) as it:
-        it.bind(("127.0.0.1", 0))
-        return it.getsockname()[1]
 
 
 class RealDevice:

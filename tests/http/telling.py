@@ -15,9 +15,9 @@ from checks import milliseconds
 from coap import ACKNOWLEDGEMENT, CONTENT, EMPTY, GET, NOT_CONFIRMABLE, OBSERVE, RESET, Message
 from coap import bytes_of, register, spelled, update
 from devices import COMMANDS, OBSERVES, Observed, is_soon, notifications, observe, token_of
-from measures import measures_of
-from repeating import EARLIER, GATEWAY_TIMEOUT, LATER, LEAST_SPAN, MAX_RETRANSMIT, MOST_SPAN, MOST_TIME, are_in_time
-from repeating import repeats_of
+from exposition import measures_of
+from repeats import EARLIER, GATEWAY_TIMEOUT, LATER, LEAST_SPAN, MAX_RETRANSMIT, MOST_SPAN, MOST_TIME, are_in_time
+from repeats import repeats_of
 from scene import running
 from serving import ends_with_the_test
 from visiting import ask

@@ -6,8 +6,8 @@ import re
 import time
 
 from asking import Client, codes_of, identifiers
-from clocks import YEAR, seconds_ahead
 from coap import register, update
+from faketime import YEAR, seconds_ahead
 from logins import login_of
 from scenes import measure, shown
 from serving import LIMIT

@@ -7,7 +7,7 @@ from coap import CONFIRMABLE, NOT_FOUND, OBSERVE, Message, bytes_of, update
 from devices import Observed, answer_of, notices, observations, observe, token_of
 from entries import is_away
 from faults import AWAY, room
-from repeating import GATEWAY_TIMEOUT, LATER, LEAST_SPAN, MAX_RETRANSMIT, MOST_TIME, MOST_WAIT
+from repeats import GATEWAY_TIMEOUT, LATER, LEAST_SPAN, MAX_RETRANSMIT, MOST_TIME, MOST_WAIT
 from scenes import SOON, is_answered, is_soon, measure
 from visiting import ask
 

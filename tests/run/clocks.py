@@ -1,44 +1,20 @@
-"""The host's clock, which is set back while a server runs or is years ahead, by libfaketime: programs load it first."""
+"""The host's clock, which is set back while a server runs."""
 
-import glob
 import pathlib
 import subprocess
 import sys
 import tempfile
 import time
 
-import tools
 from asking import Client
 from coap import register, spelled
 from devices import OBSERVES, Observed, is_soon, notifications, observe, token_of
-from repeating import EARLIER, GATEWAY_TIMEOUT, LATER, LEAST_TIME, MOST_TIME, are_in_time, repeats_of
+from faketime import library
+from repeats import EARLIER, GATEWAY_TIMEOUT, LATER, LEAST_TIME, MOST_TIME, are_in_time, repeats_of
 from serving import ends_with_the_test
 
-LIBRARIES = "/usr/lib/*/faketime/libfaketime.so.1"
-# of 365.25 days, in seconds
-YEAR = 31_557_600
 # how far the clock is set back, and how much what is measured of clocks may be off, in seconds
 BACK, OFF = 3_600, 5.0
-
-
-def library():
-    """The path of libfaketime, or none."""
-    tools.tool(("faketime",), "faketime")
-    return next(iter(sorted(glob.glob(LIBRARIES))), None)
-
-
-def years_ahead(scene, years):
-    """Words before a program's, by which it sees a clock so many years ahead, or none where nothing gives that."""
-    return seconds_ahead(scene, years * YEAR)
-
-
-def seconds_ahead(scene, seconds):
-    """The same, of a clock so many seconds ahead."""
-    path = library()
-    if not path:
-        scene.passes_over("a clock that is ahead, since there is no libfaketime (FLEET_INSTALL=1 has it installed)")
-        return None
-    return "env", f"LD_PRELOAD={path}", f"FAKETIME={seconds:+d}", "FAKETIME_DONT_FAKE_MONOTONIC=1"
 
 
 class Clock:

@@ -9,7 +9,7 @@ from asking import Client
 from checks import SERVES
 from coap import CONFIRMABLE, EMPTY, Message, bytes_of
 from devices import is_soon
-from measures import measures_of
+from exposition import measures_of
 
 PINGS, AT_ONCE = 3_000, 50
 # how many such lines there are in a second, at most
