@@ -66,8 +66,8 @@ impl<'a, 'n, L: Log> Shared<'a, 'n, L> {
         Ok(SharedClocks::new(host_clocks(self.host, start)?, fleet))
     }
 
-    /// A member of the fleet that the stream has, or that it founds where that is asked for. Where Redis is away, or the
-    /// stream has no fleet yet, it is asked again, for ten seconds.
+    /// A member of the fleet that the stream has, or that it founds where that is asked for. Where Redis is away, or
+    /// the stream has no fleet yet, it is asked again, for ten seconds.
     pub(crate) fn begin(
         &self,
         founds: bool,
@@ -93,8 +93,8 @@ impl<'a, 'n, L: Log> Shared<'a, 'n, L> {
         Err(RunningFault::RedisAway)
     }
 
-    /// A member of the fleet that the stream has. Where it has none, and that is asked for, it founds its own. Else it is
-    /// what the start ends by where the time is over.
+    /// A member of the fleet that the stream has. Where it has none, and that is asked for, it founds its own. Else it
+    /// is what the start ends by where the time is over.
     fn attempt(
         &self,
         founds: bool,

@@ -34,8 +34,8 @@ const MILLISECONDS: u64 = 1_000;
 /// How many seconds a minute has.
 const SECONDS: u64 = 60;
 
-/// How many milliseconds the clocks of a host and of its fleet may differ beside the skew: for as long a fleet's clock may
-/// take to tell the moment.
+/// How many milliseconds the clocks of a host and of its fleet may differ beside the skew: for as long a fleet's clock
+/// may take to tell the moment.
 const LAG: u64 = 1_000;
 
 /// How many microseconds a millisecond has.

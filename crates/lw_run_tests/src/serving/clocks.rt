@@ -70,8 +70,8 @@ const FLEET: [Option<u64>; 6] = [
     Some(2_000),
 ];
 
-/// The moment that is told then, the one that goes on, which is the host's, how the host's clock stands to the first, and
-/// how many milliseconds lie between the two.
+/// The moment that is told then, the one that goes on, which is the host's, how the host's clock stands to the first,
+/// and how many milliseconds lie between the two.
 const SHARED: [(u64, u64, Offset, u64); 6] = [
     (10_000, 10_000, Offset::Ahead(0), 0),
     (10_000, 18_000, Offset::Ahead(8_000), 8_000),

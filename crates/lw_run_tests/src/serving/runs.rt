@@ -455,8 +455,8 @@ static EXPIRIES: [Run; 4] = [
 /// Three rounds, at the start, a millisecond before a minute has passed, and then.
 const MINUTE: [u64; 3] = [0, 59_999, 60_000];
 
-/// How the host's clock stands to the one that is told, where the clocks of a fleet may differ by ten seconds. What tells
-/// the moment may be a second late. A line comes once a minute.
+/// How the host's clock stands to the one that is told, where the clocks of a fleet may differ by ten seconds. What
+/// tells the moment may be a second late. A line comes once a minute.
 static OFFSETS: [Run; 4] = [
     Run {
         name: "a clock that is as far ahead as may be",
