@@ -1,8 +1,8 @@
 //! The message layer of CoAP, between the datagrams of devices and a store (RFC 7252, RFC 7641, RFC 7959).
 //!
-//! Of what devices send: requests that come twice are answered again and not taken again, bodies that come in blocks are
-//! put together, the rest of a notification in blocks is fetched, and a notification that is not fresh is told from one
-//! that is. Of what is sent to devices: requests that wait for an answer and are sent again, and message IDs.
+//! Of what devices send: requests that come twice are answered again and not taken again, bodies that come in blocks
+//! are put together, the rest of a notification in blocks is fetched, and a notification that is not fresh is told from
+//! one that is. Of what is sent to devices: requests that wait for an answer and are sent again, and message IDs.
 //!
 //! There is no socket and no clock here: each call is handed the moment and the source.
 #![tactic(auto)]

@@ -391,8 +391,8 @@ impl<G: DeltaLog + Metered, C: Clocks> Course<G, C> {
         self.last = now;
     }
 
-    /// Notes how the host's clock stands to that of the fleet. Where they differ by more than the clocks of a fleet may,
-    /// that is told once a minute at most.
+    /// Notes how the host's clock stands to that of the fleet. Where they differ by more than the clocks of a fleet
+    /// may, that is told once a minute at most.
     fn note_clock<L: Log>(&mut self, log: &L) {
         let offset = self.server.clock.offset();
         let milliseconds = offset.milliseconds();
