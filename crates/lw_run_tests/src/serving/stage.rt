@@ -10,10 +10,10 @@ use std::cell::{Cell, RefCell};
 use std::process::Abort;
 use std::time::Duration;
 
-/// What comes, the moments in milliseconds, by how many seconds clocks may differ, how the host's stands to the fleet's,
-/// how many bytes another start has left in the log, whether nobody else writes into it, what ails its readings and what
-/// does then, after how many appends one fails, whether each send fails, whether the log is compacted, and the page that
-/// is told.
+/// What comes, the moments in milliseconds, by how many seconds clocks may differ, how the host's stands to the
+/// fleet's, how many bytes another start has left in the log, whether nobody else writes into it, what ails its readings
+/// and what does then, after how many appends one fails, whether each send fails, whether the log is compacted, and the
+/// page that is told.
 #[derive(Drop)]
 pub(super) struct Stage {
     pub(super) comings: &'static [Coming],
