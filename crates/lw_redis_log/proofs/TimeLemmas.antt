@@ -42,7 +42,13 @@ Reckoned whole part told = (part < 1000000) × (told ≡ whole * 1000 + part / 1
 pub moment_found : (first last : List ℕ) (whole part : ℕ) (r : Option ℕ) → first ≡ decimal whole → last ≡ decimal part
     → IfSome r (λ told. Reckoned whole part told) → IfSome r (λ told. IsMoment first last told)
 moment_found first last whole part (Some told) f l h = record {
-  seconds = whole; microseconds = part; are_seconds = f; are_microseconds = l; below = h.0; is = h.1; fits = h.2;
+  seconds = whole;
+  microseconds = part;
+  are_seconds = f;
+  are_microseconds = l;
+  below = h.0;
+  is = h.1;
+  fits = h.2;
 }
 moment_found first last whole part None f l h = tt
 
@@ -133,7 +139,13 @@ time_found bytes first last told t m = record {
 
 pub time_moment : (bytes first last : List ℕ) (told : ℕ) (x : IsTime bytes told) → first ≡ decimal x.seconds → last ≡ decimal x.microseconds → IsMoment first last told
 time_moment bytes first last told x f l = record {
-  seconds = x.seconds; microseconds = x.microseconds; are_seconds = f; are_microseconds = l; below = x.below; is = x.is; fits = x.fits;
+  seconds = x.seconds;
+  microseconds = x.microseconds;
+  are_seconds = f;
+  are_microseconds = l;
+  below = x.below;
+  is = x.is;
+  fits = x.fits;
 }
 
 other_kind : (xs ys : List ℕ) → 42 ∷ xs ≡ 45 ∷ ys → ⊥

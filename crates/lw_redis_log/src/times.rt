@@ -63,13 +63,7 @@ fn texts(bytes: &[u8]) -> Option<(&[u8], &[u8])>
         → IsSomeAnd result (λ x. (x.0.now ≡ first) × (x.1.now ≡ last)) }
 {
     match word_at(bytes) {
-        Some((word, behind)) => {
-            if is_pair(word) {
-                pair(behind)
-            } else {
-                None
-            }
-        }
+        Some((word, behind)) => { if is_pair(word) { pair(behind) } else { None } }
         None => None,
     }
 }

@@ -114,7 +114,16 @@ static REFUSED: [Story<'static>; 4] = [
     ),
     (
         &[
-            Opens, PONG, KEEPS, NO_RIGHT, Ends(""), Opens, PONG, KEEPS, EMPTY, NO_RIGHT,
+            Opens,
+            PONG,
+            KEEPS,
+            NO_RIGHT,
+            Ends(""),
+            Opens,
+            PONG,
+            KEEPS,
+            EMPTY,
+            NO_RIGHT,
         ],
         &[
             Append("a"),

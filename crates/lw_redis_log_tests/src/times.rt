@@ -139,12 +139,13 @@ const EMPTY: Answer = Says("*0\r\n");
 
 /// The time of the example, and the same 9 milliseconds after the question.
 const TIME: &str = "*2\r\n$10\r\n1405067822\r\n$6\r\n251583\r\n";
+
 const AT_ONCE: Answer = Says(TIME);
+
 const LATER: Answer = SaysAfter(9, TIME);
 
 /// An access list without `+time`.
-const NO_RIGHT: Answer =
-    Says("-NOPERM this user has no permissions to run the 'time' command\r\n");
+const NO_RIGHT: Answer = Says("-NOPERM this user has no permissions to run the 'time' command\r\n");
 
 /// It is asked for at each connection, and then with a reading every 10 seconds.
 static ASKED: [Story<'static>; 3] = [
