@@ -3,3 +3,4 @@ pub mod Beginnings
 pub mod Telling
 pub mod LoginLemmas
 pub mod PageLemmas
+pub mod TimeLemmas

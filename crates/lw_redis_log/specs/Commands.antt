@@ -1,4 +1,4 @@
--- The commands of a log over a stream, as words (Redis commands: XRANGE, XADD, XTRIM, AUTH, PING, INFO).
+-- The commands of a log over a stream, as words (Redis commands: XRANGE, XADD, XTRIM, AUTH, PING, INFO, TIME).
 use Rattle.std.specs.Prelude.{◌≡◌, ◌⊎◌, ℕ, List, [], ◌∷◌, Bool, true, false, codes}
 use Rattle.lw_resp.specs.Bytes.{command_bytes}
 use Rattle.lw_resp.specs.StreamIds.{id_text, FitsId, IsAbove, IsNextId}
@@ -49,3 +49,6 @@ ping_words = codes "PING" ∷ []
 
 abbrev pub info_words : List (List ℕ)
 info_words = codes "INFO" ∷ []
+
+abbrev pub time_words : List (List ℕ)
+time_words = codes "TIME" ∷ []

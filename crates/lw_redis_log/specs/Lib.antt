@@ -3,6 +3,7 @@ pub mod Errors
 pub mod Fleets
 pub mod Outcomes
 pub mod Settings
+pub mod Times
 pub mod Pages
 pub mod Marks
 pub mod Logins

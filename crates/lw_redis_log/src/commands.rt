@@ -2,7 +2,7 @@
 
 ghost use Rattle.std.specs.Prelude.{◌≡◌, ◌++◌, IfOk, OnOk};
 ghost use Rattle.lw_resp.specs.Bytes.{command_bytes};
-ghost use Rattle.lw_redis_log.specs.Commands.{start_word, read_words, append_words, login_words, ping_words, info_words, IsTrim};
+ghost use Rattle.lw_redis_log.specs.Commands.{start_word, read_words, append_words, login_words, ping_words, info_words, time_words, IsTrim};
 
 use lw_resp::{FIELD, StreamId, command};
 use lw_stamp::NoMemory;
@@ -94,4 +94,11 @@ pub fn info_command(alloc: Global) -> Result<Vec<u8>, NoMemory>
     ensures { IfOk result (λ bytes. bytes.items ≡ command_bytes info_words) }
 {
     command(alloc, &[b"INFO"])
+}
+
+/// Asks what time it is.
+pub fn time_command(alloc: Global) -> Result<Vec<u8>, NoMemory>
+    ensures { IfOk result (λ bytes. bytes.items ≡ command_bytes time_words) }
+{
+    command(alloc, &[b"TIME"])
 }

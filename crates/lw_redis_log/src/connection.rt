@@ -2,7 +2,7 @@
 
 use crate::connects::Connects;
 use crate::patience::{SHORTEST_PAUSE, longer_pause, patience_for};
-use lw_resp::first_reply;
+use crate::replies::has_come;
 use std::alloc::Global;
 use std::io::{ErrorKind, Read, Write};
 
@@ -97,7 +97,7 @@ impl<C: Connects> Line<C> {
         let mut bytes = Vec::new(self.alloc);
         for _ in 0..u64::MAX {
             read_some(connection, &mut bytes)?;
-            if first_reply(self.alloc, &bytes).ok()?.is_some() {
+            if has_come(&bytes)? {
                 return Some(bytes);
             }
         }

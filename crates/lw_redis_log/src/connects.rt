@@ -22,6 +22,10 @@ pub enum Notice<'a> {
     AnotherFleet(StreamId),
     /// The stream begins with a delta of another fleet.
     AnotherStream,
+    /// The server told what time it is, in milliseconds since 1970. Question and answer took so many milliseconds.
+    Time { told: u64, took: u64 },
+    /// The server does not tell what time it is.
+    TellsNoTime,
 }
 
 /// Connections to a Redis, a clock that only goes on, and who is told.

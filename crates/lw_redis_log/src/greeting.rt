@@ -2,17 +2,26 @@
 
 ghost use Rattle.std.specs.Prelude.{◌≢◌, IfErr};
 
-use crate::commands::{info_command, login_command, ping_command};
+use crate::commands::{info_command, login_command, ping_command, time_command};
 use crate::connects::{Connects, Notice};
 use crate::errors::error_prefix;
 use crate::outcomes::RedisFault;
 use crate::redis_log::RedisLog;
 use crate::replies::{said, settings};
 use crate::settings::Settings;
+use crate::times::time_told;
 use lw_log::LogFault;
 use lw_stamp::NoMemory;
 
 impl<C: Connects> RedisLog<C> {
+    /// Makes the connection where there is none, and so learns what time it is by the server's clock. Want of memory
+    /// is as away.
+    pub fn connect(&mut self) -> Result<(), LogFault>
+        ensures asked { IfErr result (λ fault. fault ≢ LogFault.NoMemory) }
+    {
+        self.make_ready()
+    }
+
     /// Makes a connection where there is none.
     pub(crate) fn make_ready(&mut self) -> Result<(), LogFault>
         ensures asked { IfErr result (λ fault. fault ≢ LogFault.NoMemory) }
@@ -32,6 +41,8 @@ impl<C: Connects> RedisLog<C> {
         self.log_in()?;
         self.ping()?;
         self.learn_settings()?;
+        self.timing.begin();
+        self.learn_time()?;
         self.is_new = true;
         Ok(())
     }
@@ -97,6 +108,44 @@ impl<C: Connects> RedisLog<C> {
             }
             Err(RedisFault::Refused(_)) => Ok(()),
             Err(fault) => Err(self.give_up(fault)),
+        }
+    }
+
+    /// Asks what time it is, where the stopwatch tells how long that takes. A server that does not tell is used
+    /// nevertheless, and is not asked again over the connection.
+    pub(crate) fn learn_time(&mut self) -> Result<(), LogFault>
+        ensures asked { IfErr result (λ fault. fault ≢ LogFault.NoMemory) }
+    {
+        let Some(asked) = self.line.world.milliseconds() else {
+            return Ok(());
+        };
+        self.timing.note(asked);
+        let bytes = self.ask_made(time_command(self.alloc))?;
+        match time_told(&bytes) {
+            Ok(told) => {
+                self.tell_time(told, asked);
+                Ok(())
+            }
+            Err(RedisFault::Refused(_)) => {
+                self.note_silence();
+                Ok(())
+            }
+            Err(fault) => Err(self.give_up(fault)),
+        }
+    }
+
+    /// Tells what time it is, which was asked for at a moment of the stopwatch.
+    fn tell_time(&mut self, told: u64, asked: u64) {
+        if let Some(now) = self.line.world.milliseconds() {
+            let took = now.saturating_sub(asked);
+            self.line.world.hear(Notice::Time { told, took });
+        }
+    }
+
+    /// The server does not tell the time, which is told once.
+    fn note_silence(&mut self) {
+        if self.timing.note_refusal() {
+            self.line.world.hear(Notice::TellsNoTime);
         }
     }
 

@@ -1,6 +1,7 @@
 //! A log in one stream of a Redis, by which several servers share a fleet.
 #![tactic(auto)]
 
+mod clock;
 mod commands;
 mod connection;
 mod connects;
@@ -18,10 +19,14 @@ mod replies;
 mod seen;
 mod settings;
 mod tcp;
+mod times;
+mod timing;
 mod trims;
 
+pub use clock::{LONGEST_EXCHANGE, RedisClock, is_noted, moment_by, offset_of};
 pub use commands::{
-    ReadFrom, append_command, info_command, login_command, ping_command, read_command, trim_command,
+    ReadFrom, append_command, info_command, login_command, ping_command, read_command,
+    time_command, trim_command,
 };
 pub use connects::{Connects, Notice};
 pub use errors::{MAX_SHOWN, error_prefix, passes, shown};
@@ -36,4 +41,6 @@ pub use patience::{LONGEST_PAUSE, SHORTEST_PAUSE, longer_pause, patience_for};
 pub use redis_log::RedisLog;
 pub use settings::Settings;
 pub use tcp::TcpRedis;
+pub use times::time_told;
+pub use timing::TIME_BETWEEN;
 pub use trims::TRIM_DELAY;

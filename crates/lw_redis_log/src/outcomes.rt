@@ -17,7 +17,7 @@ pub enum RedisFault<'a> {
 }
 
 /// What an error is.
-fn fault_of(text: &[u8]) -> RedisFault<'_>
+pub(crate) fn fault_of(text: &[u8]) -> RedisFault<'_>
     ensures { IsFaultOf text.now result }
 {
     if passes(text) {

@@ -8,12 +8,13 @@ use crate::connects::{Connects, Notice};
 use crate::errors::shown;
 use crate::fleets::{Fleet, Owner, fleet_of_delta};
 use crate::login::Login;
-use crate::notice_rate::NoticeRate;
+use crate::notice_rate::{NoticeRate, Refusals};
 use crate::outcomes::RedisFault;
 use crate::pages::{id_of, position_of};
 use crate::replies::{appended, page_read, trimmed};
 use crate::seen::Seen;
 use crate::settings::Settings;
+use crate::timing::Timing;
 use crate::trims::Trims;
 use lw_log::{Bytes, DeltaLog, EntryFault, LogFault, PAGE, Position};
 use lw_resp::StreamId;
@@ -30,6 +31,8 @@ use std::alloc::Global;
 ///
 /// Entries that are to go stay for `TRIM_DELAY`, so that another server finds the entry that it has read last. They go
 /// with a reading after that which has found that entry; a server that ends before leaves them.
+///
+/// The server is asked what time it is at each new connection, and then with a reading every `TIME_BETWEEN`.
 ///
 /// The first delta that is read or appended tells the fleet. A delta of another fleet is given without its bytes, as
 /// what is no entry. Where a stream begins with one, it is another fleet's, and reading it answers `Refused`.
@@ -49,6 +52,8 @@ pub struct RedisLog<C: Connects> {
     /// Whether the stream was told to be another fleet's.
     is_foreign: bool,
     rate: NoticeRate,
+    refusals: Refusals,
+    pub(crate) timing: Timing,
     /// Whether the next append makes the stream.
     makes: bool,
 }
@@ -77,6 +82,8 @@ impl<C: Connects> RedisLog<C> {
             fleet: Fleet::new(),
             is_foreign: false,
             rate: NoticeRate::new(),
+            refusals: Refusals::new(),
+            timing: Timing::new(),
             makes: false,
         })
     }
@@ -91,7 +98,9 @@ impl<C: Connects> RedisLog<C> {
                 LogFault::Away
             }
             RedisFault::Refused(text) => {
-                self.line.world.hear(Notice::Refused(shown(text)));
+                if self.refusals.tells(text, self.line.world.milliseconds()) {
+                    self.line.world.hear(Notice::Refused(shown(text)));
+                }
                 LogFault::Refused
             }
             RedisFault::Lost => self.lose(),
@@ -125,7 +134,7 @@ impl<C: Connects> RedisLog<C> {
         let Some(mut page) = self.seen.take(from, page) else {
             return Err(self.lose());
         };
-        self.is_new = false;
+        self.end_greeting();
         self.note_page(from, &page);
         self.sift(&mut page)?;
         if let ReadFrom::At(_) = from
@@ -133,7 +142,24 @@ impl<C: Connects> RedisLog<C> {
         {
             self.trim_what_is_due();
         }
+        self.learn_time_if_due();
         Ok(page)
+    }
+
+    /// The connection works.
+    fn end_greeting(&mut self) {
+        if self.is_new {
+            self.refusals.end();
+        }
+        self.is_new = false;
+    }
+
+    /// Asks what time it is, where it was not asked for a while. A failure closes the connection, so that the next call
+    /// is as away.
+    fn learn_time_if_due(&mut self) {
+        if self.line.is_open() && self.timing.is_due(self.line.world.milliseconds()) {
+            let _ = self.learn_time();
+        }
     }
 
     /// Remembers what was read.
@@ -197,6 +223,7 @@ impl<C: Connects> RedisLog<C> {
         match appended(self.alloc, &bytes) {
             Ok(id) => {
                 self.line.settle();
+                self.refusals.end();
                 self.makes = false;
                 self.fleet.note_append(entry);
                 if self.seen.note_append(id, entry) {

@@ -6,8 +6,28 @@ use crate::outcomes::{
 use crate::pages::page_of;
 use crate::settings::Settings;
 use lw_log::{Bytes, Position};
-use lw_resp::{Reply, StreamId, first_reply};
+use lw_resp::{Reply, StreamId, Word, first_reply, first_word};
 use std::alloc::Global;
+
+/// Whether a reply has come whole, whatever it is of; none where what has come begins none.
+pub(crate) fn has_come(bytes: &[u8]) -> Option<bool> {
+    let mut rest = bytes;
+    let mut missing: u64 = 1;
+    for _ in 0..u64::MAX {
+        let Some((word, behind)) = first_word(rest).ok()? else {
+            return Some(false);
+        };
+        missing = missing.saturating_sub(1);
+        if let Word::Array(number) = word {
+            missing = missing.checked_add(number)?;
+        }
+        if missing == 0 {
+            return Some(true);
+        }
+        rest = behind;
+    }
+    None
+}
 
 /// The reply that the bytes are, and nothing behind it.
 fn whole_reply(alloc: Global, bytes: &[u8]) -> Result<Reply<'_>, RedisFault<'_>> {

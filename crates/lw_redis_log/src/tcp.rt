@@ -1,5 +1,6 @@
 //! Connections over TCP.
 
+use crate::clock::RedisClock;
 use crate::connects::{Connects, Notice};
 use log::{Log, error, warn};
 use std::io::{self, ErrorKind};
@@ -9,7 +10,7 @@ use std::time::{Clock, Duration, Instant};
 /// How long connecting takes at most, in milliseconds.
 const CONNECTING: u64 = 1_000;
 
-/// A Redis at a host and a port, a clock and a log.
+/// A Redis at a host and a port, a stopwatch, a log, and what time it is by the clock of the Redis.
 #[derive(Drop)]
 pub struct TcpRedis<'a, 'n, R: Net + Clock, L: Log> {
     runtime: &'a R,
@@ -17,17 +18,25 @@ pub struct TcpRedis<'a, 'n, R: Net + Clock, L: Log> {
     host: &'n str,
     port: u16,
     began: Option<Instant>,
+    clock: &'a RedisClock<'a, R>,
 }
 
 impl<'a, 'n, R: Net + Clock, L: Log> TcpRedis<'a, 'n, R, L> {
-    /// The Redis of a host, which is a name or an IP address.
-    pub fn new(runtime: &'a R, log: &'a L, host: &'n str, port: u16) -> TcpRedis<'a, 'n, R, L> {
+    /// The Redis of a host, which is a name or an IP address. What time it tells is noted in the clock.
+    pub fn new(
+        runtime: &'a R,
+        log: &'a L,
+        host: &'n str,
+        port: u16,
+        clock: &'a RedisClock<'a, R>,
+    ) -> TcpRedis<'a, 'n, R, L> {
         TcpRedis {
             runtime,
             log,
             host,
             port,
             began: Instant::now(runtime).ok(),
+            clock,
         }
     }
 
@@ -80,6 +89,8 @@ impl<R: Net + Clock, L: Log> Connects for TcpRedis<'_, '_, R, L> {
                 error!(log; "entry of another fleet passed over id={}-{}", id.major, id.minor);
             }
             Notice::AnotherStream => error!(log; "stream of another fleet"),
+            Notice::Time { told, took } => self.clock.note(told, took),
+            Notice::TellsNoTime => warn!(log; "redis tells no time"),
         }
     }
 }

@@ -1,6 +1,7 @@
 use crate::hold::shown;
 use lw_redis_log::{
-    ReadFrom, append_command, info_command, login_command, ping_command, read_command, trim_command,
+    ReadFrom, append_command, info_command, login_command, ping_command, read_command,
+    time_command, trim_command,
 };
 use lw_resp::StreamId;
 use std::alloc::Global;
@@ -14,6 +15,7 @@ enum Asked {
     Login,
     Ping,
     Info,
+    Time,
 }
 
 /// The command over the key `fleet`, or with the user.
@@ -26,6 +28,7 @@ fn bytes_of(rt: &impl Abort, alloc: Global, asked: &Asked) -> Vec<u8> {
         Asked::Login => login_command(alloc, key, b"a secret"),
         Asked::Ping => ping_command(alloc),
         Asked::Info => info_command(alloc),
+        Asked::Time => time_command(alloc),
     };
     bytes.expect(rt, "memory")
 }
@@ -54,7 +57,7 @@ const GREATEST: StreamId = StreamId {
 };
 
 /// Commands, and their arrays of bulk strings by the pages on the protocol and on each command. `~` ends a line.
-static ROWS: [(Asked, &str); 11] = [
+static ROWS: [(Asked, &str); 12] = [
     (
         Asked::Read(ReadFrom::First),
         "*6~$6~XRANGE~$5~fleet~$1~-~$1~+~$5~COUNT~$3~256~",
@@ -91,10 +94,12 @@ static ROWS: [(Asked, &str); 11] = [
     (Asked::Login, "*3~$4~AUTH~$5~fleet~$8~a secret~"),
     (Asked::Ping, "*1~$4~PING~"),
     (Asked::Info, "*1~$4~INFO~"),
+    (Asked::Time, "*1~$4~TIME~"),
 ];
 
 /// Tries: lw_redis_log::read_command, lw_redis_log::append_command, lw_redis_log::trim_command
 /// Tries: lw_redis_log::login_command, lw_redis_log::ping_command, lw_redis_log::info_command
+/// Tries: lw_redis_log::time_command
 #[test]
 fn commands_are_arrays_of_their_words(rt: HostRuntime) {
     for (asked, want) in &ROWS {

@@ -24,4 +24,6 @@ mod stage;
 #[cfg(test)]
 mod stories;
 #[cfg(test)]
+mod times;
+#[cfg(test)]
 mod trims;

@@ -24,6 +24,8 @@ pub(crate) enum Answer {
     Ends(&'static str),
     /// These bytes, so many times `a`, and these bytes.
     SaysLarge(&'static str, usize, &'static str),
+    /// These bytes, after so many milliseconds.
+    SaysAfter(u64, &'static str),
 }
 
 /// What is done, in order.
@@ -33,6 +35,8 @@ pub(crate) enum Act {
     Read(Option<(u64, u64)>),
     Append(&'static str),
     Trim(u64, u64),
+    /// The connection is made.
+    Connect,
     /// So many milliseconds pass.
     Pass(u64),
 }
@@ -45,7 +49,15 @@ pub(crate) struct Stage<'a> {
     next: Cell<usize>,
     now: Cell<u64>,
     record: RefCell<String>,
+    /// Whether the story is of the time. In another each question for it is answered, and none is in the record.
+    is_timed: bool,
 }
+
+/// The command that asks for the time.
+const TIME: &[u8] = b"*1\r\n$4\r\nTIME\r\n";
+
+/// What tells the time in a story that is not of it.
+const ANY_TIME: &str = "*2\r\n$10\r\n1405067822\r\n$6\r\n251583\r\n";
 
 impl<'a> Stage<'a> {
     /// Has something stand in the record.
@@ -65,6 +77,15 @@ impl<'a> Stage<'a> {
     /// Has a word with an identifier stand in the record.
     fn note_id(&self, word: &str, id: StreamId) -> Result<(), AllocError> {
         let text = format!(in self.alloc; "{word} {}-{}", id.major, id.minor)?;
+        self.note(text.as_str())
+    }
+
+    /// Has a time and how long it took stand in the record of a story that is of the time.
+    fn note_time(&self, told: u64, took: u64) -> Result<(), AllocError> {
+        if !self.is_timed {
+            return Ok(());
+        }
+        let text = format!(in self.alloc; "time {told} in {took} ms")?;
         self.note(text.as_str())
     }
 
@@ -112,12 +133,22 @@ impl Wire<'_> {
 
 impl Write for Wire<'_> {
     fn write(&mut self, buf: &[u8]) -> io::Result<usize> {
+        if !self.stage.is_timed && buf == TIME {
+            self.bring(ANY_TIME, 0, "")?;
+            self.is_slow = false;
+            self.ends = false;
+            return Ok(buf.len());
+        }
         self.stage.note_bytes(buf)?;
         let (head, letters, tail, is_slow, ends) = match self.stage.answer() {
             Some(Answer::Says(text)) => (*text, 0, "", false, false),
             Some(Answer::SaysSlowly(text)) => (*text, 0, "", true, false),
             Some(Answer::Ends(text)) => (*text, 0, "", false, true),
             Some(Answer::SaysLarge(head, letters, tail)) => (*head, *letters, *tail, false, false),
+            Some(Answer::SaysAfter(milliseconds, text)) => {
+                self.stage.pass(*milliseconds);
+                (*text, 0, "", false, false)
+            }
             _ => return Err(io::Error::from(ErrorKind::BrokenPipe)),
         };
         self.bring(head, letters, tail)?;
@@ -196,6 +227,8 @@ impl<'a> Connects for Caller<'a> {
             Notice::PassedOver(id) => self.stage.note_id("passes over", id),
             Notice::AnotherFleet(id) => self.stage.note_id("another fleet", id),
             Notice::AnotherStream => self.stage.note("another stream"),
+            Notice::Time { told, took } => self.stage.note_time(told, took),
+            Notice::TellsNoTime => self.stage.note("tells no time"),
         };
     }
 }
@@ -234,6 +267,10 @@ fn done<C: Connects>(
                 Err(fault) => fault,
             }
         }
+        Act::Connect => match log.connect() {
+            Ok(()) => return String::from_str(alloc, "= connected"),
+            Err(fault) => fault,
+        },
         Act::Pass(milliseconds) => return format!(in alloc; "{milliseconds} ms"),
     };
     format!(in alloc; "= {fault:?}")
@@ -243,11 +280,17 @@ fn done<C: Connects>(
 pub(crate) type Story<'a> = (&'a [Answer], &'a [Act], &'a str);
 
 /// Plays the story with a log whose user has a login or not, and compares the record of it.
-pub(crate) fn play(
+pub(crate) fn play(rt: &impl Abort, alloc: Global, story: Story<'_>, login: Option<Login>) {
+    play_on(rt, alloc, story, login, false);
+}
+
+/// Plays the story, which is of the time or not.
+fn play_on(
     rt: &impl Abort,
     alloc: Global,
     (answers, acts, want): Story<'_>,
     login: Option<Login>,
+    is_timed: bool,
 ) {
     let stage = Stage {
         alloc,
@@ -255,6 +298,7 @@ pub(crate) fn play(
         next: Cell::new(0),
         now: Cell::new(0),
         record: RefCell::new(String::new(alloc)),
+        is_timed,
     };
     let begun = RedisLog::new(alloc, Caller { stage: &stage }, login, b"k");
     let mut log = begun.expect(rt, "a log");
@@ -272,5 +316,12 @@ pub(crate) fn play(
 pub(crate) fn play_all(rt: &impl Abort, alloc: Global, stories: &[Story<'_>]) {
     for story in stories {
         play(rt, alloc, *story, None);
+    }
+}
+
+/// Plays each story, which is of the time, in the same way.
+pub(crate) fn play_timed(rt: &impl Abort, alloc: Global, stories: &[Story<'_>]) {
+    for story in stories {
+        play_on(rt, alloc, *story, None, true);
     }
 }

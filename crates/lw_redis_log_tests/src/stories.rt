@@ -61,20 +61,85 @@ fn a_stream_is_made(rt: HostRuntime) {
     play_all(&rt, rt.alloc(), &MADE);
 }
 
-/// A refusal is told, and the connection stays.
-static REFUSED: [Story<'static>; 1] = [(
-    &[
-        Opens,
-        PONG,
-        KEEPS,
-        Says("-NOPERM no permissions\r\n"),
-        FIRST,
-    ],
-    &[Append("a"), Append("a")],
-    "connects\n*1~$4~PING~\n*1~$4~INFO~\n\
+/// An access list without `+xadd`.
+const NO_RIGHT: Answer = Says("-NOPERM no permissions\r\n");
+
+/// A refusal is told, and the connection stays. One with the same first word is told again a minute later, or once an
+/// append was done, or over a new connection that was read from.
+static REFUSED: [Story<'static>; 4] = [
+    (
+        &[Opens, PONG, KEEPS, NO_RIGHT, FIRST],
+        &[Append("a"), Append("a")],
+        "connects\n*1~$4~PING~\n*1~$4~INFO~\n\
          *6~$4~XADD~$1~k~$10~NOMKSTREAM~$1~*~$1~e~$1~a~\nNOPERM no permissions\n= Refused\n\
          *6~$4~XADD~$1~k~$10~NOMKSTREAM~$1~*~$1~e~$1~a~\n= 5-0\n",
-)];
+    ),
+    (
+        &[
+            Opens,
+            PONG,
+            KEEPS,
+            NO_RIGHT,
+            Says("-NOPERM other words\r\n"),
+            EMPTY,
+            NO_RIGHT,
+            Says("-WRONGTYPE another type\r\n"),
+            NO_RIGHT,
+        ],
+        &[
+            Append("a"),
+            Append("a"),
+            Pass(59_999),
+            Read(Some((5, 0))),
+            Pass(1),
+            Append("a"),
+            Append("a"),
+            Append("a"),
+        ],
+        "connects\n*1~$4~PING~\n*1~$4~INFO~\n\
+         *6~$4~XADD~$1~k~$10~NOMKSTREAM~$1~*~$1~e~$1~a~\nNOPERM no permissions\n= Refused\n\
+         *6~$4~XADD~$1~k~$10~NOMKSTREAM~$1~*~$1~e~$1~a~\n= Refused\n59999 ms\n\
+         *6~$6~XRANGE~$1~k~$4~(5-0~$1~+~$5~COUNT~$3~256~\n=\n1 ms\n\
+         *6~$4~XADD~$1~k~$10~NOMKSTREAM~$1~*~$1~e~$1~a~\nNOPERM no permissions\n= Refused\n\
+         *6~$4~XADD~$1~k~$10~NOMKSTREAM~$1~*~$1~e~$1~a~\nWRONGTYPE another type\n= Refused\n\
+         *6~$4~XADD~$1~k~$10~NOMKSTREAM~$1~*~$1~e~$1~a~\nNOPERM no permissions\n= Refused\n",
+    ),
+    (
+        &[Opens, PONG, KEEPS, NO_RIGHT, FIRST, NO_RIGHT],
+        &[Append("a"), Append("a"), Append("a")],
+        "connects\n*1~$4~PING~\n*1~$4~INFO~\n\
+         *6~$4~XADD~$1~k~$10~NOMKSTREAM~$1~*~$1~e~$1~a~\nNOPERM no permissions\n= Refused\n\
+         *6~$4~XADD~$1~k~$10~NOMKSTREAM~$1~*~$1~e~$1~a~\n= 5-0\n\
+         *6~$4~XADD~$1~k~$10~NOMKSTREAM~$1~*~$1~e~$1~a~\nNOPERM no permissions\n= Refused\n",
+    ),
+    (
+        &[
+            Opens,
+            PONG,
+            KEEPS,
+            NO_RIGHT,
+            Ends(""),
+            Opens,
+            PONG,
+            KEEPS,
+            EMPTY,
+            NO_RIGHT,
+        ],
+        &[
+            Append("a"),
+            Append("a"),
+            Pass(100),
+            Read(Some((5, 0))),
+            Append("a"),
+        ],
+        "connects\n*1~$4~PING~\n*1~$4~INFO~\n\
+         *6~$4~XADD~$1~k~$10~NOMKSTREAM~$1~*~$1~e~$1~a~\nNOPERM no permissions\n= Refused\n\
+         *6~$4~XADD~$1~k~$10~NOMKSTREAM~$1~*~$1~e~$1~a~\n= Away\n100 ms\n\
+         connects\n*1~$4~PING~\n*1~$4~INFO~\n\
+         *6~$6~XRANGE~$1~k~$4~(5-0~$1~+~$5~COUNT~$3~256~\n=\n\
+         *6~$4~XADD~$1~k~$10~NOMKSTREAM~$1~*~$1~e~$1~a~\nNOPERM no permissions\n= Refused\n",
+    ),
+];
 
 /// Tries: lw_redis_log::RedisLog::new
 #[test]
