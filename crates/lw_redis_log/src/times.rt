@@ -86,7 +86,8 @@ fn pair(bytes: &[u8]) -> Option<(&[u8], &[u8])>
 /// The bulk string that the bytes are.
 fn last_bulk(bytes: &[u8]) -> Option<&[u8]>
     ensures found { IfSome result (λ x. IsLastBulk bytes.now x.now) }
-    ensures only { (content : List ℕ) → IsLastBulk bytes.now content → IsSomeAnd result (λ x. x.now ≡ content) }
+    ensures only { (content : List ℕ) → IsLastBulk bytes.now content
+        → IsSomeAnd result (λ x. x.now ≡ content) }
 {
     match first_bulk(bytes) {
         Some((content, behind)) => {
@@ -172,7 +173,8 @@ fn moment_of(seconds: &[u8], microseconds: &[u8]) -> Option<u64>
 
 /// The same, of numbers.
 fn milliseconds(whole: u64, part: u64) -> Option<u64>
-    ensures found { IfSome result (λ told. (part < 1000000) × (told ≡ whole * 1000 + part / 1000) × (told < 2 ^ 64)) }
+    ensures found { IfSome result (λ told. (part < 1000000) × (told ≡ whole * 1000 + part / 1000)
+        × (told < 2 ^ 64)) }
     ensures none { IfNone result (part < 1000000 → 2 ^ 64 ≤ whole * 1000 + part / 1000) }
 {
     if part >= MICROSECONDS_A_SECOND {
