@@ -1,6 +1,7 @@
 //! What a reply to `TIME` tells.
 
-ghost use Rattle.std.specs.Prelude.{◌≡◌, ◌≢◌, ◌<◌, ◌≤◌, ◌+◌, ◌*◌, ◌/◌, ◌^◌, ◌↔◌, ℕ, List, IsTrue, IfSome, IfNone, IsSomeAnd};
+ghost use Rattle.std.specs.Prelude.{◌≡◌, ◌≢◌, ◌<◌, ◌≤◌, ◌+◌, ◌*◌, ◌/◌, ◌^◌, ◌↔◌, ℕ, List};
+ghost use Rattle.std.specs.Prelude.{IsTrue, IfSome, IfNone, IsSomeAnd};
 ghost use Rattle.std.specs.Fmt.{decimal};
 ghost use Rattle.lw_resp.specs.Bytes.{bulk_bytes};
 ghost use Rattle.lw_resp.specs.Reading.{Begins};
