@@ -89,6 +89,7 @@ USERS = {
     "reader": tuple(it for it in RIGHTS if it != "+xadd"),
     "writer": tuple(it for it in RIGHTS if it != "+xrange"),
     "short": tuple(it for it in RIGHTS if it != "+info"),
+    "timeless": tuple(it for it in RIGHTS if it != "+time"),
 }
 AT_A_START = {
     "a wrong password": (("fleet", WRONG), (), "WRONGPASS"),
@@ -120,6 +121,7 @@ def serving(scene, redis):
     texts = {
         "a user with the rights that are needed": f"fleet\n{PASSWORD}\n",
         "one that may not ask what is kept on the disk": f"short\n{PASSWORD}\n",
+        "one that may not ask what time it is": f"timeless\n{PASSWORD}\n",
         "the general user": f"default\n{GENERAL}\n",
         "lines that end by CR and LF": f"fleet\r\n{PASSWORD}\r\n",
         "no end of the last line": f"fleet\n{PASSWORD}",

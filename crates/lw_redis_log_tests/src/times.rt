@@ -158,7 +158,7 @@ static ASKED: [Story<'static>; 3] = [
     ),
     (
         &[
-            Opens, PONG, KEEPS, AT_ONCE, EMPTY, EMPTY, LATER, EMPTY, EMPTY, AT_ONCE,
+            Opens, PONG, KEEPS, AT_ONCE, EMPTY, EMPTY, EMPTY, LATER, EMPTY, EMPTY, AT_ONCE,
         ],
         &[
             Read(None),
