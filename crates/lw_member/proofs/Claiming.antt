@@ -77,6 +77,7 @@ module _ (a0 a1 a2 : Option (List LogCall)) (s0 s1 s2 s3 : Standing) (fleet : Li
       fleet_is ∙ ap (λ f. Some f) (sym started.entry.fleet_is),
     );
     numbered = started.entry.sequence_is;
+    sequence = ap (λ (s : Standing). s.sequence) only ∙ takes.sequence ∙ started.sequence;
     read = subst (λ p. AreReadToTheEnd p pages) started.read_to read;
     read_to = ap (λ (s : Standing). place_of s.read_to) only ∙ last ∙ ap (λ p. last_read p pages) started.read_to;
     good = subst (λ f. AreGood f (entries_in pages)) (ap (λ (s : Standing). option_map (λ (f : FleetId). f.bytes) s.fleet) (sym only)) takes.good;

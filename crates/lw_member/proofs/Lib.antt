@@ -7,6 +7,7 @@ pub mod Counting
 pub mod Taking
 pub mod Merging
 pub mod Knowing
+pub mod Sequences
 pub mod Making
 pub mod RoundLemmas
 pub mod Catching

@@ -12,7 +12,7 @@ use Rattle.lw_log.specs.declared.start.Start.{Start as Starts}
 use Rattle.lw_log.specs.Entries.BodyContent.{Start}
 use Rattle.lw_member.specs.declared.numbers.Numbers.{Numbers}
 use Rattle.lw_member.specs.declared.standing.Standing.{Standing}
-use Rattle.lw_member.specs.Own.{IsOwnIn, IsOwnSince}
+use Rattle.lw_member.specs.Own.{IsOwnIn, IsOwnSince, NumbersOn, next_sequence}
 use Rattle.lw_member.specs.Counting.{CountsEntries, own_entries}
 use Rattle.lw_member.specs.Parts.{content_of, fleet_of, numbers_of, IsMember}
 use Rattle.lw_member.specs.Reading.{AreReadToTheEnd, entries_in, last_read, AreGood, AreNoted, HoldsNumber, IsTakenFirst}
@@ -22,9 +22,10 @@ use Rattle.lw_member.specs.inner.Going.{Goes}
 use Rattle.lw_member.specs.inner.Standing.{HasSameStart, IsStill, counted_in}
 use Rattle.lw_member.specs.inner.Taking.{Takes, IsJudged}
 use Rattle.lw_member.specs.inner.Writing.{Made, Written, IsClaimed}
-use Rattle.lw_member.proofs.Asking.{calls_then}
+use Rattle.lw_member.proofs.Asking.{calls_then, ended_reads}
 use Rattle.lw_member.proofs.Counting.{counts_then}
 use Rattle.lw_member.proofs.Numbering.{noted_same}
+use Rattle.lw_member.proofs.Sequences.{on_both, on_reads}
 use Rattle.lw_member.proofs.Taking.{judged_holds}
 
 not_both : {G : Type 0} → false ≡ true → G
@@ -111,6 +112,8 @@ module _ (a0 a1 a2 : Option (List LogCall)) (s0 s1 s2 s3 : Standing) (calls : Li
     wrote = wrote.now.wrote;
     asked = calls_then a0 a1 a2 pages wrote.now.wrote asked wrote.now.asked;
     start = same_start a0 a2 s0 s1 s2 s3 same.number same.start same.alone same.floor made.goes made.only wrote.same;
+    sequence = on_both s0.sequence pages s0.sequence wrote.now.wrote s3.sequence (on_reads s0.sequence pages (ended_reads (place_of s0.read_to) pages read))
+        (subst (λ n. NumbersOn n wrote.now.wrote s3.sequence) (ap (λ (s : Standing). s.sequence) made.only ∙ takes.sequence) wrote.now.numbered);
     claims = inl (idle, refl, wrote.same.claimed ∙ ap (λ (s : Standing). s.claimed) made.only ∙ same.claimed);
     read = read;
     read_to = read_later s0 s1 s2 s3 (place_of s0.read_to) pages wrote.now.wrote same.alone last made.only wrote.now.read_to;
@@ -178,6 +181,12 @@ module _ (a0 a1 a2 : Option (List LogCall)) (s0 s1 s2 s3 : Standing) (calls : Li
     wrote = wrote.now.wrote;
     asked = calls_then a0 a1 a2 (Wrote claimed.place ∷ claimed.pages) wrote.now.wrote claimed.asked wrote.now.asked;
     start = same_start a0 a2 s0 s1 s2 s3 same.number same.start same.alone same.floor made.goes made.only wrote.same;
+    sequence = (
+      (claimed.own.0.entry, claimed.own.0.is, claimed.numbered),
+      on_both (next_sequence s0.sequence) claimed.pages (next_sequence s0.sequence) wrote.now.wrote s3.sequence
+          (on_reads (next_sequence s0.sequence) claimed.pages (ended_reads (place_after s0.alone (place_of s0.read_to) (Wrote claimed.place ∷ [])) claimed.pages claimed.read))
+          (subst (λ n. NumbersOn n wrote.now.wrote s3.sequence) (ap (λ (s : Standing). s.sequence) made.only ∙ claimed.sequence) wrote.now.numbered),
+    );
     claims = inr (claiming, wrote.same.claimed ∙ ap (λ (s : Standing). s.claimed) made.only ∙ is, claimed.place, refl, own_start, claimed.numbered);
     read = claimed.read;
     read_to = read_later s0 s1 s2 s3 (place_after s0.alone (place_of s0.read_to) (Wrote claimed.place ∷ [])) claimed.pages wrote.now.wrote same.alone claimed.read_to made.only wrote.now.read_to;

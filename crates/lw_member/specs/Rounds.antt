@@ -11,7 +11,7 @@ use Rattle.lw_log.specs.Calls.LogCall.{Read, Wrote, Tried, Trimmed}
 use Rattle.lw_log.specs.Entries.BodyContent.{Start}
 use Rattle.lw_member.specs.Member.{MemberContent, IsLedBy, IsSameStart}
 use Rattle.lw_member.specs.Counting.{CountsEntries, counted_by, own_entries}
-use Rattle.lw_member.specs.Own.{IsOwnIn, IsOwnSince, next_sequence}
+use Rattle.lw_member.specs.Own.{IsOwnIn, IsOwnSince, NumbersOn, next_sequence}
 use Rattle.lw_member.specs.Reading.{AreReadToTheEnd, entries_in, last_read, AreGood, HoldsNumber, IsTakenFirst, AreNoted, MergesEntries}
 
 -- the calls, made one after another, each with the reply that the node gives
@@ -77,6 +77,7 @@ pub record IsRound (old : MemberContent) (calls : List Call) (replies : List Rep
   pub wrote : List LogCall
   pub asked : Calls old.calls new.calls (claim ++ (pages ++ wrote))
   pub start : IsSameStart old new
+  pub sequence : NumbersOn old.sequence (claim ++ (pages ++ wrote)) new.sequence
   pub claims : IsClaim old calls claim new
   pub read : AreReadToTheEnd (place_after old.alone old.read_to claim) pages
   pub read_to : new.read_to ≡ place_after old.alone (last_read (place_after old.alone old.read_to claim) pages) wrote

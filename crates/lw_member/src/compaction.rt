@@ -3,6 +3,7 @@
 ghost use Rattle.std.specs.Prelude.{◌≡◌, ◌↔◌, IfOk, IsTrue, OnErr, OnOk};
 ghost use Rattle.lw_log.specs.Calls.{place};
 ghost use Rattle.lw_member.specs.Compaction.{IsCompacted, Compacts, StandsBefore};
+ghost use Rattle.lw_member.specs.Own.{NumbersOwn};
 ghost use Rattle.lw_member.specs.Parts.{content_of, IsMember};
 ghost use Rattle.lw_member.specs.inner.Standing.{HasSameStart};
 ghost use Rattle.lw_member.specs.inner.Wholes.{IsWrittenWhole, TriesWhole};
@@ -28,6 +29,8 @@ fn write_whole<G: DeltaLog>(
     requires { IsMember (G.calls log.old) standing.old }
     ensures written { IfOk result (λ position. IsWrittenWhole (G.calls log.old) standing.old fleet.bytes
         (place position) (G.calls log.new) standing.new) }
+    ensures sequence { NumbersOwn (content_of (G.calls log.old) standing.old)
+        (content_of (G.calls log.new) standing.new) }
     ensures own { OnErr result (TriesWhole (G.calls log.old) standing.old fleet.bytes
         (G.calls log.new) standing.new) }
     ensures same { HasSameStart standing.old standing.new }
@@ -54,6 +57,8 @@ pub(crate) fn compact<G: DeltaLog>(log: &mut G, standing: &mut Standing) -> Resu
     requires { IsMember (G.calls log.old) standing.old }
     ensures compacted { OnOk result (IsCompacted (content_of (G.calls log.old) standing.old)
         (content_of (G.calls log.new) standing.new)) }
+    ensures sequence { NumbersOwn (content_of (G.calls log.old) standing.old)
+        (content_of (G.calls log.new) standing.new) }
     ensures own { Compacts (content_of (G.calls log.old) standing.old)
         (content_of (G.calls log.new) standing.new) }
     ensures member { IsMember (G.calls log.new) standing.new }

@@ -33,7 +33,7 @@ impl FirstLook {
         self.any
     }
 
-    /// The sequence before that of the first entry of a start: what begins a log is the only entry with the sequence 1.
+    /// The sequence before that of the first entry of a start: only where none is there does it begin with 1.
     pub(crate) fn sequence(&self) -> u64
         ensures { (es : List (List ℕ)) → HasSeen es self.now → result ≡ sequence_over es }
     {

@@ -17,6 +17,7 @@ ghost use Rattle.lw_member.specs.Rounds.{Makes};
 ghost use Rattle.lw_member.specs.inner.Seeing.{IsSeenBy, AreSeenBy};
 ghost use Rattle.lw_member.specs.inner.Going.{Goes};
 ghost use Rattle.lw_member.specs.Counting.{counted_with};
+ghost use Rattle.lw_member.specs.Own.{next_sequence};
 ghost use Rattle.lw_member.specs.Parts.{fleet_of, IsLeading, IsMember};
 ghost use Rattle.lw_member.specs.inner.Standing.{BeginsAnewBy, IsNew, HasSameStart, IsStill, counted_in, counted_of};
 ghost use Rattle.lw_member.specs.inner.Taking.{Takes, IsBehind, IsJudged, IsJudgedEntry, IsJudgedPage, IsSpelt, IsEntryOf};
@@ -48,8 +49,8 @@ pub(crate) struct Standing {
     pub alone: bool,
     pub claimed: bool,
     pub floor: u64,
-    /// Of the last entry whose append returned. Before the first it is 0 over an empty log, and else 1: so only the first
-    /// entry of a log has the sequence 1.
+    /// Of the last entry whose append returned. Before the first it is 0 where the log was found empty, and else 1. So a
+    /// start that found entries writes none with the sequence 1; two that found none at once both do.
     pub sequence: u64,
     /// Whether the log leads all that the node knows.
     pub led: bool,
@@ -102,6 +103,7 @@ impl Standing {
         ensures fault { IfErr result (λ fault. fault ≢ IsLog IsLost) }
         // Also where it fails.
         ensures behind { IsBehind self.old (placed page.now) self.new }
+        ensures sequence { self.new.sequence ≡ self.old.sequence }
         ensures same { HasSameStart self.old self.new }
         ensures leading { (asked : Option (List LogCall)) → AreSeenBy asked (bytes_of (placed page.now))
             → IsLeading asked self.old → IsLeading asked self.new }
@@ -118,6 +120,7 @@ impl Standing {
         ensures taken { OnOk result (Takes self.old (bytes.now ∷ []) self.new) }
         ensures fault { IfErr result (λ fault. fault ≢ IsLog IsLost) }
         ensures read_to { self.new.read_to ≡ self.old.read_to }
+        ensures sequence { self.new.sequence ≡ self.old.sequence }
         ensures same { HasSameStart self.old self.new }
         ensures leading { (asked : Option (List LogCall)) → IsSeenBy asked bytes.now
             → IsLeading asked self.old → IsLeading asked self.new }
@@ -273,6 +276,8 @@ impl Standing {
           read_to = self.new.read_to;
           size = self.new.size;
         } }
+        ensures sequence { self.new.sequence ≡ next_sequence self.old.sequence }
+        ensures risen { self.old.sequence ≤ self.new.sequence }
         ensures read_to { place_of self.new.read_to
             ≡ cond self.old.alone (Some (place position)) (place_of self.old.read_to) }
         ensures counted { counted_in self.new
@@ -288,6 +293,8 @@ impl Standing {
           read_to = self.new.read_to;
           size = self.new.size;
         } }
+        ensures sequence { self.new.sequence ≡ next_sequence self.old.sequence }
+        ensures risen { self.old.sequence ≤ self.new.sequence }
         ensures read_to { place_of self.new.read_to
             ≡ cond self.old.alone (Some (place position)) (place_of self.old.read_to) }
         ensures counted { counted_in self.new ≡ cond self.old.alone (length, 0) (counted_in self.old) }
@@ -302,6 +309,8 @@ impl Standing {
           read_to = self.new.read_to;
           size = self.new.size;
         } }
+        ensures sequence { self.new.sequence ≡ next_sequence self.old.sequence }
+        ensures risen { self.old.sequence ≤ self.new.sequence }
         ensures read_to { place_of self.new.read_to
             ≡ cond self.old.alone (Some (place position)) (place_of self.old.read_to) }
         ensures counted { counted_in self.new
@@ -322,6 +331,8 @@ impl Standing {
           size = self.new.size;
           fleet = self.new.fleet;
         } }
+        ensures sequence { self.new.sequence ≡ next_sequence self.old.sequence }
+        ensures risen { self.old.sequence ≤ self.new.sequence }
         ensures read_to { place_of self.new.read_to
             ≡ cond self.old.alone (Some (place position)) (place_of self.old.read_to) }
         ensures counted { counted_in self.new

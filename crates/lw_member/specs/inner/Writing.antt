@@ -8,7 +8,7 @@ use Rattle.lw_call.specs.declared.call.Call.{Call}
 use Rattle.lw_call.specs.declared.reply.Reply.{Reply}
 use Rattle.lw_node.specs.Exchange.{Merged}
 use Rattle.lw_member.specs.declared.standing.Standing.{Standing}
-use Rattle.lw_member.specs.Own.{AreOwnCalls, IsOwnIn, IsOwnSince, next_sequence}
+use Rattle.lw_member.specs.Own.{AreOwnCalls, IsOwnIn, IsOwnSince, NumbersOn, next_sequence}
 use Rattle.lw_member.specs.Reading.{AreReadToTheEnd, entries_in, last_read, AreGood, AreNoted, HoldsNumber, IsTakenFirst, MergesEntries}
 use Rattle.lw_member.specs.Rounds.{Makes, place_after}
 use Rattle.lw_member.specs.Counting.{CountsEntries, own_entries}
@@ -45,6 +45,7 @@ pub record IsStarted (before : Option (List LogCall)) (old : Standing) (fleet : 
   pub place : Placed
   pub asked : Calls before after (Wrote place ∷ [])
   pub entry : IsEntryOf old fleet Start place.1
+  pub sequence : new.sequence ≡ next_sequence old.sequence
   pub only : new ≡ record old { sequence = new.sequence; read_to = new.read_to; size = new.size; fleet = new.fleet }
   pub read_to : place_of new.read_to ≡ place_after old.alone (place_of old.read_to) (Wrote place ∷ [])
   pub counted : CountsEntries (counted_in old) (own_entries old.alone (Wrote place ∷ [])) (counted_in new)
@@ -54,6 +55,7 @@ pub record IsWritingNow (before : Option (List LogCall)) (old : Standing) (after
   pub wrote : List LogCall
   pub asked : Calls before after wrote
   pub one : ((old.led ≡ true) × (wrote ≡ [])) ⊎ ((old.led ≡ false) × (p : Placed) × (wrote ≡ Wrote p ∷ []) × IsOwnSince (content_of after new) old.written p.1)
+  pub numbered : NumbersOn old.sequence wrote new.sequence
   pub led : new.led ≡ true
   pub read_to : place_of new.read_to ≡ place_after old.alone (place_of old.read_to) wrote
   pub counted : CountsEntries (counted_in old) (own_entries old.alone wrote) (counted_in new)
@@ -66,6 +68,7 @@ pub record IsClaimed (before : Option (List LogCall)) (old : Standing) (after : 
   pub asked : Calls before after (Wrote place ∷ pages)
   pub own : IsOwnIn (content_of after new) Start place.1
   pub numbered : own.0.entry.sequence ≡ next_sequence old.sequence
+  pub sequence : new.sequence ≡ next_sequence old.sequence
   pub read : AreReadToTheEnd (place_after old.alone (place_of old.read_to) (Wrote place ∷ [])) pages
   pub read_to : place_of new.read_to ≡ last_read (place_after old.alone (place_of old.read_to) (Wrote place ∷ [])) pages
   pub good : AreGood (fleet_of new) (entries_in pages)

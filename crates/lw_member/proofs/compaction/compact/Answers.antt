@@ -5,6 +5,8 @@ use Rattle.lw_log.specs.declared.entry.FleetId.{FleetId}
 use Rattle.lw_member.proofs.Asking.{calls_none}
 use Rattle.lw_member.proofs.Catching.{member_more}
 use Rattle.lw_member.proofs.Compacting.{none_of, compacted_none, compacted_kept, compacted_whole, compacts_kept, compacts_none, compacts_read, compacts_tried, compacts_trimmed}
+use Rattle.lw_member.specs.Parts.{content_of}
+use Rattle.lw_member.proofs.Sequences.{numbers_read, numbers_then, numbers_trim}
 use Rattle.lw_member.proofs.compaction.compact.Goals as goal
 
 pub returns-in_err-catch_up-clause-own : goal.returns-in_err-catch_up-clause-own
@@ -86,3 +88,35 @@ returns-else-stands_before-clause-own g c =
     compacts_kept _ _ c.args.standing.now c.catch_up.new.standing read.0 c.in_ok-catch_up.field-0 read.1 read.2 read.3 read.4 read.5 c.catch_up.ensures.same c.requires
     _ c.write_whole.new.standing c.in-Some-fleet.fleet.bytes fleet c.write_whole.ensures.same c.write_whole.ensures.node c.write_whole.ensures.fleet c.write_whole.ensures.numbers
     _ c.in-Some.upto c.in-Some.is c.in_ok-position.position c.in_ok-position.ensures.written (calls_none _)
+
+pub returns-in_err-catch_up-clause-sequence : goal.returns-in_err-catch_up-clause-sequence
+returns-in_err-catch_up-clause-sequence g c =
+    numbers_read (content_of _ c.args.standing.now) (content_of _ c.catch_up.new.standing) c.catch_up.ensures.asked.0 c.catch_up.ensures.asked.1 c.catch_up.ensures.asked.2 c.catch_up.ensures.sequence
+
+pub returns-in_default-clause-sequence : goal.returns-in_default-clause-sequence
+returns-in_default-clause-sequence g c =
+    numbers_read (content_of _ c.args.standing.now) (content_of _ c.catch_up.new.standing) c.catch_up.ensures.asked.0 c.catch_up.ensures.asked.1 c.catch_up.ensures.asked.2 c.catch_up.ensures.sequence
+
+pub returns-in_default-fleet-clause-sequence : goal.returns-in_default-fleet-clause-sequence
+returns-in_default-fleet-clause-sequence g c =
+    numbers_read (content_of _ c.args.standing.now) (content_of _ c.catch_up.new.standing) c.catch_up.ensures.asked.0 c.catch_up.ensures.asked.1 c.catch_up.ensures.asked.2 c.catch_up.ensures.sequence
+
+pub returns-in_err-position-clause-sequence : goal.returns-in_err-position-clause-sequence
+returns-in_err-position-clause-sequence g c =
+    numbers_then (content_of _ c.args.standing.now) (content_of _ c.catch_up.new.standing) (content_of _ c.write_whole.new.standing) (numbers_read (content_of _ c.args.standing.now) (content_of _ c.catch_up.new.standing) c.catch_up.ensures.asked.0 c.catch_up.ensures.asked.1 c.catch_up.ensures.asked.2 c.catch_up.ensures.sequence) c.write_whole.ensures.sequence
+
+pub returns-in_err-trim-clause-sequence : goal.returns-in_err-trim-clause-sequence
+returns-in_err-trim-clause-sequence g c =
+    numbers_then (content_of _ c.args.standing.now) (content_of _ c.write_whole.new.standing) (content_of _ c.write_whole.new.standing)
+    (numbers_then (content_of _ c.args.standing.now) (content_of _ c.catch_up.new.standing) (content_of _ c.write_whole.new.standing) (numbers_read (content_of _ c.args.standing.now) (content_of _ c.catch_up.new.standing) c.catch_up.ensures.asked.0 c.catch_up.ensures.asked.1 c.catch_up.ensures.asked.2 c.catch_up.ensures.sequence) c.write_whole.ensures.sequence)
+    (numbers_trim (content_of _ c.write_whole.new.standing) (content_of _ c.write_whole.new.standing) c.in-Some.upto c.trim.result c.trim.ensures refl)
+
+pub returns-in_ok-trim-clause-sequence : goal.returns-in_ok-trim-clause-sequence
+returns-in_ok-trim-clause-sequence g c =
+    numbers_then (content_of _ c.args.standing.now) (content_of _ c.write_whole.new.standing) (content_of _ c.write_whole.new.standing)
+    (numbers_then (content_of _ c.args.standing.now) (content_of _ c.catch_up.new.standing) (content_of _ c.write_whole.new.standing) (numbers_read (content_of _ c.args.standing.now) (content_of _ c.catch_up.new.standing) c.catch_up.ensures.asked.0 c.catch_up.ensures.asked.1 c.catch_up.ensures.asked.2 c.catch_up.ensures.sequence) c.write_whole.ensures.sequence)
+    (numbers_trim (content_of _ c.write_whole.new.standing) (content_of _ c.write_whole.new.standing) c.in-Some.upto c.trim.result c.trim.ensures refl)
+
+pub returns-else-stands_before-clause-sequence : goal.returns-else-stands_before-clause-sequence
+returns-else-stands_before-clause-sequence g c =
+    numbers_then (content_of _ c.args.standing.now) (content_of _ c.catch_up.new.standing) (content_of _ c.write_whole.new.standing) (numbers_read (content_of _ c.args.standing.now) (content_of _ c.catch_up.new.standing) c.catch_up.ensures.asked.0 c.catch_up.ensures.asked.1 c.catch_up.ensures.asked.2 c.catch_up.ensures.sequence) c.write_whole.ensures.sequence

@@ -1,4 +1,4 @@
-use Rattle.std.proofs.Common.{◌≡◌, ℕ, List, Option, ap, arith, subst}
+use Rattle.std.proofs.Common.{◌≡◌, ℕ, List, Option, ap, ◌∙◌, refl, arith, subst}
 use Rattle.lw_log.specs.Calls.{LogCall, placed, place_of}
 use Rattle.lw_log.specs.declared.position.Position.{Position}
 use Rattle.lw_member.specs.Parts.{IsLeading}
@@ -12,7 +12,7 @@ use Rattle.lw_member.proofs.Merging.{same_failed, same_none, same_then}
 use Rattle.lw_member.proofs.rounds.catch_up.Goals as goal
 
 pub loop-page-init : goal.loop-page-init
-loop-page-init g c = record { caught = caught_start _ c.args.standing.now; member = λ m. m }
+loop-page-init g c = record { caught = caught_start _ c.args.standing.now; sequence = refl; member = λ m. m }
 
 pub returns-in-Err-clause-asked : goal.returns-in-Err-clause-asked
 returns-in-Err-clause-asked g c =
@@ -90,8 +90,18 @@ loop-page-preserved g c =
     let leads = subst (λ (p : List (Position × List ℕ)). (asked : Option (List LogCall)) → AreSeenBy asked (bytes_of (placed p)) → IsLeading asked s → IsLeading asked s1) same2 c.in_ok-take_page.ensures.leading in
     record {
       caught = caught_page _ _ _ s0 s s1 c.loop-page.own c.in_ok-own.own page c.loop-page.invariant.caught c.in-Ok.ensures judged takes read_to c.in_ok-take_page.ensures.same (omega (arith, c.len.ensures, c.if-len-lt-PAGE.false));
+      sequence = c.take_page.ensures.sequence ∙ c.loop-page.invariant.sequence;
       member = λ m. page_leads _ _ s s1 _ page c.in-Ok.ensures leads c.in_ok-take_page.ensures.same (c.loop-page.invariant.member m);
     }
 
 pub returns-clause-asked : goal.returns-clause-asked
 returns-clause-asked g c = caught_asked _ _ _ _ _ c.loop-page.invariant.caught
+
+pub returns-in-Err-clause-sequence : goal.returns-in-Err-clause-sequence
+returns-in-Err-clause-sequence g c = ap (λ (x : Standing). x.sequence) c.failed.ensures.only ∙ c.loop-page.invariant.sequence
+
+pub returns-in_err-take_page-clause-sequence : goal.returns-in_err-take_page-clause-sequence
+returns-in_err-take_page-clause-sequence g c = c.take_page.ensures.sequence ∙ c.loop-page.invariant.sequence
+
+pub returns-then-len-lt-PAGE-clause-sequence : goal.returns-then-len-lt-PAGE-clause-sequence
+returns-then-len-lt-PAGE-clause-sequence g c = c.take_page.ensures.sequence ∙ c.loop-page.invariant.sequence

@@ -5,6 +5,8 @@ use Rattle.lw_member.proofs.Asking.{calls_none}
 use Rattle.lw_member.proofs.Catching.{member_failed, member_goes, member_claimed}
 use Rattle.lw_member.proofs.Claiming.{claim_is, claims_failed, claims_more, claims_read}
 use Rattle.lw_member.proofs.Merging.{on_err, same_failed, same_made, same_then, same_unclaimed}
+use Rattle.lw_member.specs.Parts.{content_of}
+use Rattle.lw_member.proofs.Sequences.{numbers_read, numbers_then}
 use Rattle.lw_member.proofs.rounds.claim.Goals as goal
 
 pub returns-in_err-own-clause-own : goal.returns-in_err-own-clause-own
@@ -69,3 +71,29 @@ returns-then-is_gone-clause-same g c =
 pub returns-then-is_gone-clause-member : goal.returns-then-is_gone-clause-member
 returns-then-is_gone-clause-member g c = λ m.
     member_failed _ _ [] c.catch_up.new.standing c.failed.new.self (calls_none _) c.failed.ensures.only c.failed.ensures.leading (c.catch_up.ensures.member (c.in_ok-fleet.ensures.member m))
+
+pub returns-in_err-own-clause-sequence : goal.returns-in_err-own-clause-sequence
+returns-in_err-own-clause-sequence g c =
+    numbers_then (content_of _ c.args.standing.now) (content_of _ c.write_start.new.standing) (content_of _ c.catch_up.new.standing) c.write_start.ensures.sequence (numbers_read (content_of _ c.write_start.new.standing) (content_of _ c.catch_up.new.standing) c.catch_up.ensures.asked.0 c.catch_up.ensures.asked.1 c.catch_up.ensures.asked.2 c.catch_up.ensures.sequence)
+
+pub returns-clause-sequence : goal.returns-clause-sequence
+returns-clause-sequence g c =
+    numbers_then (content_of _ c.args.standing.now) (content_of _ c.write_start.new.standing) (content_of _ c.catch_up.new.standing) c.write_start.ensures.sequence (numbers_read (content_of _ c.write_start.new.standing) (content_of _ c.catch_up.new.standing) c.catch_up.ensures.asked.0 c.catch_up.ensures.asked.1 c.catch_up.ensures.asked.2 c.catch_up.ensures.sequence)
+
+pub returns-then-is_gone-clause-sequence : goal.returns-then-is_gone-clause-sequence
+returns-then-is_gone-clause-sequence g c =
+    numbers_then (content_of _ c.args.standing.now) (content_of _ c.catch_up.new.standing) (content_of _ c.failed.new.self)
+    (numbers_then (content_of _ c.args.standing.now) (content_of _ c.write_start.new.standing) (content_of _ c.catch_up.new.standing) c.write_start.ensures.sequence (numbers_read (content_of _ c.write_start.new.standing) (content_of _ c.catch_up.new.standing) c.catch_up.ensures.asked.0 c.catch_up.ensures.asked.1 c.catch_up.ensures.asked.2 c.catch_up.ensures.sequence))
+    (numbers_read (content_of _ c.catch_up.new.standing) (content_of _ c.failed.new.self) [] (calls_none _) tt (ap (λ (x : Standing). x.sequence) c.failed.ensures.only))
+
+pub returns-in_err-raise-clause-sequence : goal.returns-in_err-raise-clause-sequence
+returns-in_err-raise-clause-sequence g c =
+    numbers_then (content_of _ c.args.standing.now) (content_of _ c.catch_up.new.standing) (content_of _ c.raise.new.self)
+    (numbers_then (content_of _ c.args.standing.now) (content_of _ c.write_start.new.standing) (content_of _ c.catch_up.new.standing) c.write_start.ensures.sequence (numbers_read (content_of _ c.write_start.new.standing) (content_of _ c.catch_up.new.standing) c.catch_up.ensures.asked.0 c.catch_up.ensures.asked.1 c.catch_up.ensures.asked.2 c.catch_up.ensures.sequence))
+    (numbers_read (content_of _ c.catch_up.new.standing) (content_of _ c.raise.new.self) [] (calls_none _) tt (ap (λ (x : Standing). x.sequence) c.raise.ensures.only))
+
+pub returns-then-is_in-clause-sequence : goal.returns-then-is_in-clause-sequence
+returns-then-is_in-clause-sequence g c =
+    numbers_then (content_of _ c.args.standing.now) (content_of _ c.catch_up.new.standing) (content_of _ (record c.raise.new.self { claimed = true }))
+    (numbers_then (content_of _ c.args.standing.now) (content_of _ c.write_start.new.standing) (content_of _ c.catch_up.new.standing) c.write_start.ensures.sequence (numbers_read (content_of _ c.write_start.new.standing) (content_of _ c.catch_up.new.standing) c.catch_up.ensures.asked.0 c.catch_up.ensures.asked.1 c.catch_up.ensures.asked.2 c.catch_up.ensures.sequence))
+    (numbers_read (content_of _ c.catch_up.new.standing) (content_of _ (record c.raise.new.self { claimed = true })) [] (calls_none _) tt (ap (λ (x : Standing). x.sequence) c.raise.ensures.only))

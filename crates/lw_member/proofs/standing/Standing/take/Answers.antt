@@ -22,6 +22,7 @@ returns-in-Err c = record {
       (inr (λ x is. c.in-Err.ensures.only x is, refl)));
   fault = c.pass_over.ensures.fault;
   read_to = refl;
+  sequence = refl;
   same = same_none c.args.self.now;
   leading = λ asked seen leading. leading;
 }

@@ -17,6 +17,7 @@ loop-position-init c = record {
   taken = takes_none c.args.self.now;
   read_to = refl;
   behind = behind_none c.args.self.now (placed c.args.page.now);
+  sequence = refl;
   same = same_none c.args.self.now;
   leading = λ asked seen leading. leading;
 }
@@ -65,6 +66,7 @@ loop-position-preserved c =
         known = merges_known old.node later.node (bytes_of (placed (take (c.loop-position.position-index + 1) c.args.page.now))) taken.merged;
         read_to = read_to;
       };
+      sequence = c.take.ensures.sequence ∙ c.loop-position.invariant.sequence;
       same = same_read old new (Some c.loop-position-item.result.0) (same_then old mid new c.loop-position.invariant.same c.in_ok-take.ensures.same);
       leading = λ asked seen leading.
           let own = seen_at asked c.args.page.now c.loop-position.position-index c.loop-position-item.result item seen in
