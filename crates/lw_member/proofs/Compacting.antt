@@ -18,7 +18,8 @@ use Rattle.lw_member.specs.Own.{NumbersOn}
 use Rattle.lw_member.specs.Parts.{content_of, fleet_of, numbers_of, IsMember}
 use Rattle.lw_member.specs.Rounds.{place_after}
 use Rattle.lw_member.specs.Reading.{AreReads, AreReadToTheEnd, ReadsOn, AreGood, AreNoted, HoldsNumber, MergesEntries, entries_in, last_read}
-use Rattle.lw_member.specs.inner.Standing.{HasSameStart, counted_in}
+use Rattle.lw_member.specs.Fleets.{TellFleets}
+use Rattle.lw_member.specs.inner.Standing.{HasSameStart, counted_in, fleet_told_in}
 use Rattle.lw_member.specs.inner.Taking.{IsReadBy, Takes, IsJudged}
 use Rattle.lw_member.specs.inner.Wholes.{IsWholeOf, IsWrittenWhole, IsTryingWhole, TriesWhole}
 use Rattle.lw_member.proofs.Asking.{calls_then, ended_reads}
@@ -97,6 +98,7 @@ module _ (a0 a1 : Option (List LogCall)) (s0 s1 : Standing) (pages : List LogCal
     read = read;
     read_to = last;
     good = takes.good;
+    told = takes.told;
     holds = holds_read;
     merged = takes.merged;
     numbers = takes.numbers;
@@ -111,9 +113,12 @@ module _ (a0 a1 : Option (List LogCall)) (s0 s1 : Standing) (pages : List LogCal
   }
 
   -- ---- a whole entry is appended, or tried
-  module _ (a2 : Option (List LogCall)) (s2 : Standing) (fleet : List ℕ) (fleet_is : fleet_of s1 ≡ Some fleet) (later : HasSameStart s1 s2) (node : s2.node ≡ s1.node) (in_fleet : s2.fleet ≡ s1.fleet) (numbers : s2.numbers ≡ s1.numbers) where
+  module _ (a2 : Option (List LogCall)) (s2 : Standing) (fleet : List ℕ) (fleet_is : fleet_of s1 ≡ Some fleet) (later : HasSameStart s1 s2) (node : s2.node ≡ s1.node) (in_fleet : s2.fleet ≡ s1.fleet) (settled : s2.settled ≡ s1.settled) (numbers : s2.numbers ≡ s1.numbers) where
     fleet_now : fleet_of s2 ≡ fleet_of s1
     fleet_now = ap (λ (f : Option FleetId). option_map (λ (x : FleetId). x.bytes) f) in_fleet
+
+    told_now : fleet_told_in s2 ≡ fleet_told_in s1
+    told_now = ap (λ b. (b, fleet_of s2)) settled ∙ ap (λ f. (s1.settled, f)) fleet_now
 
     numbers_now : numbers_of s2 ≡ numbers_of s1
     numbers_now = ap (λ n. n.bytes.value) numbers
@@ -195,6 +200,7 @@ module _ (a0 a1 : Option (List LogCall)) (s0 s1 : Standing) (pages : List LogCal
         read = read;
         read_to = w.read_to ∙ ap (λ b. cond b (Some w.place.0) (place_of s1.read_to)) same.alone ∙ ap (λ p. cond s0.alone (Some w.place.0) p) last ∙ sym place_is;
         good = subst (λ f. AreGood f (entries_in pages)) (sym fleet_now) takes.good;
+        told = subst (λ (t : Bool × Option (List ℕ)). TellFleets (fleet_told_in s0) (entries_in pages) t) (sym told_now) takes.told;
         holds = λ unclaimed. subst (λ n. HoldsNumber n s2.start.tag (entries_in pages)) (sym later.number) (subst (λ (x : Starts). HoldsNumber s1.node.number x.tag (entries_in pages)) (sym later.start) (holds_read unclaimed));
         merged = subst (λ (n : NodeContent). MergesEntries s0.node (entries_in pages) n) (sym node) takes.merged;
         numbers = subst (λ ns. AreNoted (numbers_of s0) (entries_in pages) ns) (sym numbers_now) takes.numbers;

@@ -1,14 +1,17 @@
-use Rattle.std.proofs.Common.{◌≡◌, ℕ, List, Option, ap, ◌∙◌, refl, arith, subst}
+use Rattle.std.proofs.Common.{◌≡◌, ℕ, List, Option, ap, ◌∙◌, ◌++◌, ◌∷◌, [], append-nil, refl, arith, subst}
 use Rattle.lw_log.specs.Calls.{LogCall, placed, place_of}
+use Rattle.lw_log.specs.Calls.LogCall.{Read}
 use Rattle.lw_log.specs.declared.position.Position.{Position}
-use Rattle.lw_member.specs.Parts.{IsLeading}
+use Rattle.lw_member.specs.Parts.{content_of, IsLeading}
 use Rattle.lw_member.specs.Reading.{bytes_of, place_read}
 use Rattle.lw_member.specs.inner.Seeing.{AreSeenBy}
 use Rattle.lw_member.specs.declared.standing.Standing.{Standing}
-use Rattle.lw_member.specs.inner.Taking.{IsBehind, Takes, IsJudged}
+use Rattle.lw_member.specs.inner.Taking.{AreNotTaken, IsBehind, Takes, IsJudged}
 use Rattle.lw_member.proofs.Catching.{caught_start, caught_page, caught_end, caught_asked, asked_fault, asked_page, member_failed, member_more, page_leads}
 use Rattle.lw_member.proofs.Knowing.{behind_none}
 use Rattle.lw_member.proofs.Merging.{same_failed, same_none, same_then}
+use Rattle.lw_member.proofs.Asking.{calls_then}
+use Rattle.lw_member.proofs.Refusing.{raised, refuses_log, refuses_page, refuses_taken}
 use Rattle.lw_member.proofs.rounds.catch_up.Goals as goal
 
 pub loop-page-init : goal.loop-page-init
@@ -105,3 +108,24 @@ returns-in_err-take_page-clause-sequence g c = c.take_page.ensures.sequence ∙ 
 
 pub returns-then-len-lt-PAGE-clause-sequence : goal.returns-then-len-lt-PAGE-clause-sequence
 returns-then-len-lt-PAGE-clause-sequence g c = c.take_page.ensures.sequence ∙ c.loop-page.invariant.sequence
+
+pub returns-in-Err-clause-refused : goal.returns-in-Err-clause-refused
+returns-in-Err-clause-refused g c =
+    let caught = c.loop-page.invariant.caught in
+    refuses_log (content_of _ c.args.standing.now) (content_of _ c.failed.new.self) (caught.pages ++ []) c.in-Err.fault _ c.from.ensures (calls_then _ _ _ caught.pages [] caught.asked c.in-Err.ensures)
+
+pub returns-in_err-own-clause-refused : goal.returns-in_err-own-clause-refused
+returns-in_err-own-clause-refused g c =
+    let caught = c.loop-page.invariant.caught in
+    raised _ c.from_residual.result c.from_residual.ensures.1 (refuses_taken (content_of _ c.args.standing.now) (content_of _ c.loop-page.standing) (caught.pages ++ Read _ _ ∷ []) _ c.in_err-own.ensures.taken (calls_then _ _ _ caught.pages (Read _ _ ∷ []) caught.asked c.in-Ok.ensures))
+
+pub returns-in_err-take_page-clause-refused : goal.returns-in_err-take_page-clause-refused
+returns-in_err-take_page-clause-refused g c =
+    let caught = c.loop-page.invariant.caught in
+    let page = c.in-Ok.page.items in
+    let s1 = c.take_page.new.self in
+    let why = subst (λ (p : List (Position × List ℕ)). AreNotTaken s1 (bytes_of (placed p)) c.in_err-take_page.field-0.0) c.deref-in-loop-page.ensures.value c.in_err-take_page.ensures.refused in
+    raised _ c.from_residual-in_err-take_page.result c.from_residual-in_err-take_page.ensures.1 (refuses_page _ _ _ c.args.standing.now s1 caught.pages (Read (place_of c.loop-page.standing.read_to) (placed page) ∷ []) (bytes_of (placed page)) c.in_err-take_page.field-0.0 caught.asked c.in-Ok.ensures (append-nil (bytes_of (placed page))) why)
+
+pub returns-clause-refused : goal.returns-clause-refused
+returns-clause-refused g c = record { more = c.loop-page.invariant.caught.pages; asked = c.loop-page.invariant.caught.asked; why = tt }

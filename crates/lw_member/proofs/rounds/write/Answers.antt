@@ -19,6 +19,8 @@ use Rattle.lw_member.proofs.Merging.{same_appended, same_failed, same_none}
 use Rattle.lw_member.proofs.Owning.{append_own, own_since, member_written}
 use Rattle.lw_member.proofs.Sequences.{has_next, numbers_failed, numbers_none, numbers_wrote}
 use Rattle.lw_member.specs.Own.{next_sequence}
+use Rattle.lw_member.proofs.Asking.{calls_none}
+use Rattle.lw_member.proofs.Refusing.{raised, refuses_log, refuses_memory}
 use Rattle.lw_member.proofs.rounds.write.Goals as goal
 
 pub entry-requires-clause-spelt : goal.entry-requires-clause-spelt
@@ -146,3 +148,18 @@ returns-clause-sequence g c =
     let e = subst (λ b. IsEntryOf s0 c.in-Some.fleet.bytes (Delta c.deref.result.now) b) (sym c.deref-2.ensures.value) c.in_ok-entry.ensures in
     numbers_wrote (content_of _ s0) (content_of _ s) (place c.in_ok-position.position, c.deref-2.result.now) c.in_ok-position.ensures.asked (has_next s0 _ _ _ e)
     (c.appended.ensures.sequence ∙ ap (λ (x : Standing). next_sequence x.sequence) done) (subst (λ n. n ≤ c.appended.new.self.sequence) (ap (λ (x : Standing). x.sequence) done) c.appended.ensures.risen)
+
+pub returns-in_default-clause-refused : goal.returns-in_default-clause-refused
+returns-in_default-clause-refused g c = record { more = []; asked = calls_none (g.G.DeltaLog.calls c.args.log.now); why = tt }
+
+pub returns-in_err-delta-clause-refused : goal.returns-in_err-delta-clause-refused
+returns-in_err-delta-clause-refused g c =
+    raised _ c.from_residual.result c.from_residual.ensures.1 (refuses_memory (content_of _ c.args.standing.now) (content_of _ c.args.standing.now) [] _ refl (calls_none (g.G.DeltaLog.calls c.args.log.now)))
+
+pub returns-in_err-entry-clause-refused : goal.returns-in_err-entry-clause-refused
+returns-in_err-entry-clause-refused g c =
+    raised _ c.from_residual-in_err-entry.result c.from_residual-in_err-entry.ensures.1 (refuses_memory (content_of _ c.args.standing.now) (content_of _ c.args.standing.now) [] _ refl (calls_none (g.G.DeltaLog.calls c.args.log.now)))
+
+pub returns-in_err-position-clause-refused : goal.returns-in_err-position-clause-refused
+returns-in_err-position-clause-refused g c =
+    raised _ c.from_residual-in_err-position.result c.from_residual-in_err-position.ensures.1 (refuses_log (content_of _ c.args.standing.now) (content_of _ c.append.new.standing) _ c.in_err-position.field-0.0 _ refl c.in_err-position.ensures.asked)
