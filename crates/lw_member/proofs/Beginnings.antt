@@ -7,7 +7,10 @@ use Rattle.lw_member.specs.declared.looking.FirstLook.{FirstLook}
 use Rattle.lw_stamp.specs.declared.moment.Moment.{Moment}
 use Rattle.lw_member.specs.Clocks.{IsPast2100, IsYearsAhead, IsRefusedClock}
 use Rattle.lw_member.specs.Beginning.{BeginsLog, IsWhole, HasWhole, IsUncut, sequence_over}
-use Rattle.lw_member.specs.inner.Looking.{IsFirst, IsFirstBody, IsAll, IsAllBody, HasBeginning, HasSeen}
+use Rattle.lw_log.specs.declared.log_fault.LogFault.{LogFault}
+use Rattle.lw_log.specs.declared.log_fault.LogFault.TheVariants as log_faults
+use Rattle.lw_member.specs.Faults.{fault_of}
+use Rattle.lw_member.specs.inner.Looking.{IsFirst, IsFirstBody, IsAll, IsAllBody, IsLookFault, HasBeginning, HasSeen}
 
 -- ---- lists of entries
 whole_before : (xs ys : List (List ℕ)) → HasWhole xs → HasWhole (xs ++ ys)
@@ -70,6 +73,13 @@ not_refused moment clock past ahead (inr h) = ahead h
 pub not_empty : (es : List (List ℕ)) (e : List ℕ) → es ++ e ∷ [] ≡ [] → ⊥
 not_empty [] e h = cc
 not_empty (x ∷ es) e h = cc
+
+-- a fault of the log may come
+pub log_looks : (fault : LogFault) → IsLookFault (fault_of fault)
+log_looks log_faults.Away = tt
+log_looks log_faults.Refused = tt
+log_looks log_faults.Lost = tt
+log_looks log_faults.NoMemory = tt
 
 -- the sequence over what a first look has seen
 pub sequence_seen : (es : List (List ℕ)) (any : Bool) → (any ≡ false → es ≡ []) → (any ≡ true → es ≡ [] → ⊥) → cond any 1 0 ≡ sequence_over es

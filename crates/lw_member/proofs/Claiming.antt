@@ -12,7 +12,8 @@ use Rattle.lw_member.specs.Counting.{CountsEntries, own_entries}
 use Rattle.lw_member.specs.Parts.{fleet_of, numbers_of, IsMember}
 use Rattle.lw_member.specs.Reading.{AreReadToTheEnd, entries_in, last_read, AreGood, HoldsNumber, IsTakenFirst, MergesEntries}
 use Rattle.lw_member.specs.inner.Going.{Goes}
-use Rattle.lw_member.specs.inner.Standing.{HasSameStart, IsStill, counted_in}
+use Rattle.lw_member.specs.Fleets.{TellFleets}
+use Rattle.lw_member.specs.inner.Standing.{HasSameStart, IsStill, counted_in, fleet_told_in}
 use Rattle.lw_member.specs.inner.Taking.{Takes, IsJudged}
 use Rattle.lw_member.specs.inner.Writing.{Claims, IsStarted, IsClaimed}
 use Rattle.lw_member.proofs.Asking.{calls_then}
@@ -60,6 +61,13 @@ module _ (a0 a1 a2 : Option (List LogCall)) (s0 s1 s2 s3 : Standing) (fleet : Li
       let t : s1.start.tag ≡ s3.start.tag = ap (λ (x : Starts). x.tag) (ap (λ (s : Standing). s.start) one ∙ sym start_is) in
       subst (λ x. IsTakenFirst x s3.start.tag (entries_in pages)) n (subst (λ x. IsTakenFirst s1.start.number x (entries_in pages)) t mine)
 
+  told_now : s0.alone ≡ false → TellFleets (fleet_told_in s0) (entries_in pages) (fleet_told_in s3)
+  told_now shared =
+      let before : fleet_told_in s1 ≡ fleet_told_in s0 =
+      ap (λ b. (b, fleet_of s1)) (ap (λ (s : Standing). s.settled) one) ∙ ap (λ (f : Option FleetId). (s0.settled, option_map (λ (x : FleetId). x.bytes) f)) (started.shared shared) in
+      subst (λ (t : Bool × Option (List ℕ)). TellFleets t (entries_in pages) (fleet_told_in s3)) before
+      (subst (λ (t : Bool × Option (List ℕ)). TellFleets (fleet_told_in s1) (entries_in pages) t) (ap fleet_told_in (sym only)) takes.told)
+
   pub claim_is : IsClaimed a0 s0 a2 (record s3 { claimed = true })
   claim_is = record {
     place = started.place;
@@ -77,9 +85,11 @@ module _ (a0 a1 a2 : Option (List LogCall)) (s0 s1 s2 s3 : Standing) (fleet : Li
       fleet_is ∙ ap (λ f. Some f) (sym started.entry.fleet_is),
     );
     numbered = started.entry.sequence_is;
+    sequence = ap (λ (s : Standing). s.sequence) only ∙ takes.sequence ∙ started.sequence;
     read = subst (λ p. AreReadToTheEnd p pages) started.read_to read;
     read_to = ap (λ (s : Standing). place_of s.read_to) only ∙ last ∙ ap (λ p. last_read p pages) started.read_to;
     good = subst (λ f. AreGood f (entries_in pages)) (ap (λ (s : Standing). option_map (λ (f : FleetId). f.bytes) s.fleet) (sym only)) takes.good;
+    told = told_now;
     holds = holds_now;
     first = first_now;
     merges = subst (λ (n : NodeContent). MergesEntries n (entries_in pages) s2.node) (ap (λ (s : Standing). s.node) one) takes.merged;

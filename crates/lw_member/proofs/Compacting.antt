@@ -14,16 +14,19 @@ use Rattle.lw_log.specs.declared.start.Start.{Start as Starts}
 use Rattle.lw_member.specs.declared.standing.Standing.{Standing}
 use Rattle.lw_member.specs.Compaction.{IsOwnWhole, IsRenewing, IsCompacted, Compacts, LetsGo, StandsBefore}
 use Rattle.lw_member.specs.Counting.{CountsEntries, own_entries}
+use Rattle.lw_member.specs.Own.{NumbersOn}
 use Rattle.lw_member.specs.Parts.{content_of, fleet_of, numbers_of, IsMember}
 use Rattle.lw_member.specs.Rounds.{place_after}
 use Rattle.lw_member.specs.Reading.{AreReads, AreReadToTheEnd, ReadsOn, AreGood, AreNoted, HoldsNumber, MergesEntries, entries_in, last_read}
-use Rattle.lw_member.specs.inner.Standing.{HasSameStart, counted_in}
+use Rattle.lw_member.specs.Fleets.{TellFleets}
+use Rattle.lw_member.specs.inner.Standing.{HasSameStart, counted_in, fleet_told_in}
 use Rattle.lw_member.specs.inner.Taking.{IsReadBy, Takes, IsJudged}
 use Rattle.lw_member.specs.inner.Wholes.{IsWholeOf, IsWrittenWhole, IsTryingWhole, TriesWhole}
 use Rattle.lw_member.proofs.Asking.{calls_then, ended_reads}
 use Rattle.lw_member.proofs.Knowing.{by_then}
 use Rattle.lw_member.proofs.Merging.{same_then}
 use Rattle.lw_member.proofs.Owning.{read_all, stays_of}
+use Rattle.lw_member.proofs.Sequences.{on_both, on_reads}
 use Rattle.lw_member.proofs.Counting.{counts_then}
 use Rattle.lw_member.proofs.Taking.{judged_holds}
 
@@ -77,6 +80,9 @@ module _ (a0 a1 : Option (List LogCall)) (s0 s1 : Standing) (pages : List LogCal
   read_pages : ReadsOn s0.alone (known_by s1.node) (place_of s0.read_to) pages (place_of s1.read_to)
   read_pages = read_all s0 s1 pages read takes.merged last
 
+  read_numbers : NumbersOn s0.sequence pages s1.sequence
+  read_numbers = subst (λ n. NumbersOn s0.sequence pages n) (sym takes.sequence) (on_reads s0.sequence pages (ended_reads (place_of s0.read_to) pages read))
+
   -- ---- nothing is written
   pub compacts_none : Compacts (content_of a0 s0) (content_of a1 s1)
   compacts_none = compacts_read a0 a1 s0 s1 same (pages, asked, ended_reads (place_of s0.read_to) pages read, inr read_pages)
@@ -87,10 +93,12 @@ module _ (a0 a1 : Option (List LogCall)) (s0 s1 : Standing) (pages : List LogCal
     wrote = [];
     asked = subst (λ cs. Calls a0 a1 cs) (sym (append-nil pages)) asked;
     start = record { number = same.number; tag = ap (λ (x : Starts). x.tag) same.start; floor = same.floor; alone = same.alone };
+    sequence = subst (λ cs. NumbersOn s0.sequence cs s1.sequence) (sym (append-nil pages)) read_numbers;
     claimed = same.claimed;
     read = read;
     read_to = last;
     good = takes.good;
+    told = takes.told;
     holds = holds_read;
     merged = takes.merged;
     numbers = takes.numbers;
@@ -105,9 +113,12 @@ module _ (a0 a1 : Option (List LogCall)) (s0 s1 : Standing) (pages : List LogCal
   }
 
   -- ---- a whole entry is appended, or tried
-  module _ (a2 : Option (List LogCall)) (s2 : Standing) (fleet : List ℕ) (fleet_is : fleet_of s1 ≡ Some fleet) (later : HasSameStart s1 s2) (node : s2.node ≡ s1.node) (in_fleet : s2.fleet ≡ s1.fleet) (numbers : s2.numbers ≡ s1.numbers) where
+  module _ (a2 : Option (List LogCall)) (s2 : Standing) (fleet : List ℕ) (fleet_is : fleet_of s1 ≡ Some fleet) (later : HasSameStart s1 s2) (node : s2.node ≡ s1.node) (in_fleet : s2.fleet ≡ s1.fleet) (settled : s2.settled ≡ s1.settled) (numbers : s2.numbers ≡ s1.numbers) where
     fleet_now : fleet_of s2 ≡ fleet_of s1
     fleet_now = ap (λ (f : Option FleetId). option_map (λ (x : FleetId). x.bytes) f) in_fleet
+
+    told_now : fleet_told_in s2 ≡ fleet_told_in s1
+    told_now = ap (λ b. (b, fleet_of s2)) settled ∙ ap (λ f. (s1.settled, f)) fleet_now
 
     numbers_now : numbers_of s2 ≡ numbers_of s1
     numbers_now = ap (λ n. n.bytes.value) numbers
@@ -172,9 +183,9 @@ module _ (a0 a1 : Option (List LogCall)) (s0 s1 : Standing) (pages : List LogCal
       }
 
       -- all but what goes
-      compacted_by : (calls : List LogCall) → Calls a2 a3 calls → place_after s0.alone (last_read (place_of s0.read_to) pages) (Wrote w.place ∷ calls) ≡ cond s0.alone (Some w.place.0) (last_read (place_of s0.read_to) pages)
+      compacted_by : (calls : List LogCall) → Calls a2 a3 calls → NumbersOn s2.sequence calls s2.sequence → place_after s0.alone (last_read (place_of s0.read_to) pages) (Wrote w.place ∷ calls) ≡ cond s0.alone (Some w.place.0) (last_read (place_of s0.read_to) pages)
           → own_entries s0.alone (Wrote w.place ∷ calls) ≡ own_entries s0.alone (Wrote w.place ∷ []) → LetsGo w.place (place upto) (Wrote w.place ∷ calls) → IsMember a3 s2 → IsCompacted (content_of a0 s0) (content_of a3 s2)
-      compacted_by calls after place_is own_is goes now = record {
+      compacted_by calls after numbered place_is own_is goes now = record {
         pages = pages;
         wrote = Wrote w.place ∷ calls;
         asked = calls_then a0 a1 a3 pages (Wrote w.place ∷ calls) asked (calls_then a1 a2 a3 (Wrote w.place ∷ []) calls w.asked after);
@@ -184,10 +195,12 @@ module _ (a0 a1 : Option (List LogCall)) (s0 s1 : Standing) (pages : List LogCal
           floor = later.floor ∙ same.floor;
           alone = later.alone ∙ same.alone;
         };
+        sequence = on_both s0.sequence pages s1.sequence (Wrote w.place ∷ calls) s2.sequence read_numbers (on_both s1.sequence (Wrote w.place ∷ []) s2.sequence calls s2.sequence w.numbered numbered);
         claimed = later.claimed ∙ same.claimed;
         read = read;
         read_to = w.read_to ∙ ap (λ b. cond b (Some w.place.0) (place_of s1.read_to)) same.alone ∙ ap (λ p. cond s0.alone (Some w.place.0) p) last ∙ sym place_is;
         good = subst (λ f. AreGood f (entries_in pages)) (sym fleet_now) takes.good;
+        told = subst (λ (t : Bool × Option (List ℕ)). TellFleets (fleet_told_in s0) (entries_in pages) t) (sym told_now) takes.told;
         holds = λ unclaimed. subst (λ n. HoldsNumber n s2.start.tag (entries_in pages)) (sym later.number) (subst (λ (x : Starts). HoldsNumber s1.node.number x.tag (entries_in pages)) (sym later.start) (holds_read unclaimed));
         merged = subst (λ (n : NodeContent). MergesEntries s0.node (entries_in pages) n) (sym node) takes.merged;
         numbers = subst (λ ns. AreNoted (numbers_of s0) (entries_in pages) ns) (sym numbers_now) takes.numbers;
@@ -197,11 +210,11 @@ module _ (a0 a1 : Option (List LogCall)) (s0 s1 : Standing) (pages : List LogCal
       }
 
       pub compacted_whole : StandsBefore (place upto) (place at) → Calls a2 a3 (Trimmed (place upto) ∷ []) → IsMember a3 s2 → IsCompacted (content_of a0 s0) (content_of a3 s2)
-      compacted_whole before trimmed now = compacted_by (Trimmed (place upto) ∷ []) trimmed refl refl (inl (is_before before, refl)) now
+      compacted_whole before trimmed now = compacted_by (Trimmed (place upto) ∷ []) trimmed refl refl refl (inl (is_before before, refl)) now
 
       -- nothing goes
       pub compacted_kept : (StandsBefore (place upto) (place at) → ⊥) → Calls a2 a3 [] → IsMember a3 s2 → IsCompacted (content_of a0 s0) (content_of a3 s2)
-      compacted_kept behind none now = compacted_by [] none refl refl (inr (λ h. behind (subst (λ (p : ℕ × ℕ). StandsBefore (place upto) p) w.place_is h), refl)) now
+      compacted_kept behind none now = compacted_by [] none refl refl refl (inr (λ h. behind (subst (λ (p : ℕ × ℕ). StandsBefore (place upto) p) w.place_is h), refl)) now
 
       pub compacts_kept : Calls a2 a3 [] → Compacts (content_of a0 s0) (content_of a3 s2)
       compacts_kept none = record {

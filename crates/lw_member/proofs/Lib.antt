@@ -7,6 +7,9 @@ pub mod Counting
 pub mod Taking
 pub mod Merging
 pub mod Knowing
+pub mod Sequences
+pub mod Refusing
+pub mod Telling
 pub mod Making
 pub mod RoundLemmas
 pub mod Catching

@@ -22,9 +22,11 @@ use Rattle.lw_member.specs.Parts.{fleet_of, numbers_of, IsLeading}
 use Rattle.lw_member.specs.Reading.{HasBit, TellsOf, Meets}
 use Rattle.lw_member.specs.inner.Going.{Goes}
 use Rattle.lw_member.specs.inner.Seeing.{IsSeenBy}
-use Rattle.lw_member.specs.inner.Standing.{HasSameStart, IsStill, counted_in}
+use Rattle.lw_member.specs.Fleets.{TellsFleet}
+use Rattle.lw_member.specs.inner.Standing.{HasSameStart, IsStill, counted_in, fleet_told_in}
 use Rattle.lw_member.specs.inner.Taking.{Takes}
 use Rattle.lw_member.proofs.Counting.{counts_one}
+use Rattle.lw_member.proofs.Telling.{tells_one, tells_delta}
 use Rattle.lw_member.proofs.Going.{below_same, below_then, goes_below, goes_merges}
 use Rattle.lw_member.proofs.Numbering.{noted_one, noted_entry}
 use Rattle.lw_member.proofs.Leading.{written_goes, written_calm, written_whole, taken_led}
@@ -65,8 +67,8 @@ written_new asked node number is =
 -- ---- one entry
 -- an entry that brings nothing, or bytes that are none
 pub takes_nothing : (old new : Standing) (bytes : List ℕ) → (IsNewer bytes → ⊥) → ((d : DeltaContent) → BringsDelta bytes d → ⊥) → new.node ≡ old.node → (old.settled ≡ true → (new.settled ≡ true) × (new.fleet ≡ old.fleet))
-    → new.led ≡ old.led → new.written ≡ old.written → new.sequence ≡ old.sequence → ((n : ℕ) → HasBit (numbers_of new) n ↔ (HasBit (numbers_of old) n ⊎ Meets n bytes)) → CountsEntry (counted_in old) bytes (counted_in new) → Takes old (bytes ∷ []) new
-takes_nothing old new bytes known none node settled led written sequence noted counts = record {
+    → new.led ≡ old.led → new.written ≡ old.written → new.sequence ≡ old.sequence → ((n : ℕ) → HasBit (numbers_of new) n ↔ (HasBit (numbers_of old) n ⊎ Meets n bytes)) → CountsEntry (counted_in old) bytes (counted_in new) → TellsFleet (fleet_told_in old) bytes (fleet_told_in new) → Takes old (bytes ∷ []) new
+takes_nothing old new bytes known none node settled led written sequence noted counts tells = record {
   merged = (new.node, inr (none, node), refl);
   good = (record { known = known; of_fleet = λ d brings. absurd (none d brings) }, tt);
   settled = settled;
@@ -76,6 +78,7 @@ takes_nothing old new bytes known none node settled led written sequence noted c
   sequence = sequence;
   numbers = noted_one (numbers_of old) (numbers_of new) bytes noted;
   counted = counts_one (counted_in old) (counted_in new) bytes counts;
+  told = tells_one (fleet_told_in old) (fleet_told_in new) bytes tells;
 }
 
 no_delta : (body : BodyContent) (delta : List ℕ) → ((d : List ℕ) → HasDelta body d → ⊥) → HasDelta body delta → ⊥
@@ -107,6 +110,7 @@ takes_delta old new bytes e delta d is only has spelled known merged settled fle
   sequence = sequence;
   numbers = noted_one (numbers_of old) (numbers_of new) bytes (noted_entry (numbers_of old) (numbers_of new) bytes e is only noted);
   counted = counts_one (counted_in old) (counted_in new) bytes (inl (e, is, counts));
+  told = tells_one (fleet_told_in old) (fleet_told_in new) bytes (inl (e, is, ap (λ b. (b, fleet_of new)) settled ∙ ap (λ f. (true, f)) fleet ∙ tells_delta (fleet_told_in old) e.body e.fleet delta has));
 }
 
 -- ---- what holds of a success

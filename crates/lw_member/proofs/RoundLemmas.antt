@@ -12,19 +12,21 @@ use Rattle.lw_log.specs.declared.start.Start.{Start as Starts}
 use Rattle.lw_log.specs.Entries.BodyContent.{Start}
 use Rattle.lw_member.specs.declared.numbers.Numbers.{Numbers}
 use Rattle.lw_member.specs.declared.standing.Standing.{Standing}
-use Rattle.lw_member.specs.Own.{IsOwnIn, IsOwnSince}
+use Rattle.lw_member.specs.Own.{IsOwnIn, IsOwnSince, NumbersOn, next_sequence}
 use Rattle.lw_member.specs.Counting.{CountsEntries, own_entries}
 use Rattle.lw_member.specs.Parts.{content_of, fleet_of, numbers_of, IsMember}
 use Rattle.lw_member.specs.Reading.{AreReadToTheEnd, entries_in, last_read, AreGood, AreNoted, HoldsNumber, IsTakenFirst}
 use Rattle.lw_member.specs.Rounds.{Makes, IsClaiming, IsCalm, IsWriting, IsRound, place_after, since_of}
 use Rattle.lw_member.specs.Member.{IsSameStart}
 use Rattle.lw_member.specs.inner.Going.{Goes}
-use Rattle.lw_member.specs.inner.Standing.{HasSameStart, IsStill, counted_in}
+use Rattle.lw_member.specs.Fleets.{TellFleets}
+use Rattle.lw_member.specs.inner.Standing.{HasSameStart, IsStill, counted_in, fleet_told_in}
 use Rattle.lw_member.specs.inner.Taking.{Takes, IsJudged}
 use Rattle.lw_member.specs.inner.Writing.{Made, Written, IsClaimed}
-use Rattle.lw_member.proofs.Asking.{calls_then}
+use Rattle.lw_member.proofs.Asking.{calls_then, ended_reads}
 use Rattle.lw_member.proofs.Counting.{counts_then}
 use Rattle.lw_member.proofs.Numbering.{noted_same}
+use Rattle.lw_member.proofs.Sequences.{on_both, on_reads}
 use Rattle.lw_member.proofs.Taking.{judged_holds}
 
 not_both : {G : Type 0} → false ≡ true → G
@@ -82,6 +84,14 @@ read_later s0 s1 s2 s3 from pages wrote alone last only now =
     ∙ ap (λ b. place_after b (place_of s2.read_to) wrote) (ap (λ (s : Standing). s.alone) only ∙ alone)
     ∙ ap (λ p. place_after s0.alone p wrote) (ap (λ (s : Standing). place_of s.read_to) only ∙ last)
 
+-- what was told
+told_later : (s0 s1 s2 s3 : Standing) (es : List (List ℕ)) → s2 ≡ record s1 { node = s2.node; led = s2.led } → s3.fleet ≡ s2.fleet → s3.settled ≡ s2.settled → TellFleets (fleet_told_in s0) es (fleet_told_in s1)
+    → TellFleets (fleet_told_in s0) es (fleet_told_in s3)
+told_later s0 s1 s2 s3 es only fleet settled told =
+    let now : fleet_told_in s3 ≡ fleet_told_in s1 =
+    ap (λ b. (b, fleet_of s3)) settled ∙ ap (λ (f : Option FleetId). (s2.settled, option_map (λ (x : FleetId). x.bytes) f)) fleet ∙ ap fleet_told_in only in
+    subst (λ (t : Bool × Option (List ℕ)). TellFleets (fleet_told_in s0) es t) (sym now) told
+
 -- what was counted, and then what was written
 counted_later : (s0 s1 s2 s3 : Standing) (from : ℕ × ℕ) (es : List (List ℕ)) (wrote : List LogCall) → s1.alone ≡ s0.alone → CountsEntries from es (counted_in s1) → s2 ≡ record s1 { node = s2.node; led = s2.led }
     → CountsEntries (counted_in s2) (own_entries s2.alone wrote) (counted_in s3) → CountsEntries from (es ++ own_entries s0.alone wrote) (counted_in s3)
@@ -111,10 +121,13 @@ module _ (a0 a1 a2 : Option (List LogCall)) (s0 s1 s2 s3 : Standing) (calls : Li
     wrote = wrote.now.wrote;
     asked = calls_then a0 a1 a2 pages wrote.now.wrote asked wrote.now.asked;
     start = same_start a0 a2 s0 s1 s2 s3 same.number same.start same.alone same.floor made.goes made.only wrote.same;
+    sequence = on_both s0.sequence pages s0.sequence wrote.now.wrote s3.sequence (on_reads s0.sequence pages (ended_reads (place_of s0.read_to) pages read))
+        (subst (λ n. NumbersOn n wrote.now.wrote s3.sequence) (ap (λ (s : Standing). s.sequence) made.only ∙ takes.sequence) wrote.now.numbered);
     claims = inl (idle, refl, wrote.same.claimed ∙ ap (λ (s : Standing). s.claimed) made.only ∙ same.claimed);
     read = read;
     read_to = read_later s0 s1 s2 s3 (place_of s0.read_to) pages wrote.now.wrote same.alone last made.only wrote.now.read_to;
     good = good_later s1 s2 s3 (entries_in pages) made.only wrote.fleet takes.good;
+    told = λ t. told_later s0 s1 s2 s3 (entries_in pages) made.only wrote.fleet wrote.settled takes.told;
     holds = holds_idle;
     first = λ claiming. absurd (idle claiming);
     numbers = noted_later s0 s1 s2 s3 (entries_in pages) made.only wrote.numbers takes.numbers;
@@ -178,10 +191,20 @@ module _ (a0 a1 a2 : Option (List LogCall)) (s0 s1 s2 s3 : Standing) (calls : Li
     wrote = wrote.now.wrote;
     asked = calls_then a0 a1 a2 (Wrote claimed.place ∷ claimed.pages) wrote.now.wrote claimed.asked wrote.now.asked;
     start = same_start a0 a2 s0 s1 s2 s3 same.number same.start same.alone same.floor made.goes made.only wrote.same;
+    sequence = (
+      (claimed.own.0.entry, claimed.own.0.is, claimed.numbered),
+      on_both (next_sequence s0.sequence) claimed.pages (next_sequence s0.sequence) wrote.now.wrote s3.sequence
+          (on_reads (next_sequence s0.sequence) claimed.pages (ended_reads (place_after s0.alone (place_of s0.read_to) (Wrote claimed.place ∷ [])) claimed.pages claimed.read))
+          (subst (λ n. NumbersOn n wrote.now.wrote s3.sequence) (ap (λ (s : Standing). s.sequence) made.only ∙ claimed.sequence) wrote.now.numbered),
+    );
     claims = inr (claiming, wrote.same.claimed ∙ ap (λ (s : Standing). s.claimed) made.only ∙ is, claimed.place, refl, own_start, claimed.numbered);
     read = claimed.read;
     read_to = read_later s0 s1 s2 s3 (place_after s0.alone (place_of s0.read_to) (Wrote claimed.place ∷ [])) claimed.pages wrote.now.wrote same.alone claimed.read_to made.only wrote.now.read_to;
     good = good_later s1 s2 s3 (entries_in claimed.pages) made.only wrote.fleet claimed.good;
+    told = λ t. elim t [
+      | inl shared ↦ told_later s0 s1 s2 s3 (entries_in claimed.pages) made.only wrote.fleet wrote.settled (claimed.told shared)
+      | inr none ↦ absurd cc
+    ];
     holds = λ unclaimed. subst (λ n. HoldsNumber n s3.start.tag (entries_in claimed.pages)) number_is (subst (λ t. HoldsNumber s1.node.number t (entries_in claimed.pages)) tag_is claimed.holds);
     first = λ claims shared. subst (λ n. IsTakenFirst n s3.start.tag (entries_in claimed.pages)) number_is (subst (λ t. IsTakenFirst s1.node.number t (entries_in claimed.pages)) tag_is (claimed.first shared));
     numbers = noted_later s0 s1 s2 s3 (entries_in claimed.pages) made.only wrote.numbers claimed.numbers;

@@ -9,9 +9,10 @@ use Rattle.lw_member.specs.declared.standing.Standing.{Standing}
 use Rattle.lw_member.specs.Parts.{fleet_of, numbers_of}
 use Rattle.lw_member.specs.Reading.{bytes_of, place_read, MergesEntries, AreGood, IsFree, IsTakenFirst, HoldsNumber}
 use Rattle.lw_member.specs.inner.Seeing.{IsSeenBy, AreSeenBy}
-use Rattle.lw_member.specs.inner.Standing.{HasSameStart, counted_in}
+use Rattle.lw_member.specs.inner.Standing.{HasSameStart, counted_in, fleet_told_in}
 use Rattle.lw_member.specs.inner.Taking.{AreBare, Takes, IsJudgedEntry, IsJudgedPage, IsJudged}
 use Rattle.lw_member.proofs.Counting.{counts_then}
+use Rattle.lw_member.proofs.Telling.{tells_then}
 use Rattle.lw_member.proofs.Numbering.{noted_none, noted_then}
 
 -- ---- merges
@@ -35,7 +36,7 @@ good_bare fleet other (x ∷ xs) good bare = (record { known = good.0.known; of_
 
 -- ---- what is taken
 pub takes_none : (s : Standing) → Takes s [] s
-takes_none s = record { merged = refl; good = tt; settled = λ h. (h, refl); unsettled = λ h. tt; led = refl; written = λ h. refl; sequence = refl; numbers = noted_none (numbers_of s); counted = refl }
+takes_none s = record { merged = refl; good = tt; settled = λ h. (h, refl); unsettled = λ h. tt; led = refl; written = λ h. refl; sequence = refl; numbers = noted_none (numbers_of s); counted = refl; told = refl }
 
 not_both : {G : Type 0} → false ≡ true → G
 not_both h = absurd cc
@@ -54,6 +55,7 @@ takes_then a b c xs ys one two = record {
   sequence = two.sequence ∙ one.sequence;
   numbers = noted_then (numbers_of a) (numbers_of b) (numbers_of c) xs ys one.numbers two.numbers;
   counted = counts_then (counted_in a) (counted_in b) (counted_in c) xs ys one.counted two.counted;
+  told = tells_then (fleet_told_in a) (fleet_told_in b) (fleet_told_in c) xs ys one.told two.told;
 }
   where
     good : (t : Bool) → b.settled ≡ t → AreGood (fleet_of c) xs
@@ -140,7 +142,7 @@ items_take xs i x at = rw add-one (items_suc xs i x at)
 
 -- ---- how far was read says nothing of what was taken
 pub takes_read : (a b : Standing) (es : List (List ℕ)) (r : Option Position) → Takes a es b → Takes a es (record b { read_to = r })
-takes_read a b es r t = record { merged = t.merged; good = t.good; settled = t.settled; unsettled = t.unsettled; led = t.led; written = t.written; sequence = t.sequence; numbers = t.numbers; counted = t.counted }
+takes_read a b es r t = record { merged = t.merged; good = t.good; settled = t.settled; unsettled = t.unsettled; led = t.led; written = t.written; sequence = t.sequence; numbers = t.numbers; counted = t.counted; told = t.told }
 
 pub same_read : (a b : Standing) (r : Option Position) → HasSameStart a b → HasSameStart a (record b { read_to = r })
 same_read a b r s = record { number = s.number; start = s.start; made_up = s.made_up; alone = s.alone; claimed = s.claimed; floor = s.floor; settled = s.settled; fleet = s.fleet; knows = s.knows }

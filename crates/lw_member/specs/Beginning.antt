@@ -8,6 +8,7 @@ use Rattle.lw_log.specs.Entries.{EntryContent, IsEntry}
 use Rattle.lw_log.specs.Entries.BodyContent.{Start, Whole}
 use Rattle.lw_member.specs.Clocks.{IsRefusedClock, floor_at}
 use Rattle.lw_member.specs.Counting.{CountsEntries, counted_by}
+use Rattle.lw_member.specs.Fleets.{TellFleets, told_in}
 use Rattle.lw_member.specs.Member.{MemberContent, IsLedBy}
 use Rattle.lw_member.specs.Reading.{AreReadToTheEnd, entries_in, last_read, AreGood, IsFree, IsMet, AreNoted, MergesEntries}
 
@@ -52,6 +53,7 @@ pub record IsBegun (before : Option (List LogCall)) (moment : Moment) (tag first
   pub read : AreReadToTheEnd None pages
   pub read_to : new.read_to ≡ last_read None pages
   pub good : AreGood new.fleet (entries_in pages)
+  pub told : TellFleets (false, None) (entries_in pages) (told_in new)
   pub free : IsFree new.node.number (entries_in pages)
   pub number : 1 ≤ new.node.number
   pub first_free : IsFirstFree (λ n. IsMet n (entries_in looked)) first new.node.number

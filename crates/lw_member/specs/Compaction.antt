@@ -5,8 +5,9 @@ use Rattle.lw_log.specs.Calls.{LogCall, Placed, Calls}
 use Rattle.lw_log.specs.Calls.LogCall.{Wrote, Tried, Trimmed}
 use Rattle.lw_log.specs.Entries.BodyContent.{Whole}
 use Rattle.lw_member.specs.Counting.{CountsEntries, counted_by, own_entries}
+use Rattle.lw_member.specs.Fleets.{TellFleets, told_in}
 use Rattle.lw_member.specs.Member.{MemberContent, IsLedBy, IsSameStart, Stays}
-use Rattle.lw_member.specs.Own.{IsOwnIn, IsReadOn}
+use Rattle.lw_member.specs.Own.{IsOwnIn, IsReadOn, NumbersOn}
 use Rattle.lw_member.specs.Reading.{AreReads, AreReadToTheEnd, entries_in, last_read, AreGood, AreNoted, HoldsNumber, MergesEntries}
 use Rattle.lw_member.specs.Rounds.{place_after}
 
@@ -44,10 +45,12 @@ pub record IsCompacted (old new : MemberContent) : Type 0 where
   pub wrote : List LogCall
   pub asked : Calls old.calls new.calls (pages ++ wrote)
   pub start : IsSameStart old new
+  pub sequence : NumbersOn old.sequence (pages ++ wrote) new.sequence
   pub claimed : new.claimed ≡ old.claimed
   pub read : AreReadToTheEnd old.read_to pages
   pub read_to : new.read_to ≡ place_after old.alone (last_read old.read_to pages) wrote
   pub good : AreGood new.fleet (entries_in pages)
+  pub told : TellFleets (told_in old) (entries_in pages) (told_in new)
   pub holds : old.claimed ≡ false → HoldsNumber new.node.number new.tag (entries_in pages)
   pub merged : MergesEntries old.node (entries_in pages) new.node
   pub numbers : AreNoted old.numbers (entries_in pages) new.numbers

@@ -4,6 +4,8 @@ pub mod Parts
 pub mod Faults
 pub mod Reading
 pub mod Counting
+pub mod Fleets
+pub mod Refusals
 pub mod Own
 pub mod Rounds
 pub mod Beginning

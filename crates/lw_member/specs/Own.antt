@@ -1,5 +1,5 @@
 -- What a member writes into its log.
-use Rattle.std.specs.Prelude.{◌≡◌, ℕ, ◌+◌, ◌-◌, ◌^◌, min, ◌⊎◌, List, [], ◌∷◌, Some, None}
+use Rattle.std.specs.Prelude.{◌≡◌, ℕ, ◌+◌, ◌-◌, ◌^◌, ◌≤◌, min, ◌⊎◌, List, [], ◌∷◌, Some, None}
 use Rattle.lw_node.specs.Exchange.{IsDeltaSince, known_by}
 use Rattle.lw_log.specs.Calls.{LogCall, Calls}
 use Rattle.lw_log.specs.Calls.LogCall.{Read, Wrote, Tried, Trimmed}
@@ -11,6 +11,18 @@ use Rattle.lw_member.specs.Reading.{ReadsOn}
 -- of the entry behind one with this sequence, which goes up to the last number of 64 bits
 abbrev pub next_sequence : ℕ → ℕ
 next_sequence sequence = min (sequence + 1) (2 ^ 64 - 1)
+
+abbrev pub HasSequence : ℕ → List ℕ → Type 0
+HasSequence sequence bytes = (e : EntryContent) × IsEntry bytes e × (e.sequence ≡ sequence)
+
+-- Each entry that is appended, or tried, has the next sequence. It rises with each append that returned, and with nothing
+-- else.
+abbrev pub NumbersOn : ℕ → List LogCall → ℕ → Type 0
+NumbersOn from [] upto = upto ≡ from
+NumbersOn from (Wrote p ∷ calls) upto = HasSequence (next_sequence from) p.1 × NumbersOn (next_sequence from) calls upto
+NumbersOn from (Tried e ∷ calls) upto = HasSequence (next_sequence from) e × NumbersOn from calls upto
+NumbersOn from (Read after es ∷ calls) upto = NumbersOn from calls upto
+NumbersOn from (Trimmed p ∷ calls) upto = NumbersOn from calls upto
 
 -- an entry of this start, with this body
 pub record IsOwn (member : MemberContent) (body : BodyContent) (bytes : List ℕ) : Type 0 where
@@ -54,3 +66,10 @@ pub record WritesOwn (old new : MemberContent) : Type 0 where
   pub own : AreOwnCalls new more
   pub stays : Stays old new
   pub read_on : IsReadOn old more new
+
+-- its entries are numbered on, and the sequence does not fall
+pub record NumbersOwn (old new : MemberContent) : Type 0 where
+  pub more : List LogCall
+  pub asked : Calls old.calls new.calls more
+  pub numbered : NumbersOn old.sequence more new.sequence
+  pub risen : old.sequence ≤ new.sequence

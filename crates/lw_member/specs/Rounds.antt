@@ -11,7 +11,8 @@ use Rattle.lw_log.specs.Calls.LogCall.{Read, Wrote, Tried, Trimmed}
 use Rattle.lw_log.specs.Entries.BodyContent.{Start}
 use Rattle.lw_member.specs.Member.{MemberContent, IsLedBy, IsSameStart}
 use Rattle.lw_member.specs.Counting.{CountsEntries, counted_by, own_entries}
-use Rattle.lw_member.specs.Own.{IsOwnIn, IsOwnSince, next_sequence}
+use Rattle.lw_member.specs.Fleets.{TellFleets, told_in}
+use Rattle.lw_member.specs.Own.{IsOwnIn, IsOwnSince, NumbersOn, next_sequence}
 use Rattle.lw_member.specs.Reading.{AreReadToTheEnd, entries_in, last_read, AreGood, HoldsNumber, IsTakenFirst, AreNoted, MergesEntries}
 
 -- the calls, made one after another, each with the reply that the node gives
@@ -77,10 +78,12 @@ pub record IsRound (old : MemberContent) (calls : List Call) (replies : List Rep
   pub wrote : List LogCall
   pub asked : Calls old.calls new.calls (claim ++ (pages ++ wrote))
   pub start : IsSameStart old new
+  pub sequence : NumbersOn old.sequence (claim ++ (pages ++ wrote)) new.sequence
   pub claims : IsClaim old calls claim new
   pub read : AreReadToTheEnd (place_after old.alone old.read_to claim) pages
   pub read_to : new.read_to ≡ place_after old.alone (last_read (place_after old.alone old.read_to claim) pages) wrote
   pub good : AreGood new.fleet (entries_in pages)
+  pub told : (old.alone ≡ false) ⊎ (claim ≡ []) → TellFleets (told_in old) (entries_in pages) (told_in new)
   pub holds : old.claimed ≡ false → HoldsNumber new.node.number new.tag (entries_in pages)
   pub first : IsClaiming old calls → old.alone ≡ false → IsTakenFirst new.node.number new.tag (entries_in pages)
   pub numbers : AreNoted old.numbers (entries_in pages) new.numbers

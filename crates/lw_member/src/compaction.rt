@@ -1,9 +1,11 @@
 //! A compaction: all that the node knows is written anew, and what was read goes.
 
-ghost use Rattle.std.specs.Prelude.{◌≡◌, ◌↔◌, IfOk, IsTrue, OnErr, OnOk};
+ghost use Rattle.std.specs.Prelude.{◌≡◌, ◌↔◌, IfErr, IfOk, IsTrue, OnErr, OnOk};
 ghost use Rattle.lw_log.specs.Calls.{place};
 ghost use Rattle.lw_member.specs.Compaction.{IsCompacted, Compacts, StandsBefore};
+ghost use Rattle.lw_member.specs.Own.{NumbersOwn};
 ghost use Rattle.lw_member.specs.Parts.{content_of, IsMember};
+ghost use Rattle.lw_member.specs.Refusals.{Refuses};
 ghost use Rattle.lw_member.specs.inner.Standing.{HasSameStart};
 ghost use Rattle.lw_member.specs.inner.Wholes.{IsWrittenWhole, TriesWhole};
 
@@ -28,11 +30,16 @@ fn write_whole<G: DeltaLog>(
     requires { IsMember (G.calls log.old) standing.old }
     ensures written { IfOk result (λ position. IsWrittenWhole (G.calls log.old) standing.old fleet.bytes
         (place position) (G.calls log.new) standing.new) }
+    ensures sequence { NumbersOwn (content_of (G.calls log.old) standing.old)
+        (content_of (G.calls log.new) standing.new) }
+    ensures refused { IfErr result (Refuses (content_of (G.calls log.old) standing.old)
+        (content_of (G.calls log.new) standing.new)) }
     ensures own { OnErr result (TriesWhole (G.calls log.old) standing.old fleet.bytes
         (G.calls log.new) standing.new) }
     ensures same { HasSameStart standing.old standing.new }
     ensures node { standing.new.node ≡ standing.old.node }
     ensures fleet { standing.new.fleet ≡ standing.old.fleet }
+    ensures settled { standing.new.settled ≡ standing.old.settled }
     ensures numbers { standing.new.numbers ≡ standing.old.numbers }
     ensures member { IsMember (G.calls log.new) standing.new }
 {
@@ -53,6 +60,10 @@ fn write_whole<G: DeltaLog>(
 pub(crate) fn compact<G: DeltaLog>(log: &mut G, standing: &mut Standing) -> Result<(), MemberFault>
     requires { IsMember (G.calls log.old) standing.old }
     ensures compacted { OnOk result (IsCompacted (content_of (G.calls log.old) standing.old)
+        (content_of (G.calls log.new) standing.new)) }
+    ensures sequence { NumbersOwn (content_of (G.calls log.old) standing.old)
+        (content_of (G.calls log.new) standing.new) }
+    ensures refused { IfErr result (Refuses (content_of (G.calls log.old) standing.old)
         (content_of (G.calls log.new) standing.new)) }
     ensures own { Compacts (content_of (G.calls log.old) standing.old)
         (content_of (G.calls log.new) standing.new) }

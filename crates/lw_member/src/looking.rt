@@ -1,11 +1,11 @@
 //! A first look at a log, to find a number.
 
-ghost use Rattle.std.specs.Prelude.{◌≡◌, ◌↔◌, ◌⊎◌, ◌∷◌, ◌++◌, [], ℕ, List, None, IsTrue, false, IfOk};
+ghost use Rattle.std.specs.Prelude.{◌≡◌, ◌↔◌, ◌⊎◌, ◌∷◌, ◌++◌, [], ℕ, List, None, IsTrue, false, IfErr, IfOk};
 ghost use Rattle.lw_log.specs.Calls.{LogCall, Calls, placed, place_of};
 ghost use Rattle.lw_log.specs.Entries.{content_of};
 ghost use Rattle.lw_member.specs.Beginning.{BeginsLog, IsWhole, IsUncut, sequence_over};
 ghost use Rattle.lw_member.specs.Reading.{AreReadToTheEnd, bytes_of, entries_in, place_read};
-ghost use Rattle.lw_member.specs.inner.Looking.{HasSeen, IsFirst, IsAll};
+ghost use Rattle.lw_member.specs.inner.Looking.{HasSeen, IsFirst, IsAll, IsLookFault};
 
 use crate::MemberFault;
 use crate::numbers::Numbers;
@@ -33,7 +33,7 @@ impl FirstLook {
         self.any
     }
 
-    /// The sequence before that of the first entry of a start: what begins a log is the only entry with the sequence 1.
+    /// The sequence before that of the first entry of a start: only where none is there does it begin with 1.
     pub(crate) fn sequence(&self) -> u64
         ensures { (es : List (List ℕ)) → HasSeen es self.now → result ≡ sequence_over es }
     {
@@ -107,9 +107,11 @@ fn is_whole(entry: &Entry<'_>) -> bool
 
 /// Reads the log to its end.
 pub(crate) fn look<G: DeltaLog>(alloc: Global, log: &mut G) -> Result<FirstLook, MemberFault>
-    ensures { IfOk result (λ found. (pages : List LogCall) × Calls (G.calls log.old) (G.calls log.new) pages
+    ensures found { IfOk result (λ found. (pages : List LogCall) × Calls (G.calls log.old) (G.calls log.new) pages
         × AreReadToTheEnd None pages × IsUncut (entries_in pages)
         × HasSeen (entries_in pages) found) }
+    // It is cut, or the log has a fault.
+    ensures fault { IfErr result IsLookFault }
 {
     let numbers = Numbers::new(alloc)?;
     let mut found = FirstLook {

@@ -8,7 +8,8 @@ ghost use Rattle.lw_log.specs.declared.log_fault.LogFault.TheVariants.{Lost as I
 ghost use Rattle.lw_member.specs.declared.fault.MemberFault.TheVariants.{ClockAhead as IsAhead, Log as IsLog};
 ghost use Rattle.lw_member.specs.Compaction.{IsCompactionDue, IsCompacted, Compacts};
 ghost use Rattle.lw_member.specs.Member.{BeginsAnew, IsLedBy};
-ghost use Rattle.lw_member.specs.Own.{WritesOwn};
+ghost use Rattle.lw_member.specs.Own.{NumbersOwn, WritesOwn};
+ghost use Rattle.lw_member.specs.Refusals.{Refuses};
 ghost use Rattle.lw_member.specs.Rounds.{IsRound};
 
 use crate::clocks::{floor_at, is_past_2100, is_years_ahead};
@@ -97,8 +98,10 @@ impl<G: DeltaLog> Member<G> {
         ensures round { IfOk result (λ replies. IsRound self.old calls.now replies.items self.new) }
         // Also where it fails.
         ensures own { WritesOwn self.old self.new }
+        ensures sequence { NumbersOwn self.old self.new }
         // What the log has lost is read and written again.
         ensures lost { IfErr result (λ fault. fault ≡ IsLog IsLost → BeginsAnew self.new) }
+        ensures refused { IfErr result (Refuses self.old self.new) }
     {
         round(&mut self.log, &mut self.standing, calls)
     }
@@ -114,8 +117,10 @@ impl<G: DeltaLog> Member<G> {
     /// Reads the log to its end, appends all that the node knows, and then has go what was read.
     pub fn compact(&mut self) -> Result<(), MemberFault>
         ensures compacted { OnOk result (IsCompacted self.old self.new) }
+        ensures refused { IfErr result (Refuses self.old self.new) }
         // Also where it fails.
         ensures own { Compacts self.old self.new }
+        ensures sequence { NumbersOwn self.old self.new }
     {
         compact(&mut self.log, &mut self.standing)
     }

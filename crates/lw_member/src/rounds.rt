@@ -3,7 +3,8 @@
 ghost use Rattle.std.specs.Prelude.{◌≡◌, ◌≢◌, ◌↔◌, ◌<◌, ◌*◌, ◌⊎◌, [], List, Option, Some, None, true, false, option_map, IfErr, IfOk, IsTrue, OnOk, OnErr};
 ghost use Rattle.lw_log.specs.Calls.{LogCall, Calls, append_calls, place_of};
 ghost use Rattle.lw_member.specs.Clocks.{year_2100};
-ghost use Rattle.lw_member.specs.Own.{WritesOwn};
+ghost use Rattle.lw_member.specs.Own.{NumbersOwn, WritesOwn};
+ghost use Rattle.lw_member.specs.Refusals.{Refuses};
 ghost use Rattle.lw_member.specs.Reading.{AreReadToTheEnd, AreReads, entries_in, last_read};
 ghost use Rattle.lw_member.specs.Rounds.{IsRound};
 ghost use Rattle.lw_member.specs.Parts.{content_of, IsLeading, IsMember};
@@ -30,6 +31,9 @@ pub(crate) fn catch_up<G: DeltaLog>(
     ensures asked { (pages : List LogCall) × Calls (G.calls log.old) (G.calls log.new) pages × AreReads pages
         × IsReadBy standing.old pages standing.new }
     ensures lost { IfErr result (λ fault. BeginsAnewBy fault standing.new) }
+    ensures refused { IfErr result (Refuses (content_of (G.calls log.old) standing.old)
+        (content_of (G.calls log.new) standing.new)) }
+    ensures sequence { standing.new.sequence ≡ standing.old.sequence }
     ensures same { HasSameStart standing.old standing.new }
     ensures member { IsMember (G.calls log.old) standing.old → IsMember (G.calls log.new) standing.new }
 {
@@ -90,7 +94,8 @@ fn is_in(fleet: Option<FleetId>, own: FleetId) -> bool
 
 /// Whether its own start was not read, which was appended, though it is read again.
 fn is_gone(own: bool, alone: bool) -> bool
-    ensures { result ≡ false → alone ≡ false → own ≡ true }
+    ensures shown { result ≡ false → alone ≡ false → own ≡ true }
+    ensures gone { result ≡ true → (own ≡ false) × (alone ≡ false) }
 {
     !own && !alone
 }
@@ -100,6 +105,10 @@ fn write_start<G: DeltaLog>(log: &mut G, standing: &mut Standing) -> Result<Flee
     ensures started { IfOk result (λ fleet. IsStarted (G.calls log.old) standing.old fleet.bytes
         (G.calls log.new) standing.new) }
     ensures lost { IfErr result (λ fault. BeginsAnewBy fault standing.new) }
+    ensures refused { IfErr result (Refuses (content_of (G.calls log.old) standing.old)
+        (content_of (G.calls log.new) standing.new)) }
+    ensures sequence { NumbersOwn (content_of (G.calls log.old) standing.old)
+        (content_of (G.calls log.new) standing.new) }
     ensures own { OnErr result (Claims (G.calls log.old) standing.old (G.calls log.new) standing.new) }
     ensures same { HasSameStart standing.old standing.new }
     ensures member { IsMember (G.calls log.old) standing.old → IsMember (G.calls log.new) standing.new }
@@ -116,11 +125,16 @@ fn write<G: DeltaLog>(log: &mut G, standing: &mut Standing) -> Result<(), Member
     ensures written { IsMember (G.calls log.old) standing.old
         → OnOk result (IsWritingNow (G.calls log.old) standing.old (G.calls log.new) standing.new) }
     ensures lost { IfErr result (λ fault. BeginsAnewBy fault standing.new) }
+    ensures refused { IfErr result (Refuses (content_of (G.calls log.old) standing.old)
+        (content_of (G.calls log.new) standing.new)) }
+    ensures sequence { NumbersOwn (content_of (G.calls log.old) standing.old)
+        (content_of (G.calls log.new) standing.new) }
     ensures own { IsMember (G.calls log.old) standing.old
         → WritesOwnCalls (G.calls log.old) standing.old (G.calls log.new) standing.new }
     ensures same { HasSameStart standing.old standing.new }
     ensures node { standing.new.node ≡ standing.old.node }
     ensures fleet { standing.new.fleet ≡ standing.old.fleet }
+    ensures settled { standing.new.settled ≡ standing.old.settled }
     ensures numbers { standing.new.numbers ≡ standing.old.numbers }
     ensures member { IsMember (G.calls log.old) standing.old → IsMember (G.calls log.new) standing.new }
 {
@@ -146,6 +160,10 @@ fn claim<G: DeltaLog>(log: &mut G, standing: &mut Standing) -> Result<(), Member
     ensures claimed { IsMember (G.calls log.old) standing.old
         → OnOk result (IsClaimed (G.calls log.old) standing.old (G.calls log.new) standing.new) }
     ensures lost { IfErr result (λ fault. BeginsAnewBy fault standing.new) }
+    ensures refused { IfErr result (Refuses (content_of (G.calls log.old) standing.old)
+        (content_of (G.calls log.new) standing.new)) }
+    ensures sequence { NumbersOwn (content_of (G.calls log.old) standing.old)
+        (content_of (G.calls log.new) standing.new) }
     ensures own { Claims (G.calls log.old) standing.old (G.calls log.new) standing.new }
     ensures same { OnErr result (HasSameStart standing.old standing.new) }
     ensures start { OnOk result (HasSameStart standing.old (record standing.new { claimed = false })
@@ -176,6 +194,10 @@ fn finish<G: DeltaLog>(
     ensures finished { IfOk result (λ replies. Finished (G.calls log.old) standing.old calls.now
         replies.items (G.calls log.new) standing.new) }
     ensures lost { IfErr result (λ fault. BeginsAnewBy fault standing.new) }
+    ensures refused { IfErr result (Refuses (content_of (G.calls log.old) standing.old)
+        (content_of (G.calls log.new) standing.new)) }
+    ensures sequence { NumbersOwn (content_of (G.calls log.old) standing.old)
+        (content_of (G.calls log.new) standing.new) }
     ensures own { WritesOwnCalls (G.calls log.old) standing.old (G.calls log.new) standing.new }
     ensures same { HasSameStart standing.old standing.new }
     ensures member { IsMember (G.calls log.new) standing.new }
@@ -196,6 +218,10 @@ pub(crate) fn round<G: DeltaLog>(
     ensures round { IfOk result (λ replies. IsRound (content_of (G.calls log.old) standing.old) calls.now
         replies.items (content_of (G.calls log.new) standing.new)) }
     ensures lost { IfErr result (λ fault. BeginsAnewBy fault standing.new) }
+    ensures refused { IfErr result (Refuses (content_of (G.calls log.old) standing.old)
+        (content_of (G.calls log.new) standing.new)) }
+    ensures sequence { NumbersOwn (content_of (G.calls log.old) standing.old)
+        (content_of (G.calls log.new) standing.new) }
     ensures own { WritesOwn (content_of (G.calls log.old) standing.old)
         (content_of (G.calls log.new) standing.new) }
     ensures member { IsMember (G.calls log.new) standing.new }

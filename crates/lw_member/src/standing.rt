@@ -9,7 +9,7 @@ ghost use Rattle.lw_log.specs.Calls.{LogCall, placed, place, place_of};
 ghost use Rattle.lw_log.specs.Entries.{BringsDelta, FitsBody, body_content};
 ghost use Rattle.lw_log.specs.Entries.BodyContent.{Start as StartContent};
 ghost use Rattle.lw_log.specs.declared.log_fault.LogFault.TheVariants.{Lost as IsLost};
-ghost use Rattle.lw_member.specs.declared.fault.MemberFault.TheVariants.{Log as IsLog};
+ghost use Rattle.lw_member.specs.declared.fault.MemberFault.TheVariants.{Log as IsLog, LogNewer as IsNewerLog, NoMemory as OutOfMemory, NumberTaken as IsTaken};
 ghost use Rattle.lw_member.specs.Faults.{fault_of};
 ghost use Rattle.lw_member.specs.Clocks.{year_2100};
 ghost use Rattle.lw_member.specs.Reading.{TellsOf, bytes_of, place_read};
@@ -17,9 +17,11 @@ ghost use Rattle.lw_member.specs.Rounds.{Makes};
 ghost use Rattle.lw_member.specs.inner.Seeing.{IsSeenBy, AreSeenBy};
 ghost use Rattle.lw_member.specs.inner.Going.{Goes};
 ghost use Rattle.lw_member.specs.Counting.{counted_with};
+ghost use Rattle.lw_member.specs.Fleets.{told_first};
+ghost use Rattle.lw_member.specs.Own.{next_sequence};
 ghost use Rattle.lw_member.specs.Parts.{fleet_of, IsLeading, IsMember};
 ghost use Rattle.lw_member.specs.inner.Standing.{BeginsAnewBy, IsNew, HasSameStart, IsStill, counted_in, counted_of};
-ghost use Rattle.lw_member.specs.inner.Taking.{Takes, IsBehind, IsJudged, IsJudgedEntry, IsJudgedPage, IsSpelt, IsEntryOf};
+ghost use Rattle.lw_member.specs.inner.Taking.{Takes, AreNotTaken, IsBehind, IsJudged, IsJudgedEntry, IsJudgedPage, IsNotMerged, IsNotTaken, IsSpelt, IsEntryOf};
 
 use crate::MemberFault;
 use crate::numbers::{Numbers, has_bit};
@@ -48,8 +50,8 @@ pub(crate) struct Standing {
     pub alone: bool,
     pub claimed: bool,
     pub floor: u64,
-    /// Of the last entry whose append returned. Before the first it is 0 over an empty log, and else 1: so only the first
-    /// entry of a log has the sequence 1.
+    /// Of the last entry whose append returned. Before the first it is 0 where the log was found empty, and else 1. So
+    /// a start that found entries writes none with the sequence 1; two that found none at once both do.
     pub sequence: u64,
     /// Whether the log leads all that the node knows.
     pub led: bool,
@@ -100,8 +102,10 @@ impl Standing {
         ensures read_to { OnOk result (place_of self.new.read_to
             ≡ place_read (place_of self.old.read_to) (placed page.now)) }
         ensures fault { IfErr result (λ fault. fault ≢ IsLog IsLost) }
+        ensures refused { IfErr result (AreNotTaken self.new (bytes_of (placed page.now))) }
         // Also where it fails.
         ensures behind { IsBehind self.old (placed page.now) self.new }
+        ensures sequence { self.new.sequence ≡ self.old.sequence }
         ensures same { HasSameStart self.old self.new }
         ensures leading { (asked : Option (List LogCall)) → AreSeenBy asked (bytes_of (placed page.now))
             → IsLeading asked self.old → IsLeading asked self.new }
@@ -117,7 +121,9 @@ impl Standing {
     fn take(&mut self, bytes: &[u8]) -> Result<(), MemberFault>
         ensures taken { OnOk result (Takes self.old (bytes.now ∷ []) self.new) }
         ensures fault { IfErr result (λ fault. fault ≢ IsLog IsLost) }
+        ensures refused { IfErr result (IsNotTaken self.new bytes.now) }
         ensures read_to { self.new.read_to ≡ self.old.read_to }
+        ensures sequence { self.new.sequence ≡ self.old.sequence }
         ensures same { HasSameStart self.old self.new }
         ensures leading { (asked : Option (List LogCall)) → IsSeenBy asked bytes.now
             → IsLeading asked self.old → IsLeading asked self.new }
@@ -142,6 +148,8 @@ impl Standing {
     fn hear_start(&mut self, fleet: FleetId)
         ensures only { self.new ≡ record self.old { fleet = self.new.fleet } }
         ensures fleet { self.old.settled ≡ true → self.new.fleet ≡ self.old.fleet }
+        ensures first { self.old.settled ≡ false → self.old.fleet ≡ None → self.new.fleet ≡ Some fleet }
+        ensures later { (f : FleetId) → self.old.fleet ≡ Some f → self.new.fleet ≡ Some f }
     {
         if !self.settled && self.fleet.is_none() {
             self.fleet = Some(fleet);
@@ -155,6 +163,7 @@ impl Standing {
             → Merged self.old.node d.clock d.slots self.new.node) }
         ensures fleet { OnOk result ((self.new.settled ≡ true) × (fleet_of self.new ≡ Some fleet.bytes)) }
         ensures fault { IfErr result (λ fault. fault ≢ IsLog IsLost) }
+        ensures refused { IfErr result (IsNotMerged self.new fleet) }
         ensures settled { OnOk result (self.old.settled ≡ true → self.new.fleet ≡ self.old.fleet) }
         ensures led { OnOk result (self.new.led ≡ self.old.led) }
         ensures written { self.old.led ≡ false → self.new.written ≡ self.old.written }
@@ -190,6 +199,7 @@ impl Standing {
         requires { self.old.floor < 64 * year_2100 }
         ensures raised { OnOk result (Merged self.old.node self.old.floor [] self.new.node) }
         ensures fault { IfErr result (λ fault. fault ≢ IsLog IsLost) }
+        ensures memory { IfErr result (λ fault. fault ≡ OutOfMemory) }
         ensures led { OnOk result (IsTrue self.new.led ↔ IsStill self.old self.new.node) }
         ensures only { self.new ≡ record self.old { node = self.new.node; led = self.new.led } }
         ensures goes { Goes self.old.node self.new.node }
@@ -273,6 +283,8 @@ impl Standing {
           read_to = self.new.read_to;
           size = self.new.size;
         } }
+        ensures sequence { self.new.sequence ≡ next_sequence self.old.sequence }
+        ensures risen { self.old.sequence ≤ self.new.sequence }
         ensures read_to { place_of self.new.read_to
             ≡ cond self.old.alone (Some (place position)) (place_of self.old.read_to) }
         ensures counted { counted_in self.new
@@ -288,6 +300,8 @@ impl Standing {
           read_to = self.new.read_to;
           size = self.new.size;
         } }
+        ensures sequence { self.new.sequence ≡ next_sequence self.old.sequence }
+        ensures risen { self.old.sequence ≤ self.new.sequence }
         ensures read_to { place_of self.new.read_to
             ≡ cond self.old.alone (Some (place position)) (place_of self.old.read_to) }
         ensures counted { counted_in self.new ≡ cond self.old.alone (length, 0) (counted_in self.old) }
@@ -302,6 +316,8 @@ impl Standing {
           read_to = self.new.read_to;
           size = self.new.size;
         } }
+        ensures sequence { self.new.sequence ≡ next_sequence self.old.sequence }
+        ensures risen { self.old.sequence ≤ self.new.sequence }
         ensures read_to { place_of self.new.read_to
             ≡ cond self.old.alone (Some (place position)) (place_of self.old.read_to) }
         ensures counted { counted_in self.new
@@ -322,11 +338,14 @@ impl Standing {
           size = self.new.size;
           fleet = self.new.fleet;
         } }
+        ensures sequence { self.new.sequence ≡ next_sequence self.old.sequence }
+        ensures risen { self.old.sequence ≤ self.new.sequence }
         ensures read_to { place_of self.new.read_to
             ≡ cond self.old.alone (Some (place position)) (place_of self.old.read_to) }
         ensures counted { counted_in self.new
             ≡ cond self.old.alone (counted_with StartContent length (counted_in self.old)) (counted_in self.old) }
         ensures fleet { (self.new.fleet ≡ self.old.fleet) ⊎ (self.new.fleet ≡ Some fleet) }
+        ensures shared { self.old.alone ≡ false → self.new.fleet ≡ self.old.fleet }
     {
         self.appended(position, length);
         if self.alone {
@@ -360,6 +379,7 @@ impl Standing {
     ) -> Result<bool, MemberFault>
         ensures judged { IfOk result (IsJudged own self.now.start.number self.now.start.tag (bytes_of (placed page.now))) }
         ensures fault { IfErr result (λ fault. fault ≢ IsLog IsLost) }
+        ensures taken { IfErr result (λ fault. fault ≡ IsTaken) }
     {
         if own {
             return Ok(true);
@@ -403,6 +423,7 @@ impl Standing {
 /// Passes over bytes that are no entry. One of a newer format is not passed over.
 fn pass_over(fault: EntryFault) -> Result<(), MemberFault>
     ensures known { OnOk result (fault ≢ EntryFault.Newer) }
+    ensures newer { IfErr result (λ refusal. (refusal ≡ IsNewerLog) × (fault ≡ EntryFault.Newer)) }
     ensures fault { IfErr result (λ fault. fault ≢ IsLog IsLost) }
 {
     match fault {

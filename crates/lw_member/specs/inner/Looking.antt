@@ -2,6 +2,8 @@
 use Rattle.std.specs.Prelude.{◌≡◌, ◌≢◌, ℕ, ◌⊎◌, List, [], ◌∷◌, true, false}
 use Rattle.lw_log.specs.Entries.{BodyContent, EntryContent}
 use Rattle.lw_log.specs.Entries.BodyContent.{Start, Delta, Whole}
+use Rattle.lw_member.specs.declared.fault.MemberFault.{MemberFault}
+use Rattle.lw_member.specs.declared.fault.MemberFault.TheVariants.{Log, AnotherFleet, LogCut, LogNewer, NumberTaken, NumbersEnded, ClockAhead, NoMemory}
 use Rattle.lw_member.specs.declared.looking.FirstLook.{FirstLook}
 use Rattle.lw_member.specs.Beginning.{BeginsLog, HasWhole}
 use Rattle.lw_member.specs.Reading.{AreNoted}
@@ -25,6 +27,17 @@ IsAll e = IsAllBody e.body
 abbrev pub HasBeginning : List (List ℕ) → Type 0
 HasBeginning [] = ⊥
 HasBeginning (e ∷ es) = BeginsLog e ⊎ HasWhole (e ∷ es)
+
+-- the faults of a first look
+abbrev pub IsLookFault : MemberFault → Type 0
+IsLookFault LogCut = Unit {0}
+IsLookFault (Log fault) = Unit {0}
+IsLookFault NoMemory = Unit {0}
+IsLookFault AnotherFleet = ⊥
+IsLookFault LogNewer = ⊥
+IsLookFault NumberTaken = ⊥
+IsLookFault NumbersEnded = ⊥
+IsLookFault ClockAhead = ⊥
 
 -- these entries were seen
 pub record HasSeen (es : List (List ℕ)) (look : FirstLook) : Type 0 where

@@ -1,5 +1,5 @@
 -- How a member's parts go on.
-use Rattle.std.specs.Prelude.{◌≡◌, ◌<◌, ℕ, List, Some, None, Bool, true, false}
+use Rattle.std.specs.Prelude.{◌≡◌, ◌<◌, ℕ, List, Option, Some, None, Bool, true, false}
 use Rattle.lw_table.specs.Changes.{LAST}
 use Rattle.lw_node.specs.Exchange.{IsBelow, known_by}
 use Rattle.lw_node.specs.Node.{NodeContent, fresh}
@@ -19,6 +19,10 @@ counted_of size = (size.whole, size.behind)
 
 abbrev pub counted_in : Standing → ℕ × ℕ
 counted_in s = counted_of s.size
+
+-- whether a delta has told the fleet, and the fleet
+abbrev pub fleet_told_in : Standing → Bool × Option (List ℕ)
+fleet_told_in s = (s.settled, fleet_of s)
 
 -- the start is the same, with what it has claimed, and nothing that was known is forgotten
 pub record HasSameStart (old new : Standing) : Type 0 where
@@ -45,6 +49,7 @@ pub record IsNew (s : Standing) (start : Start) (alone : Bool) (floor sequence :
   pub floor_is : s.floor ≡ floor
   pub sequence_is : s.sequence ≡ sequence
   pub unread : place_of s.read_to ≡ None
+  pub told : fleet_told_in s ≡ (false, None)
   pub led : s.led ≡ true
   pub numbers : (n : ℕ) → ¬ HasBit (numbers_of s) n
   pub counted : counted_in s ≡ (0, 0)

@@ -1,16 +1,22 @@
 -- What a member takes from entries, and judges of them.
-use Rattle.std.specs.Prelude.{◌≡◌, ℕ, ◌≤◌, List, [], ◌∷◌, ◌++◌, ◌⊎◌, length, Option, Some, None, Bool, true, false}
+use Rattle.std.specs.Prelude.{◌≡◌, ◌≢◌, ℕ, ◌≤◌, List, [], ◌∷◌, ◌++◌, ◌⊎◌, length, Option, Some, None, Bool, true, false}
 use Rattle.lw_delta.specs.Delta.{DeltaContent, IsSpelling}
 use Rattle.lw_node.specs.Exchange.{known_by}
 use Rattle.lw_log.specs.Calls.{LogCall, Placed, place_of}
 use Rattle.lw_log.specs.Calls.LogCall.{Read, Wrote, Tried, Trimmed}
 use Rattle.lw_log.specs.Entries.{BodyContent, EntryContent, IsEntry, HasDelta, BringsDelta}
+use Rattle.lw_log.specs.EntryFaults.{IsNewer}
+use Rattle.lw_log.specs.declared.entry.FleetId.{FleetId}
 use Rattle.lw_member.specs.declared.standing.Standing.{Standing}
 use Rattle.lw_member.specs.Reading.{MergesEntries, AreGood, AreNoted, IsFree, IsOf, IsTakenFirst, KnowsAll, Meets, ReadsOn, bytes_of, place_read}
+use Rattle.lw_member.specs.declared.fault.MemberFault.{MemberFault}
+use Rattle.lw_member.specs.declared.fault.MemberFault.TheVariants.{AnotherFleet, LogNewer, NoMemory}
 use Rattle.lw_member.specs.Counting.{CountsEntries}
+use Rattle.lw_member.specs.Fleets.{TellFleets}
+use Rattle.lw_member.specs.Refusals.{HasAnother, HasNewer, IsOfAnother}
 use Rattle.lw_member.specs.Own.{next_sequence}
 use Rattle.lw_member.specs.Parts.{fleet_of, numbers_of}
-use Rattle.lw_member.specs.inner.Standing.{counted_in}
+use Rattle.lw_member.specs.inner.Standing.{counted_in, fleet_told_in}
 
 -- no entry brings a delta
 abbrev pub AreBare : List (List ℕ) → Type 0
@@ -28,6 +34,22 @@ pub record Takes (old : Standing) (entries : List (List ℕ)) (new : Standing) :
   pub sequence : new.sequence ≡ old.sequence
   pub numbers : AreNoted (numbers_of old) entries (numbers_of new)
   pub counted : CountsEntries (counted_in old) entries (counted_in new)
+  pub told : TellFleets (fleet_told_in old) entries (fleet_told_in new)
+
+-- ---- what is not taken
+-- a delta of this fleet was not merged: another was told, or there is no memory
+abbrev pub IsNotMerged : Standing → FleetId → MemberFault → Type 0
+IsNotMerged s fleet fault = ((fault ≡ AnotherFleet) × (s.settled ≡ true) × (s.fleet ≢ Some fleet)) ⊎ (fault ≡ NoMemory)
+
+-- the entry is newer, or brings a delta of another fleet than was told, or there is no memory
+abbrev pub IsNotTaken : Standing → List ℕ → MemberFault → Type 0
+IsNotTaken s bytes fault =
+    ((fault ≡ LogNewer) × IsNewer bytes) ⊎ (((fault ≡ AnotherFleet) × (s.settled ≡ true) × IsOfAnother (fleet_of s) bytes) ⊎ (fault ≡ NoMemory))
+
+-- so is one of these entries
+abbrev pub AreNotTaken : Standing → List (List ℕ) → MemberFault → Type 0
+AreNotTaken s es fault =
+    ((fault ≡ LogNewer) × HasNewer es) ⊎ (((fault ≡ AnotherFleet) × (s.settled ≡ true) × HasAnother (fleet_of s) es) ⊎ (fault ≡ NoMemory))
 
 -- the entry of an option for the number: its own, another's, or none that tells of it
 abbrev pub IsJudgedEntry : ℕ → ℕ → List ℕ → Option Bool → Type 0

@@ -6,6 +6,7 @@ use Rattle.lw_log.specs.Calls.LogCall.{Wrote, Tried}
 use Rattle.lw_log.specs.Entries.BodyContent.{Whole}
 use Rattle.lw_member.specs.declared.standing.Standing.{Standing}
 use Rattle.lw_member.specs.Counting.{CountsEntries, own_entries}
+use Rattle.lw_member.specs.Own.{NumbersOn}
 use Rattle.lw_member.specs.Parts.{numbers_of}
 use Rattle.lw_member.specs.Rounds.{place_after}
 use Rattle.lw_member.specs.inner.Taking.{IsEntryOf, IsReadBy}
@@ -23,6 +24,7 @@ pub record IsWrittenWhole (before : Option (List LogCall)) (old : Standing) (fle
   pub place_is : place.0 ≡ at
   pub asked : Calls before after (Wrote place ∷ [])
   pub whole : IsWholeOf old fleet place.1
+  pub numbered : NumbersOn old.sequence (Wrote place ∷ []) new.sequence
   pub led : new.led ≡ true
   pub read_to : place_of new.read_to ≡ place_after old.alone (place_of old.read_to) (Wrote place ∷ [])
   pub counted : CountsEntries (counted_in old) (own_entries old.alone (Wrote place ∷ [])) (counted_in new)

@@ -8,13 +8,14 @@ use Rattle.lw_call.specs.declared.call.Call.{Call}
 use Rattle.lw_call.specs.declared.reply.Reply.{Reply}
 use Rattle.lw_node.specs.Exchange.{Merged}
 use Rattle.lw_member.specs.declared.standing.Standing.{Standing}
-use Rattle.lw_member.specs.Own.{AreOwnCalls, IsOwnIn, IsOwnSince, next_sequence}
+use Rattle.lw_member.specs.Own.{AreOwnCalls, IsOwnIn, IsOwnSince, NumbersOn, next_sequence}
 use Rattle.lw_member.specs.Reading.{AreReadToTheEnd, entries_in, last_read, AreGood, AreNoted, HoldsNumber, IsTakenFirst, MergesEntries}
 use Rattle.lw_member.specs.Rounds.{Makes, place_after}
 use Rattle.lw_member.specs.Counting.{CountsEntries, own_entries}
+use Rattle.lw_member.specs.Fleets.{TellFleets}
 use Rattle.lw_member.specs.Parts.{content_of, fleet_of, numbers_of, IsMember}
 use Rattle.lw_member.specs.inner.Going.{Goes}
-use Rattle.lw_member.specs.inner.Standing.{HasSameStart, IsStill, counted_in}
+use Rattle.lw_member.specs.inner.Standing.{HasSameStart, IsStill, counted_in, fleet_told_in}
 use Rattle.lw_member.specs.inner.Taking.{IsEntryOf, IsReadBy}
 
 -- all that was appended, or tried, is the member's own
@@ -45,7 +46,9 @@ pub record IsStarted (before : Option (List LogCall)) (old : Standing) (fleet : 
   pub place : Placed
   pub asked : Calls before after (Wrote place ∷ [])
   pub entry : IsEntryOf old fleet Start place.1
+  pub sequence : new.sequence ≡ next_sequence old.sequence
   pub only : new ≡ record old { sequence = new.sequence; read_to = new.read_to; size = new.size; fleet = new.fleet }
+  pub shared : old.alone ≡ false → new.fleet ≡ old.fleet
   pub read_to : place_of new.read_to ≡ place_after old.alone (place_of old.read_to) (Wrote place ∷ [])
   pub counted : CountsEntries (counted_in old) (own_entries old.alone (Wrote place ∷ [])) (counted_in new)
 
@@ -54,6 +57,7 @@ pub record IsWritingNow (before : Option (List LogCall)) (old : Standing) (after
   pub wrote : List LogCall
   pub asked : Calls before after wrote
   pub one : ((old.led ≡ true) × (wrote ≡ [])) ⊎ ((old.led ≡ false) × (p : Placed) × (wrote ≡ Wrote p ∷ []) × IsOwnSince (content_of after new) old.written p.1)
+  pub numbered : NumbersOn old.sequence wrote new.sequence
   pub led : new.led ≡ true
   pub read_to : place_of new.read_to ≡ place_after old.alone (place_of old.read_to) wrote
   pub counted : CountsEntries (counted_in old) (own_entries old.alone wrote) (counted_in new)
@@ -66,9 +70,11 @@ pub record IsClaimed (before : Option (List LogCall)) (old : Standing) (after : 
   pub asked : Calls before after (Wrote place ∷ pages)
   pub own : IsOwnIn (content_of after new) Start place.1
   pub numbered : own.0.entry.sequence ≡ next_sequence old.sequence
+  pub sequence : new.sequence ≡ next_sequence old.sequence
   pub read : AreReadToTheEnd (place_after old.alone (place_of old.read_to) (Wrote place ∷ [])) pages
   pub read_to : place_of new.read_to ≡ last_read (place_after old.alone (place_of old.read_to) (Wrote place ∷ [])) pages
   pub good : AreGood (fleet_of new) (entries_in pages)
+  pub told : old.alone ≡ false → TellFleets (fleet_told_in old) (entries_in pages) (fleet_told_in new)
   pub holds : HoldsNumber new.node.number new.start.tag (entries_in pages)
   pub first : old.alone ≡ false → IsTakenFirst new.node.number new.start.tag (entries_in pages)
   pub merges : MergesEntries old.node (entries_in pages) merged.node
@@ -95,6 +101,7 @@ pub record Written (before : Option (List LogCall)) (old : Standing) (after : Op
   pub same : HasSameStart old new
   pub node : new.node ≡ old.node
   pub fleet : new.fleet ≡ old.fleet
+  pub settled : new.settled ≡ old.settled
   pub numbers : new.numbers ≡ old.numbers
   pub member : IsMember after new
 

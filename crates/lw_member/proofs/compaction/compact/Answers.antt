@@ -5,6 +5,12 @@ use Rattle.lw_log.specs.declared.entry.FleetId.{FleetId}
 use Rattle.lw_member.proofs.Asking.{calls_none}
 use Rattle.lw_member.proofs.Catching.{member_more}
 use Rattle.lw_member.proofs.Compacting.{none_of, compacted_none, compacted_kept, compacted_whole, compacts_kept, compacts_none, compacts_read, compacts_tried, compacts_trimmed}
+use Rattle.lw_member.specs.Parts.{content_of}
+use Rattle.lw_member.proofs.Sequences.{numbers_read, numbers_then, numbers_trim}
+use Rattle.lw_log.specs.Calls.LogCall.{Wrote}
+use Rattle.lw_member.proofs.Asking.{calls_then}
+use Rattle.lw_member.proofs.Refusing.{raised, refuses_log, refuses_then}
+use Rattle.std.proofs.Common.{[], ◌∷◌}
 use Rattle.lw_member.proofs.compaction.compact.Goals as goal
 
 pub returns-in_err-catch_up-clause-own : goal.returns-in_err-catch_up-clause-own
@@ -37,14 +43,14 @@ returns-in_err-position-clause-own g c =
     let read = c.in_ok-catch_up.ensures.read in
     let fleet = ap (λ (f : Option FleetId). option_map (λ (x : FleetId). x.bytes) f) c.in-Some-fleet.is in
     compacts_tried _ _ c.args.standing.now c.catch_up.new.standing read.0 c.in_ok-catch_up.field-0 read.1 read.2 read.3 read.4 read.5 c.catch_up.ensures.same c.requires
-    _ c.write_whole.new.standing c.in-Some-fleet.fleet.bytes fleet c.write_whole.ensures.same c.write_whole.ensures.node c.write_whole.ensures.fleet c.write_whole.ensures.numbers c.in_err-position.ensures.own
+    _ c.write_whole.new.standing c.in-Some-fleet.fleet.bytes fleet c.write_whole.ensures.same c.write_whole.ensures.node c.write_whole.ensures.fleet c.write_whole.ensures.settled c.write_whole.ensures.numbers c.in_err-position.ensures.own
 
 pub returns-in_err-trim-clause-own : goal.returns-in_err-trim-clause-own
 returns-in_err-trim-clause-own g c =
     let read = c.in_ok-catch_up.ensures.read in
     let fleet = ap (λ (f : Option FleetId). option_map (λ (x : FleetId). x.bytes) f) c.in-Some-fleet.is in
     compacts_trimmed _ _ c.args.standing.now c.catch_up.new.standing read.0 c.in_ok-catch_up.field-0 read.1 read.2 read.3 read.4 read.5 c.catch_up.ensures.same c.requires
-    _ c.write_whole.new.standing c.in-Some-fleet.fleet.bytes fleet c.write_whole.ensures.same c.write_whole.ensures.node c.write_whole.ensures.fleet c.write_whole.ensures.numbers
+    _ c.write_whole.new.standing c.in-Some-fleet.fleet.bytes fleet c.write_whole.ensures.same c.write_whole.ensures.node c.write_whole.ensures.fleet c.write_whole.ensures.settled c.write_whole.ensures.numbers
     _ c.in-Some.upto c.in-Some.is c.in_ok-position.position c.in_ok-position.ensures.written (c.if-stands_before.ensures.0 refl) c.trim.result c.trim.ensures
 
 pub returns-in_err-trim-clause-member : goal.returns-in_err-trim-clause-member
@@ -56,7 +62,7 @@ returns-in_ok-trim-clause-compacted g c =
     let read = c.in_ok-catch_up.ensures.read in
     let fleet = ap (λ (f : Option FleetId). option_map (λ (x : FleetId). x.bytes) f) c.in-Some-fleet.is in
     compacted_whole _ _ c.args.standing.now c.catch_up.new.standing read.0 c.in_ok-catch_up.field-0 read.1 read.2 read.3 read.4 read.5 c.catch_up.ensures.same c.requires
-    _ c.write_whole.new.standing c.in-Some-fleet.fleet.bytes fleet c.write_whole.ensures.same c.write_whole.ensures.node c.write_whole.ensures.fleet c.write_whole.ensures.numbers
+    _ c.write_whole.new.standing c.in-Some-fleet.fleet.bytes fleet c.write_whole.ensures.same c.write_whole.ensures.node c.write_whole.ensures.fleet c.write_whole.ensures.settled c.write_whole.ensures.numbers
     _ c.in-Some.upto c.in-Some.is c.in_ok-position.position c.in_ok-position.ensures.written (c.if-stands_before.ensures.0 refl) c.in_ok-trim.ensures (member_more _ _ _ c.write_whole.new.standing c.trim.ensures c.write_whole.ensures.member)
 
 pub returns-in_ok-trim-clause-own : goal.returns-in_ok-trim-clause-own
@@ -64,7 +70,7 @@ returns-in_ok-trim-clause-own g c =
     let read = c.in_ok-catch_up.ensures.read in
     let fleet = ap (λ (f : Option FleetId). option_map (λ (x : FleetId). x.bytes) f) c.in-Some-fleet.is in
     compacts_trimmed _ _ c.args.standing.now c.catch_up.new.standing read.0 c.in_ok-catch_up.field-0 read.1 read.2 read.3 read.4 read.5 c.catch_up.ensures.same c.requires
-    _ c.write_whole.new.standing c.in-Some-fleet.fleet.bytes fleet c.write_whole.ensures.same c.write_whole.ensures.node c.write_whole.ensures.fleet c.write_whole.ensures.numbers
+    _ c.write_whole.new.standing c.in-Some-fleet.fleet.bytes fleet c.write_whole.ensures.same c.write_whole.ensures.node c.write_whole.ensures.fleet c.write_whole.ensures.settled c.write_whole.ensures.numbers
     _ c.in-Some.upto c.in-Some.is c.in_ok-position.position c.in_ok-position.ensures.written (c.if-stands_before.ensures.0 refl) c.trim.result c.trim.ensures
 
 pub returns-in_ok-trim-clause-member : goal.returns-in_ok-trim-clause-member
@@ -76,7 +82,7 @@ returns-else-stands_before-clause-compacted g c =
     let read = c.in_ok-catch_up.ensures.read in
     let fleet = ap (λ (f : Option FleetId). option_map (λ (x : FleetId). x.bytes) f) c.in-Some-fleet.is in
     compacted_kept _ _ c.args.standing.now c.catch_up.new.standing read.0 c.in_ok-catch_up.field-0 read.1 read.2 read.3 read.4 read.5 c.catch_up.ensures.same c.requires
-    _ c.write_whole.new.standing c.in-Some-fleet.fleet.bytes fleet c.write_whole.ensures.same c.write_whole.ensures.node c.write_whole.ensures.fleet c.write_whole.ensures.numbers
+    _ c.write_whole.new.standing c.in-Some-fleet.fleet.bytes fleet c.write_whole.ensures.same c.write_whole.ensures.node c.write_whole.ensures.fleet c.write_whole.ensures.settled c.write_whole.ensures.numbers
     _ c.in-Some.upto c.in-Some.is c.in_ok-position.position c.in_ok-position.ensures.written (λ h. let bad = c.if-stands_before.ensures.1 h in cc) (calls_none _) c.write_whole.ensures.member
 
 pub returns-else-stands_before-clause-own : goal.returns-else-stands_before-clause-own
@@ -84,5 +90,46 @@ returns-else-stands_before-clause-own g c =
     let read = c.in_ok-catch_up.ensures.read in
     let fleet = ap (λ (f : Option FleetId). option_map (λ (x : FleetId). x.bytes) f) c.in-Some-fleet.is in
     compacts_kept _ _ c.args.standing.now c.catch_up.new.standing read.0 c.in_ok-catch_up.field-0 read.1 read.2 read.3 read.4 read.5 c.catch_up.ensures.same c.requires
-    _ c.write_whole.new.standing c.in-Some-fleet.fleet.bytes fleet c.write_whole.ensures.same c.write_whole.ensures.node c.write_whole.ensures.fleet c.write_whole.ensures.numbers
+    _ c.write_whole.new.standing c.in-Some-fleet.fleet.bytes fleet c.write_whole.ensures.same c.write_whole.ensures.node c.write_whole.ensures.fleet c.write_whole.ensures.settled c.write_whole.ensures.numbers
     _ c.in-Some.upto c.in-Some.is c.in_ok-position.position c.in_ok-position.ensures.written (calls_none _)
+
+pub returns-in_err-catch_up-clause-sequence : goal.returns-in_err-catch_up-clause-sequence
+returns-in_err-catch_up-clause-sequence g c =
+    numbers_read (content_of _ c.args.standing.now) (content_of _ c.catch_up.new.standing) c.catch_up.ensures.asked.0 c.catch_up.ensures.asked.1 c.catch_up.ensures.asked.2 c.catch_up.ensures.sequence
+
+pub returns-in_default-clause-sequence : goal.returns-in_default-clause-sequence
+returns-in_default-clause-sequence g c =
+    numbers_read (content_of _ c.args.standing.now) (content_of _ c.catch_up.new.standing) c.catch_up.ensures.asked.0 c.catch_up.ensures.asked.1 c.catch_up.ensures.asked.2 c.catch_up.ensures.sequence
+
+pub returns-in_default-fleet-clause-sequence : goal.returns-in_default-fleet-clause-sequence
+returns-in_default-fleet-clause-sequence g c =
+    numbers_read (content_of _ c.args.standing.now) (content_of _ c.catch_up.new.standing) c.catch_up.ensures.asked.0 c.catch_up.ensures.asked.1 c.catch_up.ensures.asked.2 c.catch_up.ensures.sequence
+
+pub returns-in_err-position-clause-sequence : goal.returns-in_err-position-clause-sequence
+returns-in_err-position-clause-sequence g c =
+    numbers_then (content_of _ c.args.standing.now) (content_of _ c.catch_up.new.standing) (content_of _ c.write_whole.new.standing) (numbers_read (content_of _ c.args.standing.now) (content_of _ c.catch_up.new.standing) c.catch_up.ensures.asked.0 c.catch_up.ensures.asked.1 c.catch_up.ensures.asked.2 c.catch_up.ensures.sequence) c.write_whole.ensures.sequence
+
+pub returns-in_err-trim-clause-sequence : goal.returns-in_err-trim-clause-sequence
+returns-in_err-trim-clause-sequence g c =
+    numbers_then (content_of _ c.args.standing.now) (content_of _ c.write_whole.new.standing) (content_of _ c.write_whole.new.standing)
+    (numbers_then (content_of _ c.args.standing.now) (content_of _ c.catch_up.new.standing) (content_of _ c.write_whole.new.standing) (numbers_read (content_of _ c.args.standing.now) (content_of _ c.catch_up.new.standing) c.catch_up.ensures.asked.0 c.catch_up.ensures.asked.1 c.catch_up.ensures.asked.2 c.catch_up.ensures.sequence) c.write_whole.ensures.sequence)
+    (numbers_trim (content_of _ c.write_whole.new.standing) (content_of _ c.write_whole.new.standing) c.in-Some.upto c.trim.result c.trim.ensures refl)
+
+pub returns-in_ok-trim-clause-sequence : goal.returns-in_ok-trim-clause-sequence
+returns-in_ok-trim-clause-sequence g c =
+    numbers_then (content_of _ c.args.standing.now) (content_of _ c.write_whole.new.standing) (content_of _ c.write_whole.new.standing)
+    (numbers_then (content_of _ c.args.standing.now) (content_of _ c.catch_up.new.standing) (content_of _ c.write_whole.new.standing) (numbers_read (content_of _ c.args.standing.now) (content_of _ c.catch_up.new.standing) c.catch_up.ensures.asked.0 c.catch_up.ensures.asked.1 c.catch_up.ensures.asked.2 c.catch_up.ensures.sequence) c.write_whole.ensures.sequence)
+    (numbers_trim (content_of _ c.write_whole.new.standing) (content_of _ c.write_whole.new.standing) c.in-Some.upto c.trim.result c.trim.ensures refl)
+
+pub returns-else-stands_before-clause-sequence : goal.returns-else-stands_before-clause-sequence
+returns-else-stands_before-clause-sequence g c =
+    numbers_then (content_of _ c.args.standing.now) (content_of _ c.catch_up.new.standing) (content_of _ c.write_whole.new.standing) (numbers_read (content_of _ c.args.standing.now) (content_of _ c.catch_up.new.standing) c.catch_up.ensures.asked.0 c.catch_up.ensures.asked.1 c.catch_up.ensures.asked.2 c.catch_up.ensures.sequence) c.write_whole.ensures.sequence
+
+pub returns-in_err-position-clause-refused : goal.returns-in_err-position-clause-refused
+returns-in_err-position-clause-refused g c =
+    raised _ c.from_residual-in_err-position.result c.from_residual-in_err-position.ensures.1 (refuses_then (content_of _ c.args.standing.now) (content_of _ c.catch_up.new.standing) (content_of _ c.write_whole.new.standing) c.catch_up.ensures.asked.0 _ c.catch_up.ensures.asked.1 c.in_err-position.ensures.refused)
+
+pub returns-in_err-trim-clause-refused : goal.returns-in_err-trim-clause-refused
+returns-in_err-trim-clause-refused g c =
+    let written = c.in_ok-position.ensures.written in
+    raised _ c.from_residual-in_err-trim.result c.from_residual-in_err-trim.ensures.1 (refuses_log (content_of _ c.args.standing.now) (content_of _ c.write_whole.new.standing) _ c.in_err-trim.field-0.0 _ refl (calls_then _ _ _ c.catch_up.ensures.asked.0 _ c.catch_up.ensures.asked.1 (calls_then _ _ _ (Wrote written.place ∷ []) _ written.asked c.trim.ensures)))

@@ -1,4 +1,4 @@
-use Rattle.std.proofs.Common.{◌≡◌, Err, Some, length, true, cond, ap, ◌∙◌, sym, refl, subst}
+use Rattle.std.proofs.Common.{◌≡◌, ◌≤◌, Err, Some, length, true, cond, ap, ◌∙◌, sym, refl, subst}
 use Rattle.lw_delta.specs.Delta.{IsSpelling}
 use Rattle.lw_node.specs.Exchange.{IsDeltaSince}
 use Rattle.lw_node.specs.Node.{NodeContent}
@@ -14,6 +14,12 @@ use Rattle.lw_member.specs.inner.Wholes.{TriesWhole}
 use Rattle.lw_member.proofs.Knowing.{by_failed}
 use Rattle.lw_member.proofs.Merging.{on_err, same_appended, same_failed, same_none}
 use Rattle.lw_member.proofs.Owning.{append_whole, member_whole, tries_none}
+use Rattle.lw_member.specs.Own.{next_sequence}
+use Rattle.lw_member.specs.Parts.{content_of}
+use Rattle.lw_member.proofs.Sequences.{has_next, numbers_failed, numbers_none, numbers_wrote}
+use Rattle.lw_member.proofs.Asking.{calls_none}
+use Rattle.lw_member.proofs.Refusing.{raised, refuses_log, refuses_memory}
+use Rattle.std.proofs.Common.{[]}
 use Rattle.lw_member.proofs.compaction.write_whole.Goals as goal
 
 pub entry-requires-clause-fits : goal.entry-requires-clause-fits
@@ -53,6 +59,7 @@ returns-clause-written g c =
       place_is = refl;
       asked = c.in_ok-position.ensures.asked;
       whole = record { delta = c.deref.result.now; is = is; entry = e };
+      numbered = (has_next s0 _ _ _ e, c.appended_whole.ensures.sequence ∙ ap (λ (x : Standing). next_sequence x.sequence) c.in_ok-position.ensures.done);
       led = refl;
       read_to = c.appended_whole.ensures.read_to ∙ ap (λ (x : Standing). cond x.alone (Some (place c.in_ok-position.position)) (place_of x.read_to)) c.in_ok-position.ensures.done;
       counted = counts_own s0.alone (counted_in s0) (counted_in c.appended_whole.new.self) c.deref-2.result.now e.entry (Whole (numbers_of s0) c.deref.result.now) c.len.result e.is e.body_is
@@ -92,3 +99,36 @@ returns-clause-same g c =
     let only : s ≡ record s0 { sequence = s.sequence; read_to = s.read_to; size = s.size } =
     c.appended_whole.ensures.only ∙ ap (λ (x : Standing). record x { sequence = s.sequence; read_to = s.read_to; size = s.size }) c.in_ok-position.ensures.done in
     same_appended s0 s true c.change-standing.result only
+
+pub returns-in_err-delta-clause-sequence : goal.returns-in_err-delta-clause-sequence
+returns-in_err-delta-clause-sequence g c = numbers_none (content_of (g.G.DeltaLog.calls c.args.log.now) c.args.standing.now)
+
+pub returns-in_err-entry-clause-sequence : goal.returns-in_err-entry-clause-sequence
+returns-in_err-entry-clause-sequence g c = numbers_none (content_of (g.G.DeltaLog.calls c.args.log.now) c.args.standing.now)
+
+pub returns-in_err-position-clause-sequence : goal.returns-in_err-position-clause-sequence
+returns-in_err-position-clause-sequence g c =
+    let s0 = c.args.standing.now in
+    let e = subst (λ b. IsEntryOf s0 c.args.fleet.bytes (Whole c.as_bytes.result.now c.deref.result.now) b) (sym c.deref-2.ensures.value) c.in_ok-entry.ensures in
+    numbers_failed (content_of _ s0) (content_of _ c.append.new.standing) c.deref-2.result.now c.in_err-position.field-0.0 c.in_err-position.ensures.asked (has_next s0 _ _ _ e) (ap (λ (x : Standing). x.sequence) c.append.ensures.only)
+
+pub returns-clause-sequence : goal.returns-clause-sequence
+returns-clause-sequence g c =
+    let s0 = c.args.standing.now in
+    let s : Standing = record c.appended_whole.new.self { led = true; written = c.change-standing.result } in
+    let done = c.in_ok-position.ensures.done in
+    let e = subst (λ b. IsEntryOf s0 c.args.fleet.bytes (Whole c.as_bytes.result.now c.deref.result.now) b) (sym c.deref-2.ensures.value) c.in_ok-entry.ensures in
+    numbers_wrote (content_of _ s0) (content_of _ s) (place c.in_ok-position.position, c.deref-2.result.now) c.in_ok-position.ensures.asked (has_next s0 _ _ _ e)
+    (c.appended_whole.ensures.sequence ∙ ap (λ (x : Standing). next_sequence x.sequence) done) (subst (λ n. n ≤ c.appended_whole.new.self.sequence) (ap (λ (x : Standing). x.sequence) done) c.appended_whole.ensures.risen)
+
+pub returns-in_err-delta-clause-refused : goal.returns-in_err-delta-clause-refused
+returns-in_err-delta-clause-refused g c =
+    raised _ c.from_residual.result c.from_residual.ensures.1 (refuses_memory (content_of _ c.args.standing.now) (content_of _ c.args.standing.now) [] _ refl (calls_none (g.G.DeltaLog.calls c.args.log.now)))
+
+pub returns-in_err-entry-clause-refused : goal.returns-in_err-entry-clause-refused
+returns-in_err-entry-clause-refused g c =
+    raised _ c.from_residual-in_err-entry.result c.from_residual-in_err-entry.ensures.1 (refuses_memory (content_of _ c.args.standing.now) (content_of _ c.args.standing.now) [] _ refl (calls_none (g.G.DeltaLog.calls c.args.log.now)))
+
+pub returns-in_err-position-clause-refused : goal.returns-in_err-position-clause-refused
+returns-in_err-position-clause-refused g c =
+    raised _ c.from_residual-in_err-position.result c.from_residual-in_err-position.ensures.1 (refuses_log (content_of _ c.args.standing.now) (content_of _ c.append.new.standing) _ c.in_err-position.field-0.0 _ refl c.in_err-position.ensures.asked)

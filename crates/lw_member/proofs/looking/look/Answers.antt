@@ -8,7 +8,9 @@ use Rattle.lw_member.specs.inner.Looking.{HasSeen}
 use Rattle.lw_member.specs.inner.Taking.{ArePages}
 use Rattle.lw_member.proofs.Asking.{calls_none, calls_then, pages_more, pages_end, entries_more}
 use Rattle.lw_member.proofs.Numbering.{noted_new, noted_none}
+use Rattle.lw_member.proofs.Beginnings.{log_looks}
 use Rattle.lw_member.proofs.Catching.{length_placed}
+use Rattle.lw_member.proofs.Refusing.{raised}
 use Rattle.lw_member.proofs.looking.look.Goals as goal
 
 pub loop-page-init : goal.loop-page-init
@@ -20,8 +22,8 @@ loop-page-init g c =
       record { none = λ h. refl; some = λ h. absurd cc; whole = λ h. absurd cc; numbers = noted_new numbers numbers [] c.in_ok-numbers.ensures (noted_none numbers) },
     )
 
-pub returns-then-len-lt-PAGE : goal.returns-then-len-lt-PAGE
-returns-then-len-lt-PAGE g c =
+pub returns-then-len-lt-PAGE-clause-found : goal.returns-then-len-lt-PAGE-clause-found
+returns-then-len-lt-PAGE-clause-found g c =
     let i = c.loop-page.invariant in
     let page = c.in_ok-page.page.items in
     let from = place_of c.loop-page.after in
@@ -47,3 +49,7 @@ loop-page-preserved g c =
       subst (λ p. ArePages None (i.0 ++ last ∷ []) p) (sym place) (pages_more None from i.0 from (placed page) i.2 refl (let l = length_placed page in omega (arith, l, c.len.ensures, c.if-len-lt-PAGE.false))),
       subst (λ es. HasSeen es c.note_page.new.self) (sym (entries_more i.0 from (placed page))) seen,
     )
+
+pub returns-in_err-page-clause-fault : goal.returns-in_err-page-clause-fault
+returns-in_err-page-clause-fault g c =
+    raised _ c.from_residual-in_err-page.result c.from_residual-in_err-page.ensures.1 (log_looks c.in_err-page.field-0.0)

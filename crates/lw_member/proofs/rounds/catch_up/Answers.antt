@@ -1,18 +1,21 @@
-use Rattle.std.proofs.Common.{◌≡◌, ℕ, List, Option, ap, arith, subst}
+use Rattle.std.proofs.Common.{◌≡◌, ℕ, List, Option, ap, ◌∙◌, ◌++◌, ◌∷◌, [], append-nil, refl, arith, subst}
 use Rattle.lw_log.specs.Calls.{LogCall, placed, place_of}
+use Rattle.lw_log.specs.Calls.LogCall.{Read}
 use Rattle.lw_log.specs.declared.position.Position.{Position}
-use Rattle.lw_member.specs.Parts.{IsLeading}
+use Rattle.lw_member.specs.Parts.{content_of, IsLeading}
 use Rattle.lw_member.specs.Reading.{bytes_of, place_read}
 use Rattle.lw_member.specs.inner.Seeing.{AreSeenBy}
 use Rattle.lw_member.specs.declared.standing.Standing.{Standing}
-use Rattle.lw_member.specs.inner.Taking.{IsBehind, Takes, IsJudged}
+use Rattle.lw_member.specs.inner.Taking.{AreNotTaken, IsBehind, Takes, IsJudged}
 use Rattle.lw_member.proofs.Catching.{caught_start, caught_page, caught_end, caught_asked, asked_fault, asked_page, member_failed, member_more, page_leads}
 use Rattle.lw_member.proofs.Knowing.{behind_none}
 use Rattle.lw_member.proofs.Merging.{same_failed, same_none, same_then}
+use Rattle.lw_member.proofs.Asking.{calls_then}
+use Rattle.lw_member.proofs.Refusing.{raised, refuses_log, refuses_page, refuses_taken}
 use Rattle.lw_member.proofs.rounds.catch_up.Goals as goal
 
 pub loop-page-init : goal.loop-page-init
-loop-page-init g c = record { caught = caught_start _ c.args.standing.now; member = λ m. m }
+loop-page-init g c = record { caught = caught_start _ c.args.standing.now; sequence = refl; member = λ m. m }
 
 pub returns-in-Err-clause-asked : goal.returns-in-Err-clause-asked
 returns-in-Err-clause-asked g c =
@@ -90,8 +93,39 @@ loop-page-preserved g c =
     let leads = subst (λ (p : List (Position × List ℕ)). (asked : Option (List LogCall)) → AreSeenBy asked (bytes_of (placed p)) → IsLeading asked s → IsLeading asked s1) same2 c.in_ok-take_page.ensures.leading in
     record {
       caught = caught_page _ _ _ s0 s s1 c.loop-page.own c.in_ok-own.own page c.loop-page.invariant.caught c.in-Ok.ensures judged takes read_to c.in_ok-take_page.ensures.same (omega (arith, c.len.ensures, c.if-len-lt-PAGE.false));
+      sequence = c.take_page.ensures.sequence ∙ c.loop-page.invariant.sequence;
       member = λ m. page_leads _ _ s s1 _ page c.in-Ok.ensures leads c.in_ok-take_page.ensures.same (c.loop-page.invariant.member m);
     }
 
 pub returns-clause-asked : goal.returns-clause-asked
 returns-clause-asked g c = caught_asked _ _ _ _ _ c.loop-page.invariant.caught
+
+pub returns-in-Err-clause-sequence : goal.returns-in-Err-clause-sequence
+returns-in-Err-clause-sequence g c = ap (λ (x : Standing). x.sequence) c.failed.ensures.only ∙ c.loop-page.invariant.sequence
+
+pub returns-in_err-take_page-clause-sequence : goal.returns-in_err-take_page-clause-sequence
+returns-in_err-take_page-clause-sequence g c = c.take_page.ensures.sequence ∙ c.loop-page.invariant.sequence
+
+pub returns-then-len-lt-PAGE-clause-sequence : goal.returns-then-len-lt-PAGE-clause-sequence
+returns-then-len-lt-PAGE-clause-sequence g c = c.take_page.ensures.sequence ∙ c.loop-page.invariant.sequence
+
+pub returns-in-Err-clause-refused : goal.returns-in-Err-clause-refused
+returns-in-Err-clause-refused g c =
+    let caught = c.loop-page.invariant.caught in
+    refuses_log (content_of _ c.args.standing.now) (content_of _ c.failed.new.self) (caught.pages ++ []) c.in-Err.fault _ c.from.ensures (calls_then _ _ _ caught.pages [] caught.asked c.in-Err.ensures)
+
+pub returns-in_err-own-clause-refused : goal.returns-in_err-own-clause-refused
+returns-in_err-own-clause-refused g c =
+    let caught = c.loop-page.invariant.caught in
+    raised _ c.from_residual.result c.from_residual.ensures.1 (refuses_taken (content_of _ c.args.standing.now) (content_of _ c.loop-page.standing) (caught.pages ++ Read _ _ ∷ []) _ c.in_err-own.ensures.taken (calls_then _ _ _ caught.pages (Read _ _ ∷ []) caught.asked c.in-Ok.ensures))
+
+pub returns-in_err-take_page-clause-refused : goal.returns-in_err-take_page-clause-refused
+returns-in_err-take_page-clause-refused g c =
+    let caught = c.loop-page.invariant.caught in
+    let page = c.in-Ok.page.items in
+    let s1 = c.take_page.new.self in
+    let why = subst (λ (p : List (Position × List ℕ)). AreNotTaken s1 (bytes_of (placed p)) c.in_err-take_page.field-0.0) c.deref-in-loop-page.ensures.value c.in_err-take_page.ensures.refused in
+    raised _ c.from_residual-in_err-take_page.result c.from_residual-in_err-take_page.ensures.1 (refuses_page _ _ _ c.args.standing.now s1 caught.pages (Read (place_of c.loop-page.standing.read_to) (placed page) ∷ []) (bytes_of (placed page)) c.in_err-take_page.field-0.0 caught.asked c.in-Ok.ensures (append-nil (bytes_of (placed page))) why)
+
+pub returns-clause-refused : goal.returns-clause-refused
+returns-clause-refused g c = record { more = c.loop-page.invariant.caught.pages; asked = c.loop-page.invariant.caught.asked; why = tt }

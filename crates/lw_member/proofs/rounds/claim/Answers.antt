@@ -1,10 +1,14 @@
-use Rattle.std.proofs.Common.{◌≡◌, ◌<◌, [], Some, true, ap, ◌∙◌, sym, refl, subst}
+use Rattle.std.proofs.Common.{◌≡◌, ◌<◌, [], ◌∷◌, Some, true, ap, ◌∙◌, sym, refl, subst}
 use Rattle.lw_member.specs.declared.standing.Standing.{Standing}
 use Rattle.lw_member.specs.Parts.{fleet_of}
-use Rattle.lw_member.proofs.Asking.{calls_none}
+use Rattle.lw_member.proofs.Asking.{calls_none, calls_then}
 use Rattle.lw_member.proofs.Catching.{member_failed, member_goes, member_claimed}
 use Rattle.lw_member.proofs.Claiming.{claim_is, claims_failed, claims_more, claims_read}
 use Rattle.lw_member.proofs.Merging.{on_err, same_failed, same_made, same_then, same_unclaimed}
+use Rattle.lw_member.specs.Parts.{content_of}
+use Rattle.lw_member.proofs.Sequences.{numbers_read, numbers_then}
+use Rattle.lw_log.specs.Calls.LogCall.{Wrote}
+use Rattle.lw_member.proofs.Refusing.{raised, refuses_memory, refuses_then}
 use Rattle.lw_member.proofs.rounds.claim.Goals as goal
 
 pub returns-in_err-own-clause-own : goal.returns-in_err-own-clause-own
@@ -32,7 +36,7 @@ returns-then-is_in-clause-claimed g c = λ m.
     let fleet : fleet_of c.catch_up.new.standing ≡ Some c.in_ok-fleet.fleet.bytes = c.if-is_in.ensures.0 refl in
     claim_is _ _ _ c.args.standing.now c.write_start.new.standing c.catch_up.new.standing c.raise.new.self c.in_ok-fleet.fleet.bytes c.in_ok-own.own read.0
     c.in_ok-fleet.ensures.started read.1 read.2 read.3 read.4 c.catch_up.ensures.same fleet read.5 m.number c.requires.unclaimed (c.catch_up.ensures.member (c.in_ok-fleet.ensures.member m))
-    (c.if-is_gone.ensures refl) c.in_ok-raise.ensures.raised c.in_ok-raise.ensures.led c.raise.ensures.only c.raise.ensures.goes
+    (c.if-is_gone.ensures.shown refl) c.in_ok-raise.ensures.raised c.in_ok-raise.ensures.led c.raise.ensures.only c.raise.ensures.goes
 
 pub returns-then-is_in-clause-own : goal.returns-then-is_in-clause-own
 returns-then-is_in-clause-own g c =
@@ -69,3 +73,45 @@ returns-then-is_gone-clause-same g c =
 pub returns-then-is_gone-clause-member : goal.returns-then-is_gone-clause-member
 returns-then-is_gone-clause-member g c = λ m.
     member_failed _ _ [] c.catch_up.new.standing c.failed.new.self (calls_none _) c.failed.ensures.only c.failed.ensures.leading (c.catch_up.ensures.member (c.in_ok-fleet.ensures.member m))
+
+pub returns-in_err-own-clause-sequence : goal.returns-in_err-own-clause-sequence
+returns-in_err-own-clause-sequence g c =
+    numbers_then (content_of _ c.args.standing.now) (content_of _ c.write_start.new.standing) (content_of _ c.catch_up.new.standing) c.write_start.ensures.sequence (numbers_read (content_of _ c.write_start.new.standing) (content_of _ c.catch_up.new.standing) c.catch_up.ensures.asked.0 c.catch_up.ensures.asked.1 c.catch_up.ensures.asked.2 c.catch_up.ensures.sequence)
+
+pub returns-clause-sequence : goal.returns-clause-sequence
+returns-clause-sequence g c =
+    numbers_then (content_of _ c.args.standing.now) (content_of _ c.write_start.new.standing) (content_of _ c.catch_up.new.standing) c.write_start.ensures.sequence (numbers_read (content_of _ c.write_start.new.standing) (content_of _ c.catch_up.new.standing) c.catch_up.ensures.asked.0 c.catch_up.ensures.asked.1 c.catch_up.ensures.asked.2 c.catch_up.ensures.sequence)
+
+pub returns-then-is_gone-clause-sequence : goal.returns-then-is_gone-clause-sequence
+returns-then-is_gone-clause-sequence g c =
+    numbers_then (content_of _ c.args.standing.now) (content_of _ c.catch_up.new.standing) (content_of _ c.failed.new.self)
+    (numbers_then (content_of _ c.args.standing.now) (content_of _ c.write_start.new.standing) (content_of _ c.catch_up.new.standing) c.write_start.ensures.sequence (numbers_read (content_of _ c.write_start.new.standing) (content_of _ c.catch_up.new.standing) c.catch_up.ensures.asked.0 c.catch_up.ensures.asked.1 c.catch_up.ensures.asked.2 c.catch_up.ensures.sequence))
+    (numbers_read (content_of _ c.catch_up.new.standing) (content_of _ c.failed.new.self) [] (calls_none _) tt (ap (λ (x : Standing). x.sequence) c.failed.ensures.only))
+
+pub returns-in_err-raise-clause-sequence : goal.returns-in_err-raise-clause-sequence
+returns-in_err-raise-clause-sequence g c =
+    numbers_then (content_of _ c.args.standing.now) (content_of _ c.catch_up.new.standing) (content_of _ c.raise.new.self)
+    (numbers_then (content_of _ c.args.standing.now) (content_of _ c.write_start.new.standing) (content_of _ c.catch_up.new.standing) c.write_start.ensures.sequence (numbers_read (content_of _ c.write_start.new.standing) (content_of _ c.catch_up.new.standing) c.catch_up.ensures.asked.0 c.catch_up.ensures.asked.1 c.catch_up.ensures.asked.2 c.catch_up.ensures.sequence))
+    (numbers_read (content_of _ c.catch_up.new.standing) (content_of _ c.raise.new.self) [] (calls_none _) tt (ap (λ (x : Standing). x.sequence) c.raise.ensures.only))
+
+pub returns-then-is_in-clause-sequence : goal.returns-then-is_in-clause-sequence
+returns-then-is_in-clause-sequence g c =
+    numbers_then (content_of _ c.args.standing.now) (content_of _ c.catch_up.new.standing) (content_of _ (record c.raise.new.self { claimed = true }))
+    (numbers_then (content_of _ c.args.standing.now) (content_of _ c.write_start.new.standing) (content_of _ c.catch_up.new.standing) c.write_start.ensures.sequence (numbers_read (content_of _ c.write_start.new.standing) (content_of _ c.catch_up.new.standing) c.catch_up.ensures.asked.0 c.catch_up.ensures.asked.1 c.catch_up.ensures.asked.2 c.catch_up.ensures.sequence))
+    (numbers_read (content_of _ c.catch_up.new.standing) (content_of _ (record c.raise.new.self { claimed = true })) [] (calls_none _) tt (ap (λ (x : Standing). x.sequence) c.raise.ensures.only))
+
+pub returns-in_err-own-clause-refused : goal.returns-in_err-own-clause-refused
+returns-in_err-own-clause-refused g c =
+    raised _ c.from_residual-in_err-own.result c.from_residual-in_err-own.ensures.1 (refuses_then (content_of _ c.args.standing.now) (content_of _ c.write_start.new.standing) (content_of _ c.catch_up.new.standing) (Wrote c.in_ok-fleet.ensures.started.place ∷ []) _ c.in_ok-fleet.ensures.started.asked c.in_err-own.ensures.refused)
+
+pub returns-then-is_gone-clause-refused : goal.returns-then-is_gone-clause-refused
+returns-then-is_gone-clause-refused g c =
+    record { more = _; asked = (calls_then _ _ _ (Wrote c.in_ok-fleet.ensures.started.place ∷ []) c.catch_up.ensures.asked.0 c.in_ok-fleet.ensures.started.asked c.catch_up.ensures.asked.1); why = tt }
+
+pub returns-in_err-raise-clause-refused : goal.returns-in_err-raise-clause-refused
+returns-in_err-raise-clause-refused g c =
+    raised _ c.from_residual-in_err-raise.result c.from_residual-in_err-raise.ensures.1 (refuses_memory (content_of _ c.args.standing.now) (content_of _ c.raise.new.self) _ _ c.in_err-raise.ensures.memory (calls_then _ _ _ (Wrote c.in_ok-fleet.ensures.started.place ∷ []) c.catch_up.ensures.asked.0 c.in_ok-fleet.ensures.started.asked c.catch_up.ensures.asked.1))
+
+pub returns-clause-refused : goal.returns-clause-refused
+returns-clause-refused g c =
+    record { more = _; asked = (calls_then _ _ _ (Wrote c.in_ok-fleet.ensures.started.place ∷ []) c.catch_up.ensures.asked.0 c.in_ok-fleet.ensures.started.asked c.catch_up.ensures.asked.1); why = tt }

@@ -1,9 +1,15 @@
-use Rattle.std.proofs.Common.{◌≡◌, ◌++◌, List, ap, ◌∙◌, sym, subst}
+use Rattle.std.proofs.Common.{◌≡◌, ◌++◌, [], List, ap, ◌∙◌, sym, subst}
 use Rattle.lw_call.specs.declared.reply.Reply.{Reply}
 use Rattle.lw_member.specs.Rounds.{Makes}
 use Rattle.lw_member.proofs.Catching.{member_goes}
 use Rattle.lw_member.proofs.Merging.{same_made, same_none, same_then}
 use Rattle.lw_member.proofs.Owning.{writes_from}
+use Rattle.lw_member.specs.Parts.{content_of}
+use Rattle.lw_member.specs.declared.standing.Standing.{Standing}
+use Rattle.lw_member.proofs.Asking.{calls_none}
+use Rattle.lw_member.proofs.Sequences.{numbers_none, numbers_read, numbers_then}
+use Rattle.lw_member.proofs.Refusing.{raised, refuses_memory, refuses_then}
+use Rattle.std.proofs.Common.{refl}
 use Rattle.lw_member.proofs.rounds.finish.Goals as goal
 
 pub returns-clause-finished : goal.returns-clause-finished
@@ -16,7 +22,7 @@ returns-clause-finished g c =
     record {
       mid = mid;
       made = record { made = subst (λ rs. Makes s0.node c.args.calls.now rs mid.node) (sym items) made.2; goes = c.make.ensures.goes; still = c.make.ensures.led; only = c.make.ensures.only };
-      written = record { now = c.in_ok-write.ensures.written m; same = c.write.ensures.same; node = c.write.ensures.node; fleet = c.write.ensures.fleet; numbers = c.write.ensures.numbers; member = c.write.ensures.member m };
+      written = record { now = c.in_ok-write.ensures.written m; same = c.write.ensures.same; node = c.write.ensures.node; fleet = c.write.ensures.fleet; settled = c.write.ensures.settled; numbers = c.write.ensures.numbers; member = c.write.ensures.member m };
     }
 
 pub returns-in_err-write-clause-own : goal.returns-in_err-write-clause-own
@@ -43,3 +49,22 @@ returns-in_err-write-clause-same g c =
 pub returns-clause-same : goal.returns-clause-same
 returns-clause-same g c =
     same_then c.args.standing.now c.make.new.self c.write.new.standing (same_made c.args.standing.now c.make.new.self c.make.ensures.only c.make.ensures.goes) c.write.ensures.same
+
+pub returns-in_err-replies-clause-sequence : goal.returns-in_err-replies-clause-sequence
+returns-in_err-replies-clause-sequence g c = numbers_none (content_of (g.G.DeltaLog.calls c.args.log.now) c.args.standing.now)
+
+pub returns-in_err-write-clause-sequence : goal.returns-in_err-write-clause-sequence
+returns-in_err-write-clause-sequence g c =
+    numbers_then (content_of _ c.args.standing.now) (content_of _ c.make.new.self) (content_of _ c.write.new.standing) (numbers_read (content_of _ c.args.standing.now) (content_of _ c.make.new.self) [] (calls_none _) tt (ap (λ (x : Standing). x.sequence) c.make.ensures.only)) c.write.ensures.sequence
+
+pub returns-clause-sequence : goal.returns-clause-sequence
+returns-clause-sequence g c =
+    numbers_then (content_of _ c.args.standing.now) (content_of _ c.make.new.self) (content_of _ c.write.new.standing) (numbers_read (content_of _ c.args.standing.now) (content_of _ c.make.new.self) [] (calls_none _) tt (ap (λ (x : Standing). x.sequence) c.make.ensures.only)) c.write.ensures.sequence
+
+pub returns-in_err-replies-clause-refused : goal.returns-in_err-replies-clause-refused
+returns-in_err-replies-clause-refused g c =
+    raised _ c.from_residual.result c.from_residual.ensures.1 (refuses_memory (content_of _ c.args.standing.now) (content_of _ c.args.standing.now) [] _ refl (calls_none (g.G.DeltaLog.calls c.args.log.now)))
+
+pub returns-in_err-write-clause-refused : goal.returns-in_err-write-clause-refused
+returns-in_err-write-clause-refused g c =
+    raised _ c.from_residual-in_err-write.result c.from_residual-in_err-write.ensures.1 (refuses_then (content_of _ c.args.standing.now) (content_of _ c.make.new.self) (content_of _ c.write.new.standing) [] _ (calls_none (g.G.DeltaLog.calls c.args.log.now)) c.in_err-write.ensures.refused)

@@ -1,6 +1,9 @@
 use Rattle.std.proofs.Common.{refl}
 use Rattle.lw_member.proofs.Owning.{claims_write, claimed_write, reads_write, reads_write_more, if_ok}
 use Rattle.lw_member.proofs.RoundLemmas.{idle_round, claimed_round}
+use Rattle.lw_member.specs.Parts.{content_of}
+use Rattle.lw_member.proofs.Sequences.{numbers_read, numbers_then}
+use Rattle.lw_member.proofs.Refusing.{if_err, refuses_then}
 use Rattle.lw_member.proofs.rounds.round.Goals as goal
 
 pub returns-in_err-claim-clause-own : goal.returns-in_err-claim-clause-own
@@ -31,3 +34,22 @@ pub returns-clause-own : goal.returns-clause-own
 returns-clause-own g c =
     let read = c.in_ok-catch_up.ensures.read in
     reads_write_more _ _ _ c.args.standing.now c.catch_up.new.standing c.finish-2.new.standing read.0 read.1 read.2 read.3.merged read.5 c.catch_up.ensures.same c.finish-2.ensures.same c.finish-2.ensures.own
+
+pub returns-then-is_claiming-clause-sequence : goal.returns-then-is_claiming-clause-sequence
+returns-then-is_claiming-clause-sequence g c = numbers_then (content_of _ c.args.standing.now) (content_of _ c.claim.new.standing) (content_of _ c.finish.new.standing) c.claim.ensures.sequence c.finish.ensures.sequence
+
+pub returns-in_err-catch_up-clause-sequence : goal.returns-in_err-catch_up-clause-sequence
+returns-in_err-catch_up-clause-sequence g c = numbers_read (content_of _ c.args.standing.now) (content_of _ c.catch_up.new.standing) c.catch_up.ensures.asked.0 c.catch_up.ensures.asked.1 c.catch_up.ensures.asked.2 c.catch_up.ensures.sequence
+
+pub returns-clause-sequence : goal.returns-clause-sequence
+returns-clause-sequence g c = numbers_then (content_of _ c.args.standing.now) (content_of _ c.catch_up.new.standing) (content_of _ c.finish-2.new.standing) (numbers_read (content_of _ c.args.standing.now) (content_of _ c.catch_up.new.standing) c.catch_up.ensures.asked.0 c.catch_up.ensures.asked.1 c.catch_up.ensures.asked.2 c.catch_up.ensures.sequence) c.finish-2.ensures.sequence
+
+pub returns-then-is_claiming-clause-refused : goal.returns-then-is_claiming-clause-refused
+returns-then-is_claiming-clause-refused g c =
+    if_err _ _ c.finish.result c.finish.ensures.refused (λ fault why.
+    refuses_then (content_of _ c.args.standing.now) (content_of _ c.claim.new.standing) (content_of _ c.finish.new.standing) _ fault (c.in_ok-claim.ensures.claimed c.requires).asked why)
+
+pub returns-clause-refused : goal.returns-clause-refused
+returns-clause-refused g c =
+    if_err _ _ c.finish-2.result c.finish-2.ensures.refused (λ fault why.
+    refuses_then (content_of _ c.args.standing.now) (content_of _ c.catch_up.new.standing) (content_of _ c.finish-2.new.standing) c.catch_up.ensures.asked.0 fault c.catch_up.ensures.asked.1 why)

@@ -1,4 +1,4 @@
-use Rattle.std.proofs.Common.{◌≡◌, inl, inr, Err, length, Some, cond, ap, ◌∙◌, sym, subst}
+use Rattle.std.proofs.Common.{◌≡◌, ◌≤◌, inl, inr, Err, length, Some, cond, ap, ◌∙◌, sym, subst}
 use Rattle.lw_log.specs.Calls.{place, place_of}
 use Rattle.lw_log.specs.Entries.BodyContent.{Start}
 use Rattle.lw_member.specs.inner.Taking.{IsEntryOf}
@@ -11,6 +11,12 @@ use Rattle.lw_member.specs.inner.Writing.{Claims}
 use Rattle.lw_member.proofs.Knowing.{by_failed}
 use Rattle.lw_member.proofs.Merging.{on_err, same_failed, same_none, same_started}
 use Rattle.lw_member.proofs.Owning.{append_claims, claims_none, start_of}
+use Rattle.lw_member.specs.Parts.{content_of}
+use Rattle.lw_member.proofs.Sequences.{has_next, numbers_failed, numbers_none, numbers_wrote}
+use Rattle.lw_member.specs.Own.{next_sequence}
+use Rattle.lw_member.proofs.Asking.{calls_none}
+use Rattle.lw_member.proofs.Refusing.{raised, refuses_log, refuses_memory}
+use Rattle.std.proofs.Common.{[], refl}
 use Rattle.lw_member.proofs.rounds.write_start.Goals as goal
 
 pub returns-in_err-position-clause-member : goal.returns-in_err-position-clause-member
@@ -58,7 +64,9 @@ returns-clause-started g c =
       place = (place c.in_ok-position.position, c.deref.result.now);
       asked = c.in_ok-position.ensures.asked;
       entry = e;
+      sequence = c.started.ensures.sequence ∙ ap (λ (x : Standing). next_sequence x.sequence) done;
       only = only ∙ ap (λ (x : Standing). record x { sequence = s.sequence; read_to = s.read_to; size = s.size; fleet = s.fleet }) done;
+      shared = λ h. c.started.ensures.shared (ap (λ (x : Standing). x.alone) done ∙ h) ∙ ap (λ (x : Standing). x.fleet) done;
       read_to = c.started.ensures.read_to ∙ ap (λ (x : Standing). cond x.alone (Some (place c.in_ok-position.position)) (place_of x.read_to)) done;
       counted = counts_own s0.alone (counted_in s0) (counted_in s) c.deref.result.now e.entry Start c.len.result e.is e.body_is
           (c.len.ensures ∙ c.in_ok-entry.entry.ok.0 ∙ ap length (sym c.deref.ensures.value))
@@ -72,3 +80,31 @@ returns-clause-member g c = λ m.
     let done = c.in_ok-position.ensures.done in
     member_parts _ _ _ (ap (λ (s : Standing). s.node) (only) ∙ ap (λ (s : Standing). s.node) done) (ap (λ (s : Standing). s.led) only ∙ ap (λ (s : Standing). s.led) done) (ap (λ (s : Standing). s.written) only ∙ ap (λ (s : Standing). s.written) done)
     (ap (λ (s : Standing). s.start) only ∙ ap (λ (s : Standing). s.start) done) (ap (λ (s : Standing). s.floor) only ∙ ap (λ (s : Standing). s.floor) done) more
+
+pub returns-in_err-entry-clause-sequence : goal.returns-in_err-entry-clause-sequence
+returns-in_err-entry-clause-sequence g c = numbers_none (content_of (g.G.DeltaLog.calls c.args.log.now) c.args.standing.now)
+
+pub returns-in_err-position-clause-sequence : goal.returns-in_err-position-clause-sequence
+returns-in_err-position-clause-sequence g c =
+    let s0 = c.args.standing.now in
+    let fleet = c.own_fleet-fleet.result.bytes in
+    let e = subst (λ b. IsEntryOf s0 fleet Start b) (sym c.deref.ensures.value) c.in_ok-entry.ensures in
+    numbers_failed (content_of _ s0) (content_of _ c.append.new.standing) c.deref.result.now c.in_err-position.field-0.0 c.in_err-position.ensures.asked (has_next s0 fleet Start _ e) (ap (λ (x : Standing). x.sequence) c.append.ensures.only)
+
+pub returns-clause-sequence : goal.returns-clause-sequence
+returns-clause-sequence g c =
+    let s0 = c.args.standing.now in
+    let s = c.started.new.self in
+    let fleet = c.own_fleet-fleet.result.bytes in
+    let done = c.in_ok-position.ensures.done in
+    let e = subst (λ b. IsEntryOf s0 fleet Start b) (sym c.deref.ensures.value) c.in_ok-entry.ensures in
+    numbers_wrote (content_of _ s0) (content_of _ s) (place c.in_ok-position.position, c.deref.result.now) c.in_ok-position.ensures.asked (has_next s0 fleet Start _ e)
+    (c.started.ensures.sequence ∙ ap (λ (x : Standing). next_sequence x.sequence) done) (subst (λ n. n ≤ s.sequence) (ap (λ (x : Standing). x.sequence) done) c.started.ensures.risen)
+
+pub returns-in_err-entry-clause-refused : goal.returns-in_err-entry-clause-refused
+returns-in_err-entry-clause-refused g c =
+    raised _ c.from_residual.result c.from_residual.ensures.1 (refuses_memory (content_of _ c.args.standing.now) (content_of _ c.args.standing.now) [] _ refl (calls_none (g.G.DeltaLog.calls c.args.log.now)))
+
+pub returns-in_err-position-clause-refused : goal.returns-in_err-position-clause-refused
+returns-in_err-position-clause-refused g c =
+    raised _ c.from_residual-in_err-position.result c.from_residual-in_err-position.ensures.1 (refuses_log (content_of _ c.args.standing.now) (content_of _ c.append.new.standing) _ c.in_err-position.field-0.0 _ refl c.in_err-position.ensures.asked)

@@ -1,4 +1,4 @@
-use Rattle.std.proofs.Common.{◌≡◌, ℕ, ◌≤◌, false, sym, ap, ◌∙◌, subst}
+use Rattle.std.proofs.Common.{◌≡◌, ℕ, ◌≤◌, List, Option, Bool, false, sym, ap, ◌∙◌, subst}
 use Rattle.lw_node.specs.Node.{NodeContent, fresh}
 use Rattle.lw_log.specs.declared.start.Start.{Start}
 use Rattle.lw_member.specs.Reading.{AreReadToTheEnd, last_read, IsFree, IsMet, MergesEntries, entries_in}
@@ -7,7 +7,8 @@ use Rattle.lw_member.specs.Clocks.{IsYearsAhead}
 use Rattle.lw_member.specs.Counting.{CountsEntries}
 use Rattle.lw_member.specs.Parts.{numbers_of}
 use Rattle.lw_member.specs.inner.Taking.{IsJudged}
-use Rattle.lw_member.specs.inner.Standing.{counted_in}
+use Rattle.lw_member.specs.inner.Standing.{counted_in, fleet_told_in}
+use Rattle.lw_member.specs.Fleets.{TellFleets}
 use Rattle.lw_member.proofs.Asking.{calls_then}
 use Rattle.lw_member.proofs.Beginnings.{not_refused}
 use Rattle.lw_member.proofs.Numbering.{first_free_met, noted_new}
@@ -18,7 +19,7 @@ invariant_of-result g c = c.catch_up.ensures.member (c.in_ok-standing.ensures.me
 
 pub returns-clause-begun : goal.returns-clause-begun
 returns-clause-begun g c =
-    let found = c.in_ok-found.ensures in
+    let found = c.in_ok-found.ensures.found in
     let read = c.in_ok-catch_up.ensures.read in
     let s = c.in_ok-standing.standing in
     let s1 = c.catch_up.new.standing in
@@ -38,6 +39,7 @@ returns-clause-begun g c =
       read = subst (λ p. AreReadToTheEnd p read.0) new.unread read.2;
       read_to = read.5 ∙ ap (λ p. last_read p read.0) new.unread;
       good = read.3.good;
+      told = subst (λ (t : Bool × Option (List ℕ)). TellFleets t (entries_in read.0) (fleet_told_in s1)) new.told read.3.told;
       free = subst (λ n. IsFree n (entries_in read.0)) number free;
       number = subst (λ n. 1 ≤ n) (ap (λ (x : Start). x.number) (sym start) ∙ number) c.in-Some.ensures.found.within.0;
       first_free = subst (λ n. IsFirstFree (λ m. IsMet m (entries_in found.0)) c.args.chance.now.number n) (ap (λ (x : Start). x.number) (sym start) ∙ number)

@@ -1,15 +1,19 @@
 use Rattle.std.proofs.Common.{◌≡◌, ◌↔◌, ◌⊎◌, inl, inr, List, Option, ℕ, refl, sym, ap, ◌∙◌, subst}
-use Rattle.std.specs.Prelude.{option_map}
+use Rattle.std.specs.Prelude.{Err, option_map}
 use Rattle.lw_log.specs.declared.entry.FleetId.{FleetId}
 use Rattle.lw_log.specs.Entries.{HasDelta, body_content, content_of}
 use Rattle.lw_member.specs.declared.standing.Standing.{Standing}
 use Rattle.lw_member.specs.declared.numbers.Numbers.{Numbers}
-use Rattle.lw_member.specs.Parts.{numbers_of}
+use Rattle.lw_member.specs.Fleets.{told_by}
+use Rattle.lw_member.specs.Parts.{fleet_of, numbers_of}
 use Rattle.lw_member.specs.Reading.{HasBit, TellsOf}
-use Rattle.lw_member.specs.inner.Standing.{counted_in, counted_of}
+use Rattle.lw_member.specs.inner.Standing.{counted_in, counted_of, fleet_told_in}
+use Rattle.lw_member.specs.inner.Taking.{IsNotMerged, IsNotTaken}
 use Rattle.lw_member.proofs.Numbering.{noted_entry, noted_no_entry}
 use Rattle.lw_member.proofs.Merging.{takes_nothing, takes_delta, brings_none, brings_no_entry, on_ok, on_ok_four, same_none, same_parts}
 use Rattle.lw_member.proofs.Going.{below_same}
+use Rattle.lw_member.proofs.Refusing.{fleet_differs, if_err}
+use Rattle.lw_member.proofs.Telling.{tells_start}
 use Rattle.lw_member.proofs.standing.Standing.take.Goals as goal
 
 pub returns-in-Err : goal.returns-in-Err
@@ -19,9 +23,11 @@ returns-in-Err c = record {
       (λ newer. let bad = c.in-Err.ensures.newer.1 newer in known cc)
       (brings_no_entry c.args.bytes.now (λ x is. c.in-Err.ensures.only x is)) refl (λ h. (h, refl)) refl refl refl
       (noted_no_entry (numbers_of c.args.self.now) c.args.bytes.now (λ x is. c.in-Err.ensures.only x is))
-      (inr (λ x is. c.in-Err.ensures.only x is, refl)));
+      (inr (λ x is. c.in-Err.ensures.only x is, refl)) (inr (λ x is. c.in-Err.ensures.only x is, refl)));
   fault = c.pass_over.ensures.fault;
+  refused = if_err _ _ c.pass_over.result c.pass_over.ensures.newer (λ fault h. inl (h.0, c.in-Err.ensures.newer.0 (ap Err h.1)));
   read_to = refl;
+  sequence = refl;
   same = same_none c.args.self.now;
   leading = λ asked seen leading. leading;
 }
@@ -42,6 +48,13 @@ returns-in-Start-clause-taken c =
     (λ n. subst (λ (xs : List ℕ). HasBit xs n ↔ (HasBit (numbers_of old) n ⊎ ((c.in-Ok.entry.start.number ≡ n) ⊎ TellsOf n (body_content c.in-Ok.entry.body))))
     (sym (ap numbers_of c.hear_start.ensures.only)) (c.note.ensures n)))
     (inl (content_of c.in-Ok.entry, c.in-Ok.ensures.found, ap counted_in c.hear_start.ensures.only ∙ c.with_entry-self.ensures))
+    (inl (
+      content_of c.in-Ok.entry,
+      c.in-Ok.ensures.found,
+      ap (λ b. (b, fleet_of new)) (ap (λ (s : Standing). s.settled) c.hear_start.ensures.only)
+          ∙ ap (λ f. (old.settled, f)) (tells_start old.settled old.fleet new.fleet c.in-Ok.entry.fleet c.hear_start.ensures.fleet c.hear_start.ensures.first c.hear_start.ensures.later)
+          ∙ ap (λ b. told_by (body_content b) c.in-Ok.entry.fleet.bytes (fleet_told_in old)) (sym c.in-Start.is),
+    ))
 
 pub returns-in-Delta-clause-taken : goal.returns-in-Delta-clause-taken
 returns-in-Delta-clause-taken c =
@@ -105,3 +118,25 @@ returns-in-Delta-clause-same c = same_parts c.args.self.now _ c.merge.new.self r
 
 pub returns-in-Whole-clause-same : goal.returns-in-Whole-clause-same
 returns-in-Whole-clause-same c = same_parts c.args.self.now _ c.merge-in-Whole.new.self refl refl refl refl refl refl refl refl c.merge-in-Whole.ensures.same
+
+pub returns-in-Delta-clause-refused : goal.returns-in-Delta-clause-refused
+returns-in-Delta-clause-refused c =
+    let e = content_of c.in-Ok.entry in
+    let delta = c.in-Delta.delta.now in
+    let has : HasDelta (body_content c.in-Ok.entry.body) delta = subst (λ b. HasDelta (body_content b) delta) (sym c.in-Delta.is) refl in
+    let d = c.in-Ok.ensures.found.spelled delta has in
+    if_err (IsNotMerged c.merge.new.self c.in-Ok.entry.fleet) (IsNotTaken c.merge.new.self c.args.bytes.now) c.merge.result c.merge.ensures.refused (λ fault h. elim h [
+      | inl x ↦ inr (inl (x.0, x.1, (d.0, record { entry = e; delta = delta; is = c.in-Ok.ensures.found; has = has; spelled = d.1 }, fleet_differs c.merge.new.self.fleet c.in-Ok.entry.fleet x.2)))
+      | inr none ↦ inr (inr none)
+    ])
+
+pub returns-in-Whole-clause-refused : goal.returns-in-Whole-clause-refused
+returns-in-Whole-clause-refused c =
+    let e = content_of c.in-Ok.entry in
+    let delta = c.in-Whole.delta.now in
+    let has : HasDelta (body_content c.in-Ok.entry.body) delta = subst (λ b. HasDelta (body_content b) delta) (sym c.in-Whole.is) refl in
+    let d = c.in-Ok.ensures.found.spelled delta has in
+    if_err (IsNotMerged c.merge-in-Whole.new.self c.in-Ok.entry.fleet) (IsNotTaken c.merge-in-Whole.new.self c.args.bytes.now) c.merge-in-Whole.result c.merge-in-Whole.ensures.refused (λ fault h. elim h [
+      | inl x ↦ inr (inl (x.0, x.1, (d.0, record { entry = e; delta = delta; is = c.in-Ok.ensures.found; has = has; spelled = d.1 }, fleet_differs c.merge-in-Whole.new.self.fleet c.in-Ok.entry.fleet x.2)))
+      | inr none ↦ inr (inr none)
+    ])

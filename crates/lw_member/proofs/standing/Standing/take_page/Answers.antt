@@ -10,6 +10,8 @@ use Rattle.lw_member.specs.inner.Taking.{Takes}
 use Rattle.lw_member.proofs.Knowing.{behind_none, knows_more, merges_known, placed_split}
 use Rattle.lw_member.proofs.Merging.{same_none, same_then}
 use Rattle.lw_member.proofs.Taking.{takes_none, takes_then, entries_take, places_take, seen_at, takes_read, same_read}
+use Rattle.lw_member.specs.inner.Taking.{AreNotTaken, IsNotTaken}
+use Rattle.lw_member.proofs.Refusing.{not_taken_at, raised}
 use Rattle.lw_member.proofs.standing.Standing.take_page.Goals as goal
 
 pub loop-position-init : goal.loop-position-init
@@ -17,6 +19,7 @@ loop-position-init c = record {
   taken = takes_none c.args.self.now;
   read_to = refl;
   behind = behind_none c.args.self.now (placed c.args.page.now);
+  sequence = refl;
   same = same_none c.args.self.now;
   leading = λ asked seen leading. leading;
 }
@@ -65,9 +68,17 @@ loop-position-preserved c =
         known = merges_known old.node later.node (bytes_of (placed (take (c.loop-position.position-index + 1) c.args.page.now))) taken.merged;
         read_to = read_to;
       };
+      sequence = c.take.ensures.sequence ∙ c.loop-position.invariant.sequence;
       same = same_read old new (Some c.loop-position-item.result.0) (same_then old mid new c.loop-position.invariant.same c.in_ok-take.ensures.same);
       leading = λ asked seen leading.
           let own = seen_at asked c.args.page.now c.loop-position.position-index c.loop-position-item.result item seen in
           let x = c.in_ok-take.ensures.leading asked (subst (λ b. IsSeenBy asked b) (sym same) own) (c.loop-position.invariant.leading asked seen leading) in
           record { written = x.written; up_to = x.up_to };
     }
+
+pub returns-in_err-take-clause-refused : goal.returns-in_err-take-clause-refused
+returns-in_err-take-clause-refused c =
+    let item = slice_get_read _ _ _ _ refl c.loop-position-test.true c.loop-position-item.is in
+    let same : c.deref.result.now ≡ c.loop-position-item.result.1 = cc in
+    raised (AreNotTaken c.take.new.self (bytes_of (placed c.args.page.now))) c.from_residual.result c.from_residual.ensures.1
+    (not_taken_at c.take.new.self c.args.page.now c.loop-position.position-index c.loop-position-item.result c.in_err-take.field-0.0 item (subst (λ b. IsNotTaken c.take.new.self b c.in_err-take.field-0.0) same c.in_err-take.ensures.refused))

@@ -12,6 +12,7 @@ invariant-loop-position l = record {
   taken : Takes l.initial.self (bytes_of (placed (take l.position-index l.page))) l.self;
   read_to : place_of l.self.read_to ≡ place_read (place_of l.initial.self.read_to) (placed (take l.position-index l.page));
   behind : IsBehind l.initial.self (placed l.page) l.self;
+  sequence : l.self.sequence ≡ l.initial.self.sequence;
   same : HasSameStart l.initial.self l.self;
   leading : (asked : Option (List LogCall)) → AreSeenBy asked (bytes_of (placed l.page)) → IsLeading asked l.initial.self → IsLeading asked l.self;
 }
