@@ -1,5 +1,5 @@
 -- Replies to TIME.
-use Rattle.std.proofs.Common.{◌≡◌, ◌≢◌, ℕ, Bool, true, false, ◌==◌, ◌+◌, ◌*◌, ◌/◌, ◌<◌, ◌≤◌, ◌^◌, List, [], ◌∷◌, ◌++◌, length, Option, Some, None, Result, Ok, Err, Bor, refl, sym, ap, ◌∙◌, subst, arith}
+use Rattle.std.proofs.Common.{◌≡◌, ◌≢◌, ℕ, Bool, true, false, ◌==◌, ◌+◌, ◌*◌, ◌/◌, ◌<◌, ◌≤◌, ◌^◌, List, [], ◌∷◌, ◌++◌, length, Option, Some, None, Result, Ok, Bor, refl, sym, ap, ◌∙◌, subst, arith}
 use Rattle.std.specs.Prelude.{IfSome, IfNone, IsSomeAnd}
 use Rattle.std.specs.Fmt.{decimal}
 use Rattle.std.specs.Str.{IsUtf8}
@@ -10,7 +10,7 @@ use Rattle.std.proofs.lemmas.List.{append-nil}
 use Rattle.std.proofs.lemmas.Str.{IsUtf8-from_ascii}
 use Rattle.lw_resp.specs.Bytes.{bulk_bytes, command_bytes, count_line}
 use Rattle.lw_resp.specs.Reading.{Begins}
-use Rattle.lw_resp.specs.Words.{IsBulk, IsWord, WordContent, word_bytes, word_content}
+use Rattle.lw_resp.specs.Words.{IsBulk, IsWord, word_bytes, word_content}
 use Rattle.lw_resp.specs.Words.WordContent.{Array, Bulk, Error}
 use Rattle.lw_resp.specs.declared.words.Word.{Word}
 use Rattle.lw_resp.specs.declared.words.Word.TheVariants.{Status as StatusWord, Error as ErrorWord, Number as NumberWord, Bulk as BulkWord, Array as ArrayWord, Null as NullWord, NullArray as NullArrayWord}

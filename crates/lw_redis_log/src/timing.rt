@@ -45,8 +45,9 @@ impl Timing {
     /// Whether it is to be asked at the moment in milliseconds. With no clock it is not.
     pub(crate) fn is_due(&self, now: Option<u64>) -> bool {
         match (self.since, now) {
-            _ if self.is_refused => false,
-            (Some(since), Some(now)) => now.saturating_sub(since) >= TIME_BETWEEN,
+            (Some(since), Some(now)) => {
+                !self.is_refused && now.saturating_sub(since) >= TIME_BETWEEN
+            }
             (None, Some(_)) => true,
             (_, None) => false,
         }

@@ -1,4 +1,4 @@
-use Rattle.std.proofs.Common.{◌≡◌, ◌∙◌, sym}
+use Rattle.std.proofs.Common.{◌∙◌, sym}
 use Rattle.lw_resp.specs.Words.WordContent.{Bulk}
 use Rattle.lw_redis_log.proofs.TimeLemmas.{bulk_begins, bulk_same}
 use Rattle.lw_redis_log.proofs.times.first_bulk.Goals as goal
