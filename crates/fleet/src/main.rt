@@ -8,7 +8,7 @@ mod host;
 mod page;
 mod run_host;
 mod shared;
-mod visitors;
+mod http;
 
 use host::Host;
 use lw_fleet::program;

@@ -2,7 +2,7 @@
 
 use crate::host::Host;
 use crate::shared::{Shared, SharedLog};
-use crate::visitors::{Visited, Visitors};
+use crate::http::{HttpBinding, HttpConfig};
 use log::sink::Console;
 use log::{LevelFilter, Log, Logged, info};
 use lw_fleet::{Keeps, LogLevel, RunOptions, RunningFault, Runs};
@@ -11,7 +11,7 @@ use lw_log::{DeltaLog, FleetId, Nowhere};
 use lw_member::{Chance, Member};
 use lw_redis_log::RedisClock;
 use lw_run::{
-    Clocks, Compaction, HostClock, HostClocks, Metered, Moment, RunFault, Server, Timed, run_on,
+    Clocks, Compaction, HostClock, HostClocks, Measured, Moment, RunFault, Server, TimedLog, run_on,
 };
 use lw_sqlite_log::{OpenFault, SqliteLog};
 use lw_wire::SystemClock;
@@ -37,20 +37,20 @@ impl Runs for Host<'_, HostRuntime> {
     fn run<R: Wait>(&mut self, _rt: &R, options: &RunOptions<'_>) -> Result<(), RunningFault> {
         let host = self.host;
         let log = Logged::new(host, filter_of(options.level), Console(host));
-        let visitors = match &options.http {
+        let http = match &options.http {
             None => None,
-            Some(http) => Some(Visitors::of_options(host, http)?),
+            Some(http) => Some(HttpConfig::of_options(host, http)?),
         };
         match &options.keeps {
             Keeps::Nothing => {
                 let member = begin(host, Nowhere::new(host.alloc()))?;
-                let mut place = Place::open(host, &log, options, visitors)?;
-                place.serve_alone(member, "nothing", options)
+                let mut bound = BoundServer::open(host, &log, options, http)?;
+                bound.serve_alone(member, "nothing", options)
             }
             Keeps::Folder(folder) => {
                 let member = begin(host, SqliteLog::open(host, folder).map_err(fault_of_open)?)?;
-                let mut place = Place::open(host, &log, options, visitors)?;
-                place.serve_alone(member, "data", options)
+                let mut bound = BoundServer::open(host, &log, options, http)?;
+                bound.serve_alone(member, "data", options)
             }
             Keeps::Redis(redis) => {
                 let clock = RedisClock::new(host);
@@ -61,8 +61,8 @@ impl Runs for Host<'_, HostRuntime> {
                     clock: &clock,
                 };
                 let member = shared.begin(redis.found)?;
-                let mut place = Place::open(host, &log, options, visitors)?;
-                serve_shared(&mut place, member, &shared, options).map_err(fault_of_redis)
+                let mut bound = BoundServer::open(host, &log, options, http)?;
+                serve_shared(&mut bound, member, &shared, options).map_err(fault_of_redis)
             }
         }
     }
@@ -71,7 +71,7 @@ impl Runs for Host<'_, HostRuntime> {
 /// Serves a fleet that others serve as well. Where another start was faster with the same number, or made the fleet, it
 /// begins anew: it has answered nobody yet.
 fn serve_shared<'a, 'n, L: Log>(
-    place: &mut Place<'a, L>,
+    bound: &mut BoundServer<'a, L>,
     first: Member<SharedLog<'a, 'n, L>>,
     shared: &Shared<'a, 'n, L>,
     options: &RunOptions<'_>,
@@ -80,9 +80,9 @@ fn serve_shared<'a, 'n, L: Log>(
     for _start in 0..u64::MAX {
         let now = shared.moment()?;
         let clocks = shared.clocks(now)?;
-        match place.serve(member, clocks, now, "redis", options) {
+        match bound.serve(member, clocks, now, "redis", options) {
             Err(RunningFault::NumberTaken) => {
-                info!(place.log; "number taken, another is drawn");
+                info!(bound.log; "number taken, another is drawn");
                 member = shared.begin(false)?;
             }
             ended => return ended,
@@ -95,8 +95,8 @@ fn serve_shared<'a, 'n, L: Log>(
 fn begin<'a, G: DeltaLog>(
     host: &'a HostRuntime,
     kept: G,
-) -> Result<Member<Timed<G, SystemStopwatch<'a, HostRuntime>>>, RunningFault> {
-    let timed = Timed::new(kept, stopwatch(host)?);
+) -> Result<Member<TimedLog<G, SystemStopwatch<'a, HostRuntime>>>, RunningFault> {
+    let timed = TimedLog::new(kept, stopwatch(host)?);
     let now = moment(host)?;
     match Member::begin(host.alloc(), timed, &draw(host)?, now) {
         Ok(member) => Ok(member),
@@ -104,38 +104,38 @@ fn begin<'a, G: DeltaLog>(
     }
 }
 
-/// Where devices come, and visitors, if they do.
+/// The sockets of a server that are bound: for devices, and for HTTP, if it is asked for.
 #[derive(Drop)]
-struct Place<'a, L: Log> {
+struct BoundServer<'a, L: Log> {
     host: &'a HostRuntime,
     log: &'a L,
     sockets: Sockets<'a, HostRuntime, L>,
-    visited: Option<Visited>,
+    http: Option<HttpBinding>,
 }
 
-impl<'a, L: Log> Place<'a, L> {
+impl<'a, L: Log> BoundServer<'a, L> {
     /// Binds the sockets.
     fn open(
         host: &'a HostRuntime,
         log: &'a L,
         options: &RunOptions<'_>,
-        visitors: Option<Visitors>,
-    ) -> Result<Place<'a, L>, RunningFault> {
+        http: Option<HttpConfig>,
+    ) -> Result<BoundServer<'a, L>, RunningFault> {
         let mut sockets = bind(host, log, options)?;
-        let visited = match visitors {
+        let http = match http {
             None => None,
-            Some(visitors) => Some(visitors.come_to(host, &mut sockets)?),
+            Some(http) => Some(http.listen(host, &mut sockets)?),
         };
-        Ok(Place {
+        Ok(BoundServer {
             host,
             log,
             sockets,
-            visited,
+            http,
         })
     }
 
-    /// Serves devices and visitors by the host's own clock.
-    fn serve_alone<G: DeltaLog + Metered>(
+    /// Serves devices and HTTP clients by the host's own clock.
+    fn serve_alone<G: DeltaLog + Measured>(
         &mut self,
         member: Member<G>,
         keeps: &str,
@@ -146,8 +146,8 @@ impl<'a, L: Log> Place<'a, L> {
         self.serve(member, clocks, now, keeps, options)
     }
 
-    /// Serves devices and visitors, from the moment on that is now.
-    fn serve<G: DeltaLog + Metered, C: Clocks>(
+    /// Serves devices and HTTP clients, from the moment on that is now.
+    fn serve<G: DeltaLog + Measured, C: Clocks>(
         &mut self,
         member: Member<G>,
         clocks: C,
@@ -160,8 +160,8 @@ impl<'a, L: Log> Place<'a, L> {
             let number = member.start().number;
             info!(self.log; "serving address={address} number={number} keeps={keeps}");
         }
-        if let Some(visited) = &self.visited {
-            info!(self.log; "http address={}", visited.address);
+        if let Some(http) = &self.http {
+            info!(self.log; "http address={}", http.address);
         }
         let (skew, page) = (skew_of(&options.keeps), self.page()?);
         let server = Server::new(host.alloc(), member, clocks, skew, now, page);
@@ -169,12 +169,12 @@ impl<'a, L: Log> Place<'a, L> {
         run_on(&mut self.sockets, server, self.log, wait, compaction).map_err(fault_of_run)
     }
 
-    /// The page that visitors see, if there is one.
+    /// The page that HTTP clients see, if there is one.
     fn page(&self) -> Result<Option<String>, RunningFault> {
-        let Some(visited) = &self.visited else {
+        let Some(http) = &self.http else {
             return Ok(None);
         };
-        match visited.page.clone() {
+        match http.page.clone() {
             Ok(page) => Ok(page),
             Err(_) => Err(RunningFault::NoMemory),
         }

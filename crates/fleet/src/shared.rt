@@ -8,7 +8,7 @@ use lw_front::SystemStopwatch;
 use lw_log::{DeltaLog, FleetId, LogFault};
 use lw_member::{Call, Chance, Member, MemberFault};
 use lw_redis_log::{Login, LoginFault, RedisClock, RedisLog, TcpRedis};
-use lw_run::{FleetClock, Moment, RunFault, SharedClocks, Stopwatch, Timed};
+use lw_run::{FleetClock, Moment, RunFault, SharedClocks, Stopwatch, TimedLog};
 use std::thread;
 use std::time::Duration;
 
@@ -22,7 +22,7 @@ const PAUSE: u64 = 100;
 const LOGIN_ROOM: usize = 1_024;
 
 /// A log over the stream, which is timed.
-pub(crate) type SharedLog<'a, 'n, L> = Timed<
+pub(crate) type SharedLog<'a, 'n, L> = TimedLog<
     RedisLog<TcpRedis<'a, 'n, HostRuntime, L>>,
     SystemStopwatch<'a, HostRuntime>,
 >;
@@ -160,7 +160,7 @@ impl<'a, 'n, L: Log> Shared<'a, 'n, L> {
         if let Err(fault) = kept.connect() {
             return Ok(Err(MemberFault::Log(fault)));
         }
-        let timed = Timed::new(kept, stopwatch(host)?);
+        let timed = TimedLog::new(kept, stopwatch(host)?);
         let now = self.moment()?;
         let chance = Chance {
             fleet: own,

@@ -1,6 +1,6 @@
 -- What stays before one more notice is put behind the others, and the room that is left behind it.
 use Rattle.std.proofs.Common.{◌≡◌, ℕ, ◌+◌, ◌-◌, ◌≤◌, Bool, true, false, if◌then◌else◌, nat_lt, List, [], ◌∷◌, ◌++◌, length, drop, refl, ap, arith, length-append, length-drop}
-use Rattle.lw_api.specs.Notices.{HasRoom, NotedContent, NoticesContent, first_kept, half, is_full, kept, next_of, with_noted}
+use Rattle.lw_api.specs.NotificationBuffer.{HasRoom, BufferedNotificationContent, NotificationBufferContent, first_kept, half, is_full, kept, next_of, with_notification}
 use Rattle.lw_api.specs.Notifications.{numbered}
 
 shorter : {A : Type 0} (full : Bool) (n : ℕ) (list : List A) → length (if full then drop n list else list) ≤ length list
@@ -15,17 +15,17 @@ same_next false first n list enough = refl
 enough : (n count : ℕ) → nat_lt (n + n - 1) count ≡ true → n ≤ count
 enough n count full = grind arith
 
-pub kept_shorter : (notices : NoticesContent) → length (kept notices) ≤ length notices.list
-kept_shorter notices = shorter (is_full notices) half notices.list
+pub kept_shorter : (buffer : NotificationBufferContent) → length (kept buffer) ≤ length buffer.list
+kept_shorter buffer = shorter (is_full buffer) half buffer.list
 
-pub next_stays : (notices : NoticesContent) → first_kept notices + length (kept notices) ≡ next_of notices
-next_stays notices = same_next (is_full notices) notices.first half notices.list (enough half (length notices.list))
+pub next_stays : (buffer : NotificationBufferContent) → first_kept buffer + length (kept buffer) ≡ next_of buffer
+next_stays buffer = same_next (is_full buffer) buffer.first half buffer.list (enough half (length buffer.list))
 
-pub room_shrinks : (notices : NoticesContent) (noted : NotedContent) (more : ℕ) → HasRoom notices (more + 1) → HasRoom (with_noted notices noted) more
-room_shrinks notices noted more room =
-    let shorter = kept_shorter notices in
-    let next = next_stays notices in
-    let count : length (kept notices ++ noted ∷ []) ≡ length (kept notices) + 1 = length-append (kept notices) (noted ∷ []) in
+pub room_shrinks : (buffer : NotificationBufferContent) (notification : BufferedNotificationContent) (more : ℕ) → HasRoom buffer (more + 1) → HasRoom (with_notification buffer notification) more
+room_shrinks buffer notification more room =
+    let shorter = kept_shorter buffer in
+    let next = next_stays buffer in
+    let count : length (kept buffer ++ notification ∷ []) ≡ length (kept buffer) + 1 = length-append (kept buffer) (notification ∷ []) in
     let memory = room.memory in
     let numbers = room.numbers in
     record {
@@ -34,8 +34,9 @@ room_shrinks notices noted more room =
     }
 
 -- one more behind others, under its number
-pub numbered_more : (from number : ℕ) (list : List NotedContent) (noted : NotedContent) → number ≡ from + length list
-    → numbered from (list ++ noted ∷ []) ≡ numbered from list ++ numbered number (noted ∷ [])
-numbered_more from number [] noted is = ap (λ (n : ℕ). numbered n (noted ∷ [])) (omega (arith, is))
-numbered_more from number (first ∷ list) noted is =
-    ap (λ l. numbered from (first ∷ []) ++ l) (numbered_more (from + 1) number list noted (omega (arith, is)))
+pub numbered_more : (from number : ℕ) (list : List BufferedNotificationContent)
+    (notification : BufferedNotificationContent) → number ≡ from + length list
+    → numbered from (list ++ notification ∷ []) ≡ numbered from list ++ numbered number (notification ∷ [])
+numbered_more from number [] notification is = ap (λ (n : ℕ). numbered n (notification ∷ [])) (omega (arith, is))
+numbered_more from number (first ∷ list) notification is =
+    ap (λ l. numbered from (first ∷ []) ++ l) (numbered_more (from + 1) number list notification (omega (arith, is)))

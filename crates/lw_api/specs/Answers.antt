@@ -21,12 +21,12 @@ use Rattle.lw_node.specs.Node.{NodeContent}
 use Rattle.lw_print.specs.declared.node.NodeNumbers.{NodeNumbers}
 use Rattle.lw_print.specs.Changes.{Change, changes_json}
 use Rattle.lw_print.specs.Json.{registration_json, watch_json, observations_json, page_json, node_json}
-use Rattle.lw_target.specs.declared.asked.Asked.{Asked}
-use Rattle.lw_target.specs.declared.asked.Asked.TheVariants as asked
-use Rattle.lw_target.specs.declared.desk.Answer.{Answer}
-use Rattle.lw_target.specs.declared.desk.Media.TheVariants.{Json, Nothing}
-use Rattle.lw_target.specs.declared.desk.Status.{Status}
-use Rattle.lw_target.specs.declared.desk.Status.TheVariants as status
+use Rattle.lw_target.specs.declared.api_query.ApiQuery.{ApiQuery}
+use Rattle.lw_target.specs.declared.api_query.ApiQuery.TheVariants as api_query
+use Rattle.lw_target.specs.declared.api.ApiResponse.{ApiResponse}
+use Rattle.lw_target.specs.declared.api.Media.TheVariants.{Json, Nothing}
+use Rattle.lw_target.specs.declared.api.Status.{Status}
+use Rattle.lw_target.specs.declared.api.Status.TheVariants as status
 use Rattle.lw_api.specs.declared.answering.About.{About}
 use Rattle.lw_api.specs.Known.{OfKnown}
 
@@ -137,26 +137,26 @@ pub record TellsChanges (node : NodeContent) (about : About) (now since limit : 
 
 -- ---- answers
 -- it has the status, and the text as its JSON
-pub record IsJson (status : Status) (text : List ℕ) (answer : Answer) : Type 0 where
+pub record IsJson (status : Status) (text : List ℕ) (answer : ApiResponse) : Type 0 where
   pub status_is : answer.status ≡ status
   pub media_is : answer.media ≡ Json
   pub body_is : string_bytes answer.body ≡ text
 
-abbrev pub IsNotFound : Answer → Type 0
+abbrev pub IsNotFound : ApiResponse → Type 0
 IsNotFound = IsJson status.NotFound (codes "{\"error\":\"not found\"}")
 
 -- what was found, or that nothing was
-abbrev pub IsFound : Option (List ℕ) → Answer → Type 0
+abbrev pub IsFound : Option (List ℕ) → ApiResponse → Type 0
 IsFound (Some text) answer = IsJson status.Ok text answer
 IsFound None answer = IsNotFound answer
 
 -- the observation that was created, or that it is not found
-abbrev pub IsCreated : Option (List ℕ) → Answer → Type 0
+abbrev pub IsCreated : Option (List ℕ) → ApiResponse → Type 0
 IsCreated (Some text) answer = IsJson status.Created text answer
 IsCreated None answer = IsNotFound answer
 
 -- that it was done: no body, and so no media type
-pub record IsNoContent (answer : Answer) : Type 0 where
+pub record IsNoContent (answer : ApiResponse) : Type 0 where
   pub status_is : answer.status ≡ status.NoContent
   pub media_is : answer.media ≡ Nothing
   pub body_is : string_bytes answer.body ≡ []
@@ -164,7 +164,7 @@ pub record IsNoContent (answer : Answer) : Type 0 where
 -- Changes are told to who follows this start, or begins. At the last change number, where one number stands for many,
 -- none are told.
 pub record IsChangesAnswer (node : NodeContent) (about : About) (now since : ℕ) (start : Option ℕ) (limit : ℕ)
-    (answer : Answer) : Type 0 where
+    (answer : ApiResponse) : Type 0 where
   pub unsaid : start ≡ None → 0 < since → IsJson status.BadRequest (codes "{\"error\":\"start\"}") answer
   pub other : IfSome start (λ tag. tag ≢ about.tag → IsJson status.Gone (codes "{\"error\":\"gone\"}") answer)
   pub told : (start ≡ None → since ≡ 0) → IfSome start (λ tag. tag ≡ about.tag) → node.table.count.change ≢ LAST
@@ -174,20 +174,21 @@ pub record IsChangesAnswer (node : NodeContent) (about : About) (now since : ℕ
 
 -- The answer of a node to what is asked of it. The page, the measures, whether the server serves, and what devices told
 -- are not.
-abbrev pub IsAnswer : NodeContent → About → ℕ → Asked → Answer → Type 0
-IsAnswer node about now (asked.Registrations after limit) answer =
+abbrev pub IsAnswer : NodeContent → About → ℕ → ApiQuery → ApiResponse → Type 0
+IsAnswer node about now (api_query.Registrations after limit) answer =
     (text : List ℕ) × TellsPage node.table.state now after limit text × IsJson status.Ok text answer
-IsAnswer node about now (asked.Registration endpoint) answer =
+IsAnswer node about now (api_query.Registration endpoint) answer =
     (text : Option (List ℕ)) × Tells node.table.state (λ M. ShownOf M now endpoint) text × IsFound text answer
-IsAnswer node about now (asked.Observations endpoint after limit) answer =
+IsAnswer node about now (api_query.Observations endpoint after limit) answer =
     (text : Option (List ℕ)) × TellsObservations node.table.state now endpoint after limit text × IsFound text answer
-IsAnswer node about now (asked.ById id) answer =
+IsAnswer node about now (api_query.ById id) answer =
     (text : Option (List ℕ)) × Tells node.table.state (λ M. ById M now id) text × IsFound text answer
-IsAnswer node about now (asked.ByAddress address) answer =
+IsAnswer node about now (api_query.ByAddress address) answer =
     (text : Option (List ℕ)) × Tells node.table.state (λ M. ByAddress M now address) text × IsFound text answer
-IsAnswer node about now (asked.ByToken token) answer =
+IsAnswer node about now (api_query.ByToken token) answer =
     (text : Option (List ℕ)) × TellsWatch node.table.state (λ M. ByToken M now token) text × IsFound text answer
-IsAnswer node about now asked.Node answer = (text : List ℕ) × TellsNode node about text × IsJson status.Ok text answer
-IsAnswer node about now (asked.Changes since start limit) answer =
+IsAnswer node about now api_query.Node answer = (text : List ℕ) × TellsNode node about text
+    × IsJson status.Ok text answer
+IsAnswer node about now (api_query.Changes since start limit) answer =
     IsChangesAnswer node about now since start limit answer
 IsAnswer node about now _ answer = IsNotFound answer

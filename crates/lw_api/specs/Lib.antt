@@ -1,5 +1,5 @@
 pub mod Known
 pub mod Answers
-pub mod Notices
+pub mod NotificationBuffer
 pub mod Notifications
 pub mod inner

@@ -3,26 +3,27 @@ use Rattle.std.specs.Prelude.{◌≡◌, ◌≢◌, ◌<◌, ◌≤◌, ℕ, ◌
 use Rattle.std.specs.Fmt.{decimal}
 use Rattle.serde_json.specs.Written.{compact_text}
 use Rattle.lw_print.specs.Notifications.{NotificationContent, notifications_json}
-use Rattle.lw_target.specs.declared.desk.Answer.{Answer}
-use Rattle.lw_target.specs.declared.desk.Status.TheVariants as status
+use Rattle.lw_target.specs.declared.api.ApiResponse.{ApiResponse}
+use Rattle.lw_target.specs.declared.api.Status.TheVariants as status
 use Rattle.lw_api.specs.declared.answering.About.{About}
 use Rattle.lw_api.specs.Answers.{IsJson}
-use Rattle.lw_api.specs.Notices.{NotedContent, NoticesContent}
+use Rattle.lw_api.specs.NotificationBuffer.{BufferedNotificationContent, NotificationBufferContent}
 
 -- each under its number, where the first has this one
-abbrev pub numbered : ℕ → List NotedContent → List NotificationContent
+abbrev pub numbered : ℕ → List BufferedNotificationContent → List NotificationContent
 numbered number [] = []
-numbered number (noted ∷ list) =
-    record { number = number; notice = noted.notice; is_complete = noted.is_complete } ∷ numbered (number + 1) list
+numbered number (notification ∷ list) =
+    record { number = number; notice = notification.notice; is_complete = notification.is_complete }
+        ∷ numbered (number + 1) list
 
 -- those from a number on, so many at most
-abbrev pub told_from : NoticesContent → ℕ → ℕ → List NotedContent
-told_from notices from limit = take limit (drop (from - notices.first) notices.list)
+abbrev pub page_from : NotificationBufferContent → ℕ → ℕ → List BufferedNotificationContent
+page_from buffer from limit = take limit (drop (from - buffer.first) buffer.list)
 
 -- the text of those from a number on, which is not below that of the first; the page behind goes on behind the last
-abbrev pub told_text : NoticesContent → About → ℕ → ℕ → List ℕ
-told_text notices about from limit = compact_text
-    (notifications_json (numbered from (told_from notices from limit)) (from + length (told_from notices from limit))
+abbrev pub page_text : NotificationBufferContent → About → ℕ → ℕ → List ℕ
+page_text buffer about from limit = compact_text
+    (notifications_json (numbered from (page_from buffer from limit)) (from + length (page_from buffer from limit))
     about.tag)
 
 -- that the number is below that of the first
@@ -30,11 +31,11 @@ abbrev pub gone_text : ℕ → List ℕ
 gone_text first = codes "{\"error\":\"gone\",\"first\":" ++ (decimal first ++ codes "}")
 
 -- What devices told is told to who follows this start, or begins. What has gone is not.
-pub record IsNotificationsAnswer (notices : NoticesContent) (about : About) (from : ℕ) (start : Option ℕ) (limit : ℕ)
-    (answer : Answer) : Type 0 where
+pub record IsNotificationsAnswer (buffer : NotificationBufferContent) (about : About) (from : ℕ) (start : Option ℕ)
+    (limit : ℕ) (answer : ApiResponse) : Type 0 where
   pub unsaid : start ≡ None → 0 < from → IsJson status.BadRequest (codes "{\"error\":\"start\"}") answer
   pub other : IfSome start (λ tag. tag ≢ about.tag → IsJson status.Gone (codes "{\"error\":\"gone\"}") answer)
-  pub gone : (start ≡ None → from ≡ 0) → IfSome start (λ tag. tag ≡ about.tag) → from < notices.first
-      → IsJson status.Gone (gone_text notices.first) answer
-  pub told : (start ≡ None → from ≡ 0) → IfSome start (λ tag. tag ≡ about.tag) → notices.first ≤ from
-      → IsJson status.Ok (told_text notices about from limit) answer
+  pub gone : (start ≡ None → from ≡ 0) → IfSome start (λ tag. tag ≡ about.tag) → from < buffer.first
+      → IsJson status.Gone (gone_text buffer.first) answer
+  pub told : (start ≡ None → from ≡ 0) → IfSome start (λ tag. tag ≡ about.tag) → buffer.first ≤ from
+      → IsJson status.Ok (page_text buffer about from limit) answer

@@ -4,14 +4,14 @@ ghost use Rattle.std.specs.Prelude.{◌≡◌, ℕ, List, Option, IfOk, option_m
 ghost use Rattle.lw_reg.specs.Showing.{ShownOf};
 ghost use Rattle.lw_stamp.specs.Moment.{ms_of};
 ghost use Rattle.lw_api.specs.Answers.{CountsRegistrations, IsAnswer, IsFound, IsJson, IsNotFound, Tells, TellsNode, TellsPage};
-ghost use Rattle.lw_target.specs.declared.desk.Status.TheVariants as statuses;
+ghost use Rattle.lw_target.specs.declared.api.Status.TheVariants as statuses;
 
 use crate::changes::changes_answer;
 use crate::{by_address, by_id, by_token, observations, registration, registrations};
 use lw_node::Node;
 use lw_print::{NodeNumbers, node_text};
 use lw_stamp::{Moment, NoMemory, Text};
-use lw_target::{Answer, Asked, Media, Status};
+use lw_target::{ApiResponse, ApiQuery, Media, Status};
 use std::alloc::Global;
 
 /// What a server knows of its start.
@@ -29,14 +29,14 @@ pub fn answer(
     node: &Node,
     about: About,
     now: Moment,
-    asked: &Asked,
-) -> Result<Answer, NoMemory>
-    ensures { IfOk result (IsAnswer node.now about (ms_of now) asked.now) }
+    api_query: &ApiQuery,
+) -> Result<ApiResponse, NoMemory>
+    ensures { IfOk result (IsAnswer node.now about (ms_of now) api_query.now) }
 {
-    match asked {
-        Asked::Registrations { after, limit } => page(alloc, node, now, after, *limit),
-        Asked::Registration { endpoint } => one(alloc, node, now, endpoint),
-        Asked::Observations {
+    match api_query {
+        ApiQuery::Registrations { after, limit } => page(alloc, node, now, after, *limit),
+        ApiQuery::Registration { endpoint } => one(alloc, node, now, endpoint),
+        ApiQuery::Observations {
             endpoint,
             after,
             limit,
@@ -44,16 +44,16 @@ pub fn answer(
             alloc,
             observations(alloc, node, now, endpoint.as_str(), *after, *limit)?,
         ),
-        Asked::ById { id } => found(alloc, by_id(alloc, node, now, *id)?),
-        Asked::ByAddress { address } => found(alloc, by_address(alloc, node, now, *address)?),
-        Asked::ByToken { token } => found(alloc, by_token(alloc, node, now, *token)?),
-        Asked::Node => numbers(alloc, node, about),
-        Asked::Changes {
+        ApiQuery::ById { id } => found(alloc, by_id(alloc, node, now, *id)?),
+        ApiQuery::ByAddress { address } => found(alloc, by_address(alloc, node, now, *address)?),
+        ApiQuery::ByToken { token } => found(alloc, by_token(alloc, node, now, *token)?),
+        ApiQuery::Node => numbers(alloc, node, about),
+        ApiQuery::Changes {
             since,
             start,
             limit,
         } => changes_answer(alloc, node, about, now, *since, *start, *limit),
-        Asked::Page | Asked::Health | Asked::Metrics | Asked::Notifications { .. } => {
+        ApiQuery::Page | ApiQuery::Health | ApiQuery::Metrics | ApiQuery::Notifications { .. } => {
             not_found(alloc)
         }
     }
@@ -65,7 +65,7 @@ fn page(
     now: Moment,
     after: &Option<Text>,
     limit: usize,
-) -> Result<Answer, NoMemory>
+) -> Result<ApiResponse, NoMemory>
     ensures { IfOk result (λ answer. (text : List ℕ)
         × TellsPage node.now.table.state (ms_of now) after.now limit text × IsJson statuses.Ok text answer) }
 {
@@ -81,14 +81,14 @@ fn text_of(text: &Option<Text>) -> Option<&str>
     }
 }
 
-fn one(alloc: Global, node: &Node, now: Moment, endpoint: &Text) -> Result<Answer, NoMemory>
+fn one(alloc: Global, node: &Node, now: Moment, endpoint: &Text) -> Result<ApiResponse, NoMemory>
     ensures { IfOk result (λ answer. (text : Option (List ℕ))
         × Tells node.now.table.state (λ M. ShownOf M (ms_of now) endpoint.now) text × IsFound text answer) }
 {
     found(alloc, registration(alloc, node, now, endpoint.as_str())?)
 }
 
-fn found(alloc: Global, text: Option<String>) -> Result<Answer, NoMemory>
+fn found(alloc: Global, text: Option<String>) -> Result<ApiResponse, NoMemory>
     ensures { IfOk result (IsFound (option_map string_bytes text)) }
 {
     match text {
@@ -98,17 +98,17 @@ fn found(alloc: Global, text: Option<String>) -> Result<Answer, NoMemory>
 }
 
 /// The answer that has the text as its JSON.
-pub(crate) fn ok(body: String) -> Answer
+pub(crate) fn ok(body: String) -> ApiResponse
     ensures { IsJson statuses.Ok (string_bytes body) result }
 {
     json(Status::Ok, body)
 }
 
 /// The answer that has the status, and the text as its JSON.
-pub(crate) fn json(status: Status, body: String) -> Answer
+pub(crate) fn json(status: Status, body: String) -> ApiResponse
     ensures { IsJson status (string_bytes body) result }
 {
-    Answer {
+    ApiResponse {
         status,
         media: Media::Json,
         body,
@@ -116,20 +116,20 @@ pub(crate) fn json(status: Status, body: String) -> Answer
 }
 
 /// That nothing was found.
-pub fn not_found(alloc: Global) -> Result<Answer, NoMemory>
+pub fn not_found(alloc: Global) -> Result<ApiResponse, NoMemory>
     ensures { IfOk result IsNotFound }
 {
-    refused(alloc, Status::NotFound, r#"{"error":"not found"}"#)
+    error_response(alloc, Status::NotFound, r#"{"error":"not found"}"#)
 }
 
-/// Why nothing else is told: the status, and the text, which is the JSON of an error.
-pub fn refused(alloc: Global, status: Status, text: &str) -> Result<Answer, NoMemory>
+/// The response of an error: the status, and the text, which is the JSON of an error.
+pub fn error_response(alloc: Global, status: Status, text: &str) -> Result<ApiResponse, NoMemory>
     ensures { IfOk result (IsJson status text.now) }
 {
     Ok(json(status, String::from_str(alloc, text)?))
 }
 
-fn numbers(alloc: Global, node: &Node, about: About) -> Result<Answer, NoMemory>
+fn numbers(alloc: Global, node: &Node, about: About) -> Result<ApiResponse, NoMemory>
     ensures { IfOk result (λ answer. (text : List ℕ) × TellsNode node.now about text × IsJson statuses.Ok text answer) }
 {
     let numbers = numbers_of(node, about);

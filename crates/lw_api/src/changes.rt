@@ -6,15 +6,15 @@ ghost use Rattle.lw_table.specs.Changes.{IsChangePage, LAST, upto_of};
 ghost use Rattle.lw_print.specs.Changes.{change_of};
 ghost use Rattle.lw_api.specs.Answers.{IsChangesAnswer, IsJson, TellsChanges};
 ghost use Rattle.lw_api.specs.inner.Changes.{moved_of, AreShown};
-ghost use Rattle.lw_target.specs.declared.desk.Status.TheVariants as statuses;
+ghost use Rattle.lw_target.specs.declared.api.Status.TheVariants as statuses;
 
 use crate::About;
-use crate::answering::{ok, refused};
+use crate::answering::{ok, error_response};
 use lw_node::Node;
 use lw_print::{Change, ChangePage, changes_text};
 use lw_stamp::{Moment, NoMemory};
 use lw_table::Moved;
-use lw_target::{Answer, Status};
+use lw_target::{ApiResponse, Status};
 use std::alloc::Global;
 
 /// Changes behind the number, to who follows this start, or begins.
@@ -26,12 +26,12 @@ pub(crate) fn changes_answer(
     since: u64,
     start: Option<u64>,
     limit: usize,
-) -> Result<Answer, NoMemory>
+) -> Result<ApiResponse, NoMemory>
     ensures { IfOk result (IsChangesAnswer node.now about (ms_of now) since start limit) }
 {
     match start {
-        None if since > 0 => refused(alloc, Status::BadRequest, r#"{"error":"start"}"#),
-        Some(tag) if tag != about.tag => refused(alloc, Status::Gone, r#"{"error":"gone"}"#),
+        None if since > 0 => error_response(alloc, Status::BadRequest, r#"{"error":"start"}"#),
+        Some(tag) if tag != about.tag => error_response(alloc, Status::Gone, r#"{"error":"gone"}"#),
         _ => changes(alloc, node, about, now, since, limit),
     }
 }
@@ -43,7 +43,7 @@ fn changes(
     now: Moment,
     since: u64,
     limit: usize,
-) -> Result<Answer, NoMemory>
+) -> Result<ApiResponse, NoMemory>
     ensures told { IfOk result (λ answer. node.now.table.count.change ≢ LAST
         → (text : List ℕ) × TellsChanges node.now about (ms_of now) since limit text × IsJson statuses.Ok text answer) }
     ensures ended { IfOk result (λ answer. node.now.table.count.change ≡ LAST
@@ -51,7 +51,7 @@ fn changes(
 {
     match node.table().changes_after(since, limit)? {
         Some(moved) => Ok(ok(text(alloc, node, about, now, since, &moved)?)),
-        None => refused(
+        None => error_response(
             alloc,
             Status::ServiceUnavailable,
             r#"{"error":"no more changes"}"#,

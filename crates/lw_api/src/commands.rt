@@ -9,18 +9,18 @@ use crate::answering::{json, not_found};
 use crate::by_token;
 use lw_node::Node;
 use lw_stamp::{Moment, NoMemory, Stamp};
-use lw_target::{Answer, Media, Status};
+use lw_target::{ApiResponse, Media, Status};
 use std::alloc::Global;
 
 /// That the observation with the token was created.
-pub fn created(alloc: Global, node: &Node, now: Moment, token: Stamp) -> Result<Answer, NoMemory>
+pub fn created(alloc: Global, node: &Node, now: Moment, token: Stamp) -> Result<ApiResponse, NoMemory>
     ensures { IfOk result (λ answer. (text : Option (List ℕ))
         × TellsWatch node.now.table.state (λ M. ByToken M (ms_of now) token) text × IsCreated text answer) }
 {
     created_as(alloc, by_token(alloc, node, now, token)?)
 }
 
-fn created_as(alloc: Global, text: Option<String>) -> Result<Answer, NoMemory>
+fn created_as(alloc: Global, text: Option<String>) -> Result<ApiResponse, NoMemory>
     ensures { IfOk result (IsCreated (option_map string_bytes text)) }
 {
     match text {
@@ -30,10 +30,10 @@ fn created_as(alloc: Global, text: Option<String>) -> Result<Answer, NoMemory>
 }
 
 /// That it was done, and that there is nothing to tell of it.
-pub fn no_content(alloc: Global) -> Answer
+pub fn no_content(alloc: Global) -> ApiResponse
     ensures { IsNoContent result }
 {
-    Answer {
+    ApiResponse {
         status: Status::NoContent,
         media: Media::Nothing,
         body: String::new(alloc),

@@ -6,15 +6,15 @@ mod answering;
 mod changes;
 mod commands;
 mod look_ups;
-mod notices;
+mod notification_buffer;
 mod notified;
 mod observing;
 mod pages;
 
-pub use answering::{About, answer, not_found, numbers_of, refused};
+pub use answering::{About, answer, not_found, numbers_of, error_response};
 pub use commands::{created, no_content};
 pub use look_ups::{by_address, by_id, by_token, registration};
-pub use notices::{MAX_NOTICES, Noted, Notices};
+pub use notification_buffer::{MAX_NOTIFICATIONS, BufferedNotification, NotificationBuffer};
 pub use notified::notifications;
 pub use observing::observations;
 pub use pages::registrations;

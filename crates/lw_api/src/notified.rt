@@ -4,62 +4,62 @@ ghost use Rattle.std.specs.Prelude.{◌≡◌, ◌<◌, ◌≤◌, ◌+◌, ◌^
 ghost use Rattle.serde_json.specs.Written.{compact_text};
 ghost use Rattle.lw_print.specs.Notifications.{notifications_json};
 ghost use Rattle.lw_api.specs.Answers.{IsJson};
-ghost use Rattle.lw_api.specs.Notifications.{IsNotificationsAnswer, gone_text, numbered, told_text};
-ghost use Rattle.lw_target.specs.declared.desk.Status.TheVariants as statuses;
+ghost use Rattle.lw_api.specs.Notifications.{IsNotificationsAnswer, gone_text, numbered, page_text};
+ghost use Rattle.lw_target.specs.declared.api.Status.TheVariants as statuses;
 
-use crate::answering::{ok, refused};
-use crate::{About, Noted, Notices};
+use crate::answering::{ok, error_response};
+use crate::{About, BufferedNotification, NotificationBuffer};
 use lw_print::{Notification, NotificationPage, notifications_text};
 use lw_stamp::NoMemory;
-use lw_target::{Answer, Status};
+use lw_target::{ApiResponse, Status};
 use std::alloc::Global;
 
 /// What devices told from the number on, so many at most, to who follows this start, or begins.
 pub fn notifications(
     alloc: Global,
-    notices: &Notices,
+    buffer: &NotificationBuffer,
     about: About,
     from: u64,
     start: Option<u64>,
     limit: usize,
-) -> Result<Answer, NoMemory>
-    ensures { IfOk result (IsNotificationsAnswer notices.now about from start limit) }
+) -> Result<ApiResponse, NoMemory>
+    ensures { IfOk result (IsNotificationsAnswer buffer.now about from start limit) }
 {
     match start {
-        None if from > 0 => refused(alloc, Status::BadRequest, r#"{"error":"start"}"#),
-        Some(tag) if tag != about.tag => refused(alloc, Status::Gone, r#"{"error":"gone"}"#),
-        _ => told(alloc, notices, about, from, limit),
+        None if from > 0 => error_response(alloc, Status::BadRequest, r#"{"error":"start"}"#),
+        Some(tag) if tag != about.tag => error_response(alloc, Status::Gone, r#"{"error":"gone"}"#),
+        _ => told(alloc, buffer, about, from, limit),
     }
 }
 
 fn told(
     alloc: Global,
-    notices: &Notices,
+    buffer: &NotificationBuffer,
     about: About,
     from: u64,
     limit: usize,
-) -> Result<Answer, NoMemory>
-    ensures gone { IfOk result (λ answer. from < notices.now.first
-        → IsJson statuses.Gone (gone_text notices.now.first) answer) }
-    ensures told { IfOk result (λ answer. notices.now.first ≤ from
-        → IsJson statuses.Ok (told_text notices.now about from limit) answer) }
+) -> Result<ApiResponse, NoMemory>
+    ensures gone { IfOk result (λ answer. from < buffer.now.first
+        → IsJson statuses.Gone (gone_text buffer.now.first) answer) }
+    ensures told { IfOk result (λ answer. buffer.now.first ≤ from
+        → IsJson statuses.Ok (page_text buffer.now about from limit) answer) }
 {
-    if from < notices.first() {
-        return gone(alloc, notices.first());
+    if from < buffer.first() {
+        return gone(alloc, buffer.first());
     }
-    Ok(ok(text(alloc, about, from, notices.told(from, limit))?))
+    Ok(ok(text(alloc, about, from, buffer.page(from, limit))?))
 }
 
 /// That those below the number have gone.
-fn gone(alloc: Global, first: u64) -> Result<Answer, NoMemory>
+fn gone(alloc: Global, first: u64) -> Result<ApiResponse, NoMemory>
     ensures { IfOk result (IsJson statuses.Gone (gone_text first)) }
 {
     let text = format!(in alloc; "{{\"error\":\"gone\",\"first\":{first}}}")?;
-    refused(alloc, Status::Gone, &text)
+    error_response(alloc, Status::Gone, &text)
 }
 
 /// The text of some, of which the first has the number.
-fn text(alloc: Global, about: About, from: u64, list: &[Noted]) -> Result<String, NoMemory>
+fn text(alloc: Global, about: About, from: u64, list: &[BufferedNotification]) -> Result<String, NoMemory>
     requires { from + length list.now < 2 ^ 64 }
     ensures { IfOk result (λ text. string_bytes text
         ≡ compact_text (notifications_json (numbered from list.now) (from + length list.now) about.tag)) }
@@ -76,18 +76,18 @@ fn text(alloc: Global, about: About, from: u64, list: &[Noted]) -> Result<String
 fn with_numbers<'a>(
     alloc: Global,
     from: u64,
-    list: &'a [Noted],
+    list: &'a [BufferedNotification],
 ) -> Result<Vec<Notification<'a>>, NoMemory>
     requires { from + length list.now < 2 ^ 64 }
     ensures { IfOk result (λ notifications. notifications.items ≡ numbered from list.now) }
 {
     let mut notifications = Vec::with_capacity(alloc, list.len())?;
     let mut number = from;
-    for noted in list {
+    for notification in list {
         notifications.push(Notification {
             number,
-            notice: &noted.notice,
-            is_complete: noted.is_complete,
+            notice: &notification.notice,
+            is_complete: notification.is_complete,
         })?;
         number += 1;
     }

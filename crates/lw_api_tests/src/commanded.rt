@@ -1,9 +1,9 @@
 //! What is told of commands.
 
 use crate::told::{LATE, registered};
-use lw_api::{created, no_content, refused};
+use lw_api::{created, no_content, error_response};
 use lw_stamp::{Moment, Stamp};
-use lw_target::{Answer, Media, Status};
+use lw_target::{ApiResponse, Media, Status};
 use std::process::Abort;
 
 const WATCH: &str =
@@ -18,7 +18,7 @@ static REFUSALS: [&str; 3] = [
     r#"{"error":"away"}"#,
 ];
 
-fn is(rt: &impl Abort, answer: &Answer, status: Status, media: Media, body: &str) {
+fn is(rt: &impl Abort, answer: &ApiResponse, status: Status, media: Media, body: &str) {
     assert_eq!(rt; answer.status, status, "{body}");
     assert_eq!(rt; answer.media, media, "{body}");
     assert_eq!(rt; answer.body.as_str(), body);
@@ -46,14 +46,14 @@ fn an_observation_that_was_created(rt: HostRuntime) {
     }
 }
 
-/// Tries: no_content, refused
+/// Tries: no_content, error_response
 #[test]
 fn commands_of_which_nothing_is_shown(rt: HostRuntime) {
     let alloc = rt.alloc();
     let answer = no_content(alloc);
     is(&rt, &answer, Status::NoContent, Media::Nothing, "");
     for text in &REFUSALS {
-        let answer = refused(alloc, Status::ServiceUnavailable, text).expect(&rt, "memory");
+        let answer = error_response(alloc, Status::ServiceUnavailable, text).expect(&rt, "memory");
         is(&rt, &answer, Status::ServiceUnavailable, Media::Json, text);
     }
 }

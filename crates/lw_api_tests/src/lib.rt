@@ -4,6 +4,6 @@
 #[cfg(test)]
 mod commanded;
 #[cfg(test)]
-mod noted;
+mod notification_buffer;
 #[cfg(test)]
 mod told;

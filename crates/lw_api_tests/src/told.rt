@@ -3,7 +3,7 @@
 use lw_api::{About, answer};
 use lw_node::{Addr, Node, Path};
 use lw_stamp::{Moment, Stamp};
-use lw_target::{Answer, Commands, Method, Purpose, Status, purpose_of};
+use lw_target::{ApiResponse, Commands, Method, Route, Status, route_of};
 use std::alloc::Global;
 use std::process::Abort;
 
@@ -259,14 +259,14 @@ fn query_of(text: &str) -> Option<&str> {
     if text.is_empty() { None } else { Some(text) }
 }
 
-fn told(rt: &impl Abort, alloc: Global, node: &Node, row: &Row) -> Answer {
+fn told(rt: &impl Abort, alloc: Global, node: &Node, row: &Row) -> ApiResponse {
     let (ms, path, query, _) = row;
     let now = Moment::new(*ms).expect(rt, "a moment");
-    let purpose = purpose_of(alloc, Commands::Off, Method::Get, path, query_of(query));
-    let Ok(Purpose::Question(asked)) = purpose.expect(rt, "memory") else {
+    let route = route_of(alloc, Commands::Off, Method::Get, path, query_of(query));
+    let Ok(Route::Query(api_query)) = route.expect(rt, "memory") else {
         panic!(rt; "{path} asks for nothing");
     };
-    answer(alloc, node, ABOUT, now, &asked).expect(rt, "memory")
+    answer(alloc, node, ABOUT, now, &api_query).expect(rt, "memory")
 }
 
 /// Fails where to one of these another answer is given.

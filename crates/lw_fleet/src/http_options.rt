@@ -17,7 +17,7 @@ use std::net::SocketAddr;
 /// What is served over HTTP.
 #[derive(Clone, Copy, Debug, PartialEq, Eq)]
 pub struct HttpOptions<'a> {
-    /// Where visitors come.
+    /// Where HTTP clients come.
     pub address: SocketAddr,
     /// The path of the file with the token that requests have to bring.
     pub token_file: Option<&'a str>,

@@ -1,14 +1,14 @@
-//! A front of real sockets, which one thread waits for.
+//! A transport of real sockets, which one thread waits for.
 #![tactic(auto)]
 
-mod asked_line;
+mod request_line;
 mod drops;
-mod reception;
+mod http_listener;
 mod sockets;
 mod stopwatch;
-mod visit;
+mod http_connection;
 
 pub use drops::drops_in;
-pub use lw_run::{Front, Heard};
+pub use lw_run::{Transport, Incoming};
 pub use sockets::Sockets;
 pub use stopwatch::SystemStopwatch;

@@ -1,16 +1,16 @@
 //! Sockets, and the one wait for them.
 
 ghost use Rattle.std.specs.Prelude.{length, IfOk, IfSome};
-ghost use Rattle.lw_run.specs.Front.{IsWithin};
+ghost use Rattle.lw_run.specs.Transport.{IsWithin};
 
 use crate::drops::Drops;
-use crate::reception::Reception;
+use crate::http_listener::HttpListener;
 use log::Log;
 use lw_metrics::Responses;
 use lw_reg::Addr;
-use lw_run::{Front, Heard};
-use lw_target::Desk;
-use lw_visit::Guard;
+use lw_run::{Transport, Incoming};
+use lw_target::Api;
+use lw_visit::AccessPolicy;
 use lw_wire::{WireFault, address_of, socket_address_of};
 use mio::net::UdpSocket;
 use mio::{Events, Interest, Poll, Token};
@@ -27,11 +27,11 @@ const DATAGRAMS: Token = Token(0);
 /// How many events a wait tells of.
 const EVENTS: usize = 32;
 
-/// How many seconds may pass from the end of a wait to the next before visitors have to wait for a turn.
+/// How many seconds may pass from the end of a wait to the next before HTTP clients have to wait for a turn.
 const STILL: u64 = 3;
 
-/// A UDP socket that never waits itself, a listener for visitors where there is one, and what waits for them. The host
-/// has the clock, and tells what it dropped.
+/// A UDP socket that never waits itself, a listener of HTTP where there is one, and what waits for them. The host has
+/// the clock, and tells what it dropped.
 #[derive(Drop)]
 pub struct Sockets<'a, H: Clock + Files + AllocGlobal, L: Log> {
     host: &'a H,
@@ -41,13 +41,13 @@ pub struct Sockets<'a, H: Clock + Files + AllocGlobal, L: Log> {
     events: Events<Global>,
     datagrams: UdpSocket,
     drops: Drops,
-    reception: Option<Reception>,
+    listener: Option<HttpListener>,
     /// When the last wait ended.
     left: Option<Instant>,
 }
 
 impl<'a, H: Clock + Files + AllocGlobal, L: Log> Sockets<'a, H, L> {
-    /// Binds a UDP socket at the address. Of visitors a line is logged.
+    /// Binds a UDP socket at the address. Of each HTTP request that is answered a line is logged.
     pub fn bind<N: Net>(
         net: &N,
         host: &'a H,
@@ -69,7 +69,7 @@ impl<'a, H: Clock + Files + AllocGlobal, L: Log> Sockets<'a, H, L> {
             events,
             datagrams,
             drops,
-            reception: None,
+            listener: None,
             left: None,
         })
     }
@@ -79,17 +79,17 @@ impl<'a, H: Clock + Files + AllocGlobal, L: Log> Sockets<'a, H, L> {
         self.datagrams.local_addr()
     }
 
-    /// Lets visitors in over HTTP at the address, and gives the address at which it is.
-    pub fn receive<N: Net>(
+    /// Listens for HTTP at the address, and gives the address at which it is.
+    pub fn listen<N: Net>(
         &mut self,
         net: &N,
         keys: RandomState,
-        guard: Guard,
+        policy: AccessPolicy,
         address: SocketAddr,
     ) -> io::Result<SocketAddr> {
-        let reception = Reception::bind(net, self.alloc, keys, guard, &self.poll, address)?;
-        let bound = reception.local_address()?;
-        self.reception = Some(reception);
+        let listener = HttpListener::bind(net, self.alloc, keys, policy, &self.poll, address)?;
+        let bound = listener.local_address()?;
+        self.listener = Some(listener);
         Ok(bound)
     }
 
@@ -98,43 +98,43 @@ impl<'a, H: Clock + Files + AllocGlobal, L: Log> Sockets<'a, H, L> {
         self.poll
             .poll(&mut self.events, Some(time))
             .map_err(|_| WireFault)?;
-        if let Some(reception) = &mut self.reception {
+        if let Some(listener) = &mut self.listener {
             for event in self.events.iter() {
-                reception.note(event.token());
+                listener.note(event.token());
             }
         }
         Ok(())
     }
 
-    /// Lets visitors in, and goes on with one of them. It gives the desk back.
+    /// Accepts connections of HTTP, and goes on with one of them. It gives the API back.
     ///
-    /// Once the time is over none goes on before the next turn. So what the desk tells is no older than the time, also
+    /// Once the time is over none goes on before the next turn. So what the API tells is no older than the time, also
     /// where the process was stopped while it waited.
-    fn receive_visitor<D: Desk + Drop>(
+    fn serve_http<A: Api + Drop>(
         &mut self,
-        desk: D,
+        api: A,
         began: Instant,
         time: Duration,
-    ) -> (D, Result<(), WireFault>) {
-        if self.reception.is_none() {
-            return (desk, Ok(()));
+    ) -> (A, Result<(), WireFault>) {
+        if self.listener.is_none() {
+            return (api, Ok(()));
         }
         let now = match self.look_now() {
             Ok(now) => now,
-            Err(fault) => return (desk, Err(fault)),
+            Err(fault) => return (api, Err(fault)),
         };
         if now.saturating_duration_since(began) >= time {
-            return (desk, Ok(()));
+            return (api, Ok(()));
         }
-        match &mut self.reception {
-            Some(reception) => (reception.receive(&self.poll, now, desk, self.log), Ok(())),
-            None => (desk, Ok(())),
+        match &mut self.listener {
+            Some(listener) => (listener.serve(&self.poll, now, api, self.log), Ok(())),
+            None => (api, Ok(())),
         }
     }
 
-    /// Only visitors are told of drops.
+    /// Drops are told over HTTP alone.
     fn look_at_drops(&mut self, now: Instant) {
-        if self.reception.is_some() {
+        if self.listener.is_some() {
             self.drops.look(self.host, now);
         }
     }
@@ -145,18 +145,18 @@ impl<'a, H: Clock + Files + AllocGlobal, L: Log> Sockets<'a, H, L> {
         self.now()
     }
 
-    /// What there is to do without waiting: a datagram, before what the desk has to send.
+    /// What there is to do without waiting: a datagram, before what the API has to send.
     fn at_once(
         &mut self,
         wants_to_send: bool,
         buffer: &mut [u8],
-    ) -> Result<Option<Heard>, WireFault>
+    ) -> Result<Option<Incoming>, WireFault>
         ensures { IfOk result (λ there. IfSome there (IsWithin (length buffer.new))) }
     {
         // The wait tells of what comes, and not of what is there: that is looked for first.
         match self.more(buffer)? {
-            Some((count, from)) => Ok(Some(Heard::Datagram(count, from))),
-            None if wants_to_send => Ok(Some(Heard::Nothing)),
+            Some((count, from)) => Ok(Some(Incoming::Datagram(count, from))),
+            None if wants_to_send => Ok(Some(Incoming::Nothing)),
             None => Ok(None),
         }
     }
@@ -168,20 +168,20 @@ impl<'a, H: Clock + Files + AllocGlobal, L: Log> Sockets<'a, H, L> {
         buffer: &mut [u8],
         began: Instant,
         time: Duration,
-    ) -> Result<Option<Heard>, WireFault>
+    ) -> Result<Option<Incoming>, WireFault>
         ensures { IfOk result (λ there. IfSome there (IsWithin (length buffer.new))) }
     {
-        if let Some(heard) = self.at_once(wants_to_send, buffer)? {
-            return Ok(Some(heard));
+        if let Some(incoming) = self.at_once(wants_to_send, buffer)? {
+            return Ok(Some(incoming));
         }
         if self.wait(began, time)? {
             return Ok(None);
         }
-        Ok(Some(Heard::Nothing))
+        Ok(Some(Incoming::Nothing))
     }
 
-    /// Whether so much time has passed since the last wait that the desk may lack what has happened meanwhile: the process
-    /// was stopped, or the turn took long.
+    /// Whether so much time has passed since the last wait that the API may lack what has happened meanwhile: the
+    /// process was stopped, or the turn took long.
     fn stood_still(&self, now: Instant) -> bool {
         match self.left {
             Some(left) => now.saturating_duration_since(left) > Duration::from_secs(STILL),
@@ -189,30 +189,30 @@ impl<'a, H: Clock + Files + AllocGlobal, L: Log> Sockets<'a, H, L> {
         }
     }
 
-    /// Waits for so long a time from then on, and has the desk answer visitors meanwhile.
-    fn attend_from<D: Desk + Drop>(
+    /// Waits for so long a time from then on, and has the API answer HTTP clients meanwhile.
+    fn poll_from<A: Api + Drop>(
         &mut self,
-        desk: D,
+        api: A,
         buffer: &mut [u8],
         began: Instant,
         time: Duration,
-    ) -> (D, Result<Heard, WireFault>)
+    ) -> (A, Result<Incoming, WireFault>)
         ensures { IfOk result.1 (IsWithin (length buffer.new)) }
     {
-        let mut desk = desk;
+        let mut api = api;
         for _turn in 0..u64::MAX {
-            let (back, received) = self.receive_visitor(desk, began, time);
-            desk = back;
-            if let Err(fault) = received {
-                return (desk, Err(fault));
+            let (back, served) = self.serve_http(api, began, time);
+            api = back;
+            if let Err(fault) = served {
+                return (api, Err(fault));
             }
-            match self.next(desk.wants_to_send(), buffer, began, time) {
-                Ok(Some(heard)) => return (desk, Ok(heard)),
+            match self.next(api.wants_to_send(), buffer, began, time) {
+                Ok(Some(incoming)) => return (api, Ok(incoming)),
                 Ok(None) => {}
-                Err(fault) => return (desk, Err(fault)),
+                Err(fault) => return (api, Err(fault)),
             }
         }
-        (desk, Ok(Heard::Nothing))
+        (api, Ok(Incoming::Nothing))
     }
 
     fn now(&self) -> Result<Instant, WireFault> {
@@ -223,11 +223,11 @@ impl<'a, H: Clock + Files + AllocGlobal, L: Log> Sockets<'a, H, L> {
     fn wait(&mut self, began: Instant, time: Duration) -> Result<bool, WireFault> {
         let now = self.now()?;
         let left = time.saturating_sub(now.saturating_duration_since(began));
-        let rest = match &self.reception {
-            Some(reception) => reception.rest(now),
+        let timeout = match &self.listener {
+            Some(listener) => listener.timeout(now),
             None => Duration::MAX,
         };
-        let wait = left.min(rest);
+        let wait = left.min(timeout);
         if wait > Duration::ZERO {
             self.look(wait)?;
         }
@@ -235,25 +235,25 @@ impl<'a, H: Clock + Files + AllocGlobal, L: Log> Sockets<'a, H, L> {
     }
 }
 
-impl<H: Clock + Files + AllocGlobal, L: Log> Front for Sockets<'_, H, L> {
-    fn attend<D: Desk + Drop>(
+impl<H: Clock + Files + AllocGlobal, L: Log> Transport for Sockets<'_, H, L> {
+    fn poll<A: Api + Drop>(
         &mut self,
-        desk: D,
+        api: A,
         buffer: &mut [u8],
         time: Duration,
-    ) -> (D, Result<Heard, WireFault>) {
+    ) -> (A, Result<Incoming, WireFault>) {
         let began = match self.now() {
             Ok(began) => began,
-            Err(fault) => return (desk, Err(fault)),
+            Err(fault) => return (api, Err(fault)),
         };
         self.look_at_drops(began);
         if self.stood_still(began) {
             self.left = Some(began);
-            return (desk, Ok(Heard::Nothing));
+            return (api, Ok(Incoming::Nothing));
         }
-        let (desk, heard) = self.attend_from(desk, buffer, began, time);
+        let (api, incoming) = self.poll_from(api, buffer, began, time);
         self.left = self.now().ok();
-        (desk, heard)
+        (api, incoming)
     }
 
     fn more(&mut self, buffer: &mut [u8]) -> Result<Option<(usize, Addr)>, WireFault> {
@@ -272,8 +272,8 @@ impl<H: Clock + Files + AllocGlobal, L: Log> Front for Sockets<'_, H, L> {
     }
 
     fn responses(&self) -> Responses {
-        match &self.reception {
-            Some(reception) => reception.responses,
+        match &self.listener {
+            Some(listener) => listener.responses,
             None => Responses::new(),
         }
     }

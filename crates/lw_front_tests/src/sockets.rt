@@ -1,12 +1,12 @@
-//! Sockets of the loopback as a front.
+//! Sockets of the loopback as a transport.
 
 use log::sink::{Discard, Memory};
 use log::{Level, Log, Logged};
 use lw_front::Sockets;
-use lw_run::{Addr, Front, Heard, WireFault};
+use lw_run::{Addr, Transport, Incoming, WireFault};
 use lw_stamp::NoMemory;
-use lw_target::{Answer, Asked, Command, Commands, Desk, Media, Status};
-use lw_visit::Guard;
+use lw_target::{ApiResponse, ApiQuery, Command, Commands, Api, Media, Status};
+use lw_visit::AccessPolicy;
 use lw_wire::address_of;
 use std::alloc::Global;
 use std::hash::RandomState;
@@ -17,7 +17,7 @@ use std::random::RandomSource;
 use std::rt::Files;
 use std::time::{Clock, Duration, Instant};
 
-/// A desk that tells the same to all that is asked, and has something to send after a command.
+/// An API that tells the same to all that is asked, and has something to send after a command.
 #[derive(Drop)]
 struct OneAnswer {
     alloc: Global,
@@ -25,25 +25,25 @@ struct OneAnswer {
     commands: usize,
 }
 
-/// A desk to which no command came.
+/// An API to which no command came.
 fn quiet(alloc: Global) -> OneAnswer {
     OneAnswer { alloc, commands: 0 }
 }
 
-impl Desk for OneAnswer {
-    ghost tells = { λ desk asked answer. Unit {0} };
+impl Api for OneAnswer {
+    ghost may_answer = { λ api api_query answer. Unit {0} };
 
-    ghost does = { λ old command answer new. Unit {0} };
+    ghost may_do = { λ old command answer new. Unit {0} };
 
-    fn answer(&self, _asked: &Asked) -> Result<Answer, NoMemory> {
-        Ok(Answer {
+    fn answer(&self, _api_query: &ApiQuery) -> Result<ApiResponse, NoMemory> {
+        Ok(ApiResponse {
             status: Status::Ok,
             media: Media::Json,
             body: String::from_str(self.alloc, "{}")?,
         })
     }
 
-    fn carry_out(&mut self, _command: &Command) -> Option<Answer> {
+    fn carry_out(&mut self, _command: &Command) -> Option<ApiResponse> {
         self.commands = self.commands.saturating_add(1);
         None
     }
@@ -65,17 +65,17 @@ fn client_at<N: Net>(net: &N, host: &str) -> io::Result<UdpSocket> {
     Ok(client)
 }
 
-/// A front at the address.
+/// A transport at the address.
 fn bound<'a, R: Abort + Net + Clock + Files + AllocGlobal, L: Log>(
     rt: &'a R,
     log: &'a L,
     alloc: Global,
     address: SocketAddr,
 ) -> Sockets<'a, R, L> {
-    Sockets::bind(rt, rt, log, alloc, address).expect(rt, "a front")
+    Sockets::bind(rt, rt, log, alloc, address).expect(rt, "a transport")
 }
 
-/// Where the front is.
+/// Where the transport is.
 fn place_of<C: Clock + Files + AllocGlobal, L: Log>(
     rt: &impl Abort,
     sockets: &Sockets<'_, C, L>,
@@ -83,11 +83,12 @@ fn place_of<C: Clock + Files + AllocGlobal, L: Log>(
     sockets.local_address().expect(rt, "an address")
 }
 
-/// Two datagrams that were sent come in their order, where they were sent from, and what the front sends arrives there.
+/// Two datagrams that were sent come in their order, where they were sent from, and what the transport sends arrives
+/// there.
 fn is_served<C: Clock + Files + AllocGlobal, L: Log>(
     rt: &impl Abort,
     sockets: &mut Sockets<'_, C, L>,
-    desk: OneAnswer,
+    api: OneAnswer,
     client: &UdpSocket,
 ) {
     let at = place_of(rt, sockets);
@@ -95,8 +96,8 @@ fn is_served<C: Clock + Files + AllocGlobal, L: Log>(
     let mut buffer = [0; 4];
     client.send_to(b"one", at).expect(rt, "a send");
     client.send_to(b"second", at).expect(rt, "a send");
-    let (_desk, heard) = sockets.attend(desk, &mut buffer, Duration::from_secs(1));
-    assert!(rt; heard == Ok(Heard::Datagram(3, from)), "the first");
+    let (_api, incoming) = sockets.poll(api, &mut buffer, Duration::from_secs(1));
+    assert!(rt; incoming == Ok(Incoming::Datagram(3, from)), "the first");
     assert!(rt; &buffer[..3] == b"one".as_slice(), "its bytes");
     let there = sockets.more(&mut buffer);
     assert!(rt;
@@ -117,7 +118,7 @@ fn hears(rt: &impl Abort, client: &UdpSocket, at: SocketAddr) {
     assert!(rt; &reply[..count] == b"reply".as_slice(), "what arrives");
 }
 
-/// A front at another port of a client's host serves it twice.
+/// A transport at another port of a client's host serves it twice.
 fn serves<R: Abort + Net + Clock + Files + AllocGlobal>(rt: &R, alloc: Global, client: &UdpSocket) {
     let mut address = client.local_addr().expect(rt, "an address");
     address.set_port(0);
@@ -126,7 +127,7 @@ fn serves<R: Abort + Net + Clock + Files + AllocGlobal>(rt: &R, alloc: Global, c
     is_served(rt, &mut sockets, quiet(alloc), client);
 }
 
-/// Tries: lw_front::Sockets::bind, lw_front::Sockets::local_address, lw_run::Front::attend, lw_run::Front::more
+/// Tries: lw_front::Sockets::bind, lw_front::Sockets::local_address, lw_run::Transport::poll, lw_run::Transport::more
 #[test]
 fn datagrams_come_and_go_over_ipv4(rt: HostRuntime) {
     let client = client_at(&rt, "127.0.0.1:0").expect(&rt, "a client");
@@ -147,9 +148,9 @@ fn datagrams_come_and_go_over_ipv6(rt: HostRuntime) {
 fn a_wait_ends_when_its_time_is_over(rt: HostRuntime) {
     let mut sockets = bound(&rt, &Discard, rt.alloc(), loopback());
     let began = Instant::now(&rt).expect(&rt, "a clock");
-    let (_desk, heard) = sockets.attend(quiet(rt.alloc()), &mut [0; 4], Duration::from_millis(300));
+    let (_api, incoming) = sockets.poll(quiet(rt.alloc()), &mut [0; 4], Duration::from_millis(300));
     let waited = began.elapsed(&rt).expect(&rt, "a clock");
-    assert!(rt; heard == Ok(Heard::Nothing), "nothing comes");
+    assert!(rt; incoming == Ok(Incoming::Nothing), "nothing comes");
     assert!(rt; waited >= Duration::from_millis(300), "so long");
     assert!(rt; waited < Duration::from_secs(20), "and not much longer");
 }
@@ -175,7 +176,7 @@ const ASKED: &[u8] = b"GET /v1/health HTTP/1.1\r\nhost: localhost\r\n\r\n";
 const TOLD: &str = "HTTP/1.1 200 OK\r\nconnection: close\r\ncache-control: no-store\r\n\
     x-content-type-options: nosniff\r\ncontent-type: application/json\r\ncontent-length: 2\r\n\r\n{}";
 
-/// What a visitor at the address who says this is told while the front waits for a datagram, and where he is.
+/// What an HTTP client at the address that says this is told while the transport waits for a datagram, and where it is.
 fn visited<R: Abort + Net, C: Clock + Files + AllocGlobal, L: Log>(
     rt: &R,
     alloc: Global,
@@ -183,13 +184,13 @@ fn visited<R: Abort + Net, C: Clock + Files + AllocGlobal, L: Log>(
     at: SocketAddr,
     says: &[u8],
 ) -> (String, SocketAddr) {
-    let mut visitor = TcpStream::connect(rt, at).expect(rt, "a connection");
-    let from = visitor.local_addr().expect(rt, "an address");
-    visitor.write_all(says).expect(rt, "a request");
+    let mut http_client = TcpStream::connect(rt, at).expect(rt, "a connection");
+    let from = http_client.local_addr().expect(rt, "an address");
+    http_client.write_all(says).expect(rt, "a request");
     let time = Duration::from_millis(300);
-    let (_desk, heard) = sockets.attend(quiet(alloc), &mut [0; 4], time);
-    assert!(rt; heard.is_ok(), "a wait");
-    let told = io::read_to_string(alloc, visitor).expect(rt, "a response");
+    let (_api, incoming) = sockets.poll(quiet(alloc), &mut [0; 4], time);
+    assert!(rt; incoming.is_ok(), "a wait");
+    let told = io::read_to_string(alloc, http_client).expect(rt, "a response");
     (told, from)
 }
 
@@ -198,17 +199,17 @@ fn let_in<R: Abort + Net + RandomSource, C: Clock + Files + AllocGlobal, L: Log>
     rt: &R,
     sockets: &mut Sockets<'_, C, L>,
 ) -> SocketAddr {
-    let guard = Guard {
+    let policy = AccessPolicy {
         token: None,
         host: None,
         commands: Commands::On,
     };
     let keys = RandomState::new(rt).expect(rt, "keys");
-    let place = sockets.receive(rt, keys, guard, loopback());
+    let place = sockets.listen(rt, keys, policy, loopback());
     place.expect(rt, "a place")
 }
 
-/// Tries: lw_front::Sockets::receive, lw_run::Front::attend, lw_visit::advance, lw_visit::new_connection
+/// Tries: lw_front::Sockets::listen, lw_run::Transport::poll, lw_visit::advance, lw_visit::new_connection
 #[test]
 fn a_visitor_is_answered_while_none_sends(rt: HostRuntime) {
     let mut sockets = bound(&rt, &Discard, rt.alloc(), loopback());
@@ -217,7 +218,7 @@ fn a_visitor_is_answered_while_none_sends(rt: HostRuntime) {
     assert!(rt; told.as_str() == TOLD, "{told}");
 }
 
-/// What visitors say, and what is logged of each behind where he is.
+/// What HTTP clients say, and what is logged of each behind where it is.
 static LINES: [(&[u8], &str); 5] = [
     (ASKED, "method=GET target=/v1/health status=200 bytes=149"),
     (
@@ -235,7 +236,7 @@ static LINES: [(&[u8], &str); 5] = [
     (b"\n\n \r\n\r\n", "method=- target=- status=400 bytes=66"),
 ];
 
-/// Where a visitor came from who says this.
+/// Where an HTTP client came from that says this.
 fn told_of<R: Abort + Net + Clock + Files + AllocGlobal + RandomSource, L: Log>(
     rt: &R,
     log: &L,
@@ -247,7 +248,7 @@ fn told_of<R: Abort + Net + Clock + Files + AllocGlobal + RandomSource, L: Log>(
     visited(rt, alloc, &mut sockets, at, says).1
 }
 
-/// Of a visitor who says this, one line is logged, and this stands in it behind where he is.
+/// Of an HTTP client that says this, one line is logged, and this stands in it behind where it is.
 fn is_logged<R: Abort + Net + Clock + Files + AllocGlobal + RandomSource>(
     rt: &R,
     alloc: Global,
@@ -257,13 +258,13 @@ fn is_logged<R: Abort + Net + Clock + Files + AllocGlobal + RandomSource>(
     let logged = Logged::new((), Level::Info, Memory::new(alloc));
     let from = told_of(rt, &logged, alloc, says);
     let lines = logged.into_parts().1.into_lines().into_vec();
-    let want = format!(in alloc; "[INFO  lw_front::visit] http peer={from} {want}");
+    let want = format!(in alloc; "[INFO  lw_front::http_connection] http peer={from} {want}");
     let want = want.expect(rt, "memory");
     assert!(rt; lines.len() == 1, "{lines:?}");
     assert!(rt; lines[0].as_str() == want.as_str(), "{lines:?}");
 }
 
-/// Tries: lw_front::Sockets::receive, lw_run::Front::attend, lw_run::Front::responses
+/// Tries: lw_front::Sockets::listen, lw_run::Transport::poll, lw_run::Transport::responses
 #[test]
 fn a_line_is_logged_of_each_visitor(rt: HostRuntime) {
     for (says, want) in &LINES {
@@ -303,7 +304,7 @@ fn is_cut<R: Abort + Net + Clock + Files + AllocGlobal + RandomSource>(
     is_logged(rt, alloc, says.as_bytes(), want.as_str());
 }
 
-/// Tries: lw_front::Sockets::receive, lw_run::Front::attend
+/// Tries: lw_front::Sockets::listen, lw_run::Transport::poll
 #[test]
 fn what_is_logged_of_a_request_is_cut(rt: HostRuntime) {
     is_cut(&rt, rt.alloc(), 199, 199);
@@ -312,7 +313,7 @@ fn what_is_logged_of_a_request_is_cut(rt: HostRuntime) {
     is_cut(&rt, rt.alloc(), 2_000, 200);
 }
 
-/// What visitors say, one after another.
+/// What HTTP clients say, one after another.
 static SAID: [&[u8]; 4] = [
     ASKED,
     b"GET /none HTTP/1.0\r\n\r\n",
@@ -320,7 +321,7 @@ static SAID: [&[u8]; 4] = [
     ASKED,
 ];
 
-/// Tries: lw_run::Front::responses
+/// Tries: lw_run::Transport::responses
 #[test]
 fn responses_are_counted_by_status(rt: HostRuntime) {
     let mut sockets = bound(&rt, &Discard, rt.alloc(), loopback());
@@ -337,59 +338,59 @@ fn responses_are_counted_by_status(rt: HostRuntime) {
 const COMMAND: &[u8] =
     b"POST /v1/registrations/lamp/observations?path=/3 HTTP/1.1\r\nhost: localhost\r\ncontent-length: 0\r\n\r\n";
 
-/// So many visitors at the address, each of whom says this.
-fn visitors<R: Abort + Net>(
+/// So many HTTP clients at the address, each of which says this.
+fn http_clients<R: Abort + Net>(
     rt: &R,
     alloc: Global,
     at: SocketAddr,
     count: usize,
     says: &[u8],
 ) -> Vec<R::Stream> {
-    let mut visitors = Vec::new(alloc);
-    for _visitor in 0..count {
-        let mut visitor = TcpStream::connect(rt, at).expect(rt, "a connection");
-        visitor.write_all(says).expect(rt, "a request");
-        visitors.push(visitor).expect(rt, "memory");
+    let mut http_clients = Vec::new(alloc);
+    for _http_client in 0..count {
+        let mut http_client = TcpStream::connect(rt, at).expect(rt, "a connection");
+        http_client.write_all(says).expect(rt, "a request");
+        http_clients.push(http_client).expect(rt, "memory");
     }
-    visitors
+    http_clients
 }
 
 /// Three commands and a datagram are there. The datagram is heard behind one command at most, and then one command
 /// comes a wait.
-/// Tries: lw_run::Front::attend
+/// Tries: lw_run::Transport::poll
 #[test]
 fn a_datagram_goes_before_the_next_command(rt: HostRuntime) {
     let mut sockets = bound(&rt, &Discard, rt.alloc(), loopback());
     let at = let_in(&rt, &mut sockets);
-    let _visitors = visitors(&rt, rt.alloc(), at, 3, COMMAND);
+    let _http_clients = http_clients(&rt, rt.alloc(), at, 3, COMMAND);
     let client = client_at(&rt, "127.0.0.1:0").expect(&rt, "a client");
     let sent = client.send_to(b"one", place_of(&rt, &sockets));
     sent.expect(&rt, "a send");
     let (buffer, time) = (&mut [0; 4], Duration::from_secs(20));
-    let (desk, heard) = sockets.attend(quiet(rt.alloc()), buffer, time);
-    assert!(rt; matches!(heard, Ok(Heard::Datagram(3, _))), "the datagram");
-    assert!(rt; desk.commands == 1, "one command before it");
-    let (desk, heard) = sockets.attend(desk, buffer, time);
-    assert!(rt; heard == Ok(Heard::Nothing), "there is something to send");
-    assert!(rt; desk.commands == 2, "one more");
-    let (desk, _heard) = sockets.attend(desk, buffer, time);
-    assert!(rt; desk.commands == 3, "and the last");
+    let (api, incoming) = sockets.poll(quiet(rt.alloc()), buffer, time);
+    assert!(rt; matches!(incoming, Ok(Incoming::Datagram(3, _))), "the datagram");
+    assert!(rt; api.commands == 1, "one command before it");
+    let (api, incoming) = sockets.poll(api, buffer, time);
+    assert!(rt; incoming == Ok(Incoming::Nothing), "there is something to send");
+    assert!(rt; api.commands == 2, "one more");
+    let (api, _incoming) = sockets.poll(api, buffer, time);
+    assert!(rt; api.commands == 3, "and the last");
 }
 
-/// Tries: lw_run::Front::attend
+/// Tries: lw_run::Transport::poll
 #[test]
 fn once_the_time_is_over_no_visitor_is_answered(rt: HostRuntime) {
     let mut sockets = bound(&rt, &Discard, rt.alloc(), loopback());
     let at = let_in(&rt, &mut sockets);
-    let _visitors = visitors(&rt, rt.alloc(), at, 1, ASKED);
-    let (desk, heard) = sockets.attend(quiet(rt.alloc()), &mut [0; 4], Duration::ZERO);
-    assert!(rt; heard == Ok(Heard::Nothing), "the time is over");
+    let _http_clients = http_clients(&rt, rt.alloc(), at, 1, ASKED);
+    let (api, incoming) = sockets.poll(quiet(rt.alloc()), &mut [0; 4], Duration::ZERO);
+    assert!(rt; incoming == Ok(Incoming::Nothing), "the time is over");
     assert!(rt; sockets.responses().counts[0] == 0, "nobody is answered");
-    let (_desk, heard) = sockets.attend(desk, &mut [0; 4], Duration::from_millis(300));
-    assert!(rt; heard == Ok(Heard::Nothing), "no datagram");
+    let (_api, incoming) = sockets.poll(api, &mut [0; 4], Duration::from_millis(300));
+    assert!(rt; incoming == Ok(Incoming::Nothing), "no datagram");
     assert!(rt;
         sockets.responses().counts[0] == 1,
-        "the visitor is answered"
+        "the client is answered"
     );
 }
 
@@ -397,42 +398,42 @@ fn once_the_time_is_over_no_visitor_is_answered(rt: HostRuntime) {
 fn pause<R: Abort + Net>(rt: &R, time: Duration) {
     let socket = UdpSocket::bind(rt, "127.0.0.1:0").expect(rt, "a socket");
     socket.set_read_timeout(Some(time)).expect(rt, "a time-out");
-    let heard = socket.recv_from(&mut [0; 4]);
-    assert!(rt; heard.is_err(), "nothing comes");
+    let incoming = socket.recv_from(&mut [0; 4]);
+    assert!(rt; incoming.is_err(), "nothing comes");
 }
 
-/// Where the last wait ended more than three seconds ago, a turn is made before a visitor is answered.
-/// Tries: lw_run::Front::attend
+/// Where the last wait ended more than three seconds ago, a turn is made before an HTTP client is answered.
+/// Tries: lw_run::Transport::poll
 #[test]
 fn whoever_stood_still_makes_a_turn_first(rt: HostRuntime) {
     let mut sockets = bound(&rt, &Discard, rt.alloc(), loopback());
     let at = let_in(&rt, &mut sockets);
-    let (desk, _heard) = sockets.attend(quiet(rt.alloc()), &mut [0; 4], Duration::from_millis(1));
-    let _visitors = visitors(&rt, rt.alloc(), at, 1, ASKED);
+    let (api, _incoming) = sockets.poll(quiet(rt.alloc()), &mut [0; 4], Duration::from_millis(1));
+    let _http_clients = http_clients(&rt, rt.alloc(), at, 1, ASKED);
     pause(&rt, Duration::from_millis(3_100));
-    let (desk, heard) = sockets.attend(desk, &mut [0; 4], Duration::from_secs(20));
-    assert!(rt; heard == Ok(Heard::Nothing), "nothing is waited for");
+    let (api, incoming) = sockets.poll(api, &mut [0; 4], Duration::from_secs(20));
+    assert!(rt; incoming == Ok(Incoming::Nothing), "nothing is waited for");
     assert!(rt; sockets.responses().counts[0] == 0, "nobody is answered");
-    let (_desk, _heard) = sockets.attend(desk, &mut [0; 4], Duration::from_millis(300));
+    let (_api, _incoming) = sockets.poll(api, &mut [0; 4], Duration::from_millis(300));
     assert!(rt;
         sockets.responses().counts[0] == 1,
-        "the visitor is answered"
+        "the client is answered"
     );
 }
 
-/// More visitors than there are seats are answered, and none of them waits for the time to end.
-/// Tries: lw_run::Front::attend
+/// More HTTP clients than there is room for are answered, and none of them waits for the time to end.
+/// Tries: lw_run::Transport::poll
 #[test]
 fn whoever_waits_is_let_in_as_soon_as_there_is_a_seat(rt: HostRuntime) {
     let mut sockets = bound(&rt, &Discard, rt.alloc(), loopback());
     let at = let_in(&rt, &mut sockets);
-    let _visitors = visitors(&rt, rt.alloc(), at, 40, ASKED);
+    let _http_clients = http_clients(&rt, rt.alloc(), at, 40, ASKED);
     let began = Instant::now(&rt).expect(&rt, "a clock");
-    let mut desk = quiet(rt.alloc());
+    let mut api = quiet(rt.alloc());
     for _wait in 0..20 {
-        let (back, heard) = sockets.attend(desk, &mut [0; 4], Duration::from_millis(100));
-        assert!(rt; heard == Ok(Heard::Nothing), "no datagram");
-        desk = back;
+        let (back, incoming) = sockets.poll(api, &mut [0; 4], Duration::from_millis(100));
+        assert!(rt; incoming == Ok(Incoming::Nothing), "no datagram");
+        api = back;
         if sockets.responses().counts[0] == 40 {
             break;
         }
@@ -442,40 +443,40 @@ fn whoever_waits_is_let_in_as_soon_as_there_is_a_seat(rt: HostRuntime) {
     assert!(rt; waited < Duration::from_secs(2), "{waited:?}");
 }
 
-/// Where all seats are taken by visitors who say nothing, the next one is answered once the first has been there for a
-/// second.
-/// Tries: lw_run::Front::attend
+/// Where there is no room beside HTTP clients that say nothing, the next one is answered once the first has been there
+/// for a second.
+/// Tries: lw_run::Transport::poll
 #[test]
 fn whoever_says_nothing_makes_room_after_a_second(rt: HostRuntime) {
     let mut sockets = bound(&rt, &Discard, rt.alloc(), loopback());
     let at = let_in(&rt, &mut sockets);
-    let _silent = visitors(&rt, rt.alloc(), at, 16, b"");
-    let _asking = visitors(&rt, rt.alloc(), at, 1, ASKED);
+    let _silent = http_clients(&rt, rt.alloc(), at, 16, b"");
+    let _asking = http_clients(&rt, rt.alloc(), at, 1, ASKED);
     let time = Duration::from_millis(500);
-    let (desk, _heard) = sockets.attend(quiet(rt.alloc()), &mut [0; 4], time);
+    let (api, _incoming) = sockets.poll(quiet(rt.alloc()), &mut [0; 4], time);
     assert!(rt; sockets.responses().counts[0] == 0, "nobody is closed yet");
-    let (_desk, _heard) = sockets.attend(desk, &mut [0; 4], Duration::from_secs(1));
+    let (_api, _incoming) = sockets.poll(api, &mut [0; 4], Duration::from_secs(1));
     assert!(rt; sockets.responses().counts[0] == 1, "the next is answered");
 }
 
-/// A visitor asks late, for what is not there, while another comes at each wait and asks at once. He has his turn.
-/// Tries: lw_run::Front::attend
+/// An HTTP client asks late, for what is not there, while another comes at each wait and asks at once. It has its turn.
+/// Tries: lw_run::Transport::poll
 #[test]
 fn a_visit_has_its_turn_beside_newcomers(rt: HostRuntime) {
     let mut sockets = bound(&rt, &Discard, rt.alloc(), loopback());
     let at = let_in(&rt, &mut sockets);
     let mut late = TcpStream::connect(&rt, at).expect(&rt, "a connection");
     let (buffer, time) = (&mut [0; 4], Duration::from_millis(100));
-    let (mut desk, _heard) = sockets.attend(quiet(rt.alloc()), buffer, time);
+    let (mut api, _incoming) = sockets.poll(quiet(rt.alloc()), buffer, time);
     let said = late.write_all(b"GET /none HTTP/1.0\r\n\r\n");
     said.expect(&rt, "a request");
     let client = client_at(&rt, "127.0.0.1:0").expect(&rt, "a client");
     for _wait in 0..8 {
-        let _newcomers = visitors(&rt, rt.alloc(), at, 1, ASKED);
+        let _newcomers = http_clients(&rt, rt.alloc(), at, 1, ASKED);
         let sent = client.send_to(b"one", place_of(&rt, &sockets));
         sent.expect(&rt, "a send");
-        let (back, _heard) = sockets.attend(desk, buffer, time);
-        desk = back;
+        let (back, _incoming) = sockets.poll(api, buffer, time);
+        api = back;
     }
     assert!(rt; sockets.responses().counts[6] == 1, "he is answered");
 }

@@ -4,8 +4,8 @@ use Rattle.std.specs.List.{zip}
 use Rattle.std.specs.Fmt.{decimal}
 use Rattle.lw_stamp.specs.Moment.{ms_of}
 use Rattle.lw_metrics.specs.declared.append_times.AppendTimes.{AppendTimes}
-use Rattle.lw_metrics.specs.declared.edge.LogUse.{LogUse}
-use Rattle.lw_metrics.specs.declared.edge.Edge.{Edge}
+use Rattle.lw_metrics.specs.declared.io_counters.LogCounters.{LogCounters}
+use Rattle.lw_metrics.specs.declared.io_counters.IoCounters.{IoCounters}
 use Rattle.lw_metrics.specs.declared.measures.Measures.{Measures}
 use Rattle.lw_metrics.specs.declared.measures.NodeMeasures.{NodeMeasures}
 use Rattle.lw_metrics.specs.declared.metric.Metric.{Metric}
@@ -13,7 +13,7 @@ use Rattle.lw_metrics.specs.declared.metric.Metric.TheVariants.{BuildInfo, Start
 use Rattle.lw_metrics.specs.declared.requests.RequestMeasures.{RequestMeasures}
 use Rattle.lw_metrics.specs.declared.responses.Responses.{Responses as ResponseCounts}
 use Rattle.lw_metrics.specs.declared.tally.Tally.{Tally}
-use Rattle.lw_metrics.specs.Edge.{statuses, together}
+use Rattle.lw_metrics.specs.IoCounters.{statuses, together}
 use Rattle.lw_metrics.specs.Exposition.{Sample, Family}
 use Rattle.lw_metrics.specs.ReplyCodes.{reply_codes, code_text}
 
@@ -160,8 +160,8 @@ failure_families measures =
     ∷ []
 
 -- what the log was asked
-abbrev pub use_families : LogUse → List Family
-use_families log =
+abbrev pub log_counter_families : LogCounters → List Family
+log_counter_families log =
     histogram_family log.appends
     ∷ of_number EntriesWritten log.entries_written
     ∷ of_number EntriesRead log.entries_read
@@ -172,33 +172,33 @@ abbrev pub log_families : Measures → List Family
 log_families measures =
     of_number LogBytes measures.log_bytes
     ∷ of_number WholeBytes measures.log_whole_bytes
-    ∷ of_number Compactions measures.edge.compactions
-    ∷ of_seconds AwaySeconds measures.edge.away
-    ∷ of_number Refusals measures.edge.refusals
-    ∷ of_seconds ClockOffset measures.edge.clock_offset
+    ∷ of_number Compactions measures.io_counters.compactions
+    ∷ of_seconds AwaySeconds measures.io_counters.away
+    ∷ of_number Refusals measures.io_counters.refusals
+    ∷ of_seconds ClockOffset measures.io_counters.clock_offset
     ∷ []
 
 -- what failed in what datagrams come over
-abbrev pub fault_families : Edge → List Family
-fault_families edge =
-    of_number ReceiveFaults edge.receive_faults
-    ∷ of_number SendFaults edge.send_faults
-    ∷ of_number Dropped edge.dropped
-    ∷ of_number SocketDrops edge.drops
+abbrev pub fault_families : IoCounters → List Family
+fault_families io_counters =
+    of_number ReceiveFaults io_counters.receive_faults
+    ∷ of_number SendFaults io_counters.send_faults
+    ∷ of_number Dropped io_counters.dropped
+    ∷ of_number SocketDrops io_counters.drops
     ∷ []
 
--- what was answered beside the rounds: datagrams that came again, blocks of bodies, visitors
+-- what was answered beside the rounds: datagrams that came again, blocks of bodies, HTTP clients
 abbrev pub answered_families : Measures → List Family
 answered_families measures =
     of_number Duplicates measures.duplicates
     ∷ of_number Blocks measures.blocks
     ∷ of_number Bodies measures.bodies
-    ∷ response_family measures.edge.responses
+    ∷ response_family measures.io_counters.responses
     ∷ []
 
--- of what datagrams come over, and of visitors
-abbrev pub front_families : Measures → List Family
-front_families measures = fault_families measures.edge ++ answered_families measures
+-- of what datagrams come over, and of HTTP clients
+abbrev pub transport_families : Measures → List Family
+transport_families measures = fault_families measures.io_counters ++ answered_families measures
 
 abbrev pub families_of : Measures → List Family
 families_of measures =
@@ -208,6 +208,6 @@ families_of measures =
     ++ (further_families measures.tally
     ++ (request_families measures.requests
     ++ (failure_families measures
-    ++ (use_families measures.edge.log
+    ++ (log_counter_families measures.io_counters.log
     ++ (log_families measures
-    ++ front_families measures)))))))
+    ++ transport_families measures)))))))

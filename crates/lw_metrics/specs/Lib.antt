@@ -1,6 +1,6 @@
 pub mod ReplyCodes
 pub mod Counting
-pub mod Edge
+pub mod IoCounters
 pub mod Metrics
 pub mod Exposition
 pub mod Families

@@ -1,7 +1,8 @@
 //! How long appends took.
 
 ghost use Rattle.std.specs.Prelude.{◌≡◌, nat_le, position};
-ghost use Rattle.lw_metrics.specs.Edge.{bounds, bucket_of as bucket_in, new_times, together as together_of, with_time};
+ghost use Rattle.lw_metrics.specs.IoCounters.{bounds, bucket_of as bucket_in, new_times, together as together_of};
+ghost use Rattle.lw_metrics.specs.IoCounters.{with_time};
 
 use crate::tally::one_more;
 

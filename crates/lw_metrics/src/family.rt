@@ -3,7 +3,7 @@
 ghost use Rattle.std.specs.Prelude.{◌≡◌, ◌++◌, [], ◌∷◌, codes, flat_map, map, IfOk, OnOk, string_bytes};
 ghost use Rattle.std.specs.Fmt.{decimal};
 ghost use Rattle.std.specs.List.{zip};
-ghost use Rattle.lw_metrics.specs.Edge.{statuses};
+ghost use Rattle.lw_metrics.specs.IoCounters.{statuses};
 ghost use Rattle.lw_metrics.specs.Exposition.{family_text, help_text, type_text, sample_text};
 ghost use Rattle.lw_metrics.specs.Families.{labelled, of_number, of_seconds, plain, reply_family, reply_sample, response_family, response_sample, seconds_text as seconds_in, suffixed, version_family};
 ghost use Rattle.lw_metrics.specs.ReplyCodes.{code_text, reply_codes};

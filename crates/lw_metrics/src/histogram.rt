@@ -2,7 +2,7 @@
 
 ghost use Rattle.std.specs.Prelude.{◌≡◌, ◌++◌, [], ◌∷◌, flat_map, fold, map, OnOk, string_bytes};
 ghost use Rattle.std.specs.List.{zip};
-ghost use Rattle.lw_metrics.specs.Edge.{together as together_of};
+ghost use Rattle.lw_metrics.specs.IoCounters.{together as together_of};
 ghost use Rattle.lw_metrics.specs.Exposition.{family_text, sample_text};
 ghost use Rattle.lw_metrics.specs.Families.{bound_texts, bucket_sample, count_sample, histogram_family, histogram_samples, sum_sample, sums};
 

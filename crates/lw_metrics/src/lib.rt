@@ -4,7 +4,7 @@
 #![tactic(auto)]
 
 mod append_times;
-mod edge;
+mod io_counters;
 mod escaping;
 mod family;
 mod histogram;
@@ -17,7 +17,7 @@ mod tally;
 mod text;
 
 pub use append_times::AppendTimes;
-pub use edge::{Edge, LogUse};
+pub use io_counters::{IoCounters, LogCounters};
 pub use measures::{Measures, NodeMeasures};
 pub use reply_codes::REPLY_CODES;
 pub use requests::RequestMeasures;

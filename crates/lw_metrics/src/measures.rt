@@ -1,4 +1,4 @@
-use crate::{Edge, RequestMeasures, Tally};
+use crate::{IoCounters, RequestMeasures, Tally};
 use lw_stamp::Moment;
 
 /// What is shown of a server.
@@ -19,7 +19,7 @@ pub struct Measures {
     pub log_bytes: u64,
     /// How many bytes the last whole entry has.
     pub log_whole_bytes: u64,
-    pub edge: Edge,
+    pub io_counters: IoCounters,
     /// How many datagrams came again and got the same reply.
     pub duplicates: u64,
     /// How many datagrams were blocks of bodies, and were answered as such.

@@ -1,7 +1,7 @@
 //! What is counted of requests to devices, and of the notifications that they bring.
 
 ghost use Rattle.std.specs.Prelude.{◌≡◌};
-ghost use Rattle.lw_metrics.specs.Edge.{new_requests};
+ghost use Rattle.lw_metrics.specs.IoCounters.{new_requests};
 
 /// What is counted of a server's requests to devices (RFC 7252, section 4.2), and of what it keeps until it can be told
 /// or sent.

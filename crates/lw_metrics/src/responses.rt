@@ -1,7 +1,7 @@
-//! How visitors were answered.
+//! How HTTP clients were answered.
 
 ghost use Rattle.std.specs.Prelude.{◌≡◌, ◌==◌, position};
-ghost use Rattle.lw_metrics.specs.Edge.{new_responses, statuses, with_response, with_response_at};
+ghost use Rattle.lw_metrics.specs.IoCounters.{new_responses, statuses, with_response, with_response_at};
 
 use crate::tally::one_more;
 
@@ -10,7 +10,7 @@ pub const STATUSES: [u16; 16] = [
     200, 201, 204, 400, 401, 403, 404, 405, 410, 413, 414, 421, 431, 500, 501, 503,
 ];
 
-/// How often visitors were answered with each status.
+/// How often HTTP clients were answered with each status.
 #[derive(Clone, Copy, Debug)]
 pub struct Responses {
     /// The responses with each of the statuses of `STATUSES`, in their order.
@@ -18,7 +18,7 @@ pub struct Responses {
 }
 
 impl Responses {
-    /// Of no visitor.
+    /// Of no HTTP client.
     pub fn new() -> Responses
         ensures { result ≡ new_responses }
     {

@@ -2,12 +2,15 @@
 
 ghost use Rattle.std.specs.Prelude.{◌≡◌, ◌++◌, IfOk, OnOk, string_bytes};
 ghost use Rattle.lw_metrics.specs.Exposition.{exposition};
-ghost use Rattle.lw_metrics.specs.Families.{answered_families, datagram_families, failure_families, families_of, fault_families, front_families, further_families, held_families, log_families, node_families, request_families, sent_families, start_families, use_families};
+ghost use Rattle.lw_metrics.specs.Families.{answered_families, datagram_families, failure_families, families_of};
+ghost use Rattle.lw_metrics.specs.Families.{fault_families, transport_families, further_families, held_families};
+ghost use Rattle.lw_metrics.specs.Families.{log_families, node_families, request_families, sent_families};
+ghost use Rattle.lw_metrics.specs.Families.{start_families, log_counter_families};
 
 use crate::family::{put_number, put_replies, put_responses, put_seconds, put_version};
 use crate::histogram::put_histogram;
 use crate::metric::Metric;
-use crate::{Edge, LogUse, Measures, NodeMeasures, RequestMeasures, Tally};
+use crate::{IoCounters, LogCounters, Measures, NodeMeasures, RequestMeasures, Tally};
 use lw_stamp::NoMemory;
 use std::alloc::Global;
 
@@ -25,9 +28,9 @@ pub fn metrics_text(alloc: Global, measures: &Measures) -> Result<String, NoMemo
     put_further(&mut text, &measures.tally)?;
     put_requests(&mut text, &measures.requests)?;
     put_failures(&mut text, measures)?;
-    put_use(&mut text, alloc, &measures.edge.log)?;
+    put_log_counters(&mut text, alloc, &measures.io_counters.log)?;
     put_log(&mut text, alloc, measures)?;
-    put_front(&mut text, alloc, measures)?;
+    put_transport(&mut text, alloc, measures)?;
     Ok(text)
 }
 
@@ -118,8 +121,8 @@ fn put_failures(text: &mut String, measures: &Measures) -> Result<(), NoMemory>
     put_number(text, Metric::LogAway, u64::from(measures.away))
 }
 
-fn put_use(text: &mut String, alloc: Global, log: &LogUse) -> Result<(), NoMemory>
-    ensures { OnOk result (string_bytes text.new ≡ string_bytes text.old ++ exposition (use_families log.now)) }
+fn put_log_counters(text: &mut String, alloc: Global, log: &LogCounters) -> Result<(), NoMemory>
+    ensures { OnOk result (string_bytes text.new ≡ string_bytes text.old ++ exposition (log_counter_families log.now)) }
 {
     put_histogram(text, alloc, &log.appends)?;
     put_number(text, Metric::EntriesWritten, log.entries_written)?;
@@ -132,28 +135,29 @@ fn put_log(text: &mut String, alloc: Global, measures: &Measures) -> Result<(), 
 {
     put_number(text, Metric::LogBytes, measures.log_bytes)?;
     put_number(text, Metric::WholeBytes, measures.log_whole_bytes)?;
-    put_number(text, Metric::Compactions, measures.edge.compactions)?;
-    put_seconds(text, alloc, Metric::AwaySeconds, measures.edge.away)?;
-    put_number(text, Metric::Refusals, measures.edge.refusals)?;
-    put_seconds(text, alloc, Metric::ClockOffset, measures.edge.clock_offset)
+    put_number(text, Metric::Compactions, measures.io_counters.compactions)?;
+    put_seconds(text, alloc, Metric::AwaySeconds, measures.io_counters.away)?;
+    put_number(text, Metric::Refusals, measures.io_counters.refusals)?;
+    put_seconds(text, alloc, Metric::ClockOffset, measures.io_counters.clock_offset)
 }
 
-fn put_front(text: &mut String, alloc: Global, measures: &Measures) -> Result<(), NoMemory>
+fn put_transport(text: &mut String, alloc: Global, measures: &Measures) -> Result<(), NoMemory>
     ensures { OnOk result (string_bytes text.new
-        ≡ string_bytes text.old ++ exposition (front_families measures.now)) }
+        ≡ string_bytes text.old ++ exposition (transport_families measures.now)) }
 {
-    put_faults(text, &measures.edge)?;
+    put_faults(text, &measures.io_counters)?;
     put_answered(text, alloc, measures)?;
     Ok(())
 }
 
-fn put_faults(text: &mut String, edge: &Edge) -> Result<(), NoMemory>
-    ensures { OnOk result (string_bytes text.new ≡ string_bytes text.old ++ exposition (fault_families edge.now)) }
+fn put_faults(text: &mut String, io_counters: &IoCounters) -> Result<(), NoMemory>
+    ensures { OnOk result
+        (string_bytes text.new ≡ string_bytes text.old ++ exposition (fault_families io_counters.now)) }
 {
-    put_number(text, Metric::ReceiveFaults, edge.receive_faults)?;
-    put_number(text, Metric::SendFaults, edge.send_faults)?;
-    put_number(text, Metric::Dropped, edge.dropped)?;
-    put_number(text, Metric::SocketDrops, edge.drops)
+    put_number(text, Metric::ReceiveFaults, io_counters.receive_faults)?;
+    put_number(text, Metric::SendFaults, io_counters.send_faults)?;
+    put_number(text, Metric::Dropped, io_counters.dropped)?;
+    put_number(text, Metric::SocketDrops, io_counters.drops)
 }
 
 fn put_answered(text: &mut String, alloc: Global, measures: &Measures) -> Result<(), NoMemory>
@@ -163,5 +167,5 @@ fn put_answered(text: &mut String, alloc: Global, measures: &Measures) -> Result
     put_number(text, Metric::Duplicates, measures.duplicates)?;
     put_number(text, Metric::Blocks, measures.blocks)?;
     put_number(text, Metric::Bodies, measures.bodies)?;
-    put_responses(text, alloc, &measures.edge.responses)
+    put_responses(text, alloc, &measures.io_counters.responses)
 }

@@ -3,7 +3,7 @@
 use crate::rounds::Gave::{NoReply, NoticeAndReply, Other, Reply, Swept};
 use crate::rounds::{Gave, Made, Round, count};
 use crate::shown::are_counted;
-use lw_metrics::{Edge, Tally};
+use lw_metrics::{IoCounters, Tally};
 use std::alloc::Global;
 use std::process::Abort;
 
@@ -30,7 +30,7 @@ fn counts(rt: &impl Abort, alloc: Global, tally: Tally, course: &Course) {
     for round in *rounds {
         count(rt, alloc, &mut tally, round);
     }
-    are_counted(rt, alloc, (tally, Edge::new()), want);
+    are_counted(rt, alloc, (tally, IoCounters::new()), want);
 }
 
 /// Fails where new tallies that count these rounds have other samples then.

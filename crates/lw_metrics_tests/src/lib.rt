@@ -4,7 +4,7 @@
 #[cfg(test)]
 mod counting;
 #[cfg(test)]
-mod edge;
+mod io_counters;
 #[cfg(test)]
 mod rounds;
 #[cfg(test)]

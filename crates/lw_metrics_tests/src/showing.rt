@@ -2,7 +2,7 @@
 
 use crate::shown::{has_lines, has_samples, has_text, measures_of};
 use lw_metrics::{
-    AppendTimes, Edge, LogUse, Measures, NodeMeasures, RequestMeasures, Responses, Tally,
+    AppendTimes, IoCounters, LogCounters, Measures, NodeMeasures, RequestMeasures, Responses, Tally,
 };
 use lw_stamp::Moment;
 use std::process::Abort;
@@ -199,9 +199,9 @@ fn tally() -> Tally {
     }
 }
 
-fn edge() -> Edge {
-    Edge {
-        log: LogUse {
+fn io_counters() -> IoCounters {
+    IoCounters {
+        log: LogCounters {
             appends: AppendTimes {
                 counts: [1, 0, 2, 0, 0, 0, 0, 0, 3, 0, 0, 0, 0, 4],
                 microseconds: 61_000_123,
@@ -249,7 +249,7 @@ fn measures(rt: &impl Abort, node: Option<NodeMeasures>) -> Measures {
         away: true,
         log_bytes: 33,
         log_whole_bytes: 34,
-        edge: edge(),
+        io_counters: io_counters(),
         duplicates: 39,
         blocks: 40,
         bodies: 54,
@@ -369,7 +369,7 @@ static NOTHING_YET: [&str; 78] = [
 /// Tries: lw_metrics::Tally::new, lw_metrics::RequestMeasures::new, lw_metrics::metrics_text
 #[test]
 fn each_sample_is_there_from_the_start(rt: HostRuntime) {
-    let measures = measures_of(Tally::new(), Edge::new());
+    let measures = measures_of(Tally::new(), IoCounters::new());
     has_samples(&rt, rt.alloc(), &measures, true, &NOTHING_YET);
 }
 
@@ -383,7 +383,7 @@ static ESCAPED: (&str, &str) = (
 #[test]
 fn the_version_is_escaped(rt: HostRuntime) {
     let (version, want) = ESCAPED;
-    let mut measures = measures_of(Tally::new(), Edge::new());
+    let mut measures = measures_of(Tally::new(), IoCounters::new());
     measures.version = version;
     has_text(&rt, rt.alloc(), &measures, want);
 }

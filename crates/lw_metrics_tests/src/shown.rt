@@ -1,12 +1,12 @@
 //! What is shown of a tally.
 
-use lw_metrics::{Edge, Measures, RequestMeasures, Tally, metrics_text};
+use lw_metrics::{IoCounters, Measures, RequestMeasures, Tally, metrics_text};
 use lw_stamp::Moment;
 use std::alloc::Global;
 use std::process::Abort;
 
 /// The measures of a server that was started at the moment 0, and of which only these are told.
-pub(crate) fn measures_of(tally: Tally, edge: Edge) -> Measures {
+pub(crate) fn measures_of(tally: Tally, io_counters: IoCounters) -> Measures {
     Measures {
         version: "0.1.0",
         started: Moment::START,
@@ -16,7 +16,7 @@ pub(crate) fn measures_of(tally: Tally, edge: Edge) -> Measures {
         away: false,
         log_bytes: 0,
         log_whole_bytes: 0,
-        edge,
+        io_counters,
         duplicates: 0,
         blocks: 0,
         bodies: 0,
@@ -63,10 +63,10 @@ pub(crate) fn has_samples(
 pub(crate) fn are_counted(
     rt: &impl Abort,
     alloc: Global,
-    (tally, edge): (Tally, Edge),
+    (tally, io_counters): (Tally, IoCounters),
     want: &[&str],
 ) {
-    has_samples(rt, alloc, &measures_of(tally, edge), false, want);
+    has_samples(rt, alloc, &measures_of(tally, io_counters), false, want);
 }
 
 /// Fails where the text of the measures is another than these lines, each with a line feed behind it.

@@ -30,7 +30,7 @@ use Rattle.lw_run.specs.declared.hearing.Passage.{Passage}
 use Rattle.lw_run.specs.Clocks.{later, Tells}
 use Rattle.lw_run.specs.Commands.{is_full, waiting_after, Executes, FailsTo, IsObserved, IsObservedOf, IsOrdered}
 use Rattle.lw_run.specs.Commands.{IsOrderedWhere, IsRequested, LeavesUndo, MayHaveObserved, Requests}
-use Rattle.lw_run.specs.Desk.{serves}
+use Rattle.lw_run.specs.Api.{serves}
 use Rattle.lw_run.specs.Devices.{with_task, DevicesContent, TaskContent, Undo}
 use Rattle.lw_run.specs.Hearing.{IsHeardFrom, IsPassed, IsWatchIn}
 use Rattle.lw_run.specs.Server.{ReadsClock, ServerContent}

@@ -33,7 +33,7 @@ use Rattle.lw_run.specs.Devices.{with_task, Check, DevicesContent, TaskContent}
 use Rattle.lw_run.specs.Server.{ServerContent}
 use Rattle.lw_run.specs.Stepping.{cancels_of, counts_behind, is_refused, left_by, over, Closes, IsGiven, IsLeft, IsProgress, IsReport}
 use Rattle.lw_run.specs.Stepping.{IsNoneOn, IsTokenOn, LookedAt, StepsRequests}
-use Rattle.lw_run.specs.Telling.{is_newer_notice, with_capacity, IsPutIf, IsToldIf, ToldContent}
+use Rattle.lw_run.specs.Notifications.{is_newer_notice, with_capacity, IsPutIf, IsPublishedIf, NotificationsContent}
 use Rattle.lw_run.specs.inner.Devices.{task_of, with_first}
 use Rattle.lw_run.specs.inner.Stepping.{LeavesCheck}
 
@@ -76,36 +76,38 @@ keeps_first count old mid new items left same are first is =
 
 -- ---- notices
 put_keeps_capacity : (is_newer : Bool) (now : Moment) (notice : NoticeContent) (is_complete : Bool)
-    (old new : ToldContent) → IsPutIf is_newer now notice is_complete old new
-    → new.notices.capacity ≡ old.notices.capacity
-put_keeps_capacity true now notice is_complete old new put = ap (λ notices. notices.capacity) put.notices
-put_keeps_capacity false now notice is_complete old new put = ap (λ told. told.notices.capacity) put
+    (old new : NotificationsContent) → IsPutIf is_newer now notice is_complete old new
+    → new.buffer.capacity ≡ old.buffer.capacity
+put_keeps_capacity true now notice is_complete old new put = ap (λ buffer. buffer.capacity) put.buffer
+put_keeps_capacity false now notice is_complete old new put = ap (λ told. told.buffer.capacity) put
 
 -- a notice that is told takes no memory
-told_keeps_capacity : (now : Moment) (notice : Option NoticeContent) (is_complete : Bool) (old new : ToldContent)
-    → IsToldIf now notice is_complete old new → new.notices.capacity ≡ old.notices.capacity
-told_keeps_capacity now None is_complete old new told = ap (λ it. it.notices.capacity) told
+told_keeps_capacity : (now : Moment) (notice : Option NoticeContent) (is_complete : Bool)
+    (old new : NotificationsContent)
+    → IsPublishedIf now notice is_complete old new → new.buffer.capacity ≡ old.buffer.capacity
+told_keeps_capacity now None is_complete old new told = ap (λ it. it.buffer.capacity) told
 told_keeps_capacity now (Some notice) is_complete old new told =
     put_keeps_capacity (is_newer_notice old.sequences now notice) now notice is_complete old new told
 
 -- where memory was made for it before
-pub told_in_room : (now : Moment) (notice : Option NoticeContent) (is_complete : Bool) (old mid new : ToldContent)
-    → mid ≡ with_capacity old mid.notices.capacity → IsToldIf now notice is_complete mid new
-    → IsToldIf now notice is_complete (with_capacity old new.notices.capacity) new
+pub told_in_room : (now : Moment) (notice : Option NoticeContent) (is_complete : Bool)
+    (old mid new : NotificationsContent)
+    → mid ≡ with_capacity old mid.buffer.capacity → IsPublishedIf now notice is_complete mid new
+    → IsPublishedIf now notice is_complete (with_capacity old new.buffer.capacity) new
 told_in_room now notice is_complete old mid new room told =
-    subst (λ (it : ToldContent). IsToldIf now notice is_complete it new)
+    subst (λ (it : NotificationsContent). IsPublishedIf now notice is_complete it new)
     (room ∙ ap (with_capacity old) (sym (told_keeps_capacity now notice is_complete mid new told))) told
 
 -- ---- rounds
 -- the round with a report, and what was told of it
 pub is_report : (from : Addr) (bytes : List ℕ) (is_complete : Bool) (old mid new : ServerContent) (reply : Reply)
-    (given shown : TakenContent) (reserved : ToldContent) (answer : Option (Vec ℕ Global)) → mid ≡ old
+    (given shown : TakenContent) (reserved : NotificationsContent) (answer : Option (Vec ℕ Global)) → mid ≡ old
     → IsRound mid.member (calls.Take mid.latest from bytes ∷ []) (reply ∷ []) new.member
     → new.tally ≡ counted mid.tally (calls.Take mid.latest from bytes ∷ []) (reply ∷ [])
-    → IsGiven reply given → shown ≡ given → reserved ≡ with_capacity mid.told reserved.notices.capacity
-    → IsToldIf mid.steady shown.notice is_complete reserved new.told
+    → IsGiven reply given → shown ≡ given → reserved ≡ with_capacity mid.notifications reserved.buffer.capacity
+    → IsPublishedIf mid.steady shown.notice is_complete reserved new.notifications
     → option_map (λ bytes. bytes.items) answer ≡ shown.reply
-    → new ≡ record mid { member = new.member; tally = new.tally; told = new.told }
+    → new ≡ record mid { member = new.member; tally = new.tally; notifications = new.notifications }
     → IsReport from bytes is_complete old answer new
 is_report from bytes is_complete old mid new reply given shown reserved answer
     same round counts gives is room told replied others =
@@ -115,7 +117,7 @@ is_report from bytes is_complete old mid new reply given shown reserved answer
       given = shown;
       call = record { round = round; counts = counts };
       is_given = subst (λ (taken : TakenContent). IsGiven reply taken) (sym is) gives;
-      told = told_in_room mid.steady shown.notice is_complete mid.told reserved new.told room told;
+      told = told_in_room mid.steady shown.notice is_complete mid.notifications reserved new.notifications room told;
       answer_is = replied;
       same = others;
     })
@@ -129,7 +131,7 @@ pub report_behind : (from : Addr) (bytes : List ℕ) (is_complete : Bool) (task 
 report_behind from bytes is_complete task old mid after new count same counted is answer report =
     let it = subst (λ (server : ServerContent). IsReport from bytes is_complete server answer after) same report in
     let member : new.member ≡ after.member = ap (λ (server : ServerContent). server.member) is in
-    let told : new.told ≡ after.told = ap (λ (server : ServerContent). server.told) is in
+    let told : new.notifications ≡ after.notifications = ap (λ (server : ServerContent). server.notifications) is in
     let devices : with_first count after.devices ≡ old.devices =
     ap (λ (server : ServerContent). with_first count server.devices) it.same
     ∙ ap (λ (tasks : List TaskContent). record (old.devices) { tasks = tasks })
@@ -143,15 +145,15 @@ report_behind from bytes is_complete task old mid after new count same counted i
         counts = ap (λ (server : ServerContent). server.tally) is ∙ it.call.counts;
       };
       is_given = it.is_given;
-      told = subst (λ (t : ToldContent).
-          IsToldIf old.steady it.given.notice is_complete (with_capacity old.told t.notices.capacity) t) (sym told) it.told;
+      told = subst (λ (t : NotificationsContent).
+          IsPublishedIf old.steady it.given.notice is_complete (with_capacity old.notifications t.buffer.capacity) t) (sym told) it.told;
       answer_is = it.answer_is;
       same = is ∙ ap (λ (server : ServerContent). record server { devices = with_first count after.devices }) it.same
-          ∙ ap (λ (ds : DevicesContent). record old { member = after.member; tally = after.tally; told = after.told; devices = ds }) devices
+          ∙ ap (λ (ds : DevicesContent). record old { member = after.member; tally = after.tally; notifications = after.notifications; devices = ds }) devices
           ∙ (λ k. record old {
             member = sym member k;
             tally = ap (λ (server : ServerContent). server.tally) (sym is) k;
-            told = sym told k;
+            notifications = sym told k;
           });
     }
 
@@ -193,7 +195,7 @@ leaves_check notice old mid new same left =
     subst (λ (server : ServerContent). new ≡ record server {
       member = new.member;
       tally = new.tally;
-      told = with_capacity server.told new.told.notices.capacity;
+      notifications = with_capacity server.notifications new.notifications.buffer.capacity;
     }) same left
 
 -- ---- what is observed

@@ -27,7 +27,7 @@ use Rattle.lw_run.specs.Exchanges.{fresh_of, sent_again, exchanges_of, with_dupl
 use Rattle.lw_run.specs.Numbering.{with_unnumbered, AreNumbered}
 use Rattle.lw_run.specs.Server.{ServerContent, IsAtOnce, KeepsStill, Stays}
 use Rattle.lw_run.specs.Turns.{sends_of, IsTurn, GoesOn}
-use Rattle.lw_run.specs.inner.Settling.{all_calls, Settles}
+use Rattle.lw_run.specs.inner.Rounds.{all_calls, ExecutesRound}
 use Rattle.lw_run.specs.inner.Sorting.{AreSorted}
 
 pub calls_none : (asked : Option (List LogCall)) → Calls asked asked []
@@ -66,10 +66,10 @@ more_duplicates old new again count left batch fresh is less all some =
     is ∙ ap (λ (n : ℕ). min (old + n) (2 ^ 64 - 1)) (less ∙ (λ k. all k - some k))
 
 pub stays_from : (old mid new : ServerContent) → mid ≡ old → IsAtOnce mid new → new.skew ≡ mid.skew → new.started ≡ mid.started → new.passed_over ≡ mid.passed_over
-    → new.page ≡ mid.page → new.edge ≡ mid.edge → new.away ≡ mid.away → new.told ≡ mid.told → new.devices ≡ mid.devices → new.fault ≡ mid.fault → Stays old new
-stays_from old mid new same at_once skew started passed_over page edge away told devices fault =
+    → new.page ≡ mid.page → new.io_counters ≡ mid.io_counters → new.away ≡ mid.away → new.notifications ≡ mid.notifications → new.devices ≡ mid.devices → new.fault ≡ mid.fault → Stays old new
+stays_from old mid new same at_once skew started passed_over page io_counters away notifications devices fault =
     subst (λ (server : ServerContent). Stays server new) same
-    (record { at_once = at_once; skew = skew; started = started; passed_over = passed_over; page = page; edge = edge; away = away; told = told; devices = devices; fault = fault })
+    (record { at_once = at_once; skew = skew; started = started; passed_over = passed_over; page = page; io_counters = io_counters; away = away; notifications = notifications; devices = devices; fault = fault })
 
 -- a server whose member is still as it was has put nothing into its log
 pub writes_none_from : (old mid : ServerContent) → mid ≡ old → WritesOwn old.member mid.member
@@ -98,11 +98,11 @@ stays_without now old new datagrams none goes =
     subst (λ (arrivals : List Arrival). AreTaken now old arrivals new) (none_in_front goes.front goes.rest (sym none ∙ goes.are)) goes.taken
 
 -- a round with the calls, and the Sweeps behind them
-pub settles_by : (before : Moment) (old new : MemberContent) (tally counts : Tally) (sorted : Sorted) (calls asked : List Call) (replies : List Reply) (start handled more : List Handled)
+pub executes_round : (before : Moment) (old new : MemberContent) (tally counts : Tally) (sorted : Sorted) (calls asked : List Call) (replies : List Reply) (start handled more : List Handled)
     → calls ≡ all_calls before old.claimed sorted.calls.items → asked ≡ calls → IsRound old asked replies new
     → counts ≡ counted tally asked replies → start ≡ sorted.handled.items → handled ≡ start ++ more
-    → AreHandled sorted.origins.items replies more → Settles before old tally sorted handled new counts
-settles_by before old new tally counts sorted calls asked replies start handled more are same round counted_are begun all answers =
+    → AreHandled sorted.origins.items replies more → ExecutesRound before old tally sorted handled new counts
+executes_round before old new tally counts sorted calls asked replies start handled more are same round counted_are begun all answers =
     let is = same ∙ are in
     record {
       replies = replies;
@@ -135,7 +135,7 @@ tally_stays old mid tally same is = is ∙ ap (λ (server : ServerContent). serv
 pub is_turn : (before : Moment) (old mid new : ServerContent) (batch fresh : List Datagram) (sorted : Sorted) (handled numbered : List Handled) (sends : List (Addr × List ℕ)) (is_all lacks : Bool)
     → mid ≡ old → ms_of before ≡ ms_of mid.latest - 1000 * mid.skew
     → fresh ≡ fresh_of mid.steady mid.kept batch → AreSorted mid.latest mid.steady mid.bodies fresh sorted new.bodies
-    → Settles before mid.member mid.tally sorted handled new.member new.tally
+    → ExecutesRound before mid.member mid.tally sorted handled new.member new.tally
     → AreNumbered mid.steady mid.ids handled numbered new.ids → new.unnumbered ≡ with_unnumbered mid.unnumbered handled numbered
     → sends ≡ sent_again mid.steady mid.kept batch ++ sends_of numbered → Keeps mid.kept (exchanges_of mid.steady numbered) new.kept is_all
     → lacks ≡ list_any lacks_block numbered → new.unkept ≡ with_unkept mid.unkept (is_all && not lacks)

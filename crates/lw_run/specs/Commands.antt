@@ -25,14 +25,14 @@ use Rattle.lw_exchange.specs.declared.waiting.About.TheVariants.{Observation, Ca
 use Rattle.lw_exchange.specs.Waiting.{with_request, without_about, WaitingContent}
 use Rattle.lw_target.specs.declared.command.Command.{Command}
 use Rattle.lw_target.specs.declared.command.Command.TheVariants as commands
-use Rattle.lw_target.specs.declared.desk.Answer.{Answer}
-use Rattle.lw_target.specs.declared.desk.Status.TheVariants as status
+use Rattle.lw_target.specs.declared.api.ApiResponse.{ApiResponse}
+use Rattle.lw_target.specs.declared.api.Status.TheVariants as status
 use Rattle.lw_api.specs.Answers.{IsCreated, IsJson, IsNoContent, IsNotFound, TellsWatch}
 use Rattle.lw_run.specs.declared.commands.Done.{Done}
 use Rattle.lw_run.specs.declared.commands.Done.TheVariants as outcomes
 use Rattle.lw_run.specs.declared.fault.TurnFault.{TurnFault}
 use Rattle.lw_run.specs.declared.fault.TurnFault.TheVariants as turns
-use Rattle.lw_run.specs.Desk.{serves}
+use Rattle.lw_run.specs.Api.{serves}
 use Rattle.lw_run.specs.declared.clocks.Times.{Times}
 use Rattle.lw_run.specs.Devices.{DevicesContent, Undo, with_task}
 use Rattle.lw_run.specs.Server.{ReadsClock, ServerContent}
@@ -145,14 +145,14 @@ abbrev pub no_memory_text : List ℕ
 no_memory_text = codes "{\"error\":\"no memory\"}"
 
 -- the observation that was made, where the log leads all that the node knows
-abbrev pub TellsObserved : Bool → ServerContent → Stamp → Answer → Type 0
+abbrev pub TellsObserved : Bool → ServerContent → Stamp → ApiResponse → Type 0
 TellsObserved false server token answer = IsJson status.ServiceUnavailable away_text answer
 TellsObserved true server token answer =
     (text : Option (List ℕ))
     × TellsWatch server.member.node.table.state (λ M. ByToken M (ms_of server.latest) token) text
     × IsCreated text answer
 
-abbrev pub TellsDone : ServerContent → Done → Answer → Type 0
+abbrev pub TellsDone : ServerContent → Done → ApiResponse → Type 0
 TellsDone server (outcomes.Observed token) answer = TellsObserved server.member.led server token answer
 TellsDone server outcomes.Ended answer = IsNoContent answer
 TellsDone server outcomes.NotFound answer = IsNotFound answer
@@ -167,11 +167,11 @@ reason_of turns.NoMemory = no_memory_text
 reason_of turns.ClockRefused = codes "{\"error\":\"clock refused\"}"
 reason_of _ = away_text
 
-abbrev pub TellsOutcome : ServerContent → Result Done TurnFault → Answer → Type 0
+abbrev pub TellsOutcome : ServerContent → Result Done TurnFault → ApiResponse → Type 0
 TellsOutcome server (Ok done) answer = TellsDone server done answer
 TellsOutcome server (Err fault) answer = IsJson status.ServiceUnavailable (reason_of fault) answer
 
--- ---- a command at the desk: what it failed by is noted, for the run to end or to go on by
+-- ---- a command over HTTP: what it failed by is noted, for the run to end or to go on by
 abbrev pub Executes : Command → ServerContent → Result Done TurnFault → ServerContent → Type 0
 Executes command old (Ok done) new = IsExecuted command old done new
 Executes command old (Err fault) new = IsFailed command old new
@@ -180,7 +180,7 @@ abbrev pub noting : Result Done TurnFault → ServerContent → ServerContent
 noting (Ok done) server = server
 noting (Err fault) server = record server { fault = Some fault }
 
-pub record IsCarriedOut (old : ServerContent) (command : Command) (answer : Option Answer) (new : ServerContent)
+pub record IsCarriedOut (old : ServerContent) (command : Command) (answer : Option ApiResponse) (new : ServerContent)
     : Type 0 where
   pub outcome : Result Done TurnFault
   pub executed : ServerContent

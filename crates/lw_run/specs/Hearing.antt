@@ -26,7 +26,7 @@ use Rattle.lw_metrics.specs.Counting.{one_more}
 use Rattle.lw_run.specs.declared.devices.RequestCounts.{RequestCounts}
 use Rattle.lw_run.specs.declared.hearing.Passage.{Passage}
 use Rattle.lw_run.specs.declared.hearing.Passage.TheVariants as passages
-use Rattle.lw_run.specs.Desk.{serves}
+use Rattle.lw_run.specs.Api.{serves}
 use Rattle.lw_run.specs.Devices.{DevicesContent, TaskContent, Cut, Tell, left_of}
 use Rattle.lw_run.specs.Server.{ServerContent}
 

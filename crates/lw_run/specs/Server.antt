@@ -2,19 +2,19 @@
 use Rattle.std.specs.Prelude.{◌≡◌, ℕ, Bool, false, List, [], Option, None, Some}
 use Rattle.lw_stamp.specs.declared.moment.Moment.{Moment}
 use Rattle.lw_member.specs.Member.{MemberContent}
-use Rattle.lw_metrics.specs.declared.edge.Edge.{Edge}
+use Rattle.lw_metrics.specs.declared.io_counters.IoCounters.{IoCounters}
 use Rattle.lw_exchange.specs.declared.exchange.Exchange.{Exchange}
 use Rattle.lw_exchange.specs.declared.message_ids.Lane.{Lane}
 use Rattle.lw_exchange.specs.Kept.{BodyContent}
 use Rattle.lw_exchange.specs.MessageIds.{first_lanes}
 use Rattle.lw_metrics.specs.Counting.{new_tally}
-use Rattle.lw_metrics.specs.Edge.{new_edge}
+use Rattle.lw_metrics.specs.IoCounters.{new_io_counters}
 use Rattle.lw_metrics.specs.declared.tally.Tally.{Tally}
 use Rattle.lw_run.specs.declared.clocks.Times.{Times}
 use Rattle.lw_run.specs.declared.fault.TurnFault.{TurnFault}
 use Rattle.lw_run.specs.Clocks.{later, Tells}
 use Rattle.lw_run.specs.Devices.{DevicesContent, new_devices}
-use Rattle.lw_run.specs.Telling.{new_told, ToldContent}
+use Rattle.lw_run.specs.Notifications.{new_notifications, NotificationsContent}
 
 pub record ServerContent : Type 0 where
   pub member : MemberContent
@@ -26,7 +26,7 @@ pub record ServerContent : Type 0 where
   pub tally : Tally  -- of the rounds that gave replies
   pub passed_over : ℕ  -- how many turns failed for want of memory
   pub page : Option (List ℕ)  -- what is told at `/`, if there is a page
-  pub edge : Edge  -- what is counted at the edge
+  pub io_counters : IoCounters  -- what is counted of input and output
   pub away : Bool  -- whether the last turn found that the log cannot be asked
   pub kept : List Exchange  -- the last requests that were answered, with their replies
   pub duplicates : ℕ  -- how many datagrams were requests that came again
@@ -35,7 +35,7 @@ pub record ServerContent : Type 0 where
   pub blocks : ℕ  -- how many datagrams were blocks that were answered without the store, or made a message whole
   pub ids : List Lane  -- the message IDs of its own messages
   pub unnumbered : ℕ  -- how many replies were not sent, since no message ID was free
-  pub told : ToldContent  -- what devices told
+  pub notifications : NotificationsContent  -- what devices told
   pub devices : DevicesContent  -- what is under way with devices
   pub fault : Option TurnFault  -- what the last command failed by, until that is noted
 
@@ -51,7 +51,7 @@ new_server member clock skew now page = record {
   tally = new_tally;
   passed_over = 0;
   page = page;
-  edge = new_edge;
+  io_counters = new_io_counters;
   away = false;
   kept = [];
   duplicates = 0;
@@ -60,7 +60,7 @@ new_server member clock skew now page = record {
   blocks = 0;
   ids = first_lanes now;
   unnumbered = 0;
-  told = new_told;
+  notifications = new_notifications;
   devices = new_devices now;
   fault = None;
 }
@@ -90,9 +90,9 @@ pub record Stays (old new : ServerContent) : Type 0 where
   pub started : new.started ≡ old.started
   pub passed_over : new.passed_over ≡ old.passed_over
   pub page : new.page ≡ old.page
-  pub edge : new.edge ≡ old.edge
+  pub io_counters : new.io_counters ≡ old.io_counters
   pub away : new.away ≡ old.away
-  pub told : new.told ≡ old.told
+  pub notifications : new.notifications ≡ old.notifications
   pub devices : new.devices ≡ old.devices
   pub fault : new.fault ≡ old.fault
 

@@ -33,7 +33,7 @@ use Rattle.lw_run.specs.declared.devices.Progress.TheVariants as progress
 use Rattle.lw_run.specs.declared.devices.RequestCounts.{RequestCounts}
 use Rattle.lw_run.specs.Devices.{TaskContent, End, Close, Check, Cut, Tell, Undo, DevicesContent, left_of}
 use Rattle.lw_run.specs.Server.{ServerContent}
-use Rattle.lw_run.specs.Telling.{with_capacity, IsTold, IsToldIf}
+use Rattle.lw_run.specs.Notifications.{with_capacity, IsPublished, IsPublishedIf}
 
 -- ---- a step with the requests that wait (RFC 7252, section 4.2)
 -- what it comes to: nothing, where none is due; bytes that are to be sent; or else something was done
@@ -116,7 +116,8 @@ pub record MakesCall (call : Call) (reply : Reply) (old new : ServerContent) : T
 -- were. What was left to do is left to do.
 abbrev pub IsLeft : ServerContent → ServerContent → Type 0
 IsLeft old new =
-    new ≡ record old { member = new.member; tally = new.tally; told = with_capacity old.told new.told.notices.capacity }
+    new ≡ record old { member = new.member; tally = new.tally;
+        notifications = with_capacity old.notifications new.notifications.buffer.capacity }
 
 -- ---- what a device reports (RFC 7641, section 3.2)
 -- what the node has given for it
@@ -132,9 +133,10 @@ pub record IsReport (from : Addr) (bytes : List ℕ) (is_complete : Bool) (old :
   pub given : TakenContent
   pub call : MakesCall (calls.Take old.latest from bytes) reply old new
   pub is_given : IsGiven reply given
-  pub told : IsToldIf old.steady given.notice is_complete (with_capacity old.told new.told.notices.capacity) new.told
+  pub told : IsPublishedIf old.steady given.notice is_complete
+      (with_capacity old.notifications new.notifications.buffer.capacity) new.notifications
   pub answer_is : option_map (λ bytes. bytes.items) answer ≡ given.reply
-  pub same : new ≡ record old { member = new.member; tally = new.tally; told = new.told }
+  pub same : new ≡ record old { member = new.member; tally = new.tally; notifications = new.notifications }
 
 -- the store looks at the token of a notification, and not where it comes from
 abbrev pub anywhere : Addr
@@ -212,8 +214,9 @@ pub record Closes (old new : ServerContent) : Type 0 where
 
 -- one that has ended is told
 pub record TellsEnd (notice : NoticeContent) (old new : ServerContent) : Type 0 where
-  pub told : IsTold old.steady notice true (with_capacity old.told new.told.notices.capacity) new.told
-  pub same : new ≡ record (done_first old) { told = new.told }
+  pub told : IsPublished old.steady notice true
+      (with_capacity old.notifications new.notifications.buffer.capacity) new.notifications
+  pub same : new ≡ record (done_first old) { notifications = new.notifications }
 
 abbrev pub IsClosed : NoticeContent → Bool → ServerContent → ServerContent → Type 0
 IsClosed notice false old new = Closes old new
@@ -255,7 +258,7 @@ pub record IsReportLeft (bytes : List ℕ) (old new : ServerContent) : Type 0 wh
   pub left : new ≡ record old {
     member = new.member;
     tally = new.tally;
-    told = with_capacity old.told new.told.notices.capacity;
+    notifications = with_capacity old.notifications new.notifications.buffer.capacity;
     devices = record (old.devices) { tasks = old.devices.tasks ++ checking notice };
   }
 

@@ -1,5 +1,5 @@
 pub mod Batches
-pub mod Settling
+pub mod Rounds
 pub mod Sorting
 pub mod Devices
 pub mod Reports

@@ -7,7 +7,7 @@ ghost use Rattle.lw_member.specs.Own.{WritesOwn};
 ghost use Rattle.lw_run.specs.Commands.{done_by, done_of as done_in, is_full, waiting_after, Executes, FailsTo};
 ghost use Rattle.lw_run.specs.Commands.{IsObserved, IsOrdered, IsOrderedWhere, IsRequested, LeavesUndo, MayHaveObserved};
 ghost use Rattle.lw_run.specs.Commands.{Requests as RequestsOnce};
-ghost use Rattle.lw_run.specs.Desk.{serves};
+ghost use Rattle.lw_run.specs.Api.{serves};
 
 use crate::devices::{Devices, Task};
 use crate::one_call::call_once;

@@ -1,7 +1,7 @@
 //! The counter of a node, and its end.
 
 ghost use Rattle.std.specs.Prelude.{◌↔◌, IsTrue};
-ghost use Rattle.lw_run.specs.Desk.{NearsEnd};
+ghost use Rattle.lw_run.specs.Api.{NearsEnd};
 
 /// From which counter on it is told that it nears its end, which is 2^48 - 1: what a start in 2100 would raise it to,
 /// 64 for each of the milliseconds since 1970.

@@ -71,7 +71,7 @@ impl<T: Drop> From<AllocFailed<T>> for TurnFault {
 /// Why a run ended, or did not begin.
 #[derive(Clone, Copy, Debug, PartialEq, Eq, Error)]
 pub enum RunFault {
-    /// The front failed 1,000 times in a row.
+    /// The transport failed 1,000 times in a row.
     #[error("receive failed: the front failed 1000 times in a row")]
     ReceiveFailed,
     /// The host's clock gave no moment, or one that is past 2100 or years ahead of the log.

@@ -1,5 +1,5 @@
-//! The loop of a server: datagrams come over a front, a member takes them in rounds, and what it replies goes out only
-//! once its log leads all that the replies tell of.
+//! The loop of a server: datagrams come over a transport, a member takes them in rounds, and what it replies goes out
+//! only once its log leads all that the replies tell of.
 #![tactic(auto)]
 
 mod blocks;
@@ -7,12 +7,12 @@ mod calling;
 mod clocks;
 mod commands;
 mod counter;
-mod course;
-mod desk;
+mod event_loop;
+mod api;
 mod devices;
 mod exchanges;
 mod fault;
-mod front;
+mod transport;
 mod hearing;
 mod numbering;
 mod one_call;
@@ -20,25 +20,25 @@ mod receiving;
 mod running;
 mod sending;
 mod server;
-mod settling;
+mod round;
 mod stepping;
-mod telling;
-mod timed;
-mod told;
+mod reply_lines;
+mod timed_log;
+mod notifications;
 mod upkeep;
 
 pub use clocks::{Clocks, FleetClock, HostClocks, Offset, SharedClocks, Times};
 pub use commands::Done;
 pub use devices::{Progress, RequestCounts};
 pub use fault::{RunFault, TurnFault};
-pub use front::{Front, Heard};
+pub use transport::{Transport, Incoming};
 pub use hearing::Passage;
 pub use lw_log::{DeltaLog, LogFault};
 pub use lw_member::{Member, MemberFault};
-pub use lw_metrics::{LogUse, Responses};
+pub use lw_metrics::{LogCounters, Responses};
 pub use lw_reg::Addr;
 pub use lw_stamp::Moment;
 pub use lw_wire::{Datagram, HostClock, WireFault};
 pub use running::{Compaction, run_on};
 pub use server::Server;
-pub use timed::{Metered, Stopwatch, Timed};
+pub use timed_log::{Measured, Stopwatch, TimedLog};

@@ -3,7 +3,7 @@
 ghost use Rattle.std.specs.Prelude.{◌≤◌, length, vec_len, IfOk};
 ghost use Rattle.lw_run.specs.inner.Batches.{most_at_once};
 
-use crate::Front;
+use crate::Transport;
 use lw_reg::Addr;
 use lw_stamp::NoMemory;
 use lw_wire::Datagram;
@@ -13,9 +13,9 @@ use std::alloc::Global;
 const MOST_AT_ONCE: u32 = 256;
 
 /// The datagram that came, and those that are there behind it. A fault behind the first ends the batch.
-pub(crate) fn receive<F: Front>(
+pub(crate) fn receive<T: Transport>(
     alloc: Global,
-    front: &mut F,
+    transport: &mut T,
     buffer: &mut [u8],
     count: usize,
     from: Addr,
@@ -26,7 +26,7 @@ pub(crate) fn receive<F: Front>(
     let mut batch = Vec::new(alloc);
     batch.push(Datagram::new(alloc, from, &buffer[..count])?)?;
     for _taken in 1..MOST_AT_ONCE {
-        let Ok(Some((count, from))) = front.more(buffer) else {
+        let Ok(Some((count, from))) = transport.more(buffer) else {
             break;
         };
         batch.push(Datagram::new(alloc, from, &buffer[..count])?)?;
@@ -38,10 +38,10 @@ pub(crate) fn receive<F: Front>(
 const MOST_OLD: u32 = 65_536;
 
 /// Passes over the datagrams that are there: how many.
-pub(crate) fn pass_over_old<F: Front>(front: &mut F, buffer: &mut [u8]) -> u64 {
+pub(crate) fn pass_over_old<T: Transport>(transport: &mut T, buffer: &mut [u8]) -> u64 {
     let mut passed = 0u64;
     for _old in 0..MOST_OLD {
-        let Ok(Some(_)) = front.more(buffer) else {
+        let Ok(Some(_)) = transport.more(buffer) else {
             break;
         };
         passed = passed.saturating_add(1);
@@ -50,10 +50,10 @@ pub(crate) fn pass_over_old<F: Front>(front: &mut F, buffer: &mut [u8]) -> u64 {
 }
 
 /// Passes over the datagrams that are there, which with the one that came make a batch at most: how many with that one.
-pub(crate) fn pass_over<F: Front>(front: &mut F, buffer: &mut [u8]) -> u64 {
+pub(crate) fn pass_over<T: Transport>(transport: &mut T, buffer: &mut [u8]) -> u64 {
     let mut passed = 1u64;
     for _more in 1..MOST_AT_ONCE {
-        let Ok(Some(_)) = front.more(buffer) else {
+        let Ok(Some(_)) = transport.more(buffer) else {
             break;
         };
         passed = passed.saturating_add(1);

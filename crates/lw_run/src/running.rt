@@ -1,7 +1,7 @@
 //! A run.
 
-use crate::course::Course;
-use crate::{Clocks, Front, Heard, Metered, RunFault, Server};
+use crate::event_loop::EventLoop;
+use crate::{Clocks, Transport, Incoming, Measured, RunFault, Server};
 use log::Log;
 use lw_log::DeltaLog;
 use lw_wire::{BUFFER, WireFault};
@@ -15,26 +15,26 @@ pub enum Compaction {
     Never,
 }
 
-/// Serves until the front tells that it is over. Where nothing comes for so long a time a turn is made without
+/// Serves until the transport tells that it is over. Where nothing comes for so long a time a turn is made without
 /// datagrams.
-pub fn run_on<F: Front, G: DeltaLog + Metered, C: Clocks, L: Log>(
-    front: &mut F,
+pub fn run_on<T: Transport, G: DeltaLog + Measured, C: Clocks, L: Log>(
+    transport: &mut T,
     server: Server<G, C>,
     log: &L,
     wait: Duration,
     compaction: Compaction,
 ) -> Result<(), RunFault> {
     let mut buffer = vec![in server.allocator(); 0; BUFFER]?;
-    let mut course = Course::new(server, compaction);
+    let mut event_loop = EventLoop::new(server, compaction);
     for _turn in 0..u64::MAX {
-        let (attended, heard) = course.attend(front, &mut buffer, wait);
-        course = attended;
-        course.note_command(log)?;
-        match heard {
-            Ok(Heard::Datagram(count, from)) => course.take(front, log, &mut buffer, count, from)?,
-            Ok(Heard::Nothing) => course.tick(front, log, &mut buffer)?,
-            Ok(Heard::End) => return Ok(()),
-            Err(WireFault) => course.fail(log)?,
+        let (polled, incoming) = event_loop.poll(transport, &mut buffer, wait);
+        event_loop = polled;
+        event_loop.note_command(log)?;
+        match incoming {
+            Ok(Incoming::Datagram(count, from)) => event_loop.take(transport, log, &mut buffer, count, from)?,
+            Ok(Incoming::Nothing) => event_loop.tick(transport, log, &mut buffer)?,
+            Ok(Incoming::Closed) => return Ok(()),
+            Err(WireFault) => event_loop.fail(log)?,
         }
     }
     Ok(())

@@ -16,13 +16,13 @@ use crate::devices::Devices;
 use crate::exchanges::{fresh_of, keep_exchanges, with_unkept};
 use crate::numbering::number_replies;
 use crate::sending::put_sends;
-use crate::settling::settle;
-use crate::told::Told;
+use crate::round::execute_round;
+use crate::notifications::Notifications;
 use crate::{Clocks, TurnFault};
 use lw_exchange::{Bodies, MessageIds, Replies};
 use lw_log::DeltaLog;
 use lw_member::Member;
-use lw_metrics::{Edge, Tally};
+use lw_metrics::{IoCounters, Tally};
 use lw_reg::Addr;
 use lw_stamp::Moment;
 use lw_wire::Datagram;
@@ -48,8 +48,8 @@ pub struct Server<G: DeltaLog, C: Clocks> {
     pub(crate) passed_over: u64,
     /// What is told at `/`, if there is a page.
     pub(crate) page: Option<String>,
-    /// What is counted at the edge.
-    pub(crate) edge: Edge,
+    /// What is counted of input and output.
+    pub(crate) io_counters: IoCounters,
     /// Whether the last turn found that the log cannot be asked.
     pub(crate) away: bool,
     /// The last requests that were answered, with their replies.
@@ -67,7 +67,7 @@ pub struct Server<G: DeltaLog, C: Clocks> {
     /// How many replies were not sent, since no message ID was free.
     pub(crate) unnumbered: u64,
     /// What devices told.
-    pub(crate) told: Told,
+    pub(crate) notifications: Notifications,
     /// What is under way with devices.
     pub(crate) devices: Devices,
     /// What the last command failed by, until that is noted.
@@ -94,7 +94,7 @@ impl<G: DeltaLog, C: Clocks> Model for Server<G, C> {
       tally = s.tally;
       passed_over = s.passed_over;
       page = option_map string_bytes s.page;
-      edge = s.edge;
+      io_counters = s.io_counters;
       away = s.away;
       kept = s.kept;
       duplicates = s.duplicates;
@@ -103,7 +103,7 @@ impl<G: DeltaLog, C: Clocks> Model for Server<G, C> {
       blocks = s.blocks;
       ids = s.ids;
       unnumbered = s.unnumbered;
-      told = s.told;
+      notifications = s.notifications;
       devices = s.devices;
       fault = s.fault;
     } };
@@ -133,7 +133,7 @@ impl<G: DeltaLog, C: Clocks> Server<G, C> {
             tally: Tally::new(),
             passed_over: 0,
             page,
-            edge: Edge::new(),
+            io_counters: IoCounters::new(),
             away: false,
             kept: Replies::new(alloc),
             duplicates: 0,
@@ -142,7 +142,7 @@ impl<G: DeltaLog, C: Clocks> Server<G, C> {
             blocks: 0,
             ids: MessageIds::new(now),
             unnumbered: 0,
-            told: Told::new(alloc),
+            notifications: Notifications::new(alloc),
             devices: Devices::new(alloc, now),
             fault: None,
         }
@@ -184,7 +184,7 @@ impl<G: DeltaLog, C: Clocks> Server<G, C> {
         let sorted = sort(self.alloc, &mut self.bodies, now, steady, fresh)?;
         let blocks = sorted.with_blocks(self.blocks);
         let before = moment_before(now, self.skew);
-        let mut handled = settle(
+        let mut handled = execute_round(
             self.alloc,
             &mut self.member,
             &mut self.tally,

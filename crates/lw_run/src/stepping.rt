@@ -168,8 +168,8 @@ impl<G: DeltaLog, C: Clocks> Server<G, C> {
         ensures member { self.new.member ≡ self.old.member }
         ensures left { OnErr result (IsLeft self.old self.new) }
     {
-        self.told.reserve(1)?;
-        self.told.tell(self.steady, notice, true);
+        self.notifications.reserve(1)?;
+        self.notifications.publish(self.steady, notice, true);
         self.drop_first();
         Ok(())
     }
@@ -318,11 +318,11 @@ impl<G: DeltaLog, C: Clocks> Server<G, C> {
         ensures left { OnErr result (IsLeft self.old self.new) }
     {
         let now = self.latest;
-        self.told.reserve(1)?;
+        self.notifications.reserve(1)?;
         let call = Call::Take { now, from, bytes };
         let reply = call_once(self.alloc, &mut self.member, &mut self.tally, call)?;
         let Taken { reply, notice } = taken_of(reply)?;
-        self.told.tell_one(self.steady, notice, is_complete);
+        self.notifications.publish_if_any(self.steady, notice, is_complete);
         Ok(reply)
     }
 }

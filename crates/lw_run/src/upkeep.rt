@@ -24,7 +24,7 @@ const BYTES_A_MILLISECOND: u64 = 10_000;
 pub(crate) struct Upkeep {
     compaction: Compaction,
     /// How many turns are left before it is tried again.
-    rest: u32,
+    turns_until_compaction: u32,
     /// How many turns are waited after the next one that is put off, where the log has lost entries.
     pause: u32,
     /// Whether the log has lost entries since it was compacted. Whoever reads it from its beginning may miss what stood
@@ -38,7 +38,7 @@ impl Upkeep {
     pub(crate) fn new(compaction: Compaction) -> Upkeep {
         Upkeep {
             compaction,
-            rest: 0,
+            turns_until_compaction: 0,
             pause: TURNS_BEFORE_MENDING,
             has_lost: false,
             large_since: None,
@@ -47,7 +47,7 @@ impl Upkeep {
 
     /// A turn was made, after which much stands in the log, or not.
     pub(crate) fn note_turn(&mut self, is_large: bool, now: Moment) {
-        self.rest = self.rest.saturating_sub(1);
+        self.turns_until_compaction = self.turns_until_compaction.saturating_sub(1);
         self.large_since = match self.large_since {
             Some(since) if is_large => Some(since),
             _ => is_large.then_some(now),
@@ -56,7 +56,7 @@ impl Upkeep {
 
     /// Whether a compaction is tried in this turn, if there is reason for one.
     pub(crate) fn is_ready(&self) -> bool {
-        self.compaction == Compaction::WhereDue && self.rest == 0
+        self.compaction == Compaction::WhereDue && self.turns_until_compaction == 0
     }
 
     /// Whether much has stood in the log for so many milliseconds.
@@ -70,17 +70,17 @@ impl Upkeep {
     /// The log has lost entries.
     pub(crate) fn lose(&mut self) {
         self.has_lost = true;
-        self.rest = 0;
+        self.turns_until_compaction = 0;
         self.pause = TURNS_BEFORE_MENDING;
     }
 
     /// It is tried again some turns later: soon, where the log has lost entries.
     pub(crate) fn put_off(&mut self) {
         if !self.has_lost {
-            self.rest = TURNS_BETWEEN_COMPACTIONS;
+            self.turns_until_compaction = TURNS_BETWEEN_COMPACTIONS;
             return;
         }
-        self.rest = self.pause;
+        self.turns_until_compaction = self.pause;
         self.pause = self.pause.saturating_mul(2).min(TURNS_BETWEEN_COMPACTIONS);
     }
 

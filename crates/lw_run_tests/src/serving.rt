@@ -1,10 +1,10 @@
-//! Runs of a server over a front in memory, by a clock in memory.
+//! Runs of a server over a transport in memory, by a clock in memory.
 
 mod blocks;
 mod clocks;
 mod compacting;
-mod desk;
-mod front;
+mod api;
+mod transport;
 mod measured;
 mod observing;
 mod refused;
@@ -13,11 +13,11 @@ mod run;
 mod runs;
 mod shared_log;
 mod stage;
-mod timed;
+mod timed_log;
 mod turns;
 mod twice;
 
-use front::{Coming, MemoryFront, Question, Ticks};
+use transport::{Coming, MemoryTransport, Question, Ticks};
 use lw_log::{DeltaLog, FleetId, LogFault, MemoryCall, MemoryLog, Position};
 use lw_member::{Chance, Member};
 use lw_run::*;
@@ -25,7 +25,7 @@ use run::{Piece, Run, plays};
 use shared_log::Trouble;
 use stage::{STAGE, Stage};
 use std::alloc::Global;
-use timed::Readings;
+use timed_log::Readings;
 use turns::{TURN, Turn, takes};
 
 /// An empty message, message ID 7, and its reply.

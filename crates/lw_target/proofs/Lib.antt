@@ -4,4 +4,4 @@ pub mod TagLemmas
 pub mod PartLemmas
 pub mod PathLemmas
 pub mod PathValueLemmas
-pub mod PurposeLemmas
+pub mod RouteLemmas

@@ -7,7 +7,7 @@ use Rattle.std.specs.Iterator.{Yields}
 use Rattle.std.proofs.lemmas.Iterator.{YieldsList}
 use Rattle.std.proofs.lemmas.Iterator.Consumers.{YieldsList-turn, YieldsList-end}
 use Rattle.std.proofs.Math.Seq.{drop-length}
-use Rattle.lw_target.specs.declared.refused.Refused.{Refused}
+use Rattle.lw_target.specs.declared.error.RouteError.{RouteError}
 use Rattle.lw_target.specs.declared.fault.Fault.{Fault}
 use Rattle.lw_target.specs.declared.parameters.Form.{Form}
 use Rattle.lw_target.specs.declared.parameters.Name.{Name}
@@ -24,7 +24,7 @@ some_is : (a b : Name) → Some a ≡ Some b → a ≡ b
 some_is a b e = cc
 
 -- a part whose name is read is what its value gives
-given_part : (form : Form) (before : Parameters) (part : List ℕ) (name : Name) (answer : Result Parameters Refused) → HasEquals part → ((n : Name) → (Some name ≡ Some n) ↔ ((takes form n ≡ true) × (before_first is_equals part ≡ name_text n))) → IsGiven name before (after_first is_equals part) answer → IsPart form before part answer
+given_part : (form : Form) (before : Parameters) (part : List ℕ) (name : Name) (answer : Result Parameters RouteError) → HasEquals part → ((n : Name) → (Some name ≡ Some n) ↔ ((takes form n ≡ true) × (before_first is_equals part ≡ name_text n))) → IsGiven name before (after_first is_equals part) answer → IsPart form before part answer
 given_part form before part name answer has read is =
     let named = (read name).0 refl in
     record {
@@ -43,7 +43,7 @@ part_answered form before part text value name r has text_is value_is read is =
 -- what the parts behind the first n come to, all come to
 abbrev pub GoesOn : Form → List (List ℕ) → ℕ → Parameters → Type 0
 GoesOn form parts n so_far =
-    (answer : Result Parameters Refused) → AreParts form so_far (drop n parts) answer → AreParts form no_parameters parts answer
+    (answer : Result Parameters RouteError) → AreParts form so_far (drop n parts) answer → AreParts form no_parameters parts answer
 
 parts_at : (parts : List (List ℕ)) (n : ℕ) (part : List ℕ) → n < length parts → part ≡ get_or parts n part → drop n parts ≡ part ∷ drop (n + 1) parts
 parts_at parts n part less is =
@@ -73,7 +73,7 @@ end_by xs t y r u is step road = (YieldsList-end road xs t y r u is step).1
 
 -- ---- values
 -- a value that was not given before
-pub given_once : {V : Type 0} (before : Option V) (asked : Bool) (Reading : Result V Refused → Type 0) (to : V → Parameters) (value : V) → asked ≡ is_some before → asked ≡ false → Reading (Ok value) → IsGivenOnce before Reading to (Ok (to value))
+pub given_once : {V : Type 0} (before : Option V) (asked : Bool) (Reading : Result V RouteError → Type 0) (to : V → Parameters) (value : V) → asked ≡ is_some before → asked ≡ false → Reading (Ok value) → IsGivenOnce before Reading to (Ok (to value))
 given_once None asked Reading to value e none is = inl (value, is, refl)
 given_once (Some other) asked Reading to value e none is = absurd cc
 

@@ -1,9 +1,9 @@
 pub mod Decoding
 pub mod Numbers
-pub mod Refusals
+pub mod Errors
 pub mod Answers
 pub mod Methods
 pub mod Parameters
 pub mod Targets
-pub mod Purposes
+pub mod Routes
 pub mod inner

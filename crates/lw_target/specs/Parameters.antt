@@ -1,8 +1,8 @@
 -- The parameters of a query: NAME=VALUE, with `&` between each two (RFC 3986, section 3.4, has a query of such pairs).
 use Rattle.std.specs.Prelude.{◌≡◌, ◌<◌, ◌==◌, ℕ, Bool, true, false, List, [], ◌∷◌, length, Option, Some, None, Result, Ok, Err, codes}
 use Rattle.std.specs.List.{position_or_len, before_first, after_first, slice_split}
-use Rattle.lw_target.specs.declared.refused.Refused.{Refused}
-use Rattle.lw_target.specs.declared.refused.Refused.TheVariants as refused
+use Rattle.lw_target.specs.declared.error.RouteError.{RouteError}
+use Rattle.lw_target.specs.declared.error.RouteError.TheVariants as error
 use Rattle.lw_target.specs.declared.parameters.Name.{Name}
 use Rattle.lw_target.specs.declared.parameters.Name.TheVariants.{After, Limit, Since, Start, From, Path, Accept}
 use Rattle.lw_target.specs.declared.parameters.Form.{Form}
@@ -56,39 +56,39 @@ pub record IsNamed (form : Form) (name : Name) (part : List ℕ) : Type 0 where
 
 -- ---- values
 -- a parameter that was not given before has the value that is read; one that was is refused
-abbrev pub IsGivenOnce : {V : Type 0} → Option V → (Result V Refused → Type 0) → (V → Parameters)
-    → Result Parameters Refused → Type 0
-IsGivenOnce (Some value) Reading parameters answer = answer ≡ Err refused.Twice
+abbrev pub IsGivenOnce : {V : Type 0} → Option V → (Result V RouteError → Type 0) → (V → Parameters)
+    → Result Parameters RouteError → Type 0
+IsGivenOnce (Some value) Reading parameters answer = answer ≡ Err error.Twice
 IsGivenOnce None Reading parameters answer = Then Reading (λ value answer. answer ≡ Ok (parameters value)) answer
 
 -- The parameters with this value of the name. Those of `after` and `path` are percent-decoded, where `+` stands for
 -- itself; that of `after` may be empty, since all endpoints stand behind it. The others are read as they stand.
-abbrev pub IsGiven : Name → Parameters → List ℕ → Result Parameters Refused → Type 0
+abbrev pub IsGiven : Name → Parameters → List ℕ → Result Parameters RouteError → Type 0
 IsGiven After before value =
-    IsGivenOnce before.after (Reads IsShort refused.After value) (λ after. record before { after = Some after })
+    IsGivenOnce before.after (Reads IsShort error.After value) (λ after. record before { after = Some after })
 IsGiven Limit before value =
-    IsGivenOnce before.limit (Reads IsLimit refused.Limit value) (λ limit. record before { limit = Some limit })
+    IsGivenOnce before.limit (Reads IsLimit error.Limit value) (λ limit. record before { limit = Some limit })
 IsGiven Since before value =
-    IsGivenOnce before.since (Reads IsSince refused.Since value) (λ since. record before { since = Some since })
+    IsGivenOnce before.since (Reads IsSince error.Since value) (λ since. record before { since = Some since })
 IsGiven Start before value =
-    IsGivenOnce before.start (Reads IsTag refused.Start value) (λ start. record before { start = Some start })
+    IsGivenOnce before.start (Reads IsTag error.Start value) (λ start. record before { start = Some start })
 IsGiven From before value =
-    IsGivenOnce before.from (Reads IsFrom refused.From value) (λ from. record before { from = Some from })
+    IsGivenOnce before.from (Reads IsFrom error.From value) (λ from. record before { from = Some from })
 IsGiven Path before value =
-    IsGivenOnce before.path (Reads IsPathEncoded refused.Path value) (λ path. record before { path = Some path })
+    IsGivenOnce before.path (Reads IsPathEncoded error.Path value) (λ path. record before { path = Some path })
 IsGiven Accept before value =
-    IsGivenOnce before.accept (Reads IsAccept refused.Accept value) (λ accept. record before { accept = Some accept })
+    IsGivenOnce before.accept (Reads IsAccept error.Accept value) (λ accept. record before { accept = Some accept })
 
 -- ---- parts
 -- what the parameters are with one part more
-pub record IsPart (form : Form) (before : Parameters) (part : List ℕ) (answer : Result Parameters Refused)
+pub record IsPart (form : Form) (before : Parameters) (part : List ℕ) (answer : Result Parameters RouteError)
     : Type 0 where
-  pub no_value : ¬ HasEquals part → answer ≡ Err refused.NoValue
-  pub no_parameter : HasEquals part → ((name : Name) → ¬ IsNamed form name part) → answer ≡ Err refused.NoParameter
+  pub no_value : ¬ HasEquals part → answer ≡ Err error.NoValue
+  pub no_parameter : HasEquals part → ((name : Name) → ¬ IsNamed form name part) → answer ≡ Err error.NoParameter
   pub given : (name : Name) → IsNamed form name part → IsGiven name before (after_first is_equals part) answer
 
 -- the parts from left to right, of which the first that is refused decides
-abbrev pub AreParts : Form → Parameters → List (List ℕ) → Result Parameters Refused → Type 0
+abbrev pub AreParts : Form → Parameters → List (List ℕ) → Result Parameters RouteError → Type 0
 AreParts form before [] answer = answer ≡ Ok before
 AreParts form before (part ∷ parts) answer =
     Then (IsPart form before part) (λ after. AreParts form after parts) answer
@@ -104,5 +104,5 @@ no_parameters =
     record { after = None; limit = None; since = None; start = None; from = None; path = None; accept = None }
 
 -- the parameters that the query gives
-abbrev pub AreParameters : Form → Option (List ℕ) → Result Parameters Refused → Type 0
+abbrev pub AreParameters : Form → Option (List ℕ) → Result Parameters RouteError → Type 0
 AreParameters form query = AreParts form no_parameters (parts_of query)

@@ -8,12 +8,12 @@ use Rattle.lw_reg.specs.declared.addr.Addr.{Addr}
 use Rattle.lw_reg.specs.declared.path.Path.{Path}
 use Rattle.lw_reg.specs.Addr.{addr_text, IsAddr}
 use Rattle.lw_path.specs.PathText.{IsPath}
-use Rattle.lw_target.specs.declared.refused.Refused.{Refused}
-use Rattle.lw_target.specs.declared.refused.Refused.TheVariants as refused
+use Rattle.lw_target.specs.declared.error.RouteError.{RouteError}
+use Rattle.lw_target.specs.declared.error.RouteError.TheVariants as error
 use Rattle.lw_target.specs.declared.resource.Resource.{Resource}
 use Rattle.lw_target.specs.declared.resource.Resource.TheVariants.{Page, Health, Node, Metrics, Registrations, Registration, Observations, ById, ByAddress, ByToken, Changes, Notifications}
-use Rattle.lw_target.specs.declared.asked.Asked.{Asked}
-use Rattle.lw_target.specs.declared.asked.Asked.TheVariants as asked
+use Rattle.lw_target.specs.declared.api_query.ApiQuery.{ApiQuery}
+use Rattle.lw_target.specs.declared.api_query.ApiQuery.TheVariants as api_query
 use Rattle.lw_target.specs.declared.parameters.Form.{Form}
 use Rattle.lw_target.specs.declared.parameters.Form.TheVariants as forms
 use Rattle.lw_target.specs.declared.parameters.Parameters.{Parameters}
@@ -91,41 +91,43 @@ pub record HasText (path : List ℕ) : Type 0 where
   pub text : takes_text resource ≡ true
 
 -- what the parameters of the query stand for, which is of the form
-abbrev pub Given : {V : Type 0} → Form → Option (List ℕ) → (Parameters → V) → Result V Refused → Type 0
+abbrev pub Given : {V : Type 0} → Form → Option (List ℕ) → (Parameters → V) → Result V RouteError → Type 0
 Given form query value = Then (AreParameters form query) (λ parameters answer. answer ≡ Ok (value parameters))
 
 -- the path that the text of `after` spells, if that is given
-abbrev pub AfterPath : Option (List ℕ) → Result (Option Path) Refused → Type 0
+abbrev pub AfterPath : Option (List ℕ) → Result (Option Path) RouteError → Type 0
 AfterPath None answer = answer ≡ Ok None
 AfterPath (Some text) answer =
-    Then (Reads IsPath refused.After text) (λ path answer. answer ≡ Ok (Some path)) answer
+    Then (Reads IsPath error.After text) (λ path answer. answer ≡ Ok (Some path)) answer
 
 -- the observations of the endpoint that the parameters of the query ask for
-abbrev pub AreObservationsOf : List ℕ → Option (List ℕ) → Result Asked Refused → Type 0
+abbrev pub AreObservationsOf : List ℕ → Option (List ℕ) → Result ApiQuery RouteError → Type 0
 AreObservationsOf endpoint query = Then (AreParameters forms.Observations query)
     (λ parameters. Then (AfterPath parameters.after)
-    (λ after answer. answer ≡ Ok (asked.Observations endpoint after (unwrap_or parameters.limit 64))))
+    (λ after answer. answer ≡ Ok (api_query.Observations endpoint after (unwrap_or parameters.limit 64))))
 
 -- What is asked for at the resource with the segment: first the segment is read, and then the query. The name of an
 -- endpoint has a byte or more, as its segment does.
-abbrev pub IsAskedAt : Resource → List ℕ → Option (List ℕ) → Result Asked Refused → Type 0
-IsAskedAt Page segment query = Given forms.Nothing query (λ parameters. asked.Page)
-IsAskedAt Health segment query = Given forms.Nothing query (λ parameters. asked.Health)
-IsAskedAt Node segment query = Given forms.Nothing query (λ parameters. asked.Node)
-IsAskedAt Metrics segment query = Given forms.Nothing query (λ parameters. asked.Metrics)
-IsAskedAt Registrations segment query =
-    Given forms.Registrations query (λ parameters. asked.Registrations parameters.after (unwrap_or parameters.limit 64))
-IsAskedAt Registration segment query = Then (Reads IsShort refused.Endpoint segment)
-    (λ endpoint. Given forms.Nothing query (λ parameters. asked.Registration endpoint))
-IsAskedAt Observations segment query = Then (Reads IsShort refused.Endpoint segment)
+abbrev pub IsQueryAt : Resource → List ℕ → Option (List ℕ) → Result ApiQuery RouteError → Type 0
+IsQueryAt Page segment query = Given forms.Nothing query (λ parameters. api_query.Page)
+IsQueryAt Health segment query = Given forms.Nothing query (λ parameters. api_query.Health)
+IsQueryAt Node segment query = Given forms.Nothing query (λ parameters. api_query.Node)
+IsQueryAt Metrics segment query = Given forms.Nothing query (λ parameters. api_query.Metrics)
+IsQueryAt Registrations segment query =
+    Given forms.Registrations query
+        (λ parameters. api_query.Registrations parameters.after (unwrap_or parameters.limit 64))
+IsQueryAt Registration segment query = Then (Reads IsShort error.Endpoint segment)
+    (λ endpoint. Given forms.Nothing query (λ parameters. api_query.Registration endpoint))
+IsQueryAt Observations segment query = Then (Reads IsShort error.Endpoint segment)
     (λ endpoint. AreObservationsOf endpoint query)
-IsAskedAt ById segment query = Then (Reads IsId refused.Id segment)
-    (λ id. Given forms.Nothing query (λ parameters. asked.ById id))
-IsAskedAt ByAddress segment query = Then (Reads IsAddress refused.Address segment)
-    (λ address. Given forms.Nothing query (λ parameters. asked.ByAddress address))
-IsAskedAt ByToken segment query = Then (Reads IsId refused.Token segment)
-    (λ token. Given forms.Nothing query (λ parameters. asked.ByToken token))
-IsAskedAt Changes segment query = Given forms.Changes query
-    (λ parameters. asked.Changes (unwrap_or parameters.since 0) parameters.start (unwrap_or parameters.limit 64))
-IsAskedAt Notifications segment query = Given forms.Notifications query
-    (λ parameters. asked.Notifications (unwrap_or parameters.from 0) parameters.start (unwrap_or parameters.limit 64))
+IsQueryAt ById segment query = Then (Reads IsId error.Id segment)
+    (λ id. Given forms.Nothing query (λ parameters. api_query.ById id))
+IsQueryAt ByAddress segment query = Then (Reads IsAddress error.Address segment)
+    (λ address. Given forms.Nothing query (λ parameters. api_query.ByAddress address))
+IsQueryAt ByToken segment query = Then (Reads IsId error.Token segment)
+    (λ token. Given forms.Nothing query (λ parameters. api_query.ByToken token))
+IsQueryAt Changes segment query = Given forms.Changes query
+    (λ parameters. api_query.Changes (unwrap_or parameters.since 0) parameters.start (unwrap_or parameters.limit 64))
+IsQueryAt Notifications segment query = Given forms.Notifications query
+    (λ parameters. api_query.Notifications (unwrap_or parameters.from 0) parameters.start
+        (unwrap_or parameters.limit 64))

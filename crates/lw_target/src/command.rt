@@ -1,7 +1,7 @@
 //! What a request changes.
 
 ghost use Rattle.std.specs.Prelude.{option_copied};
-ghost use Rattle.lw_target.specs.Purposes.{IsCommandedAt, Observes};
+ghost use Rattle.lw_target.specs.Routes.{IsCommandAt, Observes};
 ghost use Rattle.lw_target.specs.Targets.{Given};
 ghost use Rattle.lw_target.specs.declared.command.Command.TheVariants as Orders;
 ghost use Rattle.lw_target.specs.declared.parameters.Form.TheVariants as Forms;
@@ -11,7 +11,7 @@ ghost use Rattle.lw_target.specs.inner.Faults.{IsAnswered};
 use crate::decoding::short;
 use crate::fault::Fault;
 use crate::parameters::{Form, Parameters};
-use crate::{Refused, segments};
+use crate::{RouteError, segments};
 use lw_reg::Path;
 use lw_stamp::{Stamp, Text};
 use std::alloc::Global;
@@ -33,9 +33,9 @@ pub enum Command {
 
 /// What POST does at the observations of an endpoint.
 pub(crate) fn observe(alloc: Global, segment: &str, query: Option<&str>) -> Result<Command, Fault>
-    ensures { IsAnswered (IsCommandedAt Resources.Observations segment.now (option_copied query.entry)) result }
+    ensures { IsAnswered (IsCommandAt Resources.Observations segment.now (option_copied query.entry)) result }
 {
-    let endpoint = short(alloc, segment, Refused::Endpoint)?;
+    let endpoint = short(alloc, segment, RouteError::Endpoint)?;
     observe_at(alloc, endpoint, query)
 }
 
@@ -43,7 +43,7 @@ fn observe_at(alloc: Global, endpoint: Text, query: Option<&str>) -> Result<Comm
     ensures { IsAnswered (Observes endpoint (option_copied query.entry)) result }
 {
     let given = Parameters::read(alloc, Form::Observing, query)?;
-    let path = given.path.ok_or(Refused::Path)?;
+    let path = given.path.ok_or(RouteError::Path)?;
     Ok(Command::Observe {
         endpoint,
         path,
@@ -53,9 +53,9 @@ fn observe_at(alloc: Global, endpoint: Text, query: Option<&str>) -> Result<Comm
 
 /// What DELETE does at a token.
 pub(crate) fn cancel(alloc: Global, segment: &str, query: Option<&str>) -> Result<Command, Fault>
-    ensures { IsAnswered (IsCommandedAt Resources.ByToken segment.now (option_copied query.entry)) result }
+    ensures { IsAnswered (IsCommandAt Resources.ByToken segment.now (option_copied query.entry)) result }
 {
-    let token = segments::id(alloc, segment, Refused::Token)?;
+    let token = segments::id(alloc, segment, RouteError::Token)?;
     cancel_at(alloc, token, query)
 }
 

@@ -4,10 +4,10 @@ ghost use Rattle.std.specs.Prelude.{◌≡◌, ◌↔◌, IsTrue, IfOk, slice_in
 ghost use Rattle.std.specs.Char.{IsAsciiHexdigit};
 ghost use Rattle.lw_target.specs.Answers.{Reads};
 ghost use Rattle.lw_target.specs.Decoding.{IsPercentEncoded, IsDecoded, IsPathEncoded, IsShort};
-ghost use Rattle.lw_target.specs.declared.refused.Refused.TheVariants as refused;
+ghost use Rattle.lw_target.specs.declared.error.RouteError.TheVariants as error;
 ghost use Rattle.lw_target.specs.inner.Faults.{IsAnswered};
 
-use crate::Refused;
+use crate::RouteError;
 use crate::fault::Fault;
 use lw_path::read_path;
 use lw_reg::{Endpoint, Path};
@@ -17,39 +17,39 @@ use std::alloc::Global;
 use std::borrow::CowStr;
 
 /// What the text stands for.
-pub(crate) fn decoded(alloc: Global, text: &str, refused: Refused) -> Result<Text, Fault>
-    ensures { IsAnswered (Reads IsDecoded refused text.now) result }
+pub(crate) fn decoded(alloc: Global, text: &str, error: RouteError) -> Result<Text, Fault>
+    ensures { IsAnswered (Reads IsDecoded error text.now) result }
 {
     if !is_percent_encoded(text.as_bytes()) {
-        return Err(Fault::Refused(refused));
+        return Err(Fault::Route(error));
     }
     match percent_decode_str(text).decode_utf8(alloc) {
         Ok(CowStr::Borrowed(name)) => Ok(Text::copy_of(alloc, name)?),
         Ok(CowStr::Owned(name)) => Ok(Text::from(name)),
-        Err(DecodeError::Utf8(_)) => Err(Fault::Refused(refused)),
+        Err(DecodeError::Utf8(_)) => Err(Fault::Route(error)),
         Err(DecodeError::OutOfMemory) => Err(Fault::NoMemory),
     }
 }
 
 /// What the text stands for, which has 252 bytes at most.
-pub(crate) fn short(alloc: Global, text: &str, refused: Refused) -> Result<Text, Fault>
-    ensures { IsAnswered (Reads IsShort refused text.now) result }
+pub(crate) fn short(alloc: Global, text: &str, error: RouteError) -> Result<Text, Fault>
+    ensures { IsAnswered (Reads IsShort error text.now) result }
 {
-    let name = decoded(alloc, text, refused)?;
+    let name = decoded(alloc, text, error)?;
     if name.as_str().len() > Endpoint::MAX_LENGTH {
-        return Err(Fault::Refused(refused));
+        return Err(Fault::Route(error));
     }
     Ok(name)
 }
 
 /// The path whose text the text stands for.
 pub(crate) fn path(alloc: Global, text: &str) -> Result<Path, Fault>
-    ensures { IsAnswered (Reads IsPathEncoded refused.Path text.now) result }
+    ensures { IsAnswered (Reads IsPathEncoded error.Path text.now) result }
 {
-    let name = decoded(alloc, text, Refused::Path)?;
+    let name = decoded(alloc, text, RouteError::Path)?;
     match read_path(name.as_str()) {
         Some(path) => Ok(path),
-        None => Err(Fault::Refused(Refused::Path)),
+        None => Err(Fault::Route(RouteError::Path)),
     }
 }
 

@@ -1,12 +1,12 @@
 ghost use Rattle.std.specs.Prelude.{◌≡◌};
 
-use crate::Refused;
+use crate::RouteError;
 use lw_stamp::NoMemory;
 
 /// Why a step of reading came to nothing.
 #[derive(Clone, Copy)]
 pub(crate) enum Fault {
-    Refused(Refused),
+    Route(RouteError),
     NoMemory,
 }
 
@@ -20,12 +20,12 @@ impl From<NoMemory> for Fault {
     }
 }
 
-impl From<Refused> for Fault {
+impl From<RouteError> for Fault {
     ghost use Rattle.lw_target.specs.declared.fault.Fault.TheVariants as fault;
 
-    ghost from_gives = { λ refused f. f ≡ fault.Refused refused };
+    ghost from_gives = { λ error f. f ≡ fault.Route error };
 
-    fn from(refused: Refused) -> Fault {
-        Fault::Refused(refused)
+    fn from(error: RouteError) -> Fault {
+        Fault::Route(error)
     }
 }

@@ -6,56 +6,56 @@ ghost use Rattle.hex.specs.Hex.{encode_lower};
 ghost use Rattle.lw_reg.specs.inner.Addr.Reading.{IsPlain};
 ghost use Rattle.lw_target.specs.Answers.{Reads};
 ghost use Rattle.lw_target.specs.Numbers.{IsNumber, IsSince, IsFrom, IsAccept, IsLimit, IsTag};
-ghost use Rattle.lw_target.specs.declared.refused.Refused.TheVariants as refused;
+ghost use Rattle.lw_target.specs.declared.error.RouteError.TheVariants as error;
 
-use crate::Refused;
+use crate::RouteError;
 use hex::FromHex;
 
 /// The number in decimal, without leading zeros.
-pub(crate) fn since(text: &str) -> Result<u64, Refused>
-    ensures { Reads IsSince refused.Since text.now result }
+pub(crate) fn since(text: &str) -> Result<u64, RouteError>
+    ensures { Reads IsSince error.Since text.now result }
 {
-    decimal(text).ok_or(Refused::Since)
+    decimal(text).ok_or(RouteError::Since)
 }
 
 /// The number of the first notification, in decimal, without leading zeros.
-pub(crate) fn from(text: &str) -> Result<u64, Refused>
-    ensures { Reads IsFrom refused.From text.now result }
+pub(crate) fn from(text: &str) -> Result<u64, RouteError>
+    ensures { Reads IsFrom error.From text.now result }
 {
-    decimal(text).ok_or(Refused::From)
+    decimal(text).ok_or(RouteError::From)
 }
 
 /// The number of a content format, in decimal, without leading zeros.
-pub(crate) fn accept(text: &str) -> Result<u16, Refused>
-    ensures { Reads IsAccept refused.Accept text.now result }
+pub(crate) fn accept(text: &str) -> Result<u16, RouteError>
+    ensures { Reads IsAccept error.Accept text.now result }
 {
     let Some(number) = decimal(text) else {
-        return Err(Refused::Accept);
+        return Err(RouteError::Accept);
     };
     match u16::try_from(number) {
         Ok(accept) => Ok(accept),
-        Err(_) => Err(Refused::Accept),
+        Err(_) => Err(RouteError::Accept),
     }
 }
 
 /// The number of entries, from 1 to 256.
-pub(crate) fn limit(text: &str) -> Result<usize, Refused>
-    ensures { Reads IsLimit refused.Limit text.now result }
+pub(crate) fn limit(text: &str) -> Result<usize, RouteError>
+    ensures { Reads IsLimit error.Limit text.now result }
 {
     let Some(limit) = decimal(text) else {
-        return Err(Refused::Limit);
+        return Err(RouteError::Limit);
     };
     if !(1..=256).contains(&limit) {
-        return Err(Refused::Limit);
+        return Err(RouteError::Limit);
     }
     Ok(limit as usize)
 }
 
 /// The number of 16 lower-case hex digits.
-pub(crate) fn tag(text: &str) -> Result<u64, Refused>
-    ensures { Reads IsTag refused.Start text.now result }
+pub(crate) fn tag(text: &str) -> Result<u64, RouteError>
+    ensures { Reads IsTag error.Start text.now result }
 {
-    tag_of(text.as_bytes()).ok_or(Refused::Start)
+    tag_of(text.as_bytes()).ok_or(RouteError::Start)
 }
 
 fn decimal(text: &str) -> Option<u64>

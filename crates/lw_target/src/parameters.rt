@@ -10,7 +10,7 @@ ghost use Rattle.lw_target.specs.inner.Faults.{IsAnswered};
 
 use crate::decoding::short;
 use crate::fault::Fault;
-use crate::{Refused, decoding, numbers};
+use crate::{RouteError, decoding, numbers};
 use lw_reg::Path;
 use lw_stamp::Text;
 use std::alloc::Global;
@@ -125,11 +125,11 @@ impl Parameters {
         ensures memory { result ≡ Err Faults.NoMemory → gives_text form ≡ true }
     {
         let Some((name, value)) = part.split_once('=') else {
-            return Err(Fault::Refused(Refused::NoValue));
+            return Err(Fault::Route(RouteError::NoValue));
         };
         match Name::read(form, name) {
             Some(name) => self.with_value(alloc, name, value),
-            None => Err(Fault::Refused(Refused::NoParameter)),
+            None => Err(Fault::Route(RouteError::NoParameter)),
         }
     }
 
@@ -152,9 +152,9 @@ impl Parameters {
         ensures { IsAnswered (IsGiven Names.After self value.now) result }
     {
         if self.after.is_some() {
-            return Err(Fault::Refused(Refused::Twice));
+            return Err(Fault::Route(RouteError::Twice));
         }
-        let after = Some(short(alloc, value, Refused::After)?);
+        let after = Some(short(alloc, value, RouteError::After)?);
         Ok(Parameters { after, ..self })
     }
 
@@ -163,7 +163,7 @@ impl Parameters {
         ensures memory { result ≢ Err Faults.NoMemory }
     {
         if self.limit.is_some() {
-            return Err(Fault::Refused(Refused::Twice));
+            return Err(Fault::Route(RouteError::Twice));
         }
         let limit = Some(numbers::limit(value)?);
         Ok(Parameters { limit, ..self })
@@ -174,7 +174,7 @@ impl Parameters {
         ensures memory { result ≢ Err Faults.NoMemory }
     {
         if self.since.is_some() {
-            return Err(Fault::Refused(Refused::Twice));
+            return Err(Fault::Route(RouteError::Twice));
         }
         let since = Some(numbers::since(value)?);
         Ok(Parameters { since, ..self })
@@ -185,7 +185,7 @@ impl Parameters {
         ensures memory { result ≢ Err Faults.NoMemory }
     {
         if self.start.is_some() {
-            return Err(Fault::Refused(Refused::Twice));
+            return Err(Fault::Route(RouteError::Twice));
         }
         let start = Some(numbers::tag(value)?);
         Ok(Parameters { start, ..self })
@@ -196,7 +196,7 @@ impl Parameters {
         ensures memory { result ≢ Err Faults.NoMemory }
     {
         if self.from.is_some() {
-            return Err(Fault::Refused(Refused::Twice));
+            return Err(Fault::Route(RouteError::Twice));
         }
         let from = Some(numbers::from(value)?);
         Ok(Parameters { from, ..self })
@@ -206,7 +206,7 @@ impl Parameters {
         ensures { IsAnswered (IsGiven Names.Path self value.now) result }
     {
         if self.path.is_some() {
-            return Err(Fault::Refused(Refused::Twice));
+            return Err(Fault::Route(RouteError::Twice));
         }
         let path = Some(decoding::path(alloc, value)?);
         Ok(Parameters { path, ..self })
@@ -217,7 +217,7 @@ impl Parameters {
         ensures memory { result ≢ Err Faults.NoMemory }
     {
         if self.accept.is_some() {
-            return Err(Fault::Refused(Refused::Twice));
+            return Err(Fault::Route(RouteError::Twice));
         }
         let accept = Some(numbers::accept(value)?);
         Ok(Parameters { accept, ..self })

@@ -3,9 +3,9 @@
 ghost use Rattle.lw_target.specs.Answers.{Reads};
 ghost use Rattle.lw_target.specs.Targets.{IsId, IsAddress};
 ghost use Rattle.lw_target.specs.inner.Faults.{IsAnswered};
-ghost use Rattle.lw_target.specs.declared.refused.Refused.TheVariants as refused;
+ghost use Rattle.lw_target.specs.declared.error.RouteError.TheVariants as error;
 
-use crate::Refused;
+use crate::RouteError;
 use crate::decoding::decoded;
 use crate::fault::Fault;
 use lw_reg::Addr;
@@ -13,23 +13,23 @@ use lw_stamp::Stamp;
 use std::alloc::Global;
 
 /// The identifier of a registration, or the token of an observation.
-pub(crate) fn id(alloc: Global, segment: &str, refused: Refused) -> Result<Stamp, Fault>
-    ensures { IsAnswered (Reads IsId refused segment.now) result }
+pub(crate) fn id(alloc: Global, segment: &str, error: RouteError) -> Result<Stamp, Fault>
+    ensures { IsAnswered (Reads IsId error segment.now) result }
 {
-    let name = decoded(alloc, segment, refused)?;
+    let name = decoded(alloc, segment, error)?;
     match Stamp::read_id(name.as_str().as_bytes()) {
         Some(id) => Ok(id),
-        None => Err(Fault::Refused(refused)),
+        None => Err(Fault::Route(error)),
     }
 }
 
 /// The address of a client.
 pub(crate) fn address(alloc: Global, segment: &str) -> Result<Addr, Fault>
-    ensures { IsAnswered (Reads IsAddress refused.Address segment.now) result }
+    ensures { IsAnswered (Reads IsAddress error.Address segment.now) result }
 {
-    let name = decoded(alloc, segment, Refused::Address)?;
+    let name = decoded(alloc, segment, RouteError::Address)?;
     match Addr::read(name.as_str()) {
         Some(address) => Ok(address),
-        None => Err(Fault::Refused(Refused::Address)),
+        None => Err(Fault::Route(RouteError::Address)),
     }
 }

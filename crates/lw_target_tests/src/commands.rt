@@ -38,7 +38,7 @@ static OBSERVED: [Row; 9] = [
     ("?path=/0&accept=65535", "observe lamp 0 in 65535"),
 ];
 
-/// Tries: lw_target::purpose_of, lw_path::read_path
+/// Tries: lw_target::route_of, lw_path::read_path
 #[test]
 fn a_path_is_observed(rt: HostRuntime) {
     check_lamp(&rt, rt.alloc(), &OBSERVED);
@@ -62,7 +62,7 @@ static NO_PATHS: [Row; 15] = [
     ("?path=/a&accept=a", "400 path"),
 ];
 
-/// Tries: lw_target::purpose_of, lw_path::read_path
+/// Tries: lw_target::route_of, lw_path::read_path
 #[test]
 fn without_a_path_nothing_is_observed(rt: HostRuntime) {
     check_lamp(&rt, rt.alloc(), &NO_PATHS);
@@ -85,7 +85,7 @@ static OTHER_PARAMETERS: [Row; 14] = [
     ("?path=/3&accept", "400 a parameter without a value"),
 ];
 
-/// Tries: lw_target::purpose_of
+/// Tries: lw_target::route_of
 #[test]
 fn other_parameters_of_an_observation(rt: HostRuntime) {
     check_lamp(&rt, rt.alloc(), &OTHER_PARAMETERS);
@@ -141,7 +141,7 @@ static TARGETS: [TargetRow; 12] = [
     (Method::Delete, "/v1/tokens/", "404 no such resource"),
 ];
 
-/// Tries: lw_target::purpose_of
+/// Tries: lw_target::route_of
 #[test]
 fn commands_and_their_targets(rt: HostRuntime) {
     for (method, target, want) in &TARGETS {
@@ -163,7 +163,7 @@ fn check_endpoint(rt: &impl Abort, alloc: Global, endpoint: &str, want: &str) {
 }
 
 /// The most bytes that an endpoint may have, and one more.
-/// Tries: lw_target::purpose_of
+/// Tries: lw_target::route_of
 #[test]
 fn endpoints_have_252_bytes_at_most(rt: HostRuntime) {
     let alloc = rt.alloc();

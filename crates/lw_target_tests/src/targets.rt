@@ -34,7 +34,7 @@ static TABLE: [Row; 15] = [
     ("/v1/notifications", "64 from 0"),
 ];
 
-/// Tries: lw_target::purpose_of
+/// Tries: lw_target::route_of
 #[test]
 fn each_target_is_known(rt: HostRuntime) {
     check_rows(&rt, rt.alloc(), &TABLE);
@@ -59,7 +59,7 @@ static NO_TARGETS: [Row; 16] = [
     ("/v1/nothing/lamp?limit=0", "404 no such resource"),
 ];
 
-/// Tries: lw_target::purpose_of
+/// Tries: lw_target::route_of
 #[test]
 fn no_other_path_is_of_a_resource(rt: HostRuntime) {
     check_rows(&rt, rt.alloc(), &NO_TARGETS);
@@ -80,7 +80,7 @@ static NO_OBSERVATIONS: [Row; 9] = [
     ("/observations", "404 no such resource"),
 ];
 
-/// Tries: lw_target::purpose_of
+/// Tries: lw_target::route_of
 #[test]
 fn observations_stand_below_one_endpoint(rt: HostRuntime) {
     check_rows(&rt, rt.alloc(), &NO_OBSERVATIONS);
@@ -140,7 +140,7 @@ static OBSERVATIONS: [Row; 24] = [
     ),
 ];
 
-/// Tries: lw_target::purpose_of, lw_path::read_path
+/// Tries: lw_target::route_of, lw_path::read_path
 #[test]
 fn observations_begin_behind_a_path(rt: HostRuntime) {
     check_rows(&rt, rt.alloc(), &OBSERVATIONS);
@@ -226,7 +226,7 @@ static OTHER_METHODS: [MethodRow; 18] = [
     ),
 ];
 
-/// Tries: lw_target::purpose_of, lw_target::Allowed::text
+/// Tries: lw_target::route_of, lw_target::Allowed::text
 #[test]
 fn a_resource_has_the_methods_that_are_told(rt: HostRuntime) {
     for (commands, method, target, want) in &OTHER_METHODS {
@@ -256,7 +256,7 @@ static SEGMENTS: [Row; 19] = [
     ("/v1/tokens/000000000009000A", "400 token"),
 ];
 
-/// Tries: lw_target::purpose_of
+/// Tries: lw_target::route_of
 #[test]
 fn a_segment_is_decoded_after_the_path_was_split(rt: HostRuntime) {
     check_rows(&rt, rt.alloc(), &SEGMENTS);
@@ -274,7 +274,7 @@ static NO_SEGMENTS: [Row; 9] = [
     ("/v1/addresses/[::1]:1", "400 address"),
 ];
 
-/// Tries: lw_target::purpose_of
+/// Tries: lw_target::route_of
 #[test]
 fn a_segment_that_names_nothing_is_refused(rt: HostRuntime) {
     check_rows(&rt, rt.alloc(), &NO_SEGMENTS);
@@ -295,7 +295,7 @@ static LIMITS: [Row; 12] = [
     ("/v1/changes?limit=257", "400 limit"),
 ];
 
-/// Tries: lw_target::purpose_of
+/// Tries: lw_target::route_of
 #[test]
 fn a_limit_is_from_1_to_256(rt: HostRuntime) {
     check_rows(&rt, rt.alloc(), &LIMITS);
@@ -313,7 +313,7 @@ static AFTERS: [Row; 9] = [
     ("/v1/registrations?after=%ff", "400 after"),
 ];
 
-/// Tries: lw_target::purpose_of
+/// Tries: lw_target::route_of
 #[test]
 fn a_text_to_begin_behind_is_decoded(rt: HostRuntime) {
     check_rows(&rt, rt.alloc(), &AFTERS);
@@ -335,7 +335,7 @@ static NAMES: [Row; 4] = [
     ("/v1/registrations?after=", "%41"),
 ];
 
-/// Tries: lw_target::purpose_of
+/// Tries: lw_target::route_of
 #[test]
 fn names_have_252_bytes_at_most(rt: HostRuntime) {
     for (front, letter) in &NAMES {
@@ -366,7 +366,7 @@ static CHANGES: [Row; 12] = [
     ("/v1/changes?start=", "400 start"),
 ];
 
-/// Tries: lw_target::purpose_of
+/// Tries: lw_target::route_of
 #[test]
 fn changes_are_asked_for_since_a_number(rt: HostRuntime) {
     check_rows(&rt, rt.alloc(), &CHANGES);
@@ -392,7 +392,7 @@ static NOTIFICATIONS: [Row; 11] = [
     ("/v1/notifications?from=1&from=1", "400 a parameter twice"),
 ];
 
-/// Tries: lw_target::purpose_of
+/// Tries: lw_target::route_of
 #[test]
 fn notifications_are_asked_for_from_a_number(rt: HostRuntime) {
     check_rows(&rt, rt.alloc(), &NOTIFICATIONS);
@@ -423,7 +423,7 @@ static NO_PARAMETERS: [Row; 16] = [
     ("/v1/changes?after=a", "400 no such parameter"),
 ];
 
-/// Tries: lw_target::purpose_of
+/// Tries: lw_target::route_of
 #[test]
 fn other_parameters_are_refused(rt: HostRuntime) {
     check_rows(&rt, rt.alloc(), &NO_PARAMETERS);
@@ -441,7 +441,7 @@ static SEVERAL: [Row; 6] = [
     ("/v1/registrations?after=%&x", "400 after"),
 ];
 
-/// Tries: lw_target::purpose_of, lw_target::Refused::status, lw_target::Refused::text
+/// Tries: lw_target::route_of, lw_target::RouteError::status, lw_target::RouteError::text
 #[test]
 fn the_first_fault_decides(rt: HostRuntime) {
     check_rows(&rt, rt.alloc(), &SEVERAL);

@@ -1,7 +1,7 @@
 //! What is asked for in words.
 
 use lw_reg::Path;
-use lw_target::{Asked, Command, Commands, Method, Purpose, Refused, purpose_of};
+use lw_target::{ApiQuery, Command, Commands, Method, Route, RouteError, route_of};
 use std::alloc::Global;
 use std::fmt::Display;
 use std::process::Abort;
@@ -21,10 +21,10 @@ type Request = (Commands, Method);
 pub(crate) fn told(rt: &impl Abort, alloc: Global, request: Request, target: &str) -> String {
     let (commands, method) = request;
     let (path, query) = parts(target);
-    match purpose_of(alloc, commands, method, path, query).expect(rt, "memory") {
-        Ok(Purpose::Question(asked)) => in_words(rt, alloc, &asked),
-        Ok(Purpose::Command(command)) => command_in_words(rt, alloc, &command),
-        Err(refused) => refusal_in_words(rt, alloc, refused),
+    match route_of(alloc, commands, method, path, query).expect(rt, "memory") {
+        Ok(Route::Query(api_query)) => in_words(rt, alloc, &api_query),
+        Ok(Route::Command(command)) => command_in_words(rt, alloc, &command),
+        Err(error) => error_in_words(rt, alloc, error),
     }
 }
 
@@ -39,10 +39,10 @@ fn text<D: Display + Drop>(rt: &impl Abort, alloc: Global, shown: D) -> String {
     String::format(alloc, shown).expect(rt, "memory")
 }
 
-fn refusal_in_words(rt: &impl Abort, alloc: Global, refused: Refused) -> String {
-    let (status, why) = (refused.status(), refused.text());
-    match refused {
-        Refused::MethodNotAllowed(allowed) => {
+fn error_in_words(rt: &impl Abort, alloc: Global, error: RouteError) -> String {
+    let (status, why) = (error.status(), error.text());
+    match error {
+        RouteError::MethodNotAllowed(allowed) => {
             let methods = allowed.text();
             text(rt, alloc, format_args!("{status} {why}: {methods}"))
         }
@@ -86,13 +86,13 @@ fn numbers(rt: &impl Abort, alloc: Global, path: &Path) -> String {
     numbers
 }
 
-fn in_words(rt: &impl Abort, alloc: Global, asked: &Asked) -> String {
-    match asked {
-        Asked::Registrations { after, limit } => match after {
+fn in_words(rt: &impl Abort, alloc: Global, api_query: &ApiQuery) -> String {
+    match api_query {
+        ApiQuery::Registrations { after, limit } => match after {
             Some(after) => text(rt, alloc, format_args!("{limit} after {}", after.as_str())),
             None => text(rt, alloc, format_args!("{limit} of all")),
         },
-        Asked::Changes {
+        ApiQuery::Changes {
             since,
             start,
             limit,
@@ -100,16 +100,16 @@ fn in_words(rt: &impl Abort, alloc: Global, asked: &Asked) -> String {
             Some(start) => text(rt, alloc, format_args!("{limit} since {since} of {start}")),
             None => text(rt, alloc, format_args!("{limit} since {since}")),
         },
-        Asked::Notifications { from, start, limit } => match start {
+        ApiQuery::Notifications { from, start, limit } => match start {
             Some(start) => text(rt, alloc, format_args!("{limit} from {from} of {start}")),
             None => text(rt, alloc, format_args!("{limit} from {from}")),
         },
-        Asked::Observations {
+        ApiQuery::Observations {
             endpoint,
             after,
             limit,
         } => observed_in_words(rt, alloc, endpoint.as_str(), after, *limit),
-        _ => one_in_words(rt, alloc, asked),
+        _ => one_in_words(rt, alloc, api_query),
     }
 }
 
@@ -133,27 +133,27 @@ fn observed_in_words(
     }
 }
 
-fn one_in_words(rt: &impl Abort, alloc: Global, asked: &Asked) -> String {
-    match asked {
-        Asked::Registration { endpoint } => text(
+fn one_in_words(rt: &impl Abort, alloc: Global, api_query: &ApiQuery) -> String {
+    match api_query {
+        ApiQuery::Registration { endpoint } => text(
             rt,
             alloc,
             format_args!("of {}", endpoint.as_str()),
         ),
-        Asked::ById { id } => text(rt, alloc, format_args!("id {} {}", id.counter, id.node)),
-        Asked::ByToken { token } => text(
+        ApiQuery::ById { id } => text(rt, alloc, format_args!("id {} {}", id.counter, id.node)),
+        ApiQuery::ByToken { token } => text(
             rt,
             alloc,
             format_args!("token {} {}", token.counter, token.node),
         ),
-        Asked::ByAddress { address } => {
+        ApiQuery::ByAddress { address } => {
             let printed = address.print(alloc).expect(rt, "memory");
             text(rt, alloc, format_args!("at {}", printed.as_str()))
         }
-        Asked::Page => text(rt, alloc, "page"),
-        Asked::Health => text(rt, alloc, "health"),
-        Asked::Node => text(rt, alloc, "node"),
-        Asked::Metrics => text(rt, alloc, "metrics"),
+        ApiQuery::Page => text(rt, alloc, "page"),
+        ApiQuery::Health => text(rt, alloc, "health"),
+        ApiQuery::Node => text(rt, alloc, "node"),
+        ApiQuery::Metrics => text(rt, alloc, "metrics"),
         _ => text(rt, alloc, "one registration or observation"),
     }
 }

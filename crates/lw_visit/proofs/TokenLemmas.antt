@@ -2,7 +2,7 @@
 use Rattle.std.proofs.Common.{◌≡◌, ◌↔◌, ℕ, List, Bool, false, IsTrue, true≢false, sym, subst}
 use Rattle.std.specs.Prelude.{Some, None, IsSomeAnd}
 use Rattle.http_header.specs.FieldValue.{FieldValue}
-use Rattle.lw_visit.specs.Guard.{only_of, Presents}
+use Rattle.lw_visit.specs.AccessPolicy.{only_of, Presents}
 
 pub brought : (values : List FieldValue) (value : FieldValue) (token : List ℕ) (answer : Bool) → Some value ≡ only_of values
     → (IsTrue answer ↔ Presents token value.bytes) → IsTrue answer ↔ IsSomeAnd (only_of values) (λ v. Presents token v.bytes)

@@ -1,5 +1,5 @@
-pub mod Guard
+pub mod AccessPolicy
 pub mod Responses
 pub mod Token
 pub mod Verdicts
-pub mod Visits
+pub mod Connections

@@ -3,21 +3,21 @@ use Rattle.std.specs.Prelude.{◌≡◌, ◌⊎◌, ℕ, List, [], ◌∷◌, �
 use Rattle.http1.specs.Fields.{Header}
 use Rattle.http_server.specs.declared.response.Response.{Response}
 use Rattle.http_server.specs.Response.{IsResponse}
-use Rattle.lw_target.specs.declared.asked.Asked.{Asked}
+use Rattle.lw_target.specs.declared.api_query.ApiQuery.{ApiQuery}
 use Rattle.lw_target.specs.declared.command.Command.{Command}
-use Rattle.lw_target.specs.declared.desk.Answer.{Answer}
-use Rattle.lw_target.specs.declared.desk.Media.{Media}
-use Rattle.lw_target.specs.declared.desk.Media.TheVariants.{Json, Html, Metrics, Nothing}
-use Rattle.lw_target.specs.declared.desk.Status.{Status}
-use Rattle.lw_target.specs.declared.desk.Status.TheVariants as status
-use Rattle.lw_target.specs.declared.purpose.Purpose.{Purpose}
-use Rattle.lw_target.specs.declared.purpose.Purpose.TheVariants as purpose
-use Rattle.lw_target.specs.declared.refused.Refused.{Refused}
-use Rattle.lw_target.specs.declared.refused.Refused.TheVariants.{MethodNotAllowed}
+use Rattle.lw_target.specs.declared.api.ApiResponse.{ApiResponse}
+use Rattle.lw_target.specs.declared.api.Media.{Media}
+use Rattle.lw_target.specs.declared.api.Media.TheVariants.{Json, Html, Metrics, Nothing}
+use Rattle.lw_target.specs.declared.api.Status.{Status}
+use Rattle.lw_target.specs.declared.api.Status.TheVariants as status
+use Rattle.lw_target.specs.declared.route.Route.{Route}
+use Rattle.lw_target.specs.declared.route.Route.TheVariants as route
+use Rattle.lw_target.specs.declared.error.RouteError.{RouteError}
+use Rattle.lw_target.specs.declared.error.RouteError.TheVariants.{MethodNotAllowed}
 use Rattle.lw_target.specs.Methods.{methods_text}
-use Rattle.lw_target.specs.Refusals.{status_of, text_of}
-use Rattle.lw_visit.specs.declared.refusal.Refusal.{Refusal}
-use Rattle.lw_visit.specs.declared.refusal.Refusal.TheVariants.{Misdirected, Unauthorized, FromAnotherSite, Target}
+use Rattle.lw_target.specs.Errors.{status_of, text_of}
+use Rattle.lw_visit.specs.declared.error.HttpError.{HttpError}
+use Rattle.lw_visit.specs.declared.error.HttpError.TheVariants.{Misdirected, Unauthorized, FromAnotherSite, Target}
 
 -- ---- fields
 -- the connection closes; nothing is kept, and nothing is taken for another type than it is
@@ -50,31 +50,31 @@ abbrev pub Refuses : ℕ → List Header → List ℕ → Response → Type 0
 Refuses code more text = IsResponse code (fields_for Json more) (error_body text)
 
 -- the methods that a resource has, where another one was used
-abbrev pub more_for : Refused → List Header
+abbrev pub more_for : RouteError → List Header
 more_for (MethodNotAllowed allowed) = (codes "allow", methods_text allowed) ∷ []
 more_for _ = []
 
 -- for another host, without the token, from another site, or for nothing
-abbrev pub refusal_code : Refusal → ℕ
-refusal_code Misdirected = 421
-refusal_code Unauthorized = 401
-refusal_code FromAnotherSite = 403
-refusal_code (Target refused) = status_of refused
+abbrev pub error_code : HttpError → ℕ
+error_code Misdirected = 421
+error_code Unauthorized = 401
+error_code FromAnotherSite = 403
+error_code (Target route_error) = status_of route_error
 
-abbrev pub refusal_fields : Refusal → List Header
-refusal_fields Misdirected = []
-refusal_fields Unauthorized = (codes "www-authenticate", codes "Bearer") ∷ []
-refusal_fields FromAnotherSite = []
-refusal_fields (Target refused) = more_for refused
+abbrev pub error_fields : HttpError → List Header
+error_fields Misdirected = []
+error_fields Unauthorized = (codes "www-authenticate", codes "Bearer") ∷ []
+error_fields FromAnotherSite = []
+error_fields (Target route_error) = more_for route_error
 
-abbrev pub refusal_text : Refusal → List ℕ
-refusal_text Misdirected = codes "not for this host"
-refusal_text Unauthorized = codes "a token is needed"
-refusal_text FromAnotherSite = codes "from another site"
-refusal_text (Target refused) = text_of refused
+abbrev pub error_text : HttpError → List ℕ
+error_text Misdirected = codes "not for this host"
+error_text Unauthorized = codes "a token is needed"
+error_text FromAnotherSite = codes "from another site"
+error_text (Target route_error) = text_of route_error
 
-abbrev pub IsRefusal : Refusal → Response → Type 0
-IsRefusal refusal = Refuses (refusal_code refusal) (refusal_fields refusal) (refusal_text refusal)
+abbrev pub IsErrorResponse : HttpError → Response → Type 0
+IsErrorResponse error = Refuses (error_code error) (error_fields error) (error_text error)
 
 -- ---- answers
 abbrev pub code_of : Status → ℕ
@@ -91,21 +91,22 @@ abbrev pub body_in : Media → List ℕ → List ℕ
 body_in Nothing text = []
 body_in _ text = text
 
-abbrev pub Gives : Answer → Response → Type 0
+abbrev pub Gives : ApiResponse → Response → Type 0
 Gives answer = IsResponse (code_of answer.status) (fields_for answer.media [])
     (body_in answer.media (string_bytes answer.body))
 
 -- what is told of a command that was carried out: where there is no memory for it, an empty 503
-abbrev pub IsToldOf : Option Answer → Response → Type 0
+abbrev pub IsToldOf : Option ApiResponse → Response → Type 0
 IsToldOf None response = IsResponse 503 [] [] response
 IsToldOf (Some answer) response = Gives answer response ⊎ IsResponse 503 [] [] response
 
--- ---- what is told, by a desk that may stand otherwise after it
--- a question and a refusal leave the desk as it was
-abbrev pub IsShown : {S : Type 0} → (S → Asked → Answer → Type 0) → (S → Command → Option Answer → S → Type 0)
-    → S → Result Purpose Refusal → Response → S → Type 0
-IsShown Tells Does old (Ok (purpose.Question asked)) response new =
-    (answer : Answer) × Tells old asked answer × Gives answer response × (new ≡ old)
-IsShown Tells Does old (Ok (purpose.Command command)) response new =
-    (answer : Option Answer) × Does old command answer new × IsToldOf answer response
-IsShown Tells Does old (Err refusal) response new = IsRefusal refusal response × (new ≡ old)
+-- ---- what is told, by an API that may stand otherwise after it
+-- a query and an error leave the API as it was
+abbrev pub IsShown : {S : Type 0} → (S → ApiQuery → ApiResponse → Type 0)
+    → (S → Command → Option ApiResponse → S → Type 0)
+    → S → Result Route HttpError → Response → S → Type 0
+IsShown MayAnswer MayDo old (Ok (route.Query api_query)) response new =
+    (answer : ApiResponse) × MayAnswer old api_query answer × Gives answer response × (new ≡ old)
+IsShown MayAnswer MayDo old (Ok (route.Command command)) response new =
+    (answer : Option ApiResponse) × MayDo old command answer new × IsToldOf answer response
+IsShown MayAnswer MayDo old (Err error) response new = IsErrorResponse error response × (new ≡ old)

@@ -1,14 +1,14 @@
-//! Visits over HTTP: who may ask, what a response says, and a connection that is answered.
+//! An API over HTTP: who may ask, what a response says, and a connection that is answered.
 #![tactic(auto)]
 
-mod asking;
-mod guard;
-mod judging;
-mod refusal;
+mod service;
+mod policy;
+mod authorization;
+mod error;
 mod token;
-mod visiting;
+mod connection;
 
-pub use asking::Asking;
-pub use guard::Guard;
+pub use service::ApiService;
+pub use policy::AccessPolicy;
 pub use token::token_in;
-pub use visiting::{advance, new_connection, visit};
+pub use connection::{advance, new_connection, serve_connection};

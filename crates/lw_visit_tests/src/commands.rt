@@ -40,7 +40,7 @@ static CARRIED_OUT: [Row<'static>; 5] = [
     ),
 ];
 
-/// Tries: visit
+/// Tries: serve_connection
 #[test]
 fn what_a_desk_does(rt: HostRuntime) {
     let stage = Stage::new(&rt, rt.alloc(), None, Commands::On);
@@ -48,7 +48,7 @@ fn what_a_desk_does(rt: HostRuntime) {
 }
 
 /// A command is carried out though there is no memory to tell of it.
-/// Tries: visit
+/// Tries: serve_connection
 #[test]
 fn what_a_desk_cannot_tell_of(rt: HostRuntime) {
     let stage = Stage::new(&rt, rt.alloc(), None, Commands::On);
@@ -95,7 +95,7 @@ fn is_forbidden(rt: &impl Abort, alloc: Global, stage: &Stage, line: &str, field
     stage.is_sent(rt, 0, &row);
 }
 
-/// Tries: visit
+/// Tries: serve_connection
 #[test]
 fn what_another_site_would_change(rt: HostRuntime) {
     let stage = Stage::new(&rt, rt.alloc(), None, Commands::On);
@@ -106,7 +106,7 @@ fn what_another_site_would_change(rt: HostRuntime) {
     }
 }
 
-/// Requests with several faults, of which the first one counts. The guard has a token.
+/// Requests with several faults, of which the first one counts. The access policy has a token.
 static FAULTS: [Row<'static>; 8] = [
     (
         "POST /v1/registrations/a/observations HTTP/1.1\r\nhost: evil.example\r\norigin: null\r\n\r\n",
@@ -158,7 +158,7 @@ static FAULTS: [Row<'static>; 8] = [
     ),
 ];
 
-/// Tries: visit
+/// Tries: serve_connection
 #[test]
 fn the_first_fault_counts(rt: HostRuntime) {
     let stage = Stage::new(&rt, rt.alloc(), Some(TOKEN), Commands::On);
@@ -187,7 +187,7 @@ static NO_COMMANDS: [Row<'static>; 3] = [
     ),
 ];
 
-/// Tries: visit
+/// Tries: serve_connection
 #[test]
 fn what_changes_nothing(rt: HostRuntime) {
     let stage = Stage::new(&rt, rt.alloc(), None, Commands::Off);

@@ -8,4 +8,4 @@ mod stage;
 #[cfg(test)]
 mod tokens;
 #[cfg(test)]
-mod visits;
+mod connections;

@@ -1,18 +1,18 @@
-//! A desk, and what is sent for it.
+//! An API, and what is sent for it.
 
 use lw_stamp::NoMemory;
-use lw_target::{Answer, Asked, Command, Commands, Desk, Media, Status};
-use lw_visit::{Guard, visit};
+use lw_target::{ApiResponse, ApiQuery, Command, Commands, Api, Media, Status};
+use lw_visit::{AccessPolicy, serve_connection};
 use std::alloc::Global;
 use std::hash::RandomState;
 use std::process::Abort;
 use std::random::RandomSource;
 use std::str;
 
-/// The token of a guard that has one.
+/// The token of an access policy that has one.
 pub(crate) const TOKEN: &str = "0123456789abcdef";
 
-/// A desk that tells by what is asked for alone, and counts the commands.
+/// An API that tells by what is asked for alone, and counts the commands.
 #[derive(Drop)]
 pub(crate) struct ByKind {
     alloc: Global,
@@ -20,8 +20,8 @@ pub(crate) struct ByKind {
 }
 
 impl ByKind {
-    fn told(&self, status: Status, media: Media, body: &str) -> Result<Answer, NoMemory> {
-        Ok(Answer {
+    fn told(&self, status: Status, media: Media, body: &str) -> Result<ApiResponse, NoMemory> {
+        Ok(ApiResponse {
             status,
             media,
             body: String::from_str(self.alloc, body)?,
@@ -29,25 +29,25 @@ impl ByKind {
     }
 }
 
-impl Desk for ByKind {
-    ghost tells = { λ desk asked answer. Unit {0} };
+impl Api for ByKind {
+    ghost may_answer = { λ api api_query answer. Unit {0} };
 
-    ghost does = { λ old command answer new. Unit {0} };
+    ghost may_do = { λ old command answer new. Unit {0} };
 
-    fn answer(&self, asked: &Asked) -> Result<Answer, NoMemory> {
-        match asked {
-            Asked::Health => self.told(Status::Ok, Media::Json, "{}"),
-            Asked::Page => self.told(Status::Ok, Media::Html, "<p>"),
-            Asked::Metrics => self.told(Status::Ok, Media::Metrics, "one 1\n"),
-            Asked::Node => self.told(Status::ServiceUnavailable, Media::Json, "[]"),
-            Asked::Changes { .. } => self.told(Status::Gone, Media::Json, "1"),
-            Asked::ById { .. } => self.told(Status::BadRequest, Media::Json, "2"),
+    fn answer(&self, api_query: &ApiQuery) -> Result<ApiResponse, NoMemory> {
+        match api_query {
+            ApiQuery::Health => self.told(Status::Ok, Media::Json, "{}"),
+            ApiQuery::Page => self.told(Status::Ok, Media::Html, "<p>"),
+            ApiQuery::Metrics => self.told(Status::Ok, Media::Metrics, "one 1\n"),
+            ApiQuery::Node => self.told(Status::ServiceUnavailable, Media::Json, "[]"),
+            ApiQuery::Changes { .. } => self.told(Status::Gone, Media::Json, "1"),
+            ApiQuery::ById { .. } => self.told(Status::BadRequest, Media::Json, "2"),
             _ => self.told(Status::NotFound, Media::Json, "3"),
         }
     }
 
     /// There is no memory to tell of a token of the node 7.
-    fn carry_out(&mut self, command: &Command) -> Option<Answer> {
+    fn carry_out(&mut self, command: &Command) -> Option<ApiResponse> {
         self.commands = self.commands.saturating_add(1);
         match command {
             Command::Observe { .. } => self.told(Status::Created, Media::Json, "[3]").ok(),
@@ -69,16 +69,16 @@ const ALWAYS: &str =
 /// and the body.
 pub(crate) type Row<'a> = (&'a str, &'a str, &'a str, &'a str);
 
-/// A guard, and the keys with which fields are hashed.
+/// An access policy, and the keys with which fields are hashed.
 #[derive(Drop)]
 pub(crate) struct Stage {
     alloc: Global,
     keys: RandomState,
-    guard: Guard,
+    policy: AccessPolicy,
 }
 
 impl Stage {
-    /// A stage whose guard has the host `fleet.example`, and a token where one is given.
+    /// A stage whose access policy has the host `fleet.example`, and a token where one is given.
     pub(crate) fn new<R: Abort + RandomSource>(
         rt: &R,
         alloc: Global,
@@ -91,32 +91,32 @@ impl Stage {
             None => None,
             Some(token) => Some(token.as_bytes().to_vec(alloc).expect(rt, "memory")),
         };
-        let guard = Guard {
+        let policy = AccessPolicy {
             token,
             host: Some(host),
             commands,
         };
-        Stage { alloc, keys, guard }
+        Stage { alloc, keys, policy }
     }
 
-    /// What is sent back to the request, and how many commands a new desk has carried out.
+    /// What is sent back to the request, and how many commands a new API has carried out.
     fn sent(&self, rt: &impl Abort, request: &str) -> (Vec<u8>, usize) {
-        let desk = ByKind {
+        let api = ByKind {
             alloc: self.alloc,
             commands: 0,
         };
         let mut sent = Vec::new(self.alloc);
         let mut reader = request.as_bytes();
-        let (desk, ended) = visit(
+        let (api, ended) = serve_connection(
             self.alloc,
             self.keys,
-            desk,
-            &self.guard,
+            api,
+            &self.policy,
             &mut reader,
             &mut sent,
         );
-        ended.expect(rt, "a visit");
-        (sent, desk.commands)
+        ended.expect(rt, "a connection");
+        (sent, api.commands)
     }
 
     /// The response has to be the text, and so many commands carried out.

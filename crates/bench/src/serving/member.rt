@@ -1,7 +1,7 @@
 //! A member that answers, as that of `fleet run` does, until it has answered so many datagrams.
 
 ghost use Rattle.std.specs.Prelude.{length, IfOk};
-ghost use Rattle.lw_run.specs.Front.{IsWithin};
+ghost use Rattle.lw_run.specs.Transport.{IsWithin};
 
 use crate::fault::BenchFault;
 use log::sink::Discard;
@@ -9,11 +9,11 @@ use lw_front::SystemStopwatch;
 use lw_log::{DeltaLog, FleetId, Nowhere};
 use lw_member::{Chance, Member};
 use lw_reg::Addr;
-use lw_run::{Compaction, Front, Heard, HostClocks, Responses, Server, Timed, run_on};
+use lw_run::{Compaction, Transport, Incoming, HostClocks, Responses, Server, TimedLog, run_on};
 use lw_serve::{UdpWire, Wire};
 use lw_sqlite_log::SqliteLog;
 use lw_stamp::Moment;
-use lw_target::Desk;
+use lw_target::Api;
 use lw_wire::{SystemClock, WireFault};
 use std::alloc::Global;
 use std::net::UdpSocket;
@@ -35,31 +35,31 @@ pub(crate) struct Kept<'a> {
 
 /// A wire on which nothing comes any more once so many replies were sent.
 #[derive(Drop)]
-struct CountedFront {
+struct CountedTransport {
     wire: UdpWire,
     left: u32,
 }
 
-impl CountedFront {
-    fn hear(&mut self, buffer: &mut [u8]) -> Result<Heard, WireFault>
+impl CountedTransport {
+    fn hear(&mut self, buffer: &mut [u8]) -> Result<Incoming, WireFault>
         ensures { IfOk result (IsWithin (length buffer.new)) }
     {
         if self.left == 0 {
-            return Ok(Heard::End);
+            return Ok(Incoming::Closed);
         }
         let (count, from) = self.wire.wait(buffer)?;
-        Ok(Heard::Datagram(count, from))
+        Ok(Incoming::Datagram(count, from))
     }
 }
 
-impl Front for CountedFront {
-    fn attend<D: Desk + Drop>(
+impl Transport for CountedTransport {
+    fn poll<A: Api + Drop>(
         &mut self,
-        desk: D,
+        api: A,
         buffer: &mut [u8],
         _time: Duration,
-    ) -> (D, Result<Heard, WireFault>) {
-        (desk, self.hear(buffer))
+    ) -> (A, Result<Incoming, WireFault>) {
+        (api, self.hear(buffer))
     }
 
     fn more(&mut self, buffer: &mut [u8]) -> Result<Option<(usize, Addr)>, WireFault> {
@@ -108,7 +108,7 @@ fn answer_over<R: Clock, G: DeltaLog>(
     log: G,
     compaction: Compaction,
 ) -> Result<(), BenchFault> {
-    let timed = Timed::new(log, SystemStopwatch::start(rt)?);
+    let timed = TimedLog::new(log, SystemStopwatch::start(rt)?);
     let member = Member::begin(alloc, timed, &CHANCE, Moment::START)?;
     let server = Server::new(
         alloc,
@@ -122,10 +122,10 @@ fn answer_over<R: Clock, G: DeltaLog>(
         Moment::START,
         None,
     );
-    let mut front = CountedFront {
+    let mut transport = CountedTransport {
         wire: UdpWire::new(socket),
         left: count,
     };
     let wait = Duration::from_secs(1);
-    Ok(run_on(&mut front, server, &Discard, wait, compaction)?)
+    Ok(run_on(&mut transport, server, &Discard, wait, compaction)?)
 }

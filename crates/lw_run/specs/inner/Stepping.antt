@@ -3,7 +3,7 @@ use Rattle.std.specs.Prelude.{◌≡◌, ◌++◌, ◌∷◌, []}
 use Rattle.lw_call.specs.Contents.{NoticeContent}
 use Rattle.lw_run.specs.Devices.{Check}
 use Rattle.lw_run.specs.Server.{ServerContent}
-use Rattle.lw_run.specs.Telling.{with_capacity}
+use Rattle.lw_run.specs.Notifications.{with_capacity}
 
 -- it is to be looked at whether the observation lives, and else this is to be told
 abbrev pub LeavesCheck : NoticeContent → ServerContent → ServerContent → Type 0
@@ -11,6 +11,6 @@ LeavesCheck notice old new =
     new ≡ record old {
       member = new.member;
       tally = new.tally;
-      told = with_capacity old.told new.told.notices.capacity;
+      notifications = with_capacity old.notifications new.notifications.buffer.capacity;
       devices = record (old.devices) { tasks = old.devices.tasks ++ Check notice ∷ [] };
     }

@@ -95,8 +95,8 @@ static BLOCKS: [Run; 6] = [
             Piece::Sent(3, CONTINUE_FIRST),
             Piece::Sent(3, INCOMPLETE_THIRD),
             Piece::Sent(4, INCOMPLETE_THIRD),
-            Piece::Line("[INFO  lw_run::telling] refused from=127.0.0.1:3 code=4.08"),
-            Piece::Line("[INFO  lw_run::telling] refused from=127.0.0.1:4 code=4.08"),
+            Piece::Line("[INFO  lw_run::reply_lines] refused from=127.0.0.1:3 code=4.08"),
+            Piece::Line("[INFO  lw_run::reply_lines] refused from=127.0.0.1:4 code=4.08"),
         ],
     },
     Run {
@@ -122,7 +122,7 @@ static BLOCKS: [Run; 6] = [
             Piece::Sent(4, INCOMPLETE_THIRD),
             Piece::Sent(3, CREATED_BY_THIRD),
             Piece::Sent(5, PONG),
-            Piece::Line("[INFO  lw_run::telling] refused from=127.0.0.1:4 code=4.08"),
+            Piece::Line("[INFO  lw_run::reply_lines] refused from=127.0.0.1:4 code=4.08"),
         ],
     },
     Run {
@@ -163,8 +163,8 @@ static BLOCKS: [Run; 6] = [
             Piece::Sent(3, CONTINUE_FIRST),
             Piece::Sent(3, CONTINUE_SECOND),
             Piece::Sent(3, INCOMPLETE_THIRD),
-            Piece::Line("[WARN  lw_run::course] no memory for a turn"),
-            Piece::Line("[INFO  lw_run::telling] refused from=127.0.0.1:3 code=4.08"),
+            Piece::Line("[WARN  lw_run::event_loop] no memory for a round"),
+            Piece::Line("[INFO  lw_run::reply_lines] refused from=127.0.0.1:3 code=4.08"),
         ],
     },
 ];
@@ -302,7 +302,7 @@ static TOO_LARGE: [Turn; 8] = [
     },
 ];
 
-/// Tries: lw_run::Server::take, lw_run::Server::blocks, lw_target::Desk::answer
+/// Tries: lw_run::Server::take, lw_run::Server::blocks, lw_target::Api::answer
 #[test]
 fn a_body_is_shown_whole_and_may_be_too_large(rt: HostRuntime) {
     takes(&rt, rt.alloc(), &SHOWN);

@@ -10,17 +10,17 @@ const CREATED_BEHIND: &str = "604100048272640d0330303030303030313030303130303031
 
 const UPDATE_BEHIND: &str = "40020010b272640d0330303030303030313030303130303031";
 
-const REFUSED: Piece = Piece::Line("[ERROR lw_run::course] log refused fault=the log refused");
+const REFUSED: Piece = Piece::Line("[ERROR lw_run::event_loop] log refused fault=the log refused");
 
-const PUT_OFF: Piece = Piece::Line("[WARN  lw_run::course] compaction put off");
+const PUT_OFF: Piece = Piece::Line("[WARN  lw_run::event_loop] compaction put off");
 
-const LOST: Piece = Piece::Line("[WARN  lw_run::course] log lost");
+const LOST: Piece = Piece::Line("[WARN  lw_run::event_loop] log lost");
 
-const AWAY: Piece = Piece::Line("[WARN  lw_run::course] log away");
+const AWAY: Piece = Piece::Line("[WARN  lw_run::event_loop] log away");
 
-const BACK: Piece = Piece::Line("[INFO  lw_run::course] log back");
+const BACK: Piece = Piece::Line("[INFO  lw_run::event_loop] log back");
 
-const COMPACTED: Piece = Piece::Line("[INFO  lw_run::course] compacted");
+const COMPACTED: Piece = Piece::Line("[INFO  lw_run::event_loop] compacted");
 
 /// A turn that only reads, the one that enters the start, and two behind it.
 const BEFORE_DUE: [Coming; 4] = [

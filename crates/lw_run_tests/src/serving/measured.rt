@@ -1,4 +1,4 @@
-//! What is counted at the edge of a run, as it is told at its end.
+//! What is counted of the input and output of a run, as it is told at its end.
 
 use super::compacting::KEPT;
 use super::*;
@@ -131,7 +131,7 @@ static MEASURED: [Measured; 9] = [
         lines: &["fleet_clock_offset_seconds 8.123000"],
     },
     Measured {
-        name: "faults of the front are counted",
+        name: "faults of the transport are counted",
         stage: Stage {
             comings: &[
                 Coming::Fault,
@@ -186,7 +186,7 @@ const AT_ONCE: [Coming; 6] = [
     MEASURES,
 ];
 
-/// Tries: lw_run::run_on, lw_run::Metered::log_use, lw_run::Server::compact, lw_target::Desk::answer
+/// Tries: lw_run::run_on, lw_run::Measured::log_counters, lw_run::Server::compact, lw_target::Api::answer
 #[test]
 fn what_a_run_does_is_counted(rt: HostRuntime) {
     for measured in &MEASURED {

@@ -84,7 +84,7 @@ const PAGE_OF_TWO: Piece = Piece::Text(r#"Ok Json {"next":2,"notifications":["#)
 
 const PAGE_END: Piece = Piece::Line(r#"],"start":"0000000000000009"}"#);
 
-/// A visitor asks for all that devices told.
+/// An HTTP client asks for all that devices told.
 const NOTIFICATIONS: Coming = Coming::Asks(&[Question::Notifications]);
 
 /// What a command for what is not there comes to: a device is asked nothing.
@@ -250,14 +250,14 @@ static MADE: [Run; 7] = [
             Piece::Line("Ok(()) WrWrr"),
             Piece::Sent(3, CREATED),
             Piece::Line(r#"ServiceUnavailable Json {"error":"away"}"#),
-            Piece::Line("[WARN  lw_run::course] log away"),
-            Piece::Line("[INFO  lw_run::course] log back"),
+            Piece::Line("[WARN  lw_run::event_loop] log away"),
+            Piece::Line("[INFO  lw_run::event_loop] log back"),
         ],
     },
 ];
 
-/// Tries: lw_run::run_on, lw_run::Server::next_step, lw_run::Server::hear, lw_target::Desk::carry_out
-/// Tries: lw_target::Desk::wants_to_send, lw_call::Notice::copy
+/// Tries: lw_run::run_on, lw_run::Server::next_step, lw_run::Server::hear, lw_target::Api::carry_out
+/// Tries: lw_target::Api::wants_to_send, lw_call::Notice::copy
 #[test]
 fn observations_are_made_and_ended(rt: HostRuntime) {
     plays(&rt, rt.alloc(), &MADE);
@@ -342,8 +342,8 @@ static TOLD: [Run; 5] = [
             PAGE_OF_ONE,
             Piece::Text(TOLD_NOT_FOUND),
             PAGE_END,
-            Piece::Line("[WARN  lw_run::course] log away"),
-            Piece::Line("[INFO  lw_run::course] log back"),
+            Piece::Line("[WARN  lw_run::event_loop] log away"),
+            Piece::Line("[INFO  lw_run::event_loop] log back"),
         ],
     },
     Run {
@@ -385,7 +385,7 @@ static TOLD: [Run; 5] = [
             Piece::Line("Ok(()) WrWrr"),
             Piece::Times(2, "3 504100008272640d0330303030303030303030303130303031\n"),
             Piece::Sent(3, "50850001"),
-            Piece::Line("[INFO  lw_run::telling] refused from=127.0.0.1:3 code=4.05"),
+            Piece::Line("[INFO  lw_run::reply_lines] refused from=127.0.0.1:3 code=4.05"),
         ],
     },
 ];

@@ -2,10 +2,10 @@
 
 use super::*;
 
-/// Pings that the front gives at once.
+/// Pings that the transport gives at once.
 const MORE: &Coming = &Coming::AtOnce(1, PING);
 
-/// A datagram that the front gives at once behind 255 others is of the same turn, and the next one of another.
+/// A datagram that the transport gives at once behind 255 others is of the same turn, and the next one of another.
 static MANY_AT_ONCE: [Run; 4] = [
     Run {
         name: "255 datagrams behind one",
@@ -77,7 +77,7 @@ static REPLIES: [Run; 3] = [
             Piece::Line("Ok(()) Wrr"),
             Piece::Times(
                 2,
-                "[WARN  lw_run::course] send passed over to=127.0.0.1:1\n",
+                "[WARN  lw_run::event_loop] send passed over to=127.0.0.1:1\n",
             ),
         ],
     },
@@ -93,7 +93,7 @@ static REPLIES: [Run; 3] = [
             Piece::Times(13, "5 60840010\n"),
             Piece::Times(
                 11,
-                "[INFO  lw_run::telling] refused from=127.0.0.1:5 code=4.04\n",
+                "[INFO  lw_run::reply_lines] refused from=127.0.0.1:5 code=4.04\n",
             ),
         ],
     },

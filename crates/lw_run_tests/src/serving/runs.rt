@@ -5,7 +5,7 @@ use super::*;
 /// Runs in which nothing comes, or nothing but faults.
 static QUIET: [Run; 4] = [
     Run {
-        name: "a front that is over",
+        name: "a transport that is over",
         stage: STAGE,
         want: &[Piece::Line("Ok(()) ")],
     },
@@ -29,7 +29,7 @@ static QUIET: [Run; 4] = [
         },
         want: &[
             Piece::Line("Ok(()) r"),
-            Piece::Times(10, "[WARN  lw_run::course] receive passed over\n"),
+            Piece::Times(10, "[WARN  lw_run::event_loop] receive passed over\n"),
         ],
     },
     Run {
@@ -40,7 +40,7 @@ static QUIET: [Run; 4] = [
         },
         want: &[
             Piece::Line("Err(ReceiveFailed) "),
-            Piece::Times(10, "[WARN  lw_run::course] receive passed over\n"),
+            Piece::Times(10, "[WARN  lw_run::event_loop] receive passed over\n"),
         ],
     },
 ];
@@ -78,7 +78,7 @@ const PINGS: [Coming; 6] = [
 ];
 
 /// What is told where the log refuses.
-const REFUSED: Piece = Piece::Line("[ERROR lw_run::course] log refused fault=the log refused");
+const REFUSED: Piece = Piece::Line("[ERROR lw_run::event_loop] log refused fault=the log refused");
 
 /// What the log answers to how many readings, after the first round; and what comes of a ping to each of these ports.
 static TROUBLES: [Run; 8] = [
@@ -97,8 +97,8 @@ static TROUBLES: [Run; 8] = [
             Piece::Line("Ok(()) Wrrr"),
             Piece::Sent(1, PONG),
             Piece::Sent(6, PONG),
-            Piece::Line("[WARN  lw_run::course] log away"),
-            Piece::Line("[INFO  lw_run::course] log back"),
+            Piece::Line("[WARN  lw_run::event_loop] log away"),
+            Piece::Line("[INFO  lw_run::event_loop] log back"),
         ],
     },
     Run {
@@ -118,10 +118,10 @@ static TROUBLES: [Run; 8] = [
             Piece::Sent(4, PONG),
             Piece::Sent(5, PONG),
             Piece::Sent(6, PONG),
-            Piece::Line("[WARN  lw_run::course] log lost"),
-            Piece::Line("[WARN  lw_run::course] log away"),
-            Piece::Line("[INFO  lw_run::course] log back"),
-            Piece::Line("[INFO  lw_run::course] compacted"),
+            Piece::Line("[WARN  lw_run::event_loop] log lost"),
+            Piece::Line("[WARN  lw_run::event_loop] log away"),
+            Piece::Line("[INFO  lw_run::event_loop] log back"),
+            Piece::Line("[INFO  lw_run::event_loop] compacted"),
         ],
     },
     Run {
@@ -142,8 +142,8 @@ static TROUBLES: [Run; 8] = [
             Piece::Sent(5, PONG),
             Piece::Sent(6, PONG),
             REFUSED,
-            Piece::Line("[WARN  lw_run::course] log away"),
-            Piece::Line("[INFO  lw_run::course] log back"),
+            Piece::Line("[WARN  lw_run::event_loop] log away"),
+            Piece::Line("[INFO  lw_run::event_loop] log back"),
         ],
     },
     Run {
@@ -178,7 +178,7 @@ static TROUBLES: [Run; 8] = [
             Piece::Sent(4, PONG),
             Piece::Sent(5, PONG),
             Piece::Sent(6, PONG),
-            Piece::Line("[WARN  lw_run::course] no memory for a turn"),
+            Piece::Line("[WARN  lw_run::event_loop] no memory for a round"),
         ],
     },
     Run {
@@ -198,7 +198,7 @@ static TROUBLES: [Run; 8] = [
             Piece::Sent(4, PONG),
             Piece::Sent(5, PONG),
             Piece::Sent(6, PONG),
-            Piece::Line("[WARN  lw_run::course] no memory for a turn"),
+            Piece::Line("[WARN  lw_run::event_loop] no memory for a round"),
         ],
     },
     Run {
@@ -215,7 +215,7 @@ static TROUBLES: [Run; 8] = [
         want: &[
             Piece::Line("Ok(()) Wr"),
             Piece::Sent(1, PONG),
-            Piece::Line("[WARN  lw_run::course] log away"),
+            Piece::Line("[WARN  lw_run::event_loop] log away"),
         ],
     },
     Run {
@@ -260,7 +260,7 @@ static REFUSALS: [Run; 1] = [Run {
     want: &[
         Piece::Sent(1, PONG),
         REFUSED,
-        Piece::Line("[WARN  lw_run::course] log away"),
+        Piece::Line("[WARN  lw_run::event_loop] log away"),
         REFUSED,
     ],
 }];
@@ -302,7 +302,7 @@ static PAUSES: [Run; 4] = [
             Piece::Line("Ok(()) Wrrr"),
             Piece::Sent(1, PONG),
             Piece::Sent(4, PONG),
-            Piece::Line("[WARN  lw_run::course] stood still for=3001ms"),
+            Piece::Line("[WARN  lw_run::event_loop] stood still for=3001ms"),
         ],
     },
     Run {
@@ -321,7 +321,7 @@ static PAUSES: [Run; 4] = [
             Piece::Line("Ok(()) Wrrr"),
             Piece::Sent(1, PONG),
             Piece::Sent(4, PONG),
-            Piece::Line("[WARN  lw_run::course] stood still for=20000ms"),
+            Piece::Line("[WARN  lw_run::event_loop] stood still for=20000ms"),
         ],
     },
     Run {
@@ -357,7 +357,7 @@ static WITHOUT_MEMORY: [Run; 2] = [
         },
         want: &[
             Piece::Line("Ok(()) rr"),
-            Piece::Line("[WARN  lw_run::course] no memory for a turn"),
+            Piece::Line("[WARN  lw_run::event_loop] no memory for a round"),
         ],
     },
     Run {
@@ -373,7 +373,7 @@ static WITHOUT_MEMORY: [Run; 2] = [
         },
         want: &[
             Piece::Line("Err(NoMemory) "),
-            Piece::Line("[WARN  lw_run::course] no memory for a turn"),
+            Piece::Line("[WARN  lw_run::event_loop] no memory for a round"),
         ],
     },
 ];
@@ -386,7 +386,7 @@ const EXPIRING: [Coming; 3] = [
 ];
 
 /// What is told of an Update that is refused.
-const GONE: &str = "[INFO  lw_run::telling] refused from=127.0.0.1:2 code=4.04";
+const GONE: &str = "[INFO  lw_run::reply_lines] refused from=127.0.0.1:2 code=4.04";
 
 /// A turn without datagrams is made after a Register for a second at moment 0, and an Update comes behind it: what has
 /// expired is ended at the moment less the seconds by which clocks may differ, and is then written.
@@ -482,8 +482,8 @@ static OFFSETS: [Run; 4] = [
         },
         want: &[
             Piece::Line("Ok(()) "),
-            Piece::Line("[WARN  lw_run::course] clock ahead by=11001ms"),
-            Piece::Line("[WARN  lw_run::course] clock ahead by=11001ms"),
+            Piece::Line("[WARN  lw_run::event_loop] clock ahead by=11001ms"),
+            Piece::Line("[WARN  lw_run::event_loop] clock ahead by=11001ms"),
         ],
     },
     Run {
@@ -498,7 +498,7 @@ static OFFSETS: [Run; 4] = [
         },
         want: &[
             Piece::Line("Ok(()) "),
-            Piece::Line("[WARN  lw_run::course] clock behind by=172800000ms"),
+            Piece::Line("[WARN  lw_run::event_loop] clock behind by=172800000ms"),
         ],
     },
     Run {
@@ -511,7 +511,7 @@ static OFFSETS: [Run; 4] = [
         },
         want: &[
             Piece::Line("Ok(()) "),
-            Piece::Line("[WARN  lw_run::course] clock behind by=1001ms"),
+            Piece::Line("[WARN  lw_run::event_loop] clock behind by=1001ms"),
         ],
     },
 ];

@@ -48,7 +48,7 @@ pub(super) const STAGE: Stage = Stage {
 };
 
 /// The server of a run.
-type Played<'a> = Server<Timed<SharedLog<'a>, Readings>, Ticks>;
+type Played<'a> = Server<TimedLog<SharedLog<'a>, Readings>, Ticks>;
 
 impl Stage {
     /// Serves what comes with a new member: how the run ended, what was asked of the log after the member had begun, a
@@ -76,7 +76,7 @@ impl Stage {
     /// The server of a new member over the log, of which each append takes no time.
     fn server<'b>(&self, alloc: Global, shared: SharedLog<'b>) -> Result<Played<'b>, MemberFault> {
         let page = page_of(alloc, self.page)?;
-        let log = Timed::new(shared, Readings::new(&[Some(0)]));
+        let log = TimedLog::new(shared, Readings::new(&[Some(0)]));
         let member = Member::begin(alloc, log, &CHANCE, Moment::START)?;
         let clock = Ticks::new(self.moments, self.offset);
         Ok(Server::new(alloc, member, clock, self.skew, Moment::START, page))
@@ -90,14 +90,14 @@ impl Stage {
         log: &RefCell<MemoryLog>,
     ) -> Result<String, MemberFault> {
         let begun = asked_of(log);
-        let mut front = MemoryFront::new(alloc, self);
+        let mut transport = MemoryTransport::new(alloc, self);
         let logged = Logged::new((), Level::Info, Memory::new(alloc));
         let wait = Duration::from_secs(1);
-        let ended = run_on(&mut front, server, &logged, wait, self.compaction);
+        let ended = run_on(&mut transport, server, &logged, wait, self.compaction);
         let lines = logged.into_parts().1.into_lines().into_vec();
         let mut text = String::new(alloc);
         put_end(&mut text, ended, log, begun)?;
-        put_lines(&mut text, front.into_sent().as_str(), &lines)?;
+        put_lines(&mut text, transport.into_sent().as_str(), &lines)?;
         Ok(text)
     }
 }

@@ -2,7 +2,7 @@
 
 use super::stage::CHANCE;
 use super::*;
-use lw_target::{Asked, Desk};
+use lw_target::{ApiQuery, Api};
 use std::process::Abort;
 
 /// A datagram that comes so many times at once, and what is counted and told behind that.
@@ -35,7 +35,7 @@ pub(super) const TURN: Turn = Turn {
 };
 
 /// All that are registered.
-const EVERYONE: Asked = Asked::Registrations {
+const EVERYONE: ApiQuery = ApiQuery::Registrations {
     after: None,
     limit: 10,
 };
@@ -47,7 +47,7 @@ pub(super) fn takes(rt: &impl Abort, alloc: Global, turns: &[Turn]) {
     for turn in turns {
         turn.sends(rt, alloc, &mut server);
         turn.counts(rt, &server);
-        turn.tells(rt, &server, &Asked::Metrics, turn.bodies);
+        turn.tells(rt, &server, &ApiQuery::Metrics, turn.bodies);
         turn.tells(rt, &server, &EVERYONE, turn.links);
     }
 }
@@ -102,8 +102,8 @@ impl Turn {
     }
 
     /// Fails where what is told does not have the text.
-    fn tells(&self, rt: &impl Abort, server: &Server<MemoryLog, Ticks>, asked: &Asked, text: &str) {
-        let answer = server.answer(asked).expect(rt, self.datagram);
+    fn tells(&self, rt: &impl Abort, server: &Server<MemoryLog, Ticks>, api_query: &ApiQuery, text: &str) {
+        let answer = server.answer(api_query).expect(rt, self.datagram);
         assert!(rt;
             answer.body.as_str().contains(text),
             "{}: {text}",

@@ -69,7 +69,7 @@ static AGAIN: [Run; 4] = [
             Piece::Line("Ok(()) WWrWr"),
             Piece::Sent(3, CREATED),
             Piece::Sent(3, CREATED),
-            Piece::Line("[WARN  lw_run::course] no memory for a turn"),
+            Piece::Line("[WARN  lw_run::event_loop] no memory for a round"),
         ],
     },
 ];

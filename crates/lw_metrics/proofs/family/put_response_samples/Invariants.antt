@@ -6,7 +6,7 @@ use Rattle.std.specs.Slice.Iter.{iter_rest}
 use Rattle.lw_metrics.specs.declared.metric.Metric.TheVariants.{Responses}
 use Rattle.lw_metrics.specs.Exposition.{sample_text}
 use Rattle.lw_metrics.specs.Families.{response_sample}
-use Rattle.lw_metrics.specs.Edge.{statuses}
+use Rattle.lw_metrics.specs.IoCounters.{statuses}
 use Rattle.lw_metrics.proofs.family.put_response_samples.Given as goal
 
 abbrev pub invariant-loop-status : goal.invariant-loop-status

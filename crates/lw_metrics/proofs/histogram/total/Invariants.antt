@@ -1,5 +1,5 @@
 use Rattle.std.proofs.Common.{◌≡◌, fold, take}
-use Rattle.lw_metrics.specs.Edge.{together}
+use Rattle.lw_metrics.specs.IoCounters.{together}
 use Rattle.lw_metrics.proofs.histogram.total.Given as goal
 
 abbrev pub invariant-loop-count : goal.invariant-loop-count

@@ -1,5 +1,5 @@
 use Rattle.std.proofs.Common.{option_copied}
-use Rattle.lw_target.specs.declared.refused.Refused.TheVariants as refused
+use Rattle.lw_target.specs.declared.error.RouteError.TheVariants as error
 use Rattle.lw_target.specs.declared.parameters.Form.TheVariants as Forms
 use Rattle.lw_target.specs.declared.command.Command.TheVariants as command
 use Rattle.lw_target.specs.Answers.{Reads}
@@ -9,4 +9,4 @@ use Rattle.lw_target.proofs.command.cancel.Goals as goal
 
 pub returns : goal.returns
 returns c =
-    then_goes (Reads IsId refused.Token c.args.segment.now) (λ token. Given Forms.Nothing (option_copied c.args.query) (λ parameters. command.Cancel token)) c.in_ok-token.token c.cancel_at.result c.in_ok-token.ensures c.cancel_at.ensures
+    then_goes (Reads IsId error.Token c.args.segment.now) (λ token. Given Forms.Nothing (option_copied c.args.query) (λ parameters. command.Cancel token)) c.in_ok-token.token c.cancel_at.result c.in_ok-token.ensures c.cancel_at.ensures

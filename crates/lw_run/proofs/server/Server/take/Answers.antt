@@ -53,4 +53,4 @@ returns-clause-turn g c =
     let unnumbered = unnumbered_in _ _ _ _ _ _ c.deref_mut.ensures.value c.in_ok-handled.handled.ok.0 c.number_replies-self-inside.auto.handled c.number_replies-self-inside.ensures.count in
     let lacks = c.any_lacks_block-lacks_block.ensures ∙ ap (list_any lacks_block) c.deref-2.ensures.value in
     is_turn _ _ _ _ _ _ _ _ _ _ _ _ c.self.view_is c.moment_before-before.ensures c.in_ok-fresh.ensures.fresh c.in_ok-sorted.ensures.sorted
-    c.in_ok-handled.ensures.settled numbers unnumbered sends keeps lacks c.with_unkept-self-inside.ensures more c.with_blocks-blocks.ensures
+    c.in_ok-handled.ensures.executed numbers unnumbered sends keeps lacks c.with_unkept-self-inside.ensures more c.with_blocks-blocks.ensures
