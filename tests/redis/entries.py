@@ -151,7 +151,7 @@ def compactions(scene):
         is_short = is_soon(lambda: redis.length() <= MOST_LEFT, TRIMMED_AFTER + SOON)
         scene.is_true(f"{what}: {redis.length()} entries are left", is_short, redis.length())
         kinds = [kind_of(it) for it in redis.entries()]
-        scene.is_true("a whole entry is among them", WHOLE in kinds, kinds)
+        scene.is_true("a snapshot is among them", WHOLE in kinds, kinds)
         count, most = sum(it.compactions() for it in servers), have_first_turn(awake)
         scene.is_true(f"{what}: by {count} of those whose turn is first", 1 <= count <= most, f"{most} are right")
         losers = [number for number, it in enumerate(servers) if "log lost\n" in it.errors()]

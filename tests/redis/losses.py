@@ -98,7 +98,7 @@ def mending(scene):
         redis.ask("DEL", KEY)
         have_noticed(scene, what, servers)
         count = [kind_of(it) for it in redis.entries()].count(WHOLE)
-        scene.is_true(f"{what}: whole entries: {count}", 1 <= count <= MENDING, count)
+        scene.is_true(f"{what}: snapshots: {count}", 1 <= count <= MENDING, count)
         scene.holds(f"{what}: Registers", len(known), 500)
         scene.all_know(what, redis.address, servers, known)
 

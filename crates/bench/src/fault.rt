@@ -1,9 +1,9 @@
 use lw_coap::Fault;
 use lw_delta::DeltaFault;
 use lw_link::LinkFault;
-use lw_member::MemberFault;
+use lw_replica::ReplicaFault;
 use lw_node::MergeFault;
-use lw_run::RunFault;
+use lw_server::RunFault;
 use lw_script::ScriptFault;
 use lw_serve::ServeFault;
 use lw_sqlite_log::OpenFault;
@@ -23,9 +23,9 @@ pub(crate) enum BenchFault {
     UnknownWord,
     /// A run that served ended so.
     Served(ServeFault),
-    /// A member that answered did not begin, or its run ended so.
+    /// A replica that answered did not begin, or its run ended so.
     Ran(RunFault),
-    /// The folder of a member was not opened.
+    /// The folder of a replica was not opened.
     Unopened(OpenFault),
 }
 
@@ -89,8 +89,8 @@ impl From<ServeFault> for BenchFault {
     }
 }
 
-impl From<MemberFault> for BenchFault {
-    fn from(fault: MemberFault) -> BenchFault {
+impl From<ReplicaFault> for BenchFault {
+    fn from(fault: ReplicaFault) -> BenchFault {
         BenchFault::Ran(RunFault::from(fault))
     }
 }

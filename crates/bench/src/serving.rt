@@ -1,13 +1,13 @@
 //! How many datagrams of eight clients are answered in a second, over UDP on the loopback: by the rounds of `lw_serve`, and by
-//! the member of `lw_run`. Beside each is a plain echo of the same datagrams.
+//! the replica of `lw_server`. Beside each is a plain echo of the same datagrams.
 
 mod asking;
 mod client;
-mod member;
+mod replica;
 mod peer;
 
 pub(crate) use self::asking::asking;
-pub(crate) use self::member::Kept;
+pub(crate) use self::replica::Kept;
 use self::peer::{CLIENTS, Peer, measure};
 use crate::fault::BenchFault;
 use std::alloc::Global;
@@ -44,11 +44,12 @@ const PEERS: [(&str, Peer<'static>); 4] = [
             workers: 4,
         },
     ),
-    ("run, memory  ", Peer::Member(None)),
+    ("run, memory  ", Peer::Replica(None)),
 ];
 
-/// The table: for each number of nodes and workers, and for a member, the replies in a second, those of an echo measured
-/// beside them, and how many hundredths of the echo's they are. The last row is of a member that keeps what it is told.
+/// The table: for each number of nodes and workers, and for a replica, the replies in a second, those of an echo measured
+/// beside them, and how many hundredths of the echo's they are. The last row is of a replica that keeps what it is
+/// told.
 pub(crate) fn serving<R: Threads + Wait + Net + Clock + Sync>(
     rt: &R,
     alloc: Global,
@@ -61,7 +62,7 @@ pub(crate) fn serving<R: Threads + Wait + Net + Clock + Sync>(
         put_row(rt, alloc, name, peer, requests, &mut text)?;
     }
     if kept.is_some() {
-        let peer = Peer::Member(kept);
+        let peer = Peer::Replica(kept);
         put_row(rt, alloc, "run, data    ", peer, requests, &mut text)?;
     }
     Ok(text)

@@ -6,15 +6,15 @@ use crate::http::{HttpBinding, HttpConfig};
 use log::sink::Console;
 use log::{LevelFilter, Log, Logged, info};
 use lw_fleet::{Keeps, LogLevel, RunOptions, RunningFault, Runs};
-use lw_front::{Sockets, SystemStopwatch};
+use lw_sockets::{Sockets, SystemStopwatch};
 use lw_log::{DeltaLog, FleetId, Nowhere};
-use lw_member::{Chance, Member};
+use lw_replica::{Randomness, Replica};
 use lw_redis_log::RedisClock;
-use lw_run::{
+use lw_server::{
     Clocks, Compaction, HostClock, HostClocks, Measured, Moment, RunFault, Server, TimedLog, run_on,
 };
 use lw_sqlite_log::{OpenFault, SqliteLog};
-use lw_wire::SystemClock;
+use lw_udp::SystemClock;
 use std::net::{IpAddr, SocketAddr};
 use std::random::RandomSource;
 use std::sync::Wait;
@@ -43,14 +43,14 @@ impl Runs for Host<'_, HostRuntime> {
         };
         match &options.keeps {
             Keeps::Nothing => {
-                let member = begin(host, Nowhere::new(host.alloc()))?;
+                let replica = begin(host, Nowhere::new(host.alloc()))?;
                 let mut bound = BoundServer::open(host, &log, options, http)?;
-                bound.serve_alone(member, "nothing", options)
+                bound.serve_alone(replica, "nothing", options)
             }
             Keeps::Folder(folder) => {
-                let member = begin(host, SqliteLog::open(host, folder).map_err(fault_of_open)?)?;
+                let replica = begin(host, SqliteLog::open(host, folder).map_err(fault_of_open)?)?;
                 let mut bound = BoundServer::open(host, &log, options, http)?;
-                bound.serve_alone(member, "data", options)
+                bound.serve_alone(replica, "data", options)
             }
             Keeps::Redis(redis) => {
                 let clock = RedisClock::new(host);
@@ -60,9 +60,9 @@ impl Runs for Host<'_, HostRuntime> {
                     options: redis,
                     clock: &clock,
                 };
-                let member = shared.begin(redis.found)?;
+                let replica = shared.begin(redis.found)?;
                 let mut bound = BoundServer::open(host, &log, options, http)?;
-                serve_shared(&mut bound, member, &shared, options).map_err(fault_of_redis)
+                serve_shared(&mut bound, replica, &shared, options).map_err(fault_of_redis)
             }
         }
     }
@@ -72,18 +72,18 @@ impl Runs for Host<'_, HostRuntime> {
 /// begins anew: it has answered nobody yet.
 fn serve_shared<'a, 'n, L: Log>(
     bound: &mut BoundServer<'a, L>,
-    first: Member<SharedLog<'a, 'n, L>>,
+    first: Replica<SharedLog<'a, 'n, L>>,
     shared: &Shared<'a, 'n, L>,
     options: &RunOptions<'_>,
 ) -> Result<(), RunningFault> {
-    let mut member = first;
+    let mut replica = first;
     for _start in 0..u64::MAX {
         let now = shared.moment()?;
         let clocks = shared.clocks(now)?;
-        match bound.serve(member, clocks, now, "redis", options) {
+        match bound.serve(replica, clocks, now, "redis", options) {
             Err(RunningFault::NumberTaken) => {
                 info!(bound.log; "number taken, another is drawn");
-                member = shared.begin(false)?;
+                replica = shared.begin(false)?;
             }
             ended => return ended,
         }
@@ -91,15 +91,15 @@ fn serve_shared<'a, 'n, L: Log>(
     Ok(())
 }
 
-/// A member over what the log keeps, which is read to its end.
+/// A replica over what the log keeps, which is read to its end.
 fn begin<'a, G: DeltaLog>(
     host: &'a HostRuntime,
     kept: G,
-) -> Result<Member<TimedLog<G, SystemStopwatch<'a, HostRuntime>>>, RunningFault> {
+) -> Result<Replica<TimedLog<G, SystemStopwatch<'a, HostRuntime>>>, RunningFault> {
     let timed = TimedLog::new(kept, stopwatch(host)?);
     let now = moment(host)?;
-    match Member::begin(host.alloc(), timed, &draw(host)?, now) {
-        Ok(member) => Ok(member),
+    match Replica::begin(host.alloc(), timed, &draw(host)?, now) {
+        Ok(replica) => Ok(replica),
         Err(fault) => Err(fault_of_run(RunFault::from(fault))),
     }
 }
@@ -137,19 +137,19 @@ impl<'a, L: Log> BoundServer<'a, L> {
     /// Serves devices and HTTP clients by the host's own clock.
     fn serve_alone<G: DeltaLog + Measured>(
         &mut self,
-        member: Member<G>,
+        replica: Replica<G>,
         keeps: &str,
         options: &RunOptions<'_>,
     ) -> Result<(), RunningFault> {
         let now = moment(self.host)?;
         let clocks = host_clocks(self.host, now)?;
-        self.serve(member, clocks, now, keeps, options)
+        self.serve(replica, clocks, now, keeps, options)
     }
 
     /// Serves devices and HTTP clients, from the moment on that is now.
     fn serve<G: DeltaLog + Measured, C: Clocks>(
         &mut self,
-        member: Member<G>,
+        replica: Replica<G>,
         clocks: C,
         now: Moment,
         keeps: &str,
@@ -157,14 +157,14 @@ impl<'a, L: Log> BoundServer<'a, L> {
     ) -> Result<(), RunningFault> {
         let host = self.host;
         if let Ok(address) = self.sockets.local_address() {
-            let number = member.start().number;
+            let number = replica.start().number;
             info!(self.log; "serving address={address} number={number} keeps={keeps}");
         }
         if let Some(http) = &self.http {
             info!(self.log; "http address={}", http.address);
         }
         let (skew, page) = (skew_of(&options.keeps), self.page()?);
-        let server = Server::new(host.alloc(), member, clocks, skew, now, page);
+        let server = Server::new(host.alloc(), replica, clocks, skew, now, page);
         let (wait, compaction) = (wait_of(&options.keeps), compaction_of(&options.keeps));
         run_on(&mut self.sockets, server, self.log, wait, compaction).map_err(fault_of_run)
     }
@@ -255,7 +255,7 @@ fn skew_of(keeps: &Keeps<'_>) -> u32 {
 }
 
 /// What a start draws by lot.
-pub(crate) fn draw<S: RandomSource>(source: &S) -> Result<Chance, RunningFault> {
+pub(crate) fn draw<S: RandomSource>(source: &S) -> Result<Randomness, RunningFault> {
     let mut bytes = [0; CHANCE];
     if source.fill_bytes(&mut bytes).is_err() {
         return Err(RunningFault::RandomFailed);
@@ -264,7 +264,7 @@ pub(crate) fn draw<S: RandomSource>(source: &S) -> Result<Chance, RunningFault> 
     fleet.copy_from_slice(&bytes[..16]);
     let mut tag = [0; 8];
     tag.copy_from_slice(&bytes[16..24]);
-    Ok(Chance {
+    Ok(Randomness {
         fleet: FleetId { bytes: fleet },
         tag: u64::from_be_bytes(tag),
         number: u16::from_be_bytes([bytes[24], bytes[25]]),

@@ -4,11 +4,11 @@ use crate::file_front::read_front;
 use crate::run_host::{OwnClocks, draw, fault_of_run, host_clocks, moment, stopwatch};
 use log::{Log, info};
 use lw_fleet::{RedisOptions, RunningFault};
-use lw_front::SystemStopwatch;
+use lw_sockets::SystemStopwatch;
 use lw_log::{DeltaLog, FleetId, LogFault};
-use lw_member::{Call, Chance, Member, MemberFault};
+use lw_replica::{Call, Randomness, Replica, ReplicaFault};
 use lw_redis_log::{Login, LoginFault, RedisClock, RedisLog, TcpRedis};
-use lw_run::{FleetClock, Moment, RunFault, SharedClocks, Stopwatch, TimedLog};
+use lw_server::{FleetClock, Moment, RunFault, SharedClocks, Stopwatch, TimedLog};
 use std::thread;
 use std::time::Duration;
 
@@ -66,19 +66,19 @@ impl<'a, 'n, L: Log> Shared<'a, 'n, L> {
         Ok(SharedClocks::new(host_clocks(self.host, start)?, fleet))
     }
 
-    /// A member of the fleet that the stream has, or that it founds where that is asked for. Where Redis is away, or
-    /// the stream has no fleet yet, it is asked again, for ten seconds.
+    /// A replica of the fleet that the stream has, or that it founds where that is asked for. Where Redis is
+    /// unavailable, or the stream has no fleet yet, it is asked again, for ten seconds.
     pub(crate) fn begin(
         &self,
         founds: bool,
-    ) -> Result<Member<SharedLog<'a, 'n, L>>, RunningFault> {
+    ) -> Result<Replica<SharedLog<'a, 'n, L>>, RunningFault> {
         let waited = stopwatch(self.host)?;
         // One for all attempts: what one has founded, though it was not told so, the next knows as its own.
         let own = draw(self.host)?.fleet;
         let mut told = false;
         for _attempt in 0..u64::MAX {
             let fault = match self.attempt(founds, own)? {
-                Ok(member) => return Ok(member),
+                Ok(replica) => return Ok(replica),
                 Err(fault) => fault,
             };
             if fault == RunningFault::NoFleet && !told {
@@ -93,54 +93,54 @@ impl<'a, 'n, L: Log> Shared<'a, 'n, L> {
         Err(RunningFault::RedisAway)
     }
 
-    /// A member of the fleet that the stream has. Where it has none, and that is asked for, it founds its own. Else it
+    /// A replica of the fleet that the stream has. Where it has none, and that is asked for, it founds its own. Else it
     /// is what the start ends by where the time is over.
     fn attempt(
         &self,
         founds: bool,
         own: FleetId,
-    ) -> Result<Result<Member<SharedLog<'a, 'n, L>>, RunningFault>, RunningFault> {
-        let mut member = match self.try_begin(own)? {
-            Ok(member) => member,
+    ) -> Result<Result<Replica<SharedLog<'a, 'n, L>>, RunningFault>, RunningFault> {
+        let mut replica = match self.try_begin(own)? {
+            Ok(replica) => replica,
             Err(fault) => return Ok(Err(passing(fault)?)),
         };
-        match member.fleet() {
+        match replica.fleet() {
             None if founds => {}
             None => return Ok(Err(RunningFault::NoFleet)),
             Some(fleet) if founds && fleet != own => return Err(RunningFault::FleetExists),
-            Some(_) => return Ok(Ok(member)),
+            Some(_) => return Ok(Ok(replica)),
         }
-        match self.found(&mut member)? {
+        match self.found(&mut replica)? {
             Ok(()) => {
                 info!(self.log; "fleet founded");
-                Ok(Ok(member))
+                Ok(Ok(replica))
             }
             // Another was faster.
-            Err(MemberFault::NumberTaken | MemberFault::AnotherFleet) => {
+            Err(ReplicaFault::NumberTaken | ReplicaFault::AnotherFleet) => {
                 Err(RunningFault::FleetExists)
             }
             Err(fault) => Ok(Err(passing(fault)?)),
         }
     }
 
-    /// Founds the fleet: a round that changes nothing has the member write into the stream, whose first entry tells the
-    /// fleet.
+    /// Founds the fleet: a round that changes nothing has the replica write into the stream, whose first entry tells
+    /// the fleet.
     fn found<G: DeltaLog>(
         &self,
-        member: &mut Member<G>,
-    ) -> Result<Result<(), MemberFault>, RunningFault> {
+        replica: &mut Replica<G>,
+    ) -> Result<Result<(), ReplicaFault>, RunningFault> {
         let now = self.moment()?;
-        match member.round(&[Call::Sweep { now }]) {
+        match replica.round(&[Call::Sweep { now }]) {
             Ok(_) => Ok(Ok(())),
             Err(fault) => Ok(Err(fault)),
         }
     }
 
-    /// A member over the stream, which is read to its end. Redis is asked for the moment before.
+    /// A replica over the stream, which is read to its end. Redis is asked for the moment before.
     fn try_begin(
         &self,
         own: FleetId,
-    ) -> Result<Result<Member<SharedLog<'a, 'n, L>>, MemberFault>, RunningFault> {
+    ) -> Result<Result<Replica<SharedLog<'a, 'n, L>>, ReplicaFault>, RunningFault> {
         let host = self.host;
         let login = match self.options.login_file {
             None => None,
@@ -158,15 +158,15 @@ impl<'a, 'n, L: Log> Shared<'a, 'n, L> {
             return Err(RunningFault::NoMemory);
         };
         if let Err(fault) = kept.connect() {
-            return Ok(Err(MemberFault::Log(fault)));
+            return Ok(Err(ReplicaFault::Log(fault)));
         }
         let timed = TimedLog::new(kept, stopwatch(host)?);
         let now = self.moment()?;
-        let chance = Chance {
+        let randomness = Randomness {
             fleet: own,
             ..draw(host)?
         };
-        Ok(Member::begin(host.alloc(), timed, &chance, now))
+        Ok(Replica::begin(host.alloc(), timed, &randomness, now))
     }
 }
 
@@ -178,11 +178,11 @@ fn is_over<S: Stopwatch>(waited: &S) -> bool {
     }
 }
 
-/// What a start ends by where the fault of its member does not pass in time. One that does not pass ends it now.
-fn passing(fault: MemberFault) -> Result<RunningFault, RunningFault> {
+/// What a start ends by where the fault of its replica does not pass in time. One that does not pass ends it now.
+fn passing(fault: ReplicaFault) -> Result<RunningFault, RunningFault> {
     match fault {
-        MemberFault::Log(LogFault::Away | LogFault::Lost) => Ok(RunningFault::RedisAway),
-        MemberFault::Log(LogFault::Refused) => Err(RunningFault::RedisRefused),
+        ReplicaFault::Log(LogFault::Unavailable | LogFault::Lost) => Ok(RunningFault::RedisAway),
+        ReplicaFault::Log(LogFault::Refused) => Err(RunningFault::RedisRefused),
         fault => Err(fault_of_run(RunFault::from(fault))),
     }
 }

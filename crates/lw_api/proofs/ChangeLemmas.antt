@@ -4,7 +4,7 @@ use Rattle.std.proofs.lemmas.List.{map-append}
 use Rattle.std.proofs.lemmas.List.Elements.{All-append, All-cons, All-nil}
 use Rattle.lw_table.specs.Changes.{Moved, upto_of}
 use Rattle.lw_node.specs.Node.{NodeContent}
-use Rattle.lw_print.specs.Changes.{Change}
+use Rattle.lw_json.specs.Changes.{Change}
 use Rattle.lw_api.specs.Answers.{named_by_change, named_by_moved, IsShownAs}
 use Rattle.lw_api.specs.inner.Changes.{AreShown}
 

@@ -18,15 +18,15 @@ use Rattle.lw_table.specs.LookUps.{ById, ByAddress, ByToken, WatchOfIdAfter}
 use Rattle.lw_table.specs.Pages.{IsPage, MovesOn}
 use Rattle.lw_table.specs.Table.{IsKept}
 use Rattle.lw_node.specs.Node.{NodeContent}
-use Rattle.lw_print.specs.declared.node.NodeNumbers.{NodeNumbers}
-use Rattle.lw_print.specs.Changes.{Change, changes_json}
-use Rattle.lw_print.specs.Json.{registration_json, watch_json, observations_json, page_json, node_json}
-use Rattle.lw_target.specs.declared.api_query.ApiQuery.{ApiQuery}
-use Rattle.lw_target.specs.declared.api_query.ApiQuery.TheVariants as api_query
-use Rattle.lw_target.specs.declared.api.ApiResponse.{ApiResponse}
-use Rattle.lw_target.specs.declared.api.Media.TheVariants.{Json, Nothing}
-use Rattle.lw_target.specs.declared.api.Status.{Status}
-use Rattle.lw_target.specs.declared.api.Status.TheVariants as status
+use Rattle.lw_json.specs.declared.node.NodeNumbers.{NodeNumbers}
+use Rattle.lw_json.specs.Changes.{Change, changes_json}
+use Rattle.lw_json.specs.Json.{registration_json, watch_json, observations_json, page_json, node_json}
+use Rattle.lw_route.specs.declared.api_query.ApiQuery.{ApiQuery}
+use Rattle.lw_route.specs.declared.api_query.ApiQuery.TheVariants as api_query
+use Rattle.lw_route.specs.declared.api.ApiResponse.{ApiResponse}
+use Rattle.lw_route.specs.declared.api.Media.TheVariants.{Json, Nothing}
+use Rattle.lw_route.specs.declared.api.Status.{Status}
+use Rattle.lw_route.specs.declared.api.Status.TheVariants as status
 use Rattle.lw_api.specs.declared.answering.About.{About}
 use Rattle.lw_api.specs.Known.{OfKnown}
 

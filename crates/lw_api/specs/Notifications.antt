@@ -2,9 +2,9 @@
 use Rattle.std.specs.Prelude.{◌≡◌, ◌≢◌, ◌<◌, ◌≤◌, ℕ, ◌+◌, ◌-◌, List, [], ◌∷◌, ◌++◌, length, take, drop, Option, None, IfSome, codes}
 use Rattle.std.specs.Fmt.{decimal}
 use Rattle.serde_json.specs.Written.{compact_text}
-use Rattle.lw_print.specs.Notifications.{NotificationContent, notifications_json}
-use Rattle.lw_target.specs.declared.api.ApiResponse.{ApiResponse}
-use Rattle.lw_target.specs.declared.api.Status.TheVariants as status
+use Rattle.lw_json.specs.Notifications.{NotificationContent, notifications_json}
+use Rattle.lw_route.specs.declared.api.ApiResponse.{ApiResponse}
+use Rattle.lw_route.specs.declared.api.Status.TheVariants as status
 use Rattle.lw_api.specs.declared.answering.About.{About}
 use Rattle.lw_api.specs.Answers.{IsJson}
 use Rattle.lw_api.specs.NotificationBuffer.{BufferedNotificationContent, NotificationBufferContent}

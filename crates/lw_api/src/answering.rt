@@ -4,14 +4,14 @@ ghost use Rattle.std.specs.Prelude.{◌≡◌, ℕ, List, Option, IfOk, option_m
 ghost use Rattle.lw_reg.specs.Showing.{ShownOf};
 ghost use Rattle.lw_stamp.specs.Moment.{ms_of};
 ghost use Rattle.lw_api.specs.Answers.{CountsRegistrations, IsAnswer, IsFound, IsJson, IsNotFound, Tells, TellsNode, TellsPage};
-ghost use Rattle.lw_target.specs.declared.api.Status.TheVariants as statuses;
+ghost use Rattle.lw_route.specs.declared.api.Status.TheVariants as statuses;
 
 use crate::changes::changes_answer;
 use crate::{by_address, by_id, by_token, observations, registration, registrations};
 use lw_node::Node;
-use lw_print::{NodeNumbers, node_text};
+use lw_json::{NodeNumbers, node_text};
 use lw_stamp::{Moment, NoMemory, Text};
-use lw_target::{ApiResponse, ApiQuery, Media, Status};
+use lw_route::{ApiResponse, ApiQuery, Media, Status};
 use std::alloc::Global;
 
 /// What a server knows of its start.

@@ -3,18 +3,18 @@
 ghost use Rattle.std.specs.Prelude.{◌≡◌, ◌≢◌, ◌↔◌, ℕ, List, IfOk, map, codes, string_bytes};
 ghost use Rattle.lw_stamp.specs.Moment.{ms_of};
 ghost use Rattle.lw_table.specs.Changes.{IsChangePage, LAST, upto_of};
-ghost use Rattle.lw_print.specs.Changes.{change_of};
+ghost use Rattle.lw_json.specs.Changes.{change_of};
 ghost use Rattle.lw_api.specs.Answers.{IsChangesAnswer, IsJson, TellsChanges};
 ghost use Rattle.lw_api.specs.inner.Changes.{moved_of, AreShown};
-ghost use Rattle.lw_target.specs.declared.api.Status.TheVariants as statuses;
+ghost use Rattle.lw_route.specs.declared.api.Status.TheVariants as statuses;
 
 use crate::About;
 use crate::answering::{ok, error_response};
 use lw_node::Node;
-use lw_print::{Change, ChangePage, changes_text};
+use lw_json::{Change, ChangePage, changes_text};
 use lw_stamp::{Moment, NoMemory};
 use lw_table::Moved;
-use lw_target::{ApiResponse, Status};
+use lw_route::{ApiResponse, Status};
 use std::alloc::Global;
 
 /// Changes behind the number, to who follows this start, or begins.

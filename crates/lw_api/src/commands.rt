@@ -9,7 +9,7 @@ use crate::answering::{json, not_found};
 use crate::by_token;
 use lw_node::Node;
 use lw_stamp::{Moment, NoMemory, Stamp};
-use lw_target::{ApiResponse, Media, Status};
+use lw_route::{ApiResponse, Media, Status};
 use std::alloc::Global;
 
 /// That the observation with the token was created.

@@ -2,14 +2,14 @@
 
 ghost use Rattle.std.specs.Prelude.{◌≡◌, IfOk, option_map, string_bytes};
 ghost use Rattle.serde_json.specs.Written.{compact_text};
-ghost use Rattle.lw_print.specs.Json.{registration_json, watch_json};
+ghost use Rattle.lw_json.specs.Json.{registration_json, watch_json};
 ghost use Rattle.lw_reg.specs.Showing.{ShownOf};
 ghost use Rattle.lw_stamp.specs.Moment.{ms_of};
 ghost use Rattle.lw_table.specs.LookUps.{ById, ByAddress, ByToken};
 ghost use Rattle.lw_api.specs.Answers.{Tells, TellsWatch};
 
 use lw_node::Node;
-use lw_print::{registration_text, watch_text};
+use lw_json::{registration_text, watch_text};
 use lw_reg::{Addr, View, Watch};
 use lw_stamp::{Moment, NoMemory, Stamp};
 use std::alloc::Global;

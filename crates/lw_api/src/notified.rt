@@ -2,16 +2,16 @@
 
 ghost use Rattle.std.specs.Prelude.{◌≡◌, ◌<◌, ◌≤◌, ◌+◌, ◌^◌, length, IfOk, string_bytes};
 ghost use Rattle.serde_json.specs.Written.{compact_text};
-ghost use Rattle.lw_print.specs.Notifications.{notifications_json};
+ghost use Rattle.lw_json.specs.Notifications.{notifications_json};
 ghost use Rattle.lw_api.specs.Answers.{IsJson};
 ghost use Rattle.lw_api.specs.Notifications.{IsNotificationsAnswer, gone_text, numbered, page_text};
-ghost use Rattle.lw_target.specs.declared.api.Status.TheVariants as statuses;
+ghost use Rattle.lw_route.specs.declared.api.Status.TheVariants as statuses;
 
 use crate::answering::{ok, error_response};
 use crate::{About, BufferedNotification, NotificationBuffer};
-use lw_print::{Notification, NotificationPage, notifications_text};
+use lw_json::{Notification, NotificationPage, notifications_text};
 use lw_stamp::NoMemory;
-use lw_target::{ApiResponse, Status};
+use lw_route::{ApiResponse, Status};
 use std::alloc::Global;
 
 /// What devices told from the number on, so many at most, to who follows this start, or begins.

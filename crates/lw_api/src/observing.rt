@@ -8,7 +8,7 @@ ghost use Rattle.lw_api.specs.Answers.{AreWatchesAfter, GoesOnAt, last_path as p
 ghost use Rattle.lw_api.specs.Known.{OfKnown};
 
 use lw_node::Node;
-use lw_print::observations_text;
+use lw_json::observations_text;
 use lw_reg::{Path, View, Watch};
 use lw_stamp::{Moment, NoMemory, Stamp};
 use std::alloc::Global;

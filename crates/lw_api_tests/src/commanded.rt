@@ -3,7 +3,7 @@
 use crate::told::{LATE, registered};
 use lw_api::{created, no_content, error_response};
 use lw_stamp::{Moment, Stamp};
-use lw_target::{ApiResponse, Media, Status};
+use lw_route::{ApiResponse, Media, Status};
 use std::process::Abort;
 
 const WATCH: &str =

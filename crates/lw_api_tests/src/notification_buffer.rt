@@ -3,7 +3,7 @@
 use lw_api::{About, BufferedNotification, NotificationBuffer, notifications};
 use lw_node::{Notice, Path};
 use lw_stamp::{NoMemory, Stamp, Text};
-use lw_target::{ApiResponse, Media, Status};
+use lw_route::{ApiResponse, Media, Status};
 use std::alloc::Global;
 use std::process::Abort;
 
@@ -211,7 +211,7 @@ fn nothing_was_told_yet(rt: HostRuntime) {
     are_told(&rt, rt.alloc(), &buffer, Status::Ok, &NONE);
 }
 
-/// Tries: notifications, NotificationBuffer::reserve, NotificationBuffer::push, lw_print::notifications_text
+/// Tries: notifications, NotificationBuffer::reserve, NotificationBuffer::push, lw_json::notifications_text
 #[test]
 fn notifications_that_follow_a_start(rt: HostRuntime) {
     let buffer = three(&rt, rt.alloc());

@@ -3,7 +3,7 @@
 use lw_api::{About, answer};
 use lw_node::{Addr, Node, Path};
 use lw_stamp::{Moment, Stamp};
-use lw_target::{ApiResponse, Commands, Method, Route, Status, route_of};
+use lw_route::{ApiResponse, Commands, Method, Route, Status, route_of};
 use std::alloc::Global;
 use std::process::Abort;
 
@@ -306,7 +306,7 @@ fn registers_and_tells(rt: &impl Abort, alloc: Global, status: Status, rows: &[R
     are_told(rt, alloc, &node, status, rows);
 }
 
-/// Tries: answer, registrations, numbers_of, lw_print::node_text
+/// Tries: answer, registrations, numbers_of, lw_json::node_text
 #[test]
 fn pages_and_numbers(rt: HostRuntime) {
     registers_and_tells(&rt, rt.alloc(), Status::Ok, &PAGES);
@@ -321,7 +321,7 @@ fn one_that_is_found(rt: HostRuntime) {
 /// What else is observed.
 static OBSERVED: [(&[u16], Option<u16>); 3] = [(&[5], None), (&[3], Some(110)), (&[1, 0, 1], None)];
 
-/// Tries: answer, observations, lw_print::observations_text
+/// Tries: answer, observations, lw_json::observations_text
 #[test]
 fn observations_of_a_registration(rt: HostRuntime) {
     let mut node = registered(&rt, rt.alloc());
@@ -357,19 +357,19 @@ fn a_page_has_256_observations_at_most(rt: HostRuntime) {
     are_told(&rt, rt.alloc(), &node, Status::Ok, &BEHIND_PAGE);
 }
 
-/// Tries: answer, lw_print::changes_text
+/// Tries: answer, lw_json::changes_text
 #[test]
 fn changes_that_follow_a_start(rt: HostRuntime) {
     registers_and_tells(&rt, rt.alloc(), Status::Ok, &CHANGES);
 }
 
-/// Tries: answer, lw_print::changes_text
+/// Tries: answer, lw_json::changes_text
 #[test]
 fn changes_that_follow_no_start(rt: HostRuntime) {
     registers_and_tells(&rt, rt.alloc(), Status::BadRequest, &FOLLOWS_NO_START);
 }
 
-/// Tries: answer, lw_print::changes_text
+/// Tries: answer, lw_json::changes_text
 #[test]
 fn changes_that_follow_another_start(rt: HostRuntime) {
     registers_and_tells(&rt, rt.alloc(), Status::Gone, &FOLLOWS_ANOTHER);

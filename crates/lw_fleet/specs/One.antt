@@ -12,7 +12,7 @@ use Rattle.lw_table.specs.Answers.{FirstAfter}
 use Rattle.lw_call.specs.Contents.{TakenContent}
 use Rattle.lw_node.specs.Calls.{Takes}
 use Rattle.lw_node.specs.Node.{NodeContent, fresh}
-use Rattle.lw_print.specs.Answer.{answer_text}
+use Rattle.lw_json.specs.Answer.{answer_text}
 use Rattle.lw_fleet.specs.declared.command.OneOptions.{OneOptions}
 use Rattle.lw_fleet.specs.Line.{line_of, longest_line}
 use Rattle.lw_serve.specs.Ending.{AppendsFront}

@@ -7,7 +7,7 @@ use Rattle.lw_world.specs.declared.outcome.Outcome.{Outcome}
 use Rattle.lw_world.specs.declared.outcome.Outcome.TheVariants.{Sent}
 use Rattle.lw_world.specs.Run.{History, Runs, begun}
 use Rattle.lw_world.specs.World.{world_of}
-use Rattle.lw_print.specs.Lines.{outcome_text}
+use Rattle.lw_json.specs.Lines.{outcome_text}
 use Rattle.lw_script.specs.Script.{lines_of, IsFirstBad, IsScript}
 use Rattle.lw_fleet.specs.declared.fault.Fault.{Fault}
 use Rattle.lw_fleet.specs.declared.fault.Fault.TheVariants.{AddressRefused, TooLong, HexRefused, LineRefused, WriteFailed, NoMemory}

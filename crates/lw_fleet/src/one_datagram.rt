@@ -11,7 +11,7 @@ use crate::hex_line::bytes_of_hex;
 use crate::input::read_line;
 use crate::output::write_text;
 use lw_node::Node;
-use lw_print::answer_text;
+use lw_json::answer_text;
 use lw_reg::Addr;
 use lw_stamp::{Moment, NoMemory};
 use std::alloc::Global;

@@ -9,7 +9,7 @@ ghost use Rattle.lw_fleet.specs.Replay.{line_text, lines_text, message_of, IsRep
 use crate::fault::Fault;
 use crate::input::read_all;
 use crate::output::{flush, write_all};
-use lw_print::put_outcome;
+use lw_json::put_outcome;
 use lw_script::{Script, ScriptFault, read_script};
 use lw_world::{Outcome, World, run};
 use std::alloc::Global;

@@ -7,7 +7,7 @@ use Rattle.lw_delta.proofs.Answering.{apart, one_fault}
 use Rattle.lw_log.specs.declared.entry_fault.EntryFault.{EntryFault}
 use Rattle.lw_log.specs.declared.entry_fault.EntryFault.TheVariants.{Magic, Newer, Truncated, Range, Trailing, Delta as DeltaFaults}
 use Rattle.lw_log.specs.Entries.{BodyContent, FitsBody, HasDelta, kind_of, body_bytes}
-use Rattle.lw_log.specs.Entries.BodyContent.{Start, Delta, Whole}
+use Rattle.lw_log.specs.Entries.BodyContent.{Start, Delta, Snapshot}
 use Rattle.lw_log.specs.EntryFaults.{HoldsDelta, IsNewerDelta, IsBodyFault}
 use Rattle.lw_log.proofs.Deltas.{spelled_is_no_newer}
 
@@ -78,23 +78,23 @@ own_delta Start delta fits (inl h) = absurd (omega (arith, h.0))
 own_delta Start delta fits (inr h) = absurd (omega (arith, h.0))
 own_delta (Delta own) delta fits (inl h) = sym h.1
 own_delta (Delta own) delta fits (inr h) = absurd (omega (arith, h.0))
-own_delta (Whole numbers own) delta fits (inl h) = absurd (omega (arith, h.0))
-own_delta (Whole numbers own) delta fits (inr h) = sym (h.2 ∙ drop_at numbers own 8192 fits)
+own_delta (Snapshot used_numbers own) delta fits (inl h) = absurd (omega (arith, h.0))
+own_delta (Snapshot used_numbers own) delta fits (inr h) = sym (h.2 ∙ drop_at used_numbers own 8192 fits)
 
 not_cut : (content : BodyContent) → FitsBody content → IsBodyFault (kind_of content) (body_bytes content) Truncated → ⊥
 not_cut Start fits h = omega (arith, h.0)
 not_cut (Delta own) fits h = omega (arith, h.0)
-not_cut (Whole numbers own) fits h = omega (arith, h.1, fits, length-append numbers own)
+not_cut (Snapshot used_numbers own) fits h = omega (arith, h.1, fits, length-append used_numbers own)
 
 not_range : (content : BodyContent) → 2 < kind_of content → ⊥
 not_range Start h = omega (arith, h)
 not_range (Delta own) h = omega (arith, h)
-not_range (Whole numbers own) h = omega (arith, h)
+not_range (Snapshot used_numbers own) h = omega (arith, h)
 
 not_trailing : (content : BodyContent) → IsBodyFault (kind_of content) (body_bytes content) Trailing → ⊥
 not_trailing Start h = omega (arith, h.1)
 not_trailing (Delta own) h = omega (arith, h.0)
-not_trailing (Whole numbers own) h = omega (arith, h.0)
+not_trailing (Snapshot used_numbers own) h = omega (arith, h.0)
 
 pub body_apart : (content : BodyContent) (f : EntryFault) → FitsBody content → ((delta : List ℕ) → HasDelta content delta → (d : DeltaContent) × IsSpelling delta d)
     → IsBodyFault (kind_of content) (body_bytes content) f → ⊥

@@ -4,7 +4,7 @@ use Rattle.std.proofs.lemmas.List.{take_at, drop_at}
 use Rattle.std.specs.Int.{w64, from_be_bytes}
 use Rattle.lw_log.specs.declared.entry_fault.EntryFault.{EntryFault}
 use Rattle.lw_log.specs.Entries.{BodyContent, EntryContent, FitsBody, IsEntry, kind_of, body_bytes, headed}
-use Rattle.lw_log.specs.Entries.BodyContent.{Start, Delta, Whole}
+use Rattle.lw_log.specs.Entries.BodyContent.{Start, Delta, Snapshot}
 use Rattle.lw_log.specs.EntryFaults.{HasHead, IsFault, IsBodyFault, number_in, kind_in, body_in}
 use Rattle.lw_log.specs.inner.Reading.{IsBodyOf}
 use Rattle.lw_log.proofs.Places.{AreBytes, parts_of, has_head, head_written, fleet_long}
@@ -15,14 +15,14 @@ use Rattle.lw_log.proofs.BodyFaults.{body_apart, body_once}
 one_body : (a b : BodyContent) → kind_of a ≡ kind_of b → body_bytes a ≡ body_bytes b → FitsBody a → FitsBody b → a ≡ b
 one_body Start Start k e f g = refl
 one_body Start (Delta y) k e f g = absurd (omega (arith, k))
-one_body Start (Whole m y) k e f g = absurd (omega (arith, k))
+one_body Start (Snapshot m y) k e f g = absurd (omega (arith, k))
 one_body (Delta x) Start k e f g = absurd (omega (arith, k))
 one_body (Delta x) (Delta y) k e f g = ap Delta e
-one_body (Delta x) (Whole m y) k e f g = absurd (omega (arith, k))
-one_body (Whole n x) Start k e f g = absurd (omega (arith, k))
-one_body (Whole n x) (Delta y) k e f g = absurd (omega (arith, k))
-one_body (Whole n x) (Whole m y) k e f g =
-    let numbers : n ≡ m = sym (take_at n x 8192 f) ∙ ap (take 8192) e ∙ take_at m y 8192 g in
+one_body (Delta x) (Snapshot m y) k e f g = absurd (omega (arith, k))
+one_body (Snapshot n x) Start k e f g = absurd (omega (arith, k))
+one_body (Snapshot n x) (Delta y) k e f g = absurd (omega (arith, k))
+one_body (Snapshot n x) (Snapshot m y) k e f g =
+    let used_numbers : n ≡ m = sym (take_at n x 8192 f) ∙ ap (take 8192) e ∙ take_at m y 8192 g in
     let delta : x ≡ y = sym (drop_at n x 8192 f) ∙ ap (drop 8192) e ∙ drop_at m y 8192 g in
     cc
 

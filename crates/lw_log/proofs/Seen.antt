@@ -2,7 +2,7 @@
 use Rattle.std.proofs.Common.{ℕ, List, [], ◌∷◌, ◌++◌, refl, inl, inr}
 use Rattle.lw_log.specs.Calls.{LogCall}
 use Rattle.lw_log.specs.Calls.LogCall.{Read, Wrote, Tried, Trimmed}
-use Rattle.lw_log.specs.Known.{IsSeen, SeenLeads, OwnAppendsLead}
+use Rattle.lw_log.specs.Known.{IsSeen, SeenCovers, OwnAppendsCover}
 
 pub seen_before : (calls more : List LogCall) (e : List ℕ) → IsSeen e calls → IsSeen e (calls ++ more)
 seen_before [] more e s = absurd s
@@ -20,9 +20,9 @@ seen_behind (Wrote p ∷ calls) more e s = inr (seen_behind calls more e s)
 seen_behind (Tried own ∷ calls) more e s = seen_behind calls more e s
 seen_behind (Trimmed upto ∷ calls) more e s = seen_behind calls more e s
 
-pub seen_leads : SeenLeads
-seen_leads calls more known led = λ reader has. led reader (λ e seen. has e (seen_before calls more e seen))
+pub seen_covers : SeenCovers
+seen_covers calls more known covered = λ reader has. covered reader (λ e seen. has e (seen_before calls more e seen))
 
-pub own_appends_lead : OwnAppendsLead
-own_appends_lead calls p d known brings leads = λ reader has.
-    leads reader (λ e seen. has e (seen_before calls (Wrote p ∷ []) e seen)) (has p.1 (seen_behind calls (Wrote p ∷ []) p.1 (inl refl)) d brings)
+pub own_appends_cover : OwnAppendsCover
+own_appends_cover calls p d known brings covers = λ reader has.
+    covers reader (λ e seen. has e (seen_before calls (Wrote p ∷ []) e seen)) (has p.1 (seen_behind calls (Wrote p ∷ []) p.1 (inl refl)) d brings)

@@ -3,14 +3,15 @@ use Rattle.std.specs.Prelude.{◌≡◌, ℕ, ◌<◌, ◌≤◌, ◌^◌, List,
 use Rattle.std.specs.Int.{w16, w64, to_be_bytes}
 use Rattle.lw_delta.specs.Delta.{DeltaContent, IsSpelling}
 use Rattle.lw_log.specs.declared.entry.Body.{Body}
-use Rattle.lw_log.specs.declared.entry.Body.TheVariants.{Start as StartBody, Delta as DeltaBody, Whole as WholeBody}
+use Rattle.lw_log.specs.declared.entry.Body.TheVariants.{Start as StartBody, Delta as DeltaBody}
+use Rattle.lw_log.specs.declared.entry.Body.TheVariants.{Snapshot as SnapshotBody}
 use Rattle.lw_log.specs.declared.entry.Entry.{Entry}
 
--- a start says nothing more; a whole one has the numbers that starts have had, a bit each, before its delta
+-- a start says nothing more; a snapshot has the numbers that starts have had, a bit each, before its delta
 pub data BodyContent : Type 0 where
   Start : BodyContent
   Delta : List ℕ → BodyContent
-  Whole : List ℕ → List ℕ → BodyContent
+  Snapshot : List ℕ → List ℕ → BodyContent
 
 pub record EntryContent : Type 0 where
   pub fleet : List ℕ
@@ -23,7 +24,7 @@ pub record EntryContent : Type 0 where
 abbrev pub body_content : Body → BodyContent
 body_content StartBody = Start
 body_content (DeltaBody delta) = Delta delta.now
-body_content (WholeBody numbers delta) = Whole numbers.now delta.now
+body_content (SnapshotBody used_numbers delta) = Snapshot used_numbers.now delta.now
 
 abbrev pub content_of : Entry → EntryContent
 content_of e = record { fleet = e.fleet.bytes; number = e.start.number; tag = e.start.tag; sequence = e.sequence; body = body_content e.body }
@@ -32,12 +33,12 @@ content_of e = record { fleet = e.fleet.bytes; number = e.start.number; tag = e.
 abbrev pub kind_of : BodyContent → ℕ
 kind_of Start = 0
 kind_of (Delta delta) = 1
-kind_of (Whole numbers delta) = 2
+kind_of (Snapshot used_numbers delta) = 2
 
 abbrev pub body_bytes : BodyContent → List ℕ
 body_bytes Start = []
 body_bytes (Delta delta) = delta
-body_bytes (Whole numbers delta) = numbers ++ delta
+body_bytes (Snapshot used_numbers delta) = used_numbers ++ delta
 
 -- the magic, the fleet, the number and the tag of the start, the sequence, and what stands behind
 abbrev pub headed : List ℕ → ℕ → ℕ → ℕ → List ℕ → List ℕ
@@ -47,11 +48,11 @@ abbrev pub entry_bytes : EntryContent → List ℕ
 entry_bytes e = headed e.fleet e.number e.tag e.sequence (kind_of e.body ∷ body_bytes e.body)
 
 -- ---- which bytes are an entry
--- a whole entry has a bit for each number up to 65535
+-- a snapshot has a bit for each number up to 65535
 abbrev pub FitsBody : BodyContent → Type 0
 FitsBody Start = Unit {0}
 FitsBody (Delta delta) = Unit {0}
-FitsBody (Whole numbers delta) = length numbers ≡ 8192
+FitsBody (Snapshot used_numbers delta) = length used_numbers ≡ 8192
 
 pub record FitsEntry (e : EntryContent) : Type 0 where
   pub fleet : length e.fleet ≡ 16
@@ -64,7 +65,7 @@ pub record FitsEntry (e : EntryContent) : Type 0 where
 abbrev pub HasDelta : BodyContent → List ℕ → Type 0
 HasDelta Start delta = ⊥
 HasDelta (Delta own) delta = own ≡ delta
-HasDelta (Whole numbers own) delta = own ≡ delta
+HasDelta (Snapshot used_numbers own) delta = own ≡ delta
 
 -- the bytes are those of the entry, its parts fit, and its delta is spelled
 pub record IsEntry (bytes : List ℕ) (e : EntryContent) : Type 0 where

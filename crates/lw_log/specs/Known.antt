@@ -1,4 +1,4 @@
--- What a log leads by what a process has seen of it.
+-- What a log covers by what a process has seen of it.
 use Rattle.std.specs.Prelude.{◌≡◌, ℕ, ◌⊎◌, List, [], ◌∷◌, ◌++◌, map}
 use Rattle.lw_reg.specs.State.{State}
 use Rattle.lw_delta.specs.Delta.{DeltaContent}
@@ -23,17 +23,17 @@ Has known bytes = (d : DeltaContent) → BringsDelta bytes d → IsBelow (known_
 abbrev pub HasSeen : ℕ × State → List LogCall → Type 0
 HasSeen reader calls = (e : List ℕ) → IsSeen e calls → Has reader e
 
--- The log leads what is known, by what the process has seen of it: whoever has these entries knows at least this.
-abbrev pub IsLed : List LogCall → ℕ × State → Type 0
-IsLed calls known = (reader : ℕ × State) → HasSeen reader calls → IsBelow known reader
+-- The log covers what is known, by what the process has seen of it: whoever has these entries knows at least this.
+abbrev pub IsCovered : List LogCall → ℕ × State → Type 0
+IsCovered calls known = (reader : ℕ × State) → HasSeen reader calls → IsBelow known reader
 
--- what is led stays so, whatever is asked next
-abbrev pub SeenLeads : Type 0
-SeenLeads = (calls more : List LogCall) (known : ℕ × State) → IsLed calls known → IsLed (calls ++ more) known
+-- what is covered stays so, whatever is asked next
+abbrev pub SeenCovers : Type 0
+SeenCovers = (calls more : List LogCall) (known : ℕ × State) → IsCovered calls known → IsCovered (calls ++ more) known
 
--- an entry that was appended, with what is led already, brings all that is known
-abbrev pub OwnAppendsLead : Type 0
-OwnAppendsLead =
+-- an entry that was appended, with what is covered already, brings all that is known
+abbrev pub OwnAppendsCover : Type 0
+OwnAppendsCover =
     (calls : List LogCall) (p : Placed) (d : DeltaContent) (known : ℕ × State) → BringsDelta p.1 d
     → ((reader : ℕ × State) → HasSeen reader calls → IsBelow (known_from d) reader → IsBelow known reader)
-    → IsLed (calls ++ Wrote p ∷ []) known
+    → IsCovered (calls ++ Wrote p ∷ []) known

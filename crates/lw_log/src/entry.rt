@@ -26,8 +26,8 @@ pub enum Body<'a> {
     /// What a node has learned, as a delta.
     Delta(&'a [u8]),
     /// All that a node knows, as a delta, with a bit for each number that a start of the log has had.
-    Whole {
-        numbers: &'a [u8; 8192],
+    Snapshot {
+        used_numbers: &'a [u8; 8192],
         delta: &'a [u8],
     },
 }

@@ -11,7 +11,7 @@ use thiserror::Error;
 pub enum LogFault {
     /// It cannot be asked now. An append may have been made.
     #[error("the log is away")]
-    Away,
+    Unavailable,
     /// It will not do this. An append may have been made.
     #[error("the log refused")]
     Refused,

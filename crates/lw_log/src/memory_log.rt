@@ -78,7 +78,7 @@ impl MemoryLog {
         }
     }
 
-    /// Has an append answer `Away`, after so many others, with its entry kept or not.
+    /// Has an append answer `Unavailable`, after so many others, with its entry kept or not.
     pub fn fail_after(&mut self, appends: u64, kept: bool)
         ensures { self.new ≡ record self.old { failure = Some (record { after = appends; kept = kept }) } }
     {
@@ -175,7 +175,7 @@ impl DeltaLog for MemoryLog {
                     self.entries.push_reserved((position, bytes));
                 }
                 self.asked.push_reserved(MemoryCall::Tried(told));
-                Err(LogFault::Away)
+                Err(LogFault::Unavailable)
             }
         }
     }

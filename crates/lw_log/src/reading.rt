@@ -130,11 +130,11 @@ fn read_body(kind: u8, body: &[u8]) -> Result<Body<'_>, EntryFault>
             Ok(Body::Delta(body))
         }
         2 => {
-            let Some((numbers, delta)) = body.split_first_chunk::<8192>() else {
+            let Some((used_numbers, delta)) = body.split_first_chunk::<8192>() else {
                 return Err(EntryFault::Truncated);
             };
             check_delta(delta)?;
-            Ok(Body::Whole { numbers, delta })
+            Ok(Body::Snapshot { used_numbers, delta })
         }
         _ => Err(EntryFault::Range),
     }

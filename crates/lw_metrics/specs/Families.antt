@@ -101,7 +101,7 @@ start_families measures =
     ∷ of_number StartTime (ms_of measures.started / 1000)
     ∷ []
 
--- nothing is told of a node while the log is away
+-- nothing is told of a node while the log is unavailable
 abbrev pub node_families : Option NodeMeasures → List Family
 node_families None = []
 node_families (Some node) =
@@ -146,7 +146,7 @@ held_families requests =
     of_number NotificationsStale requests.notifications_stale
     ∷ of_number NotificationBlocks requests.notification_blocks
     ∷ of_number Fetches requests.fetches
-    ∷ of_number Unnumbered requests.unnumbered
+    ∷ of_number Unnumbered requests.without_message_id
     ∷ []
 
 abbrev pub request_families : RequestMeasures → List Family
@@ -156,7 +156,7 @@ request_families requests = sent_families requests ++ held_families requests
 abbrev pub failure_families : Measures → List Family
 failure_families measures =
     of_number PassedOver measures.passed_over
-    ∷ of_number LogAway (if measures.away then 1 else 0)
+    ∷ of_number LogAway (if measures.log_unavailable then 1 else 0)
     ∷ []
 
 -- what the log was asked
@@ -173,7 +173,7 @@ log_families measures =
     of_number LogBytes measures.log_bytes
     ∷ of_number WholeBytes measures.log_whole_bytes
     ∷ of_number Compactions measures.io_counters.compactions
-    ∷ of_seconds AwaySeconds measures.io_counters.away
+    ∷ of_seconds AwaySeconds measures.io_counters.log_unavailable
     ∷ of_number Refusals measures.io_counters.refusals
     ∷ of_seconds ClockOffset measures.io_counters.clock_offset
     ∷ []

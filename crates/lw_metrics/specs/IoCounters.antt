@@ -62,7 +62,7 @@ abbrev pub new_io_counters : IoCounters
 new_io_counters = record {
   log = new_log_counters;
   compactions = 0;
-  away = 0;
+  log_unavailable = 0;
   refusals = 0;
   clock_offset = 0;
   receive_faults = 0;
@@ -82,5 +82,5 @@ new_requests = record {
   notifications_stale = 0;
   notification_blocks = 0;
   fetches = 0;
-  unnumbered = 0;
+  without_message_id = 0;
 }

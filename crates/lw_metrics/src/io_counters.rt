@@ -32,8 +32,8 @@ impl LogCounters {
 pub struct IoCounters {
     pub log: LogCounters,
     pub compactions: u64,
-    /// How long the log was away, in microseconds.
-    pub away: u64,
+    /// How long the log was unavailable, in microseconds.
+    pub log_unavailable: u64,
     /// The turns and compactions that the log refused, and the run went on.
     pub refusals: u64,
     /// How far the host's clock is from the one that lifetimes go by, in microseconds.
@@ -42,7 +42,7 @@ pub struct IoCounters {
     pub receive_faults: u64,
     /// The replies that could not be sent.
     pub send_faults: u64,
-    /// The datagrams that were passed over since the log was away, or the server had stood still.
+    /// The datagrams that were passed over since the log was unavailable, or the server had stood still.
     pub dropped: u64,
     /// The datagrams that the system dropped before the transport could take them.
     pub drops: u64,
@@ -57,7 +57,7 @@ impl IoCounters {
         IoCounters {
             log: LogCounters::new(),
             compactions: 0,
-            away: 0,
+            log_unavailable: 0,
             refusals: 0,
             clock_offset: 0,
             receive_faults: 0,

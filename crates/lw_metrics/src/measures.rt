@@ -8,16 +8,16 @@ pub struct Measures {
     pub version: &'static str,
     /// When the program was started.
     pub started: Moment,
-    /// What is told of its node. It is not told while the log is away.
+    /// What is told of its node. It is not told while the log is unavailable.
     pub node: Option<NodeMeasures>,
     pub tally: Tally,
     /// How many rounds failed for want of memory.
     pub passed_over: u64,
-    /// Whether the log is away.
-    pub away: bool,
-    /// How many bytes the last whole entry of the log has, with the entries behind it.
+    /// Whether the log is unavailable.
+    pub log_unavailable: bool,
+    /// How many bytes the last snapshot of the log has, with the entries behind it.
     pub log_bytes: u64,
-    /// How many bytes the last whole entry has.
+    /// How many bytes the last snapshot has.
     pub log_whole_bytes: u64,
     pub io_counters: IoCounters,
     /// How many datagrams came again and got the same reply.

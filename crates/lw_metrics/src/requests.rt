@@ -24,7 +24,7 @@ pub struct RequestMeasures {
     /// How many notifications there are whose rest is being fetched.
     pub fetches: u64,
     /// The replies to non-confirmable requests that were not sent since no message ID was free.
-    pub unnumbered: u64,
+    pub without_message_id: u64,
 }
 
 impl RequestMeasures {
@@ -41,7 +41,7 @@ impl RequestMeasures {
             notifications_stale: 0,
             notification_blocks: 0,
             fetches: 0,
-            unnumbered: 0,
+            without_message_id: 0,
         }
     }
 }

@@ -111,14 +111,14 @@ fn put_held(text: &mut String, requests: &RequestMeasures) -> Result<(), NoMemor
         requests.notification_blocks,
     )?;
     put_number(text, Metric::Fetches, requests.fetches)?;
-    put_number(text, Metric::Unnumbered, requests.unnumbered)
+    put_number(text, Metric::Unnumbered, requests.without_message_id)
 }
 
 fn put_failures(text: &mut String, measures: &Measures) -> Result<(), NoMemory>
     ensures { OnOk result (string_bytes text.new ≡ string_bytes text.old ++ exposition (failure_families measures.now)) }
 {
     put_number(text, Metric::PassedOver, measures.passed_over)?;
-    put_number(text, Metric::LogAway, u64::from(measures.away))
+    put_number(text, Metric::LogAway, u64::from(measures.log_unavailable))
 }
 
 fn put_log_counters(text: &mut String, alloc: Global, log: &LogCounters) -> Result<(), NoMemory>
@@ -136,7 +136,7 @@ fn put_log(text: &mut String, alloc: Global, measures: &Measures) -> Result<(), 
     put_number(text, Metric::LogBytes, measures.log_bytes)?;
     put_number(text, Metric::WholeBytes, measures.log_whole_bytes)?;
     put_number(text, Metric::Compactions, measures.io_counters.compactions)?;
-    put_seconds(text, alloc, Metric::AwaySeconds, measures.io_counters.away)?;
+    put_seconds(text, alloc, Metric::AwaySeconds, measures.io_counters.log_unavailable)?;
     put_number(text, Metric::Refusals, measures.io_counters.refusals)?;
     put_seconds(text, alloc, Metric::ClockOffset, measures.io_counters.clock_offset)
 }

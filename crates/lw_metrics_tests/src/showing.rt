@@ -210,7 +210,7 @@ fn io_counters() -> IoCounters {
             entries_read: 32,
         },
         compactions: 35,
-        away: u64::MAX,
+        log_unavailable: u64::MAX,
         refusals: 75,
         clock_offset: 8_000_250,
         receive_faults: 36,
@@ -235,7 +235,7 @@ fn requests() -> RequestMeasures {
         notifications_stale: 66,
         notification_blocks: 67,
         fetches: 68,
-        unnumbered: 69,
+        without_message_id: 69,
     }
 }
 
@@ -246,7 +246,7 @@ fn measures(rt: &impl Abort, node: Option<NodeMeasures>) -> Measures {
         node,
         tally: tally(),
         passed_over: 28,
-        away: true,
+        log_unavailable: true,
         log_bytes: 33,
         log_whole_bytes: 34,
         io_counters: io_counters(),

@@ -13,7 +13,7 @@ pub(crate) fn measures_of(tally: Tally, io_counters: IoCounters) -> Measures {
         node: None,
         tally,
         passed_over: 0,
-        away: false,
+        log_unavailable: false,
         log_bytes: 0,
         log_whole_bytes: 0,
         io_counters,

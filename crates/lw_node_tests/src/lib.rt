@@ -6,7 +6,7 @@ mod call;
 #[cfg(test)]
 mod node;
 #[cfg(test)]
-mod print;
+mod json;
 #[cfg(test)]
 mod script;
 #[cfg(test)]

@@ -2,7 +2,7 @@
 
 use bytes::Bytes;
 use lw_node::{Call, Node, Question, Reply, Sent, Text};
-use lw_print::outcome_line;
+use lw_json::outcome_line;
 use lw_script::read_line;
 use lw_stamp::{Moment, NoMemory};
 use lw_world::{Action, Outcome};

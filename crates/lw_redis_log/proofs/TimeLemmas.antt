@@ -18,7 +18,7 @@ use Rattle.lw_redis_log.specs.Errors.{Passes}
 use Rattle.lw_redis_log.specs.Outcomes.{IsFaultOf}
 use Rattle.lw_redis_log.specs.Times.{IsTime, IsError, IsTimeFault}
 use Rattle.lw_redis_log.specs.declared.outcomes.RedisFault.{RedisFault}
-use Rattle.lw_redis_log.specs.declared.outcomes.RedisFault.TheVariants.{Away, Refused, Lost}
+use Rattle.lw_redis_log.specs.declared.outcomes.RedisFault.TheVariants.{Unavailable, Refused, Lost}
 use Rattle.lw_redis_log.specs.inner.Times.{ArePair, AreTexts, IsLastBulk, IsMoment}
 
 -- ---- numbers in decimal
@@ -156,7 +156,7 @@ no_both bytes first last text t x = other_kind _ _ (sym t.written ∙ x.written)
 
 pub error_fault : (bytes text : List ℕ) (fault : RedisFault) → IsError bytes text
     → ((t : List ℕ) → IsError bytes t → text ≡ t) → ((told : ℕ) → ¬ IsTime bytes told) → IsFaultOf text fault → IsTimeFault bytes fault
-error_fault bytes text Away x only never h = (never, λ t y. subst Passes (only t y) h)
+error_fault bytes text Unavailable x only never h = (never, λ t y. subst Passes (only t y) h)
 error_fault bytes text (Refused t) x only never h = (subst (IsError bytes) (sym h.1) x, λ p. h.0 (subst Passes h.1 p))
 error_fault bytes text Lost x only never h = h
 

@@ -5,7 +5,7 @@ use Rattle.lw_resp.specs.Bytes.{command_bytes}
 use Rattle.lw_resp.specs.Words.{IsText, word_bytes}
 use Rattle.lw_resp.specs.Words.WordContent.{Error}
 use Rattle.lw_redis_log.specs.declared.outcomes.RedisFault.{RedisFault}
-use Rattle.lw_redis_log.specs.declared.outcomes.RedisFault.TheVariants.{Away, Refused, Lost}
+use Rattle.lw_redis_log.specs.declared.outcomes.RedisFault.TheVariants.{Unavailable, Refused, Lost}
 use Rattle.lw_redis_log.specs.Errors.{Passes}
 
 -- the bytes are an array of two bulk strings: the seconds since 1970 and the microseconds of the next one, in decimal.
@@ -25,7 +25,8 @@ pub record IsError (bytes text : List ℕ) : Type 0 where
 
 -- a refusal with the text of the error; else it is an error that passes, or neither a time nor an error
 abbrev pub IsTimeFault : List ℕ → RedisFault → Type 0
-IsTimeFault bytes Away = ((told : ℕ) → ¬ IsTime bytes told) × ((text : List ℕ) → IsError bytes text → Passes text)
+IsTimeFault bytes Unavailable = ((told : ℕ) → ¬ IsTime bytes told)
+    × ((text : List ℕ) → IsError bytes text → Passes text)
 IsTimeFault bytes (Refused text) = IsError bytes text.now × ¬ Passes text.now
 IsTimeFault bytes Lost = ⊥
 

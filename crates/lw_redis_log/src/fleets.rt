@@ -14,7 +14,7 @@ fn fleet_in(entry: &Entry<'_>) -> Option<FleetId>
 {
     match entry.body {
         Body::Start => None,
-        Body::Delta(_) | Body::Whole { .. } => Some(entry.fleet),
+        Body::Delta(_) | Body::Snapshot { .. } => Some(entry.fleet),
     }
 }
 

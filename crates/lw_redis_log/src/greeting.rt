@@ -15,7 +15,7 @@ use lw_stamp::NoMemory;
 
 impl<C: Connects> RedisLog<C> {
     /// Makes the connection where there is none, and so learns what time it is by the server's clock. Want of memory
-    /// is as away.
+    /// is as unavailable.
     pub fn connect(&mut self) -> Result<(), LogFault>
         ensures asked { IfErr result (λ fault. fault ≢ LogFault.NoMemory) }
     {
@@ -30,7 +30,7 @@ impl<C: Connects> RedisLog<C> {
             return Ok(());
         }
         if self.line.open().is_err() {
-            return Err(LogFault::Away);
+            return Err(LogFault::Unavailable);
         }
         self.greet()
     }
@@ -64,7 +64,7 @@ impl<C: Connects> RedisLog<C> {
     {
         match command {
             Ok(command) => self.ask(&command),
-            Err(_) => Err(self.fail(RedisFault::Away)),
+            Err(_) => Err(self.fail(RedisFault::Unavailable)),
         }
     }
 

@@ -9,7 +9,7 @@ use lw_resp::{Entry, Reply, StreamId, Word};
 #[derive(Clone, Copy, PartialEq, Eq, Debug)]
 pub enum RedisFault<'a> {
     /// It cannot do it now, or its reply is none to the question.
-    Away,
+    Unavailable,
     /// It will not do it, with the text of its error.
     Refused(&'a [u8]),
     /// The stream is not there.
@@ -21,7 +21,7 @@ pub(crate) fn fault_of(text: &[u8]) -> RedisFault<'_>
     ensures { IsFaultOf text.now result }
 {
     if passes(text) {
-        return RedisFault::Away;
+        return RedisFault::Unavailable;
     }
     RedisFault::Refused(text)
 }
@@ -33,11 +33,11 @@ pub fn append_outcome<'a>(reply: &Reply<'a>) -> Result<StreamId, RedisFault<'a>>
     match reply {
         Reply::Word(Word::Bulk(text)) => match StreamId::read(text) {
             Some(id) => Ok(id),
-            None => Err(RedisFault::Away),
+            None => Err(RedisFault::Unavailable),
         },
         Reply::Word(Word::Null) => Err(RedisFault::Lost),
         Reply::Word(Word::Error(text)) => Err(fault_of(text)),
-        _ => Err(RedisFault::Away),
+        _ => Err(RedisFault::Unavailable),
     }
 }
 
@@ -48,7 +48,7 @@ pub fn entries_outcome<'r, 'a>(reply: &'r Reply<'a>) -> Result<&'r [Entry<'a>], 
     match reply {
         Reply::Entries(entries) => Ok(entries),
         Reply::Word(Word::Error(text)) => Err(fault_of(text)),
-        _ => Err(RedisFault::Away),
+        _ => Err(RedisFault::Unavailable),
     }
 }
 
@@ -59,7 +59,7 @@ pub fn trim_outcome<'a>(reply: &Reply<'a>) -> Result<u64, RedisFault<'a>>
     match reply {
         Reply::Word(Word::Number(number)) => Ok(*number),
         Reply::Word(Word::Error(text)) => Err(fault_of(text)),
-        _ => Err(RedisFault::Away),
+        _ => Err(RedisFault::Unavailable),
     }
 }
 
@@ -72,11 +72,11 @@ pub fn status_outcome<'a>(want: &[u8], reply: &Reply<'a>) -> Result<(), RedisFau
             if *text == want {
                 Ok(())
             } else {
-                Err(RedisFault::Away)
+                Err(RedisFault::Unavailable)
             }
         }
         Reply::Word(Word::Error(text)) => Err(fault_of(text)),
-        _ => Err(RedisFault::Away),
+        _ => Err(RedisFault::Unavailable),
     }
 }
 
@@ -87,6 +87,6 @@ pub fn info_outcome<'a>(reply: &Reply<'a>) -> Result<&'a [u8], RedisFault<'a>>
     match reply {
         Reply::Word(Word::Bulk(text)) => Ok(text),
         Reply::Word(Word::Error(text)) => Err(fault_of(text)),
-        _ => Err(RedisFault::Away),
+        _ => Err(RedisFault::Unavailable),
     }
 }

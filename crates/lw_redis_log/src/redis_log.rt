@@ -23,7 +23,7 @@ use std::alloc::Global;
 
 /// Keeps entries in one stream of a Redis, which other processes append to and trim at any time.
 ///
-/// A connection that fails is made again after a pause, and each call answers `Away` until then.
+/// A connection that fails is made again after a pause, and each call answers `Unavailable` until then.
 ///
 /// A reading above the entry that was read last asks for that entry as well. Where the stream does not begin with it,
 /// or lacks what this log has appended, it has lost something: the call answers `Lost`, and nothing is remembered of
@@ -93,9 +93,9 @@ impl<C: Connects> RedisLog<C> {
         ensures asked { result ≢ LogFault.NoMemory }
     {
         match fault {
-            RedisFault::Away => {
+            RedisFault::Unavailable => {
                 self.line.close();
-                LogFault::Away
+                LogFault::Unavailable
             }
             RedisFault::Refused(text) => {
                 if self.refusals.tells(text, self.line.world.milliseconds()) {
@@ -155,7 +155,7 @@ impl<C: Connects> RedisLog<C> {
     }
 
     /// Asks what time it is, where it was not asked for a while. A failure closes the connection, so that the next call
-    /// is as away.
+    /// is as unavailable.
     fn learn_time_if_due(&mut self) {
         if self.line.is_open() && self.timing.is_due(self.line.world.milliseconds()) {
             let _ = self.learn_time();
@@ -271,12 +271,12 @@ impl<C: Connects> RedisLog<C> {
     {
         match self.line.ask(command) {
             Ok(bytes) => Ok(bytes),
-            Err(_) => Err(LogFault::Away),
+            Err(_) => Err(LogFault::Unavailable),
         }
     }
 }
 
-// Want of memory is told only before the server is asked. What is read or written later is as away.
+// Want of memory is told only before the server is asked. What is read or written later is as unavailable.
 impl<C: Connects> DeltaLog for RedisLog<C> {
     fn read(&mut self, after: Option<Position>) -> Result<Vec<(Position, Bytes)>, LogFault> {
         let trims = self.trims.due(self.line.world.milliseconds()).is_some();

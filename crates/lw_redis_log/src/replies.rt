@@ -1,4 +1,5 @@
-//! What the bytes of a reply are to what was asked. Where they are none, or more than one, the server is as away.
+//! What the bytes of a reply are to what was asked. Where they are none, or more than one, the server is as
+//! unavailable.
 
 use crate::outcomes::{
     RedisFault, append_outcome, entries_outcome, info_outcome, status_outcome, trim_outcome,
@@ -36,10 +37,10 @@ fn whole_reply(alloc: Global, bytes: &[u8]) -> Result<Reply<'_>, RedisFault<'_>>
             if rest.is_empty() {
                 Ok(reply)
             } else {
-                Err(RedisFault::Away)
+                Err(RedisFault::Unavailable)
             }
         }
-        _ => Err(RedisFault::Away),
+        _ => Err(RedisFault::Unavailable),
     }
 }
 
@@ -56,7 +57,7 @@ pub(crate) fn page_read(
     let reply = whole_reply(alloc, bytes)?;
     match page_of(alloc, entries_outcome(&reply)?) {
         Ok(page) => Ok(page),
-        Err(_) => Err(RedisFault::Away),
+        Err(_) => Err(RedisFault::Unavailable),
     }
 }
 

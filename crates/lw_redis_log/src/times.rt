@@ -31,11 +31,11 @@ pub fn time_told(bytes: &[u8]) -> Result<u64, RedisFault<'_>>
     match texts(bytes) {
         Some((seconds, microseconds)) => match moment_of(seconds, microseconds) {
             Some(told) => Ok(told),
-            None => Err(RedisFault::Away),
+            None => Err(RedisFault::Unavailable),
         },
         None => match error_text(bytes) {
             Some(text) => Err(fault_of(text)),
-            None => Err(RedisFault::Away),
+            None => Err(RedisFault::Unavailable),
         },
     }
 }

@@ -70,7 +70,7 @@ const STARTS: Answer = Says(
      *2\r\n$3\r\n6-0\r\n*2\r\n$1\r\ne\r\n$39\r\nLWE1GGGGGGGGGGGGGGGG01ttttttttssssssss\x00\r\n",
 );
 
-/// A whole entry of the fleet `G`.
+/// A snapshot of the fleet `G`.
 const WHOLE_OF_G: Answer = SaysLarge(
     "*1\r\n*2\r\n$3\r\n6-0\r\n*2\r\n$1\r\ne\r\n$8242\r\nLWE1GGGGGGGGGGGGGGGG01ttttttttssssssss\x02",
     8_192,

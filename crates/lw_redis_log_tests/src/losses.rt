@@ -117,7 +117,7 @@ static READ_BEFORE: [Story<'static>; 7] = [
         ],
         "connects\n*1~$4~PING~\n*1~$4~INFO~\n\
          *6~$6~XRANGE~$1~k~$1~-~$1~+~$5~COUNT~$3~256~\npasses over 5-0\n= 5-0 a\n\
-         *6~$6~XRANGE~$1~k~$3~5-0~$1~+~$5~COUNT~$3~257~\n= Away\n100 ms\n\
+         *6~$6~XRANGE~$1~k~$3~5-0~$1~+~$5~COUNT~$3~257~\n= Unavailable\n100 ms\n\
          connects\n*1~$4~PING~\n*1~$4~INFO~\n\
          *6~$6~XRANGE~$1~k~$3~5-0~$1~+~$5~COUNT~$3~257~\nlost\n= Lost\n",
     ),
@@ -287,7 +287,7 @@ static LARGE_LAST: [Story<'static>; 2] = [
          *6~$6~XRANGE~$1~k~$4~(5-0~$1~+~$5~COUNT~$3~256~\n=\n\
          *6~$6~XRANGE~$1~k~$3~5-0~$1~+~$5~COUNT~$3~257~\n=\n\
          *6~$6~XRANGE~$1~k~$4~(5-0~$1~+~$5~COUNT~$3~256~\n=\n\
-         *6~$6~XRANGE~$1~k~$4~(5-0~$1~+~$5~COUNT~$3~256~\n= Away\n100 ms\n\
+         *6~$6~XRANGE~$1~k~$4~(5-0~$1~+~$5~COUNT~$3~256~\n= Unavailable\n100 ms\n\
          connects\n*1~$4~PING~\n*1~$4~INFO~\n\
          *6~$6~XRANGE~$1~k~$3~5-0~$1~+~$5~COUNT~$3~257~\n=\n",
     ),

@@ -46,7 +46,7 @@ enum Asked {
 
 fn fault_text(alloc: Global, fault: RedisFault<'_>) -> Result<String, AllocError> {
     match fault {
-        RedisFault::Away => String::from_str(alloc, "away"),
+        RedisFault::Unavailable => String::from_str(alloc, "away"),
         RedisFault::Lost => String::from_str(alloc, "lost"),
         RedisFault::Refused(text) => {
             let text = shown(alloc, text)?;

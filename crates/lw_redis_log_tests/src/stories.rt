@@ -134,7 +134,7 @@ static REFUSED: [Story<'static>; 4] = [
         ],
         "connects\n*1~$4~PING~\n*1~$4~INFO~\n\
          *6~$4~XADD~$1~k~$10~NOMKSTREAM~$1~*~$1~e~$1~a~\nNOPERM no permissions\n= Refused\n\
-         *6~$4~XADD~$1~k~$10~NOMKSTREAM~$1~*~$1~e~$1~a~\n= Away\n100 ms\n\
+         *6~$4~XADD~$1~k~$10~NOMKSTREAM~$1~*~$1~e~$1~a~\n= Unavailable\n100 ms\n\
          connects\n*1~$4~PING~\n*1~$4~INFO~\n\
          *6~$6~XRANGE~$1~k~$4~(5-0~$1~+~$5~COUNT~$3~256~\n=\n\
          *6~$4~XADD~$1~k~$10~NOMKSTREAM~$1~*~$1~e~$1~a~\nNOPERM no permissions\n= Refused\n",
@@ -149,7 +149,7 @@ fn a_refusal_is_told(rt: HostRuntime) {
 
 /// Nothing is asked while the pause lasts.
 const DROPPED: &str = "connects\n*1~$4~PING~\n*1~$4~INFO~\n\
-     *6~$4~XADD~$1~k~$10~NOMKSTREAM~$1~*~$1~e~$1~a~\n= Away\n= Away\n99 ms\n= Away\n1 ms\n\
+     *6~$4~XADD~$1~k~$10~NOMKSTREAM~$1~*~$1~e~$1~a~\n= Unavailable\n= Unavailable\n99 ms\n= Unavailable\n1 ms\n\
      connects\n*1~$4~PING~\n*1~$4~INFO~\n*6~$4~XADD~$1~k~$10~NOMKSTREAM~$1~*~$1~e~$1~a~\n= 5-0\n";
 
 /// An append until it is done, and with it what is done while a pause of 100 ms lasts.
@@ -298,8 +298,8 @@ static PAUSES: [Story<'static>; 2] = [
             Pass(1),
             Read(None),
         ],
-        "connects not\n= Away\n100 ms\nconnects not\n= Away\n199 ms\n= Away\n1 ms\n\
-         connects\n*1~$4~PING~\n= Away\n399 ms\n= Away\n1 ms\nconnects not\n= Away\n",
+        "connects not\n= Unavailable\n100 ms\nconnects not\n= Unavailable\n199 ms\n= Unavailable\n1 ms\n\
+         connects\n*1~$4~PING~\n= Unavailable\n399 ms\n= Unavailable\n1 ms\nconnects not\n= Unavailable\n",
     ),
     (
         &[
@@ -322,10 +322,10 @@ static PAUSES: [Story<'static>; 2] = [
             Pass(100),
             Append("b"),
         ],
-        "connects not\n= Away\n100 ms\n\
+        "connects not\n= Unavailable\n100 ms\n\
          connects\n*1~$4~PING~\n*1~$4~INFO~\n\
          *6~$4~XADD~$1~k~$10~NOMKSTREAM~$1~*~$1~e~$1~a~\n= 5-0\n\
-         *6~$4~XADD~$1~k~$10~NOMKSTREAM~$1~*~$1~e~$1~b~\n= Away\n100 ms\n\
+         *6~$4~XADD~$1~k~$10~NOMKSTREAM~$1~*~$1~e~$1~b~\n= Unavailable\n100 ms\n\
          connects\n*1~$4~PING~\n*1~$4~INFO~\n\
          *6~$4~XADD~$1~k~$10~NOMKSTREAM~$1~*~$1~e~$1~b~\n= 6-0\n",
     ),
@@ -364,7 +364,7 @@ static SETTINGS: [Story<'static>; 4] = [
         &[Read(None), Read(None), Pass(100), Read(None)],
         "connects\n*1~$4~PING~\n*1~$4~INFO~\nkeeps nothing\n\
          *6~$6~XRANGE~$1~k~$1~-~$1~+~$5~COUNT~$3~256~\n=\n\
-         *6~$6~XRANGE~$1~k~$1~-~$1~+~$5~COUNT~$3~256~\n= Away\n100 ms\n\
+         *6~$6~XRANGE~$1~k~$1~-~$1~+~$5~COUNT~$3~256~\n= Unavailable\n100 ms\n\
          connects\n*1~$4~PING~\n*1~$4~INFO~\n\
          *6~$6~XRANGE~$1~k~$1~-~$1~+~$5~COUNT~$3~256~\n=\n",
     ),
@@ -404,13 +404,13 @@ static SETTINGS: [Story<'static>; 4] = [
         ],
         "connects\n*1~$4~PING~\n*1~$4~INFO~\n\
          *6~$6~XRANGE~$1~k~$1~-~$1~+~$5~COUNT~$3~256~\n=\n\
-         *6~$6~XRANGE~$1~k~$1~-~$1~+~$5~COUNT~$3~256~\n= Away\n100 ms\n\
+         *6~$6~XRANGE~$1~k~$1~-~$1~+~$5~COUNT~$3~256~\n= Unavailable\n100 ms\n\
          connects\n*1~$4~PING~\n*1~$4~INFO~\nreplica\n\
          *6~$6~XRANGE~$1~k~$1~-~$1~+~$5~COUNT~$3~256~\n=\n\
-         *6~$6~XRANGE~$1~k~$1~-~$1~+~$5~COUNT~$3~256~\n= Away\n100 ms\n\
+         *6~$6~XRANGE~$1~k~$1~-~$1~+~$5~COUNT~$3~256~\n= Unavailable\n100 ms\n\
          connects\n*1~$4~PING~\n*1~$4~INFO~\nevicts\n\
          *6~$6~XRANGE~$1~k~$1~-~$1~+~$5~COUNT~$3~256~\n=\n\
-         *6~$6~XRANGE~$1~k~$1~-~$1~+~$5~COUNT~$3~256~\n= Away\n100 ms\n\
+         *6~$6~XRANGE~$1~k~$1~-~$1~+~$5~COUNT~$3~256~\n= Unavailable\n100 ms\n\
          connects\n*1~$4~PING~\n*1~$4~INFO~\n\
          *6~$6~XRANGE~$1~k~$1~-~$1~+~$5~COUNT~$3~256~\n=\n",
     ),
@@ -431,7 +431,7 @@ static SETTINGS: [Story<'static>; 4] = [
             EMPTY,
         ],
         &[Read(None), Pass(100), Read(None)],
-        "connects\n*1~$4~PING~\n*1~$4~INFO~\n= Away\n100 ms\n\
+        "connects\n*1~$4~PING~\n*1~$4~INFO~\n= Unavailable\n100 ms\n\
          connects\n*1~$4~PING~\n*1~$4~INFO~\nkeeps nothing\n\
          *6~$6~XRANGE~$1~k~$1~-~$1~+~$5~COUNT~$3~256~\n=\n",
     ),
@@ -454,7 +454,7 @@ const WHOLE: &str = "connects\n*1~$4~PING~\n*1~$4~INFO~\n\
 
 /// The record of one whose reply is not.
 const CUT: &str = "connects\n*1~$4~PING~\n*1~$4~INFO~\n\
-     *6~$6~XRANGE~$1~k~$1~-~$1~+~$5~COUNT~$3~256~\n= Away\n";
+     *6~$6~XRANGE~$1~k~$1~-~$1~+~$5~COUNT~$3~256~\n= Unavailable\n";
 
 /// A reply comes in any pieces.
 static WHOLES: [Story<'static>; 3] = [
@@ -497,8 +497,8 @@ static LOGINS: [Story<'static>; 4] = [
             Fails,
         ],
         &[Read(None), Read(None), Pass(100), Read(None)],
-        "connects\n*3~$4~AUTH~$5~fleet~$6~secret~\nWRONGPASS\n= Refused\n= Away\n100 ms\n\
-         connects not\n= Away\n",
+        "connects\n*3~$4~AUTH~$5~fleet~$6~secret~\nWRONGPASS\n= Refused\n= Unavailable\n100 ms\n\
+         connects not\n= Unavailable\n",
     ),
     (
         &[
@@ -516,7 +516,7 @@ static LOGINS: [Story<'static>; 4] = [
         ],
         &[Read(None), Read(None)],
         "connects\n*3~$4~AUTH~$5~fleet~$6~secret~\n*1~$4~PING~\n\
-         NOPERM this user has no permissions to run the 'ping' command\n= Refused\n= Away\n",
+         NOPERM this user has no permissions to run the 'ping' command\n= Refused\n= Unavailable\n",
     ),
 ];
 

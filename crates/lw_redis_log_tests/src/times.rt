@@ -42,7 +42,7 @@ fn times_are_told(rt: HostRuntime) {
     for (bytes, want) in &TIMES {
         let want = match want {
             Some(told) => Ok(*told),
-            None => Err(RedisFault::Away),
+            None => Err(RedisFault::Unavailable),
         };
         assert!(rt; time_told(bytes.as_bytes()) == want, "{bytes}");
     }
@@ -68,7 +68,7 @@ fn times_are_refused(rt: HostRuntime) {
                 let text = shown(rt.alloc(), text).expect(&rt, "memory");
                 assert!(rt; *want == Some(text.as_str()), "{bytes}");
             }
-            other => assert!(rt; other == Err(RedisFault::Away) && want.is_none(), "{bytes}"),
+            other => assert!(rt; other == Err(RedisFault::Unavailable) && want.is_none(), "{bytes}"),
         }
     }
 }
@@ -206,7 +206,7 @@ static ASKED: [Story<'static>; 3] = [
         ],
         "connects\n*1~$4~PING~\n*1~$4~INFO~\n*1~$4~TIME~\ntime 1405067822251 in 0 ms\n\
          *6~$6~XRANGE~$1~k~$1~-~$1~+~$5~COUNT~$3~256~\n=\n10000 ms\n\
-         *6~$6~XRANGE~$1~k~$1~-~$1~+~$5~COUNT~$3~256~\n*1~$4~TIME~\n=\n= Away\n100 ms\n\
+         *6~$6~XRANGE~$1~k~$1~-~$1~+~$5~COUNT~$3~256~\n*1~$4~TIME~\n=\n= Unavailable\n100 ms\n\
          connects\n*1~$4~PING~\n*1~$4~INFO~\n*1~$4~TIME~\ntime 1405067822251 in 0 ms\n\
          *6~$6~XRANGE~$1~k~$1~-~$1~+~$5~COUNT~$3~256~\n=\n",
     ),
@@ -248,19 +248,19 @@ static REFUSED: [Story<'static>; 3] = [
         "connects\n*1~$4~PING~\n*1~$4~INFO~\n*1~$4~TIME~\ntells no time\n\
          *6~$6~XRANGE~$1~k~$1~-~$1~+~$5~COUNT~$3~256~\n=\n20000 ms\n\
          *6~$6~XRANGE~$1~k~$1~-~$1~+~$5~COUNT~$3~256~\n=\n\
-         *5~$4~XADD~$1~k~$1~*~$1~e~$1~a~\n= Away\n100 ms\n\
+         *5~$4~XADD~$1~k~$1~*~$1~e~$1~a~\n= Unavailable\n100 ms\n\
          connects\n*1~$4~PING~\n*1~$4~INFO~\n*1~$4~TIME~\n\
          *6~$6~XRANGE~$1~k~$1~-~$1~+~$5~COUNT~$3~256~\n=\n",
     ),
     (
         &[Opens, PONG, KEEPS, Says("-LOADING data\r\n")],
         &[Connect, Connect],
-        "connects\n*1~$4~PING~\n*1~$4~INFO~\n*1~$4~TIME~\n= Away\n= Away\n",
+        "connects\n*1~$4~PING~\n*1~$4~INFO~\n*1~$4~TIME~\n= Unavailable\n= Unavailable\n",
     ),
     (
         &[Opens, PONG, KEEPS, Says("+OK\r\n")],
         &[Connect, Connect],
-        "connects\n*1~$4~PING~\n*1~$4~INFO~\n*1~$4~TIME~\n= Away\n= Away\n",
+        "connects\n*1~$4~PING~\n*1~$4~INFO~\n*1~$4~TIME~\n= Unavailable\n= Unavailable\n",
     ),
 ];
 

@@ -186,7 +186,7 @@ static AGAIN: [Story<'static>; 2] = [
          = trimmed\n30000 ms\n\
          *6~$6~XRANGE~$1~k~$3~5-0~$1~+~$5~COUNT~$3~257~\n\
          passes over 6-0\n*5~$5~XTRIM~$1~k~$5~MINID~$1~=~$4~4-10~\n= 6-0 b\n\
-         = Away\n100 ms\n\
+         = Unavailable\n100 ms\n\
          connects\n*1~$4~PING~\n*1~$4~INFO~\n\
          *6~$6~XRANGE~$1~k~$3~6-0~$1~+~$5~COUNT~$3~257~\n=\n\
          29900 ms\n\

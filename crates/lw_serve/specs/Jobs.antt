@@ -5,7 +5,7 @@ use Rattle.lw_reg.specs.declared.addr.Addr.{Addr}
 use Rattle.lw_reg.specs.AddrOrder.{port_of}
 use Rattle.lw_call.specs.declared.call.Call.TheVariants.{Take, Send, Merge, Sweep}
 use Rattle.lw_crew.specs.declared.job.Job.{Job}
-use Rattle.lw_wire.specs.declared.datagram.Datagram.{Datagram}
+use Rattle.lw_udp.specs.declared.datagram.Datagram.{Datagram}
 
 -- the number of the node that a datagram from the address goes to, of so many
 abbrev pub node_of_source : ℕ → Addr → ℕ

@@ -9,7 +9,7 @@ use Rattle.lw_crew.specs.declared.job.Done.{Done}
 use Rattle.lw_crew.specs.declared.job.Job.{Job}
 use Rattle.lw_serve.specs.Jobs.{jobs_of_round, sends_from}
 use Rattle.lw_serve.specs.Outcomes.{change_after, merges_after_all, refused_merges}
-use Rattle.lw_wire.specs.declared.datagram.Datagram.{Datagram}
+use Rattle.lw_udp.specs.declared.datagram.Datagram.{Datagram}
 
 -- the workers have done the jobs
 pub record Serves (shelves : List Shelf) (before after : List Transcript) (jobs : List Job) (dones : List Done) : Type 0 where

@@ -13,7 +13,7 @@ use Rattle.lw_serve.specs.Rounds.{IsRound, Serves}
 use Rattle.lw_serve.specs.declared.fault.ServeFault.{ServeFault}
 use Rattle.lw_serve.specs.declared.fault.ServeFault.TheVariants as faults
 use Rattle.lw_serve.specs.declared.plan.Plan.{Plan}
-use Rattle.lw_wire.specs.declared.datagram.Datagram.{Datagram}
+use Rattle.lw_udp.specs.declared.datagram.Datagram.{Datagram}
 
 -- ---- the rounds
 -- Where a run stands between two rounds: how many datagrams are still to be taken, the passes, the merges that are kept,

@@ -10,7 +10,7 @@ use lw_crew::Job;
 use lw_node::Call;
 use lw_reg::Addr;
 use lw_stamp::{Moment, NoMemory};
-use lw_wire::Datagram;
+use lw_udp::Datagram;
 use std::alloc::Global;
 
 /// The jobs that were kept, behind them a Take for each datagram, at the node of its source, and last a Sweep of each

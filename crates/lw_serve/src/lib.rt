@@ -24,7 +24,7 @@ mod wire;
 pub use fault::ServeFault;
 pub use lw_crew::CrewFault;
 pub use lw_reg::Addr;
-pub use lw_wire::{HostClock, SystemClock, WireFault};
+pub use lw_udp::{HostClock, SystemClock, WireFault};
 pub use plan::Plan;
 pub use serving::{serve_into, serve_on};
 pub use sink::VolumeSink;

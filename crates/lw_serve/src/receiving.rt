@@ -8,7 +8,7 @@ use crate::fault::ServeFault;
 use crate::wire::Wire;
 use log::{Log, warn};
 use lw_reg::Addr;
-use lw_wire::{Datagram, WireFault};
+use lw_udp::{Datagram, WireFault};
 use std::alloc::Global;
 
 /// How many datagrams make a batch at most.

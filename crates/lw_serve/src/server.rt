@@ -18,7 +18,7 @@ use crate::wire::Wire;
 use log::Log;
 use lw_crew::Job;
 use lw_stamp::{Moment, NoMemory};
-use lw_wire::Datagram;
+use lw_udp::Datagram;
 use std::alloc::Global;
 use std::io::Write;
 use std::sync::Wait;

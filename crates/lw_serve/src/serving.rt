@@ -13,7 +13,7 @@ use crate::server::Server;
 use crate::sink::{Kept, VolumeSink};
 use crate::wire::Wire;
 use log::Log;
-use lw_wire::{BUFFER, HostClock};
+use lw_udp::{BUFFER, HostClock};
 use std::alloc::Global;
 use std::io::Write;
 use std::sync::Wait;

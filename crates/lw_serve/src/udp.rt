@@ -2,7 +2,7 @@ ghost use Rattle.std.specs.Prelude.{◌≡◌, true};
 
 use crate::wire::Wire;
 use lw_reg::Addr;
-use lw_wire::{WireFault, address_of, socket_address_of};
+use lw_udp::{WireFault, address_of, socket_address_of};
 use std::io::{self, ErrorKind};
 use std::net::UdpSocket;
 

@@ -1,7 +1,7 @@
 ghost use Rattle.std.specs.Prelude.{◌≤◌, length, IfOk, IfSome};
 
 use lw_reg::Addr;
-use lw_wire::WireFault;
+use lw_udp::WireFault;
 
 /// What datagrams come and go over.
 pub trait Wire {

@@ -26,7 +26,7 @@ fn write_fault(error: Error) -> LogFault
     ensures asked { result ≢ LogFault.NoMemory }
 {
     match error {
-        Error::SqliteFailure(ErrorCode::OutOfMemory) => LogFault::Away,
+        Error::SqliteFailure(ErrorCode::OutOfMemory) => LogFault::Unavailable,
         _ => LogFault::Refused,
     }
 }

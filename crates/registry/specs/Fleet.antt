@@ -7,7 +7,7 @@ use Rattle.lw_reg.specs.Reading.{shown_in}
 use Rattle.lw_reg.specs.Registration.{Registration}
 use Rattle.lw_table.specs.Answers.{FirstAfter}
 use Rattle.lw_node.specs.Node.{NodeContent}
-use Rattle.lw_print.specs.Json.{registration_json}
+use Rattle.lw_json.specs.Json.{registration_json}
 use Rattle.registry.specs.declared.registry.Registry.{Registry}
 
 -- each is the first that is shown above the one before, the first of them above the given one, and above the last is none

@@ -6,7 +6,7 @@ use Rattle.serde_json.specs.Written.{compact_text}
 use Rattle.lw_stamp.specs.declared.stamp.Stamp.{Stamp}
 use Rattle.lw_reg.specs.Addr.{addr_text}
 use Rattle.lw_call.specs.Contents.{NoticeContent, OutgoingContent, TakenContent}
-use Rattle.lw_print.specs.Json.{registration_json, stale_json, notice_json}
+use Rattle.lw_json.specs.Json.{registration_json, stale_json, notice_json}
 use Rattle.registry.specs.declared.event.Event.{Event}
 use Rattle.registry.specs.declared.event.Event.TheVariants.{Registered, Updated, Removed, Nothing}
 

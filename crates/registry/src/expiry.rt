@@ -12,7 +12,7 @@ use crate::fault::LineFault;
 use crate::text::event_line;
 use lw_call::ClockEnd;
 use lw_node::Node;
-use lw_print::stale_text;
+use lw_json::stale_text;
 use lw_stamp::{Moment, NoMemory};
 use std::alloc::Global;
 

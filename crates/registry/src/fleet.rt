@@ -9,7 +9,7 @@ ghost use Rattle.registry.specs.Walk.{last_of};
 
 use crate::registry::Registry;
 use lw_node::{Node, Seen};
-use lw_print::registration_text;
+use lw_json::registration_text;
 use lw_stamp::{Moment, NoMemory};
 use std::alloc::Global;
 

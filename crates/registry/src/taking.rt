@@ -9,7 +9,7 @@ use crate::event::{Event, event_of, reply_code};
 use crate::line::Received;
 use crate::text::event_line;
 use lw_node::{Node, Notice, Taken};
-use lw_print::{notice_text, registration_text, stale_text};
+use lw_json::{notice_text, registration_text, stale_text};
 use lw_stamp::NoMemory;
 use std::alloc::Global;
 

@@ -1,7 +1,7 @@
 //! What answers the clients, and how fast.
 
 use super::client::{Client, Codes, loopback};
-use super::member::{Kept, answer_by_member};
+use super::replica::{Kept, answer_by_replica};
 use crate::fault::BenchFault;
 use log::sink::Discard;
 use lw_serve::{Plan, ServeFault, SystemClock, UdpWire, serve_on};
@@ -20,8 +20,8 @@ pub(super) const CLIENTS: u8 = 8;
 pub(super) enum Peer<'a> {
     /// So many nodes with so many workers.
     Rounds { nodes: u16, workers: u32 },
-    /// A member, and where it keeps what it is told, if it does.
-    Member(Option<Kept<'a>>),
+    /// A replica, and where it keeps what it is told, if it does.
+    Replica(Option<Kept<'a>>),
     /// Each datagram is sent back as it came.
     Echo,
 }
@@ -29,7 +29,7 @@ pub(super) enum Peer<'a> {
 impl Peer<'_> {
     fn codes(self) -> Codes {
         match self {
-            Peer::Rounds { .. } | Peer::Member(_) => Codes::OF_SERVERS,
+            Peer::Rounds { .. } | Peer::Replica(_) => Codes::OF_SERVERS,
             Peer::Echo => Codes {
                 register: 0x02,
                 update: 0x02,
@@ -135,7 +135,7 @@ fn answer<R: Threads + Wait + Clock + Sync>(
             Some(plan) => Ok(serve(rt, alloc, socket, &plan)?),
             None => Err(BenchFault::Unexpected),
         },
-        Peer::Member(kept) => answer_by_member(rt, alloc, socket, count, kept),
+        Peer::Replica(kept) => answer_by_replica(rt, alloc, socket, count, kept),
         Peer::Echo => Ok(echo(&socket, count)?),
     }
 }

@@ -3,7 +3,7 @@ use Rattle.std.specs.Prelude.{◌≡◌, ℕ, List, map, All}
 use Rattle.lw_table.specs.Changes.{Moved}
 use Rattle.lw_table.specs.declared.since.Moved.{Moved as MovedSlot}
 use Rattle.lw_node.specs.Node.{NodeContent}
-use Rattle.lw_print.specs.Changes.{Change}
+use Rattle.lw_json.specs.Changes.{Change}
 use Rattle.lw_api.specs.Answers.{named_by_change, named_by_moved, IsShownAs}
 
 abbrev pub moved_of : MovedSlot → Moved

@@ -44,7 +44,7 @@ fn prints(rt: &impl Abort, alloc: Global, script: &str, lines: &str) {
     replays(rt, alloc, script, AMPLE, (Ok(()), lines));
 }
 
-/// Tries: lw_print::outcome_line, replay
+/// Tries: lw_json::outcome_line, replay
 #[test]
 fn a_script_prints_its_lines(rt: HostRuntime) {
     let front = SCRIPT.strip_suffix('\n').expect(&rt, "a line feed");
@@ -137,7 +137,7 @@ swept 0000000000010001
 no node
 "#;
 
-/// Tries: lw_print::outcome_line
+/// Tries: lw_json::outcome_line
 #[test]
 fn what_is_swept_at_one_node_is_updated_at_another(rt: HostRuntime) {
     prints(&rt, rt.alloc(), SWEPT, SWEPT_LINES);

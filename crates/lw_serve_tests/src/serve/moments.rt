@@ -34,7 +34,7 @@ static MOMENTS: [(u64, u64, Option<u64>); 5] = [
     (281_474_976_710_656, 0, None),
 ];
 
-/// Tries: lw_wire::moment_after
+/// Tries: lw_udp::moment_after
 #[test]
 fn the_host_counts_milliseconds_since_1970(rt: HostRuntime) {
     for (ms, nanos, want) in &MOMENTS {

@@ -48,7 +48,7 @@ fn serve_over<R: Clock + Threads + Wait + Sync>(
     (ended, written)
 }
 
-/// Tries: UdpWire::new, Wire::wait, Wire::more, lw_wire::Datagram::new, lw_wire::address_of, lw_wire::socket_address_of
+/// Tries: UdpWire::new, Wire::wait, Wire::more, lw_udp::Datagram::new, lw_udp::address_of, lw_udp::socket_address_of
 #[test]
 fn two_clients_at_two_nodes(rt: HostRuntime) {
     let plan = Plan::new(2, 2, 1, None).expect(&rt, "a plan");
@@ -138,7 +138,7 @@ fn wire_at<R: Net>(rt: &R, host: &str) -> io::Result<(UdpWire, SocketAddr)> {
 }
 
 /// The client is at another address of the host.
-/// Tries: UdpWire::new, Wire::wait, Wire::more, lw_wire::address_of, lw_wire::socket_address_of
+/// Tries: UdpWire::new, Wire::wait, Wire::more, lw_udp::address_of, lw_udp::socket_address_of
 #[test]
 fn a_wire_waits_and_sends_in_any_order(rt: HostRuntime) {
     for turns in TURNS {
@@ -167,7 +167,7 @@ fn a_send_that_fails_is_told(rt: HostRuntime) {
 }
 
 /// Where the machine has no IPv6, none is sent.
-/// Tries: lw_wire::address_of, lw_wire::socket_address_of
+/// Tries: lw_udp::address_of, lw_udp::socket_address_of
 #[test]
 fn a_datagram_is_sent_back_over_ipv6(rt: HostRuntime) {
     if let (Ok((mut wire, at)), Ok(client)) = (wire_at(&rt, "[::1]:0"), bound(&rt, "[::1]:0")) {

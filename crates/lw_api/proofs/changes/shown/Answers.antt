@@ -2,8 +2,8 @@ use Rattle.std.proofs.Common.{◌≡◌, ◌+◌, ◌++◌, ◌∷◌, [], ◌�
 use Rattle.std.proofs.lemmas.List.{map-append, take_more}
 use Rattle.lw_reg.specs.Showing.{ShownOf}
 use Rattle.lw_stamp.specs.Moment.{ms_of}
-use Rattle.lw_print.specs.declared.changes.Change.{Change}
-use Rattle.lw_print.specs.Changes.{change_of}
+use Rattle.lw_json.specs.declared.changes.Change.{Change}
+use Rattle.lw_json.specs.Changes.{change_of}
 use Rattle.lw_api.specs.inner.Changes.{moved_of, AreShown}
 use Rattle.lw_api.proofs.ChangeLemmas.{shown_more}
 use Rattle.lw_api.proofs.Knowing.{of_known}

@@ -1,6 +1,6 @@
 use Rattle.std.proofs.Common.{map, take}
 use Rattle.lw_stamp.specs.Moment.{ms_of}
-use Rattle.lw_print.specs.Changes.{change_of}
+use Rattle.lw_json.specs.Changes.{change_of}
 use Rattle.lw_api.specs.inner.Changes.{moved_of, AreShown}
 use Rattle.lw_api.proofs.changes.shown.Given as goal
 

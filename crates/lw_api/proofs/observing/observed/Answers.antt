@@ -4,7 +4,7 @@ use Rattle.lw_stamp.specs.Moment.{ms_of}
 use Rattle.lw_reg.specs.declared.watch.Watch.{Watch}
 use Rattle.lw_reg.specs.Registration.{Registration}
 use Rattle.lw_node.specs.Node.{marks_in}
-use Rattle.lw_print.specs.Json.{observations_json}
+use Rattle.lw_json.specs.Json.{observations_json}
 use Rattle.lw_table.proofs.SinceLemmas.{if_slots}
 use Rattle.lw_api.specs.Answers.{GoesOnAt, last_path}
 use Rattle.lw_api.proofs.observing.observed.Goals as goal

@@ -5,7 +5,7 @@ use Rattle.lw_stamp.specs.Moment.{ms_of}
 use Rattle.lw_table.specs.Answers.{after_text}
 use Rattle.lw_table.specs.Pages.{IsPage}
 use Rattle.lw_table.specs.Table.{TableContent}
-use Rattle.lw_print.specs.Json.{page_json}
+use Rattle.lw_json.specs.Json.{page_json}
 use Rattle.lw_table.proofs.SinceLemmas.{if_slots}
 use Rattle.lw_api.specs.Known.{OfKnown}
 use Rattle.lw_api.proofs.Knowing.{of_known}

@@ -5,7 +5,7 @@ use Rattle.std.specs.Option.{option_to_list}
 use Rattle.lw_call.specs.Contents.{TakenContent}
 use Rattle.lw_node.specs.Calls.{Takes}
 use Rattle.lw_node.specs.Node.{NodeContent, Knows, fresh}
-use Rattle.lw_print.specs.Answer.{answer_text}
+use Rattle.lw_json.specs.Answer.{answer_text}
 use Rattle.lw_fleet.proofs.NodeLemmas.{knows_none, knows_after, if_ok}
 use Rattle.lw_fleet.proofs.one_datagram.answered.Goals as goal
 

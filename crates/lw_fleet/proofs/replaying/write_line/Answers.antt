@@ -1,7 +1,7 @@
 use Rattle.std.proofs.Common.{◌≡◌, [], ◌++◌, ◌∙◌, subst}
 use Rattle.std.specs.Prelude.{OnErr}
 use Rattle.std.specs.Option.{unwrap_or}
-use Rattle.lw_print.specs.Lines.{outcome_text}
+use Rattle.lw_json.specs.Lines.{outcome_text}
 use Rattle.lw_serve.specs.Ending.{AppendsFront}
 use Rattle.lw_fleet.specs.Replay.{line_text}
 use Rattle.lw_fleet.proofs.replaying.write_line.Goals as goal

@@ -1,5 +1,0 @@
-use Rattle.lw_exchange.proofs.RepeatLemmas.{only, each}
-use Rattle.lw_exchange.proofs.laws.a_reply_is_sent_again_to_the_same_request.Goals as goal
-
-pub returns : goal.returns
-returns c = record { only = only; each = each }

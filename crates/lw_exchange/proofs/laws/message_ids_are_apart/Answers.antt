@@ -1,5 +1,0 @@
-use Rattle.lw_exchange.proofs.MessageIdLemmas.{apart}
-use Rattle.lw_exchange.proofs.laws.message_ids_are_apart.Goals as goal
-
-pub returns : goal.returns
-returns c = apart

@@ -1,8 +1,0 @@
-pub mod Held
-pub mod BlockAnswers
-pub mod Reading
-pub mod Requests
-pub mod Bodies
-pub mod Fetches
-pub mod Waiting
-pub mod Responses

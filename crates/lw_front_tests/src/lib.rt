@@ -1,9 +1,0 @@
-//! Tests of `lw_front`, over its public calls.
-#![tactic(auto)]
-
-#[cfg(test)]
-mod addresses;
-#[cfg(test)]
-mod drops;
-#[cfg(test)]
-mod sockets;

@@ -1,0 +1,11 @@
+//! Tests of `lw_http`, over its public calls.
+#![tactic(auto)]
+
+#[cfg(test)]
+mod commands;
+#[cfg(test)]
+mod stage;
+#[cfg(test)]
+mod tokens;
+#[cfg(test)]
+mod connections;

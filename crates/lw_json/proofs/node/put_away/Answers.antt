@@ -1,0 +1,10 @@
+use Rattle.lw_json.proofs.TokenLemmas.{one, ◌⨾◌, done, number_as}
+use Rattle.lw_json.proofs.node.put_away.Goals as goal
+
+pub returns : goal.returns
+returns c = done
+    (one c.in_ok-begin_object.ensures
+    ⨾ number_as c.ms.ensures.value c.in_ok-put_number.ensures
+    ⨾ c.in_ok-put_text.ensures
+    ⨾ c.in_ok-put_text-2.ensures
+    ⨾ one c.in_ok-end_object.ensures)

@@ -1,8 +1,0 @@
-use Rattle.std.proofs.Common.{arith}
-use Rattle.lw_member.proofs.Numbering.{bits_merged}
-use Rattle.lw_member.proofs.numbers.Numbers.note_all.Goals as goal
-
-pub returns : goal.returns
-returns c = λ n.
-    bits_merged c.args.self.now.bytes.value c.args.numbers.now c.loop-i.self.bytes.value c.told-numbers
-    (λ k low. c.loop-i.invariant.done k (omega arith)) (λ k high. c.loop-i.invariant.left k (omega arith)) n

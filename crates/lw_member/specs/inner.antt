@@ -1,8 +1,0 @@
-pub mod Going
-pub mod Standing
-pub mod Seeing
-pub mod Taking
-pub mod Numbering
-pub mod Looking
-pub mod Writing
-pub mod Wholes

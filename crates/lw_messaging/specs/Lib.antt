@@ -1,0 +1,14 @@
+pub mod Header
+pub mod Replies
+pub mod Repeats
+pub mod Blocks
+pub mod BlockAnswers
+pub mod Kept
+pub mod Bodies
+pub mod Spelled
+pub mod MessageIds
+pub mod Freshness
+pub mod PendingRequest
+pub mod FetchMessages
+pub mod Fetches
+pub mod inner

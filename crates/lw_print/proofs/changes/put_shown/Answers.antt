@@ -1,5 +1,0 @@
-use Rattle.lw_print.proofs.TokenLemmas.{one, ◌⨾◌}
-use Rattle.lw_print.proofs.changes.put_shown.Goals as goal
-
-pub returns-in-Some : goal.returns-in-Some
-returns-in-Some c = rw c.in-Some.is (one c.in_ok-key.ensures ⨾ c.put_registration.ensures)

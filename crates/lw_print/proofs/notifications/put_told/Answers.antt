@@ -1,5 +1,0 @@
-use Rattle.lw_print.proofs.TokenLemmas.{one, ◌⨾◌}
-use Rattle.lw_print.proofs.notifications.put_told.Goals as goal
-
-pub returns : goal.returns
-returns c = one c.in_ok-key.ensures ⨾ c.put_notice.ensures

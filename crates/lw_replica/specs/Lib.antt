@@ -1,0 +1,14 @@
+pub mod Clocks
+pub mod Replica
+pub mod Parts
+pub mod Faults
+pub mod Reading
+pub mod Counting
+pub mod Fleets
+pub mod Refusals
+pub mod Own
+pub mod Rounds
+pub mod Beginning
+pub mod Compaction
+pub mod Lives
+pub mod inner

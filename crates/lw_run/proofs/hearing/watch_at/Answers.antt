@@ -1,4 +1,0 @@
-use Rattle.lw_run.proofs.hearing.watch_at.Goals as goal
-
-pub returns : goal.returns
-returns c = (c.in_ok-_shown._shown, c.in_ok-_shown.ensures.read)

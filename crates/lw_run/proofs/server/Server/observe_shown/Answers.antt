@@ -1,7 +1,0 @@
-use Rattle.std.proofs.Common.{ap}
-use Rattle.lw_run.specs.Server.{ServerContent}
-use Rattle.lw_run.proofs.Turns.{writes_same}
-use Rattle.lw_run.proofs.server.Server.observe_shown.Goals as goal
-
-pub returns-in_err-leave-clause-own : goal.returns-in_err-leave-clause-own
-returns-in_err-leave-clause-own g c = writes_same _ _ (ap (λ (server : ServerContent). server.member) c.self.view_is)

@@ -1,5 +1,0 @@
-use Rattle.lw_run.proofs.Steps.{token_in}
-use Rattle.lw_run.proofs.server.Server.token_there.Goals as goal
-
-pub returns : goal.returns
-returns g c = token_in _ _ _ _ _ _ c.self.view_is c.in-Some.ensures.some.0 c.token_on.ensures

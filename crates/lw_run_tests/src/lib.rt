@@ -1,5 +1,0 @@
-//! Tests of `lw_run`, over its public calls.
-#![tactic(auto)]
-
-#[cfg(test)]
-mod serving;

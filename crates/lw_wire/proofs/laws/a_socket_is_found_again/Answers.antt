@@ -1,5 +1,0 @@
-use Rattle.lw_wire.proofs.ScopeLemmas.{found_again}
-use Rattle.lw_wire.proofs.laws.a_socket_is_found_again.Goals as goal
-
-pub returns : goal.returns
-returns c = found_again
