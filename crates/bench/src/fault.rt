@@ -1,11 +1,11 @@
 use lw_coap::Fault;
 use lw_delta::DeltaFault;
 use lw_link::LinkFault;
-use lw_replica::ReplicaFault;
 use lw_node::MergeFault;
-use lw_server::RunFault;
+use lw_replica::ReplicaFault;
 use lw_script::ScriptFault;
 use lw_serve::ServeFault;
+use lw_server::RunFault;
 use lw_sqlite_log::OpenFault;
 use lw_stamp::NoMemory;
 use std::alloc::{AllocError, AllocFailed};

@@ -3,12 +3,12 @@
 
 mod asking;
 mod client;
-mod replica;
 mod peer;
+mod replica;
 
 pub(crate) use self::asking::asking;
-pub(crate) use self::replica::Kept;
 use self::peer::{CLIENTS, Peer, measure};
+pub(crate) use self::replica::Kept;
 use crate::fault::BenchFault;
 use std::alloc::Global;
 use std::net::Net;

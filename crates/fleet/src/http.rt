@@ -4,9 +4,9 @@ use crate::file_front::read_own_front;
 use crate::page::page_of_file;
 use log::Log;
 use lw_fleet::{HttpOptions, RunningFault};
-use lw_sockets::Sockets;
-use lw_route::Commands;
 use lw_http::{AccessPolicy, token_in};
+use lw_route::Commands;
+use lw_sockets::Sockets;
 use std::hash::RandomState;
 use std::net::SocketAddr;
 

@@ -5,10 +5,10 @@
 
 mod file_front;
 mod host;
+mod http;
 mod page;
 mod run_host;
 mod shared;
-mod http;
 
 use host::Host;
 use lw_fleet::program;

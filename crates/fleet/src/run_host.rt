@@ -1,18 +1,18 @@
 //! A server over a real socket and a real log.
 
 use crate::host::Host;
-use crate::shared::{Shared, SharedLog};
 use crate::http::{HttpBinding, HttpConfig};
+use crate::shared::{Shared, SharedLog};
 use log::sink::Console;
 use log::{LevelFilter, Log, Logged, info};
 use lw_fleet::{Keeps, LogLevel, RunOptions, RunningFault, Runs};
-use lw_sockets::{Sockets, SystemStopwatch};
 use lw_log::{DeltaLog, FleetId, Nowhere};
-use lw_replica::{Randomness, Replica};
 use lw_redis_log::RedisClock;
+use lw_replica::{Randomness, Replica};
 use lw_server::{
     Clocks, Compaction, HostClock, HostClocks, Measured, Moment, RunFault, Server, TimedLog, run_on,
 };
+use lw_sockets::{Sockets, SystemStopwatch};
 use lw_sqlite_log::{OpenFault, SqliteLog};
 use lw_udp::SystemClock;
 use std::net::{IpAddr, SocketAddr};
@@ -30,8 +30,10 @@ const WAIT_FOR_OTHERS: u64 = 100;
 const CHANCE: usize = 26;
 
 /// The clocks of the host.
-pub(crate) type OwnClocks<'a> =
-    HostClocks<SystemClock<'a, HostRuntime>, SystemStopwatch<'a, HostRuntime>>;
+pub(crate) type OwnClocks<'a> = HostClocks<
+    SystemClock<'a, HostRuntime>,
+    SystemStopwatch<'a, HostRuntime>,
+>;
 
 impl Runs for Host<'_, HostRuntime> {
     fn run<R: Wait>(&mut self, _rt: &R, options: &RunOptions<'_>) -> Result<(), RunningFault> {

@@ -4,11 +4,11 @@ use crate::file_front::read_front;
 use crate::run_host::{OwnClocks, draw, fault_of_run, host_clocks, moment, stopwatch};
 use log::{Log, info};
 use lw_fleet::{RedisOptions, RunningFault};
-use lw_sockets::SystemStopwatch;
 use lw_log::{DeltaLog, FleetId, LogFault};
-use lw_replica::{Call, Randomness, Replica, ReplicaFault};
 use lw_redis_log::{Login, LoginFault, RedisClock, RedisLog, TcpRedis};
+use lw_replica::{Call, Randomness, Replica, ReplicaFault};
 use lw_server::{FleetClock, Moment, RunFault, SharedClocks, Stopwatch, TimedLog};
+use lw_sockets::SystemStopwatch;
 use std::thread;
 use std::time::Duration;
 

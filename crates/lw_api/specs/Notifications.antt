@@ -14,7 +14,7 @@ abbrev pub numbered : ℕ → List BufferedNotificationContent → List Notifica
 numbered number [] = []
 numbered number (notification ∷ list) =
     record { number = number; notice = notification.notice; is_complete = notification.is_complete }
-        ∷ numbered (number + 1) list
+    ∷ numbered (number + 1) list
 
 -- those from a number on, so many at most
 abbrev pub page_from : NotificationBufferContent → ℕ → ℕ → List BufferedNotificationContent

@@ -8,10 +8,10 @@ ghost use Rattle.lw_route.specs.declared.api.Status.TheVariants as statuses;
 
 use crate::changes::changes_answer;
 use crate::{by_address, by_id, by_token, observations, registration, registrations};
-use lw_node::Node;
 use lw_json::{NodeNumbers, node_text};
+use lw_node::Node;
+use lw_route::{ApiQuery, ApiResponse, Media, Status};
 use lw_stamp::{Moment, NoMemory, Text};
-use lw_route::{ApiResponse, ApiQuery, Media, Status};
 use std::alloc::Global;
 
 /// What a server knows of its start.

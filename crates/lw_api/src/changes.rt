@@ -9,12 +9,12 @@ ghost use Rattle.lw_api.specs.inner.Changes.{moved_of, AreShown};
 ghost use Rattle.lw_route.specs.declared.api.Status.TheVariants as statuses;
 
 use crate::About;
-use crate::answering::{ok, error_response};
-use lw_node::Node;
+use crate::answering::{error_response, ok};
 use lw_json::{Change, ChangePage, changes_text};
+use lw_node::Node;
+use lw_route::{ApiResponse, Status};
 use lw_stamp::{Moment, NoMemory};
 use lw_table::Moved;
-use lw_route::{ApiResponse, Status};
 use std::alloc::Global;
 
 /// Changes behind the number, to who follows this start, or begins.

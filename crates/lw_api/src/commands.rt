@@ -8,12 +8,17 @@ ghost use Rattle.lw_api.specs.Answers.{IsCreated, IsNoContent, TellsWatch};
 use crate::answering::{json, not_found};
 use crate::by_token;
 use lw_node::Node;
-use lw_stamp::{Moment, NoMemory, Stamp};
 use lw_route::{ApiResponse, Media, Status};
+use lw_stamp::{Moment, NoMemory, Stamp};
 use std::alloc::Global;
 
 /// That the observation with the token was created.
-pub fn created(alloc: Global, node: &Node, now: Moment, token: Stamp) -> Result<ApiResponse, NoMemory>
+pub fn created(
+    alloc: Global,
+    node: &Node,
+    now: Moment,
+    token: Stamp,
+) -> Result<ApiResponse, NoMemory>
     ensures { IfOk result (λ answer. (text : Option (List ℕ))
         × TellsWatch node.now.table.state (λ M. ByToken M (ms_of now) token) text × IsCreated text answer) }
 {

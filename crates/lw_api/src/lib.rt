@@ -11,10 +11,10 @@ mod notified;
 mod observing;
 mod pages;
 
-pub use answering::{About, answer, not_found, numbers_of, error_response};
+pub use answering::{About, answer, error_response, not_found, numbers_of};
 pub use commands::{created, no_content};
 pub use look_ups::{by_address, by_id, by_token, registration};
-pub use notification_buffer::{MAX_NOTIFICATIONS, BufferedNotification, NotificationBuffer};
+pub use notification_buffer::{BufferedNotification, MAX_NOTIFICATIONS, NotificationBuffer};
 pub use notified::notifications;
 pub use observing::observations;
 pub use pages::registrations;

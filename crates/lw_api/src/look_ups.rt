@@ -8,8 +8,8 @@ ghost use Rattle.lw_stamp.specs.Moment.{ms_of};
 ghost use Rattle.lw_table.specs.LookUps.{ById, ByAddress, ByToken};
 ghost use Rattle.lw_api.specs.Answers.{Tells, TellsWatch};
 
-use lw_node::Node;
 use lw_json::{registration_text, watch_text};
+use lw_node::Node;
 use lw_reg::{Addr, View, Watch};
 use lw_stamp::{Moment, NoMemory, Stamp};
 use std::alloc::Global;

@@ -7,11 +7,11 @@ ghost use Rattle.lw_api.specs.Answers.{IsJson};
 ghost use Rattle.lw_api.specs.Notifications.{IsNotificationsAnswer, gone_text, numbered, page_text};
 ghost use Rattle.lw_route.specs.declared.api.Status.TheVariants as statuses;
 
-use crate::answering::{ok, error_response};
+use crate::answering::{error_response, ok};
 use crate::{About, BufferedNotification, NotificationBuffer};
 use lw_json::{Notification, NotificationPage, notifications_text};
-use lw_stamp::NoMemory;
 use lw_route::{ApiResponse, Status};
+use lw_stamp::NoMemory;
 use std::alloc::Global;
 
 /// What devices told from the number on, so many at most, to who follows this start, or begins.
@@ -59,7 +59,12 @@ fn gone(alloc: Global, first: u64) -> Result<ApiResponse, NoMemory>
 }
 
 /// The text of some, of which the first has the number.
-fn text(alloc: Global, about: About, from: u64, list: &[BufferedNotification]) -> Result<String, NoMemory>
+fn text(
+    alloc: Global,
+    about: About,
+    from: u64,
+    list: &[BufferedNotification],
+) -> Result<String, NoMemory>
     requires { from + length list.now < 2 ^ 64 }
     ensures { IfOk result (λ text. string_bytes text
         ≡ compact_text (notifications_json (numbered from list.now) (from + length list.now) about.tag)) }

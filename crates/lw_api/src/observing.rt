@@ -7,8 +7,8 @@ ghost use Rattle.lw_table.specs.LookUps.{WatchOfIdAfter};
 ghost use Rattle.lw_api.specs.Answers.{AreWatchesAfter, GoesOnAt, last_path as path_behind, TellsObservations, TellsWatches};
 ghost use Rattle.lw_api.specs.Known.{OfKnown};
 
-use lw_node::Node;
 use lw_json::observations_text;
+use lw_node::Node;
 use lw_reg::{Path, View, Watch};
 use lw_stamp::{Moment, NoMemory, Stamp};
 use std::alloc::Global;

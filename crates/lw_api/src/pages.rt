@@ -5,8 +5,8 @@ ghost use Rattle.lw_stamp.specs.Moment.{ms_of};
 ghost use Rattle.lw_table.specs.Answers.{after_text};
 ghost use Rattle.lw_api.specs.Answers.{TellsPage};
 
-use lw_node::Node;
 use lw_json::page_text;
+use lw_node::Node;
 use lw_stamp::{Moment, NoMemory};
 use std::alloc::Global;
 

@@ -1,9 +1,9 @@
 //! What is told of commands.
 
 use crate::told::{LATE, registered};
-use lw_api::{created, no_content, error_response};
-use lw_stamp::{Moment, Stamp};
+use lw_api::{created, error_response, no_content};
 use lw_route::{ApiResponse, Media, Status};
+use lw_stamp::{Moment, Stamp};
 use std::process::Abort;
 
 const WATCH: &str =

@@ -2,8 +2,8 @@
 
 use lw_api::{About, BufferedNotification, NotificationBuffer, notifications};
 use lw_node::{Notice, Path};
-use lw_stamp::{NoMemory, Stamp, Text};
 use lw_route::{ApiResponse, Media, Status};
+use lw_stamp::{NoMemory, Stamp, Text};
 use std::alloc::Global;
 use std::process::Abort;
 
@@ -128,7 +128,12 @@ static GONE_TWICE: [Row; 2] = [
 ];
 
 /// A notification with the number in its Observe option (RFC 7641, section 2).
-fn notification(rt: &impl Abort, alloc: Global, observe: u32, is_complete: bool) -> BufferedNotification {
+fn notification(
+    rt: &impl Abort,
+    alloc: Global,
+    observe: u32,
+    is_complete: bool,
+) -> BufferedNotification {
     let notice = Notice {
         token: Stamp {
             counter: 3,
@@ -153,7 +158,13 @@ fn notification(rt: &impl Abort, alloc: Global, observe: u32, is_complete: bool)
 }
 
 /// Notes so many more, whose Observe options number on.
-fn note_whole(rt: &impl Abort, alloc: Global, buffer: &mut NotificationBuffer, from: u32, upto: u32) {
+fn note_whole(
+    rt: &impl Abort,
+    alloc: Global,
+    buffer: &mut NotificationBuffer,
+    from: u32,
+    upto: u32,
+) {
     for observe in from..upto {
         let notification = notification(rt, alloc, observe, true);
         buffer.reserve(1).expect(rt, "memory");
@@ -162,7 +173,10 @@ fn note_whole(rt: &impl Abort, alloc: Global, buffer: &mut NotificationBuffer, f
 }
 
 /// Makes room for all of them, and then notes them.
-fn note_all(buffer: &mut NotificationBuffer, more: Vec<BufferedNotification>) -> Result<(), NoMemory> {
+fn note_all(
+    buffer: &mut NotificationBuffer,
+    more: Vec<BufferedNotification>,
+) -> Result<(), NoMemory> {
     buffer.reserve(more.len())?;
     for notification in more {
         buffer.push(notification);
@@ -183,7 +197,13 @@ fn three(rt: &impl Abort, alloc: Global) -> NotificationBuffer {
 }
 
 /// Fails where to one of these another answer is given.
-fn are_told(rt: &impl Abort, alloc: Global, buffer: &NotificationBuffer, status: Status, rows: &[Row]) {
+fn are_told(
+    rt: &impl Abort,
+    alloc: Global,
+    buffer: &NotificationBuffer,
+    status: Status,
+    rows: &[Row],
+) {
     for row in rows {
         let answer = told(rt, alloc, buffer, row);
         assert_eq!(rt; answer.status, status, "{}", row.0);

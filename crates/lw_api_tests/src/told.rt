@@ -2,8 +2,8 @@
 
 use lw_api::{About, answer};
 use lw_node::{Addr, Node, Path};
-use lw_stamp::{Moment, Stamp};
 use lw_route::{ApiResponse, Commands, Method, Route, Status, route_of};
+use lw_stamp::{Moment, Stamp};
 use std::alloc::Global;
 use std::process::Abort;
 

@@ -6,12 +6,12 @@ ghost use Rattle.lw_http.specs.Verdicts.{is_protected as protected, target_verdi
 ghost use Rattle.lw_http.specs.Verdicts.{IsAuthorizedHere, IsMethod, MayAccess, IsOriginAllowed};
 
 use crate::AccessPolicy;
-use crate::policy::is_same_origin;
 use crate::error::HttpError;
+use crate::policy::is_same_origin;
 use bytes::Bytes;
 use http::{Method as HttpMethod, Request};
-use lw_stamp::NoMemory;
 use lw_route::{Method, Route, RouteError, route_of};
+use lw_stamp::NoMemory;
 use std::alloc::Global;
 
 impl AccessPolicy {
@@ -70,7 +70,11 @@ impl AccessPolicy {
 }
 
 /// Whether the request may come from where it comes.
-fn is_origin_allowed(method: Method, request: &Request<Bytes>, route: &Result<Route, RouteError>) -> bool
+fn is_origin_allowed(
+    method: Method,
+    request: &Request<Bytes>,
+    route: &Result<Route, RouteError>,
+) -> bool
     ensures { IsTrue result ↔ IsOriginAllowed method request.now route.now }
 {
     !is_protected(route) || method == Method::Get || is_same_origin(request)

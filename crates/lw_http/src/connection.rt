@@ -6,7 +6,7 @@ ghost use Rattle.http_server.specs.Connection.{config_of, history};
 ghost use Rattle.http_server.specs.History.{new_history, History, IsDone, IsQuiet, IsServed, Rests};
 ghost use Rattle.lw_http.specs.Connections.{AreAnswered, IsLimited, IsConnectionServed};
 
-use crate::{ApiService, AccessPolicy};
+use crate::{AccessPolicy, ApiService};
 use http_server::{Config, Connection, serve};
 use lw_route::Api;
 use std::alloc::Global;

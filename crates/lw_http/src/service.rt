@@ -12,8 +12,8 @@ use crate::error::{HttpError, add_field};
 use bytes::{BufMut, Bytes};
 use http::{Request, StatusCode, header};
 use http_server::{Response, Service};
+use lw_route::{Api, ApiQuery, ApiResponse, Command, Media, Route, Status};
 use lw_stamp::NoMemory;
-use lw_route::{ApiResponse, ApiQuery, Command, Api, Media, Route, Status};
 use std::alloc::{AllocError, Global};
 
 /// What a page may do: run what stands in it, and ask the server that it came from.

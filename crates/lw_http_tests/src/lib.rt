@@ -4,8 +4,8 @@
 #[cfg(test)]
 mod commands;
 #[cfg(test)]
+mod connections;
+#[cfg(test)]
 mod stage;
 #[cfg(test)]
 mod tokens;
-#[cfg(test)]
-mod connections;

@@ -1,8 +1,8 @@
 //! An API, and what is sent for it.
 
-use lw_stamp::NoMemory;
-use lw_route::{ApiResponse, ApiQuery, Command, Commands, Api, Media, Status};
 use lw_http::{AccessPolicy, serve_connection};
+use lw_route::{Api, ApiQuery, ApiResponse, Command, Commands, Media, Status};
+use lw_stamp::NoMemory;
 use std::alloc::Global;
 use std::hash::RandomState;
 use std::process::Abort;
@@ -96,7 +96,11 @@ impl Stage {
             host: Some(host),
             commands,
         };
-        Stage { alloc, keys, policy }
+        Stage {
+            alloc,
+            keys,
+            policy,
+        }
     }
 
     /// What is sent back to the request, and how many commands a new API has carried out.

@@ -134,7 +134,10 @@ fn read_body(kind: u8, body: &[u8]) -> Result<Body<'_>, EntryFault>
                 return Err(EntryFault::Truncated);
             };
             check_delta(delta)?;
-            Ok(Body::Snapshot { used_numbers, delta })
+            Ok(Body::Snapshot {
+                used_numbers,
+                delta,
+            })
         }
         _ => Err(EntryFault::Range),
     }

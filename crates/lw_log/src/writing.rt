@@ -29,7 +29,10 @@ fn put_body(out: &mut Vec<u8>, body: &Body<'_>) -> Result<(), NoMemory>
             out.push(1)?;
             out.extend_from_slice(delta)?;
         }
-        Body::Snapshot { used_numbers, delta } => {
+        Body::Snapshot {
+            used_numbers,
+            delta,
+        } => {
             out.push(2)?;
             out.extend_from_slice(*used_numbers)?;
             out.extend_from_slice(delta)?;

@@ -187,7 +187,7 @@ again true c counter now last then id e f le h is =
 again false true counter now last then id e f le h is =
     again_begun h.ago counter.left then (ms_of counter.began) (ms_of now)
     (many_since counter last then id h (is_some counter.next id is)) (is_late (ms_of counter.began) (ms_of now) f)
-        h.order
+    h.order
 again false false counter now last then id e f le h is = absurd (cc)
 
 -- ---- the counter at a place
@@ -201,7 +201,7 @@ get_set : (counters : List IdCounter) (place : ℕ) (was counter : IdCounter) �
 get_set counters place was counter is =
     let within : place < length counters = slice_get_within counters place was is in
     slice_get_read (slice_set counters place counter) (length counters) place counter
-        (sym (length-set counters place counter)) within
+    (sym (length-set counters place counter)) within
     (sym (get_or-set_same counters place counter counter within))
 
 get_set_other : (counters : List IdCounter) (place other : ℕ) (was counter : IdCounter) → other ≢ place
@@ -230,8 +230,12 @@ module _ (P Q : IdCounter → Type 0) (now : Moment) (stays : (counter : IdCount
 
   at_other : (counters : List IdCounter) (place other : ℕ) (some : Option IdCounter) → other ≢ place
       → At counters other P → At (counters_with counters place now some) other Q
-  at_other counters place other None ne at = record { counter = at.counter; stands = at.stands; has =
-      stays at.counter at.has }
+  at_other counters place other None ne at = record {
+    counter = at.counter;
+    stands = at.stands;
+    has =
+        stays at.counter at.has;
+  }
   at_other counters place other (Some counter) ne at = record {
     counter = at.counter;
     stands = get_set_other counters place other at.counter (counter_after counter now) ne at.stands;
@@ -258,10 +262,10 @@ counters_known start [] place within order = record {
 }
 counters_known start (asked ∷ earlier) place within order =
     at_after (λ counter. IsIdCounter counter (last_of start earlier)) (λ counter. IsIdCounter counter (ms_of asked.now))
-        asked.now
+    asked.now
     (λ counter h. counter_later counter (last_of start earlier) (ms_of asked.now) order.0 h)
     (λ counter h. counter_on (nat_lt 0 counter.left) (begins counter asked.now) counter asked.now
-        (last_of start earlier) order.0 h)
+    (last_of start earlier) order.0 h)
     (counters_since start earlier) asked.to place (counters_known start earlier place within order.1)
 
 module _ (start : Moment) (earlier : List Asked) (first : Asked) (id : ℕ)
@@ -299,7 +303,7 @@ module _ (start : Moment) (earlier : List Asked) (first : Asked) (id : ℕ)
       at_after (IsSince last) (IsSince (ms_of asked.now)) asked.now
       (λ counter h. since_later counter last (ms_of asked.now) (ms_of first.now) id order.0 h)
       (λ counter h. since_on (nat_lt 0 counter.left) (begins counter asked.now) counter asked.now last (ms_of first.now)
-          id refl
+      id refl
       refl order.0 h)
       (counters_since start (between ++ first ∷ earlier)) asked.to (counter_of first.to) (since_known between order.1)
 

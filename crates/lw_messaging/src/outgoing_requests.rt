@@ -6,7 +6,7 @@ ghost use Rattle.lw_stamp.specs.Moment.{ms_of};
 ghost use Rattle.lw_messaging.specs.PendingRequest.{after_match, matched as matched_in, is_due as is_due_in, step_content, place_answered as place_answered_in, place_due as place_due_in, with_request, without_purpose, HasRoom, IsStepped, IsSteppedWith};
 
 use crate::message_ids::MessageIds;
-use crate::pending_request::{Purpose, PendingRequest, is_reset};
+use crate::pending_request::{PendingRequest, Purpose, is_reset};
 use lw_reg::Addr;
 use lw_stamp::{Moment, NoMemory, Stamp};
 use std::alloc::Global;
@@ -95,7 +95,8 @@ impl OutgoingRequests {
         ensures list { self.new.list ≡ with_request self.old.list now to purpose bytes.items }
         ensures capacity { self.new.capacity ≡ self.old.capacity }
     {
-        self.list.push_reserved(PendingRequest::new(now, to, purpose, bytes));
+        self.list
+            .push_reserved(PendingRequest::new(now, to, purpose, bytes));
     }
 
     /// Whether one is due.
@@ -171,6 +172,7 @@ impl OutgoingRequests {
         ensures list { self.new.list ≡ without_purpose self.old.list purpose }
         ensures capacity { self.new.capacity ≡ self.old.capacity }
     {
-        self.list.retain(|request| request.has_other_purpose(purpose));
+        self.list
+            .retain(|request| request.has_other_purpose(purpose));
     }
 }

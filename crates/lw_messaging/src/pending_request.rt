@@ -6,8 +6,8 @@ ghost use Rattle.lw_messaging.specs.PendingRequest.{has_type as has_type_in, is_
 ghost use Rattle.lw_messaging.specs.inner.PendingRequest.{IsSteppedTo};
 
 use crate::message_ids::{MessageIds, put_message_id};
-use crate::request::message_id;
 use crate::outgoing_requests::Step;
+use crate::request::message_id;
 use lw_reg::Addr;
 use lw_stamp::{Moment, NoMemory, Stamp};
 use std::alloc::Global;
@@ -88,8 +88,7 @@ impl Model for PendingRequest {
 impl PendingRequest {
     /// A request that is sent first at the moment.
     pub(crate) fn new(now: Moment, to: Addr, purpose: Purpose, bytes: Vec<u8>) -> PendingRequest
-        ensures { result ≡ record { to = to; purpose = purpose; bytes = bytes.items; id = 0; sent = 0; due = ms_of now }
-            }
+        ensures { result ≡ record { to = to; purpose = purpose; bytes = bytes.items; id = 0; sent = 0; due = ms_of now } }
     {
         PendingRequest {
             to,

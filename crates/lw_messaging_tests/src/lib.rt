@@ -6,6 +6,8 @@ mod bodies;
 #[cfg(test)]
 mod fetches;
 #[cfg(test)]
+mod freshness;
+#[cfg(test)]
 mod message_ids;
 #[cfg(test)]
 mod moments;
@@ -15,5 +17,3 @@ mod replies;
 mod requests;
 #[cfg(test)]
 mod retransmission;
-#[cfg(test)]
-mod freshness;

@@ -1,7 +1,7 @@
 //! When requests are sent, and what answers them (RFC 7252, sections 4.2, 4.8 and 5.2.2).
 
 use crate::moments::at;
-use lw_messaging::{Purpose, Matched, MAX_REQUESTS, MessageIds, OutgoingRequests, Step};
+use lw_messaging::{MAX_REQUESTS, Matched, MessageIds, OutgoingRequests, Purpose, Step};
 use lw_reg::Addr;
 use lw_stamp::Stamp;
 use std::alloc::Global;
@@ -56,7 +56,12 @@ fn one(rt: &impl Abort, alloc: Global) -> OutgoingRequests {
 }
 
 /// What is done at the moment.
-fn step(rt: &impl Abort, requests: &mut OutgoingRequests, ids: &mut MessageIds, ms: u64) -> Option<Step> {
+fn step(
+    rt: &impl Abort,
+    requests: &mut OutgoingRequests,
+    ids: &mut MessageIds,
+    ms: u64,
+) -> Option<Step> {
     requests.step(at(ms), ids).expect(rt, "memory")
 }
 
@@ -220,7 +225,10 @@ fn matches_as(rt: &impl Abort, alloc: Global, from: Addr, bytes: &[u8], want: Ma
         "{bytes:?}"
     );
     sends(rt, &mut requests, &mut ids, START, (SENT, false));
-    assert!(rt; match_response(&mut requests, from, bytes) == want, "{bytes:?}");
+    assert!(rt;
+        match_response(&mut requests, from, bytes) == want,
+        "{bytes:?}"
+    );
     let left = if want == Matched::Nothing { 1 } else { 0 };
     assert!(rt; requests.count() == left, "{bytes:?}");
 }
@@ -254,7 +262,10 @@ fn a_datagram_answers_one_request(rt: HostRuntime) {
         Matched::Nothing,
     ] {
         let response = b"\x42\x45\x77\x77\xa1\xb2\xff5";
-        assert!(rt; match_response(&mut requests, DEVICE, response) == want, "{want:?}");
+        assert!(rt;
+            match_response(&mut requests, DEVICE, response) == want,
+            "{want:?}"
+        );
     }
 }
 

@@ -4,10 +4,10 @@
 #![tactic(auto)]
 
 mod append_times;
-mod io_counters;
 mod escaping;
 mod family;
 mod histogram;
+mod io_counters;
 mod measures;
 mod metric;
 mod reply_codes;

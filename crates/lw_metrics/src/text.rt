@@ -136,9 +136,19 @@ fn put_log(text: &mut String, alloc: Global, measures: &Measures) -> Result<(), 
     put_number(text, Metric::LogBytes, measures.log_bytes)?;
     put_number(text, Metric::WholeBytes, measures.log_whole_bytes)?;
     put_number(text, Metric::Compactions, measures.io_counters.compactions)?;
-    put_seconds(text, alloc, Metric::AwaySeconds, measures.io_counters.log_unavailable)?;
+    put_seconds(
+        text,
+        alloc,
+        Metric::AwaySeconds,
+        measures.io_counters.log_unavailable,
+    )?;
     put_number(text, Metric::Refusals, measures.io_counters.refusals)?;
-    put_seconds(text, alloc, Metric::ClockOffset, measures.io_counters.clock_offset)
+    put_seconds(
+        text,
+        alloc,
+        Metric::ClockOffset,
+        measures.io_counters.clock_offset,
+    )
 }
 
 fn put_transport(text: &mut String, alloc: Global, measures: &Measures) -> Result<(), NoMemory>

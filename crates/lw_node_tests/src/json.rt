@@ -1,9 +1,9 @@
-mod texts;
 mod lines;
+mod texts;
 
+use lw_json::*;
 use lw_link::LinkText;
 use lw_node::Notice;
-use lw_json::*;
 use lw_reg::{Addr, Attributes, AttributesView, Binding, Path, Text, Version, View, Watch};
 use lw_stamp::{Moment, NoMemory, Stamp};
 use std::alloc::Global;

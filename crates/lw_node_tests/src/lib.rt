@@ -4,9 +4,9 @@
 #[cfg(test)]
 mod call;
 #[cfg(test)]
-mod node;
-#[cfg(test)]
 mod json;
+#[cfg(test)]
+mod node;
 #[cfg(test)]
 mod script;
 #[cfg(test)]

@@ -1,8 +1,8 @@
 //! Steps of a node as lines of a script, and what each of them prints.
 
 use bytes::Bytes;
-use lw_node::{Call, Node, Question, Reply, Sent, Text};
 use lw_json::outcome_line;
+use lw_node::{Call, Node, Question, Reply, Sent, Text};
 use lw_script::read_line;
 use lw_stamp::{Moment, NoMemory};
 use lw_world::{Action, Outcome};

@@ -68,7 +68,10 @@ fn times_are_refused(rt: HostRuntime) {
                 let text = shown(rt.alloc(), text).expect(&rt, "memory");
                 assert!(rt; *want == Some(text.as_str()), "{bytes}");
             }
-            other => assert!(rt; other == Err(RedisFault::Unavailable) && want.is_none(), "{bytes}"),
+            other => assert!(rt;
+                other == Err(RedisFault::Unavailable) && want.is_none(),
+                "{bytes}"
+            ),
         }
     }
 }

@@ -48,7 +48,7 @@ module _ (a0 a1 a2 : Option (List LogCall)) (s0 s1 s2 s3 : ReplicaState) (fleet 
   holds_now : HoldsNumber s3.node.number s3.start.tag (entries_in pages)
   holds_now =
       let n : s1.start.number ≡ s3.node.number = ap (λ (s : ReplicaState). s.start.number) one ∙ number
-          ∙ sym number_is in
+      ∙ sym number_is in
       let t : s1.start.tag ≡ s3.start.tag = ap (λ (x : Starts). x.tag) (ap (λ (s : ReplicaState). s.start) one ∙ sym start_is) in
       subst (λ x. HoldsNumber x s3.start.tag (entries_in pages)) n (subst (λ x. HoldsNumber s1.start.number x (entries_in pages)) t holds_first)
 
@@ -59,7 +59,7 @@ module _ (a0 a1 a2 : Option (List LogCall)) (s0 s1 s2 s3 : ReplicaState) (fleet 
       subst (λ b. IsJudged false s1.start.number s1.start.tag (entries_in pages) b) is
       (subst (λ b. IsJudged b s1.start.number s1.start.tag (entries_in pages) own) (ap (λ (s : ReplicaState). s.claimed) one ∙ unclaimed) judged) in
       let n : s1.start.number ≡ s3.node.number = ap (λ (s : ReplicaState). s.start.number) one ∙ number
-          ∙ sym number_is in
+      ∙ sym number_is in
       let t : s1.start.tag ≡ s3.start.tag = ap (λ (x : Starts). x.tag) (ap (λ (s : ReplicaState). s.start) one ∙ sym start_is) in
       subst (λ x. IsTakenFirst x s3.start.tag (entries_in pages)) n (subst (λ x. IsTakenFirst s1.start.number x (entries_in pages)) t mine)
 

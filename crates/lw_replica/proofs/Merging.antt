@@ -53,8 +53,11 @@ module _ (asked : Option (List LogCall)) (old new : NodeContent) (durable : Bool
   pub covering_settled : (later : Bool) → Goes old new → new.table.count.change ≤ LAST
       → (IsTrue later → (durable ≡ true) × (new.table.count.change ≡ old.table.count.change) × (new.table.count.change < LAST) × (new.clock ≡ old.clock))
       → (durable ≡ true → written ≡ old.table.count.change) → IsWritten asked old durable written → IsWritten asked new later written × (later ≡ true → written ≡ new.table.count.change)
-  covering_settled false goes last calm up_to w = (written_goes asked old new durable written goes last w, λ f.
-      absurd cc)
+  covering_settled false goes last calm up_to w = (
+    written_goes asked old new durable written goes last w,
+    λ f.
+        absurd cc,
+  )
   covering_settled true goes last calm up_to w =
       let c = calm refl in
       (subst (λ b. IsWritten asked new b written) c.0 (written_calm asked old new durable written goes c.1 c.3 c.2 w), λ t. up_to c.0 ∙ sym c.1)

@@ -57,7 +57,10 @@ fn write_snapshot<G: DeltaLog>(
 }
 
 /// Reads the log to its end, appends all that the node knows, and then has go what was read, which stands before it.
-pub(crate) fn compact<G: DeltaLog>(log: &mut G, state: &mut ReplicaState) -> Result<(), ReplicaFault>
+pub(crate) fn compact<G: DeltaLog>(
+    log: &mut G,
+    state: &mut ReplicaState,
+) -> Result<(), ReplicaFault>
     requires { IsReplica (G.calls log.old) state.old }
     ensures compacted { OnOk result (IsCompacted (content_of (G.calls log.old) state.old)
         (content_of (G.calls log.new) state.new)) }

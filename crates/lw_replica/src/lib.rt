@@ -2,23 +2,23 @@
 //! are made over a node that has merged the log to its end.
 #![tactic(auto)]
 
-mod randomness;
 mod clocks;
 mod compaction;
 mod fault;
 pub mod laws;
 mod looking;
+mod randomness;
 mod replica;
-mod used_numbers;
 mod rounds;
 mod size;
 mod state;
+mod used_numbers;
 
-pub use randomness::Randomness;
 pub use fault::ReplicaFault;
 pub use lw_call::{Call, Reply};
 pub use lw_log::{DeltaLog, FleetId, LogFault, Position, Start};
 pub use lw_node::Node;
 pub use lw_stamp::Moment;
+pub use randomness::Randomness;
 pub use replica::Replica;
 pub use size::LogSize;

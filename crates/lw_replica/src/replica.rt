@@ -17,7 +17,7 @@ use crate::compaction::compact;
 use crate::looking::look;
 use crate::rounds::{catch_up, round};
 use crate::state::ReplicaState;
-use crate::{Randomness, LogSize, ReplicaFault};
+use crate::{LogSize, Randomness, ReplicaFault};
 use lw_call::{Call, Reply};
 use lw_log::{DeltaLog, FleetId, Start};
 use lw_node::Node;

@@ -25,8 +25,8 @@ ghost use Rattle.lw_replica.specs.inner.ReplicaState.{counted_of};
 ghost use Rattle.lw_replica.specs.inner.Taking.{Takes, AreNotTaken, IsBehind, IsJudged, IsJudgedEntry, IsJudgedPage, IsNotMerged, IsNotTaken, IsSpelt, IsEntryOf};
 
 use crate::ReplicaFault;
-use crate::used_numbers::{UsedNumbers, has_bit};
 use crate::size::LogSize;
+use crate::used_numbers::{UsedNumbers, has_bit};
 use lw_call::{Call, Reply};
 use lw_delta::Writer;
 use lw_log::{

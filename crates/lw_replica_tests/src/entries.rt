@@ -66,7 +66,10 @@ fn parts_of<'a>(body: &Body<'a>) -> (usize, &'a [u8]) {
     match *body {
         Body::Start => (0, &[]),
         Body::Delta(delta) => (1, delta),
-        Body::Snapshot { used_numbers, delta } => (if are_zero(used_numbers) { 2 } else { 3 }, delta),
+        Body::Snapshot {
+            used_numbers,
+            delta,
+        } => (if are_zero(used_numbers) { 2 } else { 3 }, delta),
     }
 }
 

@@ -115,7 +115,7 @@ IsQueryAt Node segment query = Given forms.Nothing query (λ parameters. api_que
 IsQueryAt Metrics segment query = Given forms.Nothing query (λ parameters. api_query.Metrics)
 IsQueryAt Registrations segment query =
     Given forms.Registrations query
-        (λ parameters. api_query.Registrations parameters.after (unwrap_or parameters.limit 64))
+    (λ parameters. api_query.Registrations parameters.after (unwrap_or parameters.limit 64))
 IsQueryAt Registration segment query = Then (Reads IsShort error.Endpoint segment)
     (λ endpoint. Given forms.Nothing query (λ parameters. api_query.Registration endpoint))
 IsQueryAt Observations segment query = Then (Reads IsShort error.Endpoint segment)
@@ -130,4 +130,4 @@ IsQueryAt Changes segment query = Given forms.Changes query
     (λ parameters. api_query.Changes (unwrap_or parameters.since 0) parameters.start (unwrap_or parameters.limit 64))
 IsQueryAt Notifications segment query = Given forms.Notifications query
     (λ parameters. api_query.Notifications (unwrap_or parameters.from 0) parameters.start
-        (unwrap_or parameters.limit 64))
+    (unwrap_or parameters.limit 64))

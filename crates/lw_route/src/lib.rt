@@ -3,22 +3,22 @@
 //! Who answers is an [`Api`]. Nothing is read or written here.
 #![tactic(auto)]
 
+mod api;
 mod api_query;
 mod command;
 mod decoding;
-mod api;
+mod error;
 mod fault;
 mod method;
 mod numbers;
 mod parameters;
-mod route;
-mod error;
 mod resource;
+mod route;
 mod segments;
 
+pub use api::{Api, ApiResponse, Media, Status};
 pub use api_query::ApiQuery;
 pub use command::Command;
-pub use api::{ApiResponse, Api, Media, Status};
+pub use error::RouteError;
 pub use method::{Allowed, Commands, Method};
 pub use route::{Route, route_of};
-pub use error::RouteError;

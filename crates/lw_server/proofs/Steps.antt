@@ -239,5 +239,5 @@ pub token_in : (old mid : ServerContent) (node : NodeContent) (id : Stamp) (path
     → IsTokenOn (shown_in old.replica.node.table.state) (ms_of old.latest) id path token
 token_in old mid node id path token same is on =
     subst (λ (it : ServerContent). IsTokenOn (shown_in it.replica.node.table.state) (ms_of it.latest) id path token)
-        same
+    same
     (subst (λ (it : NodeContent). IsTokenOn (shown_in it.table.state) (ms_of mid.latest) id path token) is on)

@@ -48,7 +48,7 @@ AreNumbered now counters [] (new ∷ news) last = ⊥
 AreNumbered now counters (old ∷ olds) [] last = ⊥
 AreNumbered now counters (old ∷ olds) (new ∷ news) last =
     IsNumbered now counters old new × AreNumbered now (counters_behind now counters old.from (reply_of old)) olds news
-        last
+    last
 
 -- ---- counts
 abbrev pub has_reply : Handled → Bool

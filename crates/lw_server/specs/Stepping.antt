@@ -116,8 +116,11 @@ pub record MakesCall (call : Call) (reply : Reply) (old new : ServerContent) : T
 -- they were. What was left to do is left to do.
 abbrev pub IsLeft : ServerContent → ServerContent → Type 0
 IsLeft old new =
-    new ≡ record old { replica = new.replica; tally = new.tally;
-        notifications = with_capacity old.notifications new.notifications.buffer.capacity }
+    new ≡ record old {
+      replica = new.replica;
+      tally = new.tally;
+      notifications = with_capacity old.notifications new.notifications.buffer.capacity;
+    }
 
 -- ---- what a device reports (RFC 7641, section 3.2)
 -- what the node has given for it

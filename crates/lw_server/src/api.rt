@@ -11,13 +11,15 @@ ghost use Rattle.lw_server.specs.Api.{TellsPage};
 
 use crate::counter::nears_end;
 use crate::{Clocks, Done, Server, TurnFault};
-use lw_api::{About, answer, created, no_content, not_found, notifications, numbers_of, error_response};
+use lw_api::{
+    About, answer, created, error_response, no_content, not_found, notifications, numbers_of,
+};
+use lw_json::health_text;
 use lw_log::DeltaLog;
 use lw_metrics::{Measures, NodeMeasures, RequestMeasures, metrics_text};
 use lw_node::Node;
-use lw_json::health_text;
+use lw_route::{Api, ApiQuery, ApiResponse, Command, Media, Status};
 use lw_stamp::{NoMemory, Stamp};
-use lw_route::{ApiResponse, ApiQuery, Command, Api, Media, Status};
 
 /// The version of the program.
 const VERSION: &str = "0.1.0";
@@ -103,7 +105,12 @@ impl<G: DeltaLog, C: Clocks> Server<G, C> {
         self.replica.node()
     }
 
-    fn notifications(&self, from: u64, start: Option<u64>, limit: usize) -> Result<ApiResponse, NoMemory>
+    fn notifications(
+        &self,
+        from: u64,
+        start: Option<u64>,
+        limit: usize,
+    ) -> Result<ApiResponse, NoMemory>
         ensures { IfOk result (TellsNotifications (serves self.now) self.now from start limit) }
     {
         if self.node().is_none() {

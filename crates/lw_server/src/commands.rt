@@ -14,13 +14,13 @@ use crate::one_call::call_once;
 use crate::stepping::token_on;
 use crate::{Clocks, Server, TurnFault};
 use lw_call::{Call, ObserveFault, Outgoing, Reply};
-use lw_messaging::{Purpose, OutgoingRequests};
 use lw_log::DeltaLog;
-use lw_replica::Replica;
+use lw_messaging::{OutgoingRequests, Purpose};
 use lw_metrics::Tally;
 use lw_reg::Path;
-use lw_stamp::{Moment, Stamp, Text};
+use lw_replica::Replica;
 use lw_route::Command;
+use lw_stamp::{Moment, Stamp, Text};
 use std::alloc::Global;
 
 /// How many requests to devices may wait where a command is to be carried out, at most.

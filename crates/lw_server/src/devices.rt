@@ -13,7 +13,7 @@ ghost use Rattle.lw_server.specs.inner.Devices.{task_in, task_of, with_first};
 use crate::hearing::Passage;
 use bytes::Bytes;
 use lw_call::{Call, Notice};
-use lw_messaging::{Purpose, Fetches, Matched, MessageIds, Parcel, OutgoingRequests, Step};
+use lw_messaging::{Fetches, Matched, MessageIds, OutgoingRequests, Parcel, Purpose, Step};
 use lw_reg::{Addr, Path, Watch};
 use lw_stamp::{Moment, NoMemory, Stamp};
 use std::alloc::Global;

@@ -9,8 +9,8 @@ use crate::receiving::{pass_over, pass_over_old, receive};
 use crate::reply_lines::LineRate;
 use crate::upkeep::{Upkeep, wait_of};
 use crate::{
-    Clocks, Compaction, Transport, Incoming, ReplicaFault, Measured, Offset, Passage, Progress, RunFault,
-    Server, TurnFault,
+    Clocks, Compaction, Incoming, Measured, Offset, Passage, Progress, ReplicaFault, RunFault,
+    Server, Transport, TurnFault,
 };
 use log::{Log, debug, error, info, warn};
 use lw_log::DeltaLog;
@@ -214,7 +214,11 @@ impl<G: DeltaLog + Measured, C: Clocks> EventLoop<G, C> {
     }
 
     /// Does what is left to do with devices, once what is due of requests is done.
-    fn serve_devices<T: Transport, L: Log>(&mut self, transport: &mut T, log: &L) -> Result<(), TurnFault> {
+    fn serve_devices<T: Transport, L: Log>(
+        &mut self,
+        transport: &mut T,
+        log: &L,
+    ) -> Result<(), TurnFault> {
         self.serve_requests(transport, log)?;
         for _step in 0..STEPS_A_TURN {
             match self.server.next_step()? {
@@ -267,14 +271,26 @@ impl<G: DeltaLog + Measured, C: Clocks> EventLoop<G, C> {
     }
 
     /// Sends a request to a device.
-    fn send_request<T: Transport, L: Log>(&mut self, transport: &mut T, log: &L, to: Addr, bytes: &[u8]) {
+    fn send_request<T: Transport, L: Log>(
+        &mut self,
+        transport: &mut T,
+        log: &L,
+        to: Addr,
+        bytes: &[u8],
+    ) {
         let address = socket_address_of(&to);
         debug!(log; "request to={address}");
         self.put_out(transport, log, to, bytes);
     }
 
     /// Sends a datagram. A fault is passed over.
-    fn put_out<T: Transport, L: Log>(&mut self, transport: &mut T, log: &L, to: Addr, bytes: &[u8]) {
+    fn put_out<T: Transport, L: Log>(
+        &mut self,
+        transport: &mut T,
+        log: &L,
+        to: Addr,
+        bytes: &[u8],
+    ) {
         if transport.send(to, bytes).is_err() {
             let io_counters = &mut self.server.io_counters;
             io_counters.send_faults = io_counters.send_faults.saturating_add(1);
@@ -341,7 +357,11 @@ impl<G: DeltaLog + Measured, C: Clocks> EventLoop<G, C> {
     }
 
     /// What a turn without datagrams does, at the moment that the clocks told last.
-    fn go_round<T: Transport, L: Log>(&mut self, transport: &mut T, log: &L) -> Result<(), TurnFault> {
+    fn go_round<T: Transport, L: Log>(
+        &mut self,
+        transport: &mut T,
+        log: &L,
+    ) -> Result<(), TurnFault> {
         self.server.tick()?;
         if self.server.log_unavailable {
             // It is told first that the log is back.

@@ -6,8 +6,8 @@ ghost use Rattle.lw_server.specs.Hearing.{IsHeard, IsHeardFrom, IsWatchAt, IsWat
 ghost use Rattle.lw_server.specs.inner.Reports.{is_report as is_report_in};
 
 use crate::{Clocks, Server};
-use lw_messaging::{is_request, token_in_blocks};
 use lw_log::DeltaLog;
+use lw_messaging::{is_request, token_in_blocks};
 use lw_node::Node;
 use lw_reg::{Addr, Watch};
 use lw_stamp::{Moment, NoMemory, Stamp};

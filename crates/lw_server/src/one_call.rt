@@ -8,8 +8,8 @@ ghost use Rattle.lw_metrics.specs.Counting.{counted};
 use crate::TurnFault;
 use lw_call::{Call, Reply};
 use lw_log::DeltaLog;
-use lw_replica::Replica;
 use lw_metrics::Tally;
+use lw_replica::Replica;
 use std::alloc::Global;
 
 /// What the call gives, in a round that is counted.

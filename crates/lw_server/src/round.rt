@@ -8,9 +8,9 @@ use crate::TurnFault;
 use crate::blocks::{Handled, Sorted, put_handled};
 use crate::calling::put_sweeps_where;
 use lw_log::DeltaLog;
-use lw_replica::Replica;
 use lw_metrics::Tally;
 use lw_reg::Addr;
+use lw_replica::Replica;
 use lw_stamp::Moment;
 use std::alloc::Global;
 

@@ -1,7 +1,7 @@
 //! A run.
 
 use crate::event_loop::EventLoop;
-use crate::{Clocks, Transport, Incoming, Measured, RunFault, Server};
+use crate::{Clocks, Incoming, Measured, RunFault, Server, Transport};
 use log::Log;
 use lw_log::DeltaLog;
 use lw_udp::{BUFFER, WireFault};
@@ -31,7 +31,13 @@ pub fn run_on<T: Transport, G: DeltaLog + Measured, C: Clocks, L: Log>(
         event_loop = polled;
         event_loop.note_command(log)?;
         match incoming {
-            Ok(Incoming::Datagram(count, from)) => event_loop.take(transport, log, &mut buffer, count, from)?,
+            Ok(Incoming::Datagram(count, from)) => event_loop.take(
+                transport,
+                log,
+                &mut buffer,
+                count,
+                from,
+            )?,
             Ok(Incoming::Nothing) => event_loop.tick(transport, log, &mut buffer)?,
             Ok(Incoming::Closed) => return Ok(()),
             Err(WireFault) => event_loop.fail(log)?,

@@ -14,16 +14,16 @@ use crate::blocks::{any_lacks_block, sort};
 use crate::calling::moment_before;
 use crate::devices::Devices;
 use crate::exchanges::{fresh_of, keep_exchanges, with_unkept};
-use crate::numbering::number_replies;
-use crate::sending::put_sends;
-use crate::round::execute_round;
 use crate::notifications::Notifications;
+use crate::numbering::number_replies;
+use crate::round::execute_round;
+use crate::sending::put_sends;
 use crate::{Clocks, TurnFault};
-use lw_messaging::{Bodies, MessageIds, Replies};
 use lw_log::DeltaLog;
-use lw_replica::Replica;
+use lw_messaging::{Bodies, MessageIds, Replies};
 use lw_metrics::{IoCounters, Tally};
 use lw_reg::Addr;
+use lw_replica::Replica;
 use lw_stamp::Moment;
 use lw_udp::Datagram;
 use std::alloc::Global;
@@ -194,7 +194,12 @@ impl<G: DeltaLog, C: Clocks> Server<G, C> {
         )?;
         self.duplicates = self.duplicates.saturating_add(again);
         self.blocks = blocks;
-        self.without_message_id = number_replies(&mut self.ids, self.without_message_id, steady, &mut handled);
+        self.without_message_id = number_replies(
+            &mut self.ids,
+            self.without_message_id,
+            steady,
+            &mut handled,
+        );
         let is_all_kept = keep_exchanges(self.alloc, &mut self.kept, steady, &handled);
         let lacks_block = any_lacks_block(&handled);
         self.unkept = with_unkept(self.unkept, is_all_kept, lacks_block);

@@ -22,8 +22,8 @@ use crate::one_call::call_once;
 use crate::{Clocks, Progress, Server, TurnFault};
 use bytes::Bytes;
 use lw_call::{Call, Notice, ObserveFault, Reply, Taken};
-use lw_messaging::stamp_of_token;
 use lw_log::DeltaLog;
+use lw_messaging::stamp_of_token;
 use lw_node::Node;
 use lw_reg::{Addr, Path};
 use lw_stamp::{Moment, NoMemory, Stamp, Text};
@@ -322,7 +322,8 @@ impl<G: DeltaLog, C: Clocks> Server<G, C> {
         let call = Call::Take { now, from, bytes };
         let reply = call_once(self.alloc, &mut self.replica, &mut self.tally, call)?;
         let Taken { reply, notice } = taken_of(reply)?;
-        self.notifications.publish_if_any(self.steady, notice, is_complete);
+        self.notifications
+            .publish_if_any(self.steady, notice, is_complete);
         Ok(reply)
     }
 }

@@ -47,7 +47,12 @@ impl<G: DeltaLog, S: Stopwatch> Measured for TimedLog<G, S> {
 }
 
 /// Counts an append.
-fn count_append(log_counters: &mut LogCounters, is_written: bool, began: Option<u64>, ended: Option<u64>) {
+fn count_append(
+    log_counters: &mut LogCounters,
+    is_written: bool,
+    began: Option<u64>,
+    ended: Option<u64>,
+) {
     log_counters.entries_written = log_counters
         .entries_written
         .saturating_add(u64::from(is_written));
@@ -63,7 +68,10 @@ impl<G: DeltaLog, S: Stopwatch> DeltaLog for TimedLog<G, S> {
 
     fn read(&mut self, after: Option<Position>) -> Result<Vec<(Position, Bytes)>, LogFault> {
         let page = self.log.read(after)?;
-        self.log_counters.entries_read = self.log_counters.entries_read.saturating_add(page.len() as u64);
+        self.log_counters.entries_read = self
+            .log_counters
+            .entries_read
+            .saturating_add(page.len() as u64);
         Ok(page)
     }
 

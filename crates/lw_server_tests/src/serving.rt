@@ -1,10 +1,9 @@
 //! Runs of a server over a transport in memory, by a clock in memory.
 
+mod api;
 mod blocks;
 mod clocks;
 mod compacting;
-mod api;
-mod transport;
 mod measured;
 mod observing;
 mod refused;
@@ -14,10 +13,10 @@ mod runs;
 mod shared_log;
 mod stage;
 mod timed_log;
+mod transport;
 mod turns;
 mod twice;
 
-use transport::{Coming, MemoryTransport, Question, Ticks};
 use lw_log::{DeltaLog, FleetId, LogFault, MemoryCall, MemoryLog, Position};
 use lw_replica::{Randomness, Replica};
 use lw_server::*;
@@ -26,6 +25,7 @@ use shared_log::Trouble;
 use stage::{STAGE, Stage};
 use std::alloc::Global;
 use timed_log::Readings;
+use transport::{Coming, MemoryTransport, Question, Ticks};
 use turns::{TURN, Turn, takes};
 
 /// An empty message, message ID 7, and its reply.

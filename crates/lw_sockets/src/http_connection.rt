@@ -3,8 +3,8 @@
 use crate::request_line::RequestLine;
 use http_server::Connection;
 use log::{Log, info};
-use lw_route::Api;
 use lw_http::{AccessPolicy, advance, new_connection};
+use lw_route::Api;
 use mio::Token;
 use mio::net::TcpStream;
 use std::alloc::Global;

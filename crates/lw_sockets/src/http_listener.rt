@@ -2,9 +2,9 @@
 
 use crate::http_connection::{ConnectionState, HttpConnection};
 use log::Log;
+use lw_http::AccessPolicy;
 use lw_metrics::Responses;
 use lw_route::Api;
-use lw_http::AccessPolicy;
 use mio::net::TcpListener;
 use mio::{Interest, Poll, Token};
 use std::alloc::Global;
@@ -107,7 +107,11 @@ impl HttpListener {
 
     /// How long may be waited before this is to be looked at again.
     pub(crate) fn timeout(&self, now: Instant) -> Duration {
-        if self.connections.iter().any(|connection| connection.is_ready) {
+        if self
+            .connections
+            .iter()
+            .any(|connection| connection.is_ready)
+        {
             return Duration::ZERO;
         }
         match self.backlog {
@@ -167,7 +171,8 @@ impl HttpListener {
         if self.connections.len() < MAX_CONNECTIONS {
             return;
         }
-        let may_go = |connection: &HttpConnection| connection.until_evictable(now) == Some(Duration::ZERO);
+        let may_go = |connection: &HttpConnection| connection.until_evictable(now)
+            == Some(Duration::ZERO);
         if let Some(place) = self.connections.iter().position(may_go) {
             self.close(place, log);
         }

@@ -2,11 +2,11 @@
 
 use log::sink::{Discard, Memory};
 use log::{Level, Log, Logged};
-use lw_sockets::Sockets;
-use lw_server::{Addr, Transport, Incoming, WireFault};
-use lw_stamp::NoMemory;
-use lw_route::{ApiResponse, ApiQuery, Command, Commands, Api, Media, Status};
 use lw_http::AccessPolicy;
+use lw_route::{Api, ApiQuery, ApiResponse, Command, Commands, Media, Status};
+use lw_server::{Addr, Incoming, Transport, WireFault};
+use lw_sockets::Sockets;
+use lw_stamp::NoMemory;
 use lw_udp::address_of;
 use std::alloc::Global;
 use std::hash::RandomState;
@@ -369,10 +369,16 @@ fn a_datagram_goes_before_the_next_command(rt: HostRuntime) {
     sent.expect(&rt, "a send");
     let (buffer, time) = (&mut [0; 4], Duration::from_secs(20));
     let (api, incoming) = sockets.poll(quiet(rt.alloc()), buffer, time);
-    assert!(rt; matches!(incoming, Ok(Incoming::Datagram(3, _))), "the datagram");
+    assert!(rt;
+        matches!(incoming, Ok(Incoming::Datagram(3, _))),
+        "the datagram"
+    );
     assert!(rt; api.commands == 1, "one command before it");
     let (api, incoming) = sockets.poll(api, buffer, time);
-    assert!(rt; incoming == Ok(Incoming::Nothing), "there is something to send");
+    assert!(rt;
+        incoming == Ok(Incoming::Nothing),
+        "there is something to send"
+    );
     assert!(rt; api.commands == 2, "one more");
     let (api, _incoming) = sockets.poll(api, buffer, time);
     assert!(rt; api.commands == 3, "and the last");

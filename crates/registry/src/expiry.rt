@@ -11,8 +11,8 @@ ghost use Rattle.registry.specs.Texts.{expired_line};
 use crate::fault::LineFault;
 use crate::text::event_line;
 use lw_call::ClockEnd;
-use lw_node::Node;
 use lw_json::stale_text;
+use lw_node::Node;
 use lw_stamp::{Moment, NoMemory};
 use std::alloc::Global;
 

@@ -8,8 +8,8 @@ ghost use Rattle.registry.specs.Fleet.{IsFleet, IsFleetText, AreFleets, fleet_li
 ghost use Rattle.registry.specs.Walk.{last_of};
 
 use crate::registry::Registry;
-use lw_node::{Node, Seen};
 use lw_json::registration_text;
+use lw_node::{Node, Seen};
 use lw_stamp::{Moment, NoMemory};
 use std::alloc::Global;
 

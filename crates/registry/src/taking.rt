@@ -8,8 +8,8 @@ ghost use Rattle.registry.specs.Texts.{reply_line, notice_line, happened_line, t
 use crate::event::{Event, event_of, reply_code};
 use crate::line::Received;
 use crate::text::event_line;
-use lw_node::{Node, Notice, Taken};
 use lw_json::{notice_text, registration_text, stale_text};
+use lw_node::{Node, Notice, Taken};
 use lw_stamp::NoMemory;
 use std::alloc::Global;
 

@@ -61,10 +61,26 @@ const AROUND: At = ("what is given around a failed append is known", 0, 0);
 fn what_is_given_around_a_failed_append_is_known(rt: HostRuntime) {
     // A start, and a delta for each of three devices.
     for append in 0..4 {
-        is_known_afterwards(&rt, rt.alloc(), (false, (append, LogFault::Unavailable, false)));
-        is_known_afterwards(&rt, rt.alloc(), (false, (append, LogFault::Unavailable, true)));
-        is_known_afterwards(&rt, rt.alloc(), (true, (append, LogFault::Unavailable, false)));
-        is_known_afterwards(&rt, rt.alloc(), (true, (append, LogFault::Unavailable, true)));
+        is_known_afterwards(
+            &rt,
+            rt.alloc(),
+            (false, (append, LogFault::Unavailable, false)),
+        );
+        is_known_afterwards(
+            &rt,
+            rt.alloc(),
+            (false, (append, LogFault::Unavailable, true)),
+        );
+        is_known_afterwards(
+            &rt,
+            rt.alloc(),
+            (true, (append, LogFault::Unavailable, false)),
+        );
+        is_known_afterwards(
+            &rt,
+            rt.alloc(),
+            (true, (append, LogFault::Unavailable, true)),
+        );
     }
 }
 
@@ -275,7 +291,10 @@ const LOST: &[Step] = &[
     Begins(FIRST_CHANCE),
     Does(FIRST, Answers(REGISTER, CREATED)),
     LogOf(FIRST, FailsAppend((0, LogFault::Lost, false))),
-    Does(FIRST, Refuses(REGISTER_B, ReplicaFault::Log(LogFault::Lost))),
+    Does(
+        FIRST,
+        Refuses(REGISTER_B, ReplicaFault::Log(LogFault::Lost)),
+    ),
     Log(Loses),
     Does(FIRST, Rests(None)),
     Log(Restores(START)),

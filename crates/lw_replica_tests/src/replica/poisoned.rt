@@ -226,12 +226,7 @@ const GOOD_AGAIN: &[Step] = &[
 
 /// What others wrote while a snapshot was made stands before it.
 static CUT: &[Story] = &[
-    (
-        "a delta before a snapshot",
-        BESIDE,
-        &[DELTA],
-        &[GOOD_AGAIN],
-    ),
+    ("a delta before a snapshot", BESIDE, &[DELTA], &[GOOD_AGAIN]),
     (
         "a later start before a snapshot",
         BESIDE,

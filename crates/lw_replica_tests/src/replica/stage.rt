@@ -142,7 +142,13 @@ impl<'a> Stage<'a> {
         match step {
             Step::Begins(randomness) => self.begin(rt, alloc, at, (self.alone, 0), randomness),
             Step::BeginsBeside(randomness) => self.begin(rt, alloc, at, (false, 0), randomness),
-            Step::BeginsAt(ms, randomness) => self.begin(rt, alloc, at, (self.alone, *ms), randomness),
+            Step::BeginsAt(ms, randomness) => self.begin(
+                rt,
+                alloc,
+                at,
+                (self.alone, *ms),
+                randomness,
+            ),
             Step::BeginsNot(randomness, want) => {
                 self.begin_not(rt, alloc, at, None, (0, randomness, *want));
             }

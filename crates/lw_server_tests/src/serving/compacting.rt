@@ -10,7 +10,9 @@ const CREATED_BEHIND: &str = "604100048272640d0330303030303030313030303130303031
 
 const UPDATE_BEHIND: &str = "40020010b272640d0330303030303030313030303130303031";
 
-const REFUSED: Piece = Piece::Line("[ERROR lw_server::event_loop] log refused fault=the log refused");
+const REFUSED: Piece = Piece::Line(
+    "[ERROR lw_server::event_loop] log refused fault=the log refused",
+);
 
 const PUT_OFF: Piece = Piece::Line("[WARN  lw_server::event_loop] compaction put off");
 

@@ -78,7 +78,9 @@ const PINGS: [Coming; 6] = [
 ];
 
 /// What is told where the log refuses.
-const REFUSED: Piece = Piece::Line("[ERROR lw_server::event_loop] log refused fault=the log refused");
+const REFUSED: Piece = Piece::Line(
+    "[ERROR lw_server::event_loop] log refused fault=the log refused",
+);
 
 /// What the log answers to how many readings, after the first round; and what comes of a ping to each of these ports.
 static TROUBLES: [Run; 8] = [

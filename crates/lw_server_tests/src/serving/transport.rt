@@ -5,8 +5,8 @@ ghost use Rattle.lw_server.specs.Transport.{IsWithin};
 
 use super::*;
 use lw_path::read_path;
+use lw_route::{Api, ApiQuery, ApiResponse, Command};
 use lw_stamp::{Stamp, Text};
-use lw_route::{ApiResponse, ApiQuery, Command, Api};
 use std::time::Duration;
 
 /// What an HTTP client asks for.
@@ -133,11 +133,7 @@ impl MemoryTransport {
     }
 
     /// Has a command carried out, and adds a line where the API then has nothing to send.
-    fn command<A: Api>(
-        &mut self,
-        api: &mut A,
-        command: Option<Command>,
-    ) -> Result<(), WireFault> {
+    fn command<A: Api>(&mut self, api: &mut A, command: Option<Command>) -> Result<(), WireFault> {
         let command = command.ok_or(WireFault)?;
         self.put_answer(api.carry_out(&command))?;
         if api.wants_to_send() {

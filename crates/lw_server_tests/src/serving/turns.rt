@@ -2,7 +2,7 @@
 
 use super::stage::CHANCE;
 use super::*;
-use lw_route::{ApiQuery, Api};
+use lw_route::{Api, ApiQuery};
 use std::process::Abort;
 
 /// A datagram that comes so many times at once, and what is counted and told behind that.
@@ -102,7 +102,13 @@ impl Turn {
     }
 
     /// Fails where what is told does not have the text.
-    fn tells(&self, rt: &impl Abort, server: &Server<MemoryLog, Ticks>, api_query: &ApiQuery, text: &str) {
+    fn tells(
+        &self,
+        rt: &impl Abort,
+        server: &Server<MemoryLog, Ticks>,
+        api_query: &ApiQuery,
+        text: &str,
+    ) {
         let answer = server.answer(api_query).expect(rt, self.datagram);
         assert!(rt;
             answer.body.as_str().contains(text),

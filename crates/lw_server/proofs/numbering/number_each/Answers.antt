@@ -19,7 +19,7 @@ loop-datagram-preserved c =
       reply = c.numbered.ensures.reply ∙ ap (numbered_reply c.args.now c.loop-datagram.ids old.from) reply;
     })
     (c.numbered.ensures.ids ∙ ap (counters_behind c.args.now c.loop-datagram.ids old.from) reply)
-        c.loop-datagram.invariant
+    c.loop-datagram.invariant
 
 pub returns : goal.returns
 returns c = numbering_ends _ _ _ _ _ _ (subst (λ (n : ℕ). n ≤ c.loop-datagram.datagram-index) (sym c.loop-datagram.auto.handled) c.loop-datagram-test.false) c.loop-datagram.invariant

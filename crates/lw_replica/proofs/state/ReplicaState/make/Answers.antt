@@ -41,4 +41,4 @@ returns-clause-covering c = λ asked covering.
     settled_covering asked c.args.self.now c.settle_durable.new.self goes c.settle_durable.ensures.last
     (λ h. let x = c.settle_durable.ensures.durable.0 h in (sym (ap (λ (s : ReplicaState). s.durable) only) ∙ x.0, x.1 ∙ c.change.ensures, x.2, x.3 ∙ c.clock.ensures.value))
     (ap (λ (s : ReplicaState). s.written) c.settle_durable.ensures.only ∙ ap (λ (s : ReplicaState). s.written) only)
-        covering
+    covering

@@ -37,8 +37,13 @@ returns-in-Ok-clause-covering c = λ asked covering.
     let goes = subst (λ (n : NodeContent). Goes c.args.self.now.node n) (sym (ap (λ (s : ReplicaState). s.node) c.settle_durable.ensures.only))
     (goes_merges c.args.self.now.node c.merge-merged.new.self c.deref.result.now c.merge-merged.result c.merge-merged.ensures.merges) in
     settled_covering asked c.args.self.now c.settle_durable.new.self goes c.settle_durable.ensures.last
-    (λ h. let x = c.settle_durable.ensures.durable.0 h in (x.0, x.1 ∙ c.change.ensures, x.2, x.3
-        ∙ c.clock.ensures.value))
+    (λ h. let x = c.settle_durable.ensures.durable.0 h in (
+      x.0,
+      x.1 ∙ c.change.ensures,
+      x.2,
+      x.3
+          ∙ c.clock.ensures.value,
+    ))
     (ap (λ (s : ReplicaState). s.written) c.settle_durable.ensures.only) covering
 
 pub returns-clause-covering : goal.returns-clause-covering
@@ -46,6 +51,11 @@ returns-clause-covering c = λ asked covering.
     let goes = subst (λ (n : NodeContent). Goes c.args.self.now.node n) (sym (ap (λ (s : ReplicaState). s.node) c.settle_durable.ensures.only))
     (goes_merges c.args.self.now.node c.merge-merged.new.self c.deref.result.now c.merge-merged.result c.merge-merged.ensures.merges) in
     settled_covering asked c.args.self.now c.settle_durable.new.self goes c.settle_durable.ensures.last
-    (λ h. let x = c.settle_durable.ensures.durable.0 h in (x.0, x.1 ∙ c.change.ensures, x.2, x.3
-        ∙ c.clock.ensures.value))
+    (λ h. let x = c.settle_durable.ensures.durable.0 h in (
+      x.0,
+      x.1 ∙ c.change.ensures,
+      x.2,
+      x.3
+          ∙ c.clock.ensures.value,
+    ))
     (ap (λ (s : ReplicaState). s.written) c.settle_durable.ensures.only) covering

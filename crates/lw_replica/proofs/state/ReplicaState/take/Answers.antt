@@ -64,7 +64,7 @@ returns-in-Delta-clause-taken c =
     let has : HasDelta (body_content c.in-Ok.entry.body) delta = subst (λ b. HasDelta (body_content b) delta) (sym c.in-Delta.is) refl in
     let d = c.in-Ok.ensures.found.spelled delta has in
     on_ok_four c.merge.result c.merge.ensures.merged c.merge.ensures.fleet c.merge.ensures.settled
-        c.merge.ensures.durable
+    c.merge.ensures.durable
     (λ merged fleet settled durable. takes_delta c.args.self.now c.merge.new.self bytes e delta d.0 c.in-Ok.ensures.found (λ x is. c.in-Ok.ensures.only x is) has d.1 (λ newer. let bad = c.in-Ok.ensures.newer.1 newer in cc) (merged d.0 d.1) fleet.0 fleet.1 settled durable c.merge.ensures.written c.merge.ensures.sequence
     (λ n. subst (λ (x : UsedNumbers). HasBit x.bytes.value n ↔ (HasBit (used_numbers_of c.args.self.now) n ⊎ ((e.number ≡ n) ⊎ TellsOf n e.body)))
     (sym c.merge.ensures.used_numbers) (c.note.ensures n))
