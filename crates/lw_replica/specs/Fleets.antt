@@ -22,7 +22,9 @@ told_by (Snapshot used_numbers delta) fleet told = (true, Some fleet)
 
 -- bytes that are no entry tell nothing
 abbrev pub TellsFleet : Bool × Option (List ℕ) → List ℕ → Bool × Option (List ℕ) → Type 0
-TellsFleet old bytes new = ((e : EntryContent) × IsEntry bytes e × (new ≡ told_by e.body e.fleet old)) ⊎ (((e : EntryContent) → ¬ IsEntry bytes e) × (new ≡ old))
+TellsFleet old bytes new =
+    ((e : EntryContent) × IsEntry bytes e × (new ≡ told_by e.body e.fleet old))
+    ⊎ (((e : EntryContent) → ¬ IsEntry bytes e) × (new ≡ old))
 
 -- one after another
 abbrev pub TellFleets : Bool × Option (List ℕ) → List (List ℕ) → Bool × Option (List ℕ) → Type 0

@@ -15,8 +15,8 @@ next_sequence sequence = min (sequence + 1) (2 ^ 64 - 1)
 abbrev pub HasSequence : ℕ → List ℕ → Type 0
 HasSequence sequence bytes = (e : EntryContent) × IsEntry bytes e × (e.sequence ≡ sequence)
 
--- Each entry that is appended, or tried, has the next sequence. It rises with each append that returned, and with nothing
--- else.
+-- Each entry that is appended, or tried, has the next sequence. It rises with each append that returned, and with
+-- nothing else.
 abbrev pub NumbersOn : ℕ → List LogCall → ℕ → Type 0
 NumbersOn from [] upto = upto ≡ from
 NumbersOn from (Wrote p ∷ calls) upto = HasSequence (next_sequence from) p.1 × NumbersOn (next_sequence from) calls upto

@@ -5,7 +5,8 @@ use Rattle.lw_log.specs.Calls.{LogCall, Calls}
 use Rattle.lw_log.specs.Entries.{BringsDelta}
 use Rattle.lw_log.specs.EntryFaults.{IsNewer}
 use Rattle.lw_replica.specs.declared.fault.ReplicaFault.{ReplicaFault}
-use Rattle.lw_replica.specs.declared.fault.ReplicaFault.TheVariants.{Log, AnotherFleet, LogCut, LogNewer, NumberTaken, NumbersEnded, ClockAhead, NoMemory}
+use Rattle.lw_replica.specs.declared.fault.ReplicaFault.TheVariants.{Log, AnotherFleet, LogCut, LogNewer}
+use Rattle.lw_replica.specs.declared.fault.ReplicaFault.TheVariants.{NumberTaken, NumbersEnded, ClockAhead, NoMemory}
 use Rattle.lw_replica.specs.Replica.{ReplicaContent}
 use Rattle.lw_replica.specs.Reading.{entries_in}
 

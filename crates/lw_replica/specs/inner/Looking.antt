@@ -3,7 +3,8 @@ use Rattle.std.specs.Prelude.{◌≡◌, ◌≢◌, ℕ, ◌⊎◌, List, [], �
 use Rattle.lw_log.specs.Entries.{BodyContent, EntryContent}
 use Rattle.lw_log.specs.Entries.BodyContent.{Start, Delta, Snapshot}
 use Rattle.lw_replica.specs.declared.fault.ReplicaFault.{ReplicaFault}
-use Rattle.lw_replica.specs.declared.fault.ReplicaFault.TheVariants.{Log, AnotherFleet, LogCut, LogNewer, NumberTaken, NumbersEnded, ClockAhead, NoMemory}
+use Rattle.lw_replica.specs.declared.fault.ReplicaFault.TheVariants.{Log, AnotherFleet, LogCut, LogNewer}
+use Rattle.lw_replica.specs.declared.fault.ReplicaFault.TheVariants.{NumberTaken, NumbersEnded, ClockAhead, NoMemory}
 use Rattle.lw_replica.specs.declared.looking.FirstLook.{FirstLook}
 use Rattle.lw_replica.specs.Beginning.{BeginsLog, HasSnapshot}
 use Rattle.lw_replica.specs.Reading.{AreNoted}

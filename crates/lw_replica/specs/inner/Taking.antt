@@ -44,12 +44,14 @@ IsNotMerged s fleet fault = ((fault ≡ AnotherFleet) × (s.settled ≡ true) ×
 -- the entry is newer, or brings a delta of another fleet than was told, or there is no memory
 abbrev pub IsNotTaken : ReplicaState → List ℕ → ReplicaFault → Type 0
 IsNotTaken s bytes fault =
-    ((fault ≡ LogNewer) × IsNewer bytes) ⊎ (((fault ≡ AnotherFleet) × (s.settled ≡ true) × IsOfAnother (fleet_of s) bytes) ⊎ (fault ≡ NoMemory))
+    ((fault ≡ LogNewer) × IsNewer bytes)
+    ⊎ (((fault ≡ AnotherFleet) × (s.settled ≡ true) × IsOfAnother (fleet_of s) bytes) ⊎ (fault ≡ NoMemory))
 
 -- so is one of these entries
 abbrev pub AreNotTaken : ReplicaState → List (List ℕ) → ReplicaFault → Type 0
 AreNotTaken s es fault =
-    ((fault ≡ LogNewer) × HasNewer es) ⊎ (((fault ≡ AnotherFleet) × (s.settled ≡ true) × HasAnother (fleet_of s) es) ⊎ (fault ≡ NoMemory))
+    ((fault ≡ LogNewer) × HasNewer es)
+    ⊎ (((fault ≡ AnotherFleet) × (s.settled ≡ true) × HasAnother (fleet_of s) es) ⊎ (fault ≡ NoMemory))
 
 -- the entry of an option for the number: its own, another's, or none that tells of it
 abbrev pub IsJudgedEntry : ℕ → ℕ → List ℕ → Option Bool → Type 0
