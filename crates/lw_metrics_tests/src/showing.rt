@@ -34,7 +34,7 @@ static OF_ITS_NODE: [&str; 12] = [
 ];
 
 /// The lines behind those of its node.
-static OF_ALL_ELSE: [&str; 146] = [
+static OF_ALL_ELSE: [&str; 149] = [
     "# HELP fleet_rounds_total Rounds of calls.",
     "# TYPE fleet_rounds_total counter",
     "fleet_rounds_total 21",
@@ -284,7 +284,7 @@ fn nothing_is_told_of_a_node_that_is_away(rt: HostRuntime) {
 }
 
 /// The samples of a new tally.
-static NOTHING_YET: [&str; 78] = [
+static NOTHING_YET: [&str; 79] = [
     "fleet_build_info{version=\"0.1.0\"} 1",
     "fleet_start_time_seconds 0",
     "fleet_rounds_total 0",
