@@ -296,7 +296,7 @@ fn what_has_the_same_purpose_is_forgotten(rt: HostRuntime) {
     for row in &FORGOTTEN {
         let (purpose, left) = *row;
         requests.forget(purpose);
-        assert!(rt; requests.count() == left, "{about:?}");
+        assert!(rt; requests.count() == left, "{purpose:?}");
     }
 }
 
