@@ -76,7 +76,7 @@ pub(crate) fn http_in<'a>(matches: &ArgMatches<'a>) -> Result<Option<HttpOptions
     ensures none { OnErr result ((http : Option Served)
         → ¬ IsHttp (option_rows (subcommand_rows_of matches.now)) http) }
 {
-    match address_of_visitors(matches)? {
+    match http_address(matches)? {
         Some(address) => Ok(Some(http_at(matches, address)?)),
         None => {
             refuse_without_http(matches)?;
@@ -86,7 +86,7 @@ pub(crate) fn http_in<'a>(matches: &ArgMatches<'a>) -> Result<Option<HttpOptions
 }
 
 /// The address of `--http`, if that is given.
-fn address_of_visitors(matches: &ArgMatches<'_>) -> Result<Option<SocketAddr>, BadRunOption>
+fn http_address(matches: &ArgMatches<'_>) -> Result<Option<SocketAddr>, BadRunOption>
     ensures given { IfOk result (IsAddressIfGiven
         (first_of (codes "http") (option_rows (subcommand_rows_of matches.now)))) }
     ensures none { OnErr result ((address : Option SocketAddresses)

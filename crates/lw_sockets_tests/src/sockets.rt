@@ -212,7 +212,7 @@ fn let_in<R: Abort + Net + RandomSource, C: Clock + Files + AllocGlobal, L: Log>
 
 /// Tries: lw_sockets::Sockets::listen, lw_server::Transport::poll, lw_http::advance, lw_http::new_connection
 #[test]
-fn a_visitor_is_answered_while_none_sends(rt: HostRuntime) {
+fn an_http_client_is_answered_while_none_sends(rt: HostRuntime) {
     let mut sockets = bound(&rt, &Discard, rt.alloc(), loopback());
     let at = let_in(&rt, &mut sockets);
     let (told, _from) = visited(&rt, rt.alloc(), &mut sockets, at, ASKED);
@@ -267,7 +267,7 @@ fn is_logged<R: Abort + Net + Clock + Files + AllocGlobal + RandomSource>(
 
 /// Tries: lw_sockets::Sockets::listen, lw_server::Transport::poll, lw_server::Transport::responses
 #[test]
-fn a_line_is_logged_of_each_visitor(rt: HostRuntime) {
+fn a_line_is_logged_of_each_http_client(rt: HostRuntime) {
     for (says, want) in &LINES {
         is_logged(&rt, rt.alloc(), says, want);
     }
@@ -386,7 +386,7 @@ fn a_datagram_goes_before_the_next_command(rt: HostRuntime) {
 
 /// Tries: lw_server::Transport::poll
 #[test]
-fn once_the_time_is_over_no_visitor_is_answered(rt: HostRuntime) {
+fn once_the_time_is_over_no_http_client_is_answered(rt: HostRuntime) {
     let mut sockets = bound(&rt, &Discard, rt.alloc(), loopback());
     let at = let_in(&rt, &mut sockets);
     let _http_clients = http_clients(&rt, rt.alloc(), at, 1, ASKED);
