@@ -21,6 +21,8 @@ EXAMPLES_FOLDER = TOP / "examples"
 COUNT = 20
 NAMES = sorted(f"device-{it}" for it in range(1, COUNT + 1))
 OBSERVED, PATH = "device-7", "/3303/0/5700"
+# how many notifications are waited for, the seconds between two of them, and how long seven more would take
+SOME, NOTIFY, NO_MORE = 8, 0.2, 1.5
 METRIC = re.compile(r"\bfleet_\w+")
 
 
@@ -29,7 +31,7 @@ class Devices:
 
     def __init__(self, scene, port):
         self.output = scene.folder / f"devices-{port}"
-        words = [EXAMPLES_FOLDER / "devices.py", COUNT, "--port", port, "--update", 1, "--notify", 0.2]
+        words = [EXAMPLES_FOLDER / "devices.py", COUNT, "--port", port, "--update", 1, "--notify", NOTIFY]
         with open(self.output, "wb") as output:
             streams = {"stdin": subprocess.DEVNULL, "stdout": output, "stderr": subprocess.STDOUT}
             self.run = subprocess.Popen(list(map(str, words)), preexec_fn=ends_with_the_test, **streams)
@@ -75,7 +77,8 @@ def simulated_devices(scene):
             want = 0, [f"{COUNT} of {COUNT} devices deregistered"]
             scene.holds("devices.py: its end by Ctrl-C", devices.ends_by(signal.SIGINT), want)
             scene.holds("devices.py: none is left", registered(server), {})
-            scene.holds("devices.py: what it says", devices.printed()[0], f"{COUNT} of {COUNT} devices registered at 127.0.0.1:{port}")
+            want = f"{COUNT} of {COUNT} devices registered at 127.0.0.1:{port}"
+            scene.holds("devices.py: what it says", devices.printed()[0], want)
 
 
 def have_updated(server, first):
@@ -88,22 +91,26 @@ def observed(scene, server):
     """An observation gives notifications, each with a temperature, until it is ended."""
     command = f"/v1/registrations/{OBSERVED}/observations?path={PATH}"
     token = token_of(ask(server.visited, command, "POST"))
-    is_soon(lambda: notifications(server)["next"] >= 4)
+    is_soon(lambda: notifications(server)["next"] >= SOME)
     found = [it["notice"] for it in notifications(server)["notifications"]]
-    scene.is_true("devices.py: an observation gives notifications", len(found) >= 4, found)
+    scene.is_true("devices.py: an observation gives notifications", len(found) >= SOME, found)
     from_one = {(it["endpoint"], it["path"], it["token"], it["code"], it["ended"]) for it in found}
     scene.holds("devices.py: whose they are", from_one, {(OBSERVED, PATH, token, 69, False)})
     values = [bytes.fromhex(it["payload"]).decode() for it in found]
     scene.is_true("devices.py: their values", all(re.fullmatch(r"\d\d\.\d", it) for it in values), values)
     scene.is_true("devices.py: values that differ", len(set(values)) > 1, values)
-    scene.holds("devices.py: the end of it", ask(server.visited, f"/v1/tokens/{token}", "DELETE").status, "204 No Content")
-    sent = measures_of(server)["fleet_datagrams_total"]
-    told = notifications(server)["next"]
-    time.sleep(1.2)
+    ended(scene, server, token)
+
+
+def ended(scene, server, token):
+    """A device whose observation has ended soon sends no more notifications, which the server answers by Resets."""
+    response = ask(server.visited, f"/v1/tokens/{token}", "DELETE")
+    scene.holds("devices.py: the end of an observation", response.status, "204 No Content")
+    told, before = notifications(server)["next"], measures_of(server)["fleet_empty_replies_total"]
+    time.sleep(NO_MORE)
     scene.holds("devices.py: no notification behind its end", notifications(server)["next"], told)
-    # two Updates of each device may come in that time, and five notifications would
-    came = measures_of(server)["fleet_datagrams_total"] - sent
-    scene.is_true("devices.py: datagrams behind its end", came <= 2 * COUNT + 1, came)
+    resets = measures_of(server)["fleet_empty_replies_total"] - before
+    scene.is_true("devices.py: it stops sending notifications", resets <= 2, resets)
 
 
 def refused_words(scene):
@@ -129,8 +136,8 @@ def watched(scene):
         scene.holds(f"metrics of {name} that the program does not have", sorted(set(METRIC.findall(text)) - known), [])
     expressions = set(METRIC.findall("\n".join(re.findall(r"^ +expr: (.+)$", rules, re.M))))
     scene.holds("metrics of alerts.yml, and those that HTTP.md says are worth an alert", expressions, alerted())
-    panels = json.loads(board)["panels"]
-    empty = [it["title"] for it in panels if not all(METRIC.search(to["expr"]) or "up{" in to["expr"] for to in it["targets"])]
+    shown = {it["title"]: "\n".join(target["expr"] for target in it["targets"]) for it in json.loads(board)["panels"]}
+    empty = [title for title, text in shown.items() if not METRIC.search(text) and "up{" not in text]
     scene.holds("panels of dashboard.json that show no metric", empty, [])
     checked_by_promtool(scene)
 
