@@ -122,9 +122,14 @@ def refused_words(scene):
 
 
 def alerted():
-    """The metrics that docs/HTTP.md says are worth an alert: those of each paragraph that speaks of alerts."""
-    paragraphs = (TOP / "docs" / "HTTP.md").read_text().split("\n\n")
-    return set(METRIC.findall("\n".join(it for it in paragraphs if re.search(r"\balert", it, re.I))))
+    """The metrics that docs/HTTP.md says are worth an alert: of a paragraph that speaks of alerts, or the list below."""
+    found, is_list = set(), False
+    for paragraph in (TOP / "docs" / "HTTP.md").read_text().split("\n\n"):
+        speaks = re.search(r"\balert", paragraph, re.I)
+        if speaks or is_list:
+            found.update(METRIC.findall(paragraph))
+        is_list = speaks and paragraph.endswith(":")
+    return found
 
 
 def watched(scene):
