@@ -122,7 +122,7 @@ def refused_words(scene):
 
 
 def alerted():
-    """The metrics that docs/HTTP.md says are worth an alert, in paragraphs that speak of alerts or in lists below them."""
+    """The metrics that HTTP.md says are worth an alert, in paragraphs that speak of alerts or in lists below them."""
     found, is_list = set(), False
     for paragraph in (TOP / "docs" / "HTTP.md").read_text().split("\n\n"):
         speaks = re.search(r"\balert", paragraph, re.I)
