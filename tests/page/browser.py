@@ -22,7 +22,7 @@ LISTENING = re.compile(r"DevTools listening on ws://127\.0\.0\.1:(\d+)/")
 LIMIT, WAIT = 30.0, 10.0
 TEXT, CLOSE, PING = 1, 8, 9
 CONSOLE = ("Runtime.consoleAPICalled", "Runtime.exceptionThrown", "Log.entryAdded")
-KEYS = {"Tab": 9, "Enter": 13}
+KEYS = {"Tab": 9, "Enter": 13, "Escape": 27, "ArrowDown": 40, "ArrowUp": 38, "Backspace": 8}
 
 
 class Fault(Exception):
