@@ -35,6 +35,7 @@ def looked_at(scene):
                 turns_to(tab)
                 scene.sees(f"{width} wide, {view}", tab, "innerWidth", width)
                 scene.sees(f"{width} wide, {view}, beyond the edge", tab, BEYOND, 0)
+                scene.is_true(f"{width} wide, {view}, room for values", tab.value(NARROWEST) > 50, tab.value(NARROWEST))
                 heard(scene, tab, width, view)
                 seen(scene, tab, width, view)
             dark, light = (tab.has_scheme(it) or tab.value(PAPER) for it in ("dark", "light"))
@@ -54,6 +55,7 @@ def seen(scene, tab, width, view):
 
 
 BEYOND = "(it => it.scrollWidth - it.clientWidth)(document.scrollingElement)"
+NARROWEST = "Math.min(999, ...[...document.querySelectorAll('#facts dd')].map(it => it.offsetWidth || 999))"
 PAPER = "getComputedStyle(document.body).backgroundColor.match(/\\d+/g).map(Number).reduce((sum, it) => sum + it)"
 # the contrast of each text with what it stands on (WCAG 2.1, 1.4.3)
 CONTRASTS = """(() => {
@@ -124,10 +126,10 @@ def pictured(scene):
         for at, name in enumerate(names):
             kind, place, _ = name.split("-")
             told = {"objects": kinds[kind], "attributes": {"site": place}, "queue": at % 5 == 4}
-            stub.changes.append((name, registration(name, 300, stub.now - 6_000 * (at % 40), **told)))
+            stub.changes.append((name, registration(name, 300, stub.now + 60_000 - 7_000 * (at * 5 % 40), **told)))
         stub.observations = [{"accept": None, "endpoint": names[0], "path": path, "token": START}]
         with scene.shows(stub, "pictured", MAY_ASK) as tab:
-            tab.has_size(1440, 900)
+            tab.has_size(1600, 900)
             opens_device(tab, names[0])
             for turn in range(20):
                 stub.now, stub.datagrams = stub.now + 3_000, stub.datagrams + 40 + turn % 7
