@@ -68,7 +68,8 @@ CONTRASTS = """(() => {
     .sort((one, other) => other - one).map(it => it + 0.05).reduce((one, other) => one / other);
   return [...document.querySelectorAll(":is(h1, h2, h3, p, a, button, span, strong, dt, dd, th, td, label, time)")]
     .concat([...document.querySelectorAll("input, select, summary, li")])
-    .filter(it => it.checkVisibility() && (it.textContent.trim() || it.matches("input"))).map(it => [it.tagName + " " + it.textContent.slice(0, 20), contrast(it)]);
+    .filter(it => it.checkVisibility() && (it.textContent.trim() || it.matches("input")))
+    .map(it => [it.tagName + " " + it.textContent.slice(0, 20), contrast(it)]);
 })()"""
 
 

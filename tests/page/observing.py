@@ -8,7 +8,7 @@ from asking import Client
 from coap import register
 from registering import BAD, MAY_ASK
 from showing import DONE, HEARD, IS_SHOWN, LEAVES, NO_SERVER, NOTICES, PRESS, TEXT, TIMES, WATCHES
-from showing import opens_device, orders, presses_leaf, rows_of
+from showing import opens_device, orders, presses_leaf
 from stub import OTHER, START, Stub, notice, registration
 
 # the options of a request with Observe 0 for a path and a format, of one without a format, and of one with Observe 1
@@ -191,14 +191,15 @@ def decoded(scene):
             stub.notices += [(True, notice(it[2][:-1], content_format=it[1], path=it[0])) for it in BROKEN]
             stub.notices += [(True, notice(DEEP, content_format=CBOR, path="/3/0/9"))]
             found = tab.awaits(NOTICES, lambda it: "818181" in it[0])[: len(BROKEN) + 1]
-            scene.holds("what ends early, or is nested too deep", [it for it in found if "; not decoded " not in it], [])
+            wrong = [it for it in found if "; not decoded " not in it]
+            scene.holds("what ends early, or is nested too deep", (len(found), wrong), (len(BROKEN) + 1, []))
             units(scene, stub, tab)
 
 
 def units(scene, stub, tab):
     """A unit that a device told of its sensor goes with the value, also where it comes behind it."""
-    told = bytes.fromhex("e41644") + FLOAT + bytes.fromhex("e41645") + b"%RH?"
-    stub.notices += [(True, notice(told[:-1].replace(b"\xe4\x16\x45", b"\xe3\x16\x45"), content_format=TLV, path="/3304/0"))]
+    told = bytes.fromhex("e41644") + FLOAT + bytes.fromhex("e31645") + b"%RH"
+    stub.notices += [(True, notice(told, content_format=TLV, path="/3304/0"))]
     scene.sees("a unit that comes behind the value", tab, f"({LEAVES})['/3304/0/5700']?.[0]", "21.5 % RH")
     scene.sees_soon("which the table has as well", tab, lambda rows: rows["lamp"]["Last value"] == "Humidity 21.5 % RH")
     records = [{"bn": "/3303/0/"}, *({"n": str(it), "v": it} for it in range(1000, 1700))]
@@ -222,8 +223,9 @@ def charted(scene):
             for value in (b"20", b"25"):
                 stub.now += 10_000
                 stub.notices += [(True, notice(value, content_format=0, path=path))]
-                scene.sees(f"a value of {value}", tab, WATCHES, [["Temperature, Sensor Value", f"{path}, just now", value.decode()]])
-            want = "Temperature, Sensor Value over 1 min: from 20 to 25 , now 25"
+                want = [["Temperature, Sensor Value", f"{path}, just now", value.decode()]]
+                scene.sees(f"a value of {value}", tab, WATCHES, want)
+            want = "Temperature, Sensor Value over 1 min: from 20 to 25, now 25"
             scene.sees("the chart says", tab, "document.querySelector('.watch canvas')?.ariaLabel", want)
             stub.observations = []
             stub.changes += [("lamp", registration("lamp", 0, 2, objects="</3303/0>", id=OTHER))]

@@ -5,6 +5,7 @@ import json
 import pathlib
 import time
 
+from asking import Client
 from scene import Scene
 
 PAGE = pathlib.Path(__file__).resolve().parents[2] / "page" / "index.html"
@@ -36,6 +37,8 @@ LEAVES = """Object.fromEntries([...document.querySelectorAll('.leaf')].map(it =>
   const [name, value, button] = it.children;
   return [button.ariaLabel.split(' ')[1], [value.textContent, button.hidden ? '' : button.textContent]];
 }))"""
+# what a filter offers
+OFFERS = "[...document.querySelectorAll('%s option')].map(it => it.textContent)"
 # how many each tile counts, by what it says
 TILES = """Object.fromEntries([...document.querySelectorAll('.tile')].map(it => [...it.children].reverse())
   .map(([words, count]) => [words.textContent, count.textContent]))"""
@@ -45,7 +48,7 @@ PRESS = "[...document.querySelectorAll('button')].find(it => it.textContent == '
 # the lines of a fetch that failed since there is no server
 NO_SERVER = ("net::ERR_CONNECTION_REFUSED", "net::ERR_EMPTY_RESPONSE", "net::ERR_CONNECTION_RESET")
 # how long after a change the page may show it
-SOON = 2.0
+SOON = 2.5
 
 
 class PageScene(Scene):
@@ -64,6 +67,12 @@ class PageScene(Scene):
             yield tab
             self.holds(f"{part}: the console", tab.of_console(but), [])
             self.holds(f"{part}: dialogs", tab.dialogs(), [])
+
+    @contextlib.contextmanager
+    def shown(self, part, but=()):
+        """A server that keeps nothing, a tab that shows it, and a client of it."""
+        with self.serves("--memory") as server, self.shows(server, part, but) as tab, Client(server.port) as client:
+            yield server, tab, client
 
     def sees(self, check, tab, expression, want, wait=10.0):
         """What an expression of the page comes to be within that time."""

@@ -43,7 +43,8 @@ class Stub:
         self.mode, self.start, self.now, self.datagrams = "serving", START, 1_000_000, 0
         # each change is an endpoint with its registration or none; its number is its place, counted from 1
         self.changes, self.asked = [], []
-        # the number of the first notification that is kept, and those that are: whether each is complete, and its notice
+        # the number of the first notification that is kept, and those that are: whether each is complete, with its
+        # notice
         self.first, self.notices = 0, []
         # what it observes, the methods of a token, and how many appends took so long and no longer
         self.observations, self.allow, self.buckets = [], "GET, HEAD, DELETE", {"0.1": 3, "+Inf": 3}
@@ -139,7 +140,7 @@ class Stub:
             self.last_of = self.changes, len(self.changes)
         numbered = enumerate(itertools.islice(self.changes, since, None), since + 1)
         behind = ((at, *it) for at, it in numbered if at == self.last[it[0]])
-        told = [{"change": at, "endpoint": name, "registration": it} for at, name, it in itertools.islice(behind, limit)]
+        told = [{"change": it[0], "endpoint": it[1], "registration": it[2]} for it in itertools.islice(behind, limit)]
         next_ = told[-1]["change"] if told else since
         more = next(behind, None) is not None
         return 200, {"changes": told, "more": more, "next": next_, "start": self.start}
