@@ -1,6 +1,7 @@
 """A browser without a screen, which is driven over its DevTools protocol: JSON over a WebSocket (RFC 6455)."""
 
 import base64
+import contextlib
 import http.client
 import itertools
 import json
@@ -110,6 +111,9 @@ class Tab:
         return self
 
     def __exit__(self, *_):
+        # a page that is left open goes on asking
+        with contextlib.suppress(Fault, OSError):
+            self.call("Page.close")
         self.web_socket.close()
 
     def call(self, method, **parameters):

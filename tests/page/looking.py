@@ -25,7 +25,7 @@ def looked_at(scene):
     """Each view in each width and each scheme: nothing too wide, nothing too faint, nothing without a name."""
     with scene.serves("--memory") as server, Client(server.port) as client:
         long = b",".join(b"</%d/0>" % it for it in range(60))
-        for name, lifetime, objects in (("lamp", 300, b"</1/0>"), ("l" * 252, 0, long), (BAD, 60, b"</3/0>")):
+        for name, lifetime, objects in (("lamp", 3000, b"</1/0>"), ("l" * 252, 0, long), (BAD, 3000, b"</3/0>")):
             client.ask(register(name, lifetime, objects, ("b=U", f"{'v' * 250}=1", "site=a")))
         registered(server.port, 60)
         with scene.shows(server, "looked at", MAY_ASK) as tab:
