@@ -134,7 +134,7 @@ def filtered(scene):
             registration("b", 100, now - 95_000, objects="</3303/0>,</3303/1>", attributes={"site": "y"}, queue=True),
             registration("c", 0, now - 2 * HOUR, objects="</3/0>", attributes={"site": "x"}, binding="UQ", queue=True),
             registration("d", 0, now - HOUR + 1, objects="</3/0>,</3304/0>", lwm2m="1.0"),
-            registration("e", 0, now - HOUR, objects="</3304/0>"),
+            registration("e", 0, now - HOUR, objects="</3/0>,</3304/0>"),
         )]
         with scene.shows(stub, "filtered") as tab:
             scene.sees("so many", tab, COUNT, "5 registered, 1 to 5 shown")
@@ -161,6 +161,7 @@ def filtered(scene):
 TILED = {"Seen in 1 min": "a", "Seen in 1 h": "abd", "Quiet over 1 h": "ce", "Ending soon": "b", "Queue mode": "bc"}
 FILTERED = (
     ("#by-object", "3303", "3303 Temperature (2)", "ab"),
+    ("#by-object", "3304", "3304 Humidity (2)", "de"),
     ("#by-attribute", "site=x", "site=x (2)", "ac"),
     ("#by-binding", "UQ", "Binding UQ (1)", "c"),
     ("#by-version", "1.0", "LwM2M 1.0 (1)", "d"),

@@ -118,6 +118,7 @@ TOLD = (
     (True, notice(b"\x00"), "00 no format"),
     (True, notice(b"\xc3"), "c3 no format"),
     (False, notice(b"part", observe=6), "“part”; not complete no format"),
+    (True, notice(b"[]", content_format=110), "“[]” SenML JSON"),
     (True, notice(code=132, ended=True), "4.04 Not Found; the observation has ended "),
     (True, notice(code=0, ended=True), "Reset; the observation has ended "),
     (True, notice(code=164, ended=True), "5.04 no answer in time; the observation has ended "),
@@ -136,9 +137,9 @@ def noticed(scene):
             asked = [f"/v1/notifications?from={it}&start={START}&limit=256" for it in (0, 256, 512)]
             scene.holds("what was asked for them", notices_asked(stub)[:3], asked)
             stub.notices += [it[:2] for it in TOLD]
-            want = [f"/3/0 {it[2]}" for it in reversed(TOLD)] + want[:20]
+            want = [f"/3/0 {it[2]}" for it in reversed(TOLD)] + want[: 30 - len(TOLD)]
             scene.sees("what notices say", tab, NOTICES, want)
-            scene.holds("those that came now have a time", tab.value(TIMES).count("earlier"), 20)
+            scene.holds("those that came now have a time", tab.value(TIMES).count("earlier"), 30 - len(TOLD))
             stub.first, stub.notices = 5000, [(True, notice(b"late"))]
             scene.sees("those before are no longer kept", tab, NOTICES, ["/3/0 “late” no format", *want[:29]])
             stub.start, stub.first, stub.notices = OTHER, 0, []
