@@ -118,7 +118,7 @@ FOCUS = "(it => [it.id || it.tagName, parseFloat(getComputedStyle(it).outlineWid
 
 
 def pictured(scene):
-    """The picture of the page that README has: a fleet, and a device that is open."""
+    """The picture of docs/page.png: a fleet, and a device that is open."""
     kinds = {"lamp": "</3/0>,</3303/0>,</3311/0>", "meter": "</3/0>,</3303/0>,</3331/0>", "probe": "</3/0>,</3303/0>"}
     places, path = ("harbour", "mill", "station"), "/3303/0/5700"
     names = [f"{kind}-{place}-{at}" for at in range(1, 5) for kind in kinds for place in places]
