@@ -114,7 +114,11 @@ def by_keyboard(scene, tab):
     scene.sees("a button by the keyboard", tab, COUNT, "63 registered, 51 to 63 shown")
 
 
-FOCUS = "(it => [it.id || it.tagName, parseFloat(getComputedStyle(it).outlineWidth)])(document.activeElement)"
+# what has the focus, and how wide the line around it is
+FOCUS = """(it => {
+  const { outlineStyle, outlineWidth } = getComputedStyle(it);
+  return [it.id || it.tagName, outlineStyle === 'none' ? 0 : parseFloat(outlineWidth)];
+})(document.activeElement)"""
 
 
 def pictured(scene):
