@@ -55,7 +55,8 @@ def seen(scene, tab, width, view):
 
 
 BEYOND = "(it => it.scrollWidth - it.clientWidth)(document.scrollingElement)"
-NARROWEST = "Math.min(999, ...[...document.querySelectorAll('#facts dd')].map(it => it.offsetWidth || 999))"
+NARROWEST = """Math.min(999, ...[...document.querySelectorAll('#facts dd')].filter(it => it.checkVisibility())
+  .map(it => it.offsetWidth))"""
 PAPER = "getComputedStyle(document.body).backgroundColor.match(/\\d+/g).map(Number).reduce((sum, it) => sum + it)"
 # the contrast of each text with what it stands on (WCAG 2.1, 1.4.3)
 CONTRASTS = """(() => {
@@ -106,8 +107,9 @@ def by_keyboard(scene, tab):
     scene.holds("where the focus is not seen", [name for name, width in stops if width < 2], [])
     tab.value("document.activeElement.blur()")
     tab.call("Input.dispatchKeyEvent", type="keyDown", key="/", text="/")
+    scene.holds("the search by its key", tab.value("document.activeElement.id"), "search")
     tab.types("name-5")
-    scene.sees("the search by its key", tab, COUNT, "63 registered, 11 found, 1 to 11 shown")
+    scene.sees("what is typed is searched", tab, COUNT, "63 registered, 11 found, 1 to 11 shown")
     tab.value("document.querySelector('#clear').click()")
     tab.value(PUT_FOCUS % "#next")
     tab.presses("Enter")
