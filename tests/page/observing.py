@@ -98,6 +98,7 @@ def commands_off(scene):
             scene.holds("and no button", [it for it in tab.value(LEAVES).values() if it[1]], [])
             opens_device(tab, "other")
             time.sleep(2.5)
+            scene.sees("which is said of another device too", tab, TEXT % "#watch-words", OFF)
             refused = [it for it in tab.of_console() if "status of 405" in it]
             scene.holds("how often it was asked whether there are commands", len(refused), 1)
             scene.holds("what the device hears", client.hear(0.5), None)
