@@ -1,6 +1,7 @@
 """A browser without a screen, which is driven over its DevTools protocol: JSON over a WebSocket (RFC 6455)."""
 
 import base64
+import contextlib
 import http.client
 import itertools
 import json
@@ -22,7 +23,7 @@ LISTENING = re.compile(r"DevTools listening on ws://127\.0\.0\.1:(\d+)/")
 LIMIT, WAIT = 30.0, 10.0
 TEXT, CLOSE, PING = 1, 8, 9
 CONSOLE = ("Runtime.consoleAPICalled", "Runtime.exceptionThrown", "Log.entryAdded")
-KEYS = {"Tab": 9, "Enter": 13}
+KEYS = {"Tab": 9, "Enter": 13, "Escape": 27, "ArrowDown": 40, "ArrowUp": 38, "Backspace": 8}
 
 
 class Fault(Exception):
@@ -110,6 +111,9 @@ class Tab:
         return self
 
     def __exit__(self, *_):
+        # a page that is left open goes on asking
+        with contextlib.suppress(Fault, OSError):
+            self.call("Page.close")
         self.web_socket.close()
 
     def call(self, method, **parameters):

@@ -5,6 +5,7 @@ It also has more notifications than devices of a test would tell.
 
 import contextlib
 import http.server
+import itertools
 import json
 import threading
 import time
@@ -17,20 +18,22 @@ MEASURES = """# HELP fleet_datagrams_total Datagrams that were taken
 fleet_datagrams_total %d
 fleet_start_time_seconds 1764346801
 fleet_log_away %d
-fleet_log_append_seconds_bucket{le="0.1"} 3
-fleet_log_entries_written_total 41207
+%sfleet_log_entries_written_total 41207
 """
 
 
-def registration(endpoint, lifetime, seen):
+BUCKET = 'fleet_log_append_seconds_bucket{le="%s"} %d\n'
+
+
+def registration(endpoint, lifetime, seen, **further):
     members = {"address": "192.0.2.7:5683", "attributes": {}, "binding": "U", "endpoint": endpoint, "id": START}
-    further = {"lifetime": lifetime, "lwm2m": "1.1", "objects": "</1/0>", "queue": False, "seen": seen, "sms": None}
+    members |= {"lifetime": lifetime, "lwm2m": "1.1", "objects": "</1/0>", "queue": False, "seen": seen, "sms": None}
     return {**members, **further}
 
 
-def notice(payload=b"", code=69, ended=False, content_format=None, observe=None):
-    members = {"code": code, "content_format": content_format, "ended": ended, "endpoint": "lamp", "id": START}
-    return {**members, "observe": observe, "path": "/3/0", "payload": payload.hex(), "token": START}
+def notice(payload=b"", code=69, ended=False, content_format=None, observe=None, path="/3/0", endpoint="lamp"):
+    members = {"code": code, "content_format": content_format, "ended": ended, "endpoint": endpoint, "id": START}
+    return {**members, "observe": observe, "path": path, "payload": payload.hex(), "token": START}
 
 
 class Stub:
@@ -40,8 +43,13 @@ class Stub:
         self.mode, self.start, self.now, self.datagrams = "serving", START, 1_000_000, 0
         # each change is an endpoint with its registration or none; its number is its place, counted from 1
         self.changes, self.asked = [], []
-        # the number of the first notification that is kept, and those that are: whether each is complete, and its notice
+        # the number of the first notification that is kept, and those that are: whether each is complete, with its
+        # notice
         self.first, self.notices = 0, []
+        # what it observes, the methods of a token, and how many appends took so long and no longer
+        self.observations, self.allow, self.buckets = [], "GET, HEAD, DELETE", {"0.1": 3, "+Inf": 3}
+        # at which change an endpoint changed last, and of how many changes of which list that is known
+        self.last, self.last_of = {}, (None, 0)
         self.server = http.server.ThreadingHTTPServer(("127.0.0.1", 0), self.handler())
         self.visited = self.server.server_address
 
@@ -70,6 +78,13 @@ class Stub:
                     self.end_headers()
                     self.wfile.write(body)
 
+            def do_POST(self):
+                stub.asked.append(f"POST {self.path}")
+                self.send_response(405)
+                for name, value in (("allow", stub.allow), ("content-length", "0")):
+                    self.send_header(name, value)
+                self.end_headers()
+
             def log_message(self, *_):
                 pass
 
@@ -82,7 +97,8 @@ class Stub:
         while self.mode == "silent":
             time.sleep(0.1)
         if path == "/metrics":
-            return 200, "text/plain", (MEASURES % (self.datagrams, self.mode == "away")).encode()
+            buckets = "".join(BUCKET % it for it in self.buckets.items())
+            return 200, "text/plain", (MEASURES % (self.datagrams, self.mode == "away", buckets)).encode()
         status, members = self.members(path, dict(it.split("=") for it in query.split("&") if it))
         return status, "application/json", json.dumps(members).encode()
 
@@ -101,7 +117,7 @@ class Stub:
         if path == "/v1/notifications":
             return self.notices_from(int(query["from"]), query["start"], int(query["limit"]))
         if path.endswith("/observations"):
-            return 200, {"next": None, "observations": []}
+            return 200, {"next": None, "observations": self.observations}
         return self.changes_behind(int(query["since"]), query.get("start"), int(query["limit"]))
 
     def notices_from(self, begin, start, limit):
@@ -119,8 +135,12 @@ class Stub:
         if self.mode == "gone" or (start or self.start) != self.start:
             self.mode = "serving"
             return 410, {"error": "gone"}
-        last = {endpoint: at for at, (endpoint, _) in enumerate(self.changes, 1)}
-        behind = [(at, *it) for at, it in enumerate(self.changes, 1) if since < at == last[it[0]]]
-        told = [{"change": at, "endpoint": name, "registration": it} for at, name, it in behind[:limit]]
+        if self.last_of[0] is not self.changes or self.last_of[1] != len(self.changes):
+            self.last = {endpoint: at for at, (endpoint, _) in enumerate(self.changes, 1)}
+            self.last_of = self.changes, len(self.changes)
+        numbered = enumerate(itertools.islice(self.changes, since, None), since + 1)
+        behind = ((at, *it) for at, it in numbered if at == self.last[it[0]])
+        told = [{"change": it[0], "endpoint": it[1], "registration": it[2]} for it in itertools.islice(behind, limit)]
         next_ = told[-1]["change"] if told else since
-        return 200, {"changes": told, "more": len(behind) > limit, "next": next_, "start": self.start}
+        more = next(behind, None) is not None
+        return 200, {"changes": told, "more": more, "next": next_, "start": self.start}
